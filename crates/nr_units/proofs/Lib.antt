@@ -1,0 +1,4 @@
+pub mod Counting
+pub mod Digits
+pub mod Fronts
+pub mod Rounding

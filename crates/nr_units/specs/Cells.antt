@@ -1,0 +1,15 @@
+-- Cells in a row.
+use Rattle.std.specs.Prelude.{ℕ, ◌-◌, ◌==◌, Bool, false, List, length, take}
+use Rattle.std.specs.List.{suffix_len}
+use Rattle.nr_units.specs.declared.cell.Cell.{Cell}
+
+abbrev pub blank : Cell
+blank = record { byte = 32; under = false }
+
+-- a blank is a blank whether it is underlined or not
+abbrev pub is_blank : Cell → Bool
+is_blank cell = cell.byte == 32
+
+-- the cells without the blanks behind the last that is none
+abbrev pub trimmed : List Cell → List Cell
+trimmed cells = take (length cells - suffix_len is_blank cells) cells

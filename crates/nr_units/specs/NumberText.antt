@@ -1,0 +1,68 @@
+-- The texts of numbers: Arabic, roman and alphabetic.
+use Rattle.std.specs.Prelude.{◌≡◌, ℕ, suc, ◌+◌, ◌-◌, ◌*◌, ◌/◌, ◌%◌, ◌≤◌, ◌<◌, min, max, List, [], ◌∷◌, ◌++◌, length, ℤ, pos, negsuc, slice_index, replicate, unwrap_or, slice_get}
+use Rattle.std.specs.Str.Parse.{IsNumeral, digits_value}
+use Rattle.nr_units.specs.declared.number_text.Format.{Format}
+use Rattle.nr_units.specs.declared.number_text.Format.TheVariants.{Arabic, LowerRoman, UpperRoman, LowerAlphabetic, UpperAlphabetic}
+
+-- the decimal digits whose value is n, with zeros in front for so many places, of which at most nine count
+pub record IsArabic (places n : ℕ) (text : List ℕ) : Type 0 where
+  pub digits : IsNumeral 10 text
+  pub value : digits_value 10 text ≡ n
+  pub filled : min 9 places ≤ length text
+  pub no_more : slice_index text 0 ≡ 48 → length text ≤ max 1 (min 9 places)
+
+-- the ten forms of a roman digit, by its letters for one, five and ten
+abbrev pub roman_forms : ℕ → ℕ → ℕ → List (List ℕ)
+roman_forms i v x =
+    [] ∷ (i ∷ []) ∷ (i ∷ i ∷ []) ∷ (i ∷ i ∷ i ∷ []) ∷ (i ∷ v ∷ [])
+    ∷ (v ∷ []) ∷ (v ∷ i ∷ []) ∷ (v ∷ i ∷ i ∷ []) ∷ (v ∷ i ∷ i ∷ i ∷ []) ∷ (i ∷ x ∷ []) ∷ []
+
+abbrev pub roman_digit : ℕ → ℕ → ℕ → ℕ → List ℕ
+roman_digit i v x digit = unwrap_or (slice_get (roman_forms i v x) digit) []
+
+-- thousands, hundreds, tens and units; raised is 32 for capitals and 0 for small letters
+abbrev pub roman : ℕ → ℕ → List ℕ
+roman raised n =
+    replicate (n / 1000) (109 - raised)
+    ++ roman_digit (99 - raised) (100 - raised) (109 - raised) (n / 100 % 10)
+    ++ roman_digit (120 - raised) (108 - raised) (99 - raised) (n / 10 % 10)
+    ++ roman_digit (105 - raised) (118 - raised) (120 - raised) (n % 10)
+
+-- roman from 1 to 3999, elsewhere Arabic without zeros in front
+pub record IsRoman (raised n : ℕ) (text : List ℕ) : Type 0 where
+  pub within : 0 < n → n < 4000 → text ≡ roman raised n
+  pub none : n ≡ 0 → IsArabic 1 n text
+  pub above : 4000 ≤ n → IsArabic 1 n text
+
+-- each byte is one of the 26 letters above before
+abbrev pub AreLetters : ℕ → List ℕ → Type 0
+AreLetters before [] = Unit {0}
+AreLetters before (b ∷ bs) = (before < b) × (b ≤ before + 26) × AreLetters before bs
+
+-- the number in base 26 that letters valued 1 to 26 write behind n
+abbrev pub letters_value_after : ℕ → ℕ → List ℕ → ℕ
+letters_value_after before n [] = n
+letters_value_after before n (b ∷ bs) = letters_value_after before (26 * n + (b - before)) bs
+
+-- the letters whose value is n; 0 has the digit
+pub record IsAlphabetic (before n : ℕ) (text : List ℕ) : Type 0 where
+  pub none : n ≡ 0 → text ≡ 48 ∷ []
+  pub letters : 0 < n → AreLetters before text
+  pub value : 0 < n → letters_value_after before 0 text ≡ n
+
+-- the form of a number without a sign: 96 and 64 are the bytes before `a` and `A`
+abbrev pub IsForm : Format → ℕ → List ℕ → Type 0
+IsForm (Arabic places) n text = IsArabic places n text
+IsForm LowerRoman n text = IsRoman 0 n text
+IsForm UpperRoman n text = IsRoman 32 n text
+IsForm LowerAlphabetic n text = IsAlphabetic 96 n text
+IsForm UpperAlphabetic n text = IsAlphabetic 64 n text
+
+-- the text of a number in a format: a negative one is `-` and the form of its magnitude
+abbrev pub IsNumberText : Format → ℤ → List ℕ → Type 0
+IsNumberText format (pos n) text = IsForm format n text
+IsNumberText format (negsuc n) text = (form : List ℕ) × (text ≡ 45 ∷ form) × IsForm format (suc n) form
+
+-- new is old and behind it a text of which P holds
+abbrev pub Appends : List ℕ → List ℕ → (List ℕ → Type 0) → Type 0
+Appends old new P = (form : List ℕ) × (new ≡ old ++ form) × P form

@@ -1,0 +1,186 @@
+//! The texts of numbers.
+ghost use Rattle.std.specs.Prelude.{◌≡◌, ◌+◌, ◌-◌, ◌<◌, ◌≤◌, ◌++◌, ◌^◌, length, replicate};
+ghost use Rattle.arrayvec.specs.ArrayVec.{array_vec_len};
+ghost use Rattle.nr_units.specs.NumberText.{IsArabic, IsRoman, IsAlphabetic, Appends, roman_digit, IsNumberText};
+
+use arrayvec::ArrayVec;
+use itoa::Buffer;
+
+/// The text of a number, or what stands of it.
+type Text = ArrayVec<u8, 32>;
+
+/// How a number is written (CSTR 54, register formats).
+#[derive(Clone, Copy, PartialEq, Eq, Debug)]
+pub enum Format {
+    /// Decimal digits, with zeros in front for at least so many places. More than nine places count as nine.
+    Arabic { places: u8 },
+    /// `i`, `ii`, `iii`, `iv`, ..
+    LowerRoman,
+    /// `I`, `II`, `III`, `IV`, ..
+    UpperRoman,
+    /// `0`, `a` to `z`, `aa`, ..
+    LowerAlphabetic,
+    /// `0`, `A` to `Z`, `AA`, ..
+    UpperAlphabetic,
+}
+
+impl Default for Format {
+    ghost use Rattle.nr_units.specs.declared.number_text.Format.TheVariants.{Arabic};
+    ghost use Rattle.std.specs.Prelude.{◌≡◌};
+
+    ghost is_default = { λ f. f ≡ Arabic 1 };
+
+    /// That of a register at first.
+    fn default() -> Self {
+        Format::Arabic { places: 1 }
+    }
+}
+
+/// Adds these bytes.
+fn push_all(text: &mut Text, bytes: &[u8])
+    requires { array_vec_len text.old + length bytes.now ≤ 32 }
+    ensures { text.new.items ≡ text.old.items ++ bytes.now }
+{
+    let _ = text.try_extend_from_slice(bytes);
+}
+
+/// Adds a byte so many times.
+fn push_times(text: &mut Text, byte: u8, times: usize)
+    requires { array_vec_len text.old + times ≤ 32 }
+    ensures { text.new.items ≡ text.old.items ++ replicate times byte }
+{
+    for _i in 0..times {
+        text.push(byte);
+    }
+}
+
+/// Adds the decimal digits of `n`, with zeros in front for so many places.
+fn push_arabic(text: &mut Text, n: u64, places: u8)
+    requires { array_vec_len text.old ≤ 1 }
+    ensures { Appends text.old.items text.new.items (IsArabic places n) }
+{
+    let mut buffer = Buffer::new();
+    let digits = buffer.format(n).as_bytes();
+    let places = usize::from(places).min(9);
+    push_times(text, b'0', places.saturating_sub(digits.len()));
+    push_all(text, digits);
+}
+
+/// Adds a roman digit, by its letters for one, five and ten.
+fn push_roman_digit(text: &mut Text, digit: u8, one: u8, five: u8, ten: u8)
+    requires below_ten { digit < 10 }
+    requires room { array_vec_len text.old + 4 ≤ 32 }
+    ensures value { text.new.items ≡ text.old.items ++ roman_digit one five ten digit }
+    ensures short { array_vec_len text.new ≤ array_vec_len text.old + 4 }
+{
+    match digit {
+        0 => {}
+        1 => push_all(text, &[one]),
+        2 => push_all(text, &[one, one]),
+        3 => push_all(text, &[one, one, one]),
+        4 => push_all(text, &[one, five]),
+        5 => push_all(text, &[five]),
+        6 => push_all(text, &[five, one]),
+        7 => push_all(text, &[five, one, one]),
+        8 => push_all(text, &[five, one, one, one]),
+        _ => push_all(text, &[one, ten]),
+    }
+}
+
+/// Adds `n` in roman, `raised` being 32 for capitals and 0 for small letters; from 4000 on, and 0, in Arabic.
+fn push_roman(text: &mut Text, n: u64, raised: u8)
+    requires room { array_vec_len text.old ≤ 1 }
+    requires case { raised ≤ 32 }
+    ensures { Appends text.old.items text.new.items (IsRoman raised n) }
+{
+    if n == 0 || n >= 4000 {
+        return push_arabic(text, n, 1);
+    }
+    let thousands = (n / 1000) as usize;
+    let hundreds = (n / 100 % 10) as u8;
+    let tens = (n / 10 % 10) as u8;
+    let units = (n % 10) as u8;
+    push_times(text, b'm' - raised, thousands);
+    push_roman_digit(text, hundreds, b'c' - raised, b'd' - raised, b'm' - raised);
+    push_roman_digit(text, tens, b'x' - raised, b'l' - raised, b'c' - raised);
+    push_roman_digit(text, units, b'i' - raised, b'v' - raised, b'x' - raised);
+}
+
+/// Adds `n` in letters, `before` being the byte before the first of the 26.
+fn push_alphabetic(text: &mut Text, n: u64, before: u8)
+    requires room { array_vec_len text.old ≤ 1 }
+    requires range { n ≤ 2 ^ 63 }
+    requires case { before ≤ 96 }
+    ensures { Appends text.old.items text.new.items (IsAlphabetic before n) }
+{
+    if n == 0 {
+        return push_all(text, b"0");
+    }
+    let mut letters = [0u8; 14];
+    let mut rest = n;
+    let mut start = 14;
+    while rest > 0 {
+        start -= 1;
+        letters[start] = before + 1 + ((rest - 1) % 26) as u8;
+        rest = (rest - 1) / 26;
+    }
+    push_all(text, &letters[start..]);
+}
+
+/// The text of `n` units in a format, of at most 21 bytes.
+pub fn format_number(n: i64, format: Format) -> ArrayVec<u8, 32>
+    ensures { IsNumberText format n result.items }
+{
+    let mut text = ArrayVec::new();
+    if n < 0 {
+        text.push(b'-');
+    }
+    let magnitude = n.unsigned_abs();
+    match format {
+        Format::Arabic { places } => push_arabic(&mut text, magnitude, places),
+        Format::LowerRoman => push_roman(&mut text, magnitude, 0),
+        Format::UpperRoman => push_roman(&mut text, magnitude, 32),
+        Format::LowerAlphabetic => push_alphabetic(&mut text, magnitude, 96),
+        Format::UpperAlphabetic => push_alphabetic(&mut text, magnitude, 64),
+    }
+    text
+}
+
+#[cfg(test)]
+mod tests {
+    use super::*;
+    use std::process::Abort;
+
+    fn expect(rt: &impl Abort, n: i64, format: Format, text: &[u8]) {
+        assert_eq!(rt; format_number(n, format).as_slice(), text);
+    }
+
+    #[test]
+    fn roman(rt: HostRuntime) {
+        expect(&rt, 4, Format::LowerRoman, b"iv");
+        expect(&rt, 3999, Format::LowerRoman, b"mmmcmxcix");
+        expect(&rt, 4000, Format::LowerRoman, b"4000");
+        expect(&rt, 0, Format::UpperRoman, b"0");
+        expect(&rt, -1888, Format::UpperRoman, b"-MDCCCLXXXVIII");
+    }
+
+    #[test]
+    fn alphabetic(rt: HostRuntime) {
+        expect(&rt, 0, Format::LowerAlphabetic, b"0");
+        expect(&rt, 26, Format::LowerAlphabetic, b"z");
+        expect(&rt, 27, Format::LowerAlphabetic, b"aa");
+        expect(&rt, 52, Format::LowerAlphabetic, b"az");
+        expect(&rt, 53, Format::LowerAlphabetic, b"ba");
+        expect(&rt, -703, Format::UpperAlphabetic, b"-AAA");
+    }
+
+    #[test]
+    fn arabic(rt: HostRuntime) {
+        expect(&rt, 0, Format::default(), b"0");
+        expect(&rt, -7, Format::Arabic { places: 3 }, b"-007");
+        expect(&rt, 1234, Format::Arabic { places: 3 }, b"1234");
+        expect(&rt, 5, Format::Arabic { places: 200 }, b"000000005");
+        expect(&rt, 0, Format::Arabic { places: 0 }, b"0");
+        expect(&rt, i64::MIN, Format::default(), b"-9223372036854775808");
+    }
+}

@@ -1,0 +1,27 @@
+// Where bytes go.
+ghost use Rattle.std.specs.Prelude.{◌≡◌, ℕ, List, Option, OnOk, OnErr};
+ghost use Rattle.std.specs.Io.KnownBytes.{Appends, Keeps};
+ghost use Rattle.nr_units.specs.Failures.{counted};
+ghost use Rattle.nr_units.specs.Held.{AppendsFront};
+
+use super::source::Fault;
+
+/// Takes bytes, and counts the calls that answered an error.
+pub trait Sink {
+    /// The bytes that it holds, where they are known.
+    ghost held: { Self → Option (List ℕ) };
+
+    /// How many calls answered an error.
+    ghost failures: { Self → ℕ };
+
+    /// Takes all of the bytes, or a front of them and answers an error.
+    fn put(&mut self, bytes: &[u8]) -> Result<(), Fault>
+        ensures ok { OnOk result (Appends (held self.old) (held self.new) bytes.now) }
+        ensures err { OnErr result (AppendsFront (held self.old) (held self.new) bytes.now) }
+        ensures failures { failures self.new ≡ counted (failures self.old) result };
+
+    /// Passes on what it took and has not passed on yet.
+    fn flush(&mut self) -> Result<(), Fault>
+        ensures held { Keeps (held self.old) (held self.new) }
+        ensures failures { failures self.new ≡ counted (failures self.old) result };
+}
