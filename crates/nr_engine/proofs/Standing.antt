@@ -1,0 +1,122 @@
+-- Moves, one after another. Nothing here knows the language.
+use Rattle.std.proofs.Common.{◌≡◌, ℕ, zero, suc, ◌+◌, ◌-◌, List, [], ◌++◌, Option, Some, refl, sym, ap, ◌∙◌, subst, append-nil, append_assoc, arith, inl, inr}
+use Rattle.std.specs.Io.KnownBytes.{Appends, Keeps}
+use Rattle.std.proofs.KnownBytes.{Appends-nil, Appends-trans, Appends-kept}
+use Rattle.std.proofs.lemmas.Bool.{cases_lt}
+use Rattle.nr_units.specs.Supply.{Supply}
+use Rattle.nr_units.specs.Held.{AppendsFront}
+use Rattle.nr_engine.specs.State.{State}
+use Rattle.nr_engine.specs.Machine.{step, state_after, text}
+use Rattle.nr_engine.specs.Measures.{Bounds}
+use Rattle.nr_engine.specs.Answer.{Goes, Stops, Runs, Writes, Answers}
+use Rattle.nr_engine.specs.Holding.{Shape, Holds, Moved, Left, Reached, Halts, Grows, Wrote, WroteFront, WritesFrom}
+use Rattle.nr_engine.specs.declared.outcome.Outcome.{Outcome}
+use Rattle.nr_engine.specs.declared.outcome.Outcome.TheVariants.{Done, Limit, ReadFault, TooLong, WriteFault}
+
+state_after-add : (s : State) (n m : ℕ) → state_after (n + m) s ≡ state_after m (state_after n s)
+state_after-add s n zero = ap (λ k. state_after k s) (let e : n + 0 ≡ n = omega arith in e)
+state_after-add s n (suc m) = ap (λ k. state_after k s) (let e : n + suc m ≡ suc (n + m) = omega arith in e) ∙ ap step (state_after-add s n m)
+
+runs-add : (b : Bounds) (s : State) (n m : ℕ) → Runs b n s → Runs b m (state_after n s) → Runs b (n + m) s
+runs-add b s n m x y = λ k h. elim (cases_lt k n) [
+  | inl i ↦ x k i
+  | inr i ↦ (let e : n + (k - n) ≡ k = omega arith in subst (λ j. Goes b (state_after j s)) e (subst (Goes b) (sym (state_after-add s n (k - n))) (y (k - n) (omega arith))))
+]
+
+-- ---- what was written
+
+-- nothing, where no page has ended
+pub wrote_nothing : (s t : State) (held : Option (List ℕ)) → t.pages ≡ s.pages → Wrote s t held held
+wrote_nothing s t held e = record { wrote = ([], record { grows = ap text e ∙ sym (append-nil (text s.pages)) }, Appends-nil held) }
+
+-- the same where what is held only kept
+pub wrote_kept : (s : State) (old new : Option (List ℕ)) → Keeps old new → Wrote s s old new
+wrote_kept s old new k = record { wrote = ([], record { grows = sym (append-nil (text s.pages)) }, Appends-kept old old new [] (Appends-nil old) k) }
+
+grows-add : (s t u : State) (xs ys : List ℕ) → Grows s t xs → Grows t u ys → Grows s u (xs ++ ys)
+grows-add s t u xs ys a b = record { grows = b.grows ∙ ap (λ z. z ++ ys) a.grows ∙ append_assoc (text s.pages) xs ys }
+
+pub wrote-trans : (s t u : State) (old mid new : Option (List ℕ)) → Wrote s t old mid → Wrote t u mid new → Wrote s u old new
+wrote-trans s t u old mid new a b =
+    record { wrote = (a.wrote.0 ++ b.wrote.0, grows-add s t u a.wrote.0 b.wrote.0 a.wrote.1 b.wrote.1, Appends-trans old mid new a.wrote.0 b.wrote.0 a.wrote.2 b.wrote.2) }
+
+front_after : (a b c : Option (List ℕ)) (xs ys : List ℕ) → Appends a b xs → AppendsFront b c ys → AppendsFront a c (xs ++ ys)
+front_after a b c xs ys p q = (xs ++ q.0, q.1, ap (λ y. xs ++ y) q.2 ∙ sym (append_assoc xs q.0 q.1), Appends-trans a b c xs q.0 p q.3)
+
+wrote_front-trans : (s t u : State) (old mid new : Option (List ℕ)) → Wrote s t old mid → WroteFront t u mid new → WroteFront s u old new
+wrote_front-trans s t u old mid new a b =
+    record { wrote = (a.wrote.0 ++ b.wrote.0, grows-add s t u a.wrote.0 b.wrote.0 a.wrote.1 b.wrote.1, front_after old mid new a.wrote.0 b.wrote.0 a.wrote.2 b.wrote.2) }
+
+-- ---- moves
+
+pub reached_none : (b : Bounds) (s : State) (e : Shape) (supply : Option Supply) (held : Option (List ℕ)) → Holds b s e → supply ≡ Some s.coming.supply → Reached b s 0 e supply held held
+reached_none b s e supply held h q =
+    record { runs = λ m k. absurd (omega arith); holds = h; supply_is = q; wrote = wrote_nothing s s held refl }
+
+-- one move
+pub reached_one : (b : Bounds) (s : State) (e : Shape) (supply : Option Supply) (old new : Option (List ℕ)) → Moved b s e supply old new → Reached b s 1 e supply old new
+reached_one b s e supply old new m =
+    record {
+      runs = λ k h. (let same : 0 ≡ k = omega arith in subst (λ j. Goes b (state_after j s)) same m.goes);
+      holds = m.holds;
+      supply_is = m.supply_is;
+      wrote = m.wrote;
+    }
+
+-- moves, and then others
+pub reached_all : (b : Bounds) (s : State) (n m : ℕ) (e f : Shape) (x y : Option Supply) (old mid new : Option (List ℕ))
+    → Reached b s n e x old mid → Reached b (state_after n s) m f y mid new → Reached b s (n + m) f y old new
+reached_all b s n m e f x y old mid new p q =
+    let both = state_after-add s n m in
+    record {
+      runs = runs-add b s n m p.runs q.runs;
+      holds = rw both q.holds;
+      supply_is = rw both q.supply_is;
+      wrote = rw both (wrote-trans s (state_after n s) (state_after m (state_after n s)) old mid new p.wrote q.wrote);
+    }
+
+-- the run stops after no further move
+pub halts_here : (b : Bounds) (s : State) (outcome : Outcome) (old new : Option (List ℕ)) → Stops b s outcome → Left s outcome old new → Halts b s 0 outcome old new
+halts_here b s outcome old new stops left = record { runs = λ m k. absurd (omega arith); stops = stops; writes = from outcome left }
+  where
+    from : (o : Outcome) → Left s o old new → WritesFrom s s o old new
+    from Done k = wrote_kept s old new k
+    from (Limit which at) k = wrote_kept s old new k
+    from (ReadFault at) k = wrote_kept s old new k
+    from TooLong k = wrote_kept s old new k
+    from WriteFault k = k
+
+writes-add : (s t u : State) (o : Outcome) (old mid new : Option (List ℕ)) → Wrote s t old mid → WritesFrom t u o mid new → WritesFrom s u o old new
+writes-add s t u Done old mid new a w = wrote-trans s t u old mid new a w
+writes-add s t u (Limit which at) old mid new a w = wrote-trans s t u old mid new a w
+writes-add s t u (ReadFault at) old mid new a w = wrote-trans s t u old mid new a w
+writes-add s t u TooLong old mid new a w = wrote-trans s t u old mid new a w
+writes-add s t u WriteFault old mid new a w = wrote_front-trans s t (step u) old mid new a w
+
+-- moves, and then others up to where the run stops
+pub halts_after : (b : Bounds) (s : State) (n m : ℕ) (e : Shape) (x : Option Supply) (outcome : Outcome) (old mid new : Option (List ℕ))
+    → Reached b s n e x old mid → Halts b (state_after n s) m outcome mid new → Halts b s (n + m) outcome old new
+halts_after b s n m e x outcome old mid new p q =
+    let both = state_after-add s n m in
+    record {
+      runs = runs-add b s n m p.runs q.runs;
+      stops = rw both q.stops;
+      writes = rw both (writes-add s (state_after n s) (state_after m (state_after n s)) outcome old mid new p.wrote q.writes);
+    }
+
+-- from a state in which no page has ended
+pub answers : (b : Bounds) (s : State) (n : ℕ) (outcome : Outcome) (old new : Option (List ℕ)) → s.pages ≡ [] → Halts b s n outcome old new → Answers b s n outcome old new
+answers b s n outcome old new none h = record { runs = h.runs; stops = h.stops; writes = from outcome h.writes }
+  where
+    clean : (t : State) (more : List ℕ) → Grows s t more → more ≡ text t.pages
+    clean t more g = sym (g.grows ∙ ap (λ z. text z ++ more) none)
+
+    all : (t : State) → Wrote s t old new → Appends old new (text t.pages)
+    all t w = subst (Appends old new) (clean t w.wrote.0 w.wrote.1) w.wrote.2
+
+    from : (o : Outcome) → WritesFrom s (state_after n s) o old new → Writes (state_after n s) o old new
+    from Done w = all (state_after n s) w
+    from (Limit which at) w = all (state_after n s) w
+    from (ReadFault at) w = all (state_after n s) w
+    from TooLong w = all (state_after n s) w
+    from WriteFault w = subst (AppendsFront old new) (clean (step (state_after n s)) w.wrote.0 w.wrote.1) w.wrote.2

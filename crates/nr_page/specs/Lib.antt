@@ -1,0 +1,9 @@
+pub mod Gathered
+pub mod Grid
+pub mod Overlay
+pub mod PageBytes
+pub mod Selection
+pub mod SelectionReading
+pub mod Sheet
+pub mod Spans
+pub mod Stacked

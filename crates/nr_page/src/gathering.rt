@@ -1,0 +1,99 @@
+// Bytes are gathered and go out to a sink many at a time.
+ghost use Rattle.std.specs.Prelude.{◌≡◌, ℕ, ◌+◌, ◌*◌, ◌<◌, ◌≤◌, List, [], ◌∷◌, ◌++◌, length, replicate, OnOk, OnErr};
+ghost use Rattle.std.specs.List.{flat_map};
+ghost use Rattle.nr_units.specs.Failures.{counted};
+ghost use Rattle.nr_page.specs.Gathered.{GathersOrFails};
+ghost use Rattle.nr_page.specs.PageBytes.{cell_bytes};
+
+use crate::stack::Stack;
+use nr_units::cell::Cell;
+use nr_units::sink::Sink;
+use nr_units::source::Fault;
+
+/// How many bytes are gathered.
+pub(crate) const GATHERED: usize = 4096;
+
+/// How many cells are gathered at once. Each is at most three bytes.
+pub(crate) const RUN: usize = 1024;
+
+/// Makes room for so many bytes: where there is none, all that is pending goes out.
+pub(crate) fn make_room<W: Sink>(
+    pending: &mut Stack<'_, u8>,
+    more: usize,
+    output: &mut W,
+) -> Result<(), Fault>
+    requires { more ≤ pending.old.room }
+    ensures gathers { GathersOrFails (W.held output.old) (W.held output.new) pending.old.items pending.new.items [] result }
+    ensures fits { OnOk result (length pending.new.items + more ≤ pending.new.room) }
+    ensures failures { W.failures output.new ≡ counted (W.failures output.old) result }
+    ensures room { pending.new.room ≡ pending.old.room }
+{
+    if pending.room() - pending.len() >= more {
+        return Ok(());
+    }
+    output.put(pending.as_slice())?;
+    pending.clear();
+    Ok(())
+}
+
+fn gather_cell(pending: &mut Stack<'_, u8>, cell: Cell)
+    requires { length pending.old.items + 3 ≤ pending.old.room }
+    ensures items { pending.new.items ≡ pending.old.items ++ cell_bytes cell }
+    ensures few { length pending.new.items ≤ length pending.old.items + 3 }
+    ensures room { pending.new.room ≡ pending.old.room }
+{
+    if cell.under && cell.byte.is_ascii_alphanumeric() {
+        pending.extend(&[b'_', 8, cell.byte]);
+    } else {
+        pending.push(cell.byte);
+    }
+}
+
+fn gather_cells(pending: &mut Stack<'_, u8>, cells: &[Cell])
+    requires { length pending.old.items + 3 * length cells.now ≤ pending.old.room }
+    ensures items { pending.new.items ≡ pending.old.items ++ flat_map cell_bytes cells.now }
+    ensures room { pending.new.room ≡ pending.old.room }
+{
+    for cell in cells {
+        gather_cell(pending, *cell);
+    }
+}
+
+/// The bytes of the cells.
+pub(crate) fn write_cells<W: Sink>(
+    pending: &mut Stack<'_, u8>,
+    cells: &[Cell],
+    output: &mut W,
+) -> Result<(), Fault>
+    requires { 3 * RUN ≤ pending.old.room }
+    ensures gathers { GathersOrFails (W.held output.old) (W.held output.new) pending.old.items pending.new.items (flat_map cell_bytes cells.now) result }
+    ensures failures { W.failures output.new ≡ counted (W.failures output.old) result }
+    ensures room { pending.new.room ≡ pending.old.room }
+{
+    let mut at = 0;
+    while at < cells.len() {
+        let end = at + RUN.min(cells.len() - at);
+        make_room(pending, 3 * RUN, output)?;
+        gather_cells(pending, &cells[at..end]);
+        at = end;
+    }
+    Ok(())
+}
+
+/// So many newlines.
+pub(crate) fn write_newlines<W: Sink>(
+    pending: &mut Stack<'_, u8>,
+    count: usize,
+    output: &mut W,
+) -> Result<(), Fault>
+    requires { 0 < pending.old.room }
+    ensures gathers { GathersOrFails (W.held output.old) (W.held output.new) pending.old.items pending.new.items (replicate count 10) result }
+    ensures failures { W.failures output.new ≡ counted (W.failures output.old) result }
+    ensures room { pending.new.room ≡ pending.old.room }
+{
+    for _line in 0..count {
+        make_room(pending, 1, output)?;
+        pending.push(b'\n');
+    }
+    Ok(())
+}

@@ -1,0 +1,272 @@
+// Pages with their bytes, and what a sink that fails leaves.
+ghost use Rattle.std.specs.Prelude.{◌≤◌, length};
+
+use crate::line::PlacedLine;
+use crate::page::{Page, PageCells, WriteFault, room};
+use nr_units::cell::Cell;
+use nr_units::fakes::{Shut, Slate};
+
+/// The lines placed, each a row and its text; how many rows are asked for; and the bytes of the page.
+/// In a text `^` underlines the cell behind it.
+struct Case {
+    name: &'static str,
+    lines: &'static [(u32, &'static [u8])],
+    rows: u32,
+    bytes: &'static [u8],
+}
+
+const CASES: [Case; 17] = [
+    Case {
+        name: "no line and no row",
+        lines: &[],
+        rows: 0,
+        bytes: b"",
+    },
+    Case {
+        name: "no line",
+        lines: &[],
+        rows: 3,
+        bytes: b"\n\n\n",
+    },
+    Case {
+        name: "lines in order",
+        lines: &[(0, b"one"), (1, b"two"), (3, b" four")],
+        rows: 5,
+        bytes: b"one\ntwo\n\n four\n\n",
+    },
+    Case {
+        name: "more rows than asked for",
+        lines: &[(2, b"low")],
+        rows: 1,
+        bytes: b"\n\nlow\n",
+    },
+    Case {
+        name: "as many rows as asked for",
+        lines: &[(2, b"low")],
+        rows: 3,
+        bytes: b"\n\nlow\n",
+    },
+    Case {
+        name: "an empty line is a row",
+        lines: &[(1, b"")],
+        rows: 0,
+        bytes: b"\n\n",
+    },
+    Case {
+        name: "trailing blanks go, others stay",
+        lines: &[(0, b"  a b   "), (1, b"   ")],
+        rows: 2,
+        bytes: b"  a b\n\n",
+    },
+    Case {
+        name: "a later cell hides an earlier one",
+        lines: &[(0, b"abcde"), (0, b"  X")],
+        rows: 1,
+        bytes: b"abXde\n",
+    },
+    Case {
+        name: "a blank hides nothing",
+        lines: &[(0, b"abc"), (0, b"X  d  ")],
+        rows: 1,
+        bytes: b"Xbcd\n",
+    },
+    Case {
+        name: "an underlined blank is a blank",
+        lines: &[(0, b"ab^ "), (0, b"^ X"), (1, b"a^ b")],
+        rows: 2,
+        bytes: b"aX\na b\n",
+    },
+    Case {
+        name: "underlined letters and digits",
+        lines: &[(0, b"^a^Z^0^9"), (1, b"x^yz")],
+        rows: 2,
+        bytes: b"_\x08a_\x08Z_\x080_\x089\nx_\x08yz\n",
+    },
+    Case {
+        name: "an underlined point is itself",
+        lines: &[(0, b"^.^-^_^@^[^`^{^/^:")],
+        rows: 1,
+        bytes: b".-_@[`{/:\n",
+    },
+    Case {
+        name: "bytes past ASCII are not letters",
+        lines: &[(0, b"^\xe9^\xff\x80")],
+        rows: 1,
+        bytes: b"\xe9\xff\x80\n",
+    },
+    Case {
+        name: "lines out of order",
+        lines: &[(2, b"c"), (0, b"a"), (2, b" d"), (1, b"b"), (0, b"x")],
+        rows: 4,
+        bytes: b"x\nb\ncd\n\n",
+    },
+    Case {
+        name: "two columns",
+        lines: &[(0, b"l"), (1, b"m"), (0, b"  r"), (1, b"  s")],
+        rows: 2,
+        bytes: b"l r\nm s\n",
+    },
+    Case {
+        name: "a shorter line on a longer one",
+        lines: &[(1, b"long"), (1, b"s")],
+        rows: 0,
+        bytes: b"\nsong\n",
+    },
+    Case {
+        name: "an underlined cell hides a plain one",
+        lines: &[(0, b"ab"), (0, b"^c"), (0, b"  ")],
+        rows: 1,
+        bytes: b"_\x08cb\n",
+    },
+];
+
+/// The cells of a text, in the front of a slice.
+fn cells_of<'a>(cells: &'a mut [Cell], text: &[u8]) -> &'a [Cell] {
+    let mut len = 0;
+    let mut under = false;
+    for byte in text {
+        if *byte == b'^' {
+            under = true;
+        } else if len < cells.len() {
+            cells[len] = Cell { byte: *byte, under };
+            len += 1;
+            under = false;
+        }
+    }
+    &cells[..len.min(cells.len())]
+}
+
+fn place_all(page: &mut Page<'_>, lines: &[(u32, &[u8])]) -> Result<(), PageCells> {
+    let mut cells = [Cell::blank(); 64];
+    for (row, text) in lines {
+        page.place(*row, cells_of(&mut cells, text))?;
+    }
+    Ok(())
+}
+
+#[test]
+fn writes_pages(rt: HostRuntime) {
+    for case in &CASES {
+        let mut cells = [Cell::blank(); 200];
+        let mut lines = [PlacedLine::blank(); 200];
+        let mut page = Page::over(&mut cells, &mut lines, 200);
+        assert!(rt; place_all(&mut page, case.lines) == Ok(()), "{}", case.name);
+        let mut out = [0; 100];
+        let mut slate = Slate::over(&mut out);
+        assert!(rt;
+            page.write_page(case.rows, &mut slate) == Ok(()),
+            "{}",
+            case.name
+        );
+        assert!(rt; slate.bytes() == case.bytes, "{}", case.name);
+        assert_eq!(rt; slate.failed_calls(), 0, "{}", case.name);
+    }
+}
+
+// The sink fails at each place of each page. It has the bytes before that place then, and the page is as it was.
+#[test]
+fn fails_at_each_place(rt: HostRuntime) {
+    for case in &CASES {
+        let mut cells = [Cell::blank(); 200];
+        let mut lines = [PlacedLine::blank(); 200];
+        let mut page = Page::over(&mut cells, &mut lines, 200);
+        assert!(rt; place_all(&mut page, case.lines) == Ok(()), "{}", case.name);
+        for place in 0..case.bytes.len() {
+            let mut out = [0; 100];
+            assert!(rt; place <= out.len());
+            let mut slate = Slate::over(&mut out[..place]);
+            assert!(rt;
+                page.write_page(case.rows, &mut slate) == Err(WriteFault),
+                "{} at {place}",
+                case.name
+            );
+            assert!(rt;
+                slate.bytes() == &case.bytes[..place],
+                "{} at {place}",
+                case.name
+            );
+            assert_eq!(rt; slate.failed_calls(), 1, "{} at {place}", case.name);
+        }
+        let mut shut = Shut::new();
+        assert!(rt;
+            page.write_page(case.rows, &mut shut).is_err() == (case.bytes.len() > 0),
+            "{}",
+            case.name
+        );
+        let mut out = [0; 100];
+        let mut slate = Slate::over(&mut out);
+        assert!(rt;
+            page.write_page(case.rows, &mut slate) == Ok(()),
+            "{}",
+            case.name
+        );
+        assert!(rt; slate.bytes() == case.bytes, "{}", case.name);
+    }
+}
+
+// A row of 3000 cells, two lines of it, is more than is gathered at once, and goes out in several calls.
+#[test]
+fn writes_long_rows(rt: HostRuntime) {
+    let mut cells = [Cell::blank(); 6000];
+    let mut lines = [PlacedLine::blank(); 6000];
+    let mut page = Page::over(&mut cells, &mut lines, 6000);
+    let low = [Cell {
+        byte: b'a',
+        under: true,
+    }; 3000];
+    let mut high = [Cell::blank(); 2900];
+    high[0].byte = b'b';
+    high[1030].byte = b'.';
+    high[2899].byte = b'c';
+    assert!(rt; page.place(1, &low) == Ok(()));
+    let mut out = [0; 9002];
+    for place in [0, 1, 2, 3, 4095, 4096, 4097, 8191, 8192, 9000, 9001] {
+        let mut slate = Slate::over(&mut out[..place]);
+        assert!(rt;
+            page.write_page(2, &mut slate) == Err(WriteFault),
+            "at {place}"
+        );
+        assert_eq!(rt; slate.bytes().len(), place);
+    }
+    let mut slate = Slate::over(&mut out);
+    assert!(rt; page.write_page(2, &mut slate) == Ok(()));
+    let bytes = slate.bytes();
+    assert!(rt; bytes.len() == 9002);
+    assert!(rt; bytes[..7] == b"\n_\x08a_\x08a"[..]);
+    assert!(rt; page.place(1, &high) == Ok(()));
+    assert_eq!(rt; page.charge(), 5902);
+    let mut slate = Slate::over(&mut out);
+    assert!(rt; page.write_page(0, &mut slate) == Ok(()));
+    let bytes = slate.bytes();
+    assert!(rt; bytes.len() == 8996);
+    assert!(rt; bytes[..5] == b"\nb_\x08a"[..]);
+    assert!(rt; bytes[3086..3093] == b"_\x08a._\x08a"[..]);
+    assert!(rt; bytes[8691..8700] == b"_\x08ac_\x08a_\x08"[..]);
+}
+
+// The limit is reached exactly, and a line that would pass it changes nothing.
+#[test]
+fn keeps_the_limit(rt: HostRuntime) {
+    let mut cells = [Cell::blank(); 7];
+    let mut lines = [PlacedLine::blank(); 7];
+    for (limit, second, bytes) in [(6, Err(PageCells), b"abc\n"), (7, Ok(()), b"xyc\n")] {
+        let room = room(limit);
+        assert!(rt; room.cells <= cells.len() && room.lines <= lines.len() && limit <= 7);
+        let mut page = Page::over(&mut cells, &mut lines, limit);
+        assert!(rt; page.is_empty());
+        assert!(rt; place_all(&mut page, &[(0, b"abc")]) == Ok(()));
+        assert_eq!(rt; page.charge(), 4);
+        assert!(rt; page.has_room(limit - 5) && !page.has_room(limit - 4));
+        assert!(rt; place_all(&mut page, &[(0, b"xy")]) == second, "at {limit}");
+        assert!(rt; !page.is_empty());
+        let mut out = [0; 8];
+        let mut slate = Slate::over(&mut out);
+        assert!(rt; page.write_page(1, &mut slate) == Ok(()));
+        assert!(rt; slate.bytes() == bytes.as_slice(), "at {limit}");
+        page.clear();
+        assert!(rt; page.is_empty());
+        assert_eq!(rt; page.charge(), 0);
+        assert!(rt; place_all(&mut page, &[(3, b"")]) == Ok(()));
+        assert_eq!(rt; page.charge(), 1);
+    }
+}

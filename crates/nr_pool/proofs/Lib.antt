@@ -1,0 +1,4 @@
+pub mod Places
+pub mod Spares
+pub mod Rotation
+pub mod Changes

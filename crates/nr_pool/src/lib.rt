@@ -1,0 +1,319 @@
+//! Texts in two lent slices. The elements of all texts lie in the one, without holes, and the other says where
+//! each text lies and how many hold it. No call allocates.
+#![tactic(auto)]
+
+ghost use Rattle.std.specs.Prelude.{◌≡◌, ◌≢◌, ℕ, ◌+◌, ◌^◌, ◌<◌, ◌↔◌, [], ◌∷◌, ◌++◌, length, take, replicate, All, IsErr, IfOk, OnOk, OnErr, IsTrue, slice_get, slice_set, Some};
+ghost use Rattle.nr_pool.specs.Texts.{IsOpen, text, holders, used, no_text, opened, with_text, with_holders, without_text, released};
+
+pub use crate::slot::Slot;
+use crate::slot::bring_last;
+use std::marker::Model;
+
+mod slot;
+#[cfg(test)]
+mod tests;
+
+/// There is no room for what was to be added.
+#[derive(Clone, Copy, Debug, PartialEq, Eq, Drop)]
+pub struct Full;
+
+/// The number of a text of a `Pool`. It says nothing of which pool that is.
+#[derive(Clone, Copy, Debug, PartialEq, Eq, Drop)]
+pub struct Id {
+    index: u32,
+}
+
+impl Model for Id {
+    ghost use Rattle.std.specs.Prelude.{ℕ};
+
+    ghost Value = { ℕ };
+
+    ghost view = { λ a. a.index };
+
+    ghost inverse = { λ n. record { index = n } };
+}
+
+/// Texts of elements of `T`, over slices that are lent to it. A text keeps its `Id` until it is removed,
+/// whatever happens to other texts; the `Id` of a removed text may be given again. Beside each text stands
+/// how many hold it, which only `open`, `hold`, `release` and `close` change.
+///
+/// A call that makes a text longer or shorter, or removes it, first brings its elements behind those of all
+/// other texts: in constant time where they lie there or there are none, else in one rotation of the elements
+/// from the text on and one pass over the slots. Beside that it takes constant time, and that of a copy of the
+/// elements that it is given.
+#[derive(Drop)]
+pub struct Pool<'a, T: Copy> {
+    elements: &'a mut [T],
+    slots: &'a mut [Slot],
+    // How many elements the texts have; they lie at the front of `elements`.
+    used: u32,
+    // How many slots have no text, and the first of them.
+    spares: usize,
+    first_spare: u32,
+}
+
+impl<'a, T: Copy> Model for Pool<'a, T> {
+    ghost use Rattle.std.specs.Prelude.{length};
+    ghost use Rattle.nr_pool.specs.Texts.{Texts};
+    ghost use Rattle.nr_pool.specs.Places.{texts_of};
+    ghost use Rattle.nr_pool.specs.Spares.{IsPool};
+
+    ghost Value = { Texts T };
+
+    ghost view = { λ p. texts_of p.elements.now p.slots.now };
+
+    ghost invariant = { λ p. IsPool (length p.elements.now) p.slots.now p.used p.spares p.first_spare };
+}
+
+impl<'a, T: Copy> Pool<'a, T> {
+    /// A pool with no texts. It has room for as many elements as `elements` has, in as many texts as `slots`
+    /// has; what stands in the two slices is of no account. It takes one pass over `slots`. A slot counts in
+    /// 32 bits, so each slice has fewer than 2^32 elements.
+    pub fn over(elements: &'a mut [T], slots: &'a mut [Slot]) -> Pool<'a, T>
+        requires elements_fit { length elements.old < 2 ^ 32 }
+        requires slots_fit { length slots.old < 2 ^ 32 }
+        ensures capacity { result.capacity ≡ length elements.old }
+        ensures empty { result.texts ≡ replicate (length slots.old) no_text }
+    {
+        let most = slots.len();
+        for i in 0..most {
+            slots[i] = Slot {
+                start: i as u32 + 1,
+                len: 0,
+                holders: 0,
+            };
+        }
+        Pool {
+            elements,
+            slots,
+            used: 0,
+            spares: most,
+            first_spare: 0,
+        }
+    }
+
+    /// A new text, with no elements and one holder, in constant time. It fails if every number has a text,
+    /// and then nothing has changed.
+    pub fn open(&mut self) -> Result<Id, Full>
+        ensures full { IsErr result ↔ All (λ t. 0 < t.holders) self.old.texts }
+        ensures unused { IfOk result (λ id. slice_get self.old.texts id ≡ Some no_text) }
+        ensures ok { IfOk result (λ id. self.new ≡ opened self.old id) }
+        ensures is_open { IfOk result (λ id. IsOpen self.new id) }
+        ensures keeps { (other : ℕ) → IsOpen self.old other → IsOpen self.new other }
+        ensures err { OnErr result (self.new ≡ self.old) }
+    {
+        if self.spares == 0 {
+            return Err(Full);
+        }
+        let index = self.first_spare;
+        let slot = &mut self.slots[index as usize];
+        slot.holders = 1;
+        self.first_spare = slot.start;
+        self.spares -= 1;
+        Ok(Id { index })
+    }
+
+    /// Whether `id` is the number of a text.
+    pub fn is_open(&self, id: Id) -> bool
+        ensures { IsTrue result ↔ IsOpen self.now id }
+    {
+        let slots = &*self.slots;
+        let index = id.index as usize;
+        index < slots.len() && slots[index].holders > 0
+    }
+
+    /// How many hold a text: at least one, and fewer than 2^32.
+    pub fn holders(&self, id: Id) -> usize
+        requires { IsOpen self.now id }
+        ensures { result ≡ holders self.now id }
+    {
+        let slots = &*self.slots;
+        slots[id.index as usize].holders as usize
+    }
+
+    /// One holder more of a text. The caller keeps the number of holders below 2^32.
+    pub fn hold(&mut self, id: Id)
+        requires is_open { IsOpen self.old id }
+        requires fits { holders self.old id + 1 < 2 ^ 32 }
+        ensures held { self.new ≡ with_holders self.old id (holders self.old id + 1) }
+        ensures keeps { (other : ℕ) → IsOpen self.old other → IsOpen self.new other }
+    {
+        let slots = &mut *self.slots;
+        slots[id.index as usize].holders += 1;
+    }
+
+    /// One holder less of a text, which is removed where that was the last.
+    pub fn release(&mut self, id: Id)
+        requires { IsOpen self.old id }
+        ensures released { self.new ≡ released self.old id }
+        ensures keeps { (other : ℕ) → other ≢ id → IsOpen self.old other → IsOpen self.new other }
+    {
+        if self.holders(id) == 1 {
+            self.close(id);
+        } else {
+            let slots = &mut *self.slots;
+            slots[id.index as usize].holders -= 1;
+        }
+    }
+
+    /// Removes a text, which has one holder. Its number may be that of a new text.
+    pub fn close(&mut self, id: Id)
+        requires { holders self.old id ≡ 1 }
+        ensures closed { self.new ≡ without_text self.old id }
+        ensures keeps { (other : ℕ) → other ≢ id → IsOpen self.old other → IsOpen self.new other }
+    {
+        let index = id.index as usize;
+        bring_last(self.elements, self.slots, self.used, index);
+        let slot = &mut self.slots[index];
+        self.used -= slot.len;
+        *slot = Slot {
+            start: self.first_spare,
+            len: 0,
+            holders: 0,
+        };
+        self.first_spare = id.index;
+        self.spares += 1;
+    }
+
+    /// How many elements a text has.
+    pub fn len(&self, id: Id) -> usize
+        requires { IsOpen self.now id }
+        ensures { result ≡ length (text self.now id) }
+    {
+        let slots = &*self.slots;
+        slots[id.index as usize].len as usize
+    }
+
+    /// The element at a place of a text.
+    pub fn get(&self, id: Id, place: usize) -> T
+        requires is_open { IsOpen self.now id }
+        requires within { place < length (text self.now id) }
+        ensures { slice_get (text self.now id) place ≡ Some result }
+    {
+        let slots = &*self.slots;
+        let first = slots[id.index as usize].start as usize;
+        self.elements[first + place]
+    }
+
+    /// A text as one slice.
+    pub fn text(&self, id: Id) -> &[T]
+        requires { IsOpen self.now id }
+        ensures { result.now ≡ text self.now id }
+    {
+        let slots = &*self.slots;
+        let Slot { start, len, .. } = slots[id.index as usize];
+        if len == 0 {
+            return &[];
+        }
+        &self.elements[start as usize..start as usize + len as usize]
+    }
+
+    /// Puts another element at a place of a text.
+    pub fn set(&mut self, id: Id, place: usize, element: T)
+        requires is_open { IsOpen self.old id }
+        requires within { place < length (text self.old id) }
+        ensures replaced { self.new ≡ with_text self.old id (slice_set (text self.old id) place element) }
+        ensures keeps { (other : ℕ) → IsOpen self.old other → IsOpen self.new other }
+    {
+        let slots = &mut *self.slots;
+        let start = slots[id.index as usize].start as usize;
+        self.elements[start + place] = element;
+    }
+
+    /// Puts an element at the end of a text. It fails if the texts have as many elements as there is room
+    /// for, and then nothing has changed.
+    pub fn append(&mut self, id: Id, element: T) -> Result<(), Full>
+        requires { IsOpen self.old id }
+        ensures full { IsErr result ↔ (used self.old ≡ self.old.capacity) }
+        ensures ok { OnOk result (self.new ≡ with_text self.old id (text self.old id ++ element ∷ [])) }
+        ensures keeps { (other : ℕ) → IsOpen self.old other → IsOpen self.new other }
+        ensures err { OnErr result (self.new ≡ self.old) }
+    {
+        if self.used as usize == self.elements.len() {
+            return Err(Full);
+        }
+        let index = id.index as usize;
+        bring_last(self.elements, self.slots, self.used, index);
+        self.elements[self.used as usize] = element;
+        self.slots[index].len += 1;
+        self.used += 1;
+        Ok(())
+    }
+
+    /// Puts elements at the end of a text. It fails if there is no room for all of them, and then nothing has
+    /// changed.
+    pub fn append_slice(&mut self, id: Id, elements: &[T]) -> Result<(), Full>
+        requires { IsOpen self.old id }
+        ensures full { IsErr result ↔ (self.old.capacity < used self.old + length elements.now) }
+        ensures ok { OnOk result (self.new ≡ with_text self.old id (text self.old id ++ elements.now)) }
+        ensures keeps { (other : ℕ) → IsOpen self.old other → IsOpen self.new other }
+        ensures err { OnErr result (self.new ≡ self.old) }
+    {
+        let used = self.used as usize;
+        let count = elements.len();
+        if count > self.elements.len() - used {
+            return Err(Full);
+        }
+        if count == 0 {
+            return Ok(());
+        }
+        let index = id.index as usize;
+        bring_last(self.elements, self.slots, self.used, index);
+        self.elements[used..used + count].copy_from_slice(elements);
+        self.slots[index].len += count as u32;
+        self.used += count as u32;
+        Ok(())
+    }
+
+    /// Puts a copy of the text of `from` at the end of the text of `to`. It fails if there is no room for it,
+    /// and then nothing has changed.
+    pub fn copy_text(&mut self, from: Id, to: Id) -> Result<(), Full>
+        requires from_open { IsOpen self.old from }
+        requires to_open { IsOpen self.old to }
+        ensures full { IsErr result ↔ (self.old.capacity < used self.old + length (text self.old from)) }
+        ensures ok { OnOk result (self.new ≡ with_text self.old to (text self.old to ++ text self.old from)) }
+        ensures keeps { (other : ℕ) → IsOpen self.old other → IsOpen self.new other }
+        ensures err { OnErr result (self.new ≡ self.old) }
+    {
+        let used = self.used as usize;
+        let len = self.len(from);
+        if len > self.elements.len() - used {
+            return Err(Full);
+        }
+        if len == 0 {
+            return Ok(());
+        }
+        let index = to.index as usize;
+        bring_last(self.elements, self.slots, self.used, index);
+        let start = self.slots[from.index as usize].start as usize;
+        self.elements.copy_within(start..start + len, used);
+        self.slots[index].len += len as u32;
+        self.used += len as u32;
+        Ok(())
+    }
+
+    /// Takes all but the first `len` elements from a text; none, if it has no more than these.
+    pub fn truncate(&mut self, id: Id, len: usize)
+        requires { IsOpen self.old id }
+        ensures truncated { self.new ≡ with_text self.old id (take len (text self.old id)) }
+        ensures keeps { (other : ℕ) → IsOpen self.old other → IsOpen self.new other }
+    {
+        if len >= self.len(id) {
+            return;
+        }
+        let index = id.index as usize;
+        bring_last(self.elements, self.slots, self.used, index);
+        let slot = &mut self.slots[index];
+        self.used -= slot.len - len as u32;
+        slot.len = len as u32;
+    }
+
+    /// Takes all elements from a text, which stays, with its holders.
+    pub fn clear(&mut self, id: Id)
+        requires { IsOpen self.old id }
+        ensures cleared { self.new ≡ with_text self.old id [] }
+        ensures keeps { (other : ℕ) → IsOpen self.old other → IsOpen self.new other }
+    {
+        self.truncate(id, 0);
+    }
+}

@@ -1,0 +1,63 @@
+//! Where the texts of a pool lie.
+ghost use Rattle.std.specs.Prelude.{◌≡◌, ℕ, ◌+◌, ◌<◌, length};
+ghost use Rattle.nr_pool.specs.Places.{texts_of, slot_at, blank_slot, is_behind, IsPacked};
+ghost use Rattle.nr_pool.specs.Spares.{HasSpares};
+
+/// What a `Pool` keeps for one text: 12 bytes.
+#[derive(Clone, Copy, Debug, Drop)]
+pub struct Slot {
+    // The place of the text's first element; of no account while it has none.
+    // In a slot with no text, the next spare slot.
+    pub(crate) start: u32,
+    pub(crate) len: u32,
+    // 0 where there is no text.
+    pub(crate) holders: u32,
+}
+
+impl Slot {
+    /// A slot with no text, to fill a new slice with.
+    pub const fn blank() -> Slot
+        ensures { result ≡ blank_slot }
+    {
+        Slot {
+            start: 0,
+            len: 0,
+            holders: 0,
+        }
+    }
+
+    // Whether the text has elements and begins at `end` or behind it.
+    fn is_behind(&self, end: u32) -> bool
+        ensures { result ≡ is_behind end self.now }
+    {
+        self.len > 0 && self.start >= end
+    }
+}
+
+// Moves the text at `index` behind all others, into the elements that end at `used`.
+pub(crate) fn bring_last<T: Copy>(elements: &mut [T], slots: &mut [Slot], used: u32, index: usize)
+    requires packed { IsPacked (length elements.old) slots.old used }
+    requires within { index < length slots.old }
+    requires held { 0 < (slot_at slots.old index).holders }
+    ensures packed { IsPacked (length elements.new) slots.new used }
+    ensures last { (slot_at slots.new index).start + (slot_at slots.new index).len ≡ used }
+    ensures spares { (count first : ℕ) → HasSpares slots.old count first → HasSpares slots.new count first }
+    ensures same { texts_of elements.new slots.new ≡ texts_of elements.old slots.old }
+{
+    let Slot { start, len, .. } = slots[index];
+    if len == 0 {
+        slots[index].start = used;
+        return;
+    }
+    let end = start + len;
+    if end == used {
+        return;
+    }
+    elements[start as usize..used as usize].rotate_left(len as usize);
+    for slot in slots.iter_mut() {
+        if slot.is_behind(end) {
+            slot.start -= len;
+        }
+    }
+    slots[index].start = used - len;
+}

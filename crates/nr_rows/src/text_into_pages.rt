@@ -1,0 +1,138 @@
+// Text into pages: filling, breaks, empty lines, pages, the limits of a line and of a page, and faults.
+
+use super::row::{DEFAULTS, Row, check, passes, row};
+use nr_engine::{Desk, Limits, Measure, Options, Outcome, format};
+use nr_units::fakes::{Script, Slate};
+use std::test::Fail;
+
+#[test]
+fn no_bytes(rt: HostRuntime) -> Result<(), Fail> {
+    passes(&rt, rt.alloc(), &row(b"", b""))
+}
+
+#[test]
+fn hello_page(rt: HostRuntime) -> Result<(), Fail> {
+    passes(&rt, rt.alloc(), &row(b".pl 2v\nhello\n", b"hello\n\n"))
+}
+
+#[test]
+fn sentence_gap(rt: HostRuntime) -> Result<(), Fail> {
+    passes(&rt, rt.alloc(), &row(b".pl 1v\nEnd.\nNext\n", b"End.  Next\n"))
+}
+
+#[test]
+fn limits_ranges(rt: HostRuntime) -> Result<(), Fail> {
+    assert!(rt; Limits::new(64, 1, 1, 1).is_some());
+    assert!(rt; Limits::new(63, 1, 1, 1).is_none());
+    assert!(rt; Limits::new(64, 0, 1, 1).is_none());
+    assert!(rt; Limits::new(64, 1, 0, 1).is_none());
+    assert!(rt; Limits::new(64, 1, 1, 0).is_none());
+    assert!(rt; Limits::new(16_777_216, 4096, 16_777_216, 4_294_967_296).is_some());
+    assert!(rt; Limits::new(16_777_217, 4096, 16_777_216, 4_294_967_296).is_none());
+    assert!(rt; Limits::new(64, 4097, 1, 1).is_none());
+    assert!(rt; Limits::new(64, 1, 16_777_217, 1).is_none());
+    assert!(rt; Limits::new(64, 1, 1, 4_294_967_297).is_none());
+    Ok(())
+}
+
+#[test]
+fn no_final_newline(rt: HostRuntime) -> Result<(), Fail> {
+    passes(&rt, rt.alloc(), &row(b".pl 1v\nhello", b"hello\n"))
+}
+
+#[test]
+fn default_scales(rt: HostRuntime) -> Result<(), Fail> {
+    let input = b".pl 2\n.ll 8\na bb ccc dddd\n";
+    passes(&rt, rt.alloc(), &row(input, b"a bb ccc\ndddd\n"))
+}
+
+#[test]
+fn empty_lines(rt: HostRuntime) -> Result<(), Fail> {
+    passes(&rt, rt.alloc(), &row(b".pl 3\na\n\nb\n", b"a\n\nb\n"))?;
+    passes(&rt, rt.alloc(), &row(b".pl 1\na\n\nb\n", b"a\n\nb\n"))
+}
+
+#[test]
+fn two_short_pages(rt: HostRuntime) -> Result<(), Fail> {
+    passes(&rt, rt.alloc(), &row(b".pl 1\na\n.br\nb\n.br\n", b"a\nb\n"))
+}
+
+#[test]
+fn word_hits_line_cells(rt: HostRuntime) -> Result<(), Fail> {
+    let row = Row {
+        input: b"hello\n",
+        limits: (262_144, 256, 4, 1_000_000),
+        output: b"",
+        outcome: Outcome::Limit {
+            which: Measure::LineCells,
+            at: 5,
+        },
+    };
+    passes(&rt, rt.alloc(), &row)
+}
+
+#[test]
+fn breaks_hit_page_cells(rt: HostRuntime) -> Result<(), Fail> {
+    let row = Row {
+        input: b"abcd\n.br\nabcd\n.br\nabcd\n.br\n",
+        limits: (262_144, 256, 12, 1_000_000),
+        output: b"",
+        outcome: Outcome::Limit {
+            which: Measure::PageCells,
+            at: 27,
+        },
+    };
+    passes(&rt, rt.alloc(), &row)
+}
+
+// The first page is out where the reader fails behind the last byte, and not where it fails before it.
+#[test]
+fn reader_fails_between_pages(rt: HostRuntime) -> Result<(), Fail> {
+    let input = b".pl 1\na\n.br\nb\n.br\n";
+    let after = Row {
+        input,
+        limits: DEFAULTS,
+        output: b"a\n",
+        outcome: Outcome::ReadFault { at: 18 },
+    };
+    check(&rt, rt.alloc(), &mut Script::failing_after(input, 18), &after)?;
+    let before = Row {
+        input,
+        limits: DEFAULTS,
+        output: b"",
+        outcome: Outcome::ReadFault { at: 17 },
+    };
+    check(&rt, rt.alloc(), &mut Script::failing_after(input, 17), &before)
+}
+
+#[test]
+fn writer_fails_in_second_page(rt: HostRuntime) -> Result<(), Fail> {
+    let limits = Limits::new(262_144, 256, 65_536, 1_000_000).ok_or("limits out of range")?;
+    let mut desk = Desk::new(rt.alloc(), limits)?;
+    let mut bytes = [0u8; 3];
+    let mut output = Slate::over(&mut bytes);
+    let mut input = Script::new(b".pl 1\na\n.br\nb\n.br\n");
+    let mut moves = 0;
+    let outcome = format(desk.lend(), &Options::plain(), &mut input, &mut output, &mut moves);
+    assert_eq!(rt; outcome, Outcome::WriteFault);
+    assert_eq!(rt; output.bytes(), b"a\nb".as_slice());
+    Ok(())
+}
+
+// A desk formats as often as it is asked to, also after a limit.
+#[test]
+fn desk_is_lent_again(rt: HostRuntime) -> Result<(), Fail> {
+    let limits = Limits::new(64, 1, 6, 1).ok_or("limits out of range")?;
+    let mut desk = Desk::new(rt.alloc(), limits)?;
+    let mut bytes = [0u8; 8];
+    let mut moves = 0;
+    let mut output = Slate::over(&mut bytes);
+    let mut long = Script::new(b"longword\n");
+    let outcome = format(desk.lend(), &Options::plain(), &mut long, &mut output, &mut moves);
+    assert_eq!(rt; outcome, Outcome::Limit { which: Measure::LineCells, at: 7 });
+    let mut short = Script::new(b".pl 2\nword\n");
+    let outcome = format(desk.lend(), &Options::plain(), &mut short, &mut output, &mut moves);
+    assert_eq!(rt; outcome, Outcome::Done);
+    assert_eq!(rt; output.bytes(), b"word\n\n".as_slice());
+    Ok(())
+}
