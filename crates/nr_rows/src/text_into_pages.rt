@@ -1,23 +1,31 @@
 // Text into pages: filling, breaks, empty lines, pages, the limits of a line and of a page, and faults.
 
-use super::row::{DEFAULTS, Row, check, passes, row};
-use nr_engine::{Desk, Limits, Measure, Options, Outcome, format};
+use super::row::{DEFAULTS, Row, check, desk_under, formatted, passes};
+use nr_engine::{Limits, Measure, Outcome};
 use nr_units::fakes::{Script, Slate};
 use std::test::Fail;
 
 #[test]
 fn no_bytes(rt: HostRuntime) -> Result<(), Fail> {
-    passes(&rt, rt.alloc(), &row(b"", b""))
+    passes(&rt, rt.alloc(), &Row::done(b"", b""))
 }
 
 #[test]
 fn hello_page(rt: HostRuntime) -> Result<(), Fail> {
-    passes(&rt, rt.alloc(), &row(b".pl 2v\nhello\n", b"hello\n\n"))
+    passes(
+        &rt,
+        rt.alloc(),
+        &Row::done(b".pl 2v\nhello\n", b"hello\n\n"),
+    )
 }
 
 #[test]
 fn sentence_gap(rt: HostRuntime) -> Result<(), Fail> {
-    passes(&rt, rt.alloc(), &row(b".pl 1v\nEnd.\nNext\n", b"End.  Next\n"))
+    passes(
+        &rt,
+        rt.alloc(),
+        &Row::done(b".pl 1v\nEnd.\nNext\n", b"End.  Next\n"),
+    )
 }
 
 #[test]
@@ -37,24 +45,28 @@ fn limits_ranges(rt: HostRuntime) -> Result<(), Fail> {
 
 #[test]
 fn no_final_newline(rt: HostRuntime) -> Result<(), Fail> {
-    passes(&rt, rt.alloc(), &row(b".pl 1v\nhello", b"hello\n"))
+    passes(&rt, rt.alloc(), &Row::done(b".pl 1v\nhello", b"hello\n"))
 }
 
 #[test]
 fn default_scales(rt: HostRuntime) -> Result<(), Fail> {
     let input = b".pl 2\n.ll 8\na bb ccc dddd\n";
-    passes(&rt, rt.alloc(), &row(input, b"a bb ccc\ndddd\n"))
+    passes(&rt, rt.alloc(), &Row::done(input, b"a bb ccc\ndddd\n"))
 }
 
 #[test]
 fn empty_lines(rt: HostRuntime) -> Result<(), Fail> {
-    passes(&rt, rt.alloc(), &row(b".pl 3\na\n\nb\n", b"a\n\nb\n"))?;
-    passes(&rt, rt.alloc(), &row(b".pl 1\na\n\nb\n", b"a\n\nb\n"))
+    passes(&rt, rt.alloc(), &Row::done(b".pl 3\na\n\nb\n", b"a\n\nb\n"))?;
+    passes(&rt, rt.alloc(), &Row::done(b".pl 1\na\n\nb\n", b"a\n\nb\n"))
 }
 
 #[test]
 fn two_short_pages(rt: HostRuntime) -> Result<(), Fail> {
-    passes(&rt, rt.alloc(), &row(b".pl 1\na\n.br\nb\n.br\n", b"a\nb\n"))
+    passes(
+        &rt,
+        rt.alloc(),
+        &Row::done(b".pl 1\na\n.br\nb\n.br\n", b"a\nb\n"),
+    )
 }
 
 #[test]
@@ -95,25 +107,33 @@ fn reader_fails_between_pages(rt: HostRuntime) -> Result<(), Fail> {
         output: b"a\n",
         outcome: Outcome::ReadFault { at: 18 },
     };
-    check(&rt, rt.alloc(), &mut Script::failing_after(input, 18), &after)?;
+    check(
+        &rt,
+        rt.alloc(),
+        &mut Script::failing_after(input, 18),
+        &after,
+    )?;
     let before = Row {
         input,
         limits: DEFAULTS,
         output: b"",
         outcome: Outcome::ReadFault { at: 17 },
     };
-    check(&rt, rt.alloc(), &mut Script::failing_after(input, 17), &before)
+    check(
+        &rt,
+        rt.alloc(),
+        &mut Script::failing_after(input, 17),
+        &before,
+    )
 }
 
 #[test]
 fn writer_fails_in_second_page(rt: HostRuntime) -> Result<(), Fail> {
-    let limits = Limits::new(262_144, 256, 65_536, 1_000_000).ok_or("limits out of range")?;
-    let mut desk = Desk::new(rt.alloc(), limits)?;
+    let mut desk = desk_under(rt.alloc(), DEFAULTS)?;
     let mut bytes = [0u8; 3];
     let mut output = Slate::over(&mut bytes);
     let mut input = Script::new(b".pl 1\na\n.br\nb\n.br\n");
-    let mut moves = 0;
-    let outcome = format(desk.lend(), &Options::plain(), &mut input, &mut output, &mut moves);
+    let outcome = formatted(&mut desk, &mut input, &mut output);
     assert_eq!(rt; outcome, Outcome::WriteFault);
     assert_eq!(rt; output.bytes(), b"a\nb".as_slice());
     Ok(())
@@ -122,16 +142,20 @@ fn writer_fails_in_second_page(rt: HostRuntime) -> Result<(), Fail> {
 // A desk formats as often as it is asked to, also after a limit.
 #[test]
 fn desk_is_lent_again(rt: HostRuntime) -> Result<(), Fail> {
-    let limits = Limits::new(64, 1, 6, 1).ok_or("limits out of range")?;
-    let mut desk = Desk::new(rt.alloc(), limits)?;
+    let mut desk = desk_under(rt.alloc(), (64, 1, 6, 1))?;
     let mut bytes = [0u8; 8];
-    let mut moves = 0;
     let mut output = Slate::over(&mut bytes);
     let mut long = Script::new(b"longword\n");
-    let outcome = format(desk.lend(), &Options::plain(), &mut long, &mut output, &mut moves);
-    assert_eq!(rt; outcome, Outcome::Limit { which: Measure::LineCells, at: 7 });
+    let outcome = formatted(&mut desk, &mut long, &mut output);
+    assert_eq!(rt;
+        outcome,
+        Outcome::Limit {
+            which: Measure::LineCells,
+            at: 7
+        }
+    );
     let mut short = Script::new(b".pl 2\nword\n");
-    let outcome = format(desk.lend(), &Options::plain(), &mut short, &mut output, &mut moves);
+    let outcome = formatted(&mut desk, &mut short, &mut output);
     assert_eq!(rt; outcome, Outcome::Done);
     assert_eq!(rt; output.bytes(), b"word\n\n".as_slice());
     Ok(())
