@@ -40,13 +40,6 @@ pub wrote-trans : (s t u : State) (old mid new : Option (List ℕ)) → Wrote s 
 wrote-trans s t u old mid new a b =
     record { wrote = (a.wrote.0 ++ b.wrote.0, grows-add s t u a.wrote.0 b.wrote.0 a.wrote.1 b.wrote.1, Appends-trans old mid new a.wrote.0 b.wrote.0 a.wrote.2 b.wrote.2) }
 
-front_after : (a b c : Option (List ℕ)) (xs ys : List ℕ) → Appends a b xs → AppendsFront b c ys → AppendsFront a c (xs ++ ys)
-front_after a b c xs ys p q = (xs ++ q.0, q.1, ap (λ y. xs ++ y) q.2 ∙ sym (append_assoc xs q.0 q.1), Appends-trans a b c xs q.0 p q.3)
-
-wrote_front-trans : (s t u : State) (old mid new : Option (List ℕ)) → Wrote s t old mid → WroteFront t u mid new → WroteFront s u old new
-wrote_front-trans s t u old mid new a b =
-    record { wrote = (a.wrote.0 ++ b.wrote.0, grows-add s t u a.wrote.0 b.wrote.0 a.wrote.1 b.wrote.1, front_after old mid new a.wrote.0 b.wrote.0 a.wrote.2 b.wrote.2) }
-
 -- ---- moves
 
 pub reached_none : (b : Bounds) (s : State) (e : Shape) (supply : Option Supply) (held : Option (List ℕ)) → Holds b s e → supply ≡ Some s.coming.supply → Reached b s 0 e supply held held
@@ -84,14 +77,14 @@ halts_here b s outcome old new stops left = record { runs = λ m k. absurd (omeg
     from (Limit which at) k = wrote_kept s old new k
     from (ReadFault at) k = wrote_kept s old new k
     from TooLong k = wrote_kept s old new k
-    from WriteFault k = k
+    from WriteFault k = (old, wrote_nothing s s old refl, k)
 
 writes-add : (s t u : State) (o : Outcome) (old mid new : Option (List ℕ)) → Wrote s t old mid → WritesFrom t u o mid new → WritesFrom s u o old new
 writes-add s t u Done old mid new a w = wrote-trans s t u old mid new a w
 writes-add s t u (Limit which at) old mid new a w = wrote-trans s t u old mid new a w
 writes-add s t u (ReadFault at) old mid new a w = wrote-trans s t u old mid new a w
 writes-add s t u TooLong old mid new a w = wrote-trans s t u old mid new a w
-writes-add s t u WriteFault old mid new a w = wrote_front-trans s t (step u) old mid new a w
+writes-add s t u WriteFault old mid new a w = (w.0, wrote-trans s t u old mid w.0 a w.1, w.2)
 
 -- moves, and then others up to where the run stops
 pub halts_after : (b : Bounds) (s : State) (n m : ℕ) (e : Shape) (x : Option Supply) (outcome : Outcome) (old mid new : Option (List ℕ))
@@ -119,4 +112,5 @@ answers b s n outcome old new none h = record { runs = h.runs; stops = h.stops; 
     from (Limit which at) w = all (state_after n s) w
     from (ReadFault at) w = all (state_after n s) w
     from TooLong w = all (state_after n s) w
-    from WriteFault w = subst (AppendsFront old new) (clean (step (state_after n s)) w.wrote.0 w.wrote.1) w.wrote.2
+    from WriteFault w =
+        record { between = w.0; ended = subst (Appends old w.0) (clean (state_after n s) w.1.wrote.0 w.1.wrote.1) w.1.wrote.2; page = w.2.page; ends = w.2.ends; front = w.2.front }

@@ -77,7 +77,7 @@ failed_same b s t u e f old new (Limit which at) same within pages w = (same ∙
 failed_same b s t u e f old new (ReadFault at) same within pages w = w
 failed_same b s t u e f old new TooLong same within pages w = w
 failed_same b s t u e f old new WriteFault same within pages w =
-    (within w.0, record { wrote = (w.1.wrote.0, record { grows = ap text pages ∙ w.1.wrote.1.grows }, w.1.wrote.2) })
+    (within w.0, record { page = w.1.page; ends = pages ∙ w.1.ends; front = w.1.front })
 
 -- a work that comes to an equal state
 pub after_is : (b : Bounds) (s t u : State) (e : Shape) (old new : Option (List ℕ)) (r : Result (Unit {0}) Outcome) → t ≡ u → AfterWork b s u e old new r → AfterWork b s t e old new r
@@ -100,7 +100,8 @@ worked b s t e supply old new (Err (Limit which at)) is open_still quiet same q 
 worked b s t e supply old new (Err (ReadFault at)) is open_still quiet same q w = absurd w
 worked b s t e supply old new (Err TooLong) is open_still quiet same q w = absurd w
 worked b s t e supply old new (Err WriteFault) is open_still quiet same q w =
-    (record { open_still = open_still; within = ap (passed b) is ∙ passed_none b t w.0; asks = record { given = λ k. absurd (let f : true ≡ false = sym k ∙ quiet in cc); short = λ k. absurd (let f : true ≡ false = sym k ∙ quiet in cc) } }, rw is w.1)
+    ((record { open_still = open_still; within = ap (passed b) is ∙ passed_none b t w.0; asks = record { given = λ k. absurd (let f : true ≡ false = sym k ∙ quiet in cc); short = λ k. absurd (let f : true ≡ false = sym k ∙ quiet in cc) } }, (w.1.page, ap (λ x. x.pages) is ∙ w.1.ends)),
+     record { page = w.1.page; ends = ap (λ x. x.pages) is ∙ w.1.ends; front = w.1.front })
 
 -- ---- pages
 

@@ -1,10 +1,11 @@
 -- What a run under limits answers: the moves that it makes, and where it stops.
-use Rattle.std.specs.Prelude.{◌≡◌, ◌≢◌, ℕ, ◌<◌, List, Option, None, Some, Result, Ok, Err, Bool, true, false, if◌then◌else◌}
+use Rattle.std.specs.Prelude.{◌≡◌, ◌≢◌, ℕ, ◌<◌, List, [], ◌∷◌, ◌++◌, Option, None, Some, Result, Ok, Err, Bool, true, false, if◌then◌else◌}
 use Rattle.std.specs.Io.KnownBytes.{Appends}
 use Rattle.nr_units.specs.Supply.{Supply, MayFail, MayGive}
 use Rattle.nr_units.specs.Held.{AppendsFront}
+use Rattle.nr_page.specs.PageBytes.{page_bytes}
 use Rattle.nr_engine.specs.Coming.{IsOneTooMany}
-use Rattle.nr_engine.specs.State.{State, start}
+use Rattle.nr_engine.specs.State.{State, Ended, start}
 use Rattle.nr_engine.specs.Machine.{step, state_after, text}
 use Rattle.nr_engine.specs.Measures.{Bounds, passed}
 use Rattle.nr_engine.specs.Modes.{is_reader}
@@ -26,26 +27,38 @@ pub record Goes (b : Bounds) (s : State) : Type 0 where
   pub within : passed b (step s) ≡ None
   pub asks : IsGiven s
 
+-- the next move ends a page
+abbrev pub EndsPage : State → Type 0
+EndsPage s = (page : Ended) × ((step s).pages ≡ s.pages ++ page ∷ [])
+
 -- the run stops here, as the outcome says
 abbrev pub Stops : Bounds → State → Outcome → Type 0
 Stops b s Done = s.mode ≡ Halted
 Stops b s (Limit which at) = (s.mode ≢ Halted) × (passed b (step s) ≡ Some which) × (at ≡ s.coming.taken) × IsGiven s
 Stops b s (ReadFault at) = IsReader s × MayFail s.coming.supply.faults × (at ≡ s.coming.taken)
 Stops b s TooLong = IsReader s × MayGive s.coming.supply.faults × IsOneTooMany s.coming.supply.bytes s.coming.taken
--- the next move is made, but not all of the page that it ends is written
-Stops b s WriteFault = Goes b s
+-- the next move is made and ends a page, but not all of it is written
+Stops b s WriteFault = Goes b s × EndsPage s
 
 -- every one of the first n moves is made
 abbrev pub Runs : Bounds → ℕ → State → Type 0
 Runs b n s = (m : ℕ) → m < n → Goes b (state_after m s)
 
--- what goes out: the pages that have ended, and where a write fails a front of what the next move ends too
+-- the pages that have ended went out, and of the one that the next move ends a front
+pub record BreaksOff (s : State) (old new : Option (List ℕ)) : Type 0 where
+  pub between : Option (List ℕ)
+  pub ended : Appends old between (text s.pages)
+  pub page : Ended
+  pub ends : (step s).pages ≡ s.pages ++ page ∷ []
+  pub front : AppendsFront between new (page_bytes page.rows page.lines)
+
+-- what goes out: the pages that have ended
 abbrev pub Writes : State → Outcome → Option (List ℕ) → Option (List ℕ) → Type 0
 Writes s Done old new = Appends old new (text s.pages)
 Writes s (Limit which at) old new = Appends old new (text s.pages)
 Writes s (ReadFault at) old new = Appends old new (text s.pages)
 Writes s TooLong old new = Appends old new (text s.pages)
-Writes s WriteFault old new = AppendsFront old new (text (step s).pages)
+Writes s WriteFault old new = BreaksOff s old new
 
 -- The machine makes n moves from s, and the run stops there as the outcome says.
 pub record Answers (b : Bounds) (s : State) (n : ℕ) (outcome : Outcome) (old new : Option (List ℕ)) : Type 0 where

@@ -3,11 +3,12 @@ use Rattle.std.specs.Prelude.{◌≡◌, ◌≢◌, ℕ, ◌+◌, ◌-◌, ◌*�
 use Rattle.std.specs.Io.KnownBytes.{Appends, Keeps}
 use Rattle.nr_units.specs.Supply.{Supply}
 use Rattle.nr_units.specs.Held.{AppendsFront}
+use Rattle.nr_page.specs.PageBytes.{page_bytes}
 use Rattle.nr_page.specs.Sheet.{Sheet, Holds as HoldsPage}
 use Rattle.nr_engine.specs.Lined.{Lined}
 use Rattle.nr_engine.specs.Row.{Row}
 use Rattle.nr_engine.specs.Coming.{Taken, HoldsComing, items_left}
-use Rattle.nr_engine.specs.State.{State}
+use Rattle.nr_engine.specs.State.{State, Ended}
 use Rattle.nr_engine.specs.Machine.{step, state_after, text}
 use Rattle.nr_engine.specs.Measures.{Bounds, IsWithin, passed}
 use Rattle.nr_engine.specs.Answer.{Goes, Stops, Runs}
@@ -65,9 +66,11 @@ pub record Grows (s t : State) (more : List ℕ) : Type 0 where
 pub record Wrote (s t : State) (old new : Option (List ℕ)) : Type 0 where
   pub wrote : (more : List ℕ) × Grows s t more × Appends old new more
 
--- the same where a front of it went out
+-- one page more ended between two states, and a front of it went out
 pub record WroteFront (s t : State) (old new : Option (List ℕ)) : Type 0 where
-  pub wrote : (more : List ℕ) × Grows s t more × AppendsFront old new more
+  pub page : Ended
+  pub ends : t.pages ≡ s.pages ++ page ∷ []
+  pub front : AppendsFront old new (page_bytes page.rows page.lines)
 
 -- from s the machine comes to t: the engine holds t, or a limit or a write stops it
 abbrev pub AfterWork : Bounds → State → State → Shape → Option (List ℕ) → Option (List ℕ) → Result (Unit {0}) Outcome → Type 0
@@ -121,7 +124,7 @@ WritesFrom s t Done old new = Wrote s t old new
 WritesFrom s t (Limit which at) old new = Wrote s t old new
 WritesFrom s t (ReadFault at) old new = Wrote s t old new
 WritesFrom s t TooLong old new = Wrote s t old new
-WritesFrom s t WriteFault old new = WroteFront s (step t) old new
+WritesFrom s t WriteFault old new = (between : Option (List ℕ)) × Wrote s t old between × WroteFront t (step t) between new
 
 -- n moves were made from s, and the run stops there
 pub record Halts (b : Bounds) (s : State) (n : ℕ) (outcome : Outcome) (old new : Option (List ℕ)) : Type 0 where

@@ -1,4 +1,4 @@
-use Rattle.std.proofs.Common.{◌≡◌, ◌/◌, ◌≤◌, ◌∷◌, [], ◌++◌, ap, sym, ◌∙◌, arith}
+use Rattle.std.proofs.Common.{◌≡◌, ◌/◌, ◌≤◌, ◌∷◌, [], ◌++◌, refl, ap, sym, ◌∙◌, arith}
 use Rattle.nr_page.specs.PageBytes.{page_bytes}
 use Rattle.nr_engine.specs.State.{Ended}
 use Rattle.nr_engine.specs.Pages.{end_page}
@@ -12,7 +12,7 @@ returns-in-Err-clause-worked g c = λ b s h.
     let within : IsWithin b (end_page s) = record { line = h.within.line; page = omega arith } in
     let last : Ended = record { rows = s.settings.page_length / 40; lines = s.paper.lines } in
     let front = rw h.settings at (c.in-Err.ensures.err s.paper.lines h.page) in
-    (within, record { wrote = (page_bytes last.rows last.lines, record { grows = text-push s.pages last }, front) })
+    (within, record { page = last; ends = refl; front = front })
 
 pub returns-in-Ok-clause-worked : goal.returns-in-Ok-clause-worked
 returns-in-Ok-clause-worked g c = λ b s h.
