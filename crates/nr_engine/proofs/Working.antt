@@ -17,7 +17,7 @@ use Rattle.nr_engine.specs.declared.requests.Request.TheVariants.{Br, Ll, Pl}
 use Rattle.nr_engine.specs.declared.mode.Next.{Next}
 use Rattle.nr_engine.specs.declared.mode.Next.TheVariants as next
 use Rattle.nr_engine.specs.Pages.{has_room_at, has_room, begin_page, make_room, put_line, put_space, eject}
-use Rattle.nr_engine.specs.Bytes.{prints, is_tab}
+use Rattle.nr_engine.specs.Bytes.{prints, is_tab_or_leader}
 use Rattle.nr_engine.specs.Modes.{is_reader, mode_of}
 use Rattle.nr_engine.specs.Machine.{step, move, read, text}
 use Rattle.nr_engine.specs.Measures.{Bounds, IsWithin, passed}
@@ -99,9 +99,10 @@ worked b s t e supply old new (Err (Limit which at)) is open_still quiet same q 
     ((open_still, ap (passed b) is ∙ w.0, w.1, record { given = λ k. absurd (let f : true ≡ false = sym k ∙ quiet in cc); short = λ k. absurd (let f : true ≡ false = sym k ∙ quiet in cc) }), w.2)
 worked b s t e supply old new (Err (ReadFault at)) is open_still quiet same q w = absurd w
 worked b s t e supply old new (Err TooLong) is open_still quiet same q w = absurd w
-worked b s t e supply old new (Err WriteFault) is open_still quiet same q w =
-    ((record { open_still = open_still; within = ap (passed b) is ∙ passed_none b t w.0; asks = record { given = λ k. absurd (let f : true ≡ false = sym k ∙ quiet in cc); short = λ k. absurd (let f : true ≡ false = sym k ∙ quiet in cc) } }, (w.1.page, ap (λ x. x.pages) is ∙ w.1.ends)),
-     record { page = w.1.page; ends = ap (λ x. x.pages) is ∙ w.1.ends; front = w.1.front })
+worked b s t e supply old new (Err WriteFault) is open_still quiet same q w = (
+  (record { open_still = open_still; within = ap (passed b) is ∙ passed_none b t w.0; asks = record { given = λ k. absurd (let f : true ≡ false = sym k ∙ quiet in cc); short = λ k. absurd (let f : true ≡ false = sym k ∙ quiet in cc) } }, (w.1.page, ap (λ x. x.pages) is ∙ w.1.ends)),
+  record { page = w.1.page; ends = ap (λ x. x.pages) is ∙ w.1.ends; front = w.1.front },
+)
 
 -- ---- pages
 
@@ -133,7 +134,7 @@ coming_put_cases byte s false false false true = refl
 coming_put_cases byte s false false false false = refl
 
 pub coming-put : (byte : ℕ) (s : State) → (put byte s).coming ≡ s.coming
-coming-put byte s = coming_put_cases byte s (nat_lt 0 s.reading.leading) (byte == 32) (prints byte) (is_tab byte)
+coming-put byte s = coming_put_cases byte s (nat_lt 0 s.reading.leading) (byte == 32) (prints byte) (is_tab_or_leader byte)
 
 coming-make_room : (s : State) → (make_room s).coming ≡ s.coming
 coming-make_room s = kept s _ _ _ refl refl

@@ -17,5 +17,5 @@ abbrev pub prints : ℕ → Bool
 prints b = nat_le 32 b && not (b == 127)
 
 -- tab and SOH
-abbrev pub is_tab : ℕ → Bool
-is_tab b = b == 9 || b == 1
+abbrev pub is_tab_or_leader : ℕ → Bool
+is_tab_or_leader b = b == 9 || b == 1

@@ -1,13 +1,13 @@
 -- Filling lines, and breaks. (CSTR 54, section 4.)
 use Rattle.std.specs.Prelude.{ℕ, ◌-◌, Bool, true, false, ◌&&◌, ◌||◌, ◌==◌, not, nat_le, nat_lt, if◌then◌else◌}
-use Rattle.nr_engine.specs.Bytes.{prints, is_tab}
+use Rattle.nr_engine.specs.Bytes.{prints, is_tab_or_leader}
 use Rattle.nr_engine.specs.Modes.{mode_of}
 use Rattle.nr_engine.specs.Pieces.{Collected, with_word, add_cell, end_word, one_blank_more, fits, is_nil, is_none}
 use Rattle.nr_units.specs.Cells.{blank}
 use Rattle.nr_engine.specs.State.{State, in_mode}
 use Rattle.nr_engine.specs.Pages.{begin_page, put_line}
 use Rattle.nr_engine.specs.declared.paper.PageState.{PageState}
-use Rattle.nr_engine.specs.declared.paper.PageState.TheVariants.{Unbegun, Open, Ended}
+use Rattle.nr_engine.specs.declared.paper.PageState.TheVariants.{Unbegun, Open, Closed}
 use Rattle.nr_engine.specs.declared.mode.Next.{Next}
 use Rattle.nr_engine.specs.declared.mode.Next.TheVariants as next
 use Rattle.nr_engine.specs.declared.mode.Mode.TheVariants.{Text, Flow}
@@ -41,7 +41,7 @@ put_tab s = record s { line = with_word s.settings.line_length s.line; mode = Te
 abbrev pub put : ℕ → State → State
 put b s =
     if nat_lt 0 s.reading.leading then put_leading s
-    else (if b == 32 then put_blank s else (if prints b then put_cell b s else (if is_tab b then put_tab s else in_mode Text s)))
+    else (if b == 32 then put_blank s else (if prints b then put_cell b s else (if is_tab_or_leader b then put_tab s else in_mode Text s)))
 
 -- a text line's end leaves a gap of 1, or of 2 behind a sentence
 abbrev pub end_line : State → State
@@ -56,7 +56,7 @@ abbrev pub begins_page : Next → PageState → Bool
 begins_page next.Eject p = false
 begins_page n Unbegun = true
 begins_page n Open = false
-begins_page n Ended = false
+begins_page n Closed = false
 
 -- the word ends, the first page begins, and all that is collected goes out
 abbrev pub break_line : Next → State → State

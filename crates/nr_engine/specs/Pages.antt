@@ -4,7 +4,7 @@ use Rattle.nr_page.specs.Grid.{Placed}
 use Rattle.nr_engine.specs.Pieces.{first_line, behind_first_line}
 use Rattle.nr_engine.specs.State.{State, Paper, Ended, in_mode}
 use Rattle.nr_engine.specs.declared.paper.PageState.{PageState}
-use Rattle.nr_engine.specs.declared.paper.PageState.TheVariants.{Unbegun, Open, Ended as Closed}
+use Rattle.nr_engine.specs.declared.paper.PageState.TheVariants.{Unbegun, Open, Closed}
 use Rattle.nr_engine.specs.declared.mode.Mode.TheVariants.{Begin, Halted}
 
 -- 6 lines an inch: each line is 40 u high

@@ -3,7 +3,7 @@ use Rattle.std.specs.Prelude.{ℕ, ◌+◌, ◌-◌, ◌*◌, min, if◌then◌e
 use Rattle.nr_engine.specs.Pieces.{Piece}
 use Rattle.nr_engine.specs.declared.reading.Reading.{Reading}
 use Rattle.nr_engine.specs.declared.paper.PageState.{PageState}
-use Rattle.nr_engine.specs.declared.paper.PageState.TheVariants.{Unbegun, Open, Ended}
+use Rattle.nr_engine.specs.declared.paper.PageState.TheVariants.{Unbegun, Open, Closed}
 use Rattle.nr_engine.specs.declared.mode.Next.{Next}
 use Rattle.nr_engine.specs.declared.mode.Next.TheVariants as next
 use Rattle.nr_engine.specs.declared.mode.Mode.{Mode}
@@ -37,7 +37,7 @@ weight_of_mode (Put b) = 30
 abbrev pub weight_of_page : PageState → ℕ → ℕ → ℕ
 weight_of_page Open place page_length = 1 + 2 * min 1 (place + 1 - page_length)
 weight_of_page Unbegun place page_length = 2
-weight_of_page Ended place page_length = 2
+weight_of_page Closed place page_length = 2
 
 abbrev pub weight_of_word : Option Piece → ℕ
 weight_of_word None = 0

@@ -22,6 +22,12 @@ mod slice_vec;
 
 pub use desk::{Desk, Work, sizes};
 pub use limits::{Limits, Sizes};
+pub use nr_page::page::WriteFault;
+pub use nr_page::{BadList, Select};
+pub use nr_units::buffered::Buffered;
+pub use nr_units::over_std::{FromReader, ToWriter};
+pub use nr_units::sink::Sink;
+pub use nr_units::source::{Fault, Source};
 pub use options::Options;
 pub use outcome::{Measure, Outcome};
 pub use run::format;

@@ -2,7 +2,7 @@
 ghost use Rattle.std.specs.Prelude.{◌≡◌, ℕ, ◌+◌, ◌<◌, ◌≤◌, List, Option, OnOk, false};
 ghost use Rattle.nr_units.specs.Failures.{counted_if};
 ghost use Rattle.nr_units.specs.Cells.{blank};
-ghost use Rattle.nr_engine.specs.Bytes.{prints, is_tab};
+ghost use Rattle.nr_engine.specs.Bytes.{prints, is_tab_or_leader};
 ghost use Rattle.nr_engine.specs.Pieces.{add_cell, end_word};
 ghost use Rattle.nr_engine.specs.State.{State};
 ghost use Rattle.nr_engine.specs.Lines.{put_leading, put_blank, put_cell, put_tab, put, end_line, flow, begins_page, break_line};
@@ -24,8 +24,8 @@ fn prints(byte: u8) -> bool
     byte >= b' ' && byte != 127
 }
 
-fn is_tab(byte: u8) -> bool
-    ensures { result ≡ is_tab byte }
+fn is_tab_or_leader(byte: u8) -> bool
+    ensures { result ≡ is_tab_or_leader byte }
 {
     byte == b'\t' || byte == 1
 }
@@ -162,7 +162,7 @@ impl<'a> Engine<'a> {
         if prints(byte) {
             return self.put_cell(byte);
         }
-        if is_tab(byte) {
+        if is_tab_or_leader(byte) {
             self.put_tab(byte);
             return Ok(());
         }

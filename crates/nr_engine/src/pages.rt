@@ -55,7 +55,7 @@ impl<'a> Engine<'a> {
             Err(_) => Err(Outcome::WriteFault),
             Ok(()) => {
                 self.paper.page.clear();
-                self.paper.state = PageState::Ended;
+                self.paper.state = PageState::Closed;
                 self.paper.place = 0;
                 Ok(())
             }

@@ -10,7 +10,7 @@ pub enum PageState {
     /// A page is open.
     Open,
     /// A page has ended, and the next one has not begun.
-    Ended,
+    Closed,
 }
 
 /// The page under way: the lines placed on it, and the present place, in u from the top.

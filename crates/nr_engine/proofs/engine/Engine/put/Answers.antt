@@ -19,8 +19,8 @@ returns-then-prints-clause-worked c = λ held b s h.
     let none : s.reading.leading ≤ 0 = omega (arith, ap (λ r. r.leading) h.reading, c.if-self-gt0.false) in
     rw (le-ltb 0 s.reading.leading none, ne_eqb c.args.byte 32 c.if-byte-eq32.false, sym c.prints.ensures ∙ c.if-prints.true) (c.put_cell.ensures.worked held b s h)
 
-pub returns-then-is_tab-clause-worked : goal.returns-then-is_tab-clause-worked
-returns-then-is_tab-clause-worked c = λ held b s h.
+pub returns-then-is_tab_or_leader-clause-worked : goal.returns-then-is_tab_or_leader-clause-worked
+returns-then-is_tab_or_leader-clause-worked c = λ held b s h.
     let none : s.reading.leading ≤ 0 = omega (arith, ap (λ r. r.leading) h.reading, c.if-self-gt0.false) in
-    rw (le-ltb 0 s.reading.leading none, ne_eqb c.args.byte 32 c.if-byte-eq32.false, sym c.prints.ensures ∙ c.if-prints.false, sym c.is_tab.ensures ∙ c.if-is_tab.true)
+    rw (le-ltb 0 s.reading.leading none, ne_eqb c.args.byte 32 c.if-byte-eq32.false, sym c.prints.ensures ∙ c.if-prints.false, sym c.is_tab_or_leader.ensures ∙ c.if-is_tab_or_leader.true)
     (c.put_tab.ensures.turns b s h, wrote_nothing s (put_tab s) held refl)
