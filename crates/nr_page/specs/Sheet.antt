@@ -1,15 +1,14 @@
 -- How a page keeps the lines placed on it.
-use Rattle.std.specs.Prelude.{◌≡◌, ℕ, ◌+◌, ◌^◌, ◌≤◌, ◌<◌, List, length, map, take, drop, Bool, true, slice_index_or}
+use Rattle.std.specs.Prelude.{◌≡◌, ◌↔◌, ℕ, ◌+◌, ◌^◌, ◌≤◌, ◌<◌, List, length, map, take, drop, Bool, true, slice_index_or}
 use Rattle.std.specs.List.{sum_by}
 use Rattle.nr_units.specs.declared.cell.Cell.{Cell}
 use Rattle.nr_page.specs.declared.line.PlacedLine.{PlacedLine}
 use Rattle.nr_page.specs.Grid.{Placed}
 
--- the cells of all lines, where each line's lie, whether no line was placed above an earlier one, and the limit of the charge
+-- the cells of all lines, where each line's lie, and the limit of the charge
 pub record Sheet : Type 0 where
   pub cells : List Cell
   pub lines : List PlacedLine
-  pub in_order : Bool
   pub limit : ℕ
 
 -- a line, read from the cells
@@ -35,13 +34,19 @@ AreInside size lines = (i : ℕ) → i < length lines → (line_at lines i).star
 abbrev pub AreInOrder : List PlacedLine → Type 0
 AreInOrder lines = (i j : ℕ) → i ≤ j → j < length lines → (line_at lines i).row ≤ (line_at lines j).row
 
--- true of each page
+-- the lines lie within the cells, all of which are some line's, and are within the limit
 pub record IsSheet (page : Sheet) : Type 0 where
   pub in_range : page.limit < 2 ^ 64
   pub within : length page.cells + length page.lines ≤ page.limit
   pub filled : sum_by (λ (line : PlacedLine). line.len) page.lines ≡ length page.cells
   pub inside : AreInside (length page.cells) page.lines
-  pub rising : page.in_order ≡ true → AreInOrder page.lines
+
+-- true of each page, over slices with so much room for cells and for lines
+pub record IsKept (cell_room line_room : ℕ) (in_order : Bool) (page : Sheet) : Type 0 where
+  pub has_cells : page.limit ≤ cell_room
+  pub has_lines : page.limit ≤ line_room
+  pub order : (in_order ≡ true) ↔ AreInOrder page.lines
+  pub sheet : IsSheet page
 
 -- no line is below this row
 abbrev pub AreAbove : List PlacedLine → ℕ → Type 0

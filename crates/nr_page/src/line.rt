@@ -1,4 +1,5 @@
 // Where the cells of a placed line lie.
+ghost use Rattle.std.specs.Prelude.{◌≡◌};
 
 /// A line placed on a page: an element of the slice of lines that a `Page` is lent.
 #[derive(Clone, Copy, Debug, PartialEq, Eq)]
@@ -9,8 +10,12 @@ pub struct PlacedLine {
 }
 
 impl PlacedLine {
+    ghost use Rattle.nr_page.specs.Sheet.{no_line};
+
     /// A value to fill a new slice with. Which one is of no account.
-    pub fn blank() -> Self {
+    pub fn blank() -> Self
+        ensures { result ≡ no_line }
+    {
         PlacedLine {
             row: 0,
             start: 0,

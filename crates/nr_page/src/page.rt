@@ -47,23 +47,23 @@ pub fn room(limit: usize) -> PageRoom
 pub struct Page<'a> {
     cells: Stack<'a, Cell>,
     lines: Stack<'a, PlacedLine>,
+    // no line was placed above an earlier one, so that the rows can be written in one walk
     in_order: bool,
     limit: usize,
 }
 
 impl<'a> Model for Page<'a> {
-    ghost use Rattle.std.specs.Prelude.{◌≤◌};
-    ghost use Rattle.nr_page.specs.Sheet.{Sheet, IsSheet};
+    ghost use Rattle.nr_page.specs.Sheet.{Sheet, IsKept};
 
     ghost Value = { Sheet };
 
-    ghost view = { λ p. record { cells = p.cells.items; lines = p.lines.items; in_order = p.in_order; limit = p.limit } };
+    ghost view = { λ p. record { cells = p.cells.items; lines = p.lines.items; limit = p.limit } };
 
-    ghost invariant = { λ p. (p.limit ≤ p.cells.room) × (p.limit ≤ p.lines.room) × IsSheet (record { cells = p.cells.items; lines = p.lines.items; in_order = p.in_order; limit = p.limit }) };
+    ghost invariant = { λ p. IsKept p.cells.room p.lines.room p.in_order (record { cells = p.cells.items; lines = p.lines.items; limit = p.limit }) };
 }
 
 impl<'a> Page<'a> {
-    ghost use Rattle.nr_page.specs.Sheet.{AreAbove};
+    ghost use Rattle.nr_page.specs.Sheet.{AreAbove, AreInOrder};
 
     /// An empty page.
     pub fn over(cells: &'a mut [Cell], lines: &'a mut [PlacedLine], limit: usize) -> Self
@@ -124,10 +124,9 @@ impl<'a> Page<'a> {
         Ok(())
     }
 
-    // Whether the page's lines are in order and none is below this row.
+    /// Whether no line is above an earlier one with one more on this row.
     fn stays_in_order(&self, row: u32) -> bool
-        ensures in_order { result ≡ true → self.now.in_order ≡ true }
-        ensures above { result ≡ true → AreAbove self.now.lines row }
+        ensures { IsTrue result ↔ (AreInOrder self.now.lines × AreAbove self.now.lines row) }
     {
         match self.lines.as_slice().last() {
             None => self.in_order,

@@ -1,4 +1,12 @@
 pub mod Counting
 pub mod Digits
+pub mod ExpressionFronts
 pub mod Fronts
+pub mod Places
+pub mod Reading
 pub mod Rounding
+pub mod Rows
+pub mod Runs
+pub mod Steps
+pub mod Texts
+pub mod Values

@@ -1,7 +1,7 @@
 -- Numbers that are out of range after scaling.
-use Rattle.std.proofs.Common.{◌≡◌, ℕ, zero, suc, ◌+◌, ◌*◌, ◌/◌, ◌^◌, ◌<◌, ◌≤◌, None, ℤ, pos, negsuc, unsigned_abs, arith, refl, ap, ◌∙◌}
-use Rattle.std.proofs.Math.Nat.{le-div_iff_mul-le}
-use Rattle.std.proofs.lemmas.Bool.Decides.{nat_tests}
+use Rattle.std.proofs.Common.{◌≡◌, ℕ, zero, suc, ◌+◌, ◌-◌, ◌*◌, ◌/◌, ◌^◌, ◌<◌, ◌≤◌, None, ℤ, pos, negsuc, unsigned_abs, min, ◌⊎◌, inl, inr, sym, arith, refl, ap, ◌∙◌}
+use Rattle.std.proofs.Math.Nat.{le-div_iff_mul-le, mul-le-mul_left, mul_comm}
+use Rattle.std.proofs.lemmas.Bool.Decides.{nat_tests, leb_tells}
 use Rattle.nr_units.specs.Units.{nearest, with_sign_of, in_range, scaled, numerator, denominator}
 use Rattle.nr_units.specs.declared.units.Scale.{Scale}
 use Rattle.nr_units.specs.declared.units.Scale.TheVariants.{Inch, Centimetre, Pica, VerticalSpace, Em, En, Point, Unit as OneUnit}
@@ -57,3 +57,47 @@ denominator-high Em = omega arith
 denominator-high En = omega arith
 denominator-high Point = omega arith
 denominator-high OneUnit = omega arith
+
+-- A whole part of 2 ^ 32 or more is out of range, or worth nothing.
+far : (n a b : ℕ) → 1 ≤ b → b < 128 → b ≤ a → 42949672950000 ≤ n → 2147483647 < nearest (n * a) (10000 * b)
+far n a b low high most large =
+    let by_scale : n * b ≤ n * a = mul-le-mul_left n most in
+    let by_whole : b * 42949672950000 ≤ b * n = mul-le-mul_left b large in
+    let positive : 0 < 2 * (10000 * b) = omega arith in
+    let enough : 2147483648 * (2 * (10000 * b)) ≤ 2 * (n * a) + 10000 * b = omega (arith, by_scale, by_whole, mul_comm b n) in
+    let q : 2147483648 ≤ (2 * (n * a) + 10000 * b) / (2 * (10000 * b)) = (le-div_iff_mul-le positive).1 enough in
+    omega arith
+
+scaled_large : (v : ℤ) (s : Scale) (n : ℕ) → 42949672950000 ≤ n → denominator s ≤ unsigned_abs (numerator v s) → scaled v s n ≡ None
+scaled_large v s n large most =
+    scaled-far v s n (numerator v s) (unsigned_abs (numerator v s)) (denominator s) (n * unsigned_abs (numerator v s)) (nearest (n * unsigned_abs (numerator v s)) (10000 * denominator s)) refl refl refl refl refl
+    (far n (unsigned_abs (numerator v s)) (denominator s) (denominator-low s) (denominator-high s) most large)
+
+-- a scale is at least a unit, or nothing
+scale_tells : (v : ℤ) (s : Scale) → (denominator s ≤ unsigned_abs (numerator v s)) ⊎ (unsigned_abs (numerator v s) ≡ 0)
+scale_tells v Inch = inl (omega arith)
+scale_tells v Centimetre = inl (omega arith)
+scale_tells v Pica = inl (omega arith)
+scale_tells (pos zero) VerticalSpace = inr refl
+scale_tells (pos (suc n)) VerticalSpace = inl (omega arith)
+scale_tells (negsuc n) VerticalSpace = inl (omega arith)
+scale_tells v Em = inl (omega arith)
+scale_tells v En = inl (omega arith)
+scale_tells v Point = inl (omega arith)
+scale_tells v OneUnit = inl (omega arith)
+
+scaled_nothing : (v : ℤ) (s : Scale) (m n : ℕ) → unsigned_abs (numerator v s) ≡ 0 → scaled v s m ≡ scaled v s n
+unfolding scaled
+scaled_nothing v s m n none =
+    let e : m * unsigned_abs (numerator v s) ≡ n * unsigned_abs (numerator v s) = ap (λ a. m * a) none ∙ omega arith ∙ ap (λ a. n * a) (sym none) in
+    ap (λ p. in_range (with_sign_of (numerator v s) (nearest p (10000 * denominator s)))) e
+
+pub scaled-capped : (v : ℤ) (s : Scale) (w f : ℕ) → scaled v s (10000 * min w (2 ^ 32 - 1) + f) ≡ scaled v s (10000 * w + f)
+scaled-capped v s w f =
+    elim (leb_tells w 4294967295) [
+      | inl h ↦ let small = h.1 in ap (scaled v s) (omega arith)
+      | inr h ↦ elim (scale_tells v s) [
+        | inl most ↦ let large = h.1 in scaled_large v s (10000 * min w (2 ^ 32 - 1) + f) (omega arith) most ∙ sym (scaled_large v s (10000 * w + f) (omega arith) most)
+        | inr none ↦ scaled_nothing v s (10000 * min w (2 ^ 32 - 1) + f) (10000 * w + f) none
+      ]
+    ]

@@ -1,7 +1,11 @@
 pub mod Cells
+pub mod Expression
 pub mod Failures
+pub mod Grammar
 pub mod Held
 pub mod Names
 pub mod NumberText
+pub mod Scan
+pub mod Scanner
 pub mod Supply
 pub mod Units

@@ -1,15 +1,25 @@
-// What the other crates of the formatter stand on: units, number texts and names, cells, and where bytes
-// come from and go to.
+//! What the other crates of the formatter stand on: units, number expressions, the texts of numbers,
+//! names, cells, and where bytes come from and go to.
 #![tactic(auto)]
 
 pub mod buffered;
 pub mod cell;
+mod expression;
 pub mod fakes;
-pub mod name;
-pub mod number_text;
+mod level;
+mod name;
+mod number_text;
+mod operators;
 pub mod over_std;
+mod scanner;
 pub mod sink;
 pub mod source;
+mod symbols;
 #[cfg(test)]
 mod tests;
-pub mod units;
+mod units;
+
+pub use expression::{Ctx, Read, read_expr};
+pub use name::Name;
+pub use number_text::{Format, format_number};
+pub use units::{Scale, round_h, round_v};

@@ -1,0 +1,414 @@
+//! One level of a number expression: what is read of it, from its start or its parenthesis on.
+ghost use Rattle.std.specs.Prelude.{◌≡◌, option_and_then};
+ghost use Rattle.std.specs.Option.{option_map};
+
+use crate::expression::Ctx;
+use crate::operators::Operator;
+use crate::symbols::Symbol;
+use crate::units::{Scale, in_range};
+
+/// The signs and bars in front of an operand, as one map: `shift + x`, or `shift - x`.
+///
+/// `least` and `greatest` are those of 0 and the shifts at each bar: a result farther than 2147483647 from one of
+/// them had a value out of range on the way.
+#[derive(Clone, Copy, PartialEq, Eq, Debug, Default)]
+pub struct Prefix {
+    pub negated: bool,
+    pub shift: i64,
+    pub least: i64,
+    pub greatest: i64,
+}
+
+/// What stands on the left of an operand in its level.
+#[derive(Clone, Copy, PartialEq, Eq, Debug)]
+pub struct Left {
+    pub value: Option<i32>,
+    pub operator: Operator,
+}
+
+/// What waits for an operand.
+#[derive(Clone, Copy, PartialEq, Eq, Debug, Default)]
+pub struct Waiting {
+    pub left: Option<Left>,
+    pub prefix: Prefix,
+}
+
+/// What stands right in front of the place where an operand is wanted.
+#[derive(Clone, Copy, PartialEq, Eq, Debug)]
+pub enum Behind {
+    /// The beginning, a blank, a bar, or an operator that no `=` can make longer.
+    Nothing,
+    /// An operator of one byte.
+    AnOperator,
+    /// A sign: no blank may follow.
+    ASign,
+}
+
+/// How far the operand is read.
+#[derive(Clone, Copy, PartialEq, Eq, Debug)]
+pub enum Mode {
+    Before(Behind),
+    /// A point without digits in front.
+    LonePoint,
+    /// Digits: their value, or the greatest `u32` where that is less.
+    Whole(u32),
+    /// The whole part as before, the fraction in ten-thousandths, and what the next digit counts.
+    Fraction {
+        whole: u32,
+        fraction: u32,
+        place: u32,
+    },
+    /// The operand ended, with the value of the level so far.
+    Complete(Option<i32>),
+}
+
+/// A level of an expression.
+#[derive(Clone, Copy, PartialEq, Eq, Debug)]
+pub struct Level {
+    pub mode: Mode,
+    pub waiting: Waiting,
+}
+
+impl Prefix {
+    ghost use Rattle.nr_units.specs.Scan.{no_prefix, behind_minus, behind_bar, shift_behind_bar, prefixed, shifted, checked};
+    ghost use Rattle.nr_units.specs.Units.{in_range};
+
+    fn none() -> Self
+        ensures { result ≡ no_prefix }
+    {
+        Prefix {
+            negated: false,
+            shift: 0,
+            least: 0,
+            greatest: 0,
+        }
+    }
+
+    /// With a minus sign behind it.
+    fn behind_minus(self) -> Self
+        ensures { result ≡ behind_minus self }
+    {
+        Prefix {
+            negated: !self.negated,
+            ..self
+        }
+    }
+
+    /// The shift with a bar behind, as near as it fits: one so far makes every value out of range.
+    fn shift_behind_bar(self, here: i64) -> i64
+        ensures { result ≡ shift_behind_bar here self }
+    {
+        if self.negated {
+            self.shift.saturating_add(here)
+        } else {
+            self.shift.saturating_sub(here)
+        }
+    }
+
+    /// With a bar behind it.
+    fn behind_bar(self, here: i64) -> Self
+        ensures { result ≡ behind_bar here self }
+    {
+        Prefix {
+            negated: self.negated,
+            shift: self.shift_behind_bar(here),
+            least: self.least.min(self.shift),
+            greatest: self.greatest.max(self.shift),
+        }
+    }
+
+    /// The result, if it is in range.
+    fn shifted(self, x: i32) -> Option<i32>
+        ensures { result ≡ in_range (shifted self x) }
+    {
+        let x = i64::from(x);
+        if self.negated {
+            in_range(self.shift.saturating_sub(x))
+        } else {
+            in_range(self.shift.saturating_add(x))
+        }
+    }
+
+    /// The result, if all values on the way were in range.
+    fn checked(self, result_value: i32) -> Option<i32>
+        ensures { result ≡ checked self result_value }
+    {
+        let wide = i64::from(result_value);
+        if self.greatest > wide + 2_147_483_647 {
+            return None;
+        }
+        if self.least < wide - 2_147_483_647 {
+            return None;
+        }
+        Some(result_value)
+    }
+
+    /// What it makes of a value.
+    fn prefixed(self, value: Option<i32>) -> Option<i32>
+        ensures { result ≡ prefixed self value }
+    {
+        let shifted = self.shifted(value?)?;
+        self.checked(shifted)
+    }
+}
+
+impl Waiting {
+    ghost use Rattle.nr_units.specs.Scan.{nothing_waits, no_prefix, finished, joined_left};
+
+    /// Nothing on the left and nothing in front.
+    pub(crate) fn nothing() -> Self
+        ensures { result ≡ nothing_waits }
+    {
+        Waiting {
+            left: None,
+            prefix: Prefix::none(),
+        }
+    }
+
+    /// Behind this value and operator.
+    pub(crate) fn behind(value: Option<i32>, operator: Operator) -> Self
+        ensures { result ≡ record { left = Some (record { value = value; operator = operator }); prefix = no_prefix } }
+    {
+        Waiting {
+            left: Some(Left { value, operator }),
+            prefix: Prefix::none(),
+        }
+    }
+
+    /// The value of the level, with this value for the operand.
+    pub(crate) fn finished(self, value: Option<i32>) -> Option<i32>
+        ensures { result ≡ finished self value }
+    {
+        let operand = self.prefix.prefixed(value);
+        match self.left {
+            None => operand,
+            Some(left) => left.operator.applied(left.value?, operand?),
+        }
+    }
+}
+
+impl Mode {
+    ghost use Rattle.nr_units.specs.Scan.{more_whole, more_fraction, with_point, number_of};
+
+    /// With a digit behind the whole part.
+    pub(crate) fn more_whole(whole: u32, digit: u32) -> Self
+        ensures { result ≡ more_whole whole digit }
+    {
+        Mode::Whole(whole.saturating_mul(10).saturating_add(digit))
+    }
+
+    /// With a digit behind the fraction.
+    pub(crate) fn more_fraction(whole: u32, fraction: u32, place: u32, digit: u32) -> Self
+        ensures { result ≡ more_fraction whole fraction place digit }
+    {
+        Mode::Fraction {
+            whole,
+            fraction: fraction.saturating_add(place.saturating_mul(digit)),
+            place: place / 10,
+        }
+    }
+
+    fn with_point(self) -> Option<Self>
+        ensures { result ≡ with_point self }
+    {
+        match self {
+            Mode::Before(_) => Some(Mode::LonePoint),
+            Mode::Whole(whole) => Some(Mode::Fraction {
+                whole,
+                fraction: 0,
+                place: 1000,
+            }),
+            _ => None,
+        }
+    }
+
+    /// The ten-thousandths of a number that may end here.
+    fn number(self) -> Option<u64>
+        ensures { result ≡ number_of self }
+    {
+        match self {
+            Mode::Whole(whole) => Some(10_000 * u64::from(whole)),
+            Mode::Fraction {
+                whole,
+                fraction,
+                ..
+            } => Some(10_000 * u64::from(whole) + u64::from(fraction)),
+            _ => None,
+        }
+    }
+}
+
+impl Level {
+    ghost use Rattle.nr_units.specs.Scan.{fresh, completed, level_value, in_mode, with_point, with_letter, with_mark, bar_in, blank_in, with_sign, widened_left, behind_operator};
+
+    /// Where an expression begins.
+    pub(crate) fn fresh() -> Self
+        ensures { result ≡ fresh }
+    {
+        Level {
+            mode: Mode::Before(Behind::Nothing),
+            waiting: Waiting::nothing(),
+        }
+    }
+
+    /// Where an operand ended, with this value of the level.
+    pub(crate) fn completed(value: Option<i32>) -> Self
+        ensures { result ≡ completed value }
+    {
+        Level {
+            mode: Mode::Complete(value),
+            waiting: Waiting::nothing(),
+        }
+    }
+
+    /// The value of the level, if an operand may end here.
+    pub(crate) fn value(self, ctx: &Ctx) -> Option<Option<i32>>
+        ensures { result ≡ level_value ctx.now self }
+    {
+        if let Mode::Complete(value) = self.mode {
+            return Some(value);
+        }
+        let number = self.mode.number()?;
+        Some(self.waiting.finished(ctx.default.scaled(number, ctx.v)))
+    }
+
+    fn with_point(self) -> Option<Self>
+        ensures { result ≡ option_map (in_mode self) (with_point self.mode) }
+    {
+        let mode = self.mode.with_point()?;
+        Some(Level {
+            mode,
+            waiting: self.waiting,
+        })
+    }
+
+    fn with_letter(self, scale: Scale, ctx: &Ctx) -> Option<Self>
+        ensures { result ≡ with_letter ctx.now scale self }
+    {
+        let number = self.mode.number()?;
+        Some(Level::completed(self.waiting.finished(scale.scaled(number, ctx.v))))
+    }
+
+    /// With an operator of one byte, a sign, or the `=` that makes an operator longer.
+    fn with_mark(self, operator: Operator, ctx: &Ctx) -> Option<Self>
+        ensures { result ≡ with_mark ctx.now operator self }
+    {
+        if let Mode::Before(behind) = self.mode {
+            return self.waiting.with_sign(behind, operator);
+        }
+        let value = self.value(ctx)?;
+        let left = Some(Left { value, operator });
+        Some(Level {
+            mode: Mode::Before(Behind::AnOperator),
+            waiting: Waiting {
+                left,
+                prefix: Prefix::none(),
+            },
+        })
+    }
+
+    fn with_bar(self, here: i64) -> Option<Self>
+        ensures { result ≡ bar_in here self.waiting self.mode }
+    {
+        if let Mode::Before(_) = self.mode {
+            let Waiting { left, prefix } = self.waiting;
+            let waiting = Waiting {
+                left,
+                prefix: prefix.behind_bar(here),
+            };
+            return Some(Level {
+                mode: Mode::Before(Behind::Nothing),
+                waiting,
+            });
+        }
+        None
+    }
+
+    /// With a blank, inside parentheses.
+    fn with_blank(self, ctx: &Ctx) -> Option<Self>
+        ensures { result ≡ blank_in ctx.now self.waiting self.mode }
+    {
+        match self.mode {
+            Mode::Before(Behind::ASign) => None,
+            Mode::Before(_) => Some(Level {
+                mode: Mode::Before(Behind::Nothing),
+                waiting: self.waiting,
+            }),
+            _ => Some(Level::completed(self.value(ctx)?)),
+        }
+    }
+}
+
+impl Level {
+    ghost use Rattle.nr_units.specs.Scan.{level_after};
+
+    /// After a symbol that is no digit and no parenthesis; None where no expression goes on so.
+    pub(crate) fn after(self, symbol: Symbol, inside: bool, ctx: &Ctx) -> Option<Self>
+        ensures { result ≡ level_after ctx.now inside self symbol }
+    {
+        match symbol {
+            Symbol::Point => self.with_point(),
+            Symbol::Letter(scale) => self.with_letter(scale, ctx),
+            Symbol::Mark(operator) => self.with_mark(operator, ctx),
+            Symbol::Bar => self.with_bar(ctx.here),
+            Symbol::Blank if inside => self.with_blank(ctx),
+            Symbol::Blank | Symbol::Digit(_) | Symbol::Open | Symbol::Close => None,
+        }
+    }
+}
+
+impl Waiting {
+    ghost use Rattle.nr_units.specs.Scan.{with_sign, widened_left};
+
+    /// An operator's byte where an operand is wanted: a sign, or the `=` behind an operator.
+    fn with_sign(self, behind: Behind, operator: Operator) -> Option<Level>
+        ensures { result ≡ with_sign behind operator self }
+    {
+        let mode = Mode::Before(Behind::ASign);
+        match (operator, behind) {
+            (Operator::Add, _) => Some(Level {
+                mode,
+                waiting: self,
+            }),
+            (Operator::Subtract, _) => {
+                let waiting = Waiting {
+                    left: self.left,
+                    prefix: self.prefix.behind_minus(),
+                };
+                Some(Level { mode, waiting })
+            }
+            (Operator::Equal, Behind::AnOperator) => {
+                let left = self.left?.widened()?;
+                let waiting = Waiting {
+                    left: Some(left),
+                    prefix: self.prefix,
+                };
+                Some(Level {
+                    mode: Mode::Before(Behind::Nothing),
+                    waiting,
+                })
+            }
+            _ => None,
+        }
+    }
+}
+
+impl Left {
+    ghost use Rattle.nr_units.specs.Scan.{widened};
+
+    /// With `=` behind the operator.
+    fn widened(self) -> Option<Self>
+        ensures { result ≡ option_map (λ o. record { value = self.value; operator = o }) (widened self.operator) }
+    {
+        let operator = match self.operator {
+            Operator::Less => Operator::LessOrEqual,
+            Operator::Greater => Operator::GreaterOrEqual,
+            Operator::Equal => Operator::DoubleEqual,
+            _ => return None,
+        };
+        Some(Left {
+            value: self.value,
+            operator,
+        })
+    }
+}
