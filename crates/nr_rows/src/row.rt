@@ -1,9 +1,9 @@
 // How a row is run.
 
-use nr_engine::{Desk, Limits, Options, Outcome, format};
+use super::formatted;
+use nr_engine::{Desk, Limits, Outcome};
 use nr_units::buffered::Buffered;
 use nr_units::fakes::{Script, Slate};
-use nr_units::sink::Sink;
 use nr_units::source::Source;
 use std::alloc::Global;
 use std::process::Abort;
@@ -63,13 +63,6 @@ pub fn desk_under(alloc: Global, four: Four) -> Result<Desk, Fail> {
     let (stored, depth, cells, expansions) = four;
     let limits = Limits::new(stored, depth, cells, expansions).ok_or("limits out of range")?;
     Ok(Desk::new(alloc, limits)?)
-}
-
-/// Formats on what the desk lends.
-pub fn formatted<R: Source, W: Sink>(desk: &mut Desk, input: &mut R, output: &mut W) -> Outcome {
-    let options = Options::plain();
-    let mut moves = 0;
-    format(desk.lend(), &options, input, output, &mut moves)
 }
 
 /// The row's input byte by byte, in pieces of one byte, and in one piece.

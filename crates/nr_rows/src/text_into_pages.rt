@@ -1,6 +1,7 @@
 // Text into pages: filling, breaks, empty lines, pages, the limits of a line and of a page, and faults.
 
-use super::row::{DEFAULTS, Row, check, desk_under, formatted, passes};
+use super::formatted;
+use super::row::{DEFAULTS, Row, check, desk_under, passes};
 use nr_engine::{Limits, Measure, Outcome};
 use nr_units::fakes::{Script, Slate};
 use std::test::Fail;

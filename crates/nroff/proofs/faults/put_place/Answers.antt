@@ -1,0 +1,27 @@
+use Rattle.std.proofs.Common.{◌≡◌, ◌∙◌, ◌++◌, codes, decimal}
+use Rattle.std.proofs.KnownBytes.{Appends-trans}
+use Rattle.nr_units.proofs.Fronts.{AppendsFront-append, AppendsFront-after}
+use Rattle.nroff.proofs.Telling.{on_err_always, AppendsFront-last}
+use Rattle.nroff.proofs.faults.put_place.Goals as goal
+
+pub returns-in_err-put-clause-err : goal.returns-in_err-put-clause-err
+returns-in_err-put-clause-err g c =
+    let at = decimal c.args.at in
+    let begun = AppendsFront-append _ _ (codes " at byte ") at c.in_err-put.ensures.err in
+    on_err_always c.from_residual.result (AppendsFront-append _ _ (codes " at byte " ++ at) (codes "\n") begun)
+
+pub returns-in_err-put-2-clause-err : goal.returns-in_err-put-2-clause-err
+returns-in_err-put-2-clause-err g c =
+    let at = decimal c.args.at in
+    let digits : c.as_bytes.result.now ≡ at = c.as_bytes.ensures.value ∙ c.format.ensures.text in
+    let front = rw digits at c.in_err-put-2.ensures.err in
+    let begun = AppendsFront-after _ _ _ (codes " at byte ") at c.in_ok-put.ensures.ok front in
+    on_err_always c.from_residual-in_err-put-2.result (AppendsFront-append _ _ (codes " at byte " ++ at) (codes "\n") begun)
+
+pub returns-clause-err : goal.returns-clause-err
+returns-clause-err g c =
+    let at = decimal c.args.at in
+    let digits : c.as_bytes.result.now ≡ at = c.as_bytes.ensures.value ∙ c.format.ensures.text in
+    let whole = rw digits at c.in_ok-put-2.ensures.ok in
+    let begun = Appends-trans _ _ _ (codes " at byte ") at c.in_ok-put.ensures.ok whole in
+    AppendsFront-last c.put-3.result _ _ _ (codes " at byte " ++ at) (codes "\n") begun c.put-3.ensures.err

@@ -1,0 +1,30 @@
+use Rattle.std.proofs.Common.{true, false, refl}
+use Rattle.nroff.proofs.running.run_desk.Goals as goal
+
+pub returns-in-Ok : goal.returns-in-Ok
+returns-in-Ok g c =
+    record {
+      formatted = c.format-outcome.result;
+      moves = c.format-outcome.new.moves;
+      held = g.W.Sink.held c.format-outcome.new.output;
+      flush_failed = false;
+      answers = λ known e. rw c.lend.ensures.limits at (c.format-outcome.ensures.answers known e);
+      flushed = c.flush.ensures.held;
+      outcome_is = refl;
+      read_failures = c.format-outcome.ensures.read_failures;
+      write_failures = rw c.format-outcome.ensures.write_failures at c.in-Ok.ensures.failures;
+    }
+
+pub returns-in-Err : goal.returns-in-Err
+returns-in-Err g c =
+    record {
+      formatted = c.format-outcome.result;
+      moves = c.format-outcome.new.moves;
+      held = g.W.Sink.held c.format-outcome.new.output;
+      flush_failed = true;
+      answers = λ known e. rw c.lend.ensures.limits at (c.format-outcome.ensures.answers known e);
+      flushed = c.flush.ensures.held;
+      outcome_is = refl;
+      read_failures = c.format-outcome.ensures.read_failures;
+      write_failures = rw c.format-outcome.ensures.write_failures at c.in-Err.ensures.failures;
+    }

@@ -1,0 +1,35 @@
+-- What a run of the program comes to.
+use Rattle.std.specs.Prelude.{◌≡◌, ℕ, List, Bool, if◌then◌else◌, Option, Some, codes}
+use Rattle.std.specs.Io.KnownBytes.{Keeps}
+use Rattle.nr_units.specs.Failures.{counted_if}
+use Rattle.nr_units.specs.Supply.{Supply}
+use Rattle.nr_engine.specs.State.{start}
+use Rattle.nr_engine.specs.Measures.{Bounds}
+use Rattle.nr_engine.specs.Answer.{Answers, is_read_fault, is_write_fault}
+use Rattle.nr_engine.specs.declared.outcome.Outcome.{Outcome}
+use Rattle.nr_engine.specs.declared.outcome.Outcome.TheVariants.{Done, Limit, ReadFault, TooLong, WriteFault}
+
+-- the status of the program
+abbrev pub status_of : Outcome → ℕ
+status_of Done = 0
+status_of (Limit which at) = 1
+status_of TooLong = 1
+status_of (ReadFault at) = 3
+status_of WriteFault = 4
+
+-- the line that tells want of memory
+abbrev pub memory_line : List ℕ
+memory_line = codes "nroff: out of memory\n"
+
+-- A run came to this outcome: after so many moves formatting answered, with so much put out, and then the output was flushed.
+pub record Ran (b : Bounds) (supply : Option Supply) (reads reads' : ℕ) (old new : Option (List ℕ)) (writes writes' : ℕ) (outcome : Outcome) : Type 0 where
+  pub formatted : Outcome
+  pub moves : ℕ
+  pub held : Option (List ℕ)
+  pub flush_failed : Bool
+  pub answers : (known : Supply) → supply ≡ Some known → Answers b (start known) moves formatted old held
+  pub flushed : Keeps held new
+  pub outcome_is : outcome ≡ (if flush_failed then WriteFault else formatted)
+  -- each failed call was counted
+  pub read_failures : reads' ≡ counted_if (is_read_fault formatted) reads
+  pub write_failures : writes' ≡ counted_if flush_failed (counted_if (is_write_fault formatted) writes)
