@@ -2,7 +2,7 @@
 use Rattle.std.proofs.Common.{◌≡◌, ℕ, List, None, Some, refl}
 use Rattle.std.specs.Prelude.{codes}
 use Rattle.nr_units.specs.Supply.{Never}
-use Rattle.nr_engine.specs.State.{State, start}
+use Rattle.nr_engine.specs.State.{start}
 use Rattle.nr_engine.specs.Machine.{step, state_after, text}
 use Rattle.nr_engine.specs.Measures.{Bounds, passed}
 use Rattle.nr_engine.specs.declared.outcome.Measure.{Measure}

@@ -1,10 +1,9 @@
 -- What follows from the way that the engine holds a state, and from parts of a move.
-use Rattle.std.proofs.Common.{◌≡◌, ◌≢◌, ℕ, ◌+◌, ◌-◌, ◌*◌, ◌<◌, ◌≤◌, ◌^◌, min, zero, suc, Bool, true, false, List, [], ◌∷◌, ◌++◌, length, take, drop, sum_by, Option, None, Some, Result, Ok, Err, refl, sym, ap, ◌∙◌, subst, append-nil, append_assoc, arith}
+use Rattle.std.proofs.Common.{◌≡◌, ◌≢◌, ℕ, ◌+◌, ◌≤◌, Bool, true, false, List, [], ◌∷◌, ◌++◌, length, Option, None, Some, Result, Ok, Err, refl, sym, ap, ◌∙◌, subst, append-nil, arith}
 use Rattle.std.specs.Prelude.{not, if◌then◌else◌, nat_lt, ◌==◌}
 use Rattle.std.proofs.lemmas.Bool.{le-ltb}
 use Rattle.std.proofs.lemmas.Grind.{flat_map-append}
 use Rattle.std.proofs.lemmas.List.Sums.{sum_by_push, sum_by-take-drop}
-use Rattle.std.specs.Io.KnownBytes.{Appends, Keeps}
 use Rattle.nr_units.specs.Supply.{Supply}
 use Rattle.nr_page.specs.Grid.{Placed, page_charge}
 use Rattle.nr_page.specs.PageBytes.{page_bytes}
@@ -21,13 +20,11 @@ use Rattle.nr_engine.specs.Bytes.{prints, is_tab_or_leader}
 use Rattle.nr_engine.specs.Modes.{is_reader, mode_of}
 use Rattle.nr_engine.specs.Machine.{step, move, read, text}
 use Rattle.nr_engine.specs.Measures.{Bounds, IsWithin, passed}
-use Rattle.nr_engine.specs.Answer.{Goes, Stops, IsReader, IsGiven}
-use Rattle.nr_engine.specs.Holding.{Shape, Holds, Wrote, WroteFront, Grows, AfterWork, AfterMove, Moved}
+use Rattle.nr_engine.specs.Holding.{Shape, Holds, AfterWork, AfterMove}
 use Rattle.nr_engine.specs.declared.mode.Mode.{Mode}
 use Rattle.nr_engine.specs.declared.mode.Mode.TheVariants.{Begin, Leading, Text, Name, Argument, Rest, Drop, Put, EndLine, Flow, Break, Space, Act, Eject, Halted}
 use Rattle.nr_engine.specs.declared.outcome.Outcome.{Outcome}
 use Rattle.nr_engine.specs.declared.outcome.Outcome.TheVariants.{Done, Limit, ReadFault, TooLong, WriteFault}
-use Rattle.nr_engine.proofs.Standing.{wrote_nothing}
 
 -- the move of a state in a known mode
 pub step_at : (s : State) (m : Mode) → s.mode ≡ m → step s ≡ move m s

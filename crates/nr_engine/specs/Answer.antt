@@ -1,11 +1,11 @@
 -- What a run under limits answers: the moves that it makes, and where it stops.
-use Rattle.std.specs.Prelude.{◌≡◌, ◌≢◌, ℕ, ◌<◌, List, [], ◌∷◌, ◌++◌, Option, None, Some, Result, Ok, Err, Bool, true, false, if◌then◌else◌}
+use Rattle.std.specs.Prelude.{◌≡◌, ◌≢◌, ℕ, ◌<◌, List, [], ◌∷◌, ◌++◌, Option, None, Some, Result, Ok, Err, Bool, true, false}
 use Rattle.std.specs.Io.KnownBytes.{Appends}
-use Rattle.nr_units.specs.Supply.{Supply, MayFail, MayGive}
+use Rattle.nr_units.specs.Supply.{MayFail, MayGive}
 use Rattle.nr_units.specs.Held.{AppendsFront}
 use Rattle.nr_page.specs.PageBytes.{page_bytes}
 use Rattle.nr_engine.specs.Coming.{IsOneTooMany}
-use Rattle.nr_engine.specs.State.{State, Ended, start}
+use Rattle.nr_engine.specs.State.{State, Ended}
 use Rattle.nr_engine.specs.Machine.{step, state_after, text}
 use Rattle.nr_engine.specs.Measures.{Bounds, passed}
 use Rattle.nr_engine.specs.Modes.{is_reader}

@@ -1,13 +1,12 @@
 -- How the engine holds a state of the machine.
-use Rattle.std.specs.Prelude.{◌≡◌, ◌≢◌, ℕ, ◌+◌, ◌-◌, ◌*◌, ◌<◌, ◌≤◌, ◌^◌, min, Bool, true, false, List, [], ◌∷◌, ◌++◌, length, if◌then◌else◌, Option, None, Some, Result, Ok, Err}
+use Rattle.std.specs.Prelude.{◌≡◌, ℕ, ◌+◌, ◌*◌, List, [], ◌∷◌, ◌++◌, length, Option, Some, Result, Ok, Err}
 use Rattle.std.specs.Io.KnownBytes.{Appends, Keeps}
 use Rattle.nr_units.specs.Supply.{Supply}
 use Rattle.nr_units.specs.Held.{AppendsFront}
 use Rattle.nr_page.specs.PageBytes.{page_bytes}
 use Rattle.nr_page.specs.Sheet.{Sheet, Holds as HoldsPage}
 use Rattle.nr_engine.specs.Lined.{Lined}
-use Rattle.nr_engine.specs.Row.{Row}
-use Rattle.nr_engine.specs.Coming.{Taken, HoldsComing, items_left}
+use Rattle.nr_engine.specs.Coming.{Taken, items_left}
 use Rattle.nr_engine.specs.State.{State, Ended}
 use Rattle.nr_engine.specs.Machine.{step, state_after, text}
 use Rattle.nr_engine.specs.Measures.{Bounds, IsWithin, passed}
@@ -18,7 +17,6 @@ use Rattle.nr_engine.specs.declared.mode.Mode.{Mode}
 use Rattle.nr_engine.specs.declared.reading.Reading.{Reading}
 use Rattle.nr_engine.specs.declared.settings.Settings.{Settings}
 use Rattle.nr_engine.specs.declared.paper.PageState.{PageState}
-use Rattle.nr_engine.specs.declared.outcome.Measure.{Measure}
 use Rattle.nr_engine.specs.declared.outcome.Outcome.{Outcome}
 use Rattle.nr_engine.specs.declared.outcome.Outcome.TheVariants.{Done, Limit, ReadFault, TooLong, WriteFault}
 

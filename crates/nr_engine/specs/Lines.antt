@@ -1,8 +1,8 @@
 -- Filling lines, and breaks. (CSTR 54, section 4.)
-use Rattle.std.specs.Prelude.{ℕ, ◌-◌, Bool, true, false, ◌&&◌, ◌||◌, ◌==◌, not, nat_le, nat_lt, if◌then◌else◌}
+use Rattle.std.specs.Prelude.{ℕ, ◌-◌, Bool, true, false, ◌==◌, not, nat_lt, if◌then◌else◌}
 use Rattle.nr_engine.specs.Bytes.{prints, is_tab_or_leader}
 use Rattle.nr_engine.specs.Modes.{mode_of}
-use Rattle.nr_engine.specs.Pieces.{Collected, with_word, add_cell, end_word, one_blank_more, fits, is_nil, is_none}
+use Rattle.nr_engine.specs.Pieces.{with_word, add_cell, end_word, one_blank_more, fits, is_nil, is_none}
 use Rattle.nr_units.specs.Cells.{blank}
 use Rattle.nr_engine.specs.State.{State, in_mode}
 use Rattle.nr_engine.specs.Pages.{begin_page, put_line}

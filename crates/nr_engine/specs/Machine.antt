@@ -1,5 +1,5 @@
 -- The machine: marked-up text into pages, by small moves over the whole input. No move knows a limit.
-use Rattle.std.specs.Prelude.{ℕ, zero, suc, List, []}
+use Rattle.std.specs.Prelude.{ℕ, zero, suc, List}
 use Rattle.std.specs.List.{flat_map}
 use Rattle.nr_page.specs.PageBytes.{page_bytes}
 use Rattle.nr_engine.specs.State.{State, Ended}

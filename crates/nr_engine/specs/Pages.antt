@@ -1,8 +1,7 @@
 -- Beginning and ending a page, and what is placed on it. (CSTR 54, section 3.)
-use Rattle.std.specs.Prelude.{ℕ, ◌+◌, ◌-◌, ◌/◌, min, Bool, true, false, ◌&&◌, nat_lt, if◌then◌else◌, List, [], ◌∷◌, ◌++◌}
-use Rattle.nr_page.specs.Grid.{Placed}
+use Rattle.std.specs.Prelude.{ℕ, ◌+◌, ◌-◌, ◌/◌, min, Bool, true, false, ◌&&◌, nat_lt, if◌then◌else◌, [], ◌∷◌, ◌++◌}
 use Rattle.nr_engine.specs.Pieces.{first_line, behind_first_line}
-use Rattle.nr_engine.specs.State.{State, Paper, Ended, in_mode}
+use Rattle.nr_engine.specs.State.{State, in_mode}
 use Rattle.nr_engine.specs.declared.paper.PageState.{PageState}
 use Rattle.nr_engine.specs.declared.paper.PageState.TheVariants.{Unbegun, Open, Closed}
 use Rattle.nr_engine.specs.declared.mode.Mode.TheVariants.{Begin, Halted}

@@ -1,12 +1,12 @@
 -- What an item of the input does, by what the line is so far. (CSTR 54, sections 1.1, 4.1 and 10.)
-use Rattle.std.specs.Prelude.{ℕ, ◌+◌, ◌-◌, ◌*◌, min, Bool, true, false, ◌&&◌, ◌||◌, ◌==◌, not, nat_le, nat_lt, if◌then◌else◌, Option, None, Some, is_some}
+use Rattle.std.specs.Prelude.{ℕ, ◌+◌, ◌-◌, ◌*◌, min, Bool, true, false, ◌&&◌, ◌==◌, not, if◌then◌else◌, Option, None, Some, is_some}
 use Rattle.nr_engine.specs.declared.reading.Reading.{Reading}
 use Rattle.nr_engine.specs.declared.requests.Request.{Request}
 use Rattle.nr_engine.specs.Bytes.{is_blank_byte, is_control_byte, is_digit}
 use Rattle.nr_engine.specs.Names.{request_named}
 use Rattle.nr_engine.specs.declared.mode.Next.TheVariants as next
 use Rattle.nr_engine.specs.declared.mode.Mode.{Mode}
-use Rattle.nr_engine.specs.declared.mode.Mode.TheVariants.{Begin, Leading, Text, Name, Argument, Rest, Drop, Put, EndLine, Flow, Break, Space, Act, Eject, Halted}
+use Rattle.nr_engine.specs.declared.mode.Mode.TheVariants.{Begin, Leading, Text, Name, Argument, Rest, Drop, Put, EndLine, Break, Act}
 
 -- what is half read behind an item, and what the next move does
 pub record Read : Type 0 where

@@ -1,7 +1,6 @@
 -- The requests, one under each name. (CSTR 54, request reference and index.)
-use Rattle.std.specs.Prelude.{ℕ, ◌*◌, min, max, Bool, true, false, nat_le, if◌then◌else◌, Option, None, Some}
+use Rattle.std.specs.Prelude.{ℕ, ◌*◌, min, max, nat_le, if◌then◌else◌, Option, None, Some}
 use Rattle.nr_engine.specs.State.{State, in_mode}
-use Rattle.nr_engine.specs.declared.settings.Settings.{Settings}
 use Rattle.nr_engine.specs.declared.requests.Request.{Request}
 use Rattle.nr_engine.specs.declared.requests.Request.TheVariants.{Br, Ll, Pl}
 use Rattle.nr_engine.specs.declared.mode.Next.TheVariants as next

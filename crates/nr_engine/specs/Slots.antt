@@ -1,5 +1,5 @@
 -- How a collected line lies in a row of cells and a row of slots.
-use Rattle.std.specs.Prelude.{◌≡◌, ℕ, ◌+◌, ◌≤◌, ◌<◌, ◌^◌, Bool, true, List, [], ◌∷◌, take, drop, length, sum_by, All, Option, None, Some, unwrap_or, if◌then◌else◌}
+use Rattle.std.specs.Prelude.{◌≡◌, ℕ, ◌+◌, ◌≤◌, ◌<◌, ◌^◌, Bool, true, List, [], ◌∷◌, take, drop, length, sum_by, All, Option, None, Some, unwrap_or}
 use Rattle.nr_units.specs.declared.cell.Cell.{Cell}
 use Rattle.nr_engine.specs.declared.line.PieceSlot.{PieceSlot}
 use Rattle.nr_engine.specs.Pieces.{Piece, Collected, is_none}

@@ -1,5 +1,5 @@
 -- The page grid: lines placed on rows, and the cell that shows at each place.
-use Rattle.std.specs.Prelude.{ℕ, ◌+◌, List, length, map, slice_index_or, Bool, false, not, ◌==◌, None, unwrap_or}
+use Rattle.std.specs.Prelude.{ℕ, ◌+◌, List, length, map, slice_index_or, not, ◌==◌, None, unwrap_or}
 use Rattle.std.specs.List.{filter, last_or, sum_by}
 pub use Rattle.nr_units.specs.Cells.{blank, is_blank}
 use Rattle.nr_units.specs.declared.cell.Cell.{Cell}

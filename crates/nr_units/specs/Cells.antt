@@ -1,5 +1,5 @@
 -- Cells in a row.
-use Rattle.std.specs.Prelude.{ℕ, ◌-◌, ◌==◌, Bool, false, List, length, take}
+use Rattle.std.specs.Prelude.{◌-◌, ◌==◌, Bool, false, List, length, take}
 use Rattle.std.specs.List.{suffix_len}
 use Rattle.nr_units.specs.declared.cell.Cell.{Cell}
 

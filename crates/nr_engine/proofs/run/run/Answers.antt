@@ -1,4 +1,4 @@
-use Rattle.std.proofs.Common.{◌≡◌, ◌+◌, Some, refl, ◌∙◌, arith}
+use Rattle.std.proofs.Common.{◌≡◌, ◌+◌, refl, ◌∙◌, arith}
 use Rattle.nr_engine.specs.State.{start}
 use Rattle.nr_engine.specs.Machine.{state_after}
 use Rattle.nr_engine.proofs.Standing.{reached_none, reached_one, reached_all, halts_here, halts_after, answers}

@@ -1,4 +1,4 @@
-use Rattle.std.proofs.Common.{◌≡◌, ◌+◌, ◌^◌, ◌≤◌, Some, length}
+use Rattle.std.proofs.Common.{◌≡◌, ◌+◌, ◌^◌, ◌≤◌, Some}
 use Rattle.nr_units.specs.Supply.{Supply}
 use Rattle.nr_engine.specs.State.{start}
 use Rattle.nr_engine.specs.Measures.{Bounds}

@@ -1,10 +1,8 @@
-use Rattle.std.proofs.Common.{◌≡◌, ◌≢◌, true, false, Ok, refl, ap, sym, ◌∙◌}
+use Rattle.std.proofs.Common.{◌≡◌, ◌≢◌, Ok, refl, ap, sym, ◌∙◌}
 use Rattle.nr_engine.specs.Modes.{is_reader}
-use Rattle.nr_engine.specs.Machine.{move}
 use Rattle.nr_engine.specs.Lines.{put, end_line, flow, break_line}
 use Rattle.nr_engine.specs.Pages.{put_space, eject}
 use Rattle.nr_engine.specs.Requests.{act}
-use Rattle.nr_engine.specs.State.{State}
 use Rattle.nr_engine.specs.Holding.{shape}
 use Rattle.nr_engine.specs.declared.mode.Mode.{Mode}
 use Rattle.nr_engine.specs.declared.mode.Mode.TheVariants.{Put, EndLine, Flow, Break, Space, Act, Eject, Halted}

@@ -1,9 +1,8 @@
-use Rattle.std.proofs.Common.{◌≡◌, Bool, Err, refl, ap, sym, ◌∙◌}
-use Rattle.std.specs.Prelude.{if◌then◌else◌}
+use Rattle.std.proofs.Common.{◌≡◌, Err, refl, ap, sym, ◌∙◌}
 use Rattle.nr_engine.specs.Holding.{shape}
 use Rattle.nr_engine.specs.Measures.{IsWithin}
 use Rattle.nr_engine.specs.Pages.{is_open, eject, end_page}
-use Rattle.nr_engine.specs.State.{State, in_mode}
+use Rattle.nr_engine.specs.State.{in_mode}
 use Rattle.nr_engine.specs.declared.mode.Mode.TheVariants.{Halted}
 use Rattle.nr_engine.proofs.Working.{failed_same, after_is}
 use Rattle.nr_engine.proofs.engine.Engine.eject.Goals as goal

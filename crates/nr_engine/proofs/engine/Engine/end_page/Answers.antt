@@ -1,9 +1,8 @@
-use Rattle.std.proofs.Common.{◌≡◌, ◌/◌, ◌≤◌, ◌∷◌, [], ◌++◌, refl, ap, sym, ◌∙◌, arith}
+use Rattle.std.proofs.Common.{◌/◌, refl, ◌∙◌, arith}
 use Rattle.nr_page.specs.PageBytes.{page_bytes}
 use Rattle.nr_engine.specs.State.{Ended}
 use Rattle.nr_engine.specs.Pages.{end_page}
 use Rattle.nr_engine.specs.Measures.{IsWithin}
-use Rattle.nr_engine.specs.Holding.{Wrote, WroteFront, Grows}
 use Rattle.nr_engine.proofs.Working.{text-push}
 use Rattle.nr_engine.proofs.engine.Engine.end_page.Goals as goal
 

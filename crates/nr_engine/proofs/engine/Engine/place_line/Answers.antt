@@ -1,7 +1,6 @@
-use Rattle.std.proofs.Common.{◌≡◌, ◌+◌, ◌-◌, ◌/◌, ◌<◌, ◌≤◌, ◌∷◌, [], ◌++◌, length, List, refl, ap, sym, ◌∙◌, subst, arith, true, false, inl, inr}
+use Rattle.std.proofs.Common.{◌≡◌, ◌+◌, ◌<◌, ◌≤◌, ◌∷◌, [], ◌++◌, length, refl, ap, ◌∙◌, arith, true, false, inl, inr}
 use Rattle.std.proofs.lemmas.Bool.{lt-ltb, le-ltb, cases_lt}
 use Rattle.std.proofs.KnownBytes.{Keeps-refl}
-use Rattle.nr_units.specs.declared.cell.Cell.{Cell}
 use Rattle.nr_page.specs.Grid.{Placed, page_charge}
 use Rattle.nr_engine.specs.Pieces.{Collected, first_line, behind_first_line, line_cells}
 use Rattle.nr_engine.specs.Pages.{place_line, row_at}
