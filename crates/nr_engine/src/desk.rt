@@ -3,8 +3,9 @@ ghost use Rattle.std.specs.Prelude.{◌≡◌, ◌+◌, ◌*◌, ◌≤◌, max,
 ghost use Rattle.nr_engine.specs.Measures.{Bounds};
 
 use super::limits::{Limits, Sizes};
-use super::line::PieceSlot;
+use super::line::{Line, PieceSlot};
 use nr_page::line::PlacedLine;
+use nr_page::page::room;
 use nr_units::cell::Cell;
 use std::alloc::{AllocError, Global};
 use std::marker::Model;
@@ -19,12 +20,14 @@ pub fn sizes(limits: Limits) -> Sizes
     ensures bound { result.cells + result.pieces + result.row + result.page_cells + result.page_lines ≤ 4 * limits.stored + 4 * limits.depth + 6 * limits.cells + 8192 }
 {
     let cells = limits.cells();
+    let line = Line::room(cells);
+    let page = room(cells);
     Sizes {
-        cells,
-        pieces: cells,
-        row: cells.max(1365),
-        page_cells: cells,
-        page_lines: cells,
+        cells: line.cells,
+        pieces: line.pieces,
+        row: line.row,
+        page_cells: page.cells,
+        page_lines: page.lines,
     }
 }
 

@@ -111,13 +111,13 @@ impl<'a> Engine<'a> {
         ensures falls { OnOk result (weight (shape self.new) < weight (shape self.old)) }
     {
         match self.mode {
-            Mode::Begin => self.take(input),
-            Mode::Leading => self.take(input),
-            Mode::Text => self.take(input),
-            Mode::Name => self.take(input),
-            Mode::Argument(_) => self.take(input),
-            Mode::Rest(_) => self.take(input),
-            Mode::Drop => self.take(input),
+            Mode::Begin
+            | Mode::Leading
+            | Mode::Text
+            | Mode::Name
+            | Mode::Argument(_)
+            | Mode::Rest(_)
+            | Mode::Drop => self.take(input),
             Mode::Put(byte) => self.put(byte),
             Mode::EndLine => self.end_line(),
             Mode::Flow(next) => self.flow(next, output),

@@ -64,7 +64,7 @@ pub fn format<R: Source, W: Sink>(
     ensures limits { work.exit.0.now ≡ work.entry.desk.now }
 {
     let Work { desk } = work;
-    let _plain = options;
+    let Options {} = options;
     let limit = desk.limits.cells();
     run(
         limit,

@@ -17,24 +17,6 @@ halted_not m n e f = λ h. f (sym e ∙ h)
 pub returns-in-Begin-clause-moved : goal.returns-in-Begin-clause-moved
 returns-in-Begin-clause-moved g c = λ b s h q. c.take.ensures.moved _ b s h q
 
-pub returns-in-Leading-clause-moved : goal.returns-in-Leading-clause-moved
-returns-in-Leading-clause-moved g c = λ b s h q. c.take-in-Leading.ensures.moved _ b s h q
-
-pub returns-in-Text-clause-moved : goal.returns-in-Text-clause-moved
-returns-in-Text-clause-moved g c = λ b s h q. c.take-in-Text.ensures.moved _ b s h q
-
-pub returns-in-Name-clause-moved : goal.returns-in-Name-clause-moved
-returns-in-Name-clause-moved g c = λ b s h q. c.take-in-Name.ensures.moved _ b s h q
-
-pub returns-in-Argument-clause-moved : goal.returns-in-Argument-clause-moved
-returns-in-Argument-clause-moved g c = λ b s h q. c.take-in-Argument.ensures.moved _ b s h q
-
-pub returns-in-Rest-clause-moved : goal.returns-in-Rest-clause-moved
-returns-in-Rest-clause-moved g c = λ b s h q. c.take-in-Rest.ensures.moved _ b s h q
-
-pub returns-in-Drop-clause-moved : goal.returns-in-Drop-clause-moved
-returns-in-Drop-clause-moved g c = λ b s h q. c.take-in-Drop.ensures.moved _ b s h q
-
 pub returns-in-Put-clause-moved : goal.returns-in-Put-clause-moved
 returns-in-Put-clause-moved g c = λ b s h q.
     let mode = sym h.mode ∙ c.in-Put.is in
