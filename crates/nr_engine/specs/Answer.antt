@@ -13,6 +13,7 @@ use Rattle.nr_engine.specs.declared.mode.Mode.TheVariants.{Halted}
 use Rattle.nr_engine.specs.declared.outcome.Outcome.{Outcome}
 use Rattle.nr_engine.specs.declared.outcome.Outcome.TheVariants.{Done, Limit, ReadFault, TooLong, WriteFault}
 
+-- the next move takes an item
 abbrev pub IsReader : State → Type 0
 IsReader s = is_reader s.mode ≡ true
 

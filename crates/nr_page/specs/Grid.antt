@@ -1,4 +1,4 @@
--- The page grid: lines placed on rows, and the cell that shows at each place.
+-- The page grid: lines placed on rows, and the cell that shows at each place. (CSTR 54, section 3.)
 use Rattle.std.specs.Prelude.{ℕ, ◌+◌, List, length, map, slice_index_or, not, ◌==◌, None, unwrap_or}
 use Rattle.std.specs.List.{filter, last_or, sum_by}
 pub use Rattle.nr_units.specs.Cells.{blank, is_blank}

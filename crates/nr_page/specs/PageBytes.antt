@@ -1,4 +1,4 @@
--- The bytes of a page.
+-- The bytes of a page. (CSTR 54, sections 2.2 and 3.)
 use Rattle.std.specs.Prelude.{ℕ, ◌+◌, max, List, [], ◌∷◌, ◌++◌, length, map, ◌&&◌, if◌then◌else◌}
 use Rattle.std.specs.List.{fold, flat_map, range_with_len}
 use Rattle.std.specs.Char.{is_ascii_alphanumeric}

@@ -1,4 +1,4 @@
--- Page selection: how a page list is spelled, and which pages it selects.
+-- Page selection: how a page list is spelled, and which pages it selects. (CSTR 54, usage, option -o.)
 use Rattle.std.specs.Prelude.{◌≡◌, ℕ, ◌≤◌, List, [], ◌∷◌, ◌++◌, length, Option, Some, None, Any, ℤ, pos, ◌≤ℤ◌}
 use Rattle.std.specs.Str.Parse.{IsNumeral, digits_value}
 use Rattle.nr_page.specs.declared.selection.Pages.{Pages}
