@@ -1,4 +1,4 @@
-// Where the cells of a placed line lie.
+//! Where the cells of a placed line lie.
 ghost use Rattle.std.specs.Prelude.{◌≡◌};
 
 /// A line placed on a page: an element of the slice of lines that a `Page` is lent.

@@ -1,4 +1,4 @@
-// The open page.
+//! The open page.
 ghost use Rattle.std.specs.Prelude.{◌≡◌, ℕ, ◌+◌, ◌<◌, ◌≤◌, ◌↔◌, List, [], ◌∷◌, ◌++◌, length, OnOk, OnErr, IsErr, IsTrue, true};
 ghost use Rattle.nr_page.specs.Grid.{Placed, page_charge};
 ghost use Rattle.nr_page.specs.Sheet.{Holds};

@@ -1,4 +1,4 @@
-// A source over a reader that reads into a slice that is lent.
+//! A source over a reader that reads into a slice that is lent.
 ghost use Rattle.std.specs.Prelude.{◌≡◌, ◌≤◌, length, false};
 
 use super::over_std::{read_byte, read_some};

@@ -1,4 +1,4 @@
-// One place of an output line.
+//! One place of an output line.
 ghost use Rattle.std.specs.Prelude.{◌≡◌, false};
 
 /// A character of an output line: its byte, and whether it is underlined.

@@ -25,9 +25,10 @@ pub struct Read {
 
 /// Reads the longest front of a text that is a number expression (CSTR 54, numerical input).
 ///
-/// An expression is evaluated from left to right without precedence; blanks stand in it inside parentheses only. Where
-/// a 65th parenthesis is opened the reading ends there, without a value. `ctx.v` and `ctx.here` may be any numbers: a
-/// value out of range that comes of them is none.
+/// An expression is evaluated from left to right without precedence; blanks stand in it inside parentheses only,
+/// before or after an operand or operator. Where a parenthesis is opened while 64 are open, the reading ends: there is
+/// no value, and `used` is that place, counted from 0. `ctx.v` and `ctx.here` may be any numbers: a value out of range
+/// that comes of them is none.
 #[tactic(auto, using(crate::proofs::ExpressionFronts::one_value))]
 pub fn read_expr(text: &[u8], ctx: &Ctx) -> Read
     ensures answer { IsAnswer ctx.now text.now result }

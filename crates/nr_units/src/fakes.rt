@@ -1,4 +1,4 @@
-// Sources and sinks in memory, which fail where they are told to, for tests.
+//! Sources and sinks in memory, which fail where they are told to, for tests.
 ghost use Rattle.std.specs.Prelude.{◌≡◌, ◌↔◌, ◌-◌, ◌≤◌, [], ◌++◌, length, take, OnOk, OnErr, IsOk, IfSome, false, true, not, is_ok};
 ghost use Rattle.std.specs.Io.KnownBytes.{Appends, Keeps};
 ghost use Rattle.nr_units.specs.Failures.{counted};

@@ -127,7 +127,7 @@ fn push_alphabetic(text: &mut Text, n: u64, before: u8)
     push_all(text, &letters[start..]);
 }
 
-/// The text of `n` units in a format, of at most 21 bytes.
+/// The text of a number in a format. The longest is that of the least `i64`, of 20 bytes.
 pub fn format_number(n: i64, format: Format) -> ArrayVec<u8, 32>
     ensures { IsNumberText format n result.items }
 {

@@ -1,4 +1,4 @@
-// Where bytes come from.
+//! Where bytes come from.
 ghost use Rattle.std.specs.Prelude.{◌≡◌, ℕ, Option};
 ghost use Rattle.nr_units.specs.Failures.{counted, next_count};
 ghost use Rattle.nr_units.specs.Supply.{Supply, Gives};
