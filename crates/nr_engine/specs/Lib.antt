@@ -3,7 +3,6 @@ pub mod Bytes
 pub mod Coming
 pub mod Desks
 pub mod Holding
-pub mod Items
 pub mod Lined
 pub mod Lines
 pub mod Machine

@@ -18,7 +18,6 @@ mod reading;
 mod requests;
 mod run;
 mod settings;
-mod slice_vec;
 
 pub use desk::{Desk, Work, sizes};
 pub use limits::{Limits, Sizes};

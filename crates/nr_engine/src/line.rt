@@ -5,8 +5,8 @@ ghost use Rattle.nr_engine.specs.Slots.{blank_slot};
 
 use crate::cutting::{longest_front, set_pieces};
 use crate::out::Out;
-use crate::slice_vec::SliceVec;
 use nr_units::cell::Cell;
+use nr_units::slice_vec::SliceVec;
 use std::marker::Model;
 
 /// The widest gap, in cells, and the widest line.

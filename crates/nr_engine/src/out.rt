@@ -3,8 +3,8 @@ ghost use Rattle.std.specs.Prelude.{◌≡◌, ◌+◌, ◌-◌, ◌<◌, ◌≤
 ghost use Rattle.std.specs.List.{suffix_len};
 ghost use Rattle.nr_units.specs.Cells.{blank, is_blank, trimmed};
 
-use crate::slice_vec::SliceVec;
 use nr_units::cell::Cell;
+use nr_units::slice_vec::SliceVec;
 use std::marker::Model;
 
 /// A row of cells in a slice that is lent, as long as the slice at most.

@@ -6,4 +6,3 @@ pub mod Selection
 pub mod SelectionReading
 pub mod Sheet
 pub mod Spans
-pub mod Stacked

@@ -5,9 +5,9 @@ ghost use Rattle.nr_units.specs.Failures.{counted};
 ghost use Rattle.nr_page.specs.Gathered.{GathersOrFails};
 ghost use Rattle.nr_page.specs.PageBytes.{cell_bytes};
 
-use crate::stack::Stack;
 use nr_units::cell::Cell;
 use nr_units::sink::Sink;
+use nr_units::slice_vec::SliceVec;
 use nr_units::source::Fault;
 
 /// How many bytes are gathered.
@@ -18,7 +18,7 @@ pub(crate) const RUN: usize = 1024;
 
 /// Makes room for so many bytes: where there is none, all that is pending goes out.
 pub(crate) fn make_room<W: Sink>(
-    pending: &mut Stack<'_, u8>,
+    pending: &mut SliceVec<'_, u8>,
     more: usize,
     output: &mut W,
 ) -> Result<(), Fault>
@@ -36,7 +36,7 @@ pub(crate) fn make_room<W: Sink>(
     Ok(())
 }
 
-fn gather_cell(pending: &mut Stack<'_, u8>, cell: Cell)
+fn gather_cell(pending: &mut SliceVec<'_, u8>, cell: Cell)
     requires { length pending.old.items + 3 ≤ pending.old.room }
     ensures items { pending.new.items ≡ pending.old.items ++ cell_bytes cell }
     ensures few { length pending.new.items ≤ length pending.old.items + 3 }
@@ -49,7 +49,7 @@ fn gather_cell(pending: &mut Stack<'_, u8>, cell: Cell)
     }
 }
 
-fn gather_cells(pending: &mut Stack<'_, u8>, cells: &[Cell])
+fn gather_cells(pending: &mut SliceVec<'_, u8>, cells: &[Cell])
     requires { length pending.old.items + 3 * length cells.now ≤ pending.old.room }
     ensures items { pending.new.items ≡ pending.old.items ++ flat_map cell_bytes cells.now }
     ensures room { pending.new.room ≡ pending.old.room }
@@ -61,7 +61,7 @@ fn gather_cells(pending: &mut Stack<'_, u8>, cells: &[Cell])
 
 /// The bytes of the cells.
 pub(crate) fn write_cells<W: Sink>(
-    pending: &mut Stack<'_, u8>,
+    pending: &mut SliceVec<'_, u8>,
     cells: &[Cell],
     output: &mut W,
 ) -> Result<(), Fault>
@@ -82,7 +82,7 @@ pub(crate) fn write_cells<W: Sink>(
 
 /// So many newlines.
 pub(crate) fn write_newlines<W: Sink>(
-    pending: &mut Stack<'_, u8>,
+    pending: &mut SliceVec<'_, u8>,
     count: usize,
     output: &mut W,
 ) -> Result<(), Fault>

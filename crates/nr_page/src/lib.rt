@@ -8,7 +8,6 @@ pub mod page;
 mod row;
 mod selection;
 mod span;
-mod stack;
 #[cfg(test)]
 mod tests;
 mod writing;

@@ -8,10 +8,10 @@ ghost use Rattle.nr_units.specs.Held.{AppendsFront};
 ghost use Rattle.nr_page.specs.PageBytes.{page_bytes};
 
 use crate::line::PlacedLine;
-use crate::stack::Stack;
 use crate::writing::write_lines;
 use nr_units::cell::Cell;
 use nr_units::sink::Sink;
+use nr_units::slice_vec::SliceVec;
 use nr_units::source::Fault;
 use std::marker::Model;
 
@@ -45,8 +45,8 @@ pub fn room(limit: usize) -> PageRoom
 /// up to a limit: each line is charged 1 and its cells.
 #[derive(Drop)]
 pub struct Page<'a> {
-    cells: Stack<'a, Cell>,
-    lines: Stack<'a, PlacedLine>,
+    cells: SliceVec<'a, Cell>,
+    lines: SliceVec<'a, PlacedLine>,
     // no line was placed above an earlier one, so that the rows can be written in one walk
     in_order: bool,
     limit: usize,
@@ -73,8 +73,8 @@ impl<'a> Page<'a> {
         ensures limit { result.limit ≡ limit }
     {
         Page {
-            cells: Stack::over(cells),
-            lines: Stack::over(lines),
+            cells: SliceVec::over(cells),
+            lines: SliceVec::over(lines),
             in_order: true,
             limit,
         }

@@ -10,9 +10,9 @@ ghost use Rattle.nr_page.specs.Sheet.{line_of, AreInside};
 
 use crate::gathering::{RUN, make_room, write_cells};
 use crate::line::PlacedLine;
-use crate::stack::Stack;
 use nr_units::cell::Cell;
 use nr_units::sink::Sink;
+use nr_units::slice_vec::SliceVec;
 use nr_units::source::Fault;
 
 const BLANK: u8 = b' ';
@@ -86,7 +86,7 @@ fn merge(run: &mut [Cell], cells: &[Cell], lines: &[PlacedLine], row: u32, colum
 
 /// What the row shows, from a column on, in as many columns as `run` has.
 fn write_run<W: Sink>(
-    pending: &mut Stack<'_, u8>,
+    pending: &mut SliceVec<'_, u8>,
     run: &mut [Cell],
     cells: &[Cell],
     lines: &[PlacedLine],
@@ -106,7 +106,7 @@ fn write_run<W: Sink>(
 
 /// What the row shows, from column 0 on, in so many columns.
 fn write_merged<W: Sink>(
-    pending: &mut Stack<'_, u8>,
+    pending: &mut SliceVec<'_, u8>,
     cells: &[Cell],
     lines: &[PlacedLine],
     row: u32,
@@ -139,7 +139,7 @@ fn write_merged<W: Sink>(
 
 /// What a line shows that is alone on its row.
 fn write_alone<W: Sink>(
-    pending: &mut Stack<'_, u8>,
+    pending: &mut SliceVec<'_, u8>,
     cells: &[Cell],
     output: &mut W,
 ) -> Result<(), Fault>
@@ -152,7 +152,7 @@ fn write_alone<W: Sink>(
 }
 
 fn write_shown<W: Sink>(
-    pending: &mut Stack<'_, u8>,
+    pending: &mut SliceVec<'_, u8>,
     cells: &[Cell],
     lines: &[PlacedLine],
     row: u32,
@@ -173,7 +173,7 @@ fn write_shown<W: Sink>(
 
 /// A row, with the newline behind it. Each line on it is one of these.
 pub(crate) fn write_row<W: Sink>(
-    pending: &mut Stack<'_, u8>,
+    pending: &mut SliceVec<'_, u8>,
     cells: &[Cell],
     lines: &[PlacedLine],
     row: u32,

@@ -11,14 +11,14 @@ use crate::gathering::{GATHERED, RUN, make_room, write_newlines};
 use crate::line::PlacedLine;
 use crate::row::write_row;
 use crate::span::next_row;
-use crate::stack::Stack;
 use nr_units::cell::Cell;
 use nr_units::sink::Sink;
+use nr_units::slice_vec::SliceVec;
 use nr_units::source::Fault;
 
 /// As many rows as asked for, or down to the lowest line.
 pub(crate) fn write_rows<W: Sink>(
-    pending: &mut Stack<'_, u8>,
+    pending: &mut SliceVec<'_, u8>,
     cells: &[Cell],
     lines: &[PlacedLine],
     in_order: bool,
@@ -65,7 +65,7 @@ pub(crate) fn write_lines<W: Sink>(
     ensures failures { W.failures output.new ≡ counted (W.failures output.old) result }
 {
     let mut bytes = [0; GATHERED];
-    let mut pending = Stack::over(&mut bytes);
+    let mut pending = SliceVec::over(&mut bytes);
     write_rows(&mut pending, cells, lines, in_order, rows, output)?;
     let room = pending.room();
     make_room(&mut pending, room, output)

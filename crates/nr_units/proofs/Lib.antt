@@ -1,7 +1,12 @@
+pub mod Copying
 pub mod Counting
 pub mod Digits
+pub mod Edits
 pub mod ExpressionFronts
 pub mod Fronts
+pub mod NameOrder
+pub mod Offering
+pub mod Padded
 pub mod Places
 pub mod Reading
 pub mod Rounding

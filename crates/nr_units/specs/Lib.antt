@@ -3,8 +3,10 @@ pub mod Expression
 pub mod Failures
 pub mod Grammar
 pub mod Held
+pub mod Items
 pub mod Names
 pub mod NumberText
+pub mod Padding
 pub mod Scan
 pub mod Scanner
 pub mod Supply

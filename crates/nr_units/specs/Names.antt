@@ -1,6 +1,23 @@
--- Names of one or two bytes.
-use Rattle.std.specs.Prelude.{ℕ, ◌≤◌, List, length}
+-- Names of requests, macros, strings and registers.
+use Rattle.std.specs.Prelude.{◌≡◌, ℕ, ◌-◌, ◌≤◌, List, ◌++◌, length, drop, replicate}
+use Rattle.std.specs.declared.cmp.Ordering.{Ordering}
+use Rattle.std.specs.Ordering.{nat_cmp}
+use Rattle.std.specs.Cmp.Lexicographic.{slice_cmp}
 
 -- the bytes of a name; the empty one names nothing
 abbrev pub IsName : List ℕ → Type 0
-IsName bytes = length bytes ≤ 2
+IsName bytes = length bytes ≤ 32
+
+-- the order of names: by the first byte in which they differ, and a front before what it is a front of
+abbrev pub name_order : List ℕ → List ℕ → Ordering
+name_order = slice_cmp nat_cmp
+
+-- a name as it lies in memory: its bytes, and zeros behind them to 32
+abbrev pub padded : List ℕ → List ℕ
+padded bytes = bytes ++ replicate (32 - length bytes) 0
+
+-- 32 bytes, of which those from a place on are zeros
+pub record IsPadded (bytes : List ℕ) (len : ℕ) : Type 0 where
+  pub within : len ≤ 32
+  pub whole : length bytes ≡ 32
+  pub zeros : drop len bytes ≡ replicate (32 - len) 0

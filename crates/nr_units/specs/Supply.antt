@@ -1,5 +1,5 @@
 -- What a source is about to give, and when it fails.
-use Rattle.std.specs.Prelude.{◌≡◌, ℕ, ◌-◌, ◌<◌, List, [], ◌∷◌, ◌++◌, Bool, true, false, Option, None, Some, Result, Ok, Err, ⊤}
+use Rattle.std.specs.Prelude.{◌≡◌, ℕ, ◌-◌, ◌<◌, ◌≤◌, List, [], ◌∷◌, ◌++◌, length, take, drop, Bool, true, false, Option, None, Some, Result, Ok, Err, ⊤}
 use Rattle.std.specs.Option.{option_map}
 
 -- when a source answers an error: at no call, at each call once n more bytes were given and at no call before, or at any call
@@ -51,3 +51,35 @@ reader_supply known = option_map (λ bytes. record { bytes = bytes; faults = Any
 abbrev pub buffered_supply : List ℕ → Bool → Option (List ℕ) → Option Supply
 buffered_supply kept true known = Some (record { bytes = kept; faults = Anytime })
 buffered_supply kept false known = option_map (λ rest. record { bytes = kept ++ rest; faults = Anytime }) known
+
+-- ---- many bytes at once
+
+-- none of the next n calls fails
+abbrev pub MayGiveAll : ℕ → Faults → Type 0
+MayGiveAll n Never = Unit {0}
+MayGiveAll n (After m) = n ≤ m
+MayGiveAll n Anytime = Unit {0}
+
+-- once n more bytes were given
+abbrev pub later : ℕ → Faults → Faults
+later n Never = Never
+later n (After m) = After (m - n)
+later n Anytime = Anytime
+
+-- these bytes come next, and no call fails before them
+abbrev pub Offers : Option Supply → List ℕ → Type 0
+Offers None bs = ⊤
+Offers (Some q) bs = (take (length bs) q.bytes ≡ bs) × MayGiveAll (length bs) q.faults
+
+-- what is to come behind the next n bytes
+abbrev pub skipped : ℕ → Supply → Supply
+skipped n q = record { bytes = drop n q.bytes; faults = later n q.faults }
+
+abbrev pub Skips : Option Supply → ℕ → Option Supply → Type 0
+Skips None n new = ⊤
+Skips (Some q) n new = new ≡ Some (skipped n q)
+
+-- the bytes at hand of a list that fails once so many were given
+abbrev pub at_hand_of : List ℕ → Option ℕ → List ℕ
+at_hand_of bs None = bs
+at_hand_of bs (Some left) = take left bs

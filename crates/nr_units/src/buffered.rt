@@ -108,7 +108,19 @@ impl<'a, R: Read + Drop> Source for Buffered<'a, R> {
 
     ghost supply = { λ s. buffered_supply (drop s.at (take s.end s.buffer.now)) s.ended (R.remaining s.reader) };
 
+    ghost at_hand = { λ s. drop s.at (take s.end s.buffer.now) };
+
     ghost failures = { λ s. s.failures };
+
+    #[inline]
+    fn window(&self) -> &[u8] {
+        &self.buffer[self.at..self.end]
+    }
+
+    #[inline]
+    fn skip(&mut self, n: usize) {
+        self.at += n;
+    }
 
     #[inline]
     fn next(&mut self) -> Result<Option<u8>, Fault>

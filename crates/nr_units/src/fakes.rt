@@ -60,9 +60,11 @@ impl<'a> Script<'a> {
 impl Source for Script<'_> {
     ghost use Rattle.std.specs.Prelude.{Some};
     ghost use Rattle.std.specs.Option.{option_map_or};
-    ghost use Rattle.nr_units.specs.Supply.{Supply, Never, After};
+    ghost use Rattle.nr_units.specs.Supply.{Supply, Never, After, at_hand_of};
 
     ghost supply = { λ s. Some (record { bytes = s.rest.now; faults = option_map_or After s.left Never }) };
+
+    ghost at_hand = { λ s. at_hand_of s.rest.now s.left };
 
     ghost failures = { λ s. s.failures };
 
@@ -82,6 +84,20 @@ impl Source for Script<'_> {
                 }
                 Ok(Some(*byte))
             }
+        }
+    }
+
+    fn window(&self) -> &[u8] {
+        match self.left {
+            None => self.rest,
+            Some(left) => &self.rest[..left.min(self.rest.len())],
+        }
+    }
+
+    fn skip(&mut self, n: usize) {
+        self.rest = &self.rest[n..];
+        if let Some(left) = self.left {
+            self.left = Some(left - n);
         }
     }
 }

@@ -13,6 +13,7 @@ mod operators;
 pub mod over_std;
 mod scanner;
 pub mod sink;
+pub mod slice_vec;
 pub mod source;
 mod symbols;
 #[cfg(test)]

@@ -1,28 +1,42 @@
 //! Names of requests, macros, strings and registers.
-ghost use Rattle.std.specs.Prelude.{◌≡◌, ◌==◌, ◌<◌, ◌≤◌, ◌∷◌, ◌++◌, [], length};
+ghost use Rattle.std.specs.Prelude.{◌≡◌, ◌==◌, ◌<◌, ◌≤◌, ◌∷◌, ◌++◌, [], length, nat_eq, Some, refl};
+ghost use Rattle.std.specs.Ordering.{nat_cmp};
+ghost use Rattle.std.specs.Cmp.{partial_equiv_from_equiv};
+ghost use Rattle.std.specs.Cmp.Lexicographic.{pointwise, slice_cmp, nat_list_eq_equiv, nat_list_cmp_total, texts_po, texts_ties};
+ghost use Rattle.nr_units.specs.Names.{name_order};
 
-use arrayvec::ArrayVec;
+use std::cmp::Ordering;
 use std::marker::Model;
 
-/// A name of at most two bytes (CSTR 54, strings and macros). The empty name names nothing.
+/// The greatest number of bytes of a name.
+pub const LONGEST: usize = 32;
+
+/// A name of at most 32 bytes. The empty name names nothing.
 ///
 /// Clauses see its bytes as a list. Names compare by their bytes.
-#[derive(Drop, PartialEq, Eq, PartialOrd, Ord, Hash, Debug)]
+#[derive(Clone, Copy, Debug)]
 pub struct Name {
-    bytes: ArrayVec<u8, 2>,
+    bytes: [u8; LONGEST],
+    len: u8,
 }
 
 impl Model for Name {
-    ghost use Rattle.std.specs.Prelude.{ℕ, List, length};
-    ghost use Rattle.nr_units.specs.Names.{IsName};
+    ghost use Rattle.std.specs.Prelude.{ℕ, List, length, take};
+    ghost use Rattle.nr_units.specs.Names.{IsPadded, padded};
+    ghost use Rattle.nr_units.specs.Padding.{padded-take, length-take_padded};
 
     ghost Value = { List ℕ };
 
-    ghost view = { λ n. n.bytes.items };
+    ghost view = { λ n. take n.len n.bytes };
 
-    ghost invariant = { λ n. IsName n.bytes.items };
+    ghost invariant = { λ n. IsPadded n.bytes n.len };
 
-    ghost inverse = { λ bytes. record { bytes = record { items = bytes } } };
+    ghost inverse = { λ bytes. record { bytes = padded bytes; len = length bytes } };
+
+    ghost inverse_ok = { λ n h i. record {
+      bytes = padded-take n.bytes n.len h i;
+      len = length-take_padded n.bytes n.len h i;
+    } };
 }
 
 impl Default for Name {
@@ -39,13 +53,14 @@ impl Name {
         ensures { result ≡ [] }
     {
         Name {
-            bytes: ArrayVec::new(),
+            bytes: [0; LONGEST],
+            len: 0,
         }
     }
 
     /// The name of these bytes.
     pub fn of(bytes: &[u8]) -> Self
-        requires { length bytes.now ≤ 2 }
+        requires { length bytes.now ≤ 32 }
         ensures { result ≡ bytes.now }
     {
         let mut name = Name::new();
@@ -57,47 +72,88 @@ impl Name {
 
     /// Adds a byte at the end.
     pub fn push(&mut self, byte: u8)
-        requires { length self.old < 2 }
+        requires { length self.old < 32 }
         ensures { self.new ≡ self.old ++ byte ∷ [] }
     {
-        self.bytes.push(byte);
+        self.bytes[usize::from(self.len)] = byte;
+        self.len += 1;
     }
 
     /// Whether no byte can be added.
     pub fn is_full(&self) -> bool
-        ensures { result ≡ (length self.now == 2) }
+        ensures value { result ≡ (length self.now == 32) }
+        ensures at_most { length self.now ≤ 32 }
     {
-        self.bytes.is_full()
+        self.len() == LONGEST
     }
 
     /// The number of bytes.
     pub fn len(&self) -> usize
         ensures value { result ≡ length self.now }
-        ensures at_most_two { result ≤ 2 }
+        ensures at_most { result ≤ 32 }
     {
-        self.bytes.len()
+        usize::from(self.len)
     }
 
     /// Whether it names nothing.
     pub fn is_empty(&self) -> bool
         ensures { result ≡ (length self.now == 0) }
     {
-        self.bytes.is_empty()
+        self.len == 0
     }
 
     /// The bytes.
     pub fn as_bytes(&self) -> &[u8]
         ensures value { result.now ≡ self.now }
-        ensures at_most_two { length result.now ≤ 2 }
+        ensures at_most { length result.now ≤ 32 }
     {
-        self.bytes.as_slice()
+        &self.bytes[..usize::from(self.len)]
     }
 
-    /// The same name again.
-    pub fn duplicate(&self) -> Self
-        ensures { result ≡ self.now }
+    /// How it stands to another name in the order of names, which is total: by the first byte in which
+    /// they differ, and a front before what it is a front of.
+    pub fn compare(&self, other: &Name) -> Ordering
+        ensures { result ≡ name_order self.now other.now }
     {
-        Name::of(self.as_bytes())
+        self.as_bytes().cmp(&other.as_bytes())
+    }
+}
+
+impl PartialEq for Name {
+    ghost eq = { pointwise nat_eq };
+
+    ghost laws = { partial_equiv_from_equiv nat_list_eq_equiv };
+
+    fn eq(&self, other: &Name) -> bool {
+        self.as_bytes() == other.as_bytes()
+    }
+}
+
+impl Eq for Name {
+    ghost laws = { nat_list_eq_equiv };
+}
+
+impl PartialOrd for Name {
+    ghost partial_cmp = { λ a b. Some (slice_cmp nat_cmp a b) };
+
+    ghost laws = { texts_po };
+
+    fn partial_cmp(&self, other: &Name) -> Option<Ordering> {
+        Some(self.compare(other))
+    }
+}
+
+impl Ord for Name {
+    ghost cmp = { slice_cmp nat_cmp };
+
+    ghost total = { nat_list_cmp_total };
+
+    ghost matches_partial_cmp = { λ a b. refl };
+
+    ghost matches_eq = { texts_ties };
+
+    fn cmp(&self, other: &Name) -> Ordering {
+        self.compare(other)
     }
 }
 
@@ -110,19 +166,22 @@ mod tests {
         assert_eq!(rt; Name::of(b"ab").as_bytes(), b"ab".as_slice());
         assert!(rt; Name::of(b"a") < Name::of(b"ab"));
         assert!(rt; Name::of(b"ab") < Name::of(b"b"));
-        assert!(rt; Name::of(b"ab") == Name::of(b"ab").duplicate());
+        assert!(rt; Name::of(b"a") < Name::of(b"a\0"));
+        assert_eq!(rt; Name::of(b"ab").compare(&Name::of(b"ab")), Ordering::Equal);
         assert!(rt; Name::new() == Name::default());
         assert!(rt; Name::new().is_empty());
         assert!(rt; !Name::of(b"ab").is_empty());
     }
 
     #[test]
-    fn grows_to_two_bytes(rt: HostRuntime) {
+    fn grows_to_32_bytes(rt: HostRuntime) {
         let mut name = Name::new();
-        name.push(b'x');
-        assert!(rt; !name.is_full());
-        name.push(b'y');
+        for _ in 0..33 {
+            if !name.is_full() {
+                name.push(b'x');
+            }
+        }
         assert!(rt; name.is_full());
-        assert_eq!(rt; name.len(), 2);
+        assert_eq!(rt; name.len(), 32);
     }
 }

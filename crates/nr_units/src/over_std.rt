@@ -116,7 +116,16 @@ impl<R: Read + Drop> Source for FromReader<R> {
 
     ghost supply = { λ s. buffered_supply [] s.ended (R.remaining s.reader) };
 
+    ghost at_hand = { λ s. [] };
+
     ghost failures = { λ s. s.failures };
+
+    /// None: each byte is read by itself.
+    fn window(&self) -> &[u8] {
+        &[]
+    }
+
+    fn skip(&mut self, _n: usize) {}
 
     fn next(&mut self) -> Result<Option<u8>, Fault>
         ensures gives { Gives (⟦<FromReader<R> as Source>⟧.supply self.old) result (⟦<FromReader<R> as Source>⟧.supply self.new) }

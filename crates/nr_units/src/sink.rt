@@ -25,3 +25,19 @@ pub trait Sink {
         ensures held { Keeps (held self.old) (held self.new) }
         ensures failures { failures self.new ≡ counted (failures self.old) result };
 }
+
+impl<W: Sink> Sink for &mut W {
+    ghost held = { λ s. W.held s.now };
+
+    ghost failures = { λ s. W.failures s.now };
+
+    #[inline]
+    fn put(&mut self, bytes: &[u8]) -> Result<(), Fault> {
+        W::put(&mut **self, bytes)
+    }
+
+    #[inline]
+    fn flush(&mut self) -> Result<(), Fault> {
+        W::flush(&mut **self)
+    }
+}

@@ -1,7 +1,7 @@
 //! Where bytes come from.
-ghost use Rattle.std.specs.Prelude.{◌≡◌, ℕ, Option};
+ghost use Rattle.std.specs.Prelude.{◌≡◌, ℕ, ◌≤◌, List, Option, length};
 ghost use Rattle.nr_units.specs.Failures.{counted, next_count};
-ghost use Rattle.nr_units.specs.Supply.{Supply, Gives};
+ghost use Rattle.nr_units.specs.Supply.{Supply, Gives, Offers, Skips};
 
 /// A read or a write failed.
 #[derive(Clone, Copy, Debug, PartialEq, Eq)]
@@ -22,6 +22,9 @@ pub trait Source {
     /// What is to come, where it is known.
     ghost supply: { Self → Option Supply };
 
+    /// The bytes that it has at hand.
+    ghost at_hand: { Self → List ℕ };
+
     /// How many calls answered an error.
     ghost failures: { Self → ℕ };
 
@@ -29,14 +32,37 @@ pub trait Source {
     fn next(&mut self) -> Result<Option<u8>, Fault>
         ensures gives { Gives (supply self.old) result (supply self.new) }
         ensures failures { failures self.new ≡ counted (failures self.old) result };
+
+    /// The bytes at hand: they come next. That there is none says nothing of the end.
+    fn window(&self) -> &[u8]
+        ensures value { result.now ≡ at_hand self.now }
+        ensures offers { Offers (supply self.now) result.now };
+
+    /// Takes the first n of the bytes at hand, as n calls of `next` would.
+    fn skip(&mut self, n: usize)
+        requires { n ≤ length (at_hand self.old) }
+        ensures skips { Skips (supply self.old) n (supply self.new) }
+        ensures failures { failures self.new ≡ failures self.old };
 }
 
 impl<S: Source> Source for &mut S {
     ghost supply = { λ s. S.supply s.now };
 
+    ghost at_hand = { λ s. S.at_hand s.now };
+
     ghost failures = { λ s. S.failures s.now };
 
     fn next(&mut self) -> Result<Option<u8>, Fault> {
         Source::next(&mut **self)
+    }
+
+    #[inline]
+    fn window(&self) -> &[u8] {
+        S::window(&**self)
+    }
+
+    #[inline]
+    fn skip(&mut self, n: usize) {
+        S::skip(&mut **self, n)
     }
 }

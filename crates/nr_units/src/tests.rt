@@ -258,6 +258,35 @@ fn an_end_is_seen_once(rt: HostRuntime) {
     assert_eq!(rt; reader.calls, 2);
 }
 
+/// Takes the first two of the bytes at hand, if there are as many.
+fn skip_two<S: Source>(source: &mut S) {
+    if source.window().len() >= 2 {
+        source.skip(2);
+    }
+}
+
+#[test]
+fn a_window_is_what_comes_next(rt: HostRuntime) {
+    let mut room = [0; 4];
+    let mut source = Buffered::over(Uneven::new(TEXT, &[]), &mut room);
+    assert_eq!(rt; source.next(), Ok(Some(b'.')));
+    assert_eq!(rt; (&mut source).window(), b"br\n".as_slice());
+    skip_two(&mut &mut source);
+    assert_eq!(rt; source.next(), Ok(Some(b'\n')));
+    assert_eq!(rt; source.window(), b"".as_slice());
+    assert_eq!(rt; source.next(), Ok(Some(b'a')));
+
+    let mut script = Script::failing_after(TEXT, 3);
+    assert_eq!(rt; script.window(), b".br".as_slice());
+    skip_two(&mut script);
+    assert_eq!(rt; script.next(), Ok(Some(b'r')));
+    assert_eq!(rt; script.next(), Err(Fault));
+
+    let mut reader = FromReader::over(Uneven::new(TEXT, &[]));
+    skip_two(&mut reader);
+    assert_eq!(rt; reader.next(), Ok(Some(b'.')));
+}
+
 #[test]
 fn fakes_fail_where_they_are_told_to(rt: HostRuntime) {
     let mut bytes = [0; 32];

@@ -1,0 +1,258 @@
+//! A vector over a slice that is lent: it grows at its end up to the slice's length.
+ghost use Rattle.std.specs.Prelude.{◌≡◌, ◌==◌, ◌+◌, ◌-◌, ◌<◌, ◌≤◌, [], ◌∷◌, ◌++◌, length, take, drop, slice_get, slice_set, Some};
+ghost use Rattle.std.specs.List.{insert, remove};
+
+use std::marker::Model;
+
+/// How many items are copied at once where no more than so many are added.
+const CHUNK: usize = 8;
+
+/// Items in a slice that is lent, from its start on. What lies behind them is of no account.
+///
+/// Clauses see the items and the room, the greatest number of them. No call allocates; each takes
+/// constant time or one move of memory.
+#[derive(Drop)]
+pub struct SliceVec<'a, T: Copy> {
+    slots: &'a mut [T],
+    len: usize,
+}
+
+impl<'a, T: Copy> Model for SliceVec<'a, T> {
+    ghost use Rattle.std.specs.Prelude.{◌≤◌, length, take};
+    ghost use Rattle.nr_units.specs.Items.{Items};
+
+    ghost Value = { Items T };
+
+    ghost view = { λ v. record { items = take v.len v.slots.now; room = length v.slots.now } };
+
+    ghost invariant = { λ v. v.len ≤ length v.slots.now };
+}
+
+impl<'a, T: Copy> SliceVec<'a, T> {
+    /// No items yet, and room for as many as the slice has.
+    pub fn over(slots: &'a mut [T]) -> Self
+        ensures empty { result.items ≡ [] }
+        ensures room { result.room ≡ length slots.entry.now }
+    {
+        SliceVec { slots, len: 0 }
+    }
+
+    /// The number of items.
+    #[inline]
+    pub fn len(&self) -> usize
+        ensures value { result ≡ length self.now.items }
+        ensures within { result ≤ self.now.room }
+    {
+        self.len
+    }
+
+    /// The greatest number of items.
+    #[inline]
+    pub fn room(&self) -> usize
+        ensures value { result ≡ self.now.room }
+        ensures holds { length self.now.items ≤ result }
+    {
+        self.slots.len()
+    }
+
+    /// Whether there is no item.
+    #[inline]
+    pub fn is_empty(&self) -> bool
+        ensures { result ≡ (length self.now.items == 0) }
+    {
+        self.len == 0
+    }
+
+    /// Whether no item can be added.
+    #[inline]
+    pub fn is_full(&self) -> bool
+        ensures value { result ≡ (length self.now.items == self.now.room) }
+        ensures holds { length self.now.items ≤ self.now.room }
+    {
+        self.len == self.slots.len()
+    }
+
+    /// The items.
+    #[inline]
+    pub fn as_slice(&self) -> &[T]
+        ensures value { result.now ≡ self.now.items }
+        ensures within { length result.now ≤ self.now.room }
+    {
+        &self.slots[..self.len]
+    }
+
+    /// The item at a place, counted from 0.
+    #[inline]
+    pub fn get(&self, place: usize) -> T
+        requires { place < length self.now.items }
+        ensures { slice_get self.now.items place ≡ Some result }
+    {
+        let slots = &*self.slots;
+        slots[place]
+    }
+
+    /// The last item.
+    #[inline]
+    pub fn last(&self) -> Option<T>
+        ensures { result ≡ slice_get self.now.items (length self.now.items - 1) }
+    {
+        if self.len == 0 {
+            return None;
+        }
+        let slots = &*self.slots;
+        Some(slots[self.len - 1])
+    }
+
+    /// Puts another item at a place.
+    #[inline]
+    pub fn set(&mut self, place: usize, item: T)
+        requires { place < length self.old.items }
+        ensures items { self.new.items ≡ slice_set self.old.items place item }
+        ensures room { self.new.room ≡ self.old.room }
+    {
+        let slots = &mut *self.slots;
+        slots[place] = item;
+    }
+
+    /// Adds an item at the end.
+    #[inline]
+    pub fn push(&mut self, item: T)
+        requires { length self.old.items < self.old.room }
+        ensures items { self.new.items ≡ self.old.items ++ item ∷ [] }
+        ensures room { self.new.room ≡ self.old.room }
+    {
+        self.slots[self.len] = item;
+        self.len += 1;
+    }
+
+    /// Takes the last item away.
+    #[inline]
+    pub fn pop(&mut self) -> Option<T>
+        ensures value { result ≡ slice_get self.old.items (length self.old.items - 1) }
+        ensures items { self.new.items ≡ take (length self.old.items - 1) self.old.items }
+        ensures room { self.new.room ≡ self.old.room }
+    {
+        let item = self.last();
+        if self.len > 0 {
+            self.len -= 1;
+        }
+        item
+    }
+
+    /// Adds items at the end.
+    #[inline]
+    pub fn extend(&mut self, more: &[T])
+        requires { length self.old.items + length more.now ≤ self.old.room }
+        ensures items { self.new.items ≡ self.old.items ++ more.now }
+        ensures room { self.new.room ≡ self.old.room }
+    {
+        let end = self.len + more.len();
+        self.slots[self.len..end].copy_from_slice(more);
+        self.len = end;
+    }
+
+    /// Adds the first n of these items. A few more are copied than are added where there is room on
+    /// both sides, as a copy of a fixed length is the cheapest.
+    #[inline]
+    pub fn extend_front(&mut self, more: &[T], n: usize)
+        requires front { n ≤ length more.now }
+        requires room { length self.old.items + n ≤ self.old.room }
+        ensures items { self.new.items ≡ self.old.items ++ take n more.now }
+        ensures room { self.new.room ≡ self.old.room }
+    {
+        let len = self.len;
+        if n <= CHUNK && more.len() >= CHUNK && self.slots.len() - len >= CHUNK {
+            self.slots[len..len + CHUNK].copy_from_slice(&more[..CHUNK]);
+            self.len = len + n;
+            return;
+        }
+        self.extend(&more[..n]);
+    }
+
+    /// Puts an item before the one at a place, or at the end.
+    #[inline]
+    pub fn insert(&mut self, place: usize, item: T)
+        requires within { place ≤ length self.old.items }
+        requires room { length self.old.items < self.old.room }
+        ensures items { self.new.items ≡ insert self.old.items place item }
+        ensures room { self.new.room ≡ self.old.room }
+    {
+        let len = self.len;
+        let slots = &mut *self.slots;
+        slots.copy_within(place..len, place + 1);
+        slots[place] = item;
+        self.len = len + 1;
+    }
+
+    /// Takes the item at a place away.
+    #[inline]
+    pub fn remove(&mut self, place: usize)
+        requires { place < length self.old.items }
+        ensures items { self.new.items ≡ remove self.old.items place }
+        ensures room { self.new.room ≡ self.old.room }
+    {
+        let len = self.len;
+        let slots = &mut *self.slots;
+        slots.copy_within(place + 1..len, place);
+        self.len = len - 1;
+    }
+
+    /// Takes the first n items away.
+    #[inline]
+    pub fn remove_front(&mut self, n: usize)
+        requires { n ≤ length self.old.items }
+        ensures items { self.new.items ≡ drop n self.old.items }
+        ensures room { self.new.room ≡ self.old.room }
+    {
+        let len = self.len;
+        self.slots.copy_within(n..len, 0);
+        self.len -= n;
+    }
+
+    /// Keeps the first n items.
+    #[inline]
+    pub fn truncate(&mut self, n: usize)
+        requires { n ≤ length self.old.items }
+        ensures items { self.new.items ≡ take n self.old.items }
+        ensures room { self.new.room ≡ self.old.room }
+    {
+        self.len = n;
+    }
+
+    /// Takes all items away.
+    #[inline]
+    pub fn clear(&mut self)
+        ensures items { self.new.items ≡ [] }
+        ensures room { self.new.room ≡ self.old.room }
+    {
+        self.len = 0;
+    }
+}
+
+#[cfg(test)]
+mod tests {
+    use super::*;
+
+    #[test]
+    fn keeps_its_items_in_order(rt: HostRuntime) {
+        let mut slots = [0; 12];
+        let mut letters = SliceVec::over(&mut slots);
+        assert!(rt; letters.is_empty() && letters.room() == 12);
+        letters.extend(b"acd");
+        letters.insert(1, b'b');
+        letters.push(b'x');
+        letters.set(4, b'e');
+        assert_eq!(rt; letters.as_slice(), b"abcde".as_slice());
+        letters.remove(2);
+        letters.extend_front(b"fghijklm", 2);
+        assert_eq!(rt; letters.as_slice(), b"abdefg".as_slice());
+        assert_eq!(rt; letters.get(2), b'd');
+        letters.remove_front(1);
+        letters.truncate(3);
+        assert_eq!(rt; letters.pop(), Some(b'e'));
+        assert_eq!(rt; letters.last(), Some(b'd'));
+        assert!(rt; letters.len() == 2 && !letters.is_full());
+        letters.clear();
+        assert_eq!(rt; letters.pop(), None);
+    }
+}
