@@ -40,7 +40,7 @@ pub struct Engine<'a> {
 
 impl<'a> Engine<'a> {
     ghost use Rattle.std.specs.Prelude.{◌<◌, List, Option, OnOk, true, false, length};
-    ghost use Rattle.nr_units.specs.Failures.{counted_if};
+    ghost use Rattle.nr_units.specs.Failures.{counted_if, put_counted_if};
     ghost use Rattle.nr_units.specs.Supply.{Supply};
     ghost use Rattle.nr_engine.specs.Measures.{Bounds};
     ghost use Rattle.nr_engine.specs.Desks.{HasSizes};
@@ -107,7 +107,7 @@ impl<'a> Engine<'a> {
     ) -> Result<(), Outcome>
         ensures moved { Advances (shape self.old) (shape self.new) (R.supply input.old) (R.supply input.new) (W.held output.old) (W.held output.new) result }
         ensures read_failures { R.failures input.new ≡ counted_if (stops_reading result) (R.failures input.old) }
-        ensures write_failures { W.failures output.new ≡ counted_if (stops_writing result) (W.failures output.old) }
+        ensures write_failures { W.failures output.new ≡ put_counted_if (stops_writing result) (W.failures output.old) }
         ensures falls { OnOk result (weight (shape self.new) < weight (shape self.old)) }
     {
         match self.mode {

@@ -1,6 +1,6 @@
 // Filling lines, and breaks. (CSTR 54, section 4.)
 ghost use Rattle.std.specs.Prelude.{◌≡◌, ℕ, ◌+◌, ◌<◌, ◌≤◌, List, Option, OnOk, false};
-ghost use Rattle.nr_units.specs.Failures.{counted_if};
+ghost use Rattle.nr_units.specs.Failures.{put_counted_if};
 ghost use Rattle.nr_units.specs.Cells.{blank};
 ghost use Rattle.nr_engine.specs.Bytes.{prints, is_tab_or_leader};
 ghost use Rattle.nr_engine.specs.Pieces.{add_cell, end_word};
@@ -192,7 +192,7 @@ impl<'a> Engine<'a> {
     pub(crate) fn flow<W: Sink>(&mut self, next: Next, output: &mut W) -> Result<(), Outcome>
         requires { self.old.mode ≡ Mode.Flow next }
         ensures worked { Works (λ s. flow next s) (shape self.old) (shape self.new) (W.held output.old) (W.held output.new) result }
-        ensures failures { W.failures output.new ≡ counted_if (stops_writing result) (W.failures output.old) }
+        ensures failures { W.failures output.new ≡ put_counted_if (stops_writing result) (W.failures output.old) }
         ensures reads { stops_reading result ≡ false }
         ensures falls { OnOk result (weight (shape self.new) < weight (shape self.old)) }
     {
@@ -207,7 +207,7 @@ impl<'a> Engine<'a> {
     pub(crate) fn break_line<W: Sink>(&mut self, next: Next, output: &mut W) -> Result<(), Outcome>
         requires { self.old.mode ≡ Mode.Break next }
         ensures worked { Works (λ s. break_line next s) (shape self.old) (shape self.new) (W.held output.old) (W.held output.new) result }
-        ensures failures { W.failures output.new ≡ counted_if (stops_writing result) (W.failures output.old) }
+        ensures failures { W.failures output.new ≡ put_counted_if (stops_writing result) (W.failures output.old) }
         ensures reads { stops_reading result ≡ false }
         ensures falls { OnOk result (weight (shape self.new) < weight (shape self.old)) }
     {

@@ -1,6 +1,6 @@
 // Beginning and ending a page, and what is placed on it. (CSTR 54, section 3.)
 ghost use Rattle.std.specs.Prelude.{◌≡◌, ◌≢◌, ℕ, ◌+◌, ◌<◌, ◌≤◌, List, Option, OnOk, true, false, length};
-ghost use Rattle.nr_units.specs.Failures.{counted_if};
+ghost use Rattle.nr_units.specs.Failures.{put_counted_if};
 ghost use Rattle.nr_engine.specs.Pages.{is_open, has_room_at, begin_page, end_page, make_room, place_line, place_space, put_line, put_space, eject};
 ghost use Rattle.nr_engine.specs.Answer.{stops_reading, stops_writing};
 ghost use Rattle.nr_engine.specs.Holding.{Turns, Works, shape, weight};
@@ -44,7 +44,7 @@ impl<'a> Engine<'a> {
     fn end_page<W: Sink>(&mut self, output: &mut W) -> Result<(), Outcome>
         requires { is_open self.old.paper.state ≡ true }
         ensures worked { Works end_page (shape self.old) (shape self.new) (W.held output.old) (W.held output.new) result }
-        ensures failures { W.failures output.new ≡ counted_if (stops_writing result) (W.failures output.old) }
+        ensures failures { W.failures output.new ≡ put_counted_if (stops_writing result) (W.failures output.old) }
         ensures reads { stops_reading result ≡ false }
         ensures falls { OnOk result (weight (shape self.new) ≤ weight (shape self.old) + 1) }
         ensures mode { OnOk result (self.new.mode ≡ self.old.mode) }
@@ -66,7 +66,7 @@ impl<'a> Engine<'a> {
     fn make_room<W: Sink>(&mut self, output: &mut W) -> Result<(), Outcome>
         requires { has_room_at self.old.paper.state self.old.paper.place self.old.settings.page_length ≡ false }
         ensures worked { Works make_room (shape self.old) (shape self.new) (W.held output.old) (W.held output.new) result }
-        ensures failures { W.failures output.new ≡ counted_if (stops_writing result) (W.failures output.old) }
+        ensures failures { W.failures output.new ≡ put_counted_if (stops_writing result) (W.failures output.old) }
         ensures reads { stops_reading result ≡ false }
         ensures falls { OnOk result (weight (shape self.new) < weight (shape self.old)) }
     {
@@ -106,7 +106,7 @@ impl<'a> Engine<'a> {
     pub(crate) fn put_line<W: Sink>(&mut self, output: &mut W) -> Result<(), Outcome>
         requires { 0 < length self.old.line.collected.pieces }
         ensures worked { Works put_line (shape self.old) (shape self.new) (W.held output.old) (W.held output.new) result }
-        ensures failures { W.failures output.new ≡ counted_if (stops_writing result) (W.failures output.old) }
+        ensures failures { W.failures output.new ≡ put_counted_if (stops_writing result) (W.failures output.old) }
         ensures reads { stops_reading result ≡ false }
         ensures falls { OnOk result (weight (shape self.new) < weight (shape self.old)) }
     {
@@ -120,7 +120,7 @@ impl<'a> Engine<'a> {
     pub(crate) fn put_space<W: Sink>(&mut self, output: &mut W) -> Result<(), Outcome>
         requires { self.old.mode ≡ Mode.Space }
         ensures worked { Works put_space (shape self.old) (shape self.new) (W.held output.old) (W.held output.new) result }
-        ensures failures { W.failures output.new ≡ counted_if (stops_writing result) (W.failures output.old) }
+        ensures failures { W.failures output.new ≡ put_counted_if (stops_writing result) (W.failures output.old) }
         ensures reads { stops_reading result ≡ false }
         ensures falls { OnOk result (weight (shape self.new) < weight (shape self.old)) }
     {
@@ -139,7 +139,7 @@ impl<'a> Engine<'a> {
     pub(crate) fn eject<W: Sink>(&mut self, output: &mut W) -> Result<(), Outcome>
         requires { self.old.mode ≡ Mode.Eject }
         ensures worked { Works eject (shape self.old) (shape self.new) (W.held output.old) (W.held output.new) result }
-        ensures failures { W.failures output.new ≡ counted_if (stops_writing result) (W.failures output.old) }
+        ensures failures { W.failures output.new ≡ put_counted_if (stops_writing result) (W.failures output.old) }
         ensures reads { stops_reading result ≡ false }
         ensures falls { OnOk result (weight (shape self.new) < weight (shape self.old)) }
     {

@@ -1,6 +1,6 @@
 // A whole run.
 ghost use Rattle.std.specs.Prelude.{◌≡◌, ℕ, ◌+◌, ◌*◌, ◌^◌, ◌<◌, ◌≤◌, max, length, Some};
-ghost use Rattle.nr_units.specs.Failures.{counted_if};
+ghost use Rattle.nr_units.specs.Failures.{counted_if, put_counted_if};
 ghost use Rattle.nr_units.specs.Supply.{Supply};
 ghost use Rattle.nr_engine.specs.State.{start};
 ghost use Rattle.nr_engine.specs.Measures.{Bounds};
@@ -34,7 +34,7 @@ fn run<R: Source, W: Sink>(
     ensures answers { (b : Bounds) (supply : Supply) → b.cells ≡ limit → R.supply input.old ≡ Some supply →
         Answers b (start supply) moves.new result (W.held output.old) (W.held output.new) }
     ensures read_failures { R.failures input.new ≡ counted_if (is_read_fault result) (R.failures input.old) }
-    ensures write_failures { W.failures output.new ≡ counted_if (is_write_fault result) (W.failures output.old) }
+    ensures write_failures { W.failures output.new ≡ put_counted_if (is_write_fault result) (W.failures output.old) }
 {
     let mut engine = Engine::over(limit, cells, pieces, row, page_cells, page_lines);
     *moves = 0;
@@ -60,7 +60,7 @@ pub fn format<R: Source, W: Sink>(
         Answers work.entry.desk.now (start supply) moves.new result (W.held output.old) (W.held output.new) }
     // A fault is told where a call failed, and nowhere else.
     ensures read_failures { R.failures input.new ≡ counted_if (is_read_fault result) (R.failures input.old) }
-    ensures write_failures { W.failures output.new ≡ counted_if (is_write_fault result) (W.failures output.old) }
+    ensures write_failures { W.failures output.new ≡ put_counted_if (is_write_fault result) (W.failures output.old) }
     ensures limits { work.exit.0.now ≡ work.entry.desk.now }
 {
     let Work { desk } = work;

@@ -1,7 +1,7 @@
 // Bytes are gathered and go out to a sink many at a time.
 ghost use Rattle.std.specs.Prelude.{◌≡◌, ℕ, ◌+◌, ◌*◌, ◌<◌, ◌≤◌, List, [], ◌∷◌, ◌++◌, length, replicate, OnOk, OnErr};
 ghost use Rattle.std.specs.List.{flat_map};
-ghost use Rattle.nr_units.specs.Failures.{counted};
+ghost use Rattle.nr_units.specs.Failures.{put_counted};
 ghost use Rattle.nr_page.specs.Gathered.{GathersOrFails};
 ghost use Rattle.nr_page.specs.PageBytes.{cell_bytes};
 
@@ -25,7 +25,7 @@ pub(crate) fn make_room<W: Sink>(
     requires { more ≤ pending.old.room }
     ensures gathers { GathersOrFails (W.held output.old) (W.held output.new) pending.old.items pending.new.items [] result }
     ensures fits { OnOk result (length pending.new.items + more ≤ pending.new.room) }
-    ensures failures { W.failures output.new ≡ counted (W.failures output.old) result }
+    ensures failures { W.failures output.new ≡ put_counted (W.failures output.old) result }
     ensures room { pending.new.room ≡ pending.old.room }
 {
     if pending.room() - pending.len() >= more {
@@ -67,7 +67,7 @@ pub(crate) fn write_cells<W: Sink>(
 ) -> Result<(), Fault>
     requires { 3 * RUN ≤ pending.old.room }
     ensures gathers { GathersOrFails (W.held output.old) (W.held output.new) pending.old.items pending.new.items (flat_map cell_bytes cells.now) result }
-    ensures failures { W.failures output.new ≡ counted (W.failures output.old) result }
+    ensures failures { W.failures output.new ≡ put_counted (W.failures output.old) result }
     ensures room { pending.new.room ≡ pending.old.room }
 {
     let mut at = 0;
@@ -88,7 +88,7 @@ pub(crate) fn write_newlines<W: Sink>(
 ) -> Result<(), Fault>
     requires { 0 < pending.old.room }
     ensures gathers { GathersOrFails (W.held output.old) (W.held output.new) pending.old.items pending.new.items (replicate count 10) result }
-    ensures failures { W.failures output.new ≡ counted (W.failures output.old) result }
+    ensures failures { W.failures output.new ≡ put_counted (W.failures output.old) result }
     ensures room { pending.new.room ≡ pending.old.room }
 {
     for _line in 0..count {

@@ -3,7 +3,7 @@ ghost use Rattle.std.specs.Prelude.{◌≡◌, ℕ, ◌+◌, ◌<◌, ◌≤◌,
 ghost use Rattle.nr_page.specs.Grid.{Placed, page_charge};
 ghost use Rattle.nr_page.specs.Sheet.{Holds};
 ghost use Rattle.std.specs.Io.KnownBytes.{Appends};
-ghost use Rattle.nr_units.specs.Failures.{counted};
+ghost use Rattle.nr_units.specs.Failures.{put_counted};
 ghost use Rattle.nr_units.specs.Held.{AppendsFront};
 ghost use Rattle.nr_page.specs.PageBytes.{page_bytes};
 
@@ -140,7 +140,7 @@ impl<'a> Page<'a> {
     pub fn write_page<W: Sink>(&self, rows: u32, output: &mut W) -> Result<(), WriteFault>
         ensures ok { OnOk result ((lines : List Placed) → Holds lines self.now → Appends (W.held output.old) (W.held output.new) (page_bytes rows lines)) }
         ensures err { OnErr result ((lines : List Placed) → Holds lines self.now → AppendsFront (W.held output.old) (W.held output.new) (page_bytes rows lines)) }
-        ensures failures { W.failures output.new ≡ counted (W.failures output.old) result }
+        ensures failures { W.failures output.new ≡ put_counted (W.failures output.old) result }
     {
         match write_lines(
             self.cells.as_slice(),

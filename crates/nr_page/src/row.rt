@@ -1,7 +1,7 @@
 // One row of a page.
 ghost use Rattle.std.specs.Prelude.{◌≡◌, ℕ, ◌+◌, ◌*◌, ◌<◌, ◌≤◌, List, [], ◌∷◌, length, map};
 ghost use Rattle.std.specs.List.{flat_map, range_with_len};
-ghost use Rattle.nr_units.specs.Failures.{counted};
+ghost use Rattle.nr_units.specs.Failures.{put_counted};
 ghost use Rattle.nr_page.specs.Grid.{cell_at};
 ghost use Rattle.nr_page.specs.PageBytes.{cell_bytes, row_cells, row_bytes};
 ghost use Rattle.nr_page.specs.Gathered.{GathersOrFails};
@@ -97,7 +97,7 @@ fn write_run<W: Sink>(
     requires inside { AreInside (length cells.now) lines.now }
     requires room { 3 * RUN ≤ pending.old.room }
     ensures gathers { GathersOrFails (W.held output.old) (W.held output.new) pending.old.items pending.new.items (flat_map cell_bytes (map (cell_at (map (line_of cells.now) lines.now) row) (range_with_len column (length run.old)))) result }
-    ensures failures { W.failures output.new ≡ counted (W.failures output.old) result }
+    ensures failures { W.failures output.new ≡ put_counted (W.failures output.old) result }
     ensures room { pending.new.room ≡ pending.old.room }
 {
     merge(run, cells, lines, row, column);
@@ -116,7 +116,7 @@ fn write_merged<W: Sink>(
     requires inside { AreInside (length cells.now) lines.now }
     requires room { 3 * RUN ≤ pending.old.room }
     ensures gathers { GathersOrFails (W.held output.old) (W.held output.new) pending.old.items pending.new.items (flat_map cell_bytes (map (cell_at (map (line_of cells.now) lines.now) row) (range_with_len 0 width))) result }
-    ensures failures { W.failures output.new ≡ counted (W.failures output.old) result }
+    ensures failures { W.failures output.new ≡ put_counted (W.failures output.old) result }
     ensures room { pending.new.room ≡ pending.old.room }
 {
     let mut run = [Cell::blank(); RUN];
@@ -145,7 +145,7 @@ fn write_alone<W: Sink>(
 ) -> Result<(), Fault>
     requires { 3 * RUN ≤ pending.old.room }
     ensures gathers { (row : ℕ) → GathersOrFails (W.held output.old) (W.held output.new) pending.old.items pending.new.items (flat_map cell_bytes (row_cells ((record { row = row; cells = cells.now }) ∷ []) row)) result }
-    ensures failures { W.failures output.new ≡ counted (W.failures output.old) result }
+    ensures failures { W.failures output.new ≡ put_counted (W.failures output.old) result }
     ensures room { pending.new.room ≡ pending.old.room }
 {
     write_cells(pending, &cells[..trimmed_len(cells)], output)
@@ -161,7 +161,7 @@ fn write_shown<W: Sink>(
     requires inside { AreInside (length cells.now) lines.now }
     requires room { 3 * RUN ≤ pending.old.room }
     ensures gathers { GathersOrFails (W.held output.old) (W.held output.new) pending.old.items pending.new.items (flat_map cell_bytes (row_cells (map (line_of cells.now) lines.now) row)) result }
-    ensures failures { W.failures output.new ≡ counted (W.failures output.old) result }
+    ensures failures { W.failures output.new ≡ put_counted (W.failures output.old) result }
     ensures room { pending.new.room ≡ pending.old.room }
 {
     if lines.len() == 1 && lines[0].row == row {
@@ -182,7 +182,7 @@ pub(crate) fn write_row<W: Sink>(
     requires inside { AreInside (length cells.now) lines.now }
     requires room { 3 * RUN ≤ pending.old.room }
     ensures gathers { GathersOrFails (W.held output.old) (W.held output.new) pending.old.items pending.new.items (row_bytes (map (line_of cells.now) lines.now) row) result }
-    ensures failures { W.failures output.new ≡ counted (W.failures output.old) result }
+    ensures failures { W.failures output.new ≡ put_counted (W.failures output.old) result }
     ensures room { pending.new.room ≡ pending.old.room }
 {
     write_shown(pending, cells, lines, row, output)?;

@@ -159,7 +159,7 @@ fn writes_pages(rt: HostRuntime) {
             case.name
         );
         assert!(rt; slate.bytes() == case.bytes, "{}", case.name);
-        assert_eq!(rt; slate.failed_calls(), 0, "{}", case.name);
+        assert_eq!(rt; slate.failed_puts(), 0, "{}", case.name);
     }
 }
 
@@ -185,7 +185,7 @@ fn fails_at_each_place(rt: HostRuntime) {
                 "{} at {place}",
                 case.name
             );
-            assert_eq!(rt; slate.failed_calls(), 1, "{} at {place}", case.name);
+            assert_eq!(rt; slate.failed_puts(), 1, "{} at {place}", case.name);
         }
         let mut shut = Shut::new();
         assert!(rt;

@@ -2,7 +2,7 @@
 ghost use Rattle.std.specs.Prelude.{◌≡◌, ℕ, ◌*◌, ◌≤◌, List, length, map, true, OnOk, OnErr};
 ghost use Rattle.std.specs.Io.KnownBytes.{Appends};
 ghost use Rattle.nr_units.specs.Held.{AppendsFront};
-ghost use Rattle.nr_units.specs.Failures.{counted};
+ghost use Rattle.nr_units.specs.Failures.{put_counted};
 ghost use Rattle.nr_page.specs.PageBytes.{page_bytes};
 ghost use Rattle.nr_page.specs.Gathered.{GathersOrFails};
 ghost use Rattle.nr_page.specs.Sheet.{line_of, AreInside, AreInOrder};
@@ -29,7 +29,7 @@ pub(crate) fn write_rows<W: Sink>(
     requires order { in_order ≡ true → AreInOrder lines.now }
     requires room { 3 * RUN ≤ pending.old.room }
     ensures gathers { GathersOrFails (W.held output.old) (W.held output.new) pending.old.items pending.new.items (page_bytes rows (map (line_of cells.now) lines.now)) result }
-    ensures failures { W.failures output.new ≡ counted (W.failures output.old) result }
+    ensures failures { W.failures output.new ≡ put_counted (W.failures output.old) result }
     ensures room { pending.new.room ≡ pending.old.room }
 {
     let mut done = 0;
@@ -62,7 +62,7 @@ pub(crate) fn write_lines<W: Sink>(
     requires order { in_order ≡ true → AreInOrder lines.now }
     ensures ok { OnOk result (Appends (W.held output.old) (W.held output.new) (page_bytes rows (map (line_of cells.now) lines.now))) }
     ensures err { OnErr result (AppendsFront (W.held output.old) (W.held output.new) (page_bytes rows (map (line_of cells.now) lines.now))) }
-    ensures failures { W.failures output.new ≡ counted (W.failures output.old) result }
+    ensures failures { W.failures output.new ≡ put_counted (W.failures output.old) result }
 {
     let mut bytes = [0; GATHERED];
     let mut pending = SliceVec::over(&mut bytes);

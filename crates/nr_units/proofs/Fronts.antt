@@ -1,10 +1,10 @@
 -- What several writes to known bytes come to.
-use Rattle.std.proofs.Common.{ℕ, ◌+◌, ◌-◌, ◌≤◌, List, [], ◌++◌, Option, None, Some, length, append-nil, append_assoc, ap, ◌∙◌, take, drop, arith, sym, refl, subst, length-drop, take-append-drop}
+use Rattle.std.proofs.Common.{◌≡◌, ℕ, ◌+◌, ◌-◌, ◌<◌, ◌≤◌, Bool, false, List, [], ◌∷◌, ◌++◌, Option, None, Some, length, append-nil, append_assoc, ap, ◌∙◌, take, drop, arith, sym, refl, subst, length-drop, take-append-drop}
 use Rattle.std.specs.Io.KnownBytes.{Appends, Keeps}
 use Rattle.std.proofs.KnownBytes.{Appends-trans, Appends-kept, Appends-nil}
 use Rattle.std.proofs.Math.Seq.{take-add}
 use Rattle.std.proofs.lemmas.List.{take_rest}
-use Rattle.nr_units.specs.Held.{AppendsFront}
+use Rattle.nr_units.specs.Held.{AppendsFront, passed_on_with}
 
 -- a front and n bytes more
 pub front_grows : (a b c : Option (List ℕ)) (bs : List ℕ) (done n : ℕ) → done ≤ length bs → n ≤ length (take (length bs - done) (drop done bs))
@@ -42,3 +42,8 @@ AppendsFront-whole a b bs p = (bs, [], sym (append-nil bs), p)
 -- no write is a front
 pub AppendsFront-none : (a : Option (List ℕ)) (bs : List ℕ) → AppendsFront a a bs
 AppendsFront-none a bs = ([], bs, refl, Appends-nil a)
+
+-- where a byte came, it is not known to be passed on
+pub passed_on_with-some : (before : Bool) (bs : List ℕ) → 0 < length bs → passed_on_with before bs ≡ false
+passed_on_with-some before [] some = absurd (omega arith)
+passed_on_with-some before (b ∷ bs) some = refl

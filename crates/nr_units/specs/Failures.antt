@@ -13,3 +13,28 @@ counted n (Err e) = next_count n
 -- the count after calls of which one failed, if it is told that one did
 abbrev pub counted_if : Bool → ℕ → ℕ
 counted_if told n = if told then next_count n else n
+
+-- a sink's failed calls: those of put and those of flush apart
+pub record SinkFailures : Type 0 where
+  pub puts : ℕ
+  pub flushes : ℕ
+
+-- none yet
+abbrev pub no_failures : SinkFailures
+no_failures = record { puts = 0; flushes = 0 }
+
+-- the counts after a put that gave this result
+abbrev pub put_counted : {A E : Type 0} → SinkFailures → Result A E → SinkFailures
+put_counted before result = record before { puts = counted before.puts result }
+
+-- the counts after a flush that gave this result
+abbrev pub flush_counted : {A E : Type 0} → SinkFailures → Result A E → SinkFailures
+flush_counted before result = record before { flushes = counted before.flushes result }
+
+-- the counts after puts of which one failed, if it is told that one did
+abbrev pub put_counted_if : Bool → SinkFailures → SinkFailures
+put_counted_if told before = record before { puts = counted_if told before.puts }
+
+-- the counts after a flush that failed, if it is told that it did
+abbrev pub flush_counted_if : Bool → SinkFailures → SinkFailures
+flush_counted_if told before = record before { flushes = counted_if told before.flushes }

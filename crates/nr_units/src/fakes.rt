@@ -1,8 +1,8 @@
 //! Sources and sinks in memory, which fail where they are told to, for tests.
-ghost use Rattle.std.specs.Prelude.{◌≡◌, ◌↔◌, ◌-◌, ◌≤◌, [], ◌++◌, length, take, OnOk, OnErr, IsOk, IfSome, false, true, not, is_ok};
+ghost use Rattle.std.specs.Prelude.{◌≡◌, ◌==◌, ◌↔◌, ◌-◌, ◌≤◌, [], ◌++◌, length, take, OnOk, OnErr, IsOk, IfSome, false, true, not, is_ok};
 ghost use Rattle.std.specs.Io.KnownBytes.{Appends, Keeps};
-ghost use Rattle.nr_units.specs.Failures.{counted};
-ghost use Rattle.nr_units.specs.Held.{AppendsFront};
+ghost use Rattle.nr_units.specs.Failures.{no_failures, put_counted, flush_counted};
+ghost use Rattle.nr_units.specs.Held.{AppendsFront, passed_on_with, passed_on_by};
 ghost use Rattle.nr_units.specs.Supply.{Never, After};
 
 use super::sink::Sink;
@@ -102,13 +102,16 @@ impl Source for Script<'_> {
     }
 }
 
-/// Takes what fits into a slice, and fails at a call that brings more.
+/// Takes what fits into a slice, and fails at a call that brings more. It passes on what it took at a
+/// flush, and not before.
 #[derive(Drop)]
 pub struct Slate<'a> {
     cells: &'a mut [u8],
     used: usize,
+    passed: usize,
     flush_fails: bool,
-    failures: u64,
+    failed_puts: u64,
+    failed_flushes: u64,
 }
 
 impl<'a> Model for Slate<'a> {
@@ -117,33 +120,43 @@ impl<'a> Model for Slate<'a> {
 
     ghost Value = { Slate };
 
-    ghost view = { λ s. record { bytes = take s.used s.cells.now; room = length s.cells.now - s.used; flush_fails = s.flush_fails; failures = s.failures } };
+    ghost view = { λ s. record {
+      bytes = take s.used s.cells.now;
+      passed = s.passed;
+      room = length s.cells.now - s.used;
+      flush_fails = s.flush_fails;
+      failures = record { puts = s.failed_puts; flushes = s.failed_flushes };
+    } };
 
-    ghost invariant = { λ s. s.used ≤ length s.cells.now };
+    ghost invariant = { λ s. (s.passed ≤ s.used) × (s.used ≤ length s.cells.now) };
 }
 
 impl<'a> Slate<'a> {
     /// Holds nothing yet, and takes as many bytes as the slice is long.
     pub fn over(cells: &'a mut [u8]) -> Self
-        ensures { result ≡ record { bytes = []; room = length cells.entry.now; flush_fails = false; failures = 0 } }
+        ensures { result ≡ record { bytes = []; passed = 0; room = length cells.entry.now; flush_fails = false; failures = no_failures } }
     {
         Slate {
             cells,
             used: 0,
+            passed: 0,
             flush_fails: false,
-            failures: 0,
+            failed_puts: 0,
+            failed_flushes: 0,
         }
     }
 
     /// The same, but each flush fails.
     pub fn failing_flush(cells: &'a mut [u8]) -> Self
-        ensures { result ≡ record { bytes = []; room = length cells.entry.now; flush_fails = true; failures = 0 } }
+        ensures { result ≡ record { bytes = []; passed = 0; room = length cells.entry.now; flush_fails = true; failures = no_failures } }
     {
         Slate {
             cells,
             used: 0,
+            passed: 0,
             flush_fails: true,
-            failures: 0,
+            failed_puts: 0,
+            failed_flushes: 0,
         }
     }
 
@@ -154,18 +167,34 @@ impl<'a> Slate<'a> {
         &self.cells[..self.used]
     }
 
-    /// How many calls answered an error, modulo 2^64.
-    pub fn failed_calls(&self) -> u64
-        ensures { result ≡ self.now.failures }
+    /// The bytes that it passed on.
+    pub fn passed(&self) -> &[u8]
+        ensures { result.now ≡ take self.now.passed self.now.bytes }
     {
-        self.failures
+        &self.cells[..self.passed]
+    }
+
+    /// How many calls of `put` answered an error, modulo 2^64.
+    pub fn failed_puts(&self) -> u64
+        ensures { result ≡ self.now.failures.puts }
+    {
+        self.failed_puts
+    }
+
+    /// How many calls of `flush` answered an error, modulo 2^64.
+    pub fn failed_flushes(&self) -> u64
+        ensures { result ≡ self.now.failures.flushes }
+    {
+        self.failed_flushes
     }
 }
 
 impl Sink for Slate<'_> {
-    ghost use Rattle.std.specs.Prelude.{Some};
+    ghost use Rattle.std.specs.Prelude.{Some, ◌==◌, length};
 
     ghost held = { λ s. Some s.bytes };
+
+    ghost passed_on = { λ s. s.passed == length s.bytes };
 
     ghost failures = { λ s. s.failures };
 
@@ -173,11 +202,11 @@ impl Sink for Slate<'_> {
     fn put(&mut self, bytes: &[u8]) -> Result<(), Fault>
         ensures ok { OnOk result (Appends (Some self.old.bytes) (Some self.new.bytes) bytes.now) }
         ensures err { OnErr result (AppendsFront (Some self.old.bytes) (Some self.new.bytes) bytes.now) }
-        ensures failures { self.new.failures ≡ counted self.old.failures result }
+        ensures passed_on { OnOk result ((self.new.passed == length self.new.bytes) ≡ passed_on_with (self.old.passed == length self.old.bytes) bytes.now) }
+        ensures failures { self.new.failures ≡ put_counted self.old.failures result }
         ensures fits { IsOk result ↔ (length bytes.now ≤ self.old.room) }
         ensures bytes { self.new.bytes ≡ self.old.bytes ++ take self.old.room bytes.now }
-        ensures room { self.new.room ≡ self.old.room - length bytes.now }
-        ensures flush { self.new.flush_fails ≡ self.old.flush_fails }
+        ensures kept { self.new ≡ record self.old { bytes = self.new.bytes; room = self.old.room - length bytes.now; failures = self.new.failures } }
     {
         let room = self.cells.len() - self.used;
         if bytes.len() <= room {
@@ -185,20 +214,22 @@ impl Sink for Slate<'_> {
             return Ok(());
         }
         self.take(&bytes[..room]);
-        self.failures = next_count(self.failures);
+        self.failed_puts = next_count(self.failed_puts);
         Err(Fault)
     }
 
     fn flush(&mut self) -> Result<(), Fault>
         ensures held { Keeps (Some self.old.bytes) (Some self.new.bytes) }
-        ensures failures { self.new.failures ≡ counted self.old.failures result }
+        ensures passed_on { (self.new.passed == length self.new.bytes) ≡ passed_on_by (self.old.passed == length self.old.bytes) result }
+        ensures failures { self.new.failures ≡ flush_counted self.old.failures result }
         ensures fails { is_ok result ≡ not self.old.flush_fails }
-        ensures kept { self.new ≡ record self.old { failures = self.new.failures } }
+        ensures kept { self.new ≡ record self.old { passed = self.new.passed; failures = self.new.failures } }
     {
         if self.flush_fails {
-            self.failures = next_count(self.failures);
+            self.failed_flushes = next_count(self.failed_flushes);
             return Err(Fault);
         }
+        self.passed = self.used;
         Ok(())
     }
 }
@@ -207,9 +238,9 @@ impl Slate<'_> {
     /// Takes bytes that fit.
     fn take(&mut self, bytes: &[u8])
         requires { length bytes.now ≤ self.old.room }
-        ensures bytes { self.new.bytes ≡ self.old.bytes ++ bytes.now }
-        ensures room { self.new.room ≡ self.old.room - length bytes.now }
-        ensures kept { self.new ≡ record self.old { bytes = self.new.bytes; room = self.new.room } }
+        ensures taken { self.new ≡ record self.old { bytes = self.old.bytes ++ bytes.now; room = self.old.room - length bytes.now } }
+        // What it passed on, it took before.
+        ensures passed { self.old.passed ≤ length self.old.bytes }
     {
         let end = self.used + bytes.len();
         self.cells[self.used..end].copy_from_slice(bytes);
@@ -227,30 +258,33 @@ impl Shut {
     /// No call has failed yet.
     pub fn new() -> Self
         ensures held { ⟦<Shut as Sink>⟧.held result ≡ Some [] }
-        ensures failures { ⟦<Shut as Sink>⟧.failures result ≡ 0 }
+        ensures failures { ⟦<Shut as Sink>⟧.failures result ≡ no_failures }
     {
         Shut { failures: 0 }
     }
 
     /// How many calls answered an error, modulo 2^64.
-    pub fn failed_calls(&self) -> u64
-        ensures { result ≡ ⟦<Shut as Sink>⟧.failures self.now }
+    pub fn failed_puts(&self) -> u64
+        ensures { result ≡ (⟦<Shut as Sink>⟧.failures self.now).puts }
     {
         self.failures
     }
 }
 
 impl Sink for Shut {
-    ghost use Rattle.std.specs.Prelude.{Some, []};
+    ghost use Rattle.std.specs.Prelude.{Some, [], true};
 
     ghost held = { λ s. Some [] };
 
-    ghost failures = { λ s. s.failures };
+    ghost passed_on = { λ s. true };
+
+    ghost failures = { λ s. record { puts = s.failures; flushes = 0 } };
 
     fn put(&mut self, bytes: &[u8]) -> Result<(), Fault>
         ensures ok { OnOk result (Appends (⟦<Shut as Sink>⟧.held self.old) (⟦<Shut as Sink>⟧.held self.new) bytes.now) }
         ensures err { OnErr result (AppendsFront (⟦<Shut as Sink>⟧.held self.old) (⟦<Shut as Sink>⟧.held self.new) bytes.now) }
-        ensures failures { ⟦<Shut as Sink>⟧.failures self.new ≡ counted (⟦<Shut as Sink>⟧.failures self.old) result }
+        ensures passed_on { OnOk result (⟦<Shut as Sink>⟧.passed_on self.new ≡ passed_on_with (⟦<Shut as Sink>⟧.passed_on self.old) bytes.now) }
+        ensures failures { ⟦<Shut as Sink>⟧.failures self.new ≡ put_counted (⟦<Shut as Sink>⟧.failures self.old) result }
         ensures empty { IsOk result ↔ (bytes.now ≡ []) }
     {
         if bytes.is_empty() {
@@ -262,7 +296,8 @@ impl Sink for Shut {
 
     fn flush(&mut self) -> Result<(), Fault>
         ensures held { Keeps (⟦<Shut as Sink>⟧.held self.old) (⟦<Shut as Sink>⟧.held self.new) }
-        ensures failures { ⟦<Shut as Sink>⟧.failures self.new ≡ counted (⟦<Shut as Sink>⟧.failures self.old) result }
+        ensures passed_on { ⟦<Shut as Sink>⟧.passed_on self.new ≡ passed_on_by (⟦<Shut as Sink>⟧.passed_on self.old) result }
+        ensures failures { ⟦<Shut as Sink>⟧.failures self.new ≡ flush_counted (⟦<Shut as Sink>⟧.failures self.old) result }
         ensures ok { IsOk result }
     {
         Ok(())

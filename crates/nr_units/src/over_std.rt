@@ -155,41 +155,59 @@ impl<R: Read + Drop> Source for FromReader<R> {
 #[derive(Drop)]
 pub struct ToWriter<W> {
     writer: W,
-    failures: u64,
+    passed_on: bool,
+    failed_puts: u64,
+    failed_flushes: u64,
 }
 
 impl<W: Write + Drop> ToWriter<W> {
-    /// Writes behind what the writer holds.
+    ghost use Rattle.std.specs.Prelude.{false};
+    ghost use Rattle.nr_units.specs.Failures.{no_failures};
+
+    /// Writes behind what the writer holds, of which it may not have passed all on.
     pub fn over(writer: W) -> Self
         ensures held { ⟦<ToWriter<W> as Sink>⟧.held result ≡ W.contents writer }
-        ensures failures { ⟦<ToWriter<W> as Sink>⟧.failures result ≡ 0 }
+        ensures passed_on { ⟦<ToWriter<W> as Sink>⟧.passed_on result ≡ false }
+        ensures failures { ⟦<ToWriter<W> as Sink>⟧.failures result ≡ no_failures }
     {
         ToWriter {
             writer,
-            failures: 0,
+            passed_on: false,
+            failed_puts: 0,
+            failed_flushes: 0,
         }
     }
 
-    /// How many calls answered an error, modulo 2^64.
-    pub fn failed_calls(&self) -> u64
-        ensures { result ≡ ⟦<ToWriter<W> as Sink>⟧.failures self.now }
+    /// How many calls of `put` answered an error, modulo 2^64.
+    pub fn failed_puts(&self) -> u64
+        ensures { result ≡ (⟦<ToWriter<W> as Sink>⟧.failures self.now).puts }
     {
-        self.failures
+        self.failed_puts
+    }
+
+    /// How many calls of `flush` answered an error, modulo 2^64.
+    pub fn failed_flushes(&self) -> u64
+        ensures { result ≡ (⟦<ToWriter<W> as Sink>⟧.failures self.now).flushes }
+    {
+        self.failed_flushes
     }
 }
 
 impl<W: Write + Drop> Sink for ToWriter<W> {
     ghost held = { λ s. W.contents s.writer };
 
-    ghost failures = { λ s. s.failures };
+    ghost passed_on = { λ s. s.passed_on };
+
+    ghost failures = { λ s. record { puts = s.failed_puts; flushes = s.failed_flushes } };
 
     fn put(&mut self, bytes: &[u8]) -> Result<(), Fault> {
         let mut done = 0;
         while done < bytes.len() {
+            self.passed_on = false;
             match write_some(&mut self.writer, &bytes[done..]) {
                 Ok(count) => done += count,
                 Err(fault) => {
-                    self.failures = next_count(self.failures);
+                    self.failed_puts = next_count(self.failed_puts);
                     return Err(fault);
                 }
             }
@@ -199,9 +217,12 @@ impl<W: Write + Drop> Sink for ToWriter<W> {
 
     fn flush(&mut self) -> Result<(), Fault> {
         match flush_all(&mut self.writer) {
-            Ok(()) => Ok(()),
+            Ok(()) => {
+                self.passed_on = true;
+                Ok(())
+            }
             Err(fault) => {
-                self.failures = next_count(self.failures);
+                self.failed_flushes = next_count(self.failed_flushes);
                 Err(fault)
             }
         }

@@ -168,7 +168,7 @@ fn a_writer_gets_all_bytes(rt: HostRuntime) {
     assert_eq!(rt; sink.put(b""), Ok(()));
     assert_eq!(rt; sink.put(TEXT), Ok(()));
     assert_eq!(rt; sink.flush(), Ok(()));
-    assert_eq!(rt; sink.failed_calls(), 0);
+    assert_eq!(rt; (sink.failed_puts(), sink.failed_flushes()), (0, 0));
     assert_eq!(rt; writer.taken(), TEXT.as_slice());
     assert_eq!(rt; writer.calls, 4);
     assert_eq!(rt; writer.flushes, 1);
@@ -183,7 +183,7 @@ fn a_write_that_fails_leaves_a_front(rt: HostRuntime) {
             let mut writer = Narrow::new(&turns);
             let mut sink = ToWriter::over(&mut writer);
             assert_eq!(rt; sink.put(TEXT), Err(Fault), "at {place}");
-            assert_eq!(rt; sink.failed_calls(), 1);
+            assert_eq!(rt; (sink.failed_puts(), sink.failed_flushes()), (1, 0));
             assert_eq!(rt; writer.calls, place + 1);
             assert_eq!(rt; writer.taken(), &TEXT[..place]);
         }
@@ -202,7 +202,7 @@ fn an_interrupted_write_is_tried_again(rt: HostRuntime) {
     let mut writer = Narrow::new(&turns);
     let mut sink = ToWriter::over(&mut writer);
     assert_eq!(rt; sink.put(TEXT), Err(Fault));
-    assert_eq!(rt; sink.failed_calls(), 1);
+    assert_eq!(rt; sink.failed_puts(), 1);
     assert_eq!(rt; writer.taken(), b"".as_slice());
 }
 
@@ -214,7 +214,7 @@ fn a_flush_that_fails_is_counted(rt: HostRuntime) {
     assert_eq!(rt; sink.put(TEXT), Ok(()));
     assert_eq!(rt; sink.flush(), Err(Fault));
     assert_eq!(rt; sink.flush(), Ok(()));
-    assert_eq!(rt; sink.failed_calls(), 1);
+    assert_eq!(rt; (sink.failed_puts(), sink.failed_flushes()), (0, 1));
     assert_eq!(rt; writer.flushes, 1);
     assert_eq!(rt; writer.taken(), TEXT.as_slice());
 }
@@ -299,6 +299,9 @@ fn fakes_fail_where_they_are_told_to(rt: HostRuntime) {
     let mut slate = Slate::over(&mut cells);
     assert_eq!(rt; slate.put(TEXT), Err(Fault));
     assert_eq!(rt; slate.bytes(), b".br\n".as_slice());
+    assert_eq!(rt; slate.passed(), b"".as_slice());
+    assert_eq!(rt; slate.flush(), Ok(()));
+    assert_eq!(rt; slate.passed(), b".br\n".as_slice());
     assert_eq!(rt; Slate::failing_flush(&mut cells).flush(), Err(Fault));
     assert_eq!(rt; Shut::new().put(TEXT), Err(Fault));
 }

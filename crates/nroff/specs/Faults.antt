@@ -1,7 +1,7 @@
 -- The line that tells how a run ended.
-use Rattle.std.specs.Prelude.{◌≡◌, ℕ, List, [], ◌++◌, Option, ◌⊎◌, codes, decimal}
+use Rattle.std.specs.Prelude.{◌≡◌, ℕ, List, [], ◌++◌, true, Option, ◌⊎◌, codes, decimal}
 use Rattle.std.specs.Io.KnownBytes.{Appends}
-use Rattle.nr_units.specs.Failures.{next_count}
+use Rattle.nr_units.specs.Failures.{SinkFailures, put_counted_if}
 use Rattle.nr_units.specs.Held.{AppendsFront}
 use Rattle.nr_engine.specs.declared.outcome.Measure.{Measure}
 use Rattle.nr_engine.specs.declared.outcome.Measure.TheVariants.{Stored, Depth, LineCells, PageCells, Expansions}
@@ -29,6 +29,6 @@ line_of TooLong = codes "nroff: input too long\n"
 line_of WriteFault = codes "nroff: write fault\n"
 
 -- A line was written whole, or a front of it went out where a call failed. The counts are those of the failed calls before and after.
-abbrev pub Tells : Option (List ℕ) → Option (List ℕ) → ℕ → ℕ → List ℕ → Type 0
+abbrev pub Tells : Option (List ℕ) → Option (List ℕ) → SinkFailures → SinkFailures → List ℕ → Type 0
 Tells old new before after line =
-    ((after ≡ before) × Appends old new line) ⊎ ((after ≡ next_count before) × AppendsFront old new line)
+    ((after ≡ before) × Appends old new line) ⊎ ((after ≡ put_counted_if true before) × AppendsFront old new line)

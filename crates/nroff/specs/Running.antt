@@ -1,7 +1,7 @@
 -- What a run of the program comes to.
 use Rattle.std.specs.Prelude.{◌≡◌, ℕ, List, Bool, if◌then◌else◌, Option, Some, codes}
 use Rattle.std.specs.Io.KnownBytes.{Keeps}
-use Rattle.nr_units.specs.Failures.{counted_if}
+use Rattle.nr_units.specs.Failures.{SinkFailures, counted_if, put_counted_if, flush_counted_if}
 use Rattle.nr_units.specs.Supply.{Supply}
 use Rattle.nr_engine.specs.State.{start}
 use Rattle.nr_engine.specs.Measures.{Bounds}
@@ -22,7 +22,7 @@ abbrev pub memory_line : List ℕ
 memory_line = codes "nroff: out of memory\n"
 
 -- A run came to this outcome: after so many moves formatting answered, with so much put out, and then the output was flushed.
-pub record Ran (b : Bounds) (supply : Option Supply) (reads reads' : ℕ) (old new : Option (List ℕ)) (writes writes' : ℕ) (outcome : Outcome) : Type 0 where
+pub record Ran (b : Bounds) (supply : Option Supply) (reads reads' : ℕ) (old new : Option (List ℕ)) (writes writes' : SinkFailures) (outcome : Outcome) : Type 0 where
   pub formatted : Outcome
   pub moves : ℕ
   pub held : Option (List ℕ)
@@ -32,4 +32,4 @@ pub record Ran (b : Bounds) (supply : Option Supply) (reads reads' : ℕ) (old n
   pub outcome_is : outcome ≡ (if flush_failed then WriteFault else formatted)
   -- each failed call was counted
   pub read_failures : reads' ≡ counted_if (is_read_fault formatted) reads
-  pub write_failures : writes' ≡ counted_if flush_failed (counted_if (is_write_fault formatted) writes)
+  pub write_failures : writes' ≡ flush_counted_if flush_failed (put_counted_if (is_write_fault formatted) writes)

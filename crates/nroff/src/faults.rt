@@ -1,7 +1,7 @@
 // The line that tells how a run ended.
 ghost use Rattle.std.specs.Prelude.{◌≡◌, OnOk, OnErr, IsOk};
 ghost use Rattle.std.specs.Io.KnownBytes.{Appends};
-ghost use Rattle.nr_units.specs.Failures.{counted};
+ghost use Rattle.nr_units.specs.Failures.{put_counted};
 ghost use Rattle.nr_units.specs.Held.{AppendsFront};
 ghost use Rattle.nroff.specs.Faults.{limited_text, line_of, place_text};
 
@@ -17,7 +17,7 @@ mod tests;
 pub fn fault_line<W: Sink>(outcome: &Outcome, errors: &mut W) -> Result<(), WriteFault>
     ensures ok { OnOk result (Appends (W.held errors.old) (W.held errors.new) (line_of outcome.now)) }
     ensures err { OnErr result (AppendsFront (W.held errors.old) (W.held errors.new) (line_of outcome.now)) }
-    ensures failures { W.failures errors.new ≡ counted (W.failures errors.old) result }
+    ensures failures { W.failures errors.new ≡ put_counted (W.failures errors.old) result }
     ensures done { outcome.now ≡ Outcome.Done → IsOk result × (errors.new ≡ errors.old) }
 {
     match put_line(outcome, errors) {
@@ -30,7 +30,7 @@ pub fn fault_line<W: Sink>(outcome: &Outcome, errors: &mut W) -> Result<(), Writ
 fn put_line<W: Sink>(outcome: &Outcome, errors: &mut W) -> Result<(), Fault>
     ensures ok { OnOk result (Appends (W.held errors.old) (W.held errors.new) (line_of outcome.now)) }
     ensures err { OnErr result (AppendsFront (W.held errors.old) (W.held errors.new) (line_of outcome.now)) }
-    ensures failures { W.failures errors.new ≡ counted (W.failures errors.old) result }
+    ensures failures { W.failures errors.new ≡ put_counted (W.failures errors.old) result }
     ensures done { outcome.now ≡ Outcome.Done → IsOk result × (errors.new ≡ errors.old) }
 {
     match *outcome {
@@ -46,7 +46,7 @@ fn put_line<W: Sink>(outcome: &Outcome, errors: &mut W) -> Result<(), Fault>
 fn put_limit<W: Sink>(which: Measure, at: u64, errors: &mut W) -> Result<(), Fault>
     ensures ok { OnOk result (Appends (W.held errors.old) (W.held errors.new) (line_of (Outcome.Limit which at))) }
     ensures err { OnErr result (AppendsFront (W.held errors.old) (W.held errors.new) (line_of (Outcome.Limit which at))) }
-    ensures failures { W.failures errors.new ≡ counted (W.failures errors.old) result }
+    ensures failures { W.failures errors.new ≡ put_counted (W.failures errors.old) result }
 {
     errors.put(b"nroff: ")?;
     errors.put(limited(which))?;
@@ -58,7 +58,7 @@ fn put_limit<W: Sink>(which: Measure, at: u64, errors: &mut W) -> Result<(), Fau
 fn put_read_fault<W: Sink>(at: u64, errors: &mut W) -> Result<(), Fault>
     ensures ok { OnOk result (Appends (W.held errors.old) (W.held errors.new) (line_of (Outcome.ReadFault at))) }
     ensures err { OnErr result (AppendsFront (W.held errors.old) (W.held errors.new) (line_of (Outcome.ReadFault at))) }
-    ensures failures { W.failures errors.new ≡ counted (W.failures errors.old) result }
+    ensures failures { W.failures errors.new ≡ put_counted (W.failures errors.old) result }
 {
     errors.put(b"nroff: read fault")?;
     put_place(at, errors)
@@ -81,7 +81,7 @@ fn limited(which: Measure) -> &'static [u8]
 fn put_place<W: Sink>(at: u64, errors: &mut W) -> Result<(), Fault>
     ensures ok { OnOk result (Appends (W.held errors.old) (W.held errors.new) (place_text at)) }
     ensures err { OnErr result (AppendsFront (W.held errors.old) (W.held errors.new) (place_text at)) }
-    ensures failures { W.failures errors.new ≡ counted (W.failures errors.old) result }
+    ensures failures { W.failures errors.new ≡ put_counted (W.failures errors.old) result }
 {
     let mut digits = Buffer::new();
     errors.put(b" at byte ")?;

@@ -1,5 +1,5 @@
 // A run of the program over given streams.
-ghost use Rattle.std.specs.Prelude.{◌≡◌, ◌↔◌, IsErr, IfOk, OnErr};
+ghost use Rattle.std.specs.Prelude.{◌≡◌, ◌≢◌, ◌↔◌, IsTrue, IsErr, IfOk, OnErr};
 ghost use Rattle.nr_engine.specs.declared.outcome.Outcome.{Outcome};
 ghost use Rattle.nroff.specs.Faults.{Tells, line_of};
 ghost use Rattle.nroff.specs.Running.{Ran, status_of, memory_line};
@@ -34,6 +34,8 @@ pub fn run_over<R: Source, W: Sink, E: Sink>(
         × (result ≡ status_of outcome)
         × Tells (E.held errors.old) (E.held errors.new) (E.failures errors.old) (E.failures errors.new) (line_of outcome)) }
     ensures quiet { result ≡ 0 → errors.new ≡ errors.old }
+    // Whatever was printed went on to where the output leads.
+    ensures passed_on { result ≢ 4 → result ≢ 5 → IsTrue (W.passed_on output.new) }
 
     ensures refused { (result ≡ 5) ↔ IsErr desk }
     ensures untouched { OnErr desk ((input.new ≡ input.old) × (output.new ≡ output.old)) }
@@ -55,8 +57,9 @@ fn run_desk<R: Source, W: Sink>(
     input: &mut R,
     output: &mut W,
 ) -> Outcome
-    ensures { Ran desk.old (R.supply input.old) (R.failures input.old) (R.failures input.new)
+    ensures ran { Ran desk.old (R.supply input.old) (R.failures input.old) (R.failures input.new)
         (W.held output.old) (W.held output.new) (W.failures output.old) (W.failures output.new) result }
+    ensures passed_on { result ≢ Outcome.WriteFault → IsTrue (W.passed_on output.new) }
 {
     let mut moves = 0;
     let outcome = format(desk.lend(), options, input, output, &mut moves);

@@ -66,7 +66,7 @@ fn writes_each_line(rt: HostRuntime) {
         let mut errors = Slate::over(&mut out);
         assert!(rt; fault_line(outcome, &mut errors) == Ok(()), "{outcome:?}");
         assert!(rt; errors.bytes() == *line, "{outcome:?}");
-        assert_eq!(rt; errors.failed_calls(), 0, "{outcome:?}");
+        assert_eq!(rt; errors.failed_puts(), 0, "{outcome:?}");
     }
 }
 
@@ -76,7 +76,7 @@ fn writes_nothing_where_done(rt: HostRuntime) {
     let mut errors = Slate::over(&mut out);
     assert!(rt; fault_line(&Outcome::Done, &mut errors) == Ok(()));
     assert!(rt; errors.bytes().is_empty());
-    assert_eq!(rt; errors.failed_calls(), 0);
+    assert_eq!(rt; errors.failed_puts(), 0);
 }
 
 // The sink has the bytes before the place at which it fails, and no call follows the one that failed.
@@ -92,13 +92,13 @@ fn fails_at_each_place(rt: HostRuntime) {
                 "{outcome:?} at {place}"
             );
             assert!(rt; errors.bytes() == &line[..place], "{outcome:?} at {place}");
-            assert_eq!(rt; errors.failed_calls(), 1, "{outcome:?} at {place}");
+            assert_eq!(rt; errors.failed_puts(), 1, "{outcome:?} at {place}");
         }
         let mut shut = Shut::new();
         assert!(rt;
             fault_line(outcome, &mut shut) == Err(WriteFault),
             "{outcome:?}"
         );
-        assert_eq!(rt; shut.failed_calls(), 1, "{outcome:?}");
+        assert_eq!(rt; shut.failed_puts(), 1, "{outcome:?}");
     }
 }

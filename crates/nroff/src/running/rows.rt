@@ -17,7 +17,7 @@ struct Row {
     line: &'static [u8],
 }
 
-static ROWS: [Row; 9] = [
+static ROWS: [Row; 10] = [
     Row {
         name: "one line on a page of two",
         input: b".pl 2v\nhello\n",
@@ -99,6 +99,16 @@ static ROWS: [Row; 9] = [
         line: b"nroff: line cells limit passed at byte 5\n",
     },
     Row {
+        name: "a word passes the limit behind a page",
+        input: b".pl 1\na\n.br\nb\n.br\nhello\n",
+        cells: 4,
+        given: None,
+        taken: None,
+        output: b"a\n",
+        status: 1,
+        line: b"nroff: line cells limit passed at byte 23\n",
+    },
+    Row {
         name: "lines pass the limit on a page's cells",
         input: b"abcd\n.br\nabcd\n.br\nabcd\n.br\n",
         cells: 12,
@@ -137,6 +147,10 @@ fn runs_rows(rt: HostRuntime) {
         );
         assert_eq!(rt; status, row.status, "{name}");
         assert!(rt; output.bytes() == row.output, "{name}");
+        // The output passes bytes on at a flush alone.
+        if row.status != 4 {
+            assert!(rt; output.passed() == row.output, "{name}");
+        }
         assert!(rt; errors.bytes() == row.line, "{name}");
     }
 }

@@ -53,12 +53,12 @@ fn ignores_a_fault_of_the_line(rt: HostRuntime) {
                 "{outcome:?} at {place}"
             );
             assert!(rt; errors.bytes() == &line[..place], "{outcome:?} at {place}");
-            assert_eq!(rt; errors.failed_calls(), 1, "{outcome:?} at {place}");
+            assert_eq!(rt; errors.failed_puts(), 1, "{outcome:?} at {place}");
         }
     }
     let mut shut = Shut::new();
     assert_eq!(rt; out_of_memory(&mut shut), 5);
-    assert_eq!(rt; shut.failed_calls(), 1);
+    assert_eq!(rt; shut.failed_puts(), 1);
 }
 
 #[test]
@@ -78,8 +78,8 @@ fn empty_input_is_done(rt: HostRuntime) {
     );
     assert_eq!(rt; status, 0);
     assert!(rt; output.bytes().is_empty());
-    assert_eq!(rt; output.failed_calls(), 0);
-    assert_eq!(rt; errors.failed_calls(), 0);
+    assert_eq!(rt; (output.failed_puts(), output.failed_flushes()), (0, 0));
+    assert_eq!(rt; errors.failed_puts(), 0);
 }
 
 // Nothing but the flush fails.
@@ -100,7 +100,7 @@ fn failing_flush_is_a_write_fault(rt: HostRuntime) {
         &mut errors,
     );
     assert_eq!(rt; status, 4);
-    assert_eq!(rt; output.failed_calls(), 1);
+    assert_eq!(rt; (output.failed_puts(), output.failed_flushes()), (0, 1));
     assert!(rt; errors.bytes() == b"nroff: write fault\n".as_slice());
 }
 
@@ -127,7 +127,7 @@ fn refused_desk_is_want_of_memory(rt: HostRuntime) {
         assert!(rt; input.rest() == text.as_slice(), "at {place}");
         assert_eq!(rt; input.failed_calls(), 0, "at {place}");
         assert!(rt; output.bytes().is_empty(), "at {place}");
-        assert_eq!(rt; output.failed_calls(), 0, "at {place}");
+        assert_eq!(rt; output.failed_flushes(), 0, "at {place}");
         assert!(rt; errors.bytes() == &line[..place], "at {place}");
     }
 }

@@ -1,8 +1,8 @@
 use Rattle.std.proofs.Common.{true, false, refl}
 use Rattle.nroff.proofs.running.run_desk.Goals as goal
 
-pub returns-in-Ok : goal.returns-in-Ok
-returns-in-Ok g c =
+pub returns-in-Ok-clause-ran : goal.returns-in-Ok-clause-ran
+returns-in-Ok-clause-ran g c =
     record {
       formatted = c.format-outcome.result;
       moves = c.format-outcome.new.moves;
@@ -15,8 +15,8 @@ returns-in-Ok g c =
       write_failures = rw c.format-outcome.ensures.write_failures at c.in-Ok.ensures.failures;
     }
 
-pub returns-in-Err : goal.returns-in-Err
-returns-in-Err g c =
+pub returns-in-Err-clause-ran : goal.returns-in-Err-clause-ran
+returns-in-Err-clause-ran g c =
     record {
       formatted = c.format-outcome.result;
       moves = c.format-outcome.new.moves;
