@@ -1,12 +1,12 @@
 -- Lemmas on the slots with no text.
-use Rattle.std.proofs.Common.{◌≡◌, ◌≢◌, ℕ, zero, suc, ◌+◌, ◌^◌, ◌<◌, ◌⊎◌, List, length, map, set, sum, sum_by, replicate, refl, sym, ap, ◌∙◌, inl, inr, arith}
+use Rattle.std.proofs.Common.{◌≡◌, ◌≢◌, ℕ, zero, suc, ◌+◌, ◌^◌, ◌<◌, ◌≤◌, ◌⊎◌, max, List, length, map, set, sum, sum_by, replicate, refl, sym, ap, ◌∙◌, inl, inr, arith}
 use Rattle.std.proofs.lemmas.List.{length-map, length-set, length-replicate, get_or-set_same, get_or-map, get_or-replicate, get_or_past, same_lists}
 use Rattle.std.proofs.lemmas.List.Folds.{sum_by-replicate}
 use Rattle.std.proofs.lemmas.List.Sums.{sum-map, sum_by-set, sum_by-le, get_or-le-sum_by}
 use Rattle.std.proofs.lemmas.Bool.{cases_lt}
 use Rattle.nr_pool.specs.Texts.{no_text}
 use Rattle.nr_pool.specs.Places.{blank_slot, slot_at, held_of}
-use Rattle.nr_pool.specs.Spares.{spare_at, taken, HasSpares, IsPool}
+use Rattle.nr_pool.specs.Spares.{spare_at, taken, HasSpares, IsReached, IsPool}
 use Rattle.nr_pool.specs.declared.slot.Slot.{Slot}
 use Rattle.nr_pool.proofs.Places.{same_map, written_at}
 
@@ -179,7 +179,7 @@ spare_at-fresh slots n each (suc k) below =
     ap (λ j. (slot_at slots j).start) (spare_at-fresh slots n each k (omega arith)) ∙ ap (λ (s : Slot). s.start) (each k (omega arith)) ∙ omega arith
 
 -- no slot has a text
-pub fresh : (capacity n : ℕ) (slots : List Slot) → capacity < 2 ^ 32 → length slots ≡ n → ((k : ℕ) → k < n → slot_at slots k ≡ fresh_slot k) → IsPool capacity slots 0 n 0
+pub fresh : (capacity n : ℕ) (slots : List Slot) → capacity < 2 ^ 32 → length slots ≡ n → ((k : ℕ) → k < n → slot_at slots k ≡ fresh_slot k) → IsPool capacity slots 0 n 0 0
 fresh capacity n slots fits lengths each =
     let nothing : (f : Slot → ℕ) → ((k : ℕ) → f (fresh_slot k) ≡ 0) → sum_by f slots ≡ 0 =
     λ f zeros. sym (sum-map f slots) ∙ ap sum (all_same f slots n 0 lengths (λ k below. ap f (each k below) ∙ zeros k)) ∙ sum_by-replicate (λ (x : ℕ). x) n 0 ∙ omega arith in
@@ -188,6 +188,10 @@ fresh capacity n slots fits lengths each =
       | inr past ↦ ap (λ (s : Slot). s.len) (get_or_past slots i blank_slot (omega arith))
     ] in
     let at = spare_at-fresh slots n each in
+    let unheld : (i : ℕ) → (slot_at slots i).holders ≡ 0 = λ i. elim (cases_lt i n) [
+      | inl below ↦ ap (λ (s : Slot). s.holders) (each i below)
+      | inr past ↦ ap (λ (s : Slot). s.holders) (get_or_past slots i blank_slot (omega arith))
+    ] in
     record {
       packed = record {
         fits = fits;
@@ -203,8 +207,49 @@ fresh capacity n slots fits lengths each =
         unheld = λ k below. rw (at k below) (ap (λ (s : Slot). s.holders) (each k below));
         distinct = λ j k j_below k_below e. sym (at j j_below) ∙ e ∙ at k k_below;
       };
+      reached = record { within = omega arith; beyond = λ k _. unheld k };
     }
 
 -- and stands for none
 pub fresh_texts : {T : Type 0} (E : List T) (n : ℕ) (slots : List Slot) → length slots ≡ n → ((k : ℕ) → k < n → slot_at slots k ≡ fresh_slot k) → map (held_of E) slots ≡ replicate n no_text
 fresh_texts E n slots lengths each = all_same (held_of E) slots n no_text lengths (λ k below. ap (held_of E) (each k below))
+
+-- ---- slots that never had a text
+
+-- a slot that has one is among the first
+pub reached_by : (slots : List Slot) (i r : ℕ) → 0 < (slot_at slots i).holders → IsReached slots r → i < r
+reached_by slots i r held reached = elim (cases_lt i r) [
+  | inl below ↦ below
+  | inr past ↦ let none = reached.beyond i past in absurd (omega arith)
+]
+
+-- a slot with a text is written
+pub reached_set : (slots : List Slot) (i : ℕ) (new : Slot) (r : ℕ) → i < length slots → 0 < (slot_at slots i).holders → IsReached slots r → IsReached (set slots i new) r
+reached_set slots i new r within held reached =
+    let below = reached_by slots i r held reached in
+    let inside = reached.within in
+    record {
+      within = omega (arith, length-set slots i new);
+      beyond = λ k past. elim (written_at slots i new within k) [
+        | inl h ↦ let is = h.0 in absurd (omega arith)
+        | inr h ↦ ap (λ (s : Slot). s.holders) h.1 ∙ reached.beyond k past
+      ];
+    }
+
+-- a slot is given its first text
+pub reached_open : (slots : List Slot) (i : ℕ) (new : Slot) (r q : ℕ) → q ≡ max r (i + 1) → i < length slots → IsReached slots r → IsReached (set slots i new) q
+reached_open slots i new r q is within reached =
+    let inside = reached.within in
+    record {
+      within = omega (arith, length-set slots i new);
+      beyond = λ k past. elim (written_at slots i new within k) [
+        | inl h ↦ let same = h.0 in absurd (omega arith)
+        | inr h ↦ ap (λ (s : Slot). s.holders) h.1 ∙ reached.beyond k (omega arith)
+      ];
+    }
+
+-- the same slots have a text
+pub reached_same : (slots news : List Slot) (r : ℕ) → length news ≡ length slots → ((k : ℕ) → (slot_at news k).holders ≡ (slot_at slots k).holders) → IsReached slots r → IsReached news r
+reached_same slots news r lengths same reached =
+    let inside = reached.within in
+    record { within = omega arith; beyond = λ k past. same k ∙ reached.beyond k past }

@@ -2,7 +2,7 @@
 //! each text lies and how many hold it. No call allocates.
 #![tactic(auto)]
 
-ghost use Rattle.std.specs.Prelude.{◌≡◌, ◌≢◌, ℕ, ◌+◌, ◌^◌, ◌<◌, ◌↔◌, [], ◌∷◌, ◌++◌, length, take, replicate, All, IsErr, IfOk, OnOk, OnErr, IsTrue, slice_get, slice_set, Some};
+ghost use Rattle.std.specs.Prelude.{◌≡◌, ◌≢◌, ℕ, ◌+◌, ◌^◌, ◌<◌, ◌≤◌, ◌↔◌, [], ◌∷◌, ◌++◌, length, take, replicate, All, IsErr, IfOk, OnOk, OnErr, IsTrue, slice_get, slice_set, Some};
 ghost use Rattle.nr_pool.specs.Texts.{IsOpen, text, holders, used, no_text, opened, with_text, with_holders, without_text, released};
 
 pub use crate::slot::Slot;
@@ -39,8 +39,8 @@ impl Model for Id {
 ///
 /// A call that makes a text longer or shorter, or removes it, first brings its elements behind those of all
 /// other texts: in constant time where they lie there or there are none, else in one rotation of the elements
-/// from the text on and one pass over the slots. Beside that it takes constant time, and that of a copy of the
-/// elements that it is given.
+/// from the text on and one pass over the slots that have ever had a text. Beside that it takes constant time,
+/// and that of a copy of the elements that it is given.
 #[derive(Drop)]
 pub struct Pool<'a, T: Copy> {
     elements: &'a mut [T],
@@ -50,6 +50,8 @@ pub struct Pool<'a, T: Copy> {
     // How many slots have no text, and the first of them.
     spares: usize,
     first_spare: u32,
+    // No slot from here on has ever had a text.
+    reached: usize,
 }
 
 impl<'a, T: Copy> Model for Pool<'a, T> {
@@ -62,7 +64,16 @@ impl<'a, T: Copy> Model for Pool<'a, T> {
 
     ghost view = { λ p. texts_of p.elements.now p.slots.now };
 
-    ghost invariant = { λ p. IsPool (length p.elements.now) p.slots.now p.used p.spares p.first_spare };
+    ghost invariant = { λ p. IsPool (length p.elements.now) p.slots.now p.used p.spares p.first_spare p.reached };
+}
+
+impl Id {
+    /// A number to fill a new slice with. It need not be that of a text.
+    pub const fn blank() -> Id
+        ensures { result ≡ 0 }
+    {
+        Id { index: 0 }
+    }
 }
 
 impl<'a, T: Copy> Pool<'a, T> {
@@ -89,6 +100,7 @@ impl<'a, T: Copy> Pool<'a, T> {
             used: 0,
             spares: most,
             first_spare: 0,
+            reached: 0,
         }
     }
 
@@ -99,6 +111,7 @@ impl<'a, T: Copy> Pool<'a, T> {
         ensures unused { IfOk result (λ id. slice_get self.old.texts id ≡ Some no_text) }
         ensures ok { IfOk result (λ id. self.new ≡ opened self.old id) }
         ensures is_open { IfOk result (λ id. IsOpen self.new id) }
+        ensures apart { IfOk result (λ id. (other : ℕ) → IsOpen self.old other → other ≢ id) }
         ensures keeps { (other : ℕ) → IsOpen self.old other → IsOpen self.new other }
         ensures err { OnErr result (self.new ≡ self.old) }
     {
@@ -110,7 +123,17 @@ impl<'a, T: Copy> Pool<'a, T> {
         slot.holders = 1;
         self.first_spare = slot.start;
         self.spares -= 1;
+        self.reached = self.reached.max(index as usize + 1);
         Ok(Id { index })
+    }
+
+    /// How many elements all texts have.
+    #[inline]
+    pub fn used(&self) -> usize
+        ensures value { result ≡ used self.now }
+        ensures within { result ≤ self.now.capacity }
+    {
+        self.used as usize
     }
 
     /// Whether `id` is the number of a text.
@@ -163,7 +186,7 @@ impl<'a, T: Copy> Pool<'a, T> {
         ensures keeps { (other : ℕ) → other ≢ id → IsOpen self.old other → IsOpen self.new other }
     {
         let index = id.index as usize;
-        bring_last(self.elements, self.slots, self.used, index);
+        bring_last(self.elements, self.slots, self.used, self.reached, index);
         let slot = &mut self.slots[index];
         self.used -= slot.len;
         *slot = Slot {
@@ -233,7 +256,7 @@ impl<'a, T: Copy> Pool<'a, T> {
             return Err(Full);
         }
         let index = id.index as usize;
-        bring_last(self.elements, self.slots, self.used, index);
+        bring_last(self.elements, self.slots, self.used, self.reached, index);
         self.elements[self.used as usize] = element;
         self.slots[index].len += 1;
         self.used += 1;
@@ -258,7 +281,7 @@ impl<'a, T: Copy> Pool<'a, T> {
             return Ok(());
         }
         let index = id.index as usize;
-        bring_last(self.elements, self.slots, self.used, index);
+        bring_last(self.elements, self.slots, self.used, self.reached, index);
         self.elements[used..used + count].copy_from_slice(elements);
         self.slots[index].len += count as u32;
         self.used += count as u32;
@@ -284,7 +307,7 @@ impl<'a, T: Copy> Pool<'a, T> {
             return Ok(());
         }
         let index = to.index as usize;
-        bring_last(self.elements, self.slots, self.used, index);
+        bring_last(self.elements, self.slots, self.used, self.reached, index);
         let start = self.slots[from.index as usize].start as usize;
         self.elements.copy_within(start..start + len, used);
         self.slots[index].len += len as u32;
@@ -302,7 +325,7 @@ impl<'a, T: Copy> Pool<'a, T> {
             return;
         }
         let index = id.index as usize;
-        bring_last(self.elements, self.slots, self.used, index);
+        bring_last(self.elements, self.slots, self.used, self.reached, index);
         let slot = &mut self.slots[index];
         self.used -= slot.len - len as u32;
         slot.len = len as u32;

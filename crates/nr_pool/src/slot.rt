@@ -1,7 +1,7 @@
 //! Where the texts of a pool lie.
 ghost use Rattle.std.specs.Prelude.{◌≡◌, ℕ, ◌+◌, ◌<◌, length};
 ghost use Rattle.nr_pool.specs.Places.{texts_of, slot_at, blank_slot, is_behind, IsPacked};
-ghost use Rattle.nr_pool.specs.Spares.{HasSpares};
+ghost use Rattle.nr_pool.specs.Spares.{HasSpares, IsReached};
 
 /// What a `Pool` keeps for one text: 12 bytes.
 #[derive(Clone, Copy, Debug, Drop)]
@@ -34,14 +34,23 @@ impl Slot {
     }
 }
 
-// Moves the text at `index` behind all others, into the elements that end at `used`.
-pub(crate) fn bring_last<T: Copy>(elements: &mut [T], slots: &mut [Slot], used: u32, index: usize)
+// Moves the text at `index` behind all others, into the elements that end at `used`. Only the first `reached`
+// slots have ever had a text.
+pub(crate) fn bring_last<T: Copy>(
+    elements: &mut [T],
+    slots: &mut [Slot],
+    used: u32,
+    reached: usize,
+    index: usize,
+)
     requires packed { IsPacked (length elements.old) slots.old used }
     requires within { index < length slots.old }
     requires held { 0 < (slot_at slots.old index).holders }
+    requires reached { IsReached slots.old reached }
     ensures packed { IsPacked (length elements.new) slots.new used }
     ensures last { (slot_at slots.new index).start + (slot_at slots.new index).len ≡ used }
     ensures spares { (count first : ℕ) → HasSpares slots.old count first → HasSpares slots.new count first }
+    ensures reached { IsReached slots.new reached }
     ensures same { texts_of elements.new slots.new ≡ texts_of elements.old slots.old }
 {
     let Slot { start, len, .. } = slots[index];
@@ -54,7 +63,8 @@ pub(crate) fn bring_last<T: Copy>(elements: &mut [T], slots: &mut [Slot], used: 
         return;
     }
     elements[start as usize..used as usize].rotate_left(len as usize);
-    for slot in slots.iter_mut() {
+    for i in 0..reached {
+        let slot = &mut slots[i];
         if slot.is_behind(end) {
             slot.start -= len;
         }

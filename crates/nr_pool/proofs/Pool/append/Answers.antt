@@ -22,7 +22,7 @@ pub invariant_of-self : goal.invariant_of-self
 invariant_of-self g c =
     let last = c.bring_last.ensures in
     let room : c.self.inside.used < length c.bring_last.new.elements = let lengths = c.bring_last.auto.elements in let within = c.self.invariant.packed.room in let not_full = c.if-self.false in omega arith in
-    after_more _ _ _ _ _ _ _ _ last.packed (last.spares _ _ c.self.invariant.spares) (last.same ∙ c.self.view_is) c.id.view_is c.requires _ _ _ _ (one_more _ _ c.args.element room) last.last (omega arith) refl refl refl refl
+    after_more _ _ _ _ _ _ _ _ last.packed (last.spares _ _ c.self.invariant.spares) _ last.reached (last.same ∙ c.self.view_is) c.id.view_is c.requires _ _ _ _ (one_more _ _ c.args.element room) last.last (omega arith) refl refl refl refl
 
 pub returns-clause-ok : goal.returns-clause-ok
 returns-clause-ok g c =

@@ -23,7 +23,7 @@ invariant_of-self g c =
     let lengths = c.bring_last.auto.elements in
     let within = c.self.invariant.packed.room in
     let fits = c.if-count-self.false in
-    after_more _ _ _ _ _ _ _ _ last.packed (last.spares _ _ c.self.invariant.spares) (last.same ∙ c.self.view_is) c.id.view_is c.requires _ _ _ _
+    after_more _ _ _ _ _ _ _ _ last.packed (last.spares _ _ c.self.invariant.spares) _ last.reached (last.same ∙ c.self.view_is) c.id.view_is c.requires _ _ _ _
     (part_more _ _ _ _ c.args.elements.now c.copy_from_slice.ensures.after (omega arith) (omega arith)) last.last (omega arith) refl refl refl refl
 
 pub returns-clause-ok : goal.returns-clause-ok

@@ -9,7 +9,7 @@ pub invariant_of-self : goal.invariant_of-self
 invariant_of-self g c =
     let last = c.bring_last.ensures in
     let is_open : IsOpen c.args.self.now c.args.id = omega arith in
-    after_close _ _ _ _ _ _ _ _ last.packed (last.spares _ _ c.self.invariant.spares) (last.same ∙ c.self.view_is) c.id.view_is is_open _ last.last refl refl refl
+    after_close _ _ _ _ _ _ _ _ last.packed (last.spares _ _ c.self.invariant.spares) _ last.reached (last.same ∙ c.self.view_is) c.id.view_is is_open _ last.last refl refl refl
 
 pub returns-clause-closed : goal.returns-clause-closed
 returns-clause-closed g c =

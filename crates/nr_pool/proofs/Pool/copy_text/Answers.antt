@@ -27,7 +27,7 @@ invariant_of-self g c =
     let f = found _ _ _ _ _ _ last.packed (last.same ∙ c.self.view_is) c.from.view_is c.requires.from_open in
     let copied = c.copy_within.ensures.by_index in
     let len_is = f.len_is in
-    after_more _ _ _ _ _ _ _ _ last.packed (last.spares _ _ c.self.invariant.spares) (last.same ∙ c.self.view_is) c.to.view_is c.requires.to_open _ _ _ _
+    after_more _ _ _ _ _ _ _ _ last.packed (last.spares _ _ c.self.invariant.spares) _ last.reached (last.same ∙ c.self.view_is) c.to.view_is c.requires.to_open _ _ _ _
     (copy_more _ _ _ _ _ _ f.text_is f.len_is c.copy_within.ensures.len copied.1 (λ k d behind below. copied.0 k d behind (omega arith))) last.last (omega arith) (omega arith) refl (omega arith) refl
 
 pub returns-clause-ok : goal.returns-clause-ok

@@ -6,7 +6,7 @@ use Rattle.nr_pool.proofs.Pool.hold.Goals as goal
 
 pub invariant_of-self : goal.invariant_of-self
 invariant_of-self g c =
-    after_hold _ _ _ _ _ _ _ _ c.self.invariant.packed c.self.invariant.spares c.self.view_is c.id.view_is c.requires.is_open _ refl refl (omega arith)
+    after_hold _ _ _ _ _ _ _ _ c.self.invariant.packed c.self.invariant.spares _ c.self.invariant.reached c.self.view_is c.id.view_is c.requires.is_open _ refl refl (omega arith)
 
 pub returns-clause-held : goal.returns-clause-held
 returns-clause-held g c =

@@ -1,7 +1,7 @@
 use Rattle.std.proofs.Common.{◌≡◌, ◌+◌, ◌-◌, ◌<◌, refl, arith}
 use Rattle.std.proofs.lemmas.Option.{slice_get_within}
 use Rattle.std.proofs.lemmas.Bool.{false≢true}
-use Rattle.nr_pool.specs.Laws.{open_after_entry, open_after_opened}
+use Rattle.nr_pool.specs.Laws.{apart_of_unused, open_after_entry, open_after_opened}
 use Rattle.nr_pool.proofs.Places.{all_open, opened_at, free_entry, not_all_open}
 use Rattle.nr_pool.proofs.Spares.{none_spare}
 use Rattle.nr_pool.proofs.Changes.{after_open}
@@ -17,7 +17,7 @@ bounds-self-inside-index g c = c.self.invariant.spares.within 0 (omega arith)
 pub invariant_of-self : goal.invariant_of-self
 invariant_of-self g c =
     let more : c.self.inside.spares ≡ (c.self.inside.spares - 1) + 1 = omega arith in
-    after_open _ _ _ _ _ _ _ c.self.invariant more refl refl (omega arith)
+    after_open _ _ _ _ _ _ _ _ c.self.invariant more refl refl (omega arith) _ c.max-self-inside.ensures
 
 pub returns-clause-full : goal.returns-clause-full
 returns-clause-full g c = (
@@ -52,3 +52,9 @@ returns-clause-keeps g c =
     let spares = c.self.invariant.spares in
     open_after_entry c.args.self.now _ _ _ (omega arith) (slice_get_within _ _ _ (free_entry _ _ _ _ _ c.self.invariant.packed c.self.view_is (spares.within 0 some) (spares.unheld 0 some)))
     (opened_at _ _ _ _ _ c.self.view_is (c.self.invariant.packed.empty _ (spares.unheld 0 some)) refl)
+
+pub returns-clause-apart : goal.returns-clause-apart
+returns-clause-apart g c =
+    let some : 0 < c.self.inside.spares = omega arith in
+    let spares = c.self.invariant.spares in
+    λ other is_open. apart_of_unused c.args.self.now _ other (free_entry _ _ _ _ _ c.self.invariant.packed c.self.view_is (spares.within 0 some) (spares.unheld 0 some)) is_open

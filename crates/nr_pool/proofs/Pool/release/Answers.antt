@@ -8,7 +8,7 @@ pub invariant_of-self : goal.invariant_of-self
 invariant_of-self g c =
     let f = found _ _ _ _ _ _ c.self.invariant.packed c.self.view_is c.id.view_is c.requires in
     let same = f.holders_is in
-    after_hold _ _ _ _ _ _ _ _ c.self.invariant.packed c.self.invariant.spares c.self.view_is c.id.view_is c.requires _ refl refl (omega arith)
+    after_hold _ _ _ _ _ _ _ _ c.self.invariant.packed c.self.invariant.spares _ c.self.invariant.reached c.self.view_is c.id.view_is c.requires _ refl refl (omega arith)
 
 pub returns-else-holders-eq1-clause-released : goal.returns-else-holders-eq1-clause-released
 returns-else-holders-eq1-clause-released g c =

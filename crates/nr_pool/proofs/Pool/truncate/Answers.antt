@@ -11,7 +11,7 @@ invariant_of-self g c =
     let at_end = last.last in
     let within = last.packed.room in
     let len_is = f.len_is in
-    after_length _ _ _ _ _ _ _ _ last.packed (last.spares _ _ c.self.invariant.spares) (last.same ∙ c.self.view_is) c.id.view_is c.requires _ _ at_end (omega arith) (omega arith) refl refl
+    after_length _ _ _ _ _ _ _ _ last.packed (last.spares _ _ c.self.invariant.spares) _ last.reached (last.same ∙ c.self.view_is) c.id.view_is c.requires _ _ at_end (omega arith) (omega arith) refl refl
 
 pub returns-clause-truncated : goal.returns-clause-truncated
 returns-clause-truncated g c =
