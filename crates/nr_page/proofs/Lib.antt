@@ -1,8 +1,9 @@
 mod Fronts
+mod Gapped
 mod Keeping
+mod Laying
 mod PageText
-mod Rows
-mod Spanning
+mod Showing
 pub mod DecimalText
 pub mod ItemText
 pub mod ListText

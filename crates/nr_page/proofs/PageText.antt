@@ -1,75 +1,176 @@
--- The rows of a page, one after another.
-use Rattle.std.proofs.Common.{◌≡◌, ◌≢◌, ℕ, zero, suc, ◌+◌, ◌-◌, ◌≤◌, ◌<◌, max, List, [], ◌∷◌, ◌++◌, length, map, take, drop, replicate, ◌==◌, refl, sym, ap, ◌∙◌, arith, zero-add, ne_eqb, append-nil, inl, inr}
-use Rattle.std.specs.List.{flat_map, fold, range_with_len}
+-- The bytes of rows.
+use Rattle.std.proofs.Common.{◌≡◌, ◌≢◌, ℕ, zero, suc, ◌+◌, ◌-◌, ◌≤◌, ◌<◌, max, List, [], ◌∷◌, ◌++◌, length, map, take, drop, replicate, reverse, Bool, true, false, cond, not, ◌==◌, refl, sym, ap, ◌∙◌, arith, zero-add, add-zero, suc-add, append-nil, append_assoc, inl, inr}
+use Rattle.std.specs.Prelude.{slice_index_or}
+use Rattle.std.specs.List.{filter, flat_map, fold, range_with_len, prefix_len, suffix_len}
 use Rattle.std.proofs.Math.Nat.{le-max_left, le-max_right, max-le, max-eq_left, max-eq_right}
-use Rattle.std.proofs.lemmas.Bool.{cases_lt}
-use Rattle.std.proofs.lemmas.List.{map-append, take-append-drop, get_or-take, get_or-drop, length-take, length-drop}
+use Rattle.std.proofs.lemmas.Bool.{cases_lt, cases_Bool, eqb-true, cond-true}
+use Rattle.std.proofs.lemmas.List.{map-append, take-append-le, take-append-drop, length_push, length-append, get_or-take, length-take-le, reverse-append, same_lists, length-map}
 use Rattle.std.proofs.lemmas.List.Concat.{flat_map-append}
-use Rattle.std.proofs.lemmas.List.Elements.{filter-append}
+use Rattle.std.proofs.lemmas.List.FromFn.{length-map-range_with_len, get_or-map-range_with_len, take-map-range_with_len}
+use Rattle.std.proofs.lemmas.List.Sums.{suffix_len_is}
 use Rattle.nr_units.specs.declared.cell.Cell.{Cell}
-use Rattle.nr_page.specs.declared.line.PlacedLine.{PlacedLine}
-use Rattle.nr_page.specs.declared.span.Span.{Span}
-use Rattle.nr_page.specs.Grid.{Placed, on_row, cells_at, last_shown}
-use Rattle.nr_page.specs.PageBytes.{cell_bytes, column_count, trimmed, row_bytes, row_count, page_bytes}
-use Rattle.nr_page.specs.Sheet.{line_of, line_at, no_line}
-use Rattle.nr_page.specs.Spans.{IsNextRow, EndsAbove}
-use Rattle.nr_page.proofs.Rows.{range_with_len-append}
+use Rattle.nr_page.specs.Grid.{Placed, blank, is_blank, on_row, cells_at, last_shown, cell_at}
+use Rattle.nr_page.specs.PageBytes.{cell_bytes, column_count, trimmed, row_cells, row_bytes, row_count, page_bytes}
+use Rattle.nr_page.specs.Sheet.{Sheet, ShowsSame, Holds}
+use Rattle.nr_page.specs.Overlay.{covered, cell_or_blank, IsTrimmed, line_bytes, rows_bytes}
+use Rattle.nr_page.proofs.Showing.{last_shown-push, covered_by_blank, covered_by_other, on_row-none, on_row-alone, HasNone}
 
--- ---- how many rows there are
+-- ---- where lines show nothing
 
--- the rows down to the lowest line, or so many where that is more
-abbrev pub row_count_from : ℕ → List Placed → ℕ
-row_count_from most lines = fold (λ most line. max most (line.row + 1)) most lines
+-- the columns of the longest of the lines, or so many where that is more
+abbrev column_count_from : ℕ → List Placed → ℕ
+column_count_from most lines = fold (λ most line. max most (length line.cells)) most lines
 
-pub most_le-row_count_from : (cells : List Cell) (lines : List PlacedLine) (most : ℕ) → most ≤ row_count_from most (map (line_of cells) lines)
-most_le-row_count_from cells [] most = omega arith
-most_le-row_count_from cells (line ∷ lines) most =
-    let rest = most_le-row_count_from cells lines (max most (line.row + 1)) in
-    let here = le-max_left most (line.row + 1) in
+most_le-column_count_from : (lines : List Placed) (most : ℕ) → most ≤ column_count_from most lines
+most_le-column_count_from [] most = omega arith
+most_le-column_count_from (line ∷ lines) most =
+    let rest = most_le-column_count_from lines (max most (length line.cells)) in
+    let here = le-max_left most (length line.cells) in
     omega arith
 
-pub row_le-row_count_from : (cells : List Cell) (lines : List PlacedLine) (most k : ℕ) → k < length lines → (line_at lines k).row + 1 ≤ row_count_from most (map (line_of cells) lines)
-row_le-row_count_from cells [] most k h = absurd (omega arith)
-row_le-row_count_from cells (line ∷ lines) most zero h =
-    let rest = most_le-row_count_from cells lines (max most (line.row + 1)) in
-    let here = le-max_right most (line.row + 1) in
-    omega arith
-row_le-row_count_from cells (line ∷ lines) most (suc k) h = row_le-row_count_from cells lines (max most (line.row + 1)) k (omega arith)
+past_cells : (cells : List Cell) (column : ℕ) → length cells ≤ column → cell_or_blank cells column ≡ blank
+past_cells [] column short = refl
+past_cells (cell ∷ cells) zero short = absurd (omega arith)
+past_cells (cell ∷ cells) (suc column) short = past_cells cells column (omega arith)
 
-pub EndsAbove-rest : (line : PlacedLine) (lines : List PlacedLine) (n : ℕ) → EndsAbove (line ∷ lines) n → EndsAbove lines n
-EndsAbove-rest line lines n h = λ k less. h (suc k) (omega arith)
+shown-past : (lines : List Placed) (most column : ℕ) → column_count_from most lines ≤ column → filter (λ (cell : Cell). not (is_blank cell)) (cells_at lines column) ≡ []
+shown-past [] most column past = refl
+shown-past (line ∷ lines) most column past =
+    let rest = most_le-column_count_from lines (max most (length line.cells)) in
+    let here = le-max_right most (length line.cells) in
+    let short : length line.cells ≤ column = omega arith in
+    rw (past_cells line.cells column short) (shown-past lines (max most (length line.cells)) column past)
 
-pub row_count_from-le : (cells : List Cell) (lines : List PlacedLine) (most n : ℕ) → most ≤ n → EndsAbove lines n → row_count_from most (map (line_of cells) lines) ≤ n
-row_count_from-le cells [] most n le h = le
-row_count_from-le cells (line ∷ lines) most n le h =
+-- what lines of one row show, behind the longest of them
+cell_at-past : (lines : List Placed) (row column : ℕ) → column_count (on_row lines row) ≤ column → cell_at lines row column ≡ blank
+cell_at-past lines row column past = rw (shown-past (on_row lines row) 0 column past) refl
+
+-- ---- trailing blanks
+
+suffix_len-push_blank : (cells : List Cell) (cell : Cell) → is_blank cell ≡ true → suffix_len is_blank (cells ++ cell ∷ []) ≡ 1 + suffix_len is_blank cells
+suffix_len-push_blank cells cell h = ap (prefix_len is_blank) (reverse-append cells (cell ∷ [])) ∙ cond-true (is_blank cell) (1 + suffix_len is_blank cells) 0 h
+
+trimmed-push_blank : (cells : List Cell) (cell : Cell) → is_blank cell ≡ true → trimmed (cells ++ cell ∷ []) ≡ trimmed cells
+trimmed-push_blank cells cell h =
+    let long = length_push cells cell in
+    let more = suffix_len-push_blank cells cell h in
+    let left : length (cells ++ cell ∷ []) - suffix_len is_blank (cells ++ cell ∷ []) ≡ length cells - suffix_len is_blank cells = omega arith in
+    rw left (take-append-le (length cells - suffix_len is_blank cells) cells (cell ∷ []) (omega arith))
+
+pub range_with_len-append : (a n m : ℕ) → range_with_len a (n + m) ≡ range_with_len a n ++ range_with_len (a + n) m
+range_with_len-append a zero m = rw (zero-add m, add-zero a)
+range_with_len-append a (suc n) m =
+    let rest = range_with_len-append (a + 1) n m in
+    let far : a + 1 + n ≡ a + suc n = omega arith in
+    rw (suc-add n m) (ap (λ l. a ∷ l) (rest ∙ ap (λ b. range_with_len (a + 1) n ++ range_with_len b m) far))
+
+-- columns behind the last that shows something
+trimmed-columns : (f : ℕ → Cell) (n m : ℕ) → ((column : ℕ) → n ≤ column → f column ≡ blank) → trimmed (map f (range_with_len 0 (n + m))) ≡ trimmed (map f (range_with_len 0 n))
+trimmed-columns f n zero nothing = rw (add-zero n) refl
+trimmed-columns f n (suc m) nothing =
+    let sum : n + suc m ≡ (n + m) + 1 = omega arith in
+    let split : map f (range_with_len 0 (n + suc m)) ≡ map f (range_with_len 0 (n + m)) ++ f (n + m) ∷ []
+    = ap (λ k. map f (range_with_len 0 k)) sum ∙ ap (map f) (range_with_len-append 0 (n + m) 1) ∙ map-append f (range_with_len 0 (n + m)) (range_with_len (0 + (n + m)) 1)
+    ∙ ap (λ k. map f (range_with_len 0 (n + m)) ++ f k ∷ []) (zero-add (n + m)) in
+    let last : is_blank (f (n + m)) ≡ true = ap is_blank (nothing (n + m) (omega arith)) in
+    ap trimmed split ∙ trimmed-push_blank (map f (range_with_len 0 (n + m))) (f (n + m)) last ∙ trimmed-columns f n m nothing
+
+map-same : (f g : ℕ → Cell) (a n : ℕ) → ((column : ℕ) → f column ≡ g column) → map f (range_with_len a n) ≡ map g (range_with_len a n)
+map-same f g a zero same = refl
+map-same f g a (suc n) same = rw (same a) (ap (λ cells. g a ∷ cells) (map-same f g (a + 1) n same))
+
+-- what a row shows follows from what shows at each column
+pub row_cells-same : (xs ys : List Placed) (row : ℕ) → ShowsSame xs ys → row_cells xs row ≡ row_cells ys row
+row_cells-same xs ys row same =
+    let n = column_count (on_row xs row) in
+    let m = column_count (on_row ys row) in
+    let sum : n + m ≡ m + n = omega arith in
+    sym (trimmed-columns (cell_at xs row) n m (cell_at-past xs row))
+    ∙ ap trimmed (map-same (cell_at xs row) (cell_at ys row) 0 (n + m) (same row))
+    ∙ ap (λ k. trimmed (map (cell_at ys row) (range_with_len 0 k))) sum
+    ∙ trimmed-columns (cell_at ys row) m n (cell_at-past ys row)
+
+pub row_bytes-same : (xs ys : List Placed) (row : ℕ) → ShowsSame xs ys → row_bytes xs row ≡ row_bytes ys row
+row_bytes-same xs ys row same = ap (λ cells. flat_map cell_bytes cells ++ 10 ∷ []) (row_cells-same xs ys row same)
+
+pub rows_bytes-same : (xs ys : List Placed) (row n : ℕ) → ShowsSame xs ys → rows_bytes xs row n ≡ rows_bytes ys row n
+rows_bytes-same xs ys row zero same = refl
+rows_bytes-same xs ys row (suc n) same = rw (row_bytes-same xs ys row same) (ap (λ bytes. row_bytes ys row ++ bytes) (rows_bytes-same xs ys (row + 1) n same))
+
+-- the bytes of a page, of whose lines it shows the same
+pub page_bytes_is : (lines : List Placed) (page : Sheet) (rows count : ℕ) → Holds lines page → count ≡ max page.row_count rows → rows_bytes page.rows 0 count ≡ page_bytes rows lines
+page_bytes_is lines page rows count holds is =
+    let reaches = holds.reaches in
+    let same : count ≡ max rows (row_count lines) = omega arith in
+    rows_bytes-same page.rows lines 0 count holds.shows ∙ ap (rows_bytes lines 0) same
+
+-- ---- a line that is alone on its row
+
+-- what lines of one row show
+abbrev own_bytes : List Placed → List ℕ
+own_bytes lines = flat_map cell_bytes (trimmed (map (λ column. last_shown (cells_at lines column)) (range_with_len 0 (column_count lines)))) ++ 10 ∷ []
+
+pub row_bytes-alone : (lines : List Placed) (line : Placed) (row : ℕ) → on_row lines row ≡ line ∷ [] → row_bytes lines row ≡ line_bytes line.cells
+row_bytes-alone lines line row alone = ap own_bytes alone
+
+pub row_bytes-none : (lines : List Placed) (row : ℕ) → on_row lines row ≡ [] → row_bytes lines row ≡ 10 ∷ []
+row_bytes-none lines row none = ap own_bytes none
+
+blank_bytes : (byte : ℕ) (under : Bool) → (byte == 32) ≡ true → cell_bytes (record { byte = byte; under = under }) ≡ 32 ∷ []
+blank_bytes byte true h = rw (eqb-true byte 32 h)
+blank_bytes byte false h = rw (eqb-true byte 32 h)
+
+-- a blank is written as a blank, underlined or not
+cell_bytes-covered : (cell : Cell) → cell_bytes (covered blank cell) ≡ cell_bytes cell
+cell_bytes-covered cell = elim (cases_Bool (is_blank cell)) [
+  | inl yes_blank ↦ ap cell_bytes (covered_by_blank blank cell yes_blank) ∙ sym (blank_bytes cell.byte cell.under yes_blank)
+  | inr other ↦ ap cell_bytes (covered_by_other blank cell other)
+]
+
+is_blank-covered : (cell : Cell) → is_blank (covered blank cell) ≡ is_blank cell
+is_blank-covered cell = elim (cases_Bool (is_blank cell)) [
+  | inl yes_blank ↦ ap is_blank (covered_by_blank blank cell yes_blank) ∙ sym yes_blank
+  | inr other ↦ ap is_blank (covered_by_other blank cell other)
+]
+
+-- cells that are written alike
+flat_map-cell_bytes : (xs ys : List Cell) → length xs ≡ length ys → ((k : ℕ) → k < length xs → cell_bytes (cell_or_blank xs k) ≡ cell_bytes (cell_or_blank ys k))
+    → flat_map cell_bytes xs ≡ flat_map cell_bytes ys
+flat_map-cell_bytes [] [] long h = refl
+flat_map-cell_bytes [] (y ∷ ys) long h = absurd (omega arith)
+flat_map-cell_bytes (x ∷ xs) [] long h = absurd (omega arith)
+flat_map-cell_bytes (x ∷ xs) (y ∷ ys) long h =
     let here = h 0 (omega arith) in
-    row_count_from-le cells lines (max most (line.row + 1)) n (max-le le (omega arith)) (EndsAbove-rest line lines n h)
-
--- ---- rows without lines
-
--- none of the lines is on the row
-abbrev pub HasNone : List PlacedLine → ℕ → Type 0
-HasNone lines row = (k : ℕ) → k < length lines → (line_at lines k).row ≢ row
-
-pub on_row-none : (cells : List Cell) (lines : List PlacedLine) (row : ℕ) → HasNone lines row → on_row (map (line_of cells) lines) row ≡ []
-on_row-none cells [] row h = refl
-on_row-none cells (line ∷ lines) row h =
-    rw (ne_eqb line.row row (h 0 (omega arith))) (on_row-none cells lines row (λ k less. h (suc k) (omega arith)))
-
-pub row_bytes-none : (cells : List Cell) (lines : List PlacedLine) (row : ℕ) → HasNone lines row → row_bytes (map (line_of cells) lines) row ≡ 10 ∷ []
-row_bytes-none cells lines row h = rw (on_row-none cells lines row h)
-
--- so many rows, from one on
-abbrev pub rows_bytes : List Placed → ℕ → ℕ → List ℕ
-rows_bytes lines row n = flat_map (row_bytes lines) (range_with_len row n)
-
-pub rows_bytes-none : (cells : List Cell) (lines : List PlacedLine) (row n : ℕ) → ((r : ℕ) → row ≤ r → r < row + n → HasNone lines r)
-    → rows_bytes (map (line_of cells) lines) row n ≡ replicate n 10
-rows_bytes-none cells lines row zero h = refl
-rows_bytes-none cells lines row (suc n) h =
-    let here = row_bytes-none cells lines row (h row (omega arith) (omega arith)) in
-    let rest = rows_bytes-none cells lines (row + 1) n (λ r le less. h r (omega arith) (omega arith)) in
+    let rest = flat_map-cell_bytes xs ys (omega arith) (λ k less. h (suc k) (omega arith)) in
     rw (here, rest)
+
+pub line_bytes-trimmed : (cells : List Cell) (size : ℕ) → IsTrimmed cells size → size ≤ length cells → line_bytes cells ≡ flat_map cell_bytes (take size cells) ++ 10 ∷ []
+line_bytes-trimmed cells size own short =
+    let line : Placed = record { row = 0; cells = cells } in
+    let f : ℕ → Cell = λ column. cell_at (line ∷ []) 0 column in
+    let count : column_count (line ∷ []) ≡ length cells = max-eq_right {n = 0} {m = length cells} (omega arith) in
+    let n = length cells in
+    let shown : (column : ℕ) → cell_at (line ∷ []) 0 column ≡ covered blank (cell_or_blank cells column) = λ column. last_shown-push [] (cell_or_blank cells column) in
+    let all = map (cell_at (line ∷ []) 0) (range_with_len 0 n) in
+    let long : length all ≡ n = length-map-range_with_len (cell_at (line ∷ []) 0) 0 n in
+    let at : (k : ℕ) → k < n → cell_or_blank all k ≡ cell_at (line ∷ []) 0 k = λ k less. get_or-map-range_with_len (cell_at (line ∷ []) 0) 0 n k k blank less (zero-add k) in
+    let same : (k : ℕ) → k < n → is_blank (cell_or_blank all k) ≡ is_blank (cell_or_blank cells k) = λ k less. ap is_blank (at k less ∙ shown k) ∙ is_blank-covered (cell_or_blank cells k) in
+    let blanks : suffix_len is_blank all ≡ length all - size
+    = suffix_len_is is_blank all size blank (omega arith)
+    (λ k le less. same k (omega arith) ∙ own.blanks k le)
+    (λ some. same (size - 1) (omega arith) ∙ own.last some) in
+    let left : length all - suffix_len is_blank all ≡ size = omega arith in
+    let front_len = length-take-le size all (omega arith) in
+    let cells_len = length-take-le size cells short in
+    let bytes : flat_map cell_bytes (trimmed all) ≡ flat_map cell_bytes (take size cells)
+    = ap (λ k. flat_map cell_bytes (take k all)) left
+    ∙ flat_map-cell_bytes (take size all) (take size cells) (omega arith)
+    (λ k less. let low : k < size = omega arith in
+    ap cell_bytes (get_or-take size all k blank low ∙ at k (omega arith) ∙ shown k)
+    ∙ cell_bytes-covered (cell_or_blank cells k)
+    ∙ ap cell_bytes (sym (get_or-take size cells k blank low))) in
+    ap (λ k. flat_map cell_bytes (trimmed (map (cell_at (line ∷ []) 0) (range_with_len 0 k))) ++ 10 ∷ []) count
+    ∙ ap (λ bs. bs ++ 10 ∷ []) bytes
 
 -- ---- rows after rows
 
@@ -78,112 +179,29 @@ rows_bytes-add lines row n m =
     ap (flat_map (row_bytes lines)) (range_with_len-append row n m)
     ∙ flat_map-append (row_bytes lines) (range_with_len row n) (range_with_len (row + n) m)
 
--- ---- the next row that has a line
-
-pub on_row-append : (cells : List Cell) (xs ys : List PlacedLine) (row : ℕ)
-    → on_row (map (line_of cells) (xs ++ ys)) row ≡ on_row (map (line_of cells) xs) row ++ on_row (map (line_of cells) ys) row
-on_row-append cells xs ys row =
-    ap (λ l. on_row l row) (map-append (line_of cells) xs ys)
-    ∙ filter-append (λ (line : Placed). line.row == row) (map (line_of cells) xs) (map (line_of cells) ys)
-
--- what lines of one row show, with a newline behind it
-abbrev pub own_bytes : List Placed → List ℕ
-own_bytes lines = flat_map cell_bytes (trimmed (map (λ column. last_shown (cells_at lines column)) (range_with_len 0 (column_count lines)))) ++ 10 ∷ []
-
--- the row's lines are those of the span
-pub row_bytes-span : (cells : List Cell) (lines : List PlacedLine) (n : ℕ) (span : Span) → IsNextRow lines n span
-    → row_bytes (map (line_of cells) lines) span.row ≡ row_bytes (map (line_of cells) (take (span.end - span.start) (drop span.start lines))) span.row
-row_bytes-span cells lines n span h =
-    let front = take span.start lines in
-    let rest = drop span.start lines in
-    let part = take (span.end - span.start) rest in
-    let back = drop (span.end - span.start) rest in
-    let none_before : HasNone front span.row = λ k less is.
-    let low : k < span.start = omega (arith, length-take span.start lines) in
-    let far : k < length lines = omega (arith, length-take span.start lines) in
-    let same = rw (get_or-take span.start lines k no_line low) at is in
-    let within = (h.inside k far same).0 in
-    omega arith in
-    let none_behind : HasNone back span.row = λ k less is.
-    let same = rw (get_or-drop (span.end - span.start) rest k no_line, get_or-drop span.start lines (span.end - span.start + k) no_line) at is in
-    let far : span.start + (span.end - span.start + k) < length lines = omega (arith, length-drop (span.end - span.start) rest, length-drop span.start lines) in
-    let within = (h.inside (span.start + (span.end - span.start + k)) far same).1 in
-    let stands = h.stands in
-    omega arith in
-    let whole : lines ≡ front ++ (part ++ back) = sym (take-append-drop span.start lines) ∙ ap (λ l. front ++ l) (sym (take-append-drop (span.end - span.start) rest)) in
-    let own : on_row (map (line_of cells) lines) span.row ≡ on_row (map (line_of cells) part) span.row
-    = ap (λ l. on_row (map (line_of cells) l) span.row) whole
-    ∙ on_row-append cells front (part ++ back) span.row
-    ∙ rw (on_row-none cells front span.row none_before, on_row-append cells part back span.row, on_row-none cells back span.row none_behind)
-    (append-nil (on_row (map (line_of cells) part) span.row)) in
-    ap own_bytes own
-
--- there is no line on the rows before it
-pub rows_bytes-gap : (cells : List Cell) (lines : List PlacedLine) (n : ℕ) (span : Span) → IsNextRow lines n span
-    → rows_bytes (map (line_of cells) lines) n (span.row - n) ≡ replicate (span.row - n) 10
-rows_bytes-gap cells lines n span h = rows_bytes-none cells lines n (span.row - n) (λ r le less k within is.
-    let first = h.first k within (omega arith) in
-    let here = h.from_here in
-    omega arith)
-
-pub next_row-le-row_count : (cells : List Cell) (lines : List PlacedLine) (n : ℕ) (span : Span) → IsNextRow lines n span → span.row + 1 ≤ row_count (map (line_of cells) lines)
-next_row-le-row_count cells lines n span h =
-    let line = row_le-row_count_from cells lines 0 h.has_line.0 h.has_line.1 in
-    omega (arith, h.has_line.2)
+-- rows without lines
+pub rows_bytes-none : (lines : List Placed) (row n : ℕ) → ((r : ℕ) → row ≤ r → r < row + n → on_row lines r ≡ []) → rows_bytes lines row n ≡ replicate n 10
+rows_bytes-none lines row zero h = refl
+rows_bytes-none lines row (suc n) h =
+    let here = row_bytes-none lines row (h row (omega arith) (omega arith)) in
+    let rest = rows_bytes-none lines (row + 1) n (λ r le less. h r (omega arith) (omega arith)) in
+    rw (here, rest)
 
 -- the rows down to the next that has a line
-pub rows_bytes-next : (cells : List Cell) (lines : List PlacedLine) (n : ℕ) (span : Span) → IsNextRow lines n span
-    → rows_bytes (map (line_of cells) lines) 0 (span.row + 1)
-    ≡ (rows_bytes (map (line_of cells) lines) 0 n ++ replicate (span.row - n) 10) ++ row_bytes (map (line_of cells) (take (span.end - span.start) (drop span.start lines))) span.row
-rows_bytes-next cells lines n span h =
-    let placed = map (line_of cells) lines in
-    let here = h.from_here in
-    let sum : n + (span.row - n) ≡ span.row = omega arith in
-    let before : rows_bytes placed 0 span.row ≡ rows_bytes placed 0 n ++ replicate (span.row - n) 10
-    = ap (rows_bytes placed 0) (sym sum) ∙ rows_bytes-add placed 0 n (span.row - n)
-    ∙ rw (zero-add n) (ap (λ l. rows_bytes placed 0 n ++ l) (rows_bytes-gap cells lines n span h)) in
-    rows_bytes-add placed 0 span.row 1
-    ∙ rw (zero-add span.row, append-nil (row_bytes placed span.row), before, row_bytes-span cells lines n span h)
+pub rows_bytes-next : (lines : List Placed) (done number : ℕ) (cells : List Cell) → done ≤ number → ((r : ℕ) → done ≤ r → r < number → on_row lines r ≡ []) → row_bytes lines number ≡ line_bytes cells
+    → rows_bytes lines 0 (number + 1) ≡ rows_bytes lines 0 done ++ (replicate (number - done) 10 ++ line_bytes cells)
+rows_bytes-next lines done number cells le none shown =
+    let sum : done + (number - done) ≡ number = omega arith in
+    let gap : rows_bytes lines done (number - done) ≡ replicate (number - done) 10 = rows_bytes-none lines done (number - done) (λ r from to. none r from (omega arith)) in
+    let before : rows_bytes lines 0 number ≡ rows_bytes lines 0 done ++ replicate (number - done) 10
+    = ap (rows_bytes lines 0) (sym sum) ∙ rows_bytes-add lines 0 done (number - done)
+    ∙ rw (zero-add done) (ap (λ l. rows_bytes lines 0 done ++ l) gap) in
+    rows_bytes-add lines 0 number 1
+    ∙ rw (zero-add number, append-nil (row_bytes lines number), before, shown)
+    (append_assoc (rows_bytes lines 0 done) (replicate (number - done) 10) (line_bytes cells))
 
--- ---- a part of a page
-
-pub page_bytes-from : (rows n : ℕ) (lines : List Placed) → n ≤ row_count lines → page_bytes rows lines ≡ rows_bytes lines 0 n ++ rows_bytes lines n (max rows (row_count lines) - n)
-page_bytes-from rows n lines h =
-    let more = le-max_right rows (row_count lines) in
-    let sum : n + (max rows (row_count lines) - n) ≡ max rows (row_count lines) = omega arith in
-    ap (rows_bytes lines 0) (sym sum) ∙ rows_bytes-add lines 0 n (max rows (row_count lines) - n) ∙ rw (zero-add n)
-
--- where there is no further line, only empty rows are left
-pub page_bytes-end : (cells : List Cell) (lines : List PlacedLine) (rows n : ℕ) → n ≤ row_count (map (line_of cells) lines) → EndsAbove lines n
-    → page_bytes rows (map (line_of cells) lines) ≡ rows_bytes (map (line_of cells) lines) 0 n ++ replicate (rows - n) 10
-page_bytes-end cells lines rows n reached ends =
-    let placed = map (line_of cells) lines in
-    let all : row_count placed ≡ n = let le = row_count_from-le cells lines 0 n (omega arith) ends in omega arith in
-    let left : max rows (row_count placed) - n ≡ rows - n = elim (cases_lt rows n) [
-      | inl few ↦ rw (all, max-eq_right {n = rows} {m = n} (omega arith)) (omega arith)
-      | inr many ↦ rw (all, max-eq_left {n = rows} {m = n} many)
-    ] in
-    page_bytes-from rows n placed reached
-    ∙ rw (left, rows_bytes-none cells lines n (rows - n) (λ r le less k within is. let above = ends k within in omega arith))
-
--- the page, cut before the next row that has a line
-pub page_bytes_at_gap : (cells : List Cell) (lines : List PlacedLine) (rows n : ℕ) (span : Span) → IsNextRow lines n span
-    → page_bytes rows (map (line_of cells) lines)
-    ≡ (rows_bytes (map (line_of cells) lines) 0 n ++ replicate (span.row - n) 10) ++ rows_bytes (map (line_of cells) lines) span.row (max rows (row_count (map (line_of cells) lines)) - span.row)
-page_bytes_at_gap cells lines rows n span h =
-    let placed = map (line_of cells) lines in
-    let here = h.from_here in
-    let reached = next_row-le-row_count cells lines n span h in
-    let sum : n + (span.row - n) ≡ span.row = omega arith in
-    page_bytes-from rows span.row placed (omega arith)
-    ∙ ap (λ front. front ++ rows_bytes placed span.row (max rows (row_count placed) - span.row))
-    (ap (rows_bytes placed 0) (sym sum) ∙ rows_bytes-add placed 0 n (span.row - n) ∙ rw (zero-add n, rows_bytes-gap cells lines n span h))
-
--- the page, cut behind that row
-pub page_bytes_at_row : (cells : List Cell) (lines : List PlacedLine) (rows n : ℕ) (span : Span) → IsNextRow lines n span
-    → page_bytes rows (map (line_of cells) lines)
-    ≡ ((rows_bytes (map (line_of cells) lines) 0 n ++ replicate (span.row - n) 10) ++ row_bytes (map (line_of cells) (take (span.end - span.start) (drop span.start lines))) span.row)
-    ++ rows_bytes (map (line_of cells) lines) (span.row + 1) (max rows (row_count (map (line_of cells) lines)) - (span.row + 1))
-page_bytes_at_row cells lines rows n span h =
-    page_bytes-from rows (span.row + 1) (map (line_of cells) lines) (next_row-le-row_count cells lines n span h)
-    ∙ ap (λ front. front ++ rows_bytes (map (line_of cells) lines) (span.row + 1) (max rows (row_count (map (line_of cells) lines)) - (span.row + 1))) (rows_bytes-next cells lines n span h)
+-- the rows up to a place, and those behind it
+pub rows_bytes-front : (lines : List Placed) (n all : ℕ) → n ≤ all → rows_bytes lines 0 all ≡ rows_bytes lines 0 n ++ rows_bytes lines n (all - n)
+rows_bytes-front lines n all h =
+    let sum : n + (all - n) ≡ all = omega arith in
+    ap (rows_bytes lines 0) (sym sum) ∙ rows_bytes-add lines 0 n (all - n) ∙ rw (zero-add n)

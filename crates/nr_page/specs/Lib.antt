@@ -2,7 +2,7 @@ pub mod Gathered
 pub mod Grid
 pub mod Overlay
 pub mod PageBytes
+pub mod Rows
 pub mod Selection
 pub mod SelectionReading
 pub mod Sheet
-pub mod Spans

@@ -2,12 +2,12 @@
 //! prints; and which pages are printed.
 #![tactic(auto)]
 
+mod gap_vec;
 mod gathering;
-pub mod line;
 pub mod page;
-mod row;
+mod placing;
+pub mod row;
 mod selection;
-mod span;
 #[cfg(test)]
 mod tests;
 mod writing;

@@ -1,5 +1,5 @@
 //! The open page.
-ghost use Rattle.std.specs.Prelude.{◌≡◌, ℕ, ◌+◌, ◌<◌, ◌≤◌, ◌↔◌, List, [], ◌∷◌, ◌++◌, length, OnOk, OnErr, IsErr, IsTrue, true};
+ghost use Rattle.std.specs.Prelude.{◌≡◌, ℕ, ◌+◌, ◌^◌, ◌<◌, ◌≤◌, ◌↔◌, List, [], ◌∷◌, ◌++◌, length, OnOk, OnErr, IsErr, IsTrue};
 ghost use Rattle.nr_page.specs.Grid.{Placed, page_charge};
 ghost use Rattle.nr_page.specs.Sheet.{Holds};
 ghost use Rattle.std.specs.Io.KnownBytes.{Appends};
@@ -7,11 +7,13 @@ ghost use Rattle.nr_units.specs.Failures.{put_counted};
 ghost use Rattle.nr_units.specs.Held.{AppendsFront};
 ghost use Rattle.nr_page.specs.PageBytes.{page_bytes};
 
-use crate::line::PlacedLine;
-use crate::writing::write_lines;
+use crate::gap_vec::GapVec;
+use crate::placing::put;
+use crate::row::RowSlot;
+use crate::writing::write_all;
+use nr_pool::{Pool, Slot};
 use nr_units::cell::Cell;
 use nr_units::sink::Sink;
-use nr_units::slice_vec::SliceVec;
 use nr_units::source::Fault;
 use std::marker::Model;
 
@@ -27,79 +29,95 @@ pub struct WriteFault;
 #[derive(Clone, Copy, Debug, PartialEq, Eq)]
 pub struct PageRoom {
     pub cells: usize,
-    pub lines: usize,
+    pub texts: usize,
+    pub rows: usize,
 }
 
 /// The least lengths of the slices of a page whose charge is at most `limit`.
 pub fn room(limit: usize) -> PageRoom
     ensures cells { result.cells ≡ limit }
-    ensures lines { result.lines ≡ limit }
+    ensures texts { result.texts ≡ limit }
+    ensures rows { result.rows ≡ limit }
 {
     PageRoom {
         cells: limit,
-        lines: limit,
+        texts: limit,
+        rows: limit,
     }
 }
 
-/// The open page, over slices that are lent to it. It holds the lines placed on it, in the order of their placing,
-/// up to a limit: each line is charged 1 and its cells.
+/// The open page, over slices that are lent to it. It holds the lines placed on it, up to a limit: each line is
+/// charged 1 and its cells. Of lines on one row it keeps one text, the later laid over the earlier.
+///
+/// A line on the last row, or below it, takes time for its cells, and one above it for a search too; where it makes a
+/// row that is there longer, or comes to a new row, what lies between this place and the one of the line before is
+/// moved, in blocks.
 #[derive(Drop)]
 pub struct Page<'a> {
-    cells: SliceVec<'a, Cell>,
-    lines: SliceVec<'a, PlacedLine>,
-    // no line was placed above an earlier one, so that the rows can be written in one walk
-    in_order: bool,
+    texts: Pool<'a, Cell>,
+    rows: GapVec<'a, RowSlot>,
+    // how many rows there are down to the lowest line, which may have no cells
+    row_count: usize,
+    charge: usize,
     limit: usize,
 }
 
 impl<'a> Model for Page<'a> {
-    ghost use Rattle.nr_page.specs.Sheet.{Sheet, IsKept};
+    ghost use Rattle.nr_page.specs.Sheet.{Sheet};
+    ghost use Rattle.nr_page.specs.Rows.{sheet_of, IsKept};
 
     ghost Value = { Sheet };
 
-    ghost view = { λ p. record { cells = p.cells.items; lines = p.lines.items; limit = p.limit } };
+    ghost view = { λ p. sheet_of p.texts p.rows.items p.row_count p.charge p.limit };
 
-    ghost invariant = { λ p. IsKept p.cells.room p.lines.room p.in_order (record { cells = p.cells.items; lines = p.lines.items; limit = p.limit }) };
+    ghost invariant = { λ p. IsKept p.texts p.rows p.row_count p.charge p.limit };
 }
 
 impl<'a> Page<'a> {
-    ghost use Rattle.nr_page.specs.Sheet.{AreAbove, AreInOrder};
-
     /// An empty page.
-    pub fn over(cells: &'a mut [Cell], lines: &'a mut [PlacedLine], limit: usize) -> Self
+    pub fn over(
+        cells: &'a mut [Cell],
+        texts: &'a mut [Slot],
+        rows: &'a mut [RowSlot],
+        limit: usize,
+    ) -> Self
+        requires in_range { limit < 2 ^ 32 }
         requires cells { limit ≤ length cells.now }
-        requires lines { limit ≤ length lines.now }
+        requires texts { limit ≤ length texts.now }
+        requires rows { limit ≤ length rows.now }
         ensures empty { Holds [] result }
         ensures limit { result.limit ≡ limit }
     {
         Page {
-            cells: SliceVec::over(cells),
-            lines: SliceVec::over(lines),
-            in_order: true,
+            texts: Pool::over(&mut cells[..limit], &mut texts[..limit]),
+            rows: GapVec::over(rows),
+            row_count: 0,
+            charge: 0,
             limit,
         }
     }
 
     /// The charge of the lines that the page holds: 1 and the cells for each.
     pub fn charge(&self) -> usize
+        ensures some { (lines : List Placed) × Holds lines self.now }
         ensures value { (lines : List Placed) → Holds lines self.now → result ≡ page_charge lines }
         ensures within { result ≤ self.now.limit }
     {
-        self.cells.len() + self.lines.len()
+        self.charge
     }
 
     /// Whether the page holds no line.
     pub fn is_empty(&self) -> bool
         ensures { (lines : List Placed) → Holds lines self.now → (IsTrue result ↔ (lines ≡ [])) }
     {
-        self.lines.len() == 0
+        self.charge == 0
     }
 
     /// Whether a line of this many cells can be placed.
     pub fn has_room(&self, cells: usize) -> bool
         ensures { (lines : List Placed) → Holds lines self.now → (IsTrue result ↔ (page_charge lines + 1 + cells ≤ self.now.limit)) }
     {
-        self.limit - self.charge() > cells
+        self.limit - self.charge > cells
     }
 
     /// Places a line on a row, counted from 0 at the top: its cells from column 0 on. `PageCells` where the limit would be
@@ -110,28 +128,13 @@ impl<'a> Page<'a> {
         ensures err { OnErr result (self.new ≡ self.old) }
         ensures limit { self.new.limit ≡ self.old.limit }
     {
-        if !self.has_room(cells.len()) {
+        if self.limit - self.charge <= cells.len() {
             return Err(PageCells);
         }
-        let line = PlacedLine {
-            row,
-            start: self.cells.len(),
-            len: cells.len(),
-        };
-        self.in_order = self.stays_in_order(row);
-        self.cells.extend(cells);
-        self.lines.push(line);
+        put(&mut self.texts, &mut self.rows, row, cells);
+        self.row_count = self.row_count.max(row as usize + 1);
+        self.charge += 1 + cells.len();
         Ok(())
-    }
-
-    /// Whether no line is above an earlier one with one more on this row.
-    fn stays_in_order(&self, row: u32) -> bool
-        ensures { IsTrue result ↔ (AreInOrder self.now.lines × AreAbove self.now.lines row) }
-    {
-        match self.lines.as_slice().last() {
-            None => self.in_order,
-            Some(last) => self.in_order && last.row <= row,
-        }
     }
 
     /// Writes the page: as many rows as asked for, or down to the lowest line where that is more. Each row is without
@@ -142,13 +145,8 @@ impl<'a> Page<'a> {
         ensures err { OnErr result ((lines : List Placed) → Holds lines self.now → AppendsFront (W.held output.old) (W.held output.new) (page_bytes rows lines)) }
         ensures failures { W.failures output.new ≡ put_counted (W.failures output.old) result }
     {
-        match write_lines(
-            self.cells.as_slice(),
-            self.lines.as_slice(),
-            self.in_order,
-            rows as usize,
-            output,
-        ) {
+        let count = self.row_count.max(rows as usize);
+        match write_all(&self.texts, &self.rows, count, output) {
             Ok(()) => Ok(()),
             Err(Fault) => Err(WriteFault),
         }
@@ -159,8 +157,9 @@ impl<'a> Page<'a> {
         ensures empty { Holds [] self.new }
         ensures limit { self.new.limit ≡ self.old.limit }
     {
-        self.cells.clear();
-        self.lines.clear();
-        self.in_order = true;
+        self.texts.remove_all();
+        self.rows.clear();
+        self.row_count = 0;
+        self.charge = 0;
     }
 }

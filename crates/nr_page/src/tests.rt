@@ -1,8 +1,9 @@
 // Pages with their bytes, and what a sink that fails leaves.
 ghost use Rattle.std.specs.Prelude.{◌≤◌, length};
 
-use crate::line::PlacedLine;
+use crate::row::RowSlot;
 use crate::page::{Page, PageCells, WriteFault, room};
+use nr_pool::Slot;
 use nr_units::cell::Cell;
 use nr_units::fakes::{Shut, Slate};
 
@@ -148,8 +149,9 @@ fn place_all(page: &mut Page<'_>, lines: &[(u32, &[u8])]) -> Result<(), PageCell
 fn writes_pages(rt: HostRuntime) {
     for case in &CASES {
         let mut cells = [Cell::blank(); 200];
-        let mut lines = [PlacedLine::blank(); 200];
-        let mut page = Page::over(&mut cells, &mut lines, 200);
+        let mut texts = [Slot::blank(); 200];
+        let mut rows = [RowSlot::blank(); 200];
+        let mut page = Page::over(&mut cells, &mut texts, &mut rows, 200);
         assert!(rt; place_all(&mut page, case.lines) == Ok(()), "{}", case.name);
         let mut out = [0; 100];
         let mut slate = Slate::over(&mut out);
@@ -168,8 +170,9 @@ fn writes_pages(rt: HostRuntime) {
 fn fails_at_each_place(rt: HostRuntime) {
     for case in &CASES {
         let mut cells = [Cell::blank(); 200];
-        let mut lines = [PlacedLine::blank(); 200];
-        let mut page = Page::over(&mut cells, &mut lines, 200);
+        let mut texts = [Slot::blank(); 200];
+        let mut rows = [RowSlot::blank(); 200];
+        let mut page = Page::over(&mut cells, &mut texts, &mut rows, 200);
         assert!(rt; place_all(&mut page, case.lines) == Ok(()), "{}", case.name);
         for place in 0..case.bytes.len() {
             let mut out = [0; 100];
@@ -208,8 +211,9 @@ fn fails_at_each_place(rt: HostRuntime) {
 #[test]
 fn writes_long_rows(rt: HostRuntime) {
     let mut cells = [Cell::blank(); 6000];
-    let mut lines = [PlacedLine::blank(); 6000];
-    let mut page = Page::over(&mut cells, &mut lines, 6000);
+    let mut texts = [Slot::blank(); 6000];
+    let mut rows = [RowSlot::blank(); 6000];
+    let mut page = Page::over(&mut cells, &mut texts, &mut rows, 6000);
     let low = [Cell {
         byte: b'a',
         under: true,
@@ -248,11 +252,12 @@ fn writes_long_rows(rt: HostRuntime) {
 #[test]
 fn keeps_the_limit(rt: HostRuntime) {
     let mut cells = [Cell::blank(); 7];
-    let mut lines = [PlacedLine::blank(); 7];
+    let mut texts = [Slot::blank(); 7];
+    let mut rows = [RowSlot::blank(); 7];
     for (limit, second, bytes) in [(6, Err(PageCells), b"abc\n"), (7, Ok(()), b"xyc\n")] {
         let room = room(limit);
-        assert!(rt; room.cells <= cells.len() && room.lines <= lines.len() && limit <= 7);
-        let mut page = Page::over(&mut cells, &mut lines, limit);
+        assert!(rt; room.cells <= cells.len() && room.texts <= texts.len() && room.rows <= rows.len() && limit <= 7);
+        let mut page = Page::over(&mut cells, &mut texts, &mut rows, limit);
         assert!(rt; page.is_empty());
         assert!(rt; place_all(&mut page, &[(0, b"abc")]) == Ok(()));
         assert_eq!(rt; page.charge(), 4);

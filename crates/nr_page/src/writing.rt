@@ -1,72 +1,91 @@
 // The rows of a page, from the top on.
-ghost use Rattle.std.specs.Prelude.{◌≡◌, ℕ, ◌*◌, ◌≤◌, List, length, map, true, OnOk, OnErr};
+ghost use Rattle.std.specs.Prelude.{◌≡◌, ℕ, ◌*◌, ◌≤◌, ◌++◌, length, replicate, OnOk, OnErr};
 ghost use Rattle.std.specs.Io.KnownBytes.{Appends};
 ghost use Rattle.nr_units.specs.Held.{AppendsFront};
 ghost use Rattle.nr_units.specs.Failures.{put_counted};
-ghost use Rattle.nr_page.specs.PageBytes.{page_bytes};
 ghost use Rattle.nr_page.specs.Gathered.{GathersOrFails};
-ghost use Rattle.nr_page.specs.Sheet.{line_of, AreInside, AreInOrder};
+ghost use Rattle.nr_page.specs.Overlay.{IsTrimmed, line_bytes, rows_bytes};
+ghost use Rattle.nr_page.specs.Rows.{rows_of, AreAbove, AreKept};
 
-use crate::gathering::{GATHERED, RUN, make_room, write_newlines};
-use crate::line::PlacedLine;
-use crate::row::write_row;
-use crate::span::next_row;
+use crate::gap_vec::GapVec;
+use crate::gathering::{GATHERED, RUN, make_room, write_cells, write_newlines};
+use crate::row::{BLANK, RowSlot};
+use nr_pool::Pool;
 use nr_units::cell::Cell;
 use nr_units::sink::Sink;
 use nr_units::slice_vec::SliceVec;
 use nr_units::source::Fault;
 
-/// As many rows as asked for, or down to the lowest line.
-pub(crate) fn write_rows<W: Sink>(
+/// How many cells there are up to the last that is not blank.
+fn trimmed_len(cells: &[Cell]) -> usize
+    ensures trimmed { IsTrimmed cells.now result }
+    ensures within { result ≤ length cells.now }
+{
+    let mut len = cells.len();
+    while len > 0 && cells[len - 1].byte == BLANK {
+        len -= 1;
+    }
+    len
+}
+
+/// So many empty rows, and then one with these cells.
+fn write_row<W: Sink>(
     pending: &mut SliceVec<'_, u8>,
+    empty: usize,
     cells: &[Cell],
-    lines: &[PlacedLine],
-    in_order: bool,
-    rows: usize,
     output: &mut W,
 ) -> Result<(), Fault>
-    requires inside { AreInside (length cells.now) lines.now }
-    requires order { in_order ≡ true → AreInOrder lines.now }
+    requires { 3 * RUN ≤ pending.old.room }
+    ensures gathers { GathersOrFails (W.held output.old) (W.held output.new) pending.old.items pending.new.items (replicate empty 10 ++ line_bytes cells.now) result }
+    ensures failures { W.failures output.new ≡ put_counted (W.failures output.old) result }
+    ensures room { pending.new.room ≡ pending.old.room }
+{
+    write_newlines(pending, empty, output)?;
+    write_cells(pending, &cells[..trimmed_len(cells)], output)?;
+    write_newlines(pending, 1, output)
+}
+
+/// So many rows, and all that have cells are among them.
+fn write_rows<W: Sink>(
+    pending: &mut SliceVec<'_, u8>,
+    texts: &Pool<'_, Cell>,
+    rows: &GapVec<'_, RowSlot>,
+    count: usize,
+    output: &mut W,
+) -> Result<(), Fault>
+    requires kept { AreKept texts.now rows.now.items }
+    requires above { AreAbove count rows.now.items }
     requires room { 3 * RUN ≤ pending.old.room }
-    ensures gathers { GathersOrFails (W.held output.old) (W.held output.new) pending.old.items pending.new.items (page_bytes rows (map (line_of cells.now) lines.now)) result }
+    ensures gathers { GathersOrFails (W.held output.old) (W.held output.new) pending.old.items pending.new.items (rows_bytes (rows_of texts.now rows.now.items) 0 count) result }
     ensures failures { W.failures output.new ≡ put_counted (W.failures output.old) result }
     ensures room { pending.new.room ≡ pending.old.room }
 {
     let mut done = 0;
-    let mut from = 0;
-    while let Some(span) = next_row(lines, in_order, from, done) {
-        let row = span.row as usize;
-        write_newlines(pending, row - done, output)?;
-        write_row(
-            pending,
-            cells,
-            &lines[span.start..span.end],
-            span.row,
-            output,
-        )?;
-        done = row + 1;
-        from = span.end;
+    for place in 0..rows.len() {
+        let row = rows.get(place);
+        let number = row.number as usize;
+        write_row(pending, number - done, texts.text(row.text), output)?;
+        done = number + 1;
     }
-    write_newlines(pending, rows.saturating_sub(done), output)
+    write_newlines(pending, count - done, output)
 }
 
-/// The bytes of a page, all that were gathered too.
-pub(crate) fn write_lines<W: Sink>(
-    cells: &[Cell],
-    lines: &[PlacedLine],
-    in_order: bool,
-    rows: usize,
+/// The bytes of so many rows, all that were gathered too.
+pub(crate) fn write_all<W: Sink>(
+    texts: &Pool<'_, Cell>,
+    rows: &GapVec<'_, RowSlot>,
+    count: usize,
     output: &mut W,
 ) -> Result<(), Fault>
-    requires inside { AreInside (length cells.now) lines.now }
-    requires order { in_order ≡ true → AreInOrder lines.now }
-    ensures ok { OnOk result (Appends (W.held output.old) (W.held output.new) (page_bytes rows (map (line_of cells.now) lines.now))) }
-    ensures err { OnErr result (AppendsFront (W.held output.old) (W.held output.new) (page_bytes rows (map (line_of cells.now) lines.now))) }
+    requires kept { AreKept texts.now rows.now.items }
+    requires above { AreAbove count rows.now.items }
+    ensures ok { OnOk result (Appends (W.held output.old) (W.held output.new) (rows_bytes (rows_of texts.now rows.now.items) 0 count)) }
+    ensures err { OnErr result (AppendsFront (W.held output.old) (W.held output.new) (rows_bytes (rows_of texts.now rows.now.items) 0 count)) }
     ensures failures { W.failures output.new ≡ put_counted (W.failures output.old) result }
 {
     let mut bytes = [0; GATHERED];
     let mut pending = SliceVec::over(&mut bytes);
-    write_rows(&mut pending, cells, lines, in_order, rows, output)?;
+    write_rows(&mut pending, texts, rows, count, output)?;
     let room = pending.room();
     make_room(&mut pending, room, output)
 }

@@ -1,19 +1,15 @@
-use Rattle.std.proofs.Common.{◌≡◌, ◌-◌, ◌≤◌, true, map}
-use Rattle.std.specs.List.{flat_map, range_with_len}
-use Rattle.nr_page.specs.PageBytes.{row_bytes, row_count}
-use Rattle.nr_page.specs.Sheet.{line_of}
-use Rattle.nr_page.specs.Spans.{IsSplit}
+use Rattle.std.proofs.Common.{◌≡◌, ℕ, ◌<◌, ◌≤◌, length}
 use Rattle.nr_page.specs.Gathered.{Gathers}
+use Rattle.nr_page.specs.Overlay.{rows_bytes}
+use Rattle.nr_page.specs.Rows.{row_at, rows_of}
 use Rattle.nr_page.proofs.writing.write_rows.Given as goal
 
-abbrev pub invariant-loop-span : goal.invariant-loop-span
-invariant-loop-span g l = record {
-  reached : l.done ≤ row_count (map (line_of l.cells) l.lines);
-  split : l.in_order ≡ true → IsSplit l.lines l.done l.from;
-  gathers : Gathers (g.W.Sink.held l.initial.output) (g.W.Sink.held l.output) l.initial.pending.items l.pending.items (flat_map (row_bytes (map (line_of l.cells) l.lines)) (range_with_len 0 l.done));
+abbrev pub invariant-loop-place : goal.invariant-loop-place
+invariant-loop-place g l = record {
+  above : (k : ℕ) → k < l.place → k < length l.rows.items → (row_at l.rows.items k).number < l.done;
+  below : (k : ℕ) → l.place ≤ k → k < length l.rows.items → l.done ≤ (row_at l.rows.items k).number;
+  within : l.done ≤ l.count;
+  gathers : Gathers (g.W.Sink.held l.initial.output) (g.W.Sink.held l.output) l.initial.pending.items l.pending.items (rows_bytes (rows_of l.texts l.rows.items) 0 l.done);
   failures : g.W.Sink.failures l.output ≡ g.W.Sink.failures l.initial.output;
   room : l.pending.room ≡ l.initial.pending.room;
 }
-
-abbrev pub decreases-loop-span : goal.decreases-loop-span
-decreases-loop-span g l = row_count (map (line_of l.cells) l.lines) - l.done

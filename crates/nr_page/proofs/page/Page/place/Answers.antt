@@ -1,35 +1,39 @@
-use Rattle.std.proofs.Common.{arith, refl, length}
-use Rattle.nr_page.specs.declared.line.PlacedLine.{PlacedLine}
-use Rattle.nr_page.proofs.Keeping.{has_room_for, AreInOrder-push, AreInOrder-front, IsSheet-push, Holds-push}
+use Rattle.std.proofs.Common.{◌≤◌, ◌<◌, ◌+◌, [], ◌∷◌, ◌++◌, length, refl, ◌∙◌, arith}
+use Rattle.nr_page.specs.Grid.{Placed}
+use Rattle.nr_page.specs.Rows.{sheet_of}
+use Rattle.nr_page.specs.Sheet.{Holds}
+use Rattle.nr_page.proofs.Showing.{Holds-push}
+use Rattle.nr_page.proofs.Keeping.{AreAbove-weaker}
 use Rattle.nr_page.proofs.page.Page.place.Goals as goal
-
-pub extend-requires : goal.extend-requires
-extend-requires c =
-    let fits = has_room_for _ _ _ c.self.view_is c.self.invariant.sheet (λ lines holds. (c.if-not-has_room.ensures lines holds).0 refl) in
-    omega (arith, fits, c.self.invariant.has_cells)
-
-pub push-requires : goal.push-requires
-push-requires c =
-    let fits = has_room_for _ _ _ c.self.view_is c.self.invariant.sheet (λ lines holds. (c.if-not-has_room.ensures lines holds).0 refl) in
-    omega (arith, fits, c.self.invariant.has_lines)
 
 pub invariant_of-self : goal.invariant_of-self
 invariant_of-self c =
-    let fits = has_room_for _ _ _ c.self.view_is c.self.invariant.sheet (λ lines holds. (c.if-not-has_room.ensures lines holds).0 refl) in
-    let order = rw (← c.self.view_is) at c.stays_in_order-self-inside.ensures in
-    let line : PlacedLine = record { row = c.args.row; start = c.len.result; len = length c.args.cells.now } in
-    let sheet = IsSheet-push _ c.args.cells.now line c.self.invariant.sheet fits c.len.ensures.value refl in
+    let inside = c.self.inside in
+    let kept = c.self.invariant in
+    let line : Placed = record { row = c.args.row; cells = c.args.cells.now } in
+    let grows = c.put.ensures.grows in
+    let lower : inside.row_count ≤ c.max-self-inside.result = omega arith in
+    let here : c.args.row < c.max-self-inside.result = omega arith in
     record {
-      has_cells = omega (arith, c.extend.ensures.room, c.self.invariant.has_cells);
-      has_lines = omega (arith, c.push.ensures.room, c.self.invariant.has_lines);
-      order = rw c.push.ensures.items (
-        λ is. AreInOrder-push c.self.inside.lines.items line (order.0 is).0 (order.0 is).1,
-        λ is. order.1 (AreInOrder-front c.self.inside.lines.items line is),
+      in_range = kept.in_range;
+      cell_room = grows.capacity ∙ kept.cell_room;
+      text_room = grows.numbers ∙ kept.text_room;
+      row_room = omega (arith, grows.room, kept.row_room);
+      kept = c.put.ensures.kept;
+      above = c.put.ensures.above c.max-self-inside.result here (AreAbove-weaker inside.row_count c.max-self-inside.result inside.rows.items lower kept.above);
+      filled = omega (arith, grows.filled, kept.filled);
+      within = omega (arith, kept.within);
+      holds = (
+        kept.holds.0 ++ line ∷ [],
+        Holds-push kept.holds.0 _ line (sheet_of inside.texts inside.rows.items inside.row_count inside.charge inside.limit) c.max-self-inside.result _ inside.limit
+        kept.holds.1 c.put.ensures.shows c.max-self-inside.ensures refl,
       );
-      sheet = rw (c.extend.ensures.items, c.push.ensures.items) sheet;
     }
 
 pub returns-clause-ok : goal.returns-clause-ok
 returns-clause-ok c = λ lines holds.
-    let held = Holds-push _ c.args.cells.now (record { row = c.args.row; start = c.len.result; len = length c.args.cells.now }) lines c.self.invariant.sheet c.len.ensures.value refl (rw (← c.self.view_is) at holds) in
-    rw (c.extend.ensures.items, c.push.ensures.items) held
+    let inside = c.self.inside in
+    let line : Placed = record { row = c.args.row; cells = c.args.cells.now } in
+    let page = sheet_of inside.texts inside.rows.items inside.row_count inside.charge inside.limit in
+    let held : Holds lines page = rw (← c.self.view_is) at holds in
+    Holds-push lines _ line page c.max-self-inside.result _ inside.limit held c.put.ensures.shows c.max-self-inside.ensures refl
