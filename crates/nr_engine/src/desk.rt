@@ -4,8 +4,9 @@ ghost use Rattle.nr_engine.specs.Measures.{Bounds};
 
 use super::limits::{Limits, Sizes};
 use super::line::{Line, PieceSlot};
-use nr_page::line::PlacedLine;
 use nr_page::page::room;
+use nr_page::row::RowSlot;
+use nr_pool::Slot;
 use nr_units::cell::Cell;
 use std::alloc::{AllocError, Global};
 use std::marker::Model;
@@ -16,8 +17,9 @@ pub fn sizes(limits: Limits) -> Sizes
     ensures pieces { result.pieces ≡ limits.cells }
     ensures row { result.row ≡ max limits.cells 1365 }
     ensures page_cells { result.page_cells ≡ limits.cells }
-    ensures page_lines { result.page_lines ≡ limits.cells }
-    ensures bound { result.cells + result.pieces + result.row + result.page_cells + result.page_lines ≤ 4 * limits.stored + 4 * limits.depth + 6 * limits.cells + 8192 }
+    ensures page_texts { result.page_texts ≡ limits.cells }
+    ensures page_rows { result.page_rows ≡ limits.cells }
+    ensures bound { result.cells + result.pieces + result.row + result.page_cells + result.page_texts + result.page_rows ≤ 4 * limits.stored + 4 * limits.depth + 6 * limits.cells + 8192 }
 {
     let cells = limits.cells();
     let line = Line::room(cells);
@@ -27,7 +29,8 @@ pub fn sizes(limits: Limits) -> Sizes
         pieces: line.pieces,
         row: line.row,
         page_cells: page.cells,
-        page_lines: page.lines,
+        page_texts: page.texts,
+        page_rows: page.rows,
     }
 }
 
@@ -39,7 +42,8 @@ pub struct Desk {
     pub(crate) pieces: Vec<PieceSlot>,
     pub(crate) row: Vec<Cell>,
     pub(crate) page_cells: Vec<Cell>,
-    pub(crate) page_lines: Vec<PlacedLine>,
+    pub(crate) page_texts: Vec<Slot>,
+    pub(crate) page_rows: Vec<RowSlot>,
 }
 
 impl Model for Desk {
@@ -51,7 +55,7 @@ impl Model for Desk {
 
     ghost view = { λ d. d.limits };
 
-    ghost invariant = { λ d. HasSizes d.limits.cells (vec_len d.cells) (vec_len d.pieces) (vec_len d.row) (vec_len d.page_cells) (vec_len d.page_lines) };
+    ghost invariant = { λ d. HasSizes d.limits.cells (vec_len d.cells) (vec_len d.pieces) (vec_len d.row) (vec_len d.page_cells) (vec_len d.page_texts) (vec_len d.page_rows) };
 }
 
 /// An empty working space, lent by a desk.
@@ -72,7 +76,8 @@ impl Desk {
             pieces: vec![in alloc; PieceSlot::blank(); sizes.pieces]?,
             row: vec![in alloc; Cell::blank(); sizes.row]?,
             page_cells: vec![in alloc; Cell::blank(); sizes.page_cells]?,
-            page_lines: vec![in alloc; PlacedLine::blank(); sizes.page_lines]?,
+            page_texts: vec![in alloc; Slot::blank(); sizes.page_texts]?,
+            page_rows: vec![in alloc; RowSlot::blank(); sizes.page_rows]?,
         })
     }
 

@@ -11,8 +11,9 @@ use super::outcome::Outcome;
 use super::paper::{PageState, Paper};
 use super::reading::Reading;
 use super::settings::Settings;
-use nr_page::line::PlacedLine;
 use nr_page::page::Page;
+use nr_page::row::RowSlot;
+use nr_pool::Slot;
 use nr_units::cell::Cell;
 use nr_units::sink::Sink;
 use nr_units::source::Source;
@@ -56,10 +57,11 @@ impl<'a> Engine<'a> {
         pieces: &'a mut [PieceSlot],
         row: &'a mut [Cell],
         page_cells: &'a mut [Cell],
-        page_lines: &'a mut [PlacedLine],
+        page_texts: &'a mut [Slot],
+        page_rows: &'a mut [RowSlot],
     ) -> Self
         requires within { limit < 2 ^ 32 }
-        requires sizes { HasSizes limit (length cells.now) (length pieces.now) (length row.now) (length page_cells.now) (length page_lines.now) }
+        requires sizes { HasSizes limit (length cells.now) (length pieces.now) (length row.now) (length page_cells.now) (length page_texts.now) (length page_rows.now) }
         ensures holds { (b : Bounds) (supply : Supply) → b.cells ≡ limit → Holds b (start supply) (shape result) }
         ensures weight { weight (shape result) ≡ 2 ^ 47 + 6 }
     {
@@ -70,7 +72,7 @@ impl<'a> Engine<'a> {
             line: Line::over(cells, pieces, limit),
             out: Out::over(row),
             paper: Paper {
-                page: Page::over(page_cells, page_lines, limit),
+                page: Page::over(page_cells, page_texts, page_rows, limit),
                 state: PageState::Unbegun,
                 place: 0,
             },

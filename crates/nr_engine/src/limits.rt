@@ -68,6 +68,8 @@ pub struct Sizes {
     pub row: usize,
     /// The cells of the open page.
     pub page_cells: usize,
-    /// The lines placed on it.
-    pub page_lines: usize,
+    /// Where the texts of its rows lie.
+    pub page_texts: usize,
+    /// Its rows.
+    pub page_rows: usize,
 }

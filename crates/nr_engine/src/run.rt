@@ -12,7 +12,8 @@ use super::engine::Engine;
 use super::line::PieceSlot;
 use super::options::Options;
 use super::outcome::Outcome;
-use nr_page::line::PlacedLine;
+use nr_page::row::RowSlot;
+use nr_pool::Slot;
 use nr_units::cell::Cell;
 use nr_units::sink::Sink;
 use nr_units::source::Source;
@@ -24,19 +25,20 @@ fn run<R: Source, W: Sink>(
     pieces: &mut [PieceSlot],
     row: &mut [Cell],
     page_cells: &mut [Cell],
-    page_lines: &mut [PlacedLine],
+    page_texts: &mut [Slot],
+    page_rows: &mut [RowSlot],
     input: &mut R,
     output: &mut W,
     moves: &mut u128,
 ) -> Outcome
     requires within { limit < 2 ^ 32 }
-    requires sizes { HasSizes limit (length cells.old) (length pieces.old) (length row.old) (length page_cells.old) (length page_lines.old) }
+    requires sizes { HasSizes limit (length cells.old) (length pieces.old) (length row.old) (length page_cells.old) (length page_texts.old) (length page_rows.old) }
     ensures answers { (b : Bounds) (supply : Supply) → b.cells ≡ limit → R.supply input.old ≡ Some supply →
         Answers b (start supply) moves.new result (W.held output.old) (W.held output.new) }
     ensures read_failures { R.failures input.new ≡ counted_if (is_read_fault result) (R.failures input.old) }
     ensures write_failures { W.failures output.new ≡ put_counted_if (is_write_fault result) (W.failures output.old) }
 {
-    let mut engine = Engine::over(limit, cells, pieces, row, page_cells, page_lines);
+    let mut engine = Engine::over(limit, cells, pieces, row, page_cells, page_texts, page_rows);
     *moves = 0;
     loop {
         match engine.advance(input, output) {
@@ -72,7 +74,8 @@ pub fn format<R: Source, W: Sink>(
         &mut desk.pieces,
         &mut desk.row,
         &mut desk.page_cells,
-        &mut desk.page_lines,
+        &mut desk.page_texts,
+        &mut desk.page_rows,
         input,
         output,
         moves,
