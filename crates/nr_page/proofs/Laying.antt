@@ -6,7 +6,7 @@ use Rattle.std.proofs.lemmas.List.{take_all, drop_all, length-take, set-get_or}
 use Rattle.std.proofs.lemmas.List.Sums.{sum_by-set}
 use Rattle.nr_units.specs.declared.cell.Cell.{Cell}
 use Rattle.nr_pool.specs.Texts.{Held, Texts, IsOpen, text, used, entry, no_text, with_text}
-use Rattle.nr_pool.specs.Laws.{within_of_open, text-with_text_same, with_text-with_text, with_text-text}
+use Rattle.nr_pool.specs.Laws.{within_of_open, used-with_text, text-with_text_same, with_text-with_text}
 use Rattle.nr_page.specs.Grid.{blank, is_blank}
 use Rattle.nr_page.specs.Overlay.{covered, overlaid, cell_or_blank}
 use Rattle.nr_page.proofs.Showing.{covered_by_blank, covered_by_other}
@@ -68,10 +68,7 @@ overlaid-rest below above n is = elim (cases_lt (length above) (length below)) [
 
 -- ---- in a pool
 
-pub used-with_text : (p : Texts Cell) (id : ℕ) (cells : List Cell) → id < length p.texts → used (with_text p id cells) + length (text p id) ≡ used p + length cells
-used-with_text p id cells within = sum_by-set (λ (t : Held Cell). length t.elements) p.texts id _ no_text within
-
--- a text that was written is longer by one element, or another stands in it
+-- the later of two texts that were written stays
 pub with_text-again : (p q r : Texts Cell) (id : ℕ) (xs ys : List Cell) → id < length p.texts → q ≡ with_text p id xs → r ≡ with_text q id ys → r ≡ with_text p id ys
 with_text-again p q r id xs ys within first second = second ∙ ap (λ (s : Texts Cell). with_text s id ys) first ∙ with_text-with_text p id xs ys
 

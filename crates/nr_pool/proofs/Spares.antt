@@ -4,8 +4,8 @@ use Rattle.std.proofs.lemmas.List.{length-map, length-set, length-replicate, get
 use Rattle.std.proofs.lemmas.List.Folds.{sum_by-replicate}
 use Rattle.std.proofs.lemmas.List.Sums.{sum-map, sum_by-set, sum_by-le, get_or-le-sum_by}
 use Rattle.std.proofs.lemmas.Bool.{cases_lt}
-use Rattle.nr_pool.specs.Texts.{no_text}
-use Rattle.nr_pool.specs.Places.{blank_slot, slot_at, held_of}
+use Rattle.nr_pool.specs.Texts.{Texts, no_text}
+use Rattle.nr_pool.specs.Places.{blank_slot, slot_at, held_of, texts_of}
 use Rattle.nr_pool.specs.Spares.{spare_at, taken, HasSpares, IsReached, IsPool}
 use Rattle.nr_pool.specs.declared.slot.Slot.{Slot}
 use Rattle.nr_pool.proofs.Places.{same_map, written_at}
@@ -253,3 +253,34 @@ pub reached_same : (slots news : List Slot) (r : ℕ) → length news ≡ length
 reached_same slots news r lengths same reached =
     let inside = reached.within in
     record { within = omega arith; beyond = λ k past. same k ∙ reached.beyond k past }
+
+-- ---- all texts removed
+
+-- a pool has as many numbers as slots
+pub slot_count : {T : Type 0} (E : List T) (slots : List Slot) (p : Texts T) → texts_of E slots ≡ p → length slots ≡ length p.texts
+slot_count E slots p view_is = sym (length-map slots (held_of E)) ∙ ap (λ (q : Texts _). length q.texts) view_is
+
+-- no slot has a text
+pub emptied : (capacity : ℕ) (slots : List Slot) (count first : ℕ) → capacity < 2 ^ 32 → HasSpares slots count first → ((k : ℕ) → (slot_at slots k).len ≡ 0) → ((k : ℕ) → (slot_at slots k).holders ≡ 0)
+    → IsPool capacity slots 0 count first 0
+emptied capacity slots count first fits spares empty none = record {
+  packed = record {
+    fits = fits;
+    room = omega arith;
+    filled = sym (sum-map (λ (s : Slot). s.len) slots) ∙ ap sum (all_same (λ (s : Slot). s.len) slots (length slots) 0 refl (λ k _. empty k)) ∙ sum_by-replicate (λ (x : ℕ). x) (length slots) 0 ∙ omega arith;
+    empty = λ i _. empty i;
+    inside = λ i some. let nil = empty i in absurd (omega arith);
+    apart = λ i j ne some _ _. let nil = empty i in absurd (omega arith);
+  };
+  spares = spares;
+  reached = record { within = omega arith; beyond = λ k _. none k };
+}
+
+-- what a slot without elements and holders stands for
+no_text-held_of : {T : Type 0} (E : List T) (start len holders : ℕ) → len ≡ 0 → holders ≡ 0 → held_of E (record { start = start; len = len; holders = holders }) ≡ no_text
+no_text-held_of E start len holders empty none = rw (empty, none) refl
+
+pub emptied_texts : {T : Type 0} (E : List T) (n : ℕ) (slots : List Slot) → length slots ≡ n → ((k : ℕ) → (slot_at slots k).len ≡ 0) → ((k : ℕ) → (slot_at slots k).holders ≡ 0)
+    → map (held_of E) slots ≡ replicate n no_text
+emptied_texts E n slots lengths empty none =
+    all_same (held_of E) slots n no_text lengths (λ k _. no_text-held_of E (slot_at slots k).start (slot_at slots k).len (slot_at slots k).holders (empty k) (none k))

@@ -6,7 +6,7 @@ ghost use Rattle.std.specs.Prelude.{◌≡◌, ◌≢◌, ℕ, ◌+◌, ◌^◌,
 ghost use Rattle.nr_pool.specs.Texts.{IsOpen, text, holders, used, no_text, opened, with_text, with_holders, without_text, released};
 
 pub use crate::slot::Slot;
-use crate::slot::bring_last;
+use crate::slot::{bring_last, spare_all};
 use std::marker::Model;
 
 mod slot;
@@ -50,7 +50,7 @@ pub struct Pool<'a, T: Copy> {
     // How many slots have no text, and the first of them.
     spares: usize,
     first_spare: u32,
-    // No slot from here on has ever had a text.
+    // No slot from here on has had a text since all were removed.
     reached: usize,
 }
 
@@ -196,6 +196,21 @@ impl<'a, T: Copy> Pool<'a, T> {
         };
         self.first_spare = id.index;
         self.spares += 1;
+    }
+
+    /// Removes all texts, whoever holds them. It takes one pass over the slots that have had a text since the
+    /// last time. The caller has fewer than 2^32 numbers, as `over` asks.
+    pub fn remove_all(&mut self)
+        requires { length self.old.texts < 2 ^ 32 }
+        ensures capacity { self.new.capacity ≡ self.old.capacity }
+        ensures empty { self.new.texts ≡ replicate (length self.old.texts) no_text }
+    {
+        let (spares, first_spare) =
+            spare_all(self.slots, self.reached, self.spares, self.first_spare);
+        self.used = 0;
+        self.spares = spares;
+        self.first_spare = first_spare;
+        self.reached = 0;
     }
 
     /// How many elements a text has.

@@ -1,5 +1,5 @@
 //! Where the texts of a pool lie.
-ghost use Rattle.std.specs.Prelude.{◌≡◌, ℕ, ◌+◌, ◌<◌, length};
+ghost use Rattle.std.specs.Prelude.{◌≡◌, ℕ, ◌+◌, ◌^◌, ◌<◌, length};
 ghost use Rattle.nr_pool.specs.Places.{texts_of, slot_at, blank_slot, is_behind, IsPacked};
 ghost use Rattle.nr_pool.specs.Spares.{HasSpares, IsReached};
 
@@ -32,6 +32,35 @@ impl Slot {
     {
         self.len > 0 && self.start >= end
     }
+}
+
+// Takes the texts from all slots, of which only the first `reached` have ever had one. There were `count` spare
+// slots, from `first` on. It tells how many there are, and the first, which is that of the lowest text.
+pub(crate) fn spare_all(slots: &mut [Slot], reached: usize, count: usize, first: u32) -> (usize, u32)
+    requires spares { HasSpares slots.old count first }
+    requires reached { IsReached slots.old reached }
+    requires empty { (k : ℕ) → (slot_at slots.old k).holders ≡ 0 → (slot_at slots.old k).len ≡ 0 }
+    requires fits { reached < 2 ^ 32 }
+    ensures spares { HasSpares slots.new result.0 result.1 }
+    ensures empty { (k : ℕ) → (slot_at slots.new k).len ≡ 0 }
+    ensures none { (k : ℕ) → (slot_at slots.new k).holders ≡ 0 }
+{
+    let mut count = count;
+    let mut first = first;
+    let mut end = reached;
+    while end > 0 {
+        end -= 1;
+        if slots[end].holders > 0 {
+            slots[end] = Slot {
+                start: first,
+                len: 0,
+                holders: 0,
+            };
+            first = end as u32;
+            count += 1;
+        }
+    }
+    (count, first)
 }
 
 // Moves the text at `index` behind all others, into the elements that end at `used`. Only the first `reached`

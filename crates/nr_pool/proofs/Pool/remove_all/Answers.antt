@@ -1,16 +1,14 @@
-use Rattle.std.proofs.Common.{refl, sym, ap, ◌∙◌, length, arith}
-use Rattle.std.proofs.lemmas.List.{length-map}
-use Rattle.nr_pool.specs.Texts.{Texts}
-use Rattle.nr_pool.specs.Places.{held_of}
-use Rattle.nr_pool.proofs.Spares.{fresh, fresh_texts, slot_count}
+use Rattle.std.proofs.Common.{◌∙◌, arith}
+use Rattle.nr_pool.proofs.Spares.{slot_count, emptied, emptied_texts}
 use Rattle.nr_pool.proofs.Pool.remove_all.Goals as goal
 
-pub make_spare-requires : goal.make_spare-requires
-make_spare-requires g c = let same = slot_count _ _ _ c.self.view_is in let fits = c.requires in omega arith
+pub spare_all-spares-requires-clause-fits : goal.spare_all-spares-requires-clause-fits
+spare_all-spares-requires-clause-fits g c = let same = slot_count _ _ _ c.self.view_is in let fits = c.requires in let reached = c.self.invariant.reached.within in omega arith
 
 pub invariant_of-self : goal.invariant_of-self
-invariant_of-self g c = fresh _ _ _ c.self.invariant.packed.fits refl c.make_spare.ensures
+invariant_of-self g c =
+    emptied _ _ _ _ c.self.invariant.packed.fits c.spare_all-spares.ensures.spares c.spare_all-spares.ensures.empty c.spare_all-spares.ensures.none
 
 pub returns-clause-empty : goal.returns-clause-empty
 returns-clause-empty g c =
-    fresh_texts _ _ _ (c.make_spare.auto.slots ∙ slot_count _ _ _ c.self.view_is) (λ k below. c.make_spare.ensures k (let same = slot_count _ _ _ c.self.view_is in let kept = c.make_spare.auto.slots in omega arith))
+    emptied_texts _ _ _ (c.spare_all-spares.auto.slots ∙ slot_count _ _ _ c.self.view_is) c.spare_all-spares.ensures.empty c.spare_all-spares.ensures.none
