@@ -1,18 +1,18 @@
 -- How the text of a page list falls apart: its first item, and what stands behind it.
 use Rattle.std.proofs.Common.{◌≡◌, ℕ, List, [], ◌∷◌, ◌++◌, refl, sym, subst, append-nil}
-use Rattle.nr_page.specs.declared.selection.Pages.{Pages}
+use Rattle.nr_page.specs.declared.selection.PageRange.{PageRange}
 use Rattle.nr_page.specs.Selection.{SpellsItem, Spells, comma}
 use Rattle.nr_page.specs.SelectionReading.{BeginsAfterItem}
 
 -- what stands behind an item: nothing, or a comma and the other items
-abbrev pub Continues : List Pages → List ℕ → Type 0
+abbrev pub Continues : List PageRange → List ℕ → Type 0
 Continues [] after = after ≡ []
 Continues (next ∷ others) after = (rest : List ℕ) × (after ≡ comma ∷ rest) × Spells (next ∷ others) rest
 
 -- the first of the items, and the others
-pub record FirstItem (items : List Pages) (text : List ℕ) : Type 0 where
-  pub item : Pages
-  pub others : List Pages
+pub record FirstItem (items : List PageRange) (text : List ℕ) : Type 0 where
+  pub item : PageRange
+  pub others : List PageRange
   pub front : List ℕ
   pub after : List ℕ
   pub items_are : items ≡ item ∷ others
@@ -22,7 +22,7 @@ pub record FirstItem (items : List Pages) (text : List ℕ) : Type 0 where
   pub continues : Continues others after
 
 -- a page list begins with an item
-pub first_item : (items : List Pages) (text : List ℕ) → Spells items text → FirstItem items text
+pub first_item : (items : List PageRange) (text : List ℕ) → Spells items text → FirstItem items text
 first_item [] text spelled = absurd spelled
 first_item (item ∷ []) text spelled = record {
   item = item;
@@ -48,23 +48,23 @@ first_item (item ∷ next ∷ others) text (front, rest, text_is, spelled, rest_
 }
 
 -- one more item in front
-pub Spells-cons : (item : Pages) (others : List Pages) (front rest text : List ℕ) → SpellsItem item front → text ≡ front ++ comma ∷ rest
+pub Spells-cons : (item : PageRange) (others : List PageRange) (front rest text : List ℕ) → SpellsItem item front → text ≡ front ++ comma ∷ rest
     → Spells others rest → Spells (item ∷ others) text
 Spells-cons item [] front rest text spelled is rest_spelled = absurd rest_spelled
 Spells-cons item (next ∷ others) front rest text spelled is rest_spelled = (front, rest, is, spelled, rest_spelled)
 
 -- behind an item at which the text ends there is none
-pub Continues-nil : (others : List Pages) (after : List ℕ) → Continues others after → after ≡ [] → others ≡ []
+pub Continues-nil : (others : List PageRange) (after : List ℕ) → Continues others after → after ≡ [] → others ≡ []
 Continues-nil [] after continues is = refl
 Continues-nil (next ∷ others) after (rest, after_is, _) is = cc
 
 -- behind a comma there are more
-pub Continues-comma : (others : List Pages) (after rest : List ℕ) → Continues others after → after ≡ comma ∷ rest → Spells others rest
+pub Continues-comma : (others : List PageRange) (after rest : List ℕ) → Continues others after → after ≡ comma ∷ rest → Spells others rest
 Continues-comma [] after rest continues is = cc
 Continues-comma (next ∷ others) after rest (more, after_is, spelled) is =
     let same : more ≡ rest = cc in subst (λ (xs : List ℕ). Spells (next ∷ others) xs) same spelled
 
 -- else the text is at its end
-pub Continues-other : (others : List Pages) (after : List ℕ) → Continues others after → ((rest : List ℕ) → after ≡ comma ∷ rest → ⊥) → after ≡ []
+pub Continues-other : (others : List PageRange) (after : List ℕ) → Continues others after → ((rest : List ℕ) → after ≡ comma ∷ rest → ⊥) → after ≡ []
 Continues-other [] after continues other = continues
 Continues-other (next ∷ others) after (rest, after_is, _) other = absurd (other rest after_is)

@@ -12,4 +12,4 @@ mod selection;
 mod tests;
 mod writing;
 
-pub use selection::{BadList, Pages, Select};
+pub use selection::{BadList, PageRange, Select};

@@ -2,7 +2,7 @@
 ghost use Rattle.std.specs.Prelude.{◌≡◌, ◌≢◌, ℕ, ◌<◌, ◌≤◌, ◌↔◌, List, [], ◌∷◌, ◌++◌, ℤ, IsTrue, IsErr, IfOk, Some, IfSome, IfNone, IsSomeAnd, codes};
 ghost use Rattle.nr_page.specs.Selection.{WritesNumber, SpellsItem, Spells, IsPageList, Includes, Selects};
 ghost use Rattle.nr_page.specs.SelectionReading.{BeginsNoDigit, BeginsAfterItem};
-ghost use Rattle.nr_page.specs.declared.selection.Pages.{Pages as Item};
+ghost use Rattle.nr_page.specs.declared.selection.PageRange.{PageRange as Item};
 
 use arrayvec::ArrayVec;
 use std::error::Error;
@@ -21,7 +21,7 @@ const HYPHEN: u8 = b'-';
 
 /// The pages that one item of a page list names. N and M are at most 2147483647.
 #[derive(Clone, Copy, Debug, PartialEq, Eq)]
-pub enum Pages {
+pub enum PageRange {
     /// `N`: page N alone.
     One(u32),
     /// `N-M`: from page N to page M, both included.
@@ -32,28 +32,28 @@ pub enum Pages {
     From(u32),
 }
 
-impl Pages {
+impl PageRange {
     /// Whether the item names the page.
     fn includes(self, page: i64) -> bool
         ensures { IsTrue result ↔ Includes self page }
     {
         match self {
-            Pages::One(number) => page == i64::from(number),
-            Pages::Between(first, last) => i64::from(first) <= page && page <= i64::from(last),
-            Pages::UpTo(last) => page <= i64::from(last),
-            Pages::From(first) => i64::from(first) <= page,
+            PageRange::One(number) => page == i64::from(number),
+            PageRange::Between(first, last) => i64::from(first) <= page && page <= i64::from(last),
+            PageRange::UpTo(last) => page <= i64::from(last),
+            PageRange::From(first) => i64::from(first) <= page,
         }
     }
 }
 
 /// Page 0 alone, which fills the unused places of a list.
-impl Default for Pages {
-    ghost use Rattle.nr_page.specs.declared.selection.Pages.TheVariants.{One};
+impl Default for PageRange {
+    ghost use Rattle.nr_page.specs.declared.selection.PageRange.TheVariants.{One};
 
     ghost is_default = { λ pages. pages ≡ One 0 };
 
     fn default() -> Self {
-        Pages::One(0)
+        PageRange::One(0)
     }
 }
 
@@ -74,12 +74,12 @@ impl Error for BadList {}
 /// The pages to print: all of them, or those that a page list names.
 #[derive(Clone, Debug, Drop, PartialEq, Eq)]
 pub struct Select {
-    list: Option<ArrayVec<Pages, MOST_ITEMS>>,
+    list: Option<ArrayVec<PageRange, MOST_ITEMS>>,
 }
 
 impl Model for Select {
     ghost use Rattle.std.specs.Prelude.{Option, List, option_map};
-    ghost use Rattle.nr_page.specs.declared.selection.Pages.{Pages as Item};
+    ghost use Rattle.nr_page.specs.declared.selection.PageRange.{PageRange as Item};
 
     ghost Value = { Option (List Item) };
 
@@ -122,7 +122,7 @@ impl Select {
 }
 
 /// The items of the list, all of the text.
-fn read_list(text: &[u8]) -> Option<ArrayVec<Pages, MOST_ITEMS>>
+fn read_list(text: &[u8]) -> Option<ArrayVec<PageRange, MOST_ITEMS>>
     ensures listed { IfSome result (λ list. IsPageList list.items text.now) }
     ensures read { (items : List Item) → IsPageList items text.now → IsSomeAnd result (λ list. list.items ≡ items) }
 {
@@ -139,7 +139,7 @@ fn read_list(text: &[u8]) -> Option<ArrayVec<Pages, MOST_ITEMS>>
 }
 
 /// The item at the front of the text, and what follows it.
-fn read_item(text: &[u8]) -> Option<(Pages, &[u8])>
+fn read_item(text: &[u8]) -> Option<(PageRange, &[u8])>
     ensures found { IfSome result (λ found. (front : List ℕ) × (text.now ≡ front ++ found.1.now)
         × SpellsItem found.0 front) }
     ensures read { (item : Item) (front after : List ℕ) → SpellsItem item front → BeginsAfterItem after
@@ -147,17 +147,17 @@ fn read_item(text: &[u8]) -> Option<(Pages, &[u8])>
 {
     if let Some(rest) = after_byte(text, HYPHEN) {
         let (last, after) = read_number(rest)?;
-        return Some((Pages::UpTo(last), after));
+        return Some((PageRange::UpTo(last), after));
     }
     let (first, after_first) = read_number(text)?;
     let Some(rest) = after_byte(after_first, HYPHEN) else {
-        return Some((Pages::One(first), after_first));
+        return Some((PageRange::One(first), after_first));
     };
     let Some((last, after)) = read_number(rest) else {
-        return Some((Pages::From(first), rest));
+        return Some((PageRange::From(first), rest));
     };
     if first <= last {
-        Some((Pages::Between(first, last), after))
+        Some((PageRange::Between(first, last), after))
     } else {
         None
     }

@@ -1,8 +1,8 @@
 // Pages with their bytes, and what a sink that fails leaves.
 ghost use Rattle.std.specs.Prelude.{◌≤◌, length};
 
-use crate::row::RowSlot;
 use crate::page::{Page, PageCells, WriteFault, room};
+use crate::row::RowSlot;
 use nr_pool::Slot;
 use nr_units::cell::Cell;
 use nr_units::fakes::{Shut, Slate};
@@ -16,7 +16,7 @@ struct Case {
     bytes: &'static [u8],
 }
 
-const CASES: [Case; 17] = [
+const CASES: [Case; 22] = [
     Case {
         name: "no line and no row",
         lines: &[],
@@ -106,6 +106,52 @@ const CASES: [Case; 17] = [
         lines: &[(0, b"l"), (1, b"m"), (0, b"  r"), (1, b"  s")],
         rows: 2,
         bytes: b"l r\nm s\n",
+    },
+    Case {
+        name: "back to the top, further to the right",
+        lines: &[(0, b"a"), (1, b"b"), (0, b"    c"), (1, b"    d")],
+        rows: 2,
+        bytes: b"a   c\nb   d\n",
+    },
+    Case {
+        name: "upward line by line",
+        lines: &[(4, b"e"), (3, b"dd"), (2, b""), (1, b"b"), (0, b"aaa")],
+        rows: 3,
+        bytes: b"aaa\nb\n\ndd\ne\n",
+    },
+    Case {
+        name: "upward between two rows, and down again",
+        lines: &[
+            (0, b"top"),
+            (9, b"end"),
+            (6, b"g"),
+            (4, b"e"),
+            (2, b"c"),
+            (3, b"d"),
+            (5, b"f"),
+            (10, b"k"),
+            (9, b"... END"),
+        ],
+        rows: 8,
+        bytes: b"top\n\nc\nd\ne\nf\ng\n\n\n... END\nk\n",
+    },
+    Case {
+        name: "a longer line on an earlier row",
+        lines: &[
+            (0, b"ab"),
+            (1, b"cde"),
+            (0, b"   fgh"),
+            (1, b"X    Y"),
+            (0, b" B"),
+        ],
+        rows: 2,
+        bytes: b"aB fgh\nXde  Y\n",
+    },
+    Case {
+        name: "an empty line below the lowest row with cells",
+        lines: &[(0, b"a"), (3, b""), (1, b"b")],
+        rows: 2,
+        bytes: b"a\nb\n\n\n",
     },
     Case {
         name: "a shorter line on a longer one",
@@ -256,7 +302,12 @@ fn keeps_the_limit(rt: HostRuntime) {
     let mut rows = [RowSlot::blank(); 7];
     for (limit, second, bytes) in [(6, Err(PageCells), b"abc\n"), (7, Ok(()), b"xyc\n")] {
         let room = room(limit);
-        assert!(rt; room.cells <= cells.len() && room.texts <= texts.len() && room.rows <= rows.len() && limit <= 7);
+        assert!(rt;
+            room.cells <= cells.len()
+                && room.texts <= texts.len()
+                && room.rows <= rows.len()
+                && limit <= 7
+        );
         let mut page = Page::over(&mut cells, &mut texts, &mut rows, limit);
         assert!(rt; page.is_empty());
         assert!(rt; place_all(&mut page, &[(0, b"abc")]) == Ok(()));

@@ -1,6 +1,6 @@
 ghost use Rattle.std.specs.Prelude.{[], ◌∷◌, pos, negsuc, codes};
 ghost use Rattle.nr_page.specs.Selection.{IsPageList, Includes};
-ghost use Rattle.nr_page.specs.declared.selection.Pages.TheVariants.{One, Between, UpTo, From};
+ghost use Rattle.nr_page.specs.declared.selection.PageRange.TheVariants.{One, Between, UpTo, From};
 
 use super::*;
 use std::test::Fail;

@@ -1,6 +1,6 @@
 use Rattle.std.proofs.Common.{inl, inr, ℕ, List, [], ◌∷◌, ◌++◌, refl, sym, ap, ◌∙◌, append_assoc, arith}
 use Rattle.nr_page.specs.Selection.{hyphen}
-use Rattle.nr_page.specs.declared.selection.Pages.TheVariants.{UpTo, Between}
+use Rattle.nr_page.specs.declared.selection.PageRange.TheVariants.{UpTo, Between}
 use Rattle.nr_page.proofs.ItemText.{number_at_front, after_item_no_digit, up_to_item, FirstNumber, first_number, first_number_cut, GoesOn-no_digit, goes_on_behind, one_item, from_or_between}
 use Rattle.nr_page.proofs.selection.read_item.Goals as goal
 

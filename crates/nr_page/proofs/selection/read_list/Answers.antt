@@ -1,5 +1,5 @@
 use Rattle.std.proofs.Common.{◌≡◌, ℕ, List, [], ◌∷◌, ◌++◌, length, sym, ap, subst, ◌∙◌, append_assoc, arith, rules}
-use Rattle.nr_page.specs.declared.selection.Pages.{Pages}
+use Rattle.nr_page.specs.declared.selection.PageRange.{PageRange}
 use Rattle.nr_page.specs.Selection.{Spells}
 use Rattle.nr_page.proofs.ListText.{first_item, Spells-cons, Continues-nil, Continues-comma, Continues-other}
 use Rattle.nr_page.proofs.selection.read_list.Goals as goal
@@ -40,8 +40,8 @@ loop-item-preserved c =
           let found = c.in_ok-item.ensures.found in
           let longer = Spells-cons item more found.0 rest c.loop-item.rest.now found.2
           (found.1 ∙ ap (λ (xs : List ℕ). found.0 ++ xs) c.in_ok-rest.ensures.found) spelled in
-          subst (λ (xs : List Pages). Spells xs c.args.text.now)
-          (sym (append_assoc list (item ∷ []) more) ∙ ap (λ (xs : List Pages). xs ++ more) (sym pushed))
+          subst (λ (xs : List PageRange). Spells xs c.args.text.now)
+          (sym (append_assoc list (item ∷ []) more) ∙ ap (λ (xs : List PageRange). xs ++ more) (sym pushed))
           (c.loop-item.invariant.spells (item ∷ more) longer);
       goes_on = λ items spelled.
           let left = c.loop-item.invariant.goes_on items spelled in

@@ -7,8 +7,7 @@ use Rattle.nr_page.proofs.page.Page.is_empty.Goals as goal
 
 pub returns : goal.returns
 returns c = λ lines holds.
-    let charge_is : c.self.inside.charge ≡ page_charge lines = ap (λ (page : Sheet). page.charge) c.self.view_is ∙ holds.charged in
-    (
+    let charge_is : c.self.inside.charge ≡ page_charge lines = ap (λ (page : Sheet). page.charge) c.self.view_is ∙ holds.charged in (
       λ none. nil_from_page_charge lines (sym charge_is ∙ eqb-true c.self.inside.charge 0 none),
       λ nil. eq-eqb c.self.inside.charge 0 (charge_is ∙ ap page_charge nil),
     )

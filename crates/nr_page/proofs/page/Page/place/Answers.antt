@@ -26,7 +26,7 @@ invariant_of-self c =
       holds = (
         kept.holds.0 ++ line ∷ [],
         Holds-push kept.holds.0 _ line (sheet_of inside.texts inside.rows.items inside.row_count inside.charge inside.limit) c.max-self-inside.result _ inside.limit
-        kept.holds.1 c.put.ensures.shows c.max-self-inside.ensures refl,
+            kept.holds.1 c.put.ensures.shows c.max-self-inside.ensures refl,
       );
     }
 
