@@ -1,5 +1,6 @@
 // Bytes are gathered and go out to a sink many at a time.
-ghost use Rattle.std.specs.Prelude.{◌≡◌, ℕ, ◌+◌, ◌*◌, ◌<◌, ◌≤◌, List, [], ◌∷◌, ◌++◌, length, replicate, OnOk, OnErr};
+ghost use Rattle.std.specs.Prelude.{◌≡◌, ℕ, ◌+◌, ◌*◌, ◌<◌, ◌≤◌, List, [], ◌∷◌, ◌++◌, length, replicate, false, All, OnOk, OnErr};
+ghost use Rattle.nr_units.specs.declared.cell.Cell.{Cell as CellValue};
 ghost use Rattle.std.specs.List.{flat_map};
 ghost use Rattle.nr_units.specs.Failures.{put_counted};
 ghost use Rattle.nr_page.specs.Gathered.{GathersOrFails};
@@ -49,11 +50,27 @@ fn gather_cell(pending: &mut SliceVec<'_, u8>, cell: Cell)
     }
 }
 
+/// Whether one of the cells is underlined.
+fn any_under(cells: &[Cell]) -> bool
+    ensures { result ≡ false → All (λ (cell : CellValue). cell.under ≡ false) cells.now }
+{
+    let mut any = false;
+    for cell in cells {
+        any |= cell.under;
+    }
+    any
+}
+
+/// Most rows have no cell that is underlined, and their bytes are copied in one plain loop.
 fn gather_cells(pending: &mut SliceVec<'_, u8>, cells: &[Cell])
     requires { length pending.old.items + 3 * length cells.now ≤ pending.old.room }
     ensures items { pending.new.items ≡ pending.old.items ++ flat_map cell_bytes cells.now }
     ensures room { pending.new.room ≡ pending.old.room }
 {
+    if !any_under(cells) {
+        pending.extend_bytes(cells);
+        return;
+    }
     for cell in cells {
         gather_cell(pending, *cell);
     }
@@ -73,7 +90,7 @@ pub(crate) fn write_cells<W: Sink>(
     let mut at = 0;
     while at < cells.len() {
         let end = at + RUN.min(cells.len() - at);
-        make_room(pending, 3 * RUN, output)?;
+        make_room(pending, 3 * (end - at), output)?;
         gather_cells(pending, &cells[at..end]);
         at = end;
     }

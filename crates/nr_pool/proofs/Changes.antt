@@ -1,5 +1,5 @@
 -- What each change of a pool keeps true of its slots.
-use Rattle.std.proofs.Common.{◌≡◌, ℕ, ◌+◌, ◌-◌, ◌<◌, ◌≤◌, List, length, max, set, arith}
+use Rattle.std.proofs.Common.{◌≡◌, ℕ, ◌+◌, ◌-◌, ◌^◌, ◌<◌, ◌≤◌, List, length, max, set, arith}
 use Rattle.nr_pool.specs.Texts.{Texts, IsOpen}
 use Rattle.nr_pool.specs.Places.{slot_at, texts_of, IsPacked}
 use Rattle.nr_pool.specs.Spares.{HasSpares, IsReached, IsPool}
@@ -48,11 +48,11 @@ module _ {T : Type 0} (E : List T) (slots : List Slot) (n count first : ℕ) (p 
 
 -- a text is opened
 pub after_open : (capacity : ℕ) (slots : List Slot) (n count m first r : ℕ) (new : Slot) → IsPool capacity slots n count first r → count ≡ m + 1 → new.start ≡ (slot_at slots first).start → new.len ≡ (slot_at slots first).len → 0 < new.holders
-    → (q : ℕ) → q ≡ max r (first + 1) → IsPool capacity (set slots first new) n m new.start q
-after_open capacity slots n count m first r new pool more start len held q is =
+    → (q : ℕ) → q ≡ max r (first + 1) → first < 2 ^ 32 → IsPool capacity (set slots first new) n m new.start q
+after_open capacity slots n count m first r new pool more start len held q is fits =
     let spares = pool.spares in
     record {
       packed = set_same capacity n slots first new pool.packed (spares.within 0 (omega arith)) len (λ _. start) (λ none. absurd (omega arith));
       spares = spares_open slots count m first new spares more held start;
-      reached = reached_open slots first new r q is (spares.within 0 (omega arith)) pool.reached;
+      reached = reached_open slots first new r q is fits (spares.within 0 (omega arith)) pool.reached;
     }

@@ -207,7 +207,7 @@ fresh capacity n slots fits lengths each =
         unheld = λ k below. rw (at k below) (ap (λ (s : Slot). s.holders) (each k below));
         distinct = λ j k j_below k_below e. sym (at j j_below) ∙ e ∙ at k k_below;
       };
-      reached = record { within = omega arith; beyond = λ k _. unheld k };
+      reached = record { within = omega arith; fits = omega arith; beyond = λ k _. unheld k };
     }
 
 -- and stands for none
@@ -230,6 +230,7 @@ reached_set slots i new r within held reached =
     let inside = reached.within in
     record {
       within = omega (arith, length-set slots i new);
+      fits = reached.fits;
       beyond = λ k past. elim (written_at slots i new within k) [
         | inl h ↦ let is = h.0 in absurd (omega arith)
         | inr h ↦ ap (λ (s : Slot). s.holders) h.1 ∙ reached.beyond k past
@@ -237,11 +238,12 @@ reached_set slots i new r within held reached =
     }
 
 -- a slot is given its first text
-pub reached_open : (slots : List Slot) (i : ℕ) (new : Slot) (r q : ℕ) → q ≡ max r (i + 1) → i < length slots → IsReached slots r → IsReached (set slots i new) q
-reached_open slots i new r q is within reached =
+pub reached_open : (slots : List Slot) (i : ℕ) (new : Slot) (r q : ℕ) → q ≡ max r (i + 1) → i < 2 ^ 32 → i < length slots → IsReached slots r → IsReached (set slots i new) q
+reached_open slots i new r q is fits within reached =
     let inside = reached.within in
     record {
       within = omega (arith, length-set slots i new);
+      fits = omega (arith, reached.fits);
       beyond = λ k past. elim (written_at slots i new within k) [
         | inl h ↦ let same = h.0 in absurd (omega arith)
         | inr h ↦ ap (λ (s : Slot). s.holders) h.1 ∙ reached.beyond k (omega arith)
@@ -252,7 +254,7 @@ reached_open slots i new r q is within reached =
 pub reached_same : (slots news : List Slot) (r : ℕ) → length news ≡ length slots → ((k : ℕ) → (slot_at news k).holders ≡ (slot_at slots k).holders) → IsReached slots r → IsReached news r
 reached_same slots news r lengths same reached =
     let inside = reached.within in
-    record { within = omega arith; beyond = λ k past. same k ∙ reached.beyond k past }
+    record { within = omega arith; fits = reached.fits; beyond = λ k past. same k ∙ reached.beyond k past }
 
 -- ---- all texts removed
 
@@ -273,7 +275,7 @@ emptied capacity slots count first fits spares empty none = record {
     apart = λ i j ne some _ _. let nil = empty i in absurd (omega arith);
   };
   spares = spares;
-  reached = record { within = omega arith; beyond = λ k _. none k };
+  reached = record { within = omega arith; fits = omega arith; beyond = λ k _. none k };
 }
 
 -- what a slot without elements and holders stands for

@@ -1,5 +1,5 @@
 -- The slots of a pool with no text, each of which names the next.
-use Rattle.std.specs.Prelude.{◌≡◌, ℕ, zero, suc, ◌+◌, ◌<◌, ◌≤◌, List, length, min, sum_by}
+use Rattle.std.specs.Prelude.{◌≡◌, ℕ, zero, suc, ◌+◌, ◌^◌, ◌<◌, ◌≤◌, List, length, min, sum_by}
 use Rattle.nr_pool.specs.declared.slot.Slot.{Slot}
 use Rattle.nr_pool.specs.Places.{slot_at, IsPacked}
 
@@ -22,6 +22,7 @@ pub record HasSpares (slots : List Slot) (count first : ℕ) : Type 0 where
 -- no slot from `ever` on has a text
 pub record IsReached (slots : List Slot) (ever : ℕ) : Type 0 where
   pub within : ever ≤ length slots
+  pub fits : ever ≤ 2 ^ 32
   pub beyond : (k : ℕ) → ever ≤ k → (slot_at slots k).holders ≡ 0
 
 -- the texts are packed, each slot with no text is among the spare ones, and those that never had one are known

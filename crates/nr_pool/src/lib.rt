@@ -199,14 +199,17 @@ impl<'a, T: Copy> Pool<'a, T> {
     }
 
     /// Removes all texts, whoever holds them. It takes one pass over the slots that have had a text since the
-    /// last time. The caller has fewer than 2^32 numbers, as `over` asks.
+    /// last time.
     pub fn remove_all(&mut self)
-        requires { length self.old.texts < 2 ^ 32 }
         ensures capacity { self.new.capacity ≡ self.old.capacity }
         ensures empty { self.new.texts ≡ replicate (length self.old.texts) no_text }
     {
-        let (spares, first_spare) =
-            spare_all(self.slots, self.reached, self.spares, self.first_spare);
+        let (spares, first_spare) = spare_all(
+            self.slots,
+            self.reached,
+            self.spares,
+            self.first_spare,
+        );
         self.used = 0;
         self.spares = spares;
         self.first_spare = first_spare;

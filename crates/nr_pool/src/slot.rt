@@ -36,11 +36,15 @@ impl Slot {
 
 // Takes the texts from all slots, of which only the first `reached` have ever had one. There were `count` spare
 // slots, from `first` on. It tells how many there are, and the first, which is that of the lowest text.
-pub(crate) fn spare_all(slots: &mut [Slot], reached: usize, count: usize, first: u32) -> (usize, u32)
+pub(crate) fn spare_all(
+    slots: &mut [Slot],
+    reached: usize,
+    count: usize,
+    first: u32,
+) -> (usize, u32)
     requires spares { HasSpares slots.old count first }
     requires reached { IsReached slots.old reached }
     requires empty { (k : ℕ) → (slot_at slots.old k).holders ≡ 0 → (slot_at slots.old k).len ≡ 0 }
-    requires fits { reached < 2 ^ 32 }
     ensures spares { HasSpares slots.new result.0 result.1 }
     ensures empty { (k : ℕ) → (slot_at slots.new k).len ≡ 0 }
     ensures none { (k : ℕ) → (slot_at slots.new k).holders ≡ 0 }

@@ -181,6 +181,30 @@ fn closed_number_serves_again(rt: HostRuntime) -> Result<(), Fail> {
     Ok(())
 }
 
+// Each number is given out once more after all texts were removed, and there is all the room again.
+#[test]
+fn all_removed(rt: HostRuntime) -> Result<(), Fail> {
+    let mut elements = [0u8; 3];
+    let mut slots = [Slot::blank(); 3];
+    let mut pool = Pool::over(&mut elements, &mut slots);
+    for _ in 0..2 {
+        let first = pool.open()?;
+        if pool.holders(first) == 1 {
+            pool.hold(first);
+        }
+        let second = pool.open()?;
+        let third = pool.open()?;
+        assert_eq!(rt; pool.open(), Err(Full));
+        pool.append_slice(second, b"ab")?;
+        pool.append(first, b'c')?;
+        assert_eq!(rt; pool.append(third, b'd'), Err(Full));
+        assert_eq!(rt; pool.text(second), b"ab".as_slice());
+        pool.remove_all();
+        assert!(rt; !pool.is_open(first) && !pool.is_open(second) && !pool.is_open(third));
+    }
+    Ok(())
+}
+
 #[test]
 fn long_run(rt: HostRuntime) -> Result<(), Fail> {
     let mut elements = [0u8; CAPACITY];

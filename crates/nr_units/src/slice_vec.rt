@@ -1,7 +1,9 @@
 //! A vector over a slice that is lent: it grows at its end up to the slice's length.
-ghost use Rattle.std.specs.Prelude.{◌≡◌, ◌==◌, ◌+◌, ◌-◌, ◌<◌, ◌≤◌, [], ◌∷◌, ◌++◌, length, take, drop, slice_get, slice_set, Some};
+ghost use Rattle.std.specs.Prelude.{◌≡◌, ◌==◌, ◌+◌, ◌-◌, ◌<◌, ◌≤◌, [], ◌∷◌, ◌++◌, length, take, drop, slice_get, slice_set, Some, map, ℕ, List};
 ghost use Rattle.std.specs.List.{insert, remove};
+ghost use Rattle.nr_units.specs.declared.cell.Cell.{Cell as CellValue};
 
+use crate::cell::Cell;
 use std::marker::Model;
 
 /// How many items are copied at once where no more than so many are added.
@@ -226,6 +228,30 @@ impl<'a, T: Copy> SliceVec<'a, T> {
         ensures room { self.new.room ≡ self.old.room }
     {
         self.len = 0;
+    }
+}
+
+impl<'a> SliceVec<'a, u8> {
+    /// Adds the byte of each cell.
+    #[inline]
+    pub fn extend_bytes(&mut self, cells: &[Cell])
+        requires { length self.old.items + length cells.now ≤ self.old.room }
+        ensures items { self.new.items ≡ self.old.items ++ map (λ (cell : CellValue). cell.byte) cells.now }
+        ensures room { self.new.room ≡ self.old.room }
+    {
+        let end = self.len + cells.len();
+        set_bytes(&mut self.slots[self.len..end], cells);
+        self.len = end;
+    }
+}
+
+/// The bytes of as many cells.
+fn set_bytes(bytes: &mut [u8], cells: &[Cell])
+    requires { length bytes.old ≡ length cells.now }
+    ensures { bytes.new ≡ map (λ (cell : CellValue). cell.byte) cells.now }
+{
+    for i in 0..bytes.len() {
+        bytes[i] = cells[i].byte;
     }
 }
 

@@ -17,7 +17,7 @@ bounds-self-inside-index g c = c.self.invariant.spares.within 0 (omega arith)
 pub invariant_of-self : goal.invariant_of-self
 invariant_of-self g c =
     let more : c.self.inside.spares ≡ (c.self.inside.spares - 1) + 1 = omega arith in
-    after_open _ _ _ _ _ _ _ _ c.self.invariant more refl refl (omega arith) _ c.max-self-inside.ensures
+    after_open _ _ _ _ _ _ _ _ c.self.invariant more refl refl (omega arith) _ c.max-self-inside.ensures (omega arith)
 
 pub returns-clause-full : goal.returns-clause-full
 returns-clause-full g c = (

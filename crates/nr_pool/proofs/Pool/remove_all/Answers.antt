@@ -2,9 +2,6 @@ use Rattle.std.proofs.Common.{◌∙◌, arith}
 use Rattle.nr_pool.proofs.Spares.{slot_count, emptied, emptied_texts}
 use Rattle.nr_pool.proofs.Pool.remove_all.Goals as goal
 
-pub spare_all-spares-requires-clause-fits : goal.spare_all-spares-requires-clause-fits
-spare_all-spares-requires-clause-fits g c = let same = slot_count _ _ _ c.self.view_is in let fits = c.requires in let reached = c.self.invariant.reached.within in omega arith
-
 pub invariant_of-self : goal.invariant_of-self
 invariant_of-self g c =
     emptied _ _ _ _ c.self.invariant.packed.fits c.spare_all-spares.ensures.spares c.spare_all-spares.ensures.empty c.spare_all-spares.ensures.none
