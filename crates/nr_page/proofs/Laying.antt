@@ -1,11 +1,10 @@
 -- Cells laid over a text, one after another.
 use Rattle.std.specs.Prelude.{Result, Ok, Err, IsOk, IsErr}
-use Rattle.std.proofs.Common.{◌≡◌, ◌≢◌, eq-eqb, ne_eqb, ℕ, zero, suc, ◌+◌, ◌-◌, ◌≤◌, ◌<◌, max, min, List, [], ◌∷◌, ◌++◌, length, take, drop, set, true, false, inl, inr, refl, sym, ap, ◌∙◌, arith, append-nil}
+use Rattle.std.proofs.Common.{◌≡◌, ◌≢◌, eq-eqb, ne_eqb, ℕ, zero, suc, ◌+◌, ◌≤◌, ◌<◌, max, min, List, [], ◌∷◌, ◌++◌, length, take, drop, set, true, false, inl, inr, refl, sym, ap, ◌∙◌, arith, append-nil}
 use Rattle.std.proofs.lemmas.Bool.{cases_lt}
 use Rattle.std.proofs.lemmas.List.{take_all, drop_all, length-take, set-get_or}
-use Rattle.std.proofs.lemmas.List.Sums.{sum_by-set}
 use Rattle.nr_units.specs.declared.cell.Cell.{Cell}
-use Rattle.nr_pool.specs.Texts.{Held, Texts, IsOpen, text, used, entry, no_text, with_text}
+use Rattle.nr_pool.specs.Texts.{Texts, IsOpen, text, used, with_text}
 use Rattle.nr_pool.specs.Laws.{within_of_open, used-with_text, text-with_text_same, with_text-with_text}
 use Rattle.nr_page.specs.Grid.{blank, is_blank}
 use Rattle.nr_page.specs.Overlay.{covered, overlaid, cell_or_blank}

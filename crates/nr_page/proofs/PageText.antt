@@ -1,19 +1,18 @@
 -- The bytes of rows.
-use Rattle.std.proofs.Common.{◌≡◌, ◌≢◌, ℕ, zero, suc, ◌+◌, ◌-◌, ◌≤◌, ◌<◌, max, List, [], ◌∷◌, ◌++◌, length, map, take, drop, replicate, reverse, Bool, true, false, cond, not, ◌==◌, refl, sym, ap, ◌∙◌, arith, zero-add, add-zero, suc-add, append-nil, append_assoc, inl, inr}
-use Rattle.std.specs.Prelude.{slice_index_or}
+use Rattle.std.proofs.Common.{◌≡◌, ℕ, zero, suc, ◌+◌, ◌-◌, ◌≤◌, ◌<◌, max, List, [], ◌∷◌, ◌++◌, length, map, take, replicate, Bool, true, false, not, ◌==◌, refl, sym, ap, ◌∙◌, arith, zero-add, add-zero, suc-add, append-nil, append_assoc, inl, inr}
 use Rattle.std.specs.List.{filter, flat_map, fold, range_with_len, prefix_len, suffix_len}
-use Rattle.std.proofs.Math.Nat.{le-max_left, le-max_right, max-le, max-eq_left, max-eq_right}
-use Rattle.std.proofs.lemmas.Bool.{cases_lt, cases_Bool, eqb-true, cond-true}
-use Rattle.std.proofs.lemmas.List.{map-append, take-append-le, take-append-drop, length_push, length-append, get_or-take, length-take-le, reverse-append, same_lists, length-map}
+use Rattle.std.proofs.Math.Nat.{le-max_left, le-max_right, max-eq_right}
+use Rattle.std.proofs.lemmas.Bool.{cases_Bool, eqb-true, cond-true}
+use Rattle.std.proofs.lemmas.List.{map-append, take-append-le, length_push, get_or-take, length-take-le, reverse-append}
 use Rattle.std.proofs.lemmas.List.Concat.{flat_map-append}
-use Rattle.std.proofs.lemmas.List.FromFn.{length-map-range_with_len, get_or-map-range_with_len, take-map-range_with_len}
+use Rattle.std.proofs.lemmas.List.FromFn.{length-map-range_with_len, get_or-map-range_with_len}
 use Rattle.std.proofs.lemmas.List.Sums.{suffix_len_is}
 use Rattle.nr_units.specs.declared.cell.Cell.{Cell}
 use Rattle.nr_page.specs.Grid.{Placed, blank, is_blank, on_row, cells_at, last_shown, cell_at}
 use Rattle.nr_page.specs.PageBytes.{cell_bytes, column_count, trimmed, row_cells, row_bytes, row_count, page_bytes}
 use Rattle.nr_page.specs.Sheet.{Sheet, ShowsSame, Holds}
 use Rattle.nr_page.specs.Overlay.{covered, cell_or_blank, IsTrimmed, line_bytes, rows_bytes}
-use Rattle.nr_page.proofs.Showing.{last_shown-push, covered_by_blank, covered_by_other, on_row-none, on_row-alone, HasNone}
+use Rattle.nr_page.proofs.Showing.{last_shown-push, covered_by_blank, covered_by_other}
 
 -- ---- where lines show nothing
 

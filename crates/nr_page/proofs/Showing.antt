@@ -1,5 +1,5 @@
 -- What lines show at a place, line by line.
-use Rattle.std.proofs.Common.{◌≡◌, ◌≢◌, ℕ, zero, suc, ◌+◌, ◌≤◌, ◌<◌, max, List, [], ◌∷◌, ◌++◌, length, map, Bool, true, false, cond, not, ◌==◌, Option, None, Some, unwrap_or, inl, inr, refl, sym, ap, ◌∙◌, arith, append-nil, eq-eqb, ne_eqb}
+use Rattle.std.proofs.Common.{◌≡◌, ◌≢◌, ℕ, zero, suc, ◌+◌, ◌<◌, max, List, [], ◌∷◌, ◌++◌, length, Bool, true, false, cond, not, ◌==◌, Option, None, Some, unwrap_or, inl, inr, refl, sym, ap, ◌∙◌, arith, append-nil, eq-eqb, ne_eqb}
 use Rattle.std.specs.Prelude.{slice_index_or}
 use Rattle.std.proofs.lemmas.Bool.{cases_Bool, cases_eq}
 use Rattle.std.proofs.lemmas.List.{map-append}

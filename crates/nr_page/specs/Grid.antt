@@ -4,7 +4,8 @@ use Rattle.std.specs.List.{filter, last_or, sum_by}
 pub use Rattle.nr_units.specs.Cells.{blank, is_blank}
 use Rattle.nr_units.specs.declared.cell.Cell.{Cell}
 
--- a line placed on a page: its row, counted from 0 at the top, and its cells, from column 0 on
+-- a line placed on a page: its row, counted from 0 at the top, and its cells, from column 0 on. Each line ends at 40u
+-- or below, so none is above row 0.
 pub record Placed : Type 0 where
   pub row : ℕ
   pub cells : List Cell

@@ -49,9 +49,9 @@ pub fn room(limit: usize) -> PageRoom
 /// The open page, over slices that are lent to it. It holds the lines placed on it, up to a limit: each line is
 /// charged 1 and its cells. Of lines on one row it keeps one text, the later laid over the earlier.
 ///
-/// A line on the last row, or below it, takes time for its cells, and one above it for a search too; where it makes a
-/// row that is there longer, or comes to a new row, what lies between this place and the one of the line before is
-/// moved, in blocks.
+/// A line on the last row, or below it, takes time for its cells, and one above it for a search too. Where it comes
+/// to a new row, the rows between it and the newest one are moved; where it makes an earlier row longer, the cells of
+/// the texts behind that row's are moved.
 #[derive(Drop)]
 pub struct Page<'a> {
     texts: Pool<'a, Cell>,

@@ -1,4 +1,4 @@
-use Rattle.std.proofs.Common.{◌+◌, ◌-◌, get_or, ap, ◌∙◌, sym, arith}
+use Rattle.std.proofs.Common.{◌+◌, get_or, ap, ◌∙◌, arith}
 use Rattle.nr_page.proofs.Gapped.{gapped-moved}
 use Rattle.nr_page.proofs.gap_vec.move_gap.Goals as goal
 

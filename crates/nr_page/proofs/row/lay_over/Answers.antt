@@ -1,4 +1,4 @@
-use Rattle.std.proofs.Common.{◌≡◌, length, take, refl, sym, ap, ◌∙◌, arith, length-drop}
+use Rattle.std.proofs.Common.{◌≡◌, length, take, sym, ap, ◌∙◌, arith, length-drop}
 use Rattle.std.proofs.lemmas.List.{get_or_default, take_rest}
 use Rattle.nr_pool.specs.Texts.{text, with_text}
 use Rattle.nr_pool.specs.Laws.{with_text-text}

@@ -1,11 +1,10 @@
-use Rattle.std.proofs.Common.{◌≡◌, ◌+◌, ◌-◌, ◌≤◌, ◌++◌, replicate, ap, ◌∙◌, arith}
+use Rattle.std.proofs.Common.{◌+◌, ◌-◌, ◌≤◌, ◌++◌, ap, ◌∙◌, arith}
 use Rattle.std.proofs.lemmas.Result.{err_from_is_err_and}
-use Rattle.std.proofs.lemmas.Option.{slice_get_within}
 use Rattle.nr_page.specs.Overlay.{rows_bytes}
 use Rattle.nr_page.specs.Rows.{rows_of}
 use Rattle.nr_page.proofs.Fronts.{Gathers-append, Gathers-front, GathersOrFails-last}
 use Rattle.nr_page.proofs.PageText.{rows_bytes-front}
-use Rattle.nr_page.proofs.Keeping.{number_at, before_number, behind_number, rows_bytes-kept, rows_bytes-rest}
+use Rattle.nr_page.proofs.Keeping.{number_at, before_number, rows_bytes-kept, rows_bytes-rest}
 use Rattle.nr_page.proofs.writing.write_rows.Goals as goal
 
 pub returns-in_err-write_row-clause-gathers : goal.returns-in_err-write_row-clause-gathers

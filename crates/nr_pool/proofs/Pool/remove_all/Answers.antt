@@ -1,4 +1,4 @@
-use Rattle.std.proofs.Common.{◌∙◌, arith}
+use Rattle.std.proofs.Common.{◌∙◌}
 use Rattle.nr_pool.proofs.Spares.{slot_count, emptied, emptied_texts}
 use Rattle.nr_pool.proofs.Pool.remove_all.Goals as goal
 

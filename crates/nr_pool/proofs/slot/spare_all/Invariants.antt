@@ -1,4 +1,4 @@
-use Rattle.std.proofs.Common.{◌≡◌, ℕ, ◌≤◌, length}
+use Rattle.std.proofs.Common.{◌≡◌, ℕ, ◌≤◌}
 use Rattle.nr_pool.specs.Places.{slot_at}
 use Rattle.nr_pool.specs.Spares.{HasSpares}
 use Rattle.nr_pool.proofs.slot.spare_all.Given as goal

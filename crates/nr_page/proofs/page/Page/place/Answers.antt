@@ -1,4 +1,4 @@
-use Rattle.std.proofs.Common.{◌≤◌, ◌<◌, ◌+◌, [], ◌∷◌, ◌++◌, length, refl, ◌∙◌, arith}
+use Rattle.std.proofs.Common.{◌≤◌, ◌<◌, [], ◌∷◌, ◌++◌, refl, ◌∙◌, arith}
 use Rattle.nr_page.specs.Grid.{Placed}
 use Rattle.nr_page.specs.Rows.{sheet_of}
 use Rattle.nr_page.specs.Sheet.{Holds}
