@@ -1,0 +1,11 @@
+pub mod Cut
+pub mod Laid
+pub mod Lined
+pub mod Lying
+pub mod Pieces
+pub mod Rows
+pub mod Setting
+pub mod Slots
+pub mod Spreading
+pub mod Tabs
+pub mod Titles

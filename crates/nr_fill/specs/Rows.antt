@@ -1,0 +1,30 @@
+-- A row of cells in a slice that may be too short for it.
+use Rattle.std.specs.Prelude.{◌≡◌, ℕ, ◌+◌, ◌-◌, ◌^◌, ◌==◌, min, if◌then◌else◌, List, length, take}
+use Rattle.nr_units.specs.Cells.{trimmed}
+use Rattle.nr_units.specs.declared.cell.Cell.{Cell}
+
+-- what is kept of a row
+pub record Row : Type 0 where
+  -- its first cells, as many as there is room for
+  pub kept : List Cell
+  -- how many cells it has
+  pub count : ℕ
+  -- how many there are up to the last that is no blank
+  pub written : ℕ
+  pub room : ℕ
+
+-- a count as far as it is kept
+abbrev pub counted : ℕ → ℕ
+counted n = min n (2 ^ 64 - 1)
+
+-- what is kept of these cells
+abbrev pub row_of : ℕ → List Cell → Row
+row_of room cells = record { kept = take room cells; count = counted (length cells); written = counted (length (trimmed cells)); room = room }
+
+-- the row holds these cells
+abbrev pub IsRow : List Cell → Row → Type 0
+IsRow cells r = r ≡ row_of r.room cells
+
+-- how many there are up to the last that is no blank, where `more` of those that were added behind `count` are
+abbrev pub written_behind : ℕ → ℕ → ℕ → ℕ
+written_behind written count more = if more == 0 then written else counted (count + more)

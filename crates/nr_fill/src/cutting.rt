@@ -1,0 +1,87 @@
+// Which pieces go out in one line, and how they are set.
+ghost use Rattle.std.specs.Prelude.{◌≡◌, ◌+◌, ◌<◌, ◌≤◌, ◌^◌, List, [], ◌∷◌, ◌++◌, length, sum_by, count_by};
+ghost use Rattle.nr_units.specs.declared.cell.Cell.{Cell as CellValue};
+ghost use Rattle.nr_fill.specs.Cut.{cut};
+ghost use Rattle.nr_fill.specs.Rows.{IsRow};
+ghost use Rattle.nr_fill.specs.Slots.{pieces_of, cells_in_slots, slots_width, gap_slots};
+ghost use Rattle.nr_fill.specs.Spreading.{cells_in_line};
+
+use crate::out::Out;
+use crate::piece::{Join, PieceSlot};
+use crate::setting::Extra;
+use nr_units::cell::Cell;
+
+/// What the pieces of a line come to.
+#[derive(Clone, Copy)]
+pub(crate) struct Sums {
+    pub(crate) cells: usize,
+    /// How wide they are with all their gaps, the first one's too.
+    pub(crate) wide: usize,
+    /// How many of them but the first hang on a gap.
+    pub(crate) gaps: usize,
+}
+
+/// The number of pieces in the longest front that fits the line, and 1 where none does.
+pub(crate) fn longest_front(slots: &[PieceSlot], line: usize) -> usize
+    requires some { 0 < length slots.now }
+    requires wide { slots_width slots.now < 2 ^ 63 }
+    ensures pieces { (cells : List CellValue) → cells_in_slots slots.now ≤ length cells → result ≡ cut line (pieces_of slots.now cells) }
+    ensures some { 0 < result }
+    ensures within { result ≤ length slots.now }
+{
+    let mut best = 1;
+    let mut width = slots[0].len as usize;
+    let mut count = 1;
+    while count < slots.len() && width <= line {
+        let PieceSlot { join, len } = slots[count];
+        if width + usize::from(join.hyphen()) <= line {
+            best = count;
+        }
+        width += usize::from(join.width()) + len as usize;
+        count += 1;
+    }
+    if width <= line { count } else { best }
+}
+
+/// What these pieces come to.
+pub(crate) fn sums_of(slots: &[PieceSlot]) -> Sums
+    requires some { 0 < length slots.now }
+    requires wide { slots_width slots.now < 2 ^ 63 }
+    ensures cells { result.cells ≡ cells_in_slots slots.now }
+    ensures wide { result.wide ≡ slots_width slots.now }
+    ensures gaps { result.gaps ≡ gap_slots slots.now }
+{
+    let PieceSlot { join, len } = slots[0];
+    let mut cells = len as usize;
+    let mut wide = usize::from(join.width()) + cells;
+    let mut gaps = 0;
+    let others = &slots[1..];
+    for slot in others {
+        cells += slot.len as usize;
+        wide += usize::from(slot.join.width()) + slot.len as usize;
+        gaps += usize::from(matches!(slot.join, Join::Gap(_)));
+    }
+    Sums { cells, wide, gaps }
+}
+
+/// Sets these pieces in the row behind what stands there.
+pub(crate) fn set_pieces(slots: &[PieceSlot], cells: &[Cell], extra: Extra, out: &mut Out<'_>)
+    requires some { 0 < length slots.now }
+    requires cells { cells_in_slots slots.now ≤ length cells.now }
+    ensures set { (row : List CellValue) → IsRow row out.old → IsRow (row ++ cells_in_line extra (pieces_of slots.now cells.now)) out.new }
+    ensures room { out.new.room ≡ out.old.room }
+{
+    let mut taken = slots[0].len as usize;
+    out.extend(&cells[..taken]);
+    let mut gap = 1;
+    let others = &slots[1..];
+    for slot in others {
+        if let Join::Gap(blanks) = slot.join {
+            out.blanks(usize::from(blanks) + extra.at(gap));
+            gap += 1;
+        }
+        let end = taken + slot.len as usize;
+        out.extend(&cells[taken..end]);
+        taken = end;
+    }
+}

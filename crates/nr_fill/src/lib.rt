@@ -1,0 +1,20 @@
+//! The collected line: text that is read and not set yet, cutting lines off it, spreading them, setting
+//! them in a row of cells, tab stops, and titles.
+#![tactic(auto)]
+
+mod cutting;
+pub mod line;
+pub mod margins;
+pub mod out;
+pub mod piece;
+mod piece_row;
+pub mod setting;
+mod slice_queue;
+pub mod stops;
+mod tabs;
+mod taking;
+#[cfg(test)]
+mod tests;
+pub mod title;
+mod titling;
+mod words;

@@ -1,0 +1,157 @@
+//! The row that a line is set in.
+ghost use Rattle.std.specs.Prelude.{◌≡◌, ◌+◌, ◌-◌, ◌<◌, ◌≤◌, ◌^◌, List, [], ◌∷◌, ◌++◌, length, take, replicate, MatchOption};
+ghost use Rattle.std.specs.List.{suffix_len};
+ghost use Rattle.nr_units.specs.Cells.{blank, is_blank, trimmed};
+ghost use Rattle.nr_units.specs.declared.cell.Cell.{Cell as CellValue};
+ghost use Rattle.nr_fill.specs.Rows.{IsRow, row_of, counted, written_behind};
+
+use nr_units::cell::Cell;
+use nr_units::slice_vec::SliceVec;
+use std::marker::Model;
+
+/// A row of cells in a slice that is lent. Cells for which the slice has no room are only counted: how many there are,
+/// and how many up to the last that is no blank.
+///
+/// Clauses see what is kept of a row as a value of its own, and say of each call what it does to whatever row that may be.
+#[derive(Drop)]
+pub struct Out<'a> {
+    cells: SliceVec<'a, Cell>,
+    count: usize,
+    written: usize,
+}
+
+impl<'a> Model for Out<'a> {
+    ghost use Rattle.std.specs.Prelude.{◌<◌, ◌^◌};
+    ghost use Rattle.nr_fill.specs.Rows.{Row};
+
+    ghost Value = { Row };
+
+    ghost view = { λ o. record { kept = o.cells.items; count = o.count; written = o.written; room = o.cells.room } };
+
+    ghost invariant = { λ o. o.cells.room < 2 ^ 32 };
+}
+
+impl<'a> Out<'a> {
+    /// A row with no cells, and room for as many as the slice has.
+    pub fn over(cells: &'a mut [Cell]) -> Self
+        requires { length cells.now < 2 ^ 32 }
+        ensures { result ≡ row_of (length cells.entry.now) [] }
+    {
+        Out {
+            cells: SliceVec::over(cells),
+            count: 0,
+            written: 0,
+        }
+    }
+
+    /// The row without the blanks at its end, where there was room for it.
+    pub fn row(&self) -> Option<&[Cell]>
+        ensures { (cells : List CellValue) → IsRow cells self.now →
+            MatchOption result (self.now.room < length (trimmed cells)) (λ row. row.now ≡ trimmed cells) }
+    {
+        if self.written <= self.cells.len() {
+            Some(&self.cells.as_slice()[..self.written])
+        } else {
+            None
+        }
+    }
+
+    /// How many cells the row has up to the last that is no blank.
+    #[inline]
+    pub fn written(&self) -> usize
+        ensures { result ≡ self.now.written }
+    {
+        self.written
+    }
+
+    /// Takes all cells away.
+    #[inline]
+    pub fn clear(&mut self)
+        ensures { self.new ≡ row_of self.old.room [] }
+    {
+        self.cells.clear();
+        self.count = 0;
+        self.written = 0;
+    }
+
+    /// Adds a cell.
+    #[inline]
+    pub fn push(&mut self, cell: Cell)
+        ensures pushed { (cells : List CellValue) → IsRow cells self.old → IsRow (cells ++ cell ∷ []) self.new }
+        ensures room { self.new.room ≡ self.old.room }
+    {
+        let one = [cell];
+        self.extend(&one);
+    }
+
+    /// Adds these cells.
+    #[inline]
+    pub fn extend(&mut self, more: &[Cell])
+        ensures extended { (cells : List CellValue) → IsRow cells self.old → IsRow (cells ++ more.now) self.new }
+        ensures room { self.new.room ≡ self.old.room }
+    {
+        let n = more.len().min(self.cells.room() - self.cells.len());
+        self.cells.extend(&more[..n]);
+        self.written = written_behind(self.written, self.count, written_len(more));
+        self.count = self.count.saturating_add(more.len());
+    }
+
+    /// Adds n blanks.
+    #[inline]
+    pub fn blanks(&mut self, n: usize)
+        ensures extended { (cells : List CellValue) → IsRow cells self.old → IsRow (cells ++ replicate n blank) self.new }
+        ensures room { self.new.room ≡ self.old.room }
+    {
+        let kept = n.min(self.cells.room() - self.cells.len());
+        push_blanks(&mut self.cells, kept);
+        self.count = self.count.saturating_add(n);
+    }
+
+    /// Takes the blanks at the end away.
+    #[inline]
+    pub fn trim(&mut self)
+        ensures trimmed { (cells : List CellValue) → IsRow cells self.old → IsRow (trimmed cells) self.new }
+        ensures room { self.new.room ≡ self.old.room }
+    {
+        let kept = self.written.min(self.cells.len());
+        self.cells.truncate(kept);
+        self.count = self.written;
+    }
+}
+
+/// Adds n blanks.
+fn push_blanks(cells: &mut SliceVec<'_, Cell>, n: usize)
+    requires { length cells.old.items + n ≤ cells.old.room }
+    ensures items { cells.new.items ≡ cells.old.items ++ replicate n blank }
+    ensures room { cells.new.room ≡ cells.old.room }
+{
+    for _blank in 0..n {
+        cells.push(Cell::blank());
+    }
+}
+
+/// How many cells there are up to the last that is no blank, where `more` of those that were added are, behind
+/// `count` cells of which `written` are.
+#[inline]
+fn written_behind(written: usize, count: usize, more: usize) -> usize
+    ensures { result ≡ written_behind written count more }
+{
+    if more == 0 {
+        written
+    } else {
+        count.saturating_add(more)
+    }
+}
+
+/// How many cells stand up to the last that is no blank.
+#[inline]
+fn written_len(cells: &[Cell]) -> usize
+    ensures value { result ≡ length cells.now - suffix_len is_blank cells.now }
+    ensures within { result ≤ length cells.now }
+{
+    let mut len = cells.len();
+    while len > 0 && cells[len - 1].byte == b' ' {
+        len -= 1;
+    }
+    len
+}

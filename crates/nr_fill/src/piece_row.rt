@@ -1,0 +1,230 @@
+// Pieces one after another in two lent slices, behind them the cells of one that has no end yet, and those of a title.
+ghost use Rattle.std.specs.Prelude.{◌≡◌, ℕ, ◌+◌, ◌-◌, ◌<◌, ◌≤◌, ◌^◌, List, [], ◌∷◌, ◌++◌, length, min, take, drop, replicate};
+ghost use Rattle.std.specs.List.{flat_map};
+ghost use Rattle.nr_units.specs.declared.cell.Cell.{Cell as CellValue};
+ghost use Rattle.nr_fill.specs.Cut.{cut, hyphen_before, pieces_width};
+ghost use Rattle.nr_fill.specs.Laid.{read_cells};
+ghost use Rattle.nr_fill.specs.Pieces.{Piece, cells_in};
+ghost use Rattle.nr_fill.specs.Rows.{IsRow};
+ghost use Rattle.nr_fill.specs.Spreading.{cells_in_line, gaps};
+
+use crate::cutting::{Sums, longest_front, set_pieces, sums_of};
+use crate::out::Out;
+use crate::piece::{Join, PieceSlot};
+use crate::setting::Extra;
+use crate::slice_queue::SliceQueue;
+use nr_units::cell::Cell;
+use std::marker::Model;
+
+/// The cells of all pieces stand in one slice one after another, behind them those of the piece that is being read and
+/// those of a title; a second slice says of each piece how long it is and how it hangs on the one before it.
+#[derive(Drop)]
+pub(crate) struct PieceRow<'a> {
+    cells: SliceQueue<'a, Cell>,
+    slots: SliceQueue<'a, PieceSlot>,
+    /// How many cells are the pieces'.
+    pieced: usize,
+    /// How many cells are not the title's.
+    read: usize,
+}
+
+impl<'a> Model for PieceRow<'a> {
+    ghost use Rattle.std.specs.Prelude.{min};
+    ghost use Rattle.nr_fill.specs.Laid.{Laid, laid_of, IsLaid};
+
+    ghost Value = { Laid };
+
+    ghost view = { λ r. laid_of r.slots.items r.cells.items r.pieced r.read (min r.slots.room r.cells.room) };
+
+    ghost invariant = { λ r. IsLaid r.slots.items r.cells.items r.slots.room r.cells.room r.pieced r.read };
+}
+
+impl<'a> PieceRow<'a> {
+    /// No pieces and no cells.
+    pub(crate) fn over(cells: &'a mut [Cell], slots: &'a mut [PieceSlot]) -> Self
+        requires small { length cells.now < 2 ^ 32 }
+        ensures { result ≡ record { pieces = []; last = []; title = []; room = min (length slots.entry.now) (length cells.entry.now) } }
+    {
+        PieceRow {
+            cells: SliceQueue::over(cells),
+            slots: SliceQueue::over(slots),
+            pieced: 0,
+            read: 0,
+        }
+    }
+
+    /// How many pieces there are.
+    #[inline]
+    pub(crate) fn pieces(&self) -> usize
+        ensures { result ≡ length self.now.pieces }
+    {
+        self.slots.len()
+    }
+
+    /// How many cells there are but the title's.
+    #[inline]
+    pub(crate) fn read(&self) -> usize
+        ensures { result ≡ read_cells self.now }
+    {
+        self.read
+    }
+
+    /// How many cells stand behind the last piece, but the title's.
+    #[inline]
+    pub(crate) fn last_len(&self) -> usize
+        ensures { result ≡ length self.now.last }
+    {
+        self.read - self.pieced
+    }
+
+    /// How many cells the title has.
+    #[inline]
+    pub(crate) fn title_len(&self) -> usize
+        ensures { result ≡ length self.now.title }
+    {
+        self.cells.len() - self.read
+    }
+
+    /// How the first piece hangs on what is before it.
+    pub(crate) fn first_join(&self) -> Join
+        requires { 0 < length self.now.pieces }
+        ensures { (p : Piece) → (ps : List Piece) → self.now.pieces ≡ p ∷ ps → result ≡ p.join }
+    {
+        self.slots.as_slice()[0].join
+    }
+
+    /// One more cell behind the last piece.
+    #[inline]
+    pub(crate) fn push(&mut self, cell: Cell)
+        requires room { read_cells self.old < self.old.room }
+        requires no_title { self.old.title ≡ [] }
+        ensures { self.new ≡ record self.old { last = self.old.last ++ cell ∷ [] } }
+    {
+        self.cells.push(cell);
+        self.read += 1;
+    }
+
+    /// Puts n copies of a cell in, so many cells behind the last piece.
+    pub(crate) fn insert_copies(&mut self, place: usize, cell: Cell, n: usize)
+        requires within { place ≤ length self.old.last }
+        requires room { read_cells self.old + n ≤ self.old.room }
+        requires no_title { self.old.title ≡ [] }
+        ensures { self.new ≡ record self.old { last = take place self.old.last ++ replicate n cell ++ drop place self.old.last } }
+    {
+        self.cells.insert_copies(self.pieced + place, cell, n);
+        self.read += n;
+    }
+
+    /// Keeps so many of the cells behind the last piece.
+    pub(crate) fn shorten(&mut self, n: usize)
+        requires within { n ≤ length self.old.last }
+        requires no_title { self.old.title ≡ [] }
+        ensures { self.new ≡ record self.old { last = take n self.old.last } }
+    {
+        self.read = self.pieced + n;
+        self.cells.truncate(self.read);
+    }
+
+    /// So many of the cells behind the last piece are a piece of their own.
+    #[inline]
+    pub(crate) fn close(&mut self, join: Join, n: usize)
+        requires within { n ≤ length self.old.last }
+        requires room { length self.old.pieces < self.old.room }
+        ensures { self.new ≡ record self.old { pieces = self.old.pieces ++ record { join = join; cells = take n self.old.last } ∷ []; last = drop n self.old.last } }
+    {
+        self.slots.push(PieceSlot {
+            join,
+            len: n as u32,
+        });
+        self.pieced += n;
+    }
+
+    /// One more cell of a title.
+    pub(crate) fn push_title(&mut self, cell: Cell)
+        requires { read_cells self.old + length self.old.title < self.old.room }
+        ensures { self.new ≡ record self.old { title = self.old.title ++ cell ∷ [] } }
+    {
+        self.cells.push(cell);
+    }
+
+    /// No title is being read.
+    #[inline]
+    pub(crate) fn clear_title(&mut self)
+        ensures { self.new ≡ record self.old { title = [] } }
+    {
+        self.cells.truncate(self.read);
+    }
+
+    /// The title's cells.
+    pub(crate) fn title(&self) -> &[Cell]
+        ensures { result.now ≡ self.now.title }
+    {
+        &self.cells.as_slice()[self.read..]
+    }
+
+    /// The cells behind the first pieces, but the title's. The other pieces have `parted` cells.
+    pub(crate) fn cells_behind(&self, parted: usize) -> &[Cell]
+        requires { parted ≤ cells_in self.now.pieces }
+        ensures { (n : ℕ) → cells_in (drop n self.now.pieces) ≡ parted → result.now ≡ flat_map (λ (p : Piece). p.cells) (drop n self.now.pieces) ++ self.now.last }
+    {
+        &self.cells.as_slice()[self.pieced - parted..self.read]
+    }
+
+    /// The number of pieces in the longest front of the first n that fits the line, and 1 where none does.
+    pub(crate) fn longest_front(&self, n: usize, line: usize) -> usize
+        requires some { 0 < n }
+        requires within { n ≤ length self.now.pieces }
+        requires wide { pieces_width (take n self.now.pieces) < 2 ^ 63 }
+        ensures pieces { result ≡ cut line (take n self.now.pieces) }
+        ensures some { 0 < result }
+        ensures within { result ≤ n }
+    {
+        longest_front(&self.slots.as_slice()[..n], line)
+    }
+
+    /// What the first n pieces come to.
+    pub(crate) fn sums(&self, n: usize) -> Sums
+        requires some { 0 < n }
+        requires within { n ≤ length self.now.pieces }
+        requires wide { pieces_width (take n self.now.pieces) < 2 ^ 63 }
+        ensures cells { result.cells ≡ cells_in (take n self.now.pieces) }
+        ensures wide { result.wide ≡ pieces_width (take n self.now.pieces) }
+        ensures gaps { result.gaps ≡ gaps (take n self.now.pieces) }
+    {
+        sums_of(&self.slots.as_slice()[..n])
+    }
+
+    /// Whether a line of n pieces, of the first `all`, ends with a hyphen.
+    pub(crate) fn hyphen(&self, n: usize, all: usize) -> u16
+        requires within { n ≤ all }
+        requires all { all ≤ length self.now.pieces }
+        ensures { result ≡ hyphen_before (drop n (take all self.now.pieces)) }
+    {
+        if n == all {
+            return 0;
+        }
+        self.slots.as_slice()[n].join.hyphen()
+    }
+
+    /// Sets the first n pieces in the row behind what stands there.
+    pub(crate) fn set(&self, n: usize, extra: Extra, out: &mut Out<'_>)
+        requires some { 0 < n }
+        requires within { n ≤ length self.now.pieces }
+        ensures set { (row : List CellValue) → IsRow row out.old → IsRow (row ++ cells_in_line extra (take n self.now.pieces)) out.new }
+        ensures room { out.new.room ≡ out.old.room }
+    {
+        set_pieces(&self.slots.as_slice()[..n], self.cells.as_slice(), extra, out);
+    }
+
+    /// Takes the first n pieces away, which have so many cells.
+    pub(crate) fn remove_front(&mut self, n: usize, cells: usize)
+        requires within { n ≤ length self.old.pieces }
+        requires cells { cells ≡ cells_in (take n self.old.pieces) }
+        ensures { self.new ≡ record self.old { pieces = drop n self.old.pieces } }
+    {
+        self.slots.remove_front(n);
+        self.cells.remove_front(cells);
+        self.pieced -= cells;
+        self.read -= cells;
+    }
+}

@@ -1,0 +1,119 @@
+//! How a line is set. (CSTR 54, sections 4.1 and 4.2.)
+ghost use Rattle.std.specs.Prelude.{◌≡◌, ◌/◌, ◌<◌, ◌^◌};
+ghost use Rattle.nr_fill.specs.Setting.{shift, is_spread};
+ghost use Rattle.nr_fill.specs.Spreading.{shared, extra_at, no_extra, other_turn};
+
+use crate::margins::Turn;
+
+/// Where a line's text stands.
+#[derive(Clone, Copy, Debug, PartialEq, Eq)]
+pub enum Align {
+    /// At the indent.
+    Left,
+    /// At the indent, its gaps widened until it is as long as it may be.
+    Spread,
+    /// At the end of the line.
+    Right,
+    /// In the middle of the line, the left of two.
+    Centre,
+}
+
+/// How a line is set.
+#[derive(Clone, Copy, Debug, PartialEq, Eq)]
+pub struct Setting {
+    pub align: Align,
+    /// How many blanks stand before the indent.
+    pub offset: u32,
+}
+
+/// By how many blanks the gaps of a line are widened.
+#[derive(Clone, Copy, Debug, PartialEq, Eq)]
+pub struct Extra {
+    /// Each gap.
+    pub(crate) each: usize,
+    /// 1 more those above this one,
+    pub(crate) above: usize,
+    /// up to this one.
+    pub(crate) up_to: usize,
+}
+
+impl Align {
+    /// How far a line that leaves so many cells stands from the indent.
+    pub(crate) fn shift(self, left_over: usize) -> usize
+        ensures { result ≡ shift self left_over }
+    {
+        match self {
+            Align::Left | Align::Spread => 0,
+            Align::Right => left_over,
+            Align::Centre => left_over / 2,
+        }
+    }
+
+    /// Whether a line that leaves so many cells and has so many gaps is spread.
+    pub(crate) fn spreads(self, left_over: usize, gaps: usize) -> bool
+        ensures { result ≡ is_spread self left_over gaps }
+    {
+        match self {
+            Align::Spread => left_over > 0 && gaps > 0,
+            Align::Left | Align::Right | Align::Centre => false,
+        }
+    }
+}
+
+impl Turn {
+    pub(crate) fn other(self) -> Self
+        ensures { result ≡ other_turn self }
+    {
+        match self {
+            Turn::Left => Turn::Right,
+            Turn::Right => Turn::Left,
+        }
+    }
+}
+
+impl Extra {
+    /// No gap is widened.
+    pub(crate) fn none() -> Self
+        ensures { result ≡ no_extra }
+    {
+        Extra {
+            each: 0,
+            above: 0,
+            up_to: 0,
+        }
+    }
+
+    /// These blanks over so many gaps.
+    pub(crate) fn share(turn: Turn, blanks: usize, gaps: usize) -> Self
+        requires { 0 < gaps }
+        ensures { result ≡ shared turn blanks gaps }
+    {
+        let each = blanks / gaps;
+        let rest = blanks % gaps;
+        match turn {
+            Turn::Left => Extra {
+                each,
+                above: 0,
+                up_to: rest,
+            },
+            Turn::Right => Extra {
+                each,
+                above: gaps - rest,
+                up_to: gaps,
+            },
+        }
+    }
+
+    /// By how much a gap is widened, counted from 1.
+    #[inline]
+    pub(crate) fn at(self, gap: usize) -> usize
+        requires { self.each < 2 ^ 63 }
+        ensures { result ≡ extra_at self gap }
+    {
+        if self.above < gap && gap <= self.up_to {
+            self.each + 1
+        } else {
+            self.each
+        }
+    }
+}

@@ -1,0 +1,315 @@
+// What is read: cells, break points, the ends of words, and gaps. (CSTR 54, sections 4 and 13.)
+ghost use Rattle.std.specs.Prelude.{◌≡◌, ◌+◌, ◌<◌, ◌≤◌, ◌++◌, ◌∷◌, [], None, OnOk, OnErr, replicate};
+ghost use Rattle.nr_fill.specs.Lined.{afforded};
+ghost use Rattle.nr_fill.specs.Pieces.{Word, add_blank, add_cell, add_cell_behind, add_cells, after_newline, append, barred_here, end_word, ended, ends_sentence, hyphenated, in_word, line_cells, marked, one_blank_more, pending_behind, pending_soft, pending_without_point, text_cells, with_word, without_blanks};
+
+use crate::line::{Line, LineCells, WIDEST_GAP, WordState};
+use crate::margins::Margins;
+use crate::piece::{Behind, Join, Point};
+use crate::stops::Pending;
+use nr_units::cell::Cell;
+
+/// Whether the cell ends a sentence.
+#[inline]
+pub(crate) fn ends_sentence(cell: Cell) -> bool
+    ensures { result ≡ ends_sentence cell }
+{
+    matches!(cell.byte, b'.' | b'?' | b'!')
+}
+
+impl WordState {
+    /// A word without cells.
+    #[inline]
+    pub(crate) fn new(gap: u16) -> Self
+        ensures { result ≡ record { join = Join.Gap gap; pending = Pending.Nothing; blanks = 0; parted = 0; wide = 0 } }
+    {
+        WordState {
+            join: Join::Gap(gap),
+            pending: Pending::Nothing,
+            blanks: 0,
+            parted: 0,
+            wide: 0,
+        }
+    }
+}
+
+impl Pending {
+    /// What waits behind a cell, where the word has n cells then.
+    #[inline]
+    fn behind(self, mark: Behind, n: usize) -> Self
+        ensures { result ≡ pending_behind mark n self }
+    {
+        if matches!(self, Pending::ForStop(_)) {
+            return self;
+        }
+        match mark {
+            Behind::Letter => Pending::Nothing,
+            _ if mark.mark_cells() < n => Pending::AtPoint(Point::Hard),
+            _ => Pending::Nothing,
+        }
+    }
+
+    /// What waits behind `\%`, where the word has n cells.
+    fn soft(self, n: usize) -> Self
+        ensures { result ≡ pending_soft n self }
+    {
+        match self {
+            Pending::Nothing if n > 0 => Pending::AtPoint(Point::Soft),
+            _ => self,
+        }
+    }
+
+    /// What waits behind a blank of a line that is one piece.
+    fn without_point(self) -> Self
+        ensures { result ≡ pending_without_point self }
+    {
+        match self {
+            Pending::ForStop(_) => self,
+            Pending::Nothing | Pending::AtPoint(_) => Pending::Nothing,
+        }
+    }
+}
+
+impl<'a> Line<'a> {
+    /// There is a word from now on: a new one takes the gap that waits, and the margins where it begins the line.
+    /// A title that is being read is given up.
+    #[inline]
+    pub fn open_word(&mut self, margins: Margins)
+        ensures { self.new ≡ record self.old { collected = with_word margins self.old.collected } }
+    {
+        self.row.clear_title();
+        self.title = None;
+        if self.word.is_some() {
+            return;
+        }
+        self.margins = if self.pieces == 0 { margins } else { self.margins };
+        self.word = Some(WordState::new(self.gap));
+        self.gap = 0;
+    }
+
+    /// A break point that waits ends a piece of the word.
+    #[inline]
+    fn end_piece(&mut self)
+        ensures { self.new ≡ record self.old { collected = in_word ended self.old.collected } }
+    {
+        self.row.clear_title();
+        self.title = None;
+        let Some(word) = self.word else {
+            return;
+        };
+        let Pending::AtPoint(point) = word.pending else {
+            return;
+        };
+        let len = self.row.last_len();
+        self.row.close(word.join, len);
+        self.word = Some(WordState {
+            join: Join::at(point),
+            pending: Pending::Nothing,
+            blanks: word.blanks,
+            parted: word.parted + len,
+            wide: word.wide + usize::from(word.join.width()) + len,
+        });
+    }
+
+    /// Reads one more cell of a word; the first cell of a line gives it its margins. It fails where the cell would
+    /// pass the limit.
+    #[inline]
+    pub fn put(&mut self, margins: Margins, cell: Cell, behind: Behind) -> Result<(), LineCells>
+        ensures result { result ≡ afforded (record self.old { collected = add_cell margins behind cell self.old.collected }) }
+        ensures ok { OnOk result (self.new ≡ record self.old { collected = add_cell margins behind cell self.old.collected }) }
+        ensures err { OnErr result (self.new ≡ self.old) }
+    {
+        if self.text_measure() == self.limit {
+            return Err(LineCells);
+        }
+        self.open_word(margins);
+        self.end_piece();
+        self.push_cell(cell, behind);
+        Ok(())
+    }
+
+    /// One more cell of the piece that is being read.
+    #[inline]
+    fn push_cell(&mut self, cell: Cell, behind: Behind)
+        requires room { text_cells self.old.collected < self.old.limit }
+        requires no_title { self.old.collected.title ≡ None }
+        ensures { self.new ≡ record self.old { collected = record (in_word (add_cell_behind behind cell) self.old.collected) { sentence = ends_sentence cell } } }
+    {
+        self.sentence = ends_sentence(cell);
+        let Some(word) = self.word else {
+            return;
+        };
+        self.row.push(cell);
+        let n = word.parted + self.row.last_len();
+        self.word = Some(WordState {
+            pending: word.pending.behind(behind, n),
+            blanks: 0,
+            ..word
+        });
+    }
+
+    /// Reads a blank of the text as a cell: so in no-fill mode and where lines are centred. It fails where the blank
+    /// would pass the limit.
+    pub fn put_blank(&mut self, margins: Margins) -> Result<(), LineCells>
+        ensures result { result ≡ afforded (record self.old { collected = add_blank margins self.old.collected }) }
+        ensures ok { OnOk result (self.new ≡ record self.old { collected = add_blank margins self.old.collected }) }
+        ensures err { OnErr result (self.new ≡ self.old) }
+    {
+        if self.text_measure() == self.limit {
+            return Err(LineCells);
+        }
+        self.open_word(margins);
+        self.sentence = false;
+        let Some(word) = self.word else {
+            return Ok(());
+        };
+        self.row.push(Cell::blank());
+        self.word = Some(WordState {
+            pending: word.pending.without_point(),
+            blanks: word.blanks + 1,
+            ..word
+        });
+        Ok(())
+    }
+
+    /// Reads n equal cells of a word, none or more, as one addition. It fails where they would pass the limit.
+    pub fn put_cells(&mut self, margins: Margins, cell: Cell, n: usize) -> Result<(), LineCells>
+        ensures result { result ≡ afforded (record self.old { collected = add_cells margins cell n self.old.collected }) }
+        ensures ok { OnOk result (self.new ≡ record self.old { collected = add_cells margins cell n self.old.collected }) }
+        ensures err { OnErr result (self.new ≡ self.old) }
+    {
+        if n > self.limit - self.text_measure() {
+            return Err(LineCells);
+        }
+        self.open_word(margins);
+        if n == 0 {
+            return Ok(());
+        }
+        self.end_piece();
+        self.push_cells(cell, n);
+        Ok(())
+    }
+
+    /// n more cells of the piece that is being read.
+    fn push_cells(&mut self, cell: Cell, n: usize)
+        requires room { text_cells self.old.collected + n ≤ self.old.limit }
+        requires no_title { self.old.collected.title ≡ None }
+        ensures { self.new ≡ record self.old { collected = record (in_word (append (replicate n cell)) self.old.collected) { sentence = ends_sentence cell } } }
+    {
+        self.sentence = ends_sentence(cell);
+        let Some(word) = self.word else {
+            return;
+        };
+        let len = self.row.last_len();
+        self.row.insert_copies(len, cell, n);
+        self.word = Some(WordState { blanks: 0, ..word });
+    }
+
+    /// Reads `\&`: a word exists, and what was read before it ends no sentence.
+    pub fn mark(&mut self, margins: Margins)
+        ensures { self.new ≡ record self.old { collected = marked margins self.old.collected } }
+    {
+        self.open_word(margins);
+        self.sentence = false;
+        let Some(word) = self.word else {
+            return;
+        };
+        self.word = Some(WordState { blanks: 0, ..word });
+    }
+
+    /// Reads `\%`: a soft break point behind a cell, and no point of `.hw` in this word.
+    pub fn bar(&mut self)
+        ensures { self.new ≡ record self.old { collected = barred_here self.old.collected } }
+    {
+        self.barred = true;
+        let Some(word) = self.word else {
+            return;
+        };
+        let n = word.parted + self.row.last_len();
+        self.word = Some(WordState {
+            pending: word.pending.soft(n),
+            ..word
+        });
+    }
+
+    /// Drops the blanks of the text at the end of the word.
+    pub fn drop_blanks(&mut self)
+        ensures { self.new ≡ record self.old { collected = without_blanks self.old.collected } }
+    {
+        self.row.clear_title();
+        self.title = None;
+        let Some(word) = self.word else {
+            return;
+        };
+        let len = self.row.last_len() - word.blanks;
+        self.row.shorten(len);
+        self.word = Some(WordState { blanks: 0, ..word });
+    }
+
+    /// A soft break point stands so many cells in, where that is between two cells of the piece that is being read.
+    pub fn hyphenate(&mut self, place: usize)
+        ensures { self.new ≡ record self.old { collected = hyphenated place self.old.collected } }
+    {
+        self.row.clear_title();
+        self.title = None;
+        let Some(word) = self.word else {
+            return;
+        };
+        let at = place.saturating_sub(word.parted);
+        if at == 0
+            || at >= self.row.last_len() - word.blanks
+            || matches!(word.pending, Pending::ForStop(_))
+        {
+            return;
+        }
+        self.row.close(word.join, at);
+        self.word = Some(WordState {
+            join: Join::Soft,
+            parted: word.parted + at,
+            wide: word.wide + usize::from(word.join.width()) + at,
+            ..word
+        });
+    }
+
+    /// The word, where there is one, becomes pieces of the line. It fails where they would pass the limit.
+    #[inline]
+    pub fn end_word(&mut self) -> Result<(), LineCells>
+        ensures result { result ≡ afforded (record self.old { collected = end_word self.old.collected }) }
+        ensures ok { OnOk result (self.new ≡ record self.old { collected = end_word self.old.collected }) }
+        ensures err { OnErr result (self.new ≡ self.old) }
+    {
+        let Some(word) = self.word else {
+            self.barred = false;
+            return Ok(());
+        };
+        let more = self.row.pieces() - self.pieces + 1;
+        if more > self.limit - self.measure() {
+            return Err(LineCells);
+        }
+        let len = self.row.last_len();
+        self.row.close(word.join, len);
+        self.pieces += more;
+        self.wide += word.wide + usize::from(word.join.width()) + len;
+        self.word = None;
+        self.barred = false;
+        Ok(())
+    }
+
+    /// A blank was read between two words.
+    #[inline]
+    pub fn widen_gap(&mut self)
+        ensures { self.new ≡ record self.old { collected = one_blank_more self.old.collected } }
+    {
+        self.gap = WIDEST_GAP.min(self.gap + 1);
+        self.barred = false;
+    }
+
+    /// A text line ended: the gap is 1, or 2 behind a sentence.
+    #[inline]
+    pub fn newline_gap(&mut self)
+        ensures { self.new ≡ record self.old { collected = after_newline self.old.collected } }
+    {
+        self.gap = if self.sentence { 2 } else { 1 };
+        self.barred = false;
+    }
+}
