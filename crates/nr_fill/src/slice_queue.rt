@@ -50,6 +50,15 @@ fn make_room<T: Copy>(slots: &mut [T], span: Span, n: usize) -> Span
     }
 }
 
+/// Puts the item everywhere.
+fn set_all<T: Copy>(slots: &mut [T], item: T)
+    ensures { slots.new ≡ replicate (length slots.old) item }
+{
+    for slot in slots.iter_mut() {
+        *slot = item;
+    }
+}
+
 impl<'a, T: Copy> SliceQueue<'a, T> {
     /// No items yet, and room for as many as the slice has.
     pub(crate) fn over(slots: &'a mut [T]) -> Self
@@ -111,9 +120,7 @@ impl<'a, T: Copy> SliceQueue<'a, T> {
         let span = make_room(slots, span, n);
         let at = span.start + place;
         slots.copy_within(at..span.end, at + n);
-        for slot in slots[at..at + n].iter_mut() {
-            *slot = item;
-        }
+        set_all(&mut slots[at..at + n], item);
         self.start = span.start;
         self.end = span.end + n;
     }

@@ -1,0 +1,137 @@
+-- Rows of cells, and the blanks at their ends.
+use Rattle.std.proofs.Common.{◌≡◌, ℕ, ◌+◌, ◌-◌, ◌^◌, ◌≤◌, ◌<◌, min, List, [], ◌∷◌, ◌++◌, length, take, drop, replicate, get_or, reverse, refl, ap, ap₂, sym, ◌∙◌, arith, length-take, length-append, add-zero, true, false, cond, eqb, ltb, inl, inr}
+use Rattle.std.specs.List.{suffix_len, prefix_len}
+use Rattle.std.proofs.Math.Seq.{take-append-add}
+use Rattle.std.proofs.lemmas.Bool.{cases_lt, eq-eqb, ne_eqb}
+use Rattle.std.proofs.lemmas.List.{append-nil, reverse-append, length-reverse, length-replicate, take_all, take_min, take-take, take-append-le, take-replicate, length-take-le, get_or-replicate, get_or-reverse}
+use Rattle.std.proofs.lemmas.List.Folds.{prefix_len-append}
+use Rattle.std.proofs.lemmas.List.Sums.{suffix_len-le-length, suffix_len-take_no, suffix_len_is, prefix_len_stops}
+use Rattle.nr_units.specs.Cells.{blank, is_blank, trimmed}
+use Rattle.nr_units.specs.declared.cell.Cell.{Cell}
+use Rattle.nr_fill.specs.Rows.{Row, row_of, counted, written_behind}
+
+-- how many cells there are up to the last that is no blank
+abbrev pub written : List Cell → ℕ
+written xs = length xs - suffix_len is_blank xs
+
+pub length-trimmed : (xs : List Cell) → length (trimmed xs) ≡ written xs
+length-trimmed xs = length-take-le (written xs) xs (omega arith)
+
+-- the blanks at the end of two rows
+suffix_len-append : (xs ys : List Cell) → suffix_len is_blank (xs ++ ys) ≡ cond (eqb (suffix_len is_blank ys) (length ys)) (length ys + suffix_len is_blank xs) (suffix_len is_blank ys)
+suffix_len-append xs ys =
+    ap (prefix_len is_blank) (reverse-append xs ys) ∙ prefix_len-append is_blank (reverse ys) (reverse xs)
+    ∙ ap (λ n. cond (eqb (suffix_len is_blank ys) n) (n + suffix_len is_blank xs) (suffix_len is_blank ys)) (length-reverse ys)
+
+-- behind something written all before it is
+pub written-append_some : (xs ys : List Cell) → 0 < written ys → written (xs ++ ys) ≡ length xs + written ys
+written-append_some xs ys some =
+    let fewer = suffix_len-le-length is_blank ys in
+    let differ : eqb (suffix_len is_blank ys) (length ys) ≡ false = ne_eqb _ _ (omega arith) in
+    let is : suffix_len is_blank (xs ++ ys) ≡ suffix_len is_blank ys = suffix_len-append xs ys ∙ rw differ refl in
+    omega (arith, length-append xs ys)
+
+-- blanks are dropped
+pub written-append_none : (xs ys : List Cell) → written ys ≡ 0 → written (xs ++ ys) ≡ written xs
+written-append_none xs ys none =
+    let fewer = suffix_len-le-length is_blank ys in
+    let same : eqb (suffix_len is_blank ys) (length ys) ≡ true = eq-eqb _ _ (omega arith) in
+    let is : suffix_len is_blank (xs ++ ys) ≡ length ys + suffix_len is_blank xs = suffix_len-append xs ys ∙ rw same refl in
+    omega (arith, length-append xs ys)
+
+pub written-replicate : (n : ℕ) → written (replicate n blank) ≡ 0
+written-replicate n =
+    let all = suffix_len_is is_blank (replicate n blank) 0 blank (omega arith)
+      (λ k low high. ap is_blank (get_or-replicate n k blank blank (omega (arith, length-replicate n blank)))) (λ some. absurd (omega arith)) in
+    omega arith
+
+-- what was trimmed ends with no blank
+pub written-trimmed : (xs : List Cell) → written (trimmed xs) ≡ written xs
+written-trimmed xs =
+    let long = length-trimmed xs in
+    elim (cases_lt 0 (written xs)) [
+      | inl some ↦
+          let k = suffix_len is_blank xs in
+          let below : k < length (reverse xs) = omega (arith, length-reverse xs) in
+          let place : length xs - 1 - k ≡ written xs - 1 = omega arith in
+          let last : is_blank (get_or xs (written xs - 1) blank) ≡ false =
+          ap (λ i. is_blank (get_or xs i blank)) (sym place) ∙ ap is_blank (sym (get_or-reverse xs k blank (omega arith))) ∙ prefix_len_stops is_blank (reverse xs) blank below in
+          let none = suffix_len-take_no is_blank xs (written xs) blank some (omega arith) last in
+          omega arith
+      | inr none ↦ omega arith
+    ]
+
+-- what there is room for of two rows
+pub take_append : (room : ℕ) (xs ys : List Cell) → take room (xs ++ ys) ≡ take room xs ++ take (min (length ys) (room - length (take room xs))) ys
+take_append room xs ys =
+    elim (cases_lt (length xs) room) [
+      | inl more ↦
+          let all : take room xs ≡ xs = take_all room xs (omega arith) in
+          let left = room - length xs in
+          let whole : room ≡ length xs + left = omega arith in
+          let part : min (length ys) (room - length (take room xs)) ≡ min left (length ys) = omega (arith, length-take room xs) in
+          ap (λ n. take n (xs ++ ys)) whole ∙ take-append-add xs ys left ∙ ap₂ (λ a b. a ++ b) (sym all) (sym (take_min left ys) ∙ ap (λ n. take n ys) (sym part))
+      | inr full ↦
+          let none : min (length ys) (room - length (take room xs)) ≡ 0 = omega (arith, length-take room xs) in
+          take-append-le room xs ys full ∙ sym (append-nil (take room xs)) ∙ ap (λ n. take room xs ++ take n ys) (sym none)
+    ]
+
+-- the parts of a row
+pub same_row : {k k' : List Cell} {c c' w w' r r' : ℕ} → k ≡ k' → c ≡ c' → w ≡ w' → r ≡ r'
+    → ◌≡◌ {A = Row} (record { kept = k; count = c; written = w; room = r }) (record { kept = k'; count = c'; written = w'; room = r' })
+same_row k_is c_is w_is r_is = rw (k_is, c_is, w_is, r_is) refl
+
+-- how many are written once more cells are added
+written_more : (xs ys : List Cell) → written_behind (counted (length (trimmed xs))) (counted (length xs)) (written ys) ≡ counted (length (trimmed (xs ++ ys)))
+written_more xs ys =
+    let before = length-trimmed xs in
+    let after = length-trimmed (xs ++ ys) in
+    elim (cases_lt 0 (written ys)) [
+      | inl some ↦
+          let differ : eqb (written ys) 0 ≡ false = ne_eqb _ _ (omega arith) in
+          let is = written-append_some xs ys some in
+          rw differ (omega arith)
+      | inr none ↦
+          let same : eqb (written ys) 0 ≡ true = eq-eqb _ _ (omega arith) in
+          let is = written-append_none xs ys (omega arith) in
+          rw same (omega arith)
+    ]
+
+-- a row with more cells
+pub row_extended : (room : ℕ) (xs ys : List Cell) (m : ℕ) → m ≡ min (length ys) (room - length (take room xs))
+    → ◌≡◌ {A = Row} (record { kept = take room xs ++ take m ys; count = min (counted (length xs) + length ys) (2 ^ 64 - 1);
+        written = written_behind (counted (length (trimmed xs))) (counted (length xs)) (written ys); room = room }) (row_of room (xs ++ ys))
+row_extended room xs ys m m_is =
+    same_row (ap (λ n. take room xs ++ take n ys) m_is ∙ sym (take_append room xs ys)) (omega (arith, length-append xs ys)) (written_more xs ys) refl
+
+-- a row with more blanks
+pub row_blanked : (room : ℕ) (xs : List Cell) (n m : ℕ) → m ≡ min n (room - length (take room xs))
+    → ◌≡◌ {A = Row} (record { kept = take room xs ++ replicate m blank; count = min (counted (length xs) + n) (2 ^ 64 - 1);
+        written = counted (length (trimmed xs)); room = room }) (row_of room (xs ++ replicate n blank))
+row_blanked room xs n m m_is =
+    let many = length-replicate n blank in
+    let part : m ≡ min (length (replicate n blank)) (room - length (take room xs)) = omega arith in
+    let before = length-trimmed xs in
+    let after = length-trimmed (xs ++ replicate n blank) in
+    let same = written-append_none xs (replicate n blank) (written-replicate n) in
+    same_row (ap (λ zs. take room xs ++ zs) (sym (take-replicate m n blank (omega arith))) ∙ ap (λ k. take room xs ++ take k (replicate n blank)) part ∙ sym (take_append room xs (replicate n blank)))
+    (omega (arith, length-append xs (replicate n blank))) (omega arith) refl
+
+-- a row without the blanks at its end
+pub row_trimmed : (room : ℕ) (xs : List Cell) → room < 2 ^ 32
+    → ◌≡◌ {A = Row} (record { kept = take (min (counted (length (trimmed xs))) (length (take room xs))) (take room xs); count = counted (length (trimmed xs));
+        written = counted (length (trimmed xs)); room = room }) (row_of room (trimmed xs))
+row_trimmed room xs small =
+    let w = written xs in
+    let long = length-trimmed xs in
+    let again = length-trimmed (trimmed xs) ∙ written-trimmed xs in
+    let kept_is : take (min (counted (length (trimmed xs))) (length (take room xs))) (take room xs) ≡ take room (trimmed xs) =
+    elim (cases_lt room w) [
+      | inl more ↦
+          let all : min (counted (length (trimmed xs))) (length (take room xs)) ≡ room = omega (arith, length-take room xs) in
+          ap (λ n. take n (take room xs)) all ∙ take-take room room xs (omega arith) ∙ sym (take-take room w xs (omega arith))
+      | inr within ↦
+          let all : min (counted (length (trimmed xs))) (length (take room xs)) ≡ w = omega (arith, length-take room xs) in
+          ap (λ n. take n (take room xs)) all ∙ take-take w room xs within ∙ sym (take_all room (trimmed xs) (omega arith))
+    ] in
+    same_row kept_is refl (omega arith) refl
