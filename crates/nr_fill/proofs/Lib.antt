@@ -1,2 +1,5 @@
 pub mod Queues
 pub mod Trimming
+pub mod LongestFront
+pub mod PiecesOf
+pub mod SettingPieces

@@ -1,10 +1,11 @@
 // Which pieces go out in one line, and how they are set.
-ghost use Rattle.std.specs.Prelude.{◌≡◌, ◌+◌, ◌<◌, ◌≤◌, ◌^◌, List, [], ◌∷◌, ◌++◌, length, sum_by, count_by};
+ghost use Rattle.std.specs.Prelude.{◌≡◌, ◌+◌, ◌<◌, ◌≤◌, ◌^◌, List, ◌++◌, length, replicate};
+ghost use Rattle.nr_units.specs.Cells.{blank};
 ghost use Rattle.nr_units.specs.declared.cell.Cell.{Cell as CellValue};
 ghost use Rattle.nr_fill.specs.Cut.{cut};
 ghost use Rattle.nr_fill.specs.Rows.{IsRow};
 ghost use Rattle.nr_fill.specs.Slots.{pieces_of, cells_in_slots, slots_width, gap_slots};
-ghost use Rattle.nr_fill.specs.Spreading.{cells_in_line};
+ghost use Rattle.nr_fill.specs.Spreading.{blanks_before, cells_in_line, next_gap};
 
 use crate::out::Out;
 use crate::piece::{Join, PieceSlot};
@@ -64,10 +65,31 @@ pub(crate) fn sums_of(slots: &[PieceSlot]) -> Sums
     Sums { cells, wide, gaps }
 }
 
+/// Sets the blanks of a join, of the next gap where it is one, and tells the number of the gap after it.
+#[inline]
+fn set_join(join: Join, extra: Extra, gap: usize, out: &mut Out<'_>) -> usize
+    requires each { extra.each < 2 ^ 62 }
+    requires gap { gap < 2 ^ 62 }
+    ensures set { (row : List CellValue) → IsRow row out.old → IsRow (row ++ replicate (blanks_before extra gap join) blank) out.new }
+    ensures room { out.new.room ≡ out.old.room }
+    ensures next { result ≡ next_gap gap join }
+    ensures near { result ≤ gap + 1 }
+{
+    match join {
+        Join::Gap(blanks) => {
+            out.blanks(usize::from(blanks) + extra.at(gap));
+            gap + 1
+        }
+        Join::Soft | Join::Hard => gap,
+    }
+}
+
 /// Sets these pieces in the row behind what stands there.
 pub(crate) fn set_pieces(slots: &[PieceSlot], cells: &[Cell], extra: Extra, out: &mut Out<'_>)
     requires some { 0 < length slots.now }
     requires cells { cells_in_slots slots.now ≤ length cells.now }
+    requires each { extra.each < 2 ^ 62 }
+    requires small { length slots.now < 2 ^ 32 }
     ensures set { (row : List CellValue) → IsRow row out.old → IsRow (row ++ cells_in_line extra (pieces_of slots.now cells.now)) out.new }
     ensures room { out.new.room ≡ out.old.room }
 {
@@ -76,10 +98,7 @@ pub(crate) fn set_pieces(slots: &[PieceSlot], cells: &[Cell], extra: Extra, out:
     let mut gap = 1;
     let others = &slots[1..];
     for slot in others {
-        if let Join::Gap(blanks) = slot.join {
-            out.blanks(usize::from(blanks) + extra.at(gap));
-            gap += 1;
-        }
+        gap = set_join(slot.join, extra, gap, out);
         let end = taken + slot.len as usize;
         out.extend(&cells[taken..end]);
         taken = end;

@@ -1,0 +1,62 @@
+use Rattle.std.proofs.Common.{◌≡◌, ◌+◌, ◌-◌, ◌≤◌, List, ◌++◌, length, take, drop, replicate, get_or, refl, ap, sym, ◌∙◌, append_assoc, arith, subst}
+use Rattle.std.proofs.lemmas.List.{take_rest}
+use Rattle.std.proofs.lemmas.List.Sums.{sum_by-drop_more}
+use Rattle.nr_units.specs.Cells.{blank}
+use Rattle.nr_units.specs.declared.cell.Cell.{Cell}
+use Rattle.nr_fill.specs.declared.piece.PieceSlot.{PieceSlot}
+use Rattle.nr_fill.specs.Rows.{IsRow}
+use Rattle.nr_fill.specs.Slots.{blank_slot, pieces_of}
+use Rattle.nr_fill.specs.Spreading.{blanks_before, next_gap, cells_behind, cells_in_line}
+use Rattle.nr_fill.proofs.SettingPieces.{cells_in_line_first, set_more, set_all_pieces}
+use Rattle.nr_fill.proofs.cutting.set_pieces.Goals as goal
+
+pub loop-slot-init : goal.loop-slot-init
+loop-slot-init c =
+    let slots = c.args.slots.now in
+    let cells = c.args.cells.now in
+    let first = get_or slots 0 blank_slot in
+    let total = sum_by-drop_more (λ (s : PieceSlot). s.len) slots 0 blank_slot c.requires.some in
+    rw (take_rest slots 1) record {
+      room = c.extend.ensures.room;
+      gap = omega arith;
+      taken = omega arith;
+      set = λ row h. (take first.len cells, c.extend.ensures.extended row h, cells_in_line_first c.args.extra slots cells blank_slot c.requires.some);
+    }
+
+pub loop-slot-preserved : goal.loop-slot-preserved
+loop-slot-preserved c =
+    let slots = c.args.slots.now in
+    let cells = c.args.cells.now in
+    let x = c.args.extra in
+    let loop = c.loop-slot in
+    let others = take (length slots - 1) (drop 1 slots) in
+    let i = loop.slot-index in
+    let slot = get_or others i blank_slot in
+    let total = sum_by-drop_more (λ (s : PieceSlot). s.len) others i blank_slot c.loop-slot-test.true in
+    let taken = loop.invariant.taken in
+    let gap = loop.invariant.gap in
+    let part : (loop.taken + slot.len) - loop.taken ≡ slot.len = omega arith in
+    let blanks = replicate (blanks_before x loop.gap slot.join) blank in
+    let piece = take slot.len (drop loop.taken cells) in
+    record {
+      room = c.extend-in-loop-slot.ensures.room ∙ c.set_join-gap.ensures.room ∙ loop.invariant.room;
+      gap = omega (arith, c.set_join-gap.ensures.near);
+      taken = omega arith;
+      set = λ row h.
+          let old = loop.invariant.set row h in
+          let joined = c.set_join-gap.ensures.set (row ++ old.0) old.1 in
+          let longer = c.extend-in-loop-slot.ensures.extended ((row ++ old.0) ++ blanks) joined in
+          let same : ((row ++ old.0) ++ blanks) ++ take ((loop.taken + slot.len) - loop.taken) (drop loop.taken cells) ≡ row ++ (old.0 ++ (blanks ++ piece)) =
+          ap (λ n. ((row ++ old.0) ++ blanks) ++ take n (drop loop.taken cells)) part ∙ append_assoc (row ++ old.0) blanks piece ∙ append_assoc row old.0 (blanks ++ piece) in
+          (old.0 ++ (blanks ++ piece), subst (λ zs. IsRow zs c.extend-in-loop-slot.new.self) same longer,
+           rw c.set_join-gap.ensures.next (set_more x loop.gap others i blank_slot cells loop.taken old.0 (cells_in_line x (pieces_of slots cells)) c.loop-slot-test.true old.2));
+    }
+
+pub returns-clause-set : goal.returns-clause-set
+returns-clause-set c =
+    λ row h.
+      let old = c.loop-slot.invariant.set row h in
+      let slots = c.args.slots.now in
+      let others = take (length slots - 1) (drop 1 slots) in
+      let all = set_all_pieces c.args.extra c.loop-slot.gap others c.loop-slot.slot-index (drop c.loop-slot.taken c.args.cells.now) old.0 (cells_in_line c.args.extra (pieces_of slots c.args.cells.now)) c.loop-slot-test.false old.2 in
+      subst (λ zs. IsRow (row ++ zs) c.loop-slot.out) all old.1
