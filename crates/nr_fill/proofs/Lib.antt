@@ -3,3 +3,4 @@ pub mod Trimming
 pub mod LongestFront
 pub mod PiecesOf
 pub mod SettingPieces
+pub mod Laying

@@ -211,7 +211,6 @@ impl<'a> PieceRow<'a> {
         requires some { 0 < n }
         requires within { n ≤ length self.now.pieces }
         requires each { extra.each < 2 ^ 62 }
-        requires small { self.now.room < 2 ^ 32 }
         ensures set { (row : List CellValue) → IsRow row out.old → IsRow (row ++ cells_in_line extra (take n self.now.pieces)) out.new }
         ensures room { out.new.room ≡ out.old.room }
     {

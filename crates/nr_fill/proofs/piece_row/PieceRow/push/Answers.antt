@@ -1,0 +1,29 @@
+use Rattle.std.proofs.Common.{◌≡◌, ◌+◌, ◌-◌, ◌<◌, ◌≤◌, ◌++◌, ◌∷◌, [], length, min, take, drop, replicate, refl, ap, sym, ◌∙◌, arith, length-take, length-drop, length-append}
+use Rattle.nr_fill.specs.Laid.{Laid, read_cells}
+use Rattle.nr_fill.proofs.Laying.{room_left, laid_of_pushed}
+use Rattle.nr_fill.proofs.piece_row.PieceRow.push.Goals as goal
+
+pub push-requires : goal.push-requires
+push-requires c = let left = room_left c.args.self.now 1 c.self.invariant c.self.view_is c.requires.no_title (omega (arith, c.requires.room)) in omega arith
+
+pub invariant_of-self : goal.invariant_of-self
+invariant_of-self c =
+    let s = c.self.inside in
+    let h = c.self.invariant in
+    let left = room_left c.args.self.now 1 h c.self.view_is c.requires.no_title (omega (arith, c.requires.room)) in
+    let long = length-append s.cells.items (c.args.cell ∷ []) in
+    rw (c.push.ensures.items, c.push.ensures.room) record {
+      pieced_is = h.pieced_is;
+      pieced_within = omega (arith, h.pieced_within);
+      read_within = omega arith;
+      cells_within = omega arith;
+      slots_within = h.slots_within;
+      is_small = h.is_small;
+    }
+
+pub returns : goal.returns
+returns c =
+    let s = c.self.inside in
+    let h = c.self.invariant in
+    let left = room_left c.args.self.now 1 h c.self.view_is c.requires.no_title (omega (arith, c.requires.room)) in
+    rw (c.push.ensures.items, c.push.ensures.room, ← c.self.view_is) (laid_of_pushed (min s.slots.room s.cells.room) c.args.cell h left.0)

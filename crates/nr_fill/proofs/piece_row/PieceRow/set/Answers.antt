@@ -1,0 +1,30 @@
+use Rattle.std.proofs.Common.{◌≡◌, ◌+◌, ◌-◌, ◌<◌, ◌≤◌, ◌++◌, ◌∷◌, [], length, min, take, drop, replicate, refl, ap, sym, ◌∙◌, arith, length-take, length-drop, length-append}
+use Rattle.nr_fill.specs.Laid.{Laid, read_cells}
+use Rattle.std.proofs.lemmas.List.{length-take-le}
+use Rattle.nr_fill.specs.Cut.{cut, pieces_width}
+use Rattle.nr_fill.specs.Pieces.{cells_in}
+use Rattle.nr_fill.specs.Slots.{pieces_of, slots_width}
+use Rattle.nr_fill.specs.Spreading.{gaps, cells_in_line}
+use Rattle.nr_fill.proofs.PiecesOf.{pieces_width-pieces_of, cells_in-pieces_of, gaps-pieces_of}
+use Rattle.nr_fill.proofs.Laying.{slots_are, front_is, front_within}
+use Rattle.nr_fill.proofs.piece_row.PieceRow.set.Goals as goal
+
+pub slice_bounds-set_pieces-end : goal.slice_bounds-set_pieces-end
+slice_bounds-set_pieces-end c =
+    let s = c.self.inside in
+    let pieces = slots_are c.args.self.now (min s.slots.room s.cells.room) c.self.invariant c.self.view_is in
+    let slots = ap length c.as_slice.ensures.value in
+    sym (length-take-le c.args.n c.as_slice.result.now (omega (arith, c.requires.within)))
+
+pub set_pieces-requires-clause-small : goal.set_pieces-requires-clause-small
+set_pieces-requires-clause-small c =
+    let s = c.self.inside in
+    rw c.as_slice.ensures.value (omega (arith, length-take c.args.n s.slots.items, c.self.invariant.slots_within, c.self.invariant.is_small))
+
+pub set_pieces-requires-clause-cells : goal.set_pieces-requires-clause-cells
+set_pieces-requires-clause-cells c = rw (c.as_slice.ensures.value, c.as_slice-2.ensures.value) (front_within c.args.n c.self.invariant).0
+
+pub returns-clause-set : goal.returns-clause-set
+returns-clause-set c =
+    let s = c.self.inside in
+    rw (← front_is c.args.self.now (min s.slots.room s.cells.room) c.args.n c.self.invariant c.self.view_is) (rw (c.as_slice.ensures.value, c.as_slice-2.ensures.value) at c.set_pieces.ensures.set)
