@@ -4,3 +4,4 @@ pub mod LongestFront
 pub mod PiecesOf
 pub mod SettingPieces
 pub mod Laying
+pub mod Lines

@@ -113,7 +113,7 @@ join_at points.Hard = Hard
 
 -- a piece ends at a break point
 abbrev pub ended_at : Pending → Word → Word
-ended_at (AtPoint p) w = record w { parts = w.parts ++ w.last ∷ []; last = record { join = join_at p; cells = [] }; pending = Nothing }
+ended_at (AtPoint p) w = record w { parts = w.parts ++ w.last ∷ []; last = record { join = join_at p; cells = [] }; pending = Nothing; blanks = 0 }
 ended_at pending w = w
 
 abbrev pub ended : Word → Word
@@ -131,13 +131,13 @@ pending_behind mark n (ForStop f) = ForStop f
 pending_behind Letter n pending = Nothing
 pending_behind mark n pending = if nat_lt (mark_cells mark) n then AtPoint points.Hard else Nothing
 
--- `\%` behind a cell. Of two points at one place it is soft only where both are.
+-- `\%` behind one of n cells. Of two points at one place it is soft only where both are.
 abbrev pub pending_soft : ℕ → Pending → Pending
 pending_soft n Nothing = if nat_lt 0 n then AtPoint points.Soft else Nothing
 pending_soft n pending = pending
 
 abbrev pub with_soft_point : Word → Word
-with_soft_point w = record w { pending = pending_soft (word_length w) w.pending }
+with_soft_point w = record w { pending = pending_soft (length w.last.cells) w.pending }
 
 abbrev pub pending_without_point : Pending → Pending
 pending_without_point (ForStop f) = ForStop f
@@ -202,9 +202,14 @@ add_cells margins x n c =
 abbrev pub marked : Margins → Collected → Collected
 marked margins c = record (in_word (λ w. record w { blanks = 0 }) (with_word margins c)) { sentence = false }
 
--- the blanks at the end of the word are dropped
+-- the blanks at the end of the word are dropped, and no break point stands there
 abbrev pub without_blanks : Collected → Collected
-without_blanks c = in_word (λ w. record w { last = record w.last { cells = take (length w.last.cells - w.blanks) w.last.cells }; blanks = 0 }) c
+without_blanks c =
+    in_word (λ w. record w {
+      last = record w.last { cells = take (length w.last.cells - w.blanks) w.last.cells };
+      pending = pending_without_point w.pending;
+      blanks = 0;
+    }) c
 
 -- all pieces of the word
 abbrev pub word_pieces : Option Word → List Piece

@@ -57,14 +57,17 @@ abbrev pub set_width : Setting → Collected → ℕ → ℕ
 set_width s c n = length (trimmed (text_of s.align c n))
 
 -- What is left behind the first n pieces. A line that begins with what is left takes its margins now, and the turn changes behind a line that was spread.
-abbrev pub behind : Margins → Align → Collected → ℕ → Collected
-behind margins align c n =
+abbrev pub without_front : ℕ → Bool → Margins → Collected → Collected
+without_front n spread margins c =
     let rest = drop n c.pieces in
     record c {
       pieces = rest;
       margins = if is_nil rest then c.margins else margins;
-      turn = if spreads align c n then other_turn c.turn else c.turn;
+      turn = if spread then other_turn c.turn else c.turn;
     }
+
+abbrev pub behind : Margins → Align → Collected → ℕ → Collected
+behind margins align c n = without_front n (spreads align c n) margins c
 
 -- the number of pieces of the next full line
 abbrev pub cut_of : Collected → ℕ

@@ -60,6 +60,15 @@ filled_by (ForStop f) w =
     }
 filled_by pending w = w
 
+-- by how many cells the text for a stop is filled up
+abbrev pub pending_fill : Pending → ℕ → ℕ
+pending_fill (ForStop f) n = fill_count f (n - f.before)
+pending_fill pending n = 0
+
+abbrev pub field_fill : Option Word → ℕ
+field_fill None = 0
+field_fill (Some w) = pending_fill w.pending (length w.last.cells)
+
 -- the text for a stop ends
 abbrev pub with_field_filled : Collected → Collected
 with_field_filled c = in_word (λ (w : Word). filled_by w.pending w) c

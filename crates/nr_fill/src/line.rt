@@ -1,7 +1,7 @@
 //! The collected line. (CSTR 54, section 4.)
-ghost use Rattle.std.specs.Prelude.{◌≡◌, ◌+◌, ◌<◌, ◌≤◌, ◌^◌, ◌↔◌, IsTrue, not, is_none, length};
-ghost use Rattle.nr_fill.specs.Cut.{fits};
-ghost use Rattle.nr_fill.specs.Pieces.{nothing_collected, begins_line, is_nil, line_cells, text_cells, word_or_new, cells_of_word, may_hyphenate, reads_field};
+ghost use Rattle.std.specs.Prelude.{◌≡◌, ◌+◌, ◌<◌, ◌≤◌, ◌^◌, ◌↔◌, IsTrue, not, is_none, length, Some};
+ghost use Rattle.nr_fill.specs.Cut.{fits, pieces_width};
+ghost use Rattle.nr_fill.specs.Pieces.{nothing_collected, begins_line, is_nil, line_cells, text_cells, word_or_new, word_pieces, cells_of_word, may_hyphenate, reads_field};
 ghost use Rattle.nr_fill.specs.Tabs.{column};
 
 use crate::margins::{Margins, Turn};
@@ -203,7 +203,10 @@ impl<'a> Line<'a> {
     }
 
     /// How wide the word is, or the gap that waits for one.
-    fn word_wide(&self) -> usize {
+    fn word_wide(&self) -> usize
+        ensures value { result ≡ pieces_width (word_pieces (Some (word_or_new self.now.collected.gap self.now.collected.word))) }
+        ensures small { result < 2 ^ 48 }
+    {
         match self.word {
             None => usize::from(self.gap),
             Some(word) => word.wide + usize::from(word.join.width()) + self.row.last_len(),
@@ -211,7 +214,9 @@ impl<'a> Line<'a> {
     }
 
     /// How the piece that is being read hangs on the one before it, or the next word's.
-    fn last_join(&self) -> Join {
+    fn last_join(&self) -> Join
+        ensures { result ≡ (word_or_new self.now.collected.gap self.now.collected.word).last.join }
+    {
         match self.word {
             None => Join::Gap(self.gap),
             Some(word) => word.join,

@@ -1,8 +1,8 @@
 // Tabs and leaders. (CSTR 54, section 9.)
-ghost use Rattle.std.specs.Prelude.{◌≡◌, ◌-◌, ◌≤◌, None, OnOk, OnErr};
+ghost use Rattle.std.specs.Prelude.{◌≡◌, ◌+◌, ◌≤◌, OnOk, OnErr};
 ghost use Rattle.nr_fill.specs.Lined.{afforded};
-ghost use Rattle.nr_fill.specs.Pieces.{in_word};
-ghost use Rattle.nr_fill.specs.Tabs.{before_stop, fill_count, first_beyond, is_aligned, tabbed, with_field, with_field_filled};
+ghost use Rattle.nr_fill.specs.Pieces.{in_word, text_cells};
+ghost use Rattle.nr_fill.specs.Tabs.{before_stop, field_fill, fill_count, first_beyond, is_aligned, tabbed, with_field, with_field_filled};
 
 use crate::line::{Line, LineCells, WordState};
 use crate::margins::Margins;
@@ -111,7 +111,9 @@ impl<'a> Line<'a> {
     }
 
     /// How many cells the text for a stop is to be filled up by.
-    fn field_fill(&self) -> usize {
+    fn field_fill(&self) -> usize
+        ensures { result ≡ field_fill self.now.collected.word }
+    {
         let Some(word) = self.word else {
             return 0;
         };
@@ -122,7 +124,10 @@ impl<'a> Line<'a> {
     }
 
     /// Fills the text for a stop up.
-    fn fill_field(&mut self) {
+    fn fill_field(&mut self)
+        requires { text_cells self.old.collected + field_fill self.old.collected.word ≤ self.old.limit }
+        ensures { self.new ≡ record self.old { collected = with_field_filled self.old.collected } }
+    {
         self.row.clear_title();
         self.title = None;
         let Some(word) = self.word else {

@@ -1,9 +1,12 @@
 // Lines go out of what is collected. (CSTR 54, section 4.1.)
-ghost use Rattle.std.specs.Prelude.{◌≡◌, ℕ, ◌+◌, ◌<◌, ◌≤◌, length, take, drop};
+ghost use Rattle.std.specs.Prelude.{◌≡◌, ◌+◌, ◌<◌, ◌≤◌, ◌^◌, List, ◌++◌, length, take, drop, replicate};
+ghost use Rattle.nr_units.specs.Cells.{blank, trimmed};
+ghost use Rattle.nr_units.specs.declared.cell.Cell.{Cell as CellValue};
 ghost use Rattle.nr_fill.specs.Cut.{hyphen_before, pieces_width};
-ghost use Rattle.nr_fill.specs.Pieces.{cells_in, line_cells};
-ghost use Rattle.nr_fill.specs.Rows.{row_of};
-ghost use Rattle.nr_fill.specs.Setting.{behind, cut_of, extra_of, left_over, set_line, set_width, shift, spreads};
+ghost use Rattle.nr_fill.specs.Pieces.{cells_in};
+ghost use Rattle.nr_fill.specs.Rows.{IsRow, row_of};
+ghost use Rattle.nr_fill.specs.Spreading.{cells_in_line};
+ghost use Rattle.nr_fill.specs.Setting.{behind, cut_of, extra_of, hyphens, left_over, set_line, set_width, shift, spreads, without_front};
 
 use crate::line::Line;
 use crate::margins::Margins;
@@ -26,8 +29,11 @@ struct Plan {
 }
 
 /// Adds a hyphen where one is to be printed.
-fn push_hyphens(out: &mut Out<'_>, hyphens: u16) {
-    for _hyphen in 0..hyphens {
+fn push_hyphens(out: &mut Out<'_>, count: u16)
+    ensures pushed { (row : List CellValue) → IsRow row out.old → IsRow (row ++ hyphens count) out.new }
+    ensures room { out.new.room ≡ out.old.room }
+{
+    for _hyphen in 0..count {
         out.push(Cell {
             byte: b'-',
             under: false,
@@ -76,7 +82,18 @@ impl<'a> Line<'a> {
     }
 
     /// How the first n pieces are set as a line.
-    fn plan(&self, n: usize, setting: Setting) -> Plan {
+    fn plan(&self, n: usize, setting: Setting) -> Plan
+        requires some { 0 < n }
+        requires within { n ≤ length self.now.collected.pieces }
+        ensures start { result.start ≡ setting.offset + self.now.collected.margins.indent + shift setting.align (left_over self.now.collected n) }
+        ensures start_small { result.start < 2 ^ 34 }
+        ensures extra { result.extra ≡ extra_of setting.align self.now.collected n }
+        ensures each { result.extra.each < 2 ^ 32 }
+        ensures spread { result.spread ≡ spreads setting.align self.now.collected n }
+        ensures hyphens { result.hyphens ≡ hyphen_before (drop n self.now.collected.pieces) }
+        ensures cells { result.cells ≡ cells_in (take n self.now.collected.pieces) }
+        ensures wide { result.wide ≡ pieces_width (take n self.now.collected.pieces) }
+    {
         let sums = self.row.sums(n);
         let first = usize::from(self.row.first_join().width());
         let hyphens = self.row.hyphen(n, self.pieces);
@@ -99,7 +116,14 @@ impl<'a> Line<'a> {
     }
 
     /// Sets the first n pieces in the row, and tells how wide they are there.
-    fn set(&self, n: usize, plan: Plan, out: &mut Out<'_>) -> usize {
+    fn set(&self, n: usize, plan: Plan, out: &mut Out<'_>) -> usize
+        requires some { 0 < n }
+        requires within { n ≤ length self.now.collected.pieces }
+        requires each { plan.extra.each < 2 ^ 32 }
+        requires start { plan.start < 2 ^ 34 }
+        ensures out { out.new ≡ row_of out.old.room (trimmed (replicate plan.start blank ++ (cells_in_line plan.extra (take n self.now.collected.pieces) ++ hyphens plan.hyphens))) }
+        ensures width { result ≡ length (trimmed (cells_in_line plan.extra (take n self.now.collected.pieces) ++ hyphens plan.hyphens)) }
+    {
         out.clear();
         out.blanks(plan.start);
         self.row.set(n, plan.extra, out);
@@ -110,7 +134,12 @@ impl<'a> Line<'a> {
     }
 
     /// Takes the first n pieces away.
-    fn remove(&mut self, n: usize, plan: Plan, next: Margins) {
+    fn remove(&mut self, n: usize, plan: Plan, next: Margins)
+        requires within { n ≤ length self.old.collected.pieces }
+        requires cells { plan.cells ≡ cells_in (take n self.old.collected.pieces) }
+        requires wide { plan.wide ≡ pieces_width (take n self.old.collected.pieces) }
+        ensures { self.new ≡ record self.old { collected = without_front n plan.spread next self.old.collected } }
+    {
         self.row.remove_front(n, plan.cells);
         self.pieces -= n;
         self.wide -= plan.wide;

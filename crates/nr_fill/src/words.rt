@@ -49,7 +49,7 @@ impl Pending {
         }
     }
 
-    /// What waits behind `\%`, where the word has n cells.
+    /// What waits behind `\%`, where n cells stand before it.
     fn soft(self, n: usize) -> Self
         ensures { result ≡ pending_soft n self }
     {
@@ -59,7 +59,7 @@ impl Pending {
         }
     }
 
-    /// What waits behind a blank of a line that is one piece.
+    /// What waits where no break point stands.
     fn without_point(self) -> Self
         ensures { result ≡ pending_without_point self }
     {
@@ -105,7 +105,7 @@ impl<'a> Line<'a> {
         self.word = Some(WordState {
             join: Join::at(point),
             pending: Pending::Nothing,
-            blanks: word.blanks,
+            blanks: 0,
             parted: word.parted + len,
             wide: word.wide + usize::from(word.join.width()) + len,
         });
@@ -225,14 +225,14 @@ impl<'a> Line<'a> {
         let Some(word) = self.word else {
             return;
         };
-        let n = word.parted + self.row.last_len();
+        let n = self.row.last_len();
         self.word = Some(WordState {
             pending: word.pending.soft(n),
             ..word
         });
     }
 
-    /// Drops the blanks of the text at the end of the word.
+    /// Drops the blanks of the text at the end of the word, and a break point there.
     pub fn drop_blanks(&mut self)
         ensures { self.new ≡ record self.old { collected = without_blanks self.old.collected } }
     {
@@ -243,7 +243,11 @@ impl<'a> Line<'a> {
         };
         let len = self.row.last_len() - word.blanks;
         self.row.shorten(len);
-        self.word = Some(WordState { blanks: 0, ..word });
+        self.word = Some(WordState {
+            pending: word.pending.without_point(),
+            blanks: 0,
+            ..word
+        });
     }
 
     /// A soft break point stands so many cells in, where that is between two cells of the piece that is being read.

@@ -1,0 +1,337 @@
+-- What a line's fields tell of its value, and how they change.
+use Rattle.std.proofs.Common.{◌≡◌, ℕ, ◌+◌, ◌-◌, ◌*◌, ◌^◌, ◌≤◌, ◌<◌, max, List, [], ◌∷◌, ◌++◌, length, take, drop, replicate, sum_by, Option, None, Some, is_none, Bool, true, false, All, refl, ap, ap₂, sym, ◌∙◌, arith, length-take, length-drop, length-append, nat_lt, nat_le, subst, suc}
+use Rattle.std.proofs.lemmas.List.{take_all, drop_all, drop-drop, drop-take, take-take, length-take-le, take-append-le, drop-append-le}
+use Rattle.std.proofs.lemmas.List.Elements.{All-drop, All-push}
+use Rattle.std.proofs.lemmas.List.Sums.{sum_by-cons, sum_by_push, sum_by-append, sum_by-take-drop, sum_by-take-le}
+use Rattle.nr_units.specs.declared.cell.Cell.{Cell}
+use Rattle.nr_fill.specs.declared.line.WordState.{WordState}
+use Rattle.nr_fill.specs.declared.margins.Margins.{Margins}
+use Rattle.nr_fill.specs.declared.margins.Turn.{Turn}
+use Rattle.nr_fill.specs.declared.piece.Join.TheVariants.{Gap}
+use Rattle.nr_fill.specs.declared.stops.Pending.{Pending}
+use Rattle.nr_fill.specs.declared.stops.Pending.TheVariants.{Nothing, AtPoint, ForStop}
+use Rattle.nr_fill.specs.declared.title.TitleState.{TitleState}
+use Rattle.nr_fill.specs.declared.title.TitleState.TheVariants as states
+use Rattle.nr_fill.specs.Cut.{join_width, piece_width, pieces_width}
+use Rattle.nr_fill.specs.Laid.{Laid, read_cells}
+use Rattle.nr_fill.specs.Lying.{word_of, title_of, collected_of, cells_needed, IsWord, IsLine, parted_title}
+use Rattle.nr_fill.specs.Pieces.{Piece, Word, Collected, cells_in, word_cells, word_length, text_cells, line_cells}
+use Rattle.nr_fill.specs.Titles.{title_cells}
+
+-- ---- the measure
+
+-- 1 and its cells for each piece
+charge_of : (ps : List Piece) → sum_by (λ (p : Piece). 1 + length p.cells) ps ≡ length ps + cells_in ps
+charge_of [] = refl
+charge_of (p ∷ ps) =
+    let one = sum_by-cons (λ (q : Piece). 1 + length q.cells) p ps in
+    let cells = sum_by-cons (λ (q : Piece). length q.cells) p ps in
+    let more = charge_of ps in
+    omega arith
+
+pub text_cells-collected_of : {row : Laid} {limit pieces wide : ℕ} {word : Option WordState} {gap : ℕ} {title : Option TitleState} (barred sentence : Bool) (margins : Margins) (turn : Turn)
+    → IsLine row limit pieces wide word gap title → text_cells (collected_of row pieces word gap barred sentence margins turn title) ≡ pieces + read_cells row
+text_cells-collected_of {row} {pieces = pieces} {word = None} barred sentence margins turn h =
+    let charge = charge_of (take pieces row.pieces) in
+    let long = length-take-le pieces row.pieces h.pieces_within in
+    let all = h.no_word refl in
+    let same = ap cells_in (take_all pieces row.pieces (omega arith)) in
+    omega arith
+text_cells-collected_of {row} {pieces = pieces} {word = Some w} barred sentence margins turn h =
+    let charge = charge_of (take pieces row.pieces) in
+    let long = length-take-le pieces row.pieces h.pieces_within in
+    let parts = sum_by-take-drop (λ (p : Piece). length p.cells) row.pieces pieces in
+    omega arith
+
+title_cells-title_of : (title : Option TitleState) (cells : List Cell) → ((t : TitleState) → title ≡ Some t → parted_title t ≤ length cells) → (is_none title ≡ true → length cells ≡ 0)
+    → title_cells (title_of title cells) ≡ length cells
+title_cells-title_of None cells some none = sym (none refl)
+title_cells-title_of (Some states.Left) cells some none = omega arith
+title_cells-title_of (Some (states.Centre left)) cells some none =
+    let within : left ≤ length cells = some (states.Centre left) refl in
+    omega (arith, length-take-le left cells within, length-drop left cells)
+title_cells-title_of (Some (states.Right left centre)) cells some none =
+    let within : left + centre ≤ length cells = some (states.Right left centre) refl in
+    omega (arith, length-take-le left cells (omega arith), length-take centre (drop left cells), length-drop centre (drop left cells), length-drop left cells)
+
+pub line_cells-collected_of : {row : Laid} {limit pieces wide : ℕ} {word : Option WordState} {gap : ℕ} {title : Option TitleState} (barred sentence : Bool) (margins : Margins) (turn : Turn)
+    → IsLine row limit pieces wide word gap title → line_cells (collected_of row pieces word gap barred sentence margins turn title) ≡ pieces + read_cells row + length row.title
+line_cells-collected_of {row} {title = title} barred sentence margins turn h =
+    let text = text_cells-collected_of barred sentence margins turn h in
+    let cells = title_cells-title_of title row.title h.title_is h.no_title in
+    omega arith
+
+-- ---- widths
+
+pub pieces_width-le : (ps : List Piece) → All (λ (p : Piece). join_width p.join ≤ 1365) ps → pieces_width ps ≤ 1365 * length ps + cells_in ps
+pieces_width-le [] h = omega arith
+pieces_width-le (p ∷ ps) h =
+    let wide = sum_by-cons piece_width p ps in
+    let cells = sum_by-cons (λ (q : Piece). length q.cells) p ps in
+    let others : All (λ (q : Piece). join_width q.join ≤ 1365) ps = λ k d below. h (suc k) d (omega arith) in
+    let more = pieces_width-le ps others in
+    let here : join_width p.join ≤ 1365 = h 0 p (omega arith) in
+    omega arith
+
+-- pieces and cells are no more than the limit
+pub pieces_fit : {row : Laid} {limit pieces wide : ℕ} {word : Option WordState} {gap : ℕ} {title : Option TitleState} → IsLine row limit pieces wide word gap title
+    → length row.pieces + length row.last ≤ pieces + read_cells row
+pieces_fit {row} {pieces = pieces} {word = None} h = let all = h.no_word refl in omega arith
+pieces_fit {row} {pieces = pieces} {word = Some w} h =
+    let iw = h.word_is w refl in
+    let some = iw.pieces_have_cells in
+    let parted = iw.parted_is in
+    let parts = sum_by-take-drop (λ (p : Piece). length p.cells) row.pieces pieces in
+    omega (arith, length-drop pieces row.pieces)
+
+-- the widths of a line fit
+pub widths_small : {row : Laid} {limit pieces wide : ℕ} {word : Option WordState} {gap : ℕ} {title : Option TitleState} → IsLine row limit pieces wide word gap title
+    → pieces_width row.pieces < 2 ^ 44
+widths_small {row} h =
+    let wide = pieces_width-le row.pieces h.gaps_within in
+    let fit = pieces_fit h in
+    let within = h.within in
+    let small = h.is_small in
+    omega arith
+
+-- ---- words
+
+-- the word's state is that of the word
+pub the_word : {row : Laid} {limit pieces wide : ℕ} {w : WordState} {gap : ℕ} {title : Option TitleState} → IsLine row limit pieces wide (Some w) gap title
+    → IsWord w (drop pieces row.pieces) row.last
+the_word {w = w} h = h.word_is w refl
+
+-- a word of which this is known
+only_word : {ps : List Piece} {cells : List Cell} (w : WordState) → IsWord w ps cells → (v : WordState) → Some w ≡ Some v → IsWord v ps cells
+only_word {ps} {cells} w h v e = let same : w ≡ v = (cc) in subst (λ (x : WordState). IsWord x ps cells) same h
+
+is_some_word : {T : Type 0} (w : WordState) → is_none (Some w) ≡ true → T
+is_some_word w e = absurd (let f : false ≡ true = e in cc)
+
+no_title_state : {T : Type 0} (t : TitleState) → ◌≡◌ {A = Option TitleState} None (Some t) → T
+no_title_state t e = absurd (cc)
+
+-- without a title
+pub is_line_untitled : {row : Laid} {limit pieces wide : ℕ} {word : Option WordState} {gap : ℕ} {title : Option TitleState} → IsLine row limit pieces wide word gap title
+    → IsLine (record row { title = [] }) limit pieces wide word gap None
+is_line_untitled h = record {
+  room = h.room;
+  is_small = h.is_small;
+  within = omega (arith, h.within);
+  pieces_within = h.pieces_within;
+  wide_is = h.wide_is;
+  gaps_within = h.gaps_within;
+  gap_within = h.gap_within;
+  word_is = h.word_is;
+  no_word = h.no_word;
+  title_is = λ t e. no_title_state t e;
+  no_title = λ none. refl;
+}
+
+-- with another state of the word
+pub is_line_word : {row : Laid} {limit pieces wide : ℕ} {word : Option WordState} {gap : ℕ} {title : Option TitleState} (w : WordState) → IsLine row limit pieces wide word gap title
+    → IsWord w (drop pieces row.pieces) row.last → IsLine row limit pieces wide (Some w) gap title
+is_line_word w h hw = record {
+  room = h.room;
+  is_small = h.is_small;
+  within = h.within;
+  pieces_within = h.pieces_within;
+  wide_is = h.wide_is;
+  gaps_within = h.gaps_within;
+  gap_within = h.gap_within;
+  word_is = only_word w hw;
+  no_word = λ none. is_some_word w none;
+  title_is = h.title_is;
+  no_title = h.no_title;
+}
+
+-- a word that opens
+pub is_line_opened : {row : Laid} {limit pieces wide : ℕ} {gap : ℕ} {title : Option TitleState} (w : WordState) → IsLine row limit pieces wide None gap title
+    → w ≡ record { join = Gap gap; pending = Nothing; blanks = 0; parted = 0; wide = 0 }
+    → IsLine row limit pieces wide (Some w) 0 title
+is_line_opened {row} {pieces = pieces} {gap = gap} w h is =
+    let all = h.no_word refl in
+    let none : drop pieces row.pieces ≡ [] = drop_all pieces row.pieces (omega arith) in
+    let hw : IsWord w (drop pieces row.pieces) row.last = rw (is, none) record {
+      parted_is = refl;
+      wide_is = refl;
+      pieces_have_cells = omega arith;
+      join_within = h.gap_within;
+      needed = omega arith;
+    } in
+    record {
+      room = h.room;
+      is_small = h.is_small;
+      within = h.within;
+      pieces_within = h.pieces_within;
+      wide_is = h.wide_is;
+      gaps_within = h.gaps_within;
+      gap_within = omega arith;
+      word_is = only_word w hw;
+      no_word = λ none. is_some_word w none;
+      title_is = h.title_is;
+      no_title = h.no_title;
+    }
+
+-- with other cells of the piece that is being read
+pub is_line_last : {row : Laid} {limit pieces wide : ℕ} {word : Option WordState} {gap : ℕ} {title : Option TitleState} (last : List Cell) (w : WordState) → IsLine row limit pieces wide word gap title
+    → IsWord w (drop pieces row.pieces) last → pieces + (cells_in row.pieces + length last) + length row.title ≤ limit
+    → IsLine (record row { last = last }) limit pieces wide (Some w) gap title
+is_line_last last w h hw within = record {
+  room = h.room;
+  is_small = h.is_small;
+  within = within;
+  pieces_within = h.pieces_within;
+  wide_is = h.wide_is;
+  gaps_within = h.gaps_within;
+  gap_within = h.gap_within;
+  word_is = only_word w hw;
+  no_word = λ none. is_some_word w none;
+  title_is = h.title_is;
+  no_title = h.no_title;
+}
+
+-- cells of the piece that is being read are a piece
+pub is_word_closed : {ps : List Piece} {last : List Cell} {w : WordState} (v : WordState) (n : ℕ) → IsWord w ps last → n ≤ length last → 0 < n
+    → v.parted ≡ w.parted + n → v.wide ≡ w.wide + join_width w.join + n → join_width v.join ≤ 1365 → cells_needed v.pending v.blanks ≤ length last - n
+    → IsWord v (ps ++ record { join = w.join; cells = take n last } ∷ []) (drop n last)
+is_word_closed {ps} {last} {w} v n h within some parted_is wide_is join needed =
+    let p : Piece = record { join = w.join; cells = take n last } in
+    let long = length-take-le n last within in
+    let cells = sum_by_push (λ (q : Piece). length q.cells) ps p in
+    let wide = sum_by_push piece_width ps p in
+    let parted = h.parted_is in
+    let all_wide = h.wide_is in
+    record {
+      parted_is = omega arith;
+      wide_is = omega arith;
+      pieces_have_cells = omega (arith, h.pieces_have_cells, length-append ps (p ∷ []));
+      join_within = join;
+      needed = omega (arith, length-drop n last);
+    }
+
+pub is_line_closed : {row : Laid} {limit pieces wide : ℕ} {w : WordState} {gap : ℕ} {title : Option TitleState} (v : WordState) (n : ℕ) → IsLine row limit pieces wide (Some w) gap title
+    → n ≤ length row.last → 0 < n
+    → v.parted ≡ w.parted + n → v.wide ≡ w.wide + join_width w.join + n → join_width v.join ≤ 1365 → cells_needed v.pending v.blanks ≤ length row.last - n
+    → IsLine (record row { pieces = row.pieces ++ record { join = w.join; cells = take n row.last } ∷ []; last = drop n row.last }) limit pieces wide (Some v) gap title
+is_line_closed {row} {pieces = pieces} {w = w} v n h within some parted_is wide_is join needed =
+    let p : Piece = record { join = w.join; cells = take n row.last } in
+    let iw = the_word h in
+    let closed = is_word_closed v n iw within some parted_is wide_is join needed in
+    let low = h.pieces_within in
+    let same = take-append-le pieces row.pieces (p ∷ []) low in
+    let behind = drop-append-le pieces row.pieces (p ∷ []) low in
+    let cells = sum_by_push (λ (q : Piece). length q.cells) row.pieces p in
+    let long = length-take-le n row.last within in
+    record {
+      room = h.room;
+      is_small = h.is_small;
+      within = omega (arith, h.within, length-drop n row.last);
+      pieces_within = omega (arith, length-append row.pieces (p ∷ []));
+      wide_is = ap pieces_width same ∙ h.wide_is;
+      gaps_within = All-push (λ (q : Piece). join_width q.join ≤ 1365) row.pieces p h.gaps_within iw.join_within;
+      gap_within = h.gap_within;
+      word_is = only_word v (rw behind closed);
+      no_word = λ none. is_some_word v none;
+      title_is = h.title_is;
+      no_title = h.no_title;
+    }
+
+-- the word's pieces are the line's
+pub is_line_ended : {row : Laid} {limit pieces wide : ℕ} {w : WordState} {gap : ℕ} {title : Option TitleState} (more all_wide : ℕ) → IsLine row limit pieces wide (Some w) gap title
+    → pieces + more ≡ length row.pieces + 1 → all_wide ≡ wide + (w.wide + join_width w.join + length row.last)
+    → pieces + more + read_cells row + length row.title ≤ limit
+    → IsLine (record row { pieces = row.pieces ++ record { join = w.join; cells = take (length row.last) row.last } ∷ []; last = drop (length row.last) row.last })
+        limit (pieces + more) all_wide None gap title
+is_line_ended {row} {pieces = pieces} {w = w} more all_wide h more_is wide_is within =
+    let p : Piece = record { join = w.join; cells = take (length row.last) row.last } in
+    let iw = the_word h in
+    let longer = length-append row.pieces (p ∷ []) in
+    let long = length-take-le (length row.last) row.last (omega arith) in
+    let cells = sum_by_push (λ (q : Piece). length q.cells) row.pieces p in
+    let wide = sum_by_push piece_width row.pieces p in
+    let parts = sum_by-take-drop piece_width row.pieces pieces in
+    let first = h.wide_is in
+    let other = iw.wide_is in
+    let all = take_all (pieces + more) (row.pieces ++ p ∷ []) (omega arith) in
+    let total : pieces_width (row.pieces ++ p ∷ []) ≡ all_wide = omega arith in
+    record {
+      room = h.room;
+      is_small = h.is_small;
+      within = omega (arith, length-drop (length row.last) row.last);
+      pieces_within = omega arith;
+      wide_is = ap pieces_width all ∙ total;
+      gaps_within = All-push (λ (q : Piece). join_width q.join ≤ 1365) row.pieces p h.gaps_within iw.join_within;
+      gap_within = h.gap_within;
+      word_is = λ v e. absurd (let f : ◌≡◌ {A = Option WordState} None (Some v) = e in cc);
+      no_word = λ none. (omega arith, omega (arith, length-drop (length row.last) row.last));
+      title_is = h.title_is;
+      no_title = h.no_title;
+    }
+
+-- the first pieces are gone
+pub is_line_removed : {row : Laid} {limit pieces wide : ℕ} {word : Option WordState} {gap : ℕ} {title : Option TitleState} (n taken_wide : ℕ) → IsLine row limit pieces wide word gap title
+    → n ≤ pieces → taken_wide ≡ pieces_width (take n row.pieces)
+    → IsLine (record row { pieces = drop n row.pieces }) limit (pieces - n) (wide - taken_wide) word gap title
+is_line_removed {row} {pieces = pieces} {word = word} n taken_wide h within wide_is =
+    let cells = sum_by-take-drop (λ (p : Piece). length p.cells) row.pieces n in
+    let fewer = length-drop n row.pieces in
+    let low = h.pieces_within in
+    let rest : n + (pieces - n) ≡ pieces = omega arith in
+    let behind : drop (pieces - n) (drop n row.pieces) ≡ drop pieces row.pieces = drop-drop (pieces - n) n row.pieces ∙ ap (λ k. drop k row.pieces) rest in
+    let front : take (pieces - n) (drop n row.pieces) ≡ drop n (take pieces row.pieces) = sym (drop-take n (pieces - n) row.pieces) ∙ ap (λ k. drop n (take k row.pieces)) rest in
+    let part : take n (take pieces row.pieces) ≡ take n row.pieces = take-take n pieces row.pieces within in
+    let widths = sum_by-take-drop piece_width (take pieces row.pieces) n in
+    let first = ap pieces_width part in
+    let all = h.wide_is in
+    record {
+      room = h.room;
+      is_small = h.is_small;
+      within = omega (arith, h.within);
+      pieces_within = omega arith;
+      wide_is = ap pieces_width front ∙ (let e : pieces_width (drop n (take pieces row.pieces)) ≡ _ - taken_wide = omega arith in e);
+      gaps_within = All-drop (λ (p : Piece). join_width p.join ≤ 1365) n row.pieces h.gaps_within;
+      gap_within = h.gap_within;
+      word_is = λ w e. rw behind (h.word_is w e);
+      no_word = λ none. let old = h.no_word none in (omega arith, old.1);
+      title_is = h.title_is;
+      no_title = h.no_title;
+    }
+
+-- ---- titles
+
+-- with another state of the title
+pub is_line_titled : {row : Laid} {limit pieces wide : ℕ} {word : Option WordState} {gap : ℕ} {title : Option TitleState} (t : TitleState) → IsLine row limit pieces wide word gap title
+    → parted_title t ≤ length row.title → IsLine row limit pieces wide word gap (Some t)
+is_line_titled {row} t h within = record {
+  room = h.room;
+  is_small = h.is_small;
+  within = h.within;
+  pieces_within = h.pieces_within;
+  wide_is = h.wide_is;
+  gaps_within = h.gaps_within;
+  gap_within = h.gap_within;
+  word_is = h.word_is;
+  no_word = h.no_word;
+  title_is = λ u e. let same : t ≡ u = (cc) in subst (λ (x : TitleState). parted_title x ≤ length row.title) same within;
+  no_title = λ none. absurd (let f : false ≡ true = none in cc);
+}
+
+-- one cell more of a title
+pub is_line_title_cell : {row : Laid} {limit pieces wide : ℕ} {word : Option WordState} {gap : ℕ} {title : Option TitleState} (x : Cell) → IsLine row limit pieces wide word gap title
+    → is_none title ≡ false → pieces + read_cells row + length row.title < limit → IsLine (record row { title = row.title ++ x ∷ [] }) limit pieces wide word gap title
+is_line_title_cell {row} {title = title} x h some below =
+    let longer = length-append row.title (x ∷ []) in
+    record {
+      room = h.room;
+      is_small = h.is_small;
+      within = omega arith;
+      pieces_within = h.pieces_within;
+      wide_is = h.wide_is;
+      gaps_within = h.gaps_within;
+      gap_within = h.gap_within;
+      word_is = h.word_is;
+      no_word = h.no_word;
+      title_is = λ t e. let old = h.title_is t e in omega arith;
+      no_title = λ none. absurd (let f : true ≡ false = sym none ∙ some in cc);
+    }
