@@ -5,3 +5,4 @@ pub mod PiecesOf
 pub mod SettingPieces
 pub mod Laying
 pub mod Lines
+pub mod Pendings

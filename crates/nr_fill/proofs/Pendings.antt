@@ -1,0 +1,117 @@
+-- What waits behind the piece that is being read, as it changes.
+use Rattle.std.proofs.Common.{◌≡◌, ℕ, ◌+◌, ◌-◌, ◌≤◌, ◌<◌, ◌^◌, max, nat_lt, List, length, Option, None, Some, Bool, true, false, is_some, refl, arith, inl, inr, drop, length-drop}
+use Rattle.std.proofs.lemmas.Bool.{cases_Bool, ltb-true}
+use Rattle.std.proofs.lemmas.List.Sums.{sum_by-take-drop}
+use Rattle.nr_units.specs.declared.cell.Cell.{Cell}
+use Rattle.nr_fill.specs.declared.line.WordState.{WordState}
+use Rattle.nr_fill.specs.declared.piece.Behind.{Behind}
+use Rattle.nr_fill.specs.declared.piece.Behind.TheVariants.{Letter, Hyphen, Dash}
+use Rattle.nr_fill.specs.declared.stops.Pending.{Pending}
+use Rattle.nr_fill.specs.declared.stops.Pending.TheVariants.{Nothing, AtPoint, ForStop}
+use Rattle.nr_fill.specs.declared.title.TitleState.{TitleState}
+use Rattle.nr_fill.specs.Cut.{join_width, piece_width, pieces_width}
+use Rattle.nr_fill.specs.Laid.{Laid, read_cells}
+use Rattle.nr_fill.specs.Lying.{cells_needed, IsWord, IsLine}
+use Rattle.nr_fill.specs.Pieces.{Piece, cells_in, pending_behind, pending_soft, pending_without_point, is_for_stop}
+use Rattle.nr_fill.proofs.Lines.{the_word, is_line_word, widths_small}
+
+pub needed_blanks : (p : Pending) (b n : ℕ) → cells_needed p b ≤ n → b ≤ n
+needed_blanks Nothing b n h = h
+needed_blanks (AtPoint point) b n h = omega arith
+needed_blanks (ForStop f) b n h = omega arith
+
+pub needed_none : (p : Pending) (b n : ℕ) → cells_needed p b ≤ n → cells_needed p 0 ≤ n
+needed_none Nothing b n h = omega arith
+needed_none (AtPoint point) b n h = omega arith
+needed_none (ForStop f) b n h = omega arith
+
+pub needed_more : (p : Pending) (b n m : ℕ) → cells_needed p b ≤ n → n ≤ m → cells_needed p b ≤ m
+needed_more p b n m h k = omega arith
+
+pub needed_soft : (p : Pending) (b n : ℕ) → cells_needed p b ≤ n → cells_needed (pending_soft n p) b ≤ n
+needed_soft Nothing b n h = elim (cases_Bool (nat_lt 0 n)) [
+  | inl below ↦ let some = ltb-true 0 n below in rw below (omega arith)
+  | inr above ↦ rw above h
+]
+needed_soft (AtPoint point) b n h = h
+needed_soft (ForStop f) b n h = h
+
+pub needed_behind : (mark : Behind) (k : ℕ) (p : Pending) (b n : ℕ) → cells_needed p b ≤ n → cells_needed (pending_behind mark k p) 0 ≤ n + 1
+needed_behind Letter k (ForStop f) b n h = omega arith
+needed_behind Hyphen k (ForStop f) b n h = omega arith
+needed_behind Dash k (ForStop f) b n h = omega arith
+needed_behind Letter k Nothing b n h = omega arith
+needed_behind Letter k (AtPoint point) b n h = omega arith
+needed_behind Hyphen k Nothing b n h = elim (cases_Bool (nat_lt 1 k)) [ inl below ↦ rw below (omega arith) | inr above ↦ rw above (omega arith) ]
+needed_behind Hyphen k (AtPoint point) b n h = elim (cases_Bool (nat_lt 1 k)) [ inl below ↦ rw below (omega arith) | inr above ↦ rw above (omega arith) ]
+needed_behind Dash k Nothing b n h = elim (cases_Bool (nat_lt 2 k)) [ inl below ↦ rw below (omega arith) | inr above ↦ rw above (omega arith) ]
+needed_behind Dash k (AtPoint point) b n h = elim (cases_Bool (nat_lt 2 k)) [ inl below ↦ rw below (omega arith) | inr above ↦ rw above (omega arith) ]
+
+pub needed_without_point : (p : Pending) (b n : ℕ) → cells_needed p b ≤ n → cells_needed (pending_without_point p) b ≤ n
+needed_without_point Nothing b n h = h
+needed_without_point (AtPoint point) b n h = omega arith
+needed_without_point (ForStop f) b n h = h
+
+pub needed_dropped : (p : Pending) (b n : ℕ) → cells_needed p b ≤ n → cells_needed (pending_without_point p) 0 ≤ n - b
+needed_dropped Nothing b n h = omega arith
+needed_dropped (AtPoint point) b n h = omega arith
+needed_dropped (ForStop f) b n h = omega arith
+
+pub needed_one_more : (p : Pending) (b n : ℕ) → cells_needed p b ≤ n → cells_needed (pending_without_point p) (b + 1) ≤ n + 1
+needed_one_more Nothing b n h = omega arith
+needed_one_more (AtPoint point) b n h = omega arith
+needed_one_more (ForStop f) b n h = omega arith
+
+-- cells behind a point inside the piece
+pub needed_behind_point : (p : Pending) (b n : ℕ) (m : ℕ) → is_for_stop p ≡ false → b < m → cells_needed p b ≤ m
+needed_behind_point Nothing b n m other h = omega arith
+needed_behind_point (AtPoint point) b n m other h = omega arith
+needed_behind_point (ForStop f) b n m other h = absurd (let e : true ≡ false = other in cc)
+
+-- a word with something else behind it
+pub is_line_pending : {row : Laid} {limit pieces wide : ℕ} {w : WordState} {gap : ℕ} {title : Option TitleState} (p : Pending) (b : ℕ) → IsLine row limit pieces wide (Some w) gap title
+    → cells_needed p b ≤ length row.last → IsLine row limit pieces wide (Some (record w { pending = p; blanks = b })) gap title
+is_line_pending {w = w} p b h needed =
+    let iw = the_word h in
+    is_line_word (record w { pending = p; blanks = b }) h (record {
+      parted_is = iw.parted_is;
+      wide_is = iw.wide_is;
+      pieces_have_cells = iw.pieces_have_cells;
+      join_within = iw.join_within;
+      needed = needed;
+    })
+
+-- the numbers of a word are small
+pub record AreSmall (row : Laid) (limit pieces wide : ℕ) (w : WordState) : Type 0 where
+  pub room : limit ≤ row.room
+  pub small : limit < 2 ^ 32
+  pub text : pieces + read_cells row ≤ limit
+  pub parted : w.parted + length row.last ≤ read_cells row
+  pub pieces_are : length row.pieces ≤ pieces + w.parted
+  pub low : pieces ≤ length row.pieces
+  pub widths : wide + w.wide < 2 ^ 44
+  pub join : join_width w.join ≤ 1365
+  pub needed : cells_needed w.pending w.blanks ≤ length row.last
+
+pub are_small : {row : Laid} {limit pieces wide : ℕ} {w : WordState} {gap : ℕ} {title : Option TitleState} → IsLine row limit pieces wide (Some w) gap title → AreSmall row limit pieces wide w
+are_small {row} {pieces = pieces} h =
+    let iw = the_word h in
+    let parts = sum_by-take-drop (λ (q : Piece). length q.cells) row.pieces pieces in
+    let widths = sum_by-take-drop piece_width row.pieces pieces in
+    let parted = iw.parted_is in
+    let first = h.wide_is in
+    let other = iw.wide_is in
+    let some = iw.pieces_have_cells in
+    let low = h.pieces_within in
+    let small = widths_small h in
+    record {
+      room = h.room;
+      small = h.is_small;
+      text = omega (arith, h.within);
+      parted = omega arith;
+      pieces_are = omega (arith, length-drop pieces row.pieces);
+      low = low;
+      widths = omega arith;
+      join = iw.join_within;
+      needed = iw.needed;
+    }

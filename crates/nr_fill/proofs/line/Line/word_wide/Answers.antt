@@ -1,0 +1,27 @@
+use Rattle.std.proofs.Common.{◌≡◌, ◌+◌, ◌-◌, ◌<◌, ◌≤◌, length, None, Some, ap, sym, ◌∙◌, refl, arith, true, false}
+use Rattle.nr_fill.specs.Laid.{Laid}
+use Rattle.nr_fill.proofs.Lines.{is_line_untitled, is_line_opened, is_line_last, is_line_titled}
+use Rattle.nr_fill.proofs.Pendings.{is_line_pending, are_small, needed_blanks, needed_none, needed_soft, needed_behind, needed_without_point, needed_dropped, needed_one_more}
+use Rattle.nr_fill.specs.declared.stops.Pending.TheVariants.{Nothing, AtPoint, ForStop}
+use Rattle.nr_fill.proofs.line.Line.word_wide.Goals as goal
+
+pub overflow_add-result : goal.overflow_add-result
+overflow_add-result c =
+    let h = rw c.in-Some.is at c.self.invariant in
+    let small = are_small h in
+    let join = c.from-in-Some.ensures ∙ c.width.ensures in
+    omega (arith, small.widths, small.join)
+
+pub overflow_add-result-in-Some : goal.overflow_add-result-in-Some
+overflow_add-result-in-Some c =
+    let h = rw c.in-Some.is at c.self.invariant in
+    let small = are_small h in
+    let join = c.from-in-Some.ensures ∙ c.width.ensures in
+    omega (arith, small.widths, small.join, c.last_len.ensures, small.parted, small.text, small.small)
+
+pub returns-in-Some-clause-small : goal.returns-in-Some-clause-small
+returns-in-Some-clause-small c =
+    let h = rw c.in-Some.is at c.self.invariant in
+    let small = are_small h in
+    let join = c.from-in-Some.ensures ∙ c.width.ensures in
+    omega (arith, small.widths, small.join, c.last_len.ensures, small.parted, small.text, small.small)
