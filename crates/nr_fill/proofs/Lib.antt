@@ -6,3 +6,4 @@ pub mod SettingPieces
 pub mod Laying
 pub mod Lines
 pub mod Pendings
+pub mod Measures

@@ -1,5 +1,5 @@
 -- What a line's fields tell of its value, and how they change.
-use Rattle.std.proofs.Common.{◌≡◌, ℕ, ◌+◌, ◌-◌, ◌*◌, ◌^◌, ◌≤◌, ◌<◌, max, List, [], ◌∷◌, ◌++◌, length, take, drop, replicate, sum_by, Option, None, Some, is_none, Bool, true, false, All, refl, ap, ap₂, sym, ◌∙◌, arith, length-take, length-drop, length-append, nat_lt, nat_le, subst, suc}
+use Rattle.std.proofs.Common.{◌≡◌, ℕ, ◌+◌, ◌-◌, ◌*◌, ◌^◌, ◌≤◌, ◌<◌, max, List, [], ◌∷◌, ◌++◌, length, take, drop, replicate, sum_by, Option, None, Some, is_none, is_some, Bool, true, false, All, refl, ap, ap₂, sym, ◌∙◌, arith, length-take, length-drop, length-append, nat_lt, nat_le, subst, suc}
 use Rattle.std.proofs.lemmas.List.{take_all, drop_all, drop-drop, drop-take, take-take, length-take-le, take-append-le, drop-append-le}
 use Rattle.std.proofs.lemmas.List.Elements.{All-drop, All-push}
 use Rattle.std.proofs.lemmas.List.Sums.{sum_by-cons, sum_by_push, sum_by-append, sum_by-take-drop, sum_by-take-le}
@@ -14,9 +14,11 @@ use Rattle.nr_fill.specs.declared.title.TitleState.{TitleState}
 use Rattle.nr_fill.specs.declared.title.TitleState.TheVariants as states
 use Rattle.nr_fill.specs.Cut.{join_width, piece_width, pieces_width}
 use Rattle.nr_fill.specs.Laid.{Laid, read_cells}
-use Rattle.nr_fill.specs.Lying.{word_of, title_of, collected_of, cells_needed, IsWord, IsLine, parted_title}
+use Rattle.nr_fill.specs.Lying.{word_of, collected_of, cells_needed, IsWord, IsLine}
 use Rattle.nr_fill.specs.Pieces.{Piece, Word, Collected, cells_in, word_cells, word_length, text_cells, line_cells}
-use Rattle.nr_fill.specs.Titles.{title_cells}
+use Rattle.nr_fill.specs.TitleStates.{title_of, parted_title, next_state}
+use Rattle.nr_fill.specs.Titles.{Title, title_cells, next_part, with_cell}
+use Rattle.std.specs.Option.{option_map}
 
 -- ---- the measure
 
@@ -335,3 +337,54 @@ is_line_title_cell {row} {title = title} x h some below =
       title_is = λ t e. let old = h.title_is t e in omega arith;
       no_title = λ none. absurd (let f : true ≡ false = sym none ∙ some in cc);
     }
+
+-- what has no value is None
+pub none_from_is_some : (word : Option WordState) → is_some word ≡ false → word ≡ None
+none_from_is_some None h = refl
+none_from_is_some (Some w) h = (cc)
+
+none_from_title_of : (title : Option TitleState) (cells : List Cell) → title_of title cells ≡ None → is_none title ≡ true
+none_from_title_of None cells h = refl
+none_from_title_of (Some states.Left) cells h = (cc)
+none_from_title_of (Some (states.Centre left)) cells h = (cc)
+none_from_title_of (Some (states.Right left centre)) cells h = (cc)
+
+-- without a title there are no cells of one
+pub no_title_cells : {row : Laid} {limit pieces wide : ℕ} {word : Option WordState} {gap : ℕ} {title : Option TitleState} → IsLine row limit pieces wide word gap title
+    → title_of title row.title ≡ None → length row.title ≡ 0
+no_title_cells {row} {title = title} h none = h.no_title (none_from_title_of title row.title none)
+
+-- the title once its part that is being read ends
+pub title_of-next_state : (t : TitleState) (cells : List Cell) → parted_title t ≤ length cells
+    → title_of (Some (next_state (length cells) t)) cells ≡ option_map (λ (u : Title). record u { part = next_part u.part }) (title_of (Some t) cells)
+title_of-next_state states.Left cells h = rw (take_all (length cells) cells (omega arith), drop_all (length cells) cells (omega arith)) refl
+title_of-next_state (states.Centre left) cells h =
+    let long = length-drop left cells in
+    let all : take (length cells - left) (drop left cells) ≡ drop left cells = take_all (length cells - left) (drop left cells) (omega arith) in
+    let none : drop (length cells - left) (drop left cells) ≡ [] = drop_all (length cells - left) (drop left cells) (omega arith) in
+    rw (all, none) refl
+title_of-next_state (states.Right left centre) cells h = refl
+
+pub parted-next_state : (t : TitleState) (n : ℕ) → parted_title t ≤ n → parted_title (next_state n t) ≤ n
+parted-next_state states.Left n h = omega arith
+parted-next_state (states.Centre left) n h = omega arith
+parted-next_state (states.Right left centre) n h = h
+
+-- the title with one cell more
+pub title_of_push : (title : Option TitleState) (cells : List Cell) (x : Cell) → ((t : TitleState) → title ≡ Some t → parted_title t ≤ length cells)
+    → title_of title (cells ++ x ∷ []) ≡ option_map (with_cell x) (title_of title cells)
+title_of_push None cells x h = refl
+title_of_push (Some states.Left) cells x h = refl
+title_of_push (Some (states.Centre left)) cells x h =
+    let within : left ≤ length cells = h (states.Centre left) refl in
+    rw (take-append-le left cells (x ∷ []) within, drop-append-le left cells (x ∷ []) within) refl
+title_of_push (Some (states.Right left centre)) cells x h =
+    let within : left + centre ≤ length cells = h (states.Right left centre) refl in
+    let low : left ≤ length cells = omega arith in
+    let rest : centre ≤ length (drop left cells) = omega (arith, length-drop left cells) in
+    rw (take-append-le left cells (x ∷ []) low, drop-append-le left cells (x ∷ []) low, take-append-le centre (drop left cells) (x ∷ []) rest, drop-append-le centre (drop left cells) (x ∷ []) rest) refl
+
+-- a line keeps within its limit
+pub line_cells-le : {row : Laid} {limit pieces wide : ℕ} {word : Option WordState} {gap : ℕ} {title : Option TitleState} (barred sentence : Bool) (margins : Margins) (turn : Turn)
+    → IsLine row limit pieces wide word gap title → line_cells (collected_of row pieces word gap barred sentence margins turn title) ≤ limit
+line_cells-le barred sentence margins turn h = let all = line_cells-collected_of barred sentence margins turn h in omega (arith, h.within)

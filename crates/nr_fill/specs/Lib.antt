@@ -8,4 +8,5 @@ pub mod Setting
 pub mod Slots
 pub mod Spreading
 pub mod Tabs
+pub mod TitleStates
 pub mod Titles

@@ -7,25 +7,15 @@ use Rattle.nr_fill.specs.declared.margins.Turn.{Turn}
 use Rattle.nr_fill.specs.declared.stops.Pending.{Pending}
 use Rattle.nr_fill.specs.declared.stops.Pending.TheVariants.{Nothing, AtPoint, ForStop}
 use Rattle.nr_fill.specs.declared.title.TitleState.{TitleState}
-use Rattle.nr_fill.specs.declared.title.TitleState.TheVariants as states
-use Rattle.nr_fill.specs.declared.title.TitlePart.TheVariants as parts
 use Rattle.nr_fill.specs.Cut.{join_width, pieces_width}
 use Rattle.nr_fill.specs.Laid.{Laid, read_cells}
 use Rattle.nr_fill.specs.Pieces.{Piece, Word, Collected, cells_in}
-use Rattle.nr_fill.specs.Titles.{Title}
+use Rattle.nr_fill.specs.TitleStates.{title_of, parted_title}
 
 -- the word whose other pieces stand in the row, and behind them the cells of the last
 abbrev pub word_of : Option WordState → List Piece → List Cell → Option Word
 word_of None ps cells = None
 word_of (Some w) ps cells = Some (record { parts = ps; last = record { join = w.join; cells = cells }; pending = w.pending; blanks = w.blanks })
-
--- the title whose cells these are
-abbrev pub title_of : Option TitleState → List Cell → Option Title
-title_of None cells = None
-title_of (Some states.Left) cells = Some (record { left = cells; centre = []; right = []; part = parts.Left })
-title_of (Some (states.Centre left)) cells = Some (record { left = take left cells; centre = drop left cells; right = []; part = parts.Centre })
-title_of (Some (states.Right left centre)) cells =
-    Some (record { left = take left cells; centre = take centre (drop left cells); right = drop centre (drop left cells); part = parts.Right })
 
 -- what is collected
 abbrev pub collected_of : Laid → ℕ → Option WordState → ℕ → Bool → Bool → Margins → Turn → Option TitleState → Collected
@@ -54,12 +44,6 @@ pub record IsWord (w : WordState) (ps : List Piece) (cells : List Cell) : Type 0
   pub pieces_have_cells : length ps ≤ w.parted
   pub join_within : join_width w.join ≤ 1365
   pub needed : cells_needed w.pending w.blanks ≤ length cells
-
--- how many cells of a title's state are its first parts'
-abbrev pub parted_title : TitleState → ℕ
-parted_title states.Left = 0
-parted_title (states.Centre left) = left
-parted_title (states.Right left centre) = left + centre
 
 -- what is always true of a line's fields
 pub record IsLine (row : Laid) (limit pieces wide : ℕ) (word : Option WordState) (gap : ℕ) (title : Option TitleState) : Type 0 where

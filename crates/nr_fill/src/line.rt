@@ -173,7 +173,8 @@ impl<'a> Line<'a> {
     /// The same without the title's.
     #[inline]
     pub(crate) fn text_measure(&self) -> usize
-        ensures { result ≡ text_cells self.now.collected }
+        ensures value { result ≡ text_cells self.now.collected }
+        ensures within { result ≤ self.now.limit }
     {
         self.pieces + self.row.read()
     }

@@ -1,7 +1,8 @@
 //! Titles of three parts. (CSTR 54, section 14.)
-ghost use Rattle.std.specs.Prelude.{◌≡◌, ◌++◌, ◌<◌, ◌^◌, List, length};
+ghost use Rattle.std.specs.Prelude.{◌≡◌, ◌++◌, ◌≤◌, ◌<◌, ◌^◌, List, length};
 ghost use Rattle.nr_units.specs.declared.cell.Cell.{Cell as CellValue};
 ghost use Rattle.nr_fill.specs.Rows.{IsRow};
+ghost use Rattle.nr_fill.specs.TitleStates.{next_state, parted_title, title_of};
 ghost use Rattle.nr_fill.specs.Titles.{centre_at, right_at, title_row, cell_at};
 
 use crate::out::Out;
@@ -24,6 +25,20 @@ pub(crate) enum TitleState {
     Centre(usize),
     /// So many are the left part's, so many the centre's.
     Right(usize, usize),
+}
+
+impl TitleState {
+    /// Where the parts end once the one that is being read does, of a title of `len` cells.
+    pub(crate) fn next(self, len: usize) -> Self
+        requires { parted_title self ≤ len }
+        ensures { result ≡ next_state len self }
+    {
+        match self {
+            TitleState::Left => TitleState::Centre(len),
+            TitleState::Centre(left) => TitleState::Right(left, len - left),
+            TitleState::Right(_, _) => self,
+        }
+    }
 }
 
 /// The parts of a title.

@@ -40,13 +40,10 @@ impl<'a> Line<'a> {
     pub fn end_part(&mut self)
         ensures { self.new ≡ record self.old { collected = with_part_ended self.old.collected } }
     {
-        let len = self.row.title_len();
-        self.title = match self.title {
-            None => None,
-            Some(TitleState::Left) => Some(TitleState::Centre(len)),
-            Some(TitleState::Centre(left)) => Some(TitleState::Right(left, len - left)),
-            Some(TitleState::Right(left, centre)) => Some(TitleState::Right(left, centre)),
+        let Some(title) = self.title else {
+            return;
         };
+        self.title = Some(title.next(self.row.title_len()));
     }
 
     /// Sets the title in `out`, `length` cells long and `offset` cells from the row's beginning, and is done with it.

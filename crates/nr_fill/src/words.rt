@@ -75,7 +75,8 @@ impl<'a> Line<'a> {
     /// A title that is being read is given up.
     #[inline]
     pub fn open_word(&mut self, margins: Margins)
-        ensures { self.new ≡ record self.old { collected = with_word margins self.old.collected } }
+        ensures opened { self.new ≡ record self.old { collected = with_word margins self.old.collected } }
+        ensures within { line_cells self.new.collected ≤ self.new.limit }
     {
         self.row.clear_title();
         self.title = None;

@@ -1,13 +1,14 @@
-use Rattle.std.proofs.Common.{◌≡◌, ◌+◌, ◌-◌, ◌<◌, ◌≤◌, length, None, Some, ap, sym, ◌∙◌, refl, arith, true, false}
-use Rattle.nr_fill.specs.Laid.{Laid}
-use Rattle.nr_fill.proofs.Lines.{is_line_untitled, is_line_opened, is_line_last, is_line_titled}
+use Rattle.std.proofs.Common.{◌≡◌, ◌+◌, ◌-◌, ◌<◌, ◌≤◌, ◌++◌, ◌∷◌, [], length, take, drop, replicate, None, Some, ap, ap₂, sym, ◌∙◌, refl, arith, true, false, is_some, is_none, length-append}
+use Rattle.nr_fill.specs.Laid.{Laid, read_cells}
+use Rattle.nr_fill.specs.Lined.{Lined}
+use Rattle.nr_fill.specs.declared.line.WordState.{WordState}
+use Rattle.nr_fill.specs.Pieces.{cells_in, text_cells, line_cells, pending_without_point}
+use Rattle.nr_fill.proofs.Lines.{the_word, is_line_untitled, is_line_opened, is_line_last, is_line_titled, is_line_closed, is_line_ended, is_line_removed, is_line_title_cell, text_cells-collected_of, line_cells-collected_of, none_from_is_some, no_title_cells}
+use Rattle.nr_fill.proofs.Measures.{afforded_ok, afforded_err, text_cells-with_word, text_cells-ended, line_cells-add_cell, line_cells-add_blank, line_cells-with_word, line_cells-add_cells, line_cells-filled, line_cells-end_word}
 use Rattle.nr_fill.proofs.Pendings.{is_line_pending, are_small, needed_blanks, needed_none, needed_soft, needed_behind, needed_without_point, needed_dropped, needed_one_more}
 use Rattle.nr_fill.specs.declared.stops.Pending.TheVariants.{Nothing, AtPoint, ForStop}
-use Rattle.std.proofs.lemmas.List.{length-take-le}
-use Rattle.std.proofs.Common.{take}
-use Rattle.nr_fill.specs.declared.line.WordState.{WordState}
-use Rattle.nr_fill.specs.Pieces.{pending_without_point}
-use Rattle.nr_fill.proofs.Lines.{the_word}
+use Rattle.nr_fill.specs.declared.title.TitleState.TheVariants as states
+use Rattle.std.proofs.lemmas.List.{length-take-le, length-replicate, take-append-drop, take_all, drop_all, append-nil}
 use Rattle.nr_fill.proofs.line.Line.drop_blanks.Goals as goal
 
 pub overflow_sub-len : goal.overflow_sub-len
@@ -19,4 +20,20 @@ overflow_sub-len c =
     omega arith
 
 pub invariant_of-self-2 : goal.invariant_of-self-2
-invariant_of-self-2 c = ?
+invariant_of-self-2 c =
+    let h = rw c.in-Some.is at (is_line_untitled c.self.invariant) in
+    let iw = the_word h in
+    let w = c.in-Some.word in
+    let last = c.self.inside.row.last in
+    let n = c.last_len.result - w.blanks in
+    let len : c.last_len.result ≡ length last = c.last_len.ensures ∙ ap (λ (l : Laid). length l.last) c.clear_title.ensures in
+    let fewer : length (take n last) ≡ n = length-take-le n last (omega arith) in
+    let v : WordState = record w { pending = pending_without_point w.pending; blanks = 0 } in
+    let needed = needed_dropped w.pending w.blanks (length last) iw.needed in
+    rw (c.shorten.ensures, c.clear_title.ensures, c.without_point.ensures) (is_line_last (take n last) v h (record {
+      parted_is = iw.parted_is;
+      wide_is = iw.wide_is;
+      pieces_have_cells = iw.pieces_have_cells;
+      join_within = iw.join_within;
+      needed = omega arith;
+    }) (omega (arith, h.within)))

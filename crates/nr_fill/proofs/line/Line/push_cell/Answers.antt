@@ -1,12 +1,54 @@
-use Rattle.std.proofs.Common.{◌≡◌, arith}
+use Rattle.std.proofs.Common.{◌≡◌, ◌+◌, ◌-◌, ◌<◌, ◌≤◌, ◌++◌, ◌∷◌, [], length, take, drop, replicate, None, Some, ap, ap₂, sym, ◌∙◌, refl, arith, true, false, is_some, is_none, length-append}
+use Rattle.nr_fill.specs.Laid.{Laid, read_cells}
+use Rattle.nr_fill.specs.Lined.{Lined}
+use Rattle.nr_fill.specs.declared.line.WordState.{WordState}
+use Rattle.nr_fill.specs.Pieces.{cells_in, text_cells, line_cells, pending_without_point}
+use Rattle.nr_fill.proofs.Lines.{the_word, is_line_untitled, is_line_opened, is_line_last, is_line_titled, is_line_closed, is_line_ended, is_line_removed, is_line_title_cell, text_cells-collected_of, line_cells-collected_of, none_from_is_some, no_title_cells, title_of-next_state, parted-next_state, title_of_push, line_cells-le}
+use Rattle.nr_fill.proofs.Measures.{afforded_ok, afforded_err, text_cells-with_word, text_cells-ended, line_cells-add_cell, line_cells-add_blank, line_cells-with_word, line_cells-add_cells, line_cells-filled, line_cells-end_word}
+use Rattle.nr_fill.proofs.Pendings.{is_line_pending, are_small, needed_blanks, needed_none, needed_soft, needed_behind, needed_without_point, needed_dropped, needed_one_more}
+use Rattle.nr_fill.specs.declared.stops.Pending.TheVariants.{Nothing, AtPoint, ForStop}
+use Rattle.nr_fill.specs.declared.title.TitleState.TheVariants as states
+use Rattle.std.proofs.lemmas.List.{length-take-le, length-replicate, take-append-drop, take_all, drop_all, append-nil}
+use Rattle.nr_fill.specs.Pieces.{pending_behind}
+use Rattle.nr_fill.specs.Lying.{collected_of}
+use Rattle.nr_fill.specs.TitleStates.{title_of}
 use Rattle.nr_fill.proofs.line.Line.push_cell.Goals as goal
 
 pub overflow_add-n : goal.overflow_add-n
-overflow_add-n c = ?
+overflow_add-n c =
+    let h = rw c.in-Some.is at c.self.invariant in
+    let small = are_small h in
+    let len = c.last_len.ensures ∙ ap (λ (l : Laid). length l.last) c.push.ensures in
+    omega (arith, length-append c.self.inside.row.last (c.args.cell ∷ []), small.parted, small.text, small.small)
 
 pub invariant_of-self-2 : goal.invariant_of-self-2
-invariant_of-self-2 c = ?
+invariant_of-self-2 c =
+    let s = c.self.inside in
+    let h = rw c.in-Some.is at c.self.invariant in
+    let iw = the_word h in
+    let w = c.in-Some.word in
+    let text = text_cells-collected_of s.barred s.sentence s.margins s.turn c.self.invariant in
+    let same = ap (λ (v : Lined). text_cells v.collected) c.self.view_is in
+    let limit = ap (λ (v : Lined). v.limit) c.self.view_is in
+    let title = no_title_cells c.self.invariant (ap (λ (v : Lined). v.collected.title) c.self.view_is ∙ c.requires.no_title) in
+    let longer = length-append s.row.last (c.args.cell ∷ []) in
+    let v : WordState = record w { pending = c.behind.result; blanks = 0 } in
+    rw c.push.ensures (is_line_last (s.row.last ++ c.args.cell ∷ []) v h (record {
+      parted_is = iw.parted_is;
+      wide_is = iw.wide_is;
+      pieces_have_cells = iw.pieces_have_cells;
+      join_within = iw.join_within;
+      needed = rw (c.behind.ensures, longer) (needed_behind c.args.behind (w.parted + c.last_len.result) w.pending w.blanks (length s.row.last) iw.needed);
+    }) (omega (arith, c.requires.room)))
 
 pub returns : goal.returns
-returns c = ?
-
+returns c =
+    let s = c.self.inside in
+    let h = rw c.in-Some.is at c.self.invariant in
+    let iw = the_word h in
+    let w = c.in-Some.word in
+    let none : title_of s.title s.row.title ≡ None = ap (λ (v : Lined). v.collected.title) c.self.view_is ∙ c.requires.no_title in
+    let len = c.last_len.ensures ∙ ap (λ (l : Laid). length l.last) c.push.ensures in
+    let pending_is : c.behind.result ≡ pending_behind c.args.behind (cells_in (drop s.pieces s.row.pieces) + length (s.row.last ++ c.args.cell ∷ [])) w.pending =
+    c.behind.ensures ∙ ap₂ (λ a b. pending_behind c.args.behind (a + b) w.pending) (sym iw.parted_is) len in
+    rw (c.push.ensures, pending_is, c.ends_sentence-self-inside.ensures, ← c.self.view_is, c.in-Some.is, none) refl

@@ -1,9 +1,31 @@
-use Rattle.std.proofs.Common.{◌≡◌, arith}
+use Rattle.std.proofs.Common.{◌≡◌, ◌+◌, ◌-◌, ◌<◌, ◌≤◌, ◌++◌, ◌∷◌, [], length, take, drop, replicate, None, Some, ap, ap₂, sym, ◌∙◌, refl, arith, true, false, is_some, is_none, length-append}
+use Rattle.nr_fill.specs.Laid.{Laid, read_cells}
+use Rattle.nr_fill.specs.Lined.{Lined}
+use Rattle.nr_fill.specs.declared.line.WordState.{WordState}
+use Rattle.nr_fill.specs.Pieces.{cells_in, text_cells, line_cells, pending_without_point}
+use Rattle.nr_fill.proofs.Lines.{the_word, is_line_untitled, is_line_opened, is_line_last, is_line_titled, is_line_closed, is_line_ended, is_line_removed, is_line_title_cell, text_cells-collected_of, line_cells-collected_of, none_from_is_some, no_title_cells, title_of-next_state, parted-next_state, title_of_push, line_cells-le}
+use Rattle.nr_fill.proofs.Measures.{afforded_ok, afforded_err, text_cells-with_word, text_cells-ended, line_cells-add_cell, line_cells-add_blank, line_cells-with_word, line_cells-add_cells, line_cells-filled, line_cells-end_word}
+use Rattle.nr_fill.proofs.Pendings.{is_line_pending, are_small, needed_blanks, needed_none, needed_soft, needed_behind, needed_without_point, needed_dropped, needed_one_more}
+use Rattle.nr_fill.specs.declared.stops.Pending.TheVariants.{Nothing, AtPoint, ForStop}
+use Rattle.nr_fill.specs.declared.title.TitleState.TheVariants as states
+use Rattle.std.proofs.lemmas.List.{length-take-le, length-replicate, take-append-drop, take_all, drop_all, append-nil}
+use Rattle.nr_fill.specs.Pieces.{add_cell}
 use Rattle.nr_fill.proofs.line.Line.put.Goals as goal
 
 pub push_cell-requires-clause-room : goal.push_cell-requires-clause-room
-push_cell-requires-clause-room c = ?
+push_cell-requires-clause-room c =
+    let first = text_cells-with_word c.args.margins c.args.self.now.collected in
+    let second = text_cells-ended c.open_word.new.self.collected in
+    let ended = ap (λ (v : Lined). text_cells v.collected) c.end_piece.ensures in
+    let ended_limit = ap (λ (v : Lined). v.limit) c.end_piece.ensures in
+    let opened = ap (λ (v : Lined). text_cells v.collected) c.open_word.ensures.opened in
+    let limit = ap (λ (v : Lined). v.limit) c.open_word.ensures.opened in
+    let own = ap (λ (v : Lined). v.limit) c.self.view_is in
+    omega (arith, c.text_measure.ensures.value, c.text_measure.ensures.within)
 
 pub returns-clause-result : goal.returns-clause-result
-returns-clause-result c = ?
-
+returns-clause-result c =
+    let one = line_cells-add_cell c.args.margins c.args.behind c.args.cell c.args.self.now.collected in
+    let own = ap (λ (v : Lined). v.limit) c.self.view_is in
+    let v : Lined = record { collected = add_cell c.args.margins c.args.behind c.args.cell c.args.self.now.collected; limit = c.args.self.now.limit } in
+    afforded_ok v (omega (arith, c.text_measure.ensures.value, c.text_measure.ensures.within))
