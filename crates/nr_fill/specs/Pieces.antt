@@ -151,11 +151,15 @@ is_for_stop pending = false
 abbrev pub barred_here : Collected → Collected
 barred_here c = record c { word = option_map with_soft_point c.word; barred = true }
 
+-- a place so many cells in is between two of n cells, blanks at their end aside, of a piece that takes break points
+abbrev pub is_inside : ℕ → ℕ → ℕ → Pending → Bool
+is_inside at blanks n pending = nat_lt 0 at && nat_lt (at + blanks) n && not (is_for_stop pending)
+
 -- a soft point at a place, so many cells in, between two cells of the piece that is being read
 abbrev pub point_at : ℕ → Word → Word
 point_at place w =
     let at = place - cells_in w.parts in
-    if nat_lt 0 at && nat_lt (at + w.blanks) (length w.last.cells) && not (is_for_stop w.pending)
+    if is_inside at w.blanks (length w.last.cells) w.pending
     then record w {
       parts = w.parts ++ record { join = w.last.join; cells = take at w.last.cells } ∷ [];
       last = record { join = Soft; cells = drop at w.last.cells };

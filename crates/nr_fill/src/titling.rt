@@ -26,9 +26,9 @@ impl<'a> Line<'a> {
         ensures ok { OnOk result (self.new ≡ record self.old { collected = with_title_cell cell self.old.collected }) }
         ensures err { OnErr result (self.new ≡ self.old) }
     {
-        if self.title.is_none() {
+        let Some(_title) = self.title else {
             return Ok(());
-        }
+        };
         if self.measure() == self.limit {
             return Err(LineCells);
         }

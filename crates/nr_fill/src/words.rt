@@ -1,7 +1,7 @@
 // What is read: cells, break points, the ends of words, and gaps. (CSTR 54, sections 4 and 13.)
 ghost use Rattle.std.specs.Prelude.{◌≡◌, ◌+◌, ◌<◌, ◌≤◌, ◌++◌, ◌∷◌, [], None, OnOk, OnErr, replicate};
 ghost use Rattle.nr_fill.specs.Lined.{afforded};
-ghost use Rattle.nr_fill.specs.Pieces.{Word, add_blank, add_cell, add_cell_behind, add_cells, after_newline, append, barred_here, end_word, ended, ends_sentence, hyphenated, in_word, line_cells, marked, one_blank_more, pending_behind, pending_soft, pending_without_point, text_cells, with_word, without_blanks};
+ghost use Rattle.nr_fill.specs.Pieces.{Word, add_blank, add_cell, add_cell_behind, add_cells, after_newline, append, barred_here, end_word, ended, ends_sentence, hyphenated, in_word, is_inside, line_cells, marked, one_blank_more, pending_behind, pending_soft, pending_without_point, text_cells, with_word, without_blanks};
 
 use crate::line::{Line, LineCells, WIDEST_GAP, WordState};
 use crate::margins::Margins;
@@ -30,6 +30,20 @@ impl WordState {
             parted: 0,
             wide: 0,
         }
+    }
+}
+
+impl WordState {
+    /// Whether a place so many cells in is between two of the n cells of the piece that is being read, blanks at their
+    /// end aside.
+    fn is_inside(self, at: usize, n: usize) -> bool
+        requires { self.blanks ≤ n }
+        ensures { result ≡ is_inside at self.blanks n self.pending }
+    {
+        if matches!(self.pending, Pending::ForStop(_)) {
+            return false;
+        }
+        at > 0 && at < n - self.blanks
     }
 }
 
@@ -261,10 +275,7 @@ impl<'a> Line<'a> {
             return;
         };
         let at = place.saturating_sub(word.parted);
-        if at == 0
-            || at >= self.row.last_len() - word.blanks
-            || matches!(word.pending, Pending::ForStop(_))
-        {
+        if !word.is_inside(at, self.row.last_len()) {
             return;
         }
         self.row.close(word.join, at);

@@ -1,33 +1,73 @@
-use Rattle.std.proofs.Common.{◌≡◌, arith}
+use Rattle.std.proofs.Common.{◌≡◌, ◌+◌, ◌-◌, ◌<◌, ◌≤◌, ◌++◌, ◌∷◌, [], length, take, drop, replicate, None, Some, ap, ap₂, sym, ◌∙◌, refl, arith, true, false, is_some, is_none, length-append}
+use Rattle.nr_fill.specs.Laid.{Laid, read_cells}
+use Rattle.nr_fill.specs.Lined.{Lined}
+use Rattle.nr_fill.specs.declared.line.WordState.{WordState}
+use Rattle.nr_fill.specs.Pieces.{cells_in, text_cells, line_cells, pending_without_point}
+use Rattle.nr_fill.proofs.Lines.{the_word, is_line_untitled, is_line_opened, is_line_last, is_line_titled, is_line_closed, is_line_ended, is_line_removed, is_line_title_cell, text_cells-collected_of, line_cells-collected_of, none_from_is_some, no_title_cells, title_of-next_state, parted-next_state, title_of_push, line_cells-le}
+use Rattle.nr_fill.proofs.Measures.{afforded_ok, afforded_err, text_cells-with_word, text_cells-ended, line_cells-add_cell, line_cells-add_blank, line_cells-with_word, line_cells-add_cells, line_cells-filled, line_cells-end_word}
+use Rattle.nr_fill.proofs.Pendings.{is_line_pending, are_small, needed_blanks, needed_none, needed_soft, needed_behind, needed_without_point, needed_dropped, needed_one_more}
+use Rattle.nr_fill.specs.declared.stops.Pending.TheVariants.{Nothing, AtPoint, ForStop}
+use Rattle.nr_fill.specs.declared.title.TitleState.TheVariants as states
+use Rattle.std.proofs.lemmas.List.{length-take-le, length-replicate, take-append-drop, take_all, drop_all, append-nil}
+use Rattle.nr_fill.specs.Pieces.{Piece, end_word, word_pieces, word_cells}
+use Rattle.nr_fill.specs.Lying.{word_of}
 use Rattle.nr_fill.proofs.line.Line.end_word.Goals as goal
 
 pub returns-in_default-clause-result : goal.returns-in_default-clause-result
 returns-in_default-clause-result c = ?
 
 pub overflow_add-more : goal.overflow_add-more
-overflow_add-more c = ?
+overflow_add-more c =
+    let h = rw c.in-Some.is at c.self.invariant in
+    let small = are_small h in
+    omega (arith, c.pieces.ensures, small.small, small.text, small.parted, small.pieces_are)
 
 pub returns-then-more-self-clause-result : goal.returns-then-more-self-clause-result
 returns-then-more-self-clause-result c = ?
 
 pub close-requires-clause-room : goal.close-requires-clause-room
-close-requires-clause-room c = ?
+close-requires-clause-room c =
+    let h = rw c.in-Some.is at c.self.invariant in
+    let small = are_small h in
+    let own = ap (λ (v : Lined). v.limit) c.self.view_is in
+    omega (arith, c.pieces.ensures, small.room, small.low, c.measure.ensures.within, c.if-more-self.false)
 
 pub overflow_add-self-2 : goal.overflow_add-self-2
-overflow_add-self-2 c = ?
+overflow_add-self-2 c =
+    let h = rw c.in-Some.is at c.self.invariant in
+    let small = are_small h in
+    let join = c.from.ensures ∙ c.width.ensures in
+    omega (arith, small.widths, small.join)
 
 pub overflow_add-self-3 : goal.overflow_add-self-3
-overflow_add-self-3 c = ?
+overflow_add-self-3 c =
+    let h = rw c.in-Some.is at c.self.invariant in
+    let small = are_small h in
+    let join = c.from.ensures ∙ c.width.ensures in
+    omega (arith, small.widths, small.join, small.small, small.text, small.parted, c.last_len-len.ensures)
 
 pub overflow_add-self-4 : goal.overflow_add-self-4
-overflow_add-self-4 c = ?
+overflow_add-self-4 c =
+    let h = rw c.in-Some.is at c.self.invariant in
+    let small = are_small h in
+    let join = c.from.ensures ∙ c.width.ensures in
+    omega (arith, small.widths, small.join, small.small, small.text, small.parted, c.last_len-len.ensures)
 
 pub invariant_of-self-2 : goal.invariant_of-self-2
-invariant_of-self-2 c = ?
+invariant_of-self-2 c =
+    let s = c.self.inside in
+    let h = rw c.in-Some.is at c.self.invariant in
+    let small = are_small h in
+    let own = ap (λ (v : Lined). v.limit) c.self.view_is in
+    let all = line_cells-collected_of s.barred s.sentence s.margins s.turn c.self.invariant in
+    let same = ap (λ (v : Lined). line_cells v.collected) c.self.view_is in
+    let more = c.pieces.result - s.pieces + 1 in
+    let join = c.from.ensures ∙ c.width.ensures in
+    rw (c.close.ensures, c.last_len-len.ensures) (is_line_ended more _ h (omega (arith, c.pieces.ensures, small.low)) (omega arith)
+    (omega (arith, c.measure.ensures.value, c.measure.ensures.within, c.if-more-self.false)))
 
 pub returns-clause-result : goal.returns-clause-result
 returns-clause-result c = ?
 
 pub returns-clause-ok : goal.returns-clause-ok
 returns-clause-ok c = ?
-

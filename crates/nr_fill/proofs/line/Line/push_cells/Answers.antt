@@ -9,6 +9,7 @@ use Rattle.nr_fill.proofs.Pendings.{is_line_pending, are_small, needed_blanks, n
 use Rattle.nr_fill.specs.declared.stops.Pending.TheVariants.{Nothing, AtPoint, ForStop}
 use Rattle.nr_fill.specs.declared.title.TitleState.TheVariants as states
 use Rattle.std.proofs.lemmas.List.{length-take-le, length-replicate, take-append-drop, take_all, drop_all, append-nil}
+use Rattle.nr_fill.specs.TitleStates.{title_of}
 use Rattle.nr_fill.proofs.line.Line.push_cells.Goals as goal
 
 pub insert_copies-requires-clause-room : goal.insert_copies-requires-clause-room
@@ -46,4 +47,11 @@ invariant_of-self-2 c =
     }) (omega (arith, c.requires.room)))
 
 pub returns : goal.returns
-returns c = ?
+returns c =
+    let s = c.self.inside in
+    let last = s.row.last in
+    let len = c.last_len-len.ensures in
+    let none : title_of s.title s.row.title ≡ None = ap (λ (v : Lined). v.collected.title) c.self.view_is ∙ c.requires.no_title in
+    let cells_is : take c.last_len-len.result last ++ replicate c.args.n c.args.cell ++ drop c.last_len-len.result last ≡ last ++ replicate c.args.n c.args.cell =
+    ap₂ (λ a b. a ++ replicate c.args.n c.args.cell ++ b) (take_all c.last_len-len.result last (omega arith)) (drop_all c.last_len-len.result last (omega arith)) ∙ append-nil (last ++ replicate c.args.n c.args.cell) in
+    rw (c.insert_copies.ensures, cells_is, c.ends_sentence-self-inside.ensures, ← c.self.view_is, c.in-Some.is, none) refl

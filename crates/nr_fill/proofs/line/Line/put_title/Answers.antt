@@ -12,16 +12,13 @@ use Rattle.std.proofs.lemmas.List.{length-take-le, length-replicate, take-append
 use Rattle.nr_fill.specs.Pieces.{with_title_cell}
 use Rattle.nr_fill.proofs.line.Line.put_title.Goals as goal
 
-pub returns-then-is_none-clause-result : goal.returns-then-is_none-clause-result
-returns-then-is_none-clause-result c = ?
-
 pub invariant_of-self : goal.invariant_of-self
 invariant_of-self c =
     let s = c.self.inside in
     let all = line_cells-collected_of s.barred s.sentence s.margins s.turn c.self.invariant in
     let same = ap (λ (v : Lined). line_cells v.collected) c.self.view_is in
     let own = ap (λ (v : Lined). v.limit) c.self.view_is in
-    rw c.push_title.ensures (is_line_title_cell c.args.cell c.self.invariant (sym c.is_none.ensures ∙ c.if-is_none.false) (omega (arith, c.measure.ensures.value, c.measure.ensures.within)))
+    rw c.push_title.ensures (is_line_title_cell c.args.cell c.self.invariant (rw c.in-Some.is refl) (omega (arith, c.measure.ensures.value, c.measure.ensures.within)))
 
 pub returns-clause-ok : goal.returns-clause-ok
 returns-clause-ok c =
