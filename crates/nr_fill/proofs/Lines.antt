@@ -1,6 +1,6 @@
 -- What a line's fields tell of its value, and how they change.
-use Rattle.std.proofs.Common.{◌≡◌, ℕ, ◌+◌, ◌-◌, ◌*◌, ◌^◌, ◌≤◌, ◌<◌, max, List, [], ◌∷◌, ◌++◌, length, take, drop, replicate, sum_by, Option, None, Some, is_none, is_some, Bool, true, false, All, refl, ap, ap₂, sym, ◌∙◌, arith, length-take, length-drop, length-append, nat_lt, nat_le, subst, suc}
-use Rattle.std.proofs.lemmas.List.{take_all, drop_all, drop-drop, drop-take, take-take, length-take-le, take-append-le, drop-append-le}
+use Rattle.std.proofs.Common.{◌≡◌, ℕ, ◌+◌, ◌-◌, ◌*◌, ◌^◌, ◌≤◌, ◌<◌, max, List, [], ◌∷◌, ◌++◌, length, take, drop, replicate, sum_by, Option, None, Some, is_none, is_some, Bool, true, false, All, refl, ap, ap₂, sym, ◌∙◌, append_assoc, arith, length-take, length-drop, length-append, nat_lt, nat_le, subst, suc}
+use Rattle.std.proofs.lemmas.List.{take-append-drop, take_all, drop_all, drop-drop, drop-take, take-take, length-take-le, take-append-le, drop-append-le}
 use Rattle.std.proofs.lemmas.List.Elements.{All-drop, All-push}
 use Rattle.std.proofs.lemmas.List.Sums.{sum_by-cons, sum_by_push, sum_by-append, sum_by-take-drop, sum_by-take-le}
 use Rattle.nr_units.specs.declared.cell.Cell.{Cell}
@@ -388,3 +388,9 @@ title_of_push (Some (states.Right left centre)) cells x h =
 pub line_cells-le : {row : Laid} {limit pieces wide : ℕ} {word : Option WordState} {gap : ℕ} {title : Option TitleState} (barred sentence : Bool) (margins : Margins) (turn : Turn)
     → IsLine row limit pieces wide word gap title → line_cells (collected_of row pieces word gap barred sentence margins turn title) ≤ limit
 line_cells-le barred sentence margins turn h = let all = line_cells-collected_of barred sentence margins turn h in omega (arith, h.within)
+
+-- the word's pieces behind the line's
+pub ended_pieces : (pieces more : ℕ) (ps : List Piece) (p : Piece) → pieces ≤ length ps → pieces + more ≡ length ps + 1
+    → take (pieces + more) (ps ++ p ∷ []) ≡ take pieces ps ++ (drop pieces ps ++ p ∷ [])
+ended_pieces pieces more ps p low is =
+    take_all (pieces + more) (ps ++ p ∷ []) (omega (arith, length-append ps (p ∷ []))) ∙ ap (λ qs. qs ++ p ∷ []) (sym (take-append-drop pieces ps)) ∙ append_assoc (take pieces ps) (drop pieces ps) (p ∷ [])

@@ -9,6 +9,8 @@ use Rattle.nr_fill.proofs.Pendings.{is_line_pending, are_small, needed_blanks, n
 use Rattle.nr_fill.specs.declared.stops.Pending.TheVariants.{Nothing, AtPoint, ForStop}
 use Rattle.nr_fill.specs.declared.title.TitleState.TheVariants as states
 use Rattle.std.proofs.lemmas.List.{length-take-le, length-replicate, take-append-drop, take_all, drop_all, append-nil}
+use Rattle.nr_fill.specs.Cut.{join_width}
+use Rattle.nr_fill.proofs.Pendings.{join_width-at}
 use Rattle.nr_fill.proofs.line.Line.end_piece.Goals as goal
 
 pub invariant_of-self-in_default-pending : goal.invariant_of-self-in_default-pending
@@ -53,4 +55,5 @@ invariant_of-self-2 c =
     let n = c.last_len-len.result in
     let width = c.from.ensures ∙ c.width.ensures in
     let v : WordState = record { join = c.at.result; pending = Nothing; blanks = 0; parted = w.parted + n; wide = w.wide + c.from.result + n } in
-    rw (c.close.ensures, c.clear_title.ensures) (is_line_closed v n h (omega arith) (omega arith) refl (omega arith) ? (omega arith))
+    let join : join_width v.join ≤ 1365 = let is = ap join_width c.at.ensures in omega (arith, join_width-at c.in-AtPoint.point) in
+    rw (c.close.ensures, c.clear_title.ensures) (is_line_closed v n h (omega arith) (omega arith) refl (omega arith) join (omega arith))

@@ -1,18 +1,42 @@
-use Rattle.std.proofs.Common.{◌≡◌, arith}
+use Rattle.std.proofs.Common.{◌≡◌, ◌+◌, ◌-◌, ◌<◌, ◌≤◌, ◌++◌, ◌∷◌, [], length, take, drop, replicate, None, Some, ap, ap₂, sym, ◌∙◌, refl, arith, true, false, is_some, is_none, length-append}
+use Rattle.nr_fill.specs.Laid.{Laid, read_cells}
+use Rattle.nr_fill.specs.Lined.{Lined}
+use Rattle.nr_fill.specs.declared.line.WordState.{WordState}
+use Rattle.nr_fill.specs.Pieces.{cells_in, text_cells, line_cells, pending_without_point}
+use Rattle.nr_fill.proofs.Lines.{the_word, is_line_untitled, is_line_opened, is_line_last, is_line_titled, is_line_closed, is_line_ended, is_line_removed, is_line_title_cell, text_cells-collected_of, line_cells-collected_of, none_from_is_some, no_title_cells, title_of-next_state, parted-next_state, title_of_push, line_cells-le}
+use Rattle.nr_fill.proofs.Measures.{afforded_ok, afforded_err, text_cells-with_word, text_cells-ended, line_cells-add_cell, line_cells-add_blank, line_cells-with_word, line_cells-add_cells, line_cells-filled, line_cells-end_word}
+use Rattle.nr_fill.proofs.Pendings.{is_line_pending, are_small, needed_blanks, needed_none, needed_soft, needed_behind, needed_without_point, needed_dropped, needed_one_more}
+use Rattle.nr_fill.specs.declared.stops.Pending.TheVariants.{Nothing, AtPoint, ForStop}
+use Rattle.nr_fill.specs.declared.title.TitleState.TheVariants as states
+use Rattle.std.proofs.lemmas.List.{length-take-le, length-replicate, take-append-drop, take_all, drop_all, append-nil}
+use Rattle.nr_fill.specs.Tabs.{field_fill, pending_fill, fill_count}
+use Rattle.nr_fill.specs.Lying.{word_of}
 use Rattle.nr_fill.proofs.line.Line.fill_field.Goals as goal
 
 pub invariant_of-self-in_default-pending : goal.invariant_of-self-in_default-pending
-invariant_of-self-in_default-pending c = ?
+invariant_of-self-in_default-pending c = rw c.clear_title.ensures (is_line_untitled c.self.invariant)
 
 pub overflow_sub-last_len : goal.overflow_sub-last_len
-overflow_sub-last_len c = ?
+overflow_sub-last_len c =
+    let h = rw c.in-Some.is at (is_line_untitled c.self.invariant) in
+    let small = are_small h in
+    let needed = rw c.in-ForStop.is at small.needed in
+    let len = c.last_len.ensures ∙ ap (λ (l : Laid). length l.last) c.clear_title.ensures in
+    omega arith
 
 pub insert_copies-requires-clause-within : goal.insert_copies-requires-clause-within
-insert_copies-requires-clause-within c = ?
+insert_copies-requires-clause-within c =
+    let h = rw c.in-Some.is at (is_line_untitled c.self.invariant) in
+    let small = are_small h in
+    let needed = rw c.in-ForStop.is at small.needed in
+    rw c.clear_title.ensures (omega arith)
+
+-- as many cells as the word asks for
+filled : (c : goal.After-fill_count-n) → c.fill_count-n.result ≡ field_fill c.args.self.now.collected.word
+filled c = ?
 
 pub insert_copies-requires-clause-room : goal.insert_copies-requires-clause-room
 insert_copies-requires-clause-room c = ?
 
 pub invariant_of-self-2 : goal.invariant_of-self-2
 invariant_of-self-2 c = ?
-

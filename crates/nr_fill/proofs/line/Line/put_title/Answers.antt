@@ -10,7 +10,16 @@ use Rattle.nr_fill.specs.declared.stops.Pending.TheVariants.{Nothing, AtPoint, F
 use Rattle.nr_fill.specs.declared.title.TitleState.TheVariants as states
 use Rattle.std.proofs.lemmas.List.{length-take-le, length-replicate, take-append-drop, take_all, drop_all, append-nil}
 use Rattle.nr_fill.specs.Pieces.{with_title_cell}
+use Rattle.nr_fill.specs.TitleStates.{title_of}
 use Rattle.nr_fill.proofs.line.Line.put_title.Goals as goal
+
+pub returns-in_default-clause-result : goal.returns-in_default-clause-result
+returns-in_default-clause-result c =
+    let s = c.self.inside in
+    let own = ap (λ (v : Lined). v.limit) c.self.view_is in
+    let all = line_cells-le s.barred s.sentence s.margins s.turn c.self.invariant in
+    let v : Lined = record { collected = with_title_cell c.args.cell c.args.self.now.collected; limit = c.args.self.now.limit } in
+    afforded_ok v (rw (← c.self.view_is, c.in_default.is) (rw c.in_default.is at all))
 
 pub invariant_of-self : goal.invariant_of-self
 invariant_of-self c =

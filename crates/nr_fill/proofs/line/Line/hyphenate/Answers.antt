@@ -1,0 +1,42 @@
+use Rattle.std.proofs.Common.{◌≡◌, ◌+◌, ◌-◌, ◌<◌, ◌≤◌, ◌++◌, ◌∷◌, [], length, take, drop, replicate, None, Some, ap, ap₂, sym, ◌∙◌, refl, arith, true, false, is_some, is_none, length-append}
+use Rattle.nr_fill.specs.Laid.{Laid, read_cells}
+use Rattle.nr_fill.specs.Lined.{Lined}
+use Rattle.nr_fill.specs.declared.line.WordState.{WordState}
+use Rattle.nr_fill.specs.Pieces.{cells_in, text_cells, line_cells, pending_without_point}
+use Rattle.nr_fill.proofs.Lines.{the_word, is_line_untitled, is_line_opened, is_line_last, is_line_titled, is_line_closed, is_line_ended, is_line_removed, is_line_title_cell, text_cells-collected_of, line_cells-collected_of, none_from_is_some, no_title_cells, title_of-next_state, parted-next_state, title_of_push, line_cells-le}
+use Rattle.nr_fill.proofs.Measures.{afforded_ok, afforded_err, text_cells-with_word, text_cells-ended, line_cells-add_cell, line_cells-add_blank, line_cells-with_word, line_cells-add_cells, line_cells-filled, line_cells-end_word}
+use Rattle.nr_fill.proofs.Pendings.{is_line_pending, are_small, needed_blanks, needed_none, needed_soft, needed_behind, needed_without_point, needed_dropped, needed_one_more}
+use Rattle.nr_fill.specs.declared.stops.Pending.TheVariants.{Nothing, AtPoint, ForStop}
+use Rattle.nr_fill.specs.declared.title.TitleState.TheVariants as states
+use Rattle.std.proofs.lemmas.List.{length-take-le, length-replicate, take-append-drop, take_all, drop_all, append-nil}
+use Rattle.nr_fill.specs.Cut.{join_width}
+use Rattle.nr_fill.specs.Pieces.{is_inside, is_for_stop}
+use Rattle.nr_fill.proofs.Pendings.{inside_at, needed_behind_point}
+use Rattle.nr_fill.proofs.line.Line.hyphenate.Goals as goal
+
+pub is_inside-requires : goal.is_inside-requires
+is_inside-requires c =
+    let h = rw c.in-Some.is at (is_line_untitled c.self.invariant) in
+    let small = are_small h in
+    let len = c.last_len.ensures ∙ ap (λ (l : Laid). length l.last) c.clear_title.ensures in
+    let blanks = needed_blanks c.in-Some.word.pending c.in-Some.word.blanks (length c.self.inside.row.last) small.needed in
+    omega arith
+
+pub invariant_of-self-then-not-is_inside : goal.invariant_of-self-then-not-is_inside
+invariant_of-self-then-not-is_inside c = rw c.clear_title.ensures (is_line_untitled c.self.invariant)
+
+pub returns-then-not-is_inside : goal.returns-then-not-is_inside
+returns-then-not-is_inside c = ?
+
+pub close-requires-clause-room : goal.close-requires-clause-room
+close-requires-clause-room c = ?
+
+pub overflow_add-self-2 : goal.overflow_add-self-2
+overflow_add-self-2 c =
+    let h = rw c.in-Some.is at (is_line_untitled c.self.invariant) in
+    let small = are_small h in
+    let join = c.from.ensures ∙ c.width.ensures in
+    omega (arith, small.widths, small.join)
+
+pub overflow_add-self-3 : goal.overflow_add-self-3
+overflow_add-self-3 c = ?
