@@ -1,6 +1,6 @@
 -- What waits behind the piece that is being read, as it changes.
-use Rattle.std.proofs.Common.{◌≡◌, ℕ, ◌+◌, ◌-◌, ◌≤◌, ◌<◌, ◌^◌, max, nat_lt, List, length, Option, None, Some, Bool, true, false, is_some, refl, arith, inl, inr, drop, length-drop}
-use Rattle.std.proofs.lemmas.Bool.{cases_Bool, ltb-true}
+use Rattle.std.proofs.Common.{◌≡◌, ℕ, ◌+◌, ◌-◌, ◌≤◌, ◌<◌, ◌^◌, max, nat_lt, ◌&&◌, List, length, Option, None, Some, Bool, true, false, is_some, refl, arith, inl, inr, drop, length-drop}
+use Rattle.std.proofs.lemmas.Bool.{cases_Bool, cases_lt, lt-ltb, le-ltb, ltb-true}
 use Rattle.std.proofs.lemmas.List.Sums.{sum_by-take-drop}
 use Rattle.nr_units.specs.declared.cell.Cell.{Cell}
 use Rattle.nr_fill.specs.declared.line.WordState.{WordState}
@@ -125,4 +125,21 @@ join_width-at points.Hard = refl
 
 -- what it says of a place to be inside a piece
 pub inside_at : (at b n : ℕ) (p : Pending) → is_inside at b n p ≡ true → (0 < at) × (at + b < n) × (is_for_stop p ≡ false)
-inside_at at b n p h = ?
+inside_at at b n (ForStop f) h = elim (cases_Bool (nat_lt 0 at && nat_lt (at + b) n)) [
+  | inl both ↦ absurd (let e : false ≡ true = (rw both at h) in cc)
+  | inr neither ↦ absurd (let e : false ≡ true = (rw neither at h) in cc)
+]
+inside_at at b n Nothing h = elim (cases_lt 0 at) [
+  | inl some ↦ elim (cases_lt (at + b) n) [
+    | inl below ↦ (some, below, refl)
+    | inr above ↦ absurd (let e : false ≡ true = (rw (lt-ltb 0 at some, le-ltb (at + b) n above) at h) in cc)
+  ]
+  | inr none ↦ absurd (let e : false ≡ true = (rw (le-ltb 0 at none) at h) in cc)
+]
+inside_at at b n (AtPoint point) h = elim (cases_lt 0 at) [
+  | inl some ↦ elim (cases_lt (at + b) n) [
+    | inl below ↦ (some, below, refl)
+    | inr above ↦ absurd (let e : false ≡ true = (rw (lt-ltb 0 at some, le-ltb (at + b) n above) at h) in cc)
+  ]
+  | inr none ↦ absurd (let e : false ≡ true = (rw (le-ltb 0 at none) at h) in cc)
+]

@@ -1,4 +1,4 @@
-use Rattle.std.proofs.Common.{◌≡◌, ◌+◌, ◌-◌, ◌<◌, ◌≤◌, ◌++◌, ◌∷◌, [], length, take, drop, replicate, None, Some, ap, ap₂, sym, ◌∙◌, refl, arith, true, false, is_some, is_none, length-append}
+use Rattle.std.proofs.Common.{◌≡◌, ◌+◌, ◌-◌, ◌<◌, ◌≤◌, ◌++◌, ◌∷◌, [], length, take, drop, replicate, None, Some, ap, ap₂, sym, ◌∙◌, refl, arith, true, false, is_some, is_none, length-append, length-drop}
 use Rattle.nr_fill.specs.Laid.{Laid, read_cells}
 use Rattle.nr_fill.specs.Lined.{Lined}
 use Rattle.nr_fill.specs.declared.line.WordState.{WordState}

@@ -1,4 +1,4 @@
-use Rattle.std.proofs.Common.{◌≡◌, ◌+◌, ◌-◌, ◌<◌, ◌≤◌, ◌++◌, ◌∷◌, [], length, take, drop, replicate, None, Some, ap, ap₂, sym, ◌∙◌, refl, arith, true, false, is_some, is_none, length-append}
+use Rattle.std.proofs.Common.{◌≡◌, ◌+◌, ◌-◌, ◌<◌, ◌≤◌, ◌++◌, ◌∷◌, [], length, take, drop, replicate, None, Some, ap, ap₂, sym, ◌∙◌, refl, arith, true, false, is_some, is_none, length-append, length-drop}
 use Rattle.nr_fill.specs.Laid.{Laid, read_cells}
 use Rattle.nr_fill.specs.Lined.{Lined}
 use Rattle.nr_fill.specs.declared.line.WordState.{WordState}
@@ -31,12 +31,69 @@ insert_copies-requires-clause-within c =
     let needed = rw c.in-ForStop.is at small.needed in
     rw c.clear_title.ensures (omega arith)
 
--- as many cells as the word asks for
-filled : (c : goal.After-fill_count-n) → c.fill_count-n.result ≡ field_fill c.args.self.now.collected.word
-filled c = ?
-
 pub insert_copies-requires-clause-room : goal.insert_copies-requires-clause-room
-insert_copies-requires-clause-room c = ?
+insert_copies-requires-clause-room c =
+    let s = c.self.inside in
+    let h = rw c.in-Some.is at (is_line_untitled c.self.invariant) in
+    let small = are_small h in
+    let w = c.in-Some.word in
+    let field = c.in-ForStop.field in
+    let needed = rw c.in-ForStop.is at small.needed in
+    let len : c.last_len.result ≡ length s.row.last = c.last_len.ensures ∙ ap (λ (l : Laid). length l.last) c.clear_title.ensures in
+    let n = c.fill_count-n.result in
+    let fill : n ≡ fill_count field (length s.row.last - field.before) = c.fill_count-n.ensures ∙ ap (λ k. fill_count field (k - field.before)) len in
+    let asked : field_fill (word_of s.word (drop s.pieces s.row.pieces) s.row.last) ≡ fill_count field (length s.row.last - field.before) = rw (c.in-Some.is, c.in-ForStop.is) refl in
+    let same = ap (λ (v : Lined). field_fill v.collected.word) c.self.view_is in
+    let own = ap (λ (v : Lined). v.limit) c.self.view_is in
+    let text = text_cells-collected_of s.barred s.sentence s.margins s.turn c.self.invariant in
+    let all = ap (λ (v : Lined). text_cells v.collected) c.self.view_is in
+    rw c.clear_title.ensures (omega (arith, c.requires, small.room))
 
 pub invariant_of-self-2 : goal.invariant_of-self-2
-invariant_of-self-2 c = ?
+invariant_of-self-2 c =
+    let s = c.self.inside in
+    let h = rw c.in-Some.is at (is_line_untitled c.self.invariant) in
+    let small = are_small h in
+    let w = c.in-Some.word in
+    let field = c.in-ForStop.field in
+    let needed = rw c.in-ForStop.is at small.needed in
+    let len : c.last_len.result ≡ length s.row.last = c.last_len.ensures ∙ ap (λ (l : Laid). length l.last) c.clear_title.ensures in
+    let n = c.fill_count-n.result in
+    let fill : n ≡ fill_count field (length s.row.last - field.before) = c.fill_count-n.ensures ∙ ap (λ k. fill_count field (k - field.before)) len in
+    let asked : field_fill (word_of s.word (drop s.pieces s.row.pieces) s.row.last) ≡ fill_count field (length s.row.last - field.before) = rw (c.in-Some.is, c.in-ForStop.is) refl in
+    let same = ap (λ (v : Lined). field_fill v.collected.word) c.self.view_is in
+    let own = ap (λ (v : Lined). v.limit) c.self.view_is in
+    let text = text_cells-collected_of s.barred s.sentence s.margins s.turn c.self.invariant in
+    let all = ap (λ (v : Lined). text_cells v.collected) c.self.view_is in
+    let iw = the_word h in
+    let last = s.row.last in
+    let xs = take field.before last ++ replicate n field.fill ++ drop field.before last in
+    let longer : length xs ≡ length last + n =
+    omega (arith, length-append (take field.before last ++ replicate n field.fill) (drop field.before last), length-append (take field.before last) (replicate n field.fill), length-replicate n field.fill,
+    ap length (take-append-drop field.before last), length-append (take field.before last) (drop field.before last)) in
+    let v : WordState = record w { pending = Nothing } in
+    rw (c.insert_copies.ensures, c.clear_title.ensures) (is_line_last xs v h (record {
+      parted_is = iw.parted_is;
+      wide_is = iw.wide_is;
+      pieces_have_cells = iw.pieces_have_cells;
+      join_within = iw.join_within;
+      needed = omega arith;
+    }) (omega (arith, c.requires)))
+
+pub returns : goal.returns
+returns c =
+    let s = c.self.inside in
+    let h = rw c.in-Some.is at (is_line_untitled c.self.invariant) in
+    let small = are_small h in
+    let w = c.in-Some.word in
+    let field = c.in-ForStop.field in
+    let needed = rw c.in-ForStop.is at small.needed in
+    let len : c.last_len.result ≡ length s.row.last = c.last_len.ensures ∙ ap (λ (l : Laid). length l.last) c.clear_title.ensures in
+    let n = c.fill_count-n.result in
+    let fill : n ≡ fill_count field (length s.row.last - field.before) = c.fill_count-n.ensures ∙ ap (λ k. fill_count field (k - field.before)) len in
+    let asked : field_fill (word_of s.word (drop s.pieces s.row.pieces) s.row.last) ≡ fill_count field (length s.row.last - field.before) = rw (c.in-Some.is, c.in-ForStop.is) refl in
+    let same = ap (λ (v : Lined). field_fill v.collected.word) c.self.view_is in
+    let own = ap (λ (v : Lined). v.limit) c.self.view_is in
+    let text = text_cells-collected_of s.barred s.sentence s.margins s.turn c.self.invariant in
+    let all = ap (λ (v : Lined). text_cells v.collected) c.self.view_is in
+    rw (c.insert_copies.ensures, c.clear_title.ensures, fill, ← c.self.view_is, c.in-Some.is, c.in-ForStop.is) refl

@@ -1,4 +1,4 @@
-use Rattle.std.proofs.Common.{◌≡◌, ◌+◌, ◌-◌, ◌<◌, ◌≤◌, ◌++◌, ◌∷◌, [], length, take, drop, replicate, None, Some, ap, ap₂, sym, ◌∙◌, refl, arith, true, false, is_some, is_none, length-append}
+use Rattle.std.proofs.Common.{◌≡◌, ◌+◌, ◌-◌, ◌<◌, ◌≤◌, ◌++◌, ◌∷◌, [], length, take, drop, replicate, None, Some, ap, ap₂, sym, ◌∙◌, refl, arith, true, false, is_some, is_none, length-append, length-drop}
 use Rattle.nr_fill.specs.Laid.{Laid, read_cells}
 use Rattle.nr_fill.specs.Lined.{Lined}
 use Rattle.nr_fill.specs.declared.line.WordState.{WordState}
@@ -9,6 +9,7 @@ use Rattle.nr_fill.proofs.Pendings.{is_line_pending, are_small, needed_blanks, n
 use Rattle.nr_fill.specs.declared.stops.Pending.TheVariants.{Nothing, AtPoint, ForStop}
 use Rattle.nr_fill.specs.declared.title.TitleState.TheVariants as states
 use Rattle.std.proofs.lemmas.List.{length-take-le, length-replicate, take-append-drop, take_all, drop_all, append-nil}
+use Rattle.nr_fill.specs.declared.piece.Join.TheVariants.{Soft}
 use Rattle.nr_fill.specs.Cut.{join_width}
 use Rattle.nr_fill.specs.Pieces.{is_inside, is_for_stop}
 use Rattle.nr_fill.proofs.Pendings.{inside_at, needed_behind_point}
@@ -26,10 +27,27 @@ pub invariant_of-self-then-not-is_inside : goal.invariant_of-self-then-not-is_in
 invariant_of-self-then-not-is_inside c = rw c.clear_title.ensures (is_line_untitled c.self.invariant)
 
 pub returns-then-not-is_inside : goal.returns-then-not-is_inside
-returns-then-not-is_inside c = ?
+returns-then-not-is_inside c =
+    let s = c.self.inside in
+    let h = rw c.in-Some.is at (is_line_untitled c.self.invariant) in
+    let iw = the_word h in
+    let w = c.in-Some.word in
+    let len : c.last_len.result ≡ length s.row.last = c.last_len.ensures ∙ ap (λ (l : Laid). length l.last) c.clear_title.ensures in
+    let at_is : c.saturating_sub-at.result ≡ c.args.place - cells_in (drop s.pieces s.row.pieces) = c.saturating_sub-at.ensures ∙ ap (λ k. c.args.place - k) (sym iw.parted_is) in
+    let not_inside : is_inside (c.args.place - cells_in (drop s.pieces s.row.pieces)) w.blanks (length s.row.last) w.pending ≡ false =
+    ap₂ (λ a b. is_inside a w.blanks b w.pending) (sym at_is) (sym len) ∙ sym c.is_inside.ensures ∙ c.if-not-is_inside.true in
+    rw (c.clear_title.ensures, ← c.self.view_is, c.in-Some.is, not_inside) refl
 
 pub close-requires-clause-room : goal.close-requires-clause-room
-close-requires-clause-room c = ?
+close-requires-clause-room c =
+    let s = c.self.inside in
+    let h = rw c.in-Some.is at (is_line_untitled c.self.invariant) in
+    let small = are_small h in
+    let w = c.in-Some.word in
+    let at = c.saturating_sub-at.result in
+    let len : c.last_len.result ≡ length s.row.last = c.last_len.ensures ∙ ap (λ (l : Laid). length l.last) c.clear_title.ensures in
+    let inside = inside_at at w.blanks c.last_len.result w.pending (sym c.is_inside.ensures ∙ c.if-not-is_inside.false) in
+    rw c.clear_title.ensures (omega (arith, small.room, small.text, small.parted, small.pieces_are))
 
 pub overflow_add-self-2 : goal.overflow_add-self-2
 overflow_add-self-2 c =
@@ -39,4 +57,42 @@ overflow_add-self-2 c =
     omega (arith, small.widths, small.join)
 
 pub overflow_add-self-3 : goal.overflow_add-self-3
-overflow_add-self-3 c = ?
+overflow_add-self-3 c =
+    let s = c.self.inside in
+    let h = rw c.in-Some.is at (is_line_untitled c.self.invariant) in
+    let small = are_small h in
+    let w = c.in-Some.word in
+    let at = c.saturating_sub-at.result in
+    let len : c.last_len.result ≡ length s.row.last = c.last_len.ensures ∙ ap (λ (l : Laid). length l.last) c.clear_title.ensures in
+    let inside = inside_at at w.blanks c.last_len.result w.pending (sym c.is_inside.ensures ∙ c.if-not-is_inside.false) in
+    let join = c.from.ensures ∙ c.width.ensures in
+    omega (arith, small.widths, small.join, small.small, small.text, small.parted)
+
+pub invariant_of-self-2 : goal.invariant_of-self-2
+invariant_of-self-2 c =
+    let s = c.self.inside in
+    let h = rw c.in-Some.is at (is_line_untitled c.self.invariant) in
+    let small = are_small h in
+    let w = c.in-Some.word in
+    let at = c.saturating_sub-at.result in
+    let len : c.last_len.result ≡ length s.row.last = c.last_len.ensures ∙ ap (λ (l : Laid). length l.last) c.clear_title.ensures in
+    let inside = inside_at at w.blanks c.last_len.result w.pending (sym c.is_inside.ensures ∙ c.if-not-is_inside.false) in
+    let width = c.from.ensures ∙ c.width.ensures in
+    let v : WordState = record { join = Soft; pending = w.pending; blanks = w.blanks; parted = w.parted + at; wide = w.wide + c.from.result + at } in
+    let needed = needed_behind_point w.pending w.blanks 0 (length s.row.last - at) inside.2 (omega arith) in
+    rw (c.close.ensures, c.clear_title.ensures) (is_line_closed v at h (omega arith) inside.0 refl (omega arith) (omega arith) needed)
+
+pub returns : goal.returns
+returns c =
+    let s = c.self.inside in
+    let h = rw c.in-Some.is at (is_line_untitled c.self.invariant) in
+    let small = are_small h in
+    let w = c.in-Some.word in
+    let at = c.saturating_sub-at.result in
+    let len : c.last_len.result ≡ length s.row.last = c.last_len.ensures ∙ ap (λ (l : Laid). length l.last) c.clear_title.ensures in
+    let inside = inside_at at w.blanks c.last_len.result w.pending (sym c.is_inside.ensures ∙ c.if-not-is_inside.false) in
+    let iw = the_word h in
+    let at_is : at ≡ c.args.place - cells_in (drop s.pieces s.row.pieces) = c.saturating_sub-at.ensures ∙ ap (λ k. c.args.place - k) (sym iw.parted_is) in
+    let is : is_inside (c.args.place - cells_in (drop s.pieces s.row.pieces)) w.blanks (length s.row.last) w.pending ≡ true =
+    ap₂ (λ a b. is_inside a w.blanks b w.pending) (sym at_is) (sym len) ∙ sym c.is_inside.ensures ∙ c.if-not-is_inside.false in
+    ?
