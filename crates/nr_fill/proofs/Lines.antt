@@ -1,5 +1,5 @@
 -- What a line's fields tell of its value, and how they change.
-use Rattle.std.proofs.Common.{◌≡◌, ℕ, ◌+◌, ◌-◌, ◌*◌, ◌^◌, ◌≤◌, ◌<◌, max, List, [], ◌∷◌, ◌++◌, length, take, drop, replicate, sum_by, Option, None, Some, is_none, is_some, Bool, true, false, All, refl, ap, ap₂, sym, ◌∙◌, append_assoc, arith, length-take, length-drop, length-append, nat_lt, nat_le, subst, suc}
+use Rattle.std.proofs.Common.{◌≡◌, ℕ, ◌+◌, ◌-◌, ◌*◌, ◌^◌, ◌≤◌, ◌<◌, max, List, [], ◌∷◌, ◌++◌, length, take, drop, replicate, sum_by, Option, None, Some, is_none, is_some, Bool, true, false, All, refl, ap, ap₂, sym, ◌∙◌, append_assoc, arith, length-take, length-drop, length-append, nat_lt, nat_le, eqb, get_or, subst, suc}
 use Rattle.std.proofs.lemmas.List.{take-append-drop, take_all, drop_all, drop-drop, drop-take, take-take, length-take-le, take-append-le, drop-append-le}
 use Rattle.std.proofs.lemmas.List.Elements.{All-drop, All-push}
 use Rattle.std.proofs.lemmas.List.Sums.{sum_by-cons, sum_by_push, sum_by-append, sum_by-take-drop, sum_by-take-le}
@@ -7,6 +7,7 @@ use Rattle.nr_units.specs.declared.cell.Cell.{Cell}
 use Rattle.nr_fill.specs.declared.line.WordState.{WordState}
 use Rattle.nr_fill.specs.declared.margins.Margins.{Margins}
 use Rattle.nr_fill.specs.declared.margins.Turn.{Turn}
+use Rattle.nr_fill.specs.declared.piece.Join.{Join}
 use Rattle.nr_fill.specs.declared.piece.Join.TheVariants.{Gap}
 use Rattle.nr_fill.specs.declared.stops.Pending.{Pending}
 use Rattle.nr_fill.specs.declared.stops.Pending.TheVariants.{Nothing, AtPoint, ForStop}
@@ -15,7 +16,7 @@ use Rattle.nr_fill.specs.declared.title.TitleState.TheVariants as states
 use Rattle.nr_fill.specs.Cut.{join_width, piece_width, pieces_width}
 use Rattle.nr_fill.specs.Laid.{Laid, read_cells}
 use Rattle.nr_fill.specs.Lying.{word_of, collected_of, cells_needed, IsWord, IsLine}
-use Rattle.nr_fill.specs.Pieces.{Piece, Word, Collected, cells_in, word_cells, word_length, text_cells, line_cells}
+use Rattle.nr_fill.specs.Pieces.{Piece, Word, Collected, cells_in, word_cells, word_length, text_cells, line_cells, is_nil, word_pieces, word_or_new, new_word}
 use Rattle.nr_fill.specs.TitleStates.{title_of, parted_title, next_state}
 use Rattle.nr_fill.specs.Titles.{Title, title_cells, next_part, with_cell}
 use Rattle.std.specs.Option.{option_map}
@@ -394,3 +395,38 @@ pub ended_pieces : (pieces more : ℕ) (ps : List Piece) (p : Piece) → pieces 
     → take (pieces + more) (ps ++ p ∷ []) ≡ take pieces ps ++ (drop pieces ps ++ p ∷ [])
 ended_pieces pieces more ps p low is =
     take_all (pieces + more) (ps ++ p ∷ []) (omega (arith, length-append ps (p ∷ []))) ∙ ap (λ qs. qs ++ p ∷ []) (sym (take-append-drop pieces ps)) ∙ append_assoc (take pieces ps) (drop pieces ps) (p ∷ [])
+
+-- the first piece's join
+pub first_is : (ps : List Piece) (j : Join) (d : Piece) → 0 < length ps → ((p : Piece) (qs : List Piece) → ps ≡ p ∷ qs → j ≡ p.join) → j ≡ (get_or ps 0 d).join
+first_is [] j d h is = absurd (omega arith)
+first_is (p ∷ ps) j d h is = is p ps refl
+
+-- nothing is left where all of the pieces go
+pub is_nil_left : (n pieces : ℕ) (ps : List Piece) → n ≤ pieces → pieces ≤ length ps → is_nil (drop n (take pieces ps)) ≡ eqb (pieces - n) 0
+is_nil_left n pieces ps h low =
+    let long = length-drop n (take pieces ps) in
+    let all = length-take-le pieces ps low in
+    is_nil-length (drop n (take pieces ps)) ∙ ap (λ k. eqb k 0) (let e : length (drop n (take pieces ps)) ≡ pieces - n = omega arith in e)
+  where
+    is_nil-length : (qs : List Piece) → is_nil qs ≡ eqb (length qs) 0
+    is_nil-length [] = refl
+    is_nil-length (q ∷ qs) = refl
+
+-- the pieces behind the first ones
+pub pieces_behind : (n pieces : ℕ) (ps : List Piece) → n ≤ pieces
+    → (take (pieces - n) (drop n ps) ≡ drop n (take pieces ps)) × (drop (pieces - n) (drop n ps) ≡ drop pieces ps)
+pieces_behind n pieces ps h =
+    let rest : n + (pieces - n) ≡ pieces = omega arith in
+    (sym (drop-take n (pieces - n) ps) ∙ ap (λ k. drop n (take k ps)) rest, drop-drop (pieces - n) n ps ∙ ap (λ k. drop k ps) rest)
+
+-- the pieces of the line and of its word, or of one that is still to begin
+pub column_pieces : {row : Laid} {limit pieces wide : ℕ} {word : Option WordState} {gap : ℕ} {title : Option TitleState} (barred sentence : Bool) (margins : Margins) (turn : Turn)
+    → IsLine row limit pieces wide word gap title
+    → take pieces row.pieces ++ word_pieces (Some (word_or_new gap (word_of word (drop pieces row.pieces) row.last)))
+    ≡ row.pieces ++ (word_or_new gap (word_of word (drop pieces row.pieces) row.last)).last ∷ []
+column_pieces {row} {pieces = pieces} {word = None} {gap} barred sentence margins turn h =
+    let all = h.no_word refl in
+    ap (λ ps. ps ++ (new_word gap).last ∷ []) (take_all pieces row.pieces (omega arith))
+column_pieces {row} {pieces = pieces} {word = Some w} {gap} barred sentence margins turn h =
+    let last : Piece = record { join = w.join; cells = row.last } in
+    sym (append_assoc (take pieces row.pieces) (drop pieces row.pieces) (last ∷ [])) ∙ ap (λ ps. ps ++ last ∷ []) (take-append-drop pieces row.pieces)

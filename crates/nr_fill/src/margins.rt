@@ -1,4 +1,6 @@
 //! What a line takes of the settings when it begins. (CSTR 54, sections 4 and 6.)
+ghost use Rattle.std.specs.Prelude.{◌≡◌, ◌==◌, if◌then◌else◌};
+ghost use Rattle.nr_fill.specs.Spreading.{other_turn};
 
 /// Where a line begins and how long its text may be, in cells.
 #[derive(Clone, Copy, Debug, PartialEq, Eq)]
@@ -14,4 +16,26 @@ pub struct Margins {
 pub enum Turn {
     Left,
     Right,
+}
+
+impl Margins {
+    /// The margins where so many pieces are left behind a line: those of what is left, where something is.
+    pub(crate) fn behind(self, left: usize, next: Margins) -> Self
+        ensures { result ≡ (if left == 0 then self else next) }
+    {
+        if left == 0 { self } else { next }
+    }
+}
+
+impl Turn {
+    /// The turn behind a line, which was spread or not.
+    pub(crate) fn behind(self, spread: bool) -> Self
+        ensures { result ≡ (if spread then other_turn self else self) }
+    {
+        match (spread, self) {
+            (false, _) => self,
+            (true, Turn::Left) => Turn::Right,
+            (true, Turn::Right) => Turn::Left,
+        }
+    }
 }

@@ -1,7 +1,7 @@
 //! How a line is set. (CSTR 54, sections 4.1 and 4.2.)
 ghost use Rattle.std.specs.Prelude.{◌≡◌, ◌/◌, ◌<◌, ◌^◌};
 ghost use Rattle.nr_fill.specs.Setting.{shift, is_spread};
-ghost use Rattle.nr_fill.specs.Spreading.{shared, extra_at, no_extra, other_turn};
+ghost use Rattle.nr_fill.specs.Spreading.{shared, extra_at, no_extra};
 
 use crate::margins::Turn;
 
@@ -56,17 +56,6 @@ impl Align {
         match self {
             Align::Spread => left_over > 0 && gaps > 0,
             Align::Left | Align::Right | Align::Centre => false,
-        }
-    }
-}
-
-impl Turn {
-    pub(crate) fn other(self) -> Self
-        ensures { result ≡ other_turn self }
-    {
-        match self {
-            Turn::Left => Turn::Right,
-            Turn::Right => Turn::Left,
         }
     }
 }

@@ -143,11 +143,7 @@ impl<'a> Line<'a> {
         self.row.remove_front(n, plan.cells);
         self.pieces -= n;
         self.wide -= plan.wide;
-        self.turn = if plan.spread {
-            self.turn.other()
-        } else {
-            self.turn
-        };
-        self.margins = if self.pieces > 0 { next } else { self.margins };
+        self.turn = self.turn.behind(plan.spread);
+        self.margins = self.margins.behind(self.pieces, next);
     }
 }

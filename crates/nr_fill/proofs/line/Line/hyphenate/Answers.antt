@@ -11,7 +11,8 @@ use Rattle.nr_fill.specs.declared.title.TitleState.TheVariants as states
 use Rattle.std.proofs.lemmas.List.{length-take-le, length-replicate, take-append-drop, take_all, drop_all, append-nil}
 use Rattle.nr_fill.specs.declared.piece.Join.TheVariants.{Soft}
 use Rattle.nr_fill.specs.Cut.{join_width}
-use Rattle.nr_fill.specs.Pieces.{is_inside, is_for_stop}
+use Rattle.nr_fill.specs.Pieces.{Piece, is_inside, is_for_stop}
+use Rattle.std.proofs.lemmas.List.{take-append-le, drop-append-le}
 use Rattle.nr_fill.proofs.Pendings.{inside_at, needed_behind_point}
 use Rattle.nr_fill.proofs.line.Line.hyphenate.Goals as goal
 
@@ -95,4 +96,7 @@ returns c =
     let at_is : at ≡ c.args.place - cells_in (drop s.pieces s.row.pieces) = c.saturating_sub-at.ensures ∙ ap (λ k. c.args.place - k) (sym iw.parted_is) in
     let is : is_inside (c.args.place - cells_in (drop s.pieces s.row.pieces)) w.blanks (length s.row.last) w.pending ≡ true =
     ap₂ (λ a b. is_inside a w.blanks b w.pending) (sym at_is) (sym len) ∙ sym c.is_inside.ensures ∙ c.if-not-is_inside.false in
-    ?
+    let p : Piece = record { join = w.join; cells = take at s.row.last } in
+    let front = take-append-le s.pieces s.row.pieces (p ∷ []) small.low in
+    let back = drop-append-le s.pieces s.row.pieces (p ∷ []) small.low in
+    rw (c.close.ensures, c.clear_title.ensures, front, back, ← c.self.view_is, c.in-Some.is, is, ← at_is) refl
