@@ -1,6 +1,7 @@
 -- What a line's fields tell of its value, and how they change.
 use Rattle.std.proofs.Common.{◌≡◌, ℕ, ◌+◌, ◌-◌, ◌*◌, ◌^◌, ◌≤◌, ◌<◌, max, List, [], ◌∷◌, ◌++◌, length, take, drop, replicate, sum_by, Option, None, Some, is_none, is_some, Bool, true, false, All, refl, ap, ap₂, sym, ◌∙◌, append_assoc, arith, length-take, length-drop, length-append, nat_lt, nat_le, eqb, get_or, subst, suc}
 use Rattle.std.proofs.lemmas.List.{take-append-drop, take_all, drop_all, drop-drop, drop-take, take-take, length-take-le, take-append-le, drop-append-le}
+use Rattle.std.proofs.lemmas.Bool.{ne_eqb}
 use Rattle.std.proofs.lemmas.List.Elements.{All-drop, All-push}
 use Rattle.std.proofs.lemmas.List.Sums.{sum_by-cons, sum_by_push, sum_by-append, sum_by-take-drop, sum_by-take-le}
 use Rattle.nr_units.specs.declared.cell.Cell.{Cell}
@@ -410,7 +411,7 @@ is_nil_left n pieces ps h low =
   where
     is_nil-length : (qs : List Piece) → is_nil qs ≡ eqb (length qs) 0
     is_nil-length [] = refl
-    is_nil-length (q ∷ qs) = refl
+    is_nil-length (q ∷ qs) = sym (ne_eqb (suc (length qs)) 0 (omega arith))
 
 -- the pieces behind the first ones
 pub pieces_behind : (n pieces : ℕ) (ps : List Piece) → n ≤ pieces
