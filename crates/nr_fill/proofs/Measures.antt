@@ -10,9 +10,11 @@ use Rattle.nr_fill.specs.declared.margins.Margins.{Margins}
 use Rattle.nr_fill.specs.declared.piece.Behind.{Behind}
 use Rattle.nr_fill.specs.declared.stops.Pending.{Pending}
 use Rattle.nr_fill.specs.declared.stops.Pending.TheVariants.{Nothing, AtPoint, ForStop}
+use Rattle.nr_fill.specs.declared.stops.StopKind.{StopKind}
+use Rattle.std.specs.Option.{option_map}
 use Rattle.nr_fill.specs.Lined.{Lined, afforded}
 use Rattle.nr_fill.specs.Pieces.{Piece, Word, Collected, cells_in, word_or_new, with_word, in_word, word_length, word_cells, word_pieces, text_cells, line_cells, ended, ended_at, append, add_cell, add_cell_behind, add_blank, add_blank_to, add_cells, end_word}
-use Rattle.nr_fill.specs.Tabs.{field_fill, pending_fill, fill_count, filled_by, with_field_filled}
+use Rattle.nr_fill.specs.Tabs.{with_field, field_fill, pending_fill, fill_count, filled_by, with_field_filled}
 
 -- what fits is afforded
 pub afforded_ok : (v : Lined) → line_cells v.collected ≤ v.limit → ◌≡◌ {A = Result (Unit {0}) LineCells} (Ok tt) (afforded v)
@@ -111,3 +113,11 @@ line_cells-end_word c =
     let both = sum_by-append (λ (p : Piece). 1 + length p.cells) c.pieces (word_pieces c.word) in
     let last = charge-word_pieces c.word in
     omega arith
+
+word_cells-with_field : (width : ℕ) (kind : StopKind) (fill : Cell) (w : Option Word) → word_cells (option_map (with_field width kind fill) w) ≡ word_cells w
+word_cells-with_field width kind fill None = refl
+word_cells-with_field width kind fill (Some w) = refl
+
+-- the text for a stop begins without cells
+pub line_cells-with_field : (width : ℕ) (kind : StopKind) (fill : Cell) (c : Collected) → line_cells (in_word (with_field width kind fill) c) ≡ text_cells c
+line_cells-with_field width kind fill c = let same = word_cells-with_field width kind fill c.word in omega arith

@@ -1,5 +1,5 @@
 //! Pieces of a line, and how they hang together. (CSTR 54, sections 4 and 13.)
-ghost use Rattle.std.specs.Prelude.{◌≡◌};
+ghost use Rattle.std.specs.Prelude.{◌≡◌, ◌≤◌};
 ghost use Rattle.nr_fill.specs.Cut.{join_width, hyphen_width};
 ghost use Rattle.nr_fill.specs.Pieces.{join_at, mark_cells};
 ghost use Rattle.nr_fill.specs.Slots.{blank_slot};
@@ -79,7 +79,8 @@ impl Join {
     /// How many hyphens a cut between the two pieces prints.
     #[inline]
     pub(crate) fn hyphen(self) -> u16
-        ensures { result ≡ hyphen_width self }
+        ensures value { result ≡ hyphen_width self }
+        ensures one { result ≤ 1 }
     {
         match self {
             Join::Soft => 1,

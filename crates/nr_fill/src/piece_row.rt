@@ -198,7 +198,8 @@ impl<'a> PieceRow<'a> {
     pub(crate) fn hyphen(&self, n: usize, all: usize) -> u16
         requires within { n ≤ all }
         requires all { all ≤ length self.now.pieces }
-        ensures { result ≡ hyphen_before (drop n (take all self.now.pieces)) }
+        ensures value { result ≡ hyphen_before (drop n (take all self.now.pieces)) }
+        ensures one { result ≤ 1 }
     {
         if n == all {
             return 0;

@@ -13,10 +13,12 @@ use nr_units::cell::Cell;
 fn first_beyond(column: usize, stops: &[Stop]) -> Option<Stop>
     ensures { result ≡ first_beyond column stops.now }
 {
-    stops
-        .iter()
-        .find(|stop| stop.column as usize > column)
-        .copied()
+    for stop in stops {
+        if stop.column as usize > column {
+            return Some(*stop);
+        }
+    }
+    None
 }
 
 impl StopKind {

@@ -1,11 +1,11 @@
 // Lines go out of what is collected. (CSTR 54, section 4.1.)
-ghost use Rattle.std.specs.Prelude.{◌≡◌, ◌+◌, ◌<◌, ◌≤◌, ◌^◌, List, ◌++◌, length, take, drop, replicate};
+ghost use Rattle.std.specs.Prelude.{◌≡◌, ◌+◌, ◌*◌, ◌<◌, ◌≤◌, ◌^◌, List, ◌++◌, length, take, drop, replicate};
 ghost use Rattle.nr_units.specs.Cells.{blank, trimmed};
 ghost use Rattle.nr_units.specs.declared.cell.Cell.{Cell as CellValue};
 ghost use Rattle.nr_fill.specs.Cut.{hyphen_before, pieces_width};
 ghost use Rattle.nr_fill.specs.Pieces.{cells_in};
 ghost use Rattle.nr_fill.specs.Rows.{IsRow, row_of};
-ghost use Rattle.nr_fill.specs.Spreading.{cells_in_line};
+ghost use Rattle.nr_fill.specs.Spreading.{cells_in_line, gaps};
 ghost use Rattle.nr_fill.specs.Setting.{behind, cut_of, extra_of, hyphens, left_over, set_line, set_width, shift, spreads, without_front};
 
 use crate::line::Line;
@@ -89,8 +89,10 @@ impl<'a> Line<'a> {
         ensures start_small { result.start < 2 ^ 34 }
         ensures extra { result.extra ≡ extra_of setting.align self.now.collected n }
         ensures each { result.extra.each < 2 ^ 32 }
+        ensures total { result.extra.each * gaps (take n self.now.collected.pieces) < 2 ^ 32 }
         ensures spread { result.spread ≡ spreads setting.align self.now.collected n }
         ensures hyphens { result.hyphens ≡ hyphen_before (drop n self.now.collected.pieces) }
+        ensures one { result.hyphens ≤ 1 }
         ensures cells { result.cells ≡ cells_in (take n self.now.collected.pieces) }
         ensures wide { result.wide ≡ pieces_width (take n self.now.collected.pieces) }
     {
@@ -120,7 +122,9 @@ impl<'a> Line<'a> {
         requires some { 0 < n }
         requires within { n ≤ length self.now.collected.pieces }
         requires each { plan.extra.each < 2 ^ 32 }
+        requires total { plan.extra.each * gaps (take n self.now.collected.pieces) < 2 ^ 32 }
         requires start { plan.start < 2 ^ 34 }
+        requires hyphens { plan.hyphens ≤ 1 }
         ensures out { out.new ≡ row_of out.old.room (trimmed (replicate plan.start blank ++ (cells_in_line plan.extra (take n self.now.collected.pieces) ++ hyphens plan.hyphens))) }
         ensures width { result ≡ length (trimmed (cells_in_line plan.extra (take n self.now.collected.pieces) ++ hyphens plan.hyphens)) }
     {

@@ -88,7 +88,7 @@ returns-then-spread-clause-start c =
     let first = first_is s.row.pieces c.first_join.result d (omega (arith, h.pieces_within, c.requires.some)) c.first_join.ensures in
     let same_first : get_or ps 0 d ≡ get_or s.row.pieces 0 d = get_or-take n (take s.pieces s.row.pieces) 0 d c.requires.some ∙ get_or-take s.pieces s.row.pieces 0 d (omega (arith, c.requires.some)) in
     let join : c.from-first.result ≡ join_width (get_or ps 0 d).join = c.from-first.ensures ∙ c.width.ensures ∙ ap join_width first ∙ ap (λ (p : Piece). join_width p.join) (sym same_first) in
-    let hyphen : c.from.result ≡ hyphen_before (drop n (take s.pieces s.row.pieces)) = c.from.ensures ∙ c.hyphen-hyphens.ensures in
+    let hyphen : c.from.result ≡ hyphen_before (drop n (take s.pieces s.row.pieces)) = c.from.ensures ∙ c.hyphen-hyphens.ensures.value in
     let front : c.sums-sums.result.wide - c.from-first.result + c.from.result ≡ front_width n (take s.pieces s.row.pieces) = omega arith in
     let left_is : c.saturating_sub-left_over.result ≡ left_over c.args.self.now.collected n =
     c.saturating_sub-left_over.ensures ∙ ap (λ k. s.margins.length - k) front ∙ ap (λ (v : Lined). left_over v.collected n) c.self.view_is in
@@ -114,7 +114,7 @@ returns-then-spread-clause-extra c =
     let first = first_is s.row.pieces c.first_join.result d (omega (arith, h.pieces_within, c.requires.some)) c.first_join.ensures in
     let same_first : get_or ps 0 d ≡ get_or s.row.pieces 0 d = get_or-take n (take s.pieces s.row.pieces) 0 d c.requires.some ∙ get_or-take s.pieces s.row.pieces 0 d (omega (arith, c.requires.some)) in
     let join : c.from-first.result ≡ join_width (get_or ps 0 d).join = c.from-first.ensures ∙ c.width.ensures ∙ ap join_width first ∙ ap (λ (p : Piece). join_width p.join) (sym same_first) in
-    let hyphen : c.from.result ≡ hyphen_before (drop n (take s.pieces s.row.pieces)) = c.from.ensures ∙ c.hyphen-hyphens.ensures in
+    let hyphen : c.from.result ≡ hyphen_before (drop n (take s.pieces s.row.pieces)) = c.from.ensures ∙ c.hyphen-hyphens.ensures.value in
     let front : c.sums-sums.result.wide - c.from-first.result + c.from.result ≡ front_width n (take s.pieces s.row.pieces) = omega arith in
     let left_is : c.saturating_sub-left_over.result ≡ left_over c.args.self.now.collected n =
     c.saturating_sub-left_over.ensures ∙ ap (λ k. s.margins.length - k) front ∙ ap (λ (v : Lined). left_over v.collected n) c.self.view_is in
@@ -140,7 +140,7 @@ returns-then-spread-clause-spread c =
     let first = first_is s.row.pieces c.first_join.result d (omega (arith, h.pieces_within, c.requires.some)) c.first_join.ensures in
     let same_first : get_or ps 0 d ≡ get_or s.row.pieces 0 d = get_or-take n (take s.pieces s.row.pieces) 0 d c.requires.some ∙ get_or-take s.pieces s.row.pieces 0 d (omega (arith, c.requires.some)) in
     let join : c.from-first.result ≡ join_width (get_or ps 0 d).join = c.from-first.ensures ∙ c.width.ensures ∙ ap join_width first ∙ ap (λ (p : Piece). join_width p.join) (sym same_first) in
-    let hyphen : c.from.result ≡ hyphen_before (drop n (take s.pieces s.row.pieces)) = c.from.ensures ∙ c.hyphen-hyphens.ensures in
+    let hyphen : c.from.result ≡ hyphen_before (drop n (take s.pieces s.row.pieces)) = c.from.ensures ∙ c.hyphen-hyphens.ensures.value in
     let front : c.sums-sums.result.wide - c.from-first.result + c.from.result ≡ front_width n (take s.pieces s.row.pieces) = omega arith in
     let left_is : c.saturating_sub-left_over.result ≡ left_over c.args.self.now.collected n =
     c.saturating_sub-left_over.ensures ∙ ap (λ k. s.margins.length - k) front ∙ ap (λ (v : Lined). left_over v.collected n) c.self.view_is in
@@ -165,7 +165,7 @@ returns-else-spread-clause-start c =
     let first = first_is s.row.pieces c.first_join.result d (omega (arith, h.pieces_within, c.requires.some)) c.first_join.ensures in
     let same_first : get_or ps 0 d ≡ get_or s.row.pieces 0 d = get_or-take n (take s.pieces s.row.pieces) 0 d c.requires.some ∙ get_or-take s.pieces s.row.pieces 0 d (omega (arith, c.requires.some)) in
     let join : c.from-first.result ≡ join_width (get_or ps 0 d).join = c.from-first.ensures ∙ c.width.ensures ∙ ap join_width first ∙ ap (λ (p : Piece). join_width p.join) (sym same_first) in
-    let hyphen : c.from.result ≡ hyphen_before (drop n (take s.pieces s.row.pieces)) = c.from.ensures ∙ c.hyphen-hyphens.ensures in
+    let hyphen : c.from.result ≡ hyphen_before (drop n (take s.pieces s.row.pieces)) = c.from.ensures ∙ c.hyphen-hyphens.ensures.value in
     let front : c.sums-sums.result.wide - c.from-first.result + c.from.result ≡ front_width n (take s.pieces s.row.pieces) = omega arith in
     let left_is : c.saturating_sub-left_over.result ≡ left_over c.args.self.now.collected n =
     c.saturating_sub-left_over.ensures ∙ ap (λ k. s.margins.length - k) front ∙ ap (λ (v : Lined). left_over v.collected n) c.self.view_is in
@@ -191,7 +191,7 @@ returns-else-spread-clause-extra c =
     let first = first_is s.row.pieces c.first_join.result d (omega (arith, h.pieces_within, c.requires.some)) c.first_join.ensures in
     let same_first : get_or ps 0 d ≡ get_or s.row.pieces 0 d = get_or-take n (take s.pieces s.row.pieces) 0 d c.requires.some ∙ get_or-take s.pieces s.row.pieces 0 d (omega (arith, c.requires.some)) in
     let join : c.from-first.result ≡ join_width (get_or ps 0 d).join = c.from-first.ensures ∙ c.width.ensures ∙ ap join_width first ∙ ap (λ (p : Piece). join_width p.join) (sym same_first) in
-    let hyphen : c.from.result ≡ hyphen_before (drop n (take s.pieces s.row.pieces)) = c.from.ensures ∙ c.hyphen-hyphens.ensures in
+    let hyphen : c.from.result ≡ hyphen_before (drop n (take s.pieces s.row.pieces)) = c.from.ensures ∙ c.hyphen-hyphens.ensures.value in
     let front : c.sums-sums.result.wide - c.from-first.result + c.from.result ≡ front_width n (take s.pieces s.row.pieces) = omega arith in
     let left_is : c.saturating_sub-left_over.result ≡ left_over c.args.self.now.collected n =
     c.saturating_sub-left_over.ensures ∙ ap (λ k. s.margins.length - k) front ∙ ap (λ (v : Lined). left_over v.collected n) c.self.view_is in
@@ -217,7 +217,7 @@ returns-else-spread-clause-spread c =
     let first = first_is s.row.pieces c.first_join.result d (omega (arith, h.pieces_within, c.requires.some)) c.first_join.ensures in
     let same_first : get_or ps 0 d ≡ get_or s.row.pieces 0 d = get_or-take n (take s.pieces s.row.pieces) 0 d c.requires.some ∙ get_or-take s.pieces s.row.pieces 0 d (omega (arith, c.requires.some)) in
     let join : c.from-first.result ≡ join_width (get_or ps 0 d).join = c.from-first.ensures ∙ c.width.ensures ∙ ap join_width first ∙ ap (λ (p : Piece). join_width p.join) (sym same_first) in
-    let hyphen : c.from.result ≡ hyphen_before (drop n (take s.pieces s.row.pieces)) = c.from.ensures ∙ c.hyphen-hyphens.ensures in
+    let hyphen : c.from.result ≡ hyphen_before (drop n (take s.pieces s.row.pieces)) = c.from.ensures ∙ c.hyphen-hyphens.ensures.value in
     let front : c.sums-sums.result.wide - c.from-first.result + c.from.result ≡ front_width n (take s.pieces s.row.pieces) = omega arith in
     let left_is : c.saturating_sub-left_over.result ≡ left_over c.args.self.now.collected n =
     c.saturating_sub-left_over.ensures ∙ ap (λ k. s.margins.length - k) front ∙ ap (λ (v : Lined). left_over v.collected n) c.self.view_is in

@@ -22,8 +22,8 @@ bounds-as_slice-n c =
     let same = ap length c.as_slice.ensures.value in
     omega (arith, c.requires.within, c.requires.all)
 
-pub returns : goal.returns
-returns c =
+pub returns-clause-value : goal.returns-clause-value
+returns-clause-value c =
     let s = c.self.inside in
     let room = min s.slots.room s.cells.room in
     let n = c.args.n in
@@ -31,7 +31,7 @@ returns c =
     let slots = slots_are c.args.self.now room c.self.invariant c.self.view_is in
     let long = length-take-le all s.slots.items (omega (arith, c.requires.all)) in
     let below : n < length (take all s.slots.items) = omega (arith, c.requires.within) in
-    c.hyphen.ensures ∙ ap (λ (xs : List PieceSlot). hyphen_width (get_or xs n blank_slot).join) c.as_slice.ensures.value
+    c.hyphen.ensures.value ∙ ap (λ (xs : List PieceSlot). hyphen_width (get_or xs n blank_slot).join) c.as_slice.ensures.value
     ∙ ap (λ (t : PieceSlot). hyphen_width t.join) (sym (get_or-take all s.slots.items n blank_slot (omega arith)))
     ∙ sym (hyphen_at (take all s.slots.items) s.cells.items n blank_slot below)
     ∙ ap (λ ps. hyphen_before (drop n ps)) (front_is c.args.self.now room all c.self.invariant c.self.view_is)
