@@ -7,3 +7,4 @@ pub mod Laying
 pub mod Lines
 pub mod Pendings
 pub mod Measures
+pub mod TextWidth

@@ -9,7 +9,7 @@ use Rattle.nr_fill.proofs.Pendings.{is_line_pending, are_small, needed_blanks, n
 use Rattle.nr_fill.specs.declared.stops.Pending.TheVariants.{Nothing, AtPoint, ForStop}
 use Rattle.nr_fill.specs.declared.title.TitleState.TheVariants as states
 use Rattle.std.proofs.lemmas.List.{length-take-le, length-replicate, take-append-drop, take_all, drop_all, append-nil}
-use Rattle.nr_fill.specs.Tabs.{tabbed, to_stop, first_beyond, column, with_field}
+use Rattle.nr_fill.specs.Tabs.{tabbed, to_stop, first_beyond, column, with_field, is_aligned}
 use Rattle.nr_fill.specs.Pieces.{in_word, with_word}
 use Rattle.nr_fill.proofs.Measures.{line_cells-with_field}
 use Rattle.nr_fill.proofs.line.Line.tab.Goals as goal
@@ -20,10 +20,23 @@ returns-in_default-clause-result c =
     let within = c.open_word.ensures.within in
     let same = ap (λ (v : Lined). line_cells v.collected) c.open_word.ensures.opened in
     let limit = ap (λ (v : Lined). v.limit) c.open_word.ensures.opened in
-    let none = ap (λ k. first_beyond k c.args.stops.now) (sym c.column.ensures) ∙ sym c.first_beyond.ensures ∙ c.in_default.is in
+    let none = ap (λ k. first_beyond k c.args.stops.now) (sym c.column-column.ensures) ∙ sym c.first_beyond.ensures ∙ c.in_default.is in
     let is : tabbed c.args.margins c.args.stops.now c.args.aligned c.args.fill now ≡ with_word c.args.margins now = ap (to_stop c.args.margins c.args.aligned c.args.fill now) none in
     let v : Lined = record { collected = tabbed c.args.margins c.args.stops.now c.args.aligned c.args.fill now; limit = c.args.self.now.limit } in
     afforded_ok v (rw is (omega arith))
 
 pub returns-clause-result : goal.returns-clause-result
-returns-clause-result c = ?
+returns-clause-result c =
+    let now = c.args.self.now.collected in
+    let stop = c.in-Some.stop in
+    let m = c.args.margins in
+    let within = c.open_word-2.ensures.within in
+    let same = ap (λ (v : Lined). line_cells v.collected) c.open_word-2.ensures.opened in
+    let limit = ap (λ (v : Lined). v.limit) c.open_word-2.ensures.opened in
+    let some = ap (λ k. first_beyond k c.args.stops.now) (sym c.column-column.ensures) ∙ sym c.first_beyond.ensures ∙ c.in-Some.is in
+    let kind : is_aligned c.args.aligned stop.kind ≡ true = sym c.is_aligned.ensures ∙ c.if-not-is_aligned.false in
+    let is : tabbed m c.args.stops.now c.args.aligned c.args.fill now ≡ in_word (with_field (stop.column - column now) stop.kind c.args.fill) (with_word m now) =
+    ap (to_stop m c.args.aligned c.args.fill now) some ∙ rw kind refl in
+    let text = line_cells-with_field (stop.column - column now) stop.kind c.args.fill (with_word m now) in
+    let v : Lined = record { collected = tabbed m c.args.stops.now c.args.aligned c.args.fill now; limit = c.args.self.now.limit } in
+    afforded_ok v (rw is (omega arith))

@@ -1,0 +1,64 @@
+-- How wide the text of a set line is.
+use Rattle.std.proofs.Common.{◌≡◌, ℕ, ◌+◌, ◌-◌, ◌*◌, ◌^◌, ◌≤◌, ◌<◌, List, [], ◌∷◌, ◌++◌, length, replicate, nat_lt, nat_le, ◌&&◌, Bool, true, false, cond, refl, ap, sym, ◌∙◌, arith, length-append, inl, inr}
+use Rattle.std.specs.Prelude.{count_by}
+use Rattle.std.proofs.lemmas.Bool.{cases_Bool, cases_lt}
+use Rattle.std.proofs.lemmas.List.{length-replicate}
+use Rattle.std.proofs.lemmas.List.Sums.{sum_by-cons, count_by-le-length}
+use Rattle.nr_units.specs.Cells.{blank, trimmed}
+use Rattle.nr_units.specs.declared.cell.Cell.{Cell}
+use Rattle.nr_fill.specs.declared.piece.Join.{Join}
+use Rattle.nr_fill.specs.declared.piece.Join.TheVariants.{Gap, Soft, Hard}
+use Rattle.nr_fill.specs.declared.setting.Extra.{Extra}
+use Rattle.nr_fill.specs.Cut.{join_width, piece_width, pieces_width}
+use Rattle.nr_fill.specs.Pieces.{Piece}
+use Rattle.nr_fill.specs.Rows.{counted}
+use Rattle.nr_fill.specs.Spreading.{is_gap, gaps, extra_at, blanks_before, next_gap, cells_behind, cells_in_line}
+use Rattle.nr_fill.proofs.Trimming.{written, written-append_some, written-append_none, written-replicate, length-trimmed}
+
+extra_at-le : (x : Extra) (i : ℕ) → extra_at x i ≤ x.each + 1
+extra_at-le x i = elim (cases_Bool (nat_lt x.above i && nat_le i x.up_to)) [ inl wider ↦ rw wider (omega arith) | inr same ↦ rw same (omega arith) ]
+
+blanks_before-le : (x : Extra) (i : ℕ) (j : Join) → blanks_before x i j ≤ join_width j + x.each * cond (is_gap j) 1 0 + cond (is_gap j) 1 0
+blanks_before-le x i (Gap k) = let more = extra_at-le x i in omega arith
+blanks_before-le x i Soft = omega arith
+blanks_before-le x i Hard = omega arith
+
+length-cells_behind : (x : Extra) (i : ℕ) (ps : List Piece)
+    → length (cells_behind x i ps) ≤ pieces_width ps + x.each * count_by (λ (p : Piece). is_gap p.join) ps + count_by (λ (p : Piece). is_gap p.join) ps
+length-cells_behind x i [] = omega arith
+length-cells_behind x i (p ∷ ps) =
+    let blanks = replicate (blanks_before x i p.join) blank in
+    let rest = cells_behind x (next_gap i p.join) ps in
+    let more = length-cells_behind x (next_gap i p.join) ps in
+    let wide = sum_by-cons piece_width p ps in
+    let count = sum_by-cons (λ (q : Piece). cond (is_gap q.join) 1 0) p ps in
+    let here = blanks_before-le x i p.join in
+    let long = length-append (blanks ++ p.cells) rest in
+    let part = length-append blanks p.cells in
+    let many = length-replicate (blanks_before x i p.join) blank in
+    grind (arith, long, part, many, here, more, wide, count)
+
+-- a line is no longer than its pieces and what is spread over their gaps
+pub length-cells_in_line : (x : Extra) (ps : List Piece) → length (cells_in_line x ps) ≤ pieces_width ps + x.each * gaps ps + gaps ps
+length-cells_in_line x [] = omega arith
+length-cells_in_line x (p ∷ ps) =
+    let more = length-cells_behind x 1 ps in
+    let wide = sum_by-cons piece_width p ps in
+    omega (arith, length-append p.cells (cells_behind x 1 ps))
+
+-- the text's width behind blanks
+pub width_behind : (start : ℕ) (text : List Cell) → start + length text < 2 ^ 63
+    → counted (length (trimmed (replicate start blank ++ text))) - start ≡ length (trimmed text)
+width_behind start text small =
+    let all = length-trimmed (replicate start blank ++ text) in
+    let part = length-trimmed text in
+    let many = length-replicate start blank in
+    elim (cases_lt 0 (written text)) [
+      | inl some ↦ let is = written-append_some (replicate start blank) text some in omega arith
+      | inr none ↦ let is = written-append_none (replicate start blank) text (omega arith) in let zero = written-replicate start in omega arith
+    ]
+
+-- fewer gaps than pieces
+pub gaps-le : (ps : List Piece) → gaps ps ≤ length ps
+gaps-le [] = omega arith
+gaps-le (p ∷ ps) = let few = count_by-le-length (λ (q : Piece). is_gap q.join) ps in omega arith
