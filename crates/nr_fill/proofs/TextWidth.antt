@@ -36,7 +36,11 @@ length-cells_behind x i (p ∷ ps) =
     let long = length-append (blanks ++ p.cells) rest in
     let part = length-append blanks p.cells in
     let many = length-replicate (blanks_before x i p.join) blank in
-    grind (arith, long, part, many, here, more, wide, count)
+    let g : ℕ = cond (is_gap p.join) 1 0 in
+    let others : ℕ = count_by (λ (q : Piece). is_gap q.join) ps in
+    let product : x.each * count_by (λ (q : Piece). is_gap q.join) (p ∷ ps) ≡ x.each * g + x.each * others =
+    ap (λ k. x.each * k) count ∙ (let e : x.each * (g + others) ≡ x.each * g + x.each * others = omega arith in e) in
+    omega arith
 
 -- a line is no longer than its pieces and what is spread over their gaps
 pub length-cells_in_line : (x : Extra) (ps : List Piece) → length (cells_in_line x ps) ≤ pieces_width ps + x.each * gaps ps + gaps ps

@@ -48,14 +48,15 @@ right_at line n = line - n
 abbrev pub is_within : ℕ → ℕ → ℕ → Bool
 is_within start n column = nat_le start column && nat_lt column (start + n)
 
--- the cell at a column: of several parts that stand there the last one's
+-- the cell at a column of parts of which two begin further on: of several that stand there the last one's
+abbrev pub cell_of : ℕ → ℕ → List Cell → List Cell → List Cell → ℕ → Cell
+cell_of centre right ls cs rs column =
+    if is_within right (length rs) column then slice_index_or rs (column - right) blank
+    else (if is_within centre (length cs) column then slice_index_or cs (column - centre) blank
+    else slice_index_or ls column blank)
+
 abbrev pub cell_at : ℕ → Title → ℕ → Cell
-cell_at line t column =
-    let centre = centre_at line (length t.centre) in
-    let right = right_at line (length t.right) in
-    if is_within right (length t.right) column then slice_index_or t.right (column - right) blank
-    else (if is_within centre (length t.centre) column then slice_index_or t.centre (column - centre) blank
-    else slice_index_or t.left column blank)
+cell_at line t column = cell_of (centre_at line (length t.centre)) (right_at line (length t.right)) t.left t.centre t.right column
 
 -- how many columns the parts reach over
 abbrev pub reach : ℕ → Title → ℕ

@@ -1,9 +1,9 @@
 //! Titles of three parts. (CSTR 54, section 14.)
-ghost use Rattle.std.specs.Prelude.{◌≡◌, ◌++◌, ◌≤◌, ◌<◌, ◌^◌, List, length};
+ghost use Rattle.std.specs.Prelude.{◌≡◌, ◌++◌, ◌≤◌, ◌<◌, ◌^◌, List, length, is_none, Some, true};
 ghost use Rattle.nr_units.specs.declared.cell.Cell.{Cell as CellValue};
 ghost use Rattle.nr_fill.specs.Rows.{IsRow};
 ghost use Rattle.nr_fill.specs.TitleStates.{next_state, parted_title, title_of};
-ghost use Rattle.nr_fill.specs.Titles.{centre_at, right_at, title_row, cell_at};
+ghost use Rattle.nr_fill.specs.Titles.{Title, cell_of, is_within, title_or_empty, title_row};
 
 use crate::out::Out;
 use nr_units::cell::Cell;
@@ -49,28 +49,64 @@ pub(crate) struct TitleParts<'t> {
     right: &'t [Cell],
 }
 
+/// Whether a column is one of n from `start` on.
+#[inline]
+fn is_within(start: usize, n: usize, column: usize) -> bool
+    ensures { result ≡ is_within start n column }
+{
+    start <= column && column - start < n
+}
+
 impl<'t> TitleParts<'t> {
     /// The parts that the cells of a title are.
-    pub(crate) fn of(title: Option<TitleState>, cells: &'t [Cell]) -> Self {
-        let end = cells.len();
-        let (left, centre) = match title {
-            None | Some(TitleState::Left) => (end, end),
-            Some(TitleState::Centre(left)) => (left, end),
-            Some(TitleState::Right(left, centre)) => (left, left + centre),
+    pub(crate) fn of(title: Option<TitleState>, cells: &'t [Cell]) -> Self
+        requires within { (t : TitleState) → title ≡ Some t → parted_title t ≤ length cells.now }
+        requires none { is_none title ≡ true → length cells.now ≡ 0 }
+        ensures left { result.left.now ≡ (title_or_empty (title_of title cells.entry.now)).left }
+        ensures centre { result.centre.now ≡ (title_or_empty (title_of title cells.entry.now)).centre }
+        ensures right { result.right.now ≡ (title_or_empty (title_of title cells.entry.now)).right }
+    {
+        let Some(state) = title else {
+            return TitleParts {
+                left: cells,
+                centre: &[],
+                right: &[],
+            };
         };
-        TitleParts {
-            left: &cells[..left],
-            centre: &cells[left..centre],
-            right: &cells[centre..],
+        match state {
+            TitleState::Left => TitleParts {
+                left: cells,
+                centre: &[],
+                right: &[],
+            },
+            TitleState::Centre(left) => {
+                let (left, centre) = cells.split_at(left);
+                TitleParts {
+                    left,
+                    centre,
+                    right: &[],
+                }
+            }
+            TitleState::Right(left, centre) => {
+                let (left, others) = cells.split_at(left);
+                let (centre, right) = others.split_at(centre);
+                TitleParts {
+                    left,
+                    centre,
+                    right,
+                }
+            }
         }
     }
 
     /// The cell at a column of a title whose centre and right part begin so far on.
-    fn cell_at(self, column: usize, centre: usize, right: usize) -> Cell {
-        if right <= column && column - right < self.right.len() {
+    fn cell_at(self, centre: usize, right: usize, column: usize) -> Cell
+        ensures { result ≡ cell_of centre right self.entry.left.now self.entry.centre.now self.entry.right.now column }
+    {
+        if is_within(right, self.right.len(), column) {
             return self.right[column - right];
         }
-        if centre <= column && column - centre < self.centre.len() {
+        if is_within(centre, self.centre.len(), column) {
             return self.centre[column - centre];
         }
         if column < self.left.len() {
@@ -81,7 +117,15 @@ impl<'t> TitleParts<'t> {
 }
 
 /// Sets a title of this length in the row behind what stands there.
-pub(crate) fn set_parts(parts: TitleParts<'_>, line: usize, out: &mut Out<'_>) {
+pub(crate) fn set_parts(parts: TitleParts<'_>, line: usize, out: &mut Out<'_>)
+    requires line { line < 2 ^ 32 }
+    requires left { length parts.left.now < 2 ^ 32 }
+    requires centre { length parts.centre.now < 2 ^ 32 }
+    requires right { length parts.right.now < 2 ^ 32 }
+    ensures set { (row : List CellValue) → (t : Title) → t.left ≡ parts.entry.left.now → t.centre ≡ parts.entry.centre.now → t.right ≡ parts.entry.right.now
+        → IsRow row out.old → IsRow (row ++ title_row line t) out.new }
+    ensures room { out.new.room ≡ out.old.room }
+{
     let centre = line.saturating_sub(parts.centre.len()) / 2;
     let right = line.saturating_sub(parts.right.len());
     let reach = parts
@@ -89,6 +133,6 @@ pub(crate) fn set_parts(parts: TitleParts<'_>, line: usize, out: &mut Out<'_>) {
         .len()
         .max((centre + parts.centre.len()).max(right + parts.right.len()));
     for column in 0..reach {
-        out.push(parts.cell_at(column, centre, right));
+        out.push(parts.cell_at(centre, right, column));
     }
 }

@@ -1,30 +1,17 @@
-use Rattle.std.proofs.Common.{◌≡◌, arith}
+use Rattle.std.proofs.Common.{◌≡◌, ◌+◌, ◌≤◌, length, arith}
 use Rattle.nr_fill.proofs.title.TitleParts.of.Goals as goal
 
-pub overflow_add-left : goal.overflow_add-left
-overflow_add-left c = ?
+pub split_at-requires : goal.split_at-requires
+split_at-requires c =
+    let within = rw c.in-Centre.is at (c.requires.within c.in-Some.state c.in-Some.is) in
+    within
 
-pub slice_bounds-result-end : goal.slice_bounds-result-end
-slice_bounds-result-end c = ?
+pub split_at-requires-in-Right : goal.split_at-requires-in-Right
+split_at-requires-in-Right c =
+    let within = rw c.in-Right.is at (c.requires.within c.in-Some.state c.in-Some.is) in
+    omega arith
 
-pub offset_bounds-cells-left : goal.offset_bounds-cells-left
-offset_bounds-cells-left c = ?
-
-pub slice_bounds-result-count : goal.slice_bounds-result-count
-slice_bounds-result-count c = ?
-
-pub slice_bounds-result-start : goal.slice_bounds-result-start
-slice_bounds-result-start c = ?
-
-pub slice_bounds-result-end-2 : goal.slice_bounds-result-end-2
-slice_bounds-result-end-2 c = ?
-
-pub offset_bounds-cells-centre : goal.offset_bounds-cells-centre
-offset_bounds-cells-centre c = ?
-
-pub slice_bounds-result-count-2 : goal.slice_bounds-result-count-2
-slice_bounds-result-count-2 c = ?
-
-pub slice_bounds-result-start-2 : goal.slice_bounds-result-start-2
-slice_bounds-result-start-2 c = ?
-
+pub split_at-requires-in-Right-2 : goal.split_at-requires-in-Right-2
+split_at-requires-in-Right-2 c =
+    let within = rw c.in-Right.is at (c.requires.within c.in-Some.state c.in-Some.is) in
+    omega (arith, c.split_at-in-Right.ensures.back_len)
