@@ -19,7 +19,7 @@ use Rattle.nr_fill.specs.Laid.{Laid, read_cells}
 use Rattle.nr_fill.specs.Lying.{word_of, collected_of, cells_needed, IsWord, IsLine}
 use Rattle.nr_fill.specs.Pieces.{Piece, Word, Collected, cells_in, word_cells, word_length, text_cells, line_cells, is_nil, word_pieces, word_or_new, new_word}
 use Rattle.nr_fill.specs.TitleStates.{title_of, parted_title, next_state}
-use Rattle.nr_fill.specs.Titles.{Title, title_cells, next_part, with_cell}
+use Rattle.nr_fill.specs.Titles.{Title, title_cells, title_or_empty, next_part, with_cell}
 use Rattle.std.specs.Option.{option_map}
 
 -- ---- the measure
@@ -47,7 +47,7 @@ text_cells-collected_of {row} {pieces = pieces} {word = Some w} barred sentence 
     let parts = sum_by-take-drop (λ (p : Piece). length p.cells) row.pieces pieces in
     omega arith
 
-title_cells-title_of : (title : Option TitleState) (cells : List Cell) → ((t : TitleState) → title ≡ Some t → parted_title t ≤ length cells) → (is_none title ≡ true → length cells ≡ 0)
+pub title_cells-title_of : (title : Option TitleState) (cells : List Cell) → ((t : TitleState) → title ≡ Some t → parted_title t ≤ length cells) → (is_none title ≡ true → length cells ≡ 0)
     → title_cells (title_of title cells) ≡ length cells
 title_cells-title_of None cells some none = sym (none refl)
 title_cells-title_of (Some states.Left) cells some none = omega arith
@@ -431,3 +431,8 @@ column_pieces {row} {pieces = pieces} {word = None} {gap} barred sentence margin
 column_pieces {row} {pieces = pieces} {word = Some w} {gap} barred sentence margins turn h =
     let last : Piece = record { join = w.join; cells = row.last } in
     sym (append_assoc (take pieces row.pieces) (drop pieces row.pieces) (last ∷ [])) ∙ ap (λ ps. ps ++ last ∷ []) (take-append-drop pieces row.pieces)
+
+-- the parts of a title are no longer than it
+pub parts_within : (t : Option Title) → (length (title_or_empty t).left ≤ title_cells t) × (length (title_or_empty t).centre ≤ title_cells t) × (length (title_or_empty t).right ≤ title_cells t)
+parts_within None = (omega arith, omega arith, omega arith)
+parts_within (Some t) = (omega arith, omega arith, omega arith)
