@@ -1,8 +1,7 @@
 -- What the slices of a row of pieces hold once a part of it changes.
-use Rattle.std.proofs.Common.{◌≡◌, ℕ, ◌+◌, ◌-◌, ◌≤◌, ◌<◌, ◌^◌, min, List, [], ◌∷◌, ◌++◌, length, take, drop, replicate, refl, ap, ap₂, sym, ◌∙◌, append_assoc, arith, length-take, length-drop, length-append, zero, suc}
+use Rattle.std.proofs.Common.{◌≡◌, ℕ, ◌+◌, ◌-◌, ◌≤◌, ◌<◌, min, List, [], ◌∷◌, ◌++◌, length, take, drop, replicate, refl, ap, ap₂, sym, ◌∙◌, append_assoc, arith, length-take, length-drop, length-append, zero, suc}
 use Rattle.std.specs.List.{flat_map}
-use Rattle.std.proofs.Math.Seq.{take-append-add}
-use Rattle.std.proofs.lemmas.List.{take-append-drop, take_all, drop_all, take-take, take-append-le, drop-append-le, drop-drop, drop-take, length-take-le, length-replicate, drop_at}
+use Rattle.std.proofs.lemmas.List.{take-append-drop, take_all, drop_all, take-take, take-append-le, drop-append-le, drop-drop, drop-take, length-take-le, length-replicate}
 use Rattle.std.proofs.lemmas.List.Sums.{sum_by-take-drop, sum_by-take-le, sum_by-cons}
 use Rattle.nr_units.specs.declared.cell.Cell.{Cell}
 use Rattle.nr_fill.specs.declared.piece.Join.{Join}
@@ -102,9 +101,9 @@ pub laid_of_closed : {slots : List PieceSlot} {cells : List Cell} {slot_room cel
     → n ≤ read - pieced
     → laid_of (slots ++ record { join = join; len = n } ∷ []) cells (pieced + n) read room
     ≡ record (laid_of slots cells pieced read room) {
-        pieces = (laid_of slots cells pieced read room).pieces ++ record { join = join; cells = take n (laid_of slots cells pieced read room).last } ∷ [];
-        last = drop n (laid_of slots cells pieced read room).last;
-      }
+      pieces = (laid_of slots cells pieced read room).pieces ++ record { join = join; cells = take n (laid_of slots cells pieced read room).last } ∷ [];
+      last = drop n (laid_of slots cells pieced read room).last;
+    }
 laid_of_closed {slots} {cells} {pieced = pieced} {read = read} room join n h within =
     let m = read - (pieced + n) in
     let split : read - pieced ≡ n + m = omega arith in

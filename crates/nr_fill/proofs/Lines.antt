@@ -1,23 +1,22 @@
 -- What a line's fields tell of its value, and how they change.
-use Rattle.std.proofs.Common.{◌≡◌, ℕ, ◌+◌, ◌-◌, ◌*◌, ◌^◌, ◌≤◌, ◌<◌, max, List, [], ◌∷◌, ◌++◌, length, take, drop, replicate, sum_by, Option, None, Some, is_none, is_some, Bool, true, false, All, refl, ap, ap₂, sym, ◌∙◌, append_assoc, arith, length-take, length-drop, length-append, nat_lt, nat_le, eqb, get_or, subst, suc}
+use Rattle.std.proofs.Common.{◌≡◌, ℕ, ◌+◌, ◌-◌, ◌*◌, ◌^◌, ◌≤◌, ◌<◌, List, [], ◌∷◌, ◌++◌, length, take, drop, sum_by, Option, None, Some, is_none, is_some, Bool, true, false, All, refl, ap, sym, ◌∙◌, append_assoc, arith, length-take, length-drop, length-append, eqb, get_or, subst, suc}
 use Rattle.std.proofs.lemmas.List.{take-append-drop, take_all, drop_all, drop-drop, drop-take, take-take, length-take-le, take-append-le, drop-append-le}
 use Rattle.std.proofs.lemmas.Bool.{ne_eqb}
 use Rattle.std.proofs.lemmas.List.Elements.{All-drop, All-push}
-use Rattle.std.proofs.lemmas.List.Sums.{sum_by-cons, sum_by_push, sum_by-append, sum_by-take-drop, sum_by-take-le}
+use Rattle.std.proofs.lemmas.List.Sums.{sum_by-cons, sum_by_push, sum_by-take-drop}
 use Rattle.nr_units.specs.declared.cell.Cell.{Cell}
 use Rattle.nr_fill.specs.declared.line.WordState.{WordState}
 use Rattle.nr_fill.specs.declared.margins.Margins.{Margins}
 use Rattle.nr_fill.specs.declared.margins.Turn.{Turn}
 use Rattle.nr_fill.specs.declared.piece.Join.{Join}
 use Rattle.nr_fill.specs.declared.piece.Join.TheVariants.{Gap}
-use Rattle.nr_fill.specs.declared.stops.Pending.{Pending}
-use Rattle.nr_fill.specs.declared.stops.Pending.TheVariants.{Nothing, AtPoint, ForStop}
+use Rattle.nr_fill.specs.declared.stops.Pending.TheVariants.{Nothing}
 use Rattle.nr_fill.specs.declared.title.TitleState.{TitleState}
 use Rattle.nr_fill.specs.declared.title.TitleState.TheVariants as states
 use Rattle.nr_fill.specs.Cut.{join_width, piece_width, pieces_width}
 use Rattle.nr_fill.specs.Laid.{Laid, read_cells}
 use Rattle.nr_fill.specs.Lying.{word_of, collected_of, cells_needed, IsWord, IsLine}
-use Rattle.nr_fill.specs.Pieces.{Piece, Word, Collected, cells_in, word_cells, word_length, text_cells, line_cells, is_nil, word_pieces, word_or_new, new_word}
+use Rattle.nr_fill.specs.Pieces.{Piece, cells_in, text_cells, line_cells, is_nil, word_pieces, word_or_new, new_word}
 use Rattle.nr_fill.specs.TitleStates.{title_of, parted_title, next_state}
 use Rattle.nr_fill.specs.Titles.{Title, title_cells, title_or_empty, next_part, with_cell}
 use Rattle.std.specs.Option.{option_map}
@@ -246,7 +245,7 @@ pub is_line_ended : {row : Laid} {limit pieces wide : ℕ} {w : WordState} {gap 
     → pieces + more ≡ length row.pieces + 1 → all_wide ≡ wide + (w.wide + join_width w.join + length row.last)
     → pieces + more + read_cells row + length row.title ≤ limit
     → IsLine (record row { pieces = row.pieces ++ record { join = w.join; cells = take (length row.last) row.last } ∷ []; last = drop (length row.last) row.last })
-        limit (pieces + more) all_wide None gap title
+    limit (pieces + more) all_wide None gap title
 is_line_ended {row} {pieces = pieces} {w = w} more all_wide h more_is wide_is within =
     let p : Piece = record { join = w.join; cells = take (length row.last) row.last } in
     let iw = the_word h in

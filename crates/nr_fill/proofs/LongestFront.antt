@@ -1,14 +1,14 @@
 -- The longest front of the pieces that fits a line.
-use Rattle.std.proofs.Common.{◌≡◌, ℕ, ◌+◌, ◌-◌, ◌≤◌, ◌<◌, max, List, [], ◌∷◌, length, take, drop, get_or, zero, suc, refl, sym, ap, ◌∙◌, arith, true, false, nat_le, inl, inr}
-use Rattle.std.proofs.lemmas.Bool.{leb-true, le-leb, lt-leb, cases_Bool, cases_lt}
+use Rattle.std.proofs.Common.{◌≡◌, ℕ, ◌+◌, ◌≤◌, ◌<◌, List, [], ◌∷◌, length, take, drop, get_or, zero, suc, refl, ap, arith, true, false, nat_le, inl, inr}
+use Rattle.std.proofs.lemmas.Bool.{lt-leb, cases_lt}
 use Rattle.std.proofs.lemmas.List.{length-take-le, get_or-take, take-take, drop_all}
 use Rattle.std.proofs.lemmas.List.Sums.{sum_by-take-le, sum_by-cons}
 use Rattle.nr_units.specs.declared.cell.Cell.{Cell}
 use Rattle.nr_fill.specs.declared.piece.PieceSlot.{PieceSlot}
-use Rattle.nr_fill.specs.Cut.{join_width, hyphen_width, hyphen_before, fits, most_that_fit, cut, width, piece_width, front_width}
+use Rattle.nr_fill.specs.Cut.{join_width, hyphen_width, hyphen_before, fits, most_that_fit, width, piece_width, front_width}
 use Rattle.nr_fill.specs.Pieces.{Piece}
 use Rattle.nr_fill.specs.Slots.{pieces_of, cells_in_slots, slots_width}
-use Rattle.nr_fill.proofs.PiecesOf.{length-pieces_of, take-pieces_of, pieces_width-pieces_of}
+use Rattle.nr_fill.proofs.PiecesOf.{take-pieces_of, pieces_width-pieces_of}
 
 -- how many fit where this many do
 pub most_that_fit_yes : (line : ℕ) (ps : List Piece) (n k : ℕ) → n ≡ suc k → fits line n ps ≡ true → most_that_fit line ps n ≡ n

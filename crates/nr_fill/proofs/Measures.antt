@@ -1,5 +1,5 @@
 -- What is added to a line's measure.
-use Rattle.std.proofs.Common.{◌≡◌, ℕ, ◌+◌, ◌-◌, ◌≤◌, ◌<◌, List, [], ◌∷◌, ◌++◌, length, take, drop, replicate, sum_by, Option, None, Some, Result, Ok, Err, Bool, true, false, refl, ap, sym, ◌∙◌, arith, length-append, length-take, length-drop, nat_lt, eqb}
+use Rattle.std.proofs.Common.{◌≡◌, ℕ, ◌+◌, ◌-◌, ◌≤◌, ◌<◌, List, [], ◌∷◌, ◌++◌, length, take, drop, replicate, sum_by, Option, None, Some, Result, Ok, Err, false, refl, ap, arith, length-append, eqb}
 use Rattle.std.proofs.lemmas.Bool.{lt-ltb, le-ltb, ne_eqb}
 use Rattle.std.proofs.lemmas.List.{length-replicate, take-append-drop}
 use Rattle.std.proofs.lemmas.List.Sums.{sum_by_push, sum_by-append, sum_by-cons}
@@ -13,7 +13,7 @@ use Rattle.nr_fill.specs.declared.stops.Pending.TheVariants.{Nothing, AtPoint, F
 use Rattle.nr_fill.specs.declared.stops.StopKind.{StopKind}
 use Rattle.std.specs.Option.{option_map}
 use Rattle.nr_fill.specs.Lined.{Lined, afforded}
-use Rattle.nr_fill.specs.Pieces.{Piece, Word, Collected, cells_in, word_or_new, with_word, in_word, word_length, word_cells, word_pieces, text_cells, line_cells, ended, ended_at, append, add_cell, add_cell_behind, add_blank, add_blank_to, add_cells, end_word}
+use Rattle.nr_fill.specs.Pieces.{Piece, Word, Collected, cells_in, word_or_new, with_word, in_word, word_length, word_cells, word_pieces, text_cells, line_cells, ended, ended_at, add_cell, add_blank, add_cells, end_word}
 use Rattle.nr_fill.specs.Tabs.{with_field, field_fill, pending_fill, fill_count, filled_by, with_field_filled}
 
 -- what fits is afforded
@@ -81,8 +81,13 @@ word_length-filled_by (AtPoint p) w = omega arith
 word_length-filled_by (ForStop f) w =
     let n = fill_count f (length w.last.cells - f.before) in
     let whole = ap length (take-append-drop f.before w.last.cells) in
-    omega (arith, length-append (take f.before w.last.cells ++ replicate n f.fill) (drop f.before w.last.cells), length-append (take f.before w.last.cells) (replicate n f.fill),
-    length-append (take f.before w.last.cells) (drop f.before w.last.cells), length-replicate n f.fill)
+    omega (
+      arith,
+      length-append (take f.before w.last.cells ++ replicate n f.fill) (drop f.before w.last.cells),
+      length-append (take f.before w.last.cells) (replicate n f.fill),
+      length-append (take f.before w.last.cells) (drop f.before w.last.cells),
+      length-replicate n f.fill,
+    )
 
 word_cells-filled : (w : Option Word) (c : Collected) → c.word ≡ w → word_cells (with_field_filled c).word ≡ word_cells w + field_fill w
 word_cells-filled None c e = rw e refl

@@ -1,8 +1,7 @@
 -- What waits behind the piece that is being read, as it changes.
-use Rattle.std.proofs.Common.{◌≡◌, ℕ, ◌+◌, ◌-◌, ◌≤◌, ◌<◌, ◌^◌, max, nat_lt, ◌&&◌, List, length, Option, None, Some, Bool, true, false, is_some, refl, arith, inl, inr, drop, length-drop}
+use Rattle.std.proofs.Common.{◌≡◌, ℕ, ◌+◌, ◌-◌, ◌≤◌, ◌<◌, ◌^◌, nat_lt, ◌&&◌, length, Option, Some, true, false, refl, arith, inl, inr, length-drop}
 use Rattle.std.proofs.lemmas.Bool.{cases_Bool, cases_lt, lt-ltb, le-ltb, ltb-true}
 use Rattle.std.proofs.lemmas.List.Sums.{sum_by-take-drop}
-use Rattle.nr_units.specs.declared.cell.Cell.{Cell}
 use Rattle.nr_fill.specs.declared.line.WordState.{WordState}
 use Rattle.nr_fill.specs.declared.piece.Behind.{Behind}
 use Rattle.nr_fill.specs.declared.piece.Behind.TheVariants.{Letter, Hyphen, Dash}
@@ -11,10 +10,10 @@ use Rattle.nr_fill.specs.declared.piece.Point.TheVariants as points
 use Rattle.nr_fill.specs.declared.stops.Pending.{Pending}
 use Rattle.nr_fill.specs.declared.stops.Pending.TheVariants.{Nothing, AtPoint, ForStop}
 use Rattle.nr_fill.specs.declared.title.TitleState.{TitleState}
-use Rattle.nr_fill.specs.Cut.{join_width, piece_width, pieces_width}
+use Rattle.nr_fill.specs.Cut.{join_width, piece_width}
 use Rattle.nr_fill.specs.Laid.{Laid, read_cells}
-use Rattle.nr_fill.specs.Lying.{cells_needed, IsWord, IsLine}
-use Rattle.nr_fill.specs.Pieces.{Piece, cells_in, pending_behind, pending_soft, pending_without_point, is_for_stop, join_at, is_inside}
+use Rattle.nr_fill.specs.Lying.{cells_needed, IsLine}
+use Rattle.nr_fill.specs.Pieces.{Piece, pending_behind, pending_soft, pending_without_point, is_for_stop, join_at, is_inside}
 use Rattle.nr_fill.proofs.Lines.{the_word, is_line_word, widths_small}
 
 pub needed_blanks : (p : Pending) (b n : ℕ) → cells_needed p b ≤ n → b ≤ n

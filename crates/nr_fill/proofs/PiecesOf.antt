@@ -1,7 +1,6 @@
 -- The pieces that slots cut off a row of cells.
-use Rattle.std.proofs.Common.{◌≡◌, ℕ, ◌+◌, ◌-◌, ◌*◌, ◌≤◌, ◌<◌, List, [], ◌∷◌, ◌++◌, length, take, drop, sum_by, zero, suc, refl, ap, ap₂, sym, ◌∙◌, arith, length-take, length-drop, get_or, cond}
+use Rattle.std.proofs.Common.{◌≡◌, ℕ, ◌+◌, ◌≤◌, ◌<◌, List, [], ◌∷◌, ◌++◌, length, take, drop, zero, suc, refl, ap, sym, ◌∙◌, arith, length-take, length-drop, get_or, cond}
 use Rattle.std.specs.Prelude.{count_by}
-use Rattle.std.specs.List.{flat_map}
 use Rattle.std.proofs.lemmas.List.{take-append-le, drop-append-le, drop-drop}
 use Rattle.std.proofs.lemmas.List.Sums.{sum_by-cons}
 use Rattle.nr_units.specs.declared.cell.Cell.{Cell}

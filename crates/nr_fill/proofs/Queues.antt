@@ -1,5 +1,5 @@
 -- Items of a slice between two places.
-use Rattle.std.proofs.Common.{◌≡◌, ℕ, ◌+◌, ◌-◌, ◌≤◌, List, [], ◌∷◌, ◌++◌, length, take, drop, replicate, refl, ap, ap₂, sym, ◌∙◌, arith, length-drop, length-append, append_assoc}
+use Rattle.std.proofs.Common.{◌≡◌, ℕ, ◌+◌, ◌-◌, ◌≤◌, List, ◌++◌, length, take, drop, replicate, ap, ap₂, sym, ◌∙◌, arith, length-drop, length-append, append_assoc}
 use Rattle.std.proofs.Math.Seq.{paste}
 use Rattle.std.proofs.lemmas.List.{take-take, take-append-le, take_at, drop_at, length-take-le, drop-drop, drop-append-le, drop-take, length-replicate}
 use Rattle.std.proofs.lemmas.List.Edits.{take-paste}

@@ -1,5 +1,5 @@
 -- Pieces set in a row one after another.
-use Rattle.std.proofs.Common.{◌≡◌, ℕ, ◌+◌, ◌≤◌, ◌<◌, List, [], ◌∷◌, ◌++◌, length, take, drop, replicate, get_or, refl, ap, ap₂, sym, ◌∙◌, append_assoc, arith}
+use Rattle.std.proofs.Common.{◌≡◌, ℕ, ◌+◌, ◌≤◌, ◌<◌, List, [], ◌∷◌, ◌++◌, length, take, drop, replicate, get_or, refl, ap, sym, ◌∙◌, append_assoc, arith}
 use Rattle.std.proofs.lemmas.List.{append-nil, drop_more, drop_all, drop-drop}
 use Rattle.std.proofs.lemmas.List.Sums.{sum_by-le-sum_by}
 use Rattle.nr_units.specs.Cells.{blank}
@@ -24,7 +24,7 @@ cells_in_line_first x (slot ∷ slots) cells d h = refl
 pub set_more : (x : Extra) (gap : ℕ) (others : List PieceSlot) (i : ℕ) (d : PieceSlot) (cells : List Cell) (taken : ℕ) (done whole : List Cell) → i < length others
     → done ++ cells_behind x gap (pieces_of (drop i others) (drop taken cells)) ≡ whole
     → (done ++ (replicate (blanks_before x gap (get_or others i d).join) blank ++ take (get_or others i d).len (drop taken cells)))
-        ++ cells_behind x (next_gap gap (get_or others i d).join) (pieces_of (drop (i + 1) others) (drop (taken + (get_or others i d).len) cells)) ≡ whole
+    ++ cells_behind x (next_gap gap (get_or others i d).join) (pieces_of (drop (i + 1) others) (drop (taken + (get_or others i d).len) cells)) ≡ whole
 set_more x gap others i d cells taken done whole below h =
     let slot = get_or others i d in
     let blanks = replicate (blanks_before x gap slot.join) blank in

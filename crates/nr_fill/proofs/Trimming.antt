@@ -1,5 +1,5 @@
 -- Rows of cells, and the blanks at their ends.
-use Rattle.std.proofs.Common.{◌≡◌, ℕ, ◌+◌, ◌-◌, ◌^◌, ◌≤◌, ◌<◌, min, List, [], ◌∷◌, ◌++◌, length, take, drop, replicate, get_or, reverse, refl, ap, ap₂, sym, ◌∙◌, arith, length-take, length-append, add-zero, true, false, cond, eqb, ltb, inl, inr}
+use Rattle.std.proofs.Common.{◌≡◌, ℕ, ◌+◌, ◌-◌, ◌^◌, ◌<◌, min, List, ◌++◌, length, take, replicate, get_or, reverse, refl, ap, ap₂, sym, ◌∙◌, arith, length-take, length-append, true, false, cond, eqb, inl, inr}
 use Rattle.std.specs.List.{suffix_len, prefix_len}
 use Rattle.std.proofs.Math.Seq.{take-append-add}
 use Rattle.std.proofs.lemmas.Bool.{cases_lt, eq-eqb, ne_eqb}
@@ -42,7 +42,7 @@ written-append_none xs ys none =
 pub written-replicate : (n : ℕ) → written (replicate n blank) ≡ 0
 written-replicate n =
     let all = suffix_len_is is_blank (replicate n blank) 0 blank (omega arith)
-      (λ k low high. ap is_blank (get_or-replicate n k blank blank (omega (arith, length-replicate n blank)))) (λ some. absurd (omega arith)) in
+    (λ k low high. ap is_blank (get_or-replicate n k blank blank (omega (arith, length-replicate n blank)))) (λ some. absurd (omega arith)) in
     omega arith
 
 -- what was trimmed ends with no blank
@@ -99,15 +99,23 @@ written_more xs ys =
 
 -- a row with more cells
 pub row_extended : (room : ℕ) (xs ys : List Cell) (m : ℕ) → m ≡ min (length ys) (room - length (take room xs))
-    → ◌≡◌ {A = Row} (record { kept = take room xs ++ take m ys; count = min (counted (length xs) + length ys) (2 ^ 64 - 1);
-        written = written_behind (counted (length (trimmed xs))) (counted (length xs)) (written ys); room = room }) (row_of room (xs ++ ys))
+    → ◌≡◌ {A = Row} (record {
+      kept = take room xs ++ take m ys;
+      count = min (counted (length xs) + length ys) (2 ^ 64 - 1);
+      written = written_behind (counted (length (trimmed xs))) (counted (length xs)) (written ys);
+      room = room;
+    }) (row_of room (xs ++ ys))
 row_extended room xs ys m m_is =
     same_row (ap (λ n. take room xs ++ take n ys) m_is ∙ sym (take_append room xs ys)) (omega (arith, length-append xs ys)) (written_more xs ys) refl
 
 -- a row with more blanks
 pub row_blanked : (room : ℕ) (xs : List Cell) (n m : ℕ) → m ≡ min n (room - length (take room xs))
-    → ◌≡◌ {A = Row} (record { kept = take room xs ++ replicate m blank; count = min (counted (length xs) + n) (2 ^ 64 - 1);
-        written = counted (length (trimmed xs)); room = room }) (row_of room (xs ++ replicate n blank))
+    → ◌≡◌ {A = Row} (record {
+      kept = take room xs ++ replicate m blank;
+      count = min (counted (length xs) + n) (2 ^ 64 - 1);
+      written = counted (length (trimmed xs));
+      room = room;
+    }) (row_of room (xs ++ replicate n blank))
 row_blanked room xs n m m_is =
     let many = length-replicate n blank in
     let part : m ≡ min (length (replicate n blank)) (room - length (take room xs)) = omega arith in
@@ -119,8 +127,12 @@ row_blanked room xs n m m_is =
 
 -- a row without the blanks at its end
 pub row_trimmed : (room : ℕ) (xs : List Cell) → room < 2 ^ 32
-    → ◌≡◌ {A = Row} (record { kept = take (min (counted (length (trimmed xs))) (length (take room xs))) (take room xs); count = counted (length (trimmed xs));
-        written = counted (length (trimmed xs)); room = room }) (row_of room (trimmed xs))
+    → ◌≡◌ {A = Row} (record {
+      kept = take (min (counted (length (trimmed xs))) (length (take room xs))) (take room xs);
+      count = counted (length (trimmed xs));
+      written = counted (length (trimmed xs));
+      room = room;
+    }) (row_of room (trimmed xs))
 row_trimmed room xs small =
     let w = written xs in
     let long = length-trimmed xs in

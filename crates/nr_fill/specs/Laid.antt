@@ -1,5 +1,5 @@
 -- Pieces one after another, behind them the cells of one that has no end yet, and those of a title.
-use Rattle.std.specs.Prelude.{◌≡◌, ℕ, ◌+◌, ◌-◌, ◌≤◌, ◌<◌, ◌^◌, min, List, [], length, take, drop}
+use Rattle.std.specs.Prelude.{◌≡◌, ℕ, ◌+◌, ◌-◌, ◌≤◌, ◌<◌, ◌^◌, List, length, take, drop}
 use Rattle.nr_units.specs.declared.cell.Cell.{Cell}
 use Rattle.nr_fill.specs.declared.piece.PieceSlot.{PieceSlot}
 use Rattle.nr_fill.specs.Pieces.{Piece, cells_in}

@@ -1,14 +1,13 @@
 -- Setting a line: where its cells stand in the row. (CSTR 54, sections 4.1 and 4.2; on indents section 6.)
-use Rattle.std.specs.Prelude.{ℕ, ◌+◌, ◌-◌, ◌/◌, Bool, true, false, ◌&&◌, nat_lt, if◌then◌else◌, List, [], ◌∷◌, ◌++◌, length, take, drop, replicate}
+use Rattle.std.specs.Prelude.{ℕ, ◌+◌, ◌-◌, ◌/◌, Bool, false, ◌&&◌, nat_lt, if◌then◌else◌, List, ◌++◌, length, take, drop, replicate}
 use Rattle.nr_units.specs.Cells.{blank, trimmed}
 use Rattle.nr_units.specs.declared.cell.Cell.{Cell}
 use Rattle.nr_fill.specs.declared.margins.Margins.{Margins}
-use Rattle.nr_fill.specs.declared.margins.Turn.{Turn}
 use Rattle.nr_fill.specs.declared.setting.Align.{Align}
 use Rattle.nr_fill.specs.declared.setting.Align.TheVariants.{Left, Spread, Right, Centre}
 use Rattle.nr_fill.specs.declared.setting.Extra.{Extra}
 use Rattle.nr_fill.specs.declared.setting.Setting.{Setting}
-use Rattle.nr_fill.specs.Pieces.{Piece, Collected, is_nil}
+use Rattle.nr_fill.specs.Pieces.{Collected, is_nil}
 use Rattle.nr_fill.specs.Cut.{front_width, hyphen_before, cut}
 use Rattle.nr_fill.specs.Spreading.{gaps, no_extra, shared, other_turn, cells_in_line}
 

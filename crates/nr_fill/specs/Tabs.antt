@@ -1,5 +1,5 @@
 -- Tabs and leaders. (CSTR 54, section 9.)
-use Rattle.std.specs.Prelude.{ℕ, ◌+◌, ◌-◌, ◌/◌, Bool, true, false, ◌&&◌, nat_lt, if◌then◌else◌, List, [], ◌∷◌, ◌++◌, length, take, drop, replicate, find, Option, None, Some}
+use Rattle.std.specs.Prelude.{ℕ, ◌-◌, ◌/◌, Bool, false, nat_lt, if◌then◌else◌, List, ◌++◌, length, take, drop, replicate, find, Option, None, Some}
 use Rattle.nr_units.specs.declared.cell.Cell.{Cell}
 use Rattle.nr_fill.specs.declared.margins.Margins.{Margins}
 use Rattle.nr_fill.specs.declared.stops.Field.{Field}
@@ -8,7 +8,7 @@ use Rattle.nr_fill.specs.declared.stops.Pending.TheVariants.{Nothing, ForStop}
 use Rattle.nr_fill.specs.declared.stops.Stop.{Stop}
 use Rattle.nr_fill.specs.declared.stops.StopKind.{StopKind}
 use Rattle.nr_fill.specs.declared.stops.StopKind.TheVariants.{Left, Right, Centre}
-use Rattle.nr_fill.specs.Pieces.{Piece, Word, Collected, word_or_new, word_pieces, with_word, in_word, add_cells}
+use Rattle.nr_fill.specs.Pieces.{Word, Collected, word_or_new, word_pieces, with_word, in_word, add_cells}
 use Rattle.nr_fill.specs.Cut.{width}
 
 -- how many cells stand before the next one of the word, counted from the indent

@@ -215,7 +215,12 @@ impl<'a> PieceRow<'a> {
         ensures set { (row : List CellValue) → IsRow row out.old → IsRow (row ++ cells_in_line extra (take n self.now.pieces)) out.new }
         ensures room { out.new.room ≡ out.old.room }
     {
-        set_pieces(&self.slots.as_slice()[..n], self.cells.as_slice(), extra, out);
+        set_pieces(
+            &self.slots.as_slice()[..n],
+            self.cells.as_slice(),
+            extra,
+            out,
+        );
     }
 
     /// Takes the first n pieces away, which have so many cells.

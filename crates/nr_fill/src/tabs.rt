@@ -57,7 +57,13 @@ impl<'a> Line<'a> {
     /// Reads a tab or leader: as part of a word it moves to the first stop beyond the column, by cells `fill` as one
     /// addition. With `aligned`, as in no-fill mode, a right or centring stop instead takes the text up to the next
     /// tab, leader or line end; `end_field` is to be called there. It fails where the cells would pass the limit.
-    pub fn tab(&mut self, margins: Margins, stops: &[Stop], aligned: bool, fill: Cell) -> Result<(), LineCells>
+    pub fn tab(
+        &mut self,
+        margins: Margins,
+        stops: &[Stop],
+        aligned: bool,
+        fill: Cell,
+    ) -> Result<(), LineCells>
         ensures result { result ≡ afforded (record self.old { collected = tabbed margins stops.now aligned fill self.old.collected }) }
         ensures ok { OnOk result (self.new ≡ record self.old { collected = tabbed margins stops.now aligned fill self.old.collected }) }
         ensures err { OnErr result (self.new ≡ self.old) }

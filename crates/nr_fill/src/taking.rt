@@ -51,7 +51,9 @@ impl<'a> Line<'a> {
         ensures width { result ≡ set_width setting self.old.collected (cut_of self.old.collected) }
         ensures rest { self.new ≡ record self.old { collected = behind next setting.align self.old.collected (cut_of self.old.collected) } }
     {
-        let n = self.row.longest_front(self.pieces, self.margins.length as usize);
+        let n = self
+            .row
+            .longest_front(self.pieces, self.margins.length as usize);
         self.take_front(n, next, setting, out)
     }
 

@@ -74,7 +74,11 @@ const CASES: [Case; 13] = [
         name: "a cut behind a minus sign prints nothing",
         length: 6,
         text: b"xx ab-cdef -gh-",
-        lines: &[(Align::Spread, b"xx ab-"), (Align::Spread, b"cdef"), (Align::Left, b"-gh-")],
+        lines: &[
+            (Align::Spread, b"xx ab-"),
+            (Align::Spread, b"cdef"),
+            (Align::Left, b"-gh-"),
+        ],
     },
     Case {
         name: "of two points at one place a hard one is left",
@@ -239,7 +243,12 @@ fn indent_and_offset(rt: HostRuntime) -> Result<(), Fail> {
 }
 
 /// A line of no-fill mode: `\t` is a tab, `\x01` a leader.
-fn read_as_it_is(line: &mut Line<'_>, margins: Margins, stops: &[Stop], text: &[u8]) -> Result<(), LineCells> {
+fn read_as_it_is(
+    line: &mut Line<'_>,
+    margins: Margins,
+    stops: &[Stop],
+    text: &[u8],
+) -> Result<(), LineCells> {
     for byte in text {
         match *byte {
             b' ' => line.put_blank(margins)?,
@@ -357,7 +366,11 @@ fn lines_with_tabs(rt: HostRuntime) -> Result<(), Fail> {
             align: Align::Left,
             offset: 0,
         };
-        assert!(rt; gives(&mut line, margins, setting, case.row), "{:?}", case.text);
+        assert!(rt;
+            gives(&mut line, margins, setting, case.row),
+            "{:?}",
+            case.text
+        );
     }
     Ok(())
 }
@@ -374,7 +387,10 @@ fn the_limit_is_exact(rt: HostRuntime) -> Result<(), Fail> {
     read(&mut line, margins, b"abc".as_slice())?;
     line.widen_gap();
     line.put(margins, cell(b'd'), Behind::Letter)?;
-    assert_eq!(rt; line.put(margins, cell(b'e'), Behind::Letter), Err(LineCells));
+    assert_eq!(rt;
+        line.put(margins, cell(b'e'), Behind::Letter),
+        Err(LineCells)
+    );
     assert_eq!(rt; line.end_word(), Err(LineCells));
     assert_eq!(rt; line.put_cells(margins, cell(b'e'), 1), Err(LineCells));
     assert_eq!(rt; line.measure(), 5);

@@ -128,10 +128,7 @@ pub(crate) fn set_parts(parts: TitleParts<'_>, line: usize, out: &mut Out<'_>)
 {
     let centre = line.saturating_sub(parts.centre.len()) / 2;
     let right = line.saturating_sub(parts.right.len());
-    let reach = parts
-        .left
-        .len()
-        .max((centre + parts.centre.len()).max(right + parts.right.len()));
+    let reach = parts.left.len().max((centre + parts.centre.len()).max(right + parts.right.len()));
     for column in 0..reach {
         out.push(parts.cell_at(centre, right, column));
     }

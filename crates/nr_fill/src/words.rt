@@ -97,7 +97,11 @@ impl<'a> Line<'a> {
         if self.word.is_some() {
             return;
         }
-        self.margins = if self.pieces == 0 { margins } else { self.margins };
+        self.margins = if self.pieces == 0 {
+            margins
+        } else {
+            self.margins
+        };
         self.word = Some(WordState::new(self.gap));
         self.gap = 0;
     }

@@ -1,8 +1,8 @@
-use Rattle.std.proofs.Common.{◌≡◌, ◌+◌, ◌-◌, ◌<◌, ◌≤◌, max, length, drop, get_or, true, false, ap, sym, ◌∙◌, arith}
+use Rattle.std.proofs.Common.{◌≡◌, ◌+◌, ◌-◌, ◌<◌, max, length, get_or, true, ap, sym, ◌∙◌, arith}
 use Rattle.std.proofs.lemmas.Bool.{le-leb, lt-leb}
 use Rattle.std.proofs.lemmas.List.Sums.{sum_by_more}
 use Rattle.nr_fill.specs.declared.piece.PieceSlot.{PieceSlot}
-use Rattle.nr_fill.specs.Cut.{join_width, hyphen_width, hyphen_before, fits, most_that_fit, cut}
+use Rattle.nr_fill.specs.Cut.{join_width, hyphen_width, fits, most_that_fit, cut}
 use Rattle.nr_fill.specs.Slots.{blank_slot, pieces_of}
 use Rattle.nr_fill.proofs.PiecesOf.{length-pieces_of}
 use Rattle.nr_fill.proofs.LongestFront.{most_that_fit_yes, most_that_fit_no, most_that_fit_stays, hyphen_at, hyphen_at_end, too_wide, fits_front}
@@ -44,31 +44,31 @@ loop-count-preserved c =
 pub returns-then-width-line-2-clause-pieces : goal.returns-then-width-line-2-clause-pieces
 returns-then-width-line-2-clause-pieces c =
     λ cells h.
-      let loop = c.loop-count in
-      let slots = c.args.slots.now in
-      let ps = pieces_of slots cells in
-      let long = length-pieces_of slots cells in
-      let some = loop.invariant.some in
-      let all : loop.count ≡ length slots = elim c.loop-count-test.branch [
-        | then-loop-count-test+else-width-line w ↦ absurd (omega (arith, w.if-width-line.false, c.if-width-line-2.true))
-        | else-loop-count-test w ↦ omega (arith, w.loop-count-test.false, loop.invariant.within)
-      ] in
-      let is = fits_front c.args.line slots cells loop.count loop.width 0 blank_slot some loop.invariant.within h loop.invariant.wide (hyphen_at_end ps loop.count (omega arith)) in
-      let yes : fits c.args.line loop.count ps ≡ true = is ∙ le-leb _ _ (omega (arith, c.if-width-line-2.true)) in
-      let most = most_that_fit_yes c.args.line ps loop.count (loop.count - 1) (omega arith) yes in
-      let end : length ps ≡ loop.count = omega arith in
-      let cut_is : cut c.args.line ps ≡ max 1 loop.count = ap (λ n. max 1 (most_that_fit c.args.line ps n)) end ∙ ap (max 1) most in
-      omega arith
+    let loop = c.loop-count in
+    let slots = c.args.slots.now in
+    let ps = pieces_of slots cells in
+    let long = length-pieces_of slots cells in
+    let some = loop.invariant.some in
+    let all : loop.count ≡ length slots = elim c.loop-count-test.branch [
+      | then-loop-count-test+else-width-line w ↦ absurd (omega (arith, w.if-width-line.false, c.if-width-line-2.true))
+      | else-loop-count-test w ↦ omega (arith, w.loop-count-test.false, loop.invariant.within)
+    ] in
+    let is = fits_front c.args.line slots cells loop.count loop.width 0 blank_slot some loop.invariant.within h loop.invariant.wide (hyphen_at_end ps loop.count (omega arith)) in
+    let yes : fits c.args.line loop.count ps ≡ true = is ∙ le-leb _ _ (omega (arith, c.if-width-line-2.true)) in
+    let most = most_that_fit_yes c.args.line ps loop.count (loop.count - 1) (omega arith) yes in
+    let end : length ps ≡ loop.count = omega arith in
+    let cut_is : cut c.args.line ps ≡ max 1 loop.count = ap (λ n. max 1 (most_that_fit c.args.line ps n)) end ∙ ap (max 1) most in
+    omega arith
 
 pub returns-else-width-line-2-clause-pieces : goal.returns-else-width-line-2-clause-pieces
 returns-else-width-line-2-clause-pieces c =
     λ cells h.
-      let loop = c.loop-count in
-      let slots = c.args.slots.now in
-      let ps = pieces_of slots cells in
-      let long = length-pieces_of slots cells in
-      let some = loop.invariant.some in
-      let within = loop.invariant.within in
-      let none = too_wide c.args.line slots cells loop.count loop.width blank_slot some h loop.invariant.wide c.if-width-line-2.false in
-      let stays = most_that_fit_stays c.args.line ps (length ps) (loop.count - 1) (omega arith) (λ m low high. none m (omega arith) (omega arith)) in
-      loop.invariant.most cells h ∙ ap (max 1) (sym stays)
+    let loop = c.loop-count in
+    let slots = c.args.slots.now in
+    let ps = pieces_of slots cells in
+    let long = length-pieces_of slots cells in
+    let some = loop.invariant.some in
+    let within = loop.invariant.within in
+    let none = too_wide c.args.line slots cells loop.count loop.width blank_slot some h loop.invariant.wide c.if-width-line-2.false in
+    let stays = most_that_fit_stays c.args.line ps (length ps) (loop.count - 1) (omega arith) (λ m low high. none m (omega arith) (omega arith)) in
+    loop.invariant.most cells h ∙ ap (max 1) (sym stays)

@@ -1,12 +1,11 @@
-use Rattle.std.proofs.Common.{◌≡◌, ◌+◌, ◌-◌, ◌≤◌, List, ◌++◌, length, take, drop, replicate, get_or, refl, ap, sym, ◌∙◌, append_assoc, arith, subst}
+use Rattle.std.proofs.Common.{◌≡◌, ◌+◌, ◌-◌, ◌++◌, length, take, drop, replicate, get_or, ap, ◌∙◌, append_assoc, arith, subst}
 use Rattle.std.proofs.lemmas.List.{take_rest}
 use Rattle.std.proofs.lemmas.List.Sums.{sum_by-drop_more}
 use Rattle.nr_units.specs.Cells.{blank}
-use Rattle.nr_units.specs.declared.cell.Cell.{Cell}
 use Rattle.nr_fill.specs.declared.piece.PieceSlot.{PieceSlot}
 use Rattle.nr_fill.specs.Rows.{IsRow}
 use Rattle.nr_fill.specs.Slots.{blank_slot, pieces_of}
-use Rattle.nr_fill.specs.Spreading.{blanks_before, next_gap, cells_behind, cells_in_line}
+use Rattle.nr_fill.specs.Spreading.{blanks_before, cells_in_line}
 use Rattle.nr_fill.proofs.SettingPieces.{cells_in_line_first, set_more, set_all_pieces}
 use Rattle.nr_fill.proofs.cutting.set_pieces.Goals as goal
 
@@ -47,16 +46,18 @@ loop-slot-preserved c =
           let joined = c.set_join-gap.ensures.set (row ++ old.0) old.1 in
           let longer = c.extend-in-loop-slot.ensures.extended ((row ++ old.0) ++ blanks) joined in
           let same : ((row ++ old.0) ++ blanks) ++ take ((loop.taken + slot.len) - loop.taken) (drop loop.taken cells) ≡ row ++ (old.0 ++ (blanks ++ piece)) =
-          ap (λ n. ((row ++ old.0) ++ blanks) ++ take n (drop loop.taken cells)) part ∙ append_assoc (row ++ old.0) blanks piece ∙ append_assoc row old.0 (blanks ++ piece) in
-          (old.0 ++ (blanks ++ piece), subst (λ zs. IsRow zs c.extend-in-loop-slot.new.self) same longer,
-           rw c.set_join-gap.ensures.next (set_more x loop.gap others i blank_slot cells loop.taken old.0 (cells_in_line x (pieces_of slots cells)) c.loop-slot-test.true old.2));
+          ap (λ n. ((row ++ old.0) ++ blanks) ++ take n (drop loop.taken cells)) part ∙ append_assoc (row ++ old.0) blanks piece ∙ append_assoc row old.0 (blanks ++ piece) in (
+            old.0 ++ (blanks ++ piece),
+            subst (λ zs. IsRow zs c.extend-in-loop-slot.new.self) same longer,
+            rw c.set_join-gap.ensures.next (set_more x loop.gap others i blank_slot cells loop.taken old.0 (cells_in_line x (pieces_of slots cells)) c.loop-slot-test.true old.2),
+          );
     }
 
 pub returns-clause-set : goal.returns-clause-set
 returns-clause-set c =
     λ row h.
-      let old = c.loop-slot.invariant.set row h in
-      let slots = c.args.slots.now in
-      let others = take (length slots - 1) (drop 1 slots) in
-      let all = set_all_pieces c.args.extra c.loop-slot.gap others c.loop-slot.slot-index (drop c.loop-slot.taken c.args.cells.now) old.0 (cells_in_line c.args.extra (pieces_of slots c.args.cells.now)) c.loop-slot-test.false old.2 in
-      subst (λ zs. IsRow (row ++ zs) c.loop-slot.out) all old.1
+    let old = c.loop-slot.invariant.set row h in
+    let slots = c.args.slots.now in
+    let others = take (length slots - 1) (drop 1 slots) in
+    let all = set_all_pieces c.args.extra c.loop-slot.gap others c.loop-slot.slot-index (drop c.loop-slot.taken c.args.cells.now) old.0 (cells_in_line c.args.extra (pieces_of slots c.args.cells.now)) c.loop-slot-test.false old.2 in
+    subst (λ zs. IsRow (row ++ zs) c.loop-slot.out) all old.1

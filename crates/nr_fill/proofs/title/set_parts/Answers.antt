@@ -1,9 +1,9 @@
-use Rattle.std.proofs.Common.{◌≡◌, ℕ, ◌+◌, ◌-◌, ◌/◌, ◌≤◌, ◌++◌, ◌∷◌, [], List, length, map, max, ap, ap₂, sym, ◌∙◌, append_assoc, subst, arith}
+use Rattle.std.proofs.Common.{◌≡◌, ℕ, ◌+◌, ◌/◌, ◌++◌, ◌∷◌, [], List, length, map, max, ap, ap₂, sym, ◌∙◌, append_assoc, subst, arith}
 use Rattle.std.specs.List.{range_with_len}
 use Rattle.std.proofs.lemmas.List.FromFn.{map-range_with_len_more}
 use Rattle.nr_units.specs.declared.cell.Cell.{Cell}
 use Rattle.nr_fill.specs.Rows.{IsRow}
-use Rattle.nr_fill.specs.Titles.{Title, cell_of, title_row, centre_at, right_at}
+use Rattle.nr_fill.specs.Titles.{cell_of, centre_at, right_at}
 use Rattle.nr_fill.proofs.title.set_parts.Goals as goal
 
 pub loop-column-preserved : goal.loop-column-preserved
@@ -25,16 +25,16 @@ loop-column-preserved c =
 pub returns-clause-set : goal.returns-clause-set
 returns-clause-set c =
     λ row t left centre right h.
-      let parts = c.args.parts in
-      let line = c.args.line in
-      let column = c.loop-column.column in
-      let centre_is : c.saturating_sub-centre.result / 2 ≡ centre_at line (length parts.centre.now) = ap (λ k. k / 2) c.saturating_sub-centre.ensures in
-      let right_is : c.saturating_sub-right.result ≡ right_at line (length parts.right.now) = c.saturating_sub-right.ensures in
-      let end : column ≡ c.max-reach.result = omega (arith, c.loop-column-test.false, c.loop-column.auto.column-end) in
-      let reach_is : column ≡ max (length parts.left.now) (max (centre_at line (length parts.centre.now) + length parts.centre.now) (right_at line (length parts.right.now) + length parts.right.now)) =
-      end ∙ c.max-reach.ensures ∙ ap (max (length parts.left.now)) (c.max.ensures ∙ ap₂ (λ a b. max (a + length parts.centre.now) (b + length parts.right.now)) centre_is right_is) in
-      let done = c.loop-column.invariant.set row h in
-      let moved = subst (λ (k : ℕ). IsRow (row ++ map (cell_of k c.saturating_sub-right.result parts.left.now parts.centre.now parts.right.now) (range_with_len 0 column)) c.loop-column.out) centre_is done in
-      let moved_2 = subst (λ (k : ℕ). IsRow (row ++ map (cell_of (centre_at line (length parts.centre.now)) k parts.left.now parts.centre.now parts.right.now) (range_with_len 0 column)) c.loop-column.out) right_is moved in
-      let moved_3 = subst (λ (k : ℕ). IsRow (row ++ map (cell_of (centre_at line (length parts.centre.now)) (right_at line (length parts.right.now)) parts.left.now parts.centre.now parts.right.now) (range_with_len 0 k)) c.loop-column.out) reach_is moved_2 in
-      rw (left, centre, right) moved_3
+    let parts = c.args.parts in
+    let line = c.args.line in
+    let column = c.loop-column.column in
+    let centre_is : c.saturating_sub-centre.result / 2 ≡ centre_at line (length parts.centre.now) = ap (λ k. k / 2) c.saturating_sub-centre.ensures in
+    let right_is : c.saturating_sub-right.result ≡ right_at line (length parts.right.now) = c.saturating_sub-right.ensures in
+    let end : column ≡ c.max-reach.result = omega (arith, c.loop-column-test.false, c.loop-column.auto.column-end) in
+    let reach_is : column ≡ max (length parts.left.now) (max (centre_at line (length parts.centre.now) + length parts.centre.now) (right_at line (length parts.right.now) + length parts.right.now)) =
+    end ∙ c.max-reach.ensures ∙ ap (max (length parts.left.now)) (c.max.ensures ∙ ap₂ (λ a b. max (a + length parts.centre.now) (b + length parts.right.now)) centre_is right_is) in
+    let done = c.loop-column.invariant.set row h in
+    let moved = subst (λ (k : ℕ). IsRow (row ++ map (cell_of k c.saturating_sub-right.result parts.left.now parts.centre.now parts.right.now) (range_with_len 0 column)) c.loop-column.out) centre_is done in
+    let moved_2 = subst (λ (k : ℕ). IsRow (row ++ map (cell_of (centre_at line (length parts.centre.now)) k parts.left.now parts.centre.now parts.right.now) (range_with_len 0 column)) c.loop-column.out) right_is moved in
+    let moved_3 = subst (λ (k : ℕ). IsRow (row ++ map (cell_of (centre_at line (length parts.centre.now)) (right_at line (length parts.right.now)) parts.left.now parts.centre.now parts.right.now) (range_with_len 0 k)) c.loop-column.out) reach_is moved_2 in
+    rw (left, centre, right) moved_3

@@ -2,7 +2,7 @@ use Rattle.std.proofs.Common.{◌≡◌, ◌++◌, List, map}
 use Rattle.std.specs.List.{range_with_len}
 use Rattle.nr_units.specs.declared.cell.Cell.{Cell}
 use Rattle.nr_fill.specs.Rows.{IsRow}
-use Rattle.nr_fill.specs.Titles.{Title, cell_of}
+use Rattle.nr_fill.specs.Titles.{cell_of}
 use Rattle.nr_fill.proofs.title.set_parts.Given as goal
 
 abbrev pub invariant-loop-column : goal.invariant-loop-column

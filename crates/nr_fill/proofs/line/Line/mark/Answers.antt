@@ -1,8 +1,5 @@
-use Rattle.std.proofs.Common.{◌≡◌, ◌+◌, ◌-◌, ◌<◌, ◌≤◌, length, None, Some, ap, ap₂, sym, ◌∙◌, refl, arith, true, false}
-use Rattle.nr_fill.specs.Laid.{Laid}
-use Rattle.nr_fill.proofs.Lines.{is_line_untitled, is_line_opened, is_line_last, is_line_titled}
-use Rattle.nr_fill.proofs.Pendings.{is_line_pending, are_small, needed_blanks, needed_none, needed_soft, needed_behind, needed_without_point, needed_dropped, needed_one_more}
-use Rattle.nr_fill.specs.declared.stops.Pending.TheVariants.{Nothing, AtPoint, ForStop}
+use Rattle.std.proofs.Common.{length}
+use Rattle.nr_fill.proofs.Pendings.{is_line_pending, are_small, needed_none}
 use Rattle.nr_fill.proofs.line.Line.mark.Goals as goal
 
 pub invariant_of-self-2 : goal.invariant_of-self-2

@@ -1,23 +1,14 @@
-use Rattle.std.proofs.Common.{◌≡◌, ◌+◌, ◌-◌, ◌<◌, ◌≤◌, ◌++◌, ◌∷◌, [], length, take, drop, replicate, None, Some, ap, ap₂, sym, ◌∙◌, refl, arith, true, false, is_some, is_none, length-append, length-drop}
-use Rattle.nr_fill.specs.Laid.{Laid, read_cells}
+use Rattle.std.proofs.Common.{◌≡◌, ◌+◌, ◌-◌, ◌<◌, ◌≤◌, [], length, take, drop, ap, ap₂, sym, ◌∙◌, refl, arith, true, false}
 use Rattle.nr_fill.specs.Lined.{Lined}
-use Rattle.nr_fill.specs.declared.line.WordState.{WordState}
-use Rattle.nr_fill.specs.Pieces.{cells_in, text_cells, line_cells, pending_without_point}
-use Rattle.nr_fill.proofs.Lines.{the_word, is_line_untitled, is_line_opened, is_line_last, is_line_titled, is_line_closed, is_line_ended, is_line_removed, is_line_title_cell, text_cells-collected_of, line_cells-collected_of, none_from_is_some, no_title_cells, title_of-next_state, parted-next_state, title_of_push, line_cells-le}
-use Rattle.nr_fill.proofs.Measures.{afforded_ok, afforded_err, text_cells-with_word, text_cells-ended, line_cells-add_cell, line_cells-add_blank, line_cells-with_word, line_cells-add_cells, line_cells-filled, line_cells-end_word}
-use Rattle.nr_fill.proofs.Pendings.{is_line_pending, are_small, needed_blanks, needed_none, needed_soft, needed_behind, needed_without_point, needed_dropped, needed_one_more}
-use Rattle.nr_fill.specs.declared.stops.Pending.TheVariants.{Nothing, AtPoint, ForStop}
-use Rattle.nr_fill.specs.declared.title.TitleState.TheVariants as states
-use Rattle.std.proofs.lemmas.List.{length-take-le, length-replicate, take-append-drop, take_all, drop_all, append-nil}
+use Rattle.std.proofs.lemmas.List.{length-take-le}
 use Rattle.std.proofs.Common.{get_or, length-take}
 use Rattle.std.proofs.lemmas.List.{take-take, get_or-take}
 use Rattle.std.proofs.lemmas.List.Sums.{sum_by-take-le}
-use Rattle.nr_fill.specs.Cut.{width, pieces_width, piece_width, join_width, front_width, hyphen_before}
+use Rattle.nr_fill.specs.Cut.{pieces_width, piece_width, join_width, front_width, hyphen_before}
 use Rattle.nr_fill.specs.Pieces.{Piece}
-use Rattle.nr_fill.specs.Setting.{shift, is_spread, left_over, spreads, extra_of}
-use Rattle.nr_fill.specs.Spreading.{gaps, shared, no_extra}
+use Rattle.nr_fill.specs.Setting.{shift, is_spread, left_over, spreads}
+use Rattle.nr_fill.specs.Spreading.{gaps, shared}
 use Rattle.nr_fill.specs.declared.piece.Join.TheVariants.{Soft}
-use Rattle.nr_fill.specs.declared.setting.Extra.{Extra}
 use Rattle.nr_fill.proofs.PiecesOf.{width-first}
 use Rattle.nr_fill.proofs.Lines.{first_is, widths_small}
 use Rattle.nr_fill.proofs.line.Line.plan.Goals as goal
@@ -224,4 +215,3 @@ returns-else-spread-clause-spread c =
     let gaps_is : c.sums-sums.result.gaps ≡ gaps (take n c.args.self.now.collected.pieces) = c.sums-sums.ensures.gaps ∙ ap gaps (sym part) ∙ ap (λ (v : Lined). gaps (take n v.collected.pieces)) c.self.view_is in
     let spread_is : c.spreads-spread.result ≡ spreads c.args.setting.align c.args.self.now.collected n = c.spreads-spread.ensures ∙ ap₂ (is_spread c.args.setting.align) left_is gaps_is in
     spread_is
-

@@ -1,4 +1,4 @@
-use Rattle.std.proofs.Common.{◌+◌, ap, ap₂, sym, ◌∙◌}
+use Rattle.std.proofs.Common.{◌+◌, ap, sym, ◌∙◌}
 use Rattle.nr_fill.specs.Lined.{Lined}
 use Rattle.nr_fill.specs.Pieces.{text_cells}
 use Rattle.nr_fill.proofs.Lines.{text_cells-collected_of}

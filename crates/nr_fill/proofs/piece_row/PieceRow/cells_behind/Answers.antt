@@ -1,7 +1,6 @@
-use Rattle.std.proofs.Common.{◌≡◌, ◌≤◌, min, take, drop, length, ap, sym, ◌∙◌, arith}
-use Rattle.std.specs.List.{flat_map}
+use Rattle.std.proofs.Common.{min, ap, arith}
 use Rattle.nr_fill.specs.Laid.{Laid}
-use Rattle.nr_fill.specs.Pieces.{Piece, cells_in}
+use Rattle.nr_fill.specs.Pieces.{cells_in}
 use Rattle.nr_fill.proofs.Laying.{cells_in-laid_of, cells_behind-laid_of}
 use Rattle.nr_fill.proofs.piece_row.PieceRow.cells_behind.Goals as goal
 
@@ -14,5 +13,5 @@ overflow_sub-result c =
 pub returns : goal.returns
 returns c =
     λ n parted_is.
-      let s = c.self.inside in
-      rw (c.as_slice.ensures.value, ← c.self.view_is) (cells_behind-laid_of (min s.slots.room s.cells.room) n c.args.parted c.self.invariant (rw (← c.self.view_is) at parted_is))
+    let s = c.self.inside in
+    rw (c.as_slice.ensures.value, ← c.self.view_is) (cells_behind-laid_of (min s.slots.room s.cells.room) n c.args.parted c.self.invariant (rw (← c.self.view_is) at parted_is))

@@ -1,5 +1,4 @@
-use Rattle.std.proofs.Common.{◌≡◌, ◌+◌, ◌-◌, ◌<◌, ◌≤◌, ◌++◌, ◌∷◌, [], length, min, take, drop, replicate, refl, ap, sym, ◌∙◌, arith, length-take, length-drop, length-append}
-use Rattle.nr_fill.specs.Laid.{Laid, read_cells}
+use Rattle.std.proofs.Common.{◌-◌, min, take, drop, refl, ◌∙◌, arith}
 use Rattle.std.proofs.lemmas.List.{take_all}
 use Rattle.nr_fill.proofs.Laying.{laid_of_taken, length-last, same_laid}
 use Rattle.nr_fill.proofs.piece_row.PieceRow.clear_title.Goals as goal

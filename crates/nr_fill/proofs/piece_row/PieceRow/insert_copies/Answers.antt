@@ -1,5 +1,4 @@
-use Rattle.std.proofs.Common.{◌≡◌, ◌+◌, ◌-◌, ◌<◌, ◌≤◌, ◌++◌, ◌∷◌, [], length, min, take, drop, replicate, refl, ap, sym, ◌∙◌, arith, length-take, length-drop, length-append}
-use Rattle.nr_fill.specs.Laid.{Laid, read_cells}
+use Rattle.std.proofs.Common.{◌≡◌, ◌+◌, ◌≤◌, ◌++◌, length, min, take, drop, replicate, arith, length-drop, length-append}
 use Rattle.std.proofs.lemmas.List.{length-replicate, length-take-le}
 use Rattle.nr_fill.proofs.Laying.{room_left, last_is, laid_of_inserted}
 use Rattle.nr_fill.proofs.piece_row.PieceRow.insert_copies.Goals as goal
@@ -17,8 +16,14 @@ invariant_of-self c =
     let last = last_is c.args.self.now (min s.slots.room s.cells.room) h c.self.view_is in
     let within : at ≤ length s.cells.items = omega (arith, c.requires.within, h.pieced_within) in
     let long : length (take at s.cells.items ++ replicate n c.args.cell ++ drop at s.cells.items) ≡ length s.cells.items + n =
-    omega (arith, length-append (take at s.cells.items ++ replicate n c.args.cell) (drop at s.cells.items), length-append (take at s.cells.items) (replicate n c.args.cell),
-    length-replicate n c.args.cell, length-drop at s.cells.items, length-take-le at s.cells.items within) in
+    omega (
+      arith,
+      length-append (take at s.cells.items ++ replicate n c.args.cell) (drop at s.cells.items),
+      length-append (take at s.cells.items) (replicate n c.args.cell),
+      length-replicate n c.args.cell,
+      length-drop at s.cells.items,
+      length-take-le at s.cells.items within,
+    ) in
     rw (c.insert_copies.ensures.items, c.insert_copies.ensures.room) record {
       pieced_is = h.pieced_is;
       pieced_within = omega (arith, h.pieced_within);

@@ -1,11 +1,7 @@
-use Rattle.std.proofs.Common.{◌≡◌, ◌+◌, ◌-◌, ◌<◌, ◌≤◌, ◌++◌, ◌∷◌, [], length, min, take, drop, replicate, refl, ap, sym, ◌∙◌, arith, length-take, length-drop, length-append}
-use Rattle.nr_fill.specs.Laid.{Laid, read_cells}
+use Rattle.std.proofs.Common.{length, min, take, ap, sym, ◌∙◌, arith}
 use Rattle.std.proofs.lemmas.List.{length-take-le}
 use Rattle.nr_fill.specs.Cut.{cut, pieces_width}
-use Rattle.nr_fill.specs.Pieces.{cells_in}
-use Rattle.nr_fill.specs.Slots.{pieces_of, slots_width}
-use Rattle.nr_fill.specs.Spreading.{gaps, cells_in_line}
-use Rattle.nr_fill.proofs.PiecesOf.{pieces_width-pieces_of, cells_in-pieces_of, gaps-pieces_of}
+use Rattle.nr_fill.proofs.PiecesOf.{pieces_width-pieces_of}
 use Rattle.nr_fill.proofs.Laying.{slots_are, front_is, front_within}
 use Rattle.nr_fill.proofs.piece_row.PieceRow.longest_front.Goals as goal
 

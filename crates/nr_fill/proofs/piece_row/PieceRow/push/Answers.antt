@@ -1,5 +1,4 @@
-use Rattle.std.proofs.Common.{◌≡◌, ◌+◌, ◌-◌, ◌<◌, ◌≤◌, ◌++◌, ◌∷◌, [], length, min, take, drop, replicate, refl, ap, sym, ◌∙◌, arith, length-take, length-drop, length-append}
-use Rattle.nr_fill.specs.Laid.{Laid, read_cells}
+use Rattle.std.proofs.Common.{◌∷◌, [], min, arith, length-append}
 use Rattle.nr_fill.proofs.Laying.{room_left, laid_of_pushed}
 use Rattle.nr_fill.proofs.piece_row.PieceRow.push.Goals as goal
 

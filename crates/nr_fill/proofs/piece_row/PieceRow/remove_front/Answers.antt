@@ -1,5 +1,4 @@
-use Rattle.std.proofs.Common.{◌≡◌, ◌+◌, ◌-◌, ◌<◌, ◌≤◌, ◌++◌, ◌∷◌, [], length, min, take, drop, replicate, refl, ap, sym, ◌∙◌, arith, length-take, length-drop, length-append}
-use Rattle.nr_fill.specs.Laid.{Laid, read_cells}
+use Rattle.std.proofs.Common.{min, arith}
 use Rattle.nr_fill.proofs.Laying.{slots_are, front_cells, is_laid_removed, laid_of_removed}
 use Rattle.nr_fill.proofs.piece_row.PieceRow.remove_front.Goals as goal
 

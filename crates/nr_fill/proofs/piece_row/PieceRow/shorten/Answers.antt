@@ -1,6 +1,5 @@
-use Rattle.std.proofs.Common.{◌≡◌, ◌+◌, ◌-◌, ◌<◌, ◌≤◌, ◌++◌, ◌∷◌, [], length, min, take, drop, replicate, refl, ap, sym, ◌∙◌, arith, length-take, length-drop, length-append}
-use Rattle.nr_fill.specs.Laid.{Laid, read_cells}
-use Rattle.std.proofs.lemmas.List.{take-take}
+use Rattle.std.proofs.Common.{◌≡◌, ◌+◌, ◌-◌, [], length, min, take, drop, refl, ap, sym, ◌∙◌, arith}
+use Rattle.nr_fill.specs.Laid.{Laid}
 use Rattle.nr_fill.proofs.Laying.{laid_of_taken, length-last, same_laid}
 use Rattle.nr_fill.proofs.piece_row.PieceRow.shorten.Goals as goal
 

@@ -1,4 +1,4 @@
-use Rattle.std.proofs.Common.{◌≡◌, ◌+◌, ◌≤◌, length, take, ap, sym, ◌∙◌, arith}
+use Rattle.std.proofs.Common.{◌≡◌, length, take, ap, sym, ◌∙◌, arith}
 use Rattle.nr_units.specs.Items.{Items}
 use Rattle.nr_fill.proofs.Queues.{take_behind, length_between}
 use Rattle.nr_fill.proofs.slice_queue.SliceQueue.truncate.Goals as goal

@@ -1,4 +1,4 @@
-use Rattle.std.proofs.Common.{◌≡◌, ◌+◌, ◌≤◌, length, arith}
+use Rattle.std.proofs.Common.{arith}
 use Rattle.nr_fill.proofs.title.TitleParts.of.Goals as goal
 
 pub split_at-requires : goal.split_at-requires
