@@ -1,6 +1,6 @@
 -- What is added to a line's measure.
-use Rattle.std.proofs.Common.{◌≡◌, ℕ, ◌+◌, ◌-◌, ◌≤◌, ◌<◌, List, [], ◌∷◌, ◌++◌, length, take, drop, replicate, sum_by, Option, None, Some, Result, Ok, Err, false, refl, ap, arith, length-append, eqb}
-use Rattle.std.proofs.lemmas.Bool.{lt-ltb, le-ltb, ne_eqb}
+use Rattle.std.proofs.Common.{◌≡◌, ℕ, ◌+◌, ◌-◌, ◌≤◌, ◌<◌, List, [], ◌∷◌, ◌++◌, length, take, drop, replicate, sum_by, Option, None, Some, Result, Ok, Err, false, refl, ap, arith, inl, inr, length-append, eqb}
+use Rattle.std.proofs.lemmas.Bool.{lt-ltb, le-ltb, ne_eqb, cases_lt}
 use Rattle.std.proofs.lemmas.List.{length-replicate, take-append-drop}
 use Rattle.std.proofs.lemmas.List.Sums.{sum_by_push, sum_by-append, sum_by-cons}
 use Rattle.nr_units.specs.Cells.{blank}
@@ -126,3 +126,10 @@ word_cells-with_field width kind fill (Some w) = refl
 -- the text for a stop begins without cells
 pub line_cells-with_field : (width : ℕ) (kind : StopKind) (fill : Cell) (c : Collected) → line_cells (in_word (with_field width kind fill) c) ≡ text_cells c
 line_cells-with_field width kind fill c = let same = word_cells-with_field width kind fill c.word in omega arith
+
+-- what is afforded is within the limit
+pub within_from_afforded : (v : Lined) → ◌≡◌ {A = Result (Unit {0}) LineCells} (Ok tt) (afforded v) → line_cells v.collected ≤ v.limit
+within_from_afforded v h = elim (cases_lt v.limit (line_cells v.collected)) [
+  | inl above ↦ absurd (let e : ◌≡◌ {A = Result (Unit {0}) LineCells} (Ok tt) (Err (record {})) = (rw (lt-ltb v.limit (line_cells v.collected) above) at h) in cc)
+  | inr within ↦ within
+]

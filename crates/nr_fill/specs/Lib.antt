@@ -4,6 +4,7 @@ pub mod Lined
 pub mod Lying
 pub mod Pieces
 pub mod Rows
+pub mod Runs
 pub mod Setting
 pub mod Slots
 pub mod Spreading

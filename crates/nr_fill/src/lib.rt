@@ -8,6 +8,7 @@ pub mod margins;
 pub mod out;
 pub mod piece;
 mod piece_row;
+mod runs;
 pub mod setting;
 mod slice_queue;
 pub mod stops;

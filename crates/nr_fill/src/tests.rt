@@ -463,3 +463,51 @@ fn titles(rt: HostRuntime) -> Result<(), Fail> {
     }
     Ok(())
 }
+
+#[test]
+fn a_run_of_bytes(rt: HostRuntime) -> Result<(), Fail> {
+    let mut cells = [Cell::blank(); 64];
+    let mut pieces = [PieceSlot::blank(); 64];
+    let mut line = Line::over(&mut cells, &mut pieces, 64);
+    let mut row = [Cell::blank(); 80];
+    let mut out = Out::over(&mut row);
+    let margins = Margins {
+        indent: 0,
+        length: 65,
+    };
+    assert_eq!(rt; line.put_run(margins, false, b"End.-x".as_slice()), 4);
+    line.mark(margins);
+    line.end_word()?;
+    line.newline_gap();
+    line.put_cells(margins, cell(b'_'), 2)?;
+    line.end_word()?;
+    let setting = Setting {
+        align: Align::Left,
+        offset: 2,
+    };
+    assert!(rt; line.has_pieces());
+    assert_eq!(rt; line.take_all(setting, &mut out), 7);
+    let right = match out.row() {
+        None => false,
+        Some(cells) => is_text(cells, b"  End. __".as_slice()),
+    };
+    assert!(rt; right);
+    Ok(())
+}
+
+#[test]
+fn a_row_longer_than_its_slice(rt: HostRuntime) -> Result<(), Fail> {
+    let mut row = [Cell::blank(); 3];
+    let mut out = Out::over(&mut row);
+    out.push(cell(b'a'));
+    out.blanks(4);
+    let right = match out.row() {
+        None => false,
+        Some(cells) => is_text(cells, b"a".as_slice()),
+    };
+    assert!(rt; right);
+    out.push(cell(b'b'));
+    assert!(rt; out.row().is_none());
+    assert_eq!(rt; out.written(), 6);
+    Ok(())
+}
