@@ -1,4 +1,4 @@
-// How a row is run.
+// How a row with limits of its own is run.
 
 use super::formatted;
 use nr_engine::{Desk, Limits, Outcome};
@@ -22,18 +22,6 @@ pub struct Row<'a> {
     pub limits: Four,
     pub output: &'a [u8],
     pub outcome: Outcome,
-}
-
-impl<'a> Row<'a> {
-    /// A run that ends under the limits by default.
-    pub const fn done(input: &'a [u8], output: &'a [u8]) -> Self {
-        Row {
-            input,
-            limits: DEFAULTS,
-            output,
-            outcome: Outcome::Done,
-        }
-    }
 }
 
 /// Formats a source into a buffer of 4096 bytes and compares.

@@ -1,33 +1,10 @@
-// Text into pages: filling, breaks, empty lines, pages, the limits of a line and of a page, and faults.
+// Runs that meet a limit or a fault, and the ranges of the limits.
 
 use super::formatted;
 use super::row::{DEFAULTS, Row, check, desk_under, passes};
 use nr_engine::{Limits, Measure, Outcome};
 use nr_units::fakes::{Script, Slate};
 use std::test::Fail;
-
-#[test]
-fn no_bytes(rt: HostRuntime) -> Result<(), Fail> {
-    passes(&rt, rt.alloc(), &Row::done(b"", b""))
-}
-
-#[test]
-fn hello_page(rt: HostRuntime) -> Result<(), Fail> {
-    passes(
-        &rt,
-        rt.alloc(),
-        &Row::done(b".pl 2v\nhello\n", b"hello\n\n"),
-    )
-}
-
-#[test]
-fn sentence_gap(rt: HostRuntime) -> Result<(), Fail> {
-    passes(
-        &rt,
-        rt.alloc(),
-        &Row::done(b".pl 1v\nEnd.\nNext\n", b"End.  Next\n"),
-    )
-}
 
 #[test]
 fn limits_ranges(rt: HostRuntime) -> Result<(), Fail> {
@@ -42,32 +19,6 @@ fn limits_ranges(rt: HostRuntime) -> Result<(), Fail> {
     assert!(rt; Limits::new(64, 1, 16_777_217, 1).is_none());
     assert!(rt; Limits::new(64, 1, 1, 4_294_967_297).is_none());
     Ok(())
-}
-
-#[test]
-fn no_final_newline(rt: HostRuntime) -> Result<(), Fail> {
-    passes(&rt, rt.alloc(), &Row::done(b".pl 1v\nhello", b"hello\n"))
-}
-
-#[test]
-fn default_scales(rt: HostRuntime) -> Result<(), Fail> {
-    let input = b".pl 2\n.ll 8\na bb ccc dddd\n";
-    passes(&rt, rt.alloc(), &Row::done(input, b"a bb ccc\ndddd\n"))
-}
-
-#[test]
-fn empty_lines(rt: HostRuntime) -> Result<(), Fail> {
-    passes(&rt, rt.alloc(), &Row::done(b".pl 3\na\n\nb\n", b"a\n\nb\n"))?;
-    passes(&rt, rt.alloc(), &Row::done(b".pl 1\na\n\nb\n", b"a\n\nb\n"))
-}
-
-#[test]
-fn two_short_pages(rt: HostRuntime) -> Result<(), Fail> {
-    passes(
-        &rt,
-        rt.alloc(),
-        &Row::done(b".pl 1\na\n.br\nb\n.br\n", b"a\nb\n"),
-    )
 }
 
 #[test]
