@@ -8,6 +8,7 @@ pub mod NameOrder
 pub mod Offering
 pub mod Padded
 pub mod Places
+pub mod Ranges
 pub mod Reading
 pub mod Rounding
 pub mod Rows

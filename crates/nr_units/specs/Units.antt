@@ -1,5 +1,5 @@
 -- Units: 240 to the inch. Scales, and how a number is rounded to a multiple or to whole units.
-use Rattle.std.specs.Prelude.{ℕ, ◌+◌, ◌*◌, ◌/◌, ℤ, pos, negsuc, neg_ℤ, unsigned_abs, Option, Some, None, nat_le, if◌then◌else◌}
+use Rattle.std.specs.Prelude.{ℕ, ◌+◌, ◌*◌, ◌/◌, ◌≤◌, ℤ, pos, negsuc, neg_ℤ, unsigned_abs, Option, Some, None, nat_le, if◌then◌else◌}
 use Rattle.nr_units.specs.declared.units.Scale.{Scale}
 use Rattle.nr_units.specs.declared.units.Scale.TheVariants.{Inch, Centimetre, Pica, VerticalSpace, Em, En, Point, Unit as OneUnit}
 
@@ -36,6 +36,10 @@ with_sign_of (negsuc n) magnitude = neg_ℤ (pos magnitude)
 -- the multiple of step nearest to z, half away from zero: the magnitude is rounded, the sign stays
 abbrev pub nearest_multiple : ℕ → ℤ → ℤ
 nearest_multiple step z = with_sign_of z (step * nearest (unsigned_abs z) step)
+
+-- from -2147483647 to 2147483647
+abbrev pub IsInRange : ℤ → Type 0
+IsInRange z = unsigned_abs z ≤ 2147483647
 
 -- the value z, where it is from -2147483647 to 2147483647
 abbrev pub in_range : ℤ → Option ℤ

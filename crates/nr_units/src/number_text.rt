@@ -56,8 +56,10 @@ fn push_times(text: &mut Text, byte: u8, times: usize)
 
 /// Adds the decimal digits of `n`, with zeros in front for so many places.
 fn push_arabic(text: &mut Text, n: u64, places: u8)
-    requires { array_vec_len text.old ≤ 1 }
-    ensures { Appends text.old.items text.new.items (IsArabic places n) }
+    requires room { array_vec_len text.old ≤ 1 }
+    requires range { n ≤ 2 ^ 63 }
+    ensures appends { Appends text.old.items text.new.items (IsArabic places n) }
+    ensures short { array_vec_len text.new ≤ array_vec_len text.old + 19 }
 {
     let mut buffer = Buffer::new();
     let digits = buffer.format(n).as_bytes();
@@ -90,8 +92,10 @@ fn push_roman_digit(text: &mut Text, digit: u8, one: u8, five: u8, ten: u8)
 /// Adds `n` in roman, `raised` being 32 for capitals and 0 for small letters; from 4000 on, and 0, in Arabic.
 fn push_roman(text: &mut Text, n: u64, raised: u8)
     requires room { array_vec_len text.old ≤ 1 }
+    requires range { n ≤ 2 ^ 63 }
     requires case { raised ≤ 32 }
-    ensures { Appends text.old.items text.new.items (IsRoman raised n) }
+    ensures appends { Appends text.old.items text.new.items (IsRoman raised n) }
+    ensures short { array_vec_len text.new ≤ array_vec_len text.old + 19 }
 {
     if n == 0 || n >= 4000 {
         return push_arabic(text, n, 1);
@@ -111,7 +115,8 @@ fn push_alphabetic(text: &mut Text, n: u64, before: u8)
     requires room { array_vec_len text.old ≤ 1 }
     requires range { n ≤ 2 ^ 63 }
     requires case { before ≤ 96 }
-    ensures { Appends text.old.items text.new.items (IsAlphabetic before n) }
+    ensures appends { Appends text.old.items text.new.items (IsAlphabetic before n) }
+    ensures short { array_vec_len text.new ≤ array_vec_len text.old + 19 }
 {
     if n == 0 {
         return push_all(text, b"0");
@@ -127,9 +132,10 @@ fn push_alphabetic(text: &mut Text, n: u64, before: u8)
     push_all(text, &letters[start..]);
 }
 
-/// The text of a number in a format. The longest is that of the least `i64`, of 20 bytes.
+/// The text of a number in a format. The longest is that of the least `i64`.
 pub fn format_number(n: i64, format: Format) -> ArrayVec<u8, 32>
-    ensures { IsNumberText format n result.items }
+    ensures text { IsNumberText format n result.items }
+    ensures short { array_vec_len result ≤ 20 }
 {
     let mut text = ArrayVec::new();
     if n < 0 {

@@ -207,6 +207,22 @@ fn an_interrupted_write_is_tried_again(rt: HostRuntime) {
 }
 
 #[test]
+fn an_interrupted_flush_is_tried_again(rt: HostRuntime) {
+    let turns = [Turn::Interrupted; 64];
+    let mut writer = Narrow::new(&turns);
+    let mut sink = ToWriter::over(&mut writer);
+    assert_eq!(rt; sink.flush(), Ok(()));
+    assert_eq!(rt; writer.flushes, 1);
+
+    let turns = [Turn::Interrupted; 65];
+    let mut writer = Narrow::new(&turns);
+    let mut sink = ToWriter::over(&mut writer);
+    assert_eq!(rt; sink.flush(), Err(Fault));
+    assert_eq!(rt; (sink.failed_puts(), sink.failed_flushes()), (0, 1));
+    assert_eq!(rt; writer.flushes, 0);
+}
+
+#[test]
 fn a_flush_that_fails_is_counted(rt: HostRuntime) {
     let turns = [Turn::AtMost(7), Turn::Broken, Turn::Interrupted];
     let mut writer = Narrow::new(&turns);
@@ -254,6 +270,13 @@ fn an_end_is_seen_once(rt: HostRuntime) {
     let mut source = Buffered::over(&mut reader, &mut room);
     let mut bytes = [0; 32];
     assert_eq!(rt; read_all(&mut source, &mut bytes), (2, 0));
+    assert_eq!(rt; source.next(), Ok(None));
+    assert_eq!(rt; reader.calls, 2);
+
+    let turns = [Turn::AtMost(1), Turn::AtMost(0)];
+    let mut reader = Uneven::new(TEXT, &turns);
+    let mut source = FromReader::over(&mut reader);
+    assert_eq!(rt; read_all(&mut source, &mut bytes), (1, 0));
     assert_eq!(rt; source.next(), Ok(None));
     assert_eq!(rt; reader.calls, 2);
 }
