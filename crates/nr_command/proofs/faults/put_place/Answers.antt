@@ -1,8 +1,8 @@
 use Rattle.std.proofs.Common.{◌≡◌, ◌∙◌, ◌++◌, codes, decimal}
 use Rattle.std.proofs.KnownBytes.{Appends-trans}
 use Rattle.nr_units.proofs.Fronts.{AppendsFront-append, AppendsFront-after}
-use Rattle.nroff.proofs.Telling.{on_err_always, AppendsFront-last}
-use Rattle.nroff.proofs.faults.put_place.Goals as goal
+use Rattle.nr_command.proofs.Telling.{on_err_always, AppendsFront-last}
+use Rattle.nr_command.proofs.faults.put_place.Goals as goal
 
 pub returns-in_err-put-clause-err : goal.returns-in_err-put-clause-err
 returns-in_err-put-clause-err g c =

@@ -1,9 +1,9 @@
 use Rattle.std.proofs.Common.{◌++◌, codes}
 use Rattle.std.proofs.KnownBytes.{Appends-trans}
 use Rattle.nr_units.proofs.Fronts.{AppendsFront-append, AppendsFront-after}
-use Rattle.nroff.specs.Faults.{limited_text, place_text}
-use Rattle.nroff.proofs.Telling.{on_err_always, Appends-last, AppendsFront-last}
-use Rattle.nroff.proofs.faults.put_limit.Goals as goal
+use Rattle.nr_command.specs.Faults.{limited_text, place_text}
+use Rattle.nr_command.proofs.Telling.{on_err_always, Appends-last, AppendsFront-last}
+use Rattle.nr_command.proofs.faults.put_limit.Goals as goal
 
 pub returns-in_err-put-clause-err : goal.returns-in_err-put-clause-err
 returns-in_err-put-clause-err g c =

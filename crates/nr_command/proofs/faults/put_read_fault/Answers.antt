@@ -1,8 +1,8 @@
 use Rattle.std.proofs.Common.{codes}
 use Rattle.nr_units.proofs.Fronts.{AppendsFront-append}
-use Rattle.nroff.specs.Faults.{place_text}
-use Rattle.nroff.proofs.Telling.{on_err_always, Appends-last, AppendsFront-last}
-use Rattle.nroff.proofs.faults.put_read_fault.Goals as goal
+use Rattle.nr_command.specs.Faults.{place_text}
+use Rattle.nr_command.proofs.Telling.{on_err_always, Appends-last, AppendsFront-last}
+use Rattle.nr_command.proofs.faults.put_read_fault.Goals as goal
 
 pub returns-in_err-put-clause-err : goal.returns-in_err-put-clause-err
 returns-in_err-put-clause-err g c =

@@ -1,8 +1,8 @@
 // A run of the program over given streams.
 ghost use Rattle.std.specs.Prelude.{◌≡◌, ◌≢◌, ◌↔◌, IsTrue, IsErr, IfOk, OnErr};
 ghost use Rattle.nr_engine.specs.declared.outcome.Outcome.{Outcome};
-ghost use Rattle.nroff.specs.Faults.{Tells, line_of};
-ghost use Rattle.nroff.specs.Running.{Ran, status_of, memory_line};
+ghost use Rattle.nr_command.specs.Faults.{Tells, line_of};
+ghost use Rattle.nr_command.specs.Running.{Ran, status_of, memory_line};
 
 use super::faults::fault_line;
 use nr_engine::{Desk, Fault, Options, Outcome, Sink, Source, format};

@@ -17,6 +17,14 @@ status_of TooLong = 1
 status_of (ReadFault at) = 3
 status_of WriteFault = 4
 
+-- the limits that hold where none are given
+abbrev pub default_bounds : Bounds
+default_bounds = record { stored = 262144; depth = 256; cells = 65536; expansions = 1000000 }
+
+-- the line that tells that there are words
+abbrev pub words_line : List ℕ
+words_line = codes "nroff: no arguments yet\n"
+
 -- the line that tells want of memory
 abbrev pub memory_line : List ℕ
 memory_line = codes "nroff: out of memory\n"
