@@ -1,3 +1,4 @@
+pub mod BytesInOrder
 pub mod Copying
 pub mod Counting
 pub mod Digits

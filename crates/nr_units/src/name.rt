@@ -115,8 +115,21 @@ impl Name {
     pub fn compare(&self, other: &Name) -> Ordering
         ensures { result ≡ name_order self.now other.now }
     {
-        self.as_bytes().cmp(&other.as_bytes())
+        order_of(self.as_bytes(), other.as_bytes())
     }
+}
+
+/// The order of two lists of bytes.
+#[inline]
+fn order_of(a: &[u8], b: &[u8]) -> Ordering
+    ensures { result ≡ name_order a.now b.now }
+{
+    for i in 0..a.len().min(b.len()) {
+        if a[i] != b[i] {
+            return a[i].cmp(&b[i]);
+        }
+    }
+    a.len().cmp(&b.len())
 }
 
 impl PartialEq for Name {
@@ -125,7 +138,7 @@ impl PartialEq for Name {
     ghost laws = { partial_equiv_from_equiv nat_list_eq_equiv };
 
     fn eq(&self, other: &Name) -> bool {
-        self.as_bytes() == other.as_bytes()
+        self.compare(other).is_eq()
     }
 }
 
