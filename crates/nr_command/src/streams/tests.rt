@@ -64,21 +64,6 @@ fn tells_words_to_the_errors(rt: HostRuntime) -> Result<(), AllocError> {
     Ok(())
 }
 
-// The default limits: a line of 65535 cells and 1 for its word, and no more.
-#[test]
-fn tells_a_limit_to_the_errors(rt: HostRuntime) -> Result<(), AllocError> {
-    let mut text = vec![in rt.alloc(); b'x'; 65_555]?;
-    text[..18].copy_from_slice(INPUT);
-    let fits = run_once(rt.alloc(), false, &text[..65_553])?;
-    assert_eq!(rt; fits.status, 0);
-    let passes = run_once(rt.alloc(), false, &text)?;
-    assert_eq!(rt; passes.status, 1);
-    assert!(rt; passes.output.as_slice() == b"a\n".as_slice());
-    let line = b"nroff: line cells limit passed at byte 65555\n";
-    assert!(rt; passes.errors.as_slice() == line.as_slice());
-    Ok(())
-}
-
 #[test]
 fn tells_streams_that_fail(rt: HostRuntime) {
     let mut output = Vec::new(rt.alloc());
