@@ -1,0 +1,247 @@
+-- Lemmas on levels in a row of frames.
+use Rattle.std.proofs.Common.{◌≡◌, ℕ, ◌+◌, ◌*◌, ◌^◌, ◌<◌, ◌≤◌, List, [], ◌∷◌, ◌++◌, length, map, take, drop, get_or, Option, Some, None, refl, ap, ap₂, sym, ◌∙◌, subst, inl, inr, arith}
+use Rattle.std.specs.List.{slice_get}
+use Rattle.std.proofs.lemmas.List.{take-take, length-take, drop_all, drop_more, get_or-take, length-take-le, drop-drop}
+use Rattle.std.proofs.lemmas.Bool.{cases_lt}
+use Rattle.std.proofs.lemmas.List.Sums.{sum_by-cons}
+use Rattle.std.proofs.lemmas.Option.{get_or_from_slice_get}
+use Rattle.nr_levels.specs.Levels.{Source, Text, Own, Mark, Open, Levels, total, front, front_of, behind, advanced, marks, closed, HasNext}
+use Rattle.nr_levels.specs.Frames.{part, arguments_of, source_of, open_of, levels_of, EndBy, AreBelow, ReadsBelow, IsStacked, AreLevels}
+use Rattle.nr_levels.specs.declared.frame.Span.{Span}
+use Rattle.nr_levels.specs.declared.frame.Frame.{Frame}
+use Rattle.nr_levels.specs.declared.frame.Front.{Front}
+use Rattle.nr_levels.specs.declared.frame.Reads.{Reads}
+use Rattle.nr_levels.specs.declared.frame.Reads.TheVariants as reads
+
+-- a list whose first item is known
+pub cons_of : {X : Type 0} (xs : List X) (x : X) → slice_get xs 0 ≡ Some x → xs ≡ x ∷ drop 1 xs
+cons_of [] x is = cc
+cons_of (y ∷ ys) x is = let same : y ≡ x = cc in ap (λ z. z ∷ ys) same
+
+-- ---- parts of rows
+
+pub part_none : {X : Type 0} (xs : List X) (s : Span) → s.last ≤ s.first → part xs s ≡ []
+part_none xs s none = drop_all s.first (take s.last xs) (omega (arith, length-take s.last xs))
+
+pub part_more : {X : Type 0} (xs : List X) (s : Span) (x : X) → s.first < s.last → s.last ≤ length xs → slice_get xs s.first ≡ Some x
+    → part xs s ≡ x ∷ part xs (record s { first = s.first + 1 })
+part_more xs s x some within is =
+    let row = take s.last xs in
+    let here : get_or row s.first x ≡ x = get_or-take s.last xs s.first x some ∙ get_or_from_slice_get xs s.first x x is in
+    drop_more row s.first x (omega (arith, length-take s.last xs)) ∙ ap (λ y. y ∷ drop (s.first + 1) row) here
+
+-- rows that agree up to q have the same parts up to there
+pub same_front : {X : Type 0} (xs ys : List X) (n q : ℕ) → n ≤ q → take q xs ≡ take q ys → take n xs ≡ take n ys
+same_front xs ys n q le same = sym (take-take n q xs le) ∙ ap (take n) same ∙ take-take n q ys le
+
+pub same_part : {X : Type 0} (xs ys : List X) (s : Span) (q : ℕ) → s.last ≤ q → take q xs ≡ take q ys → part xs s ≡ part ys s
+same_part xs ys s q le same = ap (drop s.first) (same_front xs ys s.last q le same)
+
+pub same_below : (ps qs : List Span) (q h : ℕ) (s : Span) → take q ps ≡ take q qs → s.last ≤ q → q ≤ length ps → AreBelow qs h s → AreBelow ps h s
+same_below ps qs q h s same le room below = record {
+  within = omega arith;
+  below = subst (EndBy h) (sym (same_part ps qs s q le same)) below.below;
+}
+
+pub end_by_more : (h k : ℕ) (ss : List Span) → h ≤ k → EndBy h ss → EndBy k ss
+end_by_more h k [] le e = tt
+end_by_more h k (s ∷ ss) le e = let now = e.0 in (omega arith, end_by_more h k ss le e.1)
+
+same_texts : (xs ys : List ℕ) (h : ℕ) (ss : List Span) → take h xs ≡ take h ys → EndBy h ss → map (part xs) ss ≡ map (part ys) ss
+same_texts xs ys h [] same e = refl
+same_texts xs ys h (s ∷ ss) same e = ap₂ (λ z zs. z ∷ zs) (same_part xs ys s h e.0 same) (same_texts xs ys h ss same e.1)
+
+-- some arguments over rows that agree as far as they reach
+pub same_arguments : (xs ys : List ℕ) (ps qs : List Span) (h q : ℕ) (s : Span) → take h xs ≡ take h ys → take q ps ≡ take q qs → s.last ≤ q → AreBelow qs h s → arguments_of xs ps s ≡ arguments_of ys qs s
+same_arguments xs ys ps qs h q s same_bytes same_places le below =
+    ap (map (part xs)) (same_part ps qs s q le same_places) ∙ same_texts xs ys h (part qs s) same_bytes below.below
+
+same_source : {K : Type 0} → (xs ys : List ℕ) (h : ℕ) (r : Reads K) → take h xs ≡ take h ys → ReadsBelow h r → source_of xs r ≡ source_of ys r
+same_source xs ys h (reads.Text id place) same below = refl
+same_source xs ys h (reads.Own s) same below = ap Own (same_part xs ys s h below same)
+same_source xs ys h (reads.Mark mode) same below = refl
+
+-- the levels over rows that agree as far as the levels reach
+pub same_levels : {K : Type 0} → (xs ys : List ℕ) (ps qs : List Span) (n q : ℕ) (fs : List (Frame K)) (now : Span) (h : ℕ) → take n xs ≡ take n ys → take q ps ≡ take q qs → h ≤ n → now.last ≤ q
+    → IsStacked qs fs now h → map (open_of xs ps) fs ≡ map (open_of ys qs) fs
+same_levels xs ys ps qs n q [] now h same_bytes same_places below top stacked = refl
+same_levels xs ys ps qs n q (f ∷ fs) now h same_bytes same_places below top stacked =
+    let on = stacked.0 in
+    let lower = on.lower in
+    let above = on.above in
+    let here : open_of xs ps f ≡ open_of ys qs f = ap₂ (λ (s : Source _) o. record { source = s; old = o; charge = f.charge; resume = f.resume })
+    (same_source xs ys h f.reads (same_front xs ys h n below same_bytes) on.reads)
+    (same_arguments xs ys ps qs f.height q f.old (same_front xs ys f.height n (omega arith) same_bytes) same_places (omega arith) on.old) in
+    ap₂ (λ z zs. z ∷ zs) here (same_levels xs ys ps qs n q fs f.old f.height same_bytes same_places (omega arith) (omega arith) stacked.1)
+
+-- and they are stacked there too
+pub same_stack : {K : Type 0} → (ps qs : List Span) (q : ℕ) (fs : List (Frame K)) (now : Span) (h : ℕ) → take q ps ≡ take q qs → now.last ≤ q → q ≤ length ps → IsStacked qs fs now h → IsStacked ps fs now h
+same_stack ps qs q [] now h same top room stacked = stacked
+same_stack ps qs q (f ∷ fs) now h same top room stacked =
+    let on = stacked.0 in
+    let above = on.above in (
+      record {
+        lower = on.lower;
+        paid = on.paid;
+        reads = on.reads;
+        bare = on.bare;
+        old = same_below ps qs q f.height f.old same (omega arith) room on.old;
+        above = on.above;
+        few = on.few;
+      },
+      same_stack ps qs q fs f.old f.height same (omega arith) room stacked.1,
+    )
+
+-- the bytes are within what the levels are charged
+pub stacked_total : {K : Type 0} → (xs : List ℕ) (ps qs : List Span) (fs : List (Frame K)) (now : Span) (h : ℕ) → IsStacked ps fs now h → h ≤ total (map (open_of xs qs) fs)
+stacked_total xs ps qs [] now h stacked = let none = stacked.1 in omega arith
+stacked_total xs ps qs (f ∷ fs) now h stacked =
+    let paid = stacked.0.paid in
+    let rest = stacked_total xs ps qs fs f.old f.height stacked.1 in
+    let all = sum_by-cons (λ (l : Open _). l.charge) (open_of xs qs f) (map (open_of xs qs) fs) in
+    omega arith
+
+-- no more than nine arguments a level
+pub stacked_places : {K : Type 0} → (ps : List Span) (fs : List (Frame K)) (now : Span) (h : ℕ) → IsStacked ps fs now h → now.last ≤ 9 * length fs
+stacked_places ps [] now h stacked = let none = stacked.0 in omega arith
+stacked_places ps (f ∷ fs) now h stacked =
+    let few = stacked.0.few in
+    let rest = stacked_places ps fs f.old f.height stacked.1 in
+    omega arith
+
+-- ---- the newest level
+
+pub front_is : {K : Type 0} → (fs : List (Frame K)) (xs : List ℕ) (ps : List Span) (now : Span) (room most : ℕ) (v : Levels K) (f : Frame K) (r : Reads K)
+    → levels_of fs xs ps now room most ≡ v → slice_get fs 0 ≡ Some f → f.reads ≡ r → front_of v.levels ≡ Some (front (source_of xs r))
+front_is fs xs ps now room most v f r view top is =
+    ap (λ (w : Levels _). front_of w.levels) (sym view) ∙ ap (λ gs. front_of (map (open_of xs ps) gs)) (cons_of fs f top) ∙ ap (λ t. Some (front (source_of xs t))) is
+
+-- the newest frame is on the others
+pub newest_on : {K : Type 0} → (fs : List (Frame K)) (ps : List Span) (now : Span) (h : ℕ) (f : Frame K) → IsStacked ps fs now h → slice_get fs 0 ≡ Some f → IsStacked ps (f ∷ drop 1 fs) now h
+newest_on fs ps now h f stacked top = subst (λ gs. IsStacked ps gs now h) (cons_of fs f top) stacked
+
+pub reads_below : {K : Type 0} → (h : ℕ) (r : Reads K) (s : Span) → r ≡ reads.Own s → ReadsBelow h r → s.last ≤ h
+reads_below h r s is below = rw is at below
+
+pub front_none : {K : Type 0} → (xs : List ℕ) (s : Span) → s.last ≤ s.first → front {K = K} (Own (part xs s)) ≡ front (Own [])
+front_none xs s none = ap (λ ys. front (Own ys)) (part_none xs s none)
+
+pub front_some : {K : Type 0} → (xs : List ℕ) (s : Span) (b : ℕ) → s.first < s.last → s.last ≤ length xs → slice_get xs s.first ≡ Some b → front {K = K} (Own (part xs s)) ≡ front (Own (b ∷ []))
+front_some xs s b some within is = ap (λ ys. front (Own ys)) (part_more xs s b some within is)
+
+pub has_next_own : {K : Type 0} → (xs : List ℕ) (s : Span) (o : Option (Front K)) → o ≡ Some (front (Own (part xs s))) → HasNext o → s.first < s.last
+has_next_own xs s o is next = elim (cases_lt s.first s.last) [
+  | inl some ↦ some
+  | inr none ↦ let h = rw (is, front_none xs s none) at next in absurd h
+]
+
+pub has_next_text : {K : Type 0} → (id place : ℕ) (o : Option (Front K)) → o ≡ Some (front (Text id place)) → HasNext o → place + 1 < 2 ^ 32
+has_next_text id place o is next = rw is at next
+
+-- the newest level goes on
+pub advanced_is : {K : Type 0} → (fs gs : List (Frame K)) (xs : List ℕ) (ps : List Span) (now : Span) (room most : ℕ) (v : Levels K) (f : Frame K) (r : Reads K)
+    → levels_of fs xs ps now room most ≡ v → slice_get fs 0 ≡ Some f → gs ≡ record f { reads = r } ∷ drop 1 fs → source_of xs r ≡ behind (source_of xs f.reads)
+    → levels_of gs xs ps now room most ≡ record v { levels = advanced v.levels }
+advanced_is fs gs xs ps now room most v f r view top is source =
+    let step = λ (w : Levels _). record w { levels = advanced w.levels } in
+    ap (λ ks. levels_of ks xs ps now room most) is
+    ∙ ap (λ s. record (levels_of (drop 1 fs) xs ps now room most) { levels = record (open_of xs ps f) { source = s } ∷ map (open_of xs ps) (drop 1 fs) }) source
+    ∙ ap (λ ks. step (levels_of ks xs ps now room most)) (sym (cons_of fs f top))
+    ∙ ap step view
+
+pub behind_own : {K : Type 0} → (xs : List ℕ) (s : Span) → behind {K = K} (Own (part xs s)) ≡ Own (part xs (record s { first = s.first + 1 }))
+behind_own xs s = ap Own (drop-drop 1 s.first (take s.last xs))
+
+pub advanced_own : {K : Type 0} → (fs gs : List (Frame K)) (xs : List ℕ) (ps : List Span) (now : Span) (room most : ℕ) (v : Levels K) (f : Frame K) (s : Span)
+    → levels_of fs xs ps now room most ≡ v → slice_get fs 0 ≡ Some f → f.reads ≡ reads.Own s → gs ≡ record f { reads = reads.Own (record s { first = s.first + 1 }) } ∷ drop 1 fs
+    → levels_of gs xs ps now room most ≡ record v { levels = advanced v.levels }
+advanced_own fs gs xs ps now room most v f s view top was is =
+    advanced_is fs gs xs ps now room most v f (reads.Own (record s { first = s.first + 1 })) view top is (sym (behind_own xs s) ∙ ap (λ r. behind (source_of xs r)) (sym was))
+
+-- ---- the newest level's end
+
+-- the levels below the newest, over the bytes and places below it
+module _ {K : Type 0} (fs : List (Frame K)) (xs : List ℕ) (ps : List Span) (now : Span) (room most place_room : ℕ) (f : Frame K) (top : slice_get fs 0 ≡ Some f) (h : AreLevels fs xs ps now room most place_room) where
+  abbrev low_bytes : List ℕ
+  low_bytes = take f.height xs
+
+  abbrev low_places : List Span
+  low_places = take f.old.last ps
+
+  stacked : IsStacked ps (f ∷ drop 1 fs) now (length xs)
+  stacked = newest_on fs ps now (length xs) f h.stacked top
+
+  bytes_same : take f.height low_bytes ≡ take f.height xs
+  bytes_same = take-take f.height f.height xs (omega arith)
+
+  places_same : take f.old.last low_places ≡ take f.old.last ps
+  places_same = take-take f.old.last f.old.last ps (omega arith)
+
+  below_is : levels_of (drop 1 fs) low_bytes low_places f.old room most
+      ≡ record { levels = map (open_of xs ps) (drop 1 fs); arguments = arguments_of xs ps f.old; room = room; most = most }
+  below_is =
+      let on = stacked.0 in
+      ap₂ (λ ls os. record { levels = ls; arguments = os; room = room; most = most })
+      (same_levels low_bytes xs low_places ps f.height f.old.last (drop 1 fs) f.old f.height bytes_same places_same (omega arith) (omega arith) stacked.1)
+      (same_arguments low_bytes xs low_places ps f.height f.old.last f.old bytes_same places_same (omega arith) on.old)
+
+  same_old : arguments_of low_bytes low_places f.old ≡ arguments_of xs ps f.old
+  same_old = let on = stacked.0 in same_arguments low_bytes xs low_places ps f.height f.old.last f.old bytes_same places_same (omega arith) on.old
+
+  abbrev marked : K → Frame K
+  marked mode = record { reads = reads.Mark mode; old = f.old; charge = 0; height = f.height; resume = None }
+
+  pub marked_is : (mode : K) → levels_of (marked mode ∷ drop 1 fs) low_bytes low_places f.old room most
+      ≡ record { levels = marks (Some mode) (arguments_of xs ps f.old) ++ map (open_of xs ps) (drop 1 fs); arguments = arguments_of xs ps f.old; room = room; most = most }
+  marked_is mode =
+      ap₂ (λ (v : Levels K) os. record v { levels = record { source = Mark mode; old = os; charge = 0; resume = None } ∷ v.levels }) below_is same_old
+
+  pub below_stands : AreLevels (drop 1 fs) low_bytes low_places f.old room most place_room
+  below_stands =
+      let on = stacked.0 in
+      let lower = on.lower in
+      let within = on.old.within in
+      let long : length low_places ≡ f.old.last = length-take-le f.old.last ps within in
+      let height : length low_bytes ≡ f.height = length-take-le f.height xs lower in
+      record {
+        stacked = rw height (same_stack low_places ps f.old.last (drop 1 fs) f.old f.height places_same (omega arith) (omega arith) stacked.1);
+        now = rw height (same_below low_places ps f.old.last f.height f.old places_same (omega arith) (omega arith) on.old);
+        top = sym long;
+        places_suffice = h.places_suffice;
+        places_small = h.places_small;
+        small = h.small;
+      }
+
+  pub marked_stands : (mode : K) → AreLevels (marked mode ∷ drop 1 fs) low_bytes low_places f.old room most place_room
+  marked_stands mode =
+      let on = stacked.0 in
+      let lower = on.lower in
+      let rest = below_stands in
+      let height : length low_bytes ≡ f.height = length-take-le f.height xs lower in
+      record {
+        stacked = (
+          record { lower = omega arith; paid = omega arith; reads = tt; bare = (refl, sym height); old = rw (sym height) rest.now; above = omega arith; few = omega arith },
+          rw (sym height) rest.stacked,
+        );
+        now = rest.now;
+        top = rest.top;
+        places_suffice = h.places_suffice;
+        places_small = h.places_small;
+        small = h.small;
+      }
+
+  -- with no mode to resume
+  pub closed_is : (v : Levels K) → levels_of fs xs ps now room most ≡ v → f.resume ≡ None → levels_of (drop 1 fs) low_bytes low_places f.old room most ≡ closed v.levels v
+  closed_is v view none =
+      below_is
+      ∙ sym (ap (λ o. record { levels = marks o (arguments_of xs ps f.old) ++ map (open_of xs ps) (drop 1 fs); arguments = arguments_of xs ps f.old; room = room; most = most }) none)
+      ∙ ap (λ ls. closed ls (levels_of fs xs ps now room most)) (sym (ap (map (open_of xs ps)) (cons_of fs f top)))
+      ∙ ap (λ (w : Levels K). closed w.levels w) view
+
+  -- with one
+  pub closed_marked : (v : Levels K) (mode : K) → levels_of fs xs ps now room most ≡ v → f.resume ≡ Some mode → levels_of (marked mode ∷ drop 1 fs) low_bytes low_places f.old room most ≡ closed v.levels v
+  closed_marked v mode view some =
+      marked_is mode
+      ∙ sym (ap (λ o. record { levels = marks o (arguments_of xs ps f.old) ++ map (open_of xs ps) (drop 1 fs); arguments = arguments_of xs ps f.old; room = room; most = most }) some)
+      ∙ ap (λ ls. closed ls (levels_of fs xs ps now room most)) (sym (ap (map (open_of xs ps)) (cons_of fs f top)))
+      ∙ ap (λ (w : Levels K). closed w.levels w) view

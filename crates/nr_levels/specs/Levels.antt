@@ -1,0 +1,111 @@
+-- A stack of levels: texts that are being read, with what their ends restore.
+use Rattle.std.specs.Prelude.{ℕ, ◌+◌, ◌^◌, ◌<◌, List, [], ◌∷◌, ◌++◌, take, drop, slice_index_or, sum_by, Option, Some, None}
+use Rattle.nr_levels.specs.declared.frame.Front.{Front}
+use Rattle.nr_levels.specs.declared.frame.Front.TheVariants as fronts
+
+-- what a level still reads: a text from a place on, or bytes; or its end was taken, and a mode is still to be resumed
+pub data Source (K : Type 0) : Type 0 where
+  Text : ℕ → ℕ → Source K
+  Own : List ℕ → Source K
+  Mark : K → Source K
+
+-- a level: the arguments that its end restores, what it is charged, and the mode that is resumed behind its end
+pub record Open (K : Type 0) : Type 0 where
+  pub source : Source K
+  pub old : List (List ℕ)
+  pub charge : ℕ
+  pub resume : Option K
+
+-- the levels, the newest first, and the arguments in force; how many bytes there is room for, and levels
+pub record Levels (K : Type 0) : Type 0 where
+  pub levels : List (Open K)
+  pub arguments : List (List ℕ)
+  pub room : ℕ
+  pub most : ℕ
+
+-- the bytes cut up by these lengths
+abbrev pub cut : List ℕ → List ℕ → List (List ℕ)
+cut [] bytes = []
+cut (n ∷ ns) bytes = take n bytes ∷ cut ns (drop n bytes)
+
+-- an argument; an absent one is empty
+abbrev pub argument : List (List ℕ) → ℕ → List ℕ
+argument arguments n = slice_index_or arguments n []
+
+-- what all levels are charged
+abbrev pub total : {K : Type 0} → List (Open K) → ℕ
+total levels = sum_by (λ (l : Open _). l.charge) levels
+
+-- what comes next of a source
+abbrev pub front : {K : Type 0} → Source K → Front K
+front (Text id place) = fronts.Text id place
+front (Own []) = fronts.End
+front (Own (b ∷ bs)) = fronts.Byte b
+front (Mark mode) = fronts.Resume mode
+
+-- what comes next of the newest level
+abbrev pub front_of : {K : Type 0} → List (Open K) → Option (Front K)
+front_of [] = None
+front_of (l ∷ ls) = Some (front l.source)
+
+-- a source behind what comes next
+abbrev pub behind : {K : Type 0} → Source K → Source K
+behind (Text id place) = Text id (place + 1)
+behind (Own bytes) = Own (drop 1 bytes)
+behind (Mark mode) = Mark mode
+
+-- the newest level behind what comes next
+abbrev pub advanced : {K : Type 0} → List (Open K) → List (Open K)
+advanced [] = []
+advanced (l ∷ ls) = record l { source = behind l.source } ∷ ls
+
+-- an element comes next, where the text has one
+abbrev pub HasNext : {K : Type 0} → Option (Front K) → Type 0
+HasNext None = ⊥
+HasNext (Some (fronts.Text id place)) = place + 1 < 2 ^ 32
+HasNext (Some (fronts.Byte b)) = Unit {0}
+HasNext (Some fronts.End) = ⊥
+HasNext (Some (fronts.Resume mode)) = ⊥
+
+-- there is a level whose end is still to be taken
+abbrev pub HasEnd : {K : Type 0} → Option (Front K) → Type 0
+HasEnd None = ⊥
+HasEnd (Some (fronts.Text id place)) = Unit {0}
+HasEnd (Some (fronts.Byte b)) = Unit {0}
+HasEnd (Some fronts.End) = Unit {0}
+HasEnd (Some (fronts.Resume mode)) = ⊥
+
+-- a mode that is to be resumed comes next
+abbrev pub HasMark : {K : Type 0} → Option (Front K) → Type 0
+HasMark None = ⊥
+HasMark (Some (fronts.Text id place)) = ⊥
+HasMark (Some (fronts.Byte b)) = ⊥
+HasMark (Some fronts.End) = ⊥
+HasMark (Some (fronts.Resume mode)) = Unit {0}
+
+-- with one level more
+abbrev pub deeper : {K : Type 0} → Source K → List (List ℕ) → ℕ → Option K → Levels K → Levels K
+deeper source arguments charge resume v = record v {
+  levels = record { source = source; old = v.arguments; charge = charge; resume = resume } ∷ v.levels;
+  arguments = arguments;
+}
+
+-- what stays of a level whose end is taken: the mode that is to be resumed, if there is one
+abbrev pub marks : {K : Type 0} → Option K → List (List ℕ) → List (Open K)
+marks None old = []
+marks (Some mode) old = record { source = Mark mode; old = old; charge = 0; resume = None } ∷ []
+
+-- where the newest level's end is taken
+abbrev pub closed : {K : Type 0} → List (Open K) → Levels K → Levels K
+closed [] v = v
+closed (l ∷ ls) v = record v { levels = marks l.resume l.old ++ ls; arguments = l.old }
+
+-- where the newest level's mode is resumed
+abbrev pub resumed : {K : Type 0} → List (Open K) → Levels K → Levels K
+resumed [] v = v
+resumed (l ∷ ls) v = record v { levels = ls }
+
+-- what the newest level is charged
+abbrev pub charge_of_newest : {K : Type 0} → List (Open K) → ℕ
+charge_of_newest [] = 0
+charge_of_newest (l ∷ ls) = l.charge

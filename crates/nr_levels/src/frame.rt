@@ -1,0 +1,92 @@
+//! What is kept of a level.
+ghost use Rattle.std.specs.Prelude.{◌≡◌, ◌+◌, ◌<◌};
+
+use nr_pool::Id;
+
+/// A part of a row, from `first` up to `last`.
+#[derive(Clone, Copy, Debug, Drop)]
+pub struct Span {
+    pub(crate) first: u32,
+    pub(crate) last: u32,
+}
+
+impl Span {
+    /// A part to fill new slices with.
+    pub const fn blank() -> Span {
+        Span { first: 0, last: 0 }
+    }
+
+    // Without its first place.
+    pub(crate) fn behind_first(self) -> Span
+        requires { self.first < self.last }
+        ensures { result ≡ record self { first = self.first + 1 } }
+    {
+        Span {
+            first: self.first + 1,
+            last: self.last,
+        }
+    }
+}
+
+// What a level reads, and how far it has come.
+#[derive(Clone, Copy, Debug, Drop)]
+pub(crate) enum Reads<K> {
+    // A text of a pool, from this place on.
+    Text(Id, u32),
+    // A part of the bytes that the levels keep.
+    Own(Span),
+    // Nothing: its end was taken, and this mode is still to be resumed.
+    Mark(K),
+}
+
+/// A level, with a mode of `K` to resume behind its end.
+//
+// The arguments in force before it are a part of the row of places, and below `height` lie the bytes that were kept
+// before it.
+#[derive(Clone, Copy, Debug, Drop)]
+pub struct Frame<K> {
+    pub(crate) reads: Reads<K>,
+    pub(crate) old: Span,
+    pub(crate) charge: u32,
+    pub(crate) height: u32,
+    pub(crate) resume: Option<K>,
+}
+
+impl<K: Copy> Frame<K> {
+    /// A frame to fill new slices with.
+    pub const fn blank() -> Frame<K> {
+        Frame {
+            reads: Reads::Own(Span::blank()),
+            old: Span::blank(),
+            charge: 0,
+            height: 0,
+            resume: None,
+        }
+    }
+
+    // The frame, reading this.
+    pub(crate) fn with(self, reads: Reads<K>) -> Frame<K>
+        ensures { result ≡ record self { reads = reads } }
+    {
+        Frame {
+            reads,
+            old: self.old,
+            charge: self.charge,
+            height: self.height,
+            resume: self.resume,
+        }
+    }
+}
+
+/// What the newest level gives next.
+#[derive(Clone, Copy, Debug, Drop)]
+pub enum Front<K> {
+    /// What a text has at a place, or the end where it has no more.
+    Text(Id, u32),
+    /// A byte.
+    Byte(u8),
+    /// The level's end.
+    End,
+    /// The mode that is resumed behind a level whose end was taken.
+    Resume(K),
+}

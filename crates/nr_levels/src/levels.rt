@@ -1,0 +1,250 @@
+//! The levels that are open, and the bytes and arguments that they keep.
+ghost use Rattle.std.specs.Prelude.{◌≡◌, ◌+◌, ◌*◌, ◌^◌, ◌<◌, ◌≤◌, [], length, sum, nat_le, Some, None};
+ghost use Rattle.nr_levels.specs.Levels.{Text, Own, total, front_of, advanced, HasNext, HasEnd, HasMark, deeper, closed, charge_of_newest, resumed, argument, cut};
+
+use crate::frame::{Frame, Front, Reads, Span};
+use crate::spans::{push_spans, span_of};
+use crate::stack::Stack;
+use nr_pool::Id;
+use nr_units::slice_vec::SliceVec;
+use std::marker::Model;
+
+/// The levels that are open, the newest first, in slices that are lent. Bytes that a level brings lie on a stack, and
+/// so do the places of arguments: a level's end takes away what came with it, and nothing is ever moved. Each call
+/// takes constant time, and that of a copy of the bytes that it is given.
+///
+/// A level whose end was taken stays while the mode behind it is still to be resumed.
+#[derive(Drop)]
+pub struct Levels<'a, K: Copy> {
+    frames: Stack<'a, Frame<K>>,
+    bytes: SliceVec<'a, u8>,
+    places: SliceVec<'a, Span>,
+    // The arguments in force, in `places`.
+    in_force: Span,
+}
+
+impl<'a, K: Copy> Model for Levels<'a, K> {
+    ghost use Rattle.nr_levels.specs.Levels.{Levels};
+    ghost use Rattle.nr_levels.specs.Frames.{levels_of, AreLevels};
+
+    ghost Value = { Levels K };
+
+    ghost view = { λ s. levels_of s.frames.items s.bytes.items s.places.items s.in_force s.bytes.room s.frames.room };
+
+    ghost invariant = { λ s. AreLevels s.frames.items s.bytes.items s.places.items s.in_force s.bytes.room s.frames.room s.places.room };
+}
+
+impl<'a, K: Copy> Levels<'a, K> {
+    /// No levels, with room for as many as `frames` has, and for the bytes of levels that are charged as many as
+    /// `bytes` has.
+    pub fn over(frames: &'a mut [Frame<K>], bytes: &'a mut [u8], places: &'a mut [Span]) -> Self
+        requires bytes { length bytes.old < 2 ^ 32 }
+        requires places { 9 * length frames.old ≤ length places.old }
+        requires places_small { length places.old < 2 ^ 32 }
+        ensures { result
+            ≡ record { levels = []; arguments = []; room = length bytes.old; most = length frames.old } }
+    {
+        Levels {
+            frames: Stack::over(frames),
+            bytes: SliceVec::over(bytes),
+            places: SliceVec::over(places),
+            in_force: Span { first: 0, last: 0 },
+        }
+    }
+
+    /// How many levels there are.
+    #[inline]
+    pub fn depth(&self) -> usize
+        ensures value { result ≡ length self.now.levels }
+        ensures within { result ≤ self.now.most }
+    {
+        self.frames.len()
+    }
+
+    /// Whether there may be no level more.
+    #[inline]
+    pub fn is_full(&self) -> bool
+        ensures { result ≡ nat_le self.now.most (length self.now.levels) }
+    {
+        self.frames.len() >= self.frames.room()
+    }
+
+    /// What the newest level gives next.
+    #[inline]
+    pub fn front(&self) -> Option<Front<K>>
+        ensures { result ≡ front_of self.now.levels }
+    {
+        let Some(frame) = self.frames.top() else {
+            return None;
+        };
+        let reads = frame.reads;
+        match reads {
+            Reads::Text(id, place) => Some(Front::Text(id, place)),
+            Reads::Own(span) => {
+                if span.first >= span.last {
+                    return Some(Front::End);
+                }
+                Some(Front::Byte(self.bytes.get(span.first as usize)))
+            }
+            Reads::Mark(mode) => Some(Front::Resume(mode)),
+        }
+    }
+
+    /// The newest level goes on behind the element that it gave.
+    #[inline]
+    pub fn advance(&mut self)
+        requires { HasNext (front_of self.old.levels) }
+        ensures { self.new ≡ record self.old { levels = advanced self.old.levels } }
+    {
+        let Some(frame) = self.frames.top() else {
+            return;
+        };
+        let reads = frame.reads;
+        match reads {
+            Reads::Text(id, place) => self.frames.set_top(frame.with(Reads::Text(id, place + 1))),
+            Reads::Own(span) => self
+                .frames
+                .set_top(frame.with(Reads::Own(span.behind_first()))),
+            Reads::Mark(_) => {}
+        }
+    }
+
+    /// Opens a level that reads a text, with no arguments in force, and with a mode to resume behind its end.
+    pub fn open_text(&mut self, id: Id, charge: u32, resume: Option<K>)
+        requires room { length self.old.levels < self.old.most }
+        requires paid { 16 ≤ charge }
+        requires bytes { total self.old.levels + charge ≤ self.old.room }
+        ensures { self.new ≡ deeper (Text id 0) [] charge resume self.old }
+    {
+        let frame = Frame {
+            reads: Reads::Text(id, 0),
+            old: self.in_force,
+            charge,
+            height: self.bytes.len() as u32,
+            resume,
+        };
+        self.frames.push(frame);
+        let top = self.places.len() as u32;
+        self.in_force = Span {
+            first: top,
+            last: top,
+        };
+    }
+
+    /// Opens a level that reads a text with new arguments: `bytes`, cut up by these lengths.
+    pub fn open_call(&mut self, id: Id, bytes: &[u8], lens: &[u32], charge: u32)
+        requires room { length self.old.levels < self.old.most }
+        requires paid { 16 + length bytes.now ≤ charge }
+        requires bytes { total self.old.levels + charge ≤ self.old.room }
+        requires lens { sum lens.now ≡ length bytes.now }
+        requires nine { length lens.now ≤ 9 }
+        ensures { self.new ≡ deeper (Text id 0) (cut lens.now bytes.now) charge None self.old }
+    {
+        let height = self.bytes.len() as u32;
+        let first = self.places.len() as u32;
+        self.frames.push(Frame {
+            reads: Reads::Text(id, 0),
+            old: self.in_force,
+            charge,
+            height,
+            resume: None,
+        });
+        self.bytes.extend(bytes);
+        push_spans(&mut self.places, height, lens);
+        let last = self.places.len() as u32;
+        self.in_force = Span { first, last };
+    }
+
+    /// Opens a level that reads these bytes. The arguments stay in force.
+    pub fn open_bytes(&mut self, bytes: &[u8], charge: u32)
+        requires room { length self.old.levels < self.old.most }
+        requires paid { 16 + length bytes.now ≤ charge }
+        requires bytes { total self.old.levels + charge ≤ self.old.room }
+        ensures { self.new ≡ deeper (Own bytes.now) self.old.arguments charge None self.old }
+    {
+        let first = self.bytes.len() as u32;
+        self.bytes.extend(bytes);
+        let last = self.bytes.len() as u32;
+        self.frames.push(Frame {
+            reads: Reads::Own(Span { first, last }),
+            old: self.in_force,
+            charge,
+            height: first,
+            resume: None,
+        });
+    }
+
+    /// How many arguments are in force.
+    #[inline]
+    pub fn argument_count(&self) -> usize
+        ensures { result ≡ length self.now.arguments }
+    {
+        self.in_force.last.saturating_sub(self.in_force.first) as usize
+    }
+
+    /// How many bytes an argument has. They are counted from 0; an absent one has none.
+    #[inline]
+    pub fn argument_len(&self, n: usize) -> usize
+        ensures value { result ≡ length (argument self.now.arguments n) }
+        ensures small { result < 2 ^ 32 }
+    {
+        let span = span_of(&self.places, self.in_force, n);
+        span.last.saturating_sub(span.first) as usize
+    }
+
+    /// Opens a level that reads an argument where it lies. The arguments stay in force.
+    pub fn open_argument(&mut self, n: usize, charge: u32)
+        requires room { length self.old.levels < self.old.most }
+        requires paid { 16 ≤ charge }
+        requires bytes { total self.old.levels + charge ≤ self.old.room }
+        ensures { self.new
+            ≡ deeper (Own (argument self.old.arguments n)) self.old.arguments charge None self.old }
+    {
+        let span = span_of(&self.places, self.in_force, n);
+        let height = self.bytes.len() as u32;
+        self.frames.push(Frame {
+            reads: Reads::Own(span),
+            old: self.in_force,
+            charge,
+            height,
+            resume: None,
+        });
+    }
+
+    /// Takes the newest level's end, and gives its charge back: the arguments before it are in force again. The mode
+    /// that is to be resumed, if there is one, then comes next.
+    #[inline]
+    pub fn close(&mut self) -> u32
+        requires { HasEnd (front_of self.old.levels) }
+        ensures charge { result ≡ charge_of_newest self.old.levels }
+        ensures rest { self.new ≡ closed self.old.levels self.old }
+    {
+        let Some(frame) = self.frames.top() else {
+            return 0;
+        };
+        self.bytes.truncate(frame.height as usize);
+        self.places.truncate(frame.old.last as usize);
+        self.in_force = frame.old;
+        let Some(mode) = frame.resume else {
+            self.frames.pop();
+            return frame.charge;
+        };
+        self.frames.set_top(Frame {
+            reads: Reads::Mark(mode),
+            old: frame.old,
+            charge: 0,
+            height: frame.height,
+            resume: None,
+        });
+        frame.charge
+    }
+
+    /// Takes the mode that comes next away.
+    #[inline]
+    pub fn resume(&mut self)
+        requires { HasMark (front_of self.old.levels) }
+        ensures { self.new ≡ resumed self.old.levels self.old }
+    {
+        self.frames.pop();
+    }
+}

@@ -1,0 +1,11 @@
+//! Levels of input: the stack of texts that are being read, with the arguments in force, in slices that are lent.
+#![tactic(auto)]
+
+pub mod frame;
+pub mod levels;
+mod spans;
+pub mod stack;
+
+pub use frame::{Frame, Front, Span};
+pub use levels::Levels;
+pub use stack::Stack;
