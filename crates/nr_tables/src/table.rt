@@ -1,0 +1,131 @@
+//! A table of what has a name.
+ghost use Rattle.std.specs.Prelude.{◌≡◌, ◌<◌, length, [], MatchResult, None};
+ghost use Rattle.nr_tables.specs.Named.{find, put, without};
+ghost use Rattle.nr_tables.specs.Rows.{IsSorted, IsFound, IsMissed};
+
+use nr_units::Name;
+use nr_units::slice_vec::SliceVec;
+use std::cmp::Ordering;
+use std::marker::Model;
+
+/// A name and what has it.
+#[derive(Clone, Copy, Drop)]
+pub struct Entry<V> {
+    pub(crate) name: Name,
+    pub(crate) value: V,
+}
+
+impl<V: Copy> Entry<V> {
+    /// An entry to fill new slices with.
+    pub fn blank(value: V) -> Entry<V> {
+        Entry {
+            name: Name::new(),
+            value,
+        }
+    }
+}
+
+// The place of a name, or else the place of the first that is higher.
+fn place_of<V: Copy>(row: &[Entry<V>], name: Name) -> Result<usize, usize>
+    requires { IsSorted row.now }
+    ensures { MatchResult result (IsFound row.now name) (IsMissed row.now name) }
+{
+    let mut low = 0;
+    let mut high = row.len();
+    while low < high {
+        let middle = low + (high - low) / 2;
+        let there = row[middle].name;
+        match there.compare(&name) {
+            Ordering::Less => low = middle + 1,
+            Ordering::Equal => return Ok(middle),
+            Ordering::Greater => high = middle,
+        }
+    }
+    Err(low)
+}
+
+/// What has a name, in a slice that is lent, in the order of the names. A name is found in as many steps as the
+/// logarithm of the number of names; one that is new or goes moves those behind it at once.
+///
+/// Clauses see the list of names with their values, and the room, the greatest number of names.
+#[derive(Drop)]
+pub struct Table<'a, V: Copy> {
+    entries: SliceVec<'a, Entry<V>>,
+}
+
+impl<'a, V: Copy> Model for Table<'a, V> {
+    ghost use Rattle.std.specs.Prelude.{map};
+    ghost use Rattle.nr_tables.specs.Rows.{Table, IsSorted, named};
+
+    ghost Value = { Table V };
+
+    ghost view = { λ t. record { entries = map named t.entries.items; room = t.entries.room } };
+
+    ghost invariant = { λ t. IsSorted t.entries.items };
+}
+
+impl<'a, V: Copy> Table<'a, V> {
+    /// No names yet, and room for as many as the slice has.
+    pub fn over(entries: &'a mut [Entry<V>]) -> Self
+        ensures { result ≡ record { entries = []; room = length entries.entry.now } }
+    {
+        Table {
+            entries: SliceVec::over(entries),
+        }
+    }
+
+    /// The number of names.
+    pub fn len(&self) -> usize
+        ensures { result ≡ length self.now.entries }
+    {
+        self.entries.len()
+    }
+
+    /// What has this name.
+    pub fn get(&self, name: Name) -> Option<V>
+        ensures { result ≡ find name self.now.entries }
+    {
+        match place_of(self.entries.as_slice(), name) {
+            Ok(place) => {
+                let entry = self.entries.get(place);
+                Some(entry.value)
+            }
+            Err(_) => None,
+        }
+    }
+
+    /// Gives a name a value, and answers the one that it had.
+    pub fn put(&mut self, name: Name, value: V) -> Option<V>
+        requires { find name self.old.entries ≡ None → length self.old.entries < self.old.room }
+        ensures was { result ≡ find name self.old.entries }
+        ensures is { self.new ≡ record self.old { entries = put name value self.old.entries } }
+    {
+        match place_of(self.entries.as_slice(), name) {
+            Ok(place) => {
+                let was = self.entries.get(place);
+                self.entries.set(place, Entry { name, value });
+                Some(was.value)
+            }
+            Err(place) => {
+                self.entries.insert(place, Entry { name, value });
+                None
+            }
+        }
+    }
+
+    /// Takes a name away, and answers what had it.
+    pub fn remove(&mut self, name: Name) -> Option<V>
+        ensures was { result ≡ find name self.old.entries }
+        ensures is { self.new ≡ record self.old { entries = without name self.old.entries } }
+        ensures gone { find name self.new.entries ≡ None }
+    {
+        match place_of(self.entries.as_slice(), name) {
+            Ok(place) => {
+                let was = self.entries.get(place);
+                self.entries.remove(place);
+                Some(was.value)
+            }
+            Err(_) => None,
+        }
+    }
+}
