@@ -1,3 +1,5 @@
+pub mod Gathered
+pub mod Laws
 pub mod Named
 pub mod Rows
-pub mod Laws
+pub mod Words

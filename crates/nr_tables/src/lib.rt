@@ -1,6 +1,8 @@
-//! What the store keeps beside texts, in slices that are lent: tables of what has a name.
+//! What the store keeps beside texts, in slices that are lent: tables of what has a name, traps.
 #![tactic(auto)]
 
 pub mod table;
+pub mod trap;
 
 pub use table::{Entry, Table};
+pub use trap::Trap;

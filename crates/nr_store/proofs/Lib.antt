@@ -1,0 +1,11 @@
+pub mod Counting
+pub mod Keeping
+pub mod Building
+pub mod Copying
+pub mod Naming
+pub mod Reading
+pub mod Entering
+pub mod Admitting
+pub mod Defining
+pub mod Dropping
+pub mod Diverting

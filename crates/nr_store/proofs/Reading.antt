@@ -1,0 +1,311 @@
+-- Lemmas on the newest level.
+use Rattle.std.proofs.Common.{◌≡◌, ℕ, ◌+◌, ◌-◌, ◌<◌, ◌≤◌, List, [], ◌∷◌, ◌++◌, length, map, drop, sum_by, Option, Some, None, refl, ap, ap₂, sym, ◌∙◌, subst, arith}
+use Rattle.std.specs.List.{slice_get}
+use Rattle.std.proofs.lemmas.List.{drop_more, drop_all}
+use Rattle.std.proofs.lemmas.List.Sums.{sum_by-cons}
+use Rattle.std.proofs.lemmas.Option.{slice_get_within, get_or_from_slice_get}
+use Rattle.nr_units.specs.Items.{Items}
+use Rattle.nr_pool.specs.Texts.{Texts, text, holders, IsOpen, released}
+use Rattle.nr_tables.specs.Named.{Named}
+use Rattle.nr_tables.specs.Rows.{Table}
+use Rattle.nr_levels.specs.Levels.{Source, Text, Own, Mark as Marked, Open, Levels, front, front_of, behind, advanced, marks, closed, resumed, charge_of_newest}
+use Rattle.nr_levels.specs.declared.frame.Front.TheVariants as fronts
+use Rattle.nr_store.specs.declared.named.Sense.{Sense}
+use Rattle.nr_store.specs.declared.element.Element.{Element}
+use Rattle.nr_store.specs.declared.element.Draft.{Draft}
+use Rattle.nr_store.specs.declared.shown.Shown.TheVariants as shows
+use Rattle.nr_store.specs.Stored.{Level, Read, Mark, level_charge, Stored, charge_of, shown, shown_in, shown_of, mark_of, left, left_in, left_of}
+use Rattle.nr_store.specs.Holders.{Beside, level_in, level_of, stored_of, count, ids_of, ids_of_source, values, draft_ids, held_ids, IsHeld, Pays, AllPay, IsStore}
+use Rattle.nr_store.proofs.Counting.{AddsOne, count-cons, count-append, held_less, open_of_adds, text_kept, released_capacity, released_slots}
+use Rattle.nr_store.proofs.Keeping.{Keeps, keeps_right, same_view, all_pay}
+
+-- the newest level reads this
+pub record Newest {K : Type 0} (levels : List (Open K)) (s : Source K) : Type 0 where
+  pub level : Open K
+  pub first : levels ≡ level ∷ drop 1 levels
+  pub reads : level.source ≡ s
+
+source_text : {K : Type 0} (s : Source K) (id place : ℕ) → front s ≡ fronts.Text id place → s ≡ Text id place
+source_text (Text i j) id place is = let same : i ≡ id = cc in let at : j ≡ place = cc in ap₂ Text same at
+source_text (Own []) id place is = cc
+source_text (Own (b ∷ bs)) id place is = cc
+source_text (Marked mode) id place is = cc
+
+source_end : {K : Type 0} (s : Source K) → front s ≡ fronts.End → s ≡ Own []
+source_end (Text i j) is = cc
+source_end (Own []) is = refl
+source_end (Own (b ∷ bs)) is = cc
+source_end (Marked mode) is = cc
+
+pub record Bytes {K : Type 0} (s : Source K) (b : ℕ) : Type 0 where
+  pub rest : List ℕ
+  pub is : s ≡ Own (b ∷ rest)
+
+source_byte : {K : Type 0} (s : Source K) (b : ℕ) → front s ≡ fronts.Byte b → Bytes s b
+source_byte (Text i j) b is = let no : ⊥ = cc in absurd no
+source_byte (Own []) b is = let no : ⊥ = cc in absurd no
+source_byte (Own (c ∷ cs)) b is = let same : c ≡ b = cc in record { rest = cs; is = ap (λ d. Own (d ∷ cs)) same }
+source_byte (Marked mode) b is = let no : ⊥ = cc in absurd no
+
+source_mark : {K : Type 0} (s : Source K) (mode : K) → front s ≡ fronts.Resume mode → s ≡ Marked mode
+source_mark (Text i j) mode is = cc
+source_mark (Own []) mode is = cc
+source_mark (Own (b ∷ bs)) mode is = cc
+source_mark (Marked m) mode is = let same : m ≡ mode = cc in ap Marked same
+
+pub newest_text : {K : Type 0} (levels : List (Open K)) (id place : ℕ) → front_of levels ≡ Some (fronts.Text id place) → Newest levels (Text id place)
+newest_text [] id place is = let no : ⊥ = cc in absurd no
+newest_text (l ∷ ls) id place is = record { level = l; first = refl; reads = source_text l.source id place cc }
+
+pub newest_end : {K : Type 0} (levels : List (Open K)) → front_of levels ≡ Some fronts.End → Newest levels (Own [])
+newest_end [] is = let no : ⊥ = cc in absurd no
+newest_end (l ∷ ls) is = record { level = l; first = refl; reads = source_end l.source cc }
+
+pub newest_mark : {K : Type 0} (levels : List (Open K)) (mode : K) → front_of levels ≡ Some (fronts.Resume mode) → Newest levels (Marked mode)
+newest_mark [] mode is = let no : ⊥ = cc in absurd no
+newest_mark (l ∷ ls) mode is = record { level = l; first = refl; reads = source_mark l.source mode cc }
+
+pub record NewestByte {K : Type 0} (levels : List (Open K)) (b : ℕ) : Type 0 where
+  pub rest : List ℕ
+  pub newest : Newest levels (Own (b ∷ rest))
+
+pub newest_byte : {K : Type 0} (levels : List (Open K)) (b : ℕ) → front_of levels ≡ Some (fronts.Byte b) → NewestByte levels b
+newest_byte [] b is = let no : ⊥ = cc in absurd no
+newest_byte (l ∷ ls) b is = let bytes = source_byte l.source b cc in record { rest = bytes.rest; newest = record { level = l; first = refl; reads = bytes.is } }
+
+pub no_newest : {K : Type 0} (levels : List (Open K)) → front_of levels ≡ None → levels ≡ []
+no_newest [] is = refl
+no_newest (l ∷ ls) is = cc
+
+-- what a text has from a place on
+pub rest_more : (xs : List Element) (place : ℕ) (x : Element) → slice_get xs place ≡ Some x → drop place xs ≡ x ∷ drop (place + 1) xs
+rest_more xs place x is = drop_more xs place x (slice_get_within xs place x is) ∙ ap (λ y. y ∷ drop (place + 1) xs) (get_or_from_slice_get xs place x x is)
+
+-- ---- an element is taken
+
+module _ {K : Type 0} (p : Texts Element) (names : List (Named Sense)) (drafts : List Draft) (levels : Levels K) (beside : Beside) (limit : ℕ) (s : Source K) (n : Newest levels.levels s) where
+  abbrev with : List (Open K) → Stored K
+  with ls = stored_of p names drafts (record levels { levels = ls }) beside limit
+
+  abbrev after : List (Open K) → Stored K
+  after ls = left (map (level_of p) ls) (with ls)
+
+  pub shown_is : shown (map (level_of p) levels.levels) ≡ shown_in (level_in p s n.level)
+  shown_is = ap (λ ls. shown (map (level_of p) ls)) n.first ∙ ap (λ t. shown_in (level_in p t n.level)) n.reads
+
+  pub advanced_is : with (advanced levels.levels) ≡ record (with levels.levels) { levels = level_in p (behind s) (record n.level { source = behind s }) ∷ map (level_of p) (drop 1 levels.levels) }
+  advanced_is =
+      ap (λ ks. with (advanced ks)) n.first ∙ ap (λ t. record (with levels.levels) { levels = level_in p (behind t) (record n.level { source = behind t }) ∷ map (level_of p) (drop 1 levels.levels) }) n.reads
+
+  pub after_is : after levels.levels ≡ left_in (level_in p s n.level) (map (level_of p) (drop 1 levels.levels)) (with (n.level ∷ drop 1 levels.levels))
+  after_is = ap after n.first ∙ ap (λ t. left_in (level_in p t n.level) (map (level_of p) (drop 1 levels.levels)) (with (n.level ∷ drop 1 levels.levels))) n.reads
+
+  -- the levels are those of the view
+  pub with_first : with (n.level ∷ drop 1 levels.levels) ≡ with levels.levels
+  with_first = ap with (sym n.first)
+
+module _ {K : Type 0} (p : Texts Element) (names : List (Named Sense)) (drafts : List Draft) (levels : Levels K) (beside : Beside) (limit id place : ℕ) (n : Newest levels.levels (Text id place)) where
+  module _ (x : Element) (is : slice_get (text p id) place ≡ Some x) where
+    pub item_shown : shown (map (level_of p) levels.levels) ≡ shows.Item x
+    item_shown = shown_is p names drafts levels beside limit (Text id place) n ∙ ap shown_of (rest_more (text p id) place x is)
+
+    pub item_left : stored_of p names drafts (record levels { levels = advanced levels.levels }) beside limit ≡ left (map (level_of p) levels.levels) (stored_of p names drafts levels beside limit)
+    item_left =
+        let l = n.level in
+        let ls = map (level_of p) (drop 1 levels.levels) in
+        let v = stored_of p names drafts (record levels { levels = l ∷ drop 1 levels.levels }) beside limit in
+        advanced_is p names drafts levels beside limit (Text id place) n
+        ∙ sym (ap (λ r. left_of r (record { rest = drop place (text p id); old = l.old; charge = l.charge; resume = l.resume }) ls v) (rest_more (text p id) place x is))
+        ∙ sym (after_is p names drafts levels beside limit (Text id place) n)
+
+  module _ (none : length (text p id) ≤ place) where
+    pub end_shown : shown (map (level_of p) levels.levels) ≡ shows.End
+    end_shown = shown_is p names drafts levels beside limit (Text id place) n ∙ ap shown_of (drop_all place (text p id) none)
+
+    pub end_left : left (map (level_of p) levels.levels) (stored_of p names drafts levels beside limit)
+        ≡ record (stored_of p names drafts levels beside limit) { levels = mark_of n.level.resume ++ map (level_of p) (drop 1 levels.levels); arguments = n.level.old }
+    end_left =
+        let l = n.level in
+        let ls = map (level_of p) (drop 1 levels.levels) in
+        let v = stored_of p names drafts (record levels { levels = l ∷ drop 1 levels.levels }) beside limit in
+        after_is p names drafts levels beside limit (Text id place) n
+        ∙ ap (λ r. left_of r (record { rest = drop place (text p id); old = l.old; charge = l.charge; resume = l.resume }) ls v) (drop_all place (text p id) none)
+
+pub adds_level : {K : Type 0} (id : ℕ) (names : List (Named Sense)) (building : List ℕ) (l : Open K) (levels : List (Open K)) → ids_of_source l.source ≡ id ∷ [] → AddsOne id (held_ids names building levels) (held_ids names building (l ∷ levels))
+adds_level id names building l levels is = record {
+  counts = λ k.
+      let less = count-append k (values names) (building ++ ids_of levels) in
+      let less_behind = count-append k building (ids_of levels) in
+      let more = count-append k (values names) (building ++ (ids_of_source l.source ++ ids_of levels)) in
+      let more_behind = count-append k building (ids_of_source l.source ++ ids_of levels) in
+      let these : count k (ids_of_source l.source ++ ids_of levels) ≡ count k (id ∷ ids_of levels) = ap (λ ks. count k (ks ++ ids_of levels)) is in
+      let this = count-cons k id (ids_of levels) in
+      omega arith;
+}
+
+-- ---- the end of a level is taken
+
+-- what a level with a mode leaves
+marks_levels : {K : Type 0} (p : Texts Element) (o : Option K) (old : List (List ℕ)) (ls : List (Open K)) → map (level_of p) (marks o old ++ ls) ≡ mark_of o ++ map (level_of p) ls
+marks_levels p None old ls = refl
+marks_levels p (Some mode) old ls = refl
+
+marks_ids : {K : Type 0} (o : Option K) (old : List (List ℕ)) (ls : List (Open K)) → ids_of (marks o old ++ ls) ≡ ids_of ls
+marks_ids None old ls = refl
+marks_ids (Some mode) old ls = refl
+
+marks_pay : {K : Type 0} (p : Texts Element) (o : Option K) (old : List (List ℕ)) (ls : List (Open K)) → AllPay p ls → AllPay p (marks o old ++ ls)
+marks_pay p None old ls pays = pays
+marks_pay p (Some mode) old ls pays = (refl, pays)
+
+marks_length : {K : Type 0} (o : Option K) (old : List (List ℕ)) (ls : List (Open K)) → length (marks o old ++ ls) ≤ length ls + 1
+marks_length None old ls = omega arith
+marks_length (Some mode) old ls = omega arith
+
+marks_charge : {K : Type 0} (o : Option K) (ls : List (Level K)) → sum_by level_charge (mark_of o ++ ls) ≡ sum_by level_charge ls
+marks_charge None ls = refl
+marks_charge (Some mode) ls = sum_by-cons level_charge (Mark mode) ls ∙ omega arith
+
+module _ {K : Type 0} (p q : Texts Element) (names : Table Sense) (drafts : Items Draft) (levels : Levels K) (beside : Beside) (charge limit : ℕ) (s : Source K) (n : Newest levels.levels s)
+    (h : IsStore p names drafts levels beside charge limit) (held : IsHeld q (held_ids names.entries (draft_ids drafts.items) (drop 1 levels.levels)))
+    (keeps : Keeps p q (held_ids names.entries (draft_ids drafts.items) (drop 1 levels.levels)))
+    (alone : (k : ℕ) → 0 < count k (draft_ids drafts.items) → holders q k ≡ 1)
+    (same_capacity : q.capacity ≡ p.capacity) (same_slots : length q.texts ≡ length p.texts) where
+  abbrev ls : List (Open K)
+  ls = drop 1 levels.levels
+
+  rest_pays : AllPay p ls
+  rest_pays = let all : AllPay p (n.level ∷ ls) = subst (AllPay p) n.first h.pays in all.1
+
+  keeps_levels : Keeps p q (ids_of ls)
+  keeps_levels = keeps_right p q (draft_ids drafts.items) (ids_of ls) (keeps_right p q (values names.entries) (draft_ids drafts.items ++ ids_of ls) keeps)
+
+  -- with the levels that are left, one way or the other
+  module _ (now : List (Open K)) (seen : List (Level K)) (arguments : List (List ℕ)) (views : (r : Texts Element) → map (level_of r) now ≡ seen ++ map (level_of r) ls) (ids : ids_of now ≡ ids_of ls) (pays : AllPay q ls → AllPay q now)
+      (short : length now ≤ length ls + 1) (bare : sum_by level_charge (seen ++ map (level_of p) ls) ≡ sum_by level_charge (map (level_of p) ls)) where
+    pub now_is : stored_of q names.entries drafts.items (record levels { levels = now; arguments = arguments }) beside limit
+        ≡ record (stored_of p names.entries drafts.items levels beside limit) { levels = seen ++ map (level_of p) ls; arguments = arguments }
+    now_is =
+        ap (λ ks. record (stored_of q names.entries drafts.items levels beside limit) { levels = ks; arguments = arguments }) (views q)
+        ∙ ap (λ (v : Stored K). record v { levels = seen ++ v.levels; arguments = arguments }) (same_view p q names.entries drafts.items (record levels { levels = ls }) beside limit keeps)
+
+    pub now_stands : level_charge (level_of p n.level) ≤ charge → IsStore q names drafts (record levels { levels = now; arguments = arguments }) beside (charge - level_charge (level_of p n.level)) limit
+    now_stands paid =
+        let was = h.charged in
+        let within = h.within in
+        let all : sum_by level_charge (map (level_of p) levels.levels) ≡ level_charge (level_of p n.level) + sum_by level_charge (map (level_of p) ls) =
+        ap (λ ks. sum_by level_charge (map (level_of p) ks)) n.first ∙ sum_by-cons level_charge (level_of p n.level) (map (level_of p) ls) in
+        let view = ap charge_of now_is in
+        record {
+          held = subst (λ ks. IsHeld q (values names.entries ++ (draft_ids drafts.items ++ ks))) (sym ids) held;
+          alone = alone;
+          pays = pays (all_pay p q ls keeps_levels rest_pays);
+          few_acts = h.few_acts;
+          charged = omega arith;
+          within = omega arith;
+          deep = let deep = h.deep in let long = ap length n.first in omega arith;
+          small = h.small;
+          elements_suffice = let elements = h.elements_suffice in omega arith;
+          slots_suffice = let slots = h.slots_suffice in omega arith;
+          names_suffice = h.names_suffice;
+          drafts_suffice = h.drafts_suffice;
+          bytes_suffice = h.bytes_suffice;
+        }
+
+  -- its end is taken
+  pub closed_view : stored_of q names.entries drafts.items (closed levels.levels levels) beside limit
+      ≡ record (stored_of p names.entries drafts.items levels beside limit) { levels = mark_of n.level.resume ++ map (level_of p) ls; arguments = n.level.old }
+  closed_view =
+      ap (λ ks. stored_of q names.entries drafts.items (closed ks levels) beside limit) n.first
+      ∙ now_is (marks n.level.resume n.level.old ++ ls) (mark_of n.level.resume) n.level.old (λ r. marks_levels r n.level.resume n.level.old ls) (marks_ids n.level.resume n.level.old ls) (marks_pay q n.level.resume n.level.old ls)
+      (marks_length n.level.resume n.level.old ls) (marks_charge n.level.resume (map (level_of p) ls))
+
+  pub closed_stands : level_charge (level_of p n.level) ≡ n.level.charge → IsStore q names drafts (closed levels.levels levels) beside (charge - charge_of_newest levels.levels) limit
+  closed_stands paid =
+      let was = h.charged in
+      let all : sum_by level_charge (map (level_of p) levels.levels) ≡ level_charge (level_of p n.level) + sum_by level_charge (map (level_of p) ls) =
+      ap (λ ks. sum_by level_charge (map (level_of p) ks)) n.first ∙ sum_by-cons level_charge (level_of p n.level) (map (level_of p) ls) in
+      subst (λ ks. IsStore q names drafts (closed ks levels) beside (charge - charge_of_newest ks) limit) (sym n.first)
+      (subst (λ m. IsStore q names drafts (record levels { levels = marks n.level.resume n.level.old ++ ls; arguments = n.level.old }) beside (charge - m) limit) paid
+      (now_stands (marks n.level.resume n.level.old ++ ls) (mark_of n.level.resume) n.level.old (λ r. marks_levels r n.level.resume n.level.old ls) (marks_ids n.level.resume n.level.old ls) (marks_pay q n.level.resume n.level.old ls)
+      (marks_length n.level.resume n.level.old ls) (marks_charge n.level.resume (map (level_of p) ls)) (omega arith)))
+
+  pub newest_paid : level_charge (level_of p n.level) ≡ n.level.charge → charge_of_newest levels.levels ≤ charge
+  newest_paid paid =
+      let was = h.charged in
+      let all : sum_by level_charge (map (level_of p) levels.levels) ≡ level_charge (level_of p n.level) + sum_by level_charge (map (level_of p) ls) =
+      ap (λ ks. sum_by level_charge (map (level_of p) ks)) n.first ∙ sum_by-cons level_charge (level_of p n.level) (map (level_of p) ls) in
+      let is : charge_of_newest levels.levels ≡ n.level.charge = ap charge_of_newest n.first in
+      omega arith
+
+-- ---- the end of a level that reads a text
+
+module _ {K : Type 0} (p : Texts Element) (names : Table Sense) (drafts : Items Draft) (levels : Levels K) (beside : Beside) (charge limit id place : ℕ) (h : IsStore p names drafts levels beside charge limit) (n : Newest levels.levels (Text id place)) where
+  adds : AddsOne id (held_ids names.entries (draft_ids drafts.items) (drop 1 levels.levels)) (held_ids names.entries (draft_ids drafts.items) levels.levels)
+  adds = subst (λ ls. AddsOne id (held_ids names.entries (draft_ids drafts.items) (drop 1 levels.levels)) (held_ids names.entries (draft_ids drafts.items) ls)) (sym n.first)
+      (adds_level id names.entries (draft_ids drafts.items) n.level (drop 1 levels.levels) (ap ids_of_source n.reads))
+
+  pub read_open : IsOpen p id
+  read_open = open_of_adds p id (held_ids names.entries (draft_ids drafts.items) (drop 1 levels.levels)) (held_ids names.entries (draft_ids drafts.items) levels.levels) h.held adds
+
+  held_after : IsHeld (released p id) (held_ids names.entries (draft_ids drafts.items) (drop 1 levels.levels))
+  held_after = held_less p id (held_ids names.entries (draft_ids drafts.items) (drop 1 levels.levels)) (held_ids names.entries (draft_ids drafts.items) levels.levels) h.held adds
+
+  keeps_after : Keeps p (released p id) (held_ids names.entries (draft_ids drafts.items) (drop 1 levels.levels))
+  keeps_after = record { kept = λ k some. let held = held_after.held k in text_kept p id k read_open (omega arith) }
+
+  alone_after : (k : ℕ) → 0 < count k (draft_ids drafts.items) → holders (released p id) k ≡ 1
+  alone_after k some =
+      let one = h.alone k some in
+      let now = held_after.held k in
+      let old = h.held.held k in
+      let counts = adds.counts k in
+      let less = count-append k (values names.entries) (draft_ids drafts.items ++ ids_of (drop 1 levels.levels)) in
+      let less_behind = count-append k (draft_ids drafts.items) (ids_of (drop 1 levels.levels)) in
+      omega arith
+
+  charged : level_charge (level_of p n.level) ≡ n.level.charge
+  charged = ap (λ s. level_charge (level_in p s n.level)) n.reads
+
+  pub text_ended : stored_of (released p id) names.entries drafts.items (closed levels.levels levels) beside limit
+      ≡ record (stored_of p names.entries drafts.items levels beside limit) { levels = mark_of n.level.resume ++ map (level_of p) (drop 1 levels.levels); arguments = n.level.old }
+  text_ended = closed_view p (released p id) names drafts levels beside charge limit (Text id place) n h held_after keeps_after alone_after (released_capacity p id) (released_slots p id)
+
+  pub text_ended_stands : IsStore (released p id) names drafts (closed levels.levels levels) beside (charge - charge_of_newest levels.levels) limit
+  text_ended_stands = closed_stands p (released p id) names drafts levels beside charge limit (Text id place) n h held_after keeps_after alone_after (released_capacity p id) (released_slots p id) charged
+
+  pub text_paid : charge_of_newest levels.levels ≤ charge
+  text_paid = newest_paid p (released p id) names drafts levels beside charge limit (Text id place) n h held_after keeps_after alone_after (released_capacity p id) (released_slots p id) charged
+
+-- ---- the end of a level that reads bytes, and a mode that is resumed
+
+module _ {K : Type 0} (p : Texts Element) (names : Table Sense) (drafts : Items Draft) (levels : Levels K) (beside : Beside) (charge limit : ℕ) (s : Source K) (n : Newest levels.levels s) (none : ids_of_source s ≡ []) (h : IsStore p names drafts levels beside charge limit) where
+  same_ids : ids_of levels.levels ≡ ids_of (drop 1 levels.levels)
+  same_ids = ap ids_of n.first ∙ ap (λ t. ids_of_source t ++ ids_of (drop 1 levels.levels)) n.reads ∙ ap (λ ks. ks ++ ids_of (drop 1 levels.levels)) none
+
+  held_still : IsHeld p (held_ids names.entries (draft_ids drafts.items) (drop 1 levels.levels))
+  held_still = subst (λ ks. IsHeld p (values names.entries ++ (draft_ids drafts.items ++ ks))) same_ids h.held
+
+  keeps_still : Keeps p p (held_ids names.entries (draft_ids drafts.items) (drop 1 levels.levels))
+  keeps_still = record { kept = λ k some. refl }
+
+  pub bytes_ended : stored_of p names.entries drafts.items (closed levels.levels levels) beside limit
+      ≡ record (stored_of p names.entries drafts.items levels beside limit) { levels = mark_of n.level.resume ++ map (level_of p) (drop 1 levels.levels); arguments = n.level.old }
+  bytes_ended = closed_view p p names drafts levels beside charge limit s n h held_still keeps_still h.alone refl refl
+
+  pub bytes_ended_stands : level_charge (level_in p s n.level) ≡ n.level.charge → IsStore p names drafts (closed levels.levels levels) beside (charge - charge_of_newest levels.levels) limit
+  bytes_ended_stands paid = closed_stands p p names drafts levels beside charge limit s n h held_still keeps_still h.alone refl refl (ap (λ t. level_charge (level_in p t n.level)) n.reads ∙ paid)
+
+  pub bytes_paid : level_charge (level_in p s n.level) ≡ n.level.charge → charge_of_newest levels.levels ≤ charge
+  bytes_paid paid = newest_paid p p names drafts levels beside charge limit s n h held_still keeps_still h.alone refl refl (ap (λ t. level_charge (level_in p t n.level)) n.reads ∙ paid)
+
+  pub mark_gone : stored_of p names.entries drafts.items (resumed levels.levels levels) beside limit
+      ≡ record (stored_of p names.entries drafts.items levels beside limit) { levels = map (level_of p) (drop 1 levels.levels) }
+  mark_gone = ap (λ ks. stored_of p names.entries drafts.items (resumed ks levels) beside limit) n.first
+
+  pub mark_gone_stands : level_charge (level_in p s n.level) ≡ 0 → IsStore p names drafts (resumed levels.levels levels) beside charge limit
+  mark_gone_stands free =
+      let nothing : level_charge (level_of p n.level) ≡ 0 = ap (λ t. level_charge (level_in p t n.level)) n.reads ∙ free in
+      subst (λ ks. IsStore p names drafts (resumed ks levels) beside charge limit) (sym n.first)
+      (subst (λ m. IsStore p names drafts (record levels { levels = drop 1 levels.levels }) beside m limit) (let e : charge - level_charge (level_of p n.level) ≡ charge = omega arith in e)
+      (now_stands p p names drafts levels beside charge limit s n h held_still keeps_still h.alone refl refl (drop 1 levels.levels) [] levels.arguments (λ r. refl) refl (λ pays. pays) (omega arith) refl (omega arith)))

@@ -1,0 +1,12 @@
+use Rattle.std.proofs.Common.{arith}
+use Rattle.nr_store.specs.Holders.{nothing_beside}
+use Rattle.nr_store.proofs.Keeping.{levels_within}
+use Rattle.nr_store.proofs.store.Store.enter_argument.Goals as goal
+
+pub open_argument-requires-clause-bytes : goal.open_argument-requires-clause-bytes
+open_argument-requires-clause-bytes g c =
+    let s = c.self.inside in
+    let below = c.self.invariant.within in
+    let fit = levels_within s.pool s.names s.drafts s.levels nothing_beside s.charge s.stored c.self.invariant in
+    let suffice = c.self.invariant.bytes_suffice in
+    omega arith

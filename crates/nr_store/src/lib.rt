@@ -1,0 +1,22 @@
+//! The store: texts under names beside the requests of the language, texts being built, the levels that read texts,
+//! registers, traps and hyphenation words, under one charge.
+#![tactic(auto)]
+
+pub mod element;
+pub mod memory;
+pub mod named;
+pub mod refusal;
+pub mod register;
+pub mod request;
+pub mod shown;
+pub mod store;
+
+pub use element::{Diversion, Draft, Element};
+pub use memory::Memory;
+pub use named::{Meaning, Sense};
+pub use refusal::{Refusal, StoredBytes};
+pub use request::Request;
+pub use shown::Shown;
+pub use nr_tables::Trap;
+pub use register::Register;
+pub use store::Store;

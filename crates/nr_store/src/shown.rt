@@ -1,0 +1,16 @@
+//! What comes next of the levels.
+use crate::element::Element;
+
+/// What comes next of the levels, with the modes `K` that sprung texts resume. A level gives its text, then its end;
+/// behind the end of a sprung one comes its mode.
+#[derive(Clone, Copy, Debug)]
+pub enum Shown<K> {
+    /// An element of the newest level.
+    Item(Element),
+    /// The end of the newest level.
+    End,
+    /// The mode that is to be resumed.
+    Resume(K),
+    /// There is no level.
+    Nothing,
+}

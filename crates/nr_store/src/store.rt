@@ -1,0 +1,69 @@
+//! The store.
+ghost use Rattle.std.specs.Prelude.{◌≡◌, ◌≤◌, length};
+ghost use Rattle.nr_store.specs.Stored.{charge_of};
+
+mod building;
+mod levels;
+mod names;
+
+use crate::element::{Draft, Element};
+use crate::named::Sense;
+use nr_levels::{Levels, Stack};
+use nr_pool::Pool;
+use nr_tables::Table;
+use std::marker::Model;
+
+/// Names with their requests and texts, texts being built, and levels that read texts, with modes `K` that sprung texts
+/// resume.
+///
+/// Clauses see one record of plain lists. Each call makes of it what its definition says, or is refused, and then
+/// nothing has changed. A name is found in as many steps as the logarithm of their number; what comes next of the
+/// levels is found in constant time; no text is copied or moved for a level.
+#[derive(Drop)]
+pub struct Store<'a, K: Copy> {
+    pool: Pool<'a, Element>,
+    names: Table<'a, Sense>,
+    drafts: Stack<'a, Draft>,
+    levels: Levels<'a, K>,
+    charge: u32,
+    stored: u32,
+}
+
+impl<'a, K: Copy> Model for Store<'a, K> {
+    ghost use Rattle.nr_store.specs.Stored.{Stored};
+    ghost use Rattle.nr_store.specs.Holders.{stored_of, IsStore, nothing_beside};
+
+    ghost Value = { Stored K };
+
+    ghost view = { λ s. stored_of s.pool s.names.entries s.drafts.items s.levels nothing_beside s.stored };
+
+    ghost invariant = { λ s. IsStore s.pool s.names s.drafts s.levels nothing_beside s.charge s.stored };
+}
+
+impl<'a, K: Copy> Store<'a, K> {
+    /// What all is charged.
+    #[inline]
+    pub fn charge(&self) -> u32
+        ensures value { result ≡ charge_of self.now }
+        ensures within { result ≤ self.now.limit }
+    {
+        self.charge
+    }
+
+    /// How many levels there are. A mode that is still to be resumed counts as the level that it stands behind.
+    #[inline]
+    pub fn depth(&self) -> usize
+        ensures value { result ≡ length self.now.levels }
+        ensures within { result ≤ self.now.deepest }
+    {
+        self.levels.depth()
+    }
+
+    /// How many texts are being built.
+    #[inline]
+    pub fn building(&self) -> usize
+        ensures { result ≡ length self.now.building }
+    {
+        self.drafts.len()
+    }
+}

@@ -1,0 +1,186 @@
+// Texts being built, and diversions.
+ghost use Rattle.std.specs.Prelude.{◌≡◌, ◌+◌, ◌∷◌, [], ◌++◌, ◌<◌, ◌≤◌, length, map, replicate, OnOk, OnErr, None, Some, slice_get};
+ghost use Rattle.nr_pool.specs.Texts.{IsOpen, text, used, with_text};
+ghost use Rattle.nr_store.specs.declared.element.Element.TheVariants as elements;
+ghost use Rattle.nr_store.specs.Stored.{afforded, begun, text_of, fresh, added, diverted, defined, innermost, trapped, newest_diversion, diversion_ended, taken};
+
+use crate::element::{Diversion, Draft, Element};
+use crate::named::Sense;
+use crate::refusal::StoredBytes;
+use crate::store::Store;
+use crate::store::names::text_in;
+use nr_tables::Trap;
+use nr_units::Name;
+use nr_units::cell::Cell;
+
+impl<'a, K: Copy> Store<'a, K> {
+    /// Begins an empty text.
+    pub fn begin(&mut self) -> Result<(), StoredBytes>
+        ensures answer { result ≡ afforded (begun [] None self.old) tt }
+        ensures ok { OnOk result (self.new ≡ begun [] None self.old) }
+        ensures err { OnErr result (self.new ≡ self.old) }
+    {
+        self.begin_empty(None)
+    }
+
+    /// Begins a text that is a copy of a name's, or empty where that is no text's.
+    pub fn begin_from(&mut self, name: Name) -> Result<(), StoredBytes>
+        ensures answer { result ≡ afforded (begun (text_of name self.old) None self.old) tt }
+        ensures ok { OnOk result (self.new ≡ begun (text_of name self.old) None self.old) }
+        ensures err { OnErr result (self.new ≡ self.old) }
+    {
+        self.begin_copy(name, None)
+    }
+
+    /// Begins a diversion that is empty (CSTR 54, `.di`).
+    pub fn begin_diversion(&mut self, name: Name) -> Result<(), StoredBytes>
+        ensures answer { result ≡ afforded (begun [] (Some (fresh name)) self.old) tt }
+        ensures ok { OnOk result (self.new ≡ begun [] (Some (fresh name)) self.old) }
+        ensures err { OnErr result (self.new ≡ self.old) }
+    {
+        self.begin_empty(Some(Diversion::fresh(name)))
+    }
+
+    /// Begins a diversion that is a copy of the text that has its name, or empty where that is no text's (CSTR 54,
+    /// `.da`).
+    pub fn begin_appending(&mut self, name: Name) -> Result<(), StoredBytes>
+        ensures answer { result ≡ afforded (begun (text_of name self.old) (Some (fresh name)) self.old) tt }
+        ensures ok { OnOk result (self.new ≡ begun (text_of name self.old) (Some (fresh name)) self.old) }
+        ensures err { OnErr result (self.new ≡ self.old) }
+    {
+        self.begin_copy(name, Some(Diversion::fresh(name)))
+    }
+
+    // Begins an empty text.
+    fn begin_empty(&mut self, diversion: Option<Diversion>) -> Result<(), StoredBytes>
+        ensures answer { result ≡ afforded (begun [] diversion self.old) tt }
+        ensures ok { OnOk result (self.new ≡ begun [] diversion self.old) }
+        ensures err { OnErr result (self.new ≡ self.old) }
+    {
+        if self.stored - self.charge < 48 {
+            return Err(StoredBytes);
+        }
+        let Ok(id) = self.pool.open() else {
+            return Err(StoredBytes);
+        };
+        self.drafts.push(Draft { id, diversion });
+        self.charge += 48;
+        Ok(())
+    }
+
+    // Begins a text that is a copy of a name's, or empty where that is no text's.
+    fn begin_copy(
+        &mut self,
+        name: Name,
+        diversion: Option<Diversion>,
+    ) -> Result<(), StoredBytes>
+        ensures answer { result ≡ afforded (begun (text_of name self.old) diversion self.old) tt }
+        ensures ok { OnOk result (self.new ≡ begun (text_of name self.old) diversion self.old) }
+        ensures err { OnErr result (self.new ≡ self.old) }
+    {
+        let Some(from) = text_in(&self.names, name) else {
+            return self.begin_empty(diversion);
+        };
+        let len = self.pool.len(from) as u32;
+        if self.stored - self.charge < 48 {
+            return Err(StoredBytes);
+        }
+        if self.stored - self.charge - 48 < len {
+            return Err(StoredBytes);
+        }
+        let Ok(id) = self.pool.open() else {
+            return Err(StoredBytes);
+        };
+        let Ok(()) = self.pool.copy_text(from, id) else {
+            return Err(StoredBytes);
+        };
+        self.drafts.push(Draft { id, diversion });
+        self.charge += 48 + len;
+        Ok(())
+    }
+
+    /// Adds an element to the newest text being built. Nothing happens where none is.
+    #[inline]
+    pub fn add(&mut self, element: Element) -> Result<(), StoredBytes>
+        ensures answer { result ≡ afforded (added (element ∷ []) self.old) tt }
+        ensures ok { OnOk result (self.new ≡ added (element ∷ []) self.old) }
+        ensures err { OnErr result (self.new ≡ self.old) }
+    {
+        let Some(draft) = self.drafts.top() else {
+            return Ok(());
+        };
+        if self.charge == self.stored {
+            return Err(StoredBytes);
+        }
+        let Ok(()) = self.pool.append(draft.id, element) else {
+            return Err(StoredBytes);
+        };
+        self.charge += 1;
+        Ok(())
+    }
+
+    /// Gives the newest text being built a name. Levels go on reading the text that had it. Nothing happens where no text
+    /// is being built.
+    pub fn define(&mut self, name: Name)
+        ensures { self.new ≡ defined name self.old }
+    {
+        let Some(draft) = self.drafts.top() else {
+            return;
+        };
+        self.drafts.pop();
+        let Some(old) = self.names.put(name, Sense::Text(draft.id)) else {
+            return;
+        };
+        let Sense::Text(old) = old else {
+            return;
+        };
+        self.charge -= 48 + self.pool.len(old) as u32;
+        self.pool.release(old);
+    }
+
+    /// The diversion that was opened last, also where a text is built inside it.
+    pub fn diversion(&self) -> Option<Diversion>
+        ensures { result ≡ innermost self.now.building }
+    {
+        for n in 0..self.drafts.len() {
+            let draft = self.drafts.get(n);
+            if draft.diversion.is_some() {
+                return draft.diversion;
+            }
+        }
+        None
+    }
+
+    /// Gives the newest text being built this trap, if it is a diversion's (CSTR 54, `.dt`).
+    pub fn set_diversion_trap(&mut self, trap: Option<Trap>)
+        ensures { self.new ≡ trapped trap self.old }
+    {
+        let Some(draft) = self.drafts.top() else {
+            return;
+        };
+        let Draft { id, diversion } = draft;
+        let Some(diversion) = diversion else {
+            return;
+        };
+        self.drafts.set_top(Draft {
+            id,
+            diversion: Some(diversion.with_trap(trap)),
+        });
+    }
+
+    /// Ends the newest text being built, if it is a diversion's: it takes its name. Answers the diversion.
+    pub fn end_diversion(&mut self) -> Option<Diversion>
+        ensures was { result ≡ newest_diversion self.old.building }
+        ensures is { self.new ≡ diversion_ended self.old }
+    {
+        let Some(draft) = self.drafts.top() else {
+            return None;
+        };
+        let Draft { diversion, .. } = draft;
+        let Some(diversion) = diversion else {
+            return None;
+        };
+        self.define(diversion.name);
+        Some(diversion)
+    }
+}

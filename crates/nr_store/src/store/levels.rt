@@ -1,0 +1,162 @@
+// Levels: texts that are being read.
+ghost use Rattle.std.specs.Prelude.{◌≡◌, length, OnOk, OnErr, is_some, None, Some};
+ghost use Rattle.nr_tables.specs.Named.{find};
+ghost use Rattle.nr_levels.specs.Levels.{argument};
+ghost use Rattle.nr_store.specs.Stored.{checked, words, entered, reading_bytes, shown, left};
+
+use crate::element::Element;
+use crate::refusal::Refusal;
+use crate::shown::Shown;
+use crate::store::Store;
+use crate::store::names::text_in;
+use nr_levels::Front;
+use nr_units::Name;
+
+impl<'a, K: Copy> Store<'a, K> {
+    /// Opens a level that reads the text of a name, with no arguments in force. Answers whether there is one.
+    pub fn enter(&mut self, name: Name) -> Result<bool, Refusal>
+        ensures answer { let text = words (find name self.old.names) in
+            result ≡ checked (entered text None self.old) (is_some text) }
+        ensures ok { OnOk result (self.new ≡ entered (words (find name self.old.names)) None self.old) }
+        ensures err { OnErr result (self.new ≡ self.old) }
+    {
+        self.open(name, None)
+    }
+
+    /// As `enter`, with a mode that is resumed behind the level's end.
+    pub fn spring(&mut self, name: Name, mode: K) -> Result<bool, Refusal>
+        ensures answer { let text = words (find name self.old.names) in
+            result ≡ checked (entered text (Some mode) self.old) (is_some text) }
+        ensures ok { OnOk result (self.new ≡ entered (words (find name self.old.names)) (Some mode) self.old) }
+        ensures err { OnErr result (self.new ≡ self.old) }
+    {
+        self.open(name, Some(mode))
+    }
+
+    // Opens a level that reads the text of a name, with no arguments in force.
+    fn open(&mut self, name: Name, resume: Option<K>) -> Result<bool, Refusal>
+        ensures answer { let text = words (find name self.old.names) in
+            result ≡ checked (entered text resume self.old) (is_some text) }
+        ensures ok { OnOk result (self.new ≡ entered (words (find name self.old.names)) resume self.old) }
+        ensures err { OnErr result (self.new ≡ self.old) }
+    {
+        let Some(id) = text_in(&self.names, name) else {
+            return Ok(false);
+        };
+        let charge = 16 + self.pool.len(id) as u32;
+        if self.stored - self.charge < charge {
+            return Err(Refusal::Stored);
+        }
+        if self.levels.is_full() {
+            return Err(Refusal::Depth);
+        }
+        self.pool.hold(id);
+        self.levels.open_text(id, charge, resume);
+        self.charge += charge;
+        Ok(true)
+    }
+
+    /// Opens a level that reads these bytes. The arguments stay in force.
+    pub fn enter_bytes(&mut self, bytes: &[u8]) -> Result<(), Refusal>
+        ensures answer { result ≡ checked (reading_bytes bytes.now self.old) tt }
+        ensures ok { OnOk result (self.new ≡ reading_bytes bytes.now self.old) }
+        ensures err { OnErr result (self.new ≡ self.old) }
+    {
+        let charge = 16 + bytes.len();
+        if ((self.stored - self.charge) as usize) < charge {
+            return Err(Refusal::Stored);
+        }
+        if self.levels.is_full() {
+            return Err(Refusal::Depth);
+        }
+        self.levels.open_bytes(bytes, charge as u32);
+        self.charge += charge as u32;
+        Ok(())
+    }
+
+    /// Opens a level that reads the n-th argument, counted from 0, where it lies; an absent one is empty. All stay in
+    /// force.
+    pub fn enter_argument(&mut self, n: usize) -> Result<(), Refusal>
+        ensures answer { result ≡ checked (reading_bytes (argument self.old.arguments n) self.old) tt }
+        ensures ok { OnOk result (self.new ≡ reading_bytes (argument self.old.arguments n) self.old) }
+        ensures err { OnErr result (self.new ≡ self.old) }
+    {
+        let charge = 16 + self.levels.argument_len(n);
+        if ((self.stored - self.charge) as usize) < charge {
+            return Err(Refusal::Stored);
+        }
+        if self.levels.is_full() {
+            return Err(Refusal::Depth);
+        }
+        self.levels.open_argument(n, charge as u32);
+        self.charge += charge as u32;
+        Ok(())
+    }
+
+    /// How many arguments are in force.
+    #[inline]
+    pub fn argument_count(&self) -> usize
+        ensures { result ≡ length self.now.arguments }
+    {
+        self.levels.argument_count()
+    }
+
+    /// What comes next of the levels, which stays there.
+    #[inline]
+    pub fn look(&self) -> Shown<K>
+        ensures { result ≡ shown self.now.levels }
+    {
+        let Some(front) = self.levels.front() else {
+            return Shown::Nothing;
+        };
+        match front {
+            Front::Byte(byte) => Shown::Item(Element::Byte(byte)),
+            Front::End => Shown::End,
+            Front::Resume(mode) => Shown::Resume(mode),
+            Front::Text(id, place) => {
+                let place = place as usize;
+                if place < self.pool.len(id) {
+                    return Shown::Item(self.pool.get(id, place));
+                }
+                Shown::End
+            }
+        }
+    }
+
+    /// Takes what comes next of the levels. Taking an end gives back the level's charge, and puts the arguments before it
+    /// in force again; the mode that is resumed behind it, if there is one, comes next.
+    #[inline]
+    pub fn take(&mut self) -> Shown<K>
+        ensures was { result ≡ shown self.old.levels }
+        ensures is { self.new ≡ left self.old.levels self.old }
+    {
+        let Some(front) = self.levels.front() else {
+            return Shown::Nothing;
+        };
+        match front {
+            Front::Byte(byte) => {
+                self.levels.advance();
+                Shown::Item(Element::Byte(byte))
+            }
+            Front::End => {
+                self.charge -= self.levels.close();
+                Shown::End
+            }
+            Front::Resume(mode) => {
+                self.levels.resume();
+                Shown::Resume(mode)
+            }
+            Front::Text(id, place) => {
+                let place = place as usize;
+                if place < self.pool.len(id) {
+                    let element = self.pool.get(id, place);
+                    self.levels.advance();
+                    return Shown::Item(element);
+                }
+                self.pool.release(id);
+                self.charge -= self.levels.close();
+                Shown::End
+            }
+        }
+    }
+}
