@@ -1,2 +1,3 @@
 pub mod Stacked
 pub mod Pushing
+pub mod Cutting

@@ -2,10 +2,12 @@
 #![tactic(auto)]
 
 pub mod frame;
+pub mod gathering;
 pub mod levels;
 mod spans;
 pub mod stack;
 
 pub use frame::{Frame, Front, Span};
+pub use gathering::Gathering;
 pub use levels::Levels;
 pub use stack::Stack;

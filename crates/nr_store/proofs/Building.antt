@@ -150,6 +150,7 @@ module _ {K : Type 0} (p : Texts Element) (names : Table Sense) (drafts : Items 
     names_suffice = h.names_suffice;
     drafts_suffice = h.drafts_suffice;
     bytes_suffice = h.bytes_suffice;
+    beside_suffices = h.beside_suffices;
   }
 
 -- what texts being built are charged
@@ -236,6 +237,7 @@ module _ {K : Type 0} (p : Texts Element) (names : Table Sense) (drafts : Items 
           names_suffice = h.names_suffice;
           drafts_suffice = h.drafts_suffice;
           bytes_suffice = h.bytes_suffice;
+          beside_suffices = h.beside_suffices;
         }
 
   -- with the same

@@ -87,6 +87,7 @@ module _ {K : Type 0} (p : Texts Element) (names : Table Sense) (drafts : Items 
       names_suffice = h.names_suffice;
       drafts_suffice = h.drafts_suffice;
       bytes_suffice = h.bytes_suffice;
+      beside_suffices = h.beside_suffices;
     }
 
     -- one text is held once less
@@ -127,6 +128,7 @@ module _ {K : Type 0} (p : Texts Element) (names : Table Sense) (drafts : Items 
             names_suffice = h.names_suffice;
             drafts_suffice = h.drafts_suffice;
             bytes_suffice = h.bytes_suffice;
+            beside_suffices = h.beside_suffices;
           }
 
   -- ---- the newest text being built gets a name

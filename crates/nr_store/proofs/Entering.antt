@@ -104,4 +104,5 @@ module _ {K : Type 0} (p : Texts Element) (names : Table Sense) (drafts : Items 
           names_suffice = h.names_suffice;
           drafts_suffice = h.drafts_suffice;
           bytes_suffice = h.bytes_suffice;
+          beside_suffices = h.beside_suffices;
         }

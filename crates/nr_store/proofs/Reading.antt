@@ -210,6 +210,7 @@ module _ {K : Type 0} (p q : Texts Element) (names : Table Sense) (drafts : Item
           names_suffice = h.names_suffice;
           drafts_suffice = h.drafts_suffice;
           bytes_suffice = h.bytes_suffice;
+          beside_suffices = h.beside_suffices;
         }
 
   -- its end is taken

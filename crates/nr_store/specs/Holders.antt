@@ -4,7 +4,7 @@ use Rattle.nr_units.specs.Items.{Items}
 use Rattle.nr_pool.specs.Texts.{Texts, text, holders}
 use Rattle.nr_tables.specs.Named.{Named}
 use Rattle.nr_tables.specs.Rows.{Table}
-use Rattle.nr_tables.specs.Gathered.{Gathered, none_gathered}
+use Rattle.nr_levels.specs.Gathered.{Gathering}
 use Rattle.nr_tables.specs.Words.{Word}
 use Rattle.nr_tables.specs.declared.trap.Trap.{Trap}
 use Rattle.nr_levels.specs.Levels.{Source, Text, Own, Mark as Marked, Open, Levels}
@@ -22,14 +22,20 @@ use Rattle.nr_store.specs.Stored.{Means, Act, Words, Built, Reading, Level, Read
 
 -- what is stored beside texts and levels
 pub record Beside : Type 0 where
-  pub gathered : Gathered
-  pub registers : List (Named Register)
-  pub traps : List Trap
+  pub gathering : Gathering
+  pub registers : Table Register
+  pub traps : Items Trap
   pub words : List Word
 
--- nothing
-abbrev pub nothing_beside : Beside
-nothing_beside = record { gathered = none_gathered; registers = []; traps = []; words = [] }
+-- these
+abbrev pub beside_of : Gathering → Table Register → Items Trap → Beside
+beside_of gathering registers traps = record { gathering = gathering; registers = registers; traps = traps; words = [] }
+
+-- there is room for as much of it as may be charged
+pub record Suffice (beside : Beside) (limit : ℕ) : Type 0 where
+  pub gathering : limit ≤ beside.gathering.room
+  pub registers : limit < 48 * beside.registers.room + 48
+  pub traps : limit < 48 * beside.traps.room + 48
 
 -- what a name stands for
 abbrev pub means_of : Texts Element → Sense → Means
@@ -61,9 +67,9 @@ stored_of p names drafts levels beside limit = record {
   building = map (built_of p) drafts;
   levels = map (level_of p) levels.levels;
   arguments = levels.arguments;
-  gathered = beside.gathered;
-  registers = beside.registers;
-  traps = beside.traps;
+  gathered = beside.gathering.gathered;
+  registers = beside.registers.entries;
+  traps = beside.traps.items;
   words = beside.words;
   limit = limit;
   deepest = levels.most;
@@ -139,3 +145,4 @@ pub record IsStore {K : Type 0} (p : Texts Element) (names : Table Sense) (draft
   pub names_suffice : limit + 48 * length REQUESTS < 48 * names.room + 48
   pub drafts_suffice : limit < 48 * drafts.room + 48
   pub bytes_suffice : limit ≤ levels.room
+  pub beside_suffices : Suffice beside limit

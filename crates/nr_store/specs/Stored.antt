@@ -4,7 +4,7 @@ use Rattle.std.specs.Option.{option_map, unwrap_or}
 use Rattle.std.specs.List.{flat_map}
 use Rattle.nr_units.specs.declared.cell.Cell.{Cell}
 use Rattle.nr_tables.specs.Named.{Named, is_same, find, put, without}
-use Rattle.nr_tables.specs.Gathered.{Gathered, none_gathered, gathered_len}
+use Rattle.nr_levels.specs.Gathered.{Gathered, none_gathered, gathered_len, bytes_in, with_byte, with_end}
 use Rattle.nr_tables.specs.Words.{Word, word_weight}
 use Rattle.nr_tables.specs.declared.trap.Trap.{Trap}
 use Rattle.nr_store.specs.declared.element.Element.{Element}
@@ -244,11 +244,19 @@ reading_bytes bytes v = reading (map elements.Byte bytes) v.arguments (16 + leng
 abbrev pub ungathered : {K : Type 0} → Stored K → Stored K
 ungathered v = record v { gathered = none_gathered }
 
+-- with a byte more in the argument that is being read
+abbrev pub gathering : {K : Type 0} → ℕ → Stored K → Stored K
+gathering byte v = record v { gathered = with_byte byte v.gathered }
+
+-- where the argument that is being read is read whole
+abbrev pub gathered_whole : {K : Type 0} → Stored K → Stored K
+gathered_whole v = record v { gathered = with_end v.gathered }
+
 -- with a level that reads a text, where there is one, with the arguments that were read
 abbrev pub called : {K : Type 0} → Option (List Element) → Stored K → Stored K
 called None v = ungathered v
 called (Some text) v =
-    ungathered (reading text v.gathered.kept (share text + sum_by (λ (bytes : List ℕ). length bytes) v.gathered.kept) None v)
+    ungathered (reading text v.gathered.kept (share text + bytes_in v.gathered.kept) None v)
 
 -- what a look at a text shows
 abbrev pub shown_of : {K : Type 0} → List Element → Shown K

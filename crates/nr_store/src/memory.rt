@@ -3,7 +3,8 @@ use crate::element::{Draft, Element};
 use crate::named::Sense;
 use nr_levels::{Frame, Span};
 use nr_pool::Slot;
-use nr_tables::Entry;
+use crate::register::Register;
+use nr_tables::{Entry, Trap};
 
 /// The slices that a store lies over.
 #[derive(Drop)]
@@ -22,4 +23,10 @@ pub struct Memory<'a, K: Copy> {
     pub bytes: &'a mut [u8],
     /// The places of arguments.
     pub places: &'a mut [Span],
+    /// The bytes of arguments that are being read.
+    pub gathering: &'a mut [u8],
+    /// The registers.
+    pub registers: &'a mut [Entry<Register>],
+    /// The traps.
+    pub traps: &'a mut [Trap],
 }

@@ -8,9 +8,11 @@ mod names;
 
 use crate::element::{Draft, Element};
 use crate::named::Sense;
-use nr_levels::{Levels, Stack};
+use crate::register::Register;
+use nr_levels::{Gathering, Levels, Stack};
 use nr_pool::Pool;
-use nr_tables::Table;
+use nr_tables::{Table, Trap};
+use nr_units::slice_vec::SliceVec;
 use std::marker::Model;
 
 /// Names with their requests and texts, texts being built, and levels that read texts, with modes `K` that sprung texts
@@ -25,19 +27,22 @@ pub struct Store<'a, K: Copy> {
     names: Table<'a, Sense>,
     drafts: Stack<'a, Draft>,
     levels: Levels<'a, K>,
+    gathering: Gathering<'a>,
+    registers: Table<'a, Register>,
+    traps: SliceVec<'a, Trap>,
     charge: u32,
     stored: u32,
 }
 
 impl<'a, K: Copy> Model for Store<'a, K> {
     ghost use Rattle.nr_store.specs.Stored.{Stored};
-    ghost use Rattle.nr_store.specs.Holders.{stored_of, IsStore, nothing_beside};
+    ghost use Rattle.nr_store.specs.Holders.{stored_of, IsStore, beside_of};
 
     ghost Value = { Stored K };
 
-    ghost view = { λ s. stored_of s.pool s.names.entries s.drafts.items s.levels nothing_beside s.stored };
+    ghost view = { λ s. stored_of s.pool s.names.entries s.drafts.items s.levels (beside_of s.gathering s.registers s.traps) s.stored };
 
-    ghost invariant = { λ s. IsStore s.pool s.names s.drafts s.levels nothing_beside s.charge s.stored };
+    ghost invariant = { λ s. IsStore s.pool s.names s.drafts s.levels (beside_of s.gathering s.registers s.traps) s.charge s.stored };
 }
 
 impl<'a, K: Copy> Store<'a, K> {

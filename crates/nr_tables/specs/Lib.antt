@@ -1,4 +1,3 @@
-pub mod Gathered
 pub mod Laws
 pub mod Named
 pub mod Rows

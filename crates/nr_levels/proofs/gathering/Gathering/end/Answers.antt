@@ -1,0 +1,10 @@
+use Rattle.std.proofs.Common.{◌≡◌, length, ap, ◌∙◌, sym, arith}
+use Rattle.nr_levels.specs.Gathered.{Gathering, gathered_len, with_end}
+use Rattle.nr_levels.proofs.Cutting.{unchanged_end, ended_is, ended_stands}
+use Rattle.nr_levels.proofs.gathering.Gathering.end.Goals as goal
+
+pub returns : goal.returns
+returns c =
+    let s = c.self.inside in
+    rw c.len-len.ensures.value
+    (ap (λ g. record { gathered = g; room = s.bytes.room }) (ended_is s.lens s.bytes.items s.count s.start s.bytes.room c.self.invariant c.if-self-eq-MOST.false) ∙ ap (λ (v : Gathering). record v { gathered = with_end v.gathered }) c.self.view_is)

@@ -1,0 +1,121 @@
+//! The arguments of a macro that are being read.
+ghost use Rattle.std.specs.Prelude.{◌≡◌, ◌==◌, ◌^◌, ◌<◌, ◌≤◌, length, map};
+ghost use Rattle.nr_levels.specs.Gathered.{joined, none_gathered, gathered_len, with_byte, with_end};
+
+use nr_units::slice_vec::SliceVec;
+use std::marker::Model;
+
+/// How many arguments a macro has at most.
+pub const MOST: usize = 9;
+
+/// Arguments that are being read, with their bytes in a slice that is lent: nine at most, further ones are dropped
+/// (CSTR 54, macros with arguments). Each call takes constant time.
+#[derive(Drop)]
+pub struct Gathering<'a> {
+    bytes: SliceVec<'a, u8>,
+    // How many arguments are read whole, how long each is, and where the next begins.
+    lens: [u32; MOST],
+    count: usize,
+    start: usize,
+}
+
+impl<'a> Model for Gathering<'a> {
+    ghost use Rattle.std.specs.Prelude.{take};
+    ghost use Rattle.nr_levels.specs.Gathered.{Gathering, gathered_of, IsGathering};
+
+    ghost Value = { Gathering };
+
+    ghost view = { λ g. record { gathered = gathered_of (take g.count g.lens) g.bytes.items g.start; room = g.bytes.room } };
+
+    ghost invariant = { λ g. IsGathering g.lens g.bytes.items g.count g.start g.bytes.room };
+}
+
+impl<'a> Gathering<'a> {
+    /// No arguments, and room for as many bytes as the slice has.
+    pub fn over(bytes: &'a mut [u8]) -> Self
+        requires { length bytes.old < 2 ^ 32 }
+        ensures { result ≡ record { gathered = none_gathered; room = length bytes.old } }
+    {
+        Gathering {
+            bytes: SliceVec::over(bytes),
+            lens: [0; MOST],
+            count: 0,
+            start: 0,
+        }
+    }
+
+    /// Whether no argument more counts.
+    #[inline]
+    pub fn is_full(&self) -> bool
+        ensures { result ≡ (length self.now.gathered.kept == 9) }
+    {
+        self.count == MOST
+    }
+
+    /// How many bytes all arguments have.
+    #[inline]
+    pub fn len(&self) -> usize
+        ensures { result ≡ gathered_len self.now.gathered }
+    {
+        self.bytes.len()
+    }
+
+    /// How many bytes the arguments have that are read whole.
+    #[inline]
+    pub fn kept_len(&self) -> usize
+        ensures { result ≡ length (joined self.now.gathered.kept) }
+    {
+        self.start
+    }
+
+    /// Adds a byte to the one under way, where fewer than nine are read whole.
+    #[inline]
+    pub fn push(&mut self, byte: u8)
+        requires { gathered_len self.old.gathered < self.old.room }
+        ensures { self.new ≡ record self.old { gathered = with_byte byte self.old.gathered } }
+    {
+        if self.count == MOST {
+            return;
+        }
+        self.bytes.push(byte);
+    }
+
+    /// The one under way is read whole, and the next begins.
+    #[inline]
+    pub fn end(&mut self)
+        ensures { self.new ≡ record self.old { gathered = with_end self.old.gathered } }
+    {
+        if self.count == MOST {
+            return;
+        }
+        let len = self.bytes.len();
+        self.lens[self.count] = (len - self.start) as u32;
+        self.count += 1;
+        self.start = len;
+    }
+
+    /// Takes all arguments away.
+    #[inline]
+    pub fn clear(&mut self)
+        ensures { self.new ≡ record self.old { gathered = none_gathered } }
+    {
+        self.bytes.clear();
+        self.count = 0;
+        self.start = 0;
+    }
+
+    /// The bytes of the arguments that are read whole, one behind another.
+    pub fn kept_bytes(&self) -> &[u8]
+        ensures { result.now ≡ joined self.now.gathered.kept }
+    {
+        &self.bytes.as_slice()[..self.start]
+    }
+
+    /// How long each argument is that is read whole.
+    pub fn kept_lens(&self) -> &[u32]
+        ensures lens { result.now ≡ map (λ bytes. length bytes) self.now.gathered.kept }
+        ensures nine { length result.now ≤ 9 }
+    {
+        &self.lens[..self.count]
+    }
+}
