@@ -9,3 +9,4 @@ pub mod Admitting
 pub mod Defining
 pub mod Dropping
 pub mod Diverting
+pub mod Beginning

@@ -1,3 +1,4 @@
 pub mod Stored
 pub mod Senses
+pub mod Requests
 pub mod Holders

@@ -2,6 +2,7 @@
 ghost use Rattle.std.specs.Prelude.{◌≡◌, ◌≤◌, length};
 ghost use Rattle.nr_store.specs.Stored.{charge_of};
 
+mod beginning;
 mod building;
 mod levels;
 mod names;

@@ -1,0 +1,116 @@
+-- Lemmas on a store with nothing but the requests.
+use Rattle.std.proofs.Common.{◌≡◌, ℕ, ◌+◌, ◌*◌, ◌^◌, ◌<◌, ◌≤◌, List, [], ◌∷◌, ◌++◌, length, map, drop, replicate, get_or, Option, Some, None, refl, sum_by, ◌⊎◌, ap, ap₂, sym, ◌∙◌, subst, inl, inr, arith}
+use Rattle.std.proofs.lemmas.List.{get_or-replicate, get_or_past, length-replicate, drop_more}
+use Rattle.std.proofs.lemmas.List.Sums.{sum_by-cons}
+use Rattle.std.proofs.lemmas.Bool.{cases_lt}
+use Rattle.nr_units.specs.Items.{Items}
+use Rattle.nr_pool.specs.Texts.{Held, Texts, no_text, entry, holders, text}
+use Rattle.nr_tables.specs.Named.{Named, find, put}
+use Rattle.nr_tables.specs.Rows.{Table}
+use Rattle.nr_levels.specs.Levels.{Levels}
+use Rattle.nr_store.specs.declared.named.Sense.{Sense}
+use Rattle.nr_store.specs.declared.named.Sense.TheVariants as senses
+use Rattle.nr_store.specs.declared.element.Element.{Element}
+use Rattle.nr_store.specs.declared.element.Draft.{Draft}
+use Rattle.nr_store.specs.declared.request.Request.{Request}
+use Rattle.nr_store.specs.declared.request.TheConstants.{REQUESTS}
+use Rattle.nr_store.specs.Senses.{act}
+use Rattle.nr_store.specs.Stored.{Means, Act, Built, weight, level_charge, Stored, charge_of, charge_beside}
+use Rattle.nr_store.specs.Requests.{name_of, with_acts, with_senses, request_names}
+use Rattle.nr_store.specs.Holders.{Beside, Suffice, acts, means_of, named_means, built_of, level_of, stored_of, count, values, draft_ids, held_ids, IsHeld, AllPay, IsStore}
+use Rattle.nr_store.proofs.Counting.{count-append}
+use Rattle.nr_store.proofs.Naming.{ones, sum_of, put_sum, put_sum_new, put-map, count-values}
+use Rattle.nr_store.proofs.Defining.{cost_of, names_charge}
+
+known : {X : Type 0} → (o : Option X) → (o ≡ None) ⊎ ((x : X) × (o ≡ Some x))
+known None = inl refl
+known (Some x) = inr (x, refl)
+
+-- a name given anew adds no more than its own
+pub put_sum-le : {X : Type 0} (f : X → ℕ) (name : List ℕ) (x : X) (ns : List (Named X)) → sum_of f (put name x ns) ≤ f x + sum_of f ns
+put_sum-le f name x ns = elim (known (find name ns)) [
+  | inl none ↦ let is = put_sum_new f name x ns none in omega arith
+  | inr some ↦ let is = put_sum f name x some.0 ns some.1 in omega arith
+]
+
+-- the requests cost nothing and hold nothing
+pub senses_sum-le : (f : Sense → ℕ) (n : ℕ) → ((r : Request) → f (senses.Request r) ≤ n) → (es : List (ℕ × ℕ × Request)) (ns : List (Named Sense)) → sum_of f (with_senses es ns) ≤ n * length es + sum_of f ns
+senses_sum-le f n each [] ns = omega arith
+senses_sum-le f n each (e ∷ es) ns =
+    let rest = senses_sum-le f n each es (put (name_of e) (senses.Request e.2) ns) in
+    let this = put_sum-le f (name_of e) (senses.Request e.2) ns in
+    let one = each e.2 in
+    let long : n * length (e ∷ es) ≡ n * length es + n = grind arith in
+    omega arith
+
+pub senses_means : (p : Texts Element) (es : List (ℕ × ℕ × Request)) (ns : List (Named Sense)) → map (named_means p) (with_senses es ns) ≡ with_acts es (map (named_means p) ns)
+senses_means p [] ns = refl
+senses_means p (e ∷ es) ns = senses_means p es (put (name_of e) (senses.Request e.2) ns) ∙ ap (with_acts es) (put-map (means_of p) (name_of e) (senses.Request e.2) ns)
+
+-- a pool with no texts
+bare_entry : (p : Texts Element) (n k : ℕ) → p.texts ≡ replicate n no_text → entry p k ≡ no_text
+bare_entry p n k empty = ap (λ ts. get_or ts k no_text) empty ∙ elim (cases_lt k n) [
+  | inl below ↦ get_or-replicate n k no_text no_text below
+  | inr past ↦ get_or_past (replicate n no_text) k no_text (omega (arith, length-replicate n (no_text {T = Element})))
+]
+
+module _ {K : Type 0} (p : Texts Element) (names : Table Sense) (drafts : Items Draft) (levels : Levels K) (beside : Beside) (limit n : ℕ) (empty : p.texts ≡ replicate n no_text) (named : names.entries ≡ with_senses REQUESTS [])
+    (no_drafts : drafts.items ≡ []) (no_levels : levels.levels ≡ []) (no_beside : charge_beside beside.gathering.gathered beside.registers.entries beside.traps.items beside.words ≡ 0) where
+  nothing_of : (f : Sense → ℕ) → ((r : Request) → f (senses.Request r) ≤ 0) → sum_of f names.entries ≡ 0
+  nothing_of f each = let all = senses_sum-le f 0 each REQUESTS [] in let is = ap (sum_of f) named in omega arith
+
+  few : acts names.entries ≤ length REQUESTS
+  few = let all = senses_sum-le act 1 (λ r. omega arith) REQUESTS [] in let is = ap (sum_of act) named in omega arith
+
+  free : 0 ≡ charge_of (stored_of p names.entries drafts.items levels beside limit)
+  free =
+      let cost = nothing_of (cost_of p) (λ r. omega arith) in
+      let of_names = names_charge p names.entries in
+      let of_drafts : sum_by (λ (b : Built). weight b.text) (map (built_of p) drafts.items) ≡ 0 = ap (λ ds. sum_by (λ (b : Built). weight b.text) (map (built_of p) ds)) no_drafts in
+      let of_levels : sum_by level_charge (map (level_of p) levels.levels) ≡ 0 = ap (λ ls. sum_by level_charge (map (level_of p) ls)) no_levels in
+      omega arith
+
+  pub begins_empty : limit < 2 ^ 32 → limit ≤ p.capacity → limit < 16 * length p.texts + 16 → limit + 48 * length REQUESTS < 48 * names.room + 48 → limit < 48 * drafts.room + 48 → limit ≤ levels.room → Suffice beside limit
+      → IsStore p names drafts levels beside 0 limit
+  begins_empty small elements slots room drafts_room bytes suffice = record {
+    held = record {
+      held = λ k.
+          let none : holders p k ≡ 0 = ap (λ (t : Held Element). t.holders) (bare_entry p n k empty) in
+          let named_none = nothing_of (ones k) (λ r. omega arith) in
+          let values_none = count-values k names.entries in
+          let ids : held_ids names.entries (draft_ids drafts.items) levels.levels ≡ values names.entries ++ [] = ap₂ (λ (ds : List Draft) ls. held_ids names.entries (draft_ids ds) ls) no_drafts no_levels in
+          let counted : count k (held_ids names.entries (draft_ids drafts.items) levels.levels) ≡ count k (values names.entries ++ []) = ap (count k) ids in
+          let split = count-append k (values names.entries) [] in
+          omega arith;
+      bare = λ k _. ap (λ (t : Held Element). t.elements) (bare_entry p n k empty);
+    };
+    alone = λ k some. let is : count k (draft_ids drafts.items) ≡ 0 = ap (λ ds. count k (draft_ids ds)) no_drafts in absurd (omega arith);
+    pays = subst (AllPay p) (sym no_levels) tt;
+    few_acts = few;
+    charged = free;
+    within = omega arith;
+    deep = let is : length levels.levels ≡ 0 = ap length no_levels in omega arith;
+    small = small;
+    elements_suffice = elements;
+    slots_suffice = slots;
+    names_suffice = room;
+    drafts_suffice = drafts_room;
+    bytes_suffice = bytes;
+    beside_suffices = suffice;
+  }
+
+-- ---- the names are given one after another
+
+ones_length : {X : Type 0} (ns : List (Named X)) → sum_of (λ _. 1) ns ≡ length ns
+ones_length [] = refl
+ones_length (n ∷ ns) = sum_by-cons (λ (m : Named _). 1) n ns ∙ ap (λ k. 1 + k) (ones_length ns) ∙ omega arith
+
+pub put_length-le : {X : Type 0} (name : List ℕ) (x : X) (ns : List (Named X)) → length (put name x ns) ≤ length ns + 1
+put_length-le name x ns = let most = put_sum-le (λ _. 1) name x ns in let before = ones_length ns in let after = ones_length (put name x ns) in omega arith
+
+pub one_request : (es : List (ℕ × ℕ × Request)) (i : ℕ) (d : ℕ × ℕ × Request) (ns all : List (Named Sense)) → i < length es
+    → with_senses (drop i es) ns ≡ all → with_senses (drop (i + 1) es) (put (name_of (get_or es i d)) (senses.Request (get_or es i d).2) ns) ≡ all
+one_request es i d ns all below before = sym (ap (λ xs. with_senses xs ns) (drop_more es i d below)) ∙ before
+
+pub put_few : {X : Type 0} (name : List ℕ) (x : X) (ns : List (Named X)) (n i : ℕ) → length ns ≤ n + i → length (put name x ns) ≤ n + (i + 1)
+put_few name x ns n i few = let one = put_length-le name x ns in omega arith

@@ -1,0 +1,11 @@
+use Rattle.std.proofs.Common.{◌≡◌, ◌+◌, ◌≤◌, length, drop}
+use Rattle.nr_store.specs.Requests.{with_senses}
+use Rattle.nr_store.proofs.store.beginning.name_requests.Given as goal
+
+abbrev pub invariant-loop-entry : goal.invariant-loop-entry
+invariant-loop-entry l =
+    record {
+      so_far : with_senses (drop l.entry-index l.requests) l.names.entries ≡ with_senses l.requests l.initial.names.entries;
+      room : l.names.room ≡ l.initial.names.room;
+      few : length l.names.entries ≤ length l.initial.names.entries + l.entry-index;
+    }
