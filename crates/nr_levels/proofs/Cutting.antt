@@ -4,10 +4,8 @@ use Rattle.std.proofs.lemmas.List.{take-append-le, drop-append-le, length-take-l
 use Rattle.std.proofs.lemmas.List.Sums.{sum_by-cons, sum_by-append}
 use Rattle.std.proofs.lemmas.Bool.{cases_lt, cond-true, cond-false, eq-eqb, ne_eqb}
 use Rattle.nr_levels.specs.Levels.{cut}
+use Rattle.nr_levels.specs.Laws.{sum-cons, length-joined}
 use Rattle.nr_levels.specs.Gathered.{Gathered, joined, bytes_in, gathered_len, with_byte, with_end, gathered_of, IsGathering}
-
-sum-cons : (n : ℕ) (ns : List ℕ) → sum (n ∷ ns) ≡ n + sum ns
-sum-cons n ns = sum_by-cons (λ (x : ℕ). x) n ns
 
 -- more bytes behind change nothing
 pub cut_more : (lens bytes more : List ℕ) → sum lens ≤ length bytes → cut lens (bytes ++ more) ≡ cut lens bytes
@@ -43,25 +41,6 @@ lengths_cut [] bytes within = refl
 lengths_cut (n ∷ ns) bytes within =
     let all = sum-cons n ns in
     ap₂ (λ m ms. m ∷ ms) (length-take-le n bytes (omega arith)) (lengths_cut ns (drop n bytes) (omega (arith, length-drop n bytes)))
-
--- texts are cut again where they were joined
-pub cut_joined : (texts : List (List ℕ)) → cut (map (λ (b : List ℕ). length b) texts) (joined texts) ≡ texts
-cut_joined [] = refl
-cut_joined (t ∷ ts) =
-    ap₂ (λ u us. u ∷ us) (take-append-le (length t) t (joined ts) (omega arith) ∙ take_all (length t) t (omega arith))
-    (ap (cut (map (λ (b : List ℕ). length b) ts)) (drop_at t (joined ts)) ∙ cut_joined ts)
-  where
-    drop_at : (xs ys : List ℕ) → drop (length xs) (xs ++ ys) ≡ ys
-    drop_at [] ys = refl
-    drop_at (x ∷ xs) ys = drop_at xs ys
-
-pub length-joined : (texts : List (List ℕ)) → length (joined texts) ≡ bytes_in texts
-length-joined [] = refl
-length-joined (t ∷ ts) = let all = sum_by-cons (λ (b : List ℕ). length b) t ts in let rest = length-joined ts in omega (arith, length-append t (joined ts))
-
-pub sum-lengths : (texts : List (List ℕ)) → sum (map (λ (b : List ℕ). length b) texts) ≡ length (joined texts)
-sum-lengths [] = refl
-sum-lengths (t ∷ ts) = let all = sum-cons (length t) (map (λ (b : List ℕ). length b) ts) in let rest = sum-lengths ts in omega (arith, length-append t (joined ts))
 
 -- ---- the arguments that are being read
 

@@ -1,3 +1,4 @@
 pub mod Levels
 pub mod Frames
 pub mod Gathered
+pub mod Laws

@@ -10,3 +10,4 @@ pub mod Defining
 pub mod Dropping
 pub mod Diverting
 pub mod Beginning
+pub mod Besides

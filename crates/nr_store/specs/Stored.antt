@@ -1,8 +1,10 @@
 -- What a store holds, as its callers see it, and what each call makes of it.
-use Rattle.std.specs.Prelude.{ℕ, ◌+◌, ◌*◌, nat_lt, nat_le, min, max, Bool, true, false, if◌then◌else◌, List, [], ◌∷◌, ◌++◌, map, length, drop, replicate, sum_by, slice_index_or, Option, Some, None, Result, Ok, Err}
+use Rattle.std.specs.Prelude.{ℕ, ◌+◌, ◌*◌, nat_lt, nat_le, min, max, Bool, true, false, if◌then◌else◌, List, [], ◌∷◌, ◌++◌, map, length, drop, replicate, sum_by, slice_index_or, ℤ, pos, ◌+ℤ◌, ◌-ℤ◌, unsigned_abs, Option, Some, None, Result, Ok, Err}
 use Rattle.std.specs.Option.{option_map, unwrap_or}
 use Rattle.std.specs.List.{flat_map}
 use Rattle.nr_units.specs.declared.cell.Cell.{Cell}
+use Rattle.nr_units.specs.declared.number_text.Format.{Format}
+use Rattle.nr_units.specs.declared.number_text.Format.TheVariants.{Arabic}
 use Rattle.nr_tables.specs.Named.{Named, is_same, find, put, without}
 use Rattle.nr_levels.specs.Gathered.{Gathered, none_gathered, gathered_len, bytes_in, with_byte, with_end}
 use Rattle.nr_tables.specs.Words.{Word, word_weight}
@@ -312,3 +314,45 @@ given (Mark mode) = shows.Resume mode ∷ []
 -- what all levels give
 abbrev pub spliced : {K : Type 0} → List (Level K) → List (Shown K)
 spliced levels = flat_map given levels
+
+-- ---- registers
+
+-- an undefined register
+abbrev pub unset : Register
+unset = record { value = pos 0; step = pos 0; format = Arabic 1 }
+
+-- what a register is, defined or not (CSTR 54, number registers)
+abbrev pub register_of : Option Register → Register
+register_of r = unwrap_or r unset
+
+-- whether a register holds this number
+abbrev pub is_held : ℤ → Bool
+is_held z = nat_le (unsigned_abs z) greatest
+
+-- where a register is this
+abbrev pub with_register : {K : Type 0} → List ℕ → Register → Stored K → Stored K
+with_register name r v = record v { registers = put name r v.registers }
+
+-- where a register has this value, and this step if one is given; a number that it does not hold changes nothing
+abbrev pub set_to : {K : Type 0} → List ℕ → ℤ → Option ℤ → Stored K → Stored K
+set_to name value step v =
+    let was = register_of (find name v.registers) in
+    if is_held value then with_register name (record was { value = value; step = unwrap_or step was.step }) v else v
+
+-- where a defined register goes on by its step, or back
+abbrev pub stepped_from : {K : Type 0} → Option Register → List ℕ → Bool → Stored K → Stored K
+stepped_from None name up v = v
+stepped_from (Some r) name up v =
+    let value = if up then r.value +ℤ r.step else r.value -ℤ r.step in
+    if is_held value then with_register name (record r { value = value }) v else v
+
+abbrev pub stepped : {K : Type 0} → List ℕ → Bool → Stored K → Stored K
+stepped name up v = stepped_from (find name v.registers) name up v
+
+-- where a register is written so
+abbrev pub formatted : {K : Type 0} → List ℕ → Format → Stored K → Stored K
+formatted name format v = with_register name (record (register_of (find name v.registers)) { format = format }) v
+
+-- where a register is undefined
+abbrev pub unregistered : {K : Type 0} → List ℕ → Stored K → Stored K
+unregistered name v = record v { registers = without name v.registers }

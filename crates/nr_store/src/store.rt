@@ -4,8 +4,10 @@ ghost use Rattle.nr_store.specs.Stored.{charge_of};
 
 mod beginning;
 mod building;
+mod arguments;
 mod levels;
 mod names;
+mod registers;
 
 use crate::element::{Draft, Element};
 use crate::named::Sense;

@@ -1,0 +1,80 @@
+-- Lemmas on what is stored beside texts and levels.
+use Rattle.std.proofs.Common.{◌≡◌, ℕ, ◌+◌, ◌-◌, ◌*◌, ◌<◌, ◌≤◌, List, [], ◌∷◌, ◌++◌, length, sum_by, eqb, true, false, Option, Some, None, refl, ap, ap₂, sym, ◌∙◌, inl, inr, arith, length-append}
+use Rattle.std.proofs.lemmas.List.Sums.{sum_by-cons, sum_by-append}
+use Rattle.std.proofs.lemmas.Bool.{cases_Bool, cond-true, cond-false}
+use Rattle.nr_units.specs.Items.{Items}
+use Rattle.nr_pool.specs.Texts.{Texts}
+use Rattle.nr_tables.specs.Named.{Named, find, put, without}
+use Rattle.nr_tables.specs.Rows.{Table}
+use Rattle.nr_levels.specs.Levels.{Levels}
+use Rattle.nr_levels.specs.Gathered.{Gathered, bytes_in, gathered_len, with_byte, with_end}
+use Rattle.nr_store.specs.declared.named.Sense.{Sense}
+use Rattle.nr_store.specs.declared.element.Element.{Element}
+use Rattle.nr_store.specs.declared.element.Draft.{Draft}
+use Rattle.nr_store.specs.Stored.{Stored, charge_of, charge_beside, afforded}
+use Rattle.nr_store.specs.Holders.{Beside, Suffice, stored_of, IsStore}
+use Rattle.nr_store.proofs.Naming.{sum_of, put_sum, put_sum_new, without_sum}
+use Rattle.nr_store.proofs.Building.{Within, unaffordable, affordable}
+
+-- what is charged beside texts and levels
+abbrev pub beside_cost : Beside → ℕ
+beside_cost b = charge_beside b.gathering.gathered b.registers.entries b.traps.items b.words
+
+module _ {K : Type 0} (p : Texts Element) (names : Table Sense) (drafts : Items Draft) (levels : Levels K) (beside : Beside) (charge limit : ℕ) (h : IsStore p names drafts levels beside charge limit) where
+  pub beside_paid : beside_cost beside ≤ charge
+  beside_paid = let charged = h.charged in omega arith
+
+  module _ (b : Beside) (now : ℕ) (cost : now + beside_cost beside ≡ charge + beside_cost b) where
+    pub beside_charge : now ≡ charge_of (stored_of p names.entries drafts.items levels b limit)
+    beside_charge = let charged = h.charged in omega arith
+
+    pub beside_stands : now ≤ limit → Suffice b limit → IsStore p names drafts levels b now limit
+    beside_stands within suffice = record {
+      held = h.held;
+      alone = h.alone;
+      pays = h.pays;
+      few_acts = h.few_acts;
+      charged = beside_charge;
+      within = within;
+      deep = h.deep;
+      small = h.small;
+      elements_suffice = h.elements_suffice;
+      slots_suffice = h.slots_suffice;
+      names_suffice = h.names_suffice;
+      drafts_suffice = h.drafts_suffice;
+      bytes_suffice = h.bytes_suffice;
+      beside_suffices = suffice;
+    }
+
+-- ---- arguments that are being read
+
+pub byte_full : (byte : ℕ) (g : Gathered) → eqb (length g.kept) 9 ≡ true → with_byte byte g ≡ g
+byte_full byte g full = cond-true (eqb (length g.kept) 9) g _ full
+
+pub byte_more : (byte : ℕ) (g : Gathered) → eqb (length g.kept) 9 ≡ false → gathered_len (with_byte byte g) ≡ gathered_len g + 1
+byte_more byte g more = ap gathered_len (cond-false (eqb (length g.kept) 9) g _ more) ∙ (let all = length-append g.last (byte ∷ []) in let e : bytes_in g.kept + length (g.last ++ byte ∷ []) ≡ gathered_len g + 1 = omega arith in e)
+
+pub end_same : (g : Gathered) → gathered_len (with_end g) ≡ gathered_len g
+end_same g = elim (cases_Bool (eqb (length g.kept) 9)) [
+  | inl full ↦ ap gathered_len (cond-true (eqb (length g.kept) 9) g _ full)
+  | inr more ↦
+      ap gathered_len (cond-false (eqb (length g.kept) 9) g _ more)
+      ∙ (let all = sum_by-append (λ (b : List ℕ). length b) g.kept (g.last ∷ []) in
+      let one = sum_by-cons (λ (b : List ℕ). length b) g.last [] in
+      let e : bytes_in (g.kept ++ g.last ∷ []) + 0 ≡ gathered_len g = omega arith in e)
+]
+
+-- ---- registers
+
+ones_length : {X : Type 0} (ns : List (Named X)) → sum_of (λ _. 1) ns ≡ length ns
+ones_length [] = refl
+ones_length (n ∷ ns) = sum_by-cons (λ (m : Named _). 1) n ns ∙ ap (λ k. 1 + k) (ones_length ns) ∙ omega arith
+
+pub put_length : {X : Type 0} (name : List ℕ) (x y : X) (ns : List (Named X)) → find name ns ≡ Some y → length (put name x ns) ≡ length ns
+put_length name x y ns some = let sum = put_sum (λ _. 1) name x y ns some in let before = ones_length ns in let after = ones_length (put name x ns) in omega arith
+
+pub put_length_new : {X : Type 0} (name : List ℕ) (x : X) (ns : List (Named X)) → find name ns ≡ None → length (put name x ns) ≡ length ns + 1
+put_length_new name x ns none = let sum = put_sum_new (λ _. 1) name x ns none in let before = ones_length ns in let after = ones_length (put name x ns) in omega arith
+
+pub without_length : {X : Type 0} (name : List ℕ) (y : X) (ns : List (Named X)) → find name ns ≡ Some y → length (without name ns) + 1 ≡ length ns
+without_length name y ns some = let sum = without_sum (λ _. 1) name y ns some in let before = ones_length ns in let after = ones_length (without name ns) in omega arith

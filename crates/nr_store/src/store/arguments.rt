@@ -1,0 +1,78 @@
+// Arguments that are being read, and the call of a macro with them.
+ghost use Rattle.std.specs.Prelude.{◌≡◌, OnOk, OnErr, is_some};
+ghost use Rattle.nr_tables.specs.Named.{find};
+ghost use Rattle.nr_store.specs.Stored.{afforded, checked, words, gathering, gathered_whole, ungathered, called};
+
+use crate::refusal::{Refusal, StoredBytes};
+use crate::store::Store;
+use crate::store::names::text_in;
+use nr_units::Name;
+
+impl<'a, K: Copy> Store<'a, K> {
+    /// Begins to read a macro's arguments: there are none yet.
+    pub fn begin_arguments(&mut self)
+        ensures { self.new ≡ ungathered self.old }
+    {
+        self.charge -= self.gathering.len() as u32;
+        self.gathering.clear();
+    }
+
+    /// Adds a byte to the argument that is being read. Nothing happens where nine are read whole: further ones are
+    /// dropped (CSTR 54, macros with arguments).
+    #[inline]
+    pub fn add_argument_byte(&mut self, byte: u8) -> Result<(), StoredBytes>
+        ensures answer { result ≡ afforded (gathering byte self.old) tt }
+        ensures ok { OnOk result (self.new ≡ gathering byte self.old) }
+        ensures err { OnErr result (self.new ≡ self.old) }
+    {
+        if self.gathering.is_full() {
+            return Ok(());
+        }
+        if self.charge == self.stored {
+            return Err(StoredBytes);
+        }
+        self.gathering.push(byte);
+        self.charge += 1;
+        Ok(())
+    }
+
+    /// The argument that is being read is read whole.
+    pub fn end_argument(&mut self)
+        ensures { self.new ≡ gathered_whole self.old }
+    {
+        self.gathering.end();
+    }
+
+    /// Opens a level that reads the text of a name, with the arguments in force that were read whole. Answers whether
+    /// there is such a text. No arguments are being read then.
+    pub fn call(&mut self, name: Name) -> Result<bool, Refusal>
+        ensures answer { let text = words (find name self.old.names) in
+            result ≡ checked (called text self.old) (is_some text) }
+        ensures ok { OnOk result (self.new ≡ called (words (find name self.old.names)) self.old) }
+        ensures err { OnErr result (self.new ≡ self.old) }
+    {
+        let Some(id) = text_in(&self.names, name) else {
+            self.begin_arguments();
+            return Ok(false);
+        };
+        let text = 16 + self.pool.len(id) as u32;
+        let kept = self.gathering.kept_len() as u32;
+        let before = self.charge - self.gathering.len() as u32;
+        if self.stored - before < text {
+            return Err(Refusal::Stored);
+        }
+        if self.stored - before - text < kept {
+            return Err(Refusal::Stored);
+        }
+        if self.levels.is_full() {
+            return Err(Refusal::Depth);
+        }
+        self.pool.hold(id);
+        let bytes = self.gathering.kept_bytes();
+        let lens = self.gathering.kept_lens();
+        self.levels.open_call(id, bytes, lens, text + kept);
+        self.gathering.clear();
+        self.charge = before + text + kept;
+        Ok(true)
+    }
+}
