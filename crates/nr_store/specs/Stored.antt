@@ -1,6 +1,6 @@
 -- What a store holds, as its callers see it, and what each call makes of it.
 use Rattle.std.specs.Prelude.{ℕ, ◌+◌, ◌*◌, nat_lt, nat_le, min, max, Bool, true, false, if◌then◌else◌, List, [], ◌∷◌, ◌++◌, map, length, drop, replicate, sum_by, slice_index_or, ℤ, pos, ◌+ℤ◌, ◌-ℤ◌, unsigned_abs, Option, Some, None, Result, Ok, Err}
-use Rattle.std.specs.Option.{option_map, unwrap_or}
+use Rattle.std.specs.Option.{option_map, option_and_then, unwrap_or}
 use Rattle.std.specs.List.{flat_map}
 use Rattle.nr_units.specs.declared.cell.Cell.{Cell}
 use Rattle.nr_units.specs.declared.number_text.Format.{Format}
@@ -333,21 +333,38 @@ is_held z = nat_le (unsigned_abs z) greatest
 abbrev pub with_register : {K : Type 0} → List ℕ → Register → Stored K → Stored K
 with_register name r v = record v { registers = put name r v.registers }
 
+-- the register with this value, if it holds it
+abbrev pub moved_to : ℤ → Register → Option Register
+moved_to value r = if is_held value then Some (record r { value = value }) else None
+
+-- the register with this value, if it holds it, and this step, if one is given
+abbrev pub set_to : ℤ → Option ℤ → Register → Option Register
+set_to value step r = moved_to value (record r { step = unwrap_or step r.step })
+
+-- the register gone on by its step
+abbrev pub raised : Register → Option Register
+raised r = moved_to (r.value +ℤ r.step) r
+
+-- the register gone back by its step
+abbrev pub lowered : Register → Option Register
+lowered r = moved_to (r.value -ℤ r.step) r
+
+-- the register gone on by its step, or back
+abbrev pub gone_on : Bool → Register → Option Register
+gone_on up r = if up then raised r else lowered r
+
+-- where a register is this, if it is anything
+abbrev pub written : {K : Type 0} → Option Register → List ℕ → Stored K → Stored K
+written None name v = v
+written (Some r) name v = with_register name r v
+
 -- where a register has this value, and this step if one is given; a number that it does not hold changes nothing
-abbrev pub set_to : {K : Type 0} → List ℕ → ℤ → Option ℤ → Stored K → Stored K
-set_to name value step v =
-    let was = register_of (find name v.registers) in
-    if is_held value then with_register name (record was { value = value; step = unwrap_or step was.step }) v else v
+abbrev pub registered : {K : Type 0} → List ℕ → ℤ → Option ℤ → Stored K → Stored K
+registered name value step v = written (set_to value step (register_of (find name v.registers))) name v
 
--- where a defined register goes on by its step, or back
-abbrev pub stepped_from : {K : Type 0} → Option Register → List ℕ → Bool → Stored K → Stored K
-stepped_from None name up v = v
-stepped_from (Some r) name up v =
-    let value = if up then r.value +ℤ r.step else r.value -ℤ r.step in
-    if is_held value then with_register name (record r { value = value }) v else v
-
+-- where a defined register goes on by its step, or back; a number that it does not hold changes nothing
 abbrev pub stepped : {K : Type 0} → List ℕ → Bool → Stored K → Stored K
-stepped name up v = stepped_from (find name v.registers) name up v
+stepped name up v = written (option_and_then (gone_on up) (find name v.registers)) name v
 
 -- where a register is written so
 abbrev pub formatted : {K : Type 0} → List ℕ → Format → Stored K → Stored K

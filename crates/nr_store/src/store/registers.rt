@@ -1,19 +1,12 @@
 // Number registers.
 ghost use Rattle.std.specs.Prelude.{◌≡◌, OnOk, OnErr, None};
 ghost use Rattle.nr_tables.specs.Named.{find};
-ghost use Rattle.nr_store.specs.Stored.{afforded, register_of, is_held, with_register, set_to, stepped, formatted, unregistered};
+ghost use Rattle.nr_store.specs.Stored.{afforded, register_of, with_register, written, registered, stepped, formatted, unregistered};
 
 use crate::refusal::StoredBytes;
 use crate::register::Register;
 use crate::store::Store;
 use nr_units::{Format, Name};
-
-// Whether a register holds this number.
-fn is_held(value: i64) -> bool
-    ensures { result ≡ is_held value }
-{
-    value.unsigned_abs() <= 2147483647
-}
 
 impl<'a, K: Copy> Store<'a, K> {
     /// A register; an undefined one has the value and the step 0, in Arabic digits.
@@ -31,20 +24,12 @@ impl<'a, K: Copy> Store<'a, K> {
         value: i64,
         step: Option<i32>,
     ) -> Result<(), StoredBytes>
-        ensures answer { result ≡ afforded (set_to name value step self.old) tt }
-        ensures ok { OnOk result (self.new ≡ set_to name value step self.old) }
+        ensures answer { result ≡ afforded (registered name value step self.old) tt }
+        ensures ok { OnOk result (self.new ≡ registered name value step self.old) }
         ensures err { OnErr result (self.new ≡ self.old) }
     {
-        if !is_held(value) {
-            return Ok(());
-        }
-        let was = self.register(name);
-        let register = Register {
-            value: value as i32,
-            step: step.unwrap_or(was.step),
-            format: was.format,
-        };
-        self.put_register(name, register)
+        let register = self.register(name).set_to(value, step);
+        self.write_register(name, register)
     }
 
     /// Adds a defined register's step to its value, or takes it away (CSTR 54, `\n+`). A value outside -2147483647 to
@@ -55,15 +40,10 @@ impl<'a, K: Copy> Store<'a, K> {
         let Some(was) = self.registers.get(name) else {
             return;
         };
-        let value = if up {
-            i64::from(was.value) + i64::from(was.step)
-        } else {
-            i64::from(was.value) - i64::from(was.step)
-        };
-        if !is_held(value) {
+        let Some(register) = was.gone_on(up) else {
             return;
-        }
-        let _ = self.registers.put(name, was.with_value(value as i32));
+        };
+        let _ = self.registers.put(name, register);
     }
 
     /// Sets how a register is written (CSTR 54, `.af`). It is defined with the value 0 if it was not.
@@ -90,6 +70,19 @@ impl<'a, K: Copy> Store<'a, K> {
             return;
         };
         self.charge -= 48;
+    }
+
+    // Defines a register, if there is one.
+    fn write_register(&mut self, name: Name, register: Option<Register>) -> Result<(), StoredBytes>
+        ensures answer { result ≡ afforded (written register name self.old) tt }
+        ensures ok { OnOk result (self.new ≡ written register name self.old) }
+        ensures err { OnErr result (self.new ≡ self.old) }
+    {
+        let _ = &self.stored;
+        let Some(register) = register else {
+            return Ok(());
+        };
+        self.put_register(name, register)
     }
 
     // Defines a register.
