@@ -1,4 +1,5 @@
 pub mod Laws
 pub mod Named
 pub mod Rows
+pub mod Traps
 pub mod Words
