@@ -245,3 +245,21 @@ module _ {K : Type 0} (fs : List (Frame K)) (xs : List ℕ) (ps : List Span) (no
       ∙ sym (ap (λ o. record { levels = marks o (arguments_of xs ps f.old) ++ map (open_of xs ps) (drop 1 fs); arguments = arguments_of xs ps f.old; room = room; most = most }) some)
       ∙ ap (λ ls. closed ls (levels_of fs xs ps now room most)) (sym (ap (map (open_of xs ps)) (cons_of fs f top)))
       ∙ ap (λ (w : Levels K). closed w.levels w) view
+
+-- with no levels the arguments may be forgotten
+pub forgotten : {K : Type 0} → (fs : List (Frame K)) (xs : List ℕ) (ps : List Span) (now : Span) (room most place_room : ℕ) (v : Levels K) → levels_of fs xs ps now room most ≡ v → v.levels ≡ [] → AreLevels fs xs ps now room most place_room
+    → AreLevels fs xs ps (record { first = 0; last = 0 }) room most place_room
+forgotten [] xs ps now room most place_room v view none h =
+    let stacked = h.stacked in
+    let zero_last = stacked.0 in
+    let top = h.top in
+    record {
+      stacked = (refl, stacked.1);
+      now = record { within = omega arith; below = tt };
+      top = omega arith;
+      places_suffice = h.places_suffice;
+      places_small = h.places_small;
+      small = h.small;
+    }
+forgotten (f ∷ fs) xs ps now room most place_room v view none h =
+    let is = ap (λ (w : Levels _). w.levels) view ∙ none in let no : ⊥ = cc in absurd no

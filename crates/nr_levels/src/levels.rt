@@ -247,4 +247,12 @@ impl<'a, K: Copy> Levels<'a, K> {
     {
         self.frames.pop();
     }
+
+    /// With no levels there are no arguments in force.
+    pub fn forget_arguments(&mut self)
+        requires { self.old.levels ≡ [] }
+        ensures { self.new ≡ record self.old { arguments = [] } }
+    {
+        self.in_force = Span { first: 0, last: 0 };
+    }
 }

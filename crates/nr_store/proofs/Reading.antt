@@ -14,7 +14,7 @@ use Rattle.nr_store.specs.declared.named.Sense.{Sense}
 use Rattle.nr_store.specs.declared.element.Element.{Element}
 use Rattle.nr_store.specs.declared.element.Draft.{Draft}
 use Rattle.nr_store.specs.declared.shown.Shown.TheVariants as shows
-use Rattle.nr_store.specs.Stored.{Level, Read, Mark, level_charge, Stored, charge_of, shown, shown_in, shown_of, mark_of, left, left_in, left_of}
+use Rattle.nr_store.specs.Stored.{Level, Read, Mark, level_charge, Stored, charge_of, shown, shown_in, shown_of, mark_of, left, left_in, left_of, dropped, dropped_in, emptied}
 use Rattle.nr_store.specs.Holders.{Beside, level_in, level_of, stored_of, count, ids_of, ids_of_source, values, draft_ids, held_ids, IsHeld, Pays, AllPay, IsStore}
 use Rattle.nr_store.proofs.Counting.{AddsOne, count-cons, count-append, held_less, open_of_adds, text_kept, released_capacity, released_slots}
 use Rattle.nr_store.proofs.Keeping.{Keeps, keeps_right, same_view, all_pay}
@@ -310,3 +310,40 @@ module _ {K : Type 0} (p : Texts Element) (names : Table Sense) (drafts : Items 
       subst (λ ks. IsStore p names drafts (resumed ks levels) beside charge limit) (sym n.first)
       (subst (λ m. IsStore p names drafts (record levels { levels = drop 1 levels.levels }) beside m limit) (let e : charge - level_charge (level_of p n.level) ≡ charge = omega arith in e)
       (now_stands p p names drafts levels beside charge limit s n h held_still keeps_still h.alone refl refl (drop 1 levels.levels) [] levels.arguments (λ r. refl) refl (λ pays. pays) (omega arith) refl (omega arith)))
+
+-- ---- levels that go, their texts unread
+
+-- the newest level reads this, and goes
+pub dropped_is : {K : Type 0} (p : Texts Element) (names : List (Named Sense)) (drafts : List Draft) (levels : Levels K) (beside : Beside) (limit : ℕ) (s : Source K) (n : Newest levels.levels s)
+    → dropped (map (level_of p) levels.levels) (stored_of p names drafts levels beside limit) ≡ dropped_in (level_in p s n.level) (map (level_of p) (drop 1 levels.levels)) (stored_of p names drafts levels beside limit)
+dropped_is p names drafts levels beside limit s n =
+    let v = stored_of p names drafts levels beside limit in
+    ap (λ ls. dropped (map (level_of p) ls) v) n.first ∙ ap (λ t. dropped_in (level_in p t n.level) (map (level_of p) (drop 1 levels.levels)) v) n.reads
+
+-- how many times a level can go: once more where a mode is behind its end
+abbrev pub times : {K : Type 0} → Level K → ℕ
+times (Read l) = 2
+times (Mark mode) = 1
+
+abbrev pub all_times : {K : Type 0} → List (Level K) → ℕ
+all_times levels = sum_by times levels
+
+marks_times : {K : Type 0} (o : Option K) (ls : List (Level K)) → all_times (mark_of o ++ ls) ≤ all_times ls + 1
+marks_times None ls = omega arith
+marks_times (Some mode) ls = let all = sum_by-cons times (Mark mode) ls in omega arith
+
+one_fewer : {K : Type 0} (l : Level K) (ls : List (Level K)) (v : Stored K) → all_times (dropped_in l ls v).levels < all_times (l ∷ ls)
+one_fewer (Read l) ls v = let all = sum_by-cons times (Read l) ls in let some = marks_times l.resume ls in omega arith
+one_fewer (Mark mode) ls v = let all = sum_by-cons times (Mark mode) ls in omega arith
+
+pub fewer_times : {K : Type 0} (levels : List (Level K)) (v : Stored K) → 0 < length levels → all_times (dropped levels v).levels < all_times levels
+fewer_times [] v some = absurd (omega arith)
+fewer_times (l ∷ ls) v some = one_fewer l ls v
+
+emptied_in : {K : Type 0} (l : Level K) (ls : List (Level K)) (v : Stored K) → emptied (dropped_in l ls v) ≡ emptied v
+emptied_in (Read l) ls v = refl
+emptied_in (Mark mode) ls v = refl
+
+pub emptied_dropped : {K : Type 0} (levels : List (Level K)) (v : Stored K) → emptied (dropped levels v) ≡ emptied v
+emptied_dropped [] v = refl
+emptied_dropped (l ∷ ls) v = emptied_in l ls v

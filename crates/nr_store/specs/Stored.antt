@@ -8,6 +8,7 @@ use Rattle.nr_units.specs.declared.number_text.Format.TheVariants.{Arabic}
 use Rattle.nr_tables.specs.Named.{Named, is_same, find, put, without}
 use Rattle.nr_levels.specs.Gathered.{Gathered, none_gathered, gathered_len, bytes_in, with_byte, with_end}
 use Rattle.nr_tables.specs.Words.{Word, word_weight}
+use Rattle.nr_tables.specs.Traps.{planted, unplanted, changed}
 use Rattle.nr_tables.specs.declared.trap.Trap.{Trap}
 use Rattle.nr_store.specs.declared.element.Element.{Element}
 use Rattle.nr_store.specs.declared.element.Element.TheVariants as elements
@@ -295,6 +296,15 @@ abbrev pub left : {K : Type 0} → List (Level K) → Stored K → Stored K
 left [] v = v
 left (l ∷ ls) v = left_in l ls v
 
+-- where the newest level goes, its text unread
+abbrev pub dropped_in : {K : Type 0} → Level K → List (Level K) → Stored K → Stored K
+dropped_in (Read l) ls v = record v { levels = mark_of l.resume ++ ls; arguments = l.old }
+dropped_in (Mark mode) ls v = record v { levels = ls }
+
+abbrev pub dropped : {K : Type 0} → List (Level K) → Stored K → Stored K
+dropped [] v = v
+dropped (l ∷ ls) v = dropped_in l ls v
+
 -- with no levels, and no arguments
 abbrev pub emptied : {K : Type 0} → Stored K → Stored K
 emptied v = record v { levels = []; arguments = []; gathered = none_gathered }
@@ -373,3 +383,17 @@ formatted name format v = with_register name (record (register_of (find name v.r
 -- where a register is undefined
 abbrev pub unregistered : {K : Type 0} → List ℕ → Stored K → Stored K
 unregistered name v = record v { registers = without name v.registers }
+
+-- ---- traps
+
+-- where a trap is planted (CSTR 54, `.wh`)
+abbrev pub trap_planted : {K : Type 0} → ℤ → List ℕ → Stored K → Stored K
+trap_planted place name v = record v { traps = planted (record { place = place; name = name }) v.traps }
+
+-- where the first trap for a macro is moved, or removed (CSTR 54, `.ch`)
+abbrev pub trap_changed : {K : Type 0} → List ℕ → Option ℤ → Stored K → Stored K
+trap_changed name place v = record v { traps = changed name place v.traps }
+
+-- where the first trap at a place is removed (CSTR 54, `.wh`)
+abbrev pub trap_removed : {K : Type 0} → ℤ → Stored K → Stored K
+trap_removed place v = record v { traps = unplanted place v.traps }

@@ -8,6 +8,7 @@ mod arguments;
 mod levels;
 mod names;
 mod registers;
+mod traps;
 
 use crate::element::{Draft, Element};
 use crate::named::Sense;

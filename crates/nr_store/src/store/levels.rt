@@ -2,7 +2,7 @@
 ghost use Rattle.std.specs.Prelude.{◌≡◌, length, OnOk, OnErr, is_some, None, Some};
 ghost use Rattle.nr_tables.specs.Named.{find};
 ghost use Rattle.nr_levels.specs.Levels.{argument};
-ghost use Rattle.nr_store.specs.Stored.{checked, words, entered, reading_bytes, shown, left};
+ghost use Rattle.nr_store.specs.Stored.{checked, words, entered, reading_bytes, shown, left, dropped, emptied};
 
 use crate::element::Element;
 use crate::refusal::Refusal;
@@ -158,5 +158,35 @@ impl<'a, K: Copy> Store<'a, K> {
                 Shown::End
             }
         }
+    }
+
+    // Takes the newest level away, its text unread.
+    fn drop_level(&mut self)
+        ensures { self.new ≡ dropped self.old.levels self.old }
+    {
+        let Some(front) = self.levels.front() else {
+            return;
+        };
+        match front {
+            Front::Byte(_) => self.charge -= self.levels.close(),
+            Front::End => self.charge -= self.levels.close(),
+            Front::Resume(_) => self.levels.resume(),
+            Front::Text(id, _) => {
+                self.pool.release(id);
+                self.charge -= self.levels.close();
+            }
+        }
+    }
+
+    /// Takes all levels away, and the arguments in force and those that are being read. It takes as many steps as there
+    /// are levels.
+    pub fn clear_levels(&mut self)
+        ensures { self.new ≡ emptied self.old }
+    {
+        while self.levels.depth() > 0 {
+            self.drop_level();
+        }
+        self.levels.forget_arguments();
+        self.begin_arguments();
     }
 }
