@@ -1,11 +1,11 @@
 -- Lemmas on bytes that are cut up by lengths.
-use Rattle.std.proofs.Common.{◌≡◌, ℕ, zero, suc, ◌+◌, ◌-◌, ◌<◌, ◌≤◌, List, [], ◌∷◌, ◌++◌, length, take, drop, sum, sum_by, map, set, refl, ap, ap₂, sym, ◌∙◌, append_assoc, length-append, eqb, subst, inl, inr, arith}
-use Rattle.std.proofs.lemmas.List.{take-append-le, drop-append-le, length-take-le, length-drop, take_all, drop_all, drop-drop, take-append-drop, append-nil, length-map, length-set, take_more_set}
-use Rattle.std.proofs.lemmas.List.Sums.{sum_by-cons, sum_by-append}
+use Rattle.std.proofs.Common.{◌≡◌, ℕ, zero, suc, ◌+◌, ◌-◌, ◌<◌, ◌≤◌, List, [], ◌∷◌, ◌++◌, length, take, drop, sum, map, set, refl, ap, ap₂, sym, ◌∙◌, length-append, eqb, inl, inr, arith}
+use Rattle.std.proofs.lemmas.List.{take-append-le, drop-append-le, length-take-le, length-drop, take_all, drop_all, drop-drop, length-map, length-set, take_more_set}
+use Rattle.std.proofs.lemmas.List.Sums.{sum_by-append}
 use Rattle.std.proofs.lemmas.Bool.{cases_lt, cond-true, cond-false, eq-eqb, ne_eqb}
 use Rattle.nr_levels.specs.Levels.{cut}
 use Rattle.nr_levels.specs.Laws.{sum-cons, length-joined}
-use Rattle.nr_levels.specs.Gathered.{Gathered, joined, bytes_in, gathered_len, with_byte, with_end, gathered_of, IsGathering}
+use Rattle.nr_levels.specs.Gathered.{Gathered, joined, gathered_len, with_byte, with_end, gathered_of, IsGathering}
 
 -- more bytes behind change nothing
 pub cut_more : (lens bytes more : List ℕ) → sum lens ≤ length bytes → cut lens (bytes ++ more) ≡ cut lens bytes

@@ -1,5 +1,5 @@
 -- What arguments come to that are joined and cut up again.
-use Rattle.std.specs.Prelude.{◌≡◌, ℕ, ◌+◌, List, [], ◌∷◌, ◌++◌, length, take, drop, sum, sum_by, map, refl}
+use Rattle.std.specs.Prelude.{◌≡◌, ℕ, ◌+◌, List, [], ◌∷◌, ◌++◌, length, drop, sum, map, refl}
 use Rattle.std.proofs.Common.{ap, ap₂, ◌∙◌, length-append, arith}
 use Rattle.std.proofs.lemmas.List.{take-append-le, take_all}
 use Rattle.std.proofs.lemmas.List.Sums.{sum_by-cons}
@@ -27,4 +27,3 @@ length-joined (t ∷ ts) = let all = sum_by-cons (λ (b : List ℕ). length b) t
 pub sum-lengths : (texts : List (List ℕ)) → sum (map (λ (b : List ℕ). length b) texts) ≡ length (joined texts)
 sum-lengths [] = refl
 sum-lengths (t ∷ ts) = let all = sum-cons (length t) (map (λ (b : List ℕ). length b) ts) in let rest = sum-lengths ts in omega (arith, length-append t (joined ts))
-

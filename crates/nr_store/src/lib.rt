@@ -10,13 +10,15 @@ pub mod register;
 pub mod request;
 pub mod shown;
 pub mod store;
+#[cfg(test)]
+mod tests;
 
 pub use element::{Diversion, Draft, Element};
-pub use memory::Memory;
+pub use memory::{Memory, Room};
 pub use named::{Meaning, Sense};
+pub use nr_tables::Trap;
 pub use refusal::{Refusal, StoredBytes};
+pub use register::Register;
 pub use request::Request;
 pub use shown::Shown;
-pub use nr_tables::Trap;
-pub use register::Register;
 pub use store::Store;

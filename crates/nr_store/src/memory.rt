@@ -1,9 +1,11 @@
 //! The memory of a store.
+ghost use Rattle.std.specs.Prelude.{◌≡◌, ◌+◌, ◌*◌, ◌/◌};
+
 use crate::element::{Draft, Element};
 use crate::named::Sense;
+use crate::register::Register;
 use nr_levels::{Frame, Span};
 use nr_pool::Slot;
-use crate::register::Register;
 use nr_tables::{Entry, Trap};
 
 /// The slices that a store lies over.
@@ -29,4 +31,53 @@ pub struct Memory<'a, K: Copy> {
     pub registers: &'a mut [Entry<Register>],
     /// The traps.
     pub traps: &'a mut [Trap],
+}
+
+/// The least lengths of a store's slices.
+#[derive(Clone, Copy, Debug, PartialEq, Eq)]
+pub struct Room {
+    pub elements: usize,
+    pub slots: usize,
+    pub names: usize,
+    pub drafts: usize,
+    pub frames: usize,
+    pub bytes: usize,
+    pub places: usize,
+    pub gathering: usize,
+    pub registers: usize,
+    pub traps: usize,
+}
+
+impl Room {
+    /// The lengths under which a store with this limit, and with so many levels at most, makes only the refusals that it
+    /// names.
+    pub fn of(limit: u32, deepest: u32) -> Room
+        ensures { result ≡ record {
+          elements = limit;
+          slots = limit / 16 + 1;
+          names = limit / 48 + 1 + 56;
+          drafts = limit / 48 + 1;
+          frames = deepest;
+          bytes = limit;
+          places = 9 * deepest;
+          gathering = limit;
+          registers = limit / 48 + 1;
+          traps = limit / 48 + 1;
+        } }
+    {
+        let limit = limit as usize;
+        let deepest = deepest as usize;
+        Room {
+            elements: limit,
+            slots: limit / 16 + 1,
+            names: limit / 48 + 1 + 56,
+            drafts: limit / 48 + 1,
+            frames: deepest,
+            bytes: limit,
+            places: 9 * deepest,
+            gathering: limit,
+            registers: limit / 48 + 1,
+            traps: limit / 48 + 1,
+        }
+    }
 }

@@ -2,9 +2,9 @@
 ghost use Rattle.std.specs.Prelude.{◌≡◌, ◌≤◌, length};
 ghost use Rattle.nr_store.specs.Stored.{charge_of};
 
+mod arguments;
 mod beginning;
 mod building;
-mod arguments;
 mod levels;
 mod names;
 mod registers;

@@ -69,11 +69,7 @@ impl<'a, K: Copy> Store<'a, K> {
     }
 
     // Begins a text that is a copy of a name's, or empty where that is no text's.
-    fn begin_copy(
-        &mut self,
-        name: Name,
-        diversion: Option<Diversion>,
-    ) -> Result<(), StoredBytes>
+    fn begin_copy(&mut self, name: Name, diversion: Option<Diversion>) -> Result<(), StoredBytes>
         ensures answer { result ≡ afforded (begun (text_of name self.old) diversion self.old) tt }
         ensures ok { OnOk result (self.new ≡ begun (text_of name self.old) diversion self.old) }
         ensures err { OnErr result (self.new ≡ self.old) }

@@ -1,6 +1,6 @@
-use Rattle.std.proofs.Common.{◌≡◌, length, ap, ◌∙◌, sym, arith}
-use Rattle.nr_levels.specs.Gathered.{Gathering, gathered_len, with_end}
-use Rattle.nr_levels.proofs.Cutting.{unchanged_end, ended_is, ended_stands}
+use Rattle.std.proofs.Common.{ap, ◌∙◌}
+use Rattle.nr_levels.specs.Gathered.{Gathering, with_end}
+use Rattle.nr_levels.proofs.Cutting.{ended_is}
 use Rattle.nr_levels.proofs.gathering.Gathering.end.Goals as goal
 
 pub returns : goal.returns

@@ -1,6 +1,6 @@
-use Rattle.std.proofs.Common.{◌≡◌, length, ap, ◌∙◌, sym, arith}
+use Rattle.std.proofs.Common.{◌≡◌, ap, ◌∙◌, arith}
 use Rattle.nr_levels.specs.Gathered.{Gathering, gathered_len, with_byte}
-use Rattle.nr_levels.proofs.Cutting.{all_len, unchanged_byte, pushed_byte, pushed_stands}
+use Rattle.nr_levels.proofs.Cutting.{all_len, pushed_byte}
 use Rattle.nr_levels.proofs.gathering.Gathering.push.Goals as goal
 
 pub push-requires : goal.push-requires
