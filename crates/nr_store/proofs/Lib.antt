@@ -11,3 +11,4 @@ pub mod Dropping
 pub mod Diverting
 pub mod Beginning
 pub mod Besides
+pub mod Lines

@@ -167,10 +167,13 @@ longer xs b = record b { text = b.text ++ xs }
 abbrev pub added : {K : Type 0} → List Element → Stored K → Stored K
 added xs v = record v { building = on_newest (longer xs) v.building }
 
+-- a cell of no letter
+abbrev pub blank_cell : Element
+blank_cell = elements.Cell (record { byte = 32; under = false })
+
 -- a diverted line: blanks, cells, and its end
 abbrev pub line_of : ℕ → List Cell → ℕ → List Element
-line_of indent cells height =
-    replicate indent (elements.Cell (record { byte = 32; under = false })) ++ (map elements.Cell cells ++ elements.LineEnd height ∷ [])
+line_of indent cells height = replicate indent blank_cell ++ (map elements.Cell cells ++ elements.LineEnd height ∷ [])
 
 -- the greatest height and width that are told
 abbrev pub greatest : ℕ

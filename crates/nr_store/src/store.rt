@@ -6,6 +6,7 @@ mod arguments;
 mod beginning;
 mod building;
 mod levels;
+mod lines;
 mod names;
 mod registers;
 mod traps;

@@ -1,0 +1,88 @@
+// Lines that go into a diversion.
+ghost use Rattle.std.specs.Prelude.{◌≡◌, ◌+◌, ◌∷◌, [], ◌++◌, ◌≤◌, length, map, replicate, OnOk, OnErr};
+ghost use Rattle.std.specs.Option.{option_map};
+ghost use Rattle.nr_pool.specs.Texts.{IsOpen, text, used, with_text};
+ghost use Rattle.nr_store.specs.declared.element.Element.TheVariants.{Cell as cell_element};
+ghost use Rattle.nr_store.specs.Stored.{afforded, blank_cell, line_of, taken, diverted};
+
+use crate::element::{Diversion, Draft, Element};
+use crate::refusal::StoredBytes;
+use crate::store::Store;
+use nr_pool::{Id, Pool};
+use nr_units::cell::Cell;
+
+// Adds blanks to a text.
+fn append_blanks(pool: &mut Pool<'_, Element>, id: Id, n: u32)
+    requires is_open { IsOpen pool.old id }
+    requires room { used pool.old + n ≤ pool.old.capacity }
+    ensures { pool.new ≡ with_text pool.old id (text pool.old id ++ replicate n blank_cell) }
+{
+    for _i in 0..n {
+        let _ = pool.append(id, Element::Cell(Cell::blank()));
+    }
+}
+
+// Adds cells to a text.
+fn append_cells(pool: &mut Pool<'_, Element>, id: Id, cells: &[Cell])
+    requires is_open { IsOpen pool.old id }
+    requires room { used pool.old + length cells.now ≤ pool.old.capacity }
+    ensures { pool.new ≡ with_text pool.old id (text pool.old id ++ map cell_element cells.now) }
+{
+    for cell in cells {
+        let _ = pool.append(id, Element::Cell(*cell));
+    }
+}
+
+// Adds a line to a text.
+fn append_line(pool: &mut Pool<'_, Element>, id: Id, indent: u32, cells: &[Cell], height: u32)
+    requires is_open { IsOpen pool.old id }
+    requires room { used pool.old + (indent + length cells.now + 1) ≤ pool.old.capacity }
+    ensures { pool.new ≡ with_text pool.old id (text pool.old id ++ line_of indent cells.now height) }
+{
+    append_blanks(pool, id, indent);
+    append_cells(pool, id, cells);
+    let _ = pool.append(id, Element::LineEnd(height));
+}
+
+// The diversion, where a line of so many cells and of this height was taken.
+fn with_line(diversion: Option<Diversion>, cells: usize, height: u32) -> Option<Diversion>
+    ensures { result ≡ option_map (taken cells height) diversion }
+{
+    let Some(diversion) = diversion else {
+        return None;
+    };
+    Some(diversion.with_line(cells, height))
+}
+
+impl<'a, K: Copy> Store<'a, K> {
+    /// Adds a line to the newest text being built: so many blanks, the cells, and a line end of this height in u. It is
+    /// checked once, for all of it. A diversion's height and width grow by it. Nothing happens where no text is being
+    /// built.
+    pub fn add_line(
+        &mut self,
+        indent: u32,
+        cells: &[Cell],
+        height: u32,
+    ) -> Result<(), StoredBytes>
+        ensures answer { result ≡ afforded (diverted indent cells.now height self.old) tt }
+        ensures ok { OnOk result (self.new ≡ diverted indent cells.now height self.old) }
+        ensures err { OnErr result (self.new ≡ self.old) }
+    {
+        let Some(draft) = self.drafts.top() else {
+            return Ok(());
+        };
+        let width = indent as usize + cells.len();
+        let room = (self.stored - self.charge) as usize;
+        if room <= width {
+            return Err(StoredBytes);
+        }
+        let Draft { id, diversion } = draft;
+        append_line(&mut self.pool, id, indent, cells, height);
+        self.drafts.set_top(Draft {
+            id,
+            diversion: with_line(diversion, width, height),
+        });
+        self.charge += width as u32 + 1;
+        Ok(())
+    }
+}
