@@ -5,6 +5,7 @@ pub mod Digits
 pub mod Edits
 pub mod ExpressionFronts
 pub mod Fronts
+pub mod Letters
 pub mod NameOrder
 pub mod Offering
 pub mod Padded

@@ -1,5 +1,5 @@
 -- The texts of numbers: Arabic, roman and alphabetic.
-use Rattle.std.specs.Prelude.{◌≡◌, ℕ, suc, ◌+◌, ◌-◌, ◌*◌, ◌/◌, ◌%◌, ◌≤◌, ◌<◌, min, max, List, [], ◌∷◌, ◌++◌, length, ℤ, pos, negsuc, slice_index, replicate, unwrap_or, slice_get}
+use Rattle.std.specs.Prelude.{◌≡◌, ℕ, zero, suc, ◌==◌, ◌||◌, nat_le, if◌then◌else◌, decimal, ◌+◌, ◌-◌, ◌*◌, ◌/◌, ◌%◌, ◌≤◌, ◌<◌, min, max, List, [], ◌∷◌, ◌++◌, length, ℤ, pos, negsuc, slice_index, replicate, unwrap_or, slice_get}
 use Rattle.std.specs.Str.Parse.{IsNumeral, digits_value}
 use Rattle.nr_units.specs.declared.number_text.Format.{Format}
 use Rattle.nr_units.specs.declared.number_text.Format.TheVariants.{Arabic, LowerRoman, UpperRoman, LowerAlphabetic, UpperAlphabetic}
@@ -66,3 +66,39 @@ IsNumberText format (negsuc n) text = (form : List ℕ) × (text ≡ 45 ∷ form
 -- new is old and behind it a text of which P holds
 abbrev pub Appends : List ℕ → List ℕ → (List ℕ → Type 0) → Type 0
 Appends old new P = (form : List ℕ) × (new ≡ old ++ form) × P form
+
+-- ---- the same as one text
+
+-- decimal digits, with zeros in front for so many places, of which at most nine count
+abbrev pub arabic_text : ℕ → ℕ → List ℕ
+arabic_text places n = replicate (min 9 places - length (decimal n)) 48 ++ decimal n
+
+-- roman from 1 to 3999, elsewhere Arabic
+abbrev pub roman_text : ℕ → ℕ → List ℕ
+roman_text raised n = if (n == 0) || nat_le 4000 n then arabic_text 1 n else roman raised n
+
+-- the letters of n, so many at most, before others: the last of them has the rest of n - 1 by 26
+abbrev pub letters_before : ℕ → ℕ → ℕ → List ℕ → List ℕ
+letters_before zero before n more = more
+letters_before (suc most) before n more =
+    if n == 0 then more else letters_before most before ((n - 1) / 26) ((before + 1 + (n - 1) % 26) ∷ more)
+
+-- the letters of a number below 26^14
+unfoldable pub letters : ℕ → ℕ → List ℕ
+letters before n = letters_before 14 before n []
+
+-- 0 has the digit
+abbrev pub alphabetic_text : ℕ → ℕ → List ℕ
+alphabetic_text before n = if n == 0 then 48 ∷ [] else letters before n
+
+abbrev pub form_text : Format → ℕ → List ℕ
+form_text (Arabic places) n = arabic_text places n
+form_text LowerRoman n = roman_text 0 n
+form_text UpperRoman n = roman_text 32 n
+form_text LowerAlphabetic n = alphabetic_text 96 n
+form_text UpperAlphabetic n = alphabetic_text 64 n
+
+-- a negative number is `-` and the form of its magnitude
+abbrev pub number_text : Format → ℤ → List ℕ
+number_text format (pos n) = form_text format n
+number_text format (negsuc n) = 45 ∷ form_text format (suc n)

@@ -1,7 +1,7 @@
 //! The texts of numbers.
 ghost use Rattle.std.specs.Prelude.{◌≡◌, ◌+◌, ◌-◌, ◌<◌, ◌≤◌, ◌++◌, ◌^◌, length, replicate};
 ghost use Rattle.arrayvec.specs.ArrayVec.{array_vec_len};
-ghost use Rattle.nr_units.specs.NumberText.{IsArabic, IsRoman, IsAlphabetic, Appends, roman_digit, IsNumberText};
+ghost use Rattle.nr_units.specs.NumberText.{IsArabic, IsRoman, IsAlphabetic, Appends, roman_digit, IsNumberText, arabic_text, roman_text, alphabetic_text, number_text};
 
 use arrayvec::ArrayVec;
 use itoa::Buffer;
@@ -60,6 +60,7 @@ fn push_arabic(text: &mut Text, n: u64, places: u8)
     requires range { n ≤ 2 ^ 63 }
     ensures appends { Appends text.old.items text.new.items (IsArabic places n) }
     ensures short { array_vec_len text.new ≤ array_vec_len text.old + 19 }
+    ensures computed { text.new.items ≡ text.old.items ++ arabic_text places n }
 {
     let mut buffer = Buffer::new();
     let digits = buffer.format(n).as_bytes();
@@ -96,6 +97,7 @@ fn push_roman(text: &mut Text, n: u64, raised: u8)
     requires case { raised ≤ 32 }
     ensures appends { Appends text.old.items text.new.items (IsRoman raised n) }
     ensures short { array_vec_len text.new ≤ array_vec_len text.old + 19 }
+    ensures computed { text.new.items ≡ text.old.items ++ roman_text raised n }
 {
     if n == 0 || n >= 4000 {
         return push_arabic(text, n, 1);
@@ -117,6 +119,7 @@ fn push_alphabetic(text: &mut Text, n: u64, before: u8)
     requires case { before ≤ 96 }
     ensures appends { Appends text.old.items text.new.items (IsAlphabetic before n) }
     ensures short { array_vec_len text.new ≤ array_vec_len text.old + 19 }
+    ensures computed { text.new.items ≡ text.old.items ++ alphabetic_text before n }
 {
     if n == 0 {
         return push_all(text, b"0");
@@ -136,6 +139,7 @@ fn push_alphabetic(text: &mut Text, n: u64, before: u8)
 pub fn format_number(n: i64, format: Format) -> ArrayVec<u8, 32>
     ensures text { IsNumberText format n result.items }
     ensures short { array_vec_len result ≤ 20 }
+    ensures computed { result.items ≡ number_text format n }
 {
     let mut text = ArrayVec::new();
     if n < 0 {

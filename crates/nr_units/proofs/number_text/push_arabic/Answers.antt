@@ -5,6 +5,13 @@ use Rattle.std.proofs.lemmas.List.{length-replicate}
 use Rattle.nr_units.proofs.Digits.{arabic}
 use Rattle.nr_units.proofs.number_text.push_arabic.Goals as goal
 
+pub returns-clause-computed : goal.returns-clause-computed
+returns-clause-computed c =
+    let text : c.as_bytes-digits.result.now ≡ decimal c.args.n = cc in
+    let k : c.saturating_sub.result ≡ min 9 c.args.places - length (decimal c.args.n) = omega (arith, ap length text, c.from.ensures) in
+    simp append_assoc at (c.push_all.ensures ∙ ap (λ xs. xs ++ c.as_bytes-digits.result.now) c.push_times.ensures ∙ ap (λ ds. (c.args.text.now.items ++ replicate c.saturating_sub.result 48) ++ ds) text)
+    ∙ ap (λ m. c.args.text.now.items ++ (replicate m 48 ++ decimal c.args.n)) k
+
 pub returns-clause-appends : goal.returns-clause-appends
 returns-clause-appends c =
     let text : c.as_bytes-digits.result.now ≡ decimal c.args.n = cc in

@@ -1,0 +1,4 @@
+pub mod Fronts
+pub mod Newest
+pub mod Over
+pub mod Stacked

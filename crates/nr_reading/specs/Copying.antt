@@ -1,0 +1,65 @@
+-- Copy mode and argument mode: what the item in front is (CSTR 54, 7.2; the groff manual, Copy Mode).
+use Rattle.std.specs.Prelude.{ℕ, ◌==◌, ◌&&◌, Bool, true, false, if◌then◌else◌}
+use Rattle.nr_units.specs.declared.cell.Cell.{Cell}
+use Rattle.nr_reading.specs.declared.ask.Kind.{Kind}
+use Rattle.nr_reading.specs.declared.ask.Kind.TheVariants as kinds
+use Rattle.nr_reading.specs.declared.ask.Sign.TheVariants as signs
+use Rattle.nr_reading.specs.declared.escape.Offer.{Offer}
+use Rattle.nr_reading.specs.declared.escape.Offer.TheVariants as offers
+use Rattle.nr_reading.specs.declared.front.Front.{Front}
+use Rattle.nr_reading.specs.declared.front.Front.TheVariants as fronts
+use Rattle.nr_reading.specs.declared.mode.Escape.{Escape}
+use Rattle.nr_reading.specs.declared.mode.Escape.TheVariants as escapes
+
+-- A byte behind `\`: `\n`, `\*`, `\$` interpolate, in arguments `\w` too; `\` with a newline vanishes; `\"` begins a comment;
+-- `\t` and `\a` become tab and SOH, `\\` becomes `\`, `\.` becomes `.`. Before any other byte the `\` is kept.
+abbrev pub escaped : ℕ → Bool → Offer
+escaped b argument =
+    if b == 92 then offers.Byte 92
+    else (if b == 46 then offers.Byte 46
+    else (if b == 116 then offers.Byte 9
+    else (if b == 97 then offers.Byte 1
+    else (if b == 10 then offers.Skip escapes.Plain
+    else (if b == 34 then offers.Skip escapes.Comment
+    else (if b == 42 then offers.Begin kinds.String
+    else (if b == 36 then offers.Begin kinds.Argument
+    else (if b == 110 then offers.Begin (kinds.Register signs.None)
+    else (if (b == 119) && argument then offers.Begin kinds.Width
+    else offers.Backslash)))))))))
+
+-- a byte, by what of an escape was read; a comment vanishes up to the newline
+abbrev pub offer_byte : ℕ → Escape → Bool → Offer
+offer_byte b escapes.Plain argument = if b == 92 then offers.Skip escapes.Begun else offers.Byte b
+offer_byte b escapes.Begun argument = escaped b argument
+offer_byte b escapes.Comment argument = if b == 10 then offers.Byte 10 else offers.Skip escapes.Comment
+
+-- A cell of a diversion is read as its byte, which never begins an escape.
+abbrev pub offer_cell : Cell → Escape → Offer
+offer_cell c escapes.Plain = offers.Byte c.byte
+offer_cell c escapes.Begun = offers.Backslash
+offer_cell c escapes.Comment = offers.Skip escapes.Comment
+
+-- Its line end is read as a newline.
+abbrev pub offer_line_end : Escape → Offer
+offer_line_end escapes.Begun = offers.Backslash
+offer_line_end e = offers.Byte 10
+
+-- A resume mark and the empty list end what is read.
+abbrev pub offer_over : Escape → Offer
+offer_over escapes.Begun = offers.Backslash
+offer_over e = offers.Over
+
+-- A level's end mark is taken before what is behind it is looked at.
+abbrev pub offer : Front → Escape → Bool → Offer
+offer fronts.Mark e argument = offers.Skip e
+offer (fronts.Byte b) e argument = offer_byte b e argument
+offer (fronts.Cell c) e argument = offer_cell c e
+offer (fronts.LineEnd h) e argument = offer_line_end e
+offer fronts.Resume e argument = offer_over e
+offer fronts.Over e argument = offer_over e
+
+-- what is read as it stands
+abbrev pub raw_offer : Front → Escape → Offer
+raw_offer fronts.Mark e = offers.Skip e
+raw_offer (fronts.Byte b) e = offers.Byte b
+raw_offer f e = offers.Over

@@ -1,0 +1,82 @@
+-- Accepted and rejected parts of conditionals, and diverted lines (CSTR 54, 16, 7.4).
+use Rattle.std.specs.Prelude.{ℕ, ◌-◌, ◌==◌, ◌||◌, Bool, true, false, if◌then◌else◌, Option, None, Some}
+use Rattle.nr_reading.specs.declared.event.Event.TheVariants as events
+use Rattle.nr_reading.specs.declared.front.Front.{Front}
+use Rattle.nr_reading.specs.declared.front.Front.TheVariants as fronts
+use Rattle.nr_reading.specs.declared.mode.Escape.{Escape}
+use Rattle.nr_reading.specs.declared.mode.Escape.TheVariants as escapes
+use Rattle.nr_reading.specs.declared.mode.Mode.TheVariants as modes
+use Rattle.nr_reading.specs.declared.mode.Reading.{Reading}
+use Rattle.nr_reading.specs.declared.mode.Signs.{Signs}
+use Rattle.nr_reading.specs.declared.step.Step.{Step}
+use Rattle.nr_reading.specs.Noting.{one_more}
+use Rattle.nr_reading.specs.Spelling.{is_blank}
+use Rattle.nr_reading.specs.Steps.{to, escaping, go, leave, tell, leave_telling}
+use Rattle.nr_reading.specs.Text.{begin_escape, start}
+use Rattle.nr_reading.specs.TextEscapes.{plain}
+
+abbrev pub is_begun : Escape → Bool
+is_begun escapes.Begun = true
+is_begun e = false
+
+-- ---- accepted
+
+-- Blanks and `\{` are skipped; a newline right there ends the line without effect; what follows else is the beginning of a line.
+abbrev pub accepted_byte : ℕ → Reading → Step
+accepted_byte b r =
+    if is_blank b then go r
+    else (if b == 10 then go (to modes.Start r)
+    else (if b == 92 then begin_escape r else leave (to modes.Start r)))
+
+abbrev pub accepted : Front → Reading → Step
+accepted fronts.Mark r = go r
+accepted (fronts.Byte b) r = accepted_byte b r
+accepted f r = leave (to modes.Start r)
+
+abbrev pub accepted_escape : Front → Reading → Step
+accepted_escape fronts.Mark r = go r
+accepted_escape (fronts.Byte b) r = if b == 123 then go (plain r) else leave (to modes.Start r)
+accepted_escape f r = leave (to modes.Start r)
+
+-- ---- rejected
+
+-- Elements are skipped as they are, without interpolation; a newline at count 0 ends the part.
+abbrev pub behind_newline : ℕ → Reading → Step
+behind_newline n r = if n == 0 then go (to modes.Start r) else go r
+
+abbrev pub skip_byte : ℕ → ℕ → Reading → Step
+skip_byte b n r = if b == 10 then behind_newline n r else (if b == 92 then begin_escape r else go r)
+
+abbrev pub skip : Front → ℕ → Reading → Step
+skip (fronts.Byte b) n r = skip_byte b n r
+skip (fronts.LineEnd h) n r = behind_newline n r
+skip fronts.Resume n r = leave (to modes.Start r)
+skip fronts.Over n r = leave (to modes.Start r)
+skip f n r = go r
+
+-- `\{` adds one, `\}` takes one away, not below 0.
+abbrev pub braces : ℕ → ℕ → ℕ
+braces b n = if b == 123 then one_more n else (if b == 125 then n - 1 else n)
+
+-- `\` is skipped together with the next element.
+abbrev pub skip_escape : Front → ℕ → Reading → Step
+skip_escape fronts.Mark n r = go r
+skip_escape (fronts.Byte b) n r = go (plain (to (modes.Skip (braces b n)) r))
+skip_escape fronts.Resume n r = leave (plain (to modes.Start r))
+skip_escape fronts.Over n r = leave (plain (to modes.Start r))
+skip_escape f n r = go (plain r)
+
+-- ---- diverted lines
+
+-- Each diverted line is read as it is: its cells, and its line end with a height.
+abbrev pub diverted : Front → Reading → Step
+diverted fronts.Mark r = go r
+diverted (fronts.Cell c) r = tell (events.DivertedCell c) r
+diverted (fronts.LineEnd h) r = tell (events.DivertedEnd (Some h)) (to modes.Start r)
+diverted f r = leave_telling (events.DivertedEnd None) (to modes.Start r)
+
+-- the first item of a diverted line; without one it is a line like any other
+abbrev pub diverting : Front → Signs → Reading → Step
+diverting (fronts.Cell c) s r = tell (events.DivertedCell c) (to modes.Diverted r)
+diverting (fronts.LineEnd h) s r = tell (events.DivertedEnd (Some h)) (to modes.Start r)
+diverting f s r = start f s r

@@ -1,0 +1,26 @@
+-- Names as far as they were read (CSTR 54, 7.5; the groff manual, Identifiers).
+use Rattle.std.specs.Prelude.{ℕ, ◌==◌, ◌||◌, nat_le, Bool, true, false, if◌then◌else◌, List, [], ◌∷◌, ◌++◌, length}
+use Rattle.nr_reading.specs.declared.spelled.Spelled.{Spelled}
+
+-- a blank is a space or a tab
+abbrev pub is_blank : ℕ → Bool
+is_blank b = (b == 32) || (b == 9)
+
+-- a blank, a newline or another control byte
+abbrev pub ends_name : ℕ → Bool
+ends_name b = nat_le b 32 || (b == 127)
+
+abbrev pub nothing_spelled : Spelled
+nothing_spelled = record { bytes = []; bad = false }
+
+-- with one byte more: a name has up to 32 bytes, and a longer one is read whole
+abbrev pub spelled : ℕ → Spelled → Spelled
+spelled b s = if length s.bytes == 32 then record s { bad = true } else record s { bytes = s.bytes ++ b ∷ [] }
+
+-- a bad name is the empty one, which names nothing
+abbrev pub name_of : Spelled → List ℕ
+name_of s = if s.bad then [] else s.bytes
+
+abbrev pub is_empty : List ℕ → Bool
+is_empty [] = true
+is_empty (b ∷ bs) = false

@@ -1,0 +1,37 @@
+-- Definitions of strings, and transparent lines (CSTR 54, 7.1, 10.6).
+use Rattle.std.specs.Prelude.{ℕ, ◌==◌, Bool, if◌then◌else◌}
+use Rattle.nr_reading.specs.declared.mode.Due.TheVariants as dues
+use Rattle.nr_reading.specs.declared.mode.Mode.TheVariants as modes
+use Rattle.nr_reading.specs.declared.mode.Reading.{Reading}
+use Rattle.nr_reading.specs.declared.spelled.Spelled.{Spelled}
+use Rattle.nr_reading.specs.declared.step.Note.TheVariants as notes
+use Rattle.nr_reading.specs.declared.step.Step.{Step}
+use Rattle.nr_reading.specs.Control.{completes}
+use Rattle.nr_reading.specs.Spelling.{is_blank, ends_name, name_of, is_empty}
+use Rattle.nr_reading.specs.Steps.{to, due, go, leave, noting, leave_noting}
+
+abbrev pub read_string_before : ℕ → Reading → Step
+read_string_before b r = if is_blank b then go r else leave_noting notes.NewName (to modes.StringName r)
+
+-- without a name the line does nothing
+abbrev pub behind_string_name : Spelled → Reading → Reading
+behind_string_name name r = if is_empty (name_of name) then to modes.Drop r else to modes.StringBlanks r
+
+-- A name that is an argument is read the same way as a control line's.
+abbrev pub read_string_name : ℕ → Bool → Spelled → Reading → Step
+read_string_name b long name r =
+    if ends_name b then leave (behind_string_name name r)
+    else (if completes long name then noting (notes.Name b) (to modes.StringBlanks r) else noting (notes.Name b) r)
+
+-- The text is the rest of the line after blanks; one leading quote is dropped.
+abbrev pub read_string_blanks : ℕ → Reading → Step
+read_string_blanks b r =
+    if is_blank b then go r
+    else (if b == 34 then go (due dues.Begin (to modes.StringText r)) else leave (due dues.Begin (to modes.StringText r)))
+
+abbrev pub read_string_text : ℕ → Reading → Step
+read_string_text b r = if b == 10 then go (due dues.Define (to modes.Start r)) else go (due (dues.Add b) r)
+
+-- The line and its newline pass into the diversion.
+abbrev pub read_transparent : ℕ → Reading → Step
+read_transparent b r = if b == 10 then go (due (dues.Add 10) (to modes.Start r)) else go (due (dues.Add b) r)

@@ -1,0 +1,98 @@
+//! Copy mode and argument mode: what the item in front is.
+ghost use Rattle.std.specs.Prelude.{◌≡◌};
+ghost use Rattle.nr_reading.specs.Copying.{escaped, offer_byte, offer, raw_offer};
+
+use super::ask::{Kind, Sign};
+use super::front::Front;
+use super::mode::Escape;
+
+/// What the item in front is in copy mode.
+#[derive(Clone, Copy, Debug, PartialEq, Eq)]
+pub(crate) enum Offer {
+    /// It is taken, and gives no element.
+    Skip(Escape),
+    /// It is taken, and an interpolation begins.
+    Begin(Kind),
+    /// It is this element.
+    Byte(u8),
+    /// The `\` before it is an element, and it stays.
+    Backslash,
+    /// What is read ends here.
+    Over,
+}
+
+// A byte behind `\`.
+fn escaped(byte: u8, argument: bool) -> Offer
+    ensures { result ≡ escaped byte argument }
+{
+    match byte {
+        b'\\' => Offer::Byte(b'\\'),
+        b'.' => Offer::Byte(b'.'),
+        b't' => Offer::Byte(b'\t'),
+        b'a' => Offer::Byte(1),
+        b'\n' => Offer::Skip(Escape::Plain),
+        b'"' => Offer::Skip(Escape::Comment),
+        b'*' => Offer::Begin(Kind::String),
+        b'$' => Offer::Begin(Kind::Argument),
+        b'n' => Offer::Begin(Kind::Register(Sign::None)),
+        b'w' if argument => Offer::Begin(Kind::Width),
+        _ => Offer::Backslash,
+    }
+}
+
+impl Escape {
+    // A byte, by what of an escape was read.
+    fn offer_byte(self, byte: u8, argument: bool) -> Offer
+        ensures { result ≡ offer_byte byte self argument }
+    {
+        match self {
+            Escape::Plain => {
+                if byte == b'\\' {
+                    return Offer::Skip(Escape::Begun);
+                }
+                Offer::Byte(byte)
+            }
+            Escape::Begun => escaped(byte, argument),
+            Escape::Comment => {
+                if byte == b'\n' {
+                    return Offer::Byte(b'\n');
+                }
+                Offer::Skip(Escape::Comment)
+            }
+        }
+    }
+
+    /// What the item in front is; in argument mode a width is interpolated too.
+    pub(crate) fn offer(self, front: Front, argument: bool) -> Offer
+        ensures { result ≡ offer front self argument }
+    {
+        match front {
+            Front::Mark => Offer::Skip(self),
+            Front::Byte(byte) => self.offer_byte(byte, argument),
+            Front::Cell(cell) => match self {
+                Escape::Plain => Offer::Byte(cell.byte),
+                Escape::Begun => Offer::Backslash,
+                Escape::Comment => Offer::Skip(Escape::Comment),
+            },
+            Front::LineEnd(_) => match self {
+                Escape::Begun => Offer::Backslash,
+                _ => Offer::Byte(b'\n'),
+            },
+            Front::Resume | Front::Over => match self {
+                Escape::Begun => Offer::Backslash,
+                _ => Offer::Over,
+            },
+        }
+    }
+
+    /// What it is where it is read as it stands.
+    pub(crate) fn raw_offer(self, front: Front) -> Offer
+        ensures { result ≡ raw_offer front self }
+    {
+        match front {
+            Front::Mark => Offer::Skip(self),
+            Front::Byte(byte) => Offer::Byte(byte),
+            _ => Offer::Over,
+        }
+    }
+}

@@ -1,0 +1,19 @@
+//! The front of the list of items.
+use nr_units::cell::Cell;
+
+/// The item in front of the list.
+#[derive(Clone, Copy, Debug, PartialEq, Eq)]
+pub enum Front {
+    /// The end of a level: its end mark.
+    Mark,
+    /// A byte.
+    Byte(u8),
+    /// A cell of a diverted line.
+    Cell(Cell),
+    /// The end of a diverted line of this height, in u.
+    LineEnd(u32),
+    /// The mark behind a sprung text: what was under way before it goes on.
+    Resume,
+    /// The list is empty.
+    Over,
+}

@@ -1,0 +1,260 @@
+//! What is half read, and what the item in front does to it.
+ghost use Rattle.std.specs.Prelude.{◌≡◌, ◌<◌, length, drop};
+ghost use Rattle.nr_reading.specs.Meeting.{nothing_half, meet};
+
+use super::ask::{Answer, Ask, Kind, Sign};
+use super::asks::Asks;
+use super::delimited::Delimited;
+use super::escape::Offer;
+use super::event::Event;
+use super::front::Front;
+use super::mode::{Due, Escape, Mode, Reading, Signs};
+use super::notes::Notes;
+use super::reader::{direct, read, read_over};
+use super::step::{Note, Step};
+use nr_units::Name;
+
+/// What an item tells, and whether it is taken.
+#[derive(Clone, Copy, Debug, PartialEq, Eq)]
+pub struct Seen {
+    /// What was read.
+    pub event: Event,
+    /// The item is taken.
+    pub takes: bool,
+}
+
+/// What is half read.
+#[derive(Drop)]
+pub struct Half {
+    /// Where the reader and the copier are.
+    pub reading: Reading,
+    /// How lines are read.
+    pub signs: Signs,
+    /// The escapes whose arguments are half read.
+    pub asks: Asks,
+    /// Their texts between delimiters.
+    pub delimited: Delimited,
+    /// What is noted of the line.
+    pub notes: Notes,
+}
+
+/// How many names deep an interpolation may stand.
+const DEEPEST: usize = 8;
+
+impl Half {
+    ghost use Rattle.std.specs.Prelude.{[]};
+    ghost use Rattle.nr_reading.specs.Asking.{event_of};
+    ghost use Rattle.nr_reading.specs.Spelling.{name_of};
+    ghost use Rattle.nr_reading.specs.Meeting.{asking, too_deep, beginning, settled, replaced, finished, argued, longer, answered, asked_by, stepped, met_directly, met_copied, hear_by, over_by, escaping, silent, offered, meet_by, met};
+
+    /// Nothing is half read.
+    pub fn new() -> Half
+        ensures { result ≡ nothing_half }
+    {
+        Half {
+            reading: Reading::new(),
+            signs: Signs::new(),
+            asks: Asks::new(),
+            delimited: Delimited::new(),
+            notes: Notes::new(),
+        }
+    }
+
+    // An escape whose argument is still to be read begins.
+    fn ask(&mut self, ask: Ask)
+        ensures { self.new ≡ asking ask self.old }
+    {
+        if ask.kind.has_text() {
+            self.delimited.begin();
+        }
+        self.asks.push(ask);
+    }
+
+    // An interpolation that is nested too deep.
+    fn refuse(&mut self, kind: Kind)
+        ensures { self.new ≡ too_deep kind self.old }
+    {
+        match kind {
+            Kind::Register(_) => {
+                self.reading.due = Due::Register(Sign::None);
+                self.notes.asked = Name::new();
+            }
+            _ => {}
+        }
+    }
+
+    // An interpolation begins.
+    fn begin(&mut self, kind: Kind)
+        ensures { self.new ≡ beginning kind self.old }
+    {
+        let named = usize::from(self.reading.mode.reads_name());
+        if self.asks.counted() + named <= DEEPEST {
+            self.ask(Ask::begun(kind));
+        } else {
+            self.refuse(kind);
+        }
+    }
+
+    // It is settled whether the element is taken.
+    fn settle(&mut self, takes: bool, front: bool, event: Event) -> Seen
+        ensures { met self.new result ≡ settled takes front event self.old }
+    {
+        if takes {
+            self.reading.escape = Escape::Plain;
+            return Seen {
+                event,
+                takes: front,
+            };
+        }
+        if matches!(self.reading.escape, Escape::Comment) {
+            self.reading.escape = Escape::Plain;
+        }
+        Seen {
+            event,
+            takes: false,
+        }
+    }
+
+    // The newest escape has ended.
+    fn finish(&mut self, ask: Ask) -> Event
+        requires { 0 < length self.old.asks }
+        ensures half { self.new ≡ finished ask self.old }
+        ensures event { result ≡ event_of ask.kind (name_of ask.name) }
+    {
+        let name = ask.name.name();
+        self.reading.due = ask.due();
+        self.asks.pop();
+        if ask.kind.has_text() {
+            self.delimited.end();
+        }
+        self.notes.asked = name;
+        ask.event()
+    }
+
+    // The newest escape has answered.
+    fn answered(&mut self, front: bool, answer: Answer) -> Seen
+        requires { 0 < length self.old.asks }
+        ensures { met self.new result ≡ answered front answer self.old }
+    {
+        match answer {
+            Answer::Goes(ask) => {
+                self.asks.set_newest(ask);
+                self.settle(true, front, Event::Nothing)
+            }
+            Answer::Turns(ask) => {
+                self.asks.set_newest(ask);
+                self.settle(false, front, Event::Nothing)
+            }
+            Answer::Keeps(byte) => {
+                self.delimited.keep(byte);
+                self.settle(true, front, Event::Nothing)
+            }
+            Answer::Ends(ask) => {
+                let event = self.finish(ask);
+                self.settle(true, front, event)
+            }
+            Answer::Stops(ask) => {
+                let event = self.finish(ask);
+                self.settle(false, front, event)
+            }
+            Answer::Argument(n) => {
+                self.reading.due = Due::Argument(n);
+                self.asks.pop();
+                self.settle(true, front, Event::Nothing)
+            }
+        }
+    }
+
+    // The reader goes on.
+    fn step(&mut self, step: Step)
+        ensures { self.new ≡ stepped step self.old }
+    {
+        self.reading = step.reading;
+        self.notes.note(step.note);
+        match step.note {
+            Note::Begin(ask) => self.ask(ask),
+            _ => {}
+        }
+    }
+
+    // An element comes: to the newest escape, and else to the reader.
+    fn hear(&mut self, front: bool, byte: u8) -> Seen
+        ensures { met self.new result ≡ hear_by self.old.asks front byte self.old }
+    {
+        let Some(ask) = self.asks.newest() else {
+            let step = read(byte, self.signs, &self.notes, self.reading);
+            let Step { event, takes, .. } = step;
+            self.step(step);
+            return self.settle(takes, front, event);
+        };
+        self.answered(front, ask.answer(byte, self.signs.long))
+    }
+
+    // What is read ends here.
+    fn over(&mut self) -> Seen
+        ensures { met self.new result ≡ over_by self.old.asks self.old }
+    {
+        let Some(ask) = self.asks.newest() else {
+            let step = read_over(self.signs, &self.notes, self.reading);
+            let Step { event, takes, .. } = step;
+            self.step(step);
+            return self.settle(takes, false, event);
+        };
+        self.answered(false, ask.answer(b'\n', self.signs.long))
+    }
+
+    // The item in front was offered, in copy mode.
+    fn offered(&mut self, offer: Offer) -> Seen
+        ensures { met self.new result ≡ offered offer self.old }
+    {
+        match offer {
+            Offer::Skip(escape) => {
+                self.reading.escape = escape;
+                Seen {
+                    event: Event::Nothing,
+                    takes: true,
+                }
+            }
+            Offer::Begin(kind) => {
+                self.reading.escape = Escape::Plain;
+                self.begin(kind);
+                Seen {
+                    event: Event::Nothing,
+                    takes: true,
+                }
+            }
+            Offer::Byte(byte) => self.hear(true, byte),
+            Offer::Backslash => self.hear(false, b'\\'),
+            Offer::Over => self.over(),
+        }
+    }
+
+    // The item in front, where no escape is half read.
+    fn meet_reader(&mut self, front: Front) -> Seen
+        ensures { met self.new result ≡ meet_by [] front self.old }
+    {
+        let mode = self.reading.mode;
+        if mode.is_direct() {
+            let step = direct(front, self.signs, self.reading);
+            let Step { event, takes, .. } = step;
+            self.step(step);
+            return Seen { event, takes };
+        }
+        let offer = self.reading.escape.offer(front, mode.reads_arguments());
+        self.offered(offer)
+    }
+
+    /// What the item in front does.
+    pub fn meet(&mut self, front: Front) -> Seen
+        ensures { met self.new result ≡ meet front self.old }
+    {
+        let Some(ask) = self.asks.newest() else {
+            return self.meet_reader(front);
+        };
+        let escape = self.reading.escape;
+        if ask.kind.is_size() {
+            return self.offered(escape.raw_offer(front));
+        }
+        self.offered(escape.offer(front, ask.kind.reads_argument()))
+    }
+}

@@ -1,0 +1,40 @@
+//! Reading: what each item of the input does to what is half read. Plain data, and functions of it.
+#![tactic(auto)]
+
+mod answers;
+mod ask;
+mod asks;
+mod conditionals;
+mod conditions;
+mod control;
+mod definitions;
+mod delimited;
+mod escape;
+mod event;
+mod front;
+mod half;
+mod kept;
+mod mode;
+mod notes;
+mod reader;
+mod seeking;
+mod setting;
+mod skipping;
+mod spelled;
+mod step;
+mod strings;
+mod text;
+mod text_escape;
+mod titles;
+
+pub use answers::Answers;
+pub use ask::{Ask, Kind, Sign, Stage};
+pub use asks::Asks;
+pub use delimited::Delimited;
+pub use event::{Event, Question};
+pub use front::Front;
+pub use half::{Half, Seen};
+pub use kept::Kept;
+pub use mode::{Calls, Due, Escape, Mode, Reading, Signs, Standing};
+pub use notes::{Condition, Defining, Notes};
+pub use spelled::Spelled;

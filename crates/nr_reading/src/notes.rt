@@ -1,0 +1,150 @@
+//! What is noted of a line while it is read.
+ghost use Rattle.std.specs.Prelude.{◌≡◌};
+ghost use Rattle.nr_reading.specs.Noting.{no_condition, no_definition, are_equal, compared, one_more, no_notes, noted};
+
+use super::answers::Answers;
+use super::kept::Kept;
+use super::spelled::Spelled;
+use super::step::Note;
+use nr_units::Name;
+
+/// What was read of a condition (CSTR 54, 16).
+#[derive(Clone, Copy, Debug, PartialEq, Eq)]
+pub struct Condition {
+    /// `!` came before it.
+    pub negated: bool,
+    /// Its answer is remembered for `.el`.
+    pub remembers: bool,
+    /// The length of its first string, in bytes.
+    pub first: u64,
+    /// The length of its second string, in bytes.
+    pub second: u64,
+    /// So far the second string has the bytes of the first.
+    pub same: bool,
+}
+
+/// What is defined.
+#[derive(Clone, Copy, Debug)]
+pub struct Defining {
+    /// The name that ends the definition and is called then; the empty one where two dots end it.
+    pub ending: Name,
+    /// Names may be long in it.
+    pub long: bool,
+    /// Its lines are kept.
+    pub keeps: bool,
+    /// A string is added to.
+    pub appends: bool,
+}
+
+/// What is noted of a line while it is read.
+#[derive(Drop)]
+pub struct Notes {
+    /// A control line's name; then that of the macro that is called, or of the text that is defined.
+    pub name: Spelled,
+    /// The name that an escape has asked for.
+    pub asked: Name,
+    /// The first 256 bytes of a request's line, of a condition's number or of its first string.
+    pub line: Kept,
+    /// What was read of a condition.
+    pub condition: Condition,
+    /// What is defined.
+    pub defining: Defining,
+    /// The last answers of `.ie`.
+    pub answers: Answers,
+}
+
+// A count, and one. It stops at the greatest.
+fn one_more(count: u64) -> u64
+    ensures { result ≡ one_more count }
+{
+    count.saturating_add(1)
+}
+
+impl Condition {
+    /// Nothing was read.
+    pub(crate) fn new() -> Condition
+        ensures { result ≡ no_condition }
+    {
+        Condition {
+            negated: false,
+            remembers: false,
+            first: 0,
+            second: 0,
+            same: true,
+        }
+    }
+
+    /// The strings that were read are equal.
+    pub(crate) fn are_equal(self) -> bool
+        ensures { result ≡ are_equal self }
+    {
+        self.same && self.first == self.second
+    }
+
+    // A byte of the second string comes.
+    fn compared(self, byte: u8, line: &Kept) -> Condition
+        ensures { result ≡ compared byte line.now self }
+    {
+        let mut condition = self;
+        if self.second < 256 {
+            condition.same = self.same && line.at(self.second) == Some(byte);
+        }
+        condition.second = one_more(self.second);
+        condition
+    }
+}
+
+impl Defining {
+    /// Nothing is defined.
+    pub(crate) fn new() -> Defining
+        ensures { result ≡ no_definition }
+    {
+        Defining {
+            ending: Name::new(),
+            long: false,
+            keeps: false,
+            appends: false,
+        }
+    }
+}
+
+impl Notes {
+    /// Nothing was read.
+    pub(crate) fn new() -> Notes
+        ensures { result ≡ no_notes }
+    {
+        Notes {
+            name: Spelled::new(),
+            asked: Name::new(),
+            line: Kept::new(),
+            condition: Condition::new(),
+            defining: Defining::new(),
+            answers: Answers::new(),
+        }
+    }
+
+    /// What an element adds.
+    pub(crate) fn note(&mut self, note: Note)
+        ensures { self.new ≡ noted note self.old }
+    {
+        match note {
+            Note::Nothing | Note::Begin(_) => {}
+            Note::NewName => self.name = Spelled::new(),
+            Note::Name(byte) => self.name = self.name.with(byte),
+            Note::NewLine => self.line.clear(),
+            Note::Line(byte) => self.line.keep(byte),
+            Note::Negated => self.condition.negated = true,
+            Note::Strings => {
+                self.line.clear();
+                self.condition.first = 0;
+                self.condition.second = 0;
+                self.condition.same = true;
+            }
+            Note::First(byte) => {
+                self.line.keep(byte);
+                self.condition.first = one_more(self.condition.first);
+            }
+            Note::Second(byte) => self.condition = self.condition.compared(byte, &self.line),
+        }
+    }
+}

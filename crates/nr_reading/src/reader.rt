@@ -1,0 +1,119 @@
+//! What the reader does with an item, by its mode.
+ghost use Rattle.std.specs.Prelude.{◌≡◌};
+ghost use Rattle.nr_reading.specs.Reading.{read, read_over, unescaped, behind_backslash, ends_comment, direct};
+
+use super::conditions::{read_condition, read_first, read_number, read_second};
+use super::control::{
+    read_control, read_drop, read_macro_blanks, read_macro_gap, read_name, read_quote, read_quoted,
+    read_request_blanks, read_request_line, read_word,
+};
+use super::definitions::read_body_end;
+use super::front::Front;
+use super::mode::{Escape, Mode, Reading, Signs};
+use super::notes::Notes;
+use super::skipping::{accepted, accepted_escape, diverted, diverting, skip, skip_escape};
+use super::step::{Step, go};
+use super::strings::{
+    read_string_before, read_string_blanks, read_string_name, read_string_text, read_transparent,
+};
+use super::text::{continued, leading, start, text};
+use super::text_escape::escaped;
+use super::titles::{before_title, read_title_rest, title};
+
+/// A copied element comes.
+pub(crate) fn read(byte: u8, signs: Signs, notes: &Notes, reading: Reading) -> Step
+    ensures { result ≡ read byte signs notes.now reading }
+{
+    match reading.mode {
+        Mode::Control => read_control(byte, reading),
+        Mode::Name => read_name(byte, signs.long, notes.name, reading),
+        Mode::Drop => read_drop(byte, reading),
+        Mode::TitleRest => read_title_rest(byte, reading),
+        Mode::RequestBlanks => read_request_blanks(byte, reading),
+        Mode::RequestLine => read_request_line(byte, reading),
+        Mode::MacroBlanks => read_macro_blanks(byte, reading),
+        Mode::MacroGap => read_macro_gap(byte, reading),
+        Mode::Word => read_word(byte, reading),
+        Mode::Quoted => read_quoted(byte, reading),
+        Mode::Quote => read_quote(byte, reading),
+        Mode::StringBefore => read_string_before(byte, reading),
+        Mode::StringName => read_string_name(byte, signs.long, notes.name, reading),
+        Mode::StringBlanks => read_string_blanks(byte, reading),
+        Mode::StringText => read_string_text(byte, reading),
+        Mode::BodyStart(held) => notes.defining.read_body_start(byte, held, reading),
+        Mode::Body => notes.defining.read_body(byte, reading),
+        Mode::BodyEnd => read_body_end(byte, reading),
+        Mode::Condition => read_condition(byte, notes.condition.negated, reading),
+        Mode::Number(depth) => read_number(byte, depth, reading),
+        Mode::First(delimiter) => read_first(byte, delimiter, notes.condition, reading),
+        Mode::Second(delimiter) => read_second(byte, delimiter, notes.condition, reading),
+        Mode::Transparent => read_transparent(byte, reading),
+        _ => go(reading),
+    }
+}
+
+/// A resume mark or the empty list comes where elements are copied.
+pub(crate) fn read_over(signs: Signs, notes: &Notes, reading: Reading) -> Step
+    ensures { result ≡ read_over signs notes.now reading }
+{
+    match reading.mode {
+        Mode::BodyStart(held) => notes.defining.over_body_start(held, reading),
+        _ => read(b'\n', signs, notes, reading),
+    }
+}
+
+// An item as it is.
+fn unescaped(front: Front, signs: Signs, reading: Reading) -> Step
+    ensures { result ≡ unescaped reading.mode front signs reading }
+{
+    match reading.mode {
+        Mode::Diverting => diverting(front, signs, reading),
+        Mode::Leading(count) => leading(front, count, reading),
+        Mode::Continued => continued(front, reading),
+        Mode::Text | Mode::Interrupted => text(front, reading),
+        Mode::TitleBefore => before_title(front, reading),
+        Mode::Title(delimiter, part) => title(front, delimiter, part, reading),
+        Mode::Diverted => diverted(front, reading),
+        Mode::Accepted => accepted(front, reading),
+        Mode::Skip(count) => skip(front, count, reading),
+        _ => start(front, signs, reading),
+    }
+}
+
+// An item behind a `\`.
+fn behind_backslash(front: Front, signs: Signs, reading: Reading) -> Step
+    ensures { result ≡ behind_backslash reading.mode front signs reading }
+{
+    match reading.mode {
+        Mode::Accepted => accepted_escape(front, reading),
+        Mode::Skip(count) => skip_escape(front, count, reading),
+        _ => escaped(front, signs.long, reading),
+    }
+}
+
+// A comment ends before the item.
+fn ends_comment(front: Front) -> bool
+    ensures { result ≡ ends_comment front }
+{
+    match front {
+        Front::Mark | Front::Cell(_) => false,
+        Front::Byte(byte) => byte == b'\n',
+        _ => true,
+    }
+}
+
+/// An item where items are read as they are.
+pub(crate) fn direct(front: Front, signs: Signs, reading: Reading) -> Step
+    ensures { result ≡ direct front signs reading }
+{
+    match reading.escape {
+        Escape::Plain => unescaped(front, signs, reading),
+        Escape::Begun => behind_backslash(front, signs, reading),
+        Escape::Comment => {
+            if ends_comment(front) {
+                return unescaped(front, signs, reading.plain());
+            }
+            go(reading)
+        }
+    }
+}

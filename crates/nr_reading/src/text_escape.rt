@@ -1,0 +1,207 @@
+//! Escapes in text.
+ghost use Rattle.std.specs.Prelude.{◌≡◌};
+ghost use Rattle.nr_reading.specs.TextEscapes.{plain, interpolated, asked_in_text, is_nothing, is_plain, other_byte, event_behind, is_titled, behind_escape, escape_in_text, escape_at_start, escape_by, escaped_byte, lone_escape, escaped};
+
+use super::ask::{Ask, Kind, Sign};
+use super::event::Event;
+use super::front::Front;
+use super::mode::{Escape, Mode, Reading};
+use super::step::{Note, Step, go, leave, noting, tell};
+use super::text::text_behind_blanks;
+
+impl Reading {
+    /// An escape has ended.
+    pub(crate) fn plain(self) -> Reading
+        ensures { result ≡ plain self }
+    {
+        self.escaping(Escape::Plain)
+    }
+}
+
+// What is interpolated, by the byte behind `\`.
+fn interpolated(byte: u8) -> Option<Kind>
+    ensures { result ≡ interpolated byte }
+{
+    match byte {
+        b'n' => Some(Kind::Register(Sign::None)),
+        b'*' => Some(Kind::String),
+        b'$' => Some(Kind::Argument),
+        b'w' => Some(Kind::Width),
+        _ => None,
+    }
+}
+
+// An escape whose argument is still to be read, by the byte behind `\`.
+fn asked_in_text(byte: u8, long: bool) -> Option<Ask>
+    ensures { result ≡ asked_in_text byte long }
+{
+    match byte {
+        b'(' => Some(Ask::begun(Kind::Special)),
+        b'[' if long => Some(Ask::bracketed()),
+        b'f' => Some(Ask::begun(Kind::Font)),
+        b'k' => Some(Ask::begun(Kind::Mark)),
+        b'h' => Some(Ask::begun(Kind::Horizontal)),
+        b'l' => Some(Ask::begun(Kind::Rule)),
+        b'v' | b'x' | b'b' | b'o' | b'L' | b'D' => Some(Ask::begun(Kind::Ignored)),
+        b's' => Some(Ask::begun(Kind::Size)),
+        _ => None,
+    }
+}
+
+// Escapes that do nothing in text.
+fn is_nothing(byte: u8) -> bool
+    ensures { result ≡ is_nothing byte }
+{
+    matches!(
+        byte,
+        b'|' | b'^' | b'!' | b'd' | b'u' | b'r' | b'z' | b'{' | b'}' | b'c'
+    )
+}
+
+// Escapes that are cells of their own.
+fn is_plain(byte: u8) -> bool
+    ensures { result ≡ is_plain byte }
+{
+    matches!(byte, b'-' | b'.' | b'\'' | b'`')
+}
+
+// What any other byte behind `\` tells.
+fn other_byte(titled: bool, byte: u8) -> Event
+    ensures { result ≡ other_byte titled byte }
+{
+    if byte == b'\t' {
+        return Event::Tab;
+    }
+    if byte == 1 {
+        return Event::Leader;
+    }
+    if titled {
+        return Event::Plain(byte);
+    }
+    Event::Byte(byte)
+}
+
+// What an escape without an argument tells.
+fn event_behind(byte: u8, titled: bool) -> Event
+    ensures { result ≡ event_behind byte titled }
+{
+    if byte == b'\\' || byte == b'e' {
+        return Event::Plain(b'\\');
+    }
+    if byte == b'&' {
+        return Event::Zero;
+    }
+    if byte == b' ' || byte == b'0' {
+        return Event::Fixed;
+    }
+    if is_nothing(byte) {
+        return Event::Nothing;
+    }
+    if is_plain(byte) {
+        return Event::Plain(byte);
+    }
+    match byte {
+        b'%' => Event::Percent,
+        b'p' => Event::BreakWord,
+        b'a' => Event::Leader,
+        b't' => Event::Tab,
+        _ => other_byte(titled, byte),
+    }
+}
+
+// In a title.
+fn is_titled(mode: Mode) -> bool
+    ensures { result ≡ is_titled mode }
+{
+    matches!(mode, Mode::TitleBefore | Mode::Title(_, _))
+}
+
+// The mode behind an escape.
+fn behind_escape(byte: u8, mode: Mode) -> Mode
+    ensures { result ≡ behind_escape byte mode }
+{
+    match mode {
+        Mode::Text => {
+            if byte == b'c' {
+                return Mode::Interrupted;
+            }
+            Mode::Text
+        }
+        _ => mode,
+    }
+}
+
+// An escape in the text itself.
+fn escape_in_text(byte: u8, asked: Option<Ask>, reading: Reading) -> Step
+    ensures { result ≡ escape_in_text byte asked reading }
+{
+    let Some(ask) = asked else {
+        let event = event_behind(byte, is_titled(reading.mode));
+        return tell(event, reading.to(behind_escape(byte, reading.mode)).plain());
+    };
+    noting(Note::Begin(ask), reading.plain())
+}
+
+// An escape that begins the line's text, or `\!`.
+fn escape_at_start(byte: u8, reading: Reading) -> Step
+    ensures { result ≡ escape_at_start byte reading }
+{
+    if byte == b'!' {
+        return go(reading.to(Mode::Transparent).plain());
+    }
+    leave(reading.to(Mode::Text).continuing(false))
+}
+
+// Any escape that is not interpolated.
+fn escape_by(byte: u8, long: bool, reading: Reading) -> Step
+    ensures { result ≡ escape_by byte long reading.mode reading }
+{
+    match reading.mode {
+        Mode::Start | Mode::Diverting => escape_at_start(byte, reading),
+        Mode::Leading(count) => text_behind_blanks(count, reading),
+        Mode::Continued => leave(reading.to(Mode::Text).continuing(false)),
+        Mode::Interrupted => leave(reading.to(Mode::Text)),
+        _ => escape_in_text(byte, asked_in_text(byte, long), reading),
+    }
+}
+
+// A byte behind `\`.
+fn escaped_byte(byte: u8, long: bool, reading: Reading) -> Step
+    ensures { result ≡ escaped_byte byte long reading }
+{
+    let Some(kind) = interpolated(byte) else {
+        if byte == b'\n' {
+            return go(reading.plain());
+        }
+        if byte == b'"' {
+            return go(reading.escaping(Escape::Comment));
+        }
+        return escape_by(byte, long, reading);
+    };
+    noting(Note::Begin(Ask::begun(kind)), reading.plain())
+}
+
+// A `\` before what is no byte.
+fn lone_escape(reading: Reading) -> Step
+    ensures { result ≡ lone_escape reading.mode reading }
+{
+    match reading.mode {
+        Mode::Start | Mode::Diverting | Mode::Continued => {
+            leave(reading.to(Mode::Text).continuing(false).plain())
+        }
+        Mode::Leading(count) => text_behind_blanks(count, reading.plain()),
+        Mode::Interrupted => leave(reading.to(Mode::Text).plain()),
+        _ => leave(reading.plain()),
+    }
+}
+
+/// The item behind `\`.
+pub(crate) fn escaped(front: Front, long: bool, reading: Reading) -> Step
+    ensures { result ≡ escaped front long reading }
+{
+    match front {
+        Front::Mark => go(reading),
+        Front::Byte(byte) => escaped_byte(byte, long, reading),
+        _ => lone_escape(reading),
+    }
+}
