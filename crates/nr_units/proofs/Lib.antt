@@ -4,6 +4,7 @@ pub mod Digits
 pub mod Edits
 pub mod ExpressionFronts
 pub mod Fronts
+pub mod Longest
 pub mod NameOrder
 pub mod Offering
 pub mod Padded

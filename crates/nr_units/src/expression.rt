@@ -1,7 +1,8 @@
 //! Number expressions.
-ghost use Rattle.std.specs.Prelude.{◌≡◌, false};
+ghost use Rattle.std.specs.Prelude.{◌≡◌, ◌≤◌, IfSome, unsigned_abs, false};
 ghost use Rattle.nr_units.specs.Expression.{IsAnswer, expression_value};
 ghost use Rattle.nr_units.specs.Grammar.{Expression, expression_text};
+ghost use Rattle.nr_units.specs.LongestFront.{read_of};
 
 use crate::scanner::{Scanner, Step};
 use crate::symbols::symbol_of;
@@ -36,6 +37,10 @@ pub fn read_expr(text: &[u8], ctx: &Ctx) -> Read
     // No text has two values.
     ensures unambiguous { (a b : Expression) → expression_text false a ≡ expression_text false b
         → expression_value ctx.now a ≡ expression_value ctx.now b }
+
+    // So the answer is one function of the text, and its value in range.
+    ensures computed { result ≡ read_of ctx.now text.now }
+    ensures range { IfSome result.value (λ n. unsigned_abs n ≤ 2147483647) }
 {
     let mut scanner = Scanner::new();
     let mut longest = Read {
