@@ -1,10 +1,12 @@
 -- Numbers in the arguments of requests (CSTR 54, numerical parameter input).
-use Rattle.std.specs.Prelude.{ℕ, Bool, false, List, [], ◌∷◌, ◌==◌, Option, Some, None, ℤ, pos, neg_ℤ, ◌+ℤ◌, int_lt, if◌then◌else◌}
+use Rattle.std.specs.Prelude.{ℕ, Bool, false, List, [], ◌∷◌, ◌==◌, Option, Some, None, ℤ, pos, negsuc, neg_ℤ, ◌+ℤ◌, int_lt, if◌then◌else◌}
 use Rattle.std.specs.Option.{option_map}
+use Rattle.std.specs.Ordering.{int_eq}
 use Rattle.nr_units.specs.LongestFront.{read_of}
 use Rattle.nr_units.specs.declared.units.Scale.{Scale}
 use Rattle.nr_units.specs.declared.units.Scale.TheVariants.{Unit as OneUnit}
 use Rattle.nr_units.specs.declared.expression.Ctx.{Ctx}
+use Rattle.nr_settings.specs.Arguments.{number_in}
 use Rattle.nr_settings.specs.declared.numbers.Change.{Change}
 use Rattle.nr_settings.specs.declared.numbers.Change.TheVariants.{To, By}
 
@@ -36,3 +38,25 @@ is_above_zero (Some n) = int_lt (pos 0) n
 
 abbrev pub is_true_number : ℕ → List ℕ → Bool
 is_true_number v argument = is_above_zero (value_of OneUnit v (pos 0) argument)
+
+-- the value of a line's first number
+abbrev pub first_value : Scale → ℕ → ℤ → List ℕ → Option ℤ
+first_value scale v here line = value_of scale v here (number_in line)
+
+-- what a line's first number says in a signed request
+abbrev pub first_change : Scale → ℕ → ℤ → List ℕ → Option Change
+first_change scale v here line = change_of scale v here (number_in line)
+
+-- the number of lines that a request counts: N, none below 1, one where N is absent
+abbrev pub line_count : Option ℤ → ℕ
+line_count None = 1
+line_count (Some (pos n)) = n
+line_count (Some (negsuc n)) = 0
+
+abbrev pub counted_lines : List ℕ → ℕ → ℕ
+counted_lines line v = line_count (first_value OneUnit v (pos 0) line)
+
+-- whether a number is there, and 0
+abbrev pub is_zero : Option ℤ → Bool
+is_zero None = false
+is_zero (Some n) = int_eq n (pos 0)

@@ -3,9 +3,19 @@
 #![tactic(auto)]
 
 mod arguments;
+mod filling;
+mod fonts;
+mod hyphenation;
+mod indents;
 mod lengths;
 mod numbers;
+mod pages;
 
 pub use arguments::Arguments;
+pub use filling::{Align, Filling, Way};
+pub use fonts::{Font, Fonts};
+pub use hyphenation::Hyphenation;
+pub use indents::{Indents, Kept, Margins};
 pub use lengths::{Height, Width};
 pub use numbers::{Change, change_of, is_true_number, value_of};
+pub use pages::{Pages, page_number};

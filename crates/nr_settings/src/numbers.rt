@@ -1,7 +1,9 @@
 //! Numbers in the arguments of requests (CSTR 54, numerical parameter input).
-ghost use Rattle.std.specs.Prelude.{◌≡◌, ◌<◌, ◌≤◌, ◌^◌, IfSome, unsigned_abs};
-ghost use Rattle.nr_settings.specs.Numbers.{value_of, change_of, applied, is_true_number};
+ghost use Rattle.std.specs.Prelude.{◌≡◌, ◌<◌, ◌≤◌, ◌^◌, IfSome, pos, unsigned_abs};
+ghost use Rattle.nr_settings.specs.Numbers.{value_of, change_of, applied, is_true_number, first_value, first_change, counted_lines, is_zero};
+ghost use Rattle.nr_units.specs.declared.units.Scale.TheVariants.{Unit};
 
+use crate::arguments::Arguments;
 use crate::lengths::Height;
 use nr_units::{Ctx, Scale, read_expr};
 
@@ -76,5 +78,41 @@ pub fn is_true_number(argument: &[u8], v: Height) -> bool
     match value_of(argument, Scale::Unit, v, 0) {
         Some(n) => n > 0,
         None => false,
+    }
+}
+
+/// The value of the first number of a request's line.
+pub(crate) fn first_value(line: &[u8], scale: Scale, v: Height, here: i64) -> Option<i32>
+    ensures value { result ≡ first_value scale v here line.now }
+    ensures range { IfSome result (λ n. unsigned_abs n ≤ 2147483647) }
+{
+    value_of(Arguments::of(line).number(), scale, v, here)
+}
+
+/// What the first number of a signed request's line says.
+pub(crate) fn first_change(line: &[u8], scale: Scale, v: Height, here: i64) -> Option<Change>
+    ensures { result ≡ first_change scale v here line.now }
+{
+    change_of(Arguments::of(line).number(), scale, v, here)
+}
+
+/// The number of lines that `.ce` or `.ul` counts: one where the line has no number, none where it is below 1.
+pub(crate) fn counted_lines(line: &[u8], v: Height) -> u32
+    ensures { result ≡ counted_lines line.now v }
+{
+    match first_value(line, Scale::Unit, v, 0) {
+        None => 1,
+        Some(n) if n < 0 => 0,
+        Some(n) => n as u32,
+    }
+}
+
+/// Whether the first number of a request's line is there, and 0.
+pub(crate) fn is_zero(line: &[u8], v: Height) -> bool
+    ensures { result ≡ is_zero (first_value Unit v (pos 0) line.now) }
+{
+    match first_value(line, Scale::Unit, v, 0) {
+        None => false,
+        Some(n) => n == 0,
     }
 }
