@@ -1,4 +1,5 @@
 pub mod Arguments
+pub mod Characters
 pub mod Filling
 pub mod Fonts
 pub mod Hyphenation
@@ -6,3 +7,6 @@ pub mod Indents
 pub mod Lengths
 pub mod Numbers
 pub mod Pages
+pub mod Registers
+pub mod Spacing
+pub mod Traps

@@ -3,6 +3,7 @@
 #![tactic(auto)]
 
 mod arguments;
+mod characters;
 mod filling;
 mod fonts;
 mod hyphenation;
@@ -10,8 +11,12 @@ mod indents;
 mod lengths;
 mod numbers;
 mod pages;
+mod registers;
+mod spacing;
+mod traps;
 
 pub use arguments::Arguments;
+pub use characters::{c2, cc, cp, prints};
 pub use filling::{Align, Filling, Way};
 pub use fonts::{Font, Fonts};
 pub use hyphenation::Hyphenation;
@@ -19,3 +24,6 @@ pub use indents::{Indents, Kept, Margins};
 pub use lengths::{Height, Width};
 pub use numbers::{Change, change_of, is_true_number, value_of};
 pub use pages::{Pages, page_number};
+pub use registers::{FormatChange, RegisterChange, af, nr};
+pub use spacing::{ne, rt, sp};
+pub use traps::{DiversionTrap, LineTrap, PageTrap, TrapMove, ch, dt, it, wh};
