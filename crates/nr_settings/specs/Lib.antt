@@ -9,4 +9,6 @@ pub mod Numbers
 pub mod Pages
 pub mod Registers
 pub mod Spacing
+pub mod Stops
+pub mod Tabs
 pub mod Traps

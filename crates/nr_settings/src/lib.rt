@@ -13,6 +13,8 @@ mod numbers;
 mod pages;
 mod registers;
 mod spacing;
+mod stops;
+mod tabs;
 mod traps;
 
 pub use arguments::Arguments;
@@ -26,4 +28,6 @@ pub use numbers::{Change, change_of, is_true_number, value_of};
 pub use pages::{Pages, page_number};
 pub use registers::{FormatChange, RegisterChange, af, nr};
 pub use spacing::{ne, rt, sp};
+pub use stops::{Stop, StopKind, Stops};
+pub use tabs::Tabs;
 pub use traps::{DiversionTrap, LineTrap, PageTrap, TrapMove, ch, dt, it, wh};
