@@ -5,10 +5,12 @@ pub mod Fonts
 pub mod Hyphenation
 pub mod Indents
 pub mod Lengths
+pub mod Motions
 pub mod Numbers
 pub mod Pages
 pub mod Registers
 pub mod Spacing
+pub mod Specials
 pub mod Stops
 pub mod Tabs
 pub mod Traps
