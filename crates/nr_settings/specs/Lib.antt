@@ -1,5 +1,6 @@
 pub mod Arguments
 pub mod Characters
+pub mod Escapes
 pub mod Filling
 pub mod Fonts
 pub mod Hyphenation
@@ -9,8 +10,10 @@ pub mod Motions
 pub mod Numbers
 pub mod Pages
 pub mod Registers
+pub mod Settings
 pub mod Spacing
 pub mod Specials
 pub mod Stops
 pub mod Tabs
 pub mod Traps
+pub mod Widths

@@ -4,6 +4,7 @@
 
 mod arguments;
 mod characters;
+mod escapes;
 mod filling;
 mod fonts;
 mod hyphenation;
@@ -13,11 +14,13 @@ mod motions;
 mod numbers;
 mod pages;
 mod registers;
+mod settings;
 mod spacing;
 mod specials;
 mod stops;
 mod tabs;
 mod traps;
+mod widths;
 
 pub use arguments::Arguments;
 pub use characters::{c2, cc, cp, prints};
@@ -30,8 +33,10 @@ pub use motions::{Repeated, motion, rule};
 pub use numbers::{Change, change_of, is_true_number, value_of};
 pub use pages::{Pages, page_number};
 pub use registers::{FormatChange, RegisterChange, af, nr};
+pub use settings::Settings;
 pub use spacing::{ne, rt, sp};
 pub use specials::Special;
 pub use stops::{Stop, StopKind, Stops};
 pub use tabs::Tabs;
 pub use traps::{DiversionTrap, LineTrap, PageTrap, TrapMove, ch, dt, it, wh};
+pub use widths::width;

@@ -45,7 +45,8 @@ fn digits_len(word: &[u8]) -> usize
     word.iter().take_while(|byte| is_digit(**byte)).count()
 }
 
-fn is_digit(byte: u8) -> bool
+/// Whether a byte is a decimal digit.
+pub(crate) fn is_digit(byte: u8) -> bool
     ensures { result ≡ is_digit byte }
 {
     b'0' <= byte && byte <= b'9'
