@@ -60,16 +60,16 @@ impl Width {
     }
 
     /// In units.
-    pub fn units(self) -> u32
-        ensures value { result ≡ self }
+    pub fn units(&self) -> u32
+        ensures value { result ≡ self.now }
         ensures most { result ≤ 32760 }
     {
         self.units
     }
 
     /// In characters.
-    pub fn cells(self) -> u32
-        ensures value { 24 * result ≡ self }
+    pub fn cells(&self) -> u32
+        ensures value { 24 * result ≡ self.now }
         ensures most { result ≤ 1365 }
     {
         self.units / 24
@@ -121,8 +121,8 @@ impl Height {
     }
 
     /// In units.
-    pub fn units(self) -> u32
-        ensures value { result ≡ self }
+    pub fn units(&self) -> u32
+        ensures value { result ≡ self.now }
         ensures least { 40 ≤ result }
         ensures most { result ≤ 32760 }
     {
@@ -130,8 +130,8 @@ impl Height {
     }
 
     /// In lines of text.
-    pub fn rows(self) -> u32
-        ensures value { 40 * result ≡ self }
+    pub fn rows(&self) -> u32
+        ensures value { 40 * result ≡ self.now }
         ensures least { 1 ≤ result }
         ensures most { result ≤ 819 }
     {

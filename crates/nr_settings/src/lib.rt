@@ -19,6 +19,8 @@ mod spacing;
 mod specials;
 mod stops;
 mod tabs;
+#[cfg(test)]
+mod tests;
 mod traps;
 mod widths;
 
