@@ -1,5 +1,5 @@
 -- Whether words are hyphenated at the points of `.hw` (CSTR 54, hyphenation).
-use Rattle.std.specs.Prelude.{ℕ, Bool, true, false, not, List, pos}
+use Rattle.std.specs.Prelude.{ℕ, true, false, not, List, pos}
 use Rattle.nr_units.specs.declared.units.Scale.TheVariants.{Unit as OneUnit}
 use Rattle.nr_settings.specs.Numbers.{first_value, is_zero}
 use Rattle.nr_settings.specs.declared.hyphenation.Hyphenation.{Hyphenation}

@@ -1,5 +1,5 @@
 -- Indents, and the lengths of lines (CSTR 54, line length and indenting; `.po`: page control; `.lt`: three-part titles).
-use Rattle.std.specs.Prelude.{ℕ, ◌-◌, ◌/◌, List, Option, Some, None, ℤ, pos, unwrap_or}
+use Rattle.std.specs.Prelude.{ℕ, ◌-◌, ◌/◌, List, Option, Some, None, pos, unwrap_or}
 use Rattle.std.specs.Option.{option_map}
 use Rattle.nr_units.specs.declared.units.Scale.TheVariants.{Em}
 use Rattle.nr_settings.specs.Lengths.{width_from}

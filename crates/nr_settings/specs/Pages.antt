@@ -1,5 +1,5 @@
 -- Pages and vertical spacing (CSTR 54, page control; vertical spacing; three-part titles).
-use Rattle.std.specs.Prelude.{ℕ, Bool, true, false, List, Option, Some, None, ℤ, pos}
+use Rattle.std.specs.Prelude.{ℕ, true, false, List, Option, Some, None, ℤ, pos}
 use Rattle.std.specs.Option.{option_and_then}
 use Rattle.nr_units.specs.Units.{in_range}
 use Rattle.nr_units.specs.declared.units.Scale.TheVariants.{VerticalSpace, Point, Unit as OneUnit}

@@ -1,5 +1,5 @@
 -- The arguments of `.nr` and `.af` (CSTR 54, number registers; groff, register formats).
-use Rattle.std.specs.Prelude.{ℕ, Bool, ◌&&◌, ◌||◌, List, [], ◌∷◌, ◌==◌, nat_le, min, Option, Some, None, ℤ, pos, if◌then◌else◌}
+use Rattle.std.specs.Prelude.{ℕ, Bool, ◌&&◌, List, [], ◌∷◌, ◌==◌, nat_le, min, Option, Some, None, ℤ, pos, if◌then◌else◌}
 use Rattle.std.specs.List.{prefix_len}
 use Rattle.std.specs.Option.{option_map}
 use Rattle.nr_units.specs.declared.number_text.Format.{Format}

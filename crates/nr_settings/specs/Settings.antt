@@ -1,5 +1,4 @@
 -- All settings, as they are at first.
-use Rattle.std.specs.Prelude.{ℕ}
 use Rattle.nr_settings.specs.Filling.{first_filling}
 use Rattle.nr_settings.specs.Indents.{first_indents}
 use Rattle.nr_settings.specs.Fonts.{first_fonts}

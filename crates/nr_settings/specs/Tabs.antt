@@ -1,5 +1,5 @@
 -- Tab stops, and what tabs and leaders repeat (CSTR 54, tabs, leaders, and fields).
-use Rattle.std.specs.Prelude.{◌≡◌, ℕ, zero, suc, ◌+◌, ◌*◌, ◌/◌, ◌≤◌, Bool, false, List, [], ◌∷◌, ◌++◌, length, ◌==◌, nat_le, Option, Some, None, slice_get, ℤ, pos, negsuc, ◌+ℤ◌, if◌then◌else◌}
+use Rattle.std.specs.Prelude.{ℕ, zero, suc, ◌*◌, ◌/◌, Bool, false, List, [], ◌∷◌, ◌++◌, length, ◌==◌, nat_le, Option, Some, None, slice_get, ℤ, pos, negsuc, ◌+ℤ◌, if◌then◌else◌}
 use Rattle.nr_units.specs.Units.{nearest_multiple}
 use Rattle.nr_units.specs.LongestFront.{read_of}
 use Rattle.nr_units.specs.declared.units.Scale.TheVariants.{Em}

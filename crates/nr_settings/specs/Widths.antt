@@ -1,5 +1,5 @@
 -- The width of a text that was read once in argument mode: of the argument of `\w` (CSTR 54, width function).
-use Rattle.std.specs.Prelude.{ℕ, zero, suc, ◌+◌, ◌*◌, ◌-◌, Bool, List, [], ◌∷◌, length, take, ◌==◌, Option, Some, None, pos, unwrap_or, if◌then◌else◌}
+use Rattle.std.specs.Prelude.{ℕ, zero, suc, ◌+◌, ◌*◌, Bool, List, [], ◌∷◌, length, take, ◌==◌, Option, Some, None, pos, unwrap_or, if◌then◌else◌}
 use Rattle.nr_settings.specs.Characters.{prints}
 use Rattle.nr_settings.specs.Motions.{motion}
 use Rattle.nr_settings.specs.Specials.{special_of, cells_of}

@@ -70,7 +70,11 @@ fn place_of(before: i64, n: i64, relative: bool) -> i64
     ensures value { result ≡ nearest_multiple 24 (if relative then before +ℤ n else n) }
     ensures range { unsigned_abs result ≤ unsigned_abs before + 2147483660 }
 {
-    if relative { round_h(before + n) } else { round_h(n) }
+    if relative {
+        round_h(before + n)
+    } else {
+        round_h(n)
+    }
 }
 
 /// The kind of the stop of a number, by the byte behind what was read of it.

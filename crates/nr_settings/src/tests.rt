@@ -1,10 +1,10 @@
 //! Numbers of the manual, and lines of requests with what they say.
 use crate::{
-    Align, Arguments, DiversionTrap, Filling, Font, Fonts, Height, Hyphenation, Indents, LineTrap, PageTrap, Pages,
-    Repeated, Settings, Special, StopKind, Tabs, Way,
+    Align, Arguments, DiversionTrap, Filling, Font, Fonts, Height, Hyphenation, Indents, LineTrap,
+    PageTrap, Pages, Repeated, Settings, Special, StopKind, Tabs, Way, af, c2, cc, ch, change_of,
+    cp, dt, is_true_number, it, motion, ne, nr, page_number, prints, rt as return_place, rule, sp,
+    value_of, wh, width,
 };
-use crate::{af, c2, cc, ch, change_of, cp, dt, is_true_number, it, motion, ne, nr, page_number, prints, rt as return_place, rule, sp};
-use crate::{value_of, wh, width};
 use nr_units::{Format, Name, Scale};
 use std::process::Abort;
 use std::test::Fail;
@@ -276,10 +276,31 @@ fn motions(rt: HostRuntime) {
     let v = line_height();
     assert_eq!(rt; motion(b"|5n", v, 72).map(|width| width.units()), Some(48));
     assert!(rt; motion(b"-1n", v, 0).is_none());
-    assert_eq!(rt; motion(b"9999", v, 0).map(|width| width.cells()), Some(1365));
-    assert_eq!(rt; rule(b"2n\\&.", v, 0), Repeated { cells: 2, byte: b'.' });
-    assert_eq!(rt; rule(b"2n\x07", v, 0), Repeated { cells: 2, byte: b'_' });
-    assert_eq!(rt; rule(b"x", v, 0), Repeated { cells: 0, byte: b'x' });
+    assert_eq!(rt;
+        motion(b"9999", v, 0).map(|width| width.cells()),
+        Some(1365)
+    );
+    assert_eq!(rt;
+        rule(b"2n\\&.", v, 0),
+        Repeated {
+            cells: 2,
+            byte: b'.'
+        }
+    );
+    assert_eq!(rt;
+        rule(b"2n\x07", v, 0),
+        Repeated {
+            cells: 2,
+            byte: b'_'
+        }
+    );
+    assert_eq!(rt;
+        rule(b"x", v, 0),
+        Repeated {
+            cells: 0,
+            byte: b'x'
+        }
+    );
 }
 
 fn expect_width(rt: &impl Abort, text: &[u8], long: bool, units: u32) {
@@ -311,6 +332,9 @@ fn first_settings(rt: HostRuntime) {
     assert_eq!(rt; settings.pages.page_length.rows(), 66);
     assert_eq!(rt; settings.text_width, 0);
     assert_eq!(rt; Special::of(b"em").map(|special| special.cells()), Some(2));
-    assert_eq!(rt; Special::of(b"bu").map(|special| special.byte()), Some(b'o'));
+    assert_eq!(rt;
+        Special::of(b"bu").map(|special| special.byte()),
+        Some(b'o')
+    );
     assert_eq!(rt; Special::of(b"b"), None);
 }

@@ -6,7 +6,10 @@ ghost use Rattle.nr_settings.specs.Escapes.{escape_of};
 ghost use Rattle.nr_settings.specs.Motions.{motion};
 
 use crate::characters::prints;
-use crate::escapes::{Escape, bracketed, bracketed_len, delimited, delimited_len, escape_name_len, register_len, size_len};
+use crate::escapes::{
+    Escape, bracketed, bracketed_len, delimited, delimited_len, escape_name_len, register_len,
+    size_len,
+};
 use crate::lengths::Height;
 use crate::motions::motion;
 use crate::specials::Special;
@@ -76,8 +79,14 @@ fn escaped(byte: u8, text: &[u8], long: bool, v: Height) -> Element
         Escape::Named => Element::of_width(1 + escape_name_len(text, long), 0),
         Escape::Register => Element::of_width(1 + register_len(text, long), 0),
         Escape::Pair => Element::of_width(3, special_width(letters(text))),
-        Escape::Bracket => Element::of_width(2 + bracketed_len(text), special_width(bracketed(text))),
-        Escape::Motion => Element::of_width(1 + delimited_len(text), motion_width(delimited(text), v)),
+        Escape::Bracket => Element::of_width(
+            2 + bracketed_len(text),
+            special_width(bracketed(text)),
+        ),
+        Escape::Motion => Element::of_width(
+            1 + delimited_len(text),
+            motion_width(delimited(text), v),
+        ),
         Escape::Delimited => Element::of_width(1 + delimited_len(text), 0),
         Escape::Size => Element::of_width(1 + size_len(text), 0),
         Escape::Plain => Element::of_width(1, byte_width(byte)),

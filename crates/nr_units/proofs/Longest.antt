@@ -1,21 +1,19 @@
 -- What is read of a text, as it is scanned: how far the answer is known, and that it is the one computed.
-use Rattle.std.proofs.Common.{◌≡◌, ℕ, suc, ◌+◌, ◌<◌, ◌≤◌, Bool, true, false, leb, Option, Some, None, List, [], ◌∷◌, length, drop, get_or, ℤ, unsigned_abs, arith, refl, ap, sym, subst, ◌∙◌}
+use Rattle.std.proofs.Common.{◌≡◌, ℕ, suc, ◌+◌, ◌<◌, ◌≤◌, false, Option, Some, None, List, ◌∷◌, length, drop, get_or, ℤ, unsigned_abs, arith, refl, ap, sym, subst, ◌∙◌}
 use Rattle.std.specs.Prelude.{IfSome}
 use Rattle.std.proofs.Math.Seq.{drop-cons}
-use Rattle.std.proofs.lemmas.List.{at_drop_all}
 use Rattle.std.proofs.lemmas.Bool.Decides.{nat_tests}
-use Rattle.nr_units.specs.Grammar.{Expression}
-use Rattle.nr_units.specs.Expression.{expression_value, IsAnswer, Longest, Nothing as NoFront, TooDeep as Deep}
+use Rattle.nr_units.specs.Expression.{IsAnswer, Longest, Nothing as NoFront, TooDeep as Deep}
 use Rattle.nr_units.specs.Scan.{Scan, symbol_of, after_symbol, start, whole_value}
 use Rattle.nr_units.specs.Scanner.{read_at, noted, Steps}
 use Rattle.nr_units.specs.LongestFront.{is_one_too_many, read_step, read_symbol, read_on, read_of, nothing_read}
 use Rattle.nr_units.specs.declared.symbols.Symbol.{Symbol}
 use Rattle.nr_units.specs.declared.symbols.Symbol.TheVariants.{Digit, Point, Letter, Mark, Bar, Open, Close, Blank}
-use Rattle.nr_units.specs.declared.scanner.Step.TheVariants.{Taken, TooDeep}
+use Rattle.nr_units.specs.declared.scanner.Step.TheVariants.{Taken}
 use Rattle.nr_units.specs.declared.expression.Ctx.{Ctx}
 use Rattle.nr_units.specs.declared.expression.Read.{Read}
 use Rattle.nr_units.proofs.Reading.{Along, begins, read_at-noted}
-use Rattle.nr_units.proofs.Values.{IsInRange, operand_in_range, expression_in_range}
+use Rattle.nr_units.proofs.Values.{IsInRange, expression_in_range}
 
 pub record Reads (c : Ctx) (text : List ℕ) (i : ℕ) (s : Scan) (longest : Read) : Type 0 where
   pub along : Along c text i s longest

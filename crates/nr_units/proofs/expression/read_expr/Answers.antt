@@ -1,11 +1,11 @@
-use Rattle.std.proofs.Common.{◌≡◌, ◌+◌, ◌<◌, ◌∙◌, get_or, length, sym, subst, ap, arith, add-one, suc, None}
+use Rattle.std.proofs.Common.{◌≡◌, ◌+◌, ◌<◌, ◌∙◌, get_or, length, sym, subst, ap, arith, add-one, None}
 use Rattle.std.specs.Option.{option_and_then}
 use Rattle.std.proofs.Math.Seq.{take-suc}
 use Rattle.nr_units.specs.Expression.{IsAnswer}
 use Rattle.nr_units.specs.Scan.{Scan, after_symbol, whole_value}
 use Rattle.nr_units.specs.Scanner.{scan_of, noted}
 use Rattle.nr_units.specs.declared.expression.Read.{Read}
-use Rattle.nr_units.proofs.Reading.{Along, begins, advances, stops, ends, too_deep}
+use Rattle.nr_units.proofs.Reading.{Along, advances, stops, ends, too_deep}
 use Rattle.nr_units.proofs.Longest.{Reads, computed_more, computed_stuck, answer_in_range, reads_first, stuck_read}
 use Rattle.nr_units.proofs.expression.read_expr.Goals as goal
 

@@ -12,12 +12,11 @@ loop-at-preserved c =
     let ruler = c.loop-at.ruler in
     let count : length c.args.line.now - c.loop-at._at ≡ suc left = omega arith in
     let some : (length (number_in rest) == 0) ≡ false = ap (λ a. length a == 0) (sym c.number-argument.ensures.number) ∙ sym c.is_empty.ensures ∙ c.if-is_empty.false in
-    let added = c.add.ensures.added ∙ ap (λ a. with_stop v a ruler) c.number-argument.ensures.number in
-    (
+    let added = c.add.ensures.added ∙ ap (λ a. with_stop v a ruler) c.number-argument.ensures.number in (
       ap (λ l. with_stops v (numbers_in left l) c.add.new.self) c.number-argument.ensures.rest
-      ∙ ap (with_stops v (numbers_in left _)) added
-      ∙ sym (with_stops-more v left rest ruler some)
-      ∙ ap (λ n. with_stops v (numbers_in n rest) ruler) (sym count)
-      ∙ c.loop-at.invariant.0,
+          ∙ ap (with_stops v (numbers_in left _)) added
+          ∙ sym (with_stops-more v left rest ruler some)
+          ∙ ap (λ n. with_stops v (numbers_in n rest) ruler) (sym count)
+          ∙ c.loop-at.invariant.0,
       c.add.ensures.range,
     )
