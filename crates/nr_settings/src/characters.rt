@@ -8,6 +8,7 @@ use crate::lengths::Height;
 use crate::numbers::is_zero;
 
 /// Whether a byte is printed as a cell: 32 to 126, and 128 to 255.
+#[inline]
 pub fn prints(byte: u8) -> bool
     ensures { result ≡ prints byte }
 {

@@ -93,6 +93,7 @@ impl Filling {
     }
 
     /// Counts one text line.
+    #[inline]
     pub fn count_line(&mut self)
         ensures { self.new ≡ behind_centred_line self.old }
     {
@@ -100,6 +101,7 @@ impl Filling {
     }
 
     /// Whether text is filled: in fill mode, while no line is to be centred.
+    #[inline]
     pub fn is_filling(&self) -> bool
         ensures { result ≡ is_filling self.now }
     {

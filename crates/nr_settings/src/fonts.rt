@@ -92,6 +92,7 @@ impl Fonts {
     }
 
     /// Counts one text line.
+    #[inline]
     pub fn count_line(&mut self)
         ensures { self.new ≡ behind_underlined_line self.old }
     {
@@ -99,6 +100,7 @@ impl Fonts {
     }
 
     /// Whether what is read now is underlined.
+    #[inline]
     pub fn is_under(&self) -> bool
         ensures { result ≡ is_under self.now }
     {
@@ -106,6 +108,7 @@ impl Fonts {
     }
 
     /// The cell of a byte that is read now.
+    #[inline]
     pub fn cell(&self, byte: u8) -> Cell
         ensures { result ≡ cell_of byte self.now }
     {

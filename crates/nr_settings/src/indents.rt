@@ -137,6 +137,7 @@ impl Indents {
     }
 
     /// The margins of the line that begins now.
+    #[inline]
     pub fn margins(&self) -> Margins
         ensures { result ≡ margins_of self.now }
     {

@@ -60,6 +60,7 @@ impl Width {
     }
 
     /// In units.
+    #[inline]
     pub fn units(&self) -> u32
         ensures value { result ≡ self.now }
         ensures most { result ≤ 32760 }
@@ -68,6 +69,7 @@ impl Width {
     }
 
     /// In characters.
+    #[inline]
     pub fn cells(&self) -> u32
         ensures value { 24 * result ≡ self.now }
         ensures most { result ≤ 1365 }
@@ -121,6 +123,7 @@ impl Height {
     }
 
     /// In units.
+    #[inline]
     pub fn units(&self) -> u32
         ensures value { result ≡ self.now }
         ensures least { 40 ≤ result }
@@ -130,6 +133,7 @@ impl Height {
     }
 
     /// In lines of text.
+    #[inline]
     pub fn rows(&self) -> u32
         ensures value { 40 * result ≡ self.now }
         ensures least { 1 ≤ result }

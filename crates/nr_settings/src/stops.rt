@@ -76,6 +76,7 @@ impl Stops {
     }
 
     /// The stops.
+    #[inline]
     pub fn as_slice(&self) -> &[Stop]
         ensures value { result.now ≡ self.now }
         ensures most { length result.now ≤ 32 }
