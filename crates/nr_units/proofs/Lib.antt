@@ -6,11 +6,11 @@ pub mod Edits
 pub mod ExpressionFronts
 pub mod Fronts
 pub mod Letters
+pub mod Longest
 pub mod NameOrder
 pub mod Offering
 pub mod Padded
 pub mod Places
-pub mod Ranges
 pub mod Reading
 pub mod Rounding
 pub mod Rows

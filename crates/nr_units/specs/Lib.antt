@@ -4,6 +4,7 @@ pub mod Failures
 pub mod Grammar
 pub mod Held
 pub mod Items
+pub mod LongestFront
 pub mod Names
 pub mod NumberText
 pub mod Padding

@@ -1,7 +1,8 @@
 //! Number expressions.
-ghost use Rattle.std.specs.Prelude.{◌≡◌, false, IfSome};
+ghost use Rattle.std.specs.Prelude.{◌≡◌, IfSome, false};
 ghost use Rattle.nr_units.specs.Expression.{IsAnswer, expression_value};
 ghost use Rattle.nr_units.specs.Grammar.{Expression, expression_text};
+ghost use Rattle.nr_units.specs.LongestFront.{read_of};
 ghost use Rattle.nr_units.specs.Units.{IsInRange};
 
 use crate::scanner::{Scanner, Step};
@@ -33,18 +34,14 @@ pub struct Read {
 #[tactic(auto, using(crate::proofs::ExpressionFronts::one_value))]
 pub fn read_expr(text: &[u8], ctx: &Ctx) -> Read
     ensures answer { IsAnswer ctx.now text.now result }
-    ensures range { IfSome result.value IsInRange }
 
     // No text has two values.
     ensures unambiguous { (a b : Expression) → expression_text false a ≡ expression_text false b
         → expression_value ctx.now a ≡ expression_value ctx.now b }
-{
-    longest_front(text, ctx)
-}
 
-/// The longest front that is an expression, read byte by byte.
-fn longest_front(text: &[u8], ctx: &Ctx) -> Read
-    ensures { IsAnswer ctx.now text.now result }
+    // So the answer is one function of the text, and its value in range.
+    ensures computed { result ≡ read_of ctx.now text.now }
+    ensures range { IfSome result.value IsInRange }
 {
     let mut scanner = Scanner::new();
     let mut longest = Read {

@@ -1,0 +1,62 @@
+-- Fonts and underlining (CSTR 54, font and character size control; underlining).
+use Rattle.std.specs.Prelude.{ℕ, ◌-◌, Bool, true, false, not, ◌||◌, List, [], ◌∷◌, ◌==◌, Option, Some, None, if◌then◌else◌}
+use Rattle.nr_units.specs.declared.cell.Cell.{Cell}
+use Rattle.nr_settings.specs.Arguments.{name_in}
+use Rattle.nr_settings.specs.Numbers.{counted_lines}
+use Rattle.nr_settings.specs.declared.fonts.Font.{Font}
+use Rattle.nr_settings.specs.declared.fonts.Font.TheVariants.{Roman, Italic, Bold}
+use Rattle.nr_settings.specs.declared.fonts.Fonts.{Fonts}
+
+-- the font that a letter or digit names: R or 1, I or 2, B or 3; P the previous one
+abbrev pub font_by : Font → ℕ → Option Font
+font_by previous c =
+    if c == 82 || c == 49 then Some Roman
+    else if c == 73 || c == 50 then Some Italic
+    else if c == 66 || c == 51 then Some Bold
+    else if c == 80 then Some previous
+    else None
+
+-- the font of a name; the empty one names the previous font
+abbrev pub font_named : Font → List ℕ → Option Font
+font_named previous [] = Some previous
+font_named previous (c ∷ []) = font_by previous c
+font_named previous (c ∷ d ∷ more) = None
+
+-- Each setting makes the font before it the previous one. Another name changes nothing.
+abbrev pub with_font : Option Font → Fonts → Fonts
+with_font None s = s
+with_font (Some font) s = record s { font = font; previous = s.font }
+
+abbrev pub with_named : List ℕ → Fonts → Fonts
+with_named name s = with_font (font_named s.previous name) s
+
+-- `.ft F`: the font; without F the previous one
+abbrev pub or_empty : Option (List ℕ) → List ℕ
+or_empty None = []
+or_empty (Some name) = name
+
+abbrev pub ft : List ℕ → Bool → Fonts → Fonts
+ft line long s = with_named (or_empty (name_in long line)) s
+
+-- `.ul N`: the next N text lines are underlined
+abbrev pub ul : List ℕ → ℕ → Fonts → Fonts
+ul line v s = record s { underlined = counted_lines line v }
+
+-- one text line is counted
+abbrev pub behind_underlined_line : Fonts → Fonts
+behind_underlined_line s = record s { underlined = s.underlined - 1 }
+
+-- the italic font is printed by underlining
+abbrev pub is_italic : Font → Bool
+is_italic Roman = false
+is_italic Italic = true
+is_italic Bold = false
+
+abbrev pub is_under : Fonts → Bool
+is_under s = is_italic s.font || not (s.underlined == 0)
+
+abbrev pub cell_of : ℕ → Fonts → Cell
+cell_of byte s = record { byte = byte; under = is_under s }
+
+abbrev pub first_fonts : Fonts
+first_fonts = record { font = Roman; previous = Roman; underlined = 0 }

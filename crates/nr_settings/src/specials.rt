@@ -1,0 +1,79 @@
+//! Special characters (groff, special characters).
+
+/// A special character.
+#[derive(Clone, Copy, PartialEq, Eq, Debug)]
+pub enum Special {
+    /// `hy`: `-`, a hyphen of a word.
+    Hyphen,
+    /// `em`: `--`
+    Dash,
+    /// `bu`: `o`
+    Bullet,
+    /// `aq`: `'`
+    Apostrophe,
+    /// `dq`: `"`
+    Quote,
+    /// `rs`: `\`
+    Backslash,
+}
+
+impl Special {
+    ghost use Rattle.std.specs.Prelude.{◌≡◌, ◌≤◌};
+    ghost use Rattle.nr_settings.specs.Specials.{special_by, special_of, byte_of, cells_of};
+
+    /// The special character of two letters.
+    fn by_letters(first: u8, second: u8) -> Option<Self>
+        ensures { result ≡ special_by first second }
+    {
+        match (first, second) {
+            (b'h', b'y') => Some(Special::Hyphen),
+            (b'e', b'm') => Some(Special::Dash),
+            (b'b', b'u') => Some(Special::Bullet),
+            (b'a', b'q') => Some(Special::Apostrophe),
+            (b'd', b'q') => Some(Special::Quote),
+            (b'r', b's') => Some(Special::Backslash),
+            _ => None,
+        }
+    }
+
+    /// The special character of a name; None for a name that prints nothing.
+    pub fn of(name: &[u8]) -> Option<Self>
+        ensures { result ≡ special_of name.now }
+    {
+        let Some((first, rest)) = name.split_first() else {
+            return None;
+        };
+        let Some((second, more)) = rest.split_first() else {
+            return None;
+        };
+        if more.is_empty() {
+            Special::by_letters(*first, *second)
+        } else {
+            None
+        }
+    }
+
+    /// The byte that is printed for it.
+    pub fn byte(self) -> u8
+        ensures { result ≡ byte_of self }
+    {
+        match self {
+            Special::Hyphen | Special::Dash => b'-',
+            Special::Bullet => b'o',
+            Special::Apostrophe => b'\'',
+            Special::Quote => b'"',
+            Special::Backslash => b'\\',
+        }
+    }
+
+    /// How many cells of that byte: two for a dash, one for another.
+    pub fn cells(self) -> u32
+        ensures value { result ≡ cells_of self }
+        ensures most { result ≤ 2 }
+    {
+        match self {
+            Special::Dash => 2,
+            _ => 1,
+        }
+    }
+}
