@@ -1,0 +1,4 @@
+pub mod Asking
+pub mod FirstBad
+pub mod Letters
+pub mod Parting
