@@ -1,4 +1,6 @@
 pub mod Asking
+pub mod Chaining
 pub mod FirstBad
 pub mod Letters
 pub mod Parting
+pub mod Telling

@@ -1,3 +1,5 @@
+pub mod Chained
 pub mod Meanings
 pub mod Taking
+pub mod UsageLine
 pub mod Words
