@@ -3,6 +3,7 @@
 
 mod chained;
 mod files;
+mod inputs;
 mod job;
 mod settings;
 mod texts;
@@ -11,6 +12,7 @@ mod words;
 
 pub use chained::Chain;
 pub use files::chain;
+pub use inputs::{Input, MacroFile};
 pub use job::{Job, MOST_MACROS};
 pub use usage::{Case, Usage, usage_line};
 pub use words::read_words;
