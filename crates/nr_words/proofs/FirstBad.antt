@@ -177,7 +177,7 @@ one_first : (before ms others : List Meaning) (good good' rest rest' : List (Lis
 one_first before [] [] [] [] rest rest' case case' word word' only few bad mean few' bad' is =
     let same : word' ≡ word = cc in (
       Bad-one before case case' word (subst (λ (ns : List Meaning). IsBadOnly ns case word) (append-nil before) bad)
-      (subst (λ (t : List ℕ). IsBad before case' t) same (subst (λ (ns : List Meaning). IsBad ns case' word') (append-nil before) bad')),
+          (subst (λ (t : List ℕ). IsBad before case' t) same (subst (λ (ns : List Meaning). IsBad ns case' word') (append-nil before) bad')),
       same,
     )
 one_first before [] (o ∷ others) [] [] rest rest' case case' word word' only few bad mean few' bad' is = absurd mean

@@ -60,6 +60,7 @@ impl<'a, F: Source> Source for Chain<'a, F> {
 
     ghost failures = { λ s. s.failures };
 
+    #[inline]
     fn next(&mut self) -> Result<Option<u8>, Fault> {
         while self.at < self.files.len() {
             match self.files[self.at].next() {

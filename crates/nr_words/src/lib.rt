@@ -6,6 +6,8 @@ mod files;
 mod inputs;
 mod job;
 mod settings;
+#[cfg(test)]
+mod tests;
 mod texts;
 mod usage;
 mod words;

@@ -1,7 +1,7 @@
 //! What is wrong with a word of the command line.
 ghost use Rattle.std.specs.Prelude.{◌≡◌, ◌++◌, OnOk, OnErr};
 ghost use Rattle.std.specs.Io.KnownBytes.{Appends};
-ghost use Rattle.nr_units.specs.Failures.{counted};
+ghost use Rattle.nr_units.specs.Failures.{put_counted};
 ghost use Rattle.nr_units.specs.Held.{AppendsFront};
 ghost use Rattle.nr_words.specs.UsageLine.{goes_on, option_text, usage_text};
 
@@ -46,7 +46,7 @@ impl Usage<'_> {
 pub fn usage_line<W: Sink>(usage: &Usage<'_>, errors: &mut W) -> Result<(), WriteFault>
     ensures ok { OnOk result (Appends (W.held errors.old) (W.held errors.new) (usage_text usage.now.case usage.now.word.now)) }
     ensures err { OnErr result (AppendsFront (W.held errors.old) (W.held errors.new) (usage_text usage.now.case usage.now.word.now)) }
-    ensures failures { W.failures errors.new ≡ counted (W.failures errors.old) result }
+    ensures failures { W.failures errors.new ≡ put_counted (W.failures errors.old) result }
 {
     match put_usage(usage.case, usage.word.as_bytes(), errors) {
         Ok(()) => Ok(()),
@@ -58,12 +58,17 @@ pub fn usage_line<W: Sink>(usage: &Usage<'_>, errors: &mut W) -> Result<(), Writ
 fn put_usage<W: Sink>(case: Case, word: &[u8], errors: &mut W) -> Result<(), Fault>
     ensures ok { OnOk result (Appends (W.held errors.old) (W.held errors.new) (usage_text case word.now)) }
     ensures err { OnErr result (AppendsFront (W.held errors.old) (W.held errors.new) (usage_text case word.now)) }
-    ensures failures { W.failures errors.new ≡ counted (W.failures errors.old) result }
+    ensures failures { W.failures errors.new ≡ put_counted (W.failures errors.old) result }
 {
     match case {
         Case::LeftOut => {
             let option = option_of(word);
-            put_parts(b"nroff: option ", option, b" is not in this profile\n", errors)
+            put_parts(
+                b"nroff: option ",
+                option,
+                b" is not in this profile\n",
+                errors,
+            )
         }
         Case::Unknown => put_parts(b"nroff: unknown option ", option_of(word), b"\n", errors),
         Case::BadValue => put_parts(b"nroff: bad value in ", word, b"\n", errors),
@@ -75,7 +80,7 @@ fn put_usage<W: Sink>(case: Case, word: &[u8], errors: &mut W) -> Result<(), Fau
 fn put_parts<W: Sink>(front: &[u8], middle: &[u8], back: &[u8], errors: &mut W) -> Result<(), Fault>
     ensures ok { OnOk result (Appends (W.held errors.old) (W.held errors.new) (front.now ++ middle.now ++ back.now)) }
     ensures err { OnErr result (AppendsFront (W.held errors.old) (W.held errors.new) (front.now ++ middle.now ++ back.now)) }
-    ensures failures { W.failures errors.new ≡ counted (W.failures errors.old) result }
+    ensures failures { W.failures errors.new ≡ put_counted (W.failures errors.old) result }
 {
     errors.put(front)?;
     errors.put(middle)?;
