@@ -1,10 +1,10 @@
 -- One more option.
-use Rattle.std.proofs.Common.{◌≡◌, ℕ, ◌+◌, ◌<◌, ◌≤◌, Bool, true, false, ◌||◌, List, [], ◌∷◌, ◌++◌, length, Option, None, Some, refl, sym, ap, ◌∙◌, arith, append-nil, length-append}
+use Rattle.std.proofs.Common.{◌≡◌, ℕ, Bool, true, false, ◌||◌, List, [], ◌∷◌, ◌++◌, Option, Some, refl, sym, ap, ◌∙◌, arith, append-nil, length-append}
 use Rattle.std.proofs.lemmas.List.Elements.{filter_map-append}
-use Rattle.std.specs.List.{filter_map, last_or, list_any, fold, AllZip}
+use Rattle.std.specs.List.{last_or, list_any, fold, AllZip}
 use Rattle.nr_words.specs.Meanings.{Meaning, PrintOnly, BeginAt, SetRegister, ReadMacros, MacrosIn, ReadInput, SetLimit}
-use Rattle.nr_words.specs.Words.{AreFew, asked_by, last_of, limited, register, macro_name, page_list, first_page, macro_folder, limit, is_input}
-use Rattle.nr_words.specs.Taking.{Taken, Takes, OnlyMeans, HasRoom, with_meaning}
+use Rattle.nr_words.specs.Words.{AreFew, asked_by, last_of}
+use Rattle.nr_words.specs.Taking.{Taken, OnlyMeans, HasRoom, with_meaning}
 
 pub last_of-append : {A : Type 0} (d : A) (xs : List A) (x : A) → last_of d (xs ++ x ∷ []) ≡ x
 last_of-append d [] x = refl

@@ -1,8 +1,8 @@
 -- Files from their beginning, each completed.
-use Rattle.std.proofs.Common.{◌≡◌, ℕ, List, [], ◌∷◌, ◌++◌, length, Bool, true, false, not, ◌==◌, eqb, cond, append-nil, Option, None, Some, refl, sym, ap, ◌∙◌}
+use Rattle.std.proofs.Common.{◌≡◌, ℕ, List, [], ◌∷◌, ◌++◌, length, Bool, true, false, not, ◌==◌, cond, append-nil, Option, None, Some, refl, ap, ◌∙◌}
 use Rattle.std.specs.Option.{option_map}
 use Rattle.std.specs.List.{flat_map}
-use Rattle.nr_units.specs.Supply.{Supply, Faults, Never, Anytime}
+use Rattle.nr_units.specs.Supply.{Supply, Faults, Anytime}
 use Rattle.nr_words.specs.Chained.{ended, chained_bytes, faults_before, chained_faults, some_anytime, chain_from, all_known, chain_supply}
 use Rattle.nr_words.specs.Files.{lacks_newline, completed, faults_of_all, one_after_the_other, files_supply}
 

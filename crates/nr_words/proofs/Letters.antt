@@ -1,13 +1,12 @@
 -- From the letter and the value of an option to its meaning.
-use Rattle.std.proofs.Common.{◌≡◌, ◌≢◌, ◌⊎◌, ℕ, ◌<◌, ◌≤◌, Bool, true, false, List, [], ◌∷◌, ◌++◌, Option, None, Some, Result, Ok, Err, IsTrue, ℤ, refl, sym, ap, subst, ◌∙◌, arith, inl, inr}
+use Rattle.std.proofs.Common.{◌≡◌, ◌≢◌, ℕ, ◌<◌, true, List, [], ◌∷◌, Option, None, Some, IsTrue, ℤ, sym, ap, subst, ◌∙◌, arith}
 use Rattle.std.proofs.lemmas.Bool.Decides.{nat_tests}
 use Rattle.std.specs.Option.{ok_or}
-use Rattle.nr_words.specs.declared.usage.Case.{Case}
-use Rattle.nr_words.specs.declared.usage.Case.TheVariants.{LeftOut, Unknown, BadValue, TooMany}
+use Rattle.nr_words.specs.declared.usage.Case.TheVariants.{Unknown, BadValue}
 use Rattle.nr_words.specs.declared.settings.Setting.{Setting}
 use Rattle.nr_words.specs.Meanings.{Meaning, PrintOnly, BeginAt, SetRegister, ReadMacros, MacrosIn, ReadInput, SetLimit, hyphen, letter_of, IsValue, Means, WritesInteger, known_letters, left_out_letters, is_among, IsIllFormed}
 use Rattle.nr_words.specs.Words.{is_option}
-use Rattle.nr_words.specs.Taking.{HasValue, Reads, ReadsOption, OnlyMeans, meaning_of}
+use Rattle.nr_words.specs.Taking.{HasValue, Reads, ReadsOption}
 
 -- no option has a letter but these seven
 pub no_letter : (letter : ℕ) → letter ≢ 111 → letter ≢ 110 → letter ≢ 114 → letter ≢ 109 → letter ≢ 77 → letter ≢ 105 → letter ≢ 76

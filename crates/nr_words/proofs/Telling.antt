@@ -1,5 +1,5 @@
 -- What is told by several writes.
-use Rattle.std.proofs.Common.{ℕ, List, ◌++◌, Option, Result, Ok, Err, OnOk, OnErr}
+use Rattle.std.proofs.Common.{ℕ, List, ◌++◌, Option, Result, Ok, Err, OnErr}
 use Rattle.std.specs.Io.KnownBytes.{Appends}
 use Rattle.nr_units.specs.Held.{AppendsFront}
 use Rattle.nr_units.proofs.Fronts.{AppendsFront-after}

@@ -2,7 +2,6 @@
 use Rattle.std.specs.Prelude.{ℕ, List, [], ◌∷◌, ◌++◌, map, ◌==◌, if◌then◌else◌, codes}
 use Rattle.nr_words.specs.Meanings.{hyphen}
 use Rattle.nr_words.specs.Words.{Asked}
-use Rattle.nr_words.specs.declared.inputs.MacroFile.{MacroFile}
 use Rattle.nr_words.specs.declared.inputs.Input.{Input}
 use Rattle.nr_words.specs.declared.inputs.Input.TheVariants.{Macros, File, Standard}
 

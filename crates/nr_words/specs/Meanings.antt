@@ -1,5 +1,5 @@
 -- What an option of the command line means. (CSTR 54, usage.)
-use Rattle.std.specs.Prelude.{◌≡◌, ◌≢◌, ℕ, ◌≤◌, ◌⊎◌, List, [], ◌∷◌, ◌++◌, Bool, ◌==◌, IsTrue, codes, ℤ, pos, neg_ℤ}
+use Rattle.std.specs.Prelude.{◌≡◌, ◌≢◌, ℕ, ◌≤◌, ◌⊎◌, List, [], ◌∷◌, Bool, ◌==◌, IsTrue, codes, ℤ, pos, neg_ℤ}
 use Rattle.std.specs.List.{list_any}
 use Rattle.std.specs.Str.Parse.{IsNumeral, digits_value}
 use Rattle.nr_page.specs.Selection.{IsPageList, WritesNumber}

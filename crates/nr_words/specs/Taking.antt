@@ -1,5 +1,5 @@
 -- How the program reads one word, and what it has taken of the words before it.
-use Rattle.std.specs.Prelude.{◌≡◌, ℕ, ◌<◌, List, [], ◌∷◌, ◌++◌, map, length, Bool, true, Option, None, Some, Result, Ok, Err, IsSome, unwrap_or, pos, ⊤}
+use Rattle.std.specs.Prelude.{◌≡◌, ℕ, ◌<◌, List, [], ◌∷◌, ◌++◌, map, length, true, Option, None, Some, Result, Ok, Err, IsSome, unwrap_or, pos, ⊤}
 use Rattle.std.specs.Borrow.{Bor}
 use Rattle.std.specs.List.{AllZip}
 use Rattle.nr_options.specs.Limits.{IsInRange, with_bound}

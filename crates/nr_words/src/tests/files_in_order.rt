@@ -47,7 +47,11 @@ fn gives(files: &mut [Script<'_>], bytes: &[u8], windows: bool) -> bool {
 fn each_file_ends_its_last_line(rt: HostRuntime) {
     for windows in [false, true] {
         assert!(rt; gives(&mut [], b"", windows));
-        for (text, bytes) in [(b"".as_slice(), b"".as_slice()), (b"a", b"a\n"), (b"a\n", b"a\n")] {
+        for (text, bytes) in [
+            (b"".as_slice(), b"".as_slice()),
+            (b"a", b"a\n"),
+            (b"a\n", b"a\n"),
+        ] {
             assert!(rt; gives(&mut [Script::new(text)], bytes, windows));
         }
         let rows: [([&[u8]; 3], &[u8]); 5] = [

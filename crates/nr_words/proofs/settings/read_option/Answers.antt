@@ -1,7 +1,5 @@
 use Rattle.std.proofs.Common.{IsTrue, rules}
 use Rattle.nr_words.specs.Meanings.{is_among, known_letters}
-use Rattle.nr_words.specs.declared.usage.Case.TheVariants.{BadValue}
-use Rattle.nr_words.specs.Taking.{ReadsOption}
 use Rattle.nr_words.proofs.Letters.{unknown_beyond, ReadsOption-of_value}
 use Rattle.nr_words.proofs.settings.read_option.Goals as goal
 

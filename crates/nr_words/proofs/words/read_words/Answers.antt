@@ -1,4 +1,4 @@
-use Rattle.std.proofs.Common.{◌≡◌, ℕ, length, take, drop, ◌++◌, ◌∷◌, ◌≤◌, ap, subst, sym, ◌∙◌, [], List, arith}
+use Rattle.std.proofs.Common.{◌≡◌, ℕ, take, ap, subst, sym, ◌∙◌, [], List, arith}
 use Rattle.std.proofs.Math.Seq.{take_all}
 use Rattle.nr_words.specs.Words.{Asked, asked_by, files, options}
 use Rattle.nr_words.specs.Taking.{Taken, asked_of, texts}

@@ -1,6 +1,4 @@
-use Rattle.std.proofs.Common.{true, false, subst, Bool}
-use Rattle.nr_words.specs.Chained.{chain_supply}
-use Rattle.nr_words.proofs.Chaining.{Stays, chain_byte, chain_newline, chain_past, chain_fault, chain_end}
+use Rattle.nr_words.proofs.Chaining.{chain_byte, chain_newline, chain_past, chain_fault, chain_end}
 use Rattle.nr_words.proofs.chained.ChainSource.next.Goals as goal
 
 pub returns-in-Ok-Some-clause-gives : goal.returns-in-Ok-Some-clause-gives

@@ -1,5 +1,4 @@
-use Rattle.std.proofs.Common.{◌≡◌, ◌<◌, ◌≤◌, length, get_or, ap, sym, ◌∙◌, arith}
-use Rattle.nr_words.specs.Chained.{hand_at}
+use Rattle.std.proofs.Common.{◌<◌, length, ap, sym, ◌∙◌, arith}
 use Rattle.nr_words.proofs.Chaining.{chain_skips_some, hand_within, hand_is}
 use Rattle.nr_words.proofs.chained.ChainSource.skip.Goals as goal
 

@@ -1,5 +1,4 @@
-use Rattle.std.proofs.Common.{◌≡◌, List, ap, ◌∙◌, subst, arith, length, ◌+◌, ◌-◌, ◌≤◌, ◌<◌}
-use Rattle.nr_words.specs.Inputs.{named}
+use Rattle.std.proofs.Common.{ap, arith, length, ◌-◌}
 use Rattle.nr_words.proofs.InOrder.{macro_at, file_at, standard_at, none_unread, none_behind}
 use Rattle.nr_words.proofs.job.Job.input.Goals as goal
 use Rattle.nr_words.proofs.job.Job.input.Goals.{else-place-files-2-via-then-place-files-2+else-self, else-place-files-2-via-else-place-files-2}
