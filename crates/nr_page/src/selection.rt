@@ -1,5 +1,5 @@
 //! Page selection: a list of pages, as `1,3-5,9-`, and whether a page is in it.
-ghost use Rattle.std.specs.Prelude.{◌≡◌, ◌≢◌, ℕ, ◌<◌, ◌≤◌, ◌↔◌, List, [], ◌∷◌, ◌++◌, ℤ, IsTrue, IsErr, IfOk, Some, IfSome, IfNone, IsSomeAnd, codes};
+ghost use Rattle.std.specs.Prelude.{◌≡◌, ◌≢◌, ℕ, ◌<◌, ◌≤◌, ◌↔◌, List, [], ◌∷◌, ◌++◌, ℤ, IsTrue, IsErr, IfOk, Some, IfSome, IfNone, IsSomeAnd, None, codes};
 ghost use Rattle.nr_page.specs.Selection.{WritesNumber, SpellsItem, Spells, IsPageList, Includes, Selects};
 ghost use Rattle.nr_page.specs.SelectionReading.{BeginsNoDigit, BeginsAfterItem};
 ghost use Rattle.nr_page.specs.declared.selection.PageRange.{PageRange as Item};
@@ -92,6 +92,7 @@ impl Select {
     /// Every page.
     pub fn all() -> Self
         ensures every { (page : ℤ) → Selects result page }
+        ensures no_list { result ≡ None }
     {
         Select { list: None }
     }

@@ -1,0 +1,11 @@
+//! What a run is told beside its input: the four limits, the first page's number, registers, and which
+//! pages are printed.
+#![tactic(auto)]
+
+mod limits;
+mod options;
+#[cfg(test)]
+mod tests;
+
+pub use limits::{Limit, Limits};
+pub use options::{MOST_REGISTERS, Options};
