@@ -3,7 +3,7 @@ use Rattle.std.specs.Prelude.{◌≡◌, ◌≢◌, ℕ, ◌≤◌, ◌⊎◌, L
 use Rattle.std.specs.List.{list_any}
 use Rattle.std.specs.Str.Parse.{IsNumeral, digits_value}
 use Rattle.nr_page.specs.Selection.{IsPageList, WritesNumber}
-use Rattle.nr_page.specs.declared.selection.Pages.{Pages}
+use Rattle.nr_page.specs.declared.selection.PageRange.{PageRange}
 use Rattle.nr_options.specs.Limits.{IsInRange}
 use Rattle.nr_options.specs.declared.limits.Limit.{Limit}
 use Rattle.nr_options.specs.declared.limits.Limit.TheVariants.{Stored, Depth, Cells, Expansions}
@@ -12,7 +12,7 @@ use Rattle.nr_words.specs.declared.usage.Case.TheVariants.{LeftOut, Unknown, Bad
 
 -- what one option asks for: `-olist`, `-nN`, `-raN`, `-mname`, `-Mdir`, `-i`, or `-L`, a letter and N
 pub data Meaning : Type 0 where
-  PrintOnly : List Pages → Meaning
+  PrintOnly : List PageRange → Meaning
   BeginAt : ℕ → Meaning
   SetRegister : ℕ → ℤ → Meaning
   ReadMacros : List ℕ → Meaning

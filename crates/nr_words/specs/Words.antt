@@ -1,7 +1,7 @@
 -- What the words of the command line come to. (CSTR 54, usage.)
 use Rattle.std.specs.Prelude.{◌≡◌, ℕ, ◌≤◌, List, [], ◌∷◌, ◌++◌, length, drop, Bool, true, false, ◌==◌, ◌||◌, Option, None, Some, Result, Ok, Err, ℤ, pos, codes}
 use Rattle.std.specs.List.{take_while, filter_map, last_or, list_any, fold, AllZip}
-use Rattle.nr_page.specs.declared.selection.Pages.{Pages}
+use Rattle.nr_page.specs.declared.selection.PageRange.{PageRange}
 use Rattle.nr_options.specs.Limits.{Bounds, default_bounds, with_bound}
 use Rattle.nr_options.specs.declared.limits.Limit.{Limit}
 use Rattle.nr_words.specs.declared.usage.Case.{Case}
@@ -26,7 +26,7 @@ abbrev pub Mean : List Meaning → List (List ℕ) → Type 0
 Mean meanings words = AllZip Means meanings words
 
 -- what an option says of each matter, if it says anything of it
-abbrev pub page_list : Meaning → Option (List Pages)
+abbrev pub page_list : Meaning → Option (List PageRange)
 page_list (PrintOnly pages) = Some pages
 page_list other = None
 
@@ -70,7 +70,7 @@ pub record Asked : Type 0 where
   pub first : ℤ
   pub registers : List (ℕ × ℤ)
   -- None: all pages
-  pub select : Option (List Pages)
+  pub select : Option (List PageRange)
   pub limits : Bounds
   pub folder : List ℕ
   pub macros : List (List ℕ)

@@ -36,9 +36,9 @@ returns-clause-ok g c =
     let first = cons_of _ _ (sym c.top.ensures ∙ c.in-Some.is) in
     let dv = option_map (taken (c.args.indent + length c.args.cells.now) c.args.height) c.in-Some.draft.diversion in
     rw (c.append_line.ensures, c.set_top.ensures, c.with_line.ensures)
-      (grown_is s.pool s.names s.drafts s.levels (beside_of s.gathering s.registers s.traps) s.charge s.stored c.in-Some.draft (drop 1 s.drafts.items) (line_of c.args.indent c.args.cells.now c.args.height) c.self.invariant first dv
-      ∙ sym (diverted_is s.pool s.names s.drafts s.levels (beside_of s.gathering s.registers s.traps) s.charge s.stored c.in-Some.draft (drop 1 s.drafts.items) c.self.invariant first c.args.indent c.args.cells.now c.args.height)
-      ∙ ap (diverted c.args.indent c.args.cells.now c.args.height) c.self.view_is)
+    (grown_is s.pool s.names s.drafts s.levels (beside_of s.gathering s.registers s.traps) s.charge s.stored c.in-Some.draft (drop 1 s.drafts.items) (line_of c.args.indent c.args.cells.now c.args.height) c.self.invariant first dv
+    ∙ sym (diverted_is s.pool s.names s.drafts s.levels (beside_of s.gathering s.registers s.traps) s.charge s.stored c.in-Some.draft (drop 1 s.drafts.items) c.self.invariant first c.args.indent c.args.cells.now c.args.height)
+    ∙ ap (diverted c.args.indent c.args.cells.now c.args.height) c.self.view_is)
 
 pub returns-clause-answer : goal.returns-clause-answer
 returns-clause-answer g c =
@@ -61,4 +61,4 @@ invariant_of-self g c =
     let dv = option_map (taken (c.args.indent + length c.args.cells.now) c.args.height) c.in-Some.draft.diversion in
     let more : s.charge + length xs ≡ s.charge + (c.args.indent + length c.args.cells.now + 1) = omega arith in
     rw (c.append_line.ensures, c.set_top.ensures, c.with_line.ensures, sym more)
-      (grown_stands s.pool s.names s.drafts s.levels (beside_of s.gathering s.registers s.traps) s.charge s.stored c.in-Some.draft (drop 1 s.drafts.items) xs c.self.invariant first dv (omega arith))
+    (grown_stands s.pool s.names s.drafts s.levels (beside_of s.gathering s.registers s.traps) s.charge s.stored c.in-Some.draft (drop 1 s.drafts.items) xs c.self.invariant first dv (omega arith))
