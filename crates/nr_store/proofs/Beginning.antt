@@ -4,7 +4,7 @@ use Rattle.std.proofs.lemmas.List.{get_or-replicate, get_or_past, length-replica
 use Rattle.std.proofs.lemmas.List.Sums.{sum_by-cons}
 use Rattle.std.proofs.lemmas.Bool.{cases_lt}
 use Rattle.nr_units.specs.Items.{Items}
-use Rattle.nr_pool.specs.Texts.{Held, Texts, no_text, entry, holders, text}
+use Rattle.nr_pool.specs.Texts.{Held, Texts, no_text, entry, holders}
 use Rattle.nr_tables.specs.Named.{Named, find, put}
 use Rattle.nr_tables.specs.Rows.{Table}
 use Rattle.nr_levels.specs.Levels.{Levels}
@@ -15,9 +15,9 @@ use Rattle.nr_store.specs.declared.element.Draft.{Draft}
 use Rattle.nr_store.specs.declared.request.Request.{Request}
 use Rattle.nr_store.specs.declared.request.TheConstants.{REQUESTS}
 use Rattle.nr_store.specs.Senses.{act}
-use Rattle.nr_store.specs.Stored.{Means, Act, Built, weight, level_charge, Stored, charge_of, charge_beside}
-use Rattle.nr_store.specs.Requests.{name_of, with_acts, with_senses, request_names}
-use Rattle.nr_store.specs.Holders.{Beside, Suffice, acts, means_of, named_means, built_of, level_of, stored_of, count, values, draft_ids, held_ids, IsHeld, AllPay, IsStore}
+use Rattle.nr_store.specs.Stored.{Built, weight, level_charge, charge_of, charge_beside}
+use Rattle.nr_store.specs.Requests.{name_of, with_acts, with_senses}
+use Rattle.nr_store.specs.Holders.{Beside, Suffice, acts, means_of, named_means, built_of, level_of, stored_of, count, values, draft_ids, held_ids, AllPay, IsStore}
 use Rattle.nr_store.proofs.Counting.{count-append}
 use Rattle.nr_store.proofs.Naming.{ones, sum_of, put_sum, put_sum_new, put-map, count-values}
 use Rattle.nr_store.proofs.Defining.{cost_of, names_charge}

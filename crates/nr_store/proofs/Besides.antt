@@ -1,5 +1,5 @@
 -- Lemmas on what is stored beside texts and levels.
-use Rattle.std.proofs.Common.{◌≡◌, ℕ, ◌+◌, ◌-◌, ◌*◌, ◌<◌, ◌≤◌, List, [], ◌∷◌, ◌++◌, length, sum_by, eqb, true, false, Option, Some, None, refl, ap, ap₂, sym, ◌∙◌, inl, inr, arith, length-append}
+use Rattle.std.proofs.Common.{◌≡◌, ℕ, ◌+◌, ◌≤◌, List, [], ◌∷◌, ◌++◌, length, eqb, true, false, Some, None, refl, ap, ◌∙◌, inl, inr, arith, length-append}
 use Rattle.std.proofs.lemmas.List.Sums.{sum_by-cons, sum_by-append}
 use Rattle.std.proofs.lemmas.Bool.{cases_Bool, cond-true, cond-false}
 use Rattle.nr_units.specs.Items.{Items}
@@ -11,10 +11,9 @@ use Rattle.nr_levels.specs.Gathered.{Gathered, bytes_in, gathered_len, with_byte
 use Rattle.nr_store.specs.declared.named.Sense.{Sense}
 use Rattle.nr_store.specs.declared.element.Element.{Element}
 use Rattle.nr_store.specs.declared.element.Draft.{Draft}
-use Rattle.nr_store.specs.Stored.{Stored, charge_of, charge_beside, afforded}
+use Rattle.nr_store.specs.Stored.{charge_of, charge_beside}
 use Rattle.nr_store.specs.Holders.{Beside, Suffice, stored_of, IsStore}
 use Rattle.nr_store.proofs.Naming.{sum_of, put_sum, put_sum_new, without_sum}
-use Rattle.nr_store.proofs.Building.{Within, unaffordable, affordable}
 
 -- what is charged beside texts and levels
 abbrev pub beside_cost : Beside → ℕ

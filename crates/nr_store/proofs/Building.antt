@@ -1,12 +1,12 @@
 -- Lemmas on texts that are being built.
-use Rattle.std.proofs.Common.{◌≡◌, ◌≢◌, ℕ, ◌+◌, ◌*◌, ◌<◌, ◌≤◌, List, [], ◌∷◌, ◌++◌, length, map, drop, sum_by, Option, Some, None, Ok, Err, refl, ap, ap₂, sym, ◌∙◌, subst, inl, inr, arith}
+use Rattle.std.proofs.Common.{◌≡◌, ◌≢◌, ℕ, ◌+◌, ◌*◌, ◌<◌, ◌≤◌, List, [], ◌∷◌, ◌++◌, length, map, drop, sum_by, Option, Some, Ok, Err, refl, ap, ap₂, sym, ◌∙◌, subst, inl, inr, arith}
 use Rattle.std.specs.List.{slice_get}
 use Rattle.std.proofs.lemmas.List.{length-set, length-append, length-map}
 use Rattle.std.proofs.lemmas.List.Sums.{sum_by-cons}
 use Rattle.std.proofs.lemmas.Bool.{cases_eq, cond-true, cond-false, lt-ltb, le-ltb}
 use Rattle.std.proofs.lemmas.Option.{slice_get_within, get_or_from_slice_get}
 use Rattle.nr_units.specs.Items.{Items}
-use Rattle.nr_pool.specs.Texts.{Held, Texts, no_text, text, holders, used, IsOpen, opened, with_text}
+use Rattle.nr_pool.specs.Texts.{Held, Texts, no_text, text, holders, opened, with_text}
 use Rattle.nr_pool.specs.Laws.{within_of_open, entry-with_entry_same, entry-with_entry_other, text-with_text_same, text-with_text_other, holders-with_text}
 use Rattle.nr_tables.specs.Named.{Named}
 use Rattle.nr_tables.specs.Rows.{Table}
@@ -19,7 +19,7 @@ use Rattle.nr_store.specs.declared.refusal.Refusal.TheVariants as refusals
 use Rattle.nr_store.specs.Stored.{Stored, Built, charge_of, weight, afforded, checked, begun, longer, on_newest, added}
 use Rattle.nr_store.specs.Holders.{Beside, built_of, level_of, stored_of, count, ids_of, values, draft_ids, held_ids, IsHeld, IsStore}
 use Rattle.nr_store.proofs.Counting.{AddsOne, one_same, one_other, count-cons, count-append, held_opened, held_text}
-use Rattle.nr_store.proofs.Keeping.{Keeps, keeps_right, same_view, same_building, all_pay}
+use Rattle.nr_store.proofs.Keeping.{Keeps, keeps_right, same_view, all_pay}
 
 -- a list whose first item is known
 pub cons_of : {X : Type 0} (xs : List X) (x : X) → slice_get xs 0 ≡ Some x → xs ≡ x ∷ drop 1 xs

@@ -1,7 +1,6 @@
 -- Lemmas on a text that is begun as a copy.
-use Rattle.std.proofs.Common.{◌≡◌, ℕ, ◌+◌, ◌<◌, ◌≤◌, List, [], ◌∷◌, ◌++◌, length, Option, Some, None, Ok, Err, refl, ap, ap₂, sym, ◌∙◌, subst, arith}
+use Rattle.std.proofs.Common.{◌≡◌, ℕ, ◌+◌, ◌<◌, ◌≤◌, List, ◌∷◌, ◌++◌, length, Option, Some, Ok, Err, refl, ap, ap₂, ◌∙◌, subst, arith}
 use Rattle.std.specs.List.{slice_get}
-use Rattle.std.specs.Option.{option_map, unwrap_or}
 use Rattle.nr_units.specs.Items.{Items}
 use Rattle.nr_pool.specs.Texts.{Texts, no_text, text, used, IsOpen, opened, with_text}
 use Rattle.nr_tables.specs.Rows.{Table}
@@ -10,10 +9,10 @@ use Rattle.nr_store.specs.declared.named.Sense.{Sense}
 use Rattle.nr_store.specs.declared.element.Element.{Element}
 use Rattle.nr_store.specs.declared.element.Diversion.{Diversion}
 use Rattle.nr_store.specs.declared.element.Draft.{Draft}
-use Rattle.nr_store.specs.Stored.{Stored, charge_of, weight, afforded, begun, longer, on_newest, added}
+use Rattle.nr_store.specs.Stored.{Stored, weight, afforded, begun, added}
 use Rattle.nr_store.specs.Holders.{Beside, stored_of, IsStore}
 use Rattle.nr_store.proofs.Keeping.{room_for_elements}
-use Rattle.nr_store.proofs.Building.{Within, unaffordable, affordable, charge_of-begun, text_begun, begun_is, begun_stands, added_is, grown_stands, added_stands}
+use Rattle.nr_store.proofs.Building.{Within, unaffordable, affordable, charge_of-begun, text_begun, begun_is, begun_stands, added_is, added_stands}
 
 module _ {K X : Type 0} (charge limit : ℕ) (v : Stored K) (t : List Element) (dv : Option Diversion) (x : X) (h : Within v charge limit) where
   pub begin_refused : limit < charge + weight t → afforded (begun t dv v) x ≡ Err (record {})

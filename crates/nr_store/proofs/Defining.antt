@@ -1,10 +1,9 @@
 -- Lemmas on names that are given, taken and changed.
-use Rattle.std.proofs.Common.{◌≡◌, ℕ, ◌+◌, ◌-◌, ◌*◌, ◌<◌, ◌≤◌, List, [], ◌∷◌, ◌++◌, length, map, drop, sum_by, Option, Some, None, refl, ap, ap₂, sym, ◌∙◌, subst, arith}
-use Rattle.std.specs.Option.{option_map}
+use Rattle.std.proofs.Common.{◌≡◌, ℕ, ◌+◌, ◌*◌, ◌<◌, ◌≤◌, List, [], ◌∷◌, ◌++◌, length, map, sum_by, Some, None, refl, ap, ap₂, sym, ◌∙◌, arith}
 use Rattle.std.proofs.lemmas.List.Sums.{sum_by-cons}
 use Rattle.nr_units.specs.Items.{Items}
 use Rattle.nr_pool.specs.Texts.{Texts, text, IsOpen, released}
-use Rattle.nr_tables.specs.Named.{Named, find, put, without}
+use Rattle.nr_tables.specs.Named.{Named, find, put}
 use Rattle.nr_tables.specs.Rows.{Table}
 use Rattle.nr_levels.specs.Levels.{Open, Levels}
 use Rattle.nr_store.specs.declared.named.Sense.{Sense}
@@ -13,11 +12,11 @@ use Rattle.nr_store.specs.declared.element.Element.{Element}
 use Rattle.nr_store.specs.declared.element.Draft.{Draft}
 use Rattle.nr_store.specs.declared.request.TheConstants.{REQUESTS}
 use Rattle.nr_store.specs.Senses.{act}
-use Rattle.nr_store.specs.Stored.{Means, weight_of, Built, charge_of, weight, Stored, defined, removed, moved}
+use Rattle.nr_store.specs.Stored.{Means, weight_of, Built, charge_of, weight, defined}
 use Rattle.nr_store.specs.Holders.{Beside, acts, means_of, named_means, built_of, stored_of, one, count, ids_of, values, draft_ids, held_ids, IsHeld, IsStore}
 use Rattle.nr_store.proofs.Counting.{AddsOne, count-cons, count-append, held_less, open_of_adds, text_kept, released_capacity, released_slots}
 use Rattle.nr_store.proofs.Keeping.{Keeps, keeps_right, same_view, all_pay}
-use Rattle.nr_store.proofs.Naming.{ones, sum_of, put_sum, put_sum_new, put-map, without_sum, without_none, without-map, find-map, count-values}
+use Rattle.nr_store.proofs.Naming.{ones, sum_of, put_sum, put_sum_new, put-map, count-values}
 
 -- what a name's meaning is charged
 abbrev pub cost_of : Texts Element → Sense → ℕ

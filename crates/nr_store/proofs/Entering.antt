@@ -8,7 +8,7 @@ use Rattle.nr_pool.specs.Laws.{text-with_holders, holders-with_holders_other}
 use Rattle.nr_units.specs.Items.{Items}
 use Rattle.nr_tables.specs.Rows.{Table}
 use Rattle.nr_levels.specs.Levels.{Text, Levels, deeper}
-use Rattle.nr_store.specs.Stored.{Read, Level, level_charge, Stored, charge_of, share, reading}
+use Rattle.nr_store.specs.Stored.{Read, level_charge, Stored, charge_of, share, reading}
 use Rattle.nr_store.specs.Holders.{Beside, draft_ids, stored_of, count, ids_of, values, held_ids, IsStore}
 use Rattle.nr_store.specs.declared.element.Element.{Element}
 use Rattle.nr_store.specs.declared.element.Draft.{Draft}

@@ -1,5 +1,5 @@
 -- Lemmas on what stays where the pool's texts change.
-use Rattle.std.proofs.Common.{◌≡◌, ◌≢◌, ℕ, suc, ◌+◌, ◌*◌, ◌<◌, ◌≤◌, List, [], ◌∷◌, ◌++◌, length, map, drop, sum_by, All, refl, ap, ap₂, sym, ◌∙◌, subst, arith}
+use Rattle.std.proofs.Common.{◌≡◌, ℕ, suc, ◌+◌, ◌*◌, ◌<◌, ◌≤◌, List, [], ◌∷◌, ◌++◌, length, map, drop, sum_by, All, refl, ap, ap₂, sym, ◌∙◌, arith}
 use Rattle.std.proofs.lemmas.List.Sums.{sum_by-cons, sum_by-append}
 use Rattle.nr_units.specs.Items.{Items}
 use Rattle.nr_pool.specs.Texts.{Held, Texts, text, used}
@@ -11,7 +11,7 @@ use Rattle.nr_store.specs.declared.named.Sense.TheVariants as senses
 use Rattle.nr_store.specs.declared.element.Draft.{Draft}
 use Rattle.nr_store.specs.declared.element.Element.{Element}
 use Rattle.nr_store.specs.Senses.{ids_of_sense}
-use Rattle.nr_store.specs.Stored.{Means, Words, weight_of, Built, Reading, Level, Read, level_charge, charge_of, weight, share}
+use Rattle.nr_store.specs.Stored.{Means, Words, weight_of, Built, Read, level_charge, charge_of, weight, share}
 use Rattle.nr_store.specs.Holders.{Beside, means_of, named_means, built_of, level_in, level_of, stored_of, count, ids_of_source, ids_of, values, draft_ids, held_ids, IsHeld, Pays, AllPay, IsStore}
 use Rattle.nr_store.proofs.Counting.{one_same, count-cons, count-append, cost, costs, owed, costs-le, used-le}
 

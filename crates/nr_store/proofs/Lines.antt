@@ -1,19 +1,18 @@
 -- Lemmas on lines that are added to a text.
-use Rattle.std.proofs.Common.{◌≡◌, ℕ, zero, suc, ◌+◌, ◌<◌, ◌≤◌, ◌↔◌, List, [], ◌∷◌, ◌++◌, length, map, replicate, Option, Some, None, Result, Ok, Err, refl, ap, ap₂, sym, ◌∙◌, subst, append_assoc, length-append, arith}
+use Rattle.std.proofs.Common.{◌≡◌, ℕ, ◌+◌, ◌<◌, ◌↔◌, List, [], ◌∷◌, ◌++◌, length, map, replicate, Result, Ok, Err, refl, ap, sym, ◌∙◌, append_assoc, length-append, arith}
 use Rattle.std.specs.Result.{IsErr, OnOk}
 use Rattle.std.specs.Option.{option_map}
 use Rattle.std.proofs.lemmas.List.{append-nil, length-map, length-replicate}
 use Rattle.nr_units.specs.Items.{Items}
 use Rattle.nr_units.specs.declared.cell.Cell.{Cell}
 use Rattle.nr_pool.specs.Texts.{Texts, text, used, IsOpen, with_text}
-use Rattle.nr_pool.specs.Laws.{within_of_open, text-with_text_same, with_text-text, append_more, open-with_text, used-with_text}
+use Rattle.nr_pool.specs.Laws.{within_of_open, with_text-text, append_more, open-with_text, used-with_text}
 use Rattle.nr_pool.specs.declared.Full.{Full}
 use Rattle.nr_tables.specs.Rows.{Table}
 use Rattle.nr_levels.specs.Levels.{Levels}
 use Rattle.nr_store.specs.declared.named.Sense.{Sense}
 use Rattle.nr_store.specs.declared.element.Element.{Element}
 use Rattle.nr_store.specs.declared.element.Element.TheVariants as elements
-use Rattle.nr_store.specs.declared.element.Diversion.{Diversion}
 use Rattle.nr_store.specs.declared.element.Draft.{Draft}
 use Rattle.nr_store.specs.Stored.{Stored, Built, charge_of, blank_cell, line_of, taken, diverted, on_newest}
 use Rattle.nr_store.specs.Holders.{Beside, built_of, stored_of, IsStore}

@@ -16,7 +16,7 @@ use Rattle.nr_store.specs.declared.element.Draft.{Draft}
 use Rattle.nr_store.specs.declared.register.Register.{Register}
 use Rattle.nr_store.specs.declared.request.TheConstants.{REQUESTS}
 use Rattle.nr_store.specs.Senses.{ids_of_sense, act}
-use Rattle.nr_store.specs.Stored.{Means, Act, Words, Built, Reading, Level, Read, Mark, Stored, charge_of, share}
+use Rattle.nr_store.specs.Stored.{Means, Act, Words, Built, Level, Read, Mark, Stored, charge_of, share}
 
 -- ---- what the fields stand for
 

@@ -1,4 +1,4 @@
-use Rattle.std.proofs.Common.{◌≡◌, ◌+◌, [], ◌∷◌, length, drop, ap, sym, ◌∙◌, refl, arith}
+use Rattle.std.proofs.Common.{[], ◌∷◌, drop, ap, sym, ◌∙◌, refl, arith}
 use Rattle.nr_store.specs.Holders.{beside_of}
 use Rattle.nr_store.specs.Stored.{Stored, charge_of, added}
 use Rattle.nr_store.proofs.Keeping.{room_for_elements}

@@ -1,4 +1,4 @@
-use Rattle.std.proofs.Common.{[], Some, None, ap, ◌∙◌, refl, arith}
+use Rattle.std.proofs.Common.{[], ap, ◌∙◌, refl, arith}
 use Rattle.nr_store.specs.Holders.{beside_of}
 use Rattle.nr_store.specs.Stored.{begun}
 use Rattle.nr_store.proofs.Keeping.{room_for_a_text}

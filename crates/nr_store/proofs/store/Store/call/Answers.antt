@@ -1,17 +1,17 @@
-use Rattle.std.proofs.Common.{◌≡◌, ◌+◌, ◌-◌, [], length, Some, None, is_some, true, false, refl, ap₂, ap, sym, ◌∙◌, subst, arith}
+use Rattle.std.proofs.Common.{◌≡◌, ◌+◌, ◌-◌, length, Some, None, is_some, true, false, ap₂, ap, sym, ◌∙◌, subst, arith}
 use Rattle.std.specs.Option.{option_map}
 use Rattle.std.proofs.lemmas.Bool.{leb-true, leb-false}
 use Rattle.nr_pool.specs.Texts.{text, holders, with_holders}
-use Rattle.nr_levels.specs.Levels.{Levels, Text, deeper, cut}
-use Rattle.nr_levels.specs.Gathered.{none_gathered, gathered_len, bytes_in, joined}
+use Rattle.nr_levels.specs.Levels.{Text, deeper, cut}
+use Rattle.nr_levels.specs.Gathered.{none_gathered, gathered_len, bytes_in}
 use Rattle.nr_levels.specs.Laws.{cut_joined, length-joined, sum-lengths}
-use Rattle.nr_store.specs.Stored.{Stored, checked, share, called, ungathered, reading}
+use Rattle.nr_store.specs.Stored.{Stored, checked, share, called, ungathered}
 use Rattle.nr_store.specs.Holders.{beside_of, stored_of, IsStore}
 use Rattle.nr_store.proofs.Keeping.{levels_within}
 use Rattle.nr_store.proofs.Building.{is_within}
 use Rattle.nr_store.proofs.Besides.{beside_paid, beside_stands}
 use Rattle.nr_store.proofs.Entering.{entered_is, entered_stands}
-use Rattle.nr_store.proofs.Admitting.{named_text, is_named, depths, answer_none, answer_refused, answer_deep, answer_admitted}
+use Rattle.nr_store.proofs.Admitting.{named_text, is_named, depths, answer_refused, answer_deep, answer_admitted}
 use Rattle.nr_store.proofs.Building.{admitted}
 use Rattle.nr_store.proofs.store.Store.call.Goals as goal
 

@@ -1,4 +1,4 @@
-use Rattle.std.proofs.Common.{◌≡◌, ◌+◌, length, drop, ap, sym, ◌∙◌, arith}
+use Rattle.std.proofs.Common.{length, ap, sym, ◌∙◌, arith}
 use Rattle.nr_store.specs.Holders.{beside_of}
 use Rattle.nr_store.proofs.Building.{cons_of}
 use Rattle.nr_store.proofs.Defining.{room_for_a_name}

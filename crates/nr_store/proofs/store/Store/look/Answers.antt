@@ -1,7 +1,7 @@
 use Rattle.std.proofs.Common.{Some, ap, sym, ◌∙◌}
 use Rattle.nr_store.specs.Holders.{beside_of}
 use Rattle.nr_store.specs.Stored.{Stored, shown}
-use Rattle.nr_store.proofs.Reading.{newest_text, item_shown, end_shown}
+use Rattle.nr_store.proofs.Reading.{newest_text, item_shown}
 use Rattle.nr_store.proofs.store.Store.look.Goals as goal
 
 pub returns-then-place-len : goal.returns-then-place-len

@@ -1,7 +1,7 @@
-use Rattle.std.proofs.Common.{◌≡◌, ℕ, ◌+◌, ◌<◌, ◌≤◌, List, [], length, ap, ap₂, ◌∙◌, arith}
+use Rattle.std.proofs.Common.{◌≡◌, [], length, ap, ◌∙◌, arith}
 use Rattle.std.proofs.lemmas.List.{length-replicate}
 use Rattle.nr_units.specs.Items.{Items}
-use Rattle.nr_pool.specs.Texts.{Held, no_text}
+use Rattle.nr_pool.specs.Texts.{no_text}
 use Rattle.nr_tables.specs.Rows.{Table}
 use Rattle.nr_levels.specs.Levels.{Levels}
 use Rattle.nr_levels.specs.Gathered.{Gathering}

@@ -1,5 +1,5 @@
-use Rattle.std.proofs.Common.{◌≡◌, ◌+◌, length, Some, None, refl, ap, sym, ◌∙◌, arith}
-use Rattle.nr_tables.specs.Named.{put, find}
+use Rattle.std.proofs.Common.{◌≡◌, ◌+◌, ap, sym, ◌∙◌, arith}
+use Rattle.nr_tables.specs.Named.{put}
 use Rattle.nr_store.specs.Stored.{Stored, charge_of, with_register}
 use Rattle.nr_store.specs.Holders.{beside_of}
 use Rattle.nr_store.proofs.Building.{is_within, unaffordable, affordable}

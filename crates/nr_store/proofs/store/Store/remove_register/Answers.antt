@@ -1,4 +1,4 @@
-use Rattle.std.proofs.Common.{◌≡◌, ◌+◌, ◌-◌, length, Some, None, refl, ap, sym, ◌∙◌, arith}
+use Rattle.std.proofs.Common.{◌-◌, sym, ◌∙◌, arith}
 use Rattle.nr_tables.specs.Named.{without}
 use Rattle.nr_store.specs.Holders.{beside_of}
 use Rattle.nr_store.proofs.Naming.{without_none}

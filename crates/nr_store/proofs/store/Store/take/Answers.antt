@@ -1,7 +1,7 @@
-use Rattle.std.proofs.Common.{Some, None, ap, sym, ◌∙◌}
+use Rattle.std.proofs.Common.{Some, ap, sym, ◌∙◌}
 use Rattle.nr_store.specs.Holders.{beside_of}
 use Rattle.nr_store.specs.Stored.{Stored, shown, left}
-use Rattle.nr_store.proofs.Reading.{newest_text, item_shown, item_left, end_left, text_ended, text_ended_stands, text_paid}
+use Rattle.nr_store.proofs.Reading.{newest_text, item_shown, item_left, end_left, text_ended, text_ended_stands}
 use Rattle.nr_store.proofs.store.Store.take.Goals as goal
 
 pub returns-then-place-len-clause-was : goal.returns-then-place-len-clause-was

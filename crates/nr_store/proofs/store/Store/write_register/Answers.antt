@@ -1,4 +1,4 @@
-use Rattle.std.proofs.Common.{◌≡◌, ap, sym, ◌∙◌, arith}
+use Rattle.std.proofs.Common.{ap, sym, ◌∙◌, arith}
 use Rattle.nr_store.specs.Stored.{afforded, written}
 use Rattle.nr_store.specs.Holders.{beside_of}
 use Rattle.nr_store.proofs.Building.{is_within, affordable}

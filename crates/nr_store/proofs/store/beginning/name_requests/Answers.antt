@@ -1,5 +1,3 @@
-use Rattle.std.proofs.Common.{◌≡◌, ◌+◌, ◌≤◌, length, ap, ◌∙◌, arith}
-use Rattle.nr_tables.specs.Rows.{Table}
 use Rattle.nr_store.proofs.Beginning.{put_few, one_request}
 use Rattle.nr_store.proofs.store.beginning.name_requests.Goals as goal
 

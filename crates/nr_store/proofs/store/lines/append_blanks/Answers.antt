@@ -1,4 +1,4 @@
-use Rattle.std.proofs.Common.{◌≡◌, ◌+◌, ◌++◌, [], ◌∷◌, replicate, length, ap, ◌∙◌, arith}
+use Rattle.std.proofs.Common.{◌++◌, [], ◌∷◌, replicate, ap, ◌∙◌, arith}
 use Rattle.std.proofs.lemmas.List.{replicate_more, length-replicate}
 use Rattle.nr_store.specs.Stored.{blank_cell}
 use Rattle.nr_store.specs.declared.element.Element.TheVariants as elements

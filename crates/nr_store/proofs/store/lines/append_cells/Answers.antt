@@ -1,7 +1,6 @@
-use Rattle.std.proofs.Common.{◌≡◌, ◌+◌, map, take, get_or, length, ap, sym, ◌∙◌, arith}
+use Rattle.std.proofs.Common.{map, take, ap, sym, ◌∙◌, arith}
 use Rattle.std.proofs.lemmas.List.{map_more, length-map}
 use Rattle.std.proofs.lemmas.List as lists
-use Rattle.nr_units.specs.Cells.{blank}
 use Rattle.nr_store.specs.declared.element.Element.TheVariants as elements
 use Rattle.nr_store.proofs.Lines.{with_more, none_more, more_open, one_more}
 use Rattle.nr_store.proofs.store.lines.append_cells.Goals as goal

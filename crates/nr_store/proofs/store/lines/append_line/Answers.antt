@@ -1,4 +1,4 @@
-use Rattle.std.proofs.Common.{◌≡◌, ◌+◌, ◌++◌, [], ◌∷◌, map, replicate, length, ap, ◌∙◌, append_assoc, length-append, arith}
+use Rattle.std.proofs.Common.{◌++◌, [], ◌∷◌, map, replicate, ap, ◌∙◌, append_assoc, length-append, arith}
 use Rattle.std.proofs.lemmas.List.{length-map, length-replicate}
 use Rattle.nr_store.specs.Stored.{blank_cell}
 use Rattle.nr_store.specs.declared.element.Element.TheVariants as elements
