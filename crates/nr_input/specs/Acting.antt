@@ -1,0 +1,210 @@
+-- What a move does that is due.
+use Rattle.std.specs.Prelude.{ℕ, ◌+◌, ◌-◌, ◌==◌, nat_le, nat_lt, Bool, true, false, if◌then◌else◌, List, [], ◌∷◌, slice_index, Option, None, Some, is_some, Result, Ok, Err}
+use Rattle.nr_units.specs.NumberText.{number_text}
+use Rattle.nr_levels.specs.Levels.{argument}
+use Rattle.nr_tables.specs.Named.{find}
+use Rattle.nr_store.specs.Stored.{Stored, afforded, checked, begun, text_of, added, defined, words, entered, called, reading_bytes, gathering, gathered_whole, ungathered, register_of, stepped, meaning_of}
+use Rattle.nr_store.specs.declared.element.Element.TheVariants as elements
+use Rattle.nr_store.specs.declared.named.Meaning.{Meaning}
+use Rattle.nr_store.specs.declared.named.Meaning.TheVariants as meanings
+use Rattle.nr_store.specs.declared.refusal.Refusal as stored
+use Rattle.nr_store.specs.declared.refusal.StoredBytes.{StoredBytes}
+use Rattle.nr_store.specs.declared.request.Request.{Request}
+use Rattle.nr_store.specs.declared.request.Request.TheVariants as requests
+use Rattle.nr_store.specs.declared.register.Register.{Register}
+use Rattle.nr_reading.specs.declared.ask.Sign.TheVariants as signs
+use Rattle.nr_reading.specs.declared.event.Event.{Event}
+use Rattle.nr_reading.specs.declared.event.Event.TheVariants as events
+use Rattle.nr_reading.specs.declared.half.Half.{Half}
+use Rattle.nr_reading.specs.declared.mode.Calls.{Calls}
+use Rattle.nr_reading.specs.declared.mode.Calls.TheVariants as calls
+use Rattle.nr_reading.specs.declared.mode.Due.{Due}
+use Rattle.nr_reading.specs.declared.mode.Due.TheVariants as dues
+use Rattle.nr_reading.specs.Conditionals.{judged}
+use Rattle.nr_reading.specs.Definitions.{last_line}
+use Rattle.nr_reading.specs.Seeking.{sought, sought_event}
+use Rattle.nr_reading.specs.Spelling.{name_of, is_empty}
+use Rattle.nr_input.specs.declared.reader.Reader.{Reader}
+use Rattle.nr_input.specs.declared.refusal.Refusal.{Refusal}
+use Rattle.nr_input.specs.declared.refusal.Refusal.TheVariants as refusals
+use Rattle.nr_input.specs.Refusals.{refusal_of}
+
+-- what is stored and half read behind it, and what it tells, or why it isn't done
+pub record Acted (K : Type 0) : Type 0 where
+  pub stored : Stored K
+  pub reader : Reader
+  pub answer : Result Event Refusal
+
+-- the same, as the program has it
+abbrev pub acted : {K : Type 0} → Stored K → Reader → Result Event Refusal → Acted K
+acted v r a = record { stored = v; reader = r; answer = a }
+
+abbrev pub done : {K : Type 0} → Event → Stored K → Reader → Acted K
+done e v r = acted v r (Ok e)
+
+abbrev pub refused : {K : Type 0} → Refusal → Stored K → Reader → Acted K
+refused x v r = acted v r (Err x)
+
+-- with this due next
+abbrev pub next : Due → Half → Half
+next d h = record h { reading = record h.reading { due = d } }
+
+abbrev pub on_half : (Half → Half) → Reader → Reader
+on_half f r = record r { half = f r.half }
+
+abbrev pub then_due : Due → Reader → Reader
+then_due d r = on_half (next d) r
+
+abbrev pub idle : Reader → Reader
+idle r = then_due dues.Look r
+
+-- ---- limits
+
+-- what adds to what is stored; `new` and `behind` are what it leads to, v and r stay where it is refused
+abbrev pub storing : {K : Type 0} → Result (Unit {0}) StoredBytes → Stored K → Reader → Stored K → Reader → Acted K
+storing (Ok x) new behind v r = done events.Nothing new behind
+storing (Err e) new behind v r = refused refusals.Stored v r
+
+-- a splice more since the last byte of the input was taken; above the limit the same is refused from then on
+abbrev pub expanded_answer : Reader → Result Event Refusal
+expanded_answer r = if nat_le r.most r.burst then Err refusals.Expansions else Ok events.Nothing
+
+abbrev pub expanded_reader : Reader → Reader
+expanded_reader r = if nat_le r.most r.burst then then_due dues.Expanded r else record (idle r) { burst = r.burst + 1 }
+
+abbrev pub expanding : {K : Type 0} → Stored K → Reader → Acted K
+expanding new r = acted new (expanded_reader r) (expanded_answer r)
+
+-- what opens a level
+abbrev pub splicing : {K : Type 0} → Result (Unit {0}) stored.Refusal → Stored K → Stored K → Reader → Acted K
+splicing (Ok x) new v r = expanding new r
+splicing (Err e) new v r = refused (refusal_of e) v r
+
+-- what opens a level if a name has a text: a name that is undefined or a request's splices nothing, and counts nothing
+abbrev pub splicing_text : {K : Type 0} → Result Bool stored.Refusal → Stored K → Stored K → Reader → Acted K
+splicing_text (Ok true) new v r = expanding new r
+splicing_text (Ok false) new v r = done events.Nothing new (idle r)
+splicing_text (Err e) new v r = refused (refusal_of e) v r
+
+-- ---- definitions
+
+-- the name that is read, or that a text is defined under
+abbrev pub name_in : Reader → List ℕ
+name_in r = name_of r.half.notes.name
+
+-- A text is built apart: empty, or from a copy of the old one.
+abbrev pub base_of : {K : Type 0} → Reader → Stored K → Stored K
+base_of r v = if r.half.notes.defining.appends then begun (text_of (name_in r) v) None v else begun [] None v
+
+abbrev pub act_begin : {K : Type 0} → Stored K → Reader → Acted K
+act_begin v r = storing (afforded (base_of r v) tt) (base_of r v) (idle r) v r
+
+abbrev pub adding_byte : {K : Type 0} → ℕ → Due → Stored K → Reader → Acted K
+adding_byte b d v r =
+    storing (afforded (added (elements.Byte b ∷ []) v) tt) (added (elements.Byte b ∷ []) v) (then_due d r) v r
+
+-- what is due behind a byte that was held back
+abbrev pub behind_held : ℕ → ℕ → Option ℕ → Due
+behind_held held n (Some b) = if nat_lt (n + 1) held then dues.Release held (n + 1) (Some b) else dues.Add b
+behind_held held n None = if nat_lt (n + 1) held then dues.Release held (n + 1) None else dues.Look
+
+abbrev pub act_release : {K : Type 0} → ℕ → ℕ → Option ℕ → Stored K → Reader → Acted K
+act_release held n b v r = adding_byte (slice_index (last_line r.half.notes.defining) n) (behind_held held n b) v r
+
+-- the text takes its name, where it is kept
+abbrev pub naming : {K : Type 0} → Reader → Stored K → Stored K
+naming r v = if r.half.notes.defining.keeps then defined (name_in r) v else v
+
+abbrev pub behind_definition : Reader → Due
+behind_definition r = if is_empty r.half.notes.defining.ending then dues.Look else dues.CallEnding
+
+-- ---- splices
+
+-- the text of a name, with no arguments in force
+abbrev pub splicing_name : {K : Type 0} → List ℕ → Stored K → Reader → Acted K
+splicing_name name v r =
+    splicing_text (checked (entered (words (find name v.names)) None v) (is_some (words (find name v.names))))
+    (entered (words (find name v.names)) None v) v r
+
+-- a macro with the arguments that were read
+abbrev pub act_call : {K : Type 0} → Stored K → Reader → Acted K
+act_call v r =
+    splicing_text (checked (called (words (find (name_in r) v.names)) v) (is_some (words (find (name_in r) v.names))))
+    (called (words (find (name_in r) v.names)) v) v r
+
+-- bytes, the arguments staying in force
+abbrev pub splicing_bytes : {K : Type 0} → List ℕ → Stored K → Reader → Acted K
+splicing_bytes bytes v r = splicing (checked (reading_bytes bytes v) tt) (reading_bytes bytes v) v r
+
+-- a register's value in its format; an undefined one has 0
+abbrev pub register_text : Register → List ℕ
+register_text r = number_text r.format r.value
+
+-- ---- what a control line calls
+
+abbrev pub calls_of_request : Request → Calls
+calls_of_request requests.Ds = calls.NewString
+calls_of_request requests.As = calls.MoreString
+calls_of_request requests.If = calls.If
+calls_of_request requests.Ie = calls.IfElse
+calls_of_request requests.El = calls.Else
+calls_of_request requests.Tl = calls.Title
+calls_of_request q = calls.Request
+
+abbrev pub calls_of : Meaning → Calls
+calls_of meanings.Unknown = calls.Nothing
+calls_of (meanings.Request q) = calls_of_request q
+calls_of meanings.Text = calls.Macro
+
+-- the request that is called, if one is
+abbrev pub request_of : Meaning → Request → Request
+request_of (meanings.Request q) old = q
+request_of m old = old
+
+-- what the name that was read means; the empty name means nothing
+abbrev pub meaning_in : {K : Type 0} → Stored K → Reader → Meaning
+meaning_in v r = if is_empty (name_in r) then meanings.Unknown else meaning_of (find (name_in r) v.names)
+
+-- the arguments of a macro begin to be read
+abbrev pub behind_meaning : {K : Type 0} → Meaning → Stored K → Stored K
+behind_meaning meanings.Text v = ungathered v
+behind_meaning m v = v
+
+abbrev pub seeking : {K : Type 0} → Meaning → Stored K → Reader → Acted K
+seeking m v r =
+    done (sought_event (calls_of m)) (behind_meaning m v)
+    (record r { half = sought (calls_of m) (next dues.Look r.half); request = request_of m r.request })
+
+-- ---- the blanks that a text line begins with
+
+abbrev pub behind_lead : ℕ → Due
+behind_lead n = if nat_le n 1 then dues.Look else dues.Lead (n - 1)
+
+-- ---- all of it
+
+abbrev pub act : {K : Type 0} → Due → Stored K → Reader → Acted K
+act dues.Look v r = done events.Nothing v r
+act dues.Begin v r = act_begin v r
+act (dues.Add b) v r = adding_byte b dues.Look v r
+act (dues.Release held n b) v r = act_release held n b v r
+act dues.Define v r = done events.Nothing (naming r v) (idle r)
+act dues.DefineAndCall v r = done events.Nothing (naming r v) (then_due (behind_definition r) r)
+act dues.CallEnding v r = splicing_name r.half.notes.defining.ending v r
+act dues.Splice v r = splicing_name r.half.notes.asked v r
+act (dues.Register signs.None) v r = splicing_bytes (register_text (register_of (find r.half.notes.asked v.registers))) v r
+-- the step is added or taken away first
+act (dues.Register signs.Plus) v r = done events.Nothing (stepped r.half.notes.asked true v) (then_due (dues.Register signs.None) r)
+act (dues.Register signs.Minus) v r = done events.Nothing (stepped r.half.notes.asked false v) (then_due (dues.Register signs.None) r)
+-- a missing argument is empty
+act (dues.Argument n) v r = splicing_bytes (argument v.arguments n) v r
+act (dues.Put b) v r = storing (afforded (gathering b v) tt) (gathering b v) (idle r) v r
+act dues.EndArgument v r = done events.Nothing (gathered_whole v) (idle r)
+act dues.Call v r = act_call v r
+act dues.Seek v r = seeking (meaning_in v r) v r
+act (dues.Judge b) v r = done events.Nothing v (on_half (λ h. judged b (next dues.Look h)) r)
+act (dues.Lead n) v r = done events.Lead v (then_due (behind_lead n) r)
+act dues.Expanded v r = refused refusals.Expansions v r
+
+abbrev pub is_look : Due → Bool
+is_look dues.Look = true
+is_look d = false

@@ -1,0 +1,130 @@
+-- The machine that reads: one small move after the other.
+use Rattle.std.specs.Prelude.{◌≡◌, ℕ, ◌==◌, ◌^◌, Bool, true, false, if◌then◌else◌, List, Option, None, Some, Result, Ok, Err, IsOk}
+use Rattle.nr_units.specs.Supply.{Supply}
+use Rattle.nr_store.specs.Stored.{Stored, shown, left}
+use Rattle.nr_store.specs.declared.request.Request.{Request}
+use Rattle.nr_store.specs.declared.request.Request.TheVariants as requests
+use Rattle.nr_store.specs.declared.shown.Shown.{Shown}
+use Rattle.nr_store.specs.declared.shown.Shown.TheVariants as shows
+use Rattle.nr_reading.specs.declared.event.Event.{Event}
+use Rattle.nr_reading.specs.declared.event.Event.TheVariants as events
+use Rattle.nr_reading.specs.declared.half.Half.{Half}
+use Rattle.nr_reading.specs.Meeting.{Met, meet, nothing_half}
+use Rattle.nr_input.specs.declared.reader.Reader.{Reader}
+use Rattle.nr_input.specs.declared.refusal.Refusal.{Refusal}
+use Rattle.nr_input.specs.declared.told.Told.{Told}
+use Rattle.nr_input.specs.declared.told.Told.TheVariants as tells
+use Rattle.nr_input.specs.Acting.{Acted, act, is_look, on_half}
+use Rattle.nr_input.specs.Coming.{Coming, Reached, HoldsComing, front, behind, MayLook, RefusesLook, nothing_reached}
+
+-- how far the source was taken, and what is half read
+pub record Progress : Type 0 where
+  pub reached : Reached
+  pub reader : Reader
+
+-- nothing was read, under a limit of so many splices
+abbrev pub nothing_read : ℕ → Progress
+nothing_read most = record {
+  reached = nothing_reached;
+  reader = record { half = nothing_half; request = requests.Br; burst = 0; most = most };
+}
+
+-- another half, all else being as it is
+abbrev pub in_half : (Half → Half) → Progress → Progress
+in_half f p = record p { reader = on_half f p.reader }
+
+-- what is stored, what is to come, and what is half read
+pub record Situation (K : Type 0) : Type 0 where
+  pub stored : Stored K
+  pub coming : Coming
+  pub reader : Reader
+
+abbrev pub situation : {K : Type 0} → Stored K → Coming → Reader → Situation K
+situation stored coming reader = record { stored = stored; coming = coming; reader = reader }
+
+-- where a move leads, and what it tells
+pub record Move (K : Type 0) : Type 0 where
+  pub situation : Situation K
+  pub told : Told K
+
+-- ---- an item
+
+-- Behind a byte of the input nothing was spliced. The newline that is added is no byte of it.
+abbrev pub burst_behind : Coming → Coming → ℕ → ℕ
+burst_behind before after burst = if after.taken == before.taken then burst else 0
+
+-- what is told: a resume mark that is taken resumes what was under way
+abbrev pub told_of : {K : Type 0} → Shown K → Event → Told K
+told_of (shows.Resume k) e = tells.Resume k
+told_of s e = tells.Event e
+
+-- the item in front has met what is half read, and is taken
+abbrev pub taken_at : {K : Type 0} → Met → Situation K → Move K
+taken_at m s = record {
+  situation = situation (left s.stored.levels s.stored) (behind (shown s.stored.levels) s.coming)
+      (record s.reader { half = m.half; burst = burst_behind s.coming (behind (shown s.stored.levels) s.coming) s.reader.burst });
+  told = told_of (shown s.stored.levels) m.event;
+}
+
+-- it stays
+abbrev pub stays_at : {K : Type 0} → Met → Situation K → Move K
+stays_at m s = record { situation = record s { reader = record s.reader { half = m.half } }; told = tells.Event m.event }
+
+abbrev pub met_at : {K : Type 0} → Met → Situation K → Move K
+met_at m s = if m.takes then taken_at m s else stays_at m s
+
+abbrev pub look : {K : Type 0} → Situation K → Move K
+look s = met_at (meet (front (shown s.stored.levels) s.coming) s.reader.half) s
+
+-- ---- what is due
+
+abbrev pub acting : {K : Type 0} → Situation K → Acted K
+acting s = act s.reader.half.reading.due s.stored s.reader
+
+abbrev pub told_by : {K : Type 0} → Result Event Refusal → Told K
+told_by (Ok e) = tells.Event e
+told_by (Err r) = tells.Event events.Nothing
+
+-- what is due was done
+abbrev pub acted_at : {K : Type 0} → Situation K → Move K
+acted_at s = record { situation = situation (acting s).stored s.coming (acting s).reader; told = told_by (acting s).answer }
+
+-- ---- a move
+
+abbrev pub looks : {K : Type 0} → Situation K → Bool
+looks s = is_look s.reader.half.reading.due
+
+-- one move
+abbrev pub move : {K : Type 0} → Situation K → Move K
+move s = if looks s then look s else acted_at s
+
+-- where it stays once a move was refused: the same is refused from then on
+abbrev pub stuck : {K : Type 0} → Situation K → Situation K
+stuck s = if looks s then s else (acted_at s).situation
+
+-- ---- which moves are made
+
+abbrev pub GoesBy : {K : Type 0} → Bool → Situation K → Type 0
+GoesBy true s = MayLook (shown s.stored.levels) s.coming
+GoesBy false s = IsOk (acting s).answer
+
+abbrev pub Goes : {K : Type 0} → Situation K → Type 0
+Goes s = GoesBy (looks s) s
+
+abbrev pub RefusesBy : {K : Type 0} → Bool → Situation K → Refusal → Type 0
+RefusesBy true s r = RefusesLook (shown s.stored.levels) s.coming r
+RefusesBy false s r = (acting s).answer ≡ Err r
+
+abbrev pub Refuses : {K : Type 0} → Situation K → Refusal → Type 0
+Refuses s r = RefusesBy (looks s) s r
+
+-- the program stands where the machine does
+pub record Stands {K : Type 0} (s : Situation K) (v : Stored K) (p : Progress) (supply : Option Supply) : Type 0 where
+  pub stored : v ≡ s.stored
+  pub reader : p.reader ≡ s.reader
+  pub coming : HoldsComing s.coming p.reached supply
+
+-- a move was made, or why not
+abbrev pub AfterMove : {K : Type 0} → Situation K → Result (Told K) Refusal → Stored K → Progress → Option Supply → Type 0
+AfterMove s (Ok t) v p supply = (t ≡ (move s).told) × Stands (move s).situation v p supply × Goes s
+AfterMove s (Err r) v p supply = Refuses s r × Stands (stuck s) v p supply

@@ -1,0 +1,338 @@
+//! What a move does that is due.
+ghost use Rattle.std.specs.Prelude.{◌≡◌};
+ghost use Rattle.nr_input.specs.Acting.{calls_of, calls_of_request, request_of, behind_held, behind_lead};
+
+use super::reader::Reader;
+use super::refusal::Refusal;
+use nr_reading::{Calls, Due, Event, Sign};
+use nr_store::{Element, Meaning, Request, Store};
+use nr_units::{Name, format_number};
+
+// What a request's name calls.
+fn calls_of_request(request: Request) -> Calls
+    ensures { result ≡ calls_of_request request }
+{
+    match request {
+        Request::Ds => Calls::NewString,
+        Request::As => Calls::MoreString,
+        Request::If => Calls::If,
+        Request::Ie => Calls::IfElse,
+        Request::El => Calls::Else,
+        Request::Tl => Calls::Title,
+        _ => Calls::Request,
+    }
+}
+
+// What a name calls.
+fn calls_of(meaning: Meaning) -> Calls
+    ensures { result ≡ calls_of meaning }
+{
+    match meaning {
+        Meaning::Unknown => Calls::Nothing,
+        Meaning::Request(request) => calls_of_request(request),
+        Meaning::Text => Calls::Macro,
+    }
+}
+
+// The request that is called, if one is.
+fn request_of(meaning: Meaning, old: Request) -> Request
+    ensures { result ≡ request_of meaning old }
+{
+    match meaning {
+        Meaning::Request(request) => request,
+        _ => old,
+    }
+}
+
+// What is due behind a byte that was held back.
+fn behind_held(held: u8, next: u8, then: Option<u8>) -> Due
+    ensures { result ≡ behind_held held next then }
+{
+    if next < held && next + 1 < held {
+        return Due::Release {
+            held,
+            next: next + 1,
+            then,
+        };
+    }
+    match then {
+        Some(byte) => Due::Add(byte),
+        None => Due::Look,
+    }
+}
+
+// What is due behind one of the blanks that a text line begins with.
+fn behind_lead(count: u32) -> Due
+    ensures { result ≡ behind_lead count }
+{
+    if count <= 1 {
+        return Due::Look;
+    }
+    Due::Lead(count - 1)
+}
+
+impl Reader {
+    ghost use Rattle.std.specs.Prelude.{List, Result, Bool, None, is_some, true, false, Ok, Err};
+    ghost use Rattle.nr_levels.specs.Levels.{argument};
+    ghost use Rattle.nr_tables.specs.Named.{find};
+    ghost use Rattle.nr_store.specs.Stored.{Stored, words, entered, reading_bytes, checked, register_of, stepped};
+    ghost use Rattle.nr_reading.specs.Spelling.{name_of};
+    ghost use Rattle.nr_input.specs.Acting.{acted, done, expanded_reader, expanded_answer, splicing_name, splicing_bytes, register_text, name_in, base_of, naming, behind_definition, act_begin, adding_byte, act_release, act_call, meaning_in, behind_meaning, seeking, act, then_due, idle};
+
+    /// The limit of splices is asked.
+    pub(crate) fn expand(&mut self) -> Result<Event, Refusal>
+        ensures reader { self.new ≡ expanded_reader self.old }
+        ensures answer { result ≡ expanded_answer self.old }
+    {
+        if self.burst >= self.most {
+            self.half.reading.due = Due::Expanded;
+            return Err(Refusal::Expansions);
+        }
+        self.burst += 1;
+        self.half.reading.due = Due::Look;
+        Ok(Event::Nothing)
+    }
+
+    // The name that is read, or that a text is defined under.
+    fn name(&self) -> Name
+        ensures { result ≡ name_in self.now }
+    {
+        self.half.notes.name.name()
+    }
+
+    // A string's text begins.
+    fn begin<K: Copy>(&mut self, store: &mut Store<'_, K>) -> Result<Event, Refusal>
+        ensures { acted store.new self.new result ≡ act_begin store.old self.old }
+    {
+        let begun = if self.half.notes.defining.appends {
+            store.begin_from(self.name())
+        } else {
+            store.begin()
+        };
+        match begun {
+            Ok(()) => {
+                self.half.reading.due = Due::Look;
+                Ok(Event::Nothing)
+            }
+            Err(_) => Err(Refusal::Stored),
+        }
+    }
+
+    // A byte is added to the text that is built, and then this is due.
+    fn add<K: Copy>(
+        &mut self,
+        byte: u8,
+        due: Due,
+        store: &mut Store<'_, K>,
+    ) -> Result<Event, Refusal>
+        ensures { acted store.new self.new result ≡ adding_byte byte due store.old self.old }
+    {
+        match store.add(Element::Byte(byte)) {
+            Ok(()) => {
+                self.half.reading.due = due;
+                Ok(Event::Nothing)
+            }
+            Err(_) => Err(Refusal::Stored),
+        }
+    }
+
+    // A byte that was held back is added.
+    fn release<K: Copy>(
+        &mut self,
+        held: u8,
+        next: u8,
+        then: Option<u8>,
+        store: &mut Store<'_, K>,
+    ) -> Result<Event, Refusal>
+        ensures { acted store.new self.new result ≡ act_release held next then store.old self.old }
+    {
+        let byte = self.half.notes.defining.last_line_byte(next);
+        self.add(byte, behind_held(held, next, then), store)
+    }
+
+    // The text takes its name, where it is kept.
+    fn define<K: Copy>(&self, store: &mut Store<'_, K>)
+        ensures { store.new ≡ naming self.now store.old }
+    {
+        if self.half.notes.defining.keeps {
+            store.define(self.name());
+        }
+    }
+
+    // What is due behind a definition of lines.
+    fn behind_definition(&self) -> Due
+        ensures { result ≡ behind_definition self.now }
+    {
+        if self.half.notes.defining.ending.is_empty() {
+            return Due::Look;
+        }
+        Due::CallEnding
+    }
+
+    // The text of a name is spliced, with no arguments in force.
+    fn splice<K: Copy>(&mut self, name: Name, store: &mut Store<'_, K>) -> Result<Event, Refusal>
+        ensures { acted store.new self.new result ≡ splicing_name name store.old self.old }
+    {
+        match store.enter(name) {
+            Err(refusal) => Err(Refusal::from(refusal)),
+            Ok(spliced) => {
+                if spliced {
+                    return self.expand();
+                }
+                self.half.reading.due = Due::Look;
+                Ok(Event::Nothing)
+            }
+        }
+    }
+
+    // A macro is called with the arguments that were read.
+    fn call<K: Copy>(&mut self, store: &mut Store<'_, K>) -> Result<Event, Refusal>
+        ensures { acted store.new self.new result ≡ act_call store.old self.old }
+    {
+        match store.call(self.name()) {
+            Err(refusal) => Err(Refusal::from(refusal)),
+            Ok(called) => {
+                if called {
+                    return self.expand();
+                }
+                self.half.reading.due = Due::Look;
+                Ok(Event::Nothing)
+            }
+        }
+    }
+
+    /// Bytes are spliced, the arguments staying in force.
+    pub(crate) fn splice_bytes<K: Copy>(
+        &mut self,
+        bytes: &[u8],
+        store: &mut Store<'_, K>,
+    ) -> Result<Event, Refusal>
+        ensures { acted store.new self.new result ≡ splicing_bytes bytes.now store.old self.old }
+    {
+        match store.enter_bytes(bytes) {
+            Err(refusal) => Err(Refusal::from(refusal)),
+            Ok(()) => self.expand(),
+        }
+    }
+
+    // A register is spliced.
+    fn splice_register<K: Copy>(&mut self, store: &mut Store<'_, K>) -> Result<Event, Refusal>
+        ensures { acted store.new self.new result
+            ≡ splicing_bytes (register_text (register_of (find self.old.half.notes.asked store.old.registers))) store.old self.old }
+    {
+        let register = store.register(self.half.notes.asked);
+        let text = format_number(i64::from(register.value), register.format);
+        self.splice_bytes(text.as_slice(), store)
+    }
+
+    // An argument is spliced.
+    fn splice_argument<K: Copy>(
+        &mut self,
+        n: u8,
+        store: &mut Store<'_, K>,
+    ) -> Result<Event, Refusal>
+        ensures { acted store.new self.new result ≡ splicing_bytes (argument store.old.arguments n) store.old self.old }
+    {
+        match store.enter_argument(usize::from(n)) {
+            Err(refusal) => Err(Refusal::from(refusal)),
+            Ok(()) => self.expand(),
+        }
+    }
+
+    // A register's step is added or taken away; then it is spliced.
+    fn step<K: Copy>(&mut self, up: bool, store: &mut Store<'_, K>) -> Result<Event, Refusal>
+        ensures { acted store.new self.new result
+            ≡ done Event.Nothing (stepped self.old.half.notes.asked up store.old) (then_due (Due.Register Sign.None) self.old) }
+    {
+        store.step_register(self.half.notes.asked, up);
+        self.half.reading.due = Due::Register(Sign::None);
+        Ok(Event::Nothing)
+    }
+
+    // A byte is added to the argument that is read.
+    fn put<K: Copy>(&mut self, byte: u8, store: &mut Store<'_, K>) -> Result<Event, Refusal>
+        ensures { acted store.new self.new result ≡ act (Due.Put byte) store.old self.old }
+    {
+        match store.add_argument_byte(byte) {
+            Ok(()) => {
+                self.half.reading.due = Due::Look;
+                Ok(Event::Nothing)
+            }
+            Err(_) => Err(Refusal::Stored),
+        }
+    }
+
+    // What the name that was read means.
+    fn meaning<K: Copy>(&self, store: &Store<'_, K>) -> Meaning
+        ensures { result ≡ meaning_in store.now self.now }
+    {
+        let name = self.name();
+        if name.is_empty() {
+            return Meaning::Unknown;
+        }
+        store.lookup(name)
+    }
+
+    // The name of a control line is looked up.
+    fn seek<K: Copy>(&mut self, store: &mut Store<'_, K>) -> Result<Event, Refusal>
+        ensures { acted store.new self.new result ≡ seeking (meaning_in store.old self.old) store.old self.old }
+    {
+        let meaning = self.meaning(store);
+        let calls = calls_of(meaning);
+        if matches!(meaning, Meaning::Text) {
+            store.begin_arguments();
+        }
+        self.half.reading.due = Due::Look;
+        self.half.seek(calls);
+        self.request = request_of(meaning, self.request);
+        Ok(calls.event())
+    }
+
+    /// Does what is due.
+    pub(crate) fn act<K: Copy>(&mut self, store: &mut Store<'_, K>) -> Result<Event, Refusal>
+        ensures { acted store.new self.new result ≡ act self.old.half.reading.due store.old self.old }
+    {
+        match self.half.reading.due {
+            Due::Look => Ok(Event::Nothing),
+            Due::Begin => self.begin(store),
+            Due::Add(byte) => self.add(byte, Due::Look, store),
+            Due::Release { held, next, then } => self.release(held, next, then, store),
+            Due::Define => {
+                self.define(store);
+                self.half.reading.due = Due::Look;
+                Ok(Event::Nothing)
+            }
+            Due::DefineAndCall => {
+                self.define(store);
+                self.half.reading.due = self.behind_definition();
+                Ok(Event::Nothing)
+            }
+            Due::CallEnding => self.splice(self.half.notes.defining.ending, store),
+            Due::Splice => self.splice(self.half.notes.asked, store),
+            Due::Register(sign) => match sign {
+                Sign::None => self.splice_register(store),
+                Sign::Plus => self.step(true, store),
+                Sign::Minus => self.step(false, store),
+            },
+            Due::Argument(n) => self.splice_argument(n, store),
+            Due::Put(byte) => self.put(byte, store),
+            Due::EndArgument => {
+                store.end_argument();
+                self.half.reading.due = Due::Look;
+                Ok(Event::Nothing)
+            }
+            Due::Call => self.call(store),
+            Due::Seek => self.seek(store),
+            Due::Judge(found) => {
+                self.half.reading.due = Due::Look;
+                self.half.judge(found);
+                Ok(Event::Nothing)
+            }
+            Due::Lead(count) => {
+                self.half.reading.due = behind_lead(count);
+                Ok(Event::Lead)
+            }
+            Due::Expanded => Err(Refusal::Expansions),
+        }
+    }
+}

@@ -1,0 +1,20 @@
+//! The input: one list of items, read ahead of by one byte of the source at most, and what is read out of it move by
+//! move.
+#![tactic(auto)]
+
+mod acting;
+mod input;
+mod place;
+mod reader;
+mod refusal;
+mod setting;
+mod splicing;
+mod told;
+
+pub use input::Input;
+pub use nr_reading::{Event, Question, Standing};
+pub use place::Ahead;
+pub use reader::Reader;
+pub use refusal::Refusal;
+pub use splicing::Definition;
+pub use told::Told;

@@ -1,0 +1,183 @@
+//! How far the source was taken, and the items that it gives.
+ghost use Rattle.std.specs.Prelude.{◌≡◌};
+
+use super::refusal::Refusal;
+use nr_reading::Front;
+use nr_store::{Element, Shown, Store};
+use nr_units::source::Source;
+use std::marker::Model;
+
+/// The most bytes that an input may have, and one.
+const TOO_MANY: u64 = 1_099_511_627_776;
+
+/// What was read ahead of the source.
+#[derive(Clone, Copy, Debug, PartialEq, Eq)]
+pub enum Ahead {
+    /// Nothing.
+    Unseen,
+    /// A byte. It is not taken yet.
+    Byte(u8),
+    /// The end. The source is not asked again.
+    End,
+    /// The source failed.
+    Failed,
+    /// One byte more than an input may have.
+    TooMany,
+}
+
+/// How far the source was taken.
+#[derive(Drop)]
+pub(crate) struct Place {
+    ahead: Ahead,
+    taken: u64,
+    inside: bool,
+}
+
+impl Model for Place {
+    ghost use Rattle.std.specs.Prelude.{◌<◌, ◌+◌, ◌^◌};
+    ghost use Rattle.nr_input.specs.Coming.{Reached, waiting};
+
+    ghost Value = { Reached };
+
+    ghost view = { λ p. record { ahead = p.ahead; taken = p.taken; inside = p.inside } };
+
+    ghost invariant = { λ p. p.taken + waiting p.ahead < 2 ^ 40 };
+}
+
+impl Place {
+    ghost use Rattle.std.specs.Prelude.{◌<◌, ◌^◌, OnOk, Option, true};
+    ghost use Rattle.nr_units.specs.Supply.{Supply};
+    ghost use Rattle.nr_units.specs.Failures.{counted_if};
+    ghost use Rattle.nr_store.specs.Stored.{shown, left};
+    ghost use Rattle.nr_input.specs.Coming.{Coming, Reached, HoldsComing, AfterSee, AfterLook, is_seen, is_ready, seen_front, passed, nothing_reached, behind, emptied, fails_now};
+
+    /// Nothing is taken yet.
+    pub(crate) fn new() -> Self
+        ensures { result ≡ nothing_reached }
+    {
+        Place {
+            ahead: Ahead::Unseen,
+            taken: 0,
+            inside: false,
+        }
+    }
+
+    /// How many bytes were taken.
+    pub(crate) fn taken(&self) -> u64
+        ensures value { result ≡ self.now.taken }
+        ensures within { result < 2 ^ 40 }
+    {
+        self.taken
+    }
+
+    // The byte in front of the source is read ahead, or its end is seen.
+    fn see<R: Source>(&mut self, source: &mut R) -> Result<(), Refusal>
+        ensures sees { (c : Coming) → HoldsComing c self.old (R.supply source.old) → AfterSee c result self.new (R.supply source.new) }
+        ensures seen { OnOk result (is_seen self.new.ahead ≡ true) }
+        ensures failures { R.failures source.new ≡ counted_if (fails_now self.old.ahead result) (R.failures source.old) }
+    {
+        match self.ahead {
+            Ahead::Byte(_) | Ahead::End => Ok(()),
+            Ahead::Failed => Err(Refusal::ReadFault),
+            Ahead::TooMany => Err(Refusal::TooLong),
+            Ahead::Unseen => match source.next() {
+                Err(_) => {
+                    self.ahead = Ahead::Failed;
+                    Err(Refusal::ReadFault)
+                }
+                Ok(None) => {
+                    self.ahead = Ahead::End;
+                    Ok(())
+                }
+                Ok(Some(byte)) => {
+                    if self.taken + 1 >= TOO_MANY {
+                        self.ahead = Ahead::TooMany;
+                        return Err(Refusal::TooLong);
+                    }
+                    self.ahead = Ahead::Byte(byte);
+                    Ok(())
+                }
+            },
+        }
+    }
+
+    // What was looked at.
+    fn front(&self) -> Front
+        ensures { result ≡ seen_front self.now.ahead self.now.inside }
+    {
+        match self.ahead {
+            Ahead::Byte(byte) => Front::Byte(byte),
+            Ahead::End => {
+                if self.inside {
+                    Front::Byte(b'\n')
+                } else {
+                    Front::Over
+                }
+            }
+            _ => Front::Over,
+        }
+    }
+
+    // What was looked at is taken.
+    fn pass(&mut self)
+        ensures { self.new ≡ passed self.old }
+    {
+        match self.ahead {
+            Ahead::Byte(byte) => {
+                self.taken += 1;
+                self.ahead = Ahead::Unseen;
+                self.inside = byte != b'\n';
+            }
+            Ahead::End => self.inside = false,
+            _ => {}
+        }
+    }
+
+    /// The item in front of the list, which stays there.
+    pub(crate) fn look<K: Copy, R: Source>(
+        &mut self,
+        store: &Store<'_, K>,
+        source: &mut R,
+    ) -> Result<Front, Refusal>
+        ensures looks { (c : Coming) → HoldsComing c self.old (R.supply source.old) → AfterLook (shown store.now.levels) c result self.new (R.supply source.new) }
+        ensures ready { OnOk result (is_ready (shown store.now.levels) self.new.ahead ≡ true) }
+        ensures failures { R.failures source.new ≡ counted_if (fails_now self.old.ahead result) (R.failures source.old) }
+    {
+        match store.look() {
+            Shown::Item(element) => match element {
+                Element::Byte(byte) => Ok(Front::Byte(byte)),
+                Element::Cell(cell) => Ok(Front::Cell(cell)),
+                Element::LineEnd(height) => Ok(Front::LineEnd(height)),
+            },
+            Shown::End => Ok(Front::Mark),
+            Shown::Resume(_) => Ok(Front::Resume),
+            Shown::Nothing => {
+                self.see(source)?;
+                Ok(self.front())
+            }
+        }
+    }
+
+    /// The item in front of the list, which was looked at, is taken. Answers what was taken of the levels.
+    pub(crate) fn take<K: Copy>(&mut self, store: &mut Store<'_, K>) -> Shown<K>
+        requires { is_ready (shown store.old.levels) self.old.ahead ≡ true }
+        ensures was { result ≡ shown store.old.levels }
+        ensures store { store.new ≡ left store.old.levels store.old }
+        ensures takes { (c : Coming) → (supply : Option Supply) → HoldsComing c self.old supply → HoldsComing (behind (shown store.old.levels) c) self.new supply }
+    {
+        let shown = store.take();
+        match shown {
+            Shown::Nothing => self.pass(),
+            _ => {}
+        }
+        shown
+    }
+
+    /// Nothing is to come any more.
+    pub(crate) fn empty(&mut self)
+        ensures { (c : Coming) → (supply : Option Supply) → HoldsComing c self.old supply → HoldsComing (emptied c) self.new supply }
+    {
+        self.ahead = Ahead::End;
+        self.inside = false;
+    }
+}

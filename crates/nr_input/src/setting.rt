@@ -1,0 +1,144 @@
+//! What those who read events set, and what they read.
+ghost use Rattle.std.specs.Prelude.{◌≡◌, ◌<◌, ◌≤◌, ◌^◌, length};
+
+use super::input::Input;
+use nr_reading::Standing;
+use nr_store::Request;
+use nr_units::Name;
+
+impl Input {
+    ghost use Rattle.nr_reading.specs.declared.mode.Mode.TheVariants as modes;
+    ghost use Rattle.nr_reading.specs.Conditionals.{judged, in_mode};
+    ghost use Rattle.nr_reading.specs.Modes.{standing_of};
+    ghost use Rattle.nr_reading.specs.Setting.{with_control, with_no_break, with_long_names, not_continued, with_line, resumed};
+    ghost use Rattle.nr_input.specs.Moving.{in_half};
+
+    /// The condition that was to be judged holds, or not. One that is not judged is rejected.
+    pub fn accept(&mut self, holds: bool)
+        ensures { self.new ≡ in_half (judged holds) self.old }
+    {
+        self.reader.half.judge(holds);
+    }
+
+    /// The line of a title is read.
+    pub fn begin_title(&mut self)
+        ensures { self.new ≡ in_half (in_mode modes.TitleBefore) self.old }
+    {
+        self.reader.half.begin_title();
+    }
+
+    /// A diverted line is read, if one is in front.
+    pub fn begin_diverted_line(&mut self)
+        ensures { self.new ≡ in_half (in_mode modes.Diverting) self.old }
+    {
+        self.reader.half.begin_diverted_line();
+    }
+
+    /// Where the line stands in whose middle a macro may be sprung.
+    pub fn standing(&self) -> Standing
+        ensures { result ≡ standing_of self.now.reader.half.reading.mode }
+    {
+        self.reader.half.standing()
+    }
+
+    /// The line goes on there: of its leading blanks one was read.
+    pub fn stand(&mut self, standing: Standing)
+        ensures { self.new ≡ in_half (resumed standing) self.old }
+    {
+        self.reader.half.stand(standing);
+    }
+
+    /// The next text line continues no word.
+    pub fn end_continuing(&mut self)
+        ensures { self.new ≡ in_half not_continued self.old }
+    {
+        self.reader.half.end_continuing();
+    }
+
+    /// Sets the control character.
+    pub fn set_control(&mut self, byte: u8)
+        ensures { self.new ≡ in_half (with_control byte) self.old }
+    {
+        self.reader.half.set_control(byte);
+    }
+
+    /// Sets the no-break control character.
+    pub fn set_no_break_control(&mut self, byte: u8)
+        ensures { self.new ≡ in_half (with_no_break byte) self.old }
+    {
+        self.reader.half.set_no_break(byte);
+    }
+
+    /// Turns long names on or off.
+    pub fn set_long_names(&mut self, long: bool)
+        ensures { self.new ≡ in_half (with_long_names long) self.old }
+    {
+        self.reader.half.set_long_names(long);
+    }
+
+    /// Puts a line, as far as its bytes count, in place of the one that was read.
+    pub fn set_line(&mut self, line: &[u8])
+        ensures { self.new ≡ in_half (with_line line.now) self.old }
+    {
+        self.reader.half.set_line(line);
+    }
+
+    /// The line of a request, or the bytes of a condition's number.
+    pub fn line(&self) -> &[u8]
+        ensures value { result.now ≡ self.now.reader.half.notes.line }
+        ensures within { length result.now ≤ 256 }
+    {
+        self.reader.half.notes.line.as_slice()
+    }
+
+    /// The text between delimiters that was read last.
+    pub fn argument(&self) -> &[u8]
+        ensures value { result.now ≡ self.now.reader.half.delimited.last }
+        ensures within { length result.now ≤ 256 }
+    {
+        self.reader.half.delimited.last()
+    }
+
+    /// The name that an escape asked for last.
+    pub fn asked(&self) -> Name
+        ensures { result ≡ self.now.reader.half.notes.asked }
+    {
+        self.reader.half.notes.asked
+    }
+
+    /// The request that was called last.
+    pub fn request(&self) -> Request
+        ensures { result ≡ self.now.reader.request }
+    {
+        self.reader.request
+    }
+
+    /// The control line began with the no-break character.
+    pub fn no_break(&self) -> bool
+        ensures { result ≡ self.now.reader.half.reading.no_break }
+    {
+        self.reader.half.reading.no_break
+    }
+
+    /// Names may be long.
+    pub fn long_names(&self) -> bool
+        ensures { result ≡ self.now.reader.half.signs.long }
+    {
+        self.reader.half.signs.long
+    }
+
+    /// How many bytes of the input were taken.
+    pub fn taken(&self) -> u64
+        ensures value { result ≡ self.now.reached.taken }
+        ensures within { result < 2 ^ 40 }
+    {
+        self.place.taken()
+    }
+
+    /// How many splices and springs there were since the last byte of the input was taken.
+    pub fn burst(&self) -> u64
+        ensures { result ≡ self.now.reader.burst }
+    {
+        self.reader.burst
+    }
+}

@@ -1,0 +1,11 @@
+//! What a move tells.
+use nr_reading::Event;
+
+/// What a move tells. `K` is what was under way where a text was sprung.
+#[derive(Clone, Copy, Debug)]
+pub enum Told<K> {
+    /// What was read, if anything was.
+    Event(Event),
+    /// The mark behind a sprung text was taken: this goes on.
+    Resume(K),
+}
