@@ -1,0 +1,100 @@
+//! The page under way, but for its lines. (CSTR 54, section 3.)
+ghost use Rattle.std.specs.Prelude.{◌≡◌};
+ghost use Rattle.nr_formatter.specs.Pages.{page_outlet, page_place, following};
+
+/// Whether a page is open.
+#[derive(Clone, Copy, Debug, PartialEq, Eq)]
+pub enum PageState {
+    /// The first page has not begun.
+    Unbegun,
+    Open,
+    /// The last page has ended, and no other has begun.
+    Closed,
+}
+
+/// Where output goes.
+#[derive(Clone, Copy, Debug, PartialEq, Eq)]
+pub enum Outlet {
+    /// To the innermost diversion.
+    Diversion,
+    /// To a page that has still to begin.
+    NoPage,
+    /// To the page behind the open one, which has no room.
+    Full,
+    /// To the open page.
+    Room,
+}
+
+/// The page under way.
+#[derive(Clone, Copy, Debug, PartialEq, Eq)]
+pub struct Paper {
+    pub state: PageState,
+    /// The number of the open page, or the one that the next will have.
+    pub number: i32,
+    /// The number of the page behind the open one, where it was given.
+    pub next: Option<i32>,
+    /// The place on the open page, in u from its top.
+    pub place: u32,
+    /// The open page is being ejected.
+    pub ejecting: bool,
+}
+
+/// The given registers that stand for nothing else, and the formats of those that have one.
+#[derive(Clone, Copy, Debug, PartialEq, Eq)]
+pub struct Given {
+    /// `dn`, in u.
+    pub height: i32,
+    /// `dl`, in u.
+    pub width: i32,
+    pub page_format: Format,
+    pub place_format: Format,
+    pub height_format: Format,
+    pub width_format: Format,
+}
+
+/// The lowest place on a page, in u.
+pub const LOWEST: u32 = 2_147_483_647;
+
+impl Paper {
+    /// Where output goes that is not diverted, on pages so many u long.
+    pub fn outlet(self, page_length: u32) -> Outlet
+        ensures { result ≡ page_outlet self.state self.place page_length }
+    {
+        match self.state {
+            PageState::Unbegun | PageState::Closed => Outlet::NoPage,
+            PageState::Open => {
+                if self.place < page_length {
+                    Outlet::Room
+                } else {
+                    Outlet::Full
+                }
+            }
+        }
+    }
+
+    /// The place on the open page, or 0 while none is open.
+    pub fn page_place(self) -> u32
+        ensures { result ≡ page_place self }
+    {
+        match self.state {
+            PageState::Open => self.place,
+            PageState::Unbegun | PageState::Closed => 0,
+        }
+    }
+
+    /// The number of the page behind this one.
+    pub fn following(self) -> i32
+        ensures { result ≡ following self }
+    {
+        match self.next {
+            Some(number) => number,
+            None => {
+                if self.number < 2_147_483_647 {
+                    self.number + 1
+                } else {
+                    self.number
+                }
+            }
+        }
+    }
+}
