@@ -2,3 +2,4 @@ pub mod Places
 pub mod Spares
 pub mod Rotation
 pub mod Changes
+pub mod Exchange

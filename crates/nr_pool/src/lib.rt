@@ -38,9 +38,10 @@ impl Model for Id {
 /// how many hold it, which only `open`, `hold`, `release` and `close` change.
 ///
 /// A call that makes a text longer or shorter, or removes it, first brings its elements behind those of all
-/// other texts: in constant time where they lie there or there are none, else in one rotation of the elements
-/// from the text on and one pass over the slots that have ever had a text. Beside that it takes constant time,
-/// and that of a copy of the elements that it is given.
+/// other texts: in constant time where they lie there or there are none; else in one pass over the slots that
+/// have ever had a text, and as many steps as it has elements where the text that lies last is as long, for then
+/// the two change places; else in such a pass and one rotation of the elements from the text on. Beside that it
+/// takes constant time, and that of a copy of the elements that it is given.
 #[derive(Drop)]
 pub struct Pool<'a, T: Copy> {
     elements: &'a mut [T],

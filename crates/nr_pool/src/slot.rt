@@ -1,7 +1,8 @@
 //! Where the texts of a pool lie.
-ghost use Rattle.std.specs.Prelude.{◌≡◌, ℕ, ◌+◌, ◌^◌, ◌<◌, length};
+ghost use Rattle.std.specs.Prelude.{◌≡◌, ◌≢◌, ℕ, ◌+◌, ◌-◌, ◌^◌, ◌<◌, ◌≤◌, length, IfSome};
 ghost use Rattle.nr_pool.specs.Places.{texts_of, slot_at, blank_slot, is_behind, IsPacked};
 ghost use Rattle.nr_pool.specs.Spares.{HasSpares, IsReached};
+ghost use Rattle.nr_pool.specs.Exchange.{LiesAt, IsSwapped, IsExchanged};
 
 /// What a `Pool` keeps for one text: 12 bytes.
 #[derive(Clone, Copy, Debug, Drop)]
@@ -67,9 +68,49 @@ pub(crate) fn spare_all(
     (count, first)
 }
 
-// Moves the text at `index` behind all others, into the elements that end at `used`. Only the first `reached`
-// slots have ever had a text.
-pub(crate) fn bring_last<T: Copy>(
+// A text of this length that begins here, among the first `reached`, if there is one.
+fn text_at(slots: &[Slot], reached: usize, start: u32, len: u32) -> Option<usize>
+    requires { reached ≤ length slots.now }
+    ensures { IfSome result (λ i. LiesAt slots.now i start len) }
+{
+    for i in 0..reached {
+        if slots[i].start == start && slots[i].len == len {
+            return Some(i);
+        }
+    }
+    None
+}
+
+// Exchanges two parts of the same length, the first of which lies before the other.
+fn swap_parts<T: Copy>(elements: &mut [T], first: usize, second: usize, len: usize)
+    requires apart { first + len ≤ second }
+    requires within { second + len ≤ length elements.old }
+    ensures { IsSwapped elements.old elements.new first second len }
+{
+    for k in 0..len {
+        let element = elements[first + k];
+        elements[first + k] = elements[second + k];
+        elements[second + k] = element;
+    }
+}
+
+// Exchanges the places of the text at `index` and of the text at `last`, which lies behind all others and is as long.
+fn exchange<T: Copy>(elements: &mut [T], slots: &mut [Slot], used: u32, index: usize, last: usize)
+    requires packed { IsPacked (length elements.old) slots.old used }
+    requires within { index < length slots.old }
+    requires last { let s = slot_at slots.old index in LiesAt slots.old last (used - s.len) s.len }
+    requires before { let s = slot_at slots.old index in (0 < s.len) × (s.start + s.len ≢ used) }
+    ensures { IsExchanged elements.old elements.new slots.old slots.new used index }
+{
+    let Slot { start, len, .. } = slots[index];
+    let end = used - len;
+    swap_parts(elements, start as usize, end as usize, len as usize);
+    slots[index].start = end;
+    slots[last].start = start;
+}
+
+// Moves the text at `index` behind all others: the elements from it on are rotated, and the texts behind it begin earlier.
+fn rotate_last<T: Copy>(
     elements: &mut [T],
     slots: &mut [Slot],
     used: u32,
@@ -103,4 +144,33 @@ pub(crate) fn bring_last<T: Copy>(
         }
     }
     slots[index].start = used - len;
+}
+
+// Moves the text at `index` behind all others, into the elements that end at `used`. Only the first `reached`
+// slots have ever had a text. Where the text that lies last is as long, the two change places.
+pub(crate) fn bring_last<T: Copy>(
+    elements: &mut [T],
+    slots: &mut [Slot],
+    used: u32,
+    reached: usize,
+    index: usize,
+)
+    requires packed { IsPacked (length elements.old) slots.old used }
+    requires within { index < length slots.old }
+    requires held { 0 < (slot_at slots.old index).holders }
+    requires reached { IsReached slots.old reached }
+    ensures packed { IsPacked (length elements.new) slots.new used }
+    ensures last { (slot_at slots.new index).start + (slot_at slots.new index).len ≡ used }
+    ensures spares { (count first : ℕ) → HasSpares slots.old count first → HasSpares slots.new count first }
+    ensures reached { IsReached slots.new reached }
+    ensures same { texts_of elements.new slots.new ≡ texts_of elements.old slots.old }
+{
+    let Slot { start, len, .. } = slots[index];
+    if len > 0 && start + len < used {
+        if let Some(last) = text_at(slots, reached, used - len, len) {
+            exchange(elements, slots, used, index, last);
+            return;
+        }
+    }
+    rotate_last(elements, slots, used, reached, index);
 }

@@ -1,6 +1,6 @@
 use Rattle.std.proofs.Common.{◌≡◌, ◌++◌, map, take, drop}
 use Rattle.nr_pool.proofs.Rotation.{shifted}
-use Rattle.nr_pool.proofs.slot.bring_last.Given as goal
+use Rattle.nr_pool.proofs.slot.rotate_last.Given as goal
 
 abbrev pub invariant-loop-i : goal.invariant-loop-i
 invariant-loop-i g l =
