@@ -1,15 +1,15 @@
 -- Lemmas on a level more.
-use Rattle.std.proofs.Common.{◌≡◌, ℕ, zero, suc, ◌+◌, ◌-◌, ◌<◌, ◌≤◌, List, [], ◌∷◌, ◌++◌, length, map, take, drop, get_or, sum, Option, refl, ap, ap₂, sym, ◌∙◌, inl, inr, append_assoc, length-append, arith}
+use Rattle.std.proofs.Common.{◌≡◌, ℕ, zero, suc, ◌+◌, ◌*◌, ◌-◌, ◌<◌, ◌≤◌, List, [], ◌∷◌, ◌++◌, length, map, take, drop, get_or, sum, Option, refl, ap, ap₂, sym, ◌∙◌, inl, inr, append_assoc, length-append, arith}
 use Rattle.std.proofs.lemmas.List.{drop_at, take_all, take-append-le, get_or-map, get_or_past, length-take, length-drop, length-map, take-append-drop}
 use Rattle.std.proofs.lemmas.List.Sums.{sum_by-cons}
 use Rattle.std.proofs.lemmas.Bool.{cases_lt}
 use Rattle.nr_units.specs.Items.{Items}
 use Rattle.nr_levels.specs.Levels.{Levels, total, deeper, cut, argument}
-use Rattle.nr_levels.specs.Frames.{part, arguments_of, source_of, open_of, levels_of, EndBy, AreBelow, ReadsBelow, IsBare, AreLevels, spans_from, no_span}
+use Rattle.nr_levels.specs.Frames.{part, arguments_of, source_of, open_of, levels_of, EndBy, AreBelow, ReadsBelow, IsBare, reader, AreLevels, spans_from, no_span}
 use Rattle.nr_levels.specs.declared.frame.Span.{Span}
 use Rattle.nr_levels.specs.declared.frame.Frame.{Frame}
 use Rattle.nr_levels.specs.declared.frame.Reads.{Reads}
-use Rattle.nr_levels.proofs.Stacked.{same_levels, same_arguments, same_stack, same_below, end_by_more, stacked_total, stacked_places}
+use Rattle.nr_levels.proofs.Stacked.{same_levels, same_arguments, same_stack, same_below, end_by_more, stacked_total, stacked_places, readers_deep, readers_total}
 
 -- items that are the same, with the same room
 pub items_are : {T : Type 0} (v w : Items T) → v.items ≡ w.items → v.room ≡ w.room → v ≡ w
@@ -25,6 +25,8 @@ pub has_room : {K : Type 0} → (fs : List (Frame K)) (xs : List ℕ) (ps : List
 has_room fs xs ps now room most place_room v more charge h view paid fits deep =
     let all = stacked_total xs ps ps fs now (length xs) h.stacked in
     let few = stacked_places ps fs now (length xs) h.stacked in
+    let less = readers_deep fs in
+    let read = readers_total xs ps ps fs now (length xs) h.stacked in
     let is : total (map (open_of xs ps) fs) ≡ total v.levels = ap (λ (w : Levels _). total w.levels) view in
     let same_room : room ≡ v.room = ap (λ (w : Levels _). w.room) view in
     let same_most : most ≡ v.most = ap (λ (w : Levels _). w.most) view in
@@ -47,15 +49,16 @@ module _ {K : Type 0} (fs : List (Frame K)) (xs ys : List ℕ) (ps qs : List Spa
       (same_levels ys xs qs ps (length xs) (length ps) fs now (length xs) bytes places (omega arith) (omega arith) h.stacked)
       (same_arguments ys xs qs ps (length xs) (length ps) now bytes places (omega arith) h.now)
 
-  pub pushed_stands : length ys ≤ charge + length xs → length xs ≤ length ys → ReadsBelow (length ys) r → IsBare r now inforce (length xs) (length ys) → inforce.last ≡ length qs → AreBelow qs (length ys) inforce → length qs ≤ length ps + 9
+  pub pushed_stands : length ys ≤ charge + length xs → length xs ≤ length ys → ReadsBelow (length ys) r → IsBare r now inforce (length xs) (length ys) → inforce.last ≡ length qs → AreBelow qs (length ys) inforce → length qs ≤ length ps + 9 * reader r → 16 * reader r ≤ charge
       → AreLevels (pushed ∷ fs) ys qs inforce room most place_room
-  pushed_stands paid grown below bare last arguments few =
+  pushed_stands paid grown below bare last arguments few costs =
       let top = h.top in
       record {
         stacked = (
           record {
             lower = grown;
             paid = omega arith;
+            costs = costs;
             reads = below;
             bare = bare;
             old = same_below qs ps (length ps) (length xs) now places (omega arith) longer h.now;

@@ -6,7 +6,8 @@ use Rattle.std.proofs.lemmas.Bool.{cases_lt}
 use Rattle.std.proofs.lemmas.List.Sums.{sum_by-cons}
 use Rattle.std.proofs.lemmas.Option.{get_or_from_slice_get}
 use Rattle.nr_levels.specs.Levels.{Source, Text, Own, Mark, Open, Levels, total, front, front_of, behind, advanced, marks, closed, HasNext}
-use Rattle.nr_levels.specs.Frames.{part, arguments_of, source_of, open_of, levels_of, EndBy, AreBelow, ReadsBelow, IsStacked, AreLevels}
+use Rattle.nr_levels.specs.Further.{further, further_on, Reaches, NewestReaches}
+use Rattle.nr_levels.specs.Frames.{part, arguments_of, source_of, open_of, levels_of, EndBy, AreBelow, ReadsBelow, reader, readers, IsStacked, AreLevels}
 use Rattle.nr_levels.specs.declared.frame.Span.{Span}
 use Rattle.nr_levels.specs.declared.frame.Frame.{Frame}
 use Rattle.nr_levels.specs.declared.frame.Front.{Front}
@@ -83,6 +84,7 @@ same_stack ps qs q (f ∷ fs) now h same top room stacked =
       record {
         lower = on.lower;
         paid = on.paid;
+        costs = on.costs;
         reads = on.reads;
         bare = on.bare;
         old = same_below ps qs q f.height f.old same (omega arith) room on.old;
@@ -101,12 +103,30 @@ stacked_total xs ps qs (f ∷ fs) now h stacked =
     let all = sum_by-cons (λ (l : Open _). l.charge) (open_of xs qs f) (map (open_of xs qs) fs) in
     omega arith
 
--- no more than nine arguments a level
-pub stacked_places : {K : Type 0} → (ps : List Span) (fs : List (Frame K)) (now : Span) (h : ℕ) → IsStacked ps fs now h → now.last ≤ 9 * length fs
+-- no more than nine arguments a level that reads
+pub stacked_places : {K : Type 0} → (ps : List Span) (fs : List (Frame K)) (now : Span) (h : ℕ) → IsStacked ps fs now h → now.last ≤ 9 * readers fs
 stacked_places ps [] now h stacked = let none = stacked.0 in omega arith
 stacked_places ps (f ∷ fs) now h stacked =
     let few = stacked.0.few in
     let rest = stacked_places ps fs f.old f.height stacked.1 in
+    omega arith
+
+one_reader : {K : Type 0} → (r : Reads K) → reader r ≤ 1
+one_reader (reads.Text id place) = omega arith
+one_reader (reads.Own s) = omega arith
+one_reader (reads.Mark mode) = omega arith
+
+pub readers_deep : {K : Type 0} → (fs : List (Frame K)) → readers fs ≤ length fs
+readers_deep [] = omega arith
+readers_deep (f ∷ fs) = let rest = readers_deep fs in let one = one_reader f.reads in omega arith
+
+-- each level that reads is charged 16 at least
+pub readers_total : {K : Type 0} → (xs : List ℕ) (ps qs : List Span) (fs : List (Frame K)) (now : Span) (h : ℕ) → IsStacked ps fs now h → 16 * readers fs ≤ total (map (open_of xs qs) fs)
+readers_total xs ps qs [] now h stacked = omega arith
+readers_total xs ps qs (f ∷ fs) now h stacked =
+    let costs = stacked.0.costs in
+    let rest = readers_total xs ps qs fs f.old f.height stacked.1 in
+    let all = sum_by-cons (λ (l : Open _). l.charge) (open_of xs qs f) (map (open_of xs qs) fs) in
     omega arith
 
 -- ---- the newest level
@@ -157,6 +177,39 @@ pub advanced_own : {K : Type 0} → (fs gs : List (Frame K)) (xs : List ℕ) (ps
     → levels_of gs xs ps now room most ≡ record v { levels = advanced v.levels }
 advanced_own fs gs xs ps now room most v f s view top was is =
     advanced_is fs gs xs ps now room most v f (reads.Own (record s { first = s.first + 1 })) view top is (sym (behind_own xs s) ∙ ap (λ r. behind (source_of xs r)) (sym was))
+
+-- the newest level goes on by so many
+module _ {K : Type 0} (fs : List (Frame K)) (xs : List ℕ) (ps : List Span) (now : Span) (room most n : ℕ) (v : Levels K) (view : levels_of fs xs ps now room most ≡ v) (f : Frame K) (top : slice_get fs 0 ≡ Some f) where
+  pub further_is : (r : Reads K) → source_of xs r ≡ further n (source_of xs f.reads) → levels_of (record f { reads = r } ∷ drop 1 fs) xs ps now room most ≡ record v { levels = further_on n v.levels }
+  further_is r source =
+      let step = λ (w : Levels _). record w { levels = further_on n w.levels } in
+      ap (λ s. record (levels_of (drop 1 fs) xs ps now room most) { levels = record (open_of xs ps f) { source = s } ∷ map (open_of xs ps) (drop 1 fs) }) source
+      ∙ ap (λ ks. step (levels_of ks xs ps now room most)) (sym (cons_of fs f top))
+      ∙ ap step view
+
+  pub further_text : (id place : ℕ) → f.reads ≡ reads.Text id place → levels_of (record f { reads = reads.Text id (place + n) } ∷ drop 1 fs) xs ps now room most ≡ record v { levels = further_on n v.levels }
+  further_text id place was = further_is (reads.Text id (place + n)) (ap (λ r. further n (source_of xs r)) (sym was))
+
+  pub further_own : (s : Span) → f.reads ≡ reads.Own s → levels_of (record f { reads = reads.Own (record s { first = s.first + n }) } ∷ drop 1 fs) xs ps now room most ≡ record v { levels = further_on n v.levels }
+  further_own s was =
+      further_is (reads.Own (record s { first = s.first + n })) (sym (ap Own (drop-drop n s.first (take s.last xs))) ∙ ap (λ r. further n (source_of xs r)) (sym was))
+
+  pub further_mark : (mode : K) → f.reads ≡ reads.Mark mode → v ≡ record v { levels = further_on n v.levels }
+  further_mark mode was =
+      sym view ∙ ap (λ ks. levels_of ks xs ps now room most) (cons_of fs f top ∙ ap (λ r. record f { reads = r } ∷ drop 1 fs) was)
+      ∙ further_is (reads.Mark mode) (ap (λ r. further n (source_of xs r)) (sym was))
+
+  -- it has so many more
+  pub reaches : NewestReaches n v.levels → Reaches n (source_of xs f.reads)
+  reaches h =
+      let all : NewestReaches n (map (open_of xs ps) fs) = subst (λ (w : Levels K). NewestReaches n w.levels) (sym view) h in
+      subst (λ gs. NewestReaches n (map (open_of xs ps) gs)) (cons_of fs f top) all
+
+  pub reaches_text : (id place : ℕ) → f.reads ≡ reads.Text id place → NewestReaches n v.levels → 0 < n → place + n < 2 ^ 32
+  reaches_text id place was h some = subst (λ r. Reaches n (source_of xs r)) was (reaches h) some
+
+  pub reaches_own : (s : Span) → f.reads ≡ reads.Own s → NewestReaches n v.levels → n ≤ length (part xs s)
+  reaches_own s was h = subst (λ r. Reaches n (source_of xs r)) was (reaches h)
 
 -- ---- the newest level's end
 
@@ -220,7 +273,7 @@ module _ {K : Type 0} (fs : List (Frame K)) (xs : List ℕ) (ps : List Span) (no
       let height : length low_bytes ≡ f.height = length-take-le f.height xs lower in
       record {
         stacked = (
-          record { lower = omega arith; paid = omega arith; reads = tt; bare = (refl, sym height); old = rw (sym height) rest.now; above = omega arith; few = omega arith },
+          record { lower = omega arith; paid = omega arith; costs = omega arith; reads = tt; bare = (refl, sym height); old = rw (sym height) rest.now; above = omega arith; few = omega arith },
           rw (sym height) rest.stacked,
         );
         now = rest.now;

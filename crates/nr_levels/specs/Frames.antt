@@ -1,5 +1,5 @@
 -- How levels lie in a row of frames, over a row of bytes and a row of places.
-use Rattle.std.specs.Prelude.{◌≡◌, ℕ, ◌+◌, ◌*◌, ◌^◌, ◌≤◌, ◌<◌, List, [], ◌∷◌, map, length, take, drop}
+use Rattle.std.specs.Prelude.{◌≡◌, ℕ, ◌+◌, ◌*◌, ◌/◌, ◌^◌, min, ◌≤◌, ◌<◌, List, [], ◌∷◌, map, length, take, drop}
 use Rattle.nr_levels.specs.Levels.{Source, Text, Own, Mark, Open, Levels}
 use Rattle.nr_levels.specs.declared.frame.Span.{Span}
 use Rattle.nr_levels.specs.declared.frame.Frame.{Frame}
@@ -56,15 +56,27 @@ IsBare (reads.Text id place) old inforce low h = Unit {0}
 IsBare (reads.Own s) old inforce low h = Unit {0}
 IsBare (reads.Mark mode) old inforce low h = (old ≡ inforce) × (low ≡ h)
 
+-- 1 for a frame that reads, 0 for one whose end was taken
+abbrev pub reader : {K : Type 0} → Reads K → ℕ
+reader (reads.Text id place) = 1
+reader (reads.Own s) = 1
+reader (reads.Mark mode) = 0
+
+-- how many frames read
+abbrev pub readers : {K : Type 0} → List (Frame K) → ℕ
+readers [] = 0
+readers (f ∷ fs) = reader f.reads + readers fs
+
 -- a frame on others: h bytes lie below the next frame, of which these are its own and those of its arguments
 pub record IsOn {K : Type 0} (places : List Span) (f : Frame K) (inforce : Span) (h : ℕ) : Type 0 where
   pub lower : f.height ≤ h
   pub paid : h ≤ f.charge + f.height
+  pub costs : 16 * reader f.reads ≤ f.charge
   pub reads : ReadsBelow h f.reads
   pub bare : IsBare f.reads f.old inforce f.height h
   pub old : AreBelow places f.height f.old
   pub above : f.old.last ≤ inforce.last
-  pub few : inforce.last ≤ f.old.last + 9
+  pub few : inforce.last ≤ f.old.last + 9 * reader f.reads
 
 -- frames, each on those behind it
 abbrev pub IsStacked : {K : Type 0} → List Span → List (Frame K) → Span → ℕ → Type 0
@@ -76,7 +88,7 @@ pub record AreLevels {K : Type 0} (frames : List (Frame K)) (bytes : List ℕ) (
   pub stacked : IsStacked places frames inforce (length bytes)
   pub now : AreBelow places (length bytes) inforce
   pub top : inforce.last ≡ length places
-  pub places_suffice : 9 * most ≤ place_room
+  pub places_suffice : 9 * min most (room / 16) ≤ place_room
   pub places_small : place_room < 2 ^ 32
   pub small : room < 2 ^ 32
 

@@ -1,4 +1,5 @@
 pub mod Levels
 pub mod Frames
+pub mod Further
 pub mod Gathered
 pub mod Laws

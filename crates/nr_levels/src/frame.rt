@@ -1,5 +1,5 @@
 //! What is kept of a level.
-ghost use Rattle.std.specs.Prelude.{◌≡◌, ◌+◌, ◌<◌};
+ghost use Rattle.std.specs.Prelude.{◌≡◌, ◌+◌, ◌-◌, ◌≤◌};
 
 use nr_pool::Id;
 
@@ -16,13 +16,13 @@ impl Span {
         Span { first: 0, last: 0 }
     }
 
-    // Without its first place.
-    pub(crate) fn behind_first(self) -> Span
-        requires { self.first < self.last }
-        ensures { result ≡ record self { first = self.first + 1 } }
+    // Without so many of its first places.
+    pub(crate) fn behind(self, n: u32) -> Span
+        requires { n ≤ self.last - self.first }
+        ensures { result ≡ record self { first = self.first + n } }
     {
         Span {
-            first: self.first + 1,
+            first: self.first + n,
             last: self.last,
         }
     }

@@ -1,6 +1,7 @@
 //! The levels that are open, and the bytes and arguments that they keep.
-ghost use Rattle.std.specs.Prelude.{◌≡◌, ◌+◌, ◌*◌, ◌^◌, ◌<◌, ◌≤◌, [], length, sum, nat_le, Some, None};
+ghost use Rattle.std.specs.Prelude.{◌≡◌, ◌+◌, ◌*◌, ◌/◌, ◌^◌, ◌<◌, ◌≤◌, [], length, min, sum, nat_le, Some, None};
 ghost use Rattle.nr_levels.specs.Levels.{Text, Own, total, front_of, advanced, HasNext, HasEnd, HasMark, deeper, closed, charge_of_newest, resumed, argument, cut};
+ghost use Rattle.nr_levels.specs.Further.{further_on, NewestReaches};
 
 use crate::frame::{Frame, Front, Reads, Span};
 use crate::spans::{push_spans, span_of};
@@ -39,7 +40,7 @@ impl<'a, K: Copy> Levels<'a, K> {
     /// `bytes` has.
     pub fn over(frames: &'a mut [Frame<K>], bytes: &'a mut [u8], places: &'a mut [Span]) -> Self
         requires bytes { length bytes.old < 2 ^ 32 }
-        requires places { 9 * length frames.old ≤ length places.old }
+        requires places { 9 * min (length frames.old) (length bytes.old / 16) ≤ length places.old }
         requires places_small { length places.old < 2 ^ 32 }
         ensures { result
             ≡ record { levels = []; arguments = []; room = length bytes.old; most = length frames.old } }
@@ -102,9 +103,24 @@ impl<'a, K: Copy> Levels<'a, K> {
         let reads = frame.reads;
         match reads {
             Reads::Text(id, place) => self.frames.set_top(frame.with(Reads::Text(id, place + 1))),
-            Reads::Own(span) => self
-                .frames
-                .set_top(frame.with(Reads::Own(span.behind_first()))),
+            Reads::Own(span) => self.frames.set_top(frame.with(Reads::Own(span.behind(1)))),
+            Reads::Mark(_) => {}
+        }
+    }
+
+    /// The newest level goes on behind so many elements.
+    #[inline]
+    pub fn skip(&mut self, n: u32)
+        requires { NewestReaches n self.old.levels }
+        ensures { self.new ≡ record self.old { levels = further_on n self.old.levels } }
+    {
+        let Some(frame) = self.frames.top() else {
+            return;
+        };
+        let reads = frame.reads;
+        match reads {
+            Reads::Text(id, place) => self.frames.set_top(frame.with(Reads::Text(id, place + n))),
+            Reads::Own(span) => self.frames.set_top(frame.with(Reads::Own(span.behind(n)))),
             Reads::Mark(_) => {}
         }
     }

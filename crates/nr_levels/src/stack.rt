@@ -76,14 +76,23 @@ impl<'a, T: Copy> Stack<'a, T> {
         self.len += 1;
     }
 
+    /// The n-th item from the last that came, counted from 0, where it lies.
+    #[inline]
+    pub fn at(&self, n: usize) -> &T
+        requires { n < length self.now.items }
+        ensures { slice_get self.now.items n ≡ Some result.now }
+    {
+        let items = &*self.items;
+        &items[self.len - 1 - n]
+    }
+
     /// The n-th item from the last that came, counted from 0.
     #[inline]
     pub fn get(&self, n: usize) -> T
         requires { n < length self.now.items }
         ensures { slice_get self.now.items n ≡ Some result }
     {
-        let items = &*self.items;
-        items[self.len - 1 - n]
+        *self.at(n)
     }
 
     /// Puts another item in place of the one that came last.

@@ -11,4 +11,4 @@ invariant_of-self g c =
     let paid = c.requires.paid in
     rw (c.push.ensures, c.len-height.ensures.value, c.span_of-span.ensures)
     (pushed_stands s.frames.items s.bytes.items s.bytes.items s.places.items s.places.items s.in_force s.in_force s.bytes.room s.frames.room s.places.room (reads.Own _) c.args.charge None c.self.invariant refl refl (omega arith)
-    (omega arith) (omega arith) below tt c.self.invariant.top c.self.invariant.now (omega arith))
+    (omega arith) (omega arith) below tt c.self.invariant.top c.self.invariant.now (omega arith) (omega arith))

@@ -22,7 +22,7 @@ invariant_of-self g c =
     rw (c.push.ensures, c.len-last.ensures.value, c.extend.ensures.items, c.extend.ensures.room, c.len-first.ensures.value)
     (pushed_stands s.frames.items s.bytes.items (s.bytes.items ++ c.args.bytes.now) s.places.items s.places.items s.in_force s.in_force s.bytes.room s.frames.room s.places.room
     (reads.Own (record { first = length s.bytes.items; last = length (s.bytes.items ++ c.args.bytes.now) })) c.args.charge None c.self.invariant (same_start s.bytes.items c.args.bytes.now) refl (omega arith)
-    (omega arith) (omega arith) (omega arith) tt c.self.invariant.top (more_below s.places.items (length s.bytes.items) _ s.in_force (omega arith) c.self.invariant.now) (omega arith))
+    (omega arith) (omega arith) (omega arith) tt c.self.invariant.top (more_below s.places.items (length s.bytes.items) _ s.in_force (omega arith) c.self.invariant.now) (omega arith) (omega arith))
 
 pub returns : goal.returns
 returns g c =

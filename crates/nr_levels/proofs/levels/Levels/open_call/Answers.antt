@@ -48,7 +48,7 @@ invariant_of-self g c =
     rw (c.push.ensures, c.len-last.ensures.value, c.push_spans.ensures, c.extend.ensures.items, c.extend.ensures.room, c.len-first.ensures.value, c.len-height.ensures.value)
     (pushed_stands s.frames.items s.bytes.items ys s.places.items qs s.in_force (record { first = length s.places.items; last = length qs }) s.bytes.room s.frames.room s.places.room
     (reads.Text c.args.id 0) c.args.charge None c.self.invariant (same_start s.bytes.items c.args.bytes.now) (same_start s.places.items spans) (omega arith)
-    (omega arith) (omega arith) tt tt refl (record { within = omega arith; below = below }) (omega arith))
+    (omega arith) (omega arith) tt tt refl (record { within = omega arith; below = below }) (omega arith) (omega arith))
 
 pub returns : goal.returns
 returns g c =
