@@ -1,8 +1,10 @@
-//! What the store keeps beside texts, in slices that are lent: tables of what has a name, traps.
+//! What the store keeps beside texts, in slices that are lent: tables of what has a name, traps, hyphenation words.
 #![tactic(auto)]
 
 pub mod table;
 pub mod trap;
+pub mod word;
 
 pub use table::{Entry, Table};
 pub use trap::Trap;
+pub use word::HyphenationWord;
