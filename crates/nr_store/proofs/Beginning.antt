@@ -7,6 +7,7 @@ use Rattle.nr_units.specs.Items.{Items}
 use Rattle.nr_pool.specs.Texts.{Held, Texts, no_text, entry, holders}
 use Rattle.nr_tables.specs.Named.{Named, find, put}
 use Rattle.nr_tables.specs.Rows.{Table}
+use Rattle.nr_tables.specs.Given.{word_in}
 use Rattle.nr_levels.specs.Levels.{Levels}
 use Rattle.nr_store.specs.declared.named.Sense.{Sense}
 use Rattle.nr_store.specs.declared.named.Sense.TheVariants as senses
@@ -55,7 +56,7 @@ bare_entry p n k empty = ap (λ ts. get_or ts k no_text) empty ∙ elim (cases_l
 ]
 
 module _ {K : Type 0} (p : Texts Element) (names : Table Sense) (drafts : Items Draft) (levels : Levels K) (beside : Beside) (limit n : ℕ) (empty : p.texts ≡ replicate n no_text) (named : names.entries ≡ with_senses REQUESTS [])
-    (no_drafts : drafts.items ≡ []) (no_levels : levels.levels ≡ []) (no_beside : charge_beside beside.gathering.gathered beside.registers.entries beside.traps.items beside.words ≡ 0) where
+    (no_drafts : drafts.items ≡ []) (no_levels : levels.levels ≡ []) (no_beside : charge_beside beside.gathering.gathered beside.registers.entries beside.traps.items (map word_in beside.words.items) ≡ 0) where
   nothing_of : (f : Sense → ℕ) → ((r : Request) → f (senses.Request r) ≤ 0) → sum_of f names.entries ≡ 0
   nothing_of f each = let all = senses_sum-le f 0 each REQUESTS [] in let is = ap (sum_of f) named in omega arith
 

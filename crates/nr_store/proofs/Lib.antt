@@ -12,3 +12,6 @@ pub mod Diverting
 pub mod Beginning
 pub mod Besides
 pub mod Lines
+pub mod Hyphenating
+pub mod Running
+pub mod Calling

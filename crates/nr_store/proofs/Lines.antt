@@ -14,7 +14,7 @@ use Rattle.nr_store.specs.declared.named.Sense.{Sense}
 use Rattle.nr_store.specs.declared.element.Element.{Element}
 use Rattle.nr_store.specs.declared.element.Element.TheVariants as elements
 use Rattle.nr_store.specs.declared.element.Draft.{Draft}
-use Rattle.nr_store.specs.Stored.{Stored, Built, charge_of, blank_cell, line_of, taken, diverted, on_newest}
+use Rattle.nr_store.specs.Stored.{Stored, Built, charge_of, blank_cell, line_of, taken, diverted, diverted_end, on_newest}
 use Rattle.nr_store.specs.Holders.{Beside, built_of, stored_of, IsStore}
 use Rattle.nr_store.proofs.Building.{charge_of-grown}
 
@@ -76,4 +76,22 @@ module _ {K : Type 0} (p : Texts Element) (names : Table Sense) (drafts : Items 
       let long = length-line_of indent cells height in
       let grown = charge_of-grown (line_of indent cells height) (built_of p d) (map (built_of p) ds) (option_map (taken (indent + length cells) height) d.diversion) v (ap (map (built_of p)) first) in
       let is = ap charge_of diverted_is in
+      omega arith
+
+-- ---- a line whose cells were added one by one
+
+module _ {K : Type 0} (p : Texts Element) (names : Table Sense) (drafts : Items Draft) (levels : Levels K) (beside : Beside) (charge limit : ℕ) (d : Draft) (ds : List Draft) (h : IsStore p names drafts levels beside charge limit) (first : drafts.items ≡ d ∷ ds)
+    (cells height : ℕ) where
+  abbrev before : Stored K
+  before = stored_of p names.entries drafts.items levels beside limit
+
+  pub diverted_end_is : diverted_end cells height before
+      ≡ record before { building = record { text = text p d.id ++ elements.LineEnd height ∷ []; diversion = option_map (taken cells height) d.diversion } ∷ map (built_of p) ds }
+  diverted_end_is = ap (λ b. record before { building = on_newest (λ (c : Built). record { text = c.text ++ elements.LineEnd height ∷ []; diversion = option_map (taken cells height) c.diversion }) (map (built_of p) b) }) first
+
+  pub charge_of-diverted_end : charge_of (diverted_end cells height before) ≡ charge + 1
+  charge_of-diverted_end =
+      let was = h.charged in
+      let grown = charge_of-grown (elements.LineEnd height ∷ []) (built_of p d) (map (built_of p) ds) (option_map (taken cells height) d.diversion) before (ap (map (built_of p)) first) in
+      let is = ap charge_of diverted_end_is in
       omega arith

@@ -5,7 +5,8 @@ use Rattle.nr_pool.specs.Texts.{Texts, text, holders}
 use Rattle.nr_tables.specs.Named.{Named}
 use Rattle.nr_tables.specs.Rows.{Table}
 use Rattle.nr_levels.specs.Gathered.{Gathering}
-use Rattle.nr_tables.specs.Words.{Word}
+use Rattle.nr_tables.specs.Given.{word_in}
+use Rattle.nr_tables.specs.declared.word.HyphenationWord.{HyphenationWord}
 use Rattle.nr_tables.specs.declared.trap.Trap.{Trap}
 use Rattle.nr_levels.specs.Levels.{Source, Text, Own, Mark as Marked, Open, Levels}
 use Rattle.nr_store.specs.declared.named.Sense.{Sense}
@@ -25,17 +26,18 @@ pub record Beside : Type 0 where
   pub gathering : Gathering
   pub registers : Table Register
   pub traps : Items Trap
-  pub words : List Word
+  pub words : Items HyphenationWord
 
 -- these
-abbrev pub beside_of : Gathering → Table Register → Items Trap → Beside
-beside_of gathering registers traps = record { gathering = gathering; registers = registers; traps = traps; words = [] }
+abbrev pub beside_of : Gathering → Table Register → Items Trap → Items HyphenationWord → Beside
+beside_of gathering registers traps words = record { gathering = gathering; registers = registers; traps = traps; words = words }
 
 -- there is room for as much of it as may be charged
 pub record Suffice (beside : Beside) (limit : ℕ) : Type 0 where
   pub gathering : limit ≤ beside.gathering.room
   pub registers : limit < 48 * beside.registers.room + 48
   pub traps : limit < 48 * beside.traps.room + 48
+  pub words : limit < 16 * beside.words.room + 16
 
 -- what a name stands for
 abbrev pub means_of : Texts Element → Sense → Means
@@ -70,7 +72,7 @@ stored_of p names drafts levels beside limit = record {
   gathered = beside.gathering.gathered;
   registers = beside.registers.entries;
   traps = beside.traps.items;
-  words = beside.words;
+  words = map word_in beside.words.items;
   limit = limit;
   deepest = levels.most;
 }

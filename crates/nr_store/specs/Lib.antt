@@ -2,3 +2,5 @@ pub mod Stored
 pub mod Senses
 pub mod Requests
 pub mod Holders
+pub mod Windows
+pub mod Laws

@@ -7,7 +7,7 @@ use Rattle.nr_units.specs.declared.number_text.Format.{Format}
 use Rattle.nr_units.specs.declared.number_text.Format.TheVariants.{Arabic}
 use Rattle.nr_tables.specs.Named.{Named, is_same, find, put, without}
 use Rattle.nr_levels.specs.Gathered.{Gathered, none_gathered, gathered_len, bytes_in, with_byte, with_end}
-use Rattle.nr_tables.specs.Words.{Word, word_weight}
+use Rattle.nr_tables.specs.Words.{Word, word_weight, word_of}
 use Rattle.nr_tables.specs.Traps.{planted, unplanted, changed}
 use Rattle.nr_tables.specs.declared.trap.Trap.{Trap}
 use Rattle.nr_store.specs.declared.element.Element.{Element}
@@ -187,6 +187,12 @@ taken cells height d = record d { height = min greatest (d.height + height); wid
 abbrev pub diverted : {K : Type 0} → ℕ → List Cell → ℕ → Stored K → Stored K
 diverted indent cells height v = record v {
   building = on_newest (λ b. record { text = b.text ++ line_of indent cells height; diversion = option_map (taken (indent + length cells) height) b.diversion }) v.building;
+}
+
+-- where a diverted line ends whose cells, so many, were added one by one
+abbrev pub diverted_end : {K : Type 0} → ℕ → ℕ → Stored K → Stored K
+diverted_end cells height v = record v {
+  building = on_newest (λ b. record { text = b.text ++ elements.LineEnd height ∷ []; diversion = option_map (taken cells height) b.diversion }) v.building;
 }
 
 -- where the newest text being built has this name
@@ -400,3 +406,10 @@ trap_changed name place v = record v { traps = changed name place v.traps }
 -- where the first trap at a place is removed (CSTR 54, `.wh`)
 abbrev pub trap_removed : {K : Type 0} → ℤ → Stored K → Stored K
 trap_removed place v = record v { traps = unplanted place v.traps }
+
+-- ---- hyphenation words
+
+-- where a word is given, with minus signs where it may be cut (CSTR 54, `.hw`); one above 64 bytes, minus signs counted,
+-- is not taken
+abbrev pub worded : {K : Type 0} → List ℕ → Stored K → Stored K
+worded given v = if nat_lt 64 (length given) then v else record v { words = word_of given ∷ v.words }

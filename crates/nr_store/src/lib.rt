@@ -16,7 +16,7 @@ mod tests;
 pub use element::{Diversion, Draft, Element};
 pub use memory::{Memory, Room};
 pub use named::{Meaning, Sense};
-pub use nr_tables::Trap;
+pub use nr_tables::{HyphenationWord, Trap};
 pub use refusal::{Refusal, StoredBytes};
 pub use register::Register;
 pub use request::Request;

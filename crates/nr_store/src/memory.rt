@@ -1,12 +1,12 @@
 //! The memory of a store.
-ghost use Rattle.std.specs.Prelude.{◌≡◌, ◌+◌, ◌*◌, ◌/◌};
+ghost use Rattle.std.specs.Prelude.{◌≡◌, ◌+◌, ◌*◌, ◌/◌, min};
 
 use crate::element::{Draft, Element};
 use crate::named::Sense;
 use crate::register::Register;
 use nr_levels::{Frame, Span};
 use nr_pool::Slot;
-use nr_tables::{Entry, Trap};
+use nr_tables::{Entry, HyphenationWord, Trap};
 
 /// The slices that a store lies over.
 #[derive(Drop)]
@@ -31,6 +31,8 @@ pub struct Memory<'a, K: Copy> {
     pub registers: &'a mut [Entry<Register>],
     /// The traps.
     pub traps: &'a mut [Trap],
+    /// The hyphenation words.
+    pub words: &'a mut [HyphenationWord],
 }
 
 /// The least lengths of a store's slices.
@@ -46,6 +48,7 @@ pub struct Room {
     pub gathering: usize,
     pub registers: usize,
     pub traps: usize,
+    pub words: usize,
 }
 
 impl Room {
@@ -59,10 +62,11 @@ impl Room {
           drafts = limit / 48 + 1;
           frames = deepest;
           bytes = limit;
-          places = 9 * deepest;
+          places = 9 * min deepest (limit / 16);
           gathering = limit;
           registers = limit / 48 + 1;
           traps = limit / 48 + 1;
+          words = limit / 16 + 1;
         } }
     {
         let limit = limit as usize;
@@ -74,10 +78,11 @@ impl Room {
             drafts: limit / 48 + 1,
             frames: deepest,
             bytes: limit,
-            places: 9 * deepest,
+            places: 9 * deepest.min(limit / 16),
             gathering: limit,
             registers: limit / 48 + 1,
             traps: limit / 48 + 1,
+            words: limit / 16 + 1,
         }
     }
 }

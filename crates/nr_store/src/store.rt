@@ -10,13 +10,14 @@ mod lines;
 mod names;
 mod registers;
 mod traps;
+mod words;
 
 use crate::element::{Draft, Element};
 use crate::named::Sense;
 use crate::register::Register;
 use nr_levels::{Gathering, Levels, Stack};
 use nr_pool::Pool;
-use nr_tables::{Table, Trap};
+use nr_tables::{HyphenationWord, Table, Trap};
 use nr_units::slice_vec::SliceVec;
 use std::marker::Model;
 
@@ -35,6 +36,7 @@ pub struct Store<'a, K: Copy> {
     gathering: Gathering<'a>,
     registers: Table<'a, Register>,
     traps: SliceVec<'a, Trap>,
+    words: Stack<'a, HyphenationWord>,
     charge: u32,
     stored: u32,
 }
@@ -45,9 +47,9 @@ impl<'a, K: Copy> Model for Store<'a, K> {
 
     ghost Value = { Stored K };
 
-    ghost view = { λ s. stored_of s.pool s.names.entries s.drafts.items s.levels (beside_of s.gathering s.registers s.traps) s.stored };
+    ghost view = { λ s. stored_of s.pool s.names.entries s.drafts.items s.levels (beside_of s.gathering s.registers s.traps s.words) s.stored };
 
-    ghost invariant = { λ s. IsStore s.pool s.names s.drafts s.levels (beside_of s.gathering s.registers s.traps) s.charge s.stored };
+    ghost invariant = { λ s. IsStore s.pool s.names s.drafts s.levels (beside_of s.gathering s.registers s.traps s.words) s.charge s.stored };
 }
 
 impl<'a, K: Copy> Store<'a, K> {

@@ -1,6 +1,7 @@
 use super::*;
 use nr_levels::{Frame, Span};
 use nr_pool::Slot;
+use nr_units::cell::Cell;
 use nr_units::{Format, Name};
 use std::process::Abort;
 
@@ -52,6 +53,24 @@ fn reads_what_it_began(rt: &impl Abort, store: &mut Store<'_, u8>) {
     let next = store.take();
     assert!(rt; matches!(&next, Shown::Resume(3)));
     assert_eq!(rt; store.depth(), 0);
+}
+
+// A text is shown as one run, from what is left of it on; bytes that were given are not.
+fn shows_a_run(rt: &impl Abort, store: &mut Store<'_, u8>) {
+    let m = name(b'm', b'm');
+    define(rt, store, m, b'a', b'b');
+    assert_eq!(rt; store.enter(m), Ok(true));
+    assert_eq!(rt; store.window().len(), 2);
+    assert_byte(rt, store, b'a');
+    let left = store.window().len();
+    assert_eq!(rt; left, 1);
+    store.skip(left as u32);
+    assert_end(rt, store);
+    assert_eq!(rt; store.enter_bytes(b"4"), Ok(()));
+    assert!(rt; store.window().is_empty());
+    store.clear_levels();
+    store.remove(m);
+    assert_eq!(rt; store.charge(), 0);
 }
 
 // The arguments of a macro line: `nine-arguments`, with a tenth that is dropped.
@@ -141,6 +160,59 @@ fn diverts(rt: &impl Abort, store: &mut Store<'_, u8>) {
     assert_eq!(rt; store.charge(), 48);
 }
 
+// A word of 10 bytes at most has these break points.
+fn assert_points(rt: &impl Abort, store: &mut Store<'_, u8>, word: &[u8], points: &[u8]) {
+    let mut cells = [Cell::blank(); 10];
+    for (cell, byte) in cells.iter_mut().zip(word) {
+        cell.byte = *byte;
+    }
+    assert_eq!(rt; store.points(&cells[..word.len().min(10)]), points);
+}
+
+// Hyphenation words: the latest counts, also with `s` and with what may stand behind it; minus signs alone are charged 16
+// and have no effect; a word above 64 bytes is not taken.
+fn keeps_words(rt: &impl Abort, store: &mut Store<'_, u8>) {
+    assert_points(rt, store, b"abcdef", &[]);
+    assert!(rt; store.add_word(b"ab-cdef").is_ok());
+    assert!(rt; store.add_word(b"s-").is_ok());
+    assert!(rt; store.add_word(b"--").is_ok());
+    assert_eq!(rt; store.charge(), 48 + 22 + 17 + 16);
+    assert_points(rt, store, b"abcdef", &[2]);
+    assert_points(rt, store, b"abcdefs.)", &[2]);
+    assert_points(rt, store, b"s.", &[1]);
+    assert_points(rt, store, b"abcdefss", &[]);
+    assert_points(rt, store, b"abcdfe", &[]);
+    assert!(rt; store.add_word(b"-abc--def-").is_ok());
+    assert_points(rt, store, b"abcdef", &[0, 3, 3, 6]);
+    assert!(rt; store.add_word(&[b'-'; 65]).is_ok());
+    assert_eq!(rt; store.charge(), 125);
+    assert_eq!(rt; store.add_word(&[b'a'; 64]), Ok(()));
+    assert_eq!(rt; store.charge(), 205);
+    assert_eq!(rt; store.add_word(b"abcdefghijklmnopqrst"), Err(StoredBytes));
+    assert_eq!(rt; store.charge(), 205);
+}
+
+// A line of a diversion whose cells are read one by one counts in its height and width as one that is added whole.
+fn ends_lines(rt: &impl Abort, store: &mut Store<'_, u8>) {
+    let d = name(b'd', b'd');
+    assert!(rt; store.begin_diversion(d).is_ok());
+    assert!(rt;
+        store
+            .add_line(1, &[nr_units::cell::Cell::blank()], 40)
+            .is_ok()
+    );
+    assert!(rt;
+        store
+            .add(Element::Cell(nr_units::cell::Cell::blank()))
+            .is_ok()
+    );
+    assert!(rt; store.end_line(1, 60).is_ok());
+    let ended = store.end_diversion();
+    assert!(rt; ended.is_some_and(|d| d.height == 100 && d.width == 48));
+    assert_eq!(rt; store.charge(), 48 + 5);
+    store.remove(d);
+}
+
 #[test]
 fn works(rt: HostRuntime) {
     let mut elements = [Element::Byte(0); 240];
@@ -153,6 +225,7 @@ fn works(rt: HostRuntime) {
     let mut gathering = [0u8; 240];
     let mut registers = [Register::blank(); 6];
     let mut traps = [Trap::blank(); 6];
+    let mut words = [HyphenationWord::blank(); 16];
     let mut store = Store::over(
         Memory {
             elements: &mut elements,
@@ -165,12 +238,16 @@ fn works(rt: HostRuntime) {
             gathering: &mut gathering,
             registers: &mut registers,
             traps: &mut traps,
+            words: &mut words,
         },
         LIMIT,
     );
     reads_what_it_began(&rt, &mut store);
+    shows_a_run(&rt, &mut store);
     calls_with_arguments(&rt, &mut store);
     keeps_registers(&rt, &mut store);
     keeps_traps(&rt, &mut store);
+    ends_lines(&rt, &mut store);
     diverts(&rt, &mut store);
+    keeps_words(&rt, &mut store);
 }

@@ -1,5 +1,5 @@
 // A store with nothing but the requests.
-ghost use Rattle.std.specs.Prelude.{◌≡◌, ◌+◌, ◌*◌, ◌/◌, ◌^◌, ◌<◌, ◌≤◌, [], length};
+ghost use Rattle.std.specs.Prelude.{◌≡◌, ◌+◌, ◌*◌, ◌/◌, ◌^◌, ◌<◌, ◌≤◌, [], length, min};
 ghost use Rattle.nr_store.specs.declared.request.TheConstants.{REQUESTS};
 ghost use Rattle.nr_store.specs.Stored.{nothing};
 ghost use Rattle.nr_store.specs.Requests.{request_names, with_senses};
@@ -37,12 +37,13 @@ impl<'a, K: Copy> Store<'a, K> {
         requires drafts { limit / 48 ≤ length memory.drafts.now }
         requires bytes { limit ≤ length memory.bytes.now }
         requires bytes_small { length memory.bytes.now < 2 ^ 32 }
-        requires places { 9 * length memory.frames.now ≤ length memory.places.now }
+        requires places { 9 * min (length memory.frames.now) (limit / 16) ≤ length memory.places.now }
         requires places_small { length memory.places.now < 2 ^ 32 }
         requires gathering { limit ≤ length memory.gathering.now }
         requires gathering_small { length memory.gathering.now < 2 ^ 32 }
         requires registers { limit / 48 ≤ length memory.registers.now }
         requires traps { limit / 48 ≤ length memory.traps.now }
+        requires words { limit / 16 ≤ length memory.words.now }
         ensures { result ≡ nothing request_names limit (length memory.entry.frames.now) }
     {
         let Memory {
@@ -56,9 +57,11 @@ impl<'a, K: Copy> Store<'a, K> {
             gathering,
             registers,
             traps,
+            words,
         } = memory;
         let mut names = Table::over(names);
         name_requests(&mut names, &REQUESTS);
+        let bytes = &mut bytes[..limit as usize];
         Store {
             pool: Pool::over(elements, slots),
             names,
@@ -67,6 +70,7 @@ impl<'a, K: Copy> Store<'a, K> {
             gathering: Gathering::over(gathering),
             registers: Table::over(registers),
             traps: SliceVec::over(traps),
+            words: Stack::over(words),
             charge: 0,
             stored: limit,
         }

@@ -1,8 +1,9 @@
 // Levels: texts that are being read.
-ghost use Rattle.std.specs.Prelude.{◌≡◌, length, OnOk, OnErr, is_some, None, Some};
+ghost use Rattle.std.specs.Prelude.{◌≡◌, ◌++◌, ◌≤◌, length, drop, OnOk, OnErr, is_some, None, Some};
 ghost use Rattle.nr_tables.specs.Named.{find};
 ghost use Rattle.nr_levels.specs.Levels.{argument};
 ghost use Rattle.nr_store.specs.Stored.{checked, words, entered, reading_bytes, shown, left, dropped, emptied};
+ghost use Rattle.nr_store.specs.Windows.{rest_of, left_times};
 
 use crate::element::Element;
 use crate::refusal::Refusal;
@@ -158,6 +159,35 @@ impl<'a, K: Copy> Store<'a, K> {
                 Shown::End
             }
         }
+    }
+
+    /// The elements that come next of the newest level, as far as they lie in one row: all that is left of a text, and
+    /// none of bytes that were given or of an argument.
+    #[inline]
+    pub fn window(&self) -> &[Element]
+        ensures within { length result.now ≤ length (rest_of self.now.levels) }
+        ensures front { let rest = rest_of self.now.levels in result.now ++ drop (length result.now) rest ≡ rest }
+    {
+        let Some(front) = self.levels.front() else {
+            return &[];
+        };
+        let Front::Text(id, place) = front else {
+            return &[];
+        };
+        let text = self.pool.text(id);
+        if text.len() <= place as usize {
+            return &[];
+        }
+        &text[place as usize..]
+    }
+
+    /// Takes so many elements of the newest level, which it has left.
+    #[inline]
+    pub fn skip(&mut self, n: u32)
+        requires { n ≤ length (rest_of self.old.levels) }
+        ensures { self.new ≡ left_times n self.old }
+    {
+        self.levels.skip(n);
     }
 
     // Takes the newest level away, its text unread.

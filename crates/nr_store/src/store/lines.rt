@@ -3,7 +3,7 @@ ghost use Rattle.std.specs.Prelude.{◌≡◌, ◌+◌, ◌∷◌, [], ◌++◌,
 ghost use Rattle.std.specs.Option.{option_map};
 ghost use Rattle.nr_pool.specs.Texts.{IsOpen, text, used, with_text};
 ghost use Rattle.nr_store.specs.declared.element.Element.TheVariants.{Cell as cell_element};
-ghost use Rattle.nr_store.specs.Stored.{afforded, blank_cell, line_of, taken, diverted};
+ghost use Rattle.nr_store.specs.Stored.{afforded, blank_cell, line_of, taken, diverted, diverted_end};
 
 use crate::element::{Diversion, Draft, Element};
 use crate::refusal::StoredBytes;
@@ -78,6 +78,30 @@ impl<'a, K: Copy> Store<'a, K> {
             diversion: with_line(diversion, width, height),
         });
         self.charge += width as u32 + 1;
+        Ok(())
+    }
+    /// Ends a line of the newest text being built whose cells, so many, were added one by one: adds a line end of this
+    /// height in u. A diversion's height and width grow by the line. Nothing happens where no text is being built.
+    pub fn end_line(&mut self, cells: u32, height: u32) -> Result<(), StoredBytes>
+        ensures answer { result ≡ afforded (diverted_end cells height self.old) tt }
+        ensures ok { OnOk result (self.new ≡ diverted_end cells height self.old) }
+        ensures err { OnErr result (self.new ≡ self.old) }
+    {
+        let Some(draft) = self.drafts.top() else {
+            return Ok(());
+        };
+        if self.charge == self.stored {
+            return Err(StoredBytes);
+        }
+        let Draft { id, diversion } = draft;
+        let Ok(()) = self.pool.append(id, Element::LineEnd(height)) else {
+            return Err(StoredBytes);
+        };
+        self.drafts.set_top(Draft {
+            id,
+            diversion: with_line(diversion, cells as usize, height),
+        });
+        self.charge += 1;
         Ok(())
     }
 }

@@ -8,24 +8,24 @@ use Rattle.nr_store.proofs.store.Store.add.Goals as goal
 pub returns-then-self-clause-answer : goal.returns-then-self-clause-answer
 returns-then-self-clause-answer g c =
     let s = c.self.inside in
-    let within = is_within s.pool s.names s.drafts s.levels (beside_of s.gathering s.registers s.traps) s.charge s.stored c.args.self.now c.self.invariant c.self.view_is in
+    let within = is_within s.pool s.names s.drafts s.levels (beside_of s.gathering s.registers s.traps s.words) s.charge s.stored c.args.self.now c.self.invariant c.self.view_is in
     let charged = within.charged in
     let limits = within.same_limit in
-    let cost = charge_of-added s.pool s.names s.drafts s.levels (beside_of s.gathering s.registers s.traps) s.charge s.stored c.in-Some.draft (drop 1 s.drafts.items) (c.args.element ∷ []) c.self.invariant (cons_of _ _ (sym c.top.ensures ∙ c.in-Some.is)) in
+    let cost = charge_of-added s.pool s.names s.drafts s.levels (beside_of s.gathering s.registers s.traps s.words) s.charge s.stored c.in-Some.draft (drop 1 s.drafts.items) (c.args.element ∷ []) c.self.invariant (cons_of _ _ (sym c.top.ensures ∙ c.in-Some.is)) in
     let is = ap (λ (v : Stored _). charge_of (added (c.args.element ∷ []) v)) c.self.view_is in
     sym (unaffordable (added (c.args.element ∷ []) c.args.self.now) tt (omega arith))
 
 pub append-requires : goal.append-requires
 append-requires g c =
     let s = c.self.inside in
-    let one = one_holder s.pool s.names s.drafts s.levels (beside_of s.gathering s.registers s.traps) s.charge s.stored c.in-Some.draft (drop 1 s.drafts.items) (c.args.element ∷ []) c.self.invariant (cons_of _ _ (sym c.top.ensures ∙ c.in-Some.is)) in
+    let one = one_holder s.pool s.names s.drafts s.levels (beside_of s.gathering s.registers s.traps s.words) s.charge s.stored c.in-Some.draft (drop 1 s.drafts.items) (c.args.element ∷ []) c.self.invariant (cons_of _ _ (sym c.top.ensures ∙ c.in-Some.is)) in
     omega arith
 
 pub returns-in_default-append-clause-answer : goal.returns-in_default-append-clause-answer
 returns-in_default-append-clause-answer g c =
     let s = c.self.inside in
     let below = c.self.invariant.within in
-    let room = room_for_elements s.pool s.names s.drafts s.levels (beside_of s.gathering s.registers s.traps) s.charge s.stored 1 c.self.invariant (omega arith) in
+    let room = room_for_elements s.pool s.names s.drafts s.levels (beside_of s.gathering s.registers s.traps s.words) s.charge s.stored 1 c.self.invariant (omega arith) in
     let full = c.in_default-append.ensures.full.0 refl in
     absurd (omega arith)
 
@@ -33,20 +33,20 @@ pub invariant_of-self-2 : goal.invariant_of-self-2
 invariant_of-self-2 g c =
     let s = c.self.inside in
     let below = c.self.invariant.within in
-    rw c.in-Ok.ensures.ok (added_stands s.pool s.names s.drafts s.levels (beside_of s.gathering s.registers s.traps) s.charge s.stored c.in-Some.draft (drop 1 s.drafts.items) (c.args.element ∷ []) c.self.invariant (cons_of _ _ (sym c.top.ensures ∙ c.in-Some.is)) (omega arith))
+    rw c.in-Ok.ensures.ok (added_stands s.pool s.names s.drafts s.levels (beside_of s.gathering s.registers s.traps s.words) s.charge s.stored c.in-Some.draft (drop 1 s.drafts.items) (c.args.element ∷ []) c.self.invariant (cons_of _ _ (sym c.top.ensures ∙ c.in-Some.is)) (omega arith))
 
 pub returns-clause-answer : goal.returns-clause-answer
 returns-clause-answer g c =
     let s = c.self.inside in
-    let within = is_within s.pool s.names s.drafts s.levels (beside_of s.gathering s.registers s.traps) s.charge s.stored c.args.self.now c.self.invariant c.self.view_is in
+    let within = is_within s.pool s.names s.drafts s.levels (beside_of s.gathering s.registers s.traps s.words) s.charge s.stored c.args.self.now c.self.invariant c.self.view_is in
     let charged = within.charged in
     let limits = within.same_limit in
     let below = c.self.invariant.within in
-    let cost = charge_of-added s.pool s.names s.drafts s.levels (beside_of s.gathering s.registers s.traps) s.charge s.stored c.in-Some.draft (drop 1 s.drafts.items) (c.args.element ∷ []) c.self.invariant (cons_of _ _ (sym c.top.ensures ∙ c.in-Some.is)) in
+    let cost = charge_of-added s.pool s.names s.drafts s.levels (beside_of s.gathering s.registers s.traps s.words) s.charge s.stored c.in-Some.draft (drop 1 s.drafts.items) (c.args.element ∷ []) c.self.invariant (cons_of _ _ (sym c.top.ensures ∙ c.in-Some.is)) in
     let is = ap (λ (v : Stored _). charge_of (added (c.args.element ∷ []) v)) c.self.view_is in
     sym (affordable (added (c.args.element ∷ []) c.args.self.now) tt (omega arith))
 
 pub returns-clause-ok : goal.returns-clause-ok
 returns-clause-ok g c =
     let s = c.self.inside in
-    rw c.in-Ok.ensures.ok (added_is s.pool s.names s.drafts s.levels (beside_of s.gathering s.registers s.traps) s.charge s.stored c.in-Some.draft (drop 1 s.drafts.items) (c.args.element ∷ []) c.self.invariant (cons_of _ _ (sym c.top.ensures ∙ c.in-Some.is)) ∙ ap (added (c.args.element ∷ [])) c.self.view_is)
+    rw c.in-Ok.ensures.ok (added_is s.pool s.names s.drafts s.levels (beside_of s.gathering s.registers s.traps s.words) s.charge s.stored c.in-Some.draft (drop 1 s.drafts.items) (c.args.element ∷ []) c.self.invariant (cons_of _ _ (sym c.top.ensures ∙ c.in-Some.is)) ∙ ap (added (c.args.element ∷ [])) c.self.view_is)

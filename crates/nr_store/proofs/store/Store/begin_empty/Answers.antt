@@ -9,21 +9,21 @@ pub returns-in_default-clause-answer : goal.returns-in_default-clause-answer
 returns-in_default-clause-answer g c =
     let s = c.self.inside in
     let below = c.self.invariant.within in
-    absurd (room_for_a_text s.pool s.names s.drafts s.levels (beside_of s.gathering s.registers s.traps) s.charge s.stored c.self.invariant (omega arith) (c.in_default.ensures.full.0 refl))
+    absurd (room_for_a_text s.pool s.names s.drafts s.levels (beside_of s.gathering s.registers s.traps s.words) s.charge s.stored c.self.invariant (omega arith) (c.in_default.ensures.full.0 refl))
 
 pub push-requires : goal.push-requires
 push-requires g c =
     let s = c.self.inside in
     let below = c.self.invariant.within in
-    room_for_a_draft s.pool s.names s.drafts s.levels (beside_of s.gathering s.registers s.traps) s.charge s.stored c.self.invariant (omega arith)
+    room_for_a_draft s.pool s.names s.drafts s.levels (beside_of s.gathering s.registers s.traps s.words) s.charge s.stored c.self.invariant (omega arith)
 
 pub invariant_of-self-2 : goal.invariant_of-self-2
 invariant_of-self-2 g c =
     let s = c.self.inside in
     let below = c.self.invariant.within in
-    rw (c.in-Ok.ensures.ok, c.push.ensures) (begun_stands s.pool s.names s.drafts s.levels (beside_of s.gathering s.registers s.traps) s.charge s.stored c.in-Ok.id c.args.diversion c.self.invariant c.in-Ok.ensures.unused (omega arith))
+    rw (c.in-Ok.ensures.ok, c.push.ensures) (begun_stands s.pool s.names s.drafts s.levels (beside_of s.gathering s.registers s.traps s.words) s.charge s.stored c.in-Ok.id c.args.diversion c.self.invariant c.in-Ok.ensures.unused (omega arith))
 
 pub returns-clause-ok : goal.returns-clause-ok
 returns-clause-ok g c =
     let s = c.self.inside in
-    rw (c.in-Ok.ensures.ok, c.push.ensures) (begun_is s.pool s.names s.drafts s.levels (beside_of s.gathering s.registers s.traps) s.charge s.stored c.in-Ok.id c.args.diversion c.self.invariant c.in-Ok.ensures.unused ∙ ap (begun [] c.args.diversion) c.self.view_is)
+    rw (c.in-Ok.ensures.ok, c.push.ensures) (begun_is s.pool s.names s.drafts s.levels (beside_of s.gathering s.registers s.traps s.words) s.charge s.stored c.in-Ok.id c.args.diversion c.self.invariant c.in-Ok.ensures.unused ∙ ap (begun [] c.args.diversion) c.self.view_is)

@@ -10,7 +10,7 @@ invariant_of-self-in-Text g c =
     let s = c.self.inside in
     let n = newest_text s.levels.levels c.in-Text.id c.in-Text.field-1 (sym c.front.ensures ∙ c.in-Some.is ∙ ap Some c.in-Text.is) in
     let closed = c.close-in-Text.ensures in
-    rw (c.release.ensures.released, closed.rest, closed.charge) (text_ended_stands s.pool s.names s.drafts s.levels (beside_of s.gathering s.registers s.traps) s.charge s.stored c.in-Text.id c.in-Text.field-1 c.self.invariant n)
+    rw (c.release.ensures.released, closed.rest, closed.charge) (text_ended_stands s.pool s.names s.drafts s.levels (beside_of s.gathering s.registers s.traps s.words) s.charge s.stored c.in-Text.id c.in-Text.field-1 c.self.invariant n)
 
 pub returns-in-Text : goal.returns-in-Text
 returns-in-Text g c =
@@ -18,4 +18,4 @@ returns-in-Text g c =
     let n = newest_text s.levels.levels c.in-Text.id c.in-Text.field-1 (sym c.front.ensures ∙ c.in-Some.is ∙ ap Some c.in-Text.is) in
     let closed = c.close-in-Text.ensures in
     rw (c.release.ensures.released, closed.rest)
-    (text_ended s.pool s.names s.drafts s.levels (beside_of s.gathering s.registers s.traps) s.charge s.stored c.in-Text.id c.in-Text.field-1 c.self.invariant n ∙ sym (dropped_is s.pool s.names.entries s.drafts.items s.levels (beside_of s.gathering s.registers s.traps) s.stored (Text c.in-Text.id c.in-Text.field-1) n) ∙ ap (λ (v : Stored _). dropped v.levels v) c.self.view_is)
+    (text_ended s.pool s.names s.drafts s.levels (beside_of s.gathering s.registers s.traps s.words) s.charge s.stored c.in-Text.id c.in-Text.field-1 c.self.invariant n ∙ sym (dropped_is s.pool s.names.entries s.drafts.items s.levels (beside_of s.gathering s.registers s.traps s.words) s.stored (Text c.in-Text.id c.in-Text.field-1) n) ∙ ap (λ (v : Stored _). dropped v.levels v) c.self.view_is)

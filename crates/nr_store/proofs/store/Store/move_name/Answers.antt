@@ -8,47 +8,47 @@ use Rattle.nr_store.proofs.store.Store.move_name.Goals as goal
 pub invariant_of-self : goal.invariant_of-self
 invariant_of-self g c =
     let s = c.self.inside in
-    rw c.remove.ensures.is (taken_none s.pool s.names s.drafts s.levels (beside_of s.gathering s.registers s.traps) s.charge s.stored c.args.from c.remove.result c.args.self.now c.self.invariant c.self.view_is c.remove.ensures.was c.in_default.is).stands
+    rw c.remove.ensures.is (taken_none s.pool s.names s.drafts s.levels (beside_of s.gathering s.registers s.traps s.words) s.charge s.stored c.args.from c.remove.result c.args.self.now c.self.invariant c.self.view_is c.remove.ensures.was c.in_default.is).stands
 
 pub returns-in_default : goal.returns-in_default
 returns-in_default g c =
     let s = c.self.inside in
-    rw c.remove.ensures.is (unmoved s.pool s.names.entries s.drafts.items s.levels (beside_of s.gathering s.registers s.traps) s.stored c.args.from c.args.to c.remove.result c.args.self.now c.self.view_is c.remove.ensures.was c.in_default.is)
+    rw c.remove.ensures.is (unmoved s.pool s.names.entries s.drafts.items s.levels (beside_of s.gathering s.registers s.traps s.words) s.stored c.args.from c.args.to c.remove.result c.args.self.now c.self.view_is c.remove.ensures.was c.in_default.is)
 
 pub put-requires : goal.put-requires
 put-requires g c =
     let s = c.self.inside in
-    rw c.remove.ensures.is (λ _. room_again s.pool s.names s.drafts s.levels (beside_of s.gathering s.registers s.traps) s.charge s.stored c.args.from c.args.to c.remove.result (find c.args.to _) c.args.self.now c.self.invariant c.self.view_is c.remove.ensures.was c.in-Some.sense c.in-Some.is refl)
+    rw c.remove.ensures.is (λ _. room_again s.pool s.names s.drafts s.levels (beside_of s.gathering s.registers s.traps s.words) s.charge s.stored c.args.from c.args.to c.remove.result (find c.args.to _) c.args.self.now c.self.invariant c.self.view_is c.remove.ensures.was c.in-Some.sense c.in-Some.is refl)
 
 pub invariant_of-self-in_default-put : goal.invariant_of-self-in_default-put
 invariant_of-self-in_default-put g c =
     let s = c.self.inside in
-    rw (c.put.ensures.is, c.remove.ensures.is) (changed_new s.pool s.names s.drafts s.levels (beside_of s.gathering s.registers s.traps) s.charge s.stored c.args.from c.args.to c.remove.result c.put.result c.args.self.now c.self.invariant c.self.view_is c.remove.ensures.was c.in-Some.sense c.in-Some.is (c.put.ensures.was ∙ ap (λ (t : Table _). find c.args.to t.entries) c.remove.ensures.is) c.in_default-put.is).stands
+    rw (c.put.ensures.is, c.remove.ensures.is) (changed_new s.pool s.names s.drafts s.levels (beside_of s.gathering s.registers s.traps s.words) s.charge s.stored c.args.from c.args.to c.remove.result c.put.result c.args.self.now c.self.invariant c.self.view_is c.remove.ensures.was c.in-Some.sense c.in-Some.is (c.put.ensures.was ∙ ap (λ (t : Table _). find c.args.to t.entries) c.remove.ensures.is) c.in_default-put.is).stands
 
 pub returns-in_default-put : goal.returns-in_default-put
 returns-in_default-put g c =
     let s = c.self.inside in
-    rw (c.put.ensures.is, c.remove.ensures.is) (changed_new s.pool s.names s.drafts s.levels (beside_of s.gathering s.registers s.traps) s.charge s.stored c.args.from c.args.to c.remove.result c.put.result c.args.self.now c.self.invariant c.self.view_is c.remove.ensures.was c.in-Some.sense c.in-Some.is (c.put.ensures.was ∙ ap (λ (t : Table _). find c.args.to t.entries) c.remove.ensures.is) c.in_default-put.is).is
+    rw (c.put.ensures.is, c.remove.ensures.is) (changed_new s.pool s.names s.drafts s.levels (beside_of s.gathering s.registers s.traps s.words) s.charge s.stored c.args.from c.args.to c.remove.result c.put.result c.args.self.now c.self.invariant c.self.view_is c.remove.ensures.was c.in-Some.sense c.in-Some.is (c.put.ensures.was ∙ ap (λ (t : Table _). find c.args.to t.entries) c.remove.ensures.is) c.in_default-put.is).is
 
 pub invariant_of-self-in_default-old : goal.invariant_of-self-in_default-old
 invariant_of-self-in_default-old g c =
     let s = c.self.inside in
-    rw (c.put.ensures.is, c.remove.ensures.is) (request_given_up s.pool s.names s.drafts s.levels (beside_of s.gathering s.registers s.traps) s.charge s.stored _ _ _ _ c.self.invariant (changed_again s.pool s.names s.drafts s.levels (beside_of s.gathering s.registers s.traps) s.charge s.stored c.args.from c.args.to c.remove.result c.put.result c.args.self.now c.self.invariant c.self.view_is c.remove.ensures.was c.in-Some.sense c.in-Some.is (c.put.ensures.was ∙ ap (λ (t : Table _). find c.args.to t.entries) c.remove.ensures.is) c.in-Some-put.old c.in-Some-put.is) _ c.in_default-old.is).stands
+    rw (c.put.ensures.is, c.remove.ensures.is) (request_given_up s.pool s.names s.drafts s.levels (beside_of s.gathering s.registers s.traps s.words) s.charge s.stored _ _ _ _ c.self.invariant (changed_again s.pool s.names s.drafts s.levels (beside_of s.gathering s.registers s.traps s.words) s.charge s.stored c.args.from c.args.to c.remove.result c.put.result c.args.self.now c.self.invariant c.self.view_is c.remove.ensures.was c.in-Some.sense c.in-Some.is (c.put.ensures.was ∙ ap (λ (t : Table _). find c.args.to t.entries) c.remove.ensures.is) c.in-Some-put.old c.in-Some-put.is) _ c.in_default-old.is).stands
 
 pub returns-in_default-old : goal.returns-in_default-old
 returns-in_default-old g c =
     let s = c.self.inside in
-    rw (c.put.ensures.is, c.remove.ensures.is) (request_given_up s.pool s.names s.drafts s.levels (beside_of s.gathering s.registers s.traps) s.charge s.stored _ _ _ _ c.self.invariant (changed_again s.pool s.names s.drafts s.levels (beside_of s.gathering s.registers s.traps) s.charge s.stored c.args.from c.args.to c.remove.result c.put.result c.args.self.now c.self.invariant c.self.view_is c.remove.ensures.was c.in-Some.sense c.in-Some.is (c.put.ensures.was ∙ ap (λ (t : Table _). find c.args.to t.entries) c.remove.ensures.is) c.in-Some-put.old c.in-Some-put.is) _ c.in_default-old.is).is
+    rw (c.put.ensures.is, c.remove.ensures.is) (request_given_up s.pool s.names s.drafts s.levels (beside_of s.gathering s.registers s.traps s.words) s.charge s.stored _ _ _ _ c.self.invariant (changed_again s.pool s.names s.drafts s.levels (beside_of s.gathering s.registers s.traps s.words) s.charge s.stored c.args.from c.args.to c.remove.result c.put.result c.args.self.now c.self.invariant c.self.view_is c.remove.ensures.was c.in-Some.sense c.in-Some.is (c.put.ensures.was ∙ ap (λ (t : Table _). find c.args.to t.entries) c.remove.ensures.is) c.in-Some-put.old c.in-Some-put.is) _ c.in_default-old.is).is
 
 pub len-requires : goal.len-requires
 len-requires g c =
     let s = c.self.inside in
-    (text_dropped s.pool s.names s.drafts s.levels (beside_of s.gathering s.registers s.traps) s.charge s.stored _ _ _ _ c.self.invariant (changed_again s.pool s.names s.drafts s.levels (beside_of s.gathering s.registers s.traps) s.charge s.stored c.args.from c.args.to c.remove.result c.put.result c.args.self.now c.self.invariant c.self.view_is c.remove.ensures.was c.in-Some.sense c.in-Some.is (c.put.ensures.was ∙ ap (λ (t : Table _). find c.args.to t.entries) c.remove.ensures.is) c.in-Some-put.old c.in-Some-put.is) c.in-Text.old c.in-Text.is).is_open
+    (text_dropped s.pool s.names s.drafts s.levels (beside_of s.gathering s.registers s.traps s.words) s.charge s.stored _ _ _ _ c.self.invariant (changed_again s.pool s.names s.drafts s.levels (beside_of s.gathering s.registers s.traps s.words) s.charge s.stored c.args.from c.args.to c.remove.result c.put.result c.args.self.now c.self.invariant c.self.view_is c.remove.ensures.was c.in-Some.sense c.in-Some.is (c.put.ensures.was ∙ ap (λ (t : Table _). find c.args.to t.entries) c.remove.ensures.is) c.in-Some-put.old c.in-Some-put.is) c.in-Text.old c.in-Text.is).is_open
 
 pub overflow_cast-self : goal.overflow_cast-self
 overflow_cast-self g c =
     let s = c.self.inside in
-    let weighs = (text_dropped s.pool s.names s.drafts s.levels (beside_of s.gathering s.registers s.traps) s.charge s.stored _ _ _ _ c.self.invariant (changed_again s.pool s.names s.drafts s.levels (beside_of s.gathering s.registers s.traps) s.charge s.stored c.args.from c.args.to c.remove.result c.put.result c.args.self.now c.self.invariant c.self.view_is c.remove.ensures.was c.in-Some.sense c.in-Some.is (c.put.ensures.was ∙ ap (λ (t : Table _). find c.args.to t.entries) c.remove.ensures.is) c.in-Some-put.old c.in-Some-put.is) c.in-Text.old c.in-Text.is).weighs in
+    let weighs = (text_dropped s.pool s.names s.drafts s.levels (beside_of s.gathering s.registers s.traps s.words) s.charge s.stored _ _ _ _ c.self.invariant (changed_again s.pool s.names s.drafts s.levels (beside_of s.gathering s.registers s.traps s.words) s.charge s.stored c.args.from c.args.to c.remove.result c.put.result c.args.self.now c.self.invariant c.self.view_is c.remove.ensures.was c.in-Some.sense c.in-Some.is (c.put.ensures.was ∙ ap (λ (t : Table _). find c.args.to t.entries) c.remove.ensures.is) c.in-Some-put.old c.in-Some-put.is) c.in-Text.old c.in-Text.is).weighs in
     let below = c.self.invariant.within in
     let small = c.self.invariant.small in
     omega arith
@@ -56,7 +56,7 @@ overflow_cast-self g c =
 pub overflow_add-self : goal.overflow_add-self
 overflow_add-self g c =
     let s = c.self.inside in
-    let weighs = (text_dropped s.pool s.names s.drafts s.levels (beside_of s.gathering s.registers s.traps) s.charge s.stored _ _ _ _ c.self.invariant (changed_again s.pool s.names s.drafts s.levels (beside_of s.gathering s.registers s.traps) s.charge s.stored c.args.from c.args.to c.remove.result c.put.result c.args.self.now c.self.invariant c.self.view_is c.remove.ensures.was c.in-Some.sense c.in-Some.is (c.put.ensures.was ∙ ap (λ (t : Table _). find c.args.to t.entries) c.remove.ensures.is) c.in-Some-put.old c.in-Some-put.is) c.in-Text.old c.in-Text.is).weighs in
+    let weighs = (text_dropped s.pool s.names s.drafts s.levels (beside_of s.gathering s.registers s.traps s.words) s.charge s.stored _ _ _ _ c.self.invariant (changed_again s.pool s.names s.drafts s.levels (beside_of s.gathering s.registers s.traps s.words) s.charge s.stored c.args.from c.args.to c.remove.result c.put.result c.args.self.now c.self.invariant c.self.view_is c.remove.ensures.was c.in-Some.sense c.in-Some.is (c.put.ensures.was ∙ ap (λ (t : Table _). find c.args.to t.entries) c.remove.ensures.is) c.in-Some-put.old c.in-Some-put.is) c.in-Text.old c.in-Text.is).weighs in
     let below = c.self.invariant.within in
     let small = c.self.invariant.small in
     let long = c.len.ensures in
@@ -65,21 +65,21 @@ overflow_add-self g c =
 pub overflow_sub-self : goal.overflow_sub-self
 overflow_sub-self g c =
     let s = c.self.inside in
-    let weighs = (text_dropped s.pool s.names s.drafts s.levels (beside_of s.gathering s.registers s.traps) s.charge s.stored _ _ _ _ c.self.invariant (changed_again s.pool s.names s.drafts s.levels (beside_of s.gathering s.registers s.traps) s.charge s.stored c.args.from c.args.to c.remove.result c.put.result c.args.self.now c.self.invariant c.self.view_is c.remove.ensures.was c.in-Some.sense c.in-Some.is (c.put.ensures.was ∙ ap (λ (t : Table _). find c.args.to t.entries) c.remove.ensures.is) c.in-Some-put.old c.in-Some-put.is) c.in-Text.old c.in-Text.is).weighs in
+    let weighs = (text_dropped s.pool s.names s.drafts s.levels (beside_of s.gathering s.registers s.traps s.words) s.charge s.stored _ _ _ _ c.self.invariant (changed_again s.pool s.names s.drafts s.levels (beside_of s.gathering s.registers s.traps s.words) s.charge s.stored c.args.from c.args.to c.remove.result c.put.result c.args.self.now c.self.invariant c.self.view_is c.remove.ensures.was c.in-Some.sense c.in-Some.is (c.put.ensures.was ∙ ap (λ (t : Table _). find c.args.to t.entries) c.remove.ensures.is) c.in-Some-put.old c.in-Some-put.is) c.in-Text.old c.in-Text.is).weighs in
     let long = c.len.ensures in
     omega arith
 
 pub release-requires : goal.release-requires
 release-requires g c =
     let s = c.self.inside in
-    (text_dropped s.pool s.names s.drafts s.levels (beside_of s.gathering s.registers s.traps) s.charge s.stored _ _ _ _ c.self.invariant (changed_again s.pool s.names s.drafts s.levels (beside_of s.gathering s.registers s.traps) s.charge s.stored c.args.from c.args.to c.remove.result c.put.result c.args.self.now c.self.invariant c.self.view_is c.remove.ensures.was c.in-Some.sense c.in-Some.is (c.put.ensures.was ∙ ap (λ (t : Table _). find c.args.to t.entries) c.remove.ensures.is) c.in-Some-put.old c.in-Some-put.is) c.in-Text.old c.in-Text.is).is_open
+    (text_dropped s.pool s.names s.drafts s.levels (beside_of s.gathering s.registers s.traps s.words) s.charge s.stored _ _ _ _ c.self.invariant (changed_again s.pool s.names s.drafts s.levels (beside_of s.gathering s.registers s.traps s.words) s.charge s.stored c.args.from c.args.to c.remove.result c.put.result c.args.self.now c.self.invariant c.self.view_is c.remove.ensures.was c.in-Some.sense c.in-Some.is (c.put.ensures.was ∙ ap (λ (t : Table _). find c.args.to t.entries) c.remove.ensures.is) c.in-Some-put.old c.in-Some-put.is) c.in-Text.old c.in-Text.is).is_open
 
 pub invariant_of-self-2 : goal.invariant_of-self-2
 invariant_of-self-2 g c =
     let s = c.self.inside in
-    rw (c.put.ensures.is, c.remove.ensures.is, c.release.ensures.released, c.len.ensures) (text_dropped s.pool s.names s.drafts s.levels (beside_of s.gathering s.registers s.traps) s.charge s.stored _ _ _ _ c.self.invariant (changed_again s.pool s.names s.drafts s.levels (beside_of s.gathering s.registers s.traps) s.charge s.stored c.args.from c.args.to c.remove.result c.put.result c.args.self.now c.self.invariant c.self.view_is c.remove.ensures.was c.in-Some.sense c.in-Some.is (c.put.ensures.was ∙ ap (λ (t : Table _). find c.args.to t.entries) c.remove.ensures.is) c.in-Some-put.old c.in-Some-put.is) c.in-Text.old c.in-Text.is).stands
+    rw (c.put.ensures.is, c.remove.ensures.is, c.release.ensures.released, c.len.ensures) (text_dropped s.pool s.names s.drafts s.levels (beside_of s.gathering s.registers s.traps s.words) s.charge s.stored _ _ _ _ c.self.invariant (changed_again s.pool s.names s.drafts s.levels (beside_of s.gathering s.registers s.traps s.words) s.charge s.stored c.args.from c.args.to c.remove.result c.put.result c.args.self.now c.self.invariant c.self.view_is c.remove.ensures.was c.in-Some.sense c.in-Some.is (c.put.ensures.was ∙ ap (λ (t : Table _). find c.args.to t.entries) c.remove.ensures.is) c.in-Some-put.old c.in-Some-put.is) c.in-Text.old c.in-Text.is).stands
 
 pub returns : goal.returns
 returns g c =
     let s = c.self.inside in
-    rw (c.put.ensures.is, c.remove.ensures.is, c.release.ensures.released) (text_dropped s.pool s.names s.drafts s.levels (beside_of s.gathering s.registers s.traps) s.charge s.stored _ _ _ _ c.self.invariant (changed_again s.pool s.names s.drafts s.levels (beside_of s.gathering s.registers s.traps) s.charge s.stored c.args.from c.args.to c.remove.result c.put.result c.args.self.now c.self.invariant c.self.view_is c.remove.ensures.was c.in-Some.sense c.in-Some.is (c.put.ensures.was ∙ ap (λ (t : Table _). find c.args.to t.entries) c.remove.ensures.is) c.in-Some-put.old c.in-Some-put.is) c.in-Text.old c.in-Text.is).is
+    rw (c.put.ensures.is, c.remove.ensures.is, c.release.ensures.released) (text_dropped s.pool s.names s.drafts s.levels (beside_of s.gathering s.registers s.traps s.words) s.charge s.stored _ _ _ _ c.self.invariant (changed_again s.pool s.names s.drafts s.levels (beside_of s.gathering s.registers s.traps s.words) s.charge s.stored c.args.from c.args.to c.remove.result c.put.result c.args.self.now c.self.invariant c.self.view_is c.remove.ensures.was c.in-Some.sense c.in-Some.is (c.put.ensures.was ∙ ap (λ (t : Table _). find c.args.to t.entries) c.remove.ensures.is) c.in-Some-put.old c.in-Some-put.is) c.in-Text.old c.in-Text.is).is

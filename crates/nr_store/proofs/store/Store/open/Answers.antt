@@ -13,25 +13,25 @@ use Rattle.nr_store.proofs.store.Store.open.Goals as goal
 pub returns-in_default-clause-answer : goal.returns-in_default-clause-answer
 returns-in_default-clause-answer g c =
     let s = c.self.inside in
-    let within = is_within s.pool s.names s.drafts s.levels (beside_of s.gathering s.registers s.traps) s.charge s.stored c.args.self.now c.self.invariant c.self.view_is in
-    let none = named_text s.pool s.names.entries s.drafts.items s.levels (beside_of s.gathering s.registers s.traps) s.stored c.args.name c.text_in.result c.args.self.now c.self.view_is c.text_in.ensures ∙ ap (option_map (text s.pool)) c.in_default.is in
+    let within = is_within s.pool s.names s.drafts s.levels (beside_of s.gathering s.registers s.traps s.words) s.charge s.stored c.args.self.now c.self.invariant c.self.view_is in
+    let none = named_text s.pool s.names.entries s.drafts.items s.levels (beside_of s.gathering s.registers s.traps s.words) s.stored c.args.name c.text_in.result c.args.self.now c.self.view_is c.text_in.ensures ∙ ap (option_map (text s.pool)) c.in_default.is in
     sym (answer_none c.args.self.now s.charge s.stored (λ o. entered o c.args.resume c.args.self.now) _ within refl none)
 
 pub returns-in_default-clause-ok : goal.returns-in_default-clause-ok
 returns-in_default-clause-ok g c =
     let s = c.self.inside in
-    let none = named_text s.pool s.names.entries s.drafts.items s.levels (beside_of s.gathering s.registers s.traps) s.stored c.args.name c.text_in.result c.args.self.now c.self.view_is c.text_in.ensures ∙ ap (option_map (text s.pool)) c.in_default.is in
+    let none = named_text s.pool s.names.entries s.drafts.items s.levels (beside_of s.gathering s.registers s.traps s.words) s.stored c.args.name c.text_in.result c.args.self.now c.self.view_is c.text_in.ensures ∙ ap (option_map (text s.pool)) c.in_default.is in
     sym (ap (λ o. entered o c.args.resume c.args.self.now) none)
 
 pub len-requires : goal.len-requires
 len-requires g c =
     let s = c.self.inside in
-    (is_named s.pool s.names s.drafts s.levels (beside_of s.gathering s.registers s.traps) s.charge s.stored c.args.name c.in-Some.id c.text_in.result c.self.invariant c.text_in.ensures c.in-Some.is).there.is_open
+    (is_named s.pool s.names s.drafts s.levels (beside_of s.gathering s.registers s.traps s.words) s.charge s.stored c.args.name c.in-Some.id c.text_in.result c.self.invariant c.text_in.ensures c.in-Some.is).there.is_open
 
 pub overflow_cast-charge : goal.overflow_cast-charge
 overflow_cast-charge g c =
     let s = c.self.inside in
-    let weighs = (is_named s.pool s.names s.drafts s.levels (beside_of s.gathering s.registers s.traps) s.charge s.stored c.args.name c.in-Some.id c.text_in.result c.self.invariant c.text_in.ensures c.in-Some.is).there.weighs in
+    let weighs = (is_named s.pool s.names s.drafts s.levels (beside_of s.gathering s.registers s.traps s.words) s.charge s.stored c.args.name c.in-Some.id c.text_in.result c.self.invariant c.text_in.ensures c.in-Some.is).there.weighs in
     let below = c.self.invariant.within in
     let small = c.self.invariant.small in
     omega arith
@@ -39,7 +39,7 @@ overflow_cast-charge g c =
 pub overflow_add-charge : goal.overflow_add-charge
 overflow_add-charge g c =
     let s = c.self.inside in
-    let weighs = (is_named s.pool s.names s.drafts s.levels (beside_of s.gathering s.registers s.traps) s.charge s.stored c.args.name c.in-Some.id c.text_in.result c.self.invariant c.text_in.ensures c.in-Some.is).there.weighs in
+    let weighs = (is_named s.pool s.names s.drafts s.levels (beside_of s.gathering s.registers s.traps s.words) s.charge s.stored c.args.name c.in-Some.id c.text_in.result c.self.invariant c.text_in.ensures c.in-Some.is).there.weighs in
     let below = c.self.invariant.within in
     let small = c.self.invariant.small in
     let long = c.len.ensures in
@@ -48,8 +48,8 @@ overflow_add-charge g c =
 pub returns-then-self-charge-clause-answer : goal.returns-then-self-charge-clause-answer
 returns-then-self-charge-clause-answer g c =
     let s = c.self.inside in
-    let within = is_within s.pool s.names s.drafts s.levels (beside_of s.gathering s.registers s.traps) s.charge s.stored c.args.self.now c.self.invariant c.self.view_is in
-    let found = named_text s.pool s.names.entries s.drafts.items s.levels (beside_of s.gathering s.registers s.traps) s.stored c.args.name c.text_in.result c.args.self.now c.self.view_is c.text_in.ensures ∙ ap (option_map (text s.pool)) c.in-Some.is in
+    let within = is_within s.pool s.names s.drafts s.levels (beside_of s.gathering s.registers s.traps s.words) s.charge s.stored c.args.self.now c.self.invariant c.self.view_is in
+    let found = named_text s.pool s.names.entries s.drafts.items s.levels (beside_of s.gathering s.registers s.traps s.words) s.stored c.args.name c.text_in.result c.args.self.now c.self.view_is c.text_in.ensures ∙ ap (option_map (text s.pool)) c.in-Some.is in
     let below = c.self.invariant.within in
     let long = c.len.ensures in
     sym (ap (λ o. checked (entered o c.args.resume c.args.self.now) (is_some o)) found ∙ answer_refused s.charge s.stored (share (text s.pool c.in-Some.id)) c.args.resume [] c.args.self.now (text s.pool c.in-Some.id) true within (omega arith))
@@ -57,9 +57,9 @@ returns-then-self-charge-clause-answer g c =
 pub returns-then-is_full-clause-answer : goal.returns-then-is_full-clause-answer
 returns-then-is_full-clause-answer g c =
     let s = c.self.inside in
-    let within = is_within s.pool s.names s.drafts s.levels (beside_of s.gathering s.registers s.traps) s.charge s.stored c.args.self.now c.self.invariant c.self.view_is in
-    let found = named_text s.pool s.names.entries s.drafts.items s.levels (beside_of s.gathering s.registers s.traps) s.stored c.args.name c.text_in.result c.args.self.now c.self.view_is c.text_in.ensures ∙ ap (option_map (text s.pool)) c.in-Some.is in
-    let same = depths s.pool s.names.entries s.drafts.items s.levels (beside_of s.gathering s.registers s.traps) s.stored c.args.self.now c.self.view_is in
+    let within = is_within s.pool s.names s.drafts s.levels (beside_of s.gathering s.registers s.traps s.words) s.charge s.stored c.args.self.now c.self.invariant c.self.view_is in
+    let found = named_text s.pool s.names.entries s.drafts.items s.levels (beside_of s.gathering s.registers s.traps s.words) s.stored c.args.name c.text_in.result c.args.self.now c.self.view_is c.text_in.ensures ∙ ap (option_map (text s.pool)) c.in-Some.is in
+    let same = depths s.pool s.names.entries s.drafts.items s.levels (beside_of s.gathering s.registers s.traps s.words) s.stored c.args.self.now c.self.view_is in
     let same_most = same.same_most in
     let same_depth = same.same_depth in
     let below = c.self.invariant.within in
@@ -70,12 +70,12 @@ returns-then-is_full-clause-answer g c =
 pub hold-requires-clause-is_open : goal.hold-requires-clause-is_open
 hold-requires-clause-is_open g c =
     let s = c.self.inside in
-    (is_named s.pool s.names s.drafts s.levels (beside_of s.gathering s.registers s.traps) s.charge s.stored c.args.name c.in-Some.id c.text_in.result c.self.invariant c.text_in.ensures c.in-Some.is).there.is_open
+    (is_named s.pool s.names s.drafts s.levels (beside_of s.gathering s.registers s.traps s.words) s.charge s.stored c.args.name c.in-Some.id c.text_in.result c.self.invariant c.text_in.ensures c.in-Some.is).there.is_open
 
 pub hold-requires-clause-fits : goal.hold-requires-clause-fits
 hold-requires-clause-fits g c =
     let s = c.self.inside in
-    let few = (is_named s.pool s.names s.drafts s.levels (beside_of s.gathering s.registers s.traps) s.charge s.stored c.args.name c.in-Some.id c.text_in.result c.self.invariant c.text_in.ensures c.in-Some.is).there.few in
+    let few = (is_named s.pool s.names s.drafts s.levels (beside_of s.gathering s.registers s.traps s.words) s.charge s.stored c.args.name c.in-Some.id c.text_in.result c.self.invariant c.text_in.ensures c.in-Some.is).there.few in
     let below = c.self.invariant.within in
     let small = c.self.invariant.small in
     omega arith
@@ -84,7 +84,7 @@ pub open_text-requires-clause-bytes : goal.open_text-requires-clause-bytes
 open_text-requires-clause-bytes g c =
     let s = c.self.inside in
     let below = c.self.invariant.within in
-    let fit = levels_within s.pool s.names s.drafts s.levels (beside_of s.gathering s.registers s.traps) s.charge s.stored c.self.invariant in
+    let fit = levels_within s.pool s.names s.drafts s.levels (beside_of s.gathering s.registers s.traps s.words) s.charge s.stored c.self.invariant in
     let suffice = c.self.invariant.bytes_suffice in
     let long = c.len.ensures in
     omega arith
@@ -92,18 +92,18 @@ open_text-requires-clause-bytes g c =
 pub invariant_of-self : goal.invariant_of-self
 invariant_of-self g c =
     let s = c.self.inside in
-    let counted = (is_named s.pool s.names s.drafts s.levels (beside_of s.gathering s.registers s.traps) s.charge s.stored c.args.name c.in-Some.id c.text_in.result c.self.invariant c.text_in.ensures c.in-Some.is).counted in
+    let counted = (is_named s.pool s.names s.drafts s.levels (beside_of s.gathering s.registers s.traps s.words) s.charge s.stored c.args.name c.in-Some.id c.text_in.result c.self.invariant c.text_in.ensures c.in-Some.is).counted in
     let deep = leb-false s.levels.most (length s.levels.levels) (sym c.is_full.ensures ∙ c.if-is_full.false) in
     let below = c.self.invariant.within in
     let long = c.len.ensures in
-    rw (c.hold.ensures.held, c.open_text.ensures) (entered_stands s.pool s.names s.drafts s.levels (beside_of s.gathering s.registers s.traps) s.charge s.stored c.in-Some.id c.self.invariant counted [] (16 + c.len.result) c.args.resume (omega arith) (omega arith) deep)
+    rw (c.hold.ensures.held, c.open_text.ensures) (entered_stands s.pool s.names s.drafts s.levels (beside_of s.gathering s.registers s.traps s.words) s.charge s.stored c.in-Some.id c.self.invariant counted [] (16 + c.len.result) c.args.resume (omega arith) (omega arith) deep)
 
 pub returns-clause-answer : goal.returns-clause-answer
 returns-clause-answer g c =
     let s = c.self.inside in
-    let within = is_within s.pool s.names s.drafts s.levels (beside_of s.gathering s.registers s.traps) s.charge s.stored c.args.self.now c.self.invariant c.self.view_is in
-    let found = named_text s.pool s.names.entries s.drafts.items s.levels (beside_of s.gathering s.registers s.traps) s.stored c.args.name c.text_in.result c.args.self.now c.self.view_is c.text_in.ensures ∙ ap (option_map (text s.pool)) c.in-Some.is in
-    let same = depths s.pool s.names.entries s.drafts.items s.levels (beside_of s.gathering s.registers s.traps) s.stored c.args.self.now c.self.view_is in
+    let within = is_within s.pool s.names s.drafts s.levels (beside_of s.gathering s.registers s.traps s.words) s.charge s.stored c.args.self.now c.self.invariant c.self.view_is in
+    let found = named_text s.pool s.names.entries s.drafts.items s.levels (beside_of s.gathering s.registers s.traps s.words) s.stored c.args.name c.text_in.result c.args.self.now c.self.view_is c.text_in.ensures ∙ ap (option_map (text s.pool)) c.in-Some.is in
+    let same = depths s.pool s.names.entries s.drafts.items s.levels (beside_of s.gathering s.registers s.traps s.words) s.stored c.args.self.now c.self.view_is in
     let same_most = same.same_most in
     let same_depth = same.same_depth in
     let below = c.self.invariant.within in
@@ -114,6 +114,6 @@ returns-clause-answer g c =
 pub returns-clause-ok : goal.returns-clause-ok
 returns-clause-ok g c =
     let s = c.self.inside in
-    let counted = (is_named s.pool s.names s.drafts s.levels (beside_of s.gathering s.registers s.traps) s.charge s.stored c.args.name c.in-Some.id c.text_in.result c.self.invariant c.text_in.ensures c.in-Some.is).counted in
-    let found = named_text s.pool s.names.entries s.drafts.items s.levels (beside_of s.gathering s.registers s.traps) s.stored c.args.name c.text_in.result c.args.self.now c.self.view_is c.text_in.ensures ∙ ap (option_map (text s.pool)) c.in-Some.is in
-    rw (c.hold.ensures.held, c.open_text.ensures, c.len.ensures, found) (entered_is s.pool s.names s.drafts s.levels (beside_of s.gathering s.registers s.traps) s.charge s.stored c.in-Some.id c.self.invariant counted [] (share (text s.pool c.in-Some.id)) c.args.resume (omega arith) ∙ ap (λ (v : Stored _). entered (Some (text s.pool c.in-Some.id)) c.args.resume v) c.self.view_is)
+    let counted = (is_named s.pool s.names s.drafts s.levels (beside_of s.gathering s.registers s.traps s.words) s.charge s.stored c.args.name c.in-Some.id c.text_in.result c.self.invariant c.text_in.ensures c.in-Some.is).counted in
+    let found = named_text s.pool s.names.entries s.drafts.items s.levels (beside_of s.gathering s.registers s.traps s.words) s.stored c.args.name c.text_in.result c.args.self.now c.self.view_is c.text_in.ensures ∙ ap (option_map (text s.pool)) c.in-Some.is in
+    rw (c.hold.ensures.held, c.open_text.ensures, c.len.ensures, found) (entered_is s.pool s.names s.drafts s.levels (beside_of s.gathering s.registers s.traps s.words) s.charge s.stored c.in-Some.id c.self.invariant counted [] (share (text s.pool c.in-Some.id)) c.args.resume (omega arith) ∙ ap (λ (v : Stored _). entered (Some (text s.pool c.in-Some.id)) c.args.resume v) c.self.view_is)

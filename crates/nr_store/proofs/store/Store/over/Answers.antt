@@ -1,10 +1,11 @@
-use Rattle.std.proofs.Common.{◌≡◌, [], length, ap, ◌∙◌, arith}
-use Rattle.std.proofs.lemmas.List.{length-replicate}
+use Rattle.std.proofs.Common.{◌≡◌, [], length, map, ap, ◌∙◌, arith}
+use Rattle.std.proofs.lemmas.List.{length-replicate, length-take-le}
 use Rattle.nr_units.specs.Items.{Items}
 use Rattle.nr_pool.specs.Texts.{no_text}
 use Rattle.nr_tables.specs.Rows.{Table}
+use Rattle.nr_tables.specs.Given.{word_in}
 use Rattle.nr_levels.specs.Levels.{Levels}
-use Rattle.nr_levels.specs.Gathered.{Gathering}
+use Rattle.nr_levels.specs.Gathered.{Gathering, none_gathered}
 use Rattle.nr_store.specs.declared.element.Element.{Element}
 use Rattle.nr_store.specs.declared.request.TheConstants.{REQUESTS}
 use Rattle.nr_store.specs.Stored.{charge_beside}
@@ -27,7 +28,11 @@ invariant_of-result g c =
     let registers_room = ap (λ (v : Table _). v.room) c.over-5.ensures in
     let traps_room = c.over-6.ensures.room in
     let texts : length c.over.result.texts ≡ length m.slots.now = ap length empty ∙ length-replicate (length m.slots.now) (no_text {T = Element}) in
+    let words_room = ap (λ (v : Items _). v.room) c.over-7.ensures in
+    let no_words = ap (λ (v : Items _). charge_beside none_gathered [] [] (map word_in v.items)) c.over-7.ensures in
     let r = c.requires in
+    let words = r.words in
+    let bytes_long = length-take-le c.args.limit m.bytes.now r.bytes in
     let elements = r.elements in
     let small = r.elements_small in
     let slots = r.slots in
@@ -40,6 +45,6 @@ invariant_of-result g c =
     let no_gathered = ap (λ (v : Gathering). charge_beside v.gathered [] [] []) c.over-4.ensures in
     let no_registers = ap (λ (v : Table _). length v.entries) c.over-5.ensures in
     let no_traps = ap length c.over-6.ensures.empty in
-    begins_empty c.over.result c.name_requests.new.names c.over-2.result c.over-3.result (beside_of c.over-4.result c.over-5.result c.over-6.result) c.args.limit (length m.slots.now) empty named
+    begins_empty c.over.result c.name_requests.new.names c.over-2.result c.over-3.result (beside_of c.over-4.result c.over-5.result c.over-6.result c.over-7.result) c.args.limit (length m.slots.now) empty named
     (ap (λ (v : Items _). v.items) c.over-2.ensures) (ap (λ (v : Levels _). v.levels) c.over-3.ensures) (omega arith)
-    (omega arith) (omega arith) (omega arith) (omega arith) (omega arith) (omega arith) (record { gathering = omega arith; registers = omega arith; traps = omega arith })
+    (omega arith) (omega arith) (omega arith) (omega arith) (omega arith) (omega arith) (record { gathering = omega arith; registers = omega arith; traps = omega arith; words = omega arith })

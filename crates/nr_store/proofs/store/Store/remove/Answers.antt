@@ -8,32 +8,32 @@ use Rattle.nr_store.proofs.store.Store.remove.Goals as goal
 pub invariant_of-self : goal.invariant_of-self
 invariant_of-self g c =
     let s = c.self.inside in
-    rw c.remove.ensures.is (taken_none s.pool s.names s.drafts s.levels (beside_of s.gathering s.registers s.traps) s.charge s.stored c.args.name c.remove.result c.args.self.now c.self.invariant c.self.view_is c.remove.ensures.was c.in_default.is).stands
+    rw c.remove.ensures.is (taken_none s.pool s.names s.drafts s.levels (beside_of s.gathering s.registers s.traps s.words) s.charge s.stored c.args.name c.remove.result c.args.self.now c.self.invariant c.self.view_is c.remove.ensures.was c.in_default.is).stands
 
 pub returns-in_default-clause-is : goal.returns-in_default-clause-is
 returns-in_default-clause-is g c =
     let s = c.self.inside in
-    rw c.remove.ensures.is (taken_none s.pool s.names s.drafts s.levels (beside_of s.gathering s.registers s.traps) s.charge s.stored c.args.name c.remove.result c.args.self.now c.self.invariant c.self.view_is c.remove.ensures.was c.in_default.is).is
+    rw c.remove.ensures.is (taken_none s.pool s.names s.drafts s.levels (beside_of s.gathering s.registers s.traps s.words) s.charge s.stored c.args.name c.remove.result c.args.self.now c.self.invariant c.self.view_is c.remove.ensures.was c.in_default.is).is
 
 pub invariant_of-self-in_default-old : goal.invariant_of-self-in_default-old
 invariant_of-self-in_default-old g c =
     let s = c.self.inside in
-    rw c.remove.ensures.is (request_given_up s.pool s.names s.drafts s.levels (beside_of s.gathering s.registers s.traps) s.charge s.stored _ _ _ _ c.self.invariant (taken_some s.pool s.names s.drafts s.levels (beside_of s.gathering s.registers s.traps) s.charge s.stored c.args.name c.remove.result c.args.self.now c.self.invariant c.self.view_is c.remove.ensures.was c.in-Some.old c.in-Some.is) _ c.in_default-old.is).stands
+    rw c.remove.ensures.is (request_given_up s.pool s.names s.drafts s.levels (beside_of s.gathering s.registers s.traps s.words) s.charge s.stored _ _ _ _ c.self.invariant (taken_some s.pool s.names s.drafts s.levels (beside_of s.gathering s.registers s.traps s.words) s.charge s.stored c.args.name c.remove.result c.args.self.now c.self.invariant c.self.view_is c.remove.ensures.was c.in-Some.old c.in-Some.is) _ c.in_default-old.is).stands
 
 pub returns-in_default-old-clause-is : goal.returns-in_default-old-clause-is
 returns-in_default-old-clause-is g c =
     let s = c.self.inside in
-    rw c.remove.ensures.is (request_given_up s.pool s.names s.drafts s.levels (beside_of s.gathering s.registers s.traps) s.charge s.stored _ _ _ _ c.self.invariant (taken_some s.pool s.names s.drafts s.levels (beside_of s.gathering s.registers s.traps) s.charge s.stored c.args.name c.remove.result c.args.self.now c.self.invariant c.self.view_is c.remove.ensures.was c.in-Some.old c.in-Some.is) _ c.in_default-old.is).is
+    rw c.remove.ensures.is (request_given_up s.pool s.names s.drafts s.levels (beside_of s.gathering s.registers s.traps s.words) s.charge s.stored _ _ _ _ c.self.invariant (taken_some s.pool s.names s.drafts s.levels (beside_of s.gathering s.registers s.traps s.words) s.charge s.stored c.args.name c.remove.result c.args.self.now c.self.invariant c.self.view_is c.remove.ensures.was c.in-Some.old c.in-Some.is) _ c.in_default-old.is).is
 
 pub len-requires : goal.len-requires
 len-requires g c =
     let s = c.self.inside in
-    (text_dropped s.pool s.names s.drafts s.levels (beside_of s.gathering s.registers s.traps) s.charge s.stored _ _ _ _ c.self.invariant (taken_some s.pool s.names s.drafts s.levels (beside_of s.gathering s.registers s.traps) s.charge s.stored c.args.name c.remove.result c.args.self.now c.self.invariant c.self.view_is c.remove.ensures.was c.in-Some.old c.in-Some.is) c.in-Text.old c.in-Text.is).is_open
+    (text_dropped s.pool s.names s.drafts s.levels (beside_of s.gathering s.registers s.traps s.words) s.charge s.stored _ _ _ _ c.self.invariant (taken_some s.pool s.names s.drafts s.levels (beside_of s.gathering s.registers s.traps s.words) s.charge s.stored c.args.name c.remove.result c.args.self.now c.self.invariant c.self.view_is c.remove.ensures.was c.in-Some.old c.in-Some.is) c.in-Text.old c.in-Text.is).is_open
 
 pub overflow_cast-self : goal.overflow_cast-self
 overflow_cast-self g c =
     let s = c.self.inside in
-    let weighs = (text_dropped s.pool s.names s.drafts s.levels (beside_of s.gathering s.registers s.traps) s.charge s.stored _ _ _ _ c.self.invariant (taken_some s.pool s.names s.drafts s.levels (beside_of s.gathering s.registers s.traps) s.charge s.stored c.args.name c.remove.result c.args.self.now c.self.invariant c.self.view_is c.remove.ensures.was c.in-Some.old c.in-Some.is) c.in-Text.old c.in-Text.is).weighs in
+    let weighs = (text_dropped s.pool s.names s.drafts s.levels (beside_of s.gathering s.registers s.traps s.words) s.charge s.stored _ _ _ _ c.self.invariant (taken_some s.pool s.names s.drafts s.levels (beside_of s.gathering s.registers s.traps s.words) s.charge s.stored c.args.name c.remove.result c.args.self.now c.self.invariant c.self.view_is c.remove.ensures.was c.in-Some.old c.in-Some.is) c.in-Text.old c.in-Text.is).weighs in
     let below = c.self.invariant.within in
     let small = c.self.invariant.small in
     omega arith
@@ -41,7 +41,7 @@ overflow_cast-self g c =
 pub overflow_add-self : goal.overflow_add-self
 overflow_add-self g c =
     let s = c.self.inside in
-    let weighs = (text_dropped s.pool s.names s.drafts s.levels (beside_of s.gathering s.registers s.traps) s.charge s.stored _ _ _ _ c.self.invariant (taken_some s.pool s.names s.drafts s.levels (beside_of s.gathering s.registers s.traps) s.charge s.stored c.args.name c.remove.result c.args.self.now c.self.invariant c.self.view_is c.remove.ensures.was c.in-Some.old c.in-Some.is) c.in-Text.old c.in-Text.is).weighs in
+    let weighs = (text_dropped s.pool s.names s.drafts s.levels (beside_of s.gathering s.registers s.traps s.words) s.charge s.stored _ _ _ _ c.self.invariant (taken_some s.pool s.names s.drafts s.levels (beside_of s.gathering s.registers s.traps s.words) s.charge s.stored c.args.name c.remove.result c.args.self.now c.self.invariant c.self.view_is c.remove.ensures.was c.in-Some.old c.in-Some.is) c.in-Text.old c.in-Text.is).weighs in
     let below = c.self.invariant.within in
     let small = c.self.invariant.small in
     let long = c.len.ensures in
@@ -50,24 +50,24 @@ overflow_add-self g c =
 pub overflow_sub-self : goal.overflow_sub-self
 overflow_sub-self g c =
     let s = c.self.inside in
-    let weighs = (text_dropped s.pool s.names s.drafts s.levels (beside_of s.gathering s.registers s.traps) s.charge s.stored _ _ _ _ c.self.invariant (taken_some s.pool s.names s.drafts s.levels (beside_of s.gathering s.registers s.traps) s.charge s.stored c.args.name c.remove.result c.args.self.now c.self.invariant c.self.view_is c.remove.ensures.was c.in-Some.old c.in-Some.is) c.in-Text.old c.in-Text.is).weighs in
+    let weighs = (text_dropped s.pool s.names s.drafts s.levels (beside_of s.gathering s.registers s.traps s.words) s.charge s.stored _ _ _ _ c.self.invariant (taken_some s.pool s.names s.drafts s.levels (beside_of s.gathering s.registers s.traps s.words) s.charge s.stored c.args.name c.remove.result c.args.self.now c.self.invariant c.self.view_is c.remove.ensures.was c.in-Some.old c.in-Some.is) c.in-Text.old c.in-Text.is).weighs in
     let long = c.len.ensures in
     omega arith
 
 pub release-requires : goal.release-requires
 release-requires g c =
     let s = c.self.inside in
-    (text_dropped s.pool s.names s.drafts s.levels (beside_of s.gathering s.registers s.traps) s.charge s.stored _ _ _ _ c.self.invariant (taken_some s.pool s.names s.drafts s.levels (beside_of s.gathering s.registers s.traps) s.charge s.stored c.args.name c.remove.result c.args.self.now c.self.invariant c.self.view_is c.remove.ensures.was c.in-Some.old c.in-Some.is) c.in-Text.old c.in-Text.is).is_open
+    (text_dropped s.pool s.names s.drafts s.levels (beside_of s.gathering s.registers s.traps s.words) s.charge s.stored _ _ _ _ c.self.invariant (taken_some s.pool s.names s.drafts s.levels (beside_of s.gathering s.registers s.traps s.words) s.charge s.stored c.args.name c.remove.result c.args.self.now c.self.invariant c.self.view_is c.remove.ensures.was c.in-Some.old c.in-Some.is) c.in-Text.old c.in-Text.is).is_open
 
 pub invariant_of-self-2 : goal.invariant_of-self-2
 invariant_of-self-2 g c =
     let s = c.self.inside in
-    rw (c.remove.ensures.is, c.release.ensures.released, c.len.ensures) (text_dropped s.pool s.names s.drafts s.levels (beside_of s.gathering s.registers s.traps) s.charge s.stored _ _ _ _ c.self.invariant (taken_some s.pool s.names s.drafts s.levels (beside_of s.gathering s.registers s.traps) s.charge s.stored c.args.name c.remove.result c.args.self.now c.self.invariant c.self.view_is c.remove.ensures.was c.in-Some.old c.in-Some.is) c.in-Text.old c.in-Text.is).stands
+    rw (c.remove.ensures.is, c.release.ensures.released, c.len.ensures) (text_dropped s.pool s.names s.drafts s.levels (beside_of s.gathering s.registers s.traps s.words) s.charge s.stored _ _ _ _ c.self.invariant (taken_some s.pool s.names s.drafts s.levels (beside_of s.gathering s.registers s.traps s.words) s.charge s.stored c.args.name c.remove.result c.args.self.now c.self.invariant c.self.view_is c.remove.ensures.was c.in-Some.old c.in-Some.is) c.in-Text.old c.in-Text.is).stands
 
 pub returns-clause-is : goal.returns-clause-is
 returns-clause-is g c =
     let s = c.self.inside in
-    rw (c.remove.ensures.is, c.release.ensures.released) (text_dropped s.pool s.names s.drafts s.levels (beside_of s.gathering s.registers s.traps) s.charge s.stored _ _ _ _ c.self.invariant (taken_some s.pool s.names s.drafts s.levels (beside_of s.gathering s.registers s.traps) s.charge s.stored c.args.name c.remove.result c.args.self.now c.self.invariant c.self.view_is c.remove.ensures.was c.in-Some.old c.in-Some.is) c.in-Text.old c.in-Text.is).is
+    rw (c.remove.ensures.is, c.release.ensures.released) (text_dropped s.pool s.names s.drafts s.levels (beside_of s.gathering s.registers s.traps s.words) s.charge s.stored _ _ _ _ c.self.invariant (taken_some s.pool s.names s.drafts s.levels (beside_of s.gathering s.registers s.traps s.words) s.charge s.stored c.args.name c.remove.result c.args.self.now c.self.invariant c.self.view_is c.remove.ensures.was c.in-Some.old c.in-Some.is) c.in-Text.old c.in-Text.is).is
 
 pub returns-in_default-clause-gone : goal.returns-in_default-clause-gone
 returns-in_default-clause-gone g c =

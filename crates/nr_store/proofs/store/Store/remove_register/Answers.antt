@@ -16,5 +16,5 @@ invariant_of-self-2 g c =
     let below = c.self.invariant.within in
     let suffice = c.self.invariant.beside_suffices in
     let less = without_length c.args.name _ s.registers.entries (sym c.remove.ensures.was ∙ c.in-Some.is) in
-    let paid = beside_paid s.pool s.names s.drafts s.levels (beside_of s.gathering s.registers s.traps) s.charge s.stored c.self.invariant in
-    rw c.remove.ensures.is (beside_stands s.pool s.names s.drafts s.levels (beside_of s.gathering s.registers s.traps) s.charge s.stored c.self.invariant (beside_of s.gathering (record s.registers { entries = without c.args.name s.registers.entries }) s.traps) (s.charge - 48) (omega arith) (omega arith) (record { gathering = suffice.gathering; registers = suffice.registers; traps = suffice.traps }))
+    let paid = beside_paid s.pool s.names s.drafts s.levels (beside_of s.gathering s.registers s.traps s.words) s.charge s.stored c.self.invariant in
+    rw c.remove.ensures.is (beside_stands s.pool s.names s.drafts s.levels (beside_of s.gathering s.registers s.traps s.words) s.charge s.stored c.self.invariant (beside_of s.gathering (record s.registers { entries = without c.args.name s.registers.entries }) s.traps s.words) (s.charge - 48) (omega arith) (omega arith) (record { gathering = suffice.gathering; registers = suffice.registers; traps = suffice.traps; words = suffice.words }))

@@ -9,11 +9,11 @@ pub returns-in_default : goal.returns-in_default
 returns-in_default g c =
     let s = c.self.inside in
     let at = rw (c.as_slice.ensures.value, to_z-of_z c.ranges.place) at c.trap_at.ensures in
-    sym (ap (λ (v : Stored _). trap_removed c.args.place v) (sym c.self.view_is) ∙ ap (λ o. record (stored_of s.pool s.names.entries s.drafts.items s.levels (beside_of s.gathering s.registers s.traps) s.stored) { traps = without_trap o s.traps.items }) (sym at ∙ c.in_default.is) ∙ c.self.view_is)
+    sym (ap (λ (v : Stored _). trap_removed c.args.place v) (sym c.self.view_is) ∙ ap (λ o. record (stored_of s.pool s.names.entries s.drafts.items s.levels (beside_of s.gathering s.registers s.traps s.words) s.stored) { traps = without_trap o s.traps.items }) (sym at ∙ c.in_default.is) ∙ c.self.view_is)
 
 pub returns : goal.returns
 returns g c =
     let s = c.self.inside in
     let at = rw (c.as_slice.ensures.value, to_z-of_z c.ranges.place) at c.trap_at.ensures in
     rw c.remove.ensures.items
-    (sym (ap (λ o. record (stored_of s.pool s.names.entries s.drafts.items s.levels (beside_of s.gathering s.registers s.traps) s.stored) { traps = without_trap o s.traps.items }) (sym at ∙ c.in-Some.is)) ∙ ap (trap_removed c.args.place) c.self.view_is)
+    (sym (ap (λ o. record (stored_of s.pool s.names.entries s.drafts.items s.levels (beside_of s.gathering s.registers s.traps s.words) s.stored) { traps = without_trap o s.traps.items }) (sym at ∙ c.in-Some.is)) ∙ ap (trap_removed c.args.place) c.self.view_is)

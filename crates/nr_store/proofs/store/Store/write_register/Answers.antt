@@ -7,7 +7,7 @@ use Rattle.nr_store.proofs.store.Store.write_register.Goals as goal
 pub returns-in_default-clause-answer : goal.returns-in_default-clause-answer
 returns-in_default-clause-answer g c =
     let s = c.self.inside in
-    let within = is_within s.pool s.names s.drafts s.levels (beside_of s.gathering s.registers s.traps) s.charge s.stored c.args.self.now c.self.invariant c.self.view_is in
+    let within = is_within s.pool s.names s.drafts s.levels (beside_of s.gathering s.registers s.traps s.words) s.charge s.stored c.args.self.now c.self.invariant c.self.view_is in
     let charged = within.charged in
     let limits = within.same_limit in
     let fits = within.within in

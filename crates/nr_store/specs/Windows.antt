@@ -1,0 +1,32 @@
+-- A run of elements of the newest level.
+use Rattle.std.specs.Prelude.{ℕ, zero, suc, List, [], ◌∷◌, drop}
+use Rattle.nr_store.specs.declared.element.Element.{Element}
+use Rattle.nr_store.specs.Stored.{Level, Read, Mark, Stored, left}
+
+-- what is left of a level's text
+abbrev pub rest_in : {K : Type 0} → Level K → List Element
+rest_in (Read l) = l.rest
+rest_in (Mark mode) = []
+
+-- what is left of the newest level's text
+abbrev pub rest_of : {K : Type 0} → List (Level K) → List Element
+rest_of [] = []
+rest_of (l ∷ ls) = rest_in l
+
+-- behind what comes next, so many times
+abbrev pub left_times : {K : Type 0} → ℕ → Stored K → Stored K
+left_times zero v = v
+left_times (suc n) v = left_times n (left v.levels v)
+
+-- a level behind so many elements of its text
+abbrev pub level_behind : {K : Type 0} → ℕ → Level K → Level K
+level_behind n (Read l) = Read (record l { rest = drop n l.rest })
+level_behind n (Mark mode) = Mark mode
+
+-- with the newest level behind so many elements of its text
+abbrev pub levels_behind : {K : Type 0} → ℕ → List (Level K) → List (Level K)
+levels_behind n [] = []
+levels_behind n (l ∷ ls) = level_behind n l ∷ ls
+
+abbrev pub run_left : {K : Type 0} → ℕ → Stored K → Stored K
+run_left n v = record v { levels = levels_behind n v.levels }

@@ -1,0 +1,49 @@
+// Hyphenation words.
+ghost use Rattle.std.specs.Prelude.{◌≡◌, OnOk, OnErr};
+ghost use Rattle.nr_tables.specs.Words.{bytes_of, points_of};
+ghost use Rattle.nr_store.specs.Stored.{afforded, worded};
+
+use crate::refusal::StoredBytes;
+use crate::store::Store;
+use nr_tables::HyphenationWord;
+use nr_tables::word::{LONGEST, stem};
+use nr_units::cell::Cell;
+
+impl<'a, K: Copy> Store<'a, K> {
+    /// Takes a hyphenation word as it is given, with a minus sign in each place where it may be cut (CSTR 54, `.hw`).
+    /// One above 64 bytes, minus signs counted, changes nothing.
+    pub fn add_word(&mut self, word: &[u8]) -> Result<(), StoredBytes>
+        ensures answer { result ≡ afforded (worded word.now self.old) tt }
+        ensures ok { OnOk result (self.new ≡ worded word.now self.old) }
+        ensures err { OnErr result (self.new ≡ self.old) }
+    {
+        let room = self.stored - self.charge;
+        if word.len() > LONGEST {
+            return Ok(());
+        }
+        let word = HyphenationWord::of(word);
+        let weight = 16 + word.letters().len() as u32;
+        if room < weight {
+            return Err(StoredBytes);
+        }
+        self.words.push(word);
+        self.charge += weight;
+        Ok(())
+    }
+
+    /// The places where a word may be cut, each so many cells in, in rising order: those of the latest hyphenation word
+    /// that it is, the `.,;:!?)` at its end aside and perhaps with an `s` more. There are none where it is none. It takes
+    /// as many steps as there are hyphenation words.
+    pub fn points(&self, word: &[Cell]) -> &[u8]
+        ensures { result.now ≡ points_of (bytes_of word.now) self.now.words }
+    {
+        let word = stem(word);
+        for n in 0..self.words.len() {
+            let given = self.words.at(n);
+            if given.is_given(word) {
+                return given.points();
+            }
+        }
+        &[]
+    }
+}
