@@ -1,4 +1,10 @@
 pub mod Fronts
 pub mod Newest
 pub mod Over
+pub mod Paying
+pub mod Asked
+pub mod Copied
+pub mod Escaped
+pub mod Unescaped
+pub mod Weighing
 pub mod Stacked

@@ -1,14 +1,14 @@
 -- The newest escape that is half read, or that there is none.
 use Rattle.std.specs.Prelude.{slice_get}
-use Rattle.std.proofs.Common.{◌≡◌, ℕ, Bool, true, false, List, [], ◌∷◌, Option, None, Some, refl, ap, sym, ◌∙◌}
+use Rattle.std.proofs.Common.{◌≡◌, ℕ, Bool, true, false, List, [], ◌∷◌, None, Some, refl, ap}
 use Rattle.nr_reading.specs.declared.ask.Ask.{Ask}
 use Rattle.nr_reading.specs.declared.ask.Kind.{Kind}
 use Rattle.nr_reading.specs.declared.front.Front.{Front}
 use Rattle.nr_reading.specs.declared.half.Half.{Half}
 use Rattle.nr_reading.specs.declared.mode.Escape.{Escape}
 use Rattle.nr_reading.specs.Asking.{answer, is_size, reads_argument}
-use Rattle.nr_reading.specs.Copying.{offer}
-use Rattle.nr_reading.specs.Meeting.{Met, met_copied, answered, hear_by, meet_by, offered, offer_to}
+use Rattle.nr_reading.specs.Copying.{offer, raw_offer}
+use Rattle.nr_reading.specs.Meeting.{met_copied, answered, hear_by, meet_by, offered, offer_to}
 use Rattle.nr_reading.specs.Reading.{read}
 
 pub hear_reader : (asks : List Ask) (front : Bool) (b : ℕ) (h : Half) → slice_get asks 0 ≡ None → hear_by asks front b h ≡ met_copied front (read b h.signs h.notes h.reading) h
@@ -29,3 +29,6 @@ meet_ask (n ∷ asks) a f h some = let same : n ≡ a = cc in ap (λ (x : Ask). 
 
 pub offer_copied : (k : Kind) (f : Front) (e : Escape) → is_size k ≡ false → offer f e (reads_argument k) ≡ offer_to k f e
 offer_copied k f e plain = rw plain refl
+
+pub offer_raw : (k : Kind) (f : Front) (e : Escape) → is_size k ≡ true → raw_offer f e ≡ offer_to k f e
+offer_raw k f e size = rw size refl

@@ -20,3 +20,4 @@ pub mod Strings
 pub mod Text
 pub mod TextEscapes
 pub mod Titles
+pub mod Weights

@@ -46,6 +46,7 @@ impl Half {
     ghost use Rattle.nr_reading.specs.Asking.{event_of};
     ghost use Rattle.nr_reading.specs.Spelling.{name_of};
     ghost use Rattle.nr_reading.specs.Meeting.{asking, too_deep, beginning, settled, replaced, finished, argued, longer, answered, asked_by, stepped, met_directly, met_copied, hear_by, over_by, escaping, silent, offered, meet_by, met};
+    ghost use Rattle.nr_reading.specs.Weights.{PaysFor};
 
     /// Nothing is half read.
     pub fn new() -> Half
@@ -246,7 +247,8 @@ impl Half {
 
     /// What the item in front does.
     pub fn meet(&mut self, front: Front) -> Seen
-        ensures { met self.new result ≡ meet front self.old }
+        ensures meets { met self.new result ≡ meet front self.old }
+        ensures pays { self.old.reading.due ≡ Due.Look → PaysFor front self.old self.new result }
     {
         let Some(ask) = self.asks.newest() else {
             return self.meet_reader(front);

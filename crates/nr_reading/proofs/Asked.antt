@@ -1,0 +1,160 @@
+-- Elements that come to an escape whose argument is half read pay for what it answers.
+use Rattle.std.specs.Prelude.{◌&&◌, ◌||◌, not, nat_le}
+use Rattle.std.proofs.Common.{◌≡◌, ℕ, ◌+◌, ◌-◌, ◌*◌, ◌≤◌, ◌==◌, Bool, true, false, if◌then◌else◌, List, ◌∷◌, refl, arith}
+use Rattle.std.proofs.lemmas.List.Sums.{sum_by-cons}
+use Rattle.nr_reading.specs.declared.ask.Ask.{Ask}
+use Rattle.nr_reading.specs.declared.ask.Answer.{Answer}
+use Rattle.nr_reading.specs.declared.ask.Answer.TheVariants as answers
+use Rattle.nr_reading.specs.declared.ask.Kind.{Kind}
+use Rattle.nr_reading.specs.declared.ask.Kind.TheVariants as kinds
+use Rattle.nr_reading.specs.declared.ask.Sign.{Sign}
+use Rattle.nr_reading.specs.declared.ask.Sign.TheVariants as signs
+use Rattle.nr_reading.specs.declared.ask.Stage.{Stage}
+use Rattle.nr_reading.specs.declared.ask.Stage.TheVariants as stages
+use Rattle.nr_reading.specs.declared.event.Event.TheVariants as events
+use Rattle.nr_reading.specs.declared.half.Half.{Half}
+use Rattle.nr_reading.specs.declared.mode.Due.TheVariants as dues
+use Rattle.nr_reading.specs.declared.mode.Escape.{Escape}
+use Rattle.nr_reading.specs.declared.mode.Escape.TheVariants as escapes
+use Rattle.nr_reading.specs.declared.mode.Mode.{Mode}
+use Rattle.nr_reading.specs.declared.mode.Reading.{Reading}
+use Rattle.nr_reading.specs.declared.mode.Signs.{Signs}
+use Rattle.nr_reading.specs.declared.notes.Notes.{Notes}
+use Rattle.nr_reading.specs.declared.spelled.Spelled.{Spelled}
+use Rattle.nr_reading.specs.Asking.{is_argument, is_digit, is_unsigned, is_given, answer_byte, answer, due_of, event_of}
+use Rattle.nr_reading.specs.Delimiting.{Texts}
+use Rattle.nr_reading.specs.Meeting.{Met, answered, left_escape}
+use Rattle.nr_reading.specs.Spelling.{is_blank, is_empty, name_of}
+use Rattle.nr_reading.specs.Weights.{cost_of_event, paid_by, weight_by, weight_of_escape, weight_of_backslash, weight_of_half, weight_of_ask, blanks_owed, blanks_of_due, is_lead}
+use Rattle.nr_reading.proofs.Weighing.{at, weight_of_backslash-ge, weight_of_stage-ge}
+
+-- an item met what is half read: what comes of it is paid, at so much for the item
+pub record Meets (h : Half) (worth : ℕ) (m : Met) : Type 0 where
+  pub pays : weight_of_half m.half + cost_of_event m.event + 32 * (blanks_owed m.half - blanks_owed h) ≤ weight_of_half h + paid_by m.takes worth
+  pub tells : is_lead m.event ≡ false
+
+abbrev pub half_at : Reading → Signs → List Ask → Texts → Notes → Half
+half_at r s asks d o = record { reading = r; signs = s; asks = asks; delimited = d; notes = o }
+
+pub left_escape-le : (w : ℕ) (e : Escape) → weight_of_escape w (left_escape e) ≤ weight_of_escape w e
+left_escape-le w escapes.Plain = omega arith
+left_escape-le w escapes.Begun = omega arith
+left_escape-le w escapes.Comment = omega arith
+
+-- ---- what it answers
+
+abbrev weight_of_answer : Answer → ℕ
+weight_of_answer (answers.Goes a) = weight_of_ask a
+weight_of_answer (answers.Turns a) = weight_of_ask a + 1
+weight_of_answer x = 0
+
+pub record Affords (a : Ask) (x : Answer) : Type 0 where
+  pub pays : weight_of_answer x ≤ weight_of_ask a
+
+either : {a : Ask} (b : Bool) {x y : Answer} → Affords a x → Affords a y → Affords a (if b then x else y)
+either true p q = p
+either false p q = q
+
+abbrev asking : Kind → Stage → Spelled → Ask
+asking k s n = record { kind = k; stage = s; name = n }
+
+byte_answers : (s : Stage) (b : ℕ) (long : Bool) (k : Kind) (n : Spelled) → Affords (asking k s n) (answer_byte b long s (asking k s n))
+byte_answers stages.First b long k n =
+    either (is_argument k) (either (nat_le 49 b && nat_le b 57) (record { pays = omega arith }) (record { pays = omega arith }))
+    (either (b == 40) (record { pays = omega arith })
+    (either ((b == 91) && long) (record { pays = omega arith })
+    (either ((b == 43) && is_unsigned k) (record { pays = omega arith })
+    (either ((b == 45) && is_unsigned k) (record { pays = omega arith }) (record { pays = omega arith })))))
+byte_answers stages.Two b long k n = either (is_empty n.bytes) (record { pays = omega arith }) (record { pays = omega arith })
+byte_answers stages.Bracket b long k n =
+    either (b == 93) (record { pays = omega arith }) (either (is_blank b) (record { pays = omega arith }) (record { pays = omega arith }))
+byte_answers stages.Delimiter b long k n = record { pays = omega arith }
+byte_answers (stages.Inside d) b long k n = either (b == d) (record { pays = omega arith }) (record { pays = omega arith })
+byte_answers stages.Sign b long k n = either ((b == 43) || (b == 45)) (record { pays = omega arith }) (record { pays = omega arith })
+byte_answers (stages.Digit signed) b long k n =
+    either (not (is_digit b)) (record { pays = omega arith })
+    (either (not signed && nat_le 49 b && nat_le b 51) (record { pays = omega arith }) (record { pays = omega arith }))
+byte_answers stages.Second b long k n = either (is_digit b) (record { pays = omega arith }) (record { pays = omega arith })
+
+pub answer_answers : (b : ℕ) (long : Bool) (a : Ask) → Affords a (answer b long a)
+answer_answers b long a = either (b == 10) (record { pays = omega arith }) (byte_answers a.stage b long a.kind a.name)
+
+-- ---- where it has ended, what it splices and what it tells weigh 65
+
+record Ends (k : Kind) (name : List ℕ) (m : Mode) (e : Escape) : Type 0 where
+  pub pays : weight_by (due_of k name) m e + cost_of_event (event_of k name) ≤ weight_by dues.Look m e + 65
+  pub blanks : blanks_of_due (due_of k name) ≡ 0
+  pub tells : is_lead (event_of k name) ≡ false
+
+register_ends : (given : Bool) (s : Sign) (m : Mode) (e : Escape)
+    → (weight_by (if given then dues.Look else dues.Register s) m e + cost_of_event (if given then events.Given else events.Nothing) ≤ weight_by dues.Look m e + 65)
+    × (blanks_of_due (if given then dues.Look else dues.Register s) ≡ 0)
+    × (is_lead (if given then events.Given else events.Nothing) ≡ false)
+register_ends true s m e = (omega arith, refl, refl)
+register_ends false signs.None m e = (omega arith, refl, refl)
+register_ends false signs.Plus m e = (omega arith, refl, refl)
+register_ends false signs.Minus m e = (omega arith, refl, refl)
+
+ends : (k : Kind) (name : List ℕ) (m : Mode) (e : Escape) → Ends k name m e
+ends (kinds.Register s) name m e = let r = register_ends (is_given name) s m e in record { pays = r.0; blanks = r.1; tells = r.2 }
+ends kinds.String name m e = record { pays = omega arith; blanks = refl; tells = refl }
+ends k name m e = record { pays = omega arith; blanks = refl; tells = refl }
+
+-- ---- the item in front comes to it
+
+pub front_meets : (x : Answer) (a : Ask) (asks : List Ask) (m : Mode) (e : Escape) (c n : Bool) (s : Signs) (d : Texts) (o : Notes) → Affords a x
+    → let h = half_at (at m e c n) s (a ∷ asks) d o in Meets h 256 (answered true x h)
+front_meets (answers.Goes b) a asks m e c n s d o p =
+    let new = sum_by-cons weight_of_ask b asks in let old = sum_by-cons weight_of_ask a asks in let q = p.pays in record { pays = omega arith; tells = refl }
+front_meets (answers.Turns b) a asks m e c n s d o p =
+    let new = sum_by-cons weight_of_ask b asks in let old = sum_by-cons weight_of_ask a asks in let q = p.pays in record { pays = omega (arith, left_escape-le (weight_of_backslash m) e); tells = refl }
+front_meets (answers.Keeps b) a asks m e c n s d o p = record { pays = omega arith; tells = refl }
+front_meets (answers.Ends b) a asks m e c n s d o p =
+    let old = sum_by-cons weight_of_ask a asks in
+    let end = ends b.kind (name_of b.name) m escapes.Plain in
+    let worth = end.pays in
+    let none = end.blanks in
+    record { pays = omega (arith, weight_of_stage-ge a.stage); tells = end.tells }
+front_meets (answers.Stops b) a asks m e c n s d o p =
+    let old = sum_by-cons weight_of_ask a asks in
+    let end = ends b.kind (name_of b.name) m (left_escape e) in
+    let worth = end.pays in
+    let none = end.blanks in
+    record { pays = omega (arith, weight_of_stage-ge a.stage, left_escape-le (weight_of_backslash m) e); tells = end.tells }
+front_meets (answers.Argument k) a asks m e c n s d o p =
+    let old = sum_by-cons weight_of_ask a asks in record { pays = omega (arith, weight_of_stage-ge a.stage); tells = refl }
+
+-- ---- a `\` that was begun comes to it
+
+pub backslash_meets : (x : Answer) (a : Ask) (asks : List Ask) (m : Mode) (c n : Bool) (s : Signs) (d : Texts) (o : Notes) (w : ℕ) → Affords a x
+    → let h = half_at (at m escapes.Begun c n) s (a ∷ asks) d o in Meets h w (answered false x h)
+backslash_meets (answers.Goes b) a asks m c n s d o w p =
+    let new = sum_by-cons weight_of_ask b asks in let old = sum_by-cons weight_of_ask a asks in let q = p.pays in record { pays = omega (arith, weight_of_backslash-ge m); tells = refl }
+backslash_meets (answers.Turns b) a asks m c n s d o w p =
+    let new = sum_by-cons weight_of_ask b asks in let old = sum_by-cons weight_of_ask a asks in let q = p.pays in record { pays = omega arith; tells = refl }
+backslash_meets (answers.Keeps b) a asks m c n s d o w p = record { pays = omega (arith, weight_of_backslash-ge m); tells = refl }
+backslash_meets (answers.Ends b) a asks m c n s d o w p =
+    let old = sum_by-cons weight_of_ask a asks in
+    let end = ends b.kind (name_of b.name) m escapes.Plain in
+    let worth = end.pays in
+    let none = end.blanks in
+    record { pays = omega (arith, weight_of_stage-ge a.stage); tells = end.tells }
+backslash_meets (answers.Stops b) a asks m c n s d o w p =
+    let old = sum_by-cons weight_of_ask a asks in
+    let end = ends b.kind (name_of b.name) m escapes.Begun in
+    let worth = end.pays in
+    let none = end.blanks in
+    record { pays = omega (arith, weight_of_stage-ge a.stage); tells = end.tells }
+backslash_meets (answers.Argument k) a asks m c n s d o w p =
+    let old = sum_by-cons weight_of_ask a asks in record { pays = omega (arith, weight_of_stage-ge a.stage); tells = refl }
+
+-- ---- it ends where the list does
+
+pub stop_meets : (b a : Ask) (asks : List Ask) (m : Mode) (e : Escape) (c n : Bool) (s : Signs) (d : Texts) (o : Notes) (w : ℕ)
+    → let h = half_at (at m e c n) s (a ∷ asks) d o in Meets h w (answered false (answers.Stops b) h)
+stop_meets b a asks m e c n s d o w =
+    let old = sum_by-cons weight_of_ask a asks in
+    let end = ends b.kind (name_of b.name) m (left_escape e) in
+    let worth = end.pays in
+    let none = end.blanks in
+    record { pays = omega (arith, weight_of_stage-ge a.stage, left_escape-le (weight_of_backslash m) e); tells = end.tells }

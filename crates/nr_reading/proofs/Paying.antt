@@ -1,0 +1,286 @@
+-- Each item that meets what is half read pays for what comes of it.
+use Rattle.std.specs.Prelude.{sum_by, ◌&&◌, nat_lt, length}
+use Rattle.std.proofs.Common.{◌≡◌, ℕ, ◌+◌, ◌≤◌, ◌==◌, Bool, true, false, if◌then◌else◌, List, [], ◌∷◌, refl, ap, ◌∙◌, arith}
+use Rattle.std.proofs.lemmas.List.Sums.{sum_by-cons}
+use Rattle.nr_reading.specs.declared.ask.Ask.{Ask}
+use Rattle.nr_reading.specs.declared.ask.Kind.{Kind}
+use Rattle.nr_reading.specs.declared.ask.Kind.TheVariants as kinds
+use Rattle.nr_reading.specs.declared.ask.Sign.TheVariants as signs
+use Rattle.nr_reading.specs.declared.escape.Offer.{Offer}
+use Rattle.nr_reading.specs.declared.escape.Offer.TheVariants as offers
+use Rattle.nr_reading.specs.declared.event.Event.{Event}
+use Rattle.nr_reading.specs.declared.front.Front.{Front}
+use Rattle.nr_reading.specs.declared.front.Front.TheVariants as fronts
+use Rattle.nr_reading.specs.declared.half.Half.{Half}
+use Rattle.nr_reading.specs.declared.mode.Due.{Due}
+use Rattle.nr_reading.specs.declared.mode.Due.TheVariants as dues
+use Rattle.nr_reading.specs.declared.mode.Escape.{Escape}
+use Rattle.nr_reading.specs.declared.mode.Escape.TheVariants as escapes
+use Rattle.nr_reading.specs.declared.mode.Mode.{Mode}
+use Rattle.nr_reading.specs.declared.mode.Mode.TheVariants as modes
+use Rattle.nr_reading.specs.declared.mode.Reading.{Reading}
+use Rattle.nr_reading.specs.declared.mode.Signs.{Signs}
+use Rattle.nr_reading.specs.declared.notes.Notes.{Notes}
+use Rattle.nr_reading.specs.declared.step.Note.{Note}
+use Rattle.nr_reading.specs.declared.step.Note.TheVariants as notes
+use Rattle.nr_reading.specs.declared.step.Step.{Step}
+use Rattle.nr_reading.specs.Asking.{begun_ask, first_stage, answer, cut, reads_argument, is_size}
+use Rattle.nr_reading.specs.Copying.{offer, raw_offer, escaped}
+use Rattle.nr_reading.specs.Delimiting.{Texts}
+use Rattle.nr_reading.specs.Meeting.{asking, too_deep, left_escape, met_directly, met_copied, asked_by, silent, hear_by, over_by, offered, meet}
+use Rattle.nr_reading.specs.Modes.{is_direct, reads_arguments}
+use Rattle.nr_reading.specs.Nesting.{may_nest}
+use Rattle.nr_reading.specs.Noting.{noted}
+use Rattle.nr_reading.specs.Reading.{read, read_over, direct}
+use Rattle.nr_reading.specs.Weights.{worth_of_front, paid_by, weight_by, weight_of_escape, weight_of_backslash, weight_of_half, weight_of_ask, blanks_owed}
+use Rattle.nr_reading.proofs.Asked.{Meets, half_at, left_escape-le, answer_answers, front_meets, backslash_meets, stop_meets}
+use Rattle.nr_reading.proofs.Copied.{Hears, read_hears, over_hears}
+use Rattle.nr_reading.proofs.Escaped.{direct_pays}
+use Rattle.nr_reading.proofs.Weighing.{at, Pays, weight_of_note, blanks_in, weight_of_stage-le, weight_of_backslash-le}
+
+-- ---- escapes that begin
+
+pushed-le : (few : Bool) (a : Ask) (asks : List Ask) → sum_by weight_of_ask (if few then a ∷ asks else asks) ≤ sum_by weight_of_ask asks + weight_of_ask a
+pushed-le true a asks = let new = sum_by-cons weight_of_ask a asks in omega arith
+pushed-le false a asks = omega arith
+
+-- what is half read, with an escape that begins with a step
+step_weighs : (n : Note) (h : Half) → sum_by weight_of_ask (asked_by n h).asks ≤ sum_by weight_of_ask h.asks + weight_of_note n
+step_weighs (notes.Begin a) h = pushed-le (nat_lt (length h.asks) 10) a h.asks
+step_weighs n h = omega arith
+
+step_reads : (n : Note) (h : Half) → (asked_by n h).reading ≡ h.reading
+step_reads (notes.Begin a) h = refl
+step_reads n h = refl
+
+-- ---- the reader
+
+weight_by-le : (d : Due) (m : Mode) (e : Escape) → weight_by d m e ≤ weight_by d m escapes.Plain + weight_of_escape 132 e
+weight_by-le dues.Seek m e = omega arith
+weight_by-le (dues.Judge b) m e = omega arith
+weight_by-le d m escapes.Plain = omega arith
+weight_by-le d m escapes.Begun = omega (arith, weight_of_backslash-le m)
+weight_by-le d m escapes.Comment = omega arith
+
+weight_of_backslash-copied : (m : Mode) → is_direct m ≡ false → weight_of_backslash m ≡ 132
+weight_of_backslash-copied modes.Text is = let wrong : ⊥ = cc in absurd wrong
+weight_of_backslash-copied modes.Interrupted is = let wrong : ⊥ = cc in absurd wrong
+weight_of_backslash-copied modes.Continued is = let wrong : ⊥ = cc in absurd wrong
+weight_of_backslash-copied (modes.Leading n) is = let wrong : ⊥ = cc in absurd wrong
+weight_of_backslash-copied modes.TitleBefore is = let wrong : ⊥ = cc in absurd wrong
+weight_of_backslash-copied (modes.Title d n) is = let wrong : ⊥ = cc in absurd wrong
+weight_of_backslash-copied modes.Diverted is = let wrong : ⊥ = cc in absurd wrong
+weight_of_backslash-copied m is = refl
+
+-- what is half read behind a step: its escape ends, or stays as far as it was read
+settled_weighs : (e : Escape) (r : Reading) (n : Note) (h : Half) → h.reading ≡ r
+    → weight_of_half (record (asked_by n h) { reading = record (asked_by n h).reading { escape = e } }) ≤ weight_by r.due r.mode e + sum_by weight_of_ask h.asks + weight_of_note n
+settled_weighs e r n h is =
+    let same : (asked_by n h).reading ≡ r = step_reads n h ∙ is in
+    let weighs : weight_by (asked_by n h).reading.due (asked_by n h).reading.mode e ≡ weight_by r.due r.mode e = ap (λ (q : Reading). weight_by q.due q.mode e) same in
+    omega (arith, step_weighs n h)
+
+settled_owes : (e : Escape) (r : Reading) (n : Note) (h : Half) → h.reading ≡ r
+    → blanks_owed (record (asked_by n h) { reading = record (asked_by n h).reading { escape = e } }) ≡ blanks_in r
+settled_owes e r n h is = ap blanks_in (step_reads n h ∙ is)
+
+-- the step with its parts apart
+abbrev stepping : Reading → Note → Event → Bool → Step
+stepping r n e takes = record { reading = r; note = n; event = e; takes = takes }
+
+-- the half behind it, before its escape ends
+abbrev behind : Reading → Note → Half → Half
+behind r n h = record h { reading = r; notes = noted n h.notes }
+
+-- where the element is left, the escape stays as far as it was read, or a comment ends
+left_weighs : (r : Reading) (n : Note) (h : Half) (e : Escape) → h.reading ≡ r → r.escape ≡ e
+    → weight_by r.due r.mode (left_escape (asked_by n h).reading.escape) ≤ weight_by r.due r.mode escapes.Plain + weight_of_escape 132 e
+left_weighs r n h e is reached =
+    let x = (asked_by n h).reading.escape in
+    let same : x ≡ e = ap (λ (q : Reading). q.escape) (step_reads n h ∙ is) ∙ reached in
+    let weighs = ap (λ (y : Escape). weight_of_escape 132 (left_escape y)) same in
+    omega (arith, weight_by-le r.due r.mode (left_escape x), left_escape-le 132 e)
+
+-- a `\` that is begun weighs this where elements are copied
+copied_weighs : (m : Mode) (e : Escape) → is_direct m ≡ false → weight_of_escape (weight_of_backslash m) e ≡ weight_of_escape 132 e
+copied_weighs m e copied = ap (λ w. weight_of_escape w e) (weight_of_backslash-copied m copied)
+
+-- an element comes to the reader, as the item in front or not: an item pays for it, or the `\` that was begun
+heard : (front takes : Bool) (r : Reading) (k : Note) (v : Event) (m : Mode) (e : Escape) (c n : Bool) (s : Signs) (d : Texts) (o : Notes) (worth w : ℕ)
+    → is_direct m ≡ false → Hears (at m e c n) worth (stepping r k v takes) → worth ≤ paid_by front w + weight_of_escape 132 e
+    → let h = half_at (at m e c n) s [] d o in Meets h w (met_copied front (stepping r k v takes) h)
+heard true true r k v m e c n s d o worth w copied p enough =
+    let h = half_at (at m e c n) s [] d o in
+    let weighs = settled_weighs escapes.Plain r k (behind r k h) refl in
+    let owes = settled_owes escapes.Plain r k (behind r k h) refl in
+    let pays = p.pays in
+    let none = p.blanks in
+    record { pays = omega (arith, copied_weighs m e copied); tells = p.tells }
+heard false true r k v m e c n s d o worth w copied p enough =
+    let h = half_at (at m e c n) s [] d o in
+    let weighs = settled_weighs escapes.Plain r k (behind r k h) refl in
+    let owes = settled_owes escapes.Plain r k (behind r k h) refl in
+    let pays = p.pays in
+    let none = p.blanks in
+    record { pays = omega (arith, copied_weighs m e copied); tells = p.tells }
+heard front false r k v m e c n s d o worth w copied p enough =
+    let h = half_at (at m e c n) s [] d o in
+    let x = left_escape (asked_by k (behind r k h)).reading.escape in
+    let weighs = settled_weighs x r k (behind r k h) refl in
+    let owes = settled_owes x r k (behind r k h) refl in
+    let left = left_weighs r k (behind r k h) e refl p.escape in
+    let pays = p.pays in
+    let none = p.blanks in
+    record { pays = omega (arith, copied_weighs m e copied); tells = p.tells }
+
+hears : (front : Bool) (t : Step) (m : Mode) (e : Escape) (c n : Bool) (s : Signs) (d : Texts) (o : Notes) (worth w : ℕ)
+    → is_direct m ≡ false → Hears (at m e c n) worth t → worth ≤ paid_by front w + weight_of_escape 132 e
+    → let h = half_at (at m e c n) s [] d o in Meets h w (met_copied front t h)
+hears front t m e c n s d o worth w copied p enough = heard front t.takes t.reading t.note t.event m e c n s d o worth w copied p enough
+
+-- ---- the element comes to the newest escape, and to the reader where there is none
+
+-- which of them reads it
+abbrev IsCopied : List Ask → Mode → Type 0
+IsCopied [] m = is_direct m ≡ false
+IsCopied (a ∷ asks) m = Unit {0}
+
+item_met : (asks : List Ask) (b : ℕ) (m : Mode) (e : Escape) (c n : Bool) (s : Signs) (d : Texts) (o : Notes) → IsCopied asks m
+    → let h = half_at (at m e c n) s asks d o in Meets h 256 (hear_by asks true b h)
+item_met [] b m e c n s d o copied = hears true (read b s o (at m e c n)) m e c n s d o 8 256 copied (read_hears m b s o e c n copied) (omega arith)
+item_met (a ∷ asks) b m e c n s d o copied = front_meets (answer b s.long a) a asks m e c n s d o (answer_answers b s.long a)
+
+backslash_met : (asks : List Ask) (m : Mode) (c n : Bool) (s : Signs) (d : Texts) (o : Notes) (w : ℕ) → IsCopied asks m
+    → let h = half_at (at m escapes.Begun c n) s asks d o in Meets h w (hear_by asks false 92 h)
+backslash_met [] m c n s d o w copied =
+    hears false (read 92 s o (at m escapes.Begun c n)) m escapes.Begun c n s d o 8 w copied (read_hears m 92 s o escapes.Begun c n copied) (omega arith)
+backslash_met (a ∷ asks) m c n s d o w copied = backslash_meets (answer 92 s.long a) a asks m c n s d o w (answer_answers 92 s.long a)
+
+over_met : (asks : List Ask) (m : Mode) (e : Escape) (c n : Bool) (s : Signs) (d : Texts) (o : Notes) (w : ℕ) → IsCopied asks m
+    → let h = half_at (at m e c n) s asks d o in Meets h w (over_by asks h)
+over_met [] m e c n s d o w copied = hears false (read_over s o (at m e c n)) m e c n s d o 0 w copied (over_hears m s o e c n copied) (omega arith)
+over_met (a ∷ asks) m e c n s d o w copied = stop_meets (cut a.stage a) a asks m e c n s d o w
+
+-- ---- what the item in front is in copy mode
+
+record Offers (h : Half) (worth : ℕ) (x : Offer) : Type 0 where
+  pub meets : Meets h worth (offered x h)
+
+either : {h : Half} {w : ℕ} (b : Bool) {x y : Offer} → Offers h w x → Offers h w y → Offers h w (if b then x else y)
+either true p q = p
+either false p q = q
+
+skip_offers : (x : Escape) (asks : List Ask) (m : Mode) (e : Escape) (c n : Bool) (s : Signs) (d : Texts) (o : Notes) → Offers (half_at (at m e c n) s asks d o) 256 (offers.Skip x)
+skip_offers escapes.Plain asks m e c n s d o = record { meets = record { pays = omega arith; tells = refl } }
+skip_offers escapes.Begun asks m e c n s d o = record { meets = record { pays = omega (arith, weight_of_backslash-le m); tells = refl } }
+skip_offers escapes.Comment asks m e c n s d o = record { meets = record { pays = omega arith; tells = refl } }
+
+-- an escape begins, or is nested too deep
+begun_meets : (nests : Bool) (k : Kind) (asks : List Ask) (m : Mode) (e : Escape) (c n : Bool) (s : Signs) (d : Texts) (o : Notes)
+    → let h = half_at (at m escapes.Plain c n) s asks d o in
+    Meets (half_at (at m e c n) s asks d o) 256 (silent (if nests then asking (begun_ask k) h else too_deep k h))
+begun_meets true k asks m e c n s d o =
+    record { pays = omega (arith, pushed-le (nat_lt (length asks) 10) (begun_ask k) asks, weight_of_stage-le (first_stage k)); tells = refl }
+begun_meets false (kinds.Register x) asks m e c n s d o = record { pays = omega arith; tells = refl }
+begun_meets false k asks m e c n s d o = record { pays = omega arith; tells = refl }
+
+begin_offers : (k : Kind) (asks : List Ask) (m : Mode) (e : Escape) (c n : Bool) (s : Signs) (d : Texts) (o : Notes) → Offers (half_at (at m e c n) s asks d o) 256 (offers.Begin k)
+begin_offers k asks m e c n s d o = record { meets = begun_meets (may_nest m asks) k asks m e c n s d o }
+
+byte_offers : (b : ℕ) (asks : List Ask) (m : Mode) (e : Escape) (c n : Bool) (s : Signs) (d : Texts) (o : Notes) → IsCopied asks m → Offers (half_at (at m e c n) s asks d o) 256 (offers.Byte b)
+byte_offers b asks m e c n s d o copied = record { meets = item_met asks b m e c n s d o copied }
+
+backslash_offers : (asks : List Ask) (m : Mode) (c n : Bool) (s : Signs) (d : Texts) (o : Notes) (w : ℕ) → IsCopied asks m → Offers (half_at (at m escapes.Begun c n) s asks d o) w offers.Backslash
+backslash_offers asks m c n s d o w copied = record { meets = backslash_met asks m c n s d o w copied }
+
+over_offers : (asks : List Ask) (m : Mode) (e : Escape) (c n : Bool) (s : Signs) (d : Texts) (o : Notes) (w : ℕ) → IsCopied asks m → Offers (half_at (at m e c n) s asks d o) w offers.Over
+over_offers asks m e c n s d o w copied = record { meets = over_met asks m e c n s d o w copied }
+
+escaped_offers : (b : ℕ) (argument : Bool) (asks : List Ask) (m : Mode) (c n : Bool) (s : Signs) (d : Texts) (o : Notes) → IsCopied asks m
+    → Offers (half_at (at m escapes.Begun c n) s asks d o) 256 (escaped b argument)
+escaped_offers b argument asks m c n s d o copied =
+    let e = escapes.Begun in
+    either (b == 92) (byte_offers 92 asks m e c n s d o copied)
+    (either (b == 46) (byte_offers 46 asks m e c n s d o copied)
+    (either (b == 116) (byte_offers 9 asks m e c n s d o copied)
+    (either (b == 97) (byte_offers 1 asks m e c n s d o copied)
+    (either (b == 10) (skip_offers escapes.Plain asks m e c n s d o)
+    (either (b == 34) (skip_offers escapes.Comment asks m e c n s d o)
+    (either (b == 42) (begin_offers kinds.String asks m e c n s d o)
+    (either (b == 36) (begin_offers kinds.Argument asks m e c n s d o)
+    (either (b == 110) (begin_offers (kinds.Register signs.None) asks m e c n s d o)
+    (either ((b == 119) && argument) (begin_offers kinds.Width asks m e c n s d o) (backslash_offers asks m c n s d o 256 copied))))))))))
+
+mark_offers : (asks : List Ask) (m : Mode) (e : Escape) (c n : Bool) (s : Signs) (d : Texts) (o : Notes) → Offers (half_at (at m e c n) s asks d o) 1 (offers.Skip e)
+mark_offers asks m e c n s d o = record { meets = record { pays = omega arith; tells = refl } }
+
+offer_offers : (f : Front) (argument : Bool) (asks : List Ask) (m : Mode) (e : Escape) (c n : Bool) (s : Signs) (d : Texts) (o : Notes) → IsCopied asks m
+    → Offers (half_at (at m e c n) s asks d o) (worth_of_front f) (offer f e argument)
+offer_offers fronts.Mark argument asks m e c n s d o copied = mark_offers asks m e c n s d o
+offer_offers (fronts.Byte b) argument asks m escapes.Plain c n s d o copied =
+    either (b == 92) (skip_offers escapes.Begun asks m escapes.Plain c n s d o) (byte_offers b asks m escapes.Plain c n s d o copied)
+offer_offers (fronts.Byte b) argument asks m escapes.Begun c n s d o copied = escaped_offers b argument asks m c n s d o copied
+offer_offers (fronts.Byte b) argument asks m escapes.Comment c n s d o copied =
+    either (b == 10) (byte_offers 10 asks m escapes.Comment c n s d o copied) (skip_offers escapes.Comment asks m escapes.Comment c n s d o)
+offer_offers (fronts.Cell x) argument asks m escapes.Plain c n s d o copied = byte_offers x.byte asks m escapes.Plain c n s d o copied
+offer_offers (fronts.Cell x) argument asks m escapes.Begun c n s d o copied = backslash_offers asks m c n s d o 256 copied
+offer_offers (fronts.Cell x) argument asks m escapes.Comment c n s d o copied = skip_offers escapes.Comment asks m escapes.Comment c n s d o
+offer_offers (fronts.LineEnd h) argument asks m escapes.Plain c n s d o copied = byte_offers 10 asks m escapes.Plain c n s d o copied
+offer_offers (fronts.LineEnd h) argument asks m escapes.Begun c n s d o copied = backslash_offers asks m c n s d o 256 copied
+offer_offers (fronts.LineEnd h) argument asks m escapes.Comment c n s d o copied = byte_offers 10 asks m escapes.Comment c n s d o copied
+offer_offers fronts.Resume argument asks m escapes.Plain c n s d o copied = over_offers asks m escapes.Plain c n s d o 1 copied
+offer_offers fronts.Resume argument asks m escapes.Begun c n s d o copied = backslash_offers asks m c n s d o 1 copied
+offer_offers fronts.Resume argument asks m escapes.Comment c n s d o copied = over_offers asks m escapes.Comment c n s d o 1 copied
+offer_offers fronts.Over argument asks m escapes.Plain c n s d o copied = over_offers asks m escapes.Plain c n s d o 0 copied
+offer_offers fronts.Over argument asks m escapes.Begun c n s d o copied = backslash_offers asks m c n s d o 0 copied
+offer_offers fronts.Over argument asks m escapes.Comment c n s d o copied = over_offers asks m escapes.Comment c n s d o 0 copied
+
+raw_offers : (f : Front) (asks : List Ask) (m : Mode) (e : Escape) (c n : Bool) (s : Signs) (d : Texts) (o : Notes) → IsCopied asks m
+    → Offers (half_at (at m e c n) s asks d o) (worth_of_front f) (raw_offer f e)
+raw_offers fronts.Mark asks m e c n s d o copied = mark_offers asks m e c n s d o
+raw_offers (fronts.Byte b) asks m e c n s d o copied = byte_offers b asks m e c n s d o copied
+raw_offers (fronts.Cell x) asks m e c n s d o copied = over_offers asks m e c n s d o 256 copied
+raw_offers (fronts.LineEnd h) asks m e c n s d o copied = over_offers asks m e c n s d o 256 copied
+raw_offers fronts.Resume asks m e c n s d o copied = over_offers asks m e c n s d o 1 copied
+raw_offers fronts.Over asks m e c n s d o copied = over_offers asks m e c n s d o 0 copied
+
+-- ---- items as they are
+
+directly_met : (takes : Bool) (r : Reading) (k : Note) (v : Event) (m : Mode) (e : Escape) (c n : Bool) (s : Signs) (d : Texts) (o : Notes) (w : ℕ) → Pays (at m e c n) w (stepping r k v takes)
+    → let h = half_at (at m e c n) s [] d o in Meets h w (met_directly (stepping r k v takes) h)
+directly_met takes r k v m e c n s d o w p =
+    let h = half_at (at m e c n) s [] d o in
+    let reads = step_reads k (behind r k h) in
+    let weighs : weight_by (asked_by k (behind r k h)).reading.due (asked_by k (behind r k h)).reading.mode (asked_by k (behind r k h)).reading.escape ≡ weight_by r.due r.mode r.escape =
+    ap (λ (q : Reading). weight_by q.due q.mode q.escape) reads in
+    let owes = ap blanks_in reads in
+    let pays = p.pays in
+    record { pays = omega (arith, step_weighs k (behind r k h)); tells = p.tells }
+
+-- ---- the item in front
+
+asked_meets : (size : Bool) (f : Front) (argument : Bool) (asks : List Ask) (m : Mode) (e : Escape) (c n : Bool) (s : Signs) (d : Texts) (o : Notes) → IsCopied asks m
+    → let h = half_at (at m e c n) s asks d o in Meets h (worth_of_front f) (offered (if size then raw_offer f e else offer f e argument) h)
+asked_meets true f argument asks m e c n s d o copied = (raw_offers f asks m e c n s d o copied).meets
+asked_meets false f argument asks m e c n s d o copied = (offer_offers f argument asks m e c n s d o copied).meets
+
+read_meets : (direct_mode : Bool) (f : Front) (m : Mode) (e : Escape) (c n : Bool) (s : Signs) (d : Texts) (o : Notes) → is_direct m ≡ direct_mode
+    → let h = half_at (at m e c n) s [] d o in
+    Meets h (worth_of_front f) (if direct_mode then met_directly (direct f s (at m e c n)) h else offered (offer f e (reads_arguments m)) h)
+read_meets true f m e c n s d o is =
+    let t = direct f s (at m e c n) in directly_met t.takes t.reading t.note t.event m e c n s d o (worth_of_front f) (direct_pays f s m e c n is)
+read_meets false f m e c n s d o is = (offer_offers f (reads_arguments m) [] m e c n s d o is).meets
+
+at_meets : (asks : List Ask) (f : Front) (m : Mode) (e : Escape) (c n : Bool) (s : Signs) (d : Texts) (o : Notes)
+    → let h = half_at (at m e c n) s asks d o in Meets h (worth_of_front f) (meet f h)
+at_meets [] f m e c n s d o = read_meets (is_direct m) f m e c n s d o refl
+at_meets (a ∷ asks) f m e c n s d o = asked_meets (is_size a.kind) f (reads_argument a.kind) (a ∷ asks) m e c n s d o tt
+
+due_meets : (due : Due) (asks : List Ask) (f : Front) (m : Mode) (e : Escape) (c n : Bool) (s : Signs) (d : Texts) (o : Notes) → due ≡ dues.Look
+    → let h = half_at (record { mode = m; escape = e; due = due; continued = c; no_break = n }) s asks d o in Meets h (worth_of_front f) (meet f h)
+due_meets dues.Look asks f m e c n s d o is = at_meets asks f m e c n s d o
+due_meets due asks f m e c n s d o is = let wrong : ⊥ = cc in absurd wrong
+
+pub meet_meets : (f : Front) (h : Half) → h.reading.due ≡ dues.Look → Meets h (worth_of_front f) (meet f h)
+meet_meets f h is =
+    due_meets h.reading.due h.asks f h.reading.mode h.reading.escape h.reading.continued h.reading.no_break h.signs h.delimited h.notes is
