@@ -1,0 +1,4 @@
+pub mod Costs
+pub mod Items
+pub mod Spending
+pub mod Taking

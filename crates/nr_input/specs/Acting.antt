@@ -1,5 +1,5 @@
 -- What a move does that is due.
-use Rattle.std.specs.Prelude.{ℕ, ◌+◌, ◌-◌, ◌==◌, nat_le, nat_lt, Bool, true, false, if◌then◌else◌, List, [], ◌∷◌, slice_index, Option, None, Some, is_some, Result, Ok, Err}
+use Rattle.std.specs.Prelude.{ℕ, ◌+◌, ◌-◌, nat_le, nat_lt, Bool, true, false, if◌then◌else◌, List, [], ◌∷◌, slice_index, Option, None, Some, is_some, Result, Ok, Err}
 use Rattle.nr_units.specs.NumberText.{number_text}
 use Rattle.nr_levels.specs.Levels.{argument}
 use Rattle.nr_tables.specs.Named.{find}

@@ -147,6 +147,27 @@ passed_by a p = p
 abbrev pub passed : Reached → Reached
 passed p = passed_by p.ahead p
 
+-- the item in front, as the program sees it once the source was looked at
+abbrev pub front_seen : {K : Type 0} → Shown K → Reached → Front
+front_seen shows.Nothing p = seen_front p.ahead p.inside
+front_seen shows.End p = fronts.Mark
+front_seen (shows.Item x) p = element_front x
+front_seen (shows.Resume k) p = fronts.Resume
+
+-- behind it: where there is a level the source stays
+abbrev pub passed_in : {K : Type 0} → Shown K → Reached → Reached
+passed_in shows.Nothing p = passed p
+passed_in s p = p
+
+-- nothing is to come of the source
+abbrev pub ended : Reached → Reached
+ended p = record p { ahead = End; inside = false }
+
+-- what was read ahead may be another, all else is as it was
+pub record StaysThere (p q : Reached) : Type 0 where
+  pub taken : q.taken ≡ p.taken
+  pub inside : q.inside ≡ p.inside
+
 abbrev pub is_read_fault : {X : Type 0} → Result X Refusal → Bool
 is_read_fault (Err refusals.ReadFault) = true
 is_read_fault r = false

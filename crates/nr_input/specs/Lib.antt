@@ -1,5 +1,7 @@
 pub mod Acting
 pub mod Coming
+pub mod Laws
 pub mod Moving
 pub mod Refusals
 pub mod Splicing
+pub mod Weights

@@ -1,37 +1,23 @@
 -- The machine that reads: one small move after the other.
-use Rattle.std.specs.Prelude.{◌≡◌, ℕ, ◌==◌, ◌^◌, Bool, true, false, if◌then◌else◌, List, Option, None, Some, Result, Ok, Err, IsOk}
+use Rattle.std.specs.Prelude.{◌≡◌, ℕ, ◌==◌, Bool, true, false, if◌then◌else◌, Option, Result, Ok, Err, IsOk}
 use Rattle.nr_units.specs.Supply.{Supply}
 use Rattle.nr_store.specs.Stored.{Stored, shown, left}
-use Rattle.nr_store.specs.declared.request.Request.{Request}
 use Rattle.nr_store.specs.declared.request.Request.TheVariants as requests
 use Rattle.nr_store.specs.declared.shown.Shown.{Shown}
 use Rattle.nr_store.specs.declared.shown.Shown.TheVariants as shows
 use Rattle.nr_reading.specs.declared.event.Event.{Event}
 use Rattle.nr_reading.specs.declared.event.Event.TheVariants as events
-use Rattle.nr_reading.specs.declared.half.Half.{Half}
 use Rattle.nr_reading.specs.Meeting.{Met, meet, nothing_half}
 use Rattle.nr_input.specs.declared.reader.Reader.{Reader}
 use Rattle.nr_input.specs.declared.refusal.Refusal.{Refusal}
 use Rattle.nr_input.specs.declared.told.Told.{Told}
 use Rattle.nr_input.specs.declared.told.Told.TheVariants as tells
-use Rattle.nr_input.specs.Acting.{Acted, act, is_look, on_half}
-use Rattle.nr_input.specs.Coming.{Coming, Reached, HoldsComing, front, behind, MayLook, RefusesLook, nothing_reached}
-
--- how far the source was taken, and what is half read
-pub record Progress : Type 0 where
-  pub reached : Reached
-  pub reader : Reader
+use Rattle.nr_input.specs.Acting.{Acted, act, is_look}
+use Rattle.nr_input.specs.Coming.{Coming, Reached, HoldsComing, front, behind, MayLook, RefusesLook}
 
 -- nothing was read, under a limit of so many splices
-abbrev pub nothing_read : ℕ → Progress
-nothing_read most = record {
-  reached = nothing_reached;
-  reader = record { half = nothing_half; request = requests.Br; burst = 0; most = most };
-}
-
--- another half, all else being as it is
-abbrev pub in_half : (Half → Half) → Progress → Progress
-in_half f p = record p { reader = on_half f p.reader }
+abbrev pub nothing_read : ℕ → Reader
+nothing_read most = record { half = nothing_half; request = requests.Br; burst = 0; most = most }
 
 -- what is stored, what is to come, and what is half read
 pub record Situation (K : Type 0) : Type 0 where
@@ -50,8 +36,11 @@ pub record Move (K : Type 0) : Type 0 where
 -- ---- an item
 
 -- Behind a byte of the input nothing was spliced. The newline that is added is no byte of it.
+abbrev pub burst_past : ℕ → ℕ → ℕ → ℕ
+burst_past before taken burst = if taken == before then burst else 0
+
 abbrev pub burst_behind : Coming → Coming → ℕ → ℕ
-burst_behind before after burst = if after.taken == before.taken then burst else 0
+burst_behind before after burst = burst_past before.taken after.taken burst
 
 -- what is told: a resume mark that is taken resumes what was under way
 abbrev pub told_of : {K : Type 0} → Shown K → Event → Told K
@@ -119,12 +108,12 @@ abbrev pub Refuses : {K : Type 0} → Situation K → Refusal → Type 0
 Refuses s r = RefusesBy (looks s) s r
 
 -- the program stands where the machine does
-pub record Stands {K : Type 0} (s : Situation K) (v : Stored K) (p : Progress) (supply : Option Supply) : Type 0 where
+pub record Stands {K : Type 0} (s : Situation K) (v : Stored K) (r : Reader) (p : Reached) (supply : Option Supply) : Type 0 where
   pub stored : v ≡ s.stored
-  pub reader : p.reader ≡ s.reader
-  pub coming : HoldsComing s.coming p.reached supply
+  pub reader : r ≡ s.reader
+  pub coming : HoldsComing s.coming p supply
 
 -- a move was made, or why not
-abbrev pub AfterMove : {K : Type 0} → Situation K → Result (Told K) Refusal → Stored K → Progress → Option Supply → Type 0
-AfterMove s (Ok t) v p supply = (t ≡ (move s).told) × Stands (move s).situation v p supply × Goes s
-AfterMove s (Err r) v p supply = Refuses s r × Stands (stuck s) v p supply
+abbrev pub AfterMove : {K : Type 0} → Situation K → Result (Told K) Refusal → Stored K → Reader → Reached → Option Supply → Type 0
+AfterMove s (Ok t) v r p supply = (t ≡ (move s).told) × Stands (move s).situation v r p supply × Goes s
+AfterMove s (Err e) v r p supply = Refuses s e × Stands (stuck s) v r p supply

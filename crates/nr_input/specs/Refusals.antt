@@ -1,5 +1,5 @@
 -- Why a move is not made.
-use Rattle.std.specs.Prelude.{Bool, true, false, if◌then◌else◌, Result, Ok, Err}
+use Rattle.std.specs.Prelude.{Result, Ok, Err}
 use Rattle.nr_store.specs.declared.refusal.Refusal as stored
 use Rattle.nr_store.specs.declared.refusal.Refusal.TheVariants as stores
 use Rattle.nr_store.specs.declared.refusal.StoredBytes.{StoredBytes}

@@ -77,7 +77,7 @@ impl Reader {
     ghost use Rattle.nr_tables.specs.Named.{find};
     ghost use Rattle.nr_store.specs.Stored.{Stored, words, entered, reading_bytes, checked, register_of, stepped};
     ghost use Rattle.nr_reading.specs.Spelling.{name_of};
-    ghost use Rattle.nr_input.specs.Acting.{acted, done, expanded_reader, expanded_answer, splicing_name, splicing_bytes, register_text, name_in, base_of, naming, behind_definition, act_begin, adding_byte, act_release, act_call, meaning_in, behind_meaning, seeking, act, then_due, idle};
+    ghost use Rattle.nr_input.specs.Acting.{acted, done, expanded_reader, expanded_answer, splicing_name, splicing_bytes, register_text, name_in, base_of, naming, behind_definition, act_begin, adding_byte, act_release, act_call, meaning_in, behind_meaning, seeking, act, is_look, then_due, idle};
 
     /// The limit of splices is asked.
     pub(crate) fn expand(&mut self) -> Result<Event, Refusal>
@@ -151,7 +151,7 @@ impl Reader {
     }
 
     // The text takes its name, where it is kept.
-    fn define<K: Copy>(&self, store: &mut Store<'_, K>)
+    fn name_text<K: Copy>(&self, store: &mut Store<'_, K>)
         ensures { store.new ≡ naming self.now store.old }
     {
         if self.half.notes.defining.keeps {
@@ -288,6 +288,13 @@ impl Reader {
         Ok(calls.event())
     }
 
+    /// Nothing is due: the item in front is looked at.
+    pub(crate) fn looks(&self) -> bool
+        ensures { result ≡ is_look self.now.half.reading.due }
+    {
+        matches!(self.half.reading.due, Due::Look)
+    }
+
     /// Does what is due.
     pub(crate) fn act<K: Copy>(&mut self, store: &mut Store<'_, K>) -> Result<Event, Refusal>
         ensures { acted store.new self.new result ≡ act self.old.half.reading.due store.old self.old }
@@ -298,12 +305,12 @@ impl Reader {
             Due::Add(byte) => self.add(byte, Due::Look, store),
             Due::Release { held, next, then } => self.release(held, next, then, store),
             Due::Define => {
-                self.define(store);
+                self.name_text(store);
                 self.half.reading.due = Due::Look;
                 Ok(Event::Nothing)
             }
             Due::DefineAndCall => {
-                self.define(store);
+                self.name_text(store);
                 self.half.reading.due = self.behind_definition();
                 Ok(Event::Nothing)
             }

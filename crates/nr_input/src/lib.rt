@@ -3,17 +3,19 @@
 #![tactic(auto)]
 
 mod acting;
-mod input;
+mod moving;
 mod place;
 mod reader;
 mod refusal;
 mod setting;
 mod splicing;
+#[cfg(test)]
+mod tests;
 mod told;
 
-pub use input::Input;
+pub use moving::advance;
 pub use nr_reading::{Event, Question, Standing};
-pub use place::Ahead;
+pub use place::{Ahead, Place};
 pub use reader::Reader;
 pub use refusal::Refusal;
 pub use splicing::Definition;

@@ -27,7 +27,7 @@ pub enum Ahead {
 
 /// How far the source was taken.
 #[derive(Drop)]
-pub(crate) struct Place {
+pub struct Place {
     ahead: Ahead,
     taken: u64,
     inside: bool,
@@ -45,14 +45,14 @@ impl Model for Place {
 }
 
 impl Place {
-    ghost use Rattle.std.specs.Prelude.{◌<◌, ◌^◌, OnOk, Option, true};
+    ghost use Rattle.std.specs.Prelude.{◌<◌, ◌^◌, OnOk, IfOk, Option, true};
     ghost use Rattle.nr_units.specs.Supply.{Supply};
     ghost use Rattle.nr_units.specs.Failures.{counted_if};
     ghost use Rattle.nr_store.specs.Stored.{shown, left};
-    ghost use Rattle.nr_input.specs.Coming.{Coming, Reached, HoldsComing, AfterSee, AfterLook, is_seen, is_ready, seen_front, passed, nothing_reached, behind, emptied, fails_now};
+    ghost use Rattle.nr_input.specs.Coming.{Coming, Reached, HoldsComing, AfterSee, AfterLook, is_seen, is_ready, seen_front, passed, ended, front_seen, passed_in, StaysThere, nothing_reached, behind, emptied, fails_now};
 
     /// Nothing is taken yet.
-    pub(crate) fn new() -> Self
+    pub fn new() -> Self
         ensures { result ≡ nothing_reached }
     {
         Place {
@@ -62,8 +62,8 @@ impl Place {
         }
     }
 
-    /// How many bytes were taken.
-    pub(crate) fn taken(&self) -> u64
+    /// How many bytes of the input were taken.
+    pub fn taken(&self) -> u64
         ensures value { result ≡ self.now.taken }
         ensures within { result < 2 ^ 40 }
     {
@@ -74,6 +74,7 @@ impl Place {
     fn see<R: Source>(&mut self, source: &mut R) -> Result<(), Refusal>
         ensures sees { (c : Coming) → HoldsComing c self.old (R.supply source.old) → AfterSee c result self.new (R.supply source.new) }
         ensures seen { OnOk result (is_seen self.new.ahead ≡ true) }
+        ensures stays { StaysThere self.old self.new }
         ensures failures { R.failures source.new ≡ counted_if (fails_now self.old.ahead result) (R.failures source.old) }
     {
         match self.ahead {
@@ -141,6 +142,8 @@ impl Place {
     ) -> Result<Front, Refusal>
         ensures looks { (c : Coming) → HoldsComing c self.old (R.supply source.old) → AfterLook (shown store.now.levels) c result self.new (R.supply source.new) }
         ensures ready { OnOk result (is_ready (shown store.now.levels) self.new.ahead ≡ true) }
+        ensures front { IfOk result (λ f. f ≡ front_seen (shown store.now.levels) self.new) }
+        ensures stays { StaysThere self.old self.new }
         ensures failures { R.failures source.new ≡ counted_if (fails_now self.old.ahead result) (R.failures source.old) }
     {
         match store.look() {
@@ -163,6 +166,7 @@ impl Place {
         requires { is_ready (shown store.old.levels) self.old.ahead ≡ true }
         ensures was { result ≡ shown store.old.levels }
         ensures store { store.new ≡ left store.old.levels store.old }
+        ensures place { self.new ≡ passed_in (shown store.old.levels) self.old }
         ensures takes { (c : Coming) → (supply : Option Supply) → HoldsComing c self.old supply → HoldsComing (behind (shown store.old.levels) c) self.new supply }
     {
         let shown = store.take();
@@ -173,9 +177,10 @@ impl Place {
         shown
     }
 
-    /// Nothing is to come any more.
-    pub(crate) fn empty(&mut self)
-        ensures { (c : Coming) → (supply : Option Supply) → HoldsComing c self.old supply → HoldsComing (emptied c) self.new supply }
+    /// What is unread of the source is to come no more: the source is not asked again. Levels are the store's (CSTR 54, `.ex`).
+    pub fn empty(&mut self)
+        ensures place { self.new ≡ ended self.old }
+        ensures coming { (c : Coming) → (supply : Option Supply) → HoldsComing c self.old supply → HoldsComing (emptied c) self.new supply }
     {
         self.ahead = Ahead::End;
         self.inside = false;

@@ -1,4 +1,6 @@
 //! What is half read, and how often was spliced since the last byte of the input.
+ghost use Rattle.std.specs.Prelude.{◌≡◌};
+
 use nr_reading::Half;
 use nr_store::Request;
 
@@ -7,10 +9,26 @@ use nr_store::Request;
 pub struct Reader {
     /// What is half read.
     pub half: Half,
-    /// The request whose line is read.
+    /// The request whose line is read, or was read last.
     pub request: Request,
     /// How many splices and springs there were since the last byte of the input was taken.
     pub burst: u64,
     /// How many there may be.
     pub most: u64,
+}
+
+impl Reader {
+    ghost use Rattle.nr_input.specs.Moving.{nothing_read};
+
+    /// Nothing is read yet. There may be at most so many splices and springs behind one byte of the input.
+    pub fn new(most: u64) -> Reader
+        ensures { result ≡ nothing_read most }
+    {
+        Reader {
+            half: Half::new(),
+            request: Request::Br,
+            burst: 0,
+            most,
+        }
+    }
 }

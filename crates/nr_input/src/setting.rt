@@ -1,144 +1,134 @@
 //! What those who read events set, and what they read.
-ghost use Rattle.std.specs.Prelude.{◌≡◌, ◌<◌, ◌≤◌, ◌^◌, length};
+ghost use Rattle.std.specs.Prelude.{◌≡◌, ◌≤◌, length};
 
-use super::input::Input;
+use super::reader::Reader;
 use nr_reading::Standing;
 use nr_store::Request;
 use nr_units::Name;
 
-impl Input {
+impl Reader {
     ghost use Rattle.nr_reading.specs.declared.mode.Mode.TheVariants as modes;
     ghost use Rattle.nr_reading.specs.Conditionals.{judged, in_mode};
     ghost use Rattle.nr_reading.specs.Modes.{standing_of};
     ghost use Rattle.nr_reading.specs.Setting.{with_control, with_no_break, with_long_names, not_continued, with_line, resumed};
-    ghost use Rattle.nr_input.specs.Moving.{in_half};
+    ghost use Rattle.nr_input.specs.Acting.{on_half};
+    ghost use Rattle.nr_input.specs.Weights.{CostsAtMost};
 
     /// The condition that was to be judged holds, or not. One that is not judged is rejected.
     pub fn accept(&mut self, holds: bool)
-        ensures { self.new ≡ in_half (judged holds) self.old }
+        ensures sets { self.new ≡ on_half (judged holds) self.old }
+        ensures costs { CostsAtMost 67 self.old.half self.new.half }
     {
-        self.reader.half.judge(holds);
+        self.half.judge(holds);
     }
 
     /// The line of a title is read.
     pub fn begin_title(&mut self)
-        ensures { self.new ≡ in_half (in_mode modes.TitleBefore) self.old }
+        ensures sets { self.new ≡ on_half (in_mode modes.TitleBefore) self.old }
+        ensures costs { CostsAtMost 130 self.old.half self.new.half }
     {
-        self.reader.half.begin_title();
+        self.half.begin_title();
     }
 
     /// A diverted line is read, if one is in front.
     pub fn begin_diverted_line(&mut self)
-        ensures { self.new ≡ in_half (in_mode modes.Diverting) self.old }
+        ensures sets { self.new ≡ on_half (in_mode modes.Diverting) self.old }
+        ensures costs { CostsAtMost 1 self.old.half self.new.half }
     {
-        self.reader.half.begin_diverted_line();
+        self.half.begin_diverted_line();
     }
 
     /// Where the line stands in whose middle a macro may be sprung.
     pub fn standing(&self) -> Standing
-        ensures { result ≡ standing_of self.now.reader.half.reading.mode }
+        ensures { result ≡ standing_of self.now.half.reading.mode }
     {
-        self.reader.half.standing()
+        self.half.standing()
     }
 
     /// The line goes on there: of its leading blanks one was read.
     pub fn stand(&mut self, standing: Standing)
-        ensures { self.new ≡ in_half (resumed standing) self.old }
+        ensures sets { self.new ≡ on_half (resumed standing) self.old }
+        ensures costs { CostsAtMost 163 self.old.half self.new.half }
     {
-        self.reader.half.stand(standing);
+        self.half.stand(standing);
     }
 
     /// The next text line continues no word.
     pub fn end_continuing(&mut self)
-        ensures { self.new ≡ in_half not_continued self.old }
+        ensures { self.new ≡ on_half not_continued self.old }
     {
-        self.reader.half.end_continuing();
+        self.half.end_continuing();
     }
 
     /// Sets the control character.
     pub fn set_control(&mut self, byte: u8)
-        ensures { self.new ≡ in_half (with_control byte) self.old }
+        ensures { self.new ≡ on_half (with_control byte) self.old }
     {
-        self.reader.half.set_control(byte);
+        self.half.set_control(byte);
     }
 
     /// Sets the no-break control character.
     pub fn set_no_break_control(&mut self, byte: u8)
-        ensures { self.new ≡ in_half (with_no_break byte) self.old }
+        ensures { self.new ≡ on_half (with_no_break byte) self.old }
     {
-        self.reader.half.set_no_break(byte);
+        self.half.set_no_break(byte);
     }
 
     /// Turns long names on or off.
     pub fn set_long_names(&mut self, long: bool)
-        ensures { self.new ≡ in_half (with_long_names long) self.old }
+        ensures { self.new ≡ on_half (with_long_names long) self.old }
     {
-        self.reader.half.set_long_names(long);
+        self.half.set_long_names(long);
     }
 
     /// Puts a line, as far as its bytes count, in place of the one that was read.
     pub fn set_line(&mut self, line: &[u8])
-        ensures { self.new ≡ in_half (with_line line.now) self.old }
+        ensures { self.new ≡ on_half (with_line line.now) self.old }
     {
-        self.reader.half.set_line(line);
+        self.half.set_line(line);
     }
 
     /// The line of a request, or the bytes of a condition's number.
     pub fn line(&self) -> &[u8]
-        ensures value { result.now ≡ self.now.reader.half.notes.line }
+        ensures value { result.now ≡ self.now.half.notes.line }
         ensures within { length result.now ≤ 256 }
     {
-        self.reader.half.notes.line.as_slice()
+        self.half.notes.line.as_slice()
     }
 
     /// The text between delimiters that was read last.
     pub fn argument(&self) -> &[u8]
-        ensures value { result.now ≡ self.now.reader.half.delimited.last }
+        ensures value { result.now ≡ self.now.half.delimited.last }
         ensures within { length result.now ≤ 256 }
     {
-        self.reader.half.delimited.last()
+        self.half.delimited.last()
     }
 
     /// The name that an escape asked for last.
     pub fn asked(&self) -> Name
-        ensures { result ≡ self.now.reader.half.notes.asked }
+        ensures { result ≡ self.now.half.notes.asked }
     {
-        self.reader.half.notes.asked
+        self.half.notes.asked
     }
 
     /// The request that was called last.
     pub fn request(&self) -> Request
-        ensures { result ≡ self.now.reader.request }
+        ensures { result ≡ self.now.request }
     {
-        self.reader.request
+        self.request
     }
 
     /// The control line began with the no-break character.
     pub fn no_break(&self) -> bool
-        ensures { result ≡ self.now.reader.half.reading.no_break }
+        ensures { result ≡ self.now.half.reading.no_break }
     {
-        self.reader.half.reading.no_break
+        self.half.reading.no_break
     }
 
     /// Names may be long.
     pub fn long_names(&self) -> bool
-        ensures { result ≡ self.now.reader.half.signs.long }
+        ensures { result ≡ self.now.half.signs.long }
     {
-        self.reader.half.signs.long
-    }
-
-    /// How many bytes of the input were taken.
-    pub fn taken(&self) -> u64
-        ensures value { result ≡ self.now.reached.taken }
-        ensures within { result < 2 ^ 40 }
-    {
-        self.place.taken()
-    }
-
-    /// How many splices and springs there were since the last byte of the input was taken.
-    pub fn burst(&self) -> u64
-        ensures { result ≡ self.now.reader.burst }
-    {
-        self.reader.burst
+        self.half.signs.long
     }
 }

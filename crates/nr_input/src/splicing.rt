@@ -1,9 +1,7 @@
 //! What those who read events bring into the input, and what they take of it.
-ghost use Rattle.std.specs.Prelude.{◌≡◌, Option};
-ghost use Rattle.nr_units.specs.Supply.{Supply};
-ghost use Rattle.nr_store.specs.Stored as stores;
+ghost use Rattle.std.specs.Prelude.{◌≡◌};
 
-use super::input::Input;
+use super::reader::Reader;
 use super::refusal::Refusal;
 use nr_store::{Store, StoredBytes};
 use nr_units::Name;
@@ -44,15 +42,17 @@ impl Definition {
     }
 }
 
-impl Input {
-    ghost use Rattle.nr_input.specs.Coming.{Coming, HoldsComing, emptied};
+impl Reader {
+    ghost use Rattle.std.specs.Prelude.{OnOk};
     ghost use Rattle.nr_input.specs.Splicing.{called, giving, springing, defining_lines};
+    ghost use Rattle.nr_input.specs.Weights.{Splices, Springs, Defines};
 
     /// Splices the text of a given register, or of a width.
     pub fn give<K: Copy>(&mut self, store: &mut Store<'_, K>, bytes: &[u8]) -> Result<(), Refusal>
-        ensures { called store.new self.new result ≡ giving bytes.now store.old self.old }
+        ensures gives { called store.new self.new result ≡ giving bytes.now store.old self.old }
+        ensures pays { OnOk result (Splices store.old self.old store.new self.new) }
     {
-        match self.reader.splice_bytes(bytes, store) {
+        match self.splice_bytes(bytes, store) {
             Ok(_) => Ok(()),
             Err(refusal) => Err(refusal),
         }
@@ -65,7 +65,8 @@ impl Input {
         name: Name,
         mode: K,
     ) -> Result<bool, Refusal>
-        ensures { called store.new self.new result ≡ springing name mode store.old self.old }
+        ensures springs { called store.new self.new result ≡ springing name mode store.old self.old }
+        ensures pays { Springs store.old self.old result store.new self.new }
     {
         match store.spring(name, mode) {
             Err(refusal) => Err(Refusal::from(refusal)),
@@ -73,10 +74,10 @@ impl Input {
                 if !sprung {
                     return Ok(false);
                 }
-                match self.reader.expand() {
+                match self.expand() {
                     Err(refusal) => Err(refusal),
                     Ok(_) => {
-                        self.reader.half.spring();
+                        self.half.spring();
                         Ok(true)
                     }
                 }
@@ -93,24 +94,15 @@ impl Input {
         name: Name,
         ending: Name,
     ) -> Result<(), StoredBytes>
-        ensures { called store.new self.new result ≡ defining_lines definition name ending store.old self.old }
+        ensures defines { called store.new self.new result ≡ defining_lines definition name ending store.old self.old }
+        ensures costs { OnOk result (Defines store.old self.old store.new self.new) }
     {
         match definition.begin(name, store) {
             Err(refusal) => Err(refusal),
             Ok(()) => {
-                self.reader.half.define(name, ending, definition.keeps());
+                self.half.define(name, ending, definition.keeps());
                 Ok(())
             }
         }
-    }
-
-    /// Empties the list: its levels, their marks, and what is unread of the source (CSTR 54, `.ex`).
-    pub fn empty<K: Copy>(&mut self, store: &mut Store<'_, K>)
-        ensures store { store.new ≡ stores.emptied store.old }
-        ensures reader { self.new.reader ≡ self.old.reader }
-        ensures coming { (c : Coming) → (supply : Option Supply) → HoldsComing c self.old.reached supply → HoldsComing (emptied c) self.new.reached supply }
-    {
-        store.clear_levels();
-        self.place.empty();
     }
 }

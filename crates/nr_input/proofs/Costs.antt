@@ -1,0 +1,191 @@
+-- What those who read events set, splice and spring is paid, or costs little.
+use Rattle.std.specs.Prelude.{nat_le, nat_lt, is_some, map}
+use Rattle.std.proofs.Common.{◌≡◌, ℕ, ◌+◌, ◌-◌, ◌*◌, ◌<◌, ◌≤◌, Bool, true, false, if◌then◌else◌, List, [], length, Option, None, Some, Result, Ok, Err, refl, ap, ◌∙◌, arith}
+use Rattle.std.proofs.lemmas.Bool.{ltb-false, leb-false}
+use Rattle.std.proofs.lemmas.List.{length-map}
+use Rattle.nr_tables.specs.Named.{find}
+use Rattle.nr_store.specs.Stored.{Stored, checked, charge_of, begun, words, reading, share, entered, reading_bytes}
+use Rattle.nr_store.specs.declared.element.Element.{Element}
+use Rattle.nr_store.specs.declared.element.Element.TheVariants as elements
+use Rattle.nr_store.specs.declared.refusal.Refusal.TheVariants as stores
+use Rattle.nr_store.specs.declared.refusal.StoredBytes.{StoredBytes}
+use Rattle.nr_reading.specs.declared.event.Event.{Event}
+use Rattle.nr_reading.specs.declared.event.Event.TheVariants as events
+use Rattle.nr_reading.specs.declared.half.Half.{Half}
+use Rattle.nr_reading.specs.declared.mode.Due.{Due}
+use Rattle.nr_reading.specs.declared.mode.Due.TheVariants as dues
+use Rattle.nr_reading.specs.declared.mode.Escape.{Escape}
+use Rattle.nr_reading.specs.declared.mode.Escape.TheVariants as escapes
+use Rattle.nr_reading.specs.declared.mode.Mode.{Mode}
+use Rattle.nr_reading.specs.declared.mode.Mode.TheVariants as modes
+use Rattle.nr_reading.specs.declared.mode.Standing.{Standing}
+use Rattle.nr_reading.specs.declared.notes.Notes.{Notes}
+use Rattle.nr_reading.specs.declared.mode.Standing.TheVariants as standings
+use Rattle.nr_reading.specs.Conditionals.{in_mode, part_mode, answer_of, remembering, judged}
+use Rattle.nr_reading.specs.Setting.{sprung, resumed, defining}
+use Rattle.nr_reading.specs.Weights.{weight_by, weight_of_mode, weight_of_backslash, weight_of_half, held_by_mode, blanks_owed}
+use Rattle.nr_input.specs.declared.reader.Reader.{Reader}
+use Rattle.nr_input.specs.declared.refusal.Refusal.{Refusal}
+use Rattle.nr_input.specs.declared.refusal.Refusal.TheVariants as refusals
+use Rattle.nr_input.specs.declared.splicing.Definition.{Definition}
+use Rattle.nr_input.specs.declared.splicing.Definition.TheVariants as definitions
+use Rattle.nr_input.specs.Acting.{Acted, acted, on_half, idle, then_due, splicing, splicing_bytes}
+use Rattle.nr_input.specs.Splicing.{Called, called, springing, springing_by, sprung_by, sprung_answer, base, base_answer, keeps, beginning, defining_lines}
+use Rattle.nr_input.specs.Weights.{CostsAtMost, Defines, Splices, Springs, expansions_worth}
+use Rattle.nr_input.proofs.Items.{expansions_worth-spent}
+use Rattle.nr_input.proofs.Spending.{Opens, opened, idle-le}
+
+-- ---- modes that are set
+
+-- whatever mode it was, with a `\` that is begun or not
+mode-ge : (m : Mode) → 131 ≤ weight_of_mode m + weight_of_backslash m
+mode-ge modes.Text = omega arith
+mode-ge modes.Interrupted = omega arith
+mode-ge modes.Continued = omega arith
+mode-ge (modes.Leading n) = omega arith
+mode-ge modes.TitleBefore = omega arith
+mode-ge (modes.Title d n) = omega arith
+mode-ge modes.Diverted = omega arith
+mode-ge m = omega arith
+
+-- in another mode that weighs so much, and so much with a `\`
+in_mode-le : (d : Due) (m k : Mode) (e : Escape) (w : ℕ) → weight_of_mode k ≤ w → weight_of_mode k + weight_of_backslash k ≤ w + 131 → held_by_mode k ≡ 0 → weight_by d k e ≤ weight_by d m e + w
+in_mode-le dues.Seek m k e w few begun none = omega arith
+in_mode-le (dues.Judge b) m k e w few begun none = omega arith
+in_mode-le d m k escapes.Begun w few begun none = omega (arith, mode-ge m)
+in_mode-le d m k e w few begun none = omega arith
+
+pub title_costs : (h : Half) → CostsAtMost 130 h (in_mode modes.TitleBefore h)
+title_costs h = omega (arith, in_mode-le h.reading.due h.reading.mode modes.TitleBefore h.reading.escape 130 (omega arith) (omega arith) refl)
+
+pub diverting_costs : (h : Half) → CostsAtMost 1 h (in_mode modes.Diverting h)
+diverting_costs h = omega (arith, in_mode-le h.reading.due h.reading.mode modes.Diverting h.reading.escape 1 (omega arith) (omega arith) refl)
+
+pub stand_costs : (s : Standing) (h : Half) → CostsAtMost 163 h (resumed s h)
+stand_costs standings.Start h = omega (arith, in_mode-le h.reading.due h.reading.mode modes.Start h.reading.escape 66 (omega arith) (omega arith) refl)
+stand_costs standings.Leading h = omega (arith, in_mode-le h.reading.due h.reading.mode (modes.Leading 1) h.reading.escape 131 (omega arith) (omega arith) refl)
+stand_costs standings.Text h = omega (arith, in_mode-le h.reading.due h.reading.mode modes.Text h.reading.escape 130 (omega arith) (omega arith) refl)
+stand_costs standings.Continued h = omega (arith, in_mode-le h.reading.due h.reading.mode modes.Continued h.reading.escape 131 (omega arith) (omega arith) refl)
+
+part_costs : (holds : Bool) (n : Notes) (h : Half) → CostsAtMost 67 h (in_mode (part_mode holds) (record h { notes = n }))
+part_costs true n h = omega (arith, in_mode-le h.reading.due h.reading.mode modes.Accepted h.reading.escape 67 (omega arith) (omega arith) refl)
+part_costs false n h = omega (arith, in_mode-le h.reading.due h.reading.mode (modes.Skip 0) h.reading.escape 67 (omega arith) (omega arith) refl)
+
+pub judged_costs : (b : Bool) (h : Half) → CostsAtMost 67 h (judged b h)
+judged_costs b h = part_costs (answer_of b h.notes) (remembering b h).notes h
+
+defining_costs : (h : Half) (name ending : List ℕ) (kept : Bool) → CostsAtMost 68 h (defining name ending kept h)
+defining_costs h name ending kept = omega (arith, in_mode-le h.reading.due h.reading.mode (modes.BodyStart 0) h.reading.escape 68 (omega arith) (omega arith) refl)
+
+-- ---- definitions whose lines follow
+
+base_levels : {K : Type 0} (d : Definition) (name : List ℕ) (v : Stored K) → ((base d name v).levels ≡ v.levels) × ((base d name v).limit ≡ v.limit)
+base_levels definitions.De name v = (refl, refl)
+base_levels definitions.Am name v = (refl, refl)
+base_levels definitions.Ig name v = (refl, refl)
+
+beginning_defines : {K : Type 0} (x : Result (Unit {0}) StoredBytes) (d : Definition) (name ending : List ℕ) (v w : Stored K) (r s : Reader)
+    → called w s (Ok tt) ≡ beginning x d name ending v r → Defines v r w s
+beginning_defines {K} (Ok x) d name ending v w r s is =
+    let stored : w ≡ base d name v = ap (λ (y : Called K (Result (Unit {0}) StoredBytes)). y.stored) is in
+    let read : s ≡ on_half (defining name ending (keeps d)) r = ap (λ (y : Called K (Result (Unit {0}) StoredBytes)). y.reader) is in
+    let levels = base_levels d name v in
+    rw (stored, read) (record { levels = levels.0; limit = levels.1; burst = refl; most = refl; costs = defining_costs r.half name ending (keeps d) })
+beginning_defines {K} (Err e) d name ending v w r s is = let answers = ap (λ (y : Called K (Result (Unit {0}) StoredBytes)). y.answer) is in let wrong : ⊥ = cc in absurd wrong
+
+pub lines_define : {K : Type 0} (d : Definition) (name ending : List ℕ) (v w : Stored K) (r s : Reader)
+    → called w s (Ok tt) ≡ defining_lines d name ending v r → Defines v r w s
+lines_define d name ending v w r s is = beginning_defines (base_answer d name v) d name ending v w r s is
+
+-- ---- splices
+
+splices : {K : Type 0} (v w : Stored K) (r : Reader) (k : Half) → Opens v w → r.burst < r.most → weight_of_half k + 32 * (blanks_owed k - blanks_owed r.half) ≤ weight_of_half r.half + 136
+    → Splices v r w (record r { half = k; burst = r.burst + 1 })
+splices v w r k opens few weighs =
+    let items = opens.items in
+    let worths = ap (λ n. expansions_worth r.most (r.burst + 1) n) opens.limit in
+    record { limit = opens.limit; most = refl; pays = λ p. omega (arith, expansions_worth-spent r.most r.burst v.limit few) }
+
+-- what comes of giving bytes, and of springing a text, by the tests that they meet
+abbrev reader_by : Bool → Reader → Reader
+reader_by full r = if full then then_due dues.Expanded r else record (idle r) { burst = r.burst + 1 }
+
+abbrev answer_by : Bool → Result Event Refusal
+answer_by full = if full then Err refusals.Expansions else Ok events.Nothing
+
+abbrev given_acted : {K : Type 0} → Bool → Bool → Bool → Stored K → Stored K → Reader → Acted K
+given_acted true deep full v n r = acted v r (Err refusals.Stored)
+given_acted false true full v n r = acted v r (Err refusals.Depth)
+given_acted false false full v n r = acted n (reader_by full r) (answer_by full)
+
+given_same : {K : Type 0} (charged deep : Bool) (v n : Stored K) (r : Reader)
+    → splicing (if charged then Err stores.Stored else (if deep then Err stores.Depth else Ok tt)) n v r ≡ given_acted charged deep (nat_le r.most r.burst) v n r
+given_same true deep v n r = refl
+given_same false true v n r = refl
+given_same false false v n r = refl
+
+abbrev spring_called : {K : Type 0} → Bool → Bool → Bool → Stored K → Stored K → Reader → Called K (Result Bool Refusal)
+spring_called true deep full v n r = called v r (Err refusals.Stored)
+spring_called false true full v n r = called v r (Err refusals.Depth)
+spring_called false false full v n r = called n (sprung_by (answer_by full) (reader_by full r)) (sprung_answer (answer_by full))
+
+spring_same : {K : Type 0} (charged deep : Bool) (v n : Stored K) (r : Reader)
+    → springing_by (if charged then Err stores.Stored else (if deep then Err stores.Depth else Ok true)) n v r ≡ spring_called charged deep (nat_le r.most r.burst) v n r
+spring_same true deep v n r = refl
+spring_same false true v n r = refl
+spring_same false false v n r = refl
+
+-- bytes that are given
+given_by : {K : Type 0} (charged deep full : Bool) (v n w : Stored K) (r s : Reader) (e : Event) → (charged ≡ false → Opens v n) → (full ≡ false → r.burst < r.most)
+    → acted w s (Ok e) ≡ given_acted charged deep full v n r → Splices v r w s
+given_by {K} true deep full v n w r s e opens few is = let answers = ap (λ (y : Acted K). y.answer) is in let wrong : ⊥ = cc in absurd wrong
+given_by {K} false true full v n w r s e opens few is = let answers = ap (λ (y : Acted K). y.answer) is in let wrong : ⊥ = cc in absurd wrong
+given_by {K} false false true v n w r s e opens few is = let answers = ap (λ (y : Acted K). y.answer) is in let wrong : ⊥ = cc in absurd wrong
+given_by {K} false false false v n w r s e opens few is =
+    let stored : w ≡ n = ap (λ (y : Acted K). y.stored) is in
+    let read : s ≡ record (idle r) { burst = r.burst + 1 } = ap (λ (y : Acted K). y.reader) is in
+    rw (stored, read) (splices v n r (idle r).half (opens refl) (few refl) (omega (arith, idle-le r.half.reading.due r.half.reading.mode r.half.reading.escape)))
+
+pub bytes_splice : {K : Type 0} (bytes : List ℕ) (v w : Stored K) (r s : Reader) (e : Event) → acted w s (Ok e) ≡ splicing_bytes bytes v r → Splices v r w s
+bytes_splice bytes v w r s e is =
+    let n = reading_bytes bytes v in
+    given_by (nat_lt n.limit (charge_of n)) (nat_lt n.deepest (length n.levels)) (nat_le r.most r.burst) v n w r s e
+    (λ few. record {
+      items = opened (map elements.Byte bytes) v.arguments (16 + length bytes) None v (omega (arith, length-map bytes elements.Byte)) (ltb-false n.limit (charge_of n) few);
+      limit = refl;
+    }) (leb-false r.most r.burst) (is ∙ given_same (nat_lt n.limit (charge_of n)) (nat_lt n.deepest (length n.levels)) v n r)
+
+-- ---- springs
+
+spring_by : {K : Type 0} (charged deep full : Bool) (v n w : Stored K) (r s : Reader) (x : Result Bool Refusal) → (charged ≡ false → Opens v n) → (full ≡ false → r.burst < r.most)
+    → called w s x ≡ spring_called charged deep full v n r → Springs v r x w s
+spring_by {K} true deep full v n w r s x opens few is = let same : x ≡ Err refusals.Stored = ap (λ (y : Called K (Result Bool Refusal)). y.answer) is in rw same tt
+spring_by {K} false true full v n w r s x opens few is = let same : x ≡ Err refusals.Depth = ap (λ (y : Called K (Result Bool Refusal)). y.answer) is in rw same tt
+spring_by {K} false false true v n w r s x opens few is = let same : x ≡ Err refusals.Expansions = ap (λ (y : Called K (Result Bool Refusal)). y.answer) is in rw same tt
+spring_by {K} false false false v n w r s x opens few is =
+    let same : x ≡ Ok true = ap (λ (y : Called K (Result Bool Refusal)). y.answer) is in
+    let stored : w ≡ n = ap (λ (y : Called K (Result Bool Refusal)). y.stored) is in
+    let read : s ≡ on_half sprung (record (idle r) { burst = r.burst + 1 }) = ap (λ (y : Called K (Result Bool Refusal)). y.reader) is in
+    rw (same, stored, read) (splices v n r (sprung r.half) (opens refl) (few refl) (omega arith))
+
+none_springs : {K : Type 0} (charged deep : Bool) (v w : Stored K) (r s : Reader) (x : Result Bool Refusal)
+    → called w s x ≡ springing_by (if charged then Err stores.Stored else (if deep then Err stores.Depth else Ok false)) v v r → Springs v r x w s
+none_springs {K} true deep v w r s x is = let same : x ≡ Err refusals.Stored = ap (λ (y : Called K (Result Bool Refusal)). y.answer) is in rw same tt
+none_springs {K} false true v w r s x is = let same : x ≡ Err refusals.Depth = ap (λ (y : Called K (Result Bool Refusal)). y.answer) is in rw same tt
+none_springs {K} false false v w r s x is =
+    let same : x ≡ Ok false = ap (λ (y : Called K (Result Bool Refusal)). y.answer) is in
+    let stored : w ≡ v = ap (λ (y : Called K (Result Bool Refusal)). y.stored) is in
+    let read : s ≡ r = ap (λ (y : Called K (Result Bool Refusal)). y.reader) is in
+    rw same (stored, read)
+
+text_springs : {K : Type 0} (text : Option (List Element)) (mode : K) (v w : Stored K) (r s : Reader) (x : Result Bool Refusal)
+    → called w s x ≡ springing_by (checked (entered text (Some mode) v) (is_some text)) (entered text (Some mode) v) v r → Springs v r x w s
+text_springs None mode v w r s x is = none_springs (nat_lt v.limit (charge_of v)) (nat_lt v.deepest (length v.levels)) v w r s x is
+text_springs (Some text) mode v w r s x is =
+    let n = reading text [] (share text) (Some mode) v in
+    spring_by (nat_lt n.limit (charge_of n)) (nat_lt n.deepest (length n.levels)) (nat_le r.most r.burst) v n w r s x
+    (λ few. record { items = opened text [] (share text) (Some mode) v (omega arith) (ltb-false n.limit (charge_of n) few); limit = refl }) (leb-false r.most r.burst) (is ∙ spring_same (nat_lt n.limit (charge_of n)) (nat_lt n.deepest (length n.levels)) v n r)
+
+pub springing_springs : {K : Type 0} (name : List ℕ) (mode : K) (v w : Stored K) (r s : Reader) (x : Result Bool Refusal)
+    → called w s x ≡ springing name mode v r → Springs v r x w s
+springing_springs name mode v w r s x is = text_springs (words (find name v.names)) mode v w r s x is

@@ -1,0 +1,11 @@
+use Rattle.std.proofs.Common.{◌≡◌, ap, true}
+use Rattle.nr_reading.specs.declared.mode.Due.TheVariants as dues
+use Rattle.nr_input.specs.Acting.{is_look}
+use Rattle.nr_input.proofs.Spending.{act_pays}
+use Rattle.nr_input.proofs.moving.advance.Goals as goal
+
+pub returns-in-Ok-clause-pays : goal.returns-in-Ok-clause-pays
+returns-in-Ok-clause-pays g c =
+    let r = c.args.reader.now in
+    act_pays c.args.store.now c.act.new.store c.args.place.now r c.act.new.self c.in-Ok.event
+    (λ (is : r.half.reading.due ≡ dues.Look). let looks : is_look r.half.reading.due ≡ true = ap is_look is in let wrong : ⊥ = cc in absurd wrong) c.in-Ok.ensures

@@ -1,0 +1,65 @@
+-- What is half read weighs no more than this, whatever it is.
+use Rattle.std.specs.Prelude.{ℕ, ◌+◌, ◌*◌, ◌≤◌, List, [], ◌∷◌, length, sum_by}
+use Rattle.std.proofs.Common.{arith}
+use Rattle.std.proofs.lemmas.List.Sums.{sum_by-cons}
+use Rattle.nr_reading.specs.declared.ask.Ask.{Ask}
+use Rattle.nr_reading.specs.declared.ask.Sign.TheVariants as signs
+use Rattle.nr_reading.specs.declared.ask.Stage.{Stage}
+use Rattle.nr_reading.specs.declared.ask.Stage.TheVariants as stages
+use Rattle.nr_reading.specs.declared.half.Half.{Half}
+use Rattle.nr_reading.specs.declared.mode.Due.{Due}
+use Rattle.nr_reading.specs.declared.mode.Due.TheVariants as dues
+use Rattle.nr_reading.specs.declared.mode.Escape.{Escape}
+use Rattle.nr_reading.specs.declared.mode.Escape.TheVariants as escapes
+use Rattle.nr_reading.specs.declared.mode.Mode.{Mode}
+use Rattle.nr_reading.specs.declared.mode.Mode.TheVariants as modes
+use Rattle.nr_reading.specs.Weights.{weight_by, weight_of_escape, weight_of_backslash, weight_of_mode, weight_of_due, held_by_mode, weight_of_stage, weight_of_ask, weight_of_half}
+
+-- how many bytes of a definition's line are held back, or are still to be added
+abbrev pub held_by_due : Due → ℕ
+held_by_due (dues.Release held n b) = held
+held_by_due d = 0
+
+abbrev pub held_back : Half → ℕ
+held_back h = held_by_mode h.reading.mode + held_by_due h.reading.due
+
+pub weight_of_mode-le : (m : Mode) → weight_of_mode m ≤ 203 + held_by_mode m
+weight_of_mode-le (modes.BodyStart held) = omega arith
+weight_of_mode-le m = omega arith
+
+pub weight_of_backslash-le : (m : Mode) → weight_of_backslash m ≤ 132
+weight_of_backslash-le modes.Text = omega arith
+weight_of_backslash-le modes.Interrupted = omega arith
+weight_of_backslash-le modes.Continued = omega arith
+weight_of_backslash-le (modes.Leading n) = omega arith
+weight_of_backslash-le modes.TitleBefore = omega arith
+weight_of_backslash-le (modes.Title d n) = omega arith
+weight_of_backslash-le modes.Diverted = omega arith
+weight_of_backslash-le m = omega arith
+
+weight_of_escape-le : (w : ℕ) (e : Escape) → weight_of_escape w e ≤ w
+weight_of_escape-le w escapes.Plain = omega arith
+weight_of_escape-le w escapes.Begun = omega arith
+weight_of_escape-le w escapes.Comment = omega arith
+
+weight_of_due-le : (d : Due) → weight_of_due d ≤ 2 + held_by_due d
+weight_of_due-le (dues.Register signs.None) = omega arith
+weight_of_due-le (dues.Register signs.Plus) = omega arith
+weight_of_due-le (dues.Register signs.Minus) = omega arith
+weight_of_due-le d = omega arith
+
+weight_by-le : (d : Due) (m : Mode) (e : Escape) → weight_by d m e ≤ 337 + held_by_mode m + held_by_due d
+weight_by-le dues.Seek m e = omega (arith, weight_of_escape-le 132 e)
+weight_by-le (dues.Judge b) m e = omega (arith, weight_of_escape-le 132 e)
+weight_by-le d m e = omega (arith, weight_of_due-le d, weight_of_mode-le m, weight_of_backslash-le m, weight_of_escape-le (weight_of_backslash m) e)
+
+weight_of_stage-le : (s : Stage) → weight_of_stage s ≤ 66
+weight_of_stage-le stages.Sign = omega arith
+weight_of_stage-le s = omega arith
+
+weight_of_asks-le : (asks : List Ask) → sum_by weight_of_ask asks ≤ 66 * length asks
+weight_of_asks-le [] = omega arith
+weight_of_asks-le (a ∷ asks) = omega (arith, sum_by-cons weight_of_ask a asks, weight_of_stage-le a.stage, weight_of_asks-le asks)
+
+pub weight_of_half-le : (h : Half) → weight_of_half h ≤ 337 + 66 * length h.asks + held_back h
+weight_of_half-le h = omega (arith, weight_by-le h.reading.due h.reading.mode h.reading.escape, weight_of_asks-le h.asks)

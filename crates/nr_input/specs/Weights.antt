@@ -1,0 +1,100 @@
+-- How many moves may still come before the next byte of the source is taken.
+use Rattle.std.specs.Prelude.{◌≡◌, ℕ, ◌+◌, ◌-◌, ◌*◌, ◌≤◌, Bool, true, false, List, length, Option, None, Some, sum_by, Result, Ok, Err}
+use Rattle.nr_store.specs.Stored.{Stored, Level, Read, Mark}
+use Rattle.nr_reading.specs.declared.event.Event.TheVariants as events
+use Rattle.nr_reading.specs.declared.half.Half.{Half}
+use Rattle.nr_reading.specs.Weights.{cost_of_event, weight_of_half, blanks_owed}
+use Rattle.nr_input.specs.declared.reader.Reader.{Reader}
+use Rattle.nr_input.specs.declared.refusal.Refusal.{Refusal}
+use Rattle.nr_input.specs.declared.told.Told.{Told}
+use Rattle.nr_input.specs.declared.told.Told.TheVariants as tells
+use Rattle.nr_input.specs.Coming.{Reached}
+
+-- ---- the items before the next byte: those of the levels, their marks among them, and the newline that is added
+
+abbrev pub count_of_resume : {K : Type 0} → Option K → ℕ
+count_of_resume None = 0
+count_of_resume (Some mode) = 1
+
+abbrev pub items_in : {K : Type 0} → Level K → ℕ
+items_in (Read l) = length l.rest + 1 + count_of_resume l.resume
+items_in (Mark mode) = 1
+
+abbrev pub items_left : {K : Type 0} → List (Level K) → ℕ
+items_left levels = sum_by items_in levels
+
+abbrev pub newline_left : Bool → ℕ
+newline_left true = 1
+newline_left false = 0
+
+-- ---- splices and springs: each brings as many items as may be stored, and three more at most
+
+abbrev pub expansion_worth : ℕ → ℕ
+expansion_worth stored = 256 * (stored + 3)
+
+-- what those that may still come are worth, with so many stored bytes
+unfoldable pub expansions_worth : ℕ → ℕ → ℕ → ℕ
+expansions_worth most burst stored = (most - burst) * expansion_worth stored
+
+-- ---- all of it
+
+abbrev pub weight_before_byte : {K : Type 0} → Stored K → Reached → Reader → ℕ
+weight_before_byte v p r =
+    256 * (items_left v.levels + newline_left p.inside) + expansions_worth r.most r.burst v.limit + weight_of_half r.half
+
+-- what a byte of the source pays at least
+abbrev pub byte_worth : ℕ → ℕ → ℕ
+byte_worth most stored = expansions_worth most 0 stored + 512
+
+-- what a move costs by what it tells: behind a sprung text it leaves 254 moves
+abbrev pub cost_of_told : {K : Type 0} → Told K → ℕ
+cost_of_told (tells.Event e) = cost_of_event e
+cost_of_told (tells.Resume k) = 255
+
+-- a blank of a line's beginning is told
+abbrev pub IfLead : {K : Type 0} → Told K → Type 0 → Type 0
+IfLead (tells.Event events.Lead) P = P
+IfLead t P = Unit {0}
+
+-- a blank more that is owed
+abbrev pub risen : Half → Half → ℕ
+risen old new = blanks_owed new - blanks_owed old
+
+-- A move was made: it is paid out of what may still come, and a byte that it takes pays this much or more. Of the blanks that
+-- are owed each that is told takes one off.
+pub record Pays {K : Type 0} (v : Stored K) (p : Reached) (r : Reader) (t : Told K) (v' : Stored K) (p' : Reached) (r' : Reader) : Type 0 where
+  pub limit : v'.limit ≡ v.limit
+  pub most : r'.most ≡ r.most
+  pub pays : (worth : ℕ) → byte_worth r.most v.limit ≤ worth →
+      weight_before_byte v' p' r' + cost_of_told t + 32 * risen r.half r'.half + worth * p.taken ≤ weight_before_byte v p r + worth * p'.taken
+  pub lead : IfLead t (blanks_owed r'.half + 1 ≡ blanks_owed r.half)
+
+abbrev pub PaysIfMade : {K : Type 0} → Stored K → Reached → Reader → Result (Told K) Refusal → Stored K → Reached → Reader → Type 0
+PaysIfMade v p r (Ok t) v' p' r' = Pays v p r t v' p' r'
+PaysIfMade v p r (Err e) v' p' r' = Unit {0}
+
+-- ---- what those who read events do
+
+-- A text is spliced or sprung: it is paid out of what may still come, and leaves 4096 moves.
+pub record Splices {K : Type 0} (v : Stored K) (r : Reader) (v' : Stored K) (r' : Reader) : Type 0 where
+  pub limit : v'.limit ≡ v.limit
+  pub most : r'.most ≡ r.most
+  pub pays : (p : Reached) → weight_before_byte v' p r' + 4096 + 32 * risen r.half r'.half ≤ weight_before_byte v p r
+
+-- where no text is sprung nothing changes
+abbrev pub Springs : {K : Type 0} → Stored K → Reader → Result Bool Refusal → Stored K → Reader → Type 0
+Springs v r (Ok true) v' r' = Splices v r v' r'
+Springs v r (Ok false) v' r' = (v' ≡ v) × (r' ≡ r)
+Springs v r (Err e) v' r' = Unit {0}
+
+-- what is read was set anew: it weighs so much more at most
+abbrev pub CostsAtMost : ℕ → Half → Half → Type 0
+CostsAtMost most old new = weight_of_half new + 32 * risen old new ≤ weight_of_half old + most
+
+-- the lines of a definition follow
+pub record Defines {K : Type 0} (v : Stored K) (r : Reader) (v' : Stored K) (r' : Reader) : Type 0 where
+  pub levels : v'.levels ≡ v.levels
+  pub limit : v'.limit ≡ v.limit
+  pub burst : r'.burst ≡ r.burst
+  pub most : r'.most ≡ r.most
+  pub costs : CostsAtMost 68 r.half r'.half
