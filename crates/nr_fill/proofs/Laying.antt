@@ -69,19 +69,32 @@ laid_of_inserted {slots} {cells} {pieced = pieced} {read = read} room place n x 
     (take_all (read + n - pieced) (drop pieced (front ++ R ++ back)) (omega (arith, length-drop pieced (front ++ R ++ back))) ∙ dropped ∙ ap (λ zs. take place zs ++ R ++ drop place zs) (sym last_is))
     title_is refl
 
--- one cell more behind the last piece
-pub laid_of_pushed : {slots : List PieceSlot} {cells : List Cell} {slot_room cell_room pieced read : ℕ} (room : ℕ) (x : Cell) → IsLaid slots cells slot_room cell_room pieced read
+-- with n more cells behind the last piece
+pub is_laid_longer : {slots : List PieceSlot} {cells : List Cell} {slot_room cell_room pieced read : ℕ} (more : List Cell) (n : ℕ) → IsLaid slots cells slot_room cell_room pieced read
+    → read ≡ length cells → length more ≡ length cells + n → length cells + n ≤ cell_room → IsLaid slots more slot_room cell_room pieced (read + n)
+is_laid_longer more n h all long fits = record {
+  pieced_is = h.pieced_is;
+  pieced_within = omega (arith, h.pieced_within);
+  read_within = omega arith;
+  cells_within = omega arith;
+  slots_within = h.slots_within;
+  is_small = h.is_small;
+}
+
+-- more cells behind the last piece
+pub laid_of_extended : {slots : List PieceSlot} {cells : List Cell} {slot_room cell_room pieced read : ℕ} (room : ℕ) (xs : List Cell) → IsLaid slots cells slot_room cell_room pieced read
     → read ≡ length cells
-    → laid_of slots (cells ++ x ∷ []) pieced (read + 1) room ≡ record (laid_of slots cells pieced read room) { last = (laid_of slots cells pieced read room).last ++ x ∷ [] }
-laid_of_pushed {slots} {cells} {pieced = pieced} {read = read} room x h all =
+    → laid_of slots (cells ++ xs) pieced (read + length xs) room ≡ record (laid_of slots cells pieced read room) { last = (laid_of slots cells pieced read room).last ++ xs }
+laid_of_extended {slots} {cells} {pieced = pieced} {read = read} room xs h all =
     let behind = drop pieced cells in
     let within = h.pieced_within in
     let last_is : take (read - pieced) behind ≡ behind = take_all (read - pieced) behind (omega (arith, length-drop pieced cells)) in
-    let long : length (cells ++ x ∷ []) ≡ read + 1 = omega (arith, length-append cells (x ∷ [])) in
-    let dropped : drop pieced (cells ++ x ∷ []) ≡ behind ++ x ∷ [] = drop-append-le pieced cells (x ∷ []) (omega arith) in
-    same_laid (pieces_of-append slots cells (x ∷ []) (omega (arith, h.pieced_is)))
-    (take_all (read + 1 - pieced) (drop pieced (cells ++ x ∷ [])) (omega (arith, length-drop pieced (cells ++ x ∷ []))) ∙ dropped ∙ ap (λ zs. zs ++ x ∷ []) (sym last_is))
-    (drop_all (read + 1) (cells ++ x ∷ []) (omega arith) ∙ sym (drop_all read cells (omega arith))) refl
+    let n = length xs in
+    let long : length (cells ++ xs) ≡ read + n = omega (arith, length-append cells xs) in
+    let dropped : drop pieced (cells ++ xs) ≡ behind ++ xs = drop-append-le pieced cells xs (omega arith) in
+    same_laid (pieces_of-append slots cells xs (omega (arith, h.pieced_is)))
+    (take_all (read + n - pieced) (drop pieced (cells ++ xs)) (omega (arith, length-drop pieced (cells ++ xs))) ∙ dropped ∙ ap (λ zs. zs ++ xs) (sym last_is))
+    (drop_all (read + n) (cells ++ xs) (omega arith) ∙ sym (drop_all read cells (omega arith))) refl
 
 -- the cells from a place on are gone
 pub laid_of_taken : {slots : List PieceSlot} {cells : List Cell} {slot_room cell_room pieced read : ℕ} (room m : ℕ) → IsLaid slots cells slot_room cell_room pieced read
@@ -248,3 +261,37 @@ is_laid_removed {slots} {cells} n k h k_is within =
       slots_within = omega (arith, h.slots_within, length-drop n slots);
       is_small = h.is_small;
     }
+
+-- ---- pieces without an end
+
+-- the cells of the pieces behind the first ones
+pub back_cells : {slots : List PieceSlot} {cells : List Cell} {slot_room cell_room pieced read : ℕ} (now : Laid) (room n k : ℕ) → IsLaid slots cells slot_room cell_room pieced read
+    → laid_of slots cells pieced read room ≡ now → k ≡ cells_in (drop n now.pieces) → (k ≡ cells_in (drop n (pieces_of slots cells))) × (cells_in_slots (take n slots) + k ≡ pieced)
+back_cells {slots} {cells} {pieced = pieced} now room n k h is k_is =
+    let same : k ≡ cells_in (drop n (pieces_of slots cells)) = k_is ∙ ap (λ (l : Laid). cells_in (drop n l.pieces)) (sym is) in
+    let all = cells_in-laid_of h in
+    let parts = sum_by-take-drop (λ (p : Piece). length p.cells) (pieces_of slots cells) n in
+    let within = front_within n h in
+    let first : cells_in (take n (pieces_of slots cells)) ≡ cells_in_slots (take n slots) = ap cells_in (take-pieces_of n slots cells) ∙ cells_in-pieces_of (take n slots) cells within.0 in
+    (same, omega arith)
+
+-- a row of pieces of which the last ones have no end
+pub is_laid_opened : {slots : List PieceSlot} {cells : List Cell} {slot_room cell_room pieced read : ℕ} (n k : ℕ) → IsLaid slots cells slot_room cell_room pieced read
+    → cells_in_slots (take n slots) + k ≡ pieced → IsLaid (take n slots) cells slot_room cell_room (pieced - k) read
+is_laid_opened {slots} n k h is = record {
+  pieced_is = omega arith;
+  pieced_within = omega (arith, h.pieced_within);
+  read_within = h.read_within;
+  cells_within = h.cells_within;
+  slots_within = omega (arith, h.slots_within, length-take n slots);
+  is_small = h.is_small;
+}
+
+pub laid_of_opened : {slots : List PieceSlot} {cells : List Cell} {slot_room cell_room pieced read : ℕ} (room n k : ℕ) → IsLaid slots cells slot_room cell_room pieced read
+    → k ≡ cells_in (drop n (pieces_of slots cells))
+    → laid_of (take n slots) cells (pieced - k) read room
+    ≡ record (laid_of slots cells pieced read room) {
+      pieces = take n (laid_of slots cells pieced read room).pieces;
+      last = flat_map (λ (p : Piece). p.cells) (drop n (laid_of slots cells pieced read room).pieces) ++ (laid_of slots cells pieced read room).last;
+    }
+laid_of_opened {slots} {cells} room n k h is = same_laid (sym (take-pieces_of n slots cells)) (cells_behind-laid_of room n k h (sym is)) refl refl

@@ -1,4 +1,5 @@
 pub mod Queues
+pub mod Planning
 pub mod RunLemmas
 pub mod Trimming
 pub mod LongestFront

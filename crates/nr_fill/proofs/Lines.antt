@@ -2,11 +2,11 @@
 use Rattle.std.proofs.Common.{◌≡◌, ℕ, ◌+◌, ◌-◌, ◌*◌, ◌^◌, ◌≤◌, ◌<◌, List, [], ◌∷◌, ◌++◌, length, take, drop, sum_by, Option, None, Some, is_none, is_some, Bool, true, false, All, refl, ap, sym, ◌∙◌, append_assoc, arith, length-take, length-drop, length-append, eqb, get_or, subst, suc}
 use Rattle.std.proofs.lemmas.List.{take-append-drop, take_all, drop_all, drop-drop, drop-take, take-take, length-take-le, take-append-le, drop-append-le}
 use Rattle.std.proofs.lemmas.Bool.{ne_eqb}
-use Rattle.std.proofs.lemmas.List.Elements.{All-drop, All-push}
+use Rattle.std.proofs.lemmas.List.Elements.{All-drop, All-push, All-take}
 use Rattle.std.proofs.lemmas.List.Sums.{sum_by-cons, sum_by_push, sum_by-take-drop}
 use Rattle.nr_units.specs.declared.cell.Cell.{Cell}
 use Rattle.nr_fill.specs.declared.line.WordState.{WordState}
-use Rattle.nr_fill.specs.declared.margins.Margins.{Margins}
+use Rattle.nr_settings.specs.declared.indents.Margins.{Margins}
 use Rattle.nr_fill.specs.declared.margins.Turn.{Turn}
 use Rattle.nr_fill.specs.declared.piece.Join.{Join}
 use Rattle.nr_fill.specs.declared.piece.Join.TheVariants.{Gap}
@@ -16,9 +16,11 @@ use Rattle.nr_fill.specs.declared.title.TitleState.TheVariants as states
 use Rattle.nr_fill.specs.Cut.{join_width, piece_width, pieces_width}
 use Rattle.nr_fill.specs.Laid.{Laid, read_cells}
 use Rattle.nr_fill.specs.Lying.{word_of, collected_of, cells_needed, IsWord, IsLine}
-use Rattle.nr_fill.specs.Pieces.{Piece, cells_in, text_cells, line_cells, is_nil, word_pieces, word_or_new, new_word}
+use Rattle.nr_fill.specs.Pieces.{Piece, cells_in, text_cells, line_cells, is_nil, join_before, word_pieces, word_or_new, new_word}
 use Rattle.nr_fill.specs.TitleStates.{title_of, parted_title, next_state}
 use Rattle.nr_fill.specs.Titles.{Title, title_cells, title_or_empty, next_part, with_cell}
+use Rattle.nr_fill.proofs.PiecesOf.{length-flat_map}
+use Rattle.std.specs.List.{flat_map}
 use Rattle.std.specs.Option.{option_map}
 
 -- ---- the measure
@@ -114,45 +116,43 @@ is_some_word w e = absurd (let f : false ≡ true = e in cc)
 no_title_state : {T : Type 0} (t : TitleState) → ◌≡◌ {A = Option TitleState} None (Some t) → T
 no_title_state t e = absurd (cc)
 
--- without a title
-pub is_line_untitled : {row : Laid} {limit pieces wide : ℕ} {word : Option WordState} {gap : ℕ} {title : Option TitleState} → IsLine row limit pieces wide word gap title
-    → IsLine (record row { title = [] }) limit pieces wide word gap None
-is_line_untitled h = record {
+-- the same pieces with other cells behind them, another word and another title
+is_line_behind : {row : Laid} {limit pieces wide : ℕ} {word : Option WordState} {gap : ℕ} {title : Option TitleState} (last cells : List Cell) (v : Option WordState) (k : ℕ) (t : Option TitleState) → IsLine row limit pieces wide word gap title
+    → pieces + (cells_in row.pieces + length last) + length cells ≤ limit → k ≤ 1365
+    → ((w : WordState) → v ≡ Some w → IsWord w (drop pieces row.pieces) last) → (is_none v ≡ true → (length row.pieces ≡ pieces) × (length last ≡ 0))
+    → ((u : TitleState) → t ≡ Some u → parted_title u ≤ length cells) → (is_none t ≡ true → length cells ≡ 0)
+    → IsLine (record row { last = last; title = cells }) limit pieces wide v k t
+is_line_behind last cells v k t h within gap_within word_is no_word title_is no_title = record {
   room = h.room;
   is_small = h.is_small;
-  within = omega (arith, h.within);
+  within = within;
   pieces_within = h.pieces_within;
   wide_is = h.wide_is;
   gaps_within = h.gaps_within;
-  gap_within = h.gap_within;
-  word_is = h.word_is;
-  no_word = h.no_word;
-  title_is = λ t e. no_title_state t e;
-  no_title = λ none. refl;
+  gap_within = gap_within;
+  word_is = word_is;
+  no_word = no_word;
+  title_is = title_is;
+  no_title = no_title;
 }
+
+-- without a title
+pub is_line_untitled : {row : Laid} {limit pieces wide : ℕ} {word : Option WordState} {gap : ℕ} {title : Option TitleState} → IsLine row limit pieces wide word gap title
+    → IsLine (record row { title = [] }) limit pieces wide word gap None
+is_line_untitled {row} {word = word} {gap = gap} h =
+    is_line_behind row.last [] word gap None h (omega (arith, h.within)) h.gap_within h.word_is h.no_word (λ t e. no_title_state t e) (λ none. refl)
 
 -- with another state of the word
 pub is_line_word : {row : Laid} {limit pieces wide : ℕ} {word : Option WordState} {gap : ℕ} {title : Option TitleState} (w : WordState) → IsLine row limit pieces wide word gap title
     → IsWord w (drop pieces row.pieces) row.last → IsLine row limit pieces wide (Some w) gap title
-is_line_word w h hw = record {
-  room = h.room;
-  is_small = h.is_small;
-  within = h.within;
-  pieces_within = h.pieces_within;
-  wide_is = h.wide_is;
-  gaps_within = h.gaps_within;
-  gap_within = h.gap_within;
-  word_is = only_word w hw;
-  no_word = λ none. is_some_word w none;
-  title_is = h.title_is;
-  no_title = h.no_title;
-}
+is_line_word {row} {gap = gap} {title = title} w h hw =
+    is_line_behind row.last row.title (Some w) gap title h h.within h.gap_within (only_word w hw) (λ none. is_some_word w none) h.title_is h.no_title
 
 -- a word that opens
 pub is_line_opened : {row : Laid} {limit pieces wide : ℕ} {gap : ℕ} {title : Option TitleState} (w : WordState) → IsLine row limit pieces wide None gap title
     → w ≡ record { join = Gap gap; pending = Nothing; blanks = 0; parted = 0; wide = 0 }
     → IsLine row limit pieces wide (Some w) 0 title
-is_line_opened {row} {pieces = pieces} {gap = gap} w h is =
+is_line_opened {row} {pieces = pieces} {title = title} w h is =
     let all = h.no_word refl in
     let none : drop pieces row.pieces ≡ [] = drop_all pieces row.pieces (omega arith) in
     let hw : IsWord w (drop pieces row.pieces) row.last = rw (is, none) record {
@@ -162,41 +162,18 @@ is_line_opened {row} {pieces = pieces} {gap = gap} w h is =
       join_within = h.gap_within;
       needed = omega arith;
     } in
-    record {
-      room = h.room;
-      is_small = h.is_small;
-      within = h.within;
-      pieces_within = h.pieces_within;
-      wide_is = h.wide_is;
-      gaps_within = h.gaps_within;
-      gap_within = omega arith;
-      word_is = only_word w hw;
-      no_word = λ none. is_some_word w none;
-      title_is = h.title_is;
-      no_title = h.no_title;
-    }
+    is_line_behind row.last row.title (Some w) 0 title h h.within (omega arith) (only_word w hw) (λ none. is_some_word w none) h.title_is h.no_title
 
 -- with other cells of the piece that is being read
 pub is_line_last : {row : Laid} {limit pieces wide : ℕ} {word : Option WordState} {gap : ℕ} {title : Option TitleState} (last : List Cell) (w : WordState) → IsLine row limit pieces wide word gap title
     → IsWord w (drop pieces row.pieces) last → pieces + (cells_in row.pieces + length last) + length row.title ≤ limit
     → IsLine (record row { last = last }) limit pieces wide (Some w) gap title
-is_line_last last w h hw within = record {
-  room = h.room;
-  is_small = h.is_small;
-  within = within;
-  pieces_within = h.pieces_within;
-  wide_is = h.wide_is;
-  gaps_within = h.gaps_within;
-  gap_within = h.gap_within;
-  word_is = only_word w hw;
-  no_word = λ none. is_some_word w none;
-  title_is = h.title_is;
-  no_title = h.no_title;
-}
+is_line_last {row} {gap = gap} {title = title} last w h hw within =
+    is_line_behind last row.title (Some w) gap title h within h.gap_within (only_word w hw) (λ none. is_some_word w none) h.title_is h.no_title
 
 -- cells of the piece that is being read are a piece
 pub is_word_closed : {ps : List Piece} {last : List Cell} {w : WordState} (v : WordState) (n : ℕ) → IsWord w ps last → n ≤ length last → 0 < n
-    → v.parted ≡ w.parted + n → v.wide ≡ w.wide + join_width w.join + n → join_width v.join ≤ 1365 → cells_needed v.pending v.blanks ≤ length last - n
+    → v.parted ≡ w.parted + n → v.wide ≡ w.wide + join_width w.join + n → join_width v.join ≤ 1365 → cells_needed v.pending v.blanks v.parted ≤ length last - n
     → IsWord v (ps ++ record { join = w.join; cells = take n last } ∷ []) (drop n last)
 is_word_closed {ps} {last} {w} v n h within some parted_is wide_is join needed =
     let p : Piece = record { join = w.join; cells = take n last } in
@@ -215,7 +192,7 @@ is_word_closed {ps} {last} {w} v n h within some parted_is wide_is join needed =
 
 pub is_line_closed : {row : Laid} {limit pieces wide : ℕ} {w : WordState} {gap : ℕ} {title : Option TitleState} (v : WordState) (n : ℕ) → IsLine row limit pieces wide (Some w) gap title
     → n ≤ length row.last → 0 < n
-    → v.parted ≡ w.parted + n → v.wide ≡ w.wide + join_width w.join + n → join_width v.join ≤ 1365 → cells_needed v.pending v.blanks ≤ length row.last - n
+    → v.parted ≡ w.parted + n → v.wide ≡ w.wide + join_width w.join + n → join_width v.join ≤ 1365 → cells_needed v.pending v.blanks v.parted ≤ length row.last - n
     → IsLine (record row { pieces = row.pieces ++ record { join = w.join; cells = take n row.last } ∷ []; last = drop n row.last }) limit pieces wide (Some v) gap title
 is_line_closed {row} {pieces = pieces} {w = w} v n h within some parted_is wide_is join needed =
     let p : Piece = record { join = w.join; cells = take n row.last } in
@@ -235,6 +212,34 @@ is_line_closed {row} {pieces = pieces} {w = w} v n h within some parted_is wide_
       gaps_within = All-push (λ (q : Piece). join_width q.join ≤ 1365) row.pieces p h.gaps_within iw.join_within;
       gap_within = h.gap_within;
       word_is = only_word v (rw behind closed);
+      no_word = λ none. is_some_word v none;
+      title_is = h.title_is;
+      no_title = h.no_title;
+    }
+
+-- joins are not wide
+pub join_before-within : (ps : List Piece) (j : Join) → All (λ (p : Piece). join_width p.join ≤ 1365) ps → join_width j ≤ 1365 → join_width (join_before ps j) ≤ 1365
+join_before-within [] j all h = h
+join_before-within (p ∷ ps) j all h = all 0 p (omega arith)
+
+-- pieces of the word behind the first n of the row have no end
+pub is_line_opened_behind : {row : Laid} {limit pieces wide : ℕ} {word : Option WordState} {gap : ℕ} {title : Option TitleState} (v : WordState) (n : ℕ) → IsLine row limit pieces wide word gap title
+    → pieces ≤ n → n ≤ length row.pieces
+    → IsWord v (drop pieces (take n row.pieces)) (flat_map (λ (p : Piece). p.cells) (drop n row.pieces) ++ row.last)
+    → IsLine (record row { pieces = take n row.pieces; last = flat_map (λ (p : Piece). p.cells) (drop n row.pieces) ++ row.last }) limit pieces wide (Some v) gap title
+is_line_opened_behind {row} {pieces = pieces} v n h low high hw =
+    let cells = sum_by-take-drop (λ (p : Piece). length p.cells) row.pieces n in
+    let others = flat_map (λ (p : Piece). p.cells) (drop n row.pieces) in
+    let same = take-take pieces n row.pieces low in
+    record {
+      room = h.room;
+      is_small = h.is_small;
+      within = omega (arith, h.within, length-append others row.last, length-flat_map (drop n row.pieces));
+      pieces_within = omega (arith, length-take-le n row.pieces high);
+      wide_is = ap pieces_width same ∙ h.wide_is;
+      gaps_within = All-take (λ (p : Piece). join_width p.join ≤ 1365) n row.pieces h.gaps_within;
+      gap_within = h.gap_within;
+      word_is = only_word v hw;
       no_word = λ none. is_some_word v none;
       title_is = h.title_is;
       no_title = h.no_title;
@@ -306,38 +311,17 @@ is_line_removed {row} {pieces = pieces} {word = word} n taken_wide h within wide
 -- with another state of the title
 pub is_line_titled : {row : Laid} {limit pieces wide : ℕ} {word : Option WordState} {gap : ℕ} {title : Option TitleState} (t : TitleState) → IsLine row limit pieces wide word gap title
     → parted_title t ≤ length row.title → IsLine row limit pieces wide word gap (Some t)
-is_line_titled {row} t h within = record {
-  room = h.room;
-  is_small = h.is_small;
-  within = h.within;
-  pieces_within = h.pieces_within;
-  wide_is = h.wide_is;
-  gaps_within = h.gaps_within;
-  gap_within = h.gap_within;
-  word_is = h.word_is;
-  no_word = h.no_word;
-  title_is = λ u e. let same : t ≡ u = (cc) in subst (λ (x : TitleState). parted_title x ≤ length row.title) same within;
-  no_title = λ none. absurd (let f : false ≡ true = none in cc);
-}
+is_line_titled {row} {word = word} {gap = gap} t h within =
+    is_line_behind row.last row.title word gap (Some t) h h.within h.gap_within h.word_is h.no_word
+    (λ u e. let same : t ≡ u = (cc) in subst (λ (x : TitleState). parted_title x ≤ length row.title) same within) (λ none. absurd (let f : false ≡ true = none in cc))
 
 -- one cell more of a title
 pub is_line_title_cell : {row : Laid} {limit pieces wide : ℕ} {word : Option WordState} {gap : ℕ} {title : Option TitleState} (x : Cell) → IsLine row limit pieces wide word gap title
     → is_none title ≡ false → pieces + read_cells row + length row.title < limit → IsLine (record row { title = row.title ++ x ∷ [] }) limit pieces wide word gap title
-is_line_title_cell {row} {title = title} x h some below =
+is_line_title_cell {row} {word = word} {gap = gap} {title = title} x h some below =
     let longer = length-append row.title (x ∷ []) in
-    record {
-      room = h.room;
-      is_small = h.is_small;
-      within = omega arith;
-      pieces_within = h.pieces_within;
-      wide_is = h.wide_is;
-      gaps_within = h.gaps_within;
-      gap_within = h.gap_within;
-      word_is = h.word_is;
-      no_word = h.no_word;
-      title_is = λ t e. let old = h.title_is t e in omega arith;
-      no_title = λ none. absurd (let f : true ≡ false = sym none ∙ some in cc);
-    }
+    is_line_behind row.last (row.title ++ x ∷ []) word gap title h (omega arith) h.gap_within h.word_is h.no_word
+    (λ t e. let old = h.title_is t e in omega arith) (λ none. absurd (let f : true ≡ false = sym none ∙ some in cc))
 
 -- what has no value is None
 pub none_from_is_some : (word : Option WordState) → is_some word ≡ false → word ≡ None

@@ -6,14 +6,16 @@ use Rattle.std.proofs.lemmas.List.Sums.{sum_by_push, sum_by-append, sum_by-cons}
 use Rattle.nr_units.specs.Cells.{blank}
 use Rattle.nr_units.specs.declared.cell.Cell.{Cell}
 use Rattle.nr_fill.specs.declared.line.LineCells.{LineCells}
-use Rattle.nr_fill.specs.declared.margins.Margins.{Margins}
+use Rattle.nr_settings.specs.declared.indents.Margins.{Margins}
 use Rattle.nr_fill.specs.declared.piece.Behind.{Behind}
 use Rattle.nr_fill.specs.declared.stops.Pending.{Pending}
 use Rattle.nr_fill.specs.declared.stops.Pending.TheVariants.{Nothing, AtPoint, ForStop}
-use Rattle.nr_fill.specs.declared.stops.StopKind.{StopKind}
+use Rattle.nr_settings.specs.declared.stops.StopKind.{StopKind}
 use Rattle.std.specs.Option.{option_map}
 use Rattle.nr_fill.specs.Lined.{Lined, afforded}
-use Rattle.nr_fill.specs.Pieces.{Piece, Word, Collected, cells_in, word_or_new, with_word, in_word, word_length, word_cells, word_pieces, text_cells, line_cells, ended, ended_at, add_cell, add_blank, add_cells, end_word}
+use Rattle.nr_fill.specs.Pieces.{Piece, Word, Collected, cells_in, word_or_new, with_word, in_word, word_length, word_cells, word_pieces, text_cells, line_cells, ended, ended_at, add_cell, add_blank, add_cells, joined, joined_at, end_word}
+use Rattle.nr_fill.proofs.PiecesOf.{length-flat_map}
+use Rattle.std.specs.List.{flat_map}
 use Rattle.nr_fill.specs.Tabs.{with_field, field_fill, pending_fill, fill_count, filled_by, with_field_filled}
 
 -- what fits is afforded
@@ -58,7 +60,8 @@ pub line_cells-add_blank : (m : Margins) (c : Collected) → line_cells (add_bla
 line_cells-add_blank m c =
     let w = word_or_new c.gap c.word in
     let new = word_length-new c.gap c.word in
-    let longer = length-append w.last.cells (blank ∷ []) in
+    let same = word_length-ended_at w.pending w in
+    let longer = length-append (ended w).last.cells (blank ∷ []) in
     omega arith
 
 pub line_cells-with_word : (m : Margins) (c : Collected) → line_cells (with_word m c) ≡ text_cells c
@@ -74,6 +77,19 @@ line_cells-add_cells m x n c some =
     let many = length-replicate n x in
     let other : eqb n 0 ≡ false = ne_eqb n 0 (omega arith) in
     rw other (omega arith)
+
+word_length-joined_at : (p : Pending) (w : Word) → word_length (joined_at p w) ≡ word_length w
+word_length-joined_at (ForStop f) w = refl
+word_length-joined_at Nothing w = let parts = length-flat_map w.parts in omega (arith, length-append (flat_map (λ (p : Piece). p.cells) w.parts) w.last.cells)
+word_length-joined_at (AtPoint p) w = let parts = length-flat_map w.parts in omega (arith, length-append (flat_map (λ (p : Piece). p.cells) w.parts) w.last.cells)
+
+word_cells-joined : (w : Option Word) (c : Collected) → c.word ≡ w → word_cells (joined c).word ≡ word_cells w
+word_cells-joined None c e = rw e refl
+word_cells-joined (Some w) c e = rw e (word_length-joined_at w.pending w)
+
+-- a word of one piece has the cells that it had
+pub line_cells-joined : (c : Collected) → line_cells (joined c) ≡ text_cells c
+line_cells-joined c = let same = word_cells-joined c.word c refl in omega arith
 
 word_length-filled_by : (p : Pending) (w : Word) → word_length (filled_by p w) ≡ word_length w + pending_fill p (length w.last.cells)
 word_length-filled_by Nothing w = omega arith

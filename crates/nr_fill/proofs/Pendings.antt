@@ -16,62 +16,59 @@ use Rattle.nr_fill.specs.Lying.{cells_needed, IsLine}
 use Rattle.nr_fill.specs.Pieces.{Piece, pending_behind, pending_soft, pending_without_point, is_for_stop, join_at, is_inside}
 use Rattle.nr_fill.proofs.Lines.{the_word, is_line_word, widths_small}
 
-pub needed_blanks : (p : Pending) (b n : ℕ) → cells_needed p b ≤ n → b ≤ n
-needed_blanks Nothing b n h = h
-needed_blanks (AtPoint point) b n h = omega arith
-needed_blanks (ForStop f) b n h = omega arith
+pub needed_blanks : (p : Pending) (b k n : ℕ) → cells_needed p b k ≤ n → b ≤ k + n
+needed_blanks Nothing b k n h = omega arith
+needed_blanks (AtPoint point) b k n h = omega arith
+needed_blanks (ForStop f) b k n h = omega arith
 
-pub needed_none : (p : Pending) (b n : ℕ) → cells_needed p b ≤ n → cells_needed p 0 ≤ n
-needed_none Nothing b n h = omega arith
-needed_none (AtPoint point) b n h = omega arith
-needed_none (ForStop f) b n h = omega arith
+pub needed_none : (p : Pending) (b k n : ℕ) → cells_needed p b k ≤ n → cells_needed p 0 k ≤ n
+needed_none Nothing b k n h = omega arith
+needed_none (AtPoint point) b k n h = omega arith
+needed_none (ForStop f) b k n h = omega arith
 
-pub needed_more : (p : Pending) (b n m : ℕ) → cells_needed p b ≤ n → n ≤ m → cells_needed p b ≤ m
-needed_more p b n m h k = omega arith
-
-pub needed_soft : (p : Pending) (b n : ℕ) → cells_needed p b ≤ n → cells_needed (pending_soft n p) b ≤ n
-needed_soft Nothing b n h = elim (cases_Bool (nat_lt 0 n)) [
+pub needed_soft : (p : Pending) (b k n : ℕ) → cells_needed p b k ≤ n → cells_needed (pending_soft n p) b k ≤ n
+needed_soft Nothing b k n h = elim (cases_Bool (nat_lt 0 n)) [
   | inl below ↦ let some = ltb-true 0 n below in rw below (omega arith)
   | inr above ↦ rw above h
 ]
-needed_soft (AtPoint point) b n h = h
-needed_soft (ForStop f) b n h = h
+needed_soft (AtPoint point) b k n h = h
+needed_soft (ForStop f) b k n h = h
 
-pub needed_behind : (mark : Behind) (k : ℕ) (p : Pending) (b n : ℕ) → cells_needed p b ≤ n → cells_needed (pending_behind mark k p) 0 ≤ n + 1
-needed_behind Letter k (ForStop f) b n h = omega arith
-needed_behind Hyphen k (ForStop f) b n h = omega arith
-needed_behind Dash k (ForStop f) b n h = omega arith
-needed_behind Letter k Nothing b n h = omega arith
-needed_behind Letter k (AtPoint point) b n h = omega arith
-needed_behind Hyphen k Nothing b n h = elim (cases_Bool (nat_lt 1 k)) [ inl below ↦ rw below (omega arith) | inr above ↦ rw above (omega arith) ]
-needed_behind Hyphen k (AtPoint point) b n h = elim (cases_Bool (nat_lt 1 k)) [ inl below ↦ rw below (omega arith) | inr above ↦ rw above (omega arith) ]
-needed_behind Dash k Nothing b n h = elim (cases_Bool (nat_lt 2 k)) [ inl below ↦ rw below (omega arith) | inr above ↦ rw above (omega arith) ]
-needed_behind Dash k (AtPoint point) b n h = elim (cases_Bool (nat_lt 2 k)) [ inl below ↦ rw below (omega arith) | inr above ↦ rw above (omega arith) ]
+pub needed_behind : (mark : Behind) (m : ℕ) (p : Pending) (b k n : ℕ) → cells_needed p b k ≤ n → cells_needed (pending_behind mark m p) 0 k ≤ n + 1
+needed_behind Letter m (ForStop f) b k n h = omega arith
+needed_behind Hyphen m (ForStop f) b k n h = omega arith
+needed_behind Dash m (ForStop f) b k n h = omega arith
+needed_behind Letter m Nothing b k n h = omega arith
+needed_behind Letter m (AtPoint point) b k n h = omega arith
+needed_behind Hyphen m Nothing b k n h = elim (cases_Bool (nat_lt 1 m)) [ inl below ↦ rw below (omega arith) | inr above ↦ rw above (omega arith) ]
+needed_behind Hyphen m (AtPoint point) b k n h = elim (cases_Bool (nat_lt 1 m)) [ inl below ↦ rw below (omega arith) | inr above ↦ rw above (omega arith) ]
+needed_behind Dash m Nothing b k n h = elim (cases_Bool (nat_lt 2 m)) [ inl below ↦ rw below (omega arith) | inr above ↦ rw above (omega arith) ]
+needed_behind Dash m (AtPoint point) b k n h = elim (cases_Bool (nat_lt 2 m)) [ inl below ↦ rw below (omega arith) | inr above ↦ rw above (omega arith) ]
 
-pub needed_without_point : (p : Pending) (b n : ℕ) → cells_needed p b ≤ n → cells_needed (pending_without_point p) b ≤ n
-needed_without_point Nothing b n h = h
-needed_without_point (AtPoint point) b n h = omega arith
-needed_without_point (ForStop f) b n h = h
+pub needed_without_point : (p : Pending) (b k n : ℕ) → cells_needed p b k ≤ n → cells_needed (pending_without_point p) b k ≤ n
+needed_without_point Nothing b k n h = h
+needed_without_point (AtPoint point) b k n h = omega arith
+needed_without_point (ForStop f) b k n h = h
 
-pub needed_dropped : (p : Pending) (b n : ℕ) → cells_needed p b ≤ n → cells_needed (pending_without_point p) 0 ≤ n - b
-needed_dropped Nothing b n h = omega arith
-needed_dropped (AtPoint point) b n h = omega arith
-needed_dropped (ForStop f) b n h = omega arith
+pub needed_dropped : (p : Pending) (b k n : ℕ) → cells_needed p b k ≤ n → cells_needed (pending_without_point p) 0 k ≤ n - b
+needed_dropped Nothing b k n h = omega arith
+needed_dropped (AtPoint point) b k n h = omega arith
+needed_dropped (ForStop f) b k n h = omega arith
 
-pub needed_one_more : (p : Pending) (b n : ℕ) → cells_needed p b ≤ n → cells_needed (pending_without_point p) (b + 1) ≤ n + 1
-needed_one_more Nothing b n h = omega arith
-needed_one_more (AtPoint point) b n h = omega arith
-needed_one_more (ForStop f) b n h = omega arith
+pub needed_one_more : (p : Pending) (b k n : ℕ) → cells_needed p b k ≤ n → cells_needed p (b + 1) k ≤ n + 1
+needed_one_more Nothing b k n h = omega arith
+needed_one_more (AtPoint point) b k n h = omega arith
+needed_one_more (ForStop f) b k n h = omega arith
 
 -- cells behind a point inside the piece
-pub needed_behind_point : (p : Pending) (b n : ℕ) (m : ℕ) → is_for_stop p ≡ false → b < m → cells_needed p b ≤ m
-needed_behind_point Nothing b n m other h = omega arith
-needed_behind_point (AtPoint point) b n m other h = omega arith
-needed_behind_point (ForStop f) b n m other h = absurd (let e : true ≡ false = other in cc)
+pub needed_behind_point : (p : Pending) (b k m : ℕ) → is_for_stop p ≡ false → b < m → cells_needed p b k ≤ m
+needed_behind_point Nothing b k m other h = omega arith
+needed_behind_point (AtPoint point) b k m other h = omega arith
+needed_behind_point (ForStop f) b k m other h = absurd (let e : true ≡ false = other in cc)
 
 -- a word with something else behind it
 pub is_line_pending : {row : Laid} {limit pieces wide : ℕ} {w : WordState} {gap : ℕ} {title : Option TitleState} (p : Pending) (b : ℕ) → IsLine row limit pieces wide (Some w) gap title
-    → cells_needed p b ≤ length row.last → IsLine row limit pieces wide (Some (record w { pending = p; blanks = b })) gap title
+    → cells_needed p b w.parted ≤ length row.last → IsLine row limit pieces wide (Some (record w { pending = p; blanks = b })) gap title
 is_line_pending {w = w} p b h needed =
     let iw = the_word h in
     is_line_word (record w { pending = p; blanks = b }) h (record {
@@ -92,7 +89,7 @@ pub record AreSmall (row : Laid) (limit pieces wide : ℕ) (w : WordState) : Typ
   pub low : pieces ≤ length row.pieces
   pub widths : wide + w.wide < 2 ^ 44
   pub join : join_width w.join ≤ 1365
-  pub needed : cells_needed w.pending w.blanks ≤ length row.last
+  pub needed : cells_needed w.pending w.blanks w.parted ≤ length row.last
 
 pub are_small : {row : Laid} {limit pieces wide : ℕ} {w : WordState} {gap : ℕ} {title : Option TitleState} → IsLine row limit pieces wide (Some w) gap title → AreSmall row limit pieces wide w
 are_small {row} {pieces = pieces} h =

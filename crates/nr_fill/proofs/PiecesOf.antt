@@ -1,12 +1,14 @@
 -- The pieces that slots cut off a row of cells.
-use Rattle.std.proofs.Common.{◌≡◌, ℕ, ◌+◌, ◌≤◌, ◌<◌, List, [], ◌∷◌, ◌++◌, length, take, drop, zero, suc, refl, ap, sym, ◌∙◌, arith, length-take, length-drop, get_or, cond}
+use Rattle.std.proofs.Common.{◌≡◌, ℕ, ◌+◌, ◌≤◌, ◌<◌, List, [], ◌∷◌, ◌++◌, length, take, drop, zero, suc, refl, ap, sym, ◌∙◌, arith, length-take, length-drop, get_or, cond, length-append}
 use Rattle.std.specs.Prelude.{count_by}
+use Rattle.std.specs.List.{flat_map}
 use Rattle.std.proofs.lemmas.List.{take-append-le, drop-append-le, drop-drop}
 use Rattle.std.proofs.lemmas.List.Sums.{sum_by-cons}
 use Rattle.nr_units.specs.declared.cell.Cell.{Cell}
+use Rattle.nr_fill.specs.declared.piece.Join.{Join}
 use Rattle.nr_fill.specs.declared.piece.PieceSlot.{PieceSlot}
 use Rattle.nr_fill.specs.Cut.{join_width, piece_width, pieces_width, width}
-use Rattle.nr_fill.specs.Pieces.{Piece, cells_in}
+use Rattle.nr_fill.specs.Pieces.{Piece, cells_in, join_before}
 use Rattle.nr_fill.specs.Slots.{pieces_of, cells_in_slots, slots_width, gap_slots}
 use Rattle.nr_fill.specs.Spreading.{gaps, is_gap}
 
@@ -45,6 +47,20 @@ drop-pieces_of (suc n) [] cells = refl
 drop-pieces_of (suc n) (slot ∷ slots) cells =
     let total = sum_by-cons (λ (s : PieceSlot). s.len) slot (take n slots) in
     rw (total, ← drop-drop (cells_in_slots (take n slots)) slot.len cells, drop-pieces_of n slots (drop slot.len cells)) refl
+
+-- how a piece hangs on the one before it
+pub join_before-pieces_of : (slots : List PieceSlot) (cells : List Cell) (n : ℕ) (d : PieceSlot) (j : Join) → n < length slots → join_before (drop n (pieces_of slots cells)) j ≡ (get_or slots n d).join
+join_before-pieces_of [] cells n d j h = absurd (omega arith)
+join_before-pieces_of (slot ∷ slots) cells zero d j h = refl
+join_before-pieces_of (slot ∷ slots) cells (suc n) d j h = join_before-pieces_of slots (drop slot.len cells) n d j (omega arith)
+
+-- pieces have as many cells as all of them one after another
+pub length-flat_map : (ps : List Piece) → length (flat_map (λ (p : Piece). p.cells) ps) ≡ cells_in ps
+length-flat_map [] = refl
+length-flat_map (p ∷ ps) =
+    let more = length-flat_map ps in
+    let cells = sum_by-cons (λ (q : Piece). length q.cells) p ps in
+    omega (arith, length-append p.cells (flat_map (λ (q : Piece). q.cells) ps))
 
 -- the cells of the pieces
 pub cells_in-pieces_of : (slots : List PieceSlot) (cells : List Cell) → cells_in_slots slots ≤ length cells → cells_in (pieces_of slots cells) ≡ cells_in_slots slots

@@ -24,6 +24,15 @@ moved_to_front xs start end h k =
 pub length_between : {X : Type 0} (xs : List X) (start end : ℕ) → end ≤ length xs → length (drop start (take end xs)) ≡ end - start
 length_between xs start end h = omega (arith, length-drop start (take end xs), length-take-le end xs h)
 
+-- items stand behind the others
+pub extended : {X : Type 0} (xs ys : List X) (start end n : ℕ) → start ≤ end → end + n ≤ length xs → length ys ≡ n
+    → drop start (take (end + n) (put_mid end n xs ys)) ≡ drop start (take end xs) ++ ys
+extended xs ys start end n h k long =
+    let front = length-take-le end xs (omega arith) in
+    ap (λ zs. drop start (take (end + n) zs)) (sym (append_assoc (take end xs) ys (drop n (drop end xs))))
+    ∙ ap (drop start) (take_at (take end xs ++ ys) (drop n (drop end xs)) (end + n) (omega (arith, length-append (take end xs) ys)))
+    ∙ drop-append-le start (take end xs) ys (omega arith)
+
 -- n items stand at a place, and what stood there behind them
 pub inserted : {X : Type 0} (xs ys : List X) (start place end n : ℕ) (y : X) → start + place ≤ end → end + n ≤ length xs
     → ys ≡ paste xs (start + place + n) (drop (start + place) xs) (end - (start + place))

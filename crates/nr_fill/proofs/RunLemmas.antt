@@ -1,10 +1,116 @@
--- Runs of bytes, one byte more.
-use Rattle.std.proofs.Common.{◌≡◌, ℕ, List, [], ◌∷◌, ◌++◌, Bool, refl}
-use Rattle.nr_fill.specs.declared.margins.Margins.{Margins}
+-- A run of bytes, read byte by byte and at once.
+use Rattle.std.proofs.Common.{◌≡◌, ℕ, suc, ◌-◌, ◌<◌, List, [], ◌∷◌, ◌++◌, length, map, get_or, None, Some, Bool, true, false, ◌&&◌, refl, ap, sym, ◌∙◌, append_assoc, arith}
+use Rattle.nr_units.specs.declared.cell.Cell.{Cell}
+use Rattle.nr_settings.specs.declared.indents.Margins.{Margins}
 use Rattle.nr_fill.specs.declared.piece.Behind.TheVariants.{Letter}
-use Rattle.nr_fill.specs.Pieces.{Collected, add_cell}
-use Rattle.nr_fill.specs.Runs.{add_run, run_cell}
+use Rattle.nr_fill.specs.declared.stops.Pending.{Pending}
+use Rattle.nr_fill.specs.declared.stops.Pending.TheVariants.{Nothing, AtPoint, ForStop}
+use Rattle.nr_fill.specs.Pieces.{Collected, Word, add_cell, add_cell_behind, append, ended, ended_at, ends_sentence, in_word, is_nil, pending_behind, pending_without_point, with_word, word_length, word_or_new}
+use Rattle.nr_fill.specs.Runs.{add_run, run_behind, run_cell}
 
-pub add_run-push : (m : Margins) (under : Bool) (bs : List ℕ) (b : ℕ) (c : Collected) → add_run m under (bs ++ b ∷ []) c ≡ add_cell m Letter (run_cell under b) (add_run m under bs c)
-add_run-push m under [] b c = refl
-add_run-push m under (x ∷ bs) b c = add_run-push m under bs b (add_cell m Letter (run_cell under x) c)
+-- whether a sentence ends behind a run, where one ended before it or not
+run_sentence : Bool → Bool → List ℕ → Bool
+run_sentence before under [] = before
+run_sentence before under (b ∷ bs) = run_sentence (ends_sentence (run_cell under b)) under bs
+
+run_sentence-last : (before under : Bool) (b : ℕ) (bs : List ℕ) → run_sentence before under (b ∷ bs) ≡ ends_sentence (run_cell under (get_or (b ∷ bs) (length (b ∷ bs) - 1) 0))
+unfolding run_sentence
+run_sentence-last before under b [] = refl
+run_sentence-last before under b (x ∷ bs) =
+    let at : length (b ∷ x ∷ bs) - 1 ≡ suc (length (x ∷ bs) - 1) = omega arith in
+    run_sentence-last (ends_sentence (run_cell under b)) under x bs ∙ ap (λ k. ends_sentence (run_cell under (get_or (b ∷ x ∷ bs) k 0))) (sym at)
+
+-- ---- what waits behind a letter
+
+behind_letter : (n : ℕ) (p : Pending) → pending_behind Letter n p ≡ pending_without_point p
+behind_letter n Nothing = refl
+behind_letter n (AtPoint point) = refl
+behind_letter n (ForStop f) = refl
+
+-- no break point waits
+abbrev HasNoPoint : Pending → Type 0
+HasNoPoint p = pending_without_point p ≡ p
+
+no_point_without : (p : Pending) → HasNoPoint (pending_without_point p)
+no_point_without Nothing = refl
+no_point_without (AtPoint point) = refl
+no_point_without (ForStop f) = refl
+
+ended_at-none : (p : Pending) (w : Word) → HasNoPoint p → ended_at p w ≡ w
+ended_at-none Nothing w h = refl
+ended_at-none (AtPoint point) w h = absurd (let e : Nothing ≡ AtPoint point = h in cc)
+ended_at-none (ForStop f) w h = refl
+
+-- ---- a word that a run goes to
+
+-- what is collected with this word, and no title
+abbrev at_word : Collected → Word → Bool → Collected
+at_word c w sentence = record c { word = Some w; title = None; sentence = sentence }
+
+and_false : (b : Bool) → (b && false) ≡ false
+and_false true = refl
+and_false false = refl
+
+with_word-at_word : (m : Margins) (c : Collected) (w : Word) (sentence : Bool) → with_word m (at_word c w sentence) ≡ at_word c w sentence
+with_word-at_word m c w sentence = rw (and_false (is_nil c.pieces)) refl
+
+-- a letter more
+add_cell-at_word : (m : Margins) (under : Bool) (b : ℕ) (c : Collected) (w : Word) (sentence : Bool) → HasNoPoint w.pending
+    → add_cell m Letter (run_cell under b) (at_word c w sentence) ≡ at_word c (run_behind under (b ∷ []) w) (ends_sentence (run_cell under b))
+add_cell-at_word m under b c w sentence none =
+    let x : Cell = run_cell under b in
+    ap (λ (k : Collected). record (in_word (add_cell_behind Letter x) (in_word ended k)) { sentence = ends_sentence x }) (with_word-at_word m c w sentence)
+    ∙ ap (λ (v : Word). at_word c (add_cell_behind Letter x v) (ends_sentence x)) (ended_at-none w.pending w none)
+    ∙ ap (λ (p : Pending). at_word c (record (append (x ∷ []) w) { pending = p }) (ends_sentence x)) (behind_letter (word_length (append (x ∷ []) w)) w.pending)
+
+-- one run behind another
+run_behind-cons : (under : Bool) (b : ℕ) (bs : List ℕ) (w : Word) → run_behind under bs (run_behind under (b ∷ []) w) ≡ run_behind under (b ∷ bs) w
+run_behind-cons under b bs w =
+    let xs = map (run_cell under) bs in
+    ap (λ (cells : List Cell). record w { last = record w.last { cells = cells }; blanks = 0; pending = pending_without_point (pending_without_point w.pending) })
+    (append_assoc w.last.cells (run_cell under b ∷ []) xs)
+    ∙ ap (λ (p : Pending). record w { last = record w.last { cells = w.last.cells ++ run_cell under b ∷ xs }; blanks = 0; pending = p }) (no_point_without w.pending)
+
+add_run-at_word : (m : Margins) (under : Bool) (b : ℕ) (bs : List ℕ) (c : Collected) (w : Word) (sentence : Bool) → HasNoPoint w.pending
+    → add_run m under (b ∷ bs) (at_word c w sentence) ≡ at_word c (run_behind under (b ∷ bs) w) (run_sentence sentence under (b ∷ bs))
+unfolding run_sentence
+add_run-at_word m under b [] c w sentence none = add_cell-at_word m under b c w sentence none
+add_run-at_word m under b (x ∷ bs) c w sentence none =
+    ap (add_run m under (x ∷ bs)) (add_cell-at_word m under b c w sentence none)
+    ∙ add_run-at_word m under x bs c (run_behind under (b ∷ []) w) (ends_sentence (run_cell under b)) (no_point_without w.pending)
+    ∙ ap (λ (v : Word). at_word c v (run_sentence sentence under (b ∷ x ∷ bs))) (run_behind-cons under b (x ∷ bs) w)
+
+-- ---- a run at once
+
+-- no break point waits behind an ended piece
+no_point_ended : (p : Pending) (w : Word) → p ≡ w.pending → HasNoPoint (ended_at p w).pending
+no_point_ended Nothing w is = ap pending_without_point (sym is) ∙ is
+no_point_ended (AtPoint point) w is = refl
+no_point_ended (ForStop f) w is = ap pending_without_point (sym is) ∙ is
+
+-- the first letter takes the word from where it stands
+add_cell-ended : (m : Margins) (under : Bool) (b : ℕ) (c : Collected)
+    → add_cell m Letter (run_cell under b) c
+    ≡ at_word (with_word m c) (run_behind under (b ∷ []) (ended (word_or_new c.gap c.word))) (ends_sentence (run_cell under b))
+add_cell-ended m under b c =
+    let x : Cell = run_cell under b in
+    let w = ended (word_or_new c.gap c.word) in
+    ap (λ (p : Pending). at_word (with_word m c) (record (append (x ∷ []) w) { pending = p }) (ends_sentence x)) (behind_letter (word_length (append (x ∷ []) w)) w.pending)
+
+add_run-at_once : (m : Margins) (under : Bool) (b : ℕ) (bs : List ℕ) (c : Collected)
+    → add_run m under (b ∷ bs) c
+    ≡ record (in_word (run_behind under (b ∷ bs)) (in_word ended (with_word m c))) { sentence = ends_sentence (run_cell under (get_or (b ∷ bs) (length (b ∷ bs) - 1) 0)) }
+unfolding run_sentence
+add_run-at_once m under b [] c = add_cell-ended m under b c
+add_run-at_once m under b (x ∷ bs) c =
+    let w = ended (word_or_new c.gap c.word) in
+    ap (add_run m under (x ∷ bs)) (add_cell-ended m under b c)
+    ∙ add_run-at_word m under x bs (with_word m c) (run_behind under (b ∷ []) w) (ends_sentence (run_cell under b)) (no_point_without w.pending)
+    ∙ ap (λ (v : Word). at_word (with_word m c) v (run_sentence c.sentence under (b ∷ x ∷ bs))) (run_behind-cons under b (x ∷ bs) w)
+    ∙ ap (λ s. at_word (with_word m c) (run_behind under (b ∷ x ∷ bs) w) s) (run_sentence-last c.sentence under b (x ∷ bs))
+
+pub add_run-run : (m : Margins) (under : Bool) (bs : List ℕ) (c : Collected) → 0 < length bs
+    → add_run m under bs c
+    ≡ record (in_word (run_behind under bs) (in_word ended (with_word m c))) { sentence = ends_sentence (run_cell under (get_or bs (length bs - 1) 0)) }
+add_run-run m under [] c some = absurd (omega arith)
+add_run-run m under (b ∷ bs) c some = add_run-at_once m under b bs c

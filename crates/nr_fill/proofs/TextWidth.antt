@@ -1,7 +1,7 @@
 -- How wide the text of a set line is.
-use Rattle.std.proofs.Common.{◌≡◌, ℕ, ◌+◌, ◌-◌, ◌*◌, ◌^◌, ◌≤◌, ◌<◌, List, [], ◌∷◌, ◌++◌, length, replicate, nat_lt, nat_le, ◌&&◌, cond, ap, ◌∙◌, arith, length-append, inl, inr}
+use Rattle.std.proofs.Common.{◌≡◌, ℕ, ◌+◌, ◌*◌, ◌^◌, ◌≤◌, ◌<◌, List, [], ◌∷◌, ◌++◌, length, replicate, nat_lt, nat_le, ◌&&◌, cond, ap, ◌∙◌, arith, length-append, inl, inr}
 use Rattle.std.specs.Prelude.{count_by}
-use Rattle.std.proofs.lemmas.Bool.{cases_Bool, cases_lt}
+use Rattle.std.proofs.lemmas.Bool.{cases_Bool}
 use Rattle.std.proofs.lemmas.List.{length-replicate}
 use Rattle.std.proofs.lemmas.List.Sums.{sum_by-cons, count_by-le-length}
 use Rattle.nr_units.specs.Cells.{blank, trimmed}
@@ -13,7 +13,7 @@ use Rattle.nr_fill.specs.Cut.{join_width, piece_width, pieces_width}
 use Rattle.nr_fill.specs.Pieces.{Piece}
 use Rattle.nr_fill.specs.Rows.{counted}
 use Rattle.nr_fill.specs.Spreading.{is_gap, gaps, extra_at, blanks_before, next_gap, cells_behind, cells_in_line}
-use Rattle.nr_fill.proofs.Trimming.{written, written-append_some, written-append_none, written-replicate, length-trimmed}
+use Rattle.nr_fill.proofs.Trimming.{length-trimmed}
 
 extra_at-le : (x : Extra) (i : ℕ) → extra_at x i ≤ x.each + 1
 extra_at-le x i = elim (cases_Bool (nat_lt x.above i && nat_le i x.up_to)) [ inl wider ↦ rw wider (omega arith) | inr same ↦ rw same (omega arith) ]
@@ -50,17 +50,9 @@ length-cells_in_line x (p ∷ ps) =
     let wide = sum_by-cons piece_width p ps in
     omega (arith, length-append p.cells (cells_behind x 1 ps))
 
--- the text's width behind blanks
-pub width_behind : (start : ℕ) (text : List Cell) → start + length text < 2 ^ 63
-    → counted (length (trimmed (replicate start blank ++ text))) - start ≡ length (trimmed text)
-width_behind start text small =
-    let all = length-trimmed (replicate start blank ++ text) in
-    let part = length-trimmed text in
-    let many = length-replicate start blank in
-    elim (cases_lt 0 (written text)) [
-      | inl some ↦ let is = written-append_some (replicate start blank) text some in omega arith
-      | inr none ↦ let is = written-append_none (replicate start blank) text (omega arith) in let zero = written-replicate start in omega arith
-    ]
+-- the width of a text that can be counted
+pub counted-trimmed : (text : List Cell) → length text < 2 ^ 63 → counted (length (trimmed text)) ≡ length (trimmed text)
+counted-trimmed text small = let part = length-trimmed text in omega arith
 
 -- fewer gaps than pieces
 pub gaps-le : (ps : List Piece) → gaps ps ≤ length ps

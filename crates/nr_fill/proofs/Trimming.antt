@@ -3,7 +3,7 @@ use Rattle.std.proofs.Common.{◌≡◌, ℕ, ◌+◌, ◌-◌, ◌^◌, ◌<◌
 use Rattle.std.specs.List.{suffix_len, prefix_len}
 use Rattle.std.proofs.Math.Seq.{take-append-add}
 use Rattle.std.proofs.lemmas.Bool.{cases_lt, eq-eqb, ne_eqb}
-use Rattle.std.proofs.lemmas.List.{append-nil, reverse-append, length-reverse, length-replicate, take_all, take_min, take-take, take-append-le, take-replicate, length-take-le, get_or-replicate, get_or-reverse}
+use Rattle.std.proofs.lemmas.List.{append-nil, reverse-append, length-reverse, length-replicate, take_all, take_min, take-append-le, take-replicate, length-take-le, get_or-replicate, get_or-reverse}
 use Rattle.std.proofs.lemmas.List.Folds.{prefix_len-append}
 use Rattle.std.proofs.lemmas.List.Sums.{suffix_len-le-length, suffix_len-take_no, suffix_len_is, prefix_len_stops}
 use Rattle.nr_units.specs.Cells.{blank, is_blank, trimmed}
@@ -125,25 +125,17 @@ row_blanked room xs n m m_is =
     same_row (ap (λ zs. take room xs ++ zs) (sym (take-replicate m n blank (omega arith))) ∙ ap (λ k. take room xs ++ take k (replicate n blank)) part ∙ sym (take_append room xs (replicate n blank)))
     (omega (arith, length-append xs (replicate n blank))) (omega arith) refl
 
--- a row without the blanks at its end
-pub row_trimmed : (room : ℕ) (xs : List Cell) → room < 2 ^ 32
-    → ◌≡◌ {A = Row} (record {
-      kept = take (min (counted (length (trimmed xs))) (length (take room xs))) (take room xs);
-      count = counted (length (trimmed xs));
-      written = counted (length (trimmed xs));
-      room = room;
-    }) (row_of room (trimmed xs))
-row_trimmed room xs small =
-    let w = written xs in
-    let long = length-trimmed xs in
-    let again = length-trimmed (trimmed xs) ∙ written-trimmed xs in
-    let kept_is : take (min (counted (length (trimmed xs))) (length (take room xs))) (take room xs) ≡ take room (trimmed xs) =
-    elim (cases_lt room w) [
-      | inl more ↦
-          let all : min (counted (length (trimmed xs))) (length (take room xs)) ≡ room = omega (arith, length-take room xs) in
-          ap (λ n. take n (take room xs)) all ∙ take-take room room xs (omega arith) ∙ sym (take-take room w xs (omega arith))
-      | inr within ↦
-          let all : min (counted (length (trimmed xs))) (length (take room xs)) ≡ w = omega (arith, length-take room xs) in
-          ap (λ n. take n (take room xs)) all ∙ take-take w room xs within ∙ sym (take_all room (trimmed xs) (omega arith))
-    ] in
-    same_row kept_is refl (omega arith) refl
+-- so many cells more, and so many up to the last that is no blank
+pub extent_extended : {count reached : ℕ} (xs ys : List Cell) → count ≡ counted (length xs) → reached ≡ counted (length (trimmed xs))
+    → (min (count + length ys) (2 ^ 64 - 1) ≡ counted (length (xs ++ ys))) × (written_behind reached count (written ys) ≡ counted (length (trimmed (xs ++ ys))))
+extent_extended xs ys count_is reached_is =
+    (omega (arith, length-append xs ys), ap₂ (λ a b. written_behind a b (written ys)) reached_is count_is ∙ written_more xs ys)
+
+-- so many blanks more
+pub extent_blanked : {count reached : ℕ} (xs : List Cell) (n : ℕ) → count ≡ counted (length xs) → reached ≡ counted (length (trimmed xs))
+    → (min (count + n) (2 ^ 64 - 1) ≡ counted (length (xs ++ replicate n blank))) × (reached ≡ counted (length (trimmed (xs ++ replicate n blank))))
+extent_blanked xs n count_is reached_is =
+    let before = length-trimmed xs in
+    let after = length-trimmed (xs ++ replicate n blank) in
+    let same = written-append_none xs (replicate n blank) (written-replicate n) in
+    (omega (arith, length-append xs (replicate n blank), length-replicate n blank), omega arith)

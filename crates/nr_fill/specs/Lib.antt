@@ -1,4 +1,5 @@
 pub mod Cut
+pub mod Extents
 pub mod Laid
 pub mod Lined
 pub mod Lying

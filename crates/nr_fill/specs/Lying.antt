@@ -1,8 +1,8 @@
 -- How what is collected lies in a row of pieces.
-use Rattle.std.specs.Prelude.{◌≡◌, ℕ, ◌+◌, ◌≤◌, ◌<◌, ◌^◌, max, Bool, true, List, take, drop, length, All, Option, None, Some, is_none}
+use Rattle.std.specs.Prelude.{◌≡◌, ℕ, ◌+◌, ◌-◌, ◌≤◌, ◌<◌, ◌^◌, max, Bool, true, List, take, drop, length, All, Option, None, Some, is_none}
 use Rattle.nr_units.specs.declared.cell.Cell.{Cell}
 use Rattle.nr_fill.specs.declared.line.WordState.{WordState}
-use Rattle.nr_fill.specs.declared.margins.Margins.{Margins}
+use Rattle.nr_settings.specs.declared.indents.Margins.{Margins}
 use Rattle.nr_fill.specs.declared.margins.Turn.{Turn}
 use Rattle.nr_fill.specs.declared.stops.Pending.{Pending}
 use Rattle.nr_fill.specs.declared.stops.Pending.TheVariants.{Nothing, AtPoint, ForStop}
@@ -30,11 +30,11 @@ collected_of row pieces word gap barred sentence margins turn title = record {
   title = title_of title row.title;
 }
 
--- how many cells have to stand behind the last piece
-abbrev pub cells_needed : Pending → ℕ → ℕ
-cells_needed Nothing blanks = blanks
-cells_needed (AtPoint p) blanks = max 1 blanks
-cells_needed (ForStop f) blanks = f.before + blanks
+-- how many cells have to stand behind the last piece of a word whose pieces have `parted` cells: the blanks at its end may stand in these too
+abbrev pub cells_needed : Pending → ℕ → ℕ → ℕ
+cells_needed Nothing blanks parted = blanks - parted
+cells_needed (AtPoint p) blanks parted = max 1 (blanks - parted)
+cells_needed (ForStop f) blanks parted = f.before + blanks
 
 -- what is always true of a word's state
 pub record IsWord (w : WordState) (ps : List Piece) (cells : List Cell) : Type 0 where
@@ -43,7 +43,7 @@ pub record IsWord (w : WordState) (ps : List Piece) (cells : List Cell) : Type 0
   -- a break point has a cell before it
   pub pieces_have_cells : length ps ≤ w.parted
   pub join_within : join_width w.join ≤ 1365
-  pub needed : cells_needed w.pending w.blanks ≤ length cells
+  pub needed : cells_needed w.pending w.blanks w.parted ≤ length cells
 
 -- what is always true of a line's fields
 pub record IsLine (row : Laid) (limit pieces wide : ℕ) (word : Option WordState) (gap : ℕ) (title : Option TitleState) : Type 0 where

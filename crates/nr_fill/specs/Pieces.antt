@@ -10,7 +10,7 @@ use Rattle.nr_fill.specs.declared.piece.Point.{Point}
 use Rattle.nr_fill.specs.declared.piece.Point.TheVariants as points
 use Rattle.nr_fill.specs.declared.piece.Behind.{Behind}
 use Rattle.nr_fill.specs.declared.piece.Behind.TheVariants.{Letter, Hyphen, Dash}
-use Rattle.nr_fill.specs.declared.margins.Margins.{Margins}
+use Rattle.nr_settings.specs.declared.indents.Margins.{Margins}
 use Rattle.nr_fill.specs.declared.margins.Turn.{Turn}
 use Rattle.nr_fill.specs.declared.margins.Turn.TheVariants as turns
 use Rattle.nr_fill.specs.declared.stops.Pending.{Pending}
@@ -30,7 +30,7 @@ pub record Word : Type 0 where
   pub last : Piece
   -- a break point that stands behind it where one more cell comes, or the stop that its text is for
   pub pending : Pending
-  -- how many blanks of the text stand at its end
+  -- how many blanks of the text stand at its end, in one piece or in several
   pub blanks : ℕ
 
 -- what was read and is not set yet
@@ -105,6 +105,10 @@ in_word f c = record c { word = option_map f c.word; title = None }
 abbrev pub word_length : Word → ℕ
 word_length w = cells_in w.parts + length w.last.cells
 
+-- the cells of the word, one after another
+abbrev pub cells_of_word : Word → List Cell
+cells_of_word w = flat_map (λ (p : Piece). p.cells) w.parts ++ w.last.cells
+
 -- ---- break points inside a word
 
 abbrev pub join_at : Point → Join
@@ -113,7 +117,7 @@ join_at points.Hard = Hard
 
 -- a piece ends at a break point
 abbrev pub ended_at : Pending → Word → Word
-ended_at (AtPoint p) w = record w { parts = w.parts ++ w.last ∷ []; last = record { join = join_at p; cells = [] }; pending = Nothing; blanks = 0 }
+ended_at (AtPoint p) w = record w { parts = w.parts ++ w.last ∷ []; last = record { join = join_at p; cells = [] }; pending = Nothing }
 ended_at pending w = w
 
 abbrev pub ended : Word → Word
@@ -189,12 +193,12 @@ abbrev pub add_cell : Margins → Behind → Cell → Collected → Collected
 add_cell margins behind x c =
     record (in_word (add_cell_behind behind x) (in_word ended (with_word margins c))) { sentence = ends_sentence x }
 
--- a blank of the text that is a cell: such a line is one piece
+-- a blank of the text that is a cell, as others where a break point waits
 abbrev pub add_blank_to : Word → Word
-add_blank_to w = record w { last = record w.last { cells = w.last.cells ++ blank ∷ [] }; pending = pending_without_point w.pending; blanks = w.blanks + 1 }
+add_blank_to w = record w { last = record w.last { cells = w.last.cells ++ blank ∷ [] }; blanks = w.blanks + 1 }
 
 abbrev pub add_blank : Margins → Collected → Collected
-add_blank margins c = record (in_word add_blank_to (with_word margins c)) { sentence = false }
+add_blank margins c = record (in_word add_blank_to (in_word ended (with_word margins c))) { sentence = false }
 
 -- n cells more, all the same
 abbrev pub add_cells : Margins → Cell → ℕ → Collected → Collected
@@ -206,14 +210,31 @@ add_cells margins x n c =
 abbrev pub marked : Margins → Collected → Collected
 marked margins c = record (in_word (λ w. record w { blanks = 0 }) (with_word margins c)) { sentence = false }
 
--- the blanks at the end of the word are dropped, and no break point stands there
+-- how the first of these pieces hangs on what is before it, or where there are none the one behind them
+abbrev pub join_before : List Piece → Join → Join
+join_before [] join = join
+join_before (p ∷ ps) join = p.join
+
+-- All cells are one piece, which hangs on what is before it as the first piece did. The text for a right or centring stop stays in its piece.
+abbrev pub joined_at : Pending → Word → Word
+joined_at (ForStop f) w = w
+joined_at pending w = record w { parts = []; last = record { join = join_before w.parts w.last.join; cells = cells_of_word w }; pending = Nothing }
+
+-- the word is one piece: so it is where it ends in a line that is not filled
+abbrev pub joined : Collected → Collected
+joined c = in_word (λ w. joined_at w.pending w) c
+
+-- without the blanks of the text at its end, and with no break point there
+abbrev pub shortened : Word → Word
+shortened w = record w {
+  last = record w.last { cells = take (length w.last.cells - w.blanks) w.last.cells };
+  pending = pending_without_point w.pending;
+  blanks = 0;
+}
+
+-- a line that is not filled ends: its word is one piece, and the blanks at its end are dropped
 abbrev pub without_blanks : Collected → Collected
-without_blanks c =
-    in_word (λ w. record w {
-      last = record w.last { cells = take (length w.last.cells - w.blanks) w.last.cells };
-      pending = pending_without_point w.pending;
-      blanks = 0;
-    }) c
+without_blanks c = in_word shortened (joined c)
 
 -- all pieces of the word
 abbrev pub word_pieces : Option Word → List Piece
@@ -245,10 +266,6 @@ text_cells c = sum_by (λ (p : Piece). 1 + length p.cells) c.pieces + word_cells
 -- and those of the title
 abbrev pub line_cells : Collected → ℕ
 line_cells c = text_cells c + title_cells c.title
-
--- the cells of the word, one after another
-abbrev pub cells_of_word : Word → List Cell
-cells_of_word w = flat_map (λ (p : Piece). p.cells) w.parts ++ w.last.cells
 
 -- the points of `.hw` may stand in the word
 abbrev pub may_hyphenate : Collected → Bool

@@ -2,9 +2,9 @@
 use Rattle.std.specs.Prelude.{ℕ, ◌+◌, ◌-◌, ◌/◌, Bool, false, ◌&&◌, nat_lt, if◌then◌else◌, List, ◌++◌, length, take, drop, replicate}
 use Rattle.nr_units.specs.Cells.{blank, trimmed}
 use Rattle.nr_units.specs.declared.cell.Cell.{Cell}
-use Rattle.nr_fill.specs.declared.margins.Margins.{Margins}
-use Rattle.nr_fill.specs.declared.setting.Align.{Align}
-use Rattle.nr_fill.specs.declared.setting.Align.TheVariants.{Left, Spread, Right, Centre}
+use Rattle.nr_settings.specs.declared.indents.Margins.{Margins}
+use Rattle.nr_settings.specs.declared.filling.Align.{Align}
+use Rattle.nr_settings.specs.declared.filling.Align.TheVariants.{Left, Spread, Right, Centre}
 use Rattle.nr_fill.specs.declared.setting.Extra.{Extra}
 use Rattle.nr_fill.specs.declared.setting.Setting.{Setting}
 use Rattle.nr_fill.specs.Pieces.{Collected, is_nil}
@@ -46,10 +46,13 @@ extra_of align c n = if spreads align c n then shared c.turn (left_over c n) (ga
 abbrev pub text_of : Align → Collected → ℕ → List Cell
 text_of align c n = cells_in_line (extra_of align c n) (take n c.pieces) ++ hyphens (hyphen_before (drop n c.pieces))
 
--- blanks for the page offset, the indent and what a right or centred line stands from it, then the text
+-- a line's row: blanks for the page offset, the indent and what a right or centred line stands from it, then the text
+abbrev pub line_row : Setting → Collected → ℕ → List Cell
+line_row s c n = replicate (s.offset + c.margins.indent + shift s.align (left_over c n)) blank ++ text_of s.align c n
+
+-- the line as it is placed
 abbrev pub set_line : Setting → Collected → ℕ → List Cell
-set_line s c n =
-    trimmed (replicate (s.offset + c.margins.indent + shift s.align (left_over c n)) blank ++ text_of s.align c n)
+set_line s c n = trimmed (line_row s c n)
 
 -- how wide the text is, without the blanks at its end
 abbrev pub set_width : Setting → Collected → ℕ → ℕ

@@ -1,14 +1,14 @@
 -- Tabs and leaders. (CSTR 54, section 9.)
 use Rattle.std.specs.Prelude.{ℕ, ◌-◌, ◌/◌, Bool, false, nat_lt, if◌then◌else◌, List, ◌++◌, length, take, drop, replicate, find, Option, None, Some}
 use Rattle.nr_units.specs.declared.cell.Cell.{Cell}
-use Rattle.nr_fill.specs.declared.margins.Margins.{Margins}
+use Rattle.nr_settings.specs.declared.indents.Margins.{Margins}
 use Rattle.nr_fill.specs.declared.stops.Field.{Field}
 use Rattle.nr_fill.specs.declared.stops.Pending.{Pending}
 use Rattle.nr_fill.specs.declared.stops.Pending.TheVariants.{Nothing, ForStop}
-use Rattle.nr_fill.specs.declared.stops.Stop.{Stop}
-use Rattle.nr_fill.specs.declared.stops.StopKind.{StopKind}
-use Rattle.nr_fill.specs.declared.stops.StopKind.TheVariants.{Left, Right, Centre}
-use Rattle.nr_fill.specs.Pieces.{Word, Collected, word_or_new, word_pieces, with_word, in_word, add_cells}
+use Rattle.nr_settings.specs.declared.stops.Stop.{Stop}
+use Rattle.nr_settings.specs.declared.stops.StopKind.{StopKind}
+use Rattle.nr_settings.specs.declared.stops.StopKind.TheVariants.{Left, Right, Centre}
+use Rattle.nr_fill.specs.Pieces.{Word, Collected, word_or_new, word_pieces, with_word, in_word, ended, add_cells}
 use Rattle.nr_fill.specs.Cut.{width}
 
 -- how many cells stand before the next one of the word, counted from the indent
@@ -33,7 +33,7 @@ with_field width kind fill w =
 abbrev pub to_stop : Margins → Bool → Cell → Collected → Option Stop → Collected
 to_stop margins aligned fill c None = with_word margins c
 to_stop margins aligned fill c (Some s) =
-    if is_aligned aligned s.kind then in_word (with_field (s.column - column c) s.kind fill) (with_word margins c)
+    if is_aligned aligned s.kind then in_word (with_field (s.column - column c) s.kind fill) (in_word ended (with_word margins c))
     else add_cells margins fill (s.column - column c) c
 
 -- A tab or leader is part of a word. It goes to the first stop beyond the column, or does nothing more.

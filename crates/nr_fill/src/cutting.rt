@@ -1,13 +1,12 @@
 // Which pieces go out in one line, and how they are set.
-ghost use Rattle.std.specs.Prelude.{◌≡◌, ◌+◌, ◌<◌, ◌≤◌, ◌^◌, List, ◌++◌, length, replicate};
+ghost use Rattle.std.specs.Prelude.{◌≡◌, ◌+◌, ◌<◌, ◌≤◌, ◌^◌, List, length, replicate};
 ghost use Rattle.nr_units.specs.Cells.{blank};
 ghost use Rattle.nr_units.specs.declared.cell.Cell.{Cell as CellValue};
 ghost use Rattle.nr_fill.specs.Cut.{cut};
-ghost use Rattle.nr_fill.specs.Rows.{IsRow};
 ghost use Rattle.nr_fill.specs.Slots.{pieces_of, cells_in_slots, slots_width, gap_slots};
 ghost use Rattle.nr_fill.specs.Spreading.{blanks_before, cells_in_line, next_gap};
 
-use crate::out::Out;
+use crate::cells::CellSink;
 use crate::piece::{Join, PieceSlot};
 use crate::setting::Extra;
 use nr_units::cell::Cell;
@@ -67,11 +66,10 @@ pub(crate) fn sums_of(slots: &[PieceSlot]) -> Sums
 
 /// Sets the blanks of a join, of the next gap where it is one, and tells the number of the gap after it.
 #[inline]
-fn set_join(join: Join, extra: Extra, gap: usize, out: &mut Out<'_>) -> usize
+fn set_join<S: CellSink>(join: Join, extra: Extra, gap: usize, out: &mut S) -> usize
     requires each { extra.each < 2 ^ 62 }
     requires gap { gap < 2 ^ 62 }
-    ensures set { (row : List CellValue) → IsRow row out.old → IsRow (row ++ replicate (blanks_before extra gap join) blank) out.new }
-    ensures room { out.new.room ≡ out.old.room }
+    ensures set { S.Adds out.old (replicate (blanks_before extra gap join) blank) out.new }
     ensures next { result ≡ next_gap gap join }
     ensures near { result ≤ gap + 1 }
 {
@@ -85,13 +83,17 @@ fn set_join(join: Join, extra: Extra, gap: usize, out: &mut Out<'_>) -> usize
 }
 
 /// Sets these pieces in the row behind what stands there.
-pub(crate) fn set_pieces(slots: &[PieceSlot], cells: &[Cell], extra: Extra, out: &mut Out<'_>)
+pub(crate) fn set_pieces<S: CellSink>(
+    slots: &[PieceSlot],
+    cells: &[Cell],
+    extra: Extra,
+    out: &mut S,
+)
     requires some { 0 < length slots.now }
     requires cells { cells_in_slots slots.now ≤ length cells.now }
     requires each { extra.each < 2 ^ 62 }
     requires small { length slots.now < 2 ^ 32 }
-    ensures set { (row : List CellValue) → IsRow row out.old → IsRow (row ++ cells_in_line extra (pieces_of slots.now cells.now)) out.new }
-    ensures room { out.new.room ≡ out.old.room }
+    ensures { S.Adds out.old (cells_in_line extra (pieces_of slots.now cells.now)) out.new }
 {
     let mut taken = slots[0].len as usize;
     out.extend(&cells[..taken]);

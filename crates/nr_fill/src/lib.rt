@@ -2,9 +2,11 @@
 //! them in a row of cells, tab stops, and titles.
 #![tactic(auto)]
 
+pub mod cells;
 mod cutting;
 pub mod line;
 pub mod margins;
+mod measured;
 pub mod out;
 pub mod piece;
 mod piece_row;
@@ -18,4 +20,6 @@ mod taking;
 mod tests;
 pub mod title;
 mod titling;
+#[cfg(test)]
+mod word_tests;
 mod words;

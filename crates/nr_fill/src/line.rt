@@ -194,7 +194,8 @@ impl<'a> Line<'a> {
     /// How many cells stand before the next one of the word, from the indent: of a word that is still to begin, behind
     /// the gap that waits for it.
     pub fn column(&self) -> usize
-        ensures { result ≡ column self.now.collected }
+        ensures value { result ≡ column self.now.collected }
+        ensures small { result < 2 ^ 49 }
     {
         let wide = self.wide + self.word_wide();
         if self.row.pieces() == 0 {

@@ -2,14 +2,7 @@
 ghost use Rattle.std.specs.Prelude.{◌≡◌, ◌==◌, if◌then◌else◌};
 ghost use Rattle.nr_fill.specs.Spreading.{other_turn};
 
-/// Where a line begins and how long its text may be, in cells.
-#[derive(Clone, Copy, Debug, PartialEq, Eq)]
-pub struct Margins {
-    /// How many blanks stand before the text.
-    pub indent: u32,
-    /// How many cells the text may have: the line length less the indent.
-    pub length: u32,
-}
+pub use nr_settings::Margins;
 
 /// Where a line that is spread has its wider gaps.
 #[derive(Clone, Copy, Debug, PartialEq, Eq)]
@@ -18,13 +11,11 @@ pub enum Turn {
     Right,
 }
 
-impl Margins {
-    /// The margins where so many pieces are left behind a line: those of what is left, where something is.
-    pub(crate) fn behind(self, left: usize, next: Margins) -> Self
-        ensures { result ≡ (if left == 0 then self else next) }
-    {
-        if left == 0 { self } else { next }
-    }
+/// The margins where so many pieces are left behind a line with these: `next` where something is left.
+pub(crate) fn margins_behind(margins: Margins, left: usize, next: Margins) -> Margins
+    ensures { result ≡ (if left == 0 then margins else next) }
+{
+    if left == 0 { margins } else { next }
 }
 
 impl Turn {

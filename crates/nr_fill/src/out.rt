@@ -1,10 +1,12 @@
 //! The row that a line is set in.
-ghost use Rattle.std.specs.Prelude.{◌≡◌, ◌+◌, ◌-◌, ◌<◌, ◌≤◌, ◌^◌, List, [], ◌∷◌, ◌++◌, length, take, replicate, MatchOption};
+ghost use Rattle.std.specs.Prelude.{◌≡◌, ◌+◌, ◌-◌, ◌<◌, ◌≤◌, ◌^◌, List, [], ◌++◌, length, replicate, MatchOption};
 ghost use Rattle.std.specs.List.{suffix_len};
 ghost use Rattle.nr_units.specs.Cells.{blank, is_blank, trimmed};
 ghost use Rattle.nr_units.specs.declared.cell.Cell.{Cell as CellValue};
-ghost use Rattle.nr_fill.specs.Rows.{IsRow, row_of, counted, written_behind};
+ghost use Rattle.nr_fill.specs.Pieces.{is_nil};
+ghost use Rattle.nr_fill.specs.Rows.{AddsToRow, AddsToRow-both, AddsToRow-nothing, IsRow, row_of, written_behind};
 
+use crate::cells::CellSink;
 use nr_units::cell::Cell;
 use nr_units::slice_vec::SliceVec;
 use std::marker::Model;
@@ -64,6 +66,14 @@ impl<'a> Out<'a> {
         self.written
     }
 
+    /// Whether it has no cells, blanks among them.
+    #[inline]
+    pub fn is_empty(&self) -> bool
+        ensures { (cells : List CellValue) → IsRow cells self.now → result ≡ is_nil cells }
+    {
+        self.count == 0
+    }
+
     /// Takes all cells away.
     #[inline]
     pub fn clear(&mut self)
@@ -73,50 +83,35 @@ impl<'a> Out<'a> {
         self.count = 0;
         self.written = 0;
     }
+}
 
-    /// Adds a cell.
+impl CellSink for Out<'_> {
+    ghost Adds = { AddsToRow };
+
     #[inline]
-    pub fn push(&mut self, cell: Cell)
-        ensures pushed { (cells : List CellValue) → IsRow cells self.old → IsRow (cells ++ cell ∷ []) self.new }
-        ensures room { self.new.room ≡ self.old.room }
-    {
+    fn push(&mut self, cell: Cell) {
         let one = [cell];
         self.extend(&one);
     }
 
-    /// Adds these cells.
     #[inline]
-    pub fn extend(&mut self, more: &[Cell])
-        ensures extended { (cells : List CellValue) → IsRow cells self.old → IsRow (cells ++ more.now) self.new }
-        ensures room { self.new.room ≡ self.old.room }
-    {
-        let n = more.len().min(self.cells.room() - self.cells.len());
-        self.cells.extend(&more[..n]);
-        self.written = written_behind(self.written, self.count, written_len(more));
-        self.count = self.count.saturating_add(more.len());
+    fn extend(&mut self, cells: &[Cell]) {
+        let n = cells.len().min(self.cells.room() - self.cells.len());
+        self.cells.extend(&cells[..n]);
+        self.written = written_behind(self.written, self.count, written_len(cells));
+        self.count = self.count.saturating_add(cells.len());
     }
 
-    /// Adds n blanks.
     #[inline]
-    pub fn blanks(&mut self, n: usize)
-        ensures extended { (cells : List CellValue) → IsRow cells self.old → IsRow (cells ++ replicate n blank) self.new }
-        ensures room { self.new.room ≡ self.old.room }
-    {
+    fn blanks(&mut self, n: usize) {
         let kept = n.min(self.cells.room() - self.cells.len());
         push_blanks(&mut self.cells, kept);
         self.count = self.count.saturating_add(n);
     }
 
-    /// Takes the blanks at the end away.
-    #[inline]
-    pub fn trim(&mut self)
-        ensures trimmed { (cells : List CellValue) → IsRow cells self.old → IsRow (trimmed cells) self.new }
-        ensures room { self.new.room ≡ self.old.room }
-    {
-        let kept = self.written.min(self.cells.len());
-        self.cells.truncate(kept);
-        self.count = self.written;
-    }
+    ghost adds_nothing = { AddsToRow-nothing };
+
+    ghost adds_both = { AddsToRow-both };
 }
 
 /// Adds n blanks.
@@ -133,7 +128,7 @@ fn push_blanks(cells: &mut SliceVec<'_, Cell>, n: usize)
 /// How many cells there are up to the last that is no blank, where `more` of those that were added are, behind
 /// `count` cells of which `written` are.
 #[inline]
-fn written_behind(written: usize, count: usize, more: usize) -> usize
+pub(crate) fn written_behind(written: usize, count: usize, more: usize) -> usize
     ensures { result ≡ written_behind written count more }
 {
     if more == 0 {
@@ -145,7 +140,7 @@ fn written_behind(written: usize, count: usize, more: usize) -> usize
 
 /// How many cells stand up to the last that is no blank.
 #[inline]
-fn written_len(cells: &[Cell]) -> usize
+pub(crate) fn written_len(cells: &[Cell]) -> usize
     ensures value { result ≡ length cells.now - suffix_len is_blank cells.now }
     ensures within { result ≤ length cells.now }
 {

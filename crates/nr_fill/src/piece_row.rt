@@ -1,15 +1,15 @@
 // Pieces one after another in two lent slices, behind them the cells of one that has no end yet, and those of a title.
-ghost use Rattle.std.specs.Prelude.{◌≡◌, ℕ, ◌+◌, ◌-◌, ◌<◌, ◌≤◌, ◌^◌, List, [], ◌∷◌, ◌++◌, length, min, take, drop, replicate};
+ghost use Rattle.std.specs.Prelude.{◌≡◌, ℕ, ◌+◌, ◌-◌, ◌<◌, ◌≤◌, ◌^◌, List, [], ◌∷◌, ◌++◌, length, map, min, take, drop, replicate};
 ghost use Rattle.std.specs.List.{flat_map};
 ghost use Rattle.nr_units.specs.declared.cell.Cell.{Cell as CellValue};
 ghost use Rattle.nr_fill.specs.Cut.{cut, hyphen_before, pieces_width};
 ghost use Rattle.nr_fill.specs.Laid.{read_cells};
-ghost use Rattle.nr_fill.specs.Pieces.{Piece, cells_in};
-ghost use Rattle.nr_fill.specs.Rows.{IsRow};
+ghost use Rattle.nr_fill.specs.Pieces.{Piece, cells_in, join_before};
+ghost use Rattle.nr_fill.specs.Runs.{run_cell};
 ghost use Rattle.nr_fill.specs.Spreading.{cells_in_line, gaps};
 
+use crate::cells::CellSink;
 use crate::cutting::{Sums, longest_front, set_pieces, sums_of};
-use crate::out::Out;
 use crate::piece::{Join, PieceSlot};
 use crate::setting::Extra;
 use crate::slice_queue::SliceQueue;
@@ -104,6 +104,17 @@ impl<'a> PieceRow<'a> {
         self.read += 1;
     }
 
+    /// Puts a cell for each of these bytes behind the last piece.
+    #[inline]
+    pub(crate) fn push_run(&mut self, under: bool, bytes: &[u8])
+        requires room { read_cells self.old + length bytes.now ≤ self.old.room }
+        requires no_title { self.old.title ≡ [] }
+        ensures { self.new ≡ record self.old { last = self.old.last ++ map (run_cell under) bytes.now } }
+    {
+        self.cells.push_run(under, bytes);
+        self.read += bytes.len();
+    }
+
     /// Puts n copies of a cell in, so many cells behind the last piece.
     pub(crate) fn insert_copies(&mut self, place: usize, cell: Cell, n: usize)
         requires within { place ≤ length self.old.last }
@@ -137,6 +148,28 @@ impl<'a> PieceRow<'a> {
             len: n as u32,
         });
         self.pieced += n;
+    }
+
+    /// How the piece behind the first n hangs on them, or one behind all pieces where there are no more.
+    pub(crate) fn join_before(&self, n: usize, last: Join) -> Join
+        requires { n ≤ length self.now.pieces }
+        ensures { result ≡ join_before (drop n self.now.pieces) last }
+    {
+        if n == self.slots.len() {
+            return last;
+        }
+        self.slots.as_slice()[n].join
+    }
+
+    /// The pieces behind the first n, which have so many cells, have no end any more: their cells stand before those
+    /// behind the last piece.
+    pub(crate) fn open_behind(&mut self, n: usize, cells: usize)
+        requires within { n ≤ length self.old.pieces }
+        requires cells { cells ≡ cells_in (drop n self.old.pieces) }
+        ensures { self.new ≡ record self.old { pieces = take n self.old.pieces; last = flat_map (λ (p : Piece). p.cells) (drop n self.old.pieces) ++ self.old.last } }
+    {
+        self.slots.truncate(n);
+        self.pieced -= cells;
     }
 
     /// One more cell of a title.
@@ -208,12 +241,11 @@ impl<'a> PieceRow<'a> {
     }
 
     /// Sets the first n pieces in the row behind what stands there.
-    pub(crate) fn set(&self, n: usize, extra: Extra, out: &mut Out<'_>)
+    pub(crate) fn set<S: CellSink>(&self, n: usize, extra: Extra, out: &mut S)
         requires some { 0 < n }
         requires within { n ≤ length self.now.pieces }
         requires each { extra.each < 2 ^ 62 }
-        ensures set { (row : List CellValue) → IsRow row out.old → IsRow (row ++ cells_in_line extra (take n self.now.pieces)) out.new }
-        ensures room { out.new.room ≡ out.old.room }
+        ensures { S.Adds out.old (cells_in_line extra (take n self.now.pieces)) out.new }
     {
         set_pieces(
             &self.slots.as_slice()[..n],

@@ -4,19 +4,7 @@ ghost use Rattle.nr_fill.specs.Setting.{shift, is_spread};
 ghost use Rattle.nr_fill.specs.Spreading.{shared, extra_at, no_extra};
 
 use crate::margins::Turn;
-
-/// Where a line's text stands.
-#[derive(Clone, Copy, Debug, PartialEq, Eq)]
-pub enum Align {
-    /// At the indent.
-    Left,
-    /// At the indent, its gaps widened until it is as long as it may be.
-    Spread,
-    /// At the end of the line.
-    Right,
-    /// In the middle of the line, the left of two.
-    Centre,
-}
+pub use nr_settings::Align;
 
 /// How a line is set.
 #[derive(Clone, Copy, Debug, PartialEq, Eq)]
@@ -37,26 +25,24 @@ pub struct Extra {
     pub(crate) up_to: usize,
 }
 
-impl Align {
-    /// How far a line that leaves so many cells stands from the indent.
-    pub(crate) fn shift(self, left_over: usize) -> usize
-        ensures { result ≡ shift self left_over }
-    {
-        match self {
-            Align::Left | Align::Spread => 0,
-            Align::Right => left_over,
-            Align::Centre => left_over / 2,
-        }
+/// How far a line that leaves so many cells stands from the indent.
+pub(crate) fn shift_of(align: Align, left_over: usize) -> usize
+    ensures { result ≡ shift align left_over }
+{
+    match align {
+        Align::Left | Align::Spread => 0,
+        Align::Right => left_over,
+        Align::Centre => left_over / 2,
     }
+}
 
-    /// Whether a line that leaves so many cells and has so many gaps is spread.
-    pub(crate) fn spreads(self, left_over: usize, gaps: usize) -> bool
-        ensures { result ≡ is_spread self left_over gaps }
-    {
-        match self {
-            Align::Spread => left_over > 0 && gaps > 0,
-            Align::Left | Align::Right | Align::Centre => false,
-        }
+/// Whether a line that leaves so many cells and has so many gaps is spread.
+pub(crate) fn spreads_gaps(align: Align, left_over: usize, gaps: usize) -> bool
+    ensures { result ≡ is_spread align left_over gaps }
+{
+    match align {
+        Align::Spread => left_over > 0 && gaps > 0,
+        Align::Left | Align::Right | Align::Centre => false,
     }
 }
 

@@ -1,6 +1,8 @@
 // Items in a lent slice that come in at the end and go out at the front.
-ghost use Rattle.std.specs.Prelude.{◌≡◌, ◌+◌, ◌-◌, ◌<◌, ◌≤◌, [], ◌∷◌, ◌++◌, length, take, drop, replicate};
+ghost use Rattle.std.specs.Prelude.{◌≡◌, ◌+◌, ◌-◌, ◌<◌, ◌≤◌, [], ◌∷◌, ◌++◌, length, map, take, drop, replicate};
+ghost use Rattle.nr_fill.specs.Runs.{run_cell};
 
+use nr_units::cell::Cell;
 use std::marker::Model;
 
 /// Items in a slice that is lent. A front that is taken away stays where it is until it is as long as what is left or
@@ -56,6 +58,40 @@ fn set_all<T: Copy>(slots: &mut [T], item: T)
 {
     for slot in slots.iter_mut() {
         *slot = item;
+    }
+}
+
+/// Puts the cells of as many bytes there.
+fn set_run(slots: &mut [Cell], under: bool, bytes: &[u8])
+    requires { length slots.old ≡ length bytes.now }
+    ensures { slots.new ≡ map (run_cell under) bytes.now }
+{
+    for i in 0..slots.len() {
+        slots[i] = Cell {
+            byte: bytes[i],
+            under,
+        };
+    }
+}
+
+impl<'a> SliceQueue<'a, Cell> {
+    /// Puts a cell for each of these bytes at the end.
+    #[inline]
+    pub(crate) fn push_run(&mut self, under: bool, bytes: &[u8])
+        requires { length self.old.items + length bytes.now ≤ self.old.room }
+        ensures items { self.new.items ≡ self.old.items ++ map (run_cell under) bytes.now }
+        ensures room { self.new.room ≡ self.old.room }
+    {
+        let span = Span {
+            start: self.start,
+            end: self.end,
+        };
+        let n = bytes.len();
+        let slots = &mut *self.slots;
+        let span = make_room(slots, span, n);
+        set_run(&mut slots[span.end..span.end + n], under, bytes);
+        self.start = span.start;
+        self.end = span.end + n;
     }
 }
 

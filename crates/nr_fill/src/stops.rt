@@ -1,25 +1,7 @@
 //! Tab stops. (CSTR 54, section 9.)
 use crate::piece::Point;
+pub use nr_settings::{Stop, StopKind};
 use nr_units::cell::Cell;
-
-/// What stands at a tab stop.
-#[derive(Clone, Copy, Debug, PartialEq, Eq)]
-pub enum StopKind {
-    /// The text behind the tab begins there.
-    Left,
-    /// The text behind the tab ends there.
-    Right,
-    /// The middle of the text behind the tab, the left one of two.
-    Centre,
-}
-
-/// A tab stop.
-#[derive(Clone, Copy, Debug, PartialEq, Eq)]
-pub struct Stop {
-    /// Its place in cells from the line's indent.
-    pub column: u32,
-    pub kind: StopKind,
-}
 
 /// The text for a right or centring stop, while it is read.
 #[derive(Clone, Copy, Debug, PartialEq, Eq)]

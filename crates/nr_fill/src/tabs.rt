@@ -21,26 +21,24 @@ fn first_beyond(column: usize, stops: &[Stop]) -> Option<Stop>
     None
 }
 
-impl StopKind {
-    /// Whether the stop aligns the text behind it, where stops align text at all.
-    fn is_aligned(self, aligned: bool) -> bool
-        ensures { result ≡ is_aligned aligned self }
-    {
-        match self {
-            StopKind::Left => false,
-            StopKind::Right | StopKind::Centre => aligned,
-        }
+/// Whether a stop of this kind aligns the text behind it, where stops align text at all.
+fn aligns(kind: StopKind, aligned: bool) -> bool
+    ensures { result ≡ is_aligned aligned kind }
+{
+    match kind {
+        StopKind::Left => false,
+        StopKind::Right | StopKind::Centre => aligned,
     }
+}
 
-    /// How many of n cells stand before the stop.
-    fn before(self, n: usize) -> usize
-        ensures { result ≡ before_stop self n }
-    {
-        match self {
-            StopKind::Left => 0,
-            StopKind::Right => n,
-            StopKind::Centre => n / 2,
-        }
+/// How many of n cells stand before a stop of this kind.
+fn cells_before(kind: StopKind, n: usize) -> usize
+    ensures { result ≡ before_stop kind n }
+{
+    match kind {
+        StopKind::Left => 0,
+        StopKind::Right => n,
+        StopKind::Centre => n / 2,
     }
 }
 
@@ -49,7 +47,7 @@ impl Field {
     fn fill_count(self, n: usize) -> usize
         ensures { result ≡ fill_count self n }
     {
-        self.width.saturating_sub(self.kind.before(n))
+        self.width.saturating_sub(cells_before(self.kind, n))
     }
 }
 
@@ -74,10 +72,11 @@ impl<'a> Line<'a> {
             return Ok(());
         };
         let width = (stop.column as usize).saturating_sub(column);
-        if !stop.kind.is_aligned(aligned) {
+        if !aligns(stop.kind, aligned) {
             return self.put_cells(margins, fill, width);
         }
         self.open_word(margins);
+        self.end_piece();
         self.begin_field(width, stop.kind, fill);
         Ok(())
     }
@@ -114,7 +113,7 @@ impl<'a> Line<'a> {
         if n > self.limit - self.text_measure() {
             return Err(LineCells);
         }
-        self.fill_field();
+        self.fill_field(n);
         Ok(())
     }
 
@@ -131,9 +130,10 @@ impl<'a> Line<'a> {
         field.fill_count(self.row.last_len() - field.before)
     }
 
-    /// Fills the text for a stop up.
-    fn fill_field(&mut self)
-        requires { text_cells self.old.collected + field_fill self.old.collected.word ≤ self.old.limit }
+    /// Fills the text for a stop up, by n cells.
+    fn fill_field(&mut self, n: usize)
+        requires count { n ≡ field_fill self.old.collected.word }
+        requires room { text_cells self.old.collected + n ≤ self.old.limit }
         ensures { self.new ≡ record self.old { collected = with_field_filled self.old.collected } }
     {
         self.row.clear_title();
@@ -144,7 +144,6 @@ impl<'a> Line<'a> {
         let Pending::ForStop(field) = word.pending else {
             return;
         };
-        let n = field.fill_count(self.row.last_len() - field.before);
         self.row.insert_copies(field.before, field.fill, n);
         self.word = Some(WordState {
             pending: Pending::Nothing,

@@ -1,18 +1,27 @@
 // Lines go out of what is collected. (CSTR 54, section 4.1.)
-ghost use Rattle.std.specs.Prelude.{◌≡◌, ◌+◌, ◌*◌, ◌<◌, ◌≤◌, ◌^◌, List, ◌++◌, length, take, drop, replicate};
+ghost use Rattle.std.specs.Prelude.{◌≡◌, ◌+◌, ◌*◌, ◌<◌, ◌≤◌, ◌^◌, ◌++◌, length, take, drop, replicate};
 ghost use Rattle.nr_units.specs.Cells.{blank, trimmed};
-ghost use Rattle.nr_units.specs.declared.cell.Cell.{Cell as CellValue};
 ghost use Rattle.nr_fill.specs.Cut.{hyphen_before, pieces_width};
 ghost use Rattle.nr_fill.specs.Pieces.{cells_in};
-ghost use Rattle.nr_fill.specs.Rows.{IsRow, row_of};
 ghost use Rattle.nr_fill.specs.Spreading.{cells_in_line, gaps};
-ghost use Rattle.nr_fill.specs.Setting.{behind, cut_of, extra_of, hyphens, left_over, set_line, set_width, shift, spreads, without_front};
+ghost use Rattle.nr_fill.specs.Setting.{behind, cut_of, extra_of, hyphens, left_over, line_row, set_width, shift, spreads, without_front};
 
+use crate::cells::CellSink;
+use crate::cutting::Sums;
 use crate::line::Line;
-use crate::margins::Margins;
-use crate::out::Out;
-use crate::setting::{Align, Extra, Setting};
+use crate::margins::{Margins, margins_behind};
+use crate::measured::Measured;
+use crate::setting::{Extra, Setting, shift_of, spreads_gaps};
 use nr_units::cell::Cell;
+
+/// What the first pieces of a line come to.
+#[derive(Clone, Copy)]
+struct Front {
+    sums: Sums,
+    hyphens: u16,
+    /// How many cells of the line's length are left over.
+    left_over: usize,
+}
 
 /// How the first pieces of a line are set.
 #[derive(Clone, Copy)]
@@ -29,9 +38,8 @@ struct Plan {
 }
 
 /// Adds a hyphen where one is to be printed.
-fn push_hyphens(out: &mut Out<'_>, count: u16)
-    ensures pushed { (row : List CellValue) → IsRow row out.old → IsRow (row ++ hyphens count) out.new }
-    ensures room { out.new.room ≡ out.old.room }
+fn push_hyphens<S: CellSink>(out: &mut S, count: u16)
+    ensures { S.Adds out.old (hyphens count) out.new }
 {
     for _hyphen in 0..count {
         out.push(Cell {
@@ -42,13 +50,14 @@ fn push_hyphens(out: &mut Out<'_>, count: u16)
 }
 
 impl<'a> Line<'a> {
-    /// Sets in `out` the longest front of the pieces that fits, with its hyphen where it is cut at a soft point, and
-    /// one piece where none fits. What is left takes the margins `next`. Tells how wide the text is, in cells,
-    /// without the blanks at its end. A word that is being read stays.
-    pub fn take_line(&mut self, next: Margins, setting: Setting, out: &mut Out<'_>) -> usize
+    /// Sets in a row, behind what stands there, the longest front of the pieces that fits, with its hyphen where it is
+    /// cut at a soft point, and one piece where none fits. What is left takes the margins `next`. Tells how wide the
+    /// text is, in cells, without the blanks at its end; the row keeps them. A word that is being read stays.
+    pub fn take_line<S: CellSink>(&mut self, next: Margins, setting: Setting, out: &mut S) -> usize
         requires pieces { 0 < length self.old.collected.pieces }
-        ensures out { out.new ≡ row_of out.old.room (set_line setting self.old.collected (cut_of self.old.collected)) }
+        ensures out { S.Adds out.old (line_row setting self.old.collected (cut_of self.old.collected)) out.new }
         ensures width { result ≡ set_width setting self.old.collected (cut_of self.old.collected) }
+        ensures small { result < 2 ^ 48 }
         ensures rest { self.new ≡ record self.old { collected = behind next setting.align self.old.collected (cut_of self.old.collected) } }
     {
         let n = self
@@ -57,12 +66,14 @@ impl<'a> Line<'a> {
         self.take_front(n, next, setting, out)
     }
 
-    /// Sets all pieces in `out` as one line, as in no-fill mode and where lines are centred. Tells how wide the text
-    /// is, in cells, without the blanks at its end. A word that is being read stays.
-    pub fn take_all(&mut self, setting: Setting, out: &mut Out<'_>) -> usize
+    /// Sets all pieces as one line in a row, behind what stands there, as in no-fill mode and where lines are centred.
+    /// Tells how wide the text is, in cells, without the blanks at its end; the row keeps them. A word that is being
+    /// read stays.
+    pub fn take_all<S: CellSink>(&mut self, setting: Setting, out: &mut S) -> usize
         requires pieces { 0 < length self.old.collected.pieces }
-        ensures out { out.new ≡ row_of out.old.room (set_line setting self.old.collected (length self.old.collected.pieces)) }
+        ensures out { S.Adds out.old (line_row setting self.old.collected (length self.old.collected.pieces)) out.new }
         ensures width { result ≡ set_width setting self.old.collected (length self.old.collected.pieces) }
+        ensures small { result < 2 ^ 48 }
         ensures rest { self.new ≡ record self.old { collected = behind self.old.collected.margins setting.align self.old.collected (length self.old.collected.pieces) } }
     {
         let next = self.margins;
@@ -70,17 +81,47 @@ impl<'a> Line<'a> {
     }
 
     /// The first n pieces go out as one line.
-    fn take_front(&mut self, n: usize, next: Margins, setting: Setting, out: &mut Out<'_>) -> usize
+    fn take_front<S: CellSink>(
+        &mut self,
+        n: usize,
+        next: Margins,
+        setting: Setting,
+        out: &mut S,
+    ) -> usize
         requires some { 0 < n }
         requires within { n ≤ length self.old.collected.pieces }
-        ensures out { out.new ≡ row_of out.old.room (set_line setting self.old.collected n) }
+        ensures out { S.Adds out.old (line_row setting self.old.collected n) out.new }
         ensures width { result ≡ set_width setting self.old.collected n }
+        ensures small { result < 2 ^ 48 }
         ensures rest { self.new ≡ record self.old { collected = behind next setting.align self.old.collected n } }
     {
         let plan = self.plan(n, setting);
         let width = self.set(n, plan, out);
         self.remove(n, plan, next);
         width
+    }
+
+    /// What the first n pieces come to as a line.
+    fn front(&self, n: usize) -> Front
+        requires some { 0 < n }
+        requires within { n ≤ length self.now.collected.pieces }
+        ensures left_over { result.left_over ≡ left_over self.now.collected n }
+        ensures short { result.left_over < 2 ^ 32 }
+        ensures cells { result.sums.cells ≡ cells_in (take n self.now.collected.pieces) }
+        ensures wide { result.sums.wide ≡ pieces_width (take n self.now.collected.pieces) }
+        ensures gaps { result.sums.gaps ≡ gaps (take n self.now.collected.pieces) }
+        ensures hyphens { result.hyphens ≡ hyphen_before (drop n self.now.collected.pieces) }
+        ensures one { result.hyphens ≤ 1 }
+    {
+        let sums = self.row.sums(n);
+        let first = usize::from(self.row.first_join().width());
+        let hyphens = self.row.hyphen(n, self.pieces);
+        let width = sums.wide - first + usize::from(hyphens);
+        Front {
+            sums,
+            hyphens,
+            left_over: (self.margins.length as usize).saturating_sub(width),
+        }
     }
 
     /// How the first n pieces are set as a line.
@@ -98,13 +139,13 @@ impl<'a> Line<'a> {
         ensures cells { result.cells ≡ cells_in (take n self.now.collected.pieces) }
         ensures wide { result.wide ≡ pieces_width (take n self.now.collected.pieces) }
     {
-        let sums = self.row.sums(n);
-        let first = usize::from(self.row.first_join().width());
-        let hyphens = self.row.hyphen(n, self.pieces);
-        let width = sums.wide - first + usize::from(hyphens);
-        let left_over = (self.margins.length as usize).saturating_sub(width);
-        let spread = setting.align.spreads(left_over, sums.gaps);
-        let shift = setting.align.shift(left_over);
+        let Front {
+            sums,
+            hyphens,
+            left_over,
+        } = self.front(n);
+        let spread = spreads_gaps(setting.align, left_over, sums.gaps);
+        let shift = shift_of(setting.align, left_over);
         Plan {
             start: setting.offset as usize + self.margins.indent as usize + shift,
             extra: if spread {
@@ -120,23 +161,22 @@ impl<'a> Line<'a> {
     }
 
     /// Sets the first n pieces in the row, and tells how wide they are there.
-    fn set(&self, n: usize, plan: Plan, out: &mut Out<'_>) -> usize
+    fn set<S: CellSink>(&self, n: usize, plan: Plan, out: &mut S) -> usize
         requires some { 0 < n }
         requires within { n ≤ length self.now.collected.pieces }
         requires each { plan.extra.each < 2 ^ 32 }
         requires total { plan.extra.each * gaps (take n self.now.collected.pieces) < 2 ^ 32 }
         requires start { plan.start < 2 ^ 34 }
         requires hyphens { plan.hyphens ≤ 1 }
-        ensures out { out.new ≡ row_of out.old.room (trimmed (replicate plan.start blank ++ (cells_in_line plan.extra (take n self.now.collected.pieces) ++ hyphens plan.hyphens))) }
+        ensures out { S.Adds out.old (replicate plan.start blank ++ (cells_in_line plan.extra (take n self.now.collected.pieces) ++ hyphens plan.hyphens)) out.new }
         ensures width { result ≡ length (trimmed (cells_in_line plan.extra (take n self.now.collected.pieces) ++ hyphens plan.hyphens)) }
+        ensures small { result < 2 ^ 48 }
     {
-        out.clear();
         out.blanks(plan.start);
-        self.row.set(n, plan.extra, out);
-        push_hyphens(out, plan.hyphens);
-        let width = out.written().saturating_sub(plan.start);
-        out.trim();
-        width
+        let mut text = Measured::over(out);
+        self.row.set(n, plan.extra, &mut text);
+        push_hyphens(&mut text, plan.hyphens);
+        text.written()
     }
 
     /// Takes the first n pieces away.
@@ -150,6 +190,6 @@ impl<'a> Line<'a> {
         self.pieces -= n;
         self.wide -= plan.wide;
         self.turn = self.turn.behind(plan.spread);
-        self.margins = self.margins.behind(self.pieces, next);
+        self.margins = margins_behind(self.margins, self.pieces, next);
     }
 }

@@ -1,4 +1,5 @@
 // Worked lines.
+use crate::cells::CellSink;
 use crate::line::{Line, LineCells};
 use crate::margins::Margins;
 use crate::out::Out;
@@ -122,7 +123,7 @@ const CASES: [Case; 13] = [
     },
 ];
 
-fn cell(byte: u8) -> Cell {
+pub(crate) fn cell(byte: u8) -> Cell {
     Cell { byte, under: false }
 }
 
@@ -143,7 +144,7 @@ fn read(line: &mut Line<'_>, margins: Margins, text: &[u8]) -> Result<(), LineCe
 }
 
 /// Whether these cells are this text.
-fn is_text(cells: &[Cell], text: &[u8]) -> bool {
+pub(crate) fn is_text(cells: &[Cell], text: &[u8]) -> bool {
     cells.len() == text.len()
         && cells
             .iter()
@@ -152,7 +153,7 @@ fn is_text(cells: &[Cell], text: &[u8]) -> bool {
 }
 
 /// Takes the first line, where there is one, and tells whether it is this text.
-fn gives(line: &mut Line<'_>, next: Margins, setting: Setting, text: &[u8]) -> bool {
+pub(crate) fn gives(line: &mut Line<'_>, next: Margins, setting: Setting, text: &[u8]) -> bool {
     let mut row = [Cell::blank(); 200];
     let mut out = Out::over(&mut row);
     if !line.has_pieces() {
@@ -509,5 +510,8 @@ fn a_row_longer_than_its_slice(rt: HostRuntime) -> Result<(), Fail> {
     out.push(cell(b'b'));
     assert!(rt; out.row().is_none());
     assert_eq!(rt; out.written(), 6);
+    assert!(rt; !out.is_empty());
+    out.clear();
+    assert!(rt; out.is_empty());
     Ok(())
 }

@@ -1,11 +1,9 @@
 //! Titles of three parts. (CSTR 54, section 14.)
-ghost use Rattle.std.specs.Prelude.{◌≡◌, ◌++◌, ◌≤◌, ◌<◌, ◌^◌, List, length, is_none, Some, true};
-ghost use Rattle.nr_units.specs.declared.cell.Cell.{Cell as CellValue};
-ghost use Rattle.nr_fill.specs.Rows.{IsRow};
+ghost use Rattle.std.specs.Prelude.{◌≡◌, ◌≤◌, ◌<◌, ◌^◌, length, is_none, Some, true};
 ghost use Rattle.nr_fill.specs.TitleStates.{next_state, parted_title, title_of};
 ghost use Rattle.nr_fill.specs.Titles.{Title, cell_of, is_within, title_or_empty, title_row};
 
-use crate::out::Out;
+use crate::cells::CellSink;
 use nr_units::cell::Cell;
 
 /// The part of a title that is being read.
@@ -117,14 +115,13 @@ impl<'t> TitleParts<'t> {
 }
 
 /// Sets a title of this length in the row behind what stands there.
-pub(crate) fn set_parts(parts: TitleParts<'_>, line: usize, out: &mut Out<'_>)
+pub(crate) fn set_parts<S: CellSink>(parts: TitleParts<'_>, line: usize, out: &mut S)
     requires line { line < 2 ^ 32 }
     requires left { length parts.left.now < 2 ^ 32 }
     requires centre { length parts.centre.now < 2 ^ 32 }
     requires right { length parts.right.now < 2 ^ 32 }
-    ensures set { (row : List CellValue) → (t : Title) → t.left ≡ parts.entry.left.now → t.centre ≡ parts.entry.centre.now → t.right ≡ parts.entry.right.now
-        → IsRow row out.old → IsRow (row ++ title_row line t) out.new }
-    ensures room { out.new.room ≡ out.old.room }
+    ensures { (t : Title) → t.left ≡ parts.entry.left.now → t.centre ≡ parts.entry.centre.now → t.right ≡ parts.entry.right.now
+        → S.Adds out.old (title_row line t) out.new }
 {
     let centre = line.saturating_sub(parts.centre.len()) / 2;
     let right = line.saturating_sub(parts.right.len());

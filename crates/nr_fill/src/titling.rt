@@ -2,11 +2,10 @@
 ghost use Rattle.std.specs.Prelude.{◌≡◌, ◌+◌, ◌≤◌, OnOk, OnErr};
 ghost use Rattle.nr_fill.specs.Lined.{afforded};
 ghost use Rattle.nr_fill.specs.Pieces.{with_part_ended, with_title, with_title_cell, without_title};
-ghost use Rattle.nr_fill.specs.Rows.{row_of};
-ghost use Rattle.nr_fill.specs.Titles.{set_title_row};
+ghost use Rattle.nr_fill.specs.Titles.{titled_row};
 
+use crate::cells::CellSink;
 use crate::line::{Line, LineCells};
-use crate::out::Out;
 use crate::title::{TitleParts, TitleState, set_parts};
 use nr_units::cell::Cell;
 
@@ -46,17 +45,15 @@ impl<'a> Line<'a> {
         self.title = Some(title.next(self.row.title_len()));
     }
 
-    /// Sets the title in `out`, `length` cells long and `offset` cells from the row's beginning, and is done with it.
-    /// Without a title the row is empty.
-    pub fn set_title(&mut self, length: u32, offset: u32, out: &mut Out<'_>)
-        ensures out { out.new ≡ row_of out.old.room (set_title_row offset length self.old.collected.title) }
+    /// Sets the title in a row behind what stands there, `length` cells long and `offset` cells on, and is done with
+    /// it. Without a title there are the `offset` blanks alone.
+    pub fn set_title<S: CellSink>(&mut self, length: u32, offset: u32, out: &mut S)
+        ensures out { S.Adds out.old (titled_row offset length self.old.collected.title) out.new }
         ensures rest { self.new ≡ record self.old { collected = without_title self.old.collected } }
     {
         let parts = TitleParts::of(self.title, self.row.title());
-        out.clear();
         out.blanks(offset as usize);
         set_parts(parts, length as usize, out);
-        out.trim();
         self.row.clear_title();
         self.title = None;
     }

@@ -1,7 +1,7 @@
 // What is read: cells, break points, the ends of words, and gaps. (CSTR 54, sections 4 and 13.)
-ghost use Rattle.std.specs.Prelude.{◌≡◌, ◌+◌, ◌<◌, ◌≤◌, ◌++◌, ◌∷◌, [], None, OnOk, OnErr, replicate};
+ghost use Rattle.std.specs.Prelude.{◌≡◌, ◌+◌, ◌<◌, ◌≤◌, ◌++◌, ◌∷◌, [], None, OnOk, OnErr, false, replicate};
 ghost use Rattle.nr_fill.specs.Lined.{afforded};
-ghost use Rattle.nr_fill.specs.Pieces.{Word, add_blank, add_cell, add_cell_behind, add_cells, after_newline, append, barred_here, end_word, ended, ends_sentence, hyphenated, in_word, is_inside, line_cells, marked, one_blank_more, pending_behind, pending_soft, pending_without_point, text_cells, with_word, without_blanks};
+ghost use Rattle.nr_fill.specs.Pieces.{Word, add_blank, add_blank_to, add_cell, add_cell_behind, add_cells, after_newline, append, barred_here, end_word, ended, ends_sentence, hyphenated, in_word, is_inside, joined, line_cells, marked, one_blank_more, pending_behind, pending_soft, pending_without_point, text_cells, with_word, without_blanks};
 
 use crate::line::{Line, LineCells, WIDEST_GAP, WordState};
 use crate::margins::Margins;
@@ -34,16 +34,15 @@ impl WordState {
 }
 
 impl WordState {
-    /// Whether a place so many cells in is between two of the n cells of the piece that is being read, blanks at their
-    /// end aside.
+    /// Whether a place so many cells in is between two of the n cells of the piece that is being read, blanks at the
+    /// word's end aside.
     fn is_inside(self, at: usize, n: usize) -> bool
-        requires { self.blanks ≤ n }
         ensures { result ≡ is_inside at self.blanks n self.pending }
     {
         if matches!(self.pending, Pending::ForStop(_)) {
             return false;
         }
-        at > 0 && at < n - self.blanks
+        at > 0 && at < n.saturating_sub(self.blanks)
     }
 }
 
@@ -74,7 +73,8 @@ impl Pending {
     }
 
     /// What waits where no break point stands.
-    fn without_point(self) -> Self
+    #[inline]
+    pub(crate) fn without_point(self) -> Self
         ensures { result ≡ pending_without_point self }
     {
         match self {
@@ -108,7 +108,7 @@ impl<'a> Line<'a> {
 
     /// A break point that waits ends a piece of the word.
     #[inline]
-    fn end_piece(&mut self)
+    pub(crate) fn end_piece(&mut self)
         ensures { self.new ≡ record self.old { collected = in_word ended self.old.collected } }
     {
         self.row.clear_title();
@@ -124,9 +124,9 @@ impl<'a> Line<'a> {
         self.word = Some(WordState {
             join: Join::at(point),
             pending: Pending::Nothing,
-            blanks: 0,
             parted: word.parted + len,
             wide: word.wide + usize::from(word.join.width()) + len,
+            ..word
         });
     }
 
@@ -168,7 +168,8 @@ impl<'a> Line<'a> {
     }
 
     /// Reads a blank of the text as a cell: so in no-fill mode and where lines are centred. It fails where the blank
-    /// would pass the limit.
+    /// would pass the limit. Break points are kept, since the word may end in a line that is filled: `join_word` is to
+    /// be called where it ends in one that is not.
     pub fn put_blank(&mut self, margins: Margins) -> Result<(), LineCells>
         ensures result { result ≡ afforded (record self.old { collected = add_blank margins self.old.collected }) }
         ensures ok { OnOk result (self.new ≡ record self.old { collected = add_blank margins self.old.collected }) }
@@ -178,17 +179,26 @@ impl<'a> Line<'a> {
             return Err(LineCells);
         }
         self.open_word(margins);
+        self.end_piece();
+        self.push_blank();
+        Ok(())
+    }
+
+    /// One more blank of the text, a cell of the piece that is being read.
+    fn push_blank(&mut self)
+        requires room { text_cells self.old.collected < self.old.limit }
+        requires no_title { self.old.collected.title ≡ None }
+        ensures { self.new ≡ record self.old { collected = record (in_word add_blank_to self.old.collected) { sentence = false } } }
+    {
         self.sentence = false;
         let Some(word) = self.word else {
-            return Ok(());
+            return;
         };
         self.row.push(Cell::blank());
         self.word = Some(WordState {
-            pending: word.pending.without_point(),
             blanks: word.blanks + 1,
             ..word
         });
-        Ok(())
     }
 
     /// Reads n equal cells of a word, none or more, as one addition. It fails where they would pass the limit.
@@ -251,16 +261,16 @@ impl<'a> Line<'a> {
         });
     }
 
-    /// Drops the blanks of the text at the end of the word, and a break point there.
+    /// Makes the word one piece, as `join_word` does, and drops the blanks of the text at its end. Call it where a line
+    /// that is not filled ends, before `end_field`.
     pub fn drop_blanks(&mut self)
         ensures { self.new ≡ record self.old { collected = without_blanks self.old.collected } }
     {
-        self.row.clear_title();
-        self.title = None;
+        self.join_word();
         let Some(word) = self.word else {
             return;
         };
-        let len = self.row.last_len() - word.blanks;
+        let len = self.row.last_len().saturating_sub(word.blanks);
         self.row.shorten(len);
         self.word = Some(WordState {
             pending: word.pending.without_point(),
@@ -288,6 +298,31 @@ impl<'a> Line<'a> {
             parted: word.parted + at,
             wide: word.wide + usize::from(word.join.width()) + at,
             ..word
+        });
+    }
+
+    /// The word is one piece from now on: so it is where it ends in no-fill mode or in a line that is centred. Call it
+    /// before `end_word` there, and behind `end_field`: while text for a right or centring stop is read it does nothing
+    /// but give a title up. It takes the same time however long the word is.
+    pub fn join_word(&mut self)
+        ensures { self.new ≡ record self.old { collected = joined self.old.collected } }
+    {
+        self.row.clear_title();
+        self.title = None;
+        let Some(word) = self.word else {
+            return;
+        };
+        if matches!(word.pending, Pending::ForStop(_)) {
+            return;
+        }
+        let join = self.row.join_before(self.pieces, word.join);
+        self.row.open_behind(self.pieces, word.parted);
+        self.word = Some(WordState {
+            join,
+            pending: Pending::Nothing,
+            blanks: word.blanks,
+            parted: 0,
+            wide: 0,
         });
     }
 

@@ -3,27 +3,25 @@ use Rattle.std.proofs.lemmas.List.{take_rest}
 use Rattle.std.proofs.lemmas.List.Sums.{sum_by-drop_more}
 use Rattle.nr_units.specs.Cells.{blank}
 use Rattle.nr_fill.specs.declared.piece.PieceSlot.{PieceSlot}
-use Rattle.nr_fill.specs.Rows.{IsRow}
 use Rattle.nr_fill.specs.Slots.{blank_slot, pieces_of}
 use Rattle.nr_fill.specs.Spreading.{blanks_before, cells_in_line}
 use Rattle.nr_fill.proofs.SettingPieces.{cells_in_line_first, set_more, set_all_pieces}
 use Rattle.nr_fill.proofs.cutting.set_pieces.Goals as goal
 
 pub loop-slot-init : goal.loop-slot-init
-loop-slot-init c =
+loop-slot-init g c =
     let slots = c.args.slots.now in
     let cells = c.args.cells.now in
     let first = get_or slots 0 blank_slot in
     let total = sum_by-drop_more (λ (s : PieceSlot). s.len) slots 0 blank_slot c.requires.some in
     rw (take_rest slots 1) record {
-      room = c.extend.ensures.room;
       gap = omega arith;
       taken = omega arith;
-      set = λ row h. (take first.len cells, c.extend.ensures.extended row h, cells_in_line_first c.args.extra slots cells blank_slot c.requires.some);
+      set = (take first.len cells, c.extend.ensures, cells_in_line_first c.args.extra slots cells blank_slot c.requires.some);
     }
 
 pub loop-slot-preserved : goal.loop-slot-preserved
-loop-slot-preserved c =
+loop-slot-preserved g c =
     let slots = c.args.slots.now in
     let cells = c.args.cells.now in
     let x = c.args.extra in
@@ -38,26 +36,24 @@ loop-slot-preserved c =
     let blanks = replicate (blanks_before x loop.gap slot.join) blank in
     let piece = take slot.len (drop loop.taken cells) in
     record {
-      room = c.extend-in-loop-slot.ensures.room ∙ c.set_join-gap.ensures.room ∙ loop.invariant.room;
       gap = omega (arith, c.set_join-gap.ensures.near);
       taken = omega arith;
-      set = λ row h.
-          let old = loop.invariant.set row h in
-          let joined = c.set_join-gap.ensures.set (row ++ old.0) old.1 in
-          let longer = c.extend-in-loop-slot.ensures.extended ((row ++ old.0) ++ blanks) joined in
-          let same : ((row ++ old.0) ++ blanks) ++ take ((loop.taken + slot.len) - loop.taken) (drop loop.taken cells) ≡ row ++ (old.0 ++ (blanks ++ piece)) =
-          ap (λ n. ((row ++ old.0) ++ blanks) ++ take n (drop loop.taken cells)) part ∙ append_assoc (row ++ old.0) blanks piece ∙ append_assoc row old.0 (blanks ++ piece) in (
+      set =
+          let old = loop.invariant.set in
+          let joined = g.met.S.CellSink.adds_both c.args.out.now loop.out c.set_join-gap.new.out old.0 blanks old.1 c.set_join-gap.ensures.set in
+          let longer = g.met.S.CellSink.adds_both c.args.out.now c.set_join-gap.new.out c.extend-in-loop-slot.new.self (old.0 ++ blanks) (take ((loop.taken + slot.len) - loop.taken) (drop loop.taken cells)) joined c.extend-in-loop-slot.ensures in
+          let same : (old.0 ++ blanks) ++ take ((loop.taken + slot.len) - loop.taken) (drop loop.taken cells) ≡ old.0 ++ (blanks ++ piece) =
+          ap (λ n. (old.0 ++ blanks) ++ take n (drop loop.taken cells)) part ∙ append_assoc old.0 blanks piece in (
             old.0 ++ (blanks ++ piece),
-            subst (λ zs. IsRow zs c.extend-in-loop-slot.new.self) same longer,
+            subst (λ zs. g.S.CellSink.Adds c.args.out.now zs c.extend-in-loop-slot.new.self) same longer,
             rw c.set_join-gap.ensures.next (set_more x loop.gap others i blank_slot cells loop.taken old.0 (cells_in_line x (pieces_of slots cells)) c.loop-slot-test.true old.2),
           );
     }
 
-pub returns-clause-set : goal.returns-clause-set
-returns-clause-set c =
-    λ row h.
-    let old = c.loop-slot.invariant.set row h in
+pub returns : goal.returns
+returns g c =
+    let old = c.loop-slot.invariant.set in
     let slots = c.args.slots.now in
     let others = take (length slots - 1) (drop 1 slots) in
     let all = set_all_pieces c.args.extra c.loop-slot.gap others c.loop-slot.slot-index (drop c.loop-slot.taken c.args.cells.now) old.0 (cells_in_line c.args.extra (pieces_of slots c.args.cells.now)) c.loop-slot-test.false old.2 in
-    subst (λ zs. IsRow (row ++ zs) c.loop-slot.out) all old.1
+    subst (λ zs. g.S.CellSink.Adds c.args.out.now zs c.loop-slot.out) all old.1

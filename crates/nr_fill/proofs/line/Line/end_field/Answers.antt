@@ -7,10 +7,10 @@ use Rattle.nr_fill.proofs.line.Line.end_field.Goals as goal
 pub overflow_sub-self-inside : goal.overflow_sub-self-inside
 overflow_sub-self-inside c = let own = ap (λ (v : Lined). v.limit) c.self.view_is in omega (arith, c.text_measure.ensures.within)
 
-pub fill_field-requires : goal.fill_field-requires
-fill_field-requires c =
+pub fill_field-requires-clause-room : goal.fill_field-requires-clause-room
+fill_field-requires-clause-room c =
     let own = ap (λ (v : Lined). v.limit) c.self.view_is in
-    omega (arith, c.text_measure.ensures.value, c.text_measure.ensures.within, c.field_fill-n.ensures)
+    omega (arith, c.text_measure.ensures.value, c.text_measure.ensures.within)
 
 pub returns-clause-result : goal.returns-clause-result
 returns-clause-result c =

@@ -49,6 +49,6 @@ invariant_of-self-2 c =
     let len : c.last_len-len.result ≡ length c.self.inside.row.last = c.last_len-len.ensures ∙ ap (λ (l : Laid). length l.last) c.clear_title.ensures in
     let n = c.last_len-len.result in
     let width = c.from.ensures ∙ c.width.ensures in
-    let v : WordState = record { join = c.at.result; pending = Nothing; blanks = 0; parted = w.parted + n; wide = w.wide + c.from.result + n } in
+    let v : WordState = record { join = c.at.result; pending = Nothing; blanks = w.blanks; parted = w.parted + n; wide = w.wide + c.from.result + n } in
     let join : join_width v.join ≤ 1365 = let is = ap join_width c.at.ensures in omega (arith, join_width-at c.in-AtPoint.point) in
     rw (c.close.ensures, c.clear_title.ensures) (is_line_closed v n h (omega arith) (omega arith) refl (omega arith) join (omega arith))

@@ -1,69 +1,44 @@
-use Rattle.std.proofs.Common.{◌≡◌, ◌+◌, ◌-◌, ◌++◌, length, take, drop, replicate, ap, ◌∙◌, refl, arith, length-append}
-use Rattle.nr_fill.specs.Laid.{Laid}
-use Rattle.nr_fill.specs.Lined.{Lined}
+use Rattle.std.proofs.Common.{◌≡◌, ◌+◌, ◌-◌, ◌++◌, length, take, drop, replicate, ap, sym, ◌∙◌, refl, arith, length-append}
+use Rattle.std.proofs.lemmas.List.{length-replicate, take-append-drop}
 use Rattle.nr_fill.specs.declared.line.WordState.{WordState}
+use Rattle.nr_fill.specs.declared.stops.Pending.TheVariants.{Nothing}
+use Rattle.nr_fill.specs.Lined.{Lined}
+use Rattle.nr_fill.specs.Lying.{word_of}
 use Rattle.nr_fill.specs.Pieces.{text_cells}
+use Rattle.nr_fill.specs.Tabs.{field_fill, fill_count}
 use Rattle.nr_fill.proofs.Lines.{the_word, is_line_untitled, is_line_last, text_cells-collected_of}
 use Rattle.nr_fill.proofs.Pendings.{are_small}
-use Rattle.nr_fill.specs.declared.stops.Pending.TheVariants.{Nothing}
-use Rattle.std.proofs.lemmas.List.{length-replicate, take-append-drop}
-use Rattle.nr_fill.specs.Tabs.{field_fill, fill_count}
-use Rattle.nr_fill.specs.Lying.{word_of}
 use Rattle.nr_fill.proofs.line.Line.fill_field.Goals as goal
 
 pub invariant_of-self-in_default-pending : goal.invariant_of-self-in_default-pending
 invariant_of-self-in_default-pending c = rw c.clear_title.ensures (is_line_untitled c.self.invariant)
 
-pub overflow_sub-last_len : goal.overflow_sub-last_len
-overflow_sub-last_len c =
-    let h = rw c.in-Some.is at (is_line_untitled c.self.invariant) in
-    let small = are_small h in
-    let needed = rw c.in-ForStop.is at small.needed in
-    let len = c.last_len.ensures ∙ ap (λ (l : Laid). length l.last) c.clear_title.ensures in
-    omega arith
-
-pub insert_copies-requires-clause-within : goal.insert_copies-requires-clause-within
-insert_copies-requires-clause-within c =
-    let h = rw c.in-Some.is at (is_line_untitled c.self.invariant) in
-    let small = are_small h in
-    let needed = rw c.in-ForStop.is at small.needed in
-    rw c.clear_title.ensures (omega arith)
-
-pub insert_copies-requires-clause-room : goal.insert_copies-requires-clause-room
-insert_copies-requires-clause-room c =
+pub insert_copies-requires : goal.insert_copies-requires
+insert_copies-requires c =
     let s = c.self.inside in
-    let h = rw c.in-Some.is at (is_line_untitled c.self.invariant) in
-    let small = are_small h in
-    let w = c.in-Some.word in
-    let field = c.in-ForStop.field in
+    let small = are_small (rw c.in-Some.is at (is_line_untitled c.self.invariant)) in
     let needed = rw c.in-ForStop.is at small.needed in
-    let len : c.last_len.result ≡ length s.row.last = c.last_len.ensures ∙ ap (λ (l : Laid). length l.last) c.clear_title.ensures in
-    let n = c.fill_count-n.result in
-    let fill : n ≡ fill_count field (length s.row.last - field.before) = c.fill_count-n.ensures ∙ ap (λ k. fill_count field (k - field.before)) len in
-    let asked : field_fill (word_of s.word (drop s.pieces s.row.pieces) s.row.last) ≡ fill_count field (length s.row.last - field.before) = rw (c.in-Some.is, c.in-ForStop.is) refl in
-    let same = ap (λ (v : Lined). field_fill v.collected.word) c.self.view_is in
-    let own = ap (λ (v : Lined). v.limit) c.self.view_is in
     let text = text_cells-collected_of s.barred s.sentence s.margins s.turn c.self.invariant in
+    let own = ap (λ (v : Lined). v.limit) c.self.view_is in
     let all = ap (λ (v : Lined). text_cells v.collected) c.self.view_is in
-    rw c.clear_title.ensures (omega (arith, c.requires, small.room))
+    rw c.clear_title.ensures record {
+      within = omega arith;
+      room = omega (arith, c.requires.room, small.room);
+      no_title = refl;
+    }
 
 pub invariant_of-self-2 : goal.invariant_of-self-2
 invariant_of-self-2 c =
     let s = c.self.inside in
     let h = rw c.in-Some.is at (is_line_untitled c.self.invariant) in
-    let small = are_small h in
+    let iw = the_word h in
     let w = c.in-Some.word in
     let field = c.in-ForStop.field in
-    let needed = rw c.in-ForStop.is at small.needed in
-    let len : c.last_len.result ≡ length s.row.last = c.last_len.ensures ∙ ap (λ (l : Laid). length l.last) c.clear_title.ensures in
-    let n = c.fill_count-n.result in
-    let fill : n ≡ fill_count field (length s.row.last - field.before) = c.fill_count-n.ensures ∙ ap (λ k. fill_count field (k - field.before)) len in
-    let asked : field_fill (word_of s.word (drop s.pieces s.row.pieces) s.row.last) ≡ fill_count field (length s.row.last - field.before) = rw (c.in-Some.is, c.in-ForStop.is) refl in
-    let same = ap (λ (v : Lined). field_fill v.collected.word) c.self.view_is in
-    let own = ap (λ (v : Lined). v.limit) c.self.view_is in
+    let n = c.args.n in
+    let needed = rw c.in-ForStop.is at iw.needed in
     let text = text_cells-collected_of s.barred s.sentence s.margins s.turn c.self.invariant in
+    let own = ap (λ (v : Lined). v.limit) c.self.view_is in
     let all = ap (λ (v : Lined). text_cells v.collected) c.self.view_is in
-    let iw = the_word h in
     let last = s.row.last in
     let xs = take field.before last ++ replicate n field.fill ++ drop field.before last in
     let longer : length xs ≡ length last + n =
@@ -82,22 +57,12 @@ invariant_of-self-2 c =
       pieces_have_cells = iw.pieces_have_cells;
       join_within = iw.join_within;
       needed = omega arith;
-    }) (omega (arith, c.requires)))
+    }) (omega (arith, c.requires.room)))
 
 pub returns : goal.returns
 returns c =
     let s = c.self.inside in
-    let h = rw c.in-Some.is at (is_line_untitled c.self.invariant) in
-    let small = are_small h in
-    let w = c.in-Some.word in
     let field = c.in-ForStop.field in
-    let needed = rw c.in-ForStop.is at small.needed in
-    let len : c.last_len.result ≡ length s.row.last = c.last_len.ensures ∙ ap (λ (l : Laid). length l.last) c.clear_title.ensures in
-    let n = c.fill_count-n.result in
-    let fill : n ≡ fill_count field (length s.row.last - field.before) = c.fill_count-n.ensures ∙ ap (λ k. fill_count field (k - field.before)) len in
     let asked : field_fill (word_of s.word (drop s.pieces s.row.pieces) s.row.last) ≡ fill_count field (length s.row.last - field.before) = rw (c.in-Some.is, c.in-ForStop.is) refl in
-    let same = ap (λ (v : Lined). field_fill v.collected.word) c.self.view_is in
-    let own = ap (λ (v : Lined). v.limit) c.self.view_is in
-    let text = text_cells-collected_of s.barred s.sentence s.margins s.turn c.self.invariant in
-    let all = ap (λ (v : Lined). text_cells v.collected) c.self.view_is in
-    rw (c.insert_copies.ensures, c.clear_title.ensures, fill, ← c.self.view_is, c.in-Some.is, c.in-ForStop.is) refl
+    let count : c.args.n ≡ fill_count field (length s.row.last - field.before) = c.requires.count ∙ sym (ap (λ (v : Lined). field_fill v.collected.word) c.self.view_is) ∙ asked in
+    rw (c.insert_copies.ensures, c.clear_title.ensures, count, ← c.self.view_is, c.in-Some.is, c.in-ForStop.is) refl

@@ -3,20 +3,12 @@ use Rattle.nr_fill.specs.Laid.{Laid}
 use Rattle.nr_fill.specs.declared.line.WordState.{WordState}
 use Rattle.nr_fill.specs.Pieces.{cells_in}
 use Rattle.nr_fill.proofs.Lines.{the_word, is_line_untitled, is_line_closed}
-use Rattle.nr_fill.proofs.Pendings.{are_small, needed_blanks}
+use Rattle.nr_fill.proofs.Pendings.{are_small}
 use Rattle.nr_fill.specs.declared.piece.Join.TheVariants.{Soft}
 use Rattle.nr_fill.specs.Pieces.{Piece, is_inside}
 use Rattle.std.proofs.lemmas.List.{take-append-le, drop-append-le}
 use Rattle.nr_fill.proofs.Pendings.{inside_at, needed_behind_point}
 use Rattle.nr_fill.proofs.line.Line.hyphenate.Goals as goal
-
-pub is_inside-requires : goal.is_inside-requires
-is_inside-requires c =
-    let h = rw c.in-Some.is at (is_line_untitled c.self.invariant) in
-    let small = are_small h in
-    let len = c.last_len.ensures ∙ ap (λ (l : Laid). length l.last) c.clear_title.ensures in
-    let blanks = needed_blanks c.in-Some.word.pending c.in-Some.word.blanks (length c.self.inside.row.last) small.needed in
-    omega arith
 
 pub invariant_of-self-then-not-is_inside : goal.invariant_of-self-then-not-is_inside
 invariant_of-self-then-not-is_inside c = rw c.clear_title.ensures (is_line_untitled c.self.invariant)
@@ -74,7 +66,7 @@ invariant_of-self-2 c =
     let inside = inside_at at w.blanks c.last_len.result w.pending (sym c.is_inside.ensures ∙ c.if-not-is_inside.false) in
     let width = c.from.ensures ∙ c.width.ensures in
     let v : WordState = record { join = Soft; pending = w.pending; blanks = w.blanks; parted = w.parted + at; wide = w.wide + c.from.result + at } in
-    let needed = needed_behind_point w.pending w.blanks 0 (length s.row.last - at) inside.2 (omega arith) in
+    let needed = needed_behind_point w.pending w.blanks v.parted (length s.row.last - at) inside.2 (omega arith) in
     rw (c.close.ensures, c.clear_title.ensures) (is_line_closed v at h (omega arith) inside.0 refl (omega arith) (omega arith) needed)
 
 pub returns : goal.returns

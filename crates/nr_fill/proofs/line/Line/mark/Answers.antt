@@ -7,4 +7,4 @@ invariant_of-self-2 c =
     let h = rw c.in-Some.is at c.self.invariant in
     let small = are_small h in
     let w = c.in-Some.word in
-    is_line_pending w.pending 0 h (needed_none w.pending w.blanks (length c.self.inside.row.last) small.needed)
+    is_line_pending w.pending 0 h (needed_none w.pending w.blanks w.parted (length c.self.inside.row.last) small.needed)

@@ -33,7 +33,7 @@ invariant_of-self-2 c =
       wide_is = iw.wide_is;
       pieces_have_cells = iw.pieces_have_cells;
       join_within = iw.join_within;
-      needed = rw (c.behind.ensures, longer) (needed_behind c.args.behind (w.parted + c.last_len.result) w.pending w.blanks (length s.row.last) iw.needed);
+      needed = rw (c.behind.ensures, longer) (needed_behind c.args.behind (w.parted + c.last_len.result) w.pending w.blanks w.parted (length s.row.last) iw.needed);
     }) (omega (arith, c.requires.room)))
 
 pub returns : goal.returns

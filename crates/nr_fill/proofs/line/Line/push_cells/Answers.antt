@@ -39,7 +39,7 @@ invariant_of-self-2 c =
       length-append (take len last) (drop len last),
     ) in
     let v : WordState = record w { blanks = 0 } in
-    let needed = needed_none w.pending w.blanks (length last) iw.needed in
+    let needed = needed_none w.pending w.blanks w.parted (length last) iw.needed in
     rw c.insert_copies.ensures (is_line_last xs v h (record {
       parted_is = iw.parted_is;
       wide_is = iw.wide_is;

@@ -1,31 +1,28 @@
-use Rattle.std.proofs.Common.{◌≡◌, ◌∙◌, ap, sym, All, take, get_or, arith, List, ℕ, ◌+◌}
-use Rattle.std.proofs.lemmas.List.{take_more}
-use Rattle.std.proofs.lemmas.List.Elements.{All-push}
-use Rattle.nr_fill.specs.declared.piece.Behind.TheVariants.{Letter}
+use Rattle.std.proofs.Common.{◌<◌, ◌-◌, All, length, take, get_or, ap, sym, ◌∙◌, arith}
+use Rattle.std.proofs.lemmas.List.{length-take, length-take-le, take-take}
 use Rattle.nr_fill.specs.Lined.{Lined}
-use Rattle.nr_fill.specs.Pieces.{Collected, add_cell}
-use Rattle.nr_fill.specs.Runs.{IsPlain, add_run, run_cell}
-use Rattle.nr_fill.proofs.RunLemmas.{add_run-push}
-use Rattle.nr_fill.proofs.Measures.{within_from_afforded}
+use Rattle.nr_fill.specs.Pieces.{Collected, ended, ends_sentence, in_word}
+use Rattle.nr_fill.specs.Runs.{IsPlain, run_behind, run_cell}
+use Rattle.nr_fill.proofs.RunLemmas.{add_run-run}
 use Rattle.nr_fill.proofs.line.Line.put_run.Goals as goal
 
-pub loop-byte-preserved : goal.loop-byte-preserved
-loop-byte-preserved c =
+pub returns-clause-plain : goal.returns-clause-plain
+returns-clause-plain c =
+    let count = c.plain_count-count.result in
     let bytes = c.args.bytes.now in
-    let m = c.args.margins in
+    let front = c.plain_count-count.ensures.front in
+    let plain : All IsPlain (take count bytes) = rw (take-take count c.min.result bytes (omega (arith, front, length-take c.min.result bytes))) at c.plain_count-count.ensures.plain in
+    plain
+
+pub returns-clause-cells : goal.returns-clause-cells
+returns-clause-cells c =
+    let run = take c.plain_count-count.result c.args.bytes.now in
     let under = c.args.under in
+    let long = length-take-le c.plain_count-count.result c.args.bytes.now (omega (arith, c.plain_count-count.ensures.front, length-take c.min.result c.args.bytes.now)) in
+    let some : 0 < length run = omega (arith, c.if-count-eq0.false) in
+    let last = run_cell under (get_or run (length run - 1) 0) in
     let now = c.args.self.now in
-    let i = c.loop-byte.byte-index in
-    let b = get_or bytes i 0 in
-    let loop = c.loop-byte.invariant in
-    let more : take (i + 1) bytes ≡ _ = take_more bytes i 0 c.loop-byte-test.true in
-    let plain : IsPlain b = c.is_plain.ensures.0 c.if-not-is_plain.false in
-    let v : Lined = record { collected = add_cell m Letter (run_cell under b) c.loop-byte.self.collected; limit = c.loop-byte.self.limit } in
-    record {
-      count = omega (arith, loop.count);
-      plain = rw more (All-push IsPlain (take i bytes) b loop.plain plain);
-      cells = c.in-Ok.ensures.ok
-          ∙ ap (λ (u : Lined). record { collected = add_cell m Letter (run_cell under b) u.collected; limit = u.limit }) loop.cells
-          ∙ ap (λ (k : Collected). record { collected = k; limit = now.limit }) (sym (add_run-push m under (take i bytes) b now.collected) ∙ ap (λ (bs : List ℕ). add_run m under bs now.collected) (sym more));
-      within = λ some. rw c.in-Ok.ensures.ok (within_from_afforded v c.in-Ok.ensures.result);
-    }
+    c.push_run.ensures
+    ∙ ap (λ (v : Lined). record v { collected = record (in_word (run_behind under run) v.collected) { sentence = ends_sentence last } })
+    (c.end_piece.ensures ∙ ap (λ (v : Lined). record v { collected = in_word ended v.collected }) c.open_word.ensures.opened)
+    ∙ ap (λ (k : Collected). record now { collected = k }) (sym (add_run-run c.args.margins under run now.collected some))

@@ -26,4 +26,4 @@ returns c =
     let within : c.args.n ≤ s.pieces = omega (arith, c.requires.within) in
     let behind = pieces_behind c.args.n s.pieces s.row.pieces within in
     let nil = is_nil_left c.args.n s.pieces s.row.pieces within low in
-    rw (c.remove_front.ensures, c.behind-self-inside.ensures, c.behind-self-inside-2.ensures, behind.0, behind.1, ← c.self.view_is, nil) refl
+    rw (c.remove_front.ensures, c.behind-self-inside.ensures, c.margins_behind-self-inside.ensures, behind.0, behind.1, ← c.self.view_is, nil) refl

@@ -5,7 +5,7 @@ use Rattle.nr_fill.proofs.Lines.{widths_small}
 use Rattle.nr_fill.proofs.line.Line.take_line.Goals as goal
 
 pub longest_front-n-requires-clause-wide : goal.longest_front-n-requires-clause-wide
-longest_front-n-requires-clause-wide c =
+longest_front-n-requires-clause-wide g c =
     let small = widths_small c.self.invariant in
     let part = sum_by-take-le piece_width c.self.inside.row.pieces c.self.inside.pieces in
     omega arith

@@ -1,6 +1,6 @@
 use Rattle.std.proofs.Common.{◌≡◌, ◌+◌, ◌≤◌, ◌++◌, length, min, take, drop, replicate, arith, length-drop, length-append}
 use Rattle.std.proofs.lemmas.List.{length-replicate, length-take-le}
-use Rattle.nr_fill.proofs.Laying.{room_left, last_is, laid_of_inserted}
+use Rattle.nr_fill.proofs.Laying.{room_left, last_is, is_laid_longer, laid_of_inserted}
 use Rattle.nr_fill.proofs.piece_row.PieceRow.insert_copies.Goals as goal
 
 pub insert_copies-requires-clause-room : goal.insert_copies-requires-clause-room
@@ -24,14 +24,7 @@ invariant_of-self c =
       length-drop at s.cells.items,
       length-take-le at s.cells.items within,
     ) in
-    rw (c.insert_copies.ensures.items, c.insert_copies.ensures.room) record {
-      pieced_is = h.pieced_is;
-      pieced_within = omega (arith, h.pieced_within);
-      read_within = omega arith;
-      cells_within = omega arith;
-      slots_within = h.slots_within;
-      is_small = h.is_small;
-    }
+    rw (c.insert_copies.ensures.items, c.insert_copies.ensures.room) (is_laid_longer (take at s.cells.items ++ replicate n c.args.cell ++ drop at s.cells.items) n h left.0 long left.1)
 
 pub returns : goal.returns
 returns c =

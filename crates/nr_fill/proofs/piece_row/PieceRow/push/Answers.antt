@@ -1,5 +1,5 @@
-use Rattle.std.proofs.Common.{◌∷◌, [], min, arith, length-append}
-use Rattle.nr_fill.proofs.Laying.{room_left, laid_of_pushed}
+use Rattle.std.proofs.Common.{◌∷◌, ◌++◌, [], min, arith, length-append}
+use Rattle.nr_fill.proofs.Laying.{room_left, is_laid_longer, laid_of_extended}
 use Rattle.nr_fill.proofs.piece_row.PieceRow.push.Goals as goal
 
 pub push-requires : goal.push-requires
@@ -11,18 +11,11 @@ invariant_of-self c =
     let h = c.self.invariant in
     let left = room_left c.args.self.now 1 h c.self.view_is c.requires.no_title (omega (arith, c.requires.room)) in
     let long = length-append s.cells.items (c.args.cell ∷ []) in
-    rw (c.push.ensures.items, c.push.ensures.room) record {
-      pieced_is = h.pieced_is;
-      pieced_within = omega (arith, h.pieced_within);
-      read_within = omega arith;
-      cells_within = omega arith;
-      slots_within = h.slots_within;
-      is_small = h.is_small;
-    }
+    rw (c.push.ensures.items, c.push.ensures.room) (is_laid_longer (s.cells.items ++ c.args.cell ∷ []) 1 h left.0 long left.1)
 
 pub returns : goal.returns
 returns c =
     let s = c.self.inside in
     let h = c.self.invariant in
     let left = room_left c.args.self.now 1 h c.self.view_is c.requires.no_title (omega (arith, c.requires.room)) in
-    rw (c.push.ensures.items, c.push.ensures.room, ← c.self.view_is) (laid_of_pushed (min s.slots.room s.cells.room) c.args.cell h left.0)
+    rw (c.push.ensures.items, c.push.ensures.room, ← c.self.view_is) (laid_of_extended (min s.slots.room s.cells.room) (c.args.cell ∷ []) h left.0)
