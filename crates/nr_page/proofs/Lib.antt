@@ -1,3 +1,4 @@
+mod Covering
 mod Fronts
 mod Gapped
 mod Keeping

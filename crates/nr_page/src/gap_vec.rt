@@ -1,5 +1,5 @@
 // A list that grows at any place, in a slice that is lent.
-ghost use Rattle.std.specs.Prelude.{◌≡◌, ℕ, ◌+◌, ◌<◌, ◌≤◌, List, [], ◌++◌, length, take, drop, insert, slice_get, Some};
+ghost use Rattle.std.specs.Prelude.{◌≡◌, ℕ, ◌+◌, ◌<◌, ◌≤◌, List, [], ◌++◌, length, take, drop, insert, slice_get, slice_set, Some};
 
 use std::marker::Model;
 
@@ -53,6 +53,19 @@ impl<'a, T: Copy> GapVec<'a, T> {
             slots[place]
         } else {
             slots[self.gap + place]
+        }
+    }
+
+    pub(crate) fn set(&mut self, place: usize, item: T)
+        requires { place < length self.old.items }
+        ensures items { self.new.items ≡ slice_set self.old.items place item }
+        ensures room { self.new.room ≡ self.old.room }
+    {
+        let slots = &mut *self.slots;
+        if place < self.front {
+            slots[place] = item;
+        } else {
+            slots[self.gap + place] = item;
         }
     }
 

@@ -50,8 +50,9 @@ pub fn room(limit: usize) -> PageRoom
 /// charged 1 and its cells. Of lines on one row it keeps one text, the later laid over the earlier.
 ///
 /// A line on the last row, or below it, takes time for its cells, and one above it for a search too. Where it comes
-/// to a new row, the rows between it and the newest one are moved; where it makes an earlier row longer, the cells of
-/// the texts behind that row's are moved.
+/// to a new row, the rows between it and the newest one are moved, 8 bytes each; where it has more cells than its row,
+/// the row gets a new text, as long as the line, and its old one is of no use until the page is cleared. So the texts,
+/// old and new, have no more cells than the lines.
 #[derive(Drop)]
 pub struct Page<'a> {
     texts: Pool<'a, Cell>,

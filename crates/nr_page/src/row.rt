@@ -1,5 +1,5 @@
 //! A row of a page.
-ghost use Rattle.std.specs.Prelude.{◌≡◌, ℕ, ◌+◌, ◌≤◌, length};
+ghost use Rattle.std.specs.Prelude.{◌≡◌, ℕ, ◌+◌, ◌-◌, ◌≤◌, length};
 ghost use Rattle.nr_pool.specs.Texts.{IsOpen, text as text_of, used, with_text};
 ghost use Rattle.nr_page.specs.Overlay.{overlaid};
 
@@ -34,7 +34,7 @@ impl RowSlot {
 /// Lays cells over a text. A blank hides nothing.
 pub(crate) fn lay_over(texts: &mut Pool<'_, Cell>, id: Id, cells: &[Cell])
     requires is_open { IsOpen texts.old id }
-    requires fits { used texts.old + length cells.now ≤ texts.old.capacity }
+    requires fits { used texts.old + (length cells.now - length (text_of texts.old id)) ≤ texts.old.capacity }
     ensures { texts.new ≡ with_text texts.old id (overlaid (text_of texts.old id) cells.now) }
 {
     let common = texts.len(id).min(cells.len());

@@ -16,7 +16,7 @@ struct Case {
     bytes: &'static [u8],
 }
 
-const CASES: [Case; 22] = [
+const CASES: [Case; 23] = [
     Case {
         name: "no line and no row",
         lines: &[],
@@ -146,6 +146,19 @@ const CASES: [Case; 22] = [
         ],
         rows: 2,
         bytes: b"aB fgh\nXde  Y\n",
+    },
+    Case {
+        name: "rows that become longer line by line",
+        lines: &[
+            (0, b"a"),
+            (1, b"x"),
+            (0, b" bc"),
+            (1, b"yz"),
+            (0, b"   d"),
+            (1, b" "),
+        ],
+        rows: 2,
+        bytes: b"abcd\nyz\n",
     },
     Case {
         name: "an empty line below the lowest row with cells",
