@@ -1,0 +1,165 @@
+-- What is held of a row that goes into a diversion, once more cells came.
+use Rattle.std.proofs.Common.{◌≡◌, ℕ, ◌+◌, ◌-◌, ◌^◌, ◌<◌, ◌≤◌, min, Bool, true, false, List, [], ◌∷◌, ◌++◌, length, map, replicate, Result, Ok, Err, refl, ap, ap₂, sym, ◌∙◌, append_assoc, arith, length-append, inl, inr}
+use Rattle.std.proofs.lemmas.Bool.{cases_lt}
+use Rattle.std.proofs.lemmas.List.{append-nil, length-replicate, map-append, replicate-append-replicate, replicate_more}
+use Rattle.nr_units.specs.Cells.{blank, is_blank, trimmed}
+use Rattle.nr_units.specs.declared.cell.Cell.{Cell}
+use Rattle.nr_store.specs.declared.element.Element.TheVariants as elements
+use Rattle.nr_store.specs.declared.refusal.StoredBytes.{StoredBytes}
+use Rattle.nr_store.proofs.Building.{affordable, unaffordable}
+use Rattle.nr_store.specs.Stored.{Stored, Built, afforded, charge_of, on_newest, longer, diverted, diverted_end}
+use Rattle.nr_formatter.specs.declared.tasks.Resume.{Resume}
+use Rattle.nr_formatter.specs.DiversionRows.{plain, diverted_cells, with_cells, HoldsRow}
+use Rattle.nr_formatter.proofs.DivertedRows.{share, share-le, share-add, with_cells-with_cells, with_cells-nothing, charge_of-with_cells, share-with_cells, diverted_end-with_cells, charge_of-diverted-le, trimmed-blanks, trimmed-some, plain-blank, plain-some, plain-blanks}
+
+pub holds_nothing : (v : Stored Resume) → HoldsRow v [] v 0 false
+holds_nothing v = record {
+  done = [];
+  waiting = 0;
+  row_is = refl;
+  all_written = refl;
+  blanks_are = λ differs. refl;
+  store_is = λ differs. sym (with_cells-nothing v);
+  passed = λ agrees. cc;
+}
+
+-- more blanks wait
+pub holds_blanks : {before store : Stored Resume} {row : List Cell} {blanks : ℕ} {refused : Bool} → (n now : ℕ) → HoldsRow before row store blanks refused
+    → now ≡ min (blanks + n) (2 ^ 64 - 1) → HoldsRow before (row ++ replicate n blank) store now refused
+holds_blanks {before} {store} {row} {blanks} {refused} n now h now_is = record {
+  done = h.done;
+  waiting = h.waiting + n;
+  row_is = map-append plain row (replicate n blank) ∙ ap₂ (λ a b. a ++ b) h.row_is (plain-blanks n) ∙ append_assoc h.done (replicate h.waiting blank) (replicate n blank)
+      ∙ ap (λ zs. h.done ++ zs) (replicate-append-replicate h.waiting n blank);
+  all_written = h.all_written;
+  blanks_are = λ differs. let was = h.blanks_are differs in omega arith;
+  store_is = h.store_is;
+  passed = h.passed;
+}
+
+pub holds_blank : {before store : Stored Resume} {row : List Cell} {blanks : ℕ} {refused : Bool} → (cell : Cell) (now : ℕ) → is_blank cell ≡ true → HoldsRow before row store blanks refused
+    → now ≡ min (blanks + 1) (2 ^ 64 - 1) → HoldsRow before (row ++ cell ∷ []) store now refused
+holds_blank {before} {store} {row} {blanks} {refused} cell now agrees h now_is = record {
+  done = h.done;
+  waiting = h.waiting + 1;
+  row_is = map-append plain row (cell ∷ []) ∙ ap₂ (λ a x. a ++ x ∷ []) h.row_is (plain-blank cell agrees) ∙ append_assoc h.done (replicate h.waiting blank) (blank ∷ [])
+      ∙ ap (λ zs. h.done ++ zs) (replicate_more h.waiting blank);
+  all_written = h.all_written;
+  blanks_are = λ differs. let was = h.blanks_are differs in omega arith;
+  store_is = h.store_is;
+  passed = h.passed;
+}
+
+-- the row up to a cell that is no blank
+module _ {before store : Stored Resume} {row : List Cell} {blanks : ℕ} {refused : Bool} (cell : Cell) (differs : is_blank cell ≡ false) (h : HoldsRow before row store blanks refused) where
+  abbrev pub longer_row : List Cell
+  longer_row = (h.done ++ replicate h.waiting blank) ++ cell ∷ []
+
+  pub longer_row_is : map plain (row ++ cell ∷ []) ≡ longer_row ++ []
+  longer_row_is = map-append plain row (cell ∷ []) ∙ ap₂ (λ a x. a ++ x ∷ []) h.row_is (plain-some cell differs) ∙ sym (append-nil longer_row)
+
+  length-longer_row : length longer_row ≡ length h.done + h.waiting + 1
+  length-longer_row = omega (arith, length-append (h.done ++ replicate h.waiting blank) (cell ∷ []), length-append h.done (replicate h.waiting blank), length-replicate h.waiting blank)
+
+  pub charge_is : charge_of (with_cells longer_row before) ≡ charge_of before + share before.building (length h.done + h.waiting + 1)
+  charge_is = charge_of-with_cells longer_row before ∙ ap (λ n. charge_of before + share before.building n) length-longer_row
+
+  pub holds_refused : (store_now : Stored Resume) (now : ℕ) → before.limit < charge_of (with_cells h.done before) → HoldsRow before (row ++ cell ∷ []) store_now now true
+  holds_refused store_now now above = record {
+    done = longer_row;
+    waiting = 0;
+    row_is = longer_row_is;
+    all_written = trimmed-some (h.done ++ replicate h.waiting blank) cell differs;
+    blanks_are = λ e. cc;
+    store_is = λ e. cc;
+    passed = λ agrees. let was = charge_of-with_cells h.done before in let more = share-le before.building (length h.done) (length h.done + h.waiting + 1) (omega arith) in let is = charge_is in omega arith;
+  }
+
+-- where nothing is being built nothing is added
+none_added : (v : Stored Resume) (xs ys : List Cell) → v.building ≡ [] → with_cells xs v ≡ with_cells ys v
+none_added v xs ys is =
+    ap (λ (bs : List Built). let w : Stored Resume = record v { building = on_newest (longer (map elements.Cell xs)) bs } in w) is
+    ∙ sym (ap (λ (bs : List Built). let w : Stored Resume = record v { building = on_newest (longer (map elements.Cell ys)) bs } in w) is)
+
+-- all blanks that wait were counted, where a cell behind them is afforded
+counted_all : (v : Stored Resume) (bs : List Built) → v.building ≡ bs → (done : List Cell) (blanks waiting : ℕ) (cell : Cell) → blanks ≡ min waiting (2 ^ 64 - 1)
+    → share bs (blanks + 1) < 2 ^ 32 → with_cells (done ++ (replicate blanks blank ++ cell ∷ [])) v ≡ with_cells ((done ++ replicate waiting blank) ++ cell ∷ []) v
+counted_all v [] is done blanks waiting cell counted few = none_added v _ _ is
+counted_all v (b ∷ bs) is done blanks waiting cell counted few =
+    let all : blanks ≡ waiting = omega arith in
+    ap (λ n. with_cells (done ++ (replicate n blank ++ cell ∷ [])) v) all ∙ ap (λ zs. with_cells zs v) (sym (append_assoc done (replicate waiting blank) (cell ∷ [])))
+
+-- a cell that is no blank, where nothing was refused before
+module _ {before store : Stored Resume} {row : List Cell} {blanks : ℕ} (cell : Cell) (differs : is_blank cell ≡ false) (h : HoldsRow before row store blanks false) where
+  abbrev pub behind : List Cell
+  behind = replicate blanks blank ++ cell ∷ []
+
+  added_is : with_cells behind store ≡ with_cells (h.done ++ behind) before
+  added_is = ap (with_cells behind) (h.store_is refl) ∙ with_cells-with_cells h.done behind before
+
+  length-behind : length behind ≡ blanks + 1
+  length-behind = omega (arith, length-append (replicate blanks blank) (cell ∷ []), length-replicate blanks blank)
+
+  charge_behind : charge_of (with_cells behind store) ≡ charge_of before + share before.building (length h.done + (blanks + 1))
+  charge_behind = ap charge_of added_is ∙ charge_of-with_cells (h.done ++ behind) before
+      ∙ ap (λ n. charge_of before + share before.building n) (length-append h.done behind ∙ ap (λ n. length h.done + n) length-behind)
+
+  pub holds_some : (store_now : Stored Resume) → store_now ≡ with_cells behind store → charge_of (with_cells behind store) < 2 ^ 32 → HoldsRow before (row ++ cell ∷ []) store_now 0 false
+  holds_some store_now now_is small = record {
+    done = longer_row cell differs h;
+    waiting = 0;
+    row_is = longer_row_is cell differs h;
+    all_written = trimmed-some (h.done ++ replicate h.waiting blank) cell differs;
+    blanks_are = λ e. refl;
+    store_is = λ e.
+        let is = charge_behind in
+        let part = share-le before.building (blanks + 1) (length h.done + (blanks + 1)) (omega arith) in
+        now_is ∙ added_is ∙ counted_all before before.building refl h.done blanks h.waiting cell (h.blanks_are refl) (omega arith);
+    passed = λ agrees. cc;
+  }
+
+  pub holds_no_more : (store_now : Stored Resume) (now : ℕ) → store.limit < charge_of (with_cells behind store) → HoldsRow before (row ++ cell ∷ []) store_now now true
+  holds_no_more store_now now above = record {
+    done = longer_row cell differs h;
+    waiting = 0;
+    row_is = longer_row_is cell differs h;
+    all_written = trimmed-some (h.done ++ replicate h.waiting blank) cell differs;
+    blanks_are = λ e. cc;
+    store_is = λ e. cc;
+    passed = λ agrees.
+        let is = charge_behind in
+        let all = charge_is cell differs h in
+        let counted = h.blanks_are refl in
+        let limit : store.limit ≡ before.limit = ap (λ (v : Stored Resume). v.limit) (h.store_is refl) in
+        let more = share-le before.building (length h.done + (blanks + 1)) (length h.done + h.waiting + 1) (omega arith) in
+        omega arith;
+  }
+
+-- ---- the row ends
+
+row_done : {before store : Stored Resume} {row : List Cell} {blanks : ℕ} {refused : Bool} (h : HoldsRow before row store blanks refused) → diverted_cells row ≡ h.done
+row_done h = ap trimmed h.row_is ∙ trimmed-blanks h.done h.waiting h.all_written
+
+pub line_ended : {before store : Stored Resume} {row : List Cell} {blanks : ℕ} (n height : ℕ) (h : HoldsRow before row store blanks false) → n ≡ charge_of store - charge_of before
+    → diverted_end n height store ≡ diverted 0 (diverted_cells row) height before
+line_ended {before} {store} {row} {blanks} n height h n_is =
+    let charged = ap charge_of (h.store_is refl) in
+    let cells = charge_of-with_cells h.done before in
+    ap (diverted_end n height) (h.store_is refl) ∙ diverted_end-with_cells n height h.done before (omega arith) ∙ ap (λ cs. diverted 0 cs height before) (sym (row_done h))
+
+pub line_passes : {before store : Stored Resume} {row : List Cell} {blanks : ℕ} (height : ℕ) (h : HoldsRow before row store blanks true)
+    → before.limit < charge_of (diverted 0 (diverted_cells row) height before)
+line_passes {before} {store} {row} {blanks} height h =
+    let cells = charge_of-diverted-le height h.done before in
+    let above = h.passed refl in
+    let same = ap (λ cs. charge_of (diverted 0 cs height before)) (row_done h) in
+    omega arith
+
+-- ---- answers
+
+-- what is refused
+pub refused_by : (v : Stored Resume) (n : ℕ) (e : StoredBytes) → ◌≡◌ {A = Result ℕ StoredBytes} (Err e) (afforded v n) → v.limit < charge_of v
+refused_by v n e is = elim (cases_lt v.limit (charge_of v)) [
+  | inl above ↦ above
+  | inr within ↦ let agrees = affordable v n within in cc
+]

@@ -1,0 +1,14 @@
+pub mod Below
+pub mod Calm
+pub mod Cells
+pub mod DivertedRows
+pub mod Filled
+pub mod GivenNames
+pub mod Hearing
+pub mod HeldRows
+pub mod Judging
+pub mod Nearest
+pub mod NextSprings
+pub mod Splices
+pub mod TextKeeps
+pub mod TitleCells

@@ -1,0 +1,67 @@
+-- What a spring answers is what judges the move.
+use Rattle.std.specs.Prelude.{if◌then◌else◌, is_some, length}
+use Rattle.std.proofs.lemmas.Bool.{le-ltb}
+use Rattle.std.proofs.Common.{◌≡◌, ℕ, ◌≤◌, Bool, true, false, List, Option, None, Some, Result, Ok, Err, refl, ap}
+use Rattle.nr_tables.specs.Named.{find}
+use Rattle.nr_fill.specs.Pieces.{line_cells}
+use Rattle.nr_store.specs.declared.element.Element.{Element}
+use Rattle.nr_store.specs.Stored.{Stored, charge_of, checked, entered, words}
+use Rattle.nr_store.specs.declared.refusal.Refusal.{Refusal as Kept}
+use Rattle.nr_store.specs.declared.refusal.Refusal.TheVariants as kept
+use Rattle.nr_reading.specs.declared.event.Event.{Event}
+use Rattle.nr_input.specs.Acting.{expanded_answer}
+use Rattle.nr_input.specs.Splicing.{Called, called, springing, springing_by, sprung_answer}
+use Rattle.nr_input.specs.declared.reader.Reader.{Reader}
+use Rattle.nr_input.specs.declared.refusal.Refusal.{Refusal}
+use Rattle.nr_formatter.specs.declared.formatter.Formatter.{Formatter}
+use Rattle.nr_formatter.specs.Access.{collected}
+use Rattle.nr_formatter.specs.Limits.{IsWithin, judged}
+use Rattle.nr_formatter.specs.Passed.{splice_answer}
+use Rattle.nr_formatter.specs.Registers.{splice_checked}
+use Rattle.nr_formatter.specs.Springing.{sprung, sprung_text}
+use Rattle.nr_formatter.proofs.Judging.{judged_splice}
+
+text_within : (f : Formatter) (text : Option (List Element)) → line_cells (collected f) ≤ f.line.limit → line_cells (collected (sprung_text text f)) ≤ (sprung_text text f).line.limit
+text_within f None h = h
+text_within f (Some text) h = h
+
+-- a spring
+pub judged-sprung : (f : Formatter) (name : List ℕ) → IsWithin f → judged (sprung name f) ≡ splice_answer (splice_checked (sprung name f))
+judged-sprung f name w = judged_splice (sprung name f) (text_within f (words (find name f.store.names)) w.line)
+
+-- ---- a name without text
+
+not_unsprung : (a : Result Event Refusal) → Ok false ≡ sprung_answer a → ⊥
+not_unsprung (Ok e) q = cc
+not_unsprung (Err x) q = cc
+
+not_checked : (stored deep : Bool) → (if stored then Err kept.Stored else (if deep then Err kept.Depth else Ok true)) ≡ Ok false → ⊥
+not_checked true deep q = cc
+not_checked false true q = cc
+not_checked false false q = cc
+
+unsprung_answer : {K : Type 0} (x : Result Bool Kept) (new v : Stored K) (r : Reader) → (x ≡ Ok false → ⊥) → Ok false ≡ (springing_by x new v r).answer → ⊥
+unsprung_answer (Ok true) new v r other q = not_unsprung (expanded_answer r) q
+unsprung_answer (Ok false) new v r other q = other refl
+unsprung_answer (Err e) new v r other q = cc
+
+unsprung_by : {K : Type 0} (text : Option (List Element)) (mode : K) (v w : Stored K) (r s : Reader)
+    → called w s (Ok false) ≡ springing_by (checked (entered text (Some mode) v) (is_some text)) (entered text (Some mode) v) v r → text ≡ None
+unsprung_by None mode v w r s q = refl
+unsprung_by {K} (Some text) mode v w r s q =
+    let x = checked (entered (Some text) (Some mode) v) true in
+    absurd (unsprung_answer x (entered (Some text) (Some mode) v) v r (not_checked _ _) (ap (λ (c : Called K (Result Bool Refusal)). c.answer) q))
+
+pub unsprung : {K : Type 0} (name : List ℕ) (mode : K) (v w : Stored K) (r s : Reader)
+    → called w s (Ok false) ≡ springing name mode v r → words (find name v.names) ≡ None
+unsprung name mode v w r s q = unsprung_by (words (find name v.names)) mode v w r s q
+
+-- where nothing springs, nothing is passed
+pub springs_nothing : (f : Formatter) (text : Option (List Element)) → text ≡ None → IsWithin f → Ok tt ≡ splice_checked (sprung_text text f)
+springs_nothing f None e w =
+    rw (le-ltb f.store.limit (charge_of f.store) w.stored, le-ltb f.store.deepest (length f.store.levels) w.depth, le-ltb f.reader.most f.reader.burst w.burst) refl
+springs_nothing f (Some text) e w = cc
+
+pub sprung_none : (f : Formatter) (text : Option (List Element)) → text ≡ None → record f { springs = None } ≡ sprung_text text f
+sprung_none f None e = refl
+sprung_none f (Some text) e = cc

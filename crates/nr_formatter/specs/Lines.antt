@@ -1,0 +1,189 @@
+-- The ends of words, which lines go out, and breaks. (CSTR 54, section 4; on the points of `.hw` section 13.)
+use Rattle.std.specs.Prelude.{ℕ, ◌*◌, ◌-◌, Bool, true, false, not, ◌&&◌, ◌==◌, nat_le, if◌then◌else◌, List, length, Option, None, Some, is_none, min}
+use Rattle.std.specs.List.{fold}
+use Rattle.nr_units.specs.declared.cell.Cell.{Cell}
+use Rattle.nr_fill.specs.Pieces.{Collected, is_nil, cells_of_word, end_word, hyphenated, joined, may_hyphenate, reads_field, word_or_new}
+use Rattle.nr_fill.specs.Tabs.{with_field_filled}
+use Rattle.nr_fill.specs.Cut.{fits}
+use Rattle.nr_fill.specs.Setting.{behind, cut_of, line_row, set_width}
+use Rattle.nr_settings.specs.declared.filling.Align.TheVariants as aligns
+use Rattle.nr_settings.specs.Filling.{align_of, behind_centred_line}
+use Rattle.nr_settings.specs.Fonts.{behind_underlined_line}
+use Rattle.nr_settings.specs.Indents.{behind_line_begun}
+use Rattle.nr_tables.specs.Words.{bytes_of, points_of}
+use Rattle.nr_reading.specs.Setting.{not_continued}
+use Rattle.nr_input.specs.Acting.{on_half}
+use Rattle.nr_formatter.specs.declared.tasks.After.{After}
+use Rattle.nr_formatter.specs.declared.tasks.After.TheVariants as afters
+use Rattle.nr_formatter.specs.declared.tasks.Then.{Then}
+use Rattle.nr_formatter.specs.declared.tasks.Then.TheVariants as thens
+use Rattle.nr_formatter.specs.declared.tasks.Room.TheVariants as rooms
+use Rattle.nr_formatter.specs.declared.tasks.Step.{Step}
+use Rattle.nr_formatter.specs.declared.tasks.Step.TheVariants as steps
+use Rattle.nr_formatter.specs.declared.tasks.Task.{Task}
+use Rattle.nr_formatter.specs.declared.tasks.Task.TheVariants as tasks
+use Rattle.nr_formatter.specs.declared.lines.Going.{Going}
+use Rattle.nr_formatter.specs.declared.formatter.Formatter.{Formatter}
+use Rattle.nr_formatter.specs.declared.formatter.InputTrap.{InputTrap}
+use Rattle.nr_formatter.specs.Access.{collected, with_collected, is_filling, margins, spacing}
+
+-- ---- a word's end
+
+-- with a break point at each of these places in the word, so many cells in
+abbrev pub with_points : List ℕ → Collected → Collected
+with_points places c = fold (λ d place. hyphenated place d) c places
+
+-- the places that `.hw` gave for the word that is being read
+abbrev pub given_points : Formatter → List ℕ
+given_points f = points_of (bytes_of (cells_of_word (word_or_new 0 (collected f).word))) f.store.words
+
+-- what is collected where the word ends: the word takes the points of `.hw`, or is one piece in a line that is not filled
+unfoldable pub pointed : Formatter → Collected
+pointed f =
+    if not (is_filling f) then joined (collected f)
+    else (if f.settings.hyphenation.on && may_hyphenate (collected f) then with_points (given_points f) (collected f) else collected f)
+
+-- `\p` asks for a break at the end of the word that is being read
+abbrev pub breaks_behind : Formatter → Bool
+breaks_behind f = f.breaks && not (is_none (collected f).word)
+
+-- the word, if there is one, becomes pieces of the line
+abbrev pub word_ended : Formatter → Formatter
+word_ended f = record (with_collected (end_word (pointed f)) f) { breaks = f.breaks && not (breaks_behind f) }
+
+-- the text for a right or centring stop ends
+abbrev pub field_ended : Formatter → Formatter
+field_ended f = with_collected (with_field_filled (collected f)) f
+
+abbrev pub reads_a_field : Formatter → Bool
+reads_a_field f = reads_field (collected f).word
+
+-- the word ends before a break; text for a stop ends first
+abbrev pub break_word_end : Formatter → Formatter
+break_word_end f = if reads_a_field f then field_ended f else word_ended f
+
+-- ---- what goes out
+
+abbrev pub fits_line : Collected → Bool
+fits_line c = fits c.margins.length (length c.pieces) c.pieces
+
+-- in no-fill mode all goes out where a text line ends, but not where `\c` interrupts it
+abbrev pub goes_out : After → Bool
+goes_out afters.Text = false
+goes_out afters.Line = true
+goes_out afters.Interrupted = false
+goes_out afters.Continued = true
+
+-- all that is collected, as in no-fill mode and where lines are centred
+abbrev pub whole_line : Formatter → Going
+whole_line f = record { whole = true; align = if f.settings.filling.centred == 0 then aligns.Left else aligns.Centre }
+
+-- as much as fits; full where it is to be adjusted
+abbrev pub front_line : Bool → Formatter → Going
+front_line full f = record { whole = false; align = align_of full f.settings.filling }
+
+-- The line that goes out next where a word or a text line ended: a full one; with `\p` the rest, as a full one.
+abbrev pub flow_line : After → Bool → Formatter → Option Going
+flow_line after breaks f =
+    if is_nil (collected f).pieces then None
+    else (if not (is_filling f) then (if goes_out after then Some (whole_line f) else None)
+    else (if fits_line (collected f) && not breaks then None else Some (front_line true f)))
+
+-- the line that goes out next at a break
+abbrev pub break_line : Formatter → Option Going
+break_line f =
+    if is_nil (collected f).pieces then None
+    else (if not (is_filling f) then Some (whole_line f) else Some (front_line (not (fits_line (collected f))) f))
+
+-- how many pieces go out
+abbrev pub pieces_going : Going → Collected → ℕ
+pieces_going going c = if going.whole then length c.pieces else cut_of c
+
+-- the cells of the line, so far from the row's beginning
+abbrev pub row_going : Going → ℕ → Formatter → List Cell
+row_going going offset f = line_row (record { align = going.align; offset = offset }) (collected f) (pieces_going going (collected f))
+
+-- how wide its text is, in cells
+abbrev pub width_going : Going → Formatter → ℕ
+width_going going f = set_width (record { align = going.align; offset = 0 }) (collected f) (pieces_going going (collected f))
+
+-- no number is greater
+abbrev pub greatest : ℕ
+greatest = 2147483647
+
+-- what is left; a line that begins with it takes its margins now
+abbrev pub rest_behind : Going → Formatter → Collected
+rest_behind going f = behind (margins f) going.align (collected f) (pieces_going going (collected f))
+
+-- a line went out: where something is left a `.ti` is used up
+abbrev pub behind_line : Going → Formatter → Formatter
+behind_line going f =
+    record (with_collected (rest_behind going f) f) {
+      settings = record f.settings {
+        indents = if is_nil (rest_behind going f).pieces then f.settings.indents else behind_line_begun f.settings.indents;
+        text_width = min (24 * width_going going f) greatest;
+      };
+    }
+
+-- ---- where nothing more goes out
+
+-- a text line is counted, but not an empty one behind `\c`
+abbrev pub task_after : After → Task
+task_after afters.Text = tasks.Read
+task_after afters.Line = tasks.Count
+task_after afters.Interrupted = tasks.Count
+task_after afters.Continued = tasks.Read
+
+abbrev pub flow_done : After → Formatter → Formatter
+flow_done after f = record f { task = task_after after }
+
+-- what the break is for
+abbrev pub task_of : Then → Formatter → Task
+task_of (thens.Act r) f = tasks.Act r
+task_of thens.Space f = tasks.Space (spacing f)
+task_of thens.Leading f = tasks.Read
+task_of thens.Diverted f = tasks.Room rooms.Line
+task_of thens.Finish f = tasks.Finish
+
+-- the step of the end behind one of its breaks
+abbrev pub behind_end_break : Step → Step
+behind_end_break steps.FirstBreak = steps.Macro
+behind_end_break steps.SecondBreak = steps.Diversions
+behind_end_break s = s
+
+abbrev pub step_behind : Then → Step → Step
+step_behind thens.Finish s = behind_end_break s
+step_behind t s = s
+
+-- A break drops a `\p` that waits for a word, and ends what `\c` continues.
+abbrev pub break_done : Then → Formatter → Formatter
+break_done t f = record f {
+  breaks = false;
+  reader = on_half not_continued f.reader;
+  step = step_behind t f.step;
+  task = task_of t f;
+}
+
+-- ---- counting text lines
+
+-- by `.ce` and `.ul`
+abbrev pub count : Formatter → Formatter
+count f = record f {
+  settings = record f.settings {
+    filling = behind_centred_line f.settings.filling;
+    fonts = behind_underlined_line f.settings.fonts;
+  };
+  task = tasks.InputTrap;
+}
+
+-- by `.it`, whose macro springs behind the last
+abbrev pub input_trap_behind : Option InputTrap → Option InputTrap
+input_trap_behind None = None
+input_trap_behind (Some t) = if nat_le t.lines 1 then None else Some (record t { lines = t.lines - 1 })
+
+abbrev pub input_macro : Option InputTrap → Option (List ℕ) → Option (List ℕ)
+input_macro None waiting = waiting
+input_macro (Some t) waiting = if nat_le t.lines 1 then Some t.name else waiting
+
+abbrev pub count_input : Formatter → Formatter
+count_input f = record f { input_trap = input_trap_behind f.input_trap; springs = input_macro f.input_trap f.springs; task = tasks.Read }

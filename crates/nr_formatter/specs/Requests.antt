@@ -1,0 +1,133 @@
+-- What each request does, one under each name. (CSTR 54, request reference and index; groff manual, `.cp`.)
+use Rattle.std.specs.Prelude.{Bool, true, false}
+use Rattle.nr_store.specs.declared.request.Request.{Request}
+use Rattle.nr_store.specs.declared.request.Request.TheVariants.{Ad, Af, Am, As, Bp, Br, C2, Cc, Ce, Ch, Cp, Da, De, Di, Ds, Dt, El, Em, Ex, Fi, Ft, Hw, Hy, Ie, If, Ig, In, It, Lc, Ll, Lt, Mk, Na, Ne, Nf, Nh, Nr, Ns, Pc, Pl, Pn, Po, Ps, Rm, Rn, Rr, Rs, Rt, Sp, Ta, Tc, Ti, Tl, Ul, Vs, Wh}
+use Rattle.nr_formatter.specs.declared.formatter.Formatter.{Formatter}
+use Rattle.nr_formatter.specs.Diversions as diversions
+use Rattle.nr_formatter.specs.Ending as ending
+use Rattle.nr_formatter.specs.Naming as naming
+use Rattle.nr_formatter.specs.Numbering as numbering
+use Rattle.nr_formatter.specs.Registers as registers
+use Rattle.nr_formatter.specs.Settings as settings
+use Rattle.nr_formatter.specs.Spacing as spacing
+use Rattle.nr_formatter.specs.Trapping as trapping
+use Rattle.nr_formatter.specs.Places.{to_read}
+
+-- these break before they take effect
+abbrev pub breaks : Request → Bool
+breaks Bp = true
+breaks Br = true
+breaks Ce = true
+breaks Fi = true
+breaks In = true
+breaks Nf = true
+breaks Sp = true
+breaks Ti = true
+breaks r = false
+
+-- what each does; the reader acts on those that only have the input read on
+abbrev pub act : Request → Formatter → Formatter
+act Ad f = settings.ad f
+act Af f = registers.af f
+act Am f = naming.am f
+act As f = to_read f
+act Bp f = numbering.bp f
+act Br f = to_read f
+act C2 f = naming.c2 f
+act Cc f = naming.cc f
+act Ce f = settings.ce f
+act Ch f = trapping.ch f
+act Cp f = naming.cp f
+act Da f = diversions.da f
+act De f = naming.de f
+act Di f = diversions.di f
+act Ds f = to_read f
+act Dt f = diversions.dt f
+act El f = to_read f
+act Em f = ending.em f
+act Ex f = ending.ex f
+act Fi f = settings.fi f
+act Ft f = settings.ft f
+act Hw f = naming.hw f
+act Hy f = settings.hy f
+act Ie f = to_read f
+act If f = to_read f
+act Ig f = naming.ig f
+act In f = settings.in_ f
+act It f = trapping.it f
+act Lc f = settings.lc f
+act Ll f = settings.ll f
+act Lt f = settings.lt f
+act Mk f = registers.mk f
+act Na f = settings.na f
+act Ne f = spacing.ne f
+act Nf f = settings.nf f
+act Nh f = settings.nh f
+act Nr f = registers.nr f
+act Ns f = settings.ns f
+act Pc f = settings.pc f
+act Pl f = settings.pl f
+act Pn f = numbering.pn f
+act Po f = settings.po f
+act Ps f = to_read f
+act Rm f = naming.rm f
+act Rn f = naming.rn f
+act Rr f = registers.rr f
+act Rs f = settings.rs f
+act Rt f = spacing.rt f
+act Sp f = spacing.sp f
+act Ta f = settings.ta f
+act Tc f = settings.tc f
+act Ti f = settings.ti f
+act Tl f = to_read f
+act Ul f = settings.ul f
+act Vs f = settings.vs f
+act Wh f = trapping.wh f
+
+-- these add to what is stored, and may be refused
+abbrev pub stores : Request → Bool
+stores Af = true
+stores Am = true
+stores Da = true
+stores De = true
+stores Di = true
+stores Hw = true
+stores Ig = true
+stores Mk = true
+stores Nr = true
+stores Wh = true
+stores r = false
+
+-- these only set, or do nothing
+abbrev pub sets : Request → Bool
+sets Ad = true
+sets As = true
+sets Br = true
+sets Ce = true
+sets Ds = true
+sets El = true
+sets Fi = true
+sets Ft = true
+sets Hy = true
+sets Ie = true
+sets If = true
+sets In = true
+sets Lc = true
+sets Ll = true
+sets Lt = true
+sets Na = true
+sets Nf = true
+sets Nh = true
+sets Ns = true
+sets Pc = true
+sets Pl = true
+sets Po = true
+sets Ps = true
+sets Rs = true
+sets Ta = true
+sets Tc = true
+sets Ti = true
+sets Tl = true
+sets Ul = true
+sets Vs = true
+sets r = false

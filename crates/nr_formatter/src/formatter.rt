@@ -1,0 +1,88 @@
+//! The formatter between two moves: everything but the source, the lines on the page and the output.
+ghost use Rattle.std.specs.Prelude.{◌≡◌};
+ghost use Rattle.nr_formatter.specs.Places.{outlet, present_place};
+
+use crate::paper::{Given, Outlet, Paper};
+use crate::tasks::{Resume, Step, Task};
+use nr_fill::line::Line;
+use nr_input::{Event, Reader};
+use nr_settings::Settings;
+use nr_store::Store;
+use nr_units::Name;
+
+/// An input line trap. (CSTR 54, section 7.5)
+#[derive(Clone, Copy, Debug)]
+pub struct InputTrap {
+    /// How many text lines are still to come before it springs, 1 or more.
+    pub lines: u32,
+    pub name: Name,
+}
+
+/// All that a run keeps, but for the source, the lines on the page and the output.
+#[derive(Drop)]
+pub struct Formatter<'a> {
+    /// What of the input is half read.
+    pub reader: Reader,
+    /// Names, texts being built, levels, registers, traps, hyphenation words.
+    pub store: Store<'a, Resume>,
+    /// What was read and is not set yet.
+    pub line: Line<'a>,
+    pub settings: Settings,
+    pub paper: Paper,
+    pub given: Given,
+    /// What was read and is not acted on yet.
+    pub event: Event,
+    /// The macro that is sprung next.
+    pub springs: Option<Name>,
+    /// What the next moves do else.
+    pub task: Task,
+    /// `\p` asked for a break at the end of the next word.
+    pub breaks: bool,
+    pub input_trap: Option<InputTrap>,
+    /// How far the end has come.
+    pub step: Step,
+    /// The macro of `.em`.
+    pub end_macro: Option<Name>,
+}
+
+impl<'a> Formatter<'a> {
+    /// Nothing is read yet. There may be at most so many splices and springs behind one byte of the input.
+    pub fn over(store: Store<'a, Resume>, line: Line<'a>, most: u64) -> Formatter<'a> {
+        Formatter {
+            reader: Reader::new(most),
+            store,
+            line,
+            settings: Settings::new(),
+            paper: Paper::new(),
+            given: Given::new(),
+            event: Event::Nothing,
+            springs: None,
+            task: Task::Read,
+            breaks: false,
+            input_trap: None,
+            step: Step::NotYet,
+            end_macro: None,
+        }
+    }
+
+    /// Where output goes.
+    #[inline]
+    pub fn outlet(&self) -> Outlet
+        ensures { result ≡ outlet self.now }
+    {
+        if self.store.diversion().is_some() {
+            return Outlet::Diversion;
+        }
+        self.paper.outlet(self.settings.pages.page_length.units())
+    }
+
+    /// The present place, in u: in the innermost diversion, and else on the open page.
+    pub(crate) fn here(&self) -> i64
+        ensures { result ≡ present_place self.now }
+    {
+        match self.store.diversion() {
+            Some(diversion) => i64::from(diversion.height),
+            None => i64::from(self.paper.page_place()),
+        }
+    }
+}

@@ -1,0 +1,28 @@
+//! The formatter between two moves, and the moves that touch neither the source nor the page nor the output.
+#![tactic(auto)]
+
+pub mod conditions;
+mod diversion_row;
+pub mod diversions;
+pub mod ending;
+pub mod formatter;
+pub mod given;
+pub mod limits;
+pub mod lines;
+mod motions;
+pub mod moves;
+pub mod names;
+pub mod numbering;
+pub mod pages;
+pub mod paper;
+pub mod passed;
+pub mod registers;
+pub mod request_line;
+pub mod requests;
+pub mod settings;
+pub mod spacing;
+pub mod springing;
+pub mod tasks;
+mod text;
+mod titles;
+pub mod traps;

@@ -1,0 +1,209 @@
+//! The moves that touch neither the source nor the page nor the output.
+ghost use Rattle.std.specs.Prelude.{◌≡◌, OnOk};
+ghost use Rattle.nr_fill.specs.Lined.{afforded};
+ghost use Rattle.nr_formatter.specs.Limits.{IsWithin, judged};
+ghost use Rattle.nr_formatter.specs.Moves.{is_text, text_heard, heard_for, task_requested, font_set, width_given, control, heard_beside, heard, read_in, gone_on, worked};
+ghost use Rattle.nr_formatter.specs.Registers.{splice_checked};
+ghost use Rattle.nr_formatter.specs.Requests.{act};
+
+use crate::formatter::Formatter;
+use crate::passed::Passed;
+use crate::requests::breaks;
+use crate::tasks::{After, Room, Task, Then};
+use itoa::Buffer;
+use nr_fill::line::LineCells;
+use nr_input::{Event, Refusal};
+use nr_settings::width;
+use nr_store::Request;
+
+/// An event of a text line's text or of a title's.
+#[inline]
+fn is_text(event: Event) -> bool
+    ensures { result ≡ is_text event }
+{
+    matches!(
+        event,
+        Event::Byte(_)
+            | Event::Lead
+            | Event::Cell(_)
+            | Event::Plain(_)
+            | Event::Fixed
+            | Event::Zero
+            | Event::Percent
+            | Event::BreakWord
+            | Event::Tab
+            | Event::Leader
+            | Event::Special
+            | Event::Horizontal
+            | Event::Rule
+            | Event::EndLine
+            | Event::EndContinued
+    )
+}
+
+impl<'a> Formatter<'a> {
+    /// What was read is acted on by this.
+    fn begin(&mut self, task: Task)
+        ensures { self.new ≡ heard_for task self.old }
+    {
+        self.event = Event::Nothing;
+        self.task = task;
+    }
+
+    /// The request whose line was read.
+    fn requested(&self) -> Task
+        ensures { result ≡ task_requested self.now }
+    {
+        let request = self.reader.request();
+        if breaks(request) && !self.reader.no_break() {
+            return Task::Break(Then::Act(request));
+        }
+        Task::Act(request)
+    }
+
+    /// The font that was asked for.
+    fn set_font(&mut self)
+        ensures { self.new ≡ font_set self.old }
+    {
+        self.settings.fonts.set(self.reader.asked().as_bytes());
+        self.event = Event::Nothing;
+    }
+
+    /// The text of the width that was asked for is spliced.
+    fn give_width(&mut self) -> Result<(), Refusal>
+        ensures result { result ≡ splice_checked (width_given self.old) }
+        ensures ok { OnOk result (self.new ≡ width_given self.old) }
+    {
+        let units = width(
+            self.reader.argument(),
+            self.reader.long_names(),
+            self.settings.pages.spacing,
+        );
+        let mut digits = Buffer::new();
+        self.splice(digits.format(units).as_bytes())?;
+        self.event = Event::Nothing;
+        Ok(())
+    }
+
+    /// What was read, where it is no text and splices nothing.
+    fn control(&mut self, event: Event)
+        ensures { self.new ≡ control event self.old }
+    {
+        match event {
+            Event::Over => self.begin(Task::Finish),
+            Event::Empty => self.begin(Task::Break(Then::Space)),
+            Event::Leading => self.begin(Task::Break(Then::Leading)),
+            Event::EndInterrupted => self.begin(Task::Flow(After::Interrupted, false)),
+            Event::Diverted => self.begin(Task::Break(Then::Diverted)),
+            Event::DivertedEnd(Some(height)) => self.begin(Task::Line(height)),
+            Event::DivertedEnd(None) => {
+                let height = self.settings.pages.spacing.units();
+                self.begin(Task::Line(height));
+            }
+            Event::Title => self.begin(Task::Room(Room::Title)),
+            Event::TitlePart => self.title_part(),
+            Event::TitleEnd => self.begin(Task::Title),
+            Event::Font => self.set_font(),
+            Event::Judge(question) => self.judge(question),
+            Event::Request => {
+                let task = self.requested();
+                self.begin(task);
+            }
+            _ => self.event = Event::Nothing,
+        }
+    }
+
+    /// What was read of a text line's text, or of a title's.
+    #[inline]
+    fn hear_text(&mut self, event: Event) -> Result<(), LineCells>
+        ensures result { IsWithin self.old → result ≡ afforded (text_heard event self.old).line }
+        ensures ok { OnOk result (self.new ≡ text_heard event self.old) }
+    {
+        if self.reads_title() {
+            return self.title(event);
+        }
+        self.text(event)
+    }
+
+    /// What was read beside text.
+    fn hear_beside(&mut self, event: Event) -> Result<(), Passed>
+        ensures result { IsWithin self.old → result ≡ judged (heard_beside event self.old) }
+        ensures ok { OnOk result (self.new ≡ heard_beside event self.old) }
+    {
+        match event {
+            Event::Given => Passed::of_splice(self.give_register()),
+            Event::Width => Passed::of_splice(self.give_width()),
+            _ => {
+                self.control(event);
+                self.fit_memory();
+                Ok(())
+            }
+        }
+    }
+
+    /// What was read is acted on.
+    #[inline]
+    pub fn hear(&mut self, event: Event) -> Result<(), Passed>
+        ensures result { IsWithin self.old → result ≡ judged (heard event self.old) }
+        ensures ok { OnOk result (self.new ≡ heard event self.old) }
+    {
+        if is_text(event) {
+            return Passed::of_line(self.hear_text(event));
+        }
+        self.hear_beside(event)
+    }
+
+    /// There is room for what is read then.
+    pub fn read_in_room(&mut self, room: Room)
+        ensures { self.new ≡ read_in room self.old }
+    {
+        match room {
+            Room::Title => self.reader.begin_title(),
+            Room::Line => self.reader.begin_diverted_line(),
+        }
+        self.task = Task::Read;
+    }
+
+    /// What is under way goes on, where it adds nothing to what has a limit.
+    fn go_on(&mut self, task: Task)
+        ensures { self.new ≡ gone_on task self.old }
+    {
+        match task {
+            Task::Count => self.count(),
+            Task::InputTrap => self.count_input(),
+            Task::Turn(given) => self.turn(given),
+            Task::Finish => self.finish(),
+            _ => {}
+        }
+    }
+
+    /// A request takes effect.
+    fn take_effect(&mut self, request: Request) -> Result<(), Passed>
+        ensures result { IsWithin self.old → result ≡ judged (act request self.old) }
+        ensures ok { OnOk result (self.new ≡ act request self.old) }
+    {
+        match self.act(request) {
+            Ok(()) => {
+                self.fit_memory();
+                Ok(())
+            }
+            Err(refused) => Err(Passed::from(refused)),
+        }
+    }
+
+    /// What is under way goes on, where it needs neither the source nor the page nor the output.
+    pub fn work(&mut self, task: Task) -> Result<(), Passed>
+        ensures result { IsWithin self.old → result ≡ judged (worked task self.old) }
+        ensures ok { OnOk result (self.new ≡ worked task self.old) }
+    {
+        match task {
+            Task::Dash => Passed::of_line(self.finish_dash()),
+            Task::Act(request) => self.take_effect(request),
+            _ => {
+                self.go_on(task);
+                self.fit_memory();
+                Ok(())
+            }
+        }
+    }
+}

@@ -1,0 +1,53 @@
+//! Sprung macros: their text comes before the rest of the input, and behind it what was under way is gone on with.
+//! (CSTR 54, section 7.5)
+ghost use Rattle.std.specs.Prelude.{◌≡◌, OnOk};
+ghost use Rattle.nr_formatter.specs.Limits.{IsWithin};
+ghost use Rattle.nr_formatter.specs.Registers.{splice_checked};
+ghost use Rattle.nr_formatter.specs.Springing.{interrupted, sprung, resumed};
+
+use crate::formatter::Formatter;
+use crate::request_line::RequestLine;
+use crate::tasks::{Resume, Task};
+use nr_input::{Event, Refusal};
+use nr_units::Name;
+
+impl<'a> Formatter<'a> {
+    /// What a sprung macro interrupts now.
+    fn interrupted(&self) -> Resume
+        ensures { result ≡ interrupted self.now }
+    {
+        Resume {
+            task: self.task,
+            standing: self.reader.standing(),
+            line: RequestLine::of(self.reader.line()),
+        }
+    }
+
+    /// The macro of this name springs. A name without text springs nothing.
+    pub fn spring(&mut self, name: Name) -> Result<(), Refusal>
+        ensures result { IsWithin self.old → result ≡ splice_checked (sprung name self.old) }
+        ensures ok { OnOk result (self.new ≡ sprung name self.old) }
+    {
+        let resume = self.interrupted();
+        match self.reader.spring(&mut self.store, name, resume) {
+            Err(refusal) => Err(refusal),
+            Ok(sprung) => {
+                self.springs = None;
+                if sprung {
+                    self.task = Task::Read;
+                }
+                Ok(())
+            }
+        }
+    }
+
+    /// What was under way is gone on with, behind the text of a sprung macro.
+    pub fn resume(&mut self, resume: Resume)
+        ensures { self.new ≡ resumed resume self.old }
+    {
+        self.reader.stand(resume.standing);
+        self.reader.set_line(resume.line.as_slice());
+        self.event = Event::Nothing;
+        self.task = resume.task;
+    }
+}
