@@ -22,3 +22,4 @@ pub mod Springing
 pub mod Text
 pub mod Titles
 pub mod Trapping
+pub mod Weights
