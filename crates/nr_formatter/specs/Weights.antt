@@ -1,5 +1,5 @@
 -- How many moves may still come before the next byte of the source is taken.
-use Rattle.std.specs.Prelude.{◌≡◌, ℕ, ◌+◌, ◌-◌, ◌*◌, ◌<◌, Bool, true, false, List, length, Option, None, Some, sum_by}
+use Rattle.std.specs.Prelude.{◌≡◌, ℕ, ◌+◌, ◌-◌, ◌*◌, ◌≤◌, List, length, Option, None, Some, sum_by}
 use Rattle.nr_fill.specs.Pieces.{Collected, Word}
 use Rattle.nr_fill.specs.declared.stops.Pending.{Pending}
 use Rattle.nr_fill.specs.declared.stops.Pending.TheVariants as pendings
@@ -147,8 +147,8 @@ owed f = owed_by_event f.event + owed_by_task f.task f.reader.half
 pub weight : Reached → Formatter → ℕ
 weight p f = 256 * (weight_before_byte f.store p f.reader + 32 * blanks_owed f.reader.half + owed f) + steps_left f
 
--- a move was made that took no byte
-pub record Falls (f g : Formatter) : Type 0 where
+-- What may still come fell by so many moves, but for so many that it rose by; what may come behind a byte stays.
+pub record Falls (down up : ℕ) (f g : Formatter) : Type 0 where
   pub limit : g.store.limit ≡ f.store.limit
   pub most : g.reader.most ≡ f.reader.most
-  pub falls : (p : Reached) → weight p g < weight p f
+  pub falls : (p : Reached) → weight p g + down ≤ weight p f + up
