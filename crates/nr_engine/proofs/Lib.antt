@@ -1,7 +1,1 @@
-mod Collecting
-mod LongestFront
-mod PiecesOf
-mod TakingALine
-pub mod Rows
-pub mod Standing
-pub mod Working
+mod Standing
