@@ -1,7 +1,6 @@
 -- What may still come falls where a word ends, where a line or a title goes out, and where nothing more goes out.
-use Rattle.std.proofs.Common.{◌≡◌, ◌≤◌, ◌<◌, ℕ, ◌+◌, Bool, true, false, length, max, if◌then◌else◌, Option, None, Some, is_none, refl, ap, sym, ◌∙◌, arith}
+use Rattle.std.proofs.Common.{◌≡◌, ◌≤◌, ◌<◌, ◌+◌, Bool, false, length, is_none, refl, ap, arith}
 use Rattle.std.proofs.lemmas.Bool.{cond_both}
-use Rattle.nr_fill.specs.Cut.{most_that_fit}
 use Rattle.nr_fill.specs.Pieces.{Collected}
 use Rattle.nr_reading.specs.declared.event.Event.TheVariants as events
 use Rattle.nr_reading.specs.declared.half.Half.{Half}
@@ -17,7 +16,7 @@ use Rattle.nr_formatter.specs.declared.tasks.Then.TheVariants as thens
 use Rattle.nr_formatter.specs.Access.{collected, margins}
 use Rattle.nr_formatter.specs.Lines.{reads_a_field, word_ended, break_word_end, pieces_going, behind_line, task_after, flow_done, task_of, step_behind, break_done}
 use Rattle.nr_formatter.specs.Titles.{title_set}
-use Rattle.nr_formatter.specs.Weights.{weight_of_line, weight_of_agenda, weight_of_task, weight_of_break, weight_of_step, owed_by_then, owed_by_task, owed_by_event, Falls}
+use Rattle.nr_formatter.specs.Weights.{weight_of_agenda, weight_of_task, weight_of_break, weight_of_step, owed_by_then, owed_by_task, Falls}
 use Rattle.nr_formatter.proofs.WorkFalls.{falls-work}
 use Rattle.nr_formatter.proofs.LineWeights.{weight-behind}
 use Rattle.nr_formatter.proofs.TextFalls.{falls-field_ended}

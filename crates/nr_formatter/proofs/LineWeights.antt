@@ -1,5 +1,5 @@
 -- How much the line weighs with what is read, and behind what goes out.
-use Rattle.std.proofs.Common.{◌≡◌, ◌≤◌, ◌<◌, ℕ, ◌+◌, ◌-◌, ◌*◌, ◌==◌, nat_lt, Bool, true, false, if◌then◌else◌, List, [], ◌∷◌, ◌++◌, length, drop, Option, None, Some, is_none, refl, ap, arith, length-append, length-drop}
+use Rattle.std.proofs.Common.{◌≡◌, ◌≤◌, ◌<◌, ℕ, ◌+◌, ◌-◌, ◌==◌, nat_lt, Bool, true, if◌then◌else◌, List, [], ◌∷◌, length, Option, None, Some, refl, ap, arith, length-append, length-drop}
 use Rattle.std.proofs.lemmas.Bool.{cond_both}
 use Rattle.std.specs.Option.{option_map}
 use Rattle.nr_units.specs.declared.cell.Cell.{Cell}
@@ -11,7 +11,7 @@ use Rattle.nr_fill.specs.declared.piece.Behind.TheVariants.{Letter, Hyphen, Dash
 use Rattle.nr_fill.specs.declared.piece.Point.TheVariants as points
 use Rattle.nr_fill.specs.declared.stops.Pending.{Pending}
 use Rattle.nr_fill.specs.declared.stops.Pending.TheVariants.{Nothing, AtPoint, ForStop}
-use Rattle.nr_fill.specs.Pieces.{Word, Collected, word_or_new, with_word, in_word, ended_at, ended, pending_behind, pending_soft, with_soft_point, pending_without_point, add_cell_behind, add_cell, add_blank, add_cells, marked, barred_here, joined_at, joined, shortened, without_blanks, reads_field, append, word_length}
+use Rattle.nr_fill.specs.Pieces.{Word, Collected, word_or_new, with_word, ended_at, ended, pending_behind, pending_soft, with_soft_point, pending_without_point, add_cell_behind, add_cell, add_blank, add_cells, marked, barred_here, joined_at, shortened, without_blanks, reads_field, append, word_length}
 use Rattle.nr_fill.specs.Tabs.{to_stop, tabbed, first_beyond, column, is_aligned, filled_by, with_field_filled}
 use Rattle.nr_fill.specs.Setting.{behind}
 use Rattle.nr_formatter.specs.Weights.{weight_of_pending, weight_of_word, weight_of_line}

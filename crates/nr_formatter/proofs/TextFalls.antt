@@ -1,5 +1,5 @@
 -- What may still come falls with each move that hears text, in a text line and in a title.
-use Rattle.std.proofs.Common.{◌≡◌, ◌≤◌, ◌==◌, ℕ, ◌+◌, Bool, true, false, not, List, [], ◌∷◌, replicate, if◌then◌else◌, Option, None, Some, unwrap_or, refl, ap, ◌∙◌, arith}
+use Rattle.std.proofs.Common.{◌≡◌, ◌≤◌, ◌==◌, ℕ, ◌+◌, true, not, List, [], ◌∷◌, replicate, Option, None, Some, unwrap_or, refl, ap, ◌∙◌, arith}
 use Rattle.std.proofs.lemmas.Bool.{cond_both}
 use Rattle.nr_units.specs.declared.cell.Cell.{Cell}
 use Rattle.nr_fill.specs.declared.piece.Behind.{Behind}
@@ -19,8 +19,8 @@ use Rattle.nr_formatter.specs.Access.{collected, is_filling, asked, cell, margin
 use Rattle.nr_formatter.specs.Lines.{reads_a_field, field_ended}
 use Rattle.nr_formatter.specs.Motions.{motion_cells, rule_cells}
 use Rattle.nr_formatter.specs.Moves.{is_text}
-use Rattle.nr_formatter.specs.Text.{put, letter, behind_of, blank_cell, has_word, gap_blank, blank, tab, text_byte, dash, dash_end, finish_dash, special_at, special, cells, mark, percent, break_word, blanks_dropped, word_line_ended, trimmed_end, line_end, text_sign, text}
-use Rattle.nr_formatter.specs.Titles.{reads_title, with_title_cells, titled, page_number, title_byte, printed, title_special, title_dash_end, title}
+use Rattle.nr_formatter.specs.Text.{put, behind_of, blank_cell, has_word, gap_blank, blank, tab, text_byte, dash, dash_end, special_at, special, cells, mark, percent, break_word, blanks_dropped, word_line_ended, trimmed_end, line_end, text}
+use Rattle.nr_formatter.specs.Titles.{with_title_cells, titled, title_byte, printed, title_special, title_dash_end, title}
 use Rattle.nr_formatter.specs.Weights.{weight_of_line, weight_of_agenda, weight_of_task, owed_by_task, Falls}
 use Rattle.nr_formatter.proofs.WorkFalls.{falls-work, falls-behind, falls-heard_for, falls-heard}
 use Rattle.nr_formatter.proofs.LineWeights.{weight-add_cell, weight-add_blank, weight-add_cells, weight-marked, weight-tabbed, weight-barred_here, weight-without_blanks, weight-with_field_filled}

@@ -1,14 +1,14 @@
 -- How much the line weighs where its word has ended: the word's pieces, and at most 31 more.
-use Rattle.std.proofs.Common.{◌≡◌, ◌≤◌, ℕ, ◌+◌, ◌*◌, ◌-◌, Bool, true, false, not, ◌&&◌, if◌then◌else◌, List, [], ◌∷◌, ◌++◌, length, take, Option, None, Some, is_none, refl, ap, sym, subst, ◌∙◌, arith, length-append, length-take}
+use Rattle.std.proofs.Common.{◌≡◌, ◌≤◌, ℕ, ◌+◌, ◌*◌, ◌-◌, false, not, ◌&&◌, List, [], ◌∷◌, ◌++◌, length, Option, None, Some, is_none, refl, ap, subst, arith, length-append, length-take}
 use Rattle.std.proofs.lemmas.Bool.{cond_both}
 use Rattle.std.specs.Option.{option_map}
 use Rattle.nr_fill.specs.declared.stops.Pending.{Pending}
 use Rattle.nr_fill.specs.declared.stops.Pending.TheVariants.{Nothing, AtPoint, ForStop}
-use Rattle.nr_fill.specs.Pieces.{Piece, Word, Collected, cells_in, cells_of_word, join_before, is_inside, point_at, hyphenated, joined_at, joined, word_pieces, end_word, may_hyphenate}
+use Rattle.nr_fill.specs.Pieces.{Piece, Word, Collected, cells_in, is_inside, point_at, hyphenated, joined_at, word_pieces, end_word, may_hyphenate}
 use Rattle.nr_formatter.specs.Lines.{given_points, pointed, with_points}
 use Rattle.nr_formatter.specs.declared.formatter.Formatter.{Formatter}
 use Rattle.nr_formatter.specs.Access.{collected, is_filling}
-use Rattle.nr_formatter.specs.Weights.{weight_of_pending, weight_of_word, weight_of_line}
+use Rattle.nr_formatter.specs.Weights.{weight_of_word, weight_of_line}
 
 -- how many pieces a word has
 pub pieces_of : Option Word → ℕ

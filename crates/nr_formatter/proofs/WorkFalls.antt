@@ -1,7 +1,6 @@
 -- What may still come falls by what the work that is left weighs less, where nothing else that is weighed changed.
 use Rattle.std.proofs.Common.{◌≡◌, ◌≤◌, ℕ, ◌+◌, ◌*◌, true, List, Option, Result, Ok, Err, refl, ap, sym, subst, ◌∙◌, arith}
 use Rattle.std.specs.Prelude.{OnOk}
-use Rattle.nr_units.specs.declared.cell.Cell.{Cell}
 use Rattle.nr_store.specs.Stored.{Stored}
 use Rattle.nr_reading.specs.declared.event.Event.{Event}
 use Rattle.nr_reading.specs.declared.event.Event.TheVariants as events
