@@ -7,8 +7,13 @@ pub mod GivenNames
 pub mod Hearing
 pub mod HeldRows
 pub mod Judging
+pub mod LineFalls
+pub mod LineWeights
 pub mod Nearest
 pub mod NextSprings
 pub mod Splices
+pub mod TextFalls
 pub mod TextKeeps
 pub mod TitleCells
+pub mod WordEnds
+pub mod WorkFalls

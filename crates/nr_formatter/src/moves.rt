@@ -1,10 +1,11 @@
 //! The moves that touch neither the source nor the page nor the output.
-ghost use Rattle.std.specs.Prelude.{◌≡◌, OnOk};
+ghost use Rattle.std.specs.Prelude.{◌≡◌, true, OnOk};
 ghost use Rattle.nr_fill.specs.Lined.{afforded};
 ghost use Rattle.nr_formatter.specs.Limits.{IsWithin, judged};
 ghost use Rattle.nr_formatter.specs.Moves.{is_text, text_heard, heard_for, task_requested, font_set, width_given, control, heard_beside, heard, read_in, gone_on, worked};
 ghost use Rattle.nr_formatter.specs.Registers.{splice_checked};
 ghost use Rattle.nr_formatter.specs.Requests.{act};
+ghost use Rattle.nr_formatter.specs.Weights.{Falls};
 
 use crate::formatter::Formatter;
 use crate::passed::Passed;
@@ -118,6 +119,7 @@ impl<'a> Formatter<'a> {
     fn hear_text(&mut self, event: Event) -> Result<(), LineCells>
         ensures result { IsWithin self.old → result ≡ afforded (text_heard event self.old).line }
         ensures ok { OnOk result (self.new ≡ text_heard event self.old) }
+        ensures falls { self.old.event ≡ event → is_text event ≡ true → OnOk result (Falls 1 0 self.old self.new) }
     {
         if self.reads_title() {
             return self.title(event);
