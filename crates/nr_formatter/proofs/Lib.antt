@@ -2,13 +2,16 @@ pub mod Below
 pub mod Calm
 pub mod Cells
 pub mod DivertedRows
+pub mod Falling
 pub mod Filled
 pub mod GivenNames
 pub mod Hearing
 pub mod HeldRows
+pub mod InputFalls
 pub mod Judging
 pub mod Nearest
 pub mod NextSprings
+pub mod PageFalls
 pub mod Splices
 pub mod TextKeeps
 pub mod TitleCells
