@@ -6,6 +6,7 @@ pub mod Falling
 pub mod Filled
 pub mod GivenNames
 pub mod Hearing
+pub mod HearingFalls
 pub mod HeldRows
 pub mod InputFalls
 pub mod Judging
