@@ -13,6 +13,8 @@ pub mod Judging
 pub mod Nearest
 pub mod NextSprings
 pub mod PageFalls
+pub mod RequestFalls
 pub mod Splices
 pub mod TextKeeps
 pub mod TitleCells
+pub mod Views
