@@ -9,8 +9,6 @@ use Rattle.nr_store.specs.declared.request.Request.{Request}
 use Rattle.nr_store.specs.declared.request.Request.TheVariants as requests
 use Rattle.nr_reading.specs.declared.event.Event.{Event}
 use Rattle.nr_reading.specs.declared.event.Event.TheVariants as events
-use Rattle.nr_reading.specs.declared.mode.Mode.{Mode}
-use Rattle.nr_reading.specs.declared.mode.Mode.TheVariants as modes
 use Rattle.nr_input.specs.Coming.{emptied}
 use Rattle.nr_input.specs.Moving.{Situation, Move, situation, move as input_move}
 use Rattle.nr_input.specs.declared.told.Told.{Told}
@@ -218,19 +216,10 @@ work (tasks.Eject e) s = eject e s
 work tasks.Halted s = s
 work t s = plainly (worked t) s
 
--- a cell of a diverted line that is read again goes into its row
-abbrev pub is_diverted : Mode → Bool
-is_diverted modes.Diverted = true
-is_diverted m = false
-
--- what was read is acted on
-abbrev pub hear_cell : Bool → Cell → State → State
-hear_cell true x s = cell_to (outlet s.formatter) x s
-hear_cell false x s = plainly (heard (events.Cell x)) s
-
+-- what was read is acted on; a cell of a diverted line that is read again goes into its row
 abbrev pub hear : Event → State → State
 hear events.Nothing s = work s.formatter.task s
-hear (events.Cell x) s = hear_cell (is_diverted s.formatter.reader.half.reading.mode) x s
+hear (events.DivertedCell x) s = cell_to (outlet s.formatter) x s
 hear e s = plainly (heard e) s
 
 -- the macro that is to be sprung springs

@@ -40,7 +40,7 @@ impl<'a> Engine<'a> {
 
     /// The cell goes into the row and into the innermost diversion.
     fn divert_cell(&mut self, cell: Cell) -> Result<(), Outcome>
-        requires { self.old.formatter.event ≡ events.Cell cell }
+        requires { self.old.formatter.event ≡ events.DivertedCell cell }
         ensures worked { WorksQuietly (cell_to outlets.Diversion cell) (shape self.old) (shape self.new) result }
         ensures reads { stops_reading result ≡ false }
         ensures writes { stops_writing result ≡ false }
@@ -60,7 +60,7 @@ impl<'a> Engine<'a> {
 
     /// The cell goes into the row.
     fn read_cell(&mut self, cell: Cell)
-        requires { self.old.formatter.event ≡ events.Cell cell }
+        requires { self.old.formatter.event ≡ events.DivertedCell cell }
         ensures worked { WorksQuietly (cell_to outlets.Room cell) (shape self.old) (shape self.new) (Ok tt) }
         ensures lightens { Lightens (shape self.old) (shape self.new) (Ok tt) }
     {
@@ -72,7 +72,7 @@ impl<'a> Engine<'a> {
 
     /// A cell of a diverted line that is read again goes into its row, and where that is diverted also there.
     pub(crate) fn put_diverted_cell(&mut self, cell: Cell) -> Result<(), Outcome>
-        requires { self.old.formatter.event ≡ events.Cell cell }
+        requires { self.old.formatter.event ≡ events.DivertedCell cell }
         ensures worked { WorksQuietly (λ s. cell_to (outlet s.formatter) cell s) (shape self.old) (shape self.new) result }
         ensures reads { stops_reading result ≡ false }
         ensures writes { stops_writing result ≡ false }

@@ -25,7 +25,6 @@ use nr_formatter::tasks::{Resume, Task};
 use nr_input::{Event, Place, Refusal, Told};
 use nr_page::Select;
 use nr_page::page::Page;
-use nr_reading::Mode;
 use nr_store::Request;
 use nr_units::Name;
 use nr_units::sink::Sink;
@@ -196,10 +195,8 @@ impl<'a> Engine<'a> {
         ensures writes { stops_writing result ≡ false }
         ensures lightens { Lightens (shape self.old) (shape self.new) result }
     {
-        if let Event::Cell(cell) = event {
-            if matches!(self.formatter.reader.half.reading.mode, Mode::Diverted) {
-                return self.put_diverted_cell(cell);
-            }
+        if let Event::DivertedCell(cell) = event {
+            return self.put_diverted_cell(cell);
         }
         let answer = self.formatter.hear(event);
         self.answer(answer)
