@@ -9,7 +9,9 @@ use Rattle.nr_fill.specs.Setting.{behind, cut_of, line_row, set_width}
 use Rattle.nr_settings.specs.declared.filling.Align.TheVariants as aligns
 use Rattle.nr_settings.specs.Filling.{align_of, behind_centred_line}
 use Rattle.nr_settings.specs.Fonts.{behind_underlined_line}
-use Rattle.nr_settings.specs.Indents.{behind_line_begun}
+use Rattle.nr_settings.specs.Indents.{behind_line_begun, margins_of}
+use Rattle.nr_settings.specs.declared.indents.Indents.{Indents}
+use Rattle.nr_settings.specs.declared.settings.Settings.{Settings}
 use Rattle.nr_tables.specs.Words.{bytes_of, points_of}
 use Rattle.nr_reading.specs.Setting.{not_continued}
 use Rattle.nr_input.specs.Acting.{on_half}
@@ -25,7 +27,7 @@ use Rattle.nr_formatter.specs.declared.tasks.Task.TheVariants as tasks
 use Rattle.nr_formatter.specs.declared.lines.Going.{Going}
 use Rattle.nr_formatter.specs.declared.formatter.Formatter.{Formatter}
 use Rattle.nr_formatter.specs.declared.formatter.InputTrap.{InputTrap}
-use Rattle.nr_formatter.specs.Access.{collected, with_collected, is_filling, margins, spacing}
+use Rattle.nr_formatter.specs.Access.{collected, with_collected, is_filling, spacing}
 
 -- ---- a word's end
 
@@ -104,30 +106,36 @@ abbrev pub pieces_going : Going → Collected → ℕ
 pieces_going going c = if going.whole then length c.pieces else cut_of c
 
 -- the cells of the line, so far from the row's beginning
+abbrev pub row_of : Going → ℕ → Collected → List Cell
+row_of going offset c = line_row (record { align = going.align; offset = offset }) c (pieces_going going c)
+
 abbrev pub row_going : Going → ℕ → Formatter → List Cell
-row_going going offset f = line_row (record { align = going.align; offset = offset }) (collected f) (pieces_going going (collected f))
+row_going going offset f = row_of going offset (collected f)
 
 -- how wide its text is, in cells
-abbrev pub width_going : Going → Formatter → ℕ
-width_going going f = set_width (record { align = going.align; offset = 0 }) (collected f) (pieces_going going (collected f))
+abbrev pub width_going : Going → Collected → ℕ
+width_going going c = set_width (record { align = going.align; offset = 0 }) c (pieces_going going c)
 
 -- no number is greater
 abbrev pub greatest : ℕ
 greatest = 2147483647
 
 -- what is left; a line that begins with it takes its margins now
+abbrev pub rest_of : Going → Indents → Collected → Collected
+rest_of going s c = behind (margins_of s) going.align c (pieces_going going c)
+
 abbrev pub rest_behind : Going → Formatter → Collected
-rest_behind going f = behind (margins f) going.align (collected f) (pieces_going going (collected f))
+rest_behind going f = rest_of going f.settings.indents (collected f)
 
 -- a line went out: where something is left a `.ti` is used up
+abbrev pub settings_behind : Going → Collected → Settings → Settings
+settings_behind going c s = record s {
+  indents = if is_nil (rest_of going s.indents c).pieces then s.indents else behind_line_begun s.indents;
+  text_width = min (24 * width_going going c) greatest;
+}
+
 abbrev pub behind_line : Going → Formatter → Formatter
-behind_line going f =
-    record (with_collected (rest_behind going f) f) {
-      settings = record f.settings {
-        indents = if is_nil (rest_behind going f).pieces then f.settings.indents else behind_line_begun f.settings.indents;
-        text_width = min (24 * width_going going f) greatest;
-      };
-    }
+behind_line going f = record (with_collected (rest_behind going f) f) { settings = settings_behind going (collected f) f.settings }
 
 -- ---- where nothing more goes out
 

@@ -1,11 +1,14 @@
 //! Diversions. (CSTR 54, section 7.4.)
-ghost use Rattle.std.specs.Prelude.{◌≡◌, ◌≤◌, replicate, OnOk};
-ghost use Rattle.nr_formatter.specs.Diversions.{trap_between, trap_reached, with_diverted, with_diverted_row, with_diverted_space, with_diverted_cell, with_diverted_end, end_diversion, di, da, dt};
+ghost use Rattle.std.specs.Prelude.{◌≡◌, ◌<◌, ◌≤◌, length, replicate, OnOk};
+ghost use Rattle.nr_formatter.specs.Access.{collected};
+ghost use Rattle.nr_formatter.specs.Diversions.{trap_between, trap_reached, with_diverted, with_diverted_row, divert_line, divert_title, with_diverted_space, with_diverted_cell, with_diverted_end, end_diversion, di, da, dt};
 ghost use Rattle.nr_formatter.specs.Limits.{IsWithin};
 ghost use Rattle.nr_formatter.specs.Places.{diversion_room, room_above};
 ghost use Rattle.nr_store.specs.Stored.{afforded, added, blank_cell, charge_of};
 
+use crate::diversion_row::{divert_going, divert_titled};
 use crate::formatter::Formatter;
+use crate::lines::Going;
 use crate::paper::LOWEST;
 use crate::tasks::{Resume, Task};
 use nr_settings as settings;
@@ -100,6 +103,42 @@ impl<'a> Formatter<'a> {
         self.settings.pages.no_space = false;
         let height = self.settings.pages.spacing.units();
         self.divert(0, cells, height)
+    }
+
+    /// The line that goes out next goes into the diversion, as high as lines are and without the page offset, and
+    /// ends no-space mode.
+    pub fn divert_line(&mut self, going: Going) -> Result<(), StoredBytes>
+        requires pieces { 0 < length (collected self.old).pieces }
+        ensures result { result ≡ afforded (divert_line going self.old).store tt }
+        ensures ok { OnOk result (self.new ≡ divert_line going self.old) }
+    {
+        let height = self.settings.pages.spacing.units();
+        let springs = trap_reached(height, self.store.diversion());
+        divert_going(
+            &mut self.store,
+            &mut self.line,
+            &mut self.settings,
+            going,
+            height,
+        )?;
+        self.settings.pages.no_space = false;
+        self.springs = springs;
+        Ok(())
+    }
+
+    /// The title that was read goes into the diversion, as high as lines are, and ends no-space mode.
+    pub fn divert_title(&mut self) -> Result<(), StoredBytes>
+        ensures result { result ≡ afforded (divert_title self.old).store tt }
+        ensures ok { OnOk result (self.new ≡ divert_title self.old) }
+    {
+        let height = self.settings.pages.spacing.units();
+        let length = self.settings.indents.title_length.value.cells();
+        let springs = trap_reached(height, self.store.diversion());
+        divert_titled(&mut self.store, &mut self.line, length, height)?;
+        self.settings.pages.no_space = false;
+        self.springs = springs;
+        self.task = Task::Read;
+        Ok(())
     }
 
     /// Space of so many u goes into the diversion, to its trap at most.

@@ -3,7 +3,7 @@ ghost use Rattle.std.specs.Prelude.{◌≡◌, ◌<◌, Bool, false, is_none, On
 ghost use Rattle.nr_fill.specs.Lined.{afforded};
 ghost use Rattle.nr_reading.specs.declared.event.Event.TheVariants as events;
 ghost use Rattle.nr_formatter.specs.Access.{collected, with_collected};
-ghost use Rattle.nr_formatter.specs.Lines.{with_points, most_points, pointed, breaks_behind, word_ended, break_word_end, goes_out, whole_line, front_line, flow_line, break_line, row_going, behind_line, task_after, flow_done, task_of, step_behind, break_done, count, count_input};
+ghost use Rattle.nr_formatter.specs.Lines.{with_points, most_points, pointed, breaks_behind, word_ended, break_word_end, goes_out, whole_line, front_line, flow_line, break_line, row_of, row_going, rest_of, settings_behind, behind_line, task_after, flow_done, task_of, step_behind, break_done, count, count_input};
 ghost use Rattle.nr_formatter.specs.Weights.{Falls};
 
 use crate::formatter::{Formatter, InputTrap};
@@ -11,6 +11,7 @@ use crate::tasks::{After, Room, Step, Task, Then};
 use nr_fill::cells::CellSink;
 use nr_fill::line::{Line, LineCells};
 use nr_fill::setting::{Align, Setting};
+use nr_settings::Settings;
 
 /// The greatest number.
 const GREATEST: u64 = 2_147_483_647;
@@ -40,6 +41,34 @@ fn cut_at(line: &mut Line<'_>, places: &[u8])
     for place in places {
         line.hyphenate(usize::from(*place));
     }
+}
+
+/// Sets the line that goes out next in a row behind what stands there, so many cells on, and takes it away.
+pub(crate) fn set_going<S: CellSink>(
+    line: &mut Line<'_>,
+    settings: &mut Settings,
+    going: Going,
+    offset: u32,
+    out: &mut S,
+)
+    requires { 0 < length line.old.collected.pieces }
+    ensures out { S.Adds out.old (row_of going offset line.old.collected) out.new }
+    ensures line { line.new ≡ record line.old { collected = rest_of going settings.old.indents line.old.collected } }
+    ensures settings { settings.new ≡ settings_behind going line.old.collected settings.old }
+{
+    let setting = Setting {
+        align: going.align,
+        offset,
+    };
+    let width = if going.whole {
+        line.take_all(setting, out)
+    } else {
+        line.take_line(settings.indents.margins(), setting, out)
+    };
+    if line.has_pieces() {
+        let _ = settings.indents.take_margins();
+    }
+    settings.text_width = (24 * width as u64).min(GREATEST) as u32;
 }
 
 impl After {
@@ -183,20 +212,7 @@ impl<'a> Formatter<'a> {
         ensures rest { self.new ≡ behind_line going self.old }
         ensures falls { Falls 5 0 self.old self.new }
     {
-        let setting = Setting {
-            align: going.align,
-            offset,
-        };
-        let width = if going.whole {
-            self.line.take_all(setting, out)
-        } else {
-            self.line
-                .take_line(self.settings.indents.margins(), setting, out)
-        };
-        if self.line.has_pieces() {
-            let _ = self.settings.indents.take_margins();
-        }
-        self.settings.text_width = (24 * width as u64).min(GREATEST) as u32;
+        set_going(&mut self.line, &mut self.settings, going, offset, out);
     }
 
     /// Nothing more goes out where a word or a text line ended.
