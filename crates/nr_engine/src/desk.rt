@@ -21,8 +21,7 @@ use std::alloc::{AllocError, Global};
 use std::marker::Model;
 
 /// The lengths that the limits ask for.
-pub fn sizes(limits: Limits) -> Sizes
-{
+pub fn sizes(limits: Limits) -> Sizes {
     let store = Room::of(limits.stored() as u32, limits.depth() as u32);
     let line = Line::room(limits.cells());
     let page = room(limits.cells());
@@ -87,8 +86,7 @@ pub struct Work<'a> {
 
 impl Desk {
     /// Takes all memory that runs under these limits need: `AllocError` where there is not so much.
-    pub fn new(alloc: Global, limits: Limits) -> Result<Desk, AllocError>
-    {
+    pub fn new(alloc: Global, limits: Limits) -> Result<Desk, AllocError> {
         let sizes = sizes(limits);
         Ok(Desk {
             limits,
@@ -113,8 +111,7 @@ impl Desk {
     }
 
     /// An empty working space under the desk's limits.
-    pub fn lend(&mut self) -> Work<'_>
-    {
+    pub fn lend(&mut self) -> Work<'_> {
         Work { desk: self }
     }
 }

@@ -52,10 +52,7 @@ impl<'a> Engine<'a> {
         ensures only { OnErr result (result ≡ Err outcomes.WriteFault) }
         ensures failures { W.failures output.new ≡ put_counted_if (stops_writing result) (W.failures output.old) }
     {
-        if !self
-            .select
-            .has(i64::from(self.formatter.paper.number))
-        {
+        if !self.select.has(i64::from(self.formatter.paper.number)) {
             return Ok(());
         }
         let rows = self.formatter.settings.pages.page_length.units() / ROW_HEIGHT;
@@ -85,7 +82,11 @@ impl<'a> Engine<'a> {
     }
 
     /// A full page ends, and where none is open one begins.
-    pub(crate) fn turn_page<W: Sink>(&mut self, outlet: Outlet, output: &mut W) -> Result<(), Outcome>
+    pub(crate) fn turn_page<W: Sink>(
+        &mut self,
+        outlet: Outlet,
+        output: &mut W,
+    ) -> Result<(), Outcome>
         requires idle { self.old.formatter.event ≡ events.Nothing }
         requires outlet { outlet ≡ outlet self.old.formatter }
         requires no_room { outlet ≢ outlets.Room }

@@ -21,8 +21,7 @@ const GREATEST: u64 = 2_147_483_647;
 
 impl<'a> Engine<'a> {
     /// Nothing is read yet, and nothing placed.
-    fn over(desk: &'a mut Desk, select: &'a Select) -> Engine<'a>
-    {
+    fn over(desk: &'a mut Desk, select: &'a Select) -> Engine<'a> {
         let limits = desk.limits;
         let memory = Memory {
             elements: &mut desk.elements,
@@ -54,16 +53,14 @@ impl<'a> Engine<'a> {
     }
 
     /// The number of the first page, if a register holds it.
-    fn set_first(&mut self, number: i64)
-    {
+    fn set_first(&mut self, number: i64) {
         if number.unsigned_abs() <= GREATEST {
             self.formatter.paper.number = number as i32;
         }
     }
 
     /// A register of a name of one byte takes this number.
-    fn set_register(&mut self, name: u8, number: i64) -> Result<(), Outcome>
-    {
+    fn set_register(&mut self, name: u8, number: i64) -> Result<(), Outcome> {
         let name = [name];
         match self.formatter.set_register(Name::of(&name), number, None) {
             Ok(()) => Ok(()),
@@ -72,8 +69,7 @@ impl<'a> Engine<'a> {
     }
 
     /// The options take effect, each as a move.
-    fn choose(&mut self, options: &Options, moves: &mut u128) -> Result<(), Outcome>
-    {
+    fn choose(&mut self, options: &Options, moves: &mut u128) -> Result<(), Outcome> {
         self.set_first(options.first);
         *moves = 1;
         for choice in options.registers.as_slice() {
@@ -92,8 +88,7 @@ impl<'a> Engine<'a> {
         input: &mut R,
         output: &mut W,
         moves: &mut u128,
-    ) -> Outcome
-    {
+    ) -> Outcome {
         loop {
             match self.advance(input, output) {
                 Ok(()) => *moves += 1,
@@ -111,8 +106,7 @@ pub fn format<R: Source, W: Sink>(
     input: &mut R,
     output: &mut W,
     moves: &mut u128,
-) -> Outcome
-{
+) -> Outcome {
     let Work { desk } = work;
     let mut engine = Engine::over(desk, &options.select);
     *moves = 0;

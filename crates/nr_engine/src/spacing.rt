@@ -32,7 +32,11 @@ impl<'a> Engine<'a> {
     }
 
     /// Space of so many u is diverted, or finds room and is placed; in no-space mode there is none.
-    pub(crate) fn put_space<W: Sink>(&mut self, distance: u32, output: &mut W) -> Result<(), Outcome>
+    pub(crate) fn put_space<W: Sink>(
+        &mut self,
+        distance: u32,
+        output: &mut W,
+    ) -> Result<(), Outcome>
         requires idle { self.old.formatter.event ≡ events.Nothing }
         requires task { self.old.formatter.task ≡ tasks.Space distance }
         ensures worked { Works (put_space distance) (shape self.old) (shape self.new) (W.held output.old) (W.held output.new) result }
