@@ -18,3 +18,4 @@ pub mod Splices
 pub mod TextKeeps
 pub mod TitleCells
 pub mod Views
+pub mod WordsStored
