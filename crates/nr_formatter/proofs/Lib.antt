@@ -15,6 +15,7 @@ pub mod NextSprings
 pub mod PageFalls
 pub mod RequestFalls
 pub mod Splices
+pub mod TaskFalls
 pub mod TextKeeps
 pub mod TitleCells
 pub mod Views

@@ -106,7 +106,7 @@ falls-view r t f g none is same light owes =
 falls-read : (r : Request) (f g : Formatter) → f.event ≡ events.Nothing → f.task ≡ tasks.Act r → view g ≡ view (to_read f) → Falls 1 0 f g
 falls-read r f g none is same = falls-view r tasks.Read f g none is same (omega arith) (λ h. refl)
 
-falls-if : (b : Bool) (f g h : Formatter) → Falls 1 0 f g → Falls 1 0 f h → Falls 1 0 f (if b then g else h)
+pub falls-if : (b : Bool) (f g h : Formatter) → Falls 1 0 f g → Falls 1 0 f h → Falls 1 0 f (if b then g else h)
 falls-if true f g h first second = first
 falls-if false f g h first second = second
 
