@@ -17,9 +17,11 @@ pub mod NextSprings
 pub mod PageFalls
 pub mod RequestFalls
 pub mod Splices
+pub mod TaskFalls
 pub mod TextFalls
 pub mod TextKeeps
 pub mod TitleCells
 pub mod Views
 pub mod WordEnds
+pub mod WordsStored
 pub mod WorkFalls

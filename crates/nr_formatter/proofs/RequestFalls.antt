@@ -57,7 +57,7 @@ use Rattle.nr_formatter.specs.Spacing as spaces
 use Rattle.nr_formatter.specs.Trapping as traps
 use Rattle.nr_formatter.specs.Weights.{Falls, weight, steps_left, owed, owed_by_event, owed_by_task, weight_of_agenda, weight_of_diversions, weight_of_line, weight_of_step, weight_of_task}
 use Rattle.nr_formatter.proofs.Falling.{KeepsInput, falls-kept, weight_read, weight_of_name-le, weight_of_outlet-le}
-use Rattle.nr_formatter.proofs.Views.{StoreView, View, seen, view, view-stored, view-if, view-task, seen-written, seen-renamed, seen-trapped, begun-weighs, diversion_ended-keeps, diversion_ended-le}
+use Rattle.nr_formatter.proofs.Views.{StoreView, View, seen, view, view-stored, view-if, view-task, seen-written, seen-renamed, seen-trapped, seen-with_words, begun-weighs, diversion_ended-keeps, diversion_ended-le}
 
 -- ---- by what stays
 
@@ -106,7 +106,7 @@ falls-view r t f g none is same light owes =
 falls-read : (r : Request) (f g : Formatter) → f.event ≡ events.Nothing → f.task ≡ tasks.Act r → view g ≡ view (to_read f) → Falls 1 0 f g
 falls-read r f g none is same = falls-view r tasks.Read f g none is same (omega arith) (λ h. refl)
 
-falls-if : (b : Bool) (f g h : Formatter) → Falls 1 0 f g → Falls 1 0 f h → Falls 1 0 f (if b then g else h)
+pub falls-if : (b : Bool) (f g h : Formatter) → Falls 1 0 f g → Falls 1 0 f h → Falls 1 0 f (if b then g else h)
 falls-if true f g h first second = first
 falls-if false f g h first second = second
 
@@ -318,7 +318,8 @@ falls-act requests.Dt f none acts =
     let t = trap_lines.dt (line f) (long f) (spacing f) (present_place f) in
     falls-read requests.Dt f _ none acts (view-task tasks.Read f (diversions.with_diversion_trap t f) (view-with_diversion_trap t f))
 falls-act requests.Ex f none acts = falls-ex f none acts
-falls-act requests.Hw f none acts = ?
+falls-act requests.Hw f none acts =
+    falls-read requests.Hw f _ none acts (view-task tasks.Read f (record f { store = naming.with_words (length (line f)) (line f) f.store }) (view-stored (naming.with_words (length (line f)) (line f) f.store) f (seen-with_words (length (line f)) (line f) f.store)))
 falls-act requests.Ig f none acts = falls-with_lines requests.Ig definitions.Ig [] (naming.first_name f) f none acts
 falls-act requests.Mk f none acts = falls-read requests.Mk f _ none acts (view-place_marked (name_in (long f) (line f)) (to_read f))
 falls-act requests.Ne f none acts =

@@ -1,20 +1,23 @@
 -- What a request leaves of what weighs: all but the page and the macro that springs next.
-use Rattle.std.specs.Prelude.{sum_by}
+use Rattle.std.specs.Prelude.{sum_by, nat_lt, ◌==◌, length}
 use Rattle.std.proofs.lemmas.List.Sums.{sum_by-cons}
-use Rattle.std.proofs.Common.{◌≡◌, ℕ, ◌+◌, ◌≤◌, List, [], ◌∷◌, Bool, true, false, if◌then◌else◌, Option, Some, None, ℤ, pos, negsuc, refl, ap, ◌∙◌, arith}
+use Rattle.std.proofs.Common.{◌≡◌, ℕ, zero, suc, ◌+◌, ◌≤◌, List, [], ◌∷◌, Bool, true, false, if◌then◌else◌, Option, Some, None, ℤ, pos, negsuc, refl, ap, ◌∙◌, arith}
 use Rattle.std.specs.Option.{option_map}
 use Rattle.nr_tables.specs.Named.{find, is_same}
+use Rattle.nr_tables.specs.Words.{word_of}
 use Rattle.nr_tables.specs.declared.trap.Trap.{Trap}
 use Rattle.nr_store.specs.declared.element.Diversion.{Diversion}
 use Rattle.nr_store.specs.declared.element.Element.{Element}
 use Rattle.nr_store.specs.declared.register.Register.{Register}
-use Rattle.nr_store.specs.Stored.{Stored, Built, Level, Means, begun, moved, renamed, written, trapped, on_newest, named_newest, newest_diversion, ended_by, diversion_ended}
+use Rattle.nr_store.specs.Stored.{Stored, Built, Level, Means, begun, moved, renamed, written, worded, trapped, on_newest, named_newest, newest_diversion, ended_by, diversion_ended}
+use Rattle.nr_settings.specs.Arguments.{word_in, behind_word}
 use Rattle.nr_reading.specs.declared.event.Event.{Event}
 use Rattle.nr_formatter.specs.declared.formatter.Formatter.{Formatter}
 use Rattle.nr_formatter.specs.declared.tasks.Resume.{Resume}
 use Rattle.nr_formatter.specs.declared.tasks.Step.{Step}
 use Rattle.nr_formatter.specs.declared.tasks.Task.{Task}
 use Rattle.nr_formatter.specs.Access.{collected}
+use Rattle.nr_formatter.specs.Naming.{with_words}
 use Rattle.nr_formatter.specs.Weights.{weight_of_built, weight_of_diversion, weight_of_diversions, weight_of_line}
 use Rattle.nr_formatter.proofs.Falling.{weight_read}
 
@@ -80,6 +83,17 @@ seen-if false u v w first second = second
 
 pub seen-renamed : (from to : List ℕ) (v : Stored Resume) → seen (renamed from to v) ≡ seen v
 seen-renamed from to v = seen-if (is_same from to) v v (moved (find from v.names) from to v) refl (seen-moved (find from v.names) from to v)
+
+-- ---- hyphenation words
+
+seen-worded : (word : List ℕ) (v : Stored Resume) → seen (worded word v) ≡ seen v
+seen-worded word v = seen-if (nat_lt 64 (length word)) v v (record v { words = word_of word ∷ v.words }) refl refl
+
+pub seen-with_words : (n : ℕ) (line : List ℕ) (v : Stored Resume) → seen (with_words n line v) ≡ seen v
+seen-with_words zero line v = refl
+seen-with_words (suc n) line v =
+    let w = worded (word_in line) v in
+    seen-if (length (word_in line) == 0) v v (with_words n (behind_word line) w) refl (seen-with_words n (behind_word line) w ∙ seen-worded (word_in line) v)
 
 -- ---- texts being built
 

@@ -35,8 +35,7 @@ impl<'a> Formatter<'a> {
     fn end_last_diversion(&mut self)
         ensures { self.new ≡ end_last_diversion self.old }
     {
-        if self.store.diversion().is_some() {
-            self.end_diversion();
+        if self.end_diversion() {
             return;
         }
         self.step = Step::LastPage;
