@@ -1,1 +1,3 @@
+mod Measured
 mod Standing
+mod Working
