@@ -101,7 +101,8 @@ impl CellSink for DiversionRow<'_, '_> {
     ghost adds_nothing = { λ row. (refl, refl, AddsToDiversion-nothing row.store.now row.blanks row.refused) };
 
     ghost adds_both = { λ a b c xs ys first second. (
-        second.0 ∙ first.0,
-        second.1 ∙ first.1,
-        AddsToDiversion-both a.store.now a.blanks a.refused b.store.now b.blanks b.refused c.store.now c.blanks c.refused xs ys first.2 second.2) };
+      second.0 ∙ first.0,
+      second.1 ∙ first.1,
+      AddsToDiversion-both a.store.now a.blanks a.refused b.store.now b.blanks b.refused c.store.now c.blanks c.refused xs ys first.2 second.2,
+    ) };
 }
