@@ -122,10 +122,10 @@ flow after breaks s = put_or (flow_line after breaks s.formatter) (flow_done aft
 
 -- the word ends, the first page begins, and all that is collected goes out
 abbrev pub break_out : Then → State → State
-break_out then s =
+break_out t s =
     if not (is_none (collected s.formatter).word) then plainly break_word_end s
-    else (if begins_first_page then s.formatter then begin_page s
-    else put_or (break_line s.formatter) (break_done then) s)
+    else (if begins_first_page t s.formatter then begin_page s
+    else put_or (break_line s.formatter) (break_done t) s)
 
 -- ---- titles, diverted lines and space
 
@@ -205,7 +205,7 @@ act r s = plainly (worked (tasks.Act r)) s
 abbrev pub work : Task → State → State
 work tasks.Read s = read s
 work (tasks.Flow after breaks) s = flow after breaks s
-work (tasks.Break then) s = break_out then s
+work (tasks.Break t) s = break_out t s
 work (tasks.Act r) s = act r s
 work (tasks.Room r) s = room_in (outlet s.formatter) r s
 work tasks.Title s = title_to (outlet s.formatter) s

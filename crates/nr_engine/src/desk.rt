@@ -71,7 +71,6 @@ pub struct Desk {
 
 impl Model for Desk {
     ghost use Rattle.nr_options.specs.Limits.{Bounds};
-    ghost use Rattle.nr_engine.specs.Desks.{HasSizes};
 
     ghost Value = { Bounds };
 

@@ -1,21 +1,5 @@
 //! The state of a run, kept in the memory that it is lent, and its moves.
-ghost use Rattle.std.specs.Prelude.{◌≡◌, ◌≢◌, ℕ, ◌≤◌, List, Option, None, Some, Ok, OnOk, true, false};
-ghost use Rattle.nr_units.specs.Failures.{counted_if, put_counted_if};
-ghost use Rattle.nr_units.specs.Supply.{Supply};
-ghost use Rattle.nr_input.specs.Coming.{Coming, HoldsComing, emptied, has_failed};
-ghost use Rattle.nr_formatter.specs.Passed.{splice_answer};
-ghost use Rattle.nr_formatter.specs.Weights.{Falls};
-ghost use Rattle.nr_formatter.specs.Ending.{ex};
-ghost use Rattle.nr_formatter.specs.Moves.{works, worked};
-ghost use Rattle.nr_formatter.specs.Springing.{sprung};
-ghost use Rattle.nr_reading.specs.declared.event.Event.TheVariants as events;
-ghost use Rattle.nr_store.specs.declared.request.Request.TheVariants as requests;
-ghost use Rattle.nr_formatter.specs.declared.tasks.Task.TheVariants as tasks;
-ghost use Rattle.nr_engine.specs.declared.outcome.Outcome.TheVariants as outcomes;
-ghost use Rattle.nr_engine.specs.State.{State, plainly};
-ghost use Rattle.nr_engine.specs.Machine.{told, exit, hear};
-ghost use Rattle.nr_engine.specs.Answer.{formatter_answer, refusal_outcome, stops_reading, stops_writing};
-ghost use Rattle.nr_engine.specs.Holding.{shape, HaltsOrWorks, WorksQuietly, Advances, Lightens, Spends};
+ghost use Rattle.std.specs.Prelude.{◌≤◌};
 
 use crate::outcome::{Measure, Outcome};
 use nr_fill::out::Out;
@@ -47,6 +31,24 @@ pub struct Engine<'a> {
 }
 
 impl<'a> Engine<'a> {
+    ghost use Rattle.std.specs.Prelude.{◌≡◌, ◌≢◌, List, Option, None, Some, Ok, OnOk, true, false};
+    ghost use Rattle.nr_units.specs.Failures.{counted_if, put_counted_if};
+    ghost use Rattle.nr_units.specs.Supply.{Supply};
+    ghost use Rattle.nr_input.specs.Coming.{Coming, HoldsComing, emptied, has_failed};
+    ghost use Rattle.nr_formatter.specs.Passed.{splice_answer};
+    ghost use Rattle.nr_formatter.specs.Weights.{Falls};
+    ghost use Rattle.nr_formatter.specs.Ending.{ex};
+    ghost use Rattle.nr_formatter.specs.Moves.{works, worked};
+    ghost use Rattle.nr_formatter.specs.Springing.{sprung};
+    ghost use Rattle.nr_reading.specs.declared.event.Event.TheVariants as events;
+    ghost use Rattle.nr_store.specs.declared.request.Request.TheVariants as requests;
+    ghost use Rattle.nr_formatter.specs.declared.tasks.Task.TheVariants as tasks;
+    ghost use Rattle.nr_engine.specs.declared.outcome.Outcome.TheVariants as outcomes;
+    ghost use Rattle.nr_engine.specs.State.{State, plainly};
+    ghost use Rattle.nr_engine.specs.Machine.{told, exit, hear};
+    ghost use Rattle.nr_engine.specs.Answer.{formatter_answer, refusal_outcome, stops_reading, stops_writing};
+    ghost use Rattle.nr_engine.specs.Holding.{shape, HaltsOrWorks, WorksQuietly, Advances, Lightens, Spends};
+
     /// The next move would pass this limit.
     pub(crate) fn passed(&self, which: Measure) -> Outcome
         ensures { result ≡ outcomes.Limit which self.now.place.taken }
