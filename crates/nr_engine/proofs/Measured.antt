@@ -75,7 +75,7 @@ record AllFalse (a b c d : Bool) : Type 0 where
   fourth : d ≡ false
 
 ok_four : (a b c d : Bool) → judged_by (four a b c d) ≡ Ok tt → AllFalse a b c d
-ok_four true b c d e = cc
+ok_four true b c d e = absurd (let f : true ≡ false = cc in cc)
 ok_four false true c d e = cc
 ok_four false false true d e = cc
 ok_four false false false true e = cc

@@ -1,5 +1,5 @@
 -- How the engine holds a state of the machine.
-use Rattle.std.specs.Prelude.{◌≡◌, ℕ, ◌+◌, ◌*◌, ◌≤◌, List, [], ◌∷◌, ◌++◌, Option, Result, Ok, Err, OnOk}
+use Rattle.std.specs.Prelude.{◌≡◌, ℕ, ◌+◌, ◌*◌, ◌≤◌, ◌<◌, List, [], ◌∷◌, ◌++◌, Option, Some, Result, Ok, Err, OnOk}
 use Rattle.std.specs.Io.KnownBytes.{Appends, Keeps}
 use Rattle.nr_units.specs.Supply.{Supply}
 use Rattle.nr_units.specs.Held.{AppendsFront}
@@ -13,7 +13,11 @@ use Rattle.nr_formatter.specs.declared.formatter.Formatter.{Formatter}
 use Rattle.nr_formatter.specs.declared.tasks.Task.{Task}
 use Rattle.nr_formatter.specs.declared.tasks.Task.TheVariants as tasks
 use Rattle.nr_engine.specs.State.{State, Ended, Choice}
-use Rattle.nr_engine.specs.Machine.{step, state_after, work}
+use Rattle.nr_engine.specs.Machine.{step, state_after, work, placed}
+use Rattle.nr_engine.specs.declared.outcome.Measure.TheVariants.{PageCells}
+use Rattle.nr_units.specs.declared.cell.Cell.{Cell}
+use Rattle.nr_page.specs.Grid.{Placed, page_charge}
+use Rattle.nr_formatter.specs.Pages.{line_placed}
 use Rattle.nr_engine.specs.Printing.{bytes_of, text}
 use Rattle.nr_engine.specs.Measures.{IsWithin, passed}
 use Rattle.nr_engine.specs.Answer.{Goes, Stops, Runs}
@@ -87,6 +91,14 @@ WorksQuietly f e e' r = (held : Option (List ℕ)) → Works f e e' held held r
 abbrev pub HaltsOrWorks : Task → Shape → Shape → Option (List ℕ) → Option (List ℕ) → Result (Unit {0}) Outcome → Type 0
 HaltsOrWorks tasks.Halted e e' old new r = (r ≡ Err Done) × (e' ≡ e) × (new ≡ old)
 HaltsOrWorks t e e' old new r = Works (work t) e e' old new r
+
+-- the cells go on the page as a line of this height, or the page's limit stops it; the formatter is that of the engine
+abbrev pub Places : List Cell → ℕ → Shape → Shape → Result (Unit {0}) Outcome → Type 0
+Places cells height e e' (Ok x) = (e'.formatter ≡ line_placed height e.formatter) × (e'.place ≡ e.place) × (e'.select ≡ e.select) × IsRow [] e'.row × (e'.page.limit ≡ e.page.limit)
+    × ((lines : List Placed) → HoldsPage lines e.page → HoldsPage (lines ++ placed cells height e.formatter ∷ []) e'.page × (page_charge (lines ++ placed cells height e.formatter ∷ []) ≤ e.page.limit))
+Places cells height e e' (Err (Limit PageCells at)) = (at ≡ e.place.taken)
+    × ((lines : List Placed) → HoldsPage lines e.page → e.page.limit < page_charge (lines ++ placed cells height e.formatter ∷ []))
+Places cells height e e' (Err outcome) = ⊥
 
 -- ---- one move
 

@@ -89,13 +89,13 @@ turn_page o s = begin_page s
 abbrev pub row_at : ℕ → ℕ
 row_at place = place / 40 - 1
 
+-- the line that these cells make, of this height
+abbrev pub placed : List Cell → ℕ → Formatter → Placed
+placed cells height f = record { row = row_at (place_behind height f); cells = trimmed cells }
+
 -- a row goes on the page as a line of this height, and the formatter is this one then
 abbrev pub place : List Cell → ℕ → Formatter → State → State
-place cells height f s = record s {
-  formatter = line_placed height f;
-  row = [];
-  lines = s.lines ++ record { row = row_at (place_behind height f); cells = trimmed cells } ∷ [];
-}
+place cells height f s = record s { formatter = line_placed height f; row = []; lines = s.lines ++ placed cells height f ∷ [] }
 
 -- the page offset, in cells
 abbrev pub offset : Formatter → ℕ

@@ -1,5 +1,5 @@
 //! Diverted lines that are read again. (CSTR 54, section 7.4.)
-ghost use Rattle.std.specs.Prelude.{◌≡◌, ◌++◌, ◌∷◌, [], List, Option, replicate};
+ghost use Rattle.std.specs.Prelude.{◌≡◌, ◌++◌, ◌∷◌, [], List, Option, replicate, false, Ok};
 ghost use Rattle.nr_units.specs.Cells.{blank};
 ghost use Rattle.nr_units.specs.declared.cell.Cell.{Cell as CellValue};
 ghost use Rattle.nr_fill.specs.Rows.{IsRow, AddsToRow};

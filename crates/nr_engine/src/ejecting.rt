@@ -1,5 +1,5 @@
 //! Ejecting a page. (CSTR 54, section 3.)
-ghost use Rattle.std.specs.Prelude.{◌≡◌, ◌≤ℤ◌, pos, List, Option, true};
+ghost use Rattle.std.specs.Prelude.{◌≡◌, ◌≤ℤ◌, pos, List, Option, true, false};
 ghost use Rattle.nr_formatter.specs.Pages.{names_text};
 ghost use Rattle.nr_formatter.specs.Springing.{ejected_to};
 ghost use Rattle.nr_engine.specs.State.{plainly};

@@ -31,7 +31,7 @@ pub struct Engine<'a> {
 }
 
 impl<'a> Engine<'a> {
-    ghost use Rattle.std.specs.Prelude.{◌≡◌, ◌≢◌, List, Option, None, Some, Ok, OnOk, true, false};
+    ghost use Rattle.std.specs.Prelude.{◌≡◌, ◌≢◌, ℕ, List, Option, None, Some, Ok, OnOk, true, false};
     ghost use Rattle.nr_units.specs.Failures.{counted_if, put_counted_if};
     ghost use Rattle.nr_units.specs.Supply.{Supply};
     ghost use Rattle.nr_input.specs.Coming.{Coming, HoldsComing, emptied, has_failed};
@@ -45,7 +45,7 @@ impl<'a> Engine<'a> {
     ghost use Rattle.nr_formatter.specs.declared.tasks.Task.TheVariants as tasks;
     ghost use Rattle.nr_engine.specs.declared.outcome.Outcome.TheVariants as outcomes;
     ghost use Rattle.nr_engine.specs.State.{State, plainly};
-    ghost use Rattle.nr_engine.specs.Machine.{told, exit, hear};
+    ghost use Rattle.nr_engine.specs.Machine.{told as told_formatter, exit as exit_state, hear as hear_event};
     ghost use Rattle.nr_engine.specs.Answer.{formatter_answer, refusal_outcome, stops_reading, stops_writing};
     ghost use Rattle.nr_engine.specs.Holding.{shape, HaltsOrWorks, WorksQuietly, Advances, Lightens, Spends};
 
@@ -96,7 +96,7 @@ impl<'a> Engine<'a> {
 
     /// What was told is acted on then; what a sprung macro interrupted is gone on with.
     fn tell(&mut self, told: Told<Resume>)
-        ensures { shape self.new ≡ record (shape self.old) { formatter = told told self.old.formatter } }
+        ensures { shape self.new ≡ record (shape self.old) { formatter = told_formatter told self.old.formatter } }
     {
         match told {
             Told::Event(event) => self.formatter.event = event,
@@ -134,7 +134,7 @@ impl<'a> Engine<'a> {
     fn exit(&mut self)
         requires idle { self.old.formatter.event ≡ events.Nothing }
         requires task { self.old.formatter.task ≡ tasks.Act requests.Ex }
-        ensures worked { WorksQuietly exit (shape self.old) (shape self.new) (Ok tt) }
+        ensures worked { WorksQuietly exit_state (shape self.old) (shape self.new) (Ok tt) }
         ensures unfailed { has_failed self.new.place.ahead ≡ false }
         ensures spends { Spends (shape self.old) (shape self.new) }
     {
@@ -192,7 +192,7 @@ impl<'a> Engine<'a> {
     fn hear(&mut self, event: Event) -> Result<(), Outcome>
         requires event { self.old.formatter.event ≡ event }
         requires busy { event ≢ events.Nothing }
-        ensures worked { WorksQuietly (hear event) (shape self.old) (shape self.new) result }
+        ensures worked { WorksQuietly (hear_event event) (shape self.old) (shape self.new) result }
         ensures reads { stops_reading result ≡ false }
         ensures writes { stops_writing result ≡ false }
         ensures lightens { Lightens (shape self.old) (shape self.new) result }

@@ -1,5 +1,5 @@
 //! The lines that go out where a word or a text line ended. (CSTR 54, section 4.)
-ghost use Rattle.std.specs.Prelude.{◌≡◌, ◌<◌, List, Option, length};
+ghost use Rattle.std.specs.Prelude.{◌≡◌, ◌<◌, List, Option, length, false};
 ghost use Rattle.nr_formatter.specs.Access.{collected};
 ghost use Rattle.nr_formatter.specs.Places.{outlet};
 ghost use Rattle.nr_formatter.specs.Diversions.{divert_line};

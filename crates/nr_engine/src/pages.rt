@@ -1,5 +1,5 @@
 //! Beginning and ending a page, and what is placed on it. (CSTR 54, section 3.)
-ghost use Rattle.std.specs.Prelude.{◌≡◌, ◌≢◌, ◌+◌, ◌≤◌, List, Option, Ok, OnOk, OnErr, true, false};
+ghost use Rattle.std.specs.Prelude.{◌≡◌, ◌≢◌, ◌+◌, ◌≤◌, List, Option, Bool, Ok, Err, OnOk, OnErr, true, false};
 ghost use Rattle.std.specs.Io.KnownBytes.{Appends};
 ghost use Rattle.nr_units.specs.Held.{AppendsFront};
 ghost use Rattle.nr_fill.specs.Rows.{IsRow};
@@ -7,16 +7,18 @@ ghost use Rattle.nr_units.specs.declared.cell.Cell.{Cell as CellValue};
 ghost use Rattle.nr_page.specs.Grid.{Placed};
 ghost use Rattle.nr_page.specs.Sheet.{Holds as HoldsPage};
 ghost use Rattle.nr_formatter.specs.declared.paper.Outlet.TheVariants as outlets;
-ghost use Rattle.nr_formatter.specs.Places.{is_open, outlet};
+ghost use Rattle.nr_formatter.specs.Places.{is_open, page_outlet, outlet as outlet_of};
+ghost use Rattle.nr_engine.specs.declared.outcome.Outcome.TheVariants as outcomes;
+ghost use Rattle.nr_formatter.specs.declared.tasks.Ejected.{Ejected as EjectedValue};
 ghost use Rattle.nr_formatter.specs.Weights.{Falls};
 ghost use Rattle.nr_engine.specs.State.{State};
 ghost use Rattle.nr_engine.specs.Printing.{bytes_of};
-ghost use Rattle.nr_engine.specs.Machine.{row_at, begin_page, end_page, turn_page, place, page_of};
+ghost use Rattle.nr_engine.specs.Machine.{row_at, begin_page, end_page, turn_page, page_of};
 ghost use Rattle.nr_units.specs.Failures.{put_counted_if};
 ghost use Rattle.nr_reading.specs.declared.event.Event.TheVariants as events;
 ghost use Rattle.nr_formatter.specs.declared.tasks.Task.TheVariants as tasks;
 ghost use Rattle.nr_engine.specs.Answer.{stops_reading, stops_writing};
-ghost use Rattle.nr_engine.specs.Holding.{shape, Works, WorksQuietly, Lightens};
+ghost use Rattle.nr_engine.specs.Holding.{shape, Works, WorksQuietly, Lightens, Places};
 
 use crate::engine::Engine;
 use crate::outcome::{Measure, Outcome};
@@ -36,11 +38,11 @@ fn row_at(place: u32) -> u32
 impl<'a> Engine<'a> {
     /// A page begins.
     pub(crate) fn begin_page(&mut self)
-        requires idle { self.old.formatter.event ≡ events.Nothing }
-        requires fresh { MayBegin self.old.formatter }
-        ensures worked { WorksQuietly (begin_page) (shape self.old) (shape self.new) (Ok tt) }
-        ensures lightens { Lightens (shape self.old) (shape self.new) (Ok tt) }
+        ensures worked { WorksQuietly begin_page (shape self.old) (shape self.new) (Ok tt) }
+        ensures opened { is_open self.old.formatter.paper.state ≡ false → Lightens (shape self.old) (shape self.new) (Ok tt) }
+        ensures begun { (given : Option Bool) → self.old.formatter.event ≡ events.Nothing → self.old.formatter.task ≡ tasks.Begin given → Lightens (shape self.old) (shape self.new) (Ok tt) }
     {
+        let _length = self.formatter.settings.pages.page_length.units();
         self.page.clear();
         self.formatter.begin_page();
     }
@@ -64,12 +66,11 @@ impl<'a> Engine<'a> {
 
     /// The open page ends: its bytes go out.
     pub(crate) fn end_page<W: Sink>(&mut self, output: &mut W) -> Result<(), Outcome>
-        requires idle { self.old.formatter.event ≡ events.Nothing }
-        requires ends { MayEnd self.old.formatter }
-        ensures worked { Works (end_page) (shape self.old) (shape self.new) (W.held output.old) (W.held output.new) result }
+        ensures worked { Works end_page (shape self.old) (shape self.new) (W.held output.old) (W.held output.new) result }
         ensures failures { W.failures output.new ≡ put_counted_if (stops_writing result) (W.failures output.old) }
         ensures reads { stops_reading result ≡ false }
-        ensures lightens { Lightens (shape self.old) (shape self.new) result }
+        ensures full { page_outlet self.old.formatter.paper.state self.old.formatter.paper.place self.old.formatter.settings.pages.page_length ≡ outlets.Full → Lightens (shape self.old) (shape self.new) result }
+        ensures ejected { (e : EjectedValue) → self.old.formatter.event ≡ events.Nothing → self.old.formatter.task ≡ tasks.Eject e → Lightens (shape self.old) (shape self.new) result }
     {
         match self.print(output) {
             Err(outcome) => Err(outcome),
@@ -87,8 +88,7 @@ impl<'a> Engine<'a> {
         outlet: Outlet,
         output: &mut W,
     ) -> Result<(), Outcome>
-        requires idle { self.old.formatter.event ≡ events.Nothing }
-        requires outlet { outlet ≡ outlet self.old.formatter }
+        requires outlet { outlet ≡ outlet_of self.old.formatter }
         requires no_room { outlet ≢ outlets.Room }
         requires page { outlet ≢ outlets.Diversion }
         ensures worked { Works (turn_page outlet) (shape self.old) (shape self.new) (W.held output.old) (W.held output.new) result }

@@ -1,5 +1,5 @@
 //! The room of titles and of diverted lines, before they are read.
-ghost use Rattle.std.specs.Prelude.{◌≡◌, List, Option};
+ghost use Rattle.std.specs.Prelude.{◌≡◌, List, Option, false};
 ghost use Rattle.nr_formatter.specs.Places.{outlet};
 ghost use Rattle.nr_engine.specs.State.{State};
 ghost use Rattle.nr_engine.specs.Machine.{room_in};

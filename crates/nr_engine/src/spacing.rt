@@ -1,5 +1,5 @@
 //! Vertical space finds room. (CSTR 54, section 5.)
-ghost use Rattle.std.specs.Prelude.{◌≡◌, List, Option};
+ghost use Rattle.std.specs.Prelude.{◌≡◌, List, Option, false};
 ghost use Rattle.nr_formatter.specs.Diversions.{with_diverted_space};
 ghost use Rattle.nr_engine.specs.State.{plainly};
 ghost use Rattle.nr_engine.specs.Machine.{put_space};

@@ -1,5 +1,5 @@
 //! Titles of three parts go out. (CSTR 54, section 14.)
-ghost use Rattle.std.specs.Prelude.{◌≡◌, List, Option};
+ghost use Rattle.std.specs.Prelude.{◌≡◌, List, Option, false};
 ghost use Rattle.nr_formatter.specs.Places.{outlet};
 ghost use Rattle.nr_formatter.specs.Diversions.{divert_title};
 ghost use Rattle.nr_formatter.specs.declared.paper.Outlet.TheVariants as outlets;

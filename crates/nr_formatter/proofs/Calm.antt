@@ -1,6 +1,6 @@
 -- Requests, and what is read beside text, splice nothing.
-use Rattle.std.proofs.Common.{◌≡◌, ℕ, ◌+◌, ◌≤◌, List, [], ◌∷◌, Bool, true, false, if◌then◌else◌, Option, Some, None, ℤ, pos, negsuc}
-use Rattle.std.specs.Prelude.{◌==◌, ◌&&◌, ◌||◌, not, nat_lt, int_lt, length, is_none}
+use Rattle.std.proofs.Common.{ℕ, ◌≤◌, List, Bool, true, false, if◌then◌else◌, Option, Some, None, ℤ, pos, negsuc}
+use Rattle.std.specs.Prelude.{◌&&◌, ◌||◌, not, nat_lt, int_lt, is_none}
 use Rattle.nr_store.specs.declared.request.Request.{Request}
 use Rattle.nr_store.specs.declared.request.Request.TheVariants as requests
 use Rattle.nr_store.specs.Stored.{is_held}
@@ -32,7 +32,7 @@ use Rattle.nr_formatter.specs.Moves.{control, gone_on}
 use Rattle.nr_formatter.specs.Naming as naming
 use Rattle.nr_formatter.specs.Numbering as numbering
 use Rattle.nr_formatter.specs.Pages.{turned}
-use Rattle.nr_formatter.specs.Places.{is_open, is_diverting, outlet, place_in, present_place, page_place, distance_below, to_read}
+use Rattle.nr_formatter.specs.Places.{is_open, is_diverting, outlet, present_place, page_place, distance_below, to_read}
 use Rattle.nr_formatter.specs.Registers as registers
 use Rattle.nr_formatter.specs.Requests.{act}
 use Rattle.nr_formatter.specs.Spacing as spaces

@@ -1,6 +1,6 @@
 -- What may still come falls: by what is half read and owed, and by the moves that are left.
 use Rattle.std.specs.Prelude.{OnOk}
-use Rattle.std.proofs.Common.{◌≡◌, ℕ, ◌+◌, ◌-◌, ◌*◌, ◌≤◌, List, Option, None, Some, Result, Ok, Err, refl, ap, arith}
+use Rattle.std.proofs.Common.{◌≡◌, ℕ, ◌+◌, ◌*◌, ◌≤◌, List, Option, None, Some, Result, Ok, Err, refl, ap, arith}
 use Rattle.nr_reading.specs.declared.event.Event.{Event}
 use Rattle.nr_reading.specs.declared.event.Event.TheVariants as events
 use Rattle.nr_reading.specs.declared.half.Half.{Half}
@@ -75,9 +75,9 @@ falls-costing cost down up f g keeps read left = record {
   limit = keeps.limit;
   most = keeps.most;
   falls = λ p.
-    let items = ap items_left keeps.levels in
-    let worth : expansions_worth g.reader.most g.reader.burst g.store.limit ≡ expansions_worth f.reader.most f.reader.burst f.store.limit = rw (keeps.most, keeps.burst, keeps.limit) refl in
-    omega arith;
+      let items = ap items_left keeps.levels in
+      let worth : expansions_worth g.reader.most g.reader.burst g.store.limit ≡ expansions_worth f.reader.most f.reader.burst f.store.limit = rw (keeps.most, keeps.burst, keeps.limit) refl in
+      omega arith;
 }
 
 pub falls-kept : (down up : ℕ) (f g : Formatter) → KeepsInput f g → weight_read g.reader.half + owed g ≤ weight_read f.reader.half + owed f

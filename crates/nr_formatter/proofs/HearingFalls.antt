@@ -1,6 +1,6 @@
 -- What may still come falls with each event that is acted on, text aside.
 use Rattle.std.specs.Prelude.{◌&&◌, not, OnOk}
-use Rattle.std.proofs.Common.{◌≡◌, ◌≢◌, ℕ, ◌+◌, ◌-◌, ◌*◌, ◌≤◌, List, Bool, true, false, if◌then◌else◌, Option, None, Some, Result, Ok, Err, refl, ap, sym, subst, arith}
+use Rattle.std.proofs.Common.{◌≡◌, ◌≢◌, ℕ, ◌+◌, ◌≤◌, List, Bool, true, false, if◌then◌else◌, Option, None, Some, Result, Ok, Err, refl, ap, sym, subst, arith}
 use Rattle.nr_store.specs.declared.request.Request.{Request}
 use Rattle.nr_reading.specs.declared.event.Event.{Event}
 use Rattle.nr_reading.specs.declared.event.Event.TheVariants as events

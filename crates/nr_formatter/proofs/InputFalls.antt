@@ -1,6 +1,6 @@
 -- What may still come where a text is sprung or given, behind its end, and where there is room for what is read.
 use Rattle.std.specs.Prelude.{is_some}
-use Rattle.std.proofs.Common.{◌≡◌, ℕ, ◌+◌, ◌-◌, ◌*◌, ◌≤◌, List, true, Bool, Option, None, Some, refl, arith}
+use Rattle.std.proofs.Common.{◌≡◌, ℕ, ◌+◌, ◌-◌, ◌*◌, ◌≤◌, List, true, Option, None, Some, refl, arith}
 use Rattle.nr_store.specs.declared.element.Element.{Element}
 use Rattle.nr_tables.specs.Named.{find}
 use Rattle.nr_store.specs.Stored.{words}
@@ -13,14 +13,13 @@ use Rattle.nr_reading.specs.declared.mode.Standing.TheVariants as standings
 use Rattle.nr_reading.specs.Conditionals.{in_mode}
 use Rattle.nr_reading.specs.Setting as setting
 use Rattle.nr_reading.specs.Weights.{weight_of_half, blanks_owed}
-use Rattle.nr_input.specs.Weights.{Splices, CostsAtMost}
+use Rattle.nr_input.specs.Weights.{Splices}
 use Rattle.nr_input.proofs.Costs.{title_costs, diverting_costs, stand_costs}
 use Rattle.nr_formatter.specs.declared.formatter.Formatter.{Formatter}
 use Rattle.nr_formatter.specs.declared.tasks.Resume.{Resume}
 use Rattle.nr_formatter.specs.declared.tasks.Room.{Room}
 use Rattle.nr_formatter.specs.declared.tasks.Room.TheVariants as rooms
 use Rattle.nr_formatter.specs.declared.tasks.Step.{Step}
-use Rattle.nr_formatter.specs.declared.tasks.Step.TheVariants as steps
 use Rattle.nr_formatter.specs.declared.tasks.Task.{Task}
 use Rattle.nr_formatter.specs.declared.tasks.Task.TheVariants as tasks
 use Rattle.nr_formatter.specs.declared.tasks.Then.{Then}
@@ -28,8 +27,8 @@ use Rattle.nr_formatter.specs.declared.tasks.Then.TheVariants as thens
 use Rattle.nr_formatter.specs.Moves.{read_in}
 use Rattle.nr_formatter.specs.Springing.{sprung_text, sprung, resumed}
 use Rattle.nr_formatter.specs.Places.{page_outlet}
-use Rattle.nr_formatter.specs.Weights.{Falls, steps_left, owed, weight, owed_by_event, owed_by_then, owed_by_task, weight_of_agenda, weight_of_break, weight_of_task}
-use Rattle.nr_formatter.proofs.Falling.{falls-kept, falls-costing, falls-spliced, falls-is, falls-less, falls-then, weight_read, weight_of_agenda-le, weight_of_name-le, weight_of_outlet-le, weight_of_task-le}
+use Rattle.nr_formatter.specs.Weights.{Falls, steps_left, owed, weight, owed_by_event, owed_by_then, owed_by_task, weight_of_agenda}
+use Rattle.nr_formatter.proofs.Falling.{falls-kept, falls-costing, falls-spliced, falls-is, falls-less, falls-then, weight_read, weight_of_outlet-le, weight_of_task-le}
 
 -- ---- springing
 
@@ -104,7 +103,7 @@ falls-resumed r f none read =
     let owes : owed_by_event f.event + owed_by_task f.task f.reader.half ≡ 0 = rw (none, read) refl in
     falls-less 0 (256 * 231 + 190) 0 (256 * 254) f g
     (falls-costing 231 0 190 f g (record { levels = refl; limit = refl; burst = refl; most = refl })
-      (omega (arith, resumed-costs r.task r.standing r.line f.reader.half)) (omega (arith, weight_of_task-le r.task f.step)))
+    (omega (arith, resumed-costs r.task r.standing r.line f.reader.half)) (omega (arith, weight_of_task-le r.task f.step)))
     (omega arith)
 
 -- ---- where there is room

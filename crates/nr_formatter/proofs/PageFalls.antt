@@ -1,7 +1,6 @@
 -- What may still come falls with each move of a page, and little rises.
-use Rattle.std.specs.Prelude.{nat_lt}
 use Rattle.std.proofs.lemmas.Bool.{lt-ltb}
-use Rattle.std.proofs.Common.{◌≡◌, ℕ, ◌+◌, ◌<◌, ◌≤◌, Bool, true, false, if◌then◌else◌, Option, None, Some, refl, ap, sym, ◌∙◌, arith}
+use Rattle.std.proofs.Common.{◌≡◌, ℕ, ◌+◌, ◌<◌, ◌≤◌, Bool, false, Option, None, Some, refl, ap, arith}
 use Rattle.nr_reading.specs.declared.event.Event.TheVariants as events
 use Rattle.nr_reading.specs.declared.half.Half.{Half}
 use Rattle.nr_formatter.specs.declared.formatter.Formatter.{Formatter}
@@ -13,11 +12,10 @@ use Rattle.nr_formatter.specs.declared.tasks.Ejected.TheVariants as ejecteds
 use Rattle.nr_formatter.specs.declared.tasks.Step.{Step}
 use Rattle.nr_formatter.specs.declared.tasks.Task.{Task}
 use Rattle.nr_formatter.specs.declared.tasks.Task.TheVariants as tasks
-use Rattle.nr_tables.specs.Traps.{nearest}
 use Rattle.nr_formatter.specs.Places.{is_open, page_outlet}
 use Rattle.nr_formatter.specs.Pages.{line_placed, page_begun, page_ended, task_begun, task_ejected, task_ended}
 use Rattle.nr_formatter.specs.Spacing.{spaced}
-use Rattle.nr_formatter.specs.Weights.{Falls, steps_left, owed, owed_by_task, weight_of_agenda, weight_of_outlet, weight_of_page, weight_of_task}
+use Rattle.nr_formatter.specs.Weights.{Falls, steps_left, owed, owed_by_task, weight_of_agenda, weight_of_outlet, weight_of_task}
 use Rattle.nr_formatter.proofs.Falling.{falls-kept, weight_of_agenda-le, weight_of_name-le, weight_of_outlet-le}
 
 -- ---- what is placed
@@ -68,8 +66,13 @@ unfolding steps_left owed
 falls-opened f some closed =
     let g = page_begun f in
     falls-kept 1 0 f g (record { levels = refl; limit = refl; burst = refl; most = refl }) (omega (arith, owed_begun-le f.task f.reader.half))
-    (omega (arith, weight_of_name-le g.springs, begun-weighs f.settings.pages.page_length some, closed-weighs f.paper.state f.paper.place f.settings.pages.page_length closed,
-      weight_of_agenda-le f.event f.task (task_begun f.task) f.step (task_begun-le f.task f.step)))
+    (omega (
+      arith,
+      weight_of_name-le g.springs,
+      begun-weighs f.settings.pages.page_length some,
+      closed-weighs f.paper.state f.paper.place f.settings.pages.page_length closed,
+      weight_of_agenda-le f.event f.task (task_begun f.task) f.step (task_begun-le f.task f.step),
+    ))
 
 -- where one was to begin
 pub falls-begun : (given : Option Bool) (f : Formatter) → 0 < f.settings.pages.page_length → f.event ≡ events.Nothing → f.task ≡ tasks.Begin given → Falls 1 0 f (page_begun f)

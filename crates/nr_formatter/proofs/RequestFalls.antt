@@ -1,20 +1,18 @@
 -- What may still come falls with each request.
-use Rattle.std.specs.Prelude.{◌==◌, ◌&&◌, not, nat_lt, int_lt, is_none, is_some, length, unwrap_or}
-use Rattle.std.proofs.lemmas.List.Sums.{sum_by-cons}
-use Rattle.std.proofs.Common.{◌≡◌, ℕ, ◌+◌, ◌*◌, ◌≤◌, List, [], ◌∷◌, Bool, true, false, if◌then◌else◌, Option, Some, None, ℤ, pos, negsuc, suc, refl, ap, ◌∙◌, arith}
+use Rattle.std.specs.Prelude.{◌&&◌, not, nat_lt, int_lt, is_none, is_some, length, unwrap_or}
+use Rattle.std.proofs.Common.{◌≡◌, ℕ, ◌+◌, ◌≤◌, List, [], Bool, true, false, if◌then◌else◌, Option, Some, None, ℤ, pos, negsuc, suc, refl, ap, ◌∙◌, arith}
 use Rattle.nr_store.specs.declared.element.Diversion.{Diversion}
 use Rattle.nr_store.specs.declared.element.Element.{Element}
 use Rattle.nr_store.specs.declared.request.Request.{Request}
 use Rattle.nr_store.specs.declared.request.Request.TheVariants as requests
-use Rattle.nr_store.specs.Stored.{Built, is_held, begun, text_of, fresh, set_to, register_of, renamed, written, trapped, newest_diversion, diversion_ended}
+use Rattle.nr_store.specs.Stored.{is_held, begun, text_of, fresh, set_to, register_of, renamed, written, trapped, newest_diversion, diversion_ended}
 use Rattle.nr_tables.specs.Named.{find}
 use Rattle.nr_tables.specs.declared.trap.Trap.{Trap}
 use Rattle.nr_input.specs.declared.splicing.Definition.{Definition}
 use Rattle.nr_input.specs.declared.splicing.Definition.TheVariants as definitions
 use Rattle.nr_input.specs.Splicing.{base, keeps}
 use Rattle.nr_input.proofs.Costs.{diverting_costs}
-use Rattle.nr_input.specs.Weights.{items_in, items_left, expansions_worth}
-use Rattle.nr_settings.specs.Arguments.{name_in, word_in}
+use Rattle.nr_settings.specs.Arguments.{name_in}
 use Rattle.nr_settings.specs.Numbers.{applied}
 use Rattle.nr_settings.specs.Registers as register_lines
 use Rattle.nr_settings.specs.Spacing as space_lines
@@ -40,7 +38,6 @@ use Rattle.nr_formatter.specs.declared.given.GivenRegister.{GivenRegister}
 use Rattle.nr_formatter.specs.declared.given.GivenRegister.TheVariants as given
 use Rattle.nr_formatter.specs.declared.paper.PageState.{PageState}
 use Rattle.nr_formatter.specs.declared.paper.PageState.TheVariants as states
-use Rattle.nr_formatter.specs.declared.tasks.Step.{Step}
 use Rattle.nr_formatter.specs.declared.tasks.Task.{Task}
 use Rattle.nr_formatter.specs.declared.tasks.Task.TheVariants as tasks
 use Rattle.nr_formatter.specs.Access.{collected, line, long, spacing, diversion}
@@ -50,14 +47,14 @@ use Rattle.nr_formatter.specs.Given.{given_named}
 use Rattle.nr_formatter.specs.Naming as naming
 use Rattle.nr_formatter.specs.Numbering as numbering
 use Rattle.nr_formatter.specs.Pages.{moved_to}
-use Rattle.nr_formatter.specs.Places.{is_open, is_diverting, outlet, page_outlet, place_in, present_place, page_place, distance_below, to_read}
+use Rattle.nr_formatter.specs.Places.{is_diverting, outlet, page_outlet, present_place, page_place, distance_below, to_read}
 use Rattle.nr_formatter.specs.Registers as registers
 use Rattle.nr_formatter.specs.Requests.{act}
 use Rattle.nr_formatter.specs.Spacing as spaces
 use Rattle.nr_formatter.specs.Trapping as traps
 use Rattle.nr_formatter.specs.Weights.{Falls, weight, steps_left, owed, owed_by_event, owed_by_task, weight_of_agenda, weight_of_diversions, weight_of_line, weight_of_step, weight_of_task}
 use Rattle.nr_formatter.proofs.Falling.{KeepsInput, falls-kept, weight_read, weight_of_name-le, weight_of_outlet-le}
-use Rattle.nr_formatter.proofs.Views.{StoreView, View, seen, view, view-stored, view-if, view-task, seen-written, seen-renamed, seen-trapped, seen-with_words, begun-weighs, diversion_ended-keeps, diversion_ended-le}
+use Rattle.nr_formatter.proofs.Views.{StoreView, View, view, view-stored, view-if, view-task, seen-written, seen-renamed, seen-trapped, seen-with_words, begun-weighs, diversion_ended-keeps, diversion_ended-le}
 
 -- ---- by what stays
 

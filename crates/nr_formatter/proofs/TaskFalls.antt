@@ -1,6 +1,6 @@
 -- What may still come falls with what is under way, where it needs neither source, page nor output.
-use Rattle.std.specs.Prelude.{◌&&◌, ◌||◌, not, OnOk}
-use Rattle.std.proofs.Common.{◌≡◌, ◌≢◌, ℕ, ◌+◌, ◌≤◌, List, Bool, true, false, if◌then◌else◌, Option, Some, None, refl, ap, ◌∙◌, arith}
+use Rattle.std.specs.Prelude.{◌&&◌, ◌||◌, not}
+use Rattle.std.proofs.Common.{◌≡◌, ◌≢◌, ℕ, ◌+◌, ◌≤◌, Bool, true, if◌then◌else◌, Option, Some, None, refl, ap, arith}
 use Rattle.nr_store.specs.declared.element.Diversion.{Diversion}
 use Rattle.nr_store.specs.declared.request.Request.{Request}
 use Rattle.nr_store.specs.Stored.{newest_diversion, diversion_ended}
@@ -15,11 +15,10 @@ use Rattle.nr_formatter.specs.declared.tasks.Then.TheVariants as thens
 use Rattle.nr_formatter.specs.Diversions.{measured}
 use Rattle.nr_formatter.specs.Ending.{eject_last, finish_at}
 use Rattle.nr_formatter.specs.Lines.{count, count_input}
-use Rattle.nr_formatter.specs.Moves.{gone_on, worked, works}
+use Rattle.nr_formatter.specs.Moves.{gone_on, works}
 use Rattle.nr_formatter.specs.Pages.{turned}
 use Rattle.nr_formatter.specs.Places.{is_open, is_diverting}
-use Rattle.nr_formatter.specs.Requests.{act}
-use Rattle.nr_formatter.specs.Weights.{Falls, steps_left, owed, owed_by_task, weight_of_agenda, weight_of_diversions, weight_of_last_break, weight_of_step}
+use Rattle.nr_formatter.specs.Weights.{Falls, steps_left, owed, owed_by_task, weight_of_agenda, weight_of_step}
 use Rattle.nr_formatter.proofs.Falling.{falls-kept, weight_of_name-le}
 use Rattle.nr_formatter.proofs.RequestFalls.{falls-if}
 use Rattle.nr_formatter.proofs.Views.{diversion_ended-keeps, ended-weighs}
@@ -45,7 +44,7 @@ falls-count_input f none is =
 -- ---- turning a page
 
 -- what goes on with another task that weighs less, and owes nothing
-falls-task : (t : Task) (weighs : ℕ) (f : Formatter) → weight_of_agenda f.event f.task f.step ≡ weighs → weight_of_agenda f.event t f.step + 1 ≤ weighs
+pub falls-task : (t : Task) (weighs : ℕ) (f : Formatter) → weight_of_agenda f.event f.task f.step ≡ weighs → weight_of_agenda f.event t f.step + 1 ≤ weighs
     → owed_by_task t f.reader.half ≡ 0 → Falls 1 0 f (record f { task = t })
 unfolding steps_left owed
 falls-task t weighs f agenda less owes =

@@ -1,7 +1,7 @@
 -- What a request leaves of what weighs: all but the page and the macro that springs next.
-use Rattle.std.specs.Prelude.{sum_by, nat_lt, ◌==◌, length}
+use Rattle.std.specs.Prelude.{nat_lt, ◌==◌, length}
 use Rattle.std.proofs.lemmas.List.Sums.{sum_by-cons}
-use Rattle.std.proofs.Common.{◌≡◌, ℕ, zero, suc, ◌+◌, ◌≤◌, List, [], ◌∷◌, Bool, true, false, if◌then◌else◌, Option, Some, None, ℤ, pos, negsuc, refl, ap, ◌∙◌, arith}
+use Rattle.std.proofs.Common.{◌≡◌, ℕ, zero, suc, ◌+◌, ◌≤◌, List, [], ◌∷◌, Bool, true, false, if◌then◌else◌, Option, Some, None, refl, ap, ◌∙◌, arith}
 use Rattle.std.specs.Option.{option_map}
 use Rattle.nr_tables.specs.Named.{find, is_same}
 use Rattle.nr_tables.specs.Words.{word_of}

@@ -85,7 +85,7 @@ words-refused {K} n i line word v w e less some first all is =
     let one : with_words (n - (i + 1)) (behind_word line) u ≡ w = sym (words-more n i line v less none) ∙ all in
     let alone : Err e ≡ afforded u (tt {0}) = is ∙ ap (λ (x : List ℕ). afforded (worded x v) (tt {0})) first in
     let refused : Err e ≡ afforded (with_words (n - (i + 1)) (behind_word line) u) (tt {0}) =
-        refused-more u (with_words (n - (i + 1)) (behind_word line) u) e alone (charge-words (n - (i + 1)) (behind_word line) u) (limit-words (n - (i + 1)) (behind_word line) u) in
+    refused-more u (with_words (n - (i + 1)) (behind_word line) u) e alone (charge-words (n - (i + 1)) (behind_word line) u) (limit-words (n - (i + 1)) (behind_word line) u) in
     refused ∙ ap (λ (x : Stored K). afforded x (tt {0})) one
 
 -- and behind one that is stored

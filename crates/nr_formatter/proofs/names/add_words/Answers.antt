@@ -1,9 +1,7 @@
 use Rattle.std.specs.Prelude.{◌==◌}
-use Rattle.std.proofs.Common.{◌≡◌, ℕ, List, ◌+◌, ◌-◌, ◌≤◌, length, true, false, ap, sym, ◌∙◌, arith, rules}
-use Rattle.nr_store.specs.Stored.{charge_of, worded}
-use Rattle.nr_settings.specs.Arguments.{word_in, behind_word}
-use Rattle.nr_formatter.specs.Naming.{with_words}
-use Rattle.nr_formatter.proofs.WordsStored.{words-more, words-none, words-refused, words-kept, kept-within, within-made}
+use Rattle.std.proofs.Common.{◌≡◌, ℕ, List, length, true, ap, sym, ◌∙◌}
+use Rattle.nr_settings.specs.Arguments.{word_in}
+use Rattle.nr_formatter.proofs.WordsStored.{words-none, words-refused, words-kept, kept-within, within-made}
 use Rattle.nr_formatter.proofs.names.add_words.Goals as goal
 
 pub returns-then-is_empty-clause-ok : goal.returns-then-is_empty-clause-ok

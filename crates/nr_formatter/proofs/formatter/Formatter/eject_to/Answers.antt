@@ -1,6 +1,3 @@
-use Rattle.std.proofs.Common.{rules}
-use Rattle.nr_formatter.specs.declared.formatter.Formatter.{Formatter}
-use Rattle.nr_formatter.specs.Weights.{Falls}
 use Rattle.nr_formatter.proofs.Falling.{on_ok}
 use Rattle.nr_formatter.proofs.InputFalls.{falls-ejected_to}
 use Rattle.nr_formatter.proofs.formatter.Formatter.eject_to.Goals as goal

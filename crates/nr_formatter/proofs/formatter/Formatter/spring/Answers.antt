@@ -1,8 +1,7 @@
-use Rattle.std.proofs.Common.{◌≡◌, None, Ok, false, ap, sym, ◌∙◌, rules, arith}
+use Rattle.std.proofs.Common.{◌≡◌, None, rules, arith}
 use Rattle.nr_tables.specs.Named.{find}
 use Rattle.nr_store.specs.Stored.{words}
 use Rattle.nr_formatter.proofs.Splices.{unsprung, springs_nothing, sprung_none}
-use Rattle.nr_formatter.specs.Springing.{sprung}
 use Rattle.nr_formatter.proofs.Falling.{falls-less}
 use Rattle.nr_formatter.proofs.InputFalls.{falls-sprung, not_text, falls-unsprung}
 use Rattle.nr_formatter.proofs.formatter.Formatter.spring.Goals as goal
