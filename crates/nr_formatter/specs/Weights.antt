@@ -113,7 +113,7 @@ weight_of_agenda events.Over t s = 3
 weight_of_agenda e t s = 400 + weight_of_task t s
 
 -- the moves that come before more is read
-pub steps_left : Formatter → ℕ
+unfoldable pub steps_left : Formatter → ℕ
 steps_left f =
     weight_of_agenda f.event f.task f.step + weight_of_name f.springs + weight_of_line (collected f)
     + weight_of_page f + weight_of_diversions f.store.building + weight_of_step f.step
@@ -139,12 +139,12 @@ owed_by_event events.Title = 130
 owed_by_event events.Diverted = 1
 owed_by_event e = 0
 
-pub owed : Formatter → ℕ
+unfoldable pub owed : Formatter → ℕ
 owed f = owed_by_event f.event + owed_by_task f.task f.reader.half
 
 -- ---- all of it: what is read is worth 256 moves for one
 
-pub weight : Reached → Formatter → ℕ
+unfoldable pub weight : Reached → Formatter → ℕ
 weight p f = 256 * (weight_before_byte f.store p f.reader + 32 * blanks_owed f.reader.half + owed f) + steps_left f
 
 -- What may still come fell by so many moves, but for so many that it rose by; what may come behind a byte stays.
