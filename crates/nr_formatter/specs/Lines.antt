@@ -1,5 +1,5 @@
 -- The ends of words, which lines go out, and breaks. (CSTR 54, section 4; on the points of `.hw` section 13.)
-use Rattle.std.specs.Prelude.{ℕ, ◌*◌, ◌-◌, Bool, true, false, not, ◌&&◌, ◌==◌, nat_le, if◌then◌else◌, List, length, Option, None, Some, is_none, min}
+use Rattle.std.specs.Prelude.{ℕ, ◌*◌, ◌-◌, Bool, true, false, not, ◌&&◌, ◌==◌, nat_le, if◌then◌else◌, List, length, take, Option, None, Some, is_none, min}
 use Rattle.std.specs.List.{fold}
 use Rattle.nr_units.specs.declared.cell.Cell.{Cell}
 use Rattle.nr_fill.specs.Pieces.{Collected, is_nil, cells_of_word, end_word, hyphenated, joined, may_hyphenate, reads_field, word_or_new}
@@ -35,9 +35,13 @@ use Rattle.nr_formatter.specs.Access.{collected, with_collected, is_filling, spa
 abbrev pub with_points : List ℕ → Collected → Collected
 with_points places c = fold (λ d place. hyphenated place d) c places
 
+-- a word takes at most 31 points
+abbrev pub most_points : List ℕ → List ℕ
+most_points places = take 31 places
+
 -- the places that `.hw` gave for the word that is being read
 abbrev pub given_points : Formatter → List ℕ
-given_points f = points_of (bytes_of (cells_of_word (word_or_new 0 (collected f).word))) f.store.words
+given_points f = most_points (points_of (bytes_of (cells_of_word (word_or_new 0 (collected f).word))) f.store.words)
 
 -- what is collected where the word ends: the word takes the points of `.hw`, or is one piece in a line that is not filled
 unfoldable pub pointed : Formatter → Collected

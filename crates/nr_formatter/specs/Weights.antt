@@ -8,6 +8,8 @@ use Rattle.nr_store.specs.Stored.{Built}
 use Rattle.nr_reading.specs.declared.event.Event.{Event}
 use Rattle.nr_reading.specs.declared.event.Event.TheVariants as events
 use Rattle.nr_reading.specs.declared.half.Half.{Half}
+use Rattle.nr_reading.specs.declared.mode.Mode.TheVariants as modes
+use Rattle.nr_reading.specs.Conditionals.{in_mode}
 use Rattle.nr_reading.specs.Weights.{weight_of_half, blanks_owed}
 use Rattle.nr_input.specs.Coming.{Reached}
 use Rattle.nr_input.specs.Weights.{weight_before_byte}
@@ -129,7 +131,7 @@ abbrev pub owed_by_task : Task → Half → ℕ
 owed_by_task (tasks.Act r) h = 68
 owed_by_task (tasks.Break t) h = owed_by_then t
 owed_by_task (tasks.Room rooms.Line) h = 1
-owed_by_task (tasks.Room rooms.Title) h = 130 - weight_of_half h
+owed_by_task (tasks.Room rooms.Title) h = weight_of_half (in_mode modes.TitleBefore h) - weight_of_half h
 owed_by_task t h = 0
 
 abbrev pub owed_by_event : Event → ℕ

@@ -3,10 +3,10 @@ ghost use Rattle.std.specs.Prelude.{◌≡◌, ◌<◌, ◌≤◌, length, repli
 ghost use Rattle.nr_formatter.specs.Access.{collected};
 ghost use Rattle.nr_formatter.specs.Diversions.{trap_between, trap_reached, with_diverted, with_diverted_row, divert_line, divert_title, with_diverted_space, with_diverted_cell, with_diverted_end, end_diversion, di, da, dt};
 ghost use Rattle.nr_formatter.specs.Limits.{IsWithin};
-ghost use Rattle.nr_formatter.specs.Places.{diversion_room, room_above};
+ghost use Rattle.nr_formatter.specs.Places.{diversion_room, is_diverting, room_above};
 ghost use Rattle.nr_formatter.specs.Weights.{Falls};
 ghost use Rattle.nr_reading.specs.declared.event.Event.TheVariants as events;
-ghost use Rattle.nr_store.specs.Stored.{afforded, added, blank_cell, charge_of};
+ghost use Rattle.nr_store.specs.Stored.{afforded, added, blank_cell, charge_of, newest_diversion};
 
 use crate::diversion_row::{divert_going, divert_titled};
 use crate::formatter::Formatter;
@@ -186,15 +186,17 @@ impl<'a> Formatter<'a> {
         }
     }
 
-    /// The innermost diversion ends. `dn` and `dl` tell its height and its greatest width.
-    pub(crate) fn end_diversion(&mut self)
-        ensures { self.new ≡ end_diversion self.old }
+    /// The innermost diversion ends. `dn` and `dl` tell its height and its greatest width. Answers whether one ended.
+    pub(crate) fn end_diversion(&mut self) -> bool
+        ensures ended { result ≡ is_diverting (newest_diversion self.old.store.building) }
+        ensures is { self.new ≡ end_diversion self.old }
     {
         let Some(diversion) = self.store.end_diversion() else {
-            return;
+            return false;
         };
         self.given.height = diversion.height.min(LOWEST) as i32;
         self.given.width = diversion.width.min(LOWEST) as i32;
+        true
     }
 
     /// `.di`

@@ -1,8 +1,10 @@
 //! The ends of words, which lines go out, and breaks. (CSTR 54, section 4.)
-ghost use Rattle.std.specs.Prelude.{◌≡◌, ◌<◌, OnOk, length};
+ghost use Rattle.std.specs.Prelude.{◌≡◌, ◌<◌, Bool, false, is_none, OnOk, length};
 ghost use Rattle.nr_fill.specs.Lined.{afforded};
+ghost use Rattle.nr_reading.specs.declared.event.Event.TheVariants as events;
 ghost use Rattle.nr_formatter.specs.Access.{collected, with_collected};
-ghost use Rattle.nr_formatter.specs.Lines.{with_points, pointed, breaks_behind, word_ended, break_word_end, goes_out, whole_line, front_line, flow_line, break_line, row_of, row_going, rest_of, settings_behind, behind_line, task_after, flow_done, task_of, step_behind, break_done, count, count_input};
+ghost use Rattle.nr_formatter.specs.Lines.{with_points, most_points, pointed, breaks_behind, word_ended, break_word_end, goes_out, whole_line, front_line, flow_line, break_line, row_of, row_going, rest_of, settings_behind, behind_line, task_after, flow_done, task_of, step_behind, break_done, count, count_input};
+ghost use Rattle.nr_formatter.specs.Weights.{Falls};
 
 use crate::formatter::{Formatter, InputTrap};
 use crate::tasks::{After, Room, Step, Task, Then};
@@ -20,6 +22,16 @@ pub struct Going {
     /// All that is collected, however wide; else as much as fits.
     pub whole: bool,
     pub align: Align,
+}
+
+/// A word takes at most so many points.
+const MOST_POINTS: usize = 31;
+
+/// The first of these places, at most 31.
+fn most_points(places: &[u8]) -> &[u8]
+    ensures { result.now ≡ most_points places.now }
+{
+    &places[..MOST_POINTS.min(places.len())]
 }
 
 /// The word that is being read may be cut at these places, so many cells in.
@@ -103,7 +115,7 @@ impl<'a> Formatter<'a> {
         }
         if self.settings.hyphenation.on && self.line.may_hyphenate() {
             let places = self.store.points(self.line.word_cells());
-            cut_at(&mut self.line, places);
+            cut_at(&mut self.line, most_points(places));
         }
     }
 
@@ -130,6 +142,7 @@ impl<'a> Formatter<'a> {
     pub fn break_word_end(&mut self) -> Result<(), LineCells>
         ensures result { result ≡ afforded (break_word_end self.old).line }
         ensures ok { OnOk result (self.new ≡ break_word_end self.old) }
+        ensures falls { is_none (collected self.old).word ≡ false → OnOk result (Falls 1 0 self.old self.new) }
     {
         if self.line.has_field() {
             return self.line.end_field();
@@ -197,13 +210,15 @@ impl<'a> Formatter<'a> {
         requires { 0 < length (collected self.old).pieces }
         ensures out { S.Adds out.old (row_going going offset self.old) out.new }
         ensures rest { self.new ≡ behind_line going self.old }
+        ensures falls { Falls 5 0 self.old self.new }
     {
         set_going(&mut self.line, &mut self.settings, going, offset, out);
     }
 
     /// Nothing more goes out where a word or a text line ended.
     pub fn flow_done(&mut self, after: After)
-        ensures { self.new ≡ flow_done after self.old }
+        ensures done { self.new ≡ flow_done after self.old }
+        ensures falls { (breaks : Bool) → self.old.event ≡ events.Nothing → self.old.task ≡ Task.Flow after breaks → Falls 1 0 self.old self.new }
     {
         self.task = after.task();
     }
@@ -223,7 +238,8 @@ impl<'a> Formatter<'a> {
 
     /// Nothing more goes out at a break. A `\p` that waits for a word is dropped, and what `\c` continues ends.
     pub fn break_done(&mut self, then: Then)
-        ensures { self.new ≡ break_done then self.old }
+        ensures done { self.new ≡ break_done then self.old }
+        ensures falls { self.old.event ≡ events.Nothing → self.old.task ≡ Task.Break then → Falls 1 0 self.old self.new }
     {
         self.breaks = false;
         self.reader.end_continuing();

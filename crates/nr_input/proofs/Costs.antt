@@ -99,7 +99,7 @@ lines_define d name ending v w r s is = beginning_defines (base_answer d name v)
 
 -- ---- splices
 
-splices : {K : Type 0} (v w : Stored K) (r : Reader) (k : Half) → Opens v w → r.burst < r.most → weight_of_half k + 32 * (blanks_owed k - blanks_owed r.half) ≤ weight_of_half r.half + 136
+splices : {K : Type 0} (v w : Stored K) (r : Reader) (k : Half) → Opens v w → r.burst < r.most → weight_of_half k + 32 * (blanks_owed k - blanks_owed r.half) ≤ weight_of_half r.half + 188
     → Splices v r w (record r { half = k; burst = r.burst + 1 })
 splices v w r k opens few weighs =
     let items = opens.items in

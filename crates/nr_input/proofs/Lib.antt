@@ -1,4 +1,5 @@
 pub mod Costs
 pub mod Items
 pub mod Spending
+pub mod Staying
 pub mod Taking

@@ -34,7 +34,7 @@ use Rattle.nr_reading.specs.Conditionals.{part_mode, in_mode, answer_of, remembe
 use Rattle.nr_reading.specs.Definitions.{last_line}
 use Rattle.nr_reading.specs.Seeking.{sought, sought_event}
 use Rattle.nr_reading.specs.Spelling.{is_empty}
-use Rattle.nr_reading.specs.Weights.{cost_of_event, weight_by, weight_of_escape, weight_of_backslash, weight_of_mode, held_by_mode, weight_of_half, blanks_owed, blanks_of_due}
+use Rattle.nr_reading.specs.Weights.{cost_of_event, weight_by, weight_of_escape, weight_of_backslash, weight_of_half, blanks_owed, blanks_of_due}
 use Rattle.nr_input.specs.declared.reader.Reader.{Reader}
 use Rattle.nr_input.specs.declared.refusal.Refusal.{Refusal}
 use Rattle.nr_input.specs.declared.refusal.Refusal.TheVariants as refusals
@@ -53,7 +53,7 @@ weight_of_escape-le w escapes.Begun few = few
 weight_of_escape-le w escapes.Comment few = omega arith
 
 -- nothing due weighs little more than anything due
-pub idle-le : (d : Due) (m : Mode) (e : Escape) → weight_by dues.Look m e ≤ weight_by d m e + 136
+pub idle-le : (d : Due) (m : Mode) (e : Escape) → weight_by dues.Look m e ≤ weight_by d m e + 188
 idle-le dues.Seek m e = omega (arith, weight_of_mode-le m, weight_of_escape-le (weight_of_backslash m) e (weight_of_backslash-le m))
 idle-le (dues.Judge b) m e = omega (arith, weight_of_mode-le m, weight_of_escape-le (weight_of_backslash m) e (weight_of_backslash-le m))
 idle-le d m e = omega arith
@@ -228,8 +228,8 @@ definition_spends false v w p r keeps = kept v w p (then_due dues.DefineAndCall 
 
 -- ---- what a control line calls
 
-title_weighs : (e : Escape) → weight_of_escape 1 e ≤ weight_of_escape 132 e
-title_weighs e = weight_of_escape-le 1 e (omega arith)
+title_weighs : (e : Escape) → weight_of_escape 11 e ≤ weight_of_escape 132 e
+title_weighs e = weight_of_escape-le 11 e (omega arith)
 
 -- the half behind a name that was looked up, with other notes
 abbrev found : Notes → Reader → Half

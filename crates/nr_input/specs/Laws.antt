@@ -1,6 +1,6 @@
--- What is half read weighs no more than this, whatever it is.
-use Rattle.std.specs.Prelude.{ℕ, ◌+◌, ◌*◌, ◌≤◌, List, [], ◌∷◌, length, sum_by}
-use Rattle.std.proofs.Common.{arith}
+-- What is half read weighs no more than this, whatever it is; and what is counted of a source that has not failed.
+use Rattle.std.specs.Prelude.{◌≡◌, ℕ, ◌+◌, ◌*◌, ◌≤◌, Bool, true, false, not, ◌&&◌, List, [], ◌∷◌, length, sum_by, Result}
+use Rattle.std.proofs.Common.{refl, arith}
 use Rattle.std.proofs.lemmas.List.Sums.{sum_by-cons}
 use Rattle.nr_reading.specs.declared.ask.Ask.{Ask}
 use Rattle.nr_reading.specs.declared.ask.Sign.TheVariants as signs
@@ -13,6 +13,9 @@ use Rattle.nr_reading.specs.declared.mode.Escape.{Escape}
 use Rattle.nr_reading.specs.declared.mode.Escape.TheVariants as escapes
 use Rattle.nr_reading.specs.declared.mode.Mode.{Mode}
 use Rattle.nr_reading.specs.declared.mode.Mode.TheVariants as modes
+use Rattle.nr_input.specs.declared.place.Ahead.{Ahead}
+use Rattle.nr_input.specs.declared.refusal.Refusal.{Refusal}
+use Rattle.nr_input.specs.Coming.{is_read_fault, has_failed, fails_now}
 use Rattle.nr_reading.specs.Weights.{weight_by, weight_of_escape, weight_of_backslash, weight_of_mode, weight_of_due, held_by_mode, weight_of_stage, weight_of_ask, weight_of_half}
 
 -- how many bytes of a definition's line are held back, or are still to be added
@@ -23,7 +26,7 @@ held_by_due d = 0
 abbrev pub held_back : Half → ℕ
 held_back h = held_by_mode h.reading.mode + held_by_due h.reading.due
 
-pub weight_of_mode-le : (m : Mode) → weight_of_mode m ≤ 203 + held_by_mode m
+pub weight_of_mode-le : (m : Mode) → weight_of_mode m ≤ 255 + held_by_mode m
 weight_of_mode-le (modes.BodyStart held) = omega arith
 weight_of_mode-le m = omega arith
 
@@ -48,7 +51,7 @@ weight_of_due-le (dues.Register signs.Plus) = omega arith
 weight_of_due-le (dues.Register signs.Minus) = omega arith
 weight_of_due-le d = omega arith
 
-weight_by-le : (d : Due) (m : Mode) (e : Escape) → weight_by d m e ≤ 337 + held_by_mode m + held_by_due d
+weight_by-le : (d : Due) (m : Mode) (e : Escape) → weight_by d m e ≤ 389 + held_by_mode m + held_by_due d
 weight_by-le dues.Seek m e = omega (arith, weight_of_escape-le 132 e)
 weight_by-le (dues.Judge b) m e = omega (arith, weight_of_escape-le 132 e)
 weight_by-le d m e = omega (arith, weight_of_due-le d, weight_of_mode-le m, weight_of_backslash-le m, weight_of_escape-le (weight_of_backslash m) e)
@@ -61,5 +64,16 @@ weight_of_asks-le : (asks : List Ask) → sum_by weight_of_ask asks ≤ 66 * len
 weight_of_asks-le [] = omega arith
 weight_of_asks-le (a ∷ asks) = omega (arith, sum_by-cons weight_of_ask a asks, weight_of_stage-le a.stage, weight_of_asks-le asks)
 
-pub weight_of_half-le : (h : Half) → weight_of_half h ≤ 337 + 66 * length h.asks + held_back h
+pub weight_of_half-le : (h : Half) → weight_of_half h ≤ 389 + 66 * length h.asks + held_back h
 weight_of_half-le h = omega (arith, weight_by-le h.reading.due h.reading.mode h.reading.escape, weight_of_asks-le h.asks)
+
+-- ---- failures
+
+and_not : (told failed : Bool) → failed ≡ false → (told && not failed) ≡ told
+and_not true true going = let wrong : ⊥ = cc in absurd wrong
+and_not true false going = refl
+and_not false failed going = refl
+
+-- where the source has not failed, a read fault is that of this very call
+pub fails_now-going : {X : Type 0} (ahead : Ahead) (r : Result X Refusal) → has_failed ahead ≡ false → fails_now ahead r ≡ is_read_fault r
+fails_now-going ahead r going = and_not (is_read_fault r) (has_failed ahead) going

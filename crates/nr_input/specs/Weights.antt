@@ -1,6 +1,7 @@
 -- How many moves may still come before the next byte of the source is taken.
 use Rattle.std.specs.Prelude.{◌≡◌, ℕ, ◌+◌, ◌-◌, ◌*◌, ◌≤◌, Bool, true, false, List, length, Option, None, Some, sum_by, Result, Ok, Err}
-use Rattle.nr_store.specs.Stored.{Stored, Level, Read, Mark}
+use Rattle.nr_store.specs.Stored.{Stored, Built, Level, Read, Mark}
+use Rattle.nr_store.specs.declared.element.Diversion.{Diversion}
 use Rattle.nr_reading.specs.declared.event.Event.TheVariants as events
 use Rattle.nr_reading.specs.declared.half.Half.{Half}
 use Rattle.nr_reading.specs.Weights.{cost_of_event, weight_of_half, blanks_owed}
@@ -98,3 +99,16 @@ pub record Defines {K : Type 0} (v : Stored K) (r : Reader) (v' : Stored K) (r' 
   pub burst : r'.burst ≡ r.burst
   pub most : r'.most ≡ r.most
   pub costs : CostsAtMost 68 r.half r'.half
+
+-- ---- diversions: none begins where something is read
+
+abbrev pub count_of_diversion : Option Diversion → ℕ
+count_of_diversion None = 0
+count_of_diversion (Some d) = 1
+
+abbrev pub diversions_of : Built → ℕ
+diversions_of b = count_of_diversion b.diversion
+
+-- how many of the texts that are being built have a diversion
+abbrev pub diversions_in : List Built → ℕ
+diversions_in building = sum_by diversions_of building

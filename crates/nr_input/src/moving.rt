@@ -1,10 +1,10 @@
 //! One move of the machine that reads.
-ghost use Rattle.std.specs.Prelude.{◌≡◌, true};
+ghost use Rattle.std.specs.Prelude.{◌≡◌, ◌≤◌, true, OnOk};
 ghost use Rattle.nr_units.specs.Failures.{counted_if};
 ghost use Rattle.nr_input.specs.Acting.{is_look};
-ghost use Rattle.nr_input.specs.Coming.{Coming, HoldsComing, fails_now};
+ghost use Rattle.nr_input.specs.Coming.{Coming, HoldsComing, fails_now, has_failed};
 ghost use Rattle.nr_input.specs.Moving.{burst_past, told_of, situation, AfterMove};
-ghost use Rattle.nr_input.specs.Weights.{PaysIfMade};
+ghost use Rattle.nr_input.specs.Weights.{PaysIfMade, diversions_in};
 
 use super::place::Place;
 use super::reader::Reader;
@@ -47,6 +47,8 @@ fn look<K: Copy, R: Source>(
         AfterMove (situation store.old c reader.old) result store.new reader.new place.new (R.supply source.new) }
     ensures failures { R.failures source.new ≡ counted_if (fails_now place.old.ahead result) (R.failures source.old) }
     ensures pays { PaysIfMade store.old place.old reader.old result store.new place.new reader.new }
+    ensures diversions { diversions_in store.new.building ≤ diversions_in store.old.building }
+    ensures unfailed { OnOk result (has_failed place.new.ahead ≡ has_failed place.old.ahead) }
 {
     let front = place.look(store, source)?;
     let seen = reader.half.meet(front);
@@ -70,6 +72,8 @@ pub fn advance<K: Copy, R: Source>(
         AfterMove (situation store.old c reader.old) result store.new reader.new place.new (R.supply source.new) }
     ensures failures { R.failures source.new ≡ counted_if (fails_now place.old.ahead result) (R.failures source.old) }
     ensures pays { PaysIfMade store.old place.old reader.old result store.new place.new reader.new }
+    ensures diversions { diversions_in store.new.building ≤ diversions_in store.old.building }
+    ensures unfailed { OnOk result (has_failed place.new.ahead ≡ has_failed place.old.ahead) }
 {
     if reader.looks() {
         return look(place, reader, store, source);

@@ -49,7 +49,7 @@ impl Place {
     ghost use Rattle.nr_units.specs.Supply.{Supply};
     ghost use Rattle.nr_units.specs.Failures.{counted_if};
     ghost use Rattle.nr_store.specs.Stored.{shown, left};
-    ghost use Rattle.nr_input.specs.Coming.{Coming, Reached, HoldsComing, AfterSee, AfterLook, is_seen, is_ready, seen_front, passed, ended, front_seen, passed_in, StaysThere, nothing_reached, behind, emptied, fails_now};
+    ghost use Rattle.nr_input.specs.Coming.{Coming, Reached, HoldsComing, AfterSee, AfterLook, is_seen, is_ready, seen_front, passed, ended, front_seen, passed_in, StaysThere, nothing_reached, behind, emptied, fails_now, has_failed};
 
     /// Nothing is taken yet.
     pub fn new() -> Self
@@ -76,6 +76,7 @@ impl Place {
         ensures seen { OnOk result (is_seen self.new.ahead ≡ true) }
         ensures stays { StaysThere self.old self.new }
         ensures failures { R.failures source.new ≡ counted_if (fails_now self.old.ahead result) (R.failures source.old) }
+        ensures unfailed { OnOk result (has_failed self.new.ahead ≡ has_failed self.old.ahead) }
     {
         match self.ahead {
             Ahead::Byte(_) | Ahead::End => Ok(()),
@@ -145,6 +146,7 @@ impl Place {
         ensures front { IfOk result (λ f. f ≡ front_seen (shown store.now.levels) self.new) }
         ensures stays { StaysThere self.old self.new }
         ensures failures { R.failures source.new ≡ counted_if (fails_now self.old.ahead result) (R.failures source.old) }
+        ensures unfailed { OnOk result (has_failed self.new.ahead ≡ has_failed self.old.ahead) }
     {
         match store.look() {
             Shown::Item(element) => match element {

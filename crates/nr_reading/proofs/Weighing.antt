@@ -20,6 +20,8 @@ cost_of_event-le events.Over = omega arith
 cost_of_event-le events.Lead = omega arith
 cost_of_event-le events.Request = omega arith
 cost_of_event-le (events.Judge q) = omega arith
+cost_of_event-le events.Title = omega arith
+cost_of_event-le events.TitleEnd = omega arith
 cost_of_event-le e = omega arith
 
 pub weight_of_stage-le : (s : Stage) → weight_of_stage s ≤ 66

@@ -18,14 +18,17 @@ use Rattle.nr_reading.specs.declared.mode.Mode.{Mode}
 use Rattle.nr_reading.specs.declared.mode.Mode.TheVariants as modes
 use Rattle.nr_reading.specs.declared.mode.Reading.{Reading}
 
--- What a move costs by what it tells: the move itself, and 64 moves more for those to whom something is told; 68 more yet
--- where they may set what is read next. They count the end of the input and the blanks of a line's beginning themselves.
+-- What a move costs by what it tells: the move itself, and 64 moves more for those to whom something is told, 54 at a title's
+-- end; 68 more yet where they may set what is read next. They count the end of the input and the blanks of a line's beginning
+-- themselves.
 abbrev pub cost_of_event : Event → ℕ
 cost_of_event events.Nothing = 1
 cost_of_event events.Over = 0
 cost_of_event events.Lead = 0
 cost_of_event events.Request = 133
 cost_of_event (events.Judge q) = 133
+cost_of_event events.Title = 133
+cost_of_event events.TitleEnd = 55
 cost_of_event e = 65
 
 -- What an item that is taken pays: one that is text up to 256 moves, a mark its own.
@@ -51,9 +54,9 @@ weight_of_mode modes.Start = 65
 weight_of_mode modes.Accepted = 66
 weight_of_mode (modes.Skip n) = 66
 weight_of_mode modes.Text = 130
-weight_of_mode modes.TitleBefore = 130
-weight_of_mode (modes.Title d n) = 130
-weight_of_mode modes.TitleRest = 130
+weight_of_mode modes.TitleBefore = 120
+weight_of_mode (modes.Title d n) = 120
+weight_of_mode modes.TitleRest = 120
 weight_of_mode modes.Diverted = 130
 weight_of_mode modes.Continued = 131
 weight_of_mode modes.Interrupted = 131
@@ -78,8 +81,8 @@ weight_of_mode modes.RequestLine = 198
 weight_of_mode modes.RequestBlanks = 199
 weight_of_mode (modes.Number depth) = 199
 weight_of_mode modes.Condition = 200
-weight_of_mode modes.Name = 202
-weight_of_mode modes.Control = 203
+weight_of_mode modes.Name = 254
+weight_of_mode modes.Control = 255
 
 -- ---- what is due
 
@@ -100,8 +103,8 @@ weight_of_backslash modes.Text = 1
 weight_of_backslash modes.Interrupted = 1
 weight_of_backslash modes.Continued = 1
 weight_of_backslash (modes.Leading n) = 1
-weight_of_backslash modes.TitleBefore = 1
-weight_of_backslash (modes.Title d n) = 1
+weight_of_backslash modes.TitleBefore = 11
+weight_of_backslash (modes.Title d n) = 11
 weight_of_backslash modes.Diverted = 1
 weight_of_backslash m = 132
 
@@ -118,7 +121,7 @@ held_by_mode m = 0
 
 -- Behind a name that is looked up, and behind a condition that is judged, another mode follows.
 abbrev pub weight_by : Due → Mode → Escape → ℕ
-weight_by dues.Seek m e = 201 + held_by_mode m + weight_of_escape 132 e
+weight_by dues.Seek m e = 253 + held_by_mode m + weight_of_escape 132 e
 weight_by (dues.Judge b) m e = 67 + held_by_mode m + weight_of_escape 132 e
 weight_by d m e = weight_of_mode m + weight_of_due d + weight_of_escape (weight_of_backslash m) e
 

@@ -1,7 +1,8 @@
-use Rattle.std.proofs.Common.{◌≡◌, ap, true}
+use Rattle.std.proofs.Common.{◌≡◌, Ok, ap, true}
 use Rattle.nr_reading.specs.declared.mode.Due.TheVariants as dues
 use Rattle.nr_input.specs.Acting.{is_look}
 use Rattle.nr_input.proofs.Spending.{act_pays}
+use Rattle.nr_input.proofs.Staying.{act_begins_none}
 use Rattle.nr_input.proofs.moving.advance.Goals as goal
 
 pub returns-in-Ok-clause-pays : goal.returns-in-Ok-clause-pays
@@ -9,3 +10,7 @@ returns-in-Ok-clause-pays g c =
     let r = c.args.reader.now in
     act_pays c.args.store.now c.act.new.store c.args.place.now r c.act.new.self c.in-Ok.event
     (λ (is : r.half.reading.due ≡ dues.Look). let looks : is_look r.half.reading.due ≡ true = ap is_look is in let wrong : ⊥ = cc in absurd wrong) c.in-Ok.ensures
+
+pub returns-in-Ok-clause-diversions : goal.returns-in-Ok-clause-diversions
+returns-in-Ok-clause-diversions g c =
+    let r = c.args.reader.now in act_begins_none c.args.store.now c.act.new.store r c.act.new.self (Ok c.in-Ok.event) c.in-Ok.ensures
