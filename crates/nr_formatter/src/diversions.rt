@@ -4,6 +4,8 @@ ghost use Rattle.nr_formatter.specs.Access.{collected};
 ghost use Rattle.nr_formatter.specs.Diversions.{trap_between, trap_reached, with_diverted, with_diverted_row, divert_line, divert_title, with_diverted_space, with_diverted_cell, with_diverted_end, end_diversion, di, da, dt};
 ghost use Rattle.nr_formatter.specs.Limits.{IsWithin};
 ghost use Rattle.nr_formatter.specs.Places.{diversion_room, is_diverting, room_above};
+ghost use Rattle.nr_formatter.specs.Weights.{Falls};
+ghost use Rattle.nr_reading.specs.declared.event.Event.TheVariants as events;
 ghost use Rattle.nr_store.specs.Stored.{afforded, added, blank_cell, charge_of, newest_diversion};
 
 use crate::diversion_row::{divert_going, divert_titled};
@@ -111,6 +113,7 @@ impl<'a> Formatter<'a> {
         requires pieces { 0 < length (collected self.old).pieces }
         ensures result { result ≡ afforded (divert_line going self.old).store tt }
         ensures ok { OnOk result (self.new ≡ divert_line going self.old) }
+        ensures falls { OnOk result (Falls 1 0 self.old self.new) }
     {
         let height = self.settings.pages.spacing.units();
         let springs = trap_reached(height, self.store.diversion());
@@ -130,6 +133,7 @@ impl<'a> Formatter<'a> {
     pub fn divert_title(&mut self) -> Result<(), StoredBytes>
         ensures result { result ≡ afforded (divert_title self.old).store tt }
         ensures ok { OnOk result (self.new ≡ divert_title self.old) }
+        ensures falls { self.old.event ≡ events.Nothing → self.old.task ≡ Task.Title → OnOk result (Falls 1 0 self.old self.new) }
     {
         let height = self.settings.pages.spacing.units();
         let length = self.settings.indents.title_length.value.cells();
@@ -145,6 +149,7 @@ impl<'a> Formatter<'a> {
     pub fn divert_space(&mut self, distance: u32) -> Result<(), StoredBytes>
         ensures result { result ≡ afforded (with_diverted_space distance self.old).store tt }
         ensures ok { OnOk result (self.new ≡ with_diverted_space distance self.old) }
+        ensures falls { self.old.event ≡ events.Nothing → self.old.task ≡ Task.Space distance → OnOk result (Falls 1 0 self.old self.new) }
     {
         let height = distance.min(self.diversion_room());
         self.task = Task::Read;
@@ -155,6 +160,7 @@ impl<'a> Formatter<'a> {
     pub fn divert_cell(&mut self, indent: u32, cell: Cell) -> Result<(), StoredBytes>
         ensures result { IsWithin self.old → result ≡ afforded (with_diverted_cell indent cell self.old).store tt }
         ensures ok { OnOk result (self.new ≡ with_diverted_cell indent cell self.old) }
+        ensures falls { OnOk result (Falls 0 0 self.old self.new) }
     {
         match add_blanks(&mut self.store, indent) {
             Err(full) => Err(full),
@@ -166,6 +172,7 @@ impl<'a> Formatter<'a> {
     pub fn divert_line_end(&mut self, cells: u32, height: u32) -> Result<(), StoredBytes>
         ensures result { result ≡ afforded (with_diverted_end cells height self.old).store tt }
         ensures ok { OnOk result (self.new ≡ with_diverted_end cells height self.old) }
+        ensures falls { self.old.event ≡ events.Nothing → self.old.task ≡ Task.Line height → OnOk result (Falls 1 0 self.old self.new) }
     {
         let springs = trap_reached(height, self.store.diversion());
         match self.store.end_line(cells, height) {
