@@ -74,20 +74,28 @@ record AllFalse (a b c d : Bool) : Type 0 where
   third : c ≡ false
   fourth : d ≡ false
 
+is_made : Result (Unit {0}) Passed → Bool
+is_made (Ok x) = true
+is_made (Err e) = false
+
 ok_four : (a b c d : Bool) → judged_by (four a b c d) ≡ Ok tt → AllFalse a b c d
-ok_four true b c d e = absurd (let f : true ≡ false = cc in cc)
-ok_four false true c d e = cc
-ok_four false false true d e = cc
-ok_four false false false true e = cc
+ok_four true b c d e = absurd (let f : false ≡ true = ap is_made e in cc)
+ok_four false true c d e = absurd (let f : false ≡ true = ap is_made e in cc)
+ok_four false false true d e = absurd (let f : false ≡ true = ap is_made e in cc)
+ok_four false false false true e = absurd (let f : false ≡ true = ap is_made e in cc)
 ok_four false false false false e = record { first = refl; second = refl; third = refl; fourth = refl }
 
+measure_in : Measure → Result (Unit {0}) Passed → Measure
+measure_in m (Ok x) = m
+measure_in m (Err e) = measure_of e
+
 err_four : (a b c p d : Bool) (x : Passed) → p ≡ false → judged_by (four a b c d) ≡ Err x → five a b c p d ≡ Some (measure_of x)
-err_four true b c p d x q e = ap (λ y. Some (measure_of y)) (let same : passes.Stored ≡ x = cc in same)
-err_four false true c p d x q e = ap (λ y. Some (measure_of y)) (let same : passes.Depth ≡ x = cc in same)
-err_four false false true p d x q e = ap (λ y. Some (measure_of y)) (let same : passes.LineCells ≡ x = cc in same)
-err_four false false false true d x q e = cc
-err_four false false false false true x q e = ap (λ y. Some (measure_of y)) (let same : passes.Expansions ≡ x = cc in same)
-err_four false false false false false x q e = cc
+err_four true b c p d x q e = ap (λ r. Some (measure_in Stored r)) e
+err_four false true c p d x q e = ap (λ r. Some (measure_in Stored r)) e
+err_four false false true p d x q e = ap (λ r. Some (measure_in Stored r)) e
+err_four false false false true d x q e = absurd (let f : true ≡ false = q in cc)
+err_four false false false false true x q e = ap (λ r. Some (measure_in Stored r)) e
+err_four false false false false false x q e = absurd (let f : true ≡ false = ap is_made e in cc)
 
 -- where it is made each measure is within
 pub judged_within : (f : Formatter) → judged f ≡ Ok tt → formatter.IsWithin f
