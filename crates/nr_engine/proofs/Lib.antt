@@ -1,3 +1,6 @@
+mod Bursts
+mod NextMoves
 mod Measured
+mod Spending
 mod Standing
 mod Working

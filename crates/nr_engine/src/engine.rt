@@ -37,6 +37,8 @@ impl<'a> Engine<'a> {
     ghost use Rattle.nr_input.specs.Coming.{Coming, HoldsComing, emptied, has_failed};
     ghost use Rattle.nr_formatter.specs.Passed.{splice_answer};
     ghost use Rattle.nr_formatter.specs.Weights.{Falls};
+    ghost use Rattle.nr_formatter.specs.declared.tasks.Resume.{Resume as ResumeValue};
+    ghost use Rattle.nr_input.specs.declared.told.Told.TheVariants as tells;
     ghost use Rattle.nr_formatter.specs.Ending.{ex};
     ghost use Rattle.nr_formatter.specs.Moves.{works, worked};
     ghost use Rattle.nr_formatter.specs.Springing.{sprung};
@@ -96,7 +98,8 @@ impl<'a> Engine<'a> {
 
     /// What was told is acted on then; what a sprung macro interrupted is gone on with.
     fn tell(&mut self, told: Told<Resume>)
-        ensures { shape self.new ≡ record (shape self.old) { formatter = told_formatter told self.old.formatter } }
+        ensures is { shape self.new ≡ record (shape self.old) { formatter = told_formatter told self.old.formatter } }
+        ensures falls { (resume : ResumeValue) → told ≡ tells.Resume resume → self.old.formatter.event ≡ events.Nothing → self.old.formatter.task ≡ tasks.Read → Falls 0 65024 self.old.formatter self.new.formatter }
     {
         match told {
             Told::Event(event) => self.formatter.event = event,
@@ -124,6 +127,7 @@ impl<'a> Engine<'a> {
         ) {
             Ok(told) => {
                 self.tell(told);
+                self.formatter.fit_memory();
                 Ok(())
             }
             Err(refusal) => Err(self.refused(refusal)),

@@ -1,0 +1,101 @@
+-- What a move that reads costs.
+use Rattle.std.proofs.Common.{◌≡◌, ℕ, ◌+◌, ◌-◌, ◌*◌, ◌≤◌, List, [], ◌∷◌, Option, None, Some, refl, arith, mul_assoc}
+use Rattle.std.proofs.lemmas.List.Sums.{sum_by-cons}
+use Rattle.nr_store.specs.declared.element.Diversion.{Diversion}
+use Rattle.nr_reading.specs.declared.event.Event.{Event}
+use Rattle.nr_reading.specs.declared.event.Event.TheVariants as events
+use Rattle.nr_reading.specs.Weights.{cost_of_event, blanks_owed}
+use Rattle.nr_store.specs.Stored.{Stored, Built}
+use Rattle.nr_input.specs.Coming.{Reached}
+use Rattle.nr_input.specs.Weights.{byte_worth, Pays, IfLead, diversions_in, diversions_of, count_of_diversion}
+use Rattle.nr_input.specs.declared.reader.Reader.{Reader}
+use Rattle.nr_input.specs.declared.told.Told.{Told}
+use Rattle.nr_input.specs.declared.told.Told.TheVariants as tells
+use Rattle.nr_formatter.specs.Weights.{Falls, weight, steps_left, owed, owed_by_event, owed_by_task, weight_of_agenda, weight_of_diversion, weight_of_built, weight_of_diversions}
+use Rattle.nr_formatter.specs.declared.formatter.Formatter.{Formatter}
+use Rattle.nr_formatter.specs.declared.tasks.Resume.{Resume}
+use Rattle.nr_formatter.specs.declared.tasks.Step.{Step}
+use Rattle.nr_formatter.specs.declared.tasks.Task.TheVariants as tasks
+
+-- a blank of a line's beginning is told out of the blanks that are owed
+abbrev lead_of : Event → ℕ
+lead_of events.Lead = 32
+lead_of e = 0
+
+-- what is told weighs no more than what the move pays for it
+event_paid : (e : Event) (s : Step) → weight_of_agenda e tasks.Read s + 256 * owed_by_event e + 1 ≤ 4 + 256 * (cost_of_event e + lead_of e)
+event_paid events.Nothing s = omega arith
+event_paid events.Over s = omega arith
+event_paid events.Empty s = omega arith
+event_paid events.EndContinued s = omega arith
+event_paid events.EndLine s = omega arith
+event_paid events.EndInterrupted s = omega arith
+event_paid events.Leading s = omega arith
+event_paid events.Lead s = omega arith
+event_paid (events.Byte b) s = omega arith
+event_paid (events.Cell x) s = omega arith
+event_paid (events.Plain b) s = omega arith
+event_paid events.Fixed s = omega arith
+event_paid events.Zero s = omega arith
+event_paid events.Percent s = omega arith
+event_paid events.BreakWord s = omega arith
+event_paid events.Tab s = omega arith
+event_paid events.Leader s = omega arith
+event_paid events.Special s = omega arith
+event_paid events.Font s = omega arith
+event_paid events.Horizontal s = omega arith
+event_paid events.Rule s = omega arith
+event_paid events.Given s = omega arith
+event_paid events.Width s = omega arith
+event_paid events.Title s = omega arith
+event_paid events.TitlePart s = omega arith
+event_paid events.TitleEnd s = omega arith
+event_paid events.Diverted s = omega arith
+event_paid (events.DivertedCell x) s = omega arith
+event_paid (events.DivertedEnd h) s = omega arith
+event_paid events.Request s = omega arith
+event_paid (events.Judge q) s = omega arith
+
+-- the blanks that are owed
+blanks_paid : (e : Event) (old new : ℕ) → IfLead {K = Resume} (tells.Event e) (new + 1 ≡ old) → 32 * new + lead_of e ≤ 32 * (new - old) + 32 * old
+blanks_paid events.Lead old new h = omega (arith, h)
+blanks_paid e old new h = omega arith
+
+-- diversions, counted one way and the other
+same_diversion : (d : Option Diversion) → weight_of_diversion d ≡ count_of_diversion d
+same_diversion None = refl
+same_diversion (Some d) = refl
+
+same_count : (bs : List Built) → weight_of_diversions bs ≡ diversions_in bs
+same_count [] = refl
+same_count (b ∷ bs) = omega (arith, sum_by-cons weight_of_built b bs, sum_by-cons diversions_of b bs, same_diversion b.diversion, same_count bs)
+
+times : (w t : ℕ) → 256 * w * t ≡ 256 * (w * t)
+times w t = mul_assoc 256 w t
+
+-- an event is told
+pub told_spends : (p q : Reached) (f : Formatter) (v : Stored Resume) (r : Reader) (e : Event) → f.event ≡ events.Nothing → f.task ≡ tasks.Read
+    → Pays f.store p f.reader (tells.Event e) v q r → diversions_in v.building ≤ diversions_in f.store.building
+    → weight q (record f { store = v; reader = r; event = e }) + 1 + 256 * byte_worth f.reader.most f.store.limit * p.taken
+    ≤ weight p f + 256 * byte_worth f.reader.most f.store.limit * q.taken
+unfolding weight steps_left owed
+told_spends p q f v r e idle task pays fewer =
+    let w = byte_worth f.reader.most f.store.limit in
+    let before : weight_of_agenda f.event f.task f.step ≡ 4 = rw (idle, task) refl in
+    let owed_before : owed_by_event f.event + owed_by_task f.task f.reader.half ≡ 0 = rw (idle, task) refl in
+    let behind : weight_of_agenda e f.task f.step ≡ weight_of_agenda e tasks.Read f.step = rw task refl in
+    let owed_behind : owed_by_task f.task r.half ≡ 0 = rw task refl in
+    omega (arith, before, owed_before, behind, owed_behind, pays.pays w (omega arith), event_paid e f.step, blanks_paid e (blanks_owed f.reader.half) (blanks_owed r.half) pays.lead,
+    same_count v.building, same_count f.store.building, fewer, times w p.taken, times w q.taken)
+
+-- what was under way is gone on with
+pub resumed_spends : (p q : Reached) (f g : Formatter) (v : Stored Resume) (r : Reader) (k : Resume) → f.event ≡ events.Nothing → f.task ≡ tasks.Read
+    → Pays f.store p f.reader (tells.Resume k) v q r → diversions_in v.building ≤ diversions_in f.store.building
+    → Falls 0 65024 (record f { store = v; reader = r }) g
+    → weight q g + 1 + 256 * byte_worth f.reader.most f.store.limit * p.taken ≤ weight p f + 256 * byte_worth f.reader.most f.store.limit * q.taken
+unfolding weight steps_left owed
+resumed_spends p q f g v r k idle task pays fewer falls =
+    let w = byte_worth f.reader.most f.store.limit in
+    let owed_before : owed_by_event f.event + owed_by_task f.task f.reader.half ≡ 0 = rw (idle, task) refl in
+    let owed_behind : owed_by_event f.event + owed_by_task f.task r.half ≡ 0 = rw (idle, task) refl in
+    omega (arith, owed_before, owed_behind, falls.falls q, pays.pays w (omega arith), same_count v.building, same_count f.store.building, fewer, times w p.taken, times w q.taken)
