@@ -6,7 +6,7 @@ use Rattle.nr_reading.specs.declared.event.Event.{Event}
 use Rattle.nr_reading.specs.declared.event.Event.TheVariants as events
 use Rattle.nr_reading.specs.Weights.{cost_of_event, blanks_owed}
 use Rattle.nr_store.specs.Stored.{Stored, Built}
-use Rattle.nr_input.specs.Coming.{Reached}
+use Rattle.nr_input.specs.Coming.{Reached, ended}
 use Rattle.nr_input.specs.Weights.{byte_worth, Pays, IfLead, diversions_in, diversions_of, count_of_diversion}
 use Rattle.nr_input.specs.declared.reader.Reader.{Reader}
 use Rattle.nr_input.specs.declared.told.Told.{Told}
@@ -99,3 +99,12 @@ resumed_spends p q f g v r k idle task pays fewer falls =
     let owed_before : owed_by_event f.event + owed_by_task f.task f.reader.half ≡ 0 = rw (idle, task) refl in
     let owed_behind : owed_by_event f.event + owed_by_task f.task r.half ≡ 0 = rw (idle, task) refl in
     omega (arith, owed_before, owed_behind, falls.falls q, pays.pays w (omega arith), same_count v.building, same_count f.store.building, fewer, times w p.taken, times w q.taken)
+
+-- nothing is to come of the source any more
+pub exit_spends : (w : ℕ) (p : Reached) (f g : Formatter) → Falls 1 0 f g → weight (ended p) g + 1 + w * p.taken ≤ weight p f + w * p.taken
+unfolding weight
+exit_spends w p f g falls = let a = falls.falls (ended p) in omega arith
+
+-- a move that takes no byte
+pub work_spends : (w : ℕ) (p : Reached) (f g : Formatter) → Falls 1 0 f g → weight p g + 1 + w * p.taken ≤ weight p f + w * p.taken
+work_spends w p f g falls = let a = falls.falls p in omega arith
