@@ -1,3 +1,6 @@
+mod Going
+mod Lightening
 mod Measured
+mod Selected
 mod Standing
 mod Working

@@ -62,10 +62,10 @@ over m n e = elim (cases_lt m n) [
   | inr k ↦ absurd (let f : true ≡ false = sym e ∙ le-ltb m n (omega (arith, k)) in cc)
 ]
 
-four : Bool → Bool → Bool → Bool → Option Passed
+abbrev four : Bool → Bool → Bool → Bool → Option Passed
 four a b c d = if a then Some passes.Stored else (if b then Some passes.Depth else (if c then Some passes.LineCells else (if d then Some passes.Expansions else None)))
 
-five : Bool → Bool → Bool → Bool → Bool → Option Measure
+abbrev five : Bool → Bool → Bool → Bool → Bool → Option Measure
 five a b c p d = if a then Some Stored else (if b then Some Depth else (if c then Some LineCells else (if p then Some PageCells else (if d then Some Expansions else None))))
 
 record AllFalse (a b c d : Bool) : Type 0 where
@@ -74,7 +74,7 @@ record AllFalse (a b c d : Bool) : Type 0 where
   third : c ≡ false
   fourth : d ≡ false
 
-is_made : Result (Unit {0}) Passed → Bool
+abbrev is_made : Result (Unit {0}) Passed → Bool
 is_made (Ok x) = true
 is_made (Err e) = false
 
@@ -85,7 +85,7 @@ ok_four false false true d e = absurd (let f : false ≡ true = ap is_made e in 
 ok_four false false false true e = absurd (let f : false ≡ true = ap is_made e in cc)
 ok_four false false false false e = record { first = refl; second = refl; third = refl; fourth = refl }
 
-measure_in : Measure → Result (Unit {0}) Passed → Measure
+abbrev measure_in : Measure → Result (Unit {0}) Passed → Measure
 measure_in m (Ok x) = m
 measure_in m (Err e) = measure_of e
 
