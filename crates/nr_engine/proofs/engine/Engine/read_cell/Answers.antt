@@ -19,10 +19,10 @@ returns-clause-worked c = λ held supply s h.
     let rest = c.push.ensures.rest in
     let t = cell_to outlets.Room c.args.cell (at e s) in
     let e' = record e { formatter = done c.push.new.self.formatter; place = c.push.new.self.place; row = c.push.new.self.row; page = c.push.new.self.page; select = c.push.new.self.select.now } in
-    let margin : c.margin.result ≡ margin_in (offset e.formatter + indent e.formatter) s.row =
-    c.margin.ensures s.row h.row ∙ ap (λ n. margin_in n s.row) (let n : c.offset.result + c.cells-indent.result ≡ offset e.formatter + indent e.formatter = omega (arith, c.offset.ensures.value, c.cells-indent.ensures.value) in n)
+    let margin : c.margin-blanks.result ≡ margin_in (offset e.formatter + indent e.formatter) s.row =
+    c.margin-blanks.ensures s.row h.row ∙ ap (λ n. margin_in n s.row) (let n : c.offset.result + c.cells-indent.result ≡ offset e.formatter + indent e.formatter = omega (arith, c.offset.ensures.value, c.cells-indent.ensures.value) in n)
     in
-    let added : IsRow (s.row ++ (replicate c.margin.result blank ++ c.args.cell ∷ [])) c.push.new.self.row = c.push.ensures.row.1 s.row h.row in
+    let added : IsRow (s.row ++ (replicate c.margin-blanks.result blank ++ c.args.cell ∷ [])) c.push.new.self.row = c.push.ensures.row.1 s.row h.row in
     let row : IsRow (with_cell (offset e.formatter + indent e.formatter) c.args.cell s.row) c.push.new.self.row =
     rw (with_cell-is (offset e.formatter + indent e.formatter) c.args.cell s.row, sym margin) added
     in
