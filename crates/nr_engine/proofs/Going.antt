@@ -1,5 +1,5 @@
 -- What goes out, and where it does.
-use Rattle.std.proofs.Common.{◌≡◌, ◌≢◌, ℕ, ◌<◌, Bool, true, false, List, [], ◌∷◌, ◌++◌, replicate, length, Option, None, Some, is_some, Result, Ok, Err, refl, sym, ap, ◌∙◌, subst, arith}
+use Rattle.std.proofs.Common.{◌≡◌, ℕ, ◌<◌, Bool, List, [], ◌∷◌, ◌++◌, replicate, length, Option, None, Some, is_some, Result, Ok, Err, refl, sym, ap, subst, arith}
 use Rattle.std.specs.Prelude.{if◌then◌else◌}
 use Rattle.std.proofs.lemmas.Bool.{false≢true}
 use Rattle.nr_units.specs.Supply.{Supply}
@@ -18,7 +18,7 @@ use Rattle.nr_engine.specs.Machine.{begin_page, turn_page, cell_to, with_cell, m
 use Rattle.nr_engine.specs.Measures.{IsWithin}
 use Rattle.nr_engine.specs.Holding.{Shape, AfterWork, WroteFront}
 use Rattle.nr_engine.specs.declared.outcome.Outcome.{Outcome}
-use Rattle.nr_engine.specs.declared.outcome.Outcome.TheVariants.{Done, Limit, ReadFault, TooLong, WriteFault}
+use Rattle.nr_engine.specs.declared.outcome.Outcome.TheVariants.{WriteFault}
 
 some_pieces : (ps : List Piece) (o : Option Going) (g : Going) → (if is_nil ps then None else o) ≡ Some g → 0 < length ps
 some_pieces [] o g is = absurd (false≢true (ap is_some is))

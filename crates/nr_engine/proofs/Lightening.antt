@@ -1,5 +1,5 @@
 -- Moves after which less may still come.
-use Rattle.std.proofs.Common.{◌≡◌, ℕ, ◌+◌, ◌≤◌, refl, arith}
+use Rattle.std.proofs.Common.{◌≡◌, ℕ, ◌+◌, refl, arith}
 use Rattle.nr_units.specs.declared.cell.Cell.{Cell}
 use Rattle.nr_reading.specs.declared.event.Event.TheVariants as events
 use Rattle.nr_formatter.specs.declared.formatter.Formatter.{Formatter}

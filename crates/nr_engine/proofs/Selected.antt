@@ -1,8 +1,7 @@
 -- Which pages are printed, as facts.
-use Rattle.std.proofs.Common.{◌≡◌, ℕ, suc, ◌+◌, ◌<◌, Bool, true, false, ◌&&◌, ◌||◌, T, List, [], ◌∷◌, length, get_or, Option, None, Some, ℤ, pos, negsuc, ◌≤ℤ◌, int_le, IsTrue, Decides, refl, sym, ap, ◌∙◌, subst, arith}
-use Rattle.std.specs.List.{list_any, HoldsAt, Any}
+use Rattle.std.proofs.Common.{◌≡◌, ℕ, suc, ◌<◌, Bool, true, false, ◌&&◌, ◌||◌, T, List, [], ◌∷◌, length, get_or, Option, None, Some, ℤ, pos, ◌≤ℤ◌, int_le, IsTrue, refl, sym, ◌∙◌, subst, arith}
+use Rattle.std.specs.List.{list_any}
 use Rattle.std.proofs.lemmas.Int.{ints}
-use Rattle.std.proofs.lemmas.List.{get_or_default}
 use Rattle.std.proofs.lemmas.Bool.{false≢true}
 use Rattle.nr_page.specs.Selection.{Includes, Selects}
 use Rattle.nr_page.specs.declared.selection.PageRange.{PageRange}

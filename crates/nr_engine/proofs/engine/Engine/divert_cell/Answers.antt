@@ -1,7 +1,6 @@
-use Rattle.std.proofs.Common.{◌≡◌, refl, ap, sym}
+use Rattle.std.proofs.Common.{◌≡◌, ap}
 use Rattle.nr_formatter.specs.Access.{done}
 use Rattle.nr_formatter.specs.Weights.{Falls}
-use Rattle.nr_formatter.specs.Diversions.{with_diverted_cell}
 use Rattle.nr_reading.specs.declared.event.Event.TheVariants as events
 use Rattle.nr_formatter.proofs.Falling.{falls-then}
 use Rattle.nr_engine.proofs.Lightening.{falls-cell}

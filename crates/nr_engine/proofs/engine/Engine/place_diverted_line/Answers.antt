@@ -1,4 +1,4 @@
-use Rattle.std.proofs.Common.{◌≡◌, refl, ap, sym, arith}
+use Rattle.std.proofs.Common.{arith}
 use Rattle.nr_formatter.specs.Places.{to_read}
 use Rattle.nr_formatter.proofs.Falling.{falls-then, falls-less, on_ok}
 use Rattle.nr_engine.proofs.Lightening.{falls-line}

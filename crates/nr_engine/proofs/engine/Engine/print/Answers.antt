@@ -1,9 +1,8 @@
-use Rattle.std.proofs.Common.{◌≡◌, false, rules, refl, sym, ap, ◌∙◌, subst}
+use Rattle.std.proofs.Common.{◌≡◌, false, rules, sym, ap, ◌∙◌}
 use Rattle.std.specs.Int.{w32, w64}
 use mir.Val.{SFits, to_z, of_z}
 use Rattle.std.proofs.KnownBytes.{Appends-nil}
 use Rattle.std.proofs.lemmas.Int.{to_z-of_z}
-use Rattle.nr_page.specs.Selection.{Selects}
 use Rattle.nr_engine.specs.Printing.{selects}
 use Rattle.nr_engine.proofs.Selected.{not_selected}
 use Rattle.nr_engine.proofs.engine.Engine.print.Goals as goal

@@ -1,4 +1,4 @@
-use Rattle.std.proofs.Common.{◌≡◌, ℕ, ◌+◌, ◌/◌, [], ◌∷◌, ◌++◌, replicate, refl, ap, sym, ◌∙◌, subst, arith}
+use Rattle.std.proofs.Common.{◌≡◌, ◌+◌, [], ◌∷◌, ◌++◌, replicate, refl, ap, sym, ◌∙◌, arith}
 use Rattle.nr_units.specs.Cells.{blank}
 use Rattle.nr_fill.specs.Rows.{IsRow}
 use Rattle.nr_formatter.specs.Access.{done}
@@ -28,9 +28,11 @@ returns-clause-worked c = λ held supply s h.
     in
     let within : IsWithin t =
     record { formatter = record { stored = h.within.formatter.stored; depth = h.within.formatter.depth; line = h.within.formatter.line; burst = h.within.formatter.burst }; page = h.within.page }
-    in
-    (holds_of supply t e' (ap (λ x. done x.formatter) rest) h.chosen_is (rw (ap (λ x. x.place) rest) h.coming) row (rw (ap (λ x. x.page) rest) h.page)
-    (ap (λ x. x.page.limit) rest ∙ h.page_limit) (ap (λ x. x.select) rest ∙ h.select) within, wrote_nothing (at e s) t held refl)
+    in (
+      holds_of supply t e' (ap (λ x. done x.formatter) rest) h.chosen_is (rw (ap (λ x. x.place) rest) h.coming) row (rw (ap (λ x. x.page) rest) h.page)
+          (ap (λ x. x.page.limit) rest ∙ h.page_limit) (ap (λ x. x.select) rest ∙ h.select) within,
+      wrote_nothing (at e s) t held refl,
+    )
 
 pub returns-clause-lightens : goal.returns-clause-lightens
 returns-clause-lightens c =
