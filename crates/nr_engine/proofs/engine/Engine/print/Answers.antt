@@ -1,6 +1,4 @@
-use Rattle.std.proofs.Common.{◌≡◌, false, rules, sym, ap, ◌∙◌}
-use Rattle.std.specs.Int.{w32, w64}
-use mir.Val.{SFits, to_z, of_z}
+use Rattle.std.proofs.Common.{◌≡◌, false, rules, w32, w64, FitsSigned, to_z, of_z, sym, ap, ◌∙◌}
 use Rattle.std.proofs.KnownBytes.{Appends-nil}
 use Rattle.std.proofs.lemmas.Int.{to_z-of_z}
 use Rattle.nr_engine.specs.Printing.{selects}
@@ -9,7 +7,7 @@ use Rattle.nr_engine.proofs.engine.Engine.print.Goals as goal
 
 pub returns-then-not-has-clause-ok : goal.returns-then-not-has-clause-ok
 returns-then-not-has-clause-ok g c = λ s page select formatter.
-    let fits : SFits w32 c.args.self.now.formatter.paper.number = search rules in
+    let fits : FitsSigned w32 c.args.self.now.formatter.paper.number = search rules in
     let wide : to_z w64 (of_z w64 c.from.result) ≡ c.from.result = to_z-of_z w64 c.from.result (record { sfits = c.from.type_inv }) in
     let number : to_z w64 (of_z w64 c.from.result) ≡ s.formatter.paper.number =
     wide ∙ c.from.ensures ∙ to_z-of_z w32 c.args.self.now.formatter.paper.number fits ∙ sym (ap (λ f. f.paper.number) formatter)
