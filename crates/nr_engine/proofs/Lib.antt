@@ -1,6 +1,9 @@
 mod Bursts
-mod NextMoves
+mod Going
+mod Lightening
 mod Measured
+mod NextMoves
+mod Selected
 mod Spending
 mod Standing
 mod Working

@@ -52,6 +52,7 @@ impl<'a> Engine<'a> {
             Err(_) => Err(self.passed(Measure::Stored)),
             Ok(()) => {
                 self.push(blanks, cell);
+                self.formatter.fit_memory();
                 self.formatter.event = Event::Nothing;
                 Ok(())
             }
@@ -78,11 +79,13 @@ impl<'a> Engine<'a> {
         ensures writes { stops_writing result ≡ false }
         ensures lightens { Lightens (shape self.old) (shape self.new) result }
     {
-        if matches!(self.formatter.outlet(), Outlet::Diversion) {
-            return self.divert_cell(cell);
+        match self.formatter.outlet() {
+            Outlet::Diversion => self.divert_cell(cell),
+            _ => {
+                self.read_cell(cell);
+                Ok(())
+            }
         }
-        self.read_cell(cell);
-        Ok(())
     }
 
     /// The diverted line ends in the innermost diversion.

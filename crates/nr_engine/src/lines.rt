@@ -1,5 +1,5 @@
 //! The lines that go out where a word or a text line ended. (CSTR 54, section 4.)
-ghost use Rattle.std.specs.Prelude.{◌≡◌, ◌<◌, List, Option, length, false};
+ghost use Rattle.std.specs.Prelude.{◌≡◌, ◌<◌, ◌≤◌, List, Option, length, false};
 ghost use Rattle.nr_formatter.specs.Access.{collected};
 ghost use Rattle.nr_formatter.specs.Places.{outlet};
 ghost use Rattle.nr_formatter.specs.Diversions.{divert_line};
@@ -22,7 +22,8 @@ use nr_units::sink::Sink;
 impl<'a> Engine<'a> {
     /// The page offset, in cells.
     pub(crate) fn offset(&self) -> u32
-        ensures { result ≡ offset self.now.formatter }
+        ensures value { result ≡ offset self.now.formatter }
+        ensures within { result ≤ 1365 }
     {
         self.formatter.settings.indents.page_offset.value.cells()
     }
@@ -36,7 +37,10 @@ impl<'a> Engine<'a> {
         ensures lightens { Lightens (shape self.old) (shape self.new) result }
     {
         match self.formatter.divert_line(going) {
-            Ok(()) => Ok(()),
+            Ok(()) => {
+                self.formatter.fit_memory();
+                Ok(())
+            }
             Err(_) => Err(self.passed(Measure::Stored)),
         }
     }
@@ -50,9 +54,11 @@ impl<'a> Engine<'a> {
         ensures lightens { Lightens (shape self.old) (shape self.new) result }
     {
         let offset = self.offset();
+        let height = self.formatter.settings.pages.spacing.units();
         self.row.clear();
         self.formatter.set_line(going, offset, &mut self.row);
-        self.place_row(self.formatter.settings.pages.spacing.units())
+        self.formatter.fit_memory();
+        self.place_row(height)
     }
 
     /// The line that goes out is diverted, or finds room and is placed.

@@ -42,9 +42,11 @@ impl<'a> Engine<'a> {
         ensures lightens { Lightens (shape self.old) (shape self.new) result }
     {
         let offset = self.offset();
+        let height = self.formatter.settings.pages.spacing.units();
         self.row.clear();
         self.formatter.set_title(offset, &mut self.row);
-        self.place_row(self.formatter.settings.pages.spacing.units())
+        self.formatter.fit_memory();
+        self.place_row(height)
     }
 
     /// The title that was read is diverted, or finds room and is placed.

@@ -1,0 +1,62 @@
+-- What goes out, and where it does.
+use Rattle.std.proofs.Common.{◌≡◌, ℕ, ◌<◌, Bool, List, [], ◌∷◌, ◌++◌, replicate, length, Option, None, Some, is_some, Result, Ok, Err, refl, sym, ap, subst, arith}
+use Rattle.std.specs.Prelude.{if◌then◌else◌}
+use Rattle.std.proofs.lemmas.Bool.{false≢true}
+use Rattle.nr_units.specs.Supply.{Supply}
+use Rattle.nr_units.specs.Cells.{blank}
+use Rattle.nr_units.specs.declared.cell.Cell.{Cell}
+use Rattle.nr_fill.specs.Pieces.{is_nil, Piece}
+use Rattle.nr_formatter.specs.Access.{collected}
+use Rattle.nr_formatter.specs.Lines.{flow_line, break_line}
+use Rattle.nr_formatter.specs.declared.formatter.Formatter.{Formatter}
+use Rattle.nr_formatter.specs.declared.lines.Going.{Going}
+use Rattle.nr_formatter.specs.declared.tasks.After.{After}
+use Rattle.nr_formatter.specs.declared.paper.Outlet.{Outlet}
+use Rattle.nr_formatter.specs.declared.paper.Outlet.TheVariants as outlets
+use Rattle.nr_engine.specs.State.{State}
+use Rattle.nr_engine.specs.Machine.{begin_page, turn_page, cell_to, with_cell, margin_in}
+use Rattle.nr_engine.specs.Measures.{IsWithin}
+use Rattle.nr_engine.specs.Holding.{Shape, AfterWork, WroteFront}
+use Rattle.nr_engine.specs.declared.outcome.Outcome.{Outcome}
+use Rattle.nr_engine.specs.declared.outcome.Outcome.TheVariants.{WriteFault}
+
+some_pieces : (ps : List Piece) (o : Option Going) (g : Going) → (if is_nil ps then None else o) ≡ Some g → 0 < length ps
+some_pieces [] o g is = absurd (false≢true (ap is_some is))
+some_pieces (p ∷ ps) o g is = omega arith
+
+-- what goes out has pieces
+
+pub pieces_flow : (after : After) (breaks : Bool) (f : Formatter) (g : Going) → flow_line after breaks f ≡ Some g → 0 < length (collected f).pieces
+pieces_flow after breaks f g is = some_pieces (collected f).pieces _ g is
+
+pub pieces_break : (f : Formatter) (g : Going) → break_line f ≡ Some g → 0 < length (collected f).pieces
+pieces_break f g is = some_pieces (collected f).pieces _ g is
+
+-- where no page is full one begins
+pub begins : (o : Outlet) (s : State) → (o ≡ outlets.Full → ⊥) → turn_page o s ≡ begin_page s
+begins outlets.Diversion s other = refl
+begins outlets.NoPage s other = refl
+begins outlets.Full s other = absurd (other refl)
+begins outlets.Room s other = refl
+
+-- the outcome of a move that was not made
+abbrev pub error : Result (Unit {0}) Outcome → Outcome
+error (Ok x) = WriteFault
+error (Err e) = e
+
+-- a write failed where a page ends
+pub write_failed : (supply : Option Supply) (s t : State) (e : Shape) (old new : Option (List ℕ)) (o : Outcome) → o ≡ WriteFault → IsWithin t → WroteFront s t old new
+    → AfterWork supply s t e old new (Err o)
+write_failed supply s t e old new o is within front = subst (λ x. AfterWork supply s t e old new (Err x)) (sym is) (within, front)
+
+-- a cell that is not diverted
+pub cells : (o : Outlet) (x : Cell) (s : State) → (o ≡ outlets.Diversion → ⊥) → cell_to o x s ≡ cell_to outlets.Room x s
+cells outlets.Diversion x s other = absurd (other refl)
+cells outlets.NoPage x s other = refl
+cells outlets.Full x s other = refl
+cells outlets.Room x s other = refl
+
+-- what is added to a row with a cell
+pub with_cell-is : (margin : ℕ) (x : Cell) (row : List Cell) → with_cell margin x row ≡ row ++ (replicate (margin_in margin row) blank ++ x ∷ [])
+with_cell-is margin x [] = refl
+with_cell-is margin x (y ∷ ys) = refl

@@ -1,0 +1,10 @@
+use Rattle.std.proofs.Common.{sym, ◌∙◌}
+use Rattle.nr_engine.proofs.engine.Engine.put_line.Goals as goal
+
+pub returns-in-Diversion-clause-worked : goal.returns-in-Diversion-clause-worked
+returns-in-Diversion-clause-worked g c = λ supply s h.
+    rw (sym c.outlet.ensures ∙ c.in-Diversion.is) (c.divert_line.ensures.worked (g.W.Sink.held c.args.output.now) supply s h)
+
+pub returns-in-Room-clause-worked : goal.returns-in-Room-clause-worked
+returns-in-Room-clause-worked g c = λ supply s h.
+    rw (sym c.outlet.ensures ∙ c.in-Room.is) (c.place_line.ensures.worked (g.W.Sink.held c.args.output.now) supply s h)
