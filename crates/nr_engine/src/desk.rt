@@ -1,5 +1,5 @@
 //! The memory of a run, taken once and lent as often as wanted.
-ghost use Rattle.std.specs.Prelude.{◌≡◌, ◌+◌, ◌*◌, ◌≤◌, IfOk};
+ghost use Rattle.std.specs.Prelude.{◌≡◌, ◌+◌, ◌*◌, ◌≤◌, IfOk, vec_len};
 ghost use Rattle.nr_engine.specs.Desks.{sizes_of, sum_of};
 
 use crate::lengths::Sizes;
@@ -108,6 +108,30 @@ pub struct Work<'a> {
     pub(crate) desk: &'a mut Desk,
 }
 
+/// What new slices are filled with.
+trait Blank: Copy {
+    fn blank() -> Self;
+}
+
+impl Blank for Frame<Resume> {
+    fn blank() -> Self {
+        Frame::blank()
+    }
+}
+
+impl Blank for Draft {
+    fn blank() -> Self {
+        Draft::blank()
+    }
+}
+
+/// A row of so many blank elements.
+fn row<T: Blank>(alloc: Global, n: usize) -> Result<Vec<T>, AllocError>
+    ensures { IfOk result (λ made. vec_len made ≡ n) }
+{
+    vec![in alloc; T::blank(); n]
+}
+
 impl Desk {
     /// Takes all memory that runs under these limits need: `AllocError` where there is not so much.
     pub fn new(alloc: Global, limits: Limits) -> Result<Desk, AllocError>
@@ -119,8 +143,8 @@ impl Desk {
             elements: vec![in alloc; Element::Byte(0); sizes.elements]?,
             slots: vec![in alloc; Slot::blank(); sizes.slots]?,
             names: vec![in alloc; Sense::blank(); sizes.names]?,
-            drafts: vec![in alloc; Draft::blank(); sizes.drafts]?,
-            frames: vec![in alloc; Frame::blank(); sizes.frames]?,
+            drafts: row(alloc, sizes.drafts)?,
+            frames: row(alloc, sizes.frames)?,
             bytes: vec![in alloc; 0; sizes.bytes]?,
             places: vec![in alloc; Span::blank(); sizes.places]?,
             gathering: vec![in alloc; 0; sizes.gathering]?,
