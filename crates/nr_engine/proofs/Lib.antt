@@ -1,3 +1,4 @@
 mod Measured
 mod Standing
 mod Working
+mod Travelling

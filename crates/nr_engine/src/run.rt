@@ -15,12 +15,16 @@ use nr_fill::piece::PieceSlot;
 use nr_formatter::formatter::Formatter;
 use nr_formatter::tasks::Resume;
 use nr_input::Place;
+use nr_levels::{Frame, Span};
 use nr_options::{Limits, Options};
 use nr_page::Select;
 use nr_page::page::Page;
 use nr_page::row::RowSlot;
 use nr_pool::Slot;
-use nr_store::{Memory, Store};
+use nr_store::element::{Draft, Element};
+use nr_store::named::Sense;
+use nr_store::{HyphenationWord, Memory, Register, Store};
+use nr_tables::{Entry, Trap};
 use nr_units::Name;
 use nr_units::cell::Cell;
 use nr_units::sink::Sink;
@@ -39,7 +43,7 @@ impl<'a> Engine<'a> {
     ghost use Rattle.nr_input.specs.Coming.{nothing_reached, has_failed};
     ghost use Rattle.nr_formatter.specs.Beginning.{first_formatter};
     ghost use Rattle.nr_formatter.specs.Registers.{register_set};
-    ghost use Rattle.nr_engine.specs.State.{State, First, Register, choices};
+    ghost use Rattle.nr_engine.specs.State.{State, Register as SetRegister};
     ghost use Rattle.nr_engine.specs.Machine.{first_set};
     ghost use Rattle.nr_engine.specs.Holding.{Shape, shape, weight, worth};
     ghost use Rattle.nr_engine.specs.Running.{Chooses, ChoosesAll, Travels};
@@ -104,7 +108,7 @@ impl<'a> Engine<'a> {
 
     /// A register of a name of one byte takes this number.
     fn set_register(&mut self, name: u8, number: i64) -> Result<(), Outcome>
-        ensures { Chooses (Register name number) (shape self.old) (shape self.new) result }
+        ensures { Chooses (SetRegister name number) (shape self.old) (shape self.new) result }
     {
         let name = [name];
         match self.formatter.set_register(Name::of(&name), number, None) {
@@ -177,19 +181,17 @@ pub fn format<R: Source, W: Sink>(
     let limits = desk.limits;
     run_in(
         limits,
-        Memory {
-            elements: &mut desk.elements,
-            slots: &mut desk.slots,
-            names: &mut desk.names,
-            drafts: &mut desk.drafts,
-            frames: &mut desk.frames,
-            bytes: &mut desk.bytes,
-            places: &mut desk.places,
-            gathering: &mut desk.gathering,
-            registers: &mut desk.registers,
-            traps: &mut desk.traps,
-            words: &mut desk.words,
-        },
+        &mut desk.elements,
+        &mut desk.slots,
+        &mut desk.names,
+        &mut desk.drafts,
+        &mut desk.frames,
+        &mut desk.bytes,
+        &mut desk.places,
+        &mut desk.gathering,
+        &mut desk.registers,
+        &mut desk.traps,
+        &mut desk.words,
         &mut desk.cells,
         &mut desk.pieces,
         &mut desk.row,
@@ -204,32 +206,42 @@ pub fn format<R: Source, W: Sink>(
 }
 
 /// Formats the input within slices that are long enough for the limits.
-fn run_in<R: Source, W: Sink>(
+fn run_in<'a, R: Source, W: Sink>(
     limits: Limits,
-    memory: Memory<'_, Resume>,
-    cells: &mut [Cell],
-    pieces: &mut [PieceSlot],
-    row: &mut [Cell],
-    page_cells: &mut [Cell],
-    page_texts: &mut [Slot],
-    page_rows: &mut [RowSlot],
-    options: &Options,
+    elements: &'a mut [Element],
+    slots: &'a mut [Slot],
+    names: &'a mut [Entry<Sense>],
+    drafts: &'a mut [Draft],
+    frames: &'a mut [Frame<Resume>],
+    bytes: &'a mut [u8],
+    places: &'a mut [Span],
+    gathering: &'a mut [u8],
+    registers: &'a mut [Entry<Register>],
+    traps: &'a mut [Trap],
+    words: &'a mut [HyphenationWord],
+    cells: &'a mut [Cell],
+    pieces: &'a mut [PieceSlot],
+    row: &'a mut [Cell],
+    page_cells: &'a mut [Cell],
+    page_texts: &'a mut [Slot],
+    page_rows: &'a mut [RowSlot],
+    options: &'a Options,
     input: &mut R,
     output: &mut W,
     moves: &mut u128,
 ) -> Outcome
     requires sizes { HasSizes limits (record {
-      elements = length memory.elements.now;
-      slots = length memory.slots.now;
-      names = length memory.names.now;
-      drafts = length memory.drafts.now;
-      frames = length memory.frames.now;
-      bytes = length memory.bytes.now;
-      places = length memory.places.now;
-      gathering = length memory.gathering.now;
-      registers = length memory.registers.now;
-      traps = length memory.traps.now;
-      words = length memory.words.now;
+      elements = length elements.old;
+      slots = length slots.old;
+      names = length names.old;
+      drafts = length drafts.old;
+      frames = length frames.old;
+      bytes = length bytes.old;
+      places = length places.old;
+      gathering = length gathering.old;
+      registers = length registers.old;
+      traps = length traps.old;
+      words = length words.old;
       cells = length cells.old;
       pieces = length pieces.old;
       row = length row.old;
@@ -242,6 +254,19 @@ fn run_in<R: Source, W: Sink>(
     ensures read_failures { R.failures input.new ≡ counted_if (is_read_fault result) (R.failures input.old) }
     ensures write_failures { W.failures output.new ≡ put_counted_if (is_write_fault result) (W.failures output.old) }
 {
+    let memory = Memory {
+        elements,
+        slots,
+        names,
+        drafts,
+        frames,
+        bytes,
+        places,
+        gathering,
+        registers,
+        traps,
+        words,
+    };
     let mut engine = Engine::over(
         limits, memory, cells, pieces, row, page_cells, page_texts, page_rows, &options.select,
     );
