@@ -7,3 +7,4 @@ mod Selected
 mod Spending
 mod Standing
 mod Working
+mod Travelling

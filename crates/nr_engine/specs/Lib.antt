@@ -5,3 +5,4 @@ pub mod Machine
 pub mod Measures
 pub mod Printing
 pub mod State
+pub mod Running

@@ -1,6 +1,6 @@
 //! The memory of a run, taken once and lent as often as wanted.
-ghost use Rattle.std.specs.Prelude.{◌≡◌, ◌+◌, ◌*◌, ◌≤◌, IfOk};
-ghost use Rattle.nr_engine.specs.Desks.{sizes_of};
+ghost use Rattle.std.specs.Prelude.{◌≡◌, ◌+◌, ◌*◌, ◌≤◌, IfOk, vec_len};
+ghost use Rattle.nr_engine.specs.Desks.{sizes_of, sum_of};
 
 use crate::lengths::Sizes;
 use nr_fill::line::Line;
@@ -21,7 +21,10 @@ use std::alloc::{AllocError, Global};
 use std::marker::Model;
 
 /// The lengths that the limits ask for.
-pub fn sizes(limits: Limits) -> Sizes {
+pub fn sizes(limits: Limits) -> Sizes
+    ensures value { result ≡ sizes_of limits }
+    ensures bound { sum_of result ≤ 4 * limits.stored + 4 * limits.depth + 6 * limits.cells + 8192 }
+{
     let store = Room::of(limits.stored() as u32, limits.depth() as u32);
     let line = Line::room(limits.cells());
     let page = room(limits.cells());
@@ -71,10 +74,32 @@ pub struct Desk {
 
 impl Model for Desk {
     ghost use Rattle.nr_options.specs.Limits.{Bounds};
+    ghost use Rattle.nr_engine.specs.Desks.{HasSizes};
+    ghost use Rattle.std.specs.Prelude.{vec_len};
 
     ghost Value = { Bounds };
 
     ghost view = { λ d. d.limits };
+
+    ghost invariant = { λ d. HasSizes d.limits (record {
+        elements = vec_len d.elements;
+        slots = vec_len d.slots;
+        names = vec_len d.names;
+        drafts = vec_len d.drafts;
+        frames = vec_len d.frames;
+        bytes = vec_len d.bytes;
+        places = vec_len d.places;
+        gathering = vec_len d.gathering;
+        registers = vec_len d.registers;
+        traps = vec_len d.traps;
+        words = vec_len d.words;
+        cells = vec_len d.cells;
+        pieces = vec_len d.pieces;
+        row = vec_len d.row;
+        page_cells = vec_len d.page_cells;
+        page_texts = vec_len d.page_texts;
+        page_rows = vec_len d.page_rows;
+    }) };
 }
 
 /// An empty working space, lent by a desk.
@@ -83,17 +108,43 @@ pub struct Work<'a> {
     pub(crate) desk: &'a mut Desk,
 }
 
+/// What new slices are filled with.
+trait Blank: Copy {
+    fn blank() -> Self;
+}
+
+impl Blank for Frame<Resume> {
+    fn blank() -> Self {
+        Frame::blank()
+    }
+}
+
+impl Blank for Draft {
+    fn blank() -> Self {
+        Draft::blank()
+    }
+}
+
+/// A row of so many blank elements.
+fn row<T: Blank>(alloc: Global, n: usize) -> Result<Vec<T>, AllocError>
+    ensures { IfOk result (λ made. vec_len made ≡ n) }
+{
+    vec![in alloc; T::blank(); n]
+}
+
 impl Desk {
     /// Takes all memory that runs under these limits need: `AllocError` where there is not so much.
-    pub fn new(alloc: Global, limits: Limits) -> Result<Desk, AllocError> {
+    pub fn new(alloc: Global, limits: Limits) -> Result<Desk, AllocError>
+        ensures limits { IfOk result (λ desk. desk ≡ limits) }
+    {
         let sizes = sizes(limits);
         Ok(Desk {
             limits,
             elements: vec![in alloc; Element::Byte(0); sizes.elements]?,
             slots: vec![in alloc; Slot::blank(); sizes.slots]?,
             names: vec![in alloc; Sense::blank(); sizes.names]?,
-            drafts: vec![in alloc; Draft::blank(); sizes.drafts]?,
-            frames: vec![in alloc; Frame::blank(); sizes.frames]?,
+            drafts: row(alloc, sizes.drafts)?,
+            frames: row(alloc, sizes.frames)?,
             bytes: vec![in alloc; 0; sizes.bytes]?,
             places: vec![in alloc; Span::blank(); sizes.places]?,
             gathering: vec![in alloc; 0; sizes.gathering]?,
@@ -110,7 +161,10 @@ impl Desk {
     }
 
     /// An empty working space under the desk's limits.
-    pub fn lend(&mut self) -> Work<'_> {
+    pub fn lend(&mut self) -> Work<'_>
+        ensures same_desk { result.desk.ghost_name ≡ self.entry.ghost_name }
+        ensures limits { result.desk.now ≡ self.old }
+    {
         Work { desk: self }
     }
 }

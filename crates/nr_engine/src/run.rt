@@ -1,18 +1,32 @@
 //! A whole run.
-ghost use Rattle.std.specs.Prelude.{◌≡◌, ℕ, ◌+◌, ◌*◌, ◌≤◌, Some};
+ghost use Rattle.std.specs.Prelude.{◌≡◌, ℕ, ◌+◌, ◌*◌, ◌^◌, ◌<◌, ◌≤◌, length, Some};
+ghost use Rattle.nr_units.specs.Failures.{counted_if, put_counted_if};
+ghost use Rattle.nr_units.specs.Supply.{Supply};
+ghost use Rattle.nr_engine.specs.State.{start};
+ghost use Rattle.nr_engine.specs.Answer.{Answers, is_read_fault, is_write_fault};
+ghost use Rattle.nr_engine.specs.Desks.{HasSizes};
 
-use crate::desk::{Desk, Work};
+use crate::desk::Work;
 use crate::engine::Engine;
 use crate::outcome::{Measure, Outcome};
 use nr_fill::line::Line;
 use nr_fill::out::Out;
+use nr_fill::piece::PieceSlot;
 use nr_formatter::formatter::Formatter;
+use nr_formatter::tasks::Resume;
 use nr_input::Place;
-use nr_options::Options;
+use nr_levels::{Frame, Span};
+use nr_options::{Limits, Options};
 use nr_page::Select;
 use nr_page::page::Page;
-use nr_store::{Memory, Store};
+use nr_page::row::RowSlot;
+use nr_pool::Slot;
+use nr_store::element::{Draft, Element};
+use nr_store::named::Sense;
+use nr_store::{HyphenationWord, Memory, Register, Store};
+use nr_tables::{Entry, Trap};
 use nr_units::Name;
+use nr_units::cell::Cell;
 use nr_units::sink::Sink;
 use nr_units::source::Source;
 
@@ -20,47 +34,82 @@ use nr_units::source::Source;
 const GREATEST: u64 = 2_147_483_647;
 
 impl<'a> Engine<'a> {
-    /// Nothing is read yet, and nothing placed.
-    fn over(desk: &'a mut Desk, select: &'a Select) -> Engine<'a> {
-        let limits = desk.limits;
-        let memory = Memory {
-            elements: &mut desk.elements,
-            slots: &mut desk.slots,
-            names: &mut desk.names,
-            drafts: &mut desk.drafts,
-            frames: &mut desk.frames,
-            bytes: &mut desk.bytes,
-            places: &mut desk.places,
-            gathering: &mut desk.gathering,
-            registers: &mut desk.registers,
-            traps: &mut desk.traps,
-            words: &mut desk.words,
-        };
+    ghost use Rattle.std.specs.Prelude.{[], ◌∷◌, ℤ, None, List, Option, OnOk, false};
+    ghost use Rattle.nr_fill.specs.Pieces.{nothing_collected};
+    ghost use Rattle.nr_fill.specs.Rows.{IsRow};
+    ghost use Rattle.nr_page.specs.Sheet.{Holds as HoldsPage};
+    ghost use Rattle.nr_store.specs.Stored.{nothing};
+    ghost use Rattle.nr_store.specs.Requests.{request_names};
+    ghost use Rattle.nr_input.specs.Coming.{nothing_reached, has_failed};
+    ghost use Rattle.nr_formatter.specs.Beginning.{first_formatter};
+    ghost use Rattle.nr_formatter.specs.Registers.{register_set};
+    ghost use Rattle.nr_engine.specs.State.{State, Register as SetRegister};
+    ghost use Rattle.nr_engine.specs.Machine.{first_set};
+    ghost use Rattle.nr_engine.specs.Holding.{Shape, shape, weight, worth};
+    ghost use Rattle.nr_engine.specs.Running.{Chooses, ChoosesAll, Travels};
+
+    /// Nothing is read yet, and nothing placed. The slices are long enough for the limits.
+    fn over(
+        limits: Limits,
+        memory: Memory<'a, Resume>,
+        cells: &'a mut [Cell],
+        pieces: &'a mut [PieceSlot],
+        row: &'a mut [Cell],
+        page_cells: &'a mut [Cell],
+        page_texts: &'a mut [Slot],
+        page_rows: &'a mut [RowSlot],
+        select: &'a Select,
+    ) -> Engine<'a>
+        requires sizes { HasSizes limits (record {
+          elements = length memory.elements.now;
+          slots = length memory.slots.now;
+          names = length memory.names.now;
+          drafts = length memory.drafts.now;
+          frames = length memory.frames.now;
+          bytes = length memory.bytes.now;
+          places = length memory.places.now;
+          gathering = length memory.gathering.now;
+          registers = length memory.registers.now;
+          traps = length memory.traps.now;
+          words = length memory.words.now;
+          cells = length cells.now;
+          pieces = length pieces.now;
+          row = length row.now;
+          page_cells = length page_cells.now;
+          page_texts = length page_texts.now;
+          page_rows = length page_rows.now;
+        }) }
+        ensures formatter { result.formatter ≡ first_formatter (nothing request_names limits.stored limits.depth) (record { collected = nothing_collected; limit = limits.cells }) limits.expansions }
+        ensures place { result.place ≡ nothing_reached }
+        ensures row { IsRow [] result.row }
+        ensures page { HoldsPage [] result.page }
+        ensures page_limit { result.page.limit ≡ limits.cells }
+        ensures select { result.select.now ≡ select.now }
+    {
         let store = Store::over(memory, limits.stored() as u32);
-        let line = Line::over(&mut desk.cells, &mut desk.pieces, limits.cells());
+        let line = Line::over(cells, pieces, limits.cells());
         Engine {
             formatter: Formatter::over(store, line, limits.expansions()),
             place: Place::new(),
-            row: Out::over(&mut desk.row),
-            page: Page::over(
-                &mut desk.page_cells,
-                &mut desk.page_texts,
-                &mut desk.page_rows,
-                limits.cells(),
-            ),
+            row: Out::over(row),
+            page: Page::over(page_cells, page_texts, page_rows, limits.cells()),
             select,
         }
     }
 
     /// The number of the first page, if a register holds it.
-    fn set_first(&mut self, number: i64) {
+    fn set_first(&mut self, number: i64)
+        ensures { shape self.new ≡ record (shape self.old) { formatter = first_set number self.old.formatter } }
+    {
         if number.unsigned_abs() <= GREATEST {
-            self.formatter.paper.number = number as i32;
+            self.formatter.set_first(number as i32);
         }
     }
 
     /// A register of a name of one byte takes this number.
-    fn set_register(&mut self, name: u8, number: i64) -> Result<(), Outcome> {
+    fn set_register(&mut self, name: u8, number: i64) -> Result<(), Outcome>
+        ensures { Chooses (SetRegister name number) (shape self.old) (shape self.new) result }
+    {
         let name = [name];
         match self.formatter.set_register(Name::of(&name), number, None) {
             Ok(()) => Ok(()),
@@ -69,7 +118,10 @@ impl<'a> Engine<'a> {
     }
 
     /// The options take effect, each as a move.
-    fn choose(&mut self, options: &Options, moves: &mut u128) -> Result<(), Outcome> {
+    fn choose(&mut self, options: &Options, moves: &mut u128) -> Result<(), Outcome>
+        ensures chooses { ChoosesAll options.now (shape self.old) (shape self.new) moves.new result }
+        ensures bound { moves.new ≤ 33 }
+    {
         self.set_first(options.first);
         *moves = 1;
         for choice in options.registers.as_slice() {
@@ -88,10 +140,20 @@ impl<'a> Engine<'a> {
         input: &mut R,
         output: &mut W,
         moves: &mut u128,
-    ) -> Outcome {
+    ) -> Outcome
+        requires unfailed { has_failed self.old.place.ahead ≡ false }
+        requires small { worth (shape self.old) < 2 ^ 80 }
+        requires bound { moves.old + weight (shape self.old) ≤ worth (shape self.old) * (self.old.place.taken + 1) }
+        ensures travels { Travels (shape self.old) (R.supply input.old) (W.held output.old) (W.held output.new) moves.old moves.new result }
+        ensures read_failures { R.failures input.new ≡ counted_if (is_read_fault result) (R.failures input.old) }
+        ensures write_failures { W.failures output.new ≡ put_counted_if (is_write_fault result) (W.failures output.old) }
+    {
         loop {
             match self.advance(input, output) {
-                Ok(()) => *moves += 1,
+                Ok(()) => {
+                    let _taken = self.place.taken();
+                    *moves += 1;
+                }
                 Err(outcome) => return outcome,
             }
         }
@@ -106,9 +168,108 @@ pub fn format<R: Source, W: Sink>(
     input: &mut R,
     output: &mut W,
     moves: &mut u128,
-) -> Outcome {
+) -> Outcome
+    // The pages are those of the machine, which knows no limit, up to where the run stops.
+    ensures answers { (supply : Supply) → R.supply input.old ≡ Some supply →
+        Answers work.entry.desk.now (start work.entry.desk.now options.now supply) moves.new result (W.held output.old) (W.held output.new) }
+    // A fault is told where a call failed, and nowhere else.
+    ensures read_failures { R.failures input.new ≡ counted_if (is_read_fault result) (R.failures input.old) }
+    ensures write_failures { W.failures output.new ≡ put_counted_if (is_write_fault result) (W.failures output.old) }
+    ensures limits { work.exit.0.now ≡ work.entry.desk.now }
+{
     let Work { desk } = work;
-    let mut engine = Engine::over(desk, &options.select);
+    let limits = desk.limits;
+    run_in(
+        limits,
+        &mut desk.elements,
+        &mut desk.slots,
+        &mut desk.names,
+        &mut desk.drafts,
+        &mut desk.frames,
+        &mut desk.bytes,
+        &mut desk.places,
+        &mut desk.gathering,
+        &mut desk.registers,
+        &mut desk.traps,
+        &mut desk.words,
+        &mut desk.cells,
+        &mut desk.pieces,
+        &mut desk.row,
+        &mut desk.page_cells,
+        &mut desk.page_texts,
+        &mut desk.page_rows,
+        options,
+        input,
+        output,
+        moves,
+    )
+}
+
+/// Formats the input within slices that are long enough for the limits.
+fn run_in<'a, R: Source, W: Sink>(
+    limits: Limits,
+    elements: &'a mut [Element],
+    slots: &'a mut [Slot],
+    names: &'a mut [Entry<Sense>],
+    drafts: &'a mut [Draft],
+    frames: &'a mut [Frame<Resume>],
+    bytes: &'a mut [u8],
+    places: &'a mut [Span],
+    gathering: &'a mut [u8],
+    registers: &'a mut [Entry<Register>],
+    traps: &'a mut [Trap],
+    words: &'a mut [HyphenationWord],
+    cells: &'a mut [Cell],
+    pieces: &'a mut [PieceSlot],
+    row: &'a mut [Cell],
+    page_cells: &'a mut [Cell],
+    page_texts: &'a mut [Slot],
+    page_rows: &'a mut [RowSlot],
+    options: &'a Options,
+    input: &mut R,
+    output: &mut W,
+    moves: &mut u128,
+) -> Outcome
+    requires sizes { HasSizes limits (record {
+      elements = length elements.old;
+      slots = length slots.old;
+      names = length names.old;
+      drafts = length drafts.old;
+      frames = length frames.old;
+      bytes = length bytes.old;
+      places = length places.old;
+      gathering = length gathering.old;
+      registers = length registers.old;
+      traps = length traps.old;
+      words = length words.old;
+      cells = length cells.old;
+      pieces = length pieces.old;
+      row = length row.old;
+      page_cells = length page_cells.old;
+      page_texts = length page_texts.old;
+      page_rows = length page_rows.old;
+    }) }
+    ensures answers { (supply : Supply) → R.supply input.old ≡ Some supply →
+        Answers limits (start limits options.now supply) moves.new result (W.held output.old) (W.held output.new) }
+    ensures read_failures { R.failures input.new ≡ counted_if (is_read_fault result) (R.failures input.old) }
+    ensures write_failures { W.failures output.new ≡ put_counted_if (is_write_fault result) (W.failures output.old) }
+{
+    let memory = Memory {
+        elements,
+        slots,
+        names,
+        drafts,
+        frames,
+        bytes,
+        places,
+        gathering,
+        registers,
+        traps,
+        words,
+    };
+    let mut engine = Engine::over(
+        limits, memory, cells, pieces, row, page_cells, page_texts, page_rows, &options.select,
+    );
     *moves = 0;
     match engine.choose(options, moves) {
         Err(outcome) => outcome,

@@ -1,0 +1,47 @@
+-- A whole run: its moves, and how many there are.
+use Rattle.std.proofs.Common.{◌≡◌, ℕ, ◌+◌, ◌*◌, ◌≤◌, List, [], Option, Ok, Err, ap, ◌∙◌, subst, arith}
+use Rattle.nr_input.specs.Weights.{byte_worth}
+use Rattle.nr_units.specs.Supply.{Supply}
+use Rattle.nr_engine.specs.State.{State, Choice}
+use Rattle.nr_engine.specs.Machine.{state_after}
+use Rattle.nr_engine.specs.Answer.{Stops}
+use Rattle.nr_engine.specs.Holding.{Shape, Holds, Moved, Left, Made, Halts, Advances, Spends, at, weight, worth}
+use Rattle.nr_engine.specs.declared.outcome.Outcome.{Outcome}
+use Rattle.nr_engine.proofs.Standing.{made_one, made_all, halts_here, halts_after}
+
+same_state : (chosen : List Choice) (supply : Option Supply) (s : State) (e : Shape) → Holds chosen supply s e → at e s ≡ s
+same_state chosen supply s e h = ap (λ f. record s { formatter = f }) h.formatter
+
+pub made_more : (s : State) (n : ℕ) (e f : Shape) (x y : Option Supply) (old mid new : Option (List ℕ))
+    → Made [] s n e x old mid → Advances e f x y mid new (Ok tt) → Made [] s (n + 1) f y old new
+made_more s n e f x y old mid new m advances =
+    let t = state_after n s in
+    let moved = subst (λ u. Moved u f y mid new) (same_state [] x t e m.holds) (advances t m.holds.stands) in
+    made_all [] [] s n 1 e f x y old mid new m (made_one t f y mid new moved)
+
+pub halted : (s : State) (n : ℕ) (e f : Shape) (x y : Option Supply) (outcome : Outcome) (old mid new : Option (List ℕ))
+    → Made [] s n e x old mid → Advances e f x y mid new (Err outcome) → Halts s n outcome old new
+halted s n e f x y outcome old mid new m advances =
+    let t = state_after n s in
+    let stops = subst (λ u. Stops u outcome × Left u outcome mid new) (same_state [] x t e m.holds) (advances t m.holds.stands) in
+    let none : n + 0 ≡ n = omega arith in
+    subst (λ k. Halts s k outcome old new) none (halts_after [] s n 0 e x outcome old mid new m (halts_here t outcome mid new stops.0 stops.1))
+
+-- ---- how many
+
+pub bound_more : (worth m w w' t t' : ℕ) → m + w ≤ worth * (t + 1) → w' + 1 + worth * t ≤ w + worth * t' → m + 1 + w' ≤ worth * (t' + 1)
+bound_more worth m w w' t t' before spent = omega arith
+
+worth_same : (e f : Shape) → f.formatter.store.limit ≡ e.formatter.store.limit → f.formatter.reader.most ≡ e.formatter.reader.most → worth f ≡ worth e
+worth_same e f limit most =
+    ap (λ m. 256 * byte_worth m f.formatter.store.limit) most ∙ ap (λ l. 256 * byte_worth e.formatter.reader.most l) limit
+
+-- the first engine's bound holds still after a move
+pub spent : (first e f : Shape) (m : ℕ) → e.formatter.store.limit ≡ first.formatter.store.limit → e.formatter.reader.most ≡ first.formatter.reader.most
+    → m + weight e ≤ worth first * (e.place.taken + 1) → Spends e f → m + 1 + weight f ≤ worth first * (f.place.taken + 1)
+spent first e f m limit most within spends =
+    bound_more (worth first) m (weight e) (weight f) e.place.taken f.place.taken within
+    (subst (λ k. weight f + 1 + k * e.place.taken ≤ weight e + k * f.place.taken) (worth_same first e limit most) spends.spends)
+
+pub bound_there : (worth m w t t' : ℕ) → t ≡ t' → m + w ≤ worth * (t + 1) → m ≤ worth * (t' + 1)
+bound_there worth m w t t' same within = subst (λ k. m ≤ worth * (k + 1)) same (omega (arith, within))

@@ -1,0 +1,47 @@
+-- What the options do to the engine, and a whole run of it.
+use Rattle.std.specs.Prelude.{◌≡◌, ℕ, ◌+◌, ◌*◌, ◌≤◌, ◌<◌, List, [], Option, Some, Result, Ok, Err}
+use Rattle.nr_units.specs.Supply.{Supply}
+use Rattle.nr_options.specs.declared.options.Options.{Options}
+use Rattle.nr_formatter.specs.Limits.{IsWithin}
+use Rattle.nr_store.specs.Stored.{charge_of}
+use Rattle.nr_engine.specs.State.{State, Choice, choices}
+use Rattle.nr_engine.specs.Machine.{choose, state_after}
+use Rattle.nr_engine.specs.Holding.{Shape, Holds, Made, Halts, weight, worth}
+use Rattle.nr_engine.specs.declared.outcome.Measure.TheVariants.{Stored}
+use Rattle.nr_engine.specs.declared.outcome.Outcome.{Outcome}
+use Rattle.nr_engine.specs.declared.outcome.Outcome.TheVariants.{Limit}
+
+-- a choice takes effect, or too much would be stored
+abbrev pub Chooses : Choice → Shape → Shape → Result (Unit {0}) Outcome → Type 0
+Chooses c e f (Ok x) = (f ≡ record e { formatter = choose c e.formatter })
+    × (IsWithin e.formatter → charge_of (choose c e.formatter).store ≤ e.formatter.store.limit)
+Chooses c e f (Err outcome) = (outcome ≡ Limit Stored e.place.taken)
+    × (IsWithin e.formatter → e.formatter.store.limit < charge_of (choose c e.formatter).store)
+
+-- what the engine holds without the formatter stays, and what may still come
+pub record StaysLight (e f : Shape) : Type 0 where
+  pub place : f.place ≡ e.place
+  pub limit : f.formatter.store.limit ≡ e.formatter.store.limit
+  pub most : f.formatter.reader.most ≡ e.formatter.reader.most
+  pub weighs : weight f ≡ weight e
+
+-- all choices took effect, each as a move, or the run stops at one
+abbrev pub AfterChoices : Option Supply → State → ℕ → Shape → Option (List ℕ) → Result (Unit {0}) Outcome → Type 0
+AfterChoices supply s n f held (Ok x) = Made [] s n f supply held held
+AfterChoices supply s n f held (Err outcome) = Halts s n outcome held held × ((state_after n s).coming.taken ≡ s.coming.taken)
+
+-- At whatever state the engine held with these options to choose, they are chosen.
+pub record ChoosesAll (options : Options) (e f : Shape) (n : ℕ) (r : Result (Unit {0}) Outcome) : Type 0 where
+  pub chooses : (supply : Option Supply) (held : Option (List ℕ)) (s : State) → Holds (choices options) supply s e → AfterChoices supply s n f held r
+  pub stays : StaysLight e f
+
+-- At whatever state the engine held, moves were made up to where the run stops as the outcome says.
+pub record Travelled (s : State) (before after : ℕ) (most : ℕ) (outcome : Outcome) (old new : Option (List ℕ)) : Type 0 where
+  pub count : ℕ
+  pub counted : after ≡ before + count
+  pub halts : Halts s count outcome old new
+  pub bound : after ≤ most * ((state_after count s).coming.taken + 1)
+
+abbrev pub Travels : Shape → Option Supply → Option (List ℕ) → Option (List ℕ) → ℕ → ℕ → Outcome → Type 0
+Travels e supply old new before after outcome =
+    (s : State) → Holds [] supply s e → Travelled s before after (worth e) outcome old new
