@@ -2,9 +2,10 @@ mod Bursts
 mod Going
 mod Lightening
 mod Measured
+mod Moving
 mod NextMoves
 mod Selected
 mod Spending
 mod Standing
-mod Working
 mod Travelling
+mod Working

@@ -47,7 +47,7 @@ impl<'a> Engine<'a> {
     ghost use Rattle.nr_formatter.specs.declared.tasks.Task.TheVariants as tasks;
     ghost use Rattle.nr_engine.specs.declared.outcome.Outcome.TheVariants as outcomes;
     ghost use Rattle.nr_engine.specs.State.{State, plainly};
-    ghost use Rattle.nr_engine.specs.Machine.{told as told_formatter, exit as exit_state, hear as hear_event};
+    ghost use Rattle.nr_engine.specs.Machine.{told as told_formatter, exit as exit_state, act as act_request, hear as hear_event};
     ghost use Rattle.nr_engine.specs.Answer.{formatter_answer, refusal_outcome, stops_reading, stops_writing};
     ghost use Rattle.nr_engine.specs.Holding.{shape, HaltsOrWorks, WorksQuietly, Advances, Lightens, Spends};
 
@@ -151,6 +151,7 @@ impl<'a> Engine<'a> {
         requires idle { self.old.formatter.event ≡ events.Nothing }
         requires task { self.old.formatter.task ≡ task }
         requires plain { works task ≡ true }
+        ensures plain { works task ≡ true }
         ensures worked { WorksQuietly (plainly (worked task)) (shape self.old) (shape self.new) result }
         ensures reads { stops_reading result ≡ false }
         ensures writes { stops_writing result ≡ false }
@@ -158,6 +159,25 @@ impl<'a> Engine<'a> {
     {
         let answer = self.formatter.work(task);
         self.answer(answer)
+    }
+
+    /// A request takes effect.
+    fn act(&mut self, request: Request) -> Result<(), Outcome>
+        requires idle { self.old.formatter.event ≡ events.Nothing }
+        requires task { self.old.formatter.task ≡ tasks.Act request }
+        ensures worked { WorksQuietly (act_request request) (shape self.old) (shape self.new) result }
+        ensures reads { stops_reading result ≡ false }
+        ensures writes { stops_writing result ≡ false }
+        ensures unfailed { has_failed self.old.place.ahead ≡ false → OnOk result (has_failed self.new.place.ahead ≡ false) }
+        ensures spends { OnOk result (Spends (shape self.old) (shape self.new)) }
+    {
+        match request {
+            Request::Ex => {
+                self.exit();
+                Ok(())
+            }
+            _ => self.work_plainly(Task::Act(request)),
+        }
     }
 
     /// What is under way goes on, where nothing is read.
@@ -174,10 +194,7 @@ impl<'a> Engine<'a> {
         match task {
             Task::Flow(after, breaks) => self.flow(after, breaks, output),
             Task::Break(then) => self.break_out(then, output),
-            Task::Act(Request::Ex) => {
-                self.exit();
-                Ok(())
-            }
+            Task::Act(request) => self.act(request),
             Task::Room(room) => self.make_room(room, output),
             Task::Title => self.put_title(output),
             Task::Line(height) => self.put_diverted_line(height, output),

@@ -1,30 +1,21 @@
-use Rattle.std.proofs.Common.{rules, ◌≤◌, ◌≡◌, ◌≢◌, ℕ, List, Option, None, Some, Ok, OnOk, true, false, ◌+◌, ◌-◌, ◌*◌, ◌<◌, length, ◌/◌, ◌%◌, Bool, nat_eq, nat_lt, [], ◌∷◌, ◌++◌, slice_index_or, slice_set, bit_and, bit_or, Fits, w8, w32, w64, Bor, MutBor}
-use Rattle.nr_units.specs.Failures.{counted_if, put_counted_if}
-use Rattle.nr_units.specs.Supply.{Supply}
-use Rattle.nr_input.specs.Coming.{Coming, HoldsComing, emptied, has_failed}
-use Rattle.nr_formatter.specs.Passed.{splice_answer}
-use Rattle.nr_formatter.specs.Weights.{Falls}
-use Rattle.nr_formatter.specs.declared.tasks.Resume.{Resume as ResumeValue}
-use Rattle.nr_input.specs.declared.told.Told.TheVariants as tells
-use Rattle.nr_formatter.specs.Ending.{ex}
-use Rattle.nr_formatter.specs.Moves.{works, worked}
-use Rattle.nr_formatter.specs.Springing.{sprung}
-use Rattle.nr_reading.specs.declared.event.Event.TheVariants as events
-use Rattle.nr_store.specs.declared.request.Request.TheVariants as requests
-use Rattle.nr_formatter.specs.declared.tasks.Task.TheVariants as tasks
-use Rattle.nr_engine.specs.declared.outcome.Outcome.TheVariants as outcomes
-use Rattle.nr_engine.specs.State.{State, plainly}
-use Rattle.nr_engine.specs.Machine.{told as told_formatter}
-use Rattle.nr_engine.specs.Machine.{exit as exit_state}
-use Rattle.nr_engine.specs.Machine.{hear as hear_event}
-use Rattle.nr_engine.specs.Answer.{formatter_answer, refusal_outcome, stops_reading, stops_writing}
-use Rattle.nr_engine.specs.Holding.{shape, HaltsOrWorks, WorksQuietly, Advances, Lightens, Spends}
+use Rattle.std.proofs.Common.{◌≡◌, refl, sym}
+use Rattle.nr_formatter.specs.Moves.{heard}
+use Rattle.nr_engine.specs.Holding.{shape, at}
+use Rattle.nr_engine.proofs.Moving.{reads-formatter, writes-formatter, lightens-formatter, heard_plainly}
+use Rattle.nr_engine.proofs.Working.{formatter_worked}
 use Rattle.nr_engine.proofs.engine.Engine.hear.Goals as goal
 
--- src/engine.rt:205:13
 pub returns-in-DivertedCell-clause-worked : goal.returns-in-DivertedCell-clause-worked
-returns-in-DivertedCell-clause-worked c = ?
+returns-in-DivertedCell-clause-worked c = λ held supply s h. rw c.in-DivertedCell.is (c.put_diverted_cell.ensures.worked held supply s h)
 
--- src/engine.rt:196:5
 pub returns : goal.returns
-returns c = ?
+returns c =
+    let e = shape c.args.self.now in
+    record {
+      worked = λ held supply s h.
+          rw (heard_plainly c.args.event (at e s) c.requires.busy c.in_default.not-DivertedCell, c.answer.ensures)
+          (formatter_worked (heard c.args.event) supply s e c.hear-answer.new.self c.hear-answer.result held h (c.hear-answer.ensures.result h.within.formatter) c.hear-answer.ensures.ok);
+      reads = rw c.answer.ensures (reads-formatter c.args.self.now.place.taken c.hear-answer.result);
+      writes = rw c.answer.ensures (writes-formatter c.args.self.now.place.taken c.hear-answer.result);
+      lightens = rw c.answer.ensures (lightens-formatter e (record e { formatter = c.hear-answer.new.self }) c.args.self.now.place.taken c.hear-answer.result (c.hear-answer.ensures.falls c.requires.event c.requires.busy) refl);
+    }
