@@ -2,3 +2,5 @@ mod Measured
 mod Standing
 mod Working
 mod Travelling
+mod Choosing
+mod Starting
