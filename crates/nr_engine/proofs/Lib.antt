@@ -1,4 +1,5 @@
 mod Bursts
+mod Choosing
 mod Going
 mod Lightening
 mod Measured
@@ -7,5 +8,6 @@ mod NextMoves
 mod Selected
 mod Spending
 mod Standing
+mod Starting
 mod Travelling
 mod Working

@@ -32,7 +32,7 @@ halted s n e f x y outcome old mid new m advances =
 pub bound_more : (worth m w w' t t' : ℕ) → m + w ≤ worth * (t + 1) → w' + 1 + worth * t ≤ w + worth * t' → m + 1 + w' ≤ worth * (t' + 1)
 bound_more worth m w w' t t' before spent = omega arith
 
-worth_same : (e f : Shape) → f.formatter.store.limit ≡ e.formatter.store.limit → f.formatter.reader.most ≡ e.formatter.reader.most → worth f ≡ worth e
+pub worth_same : (e f : Shape) → f.formatter.store.limit ≡ e.formatter.store.limit → f.formatter.reader.most ≡ e.formatter.reader.most → worth f ≡ worth e
 worth_same e f limit most =
     ap (λ m. 256 * byte_worth m f.formatter.store.limit) most ∙ ap (λ l. 256 * byte_worth e.formatter.reader.most l) limit
 

@@ -1,11 +1,12 @@
 -- What the options do to the engine, and a whole run of it.
-use Rattle.std.specs.Prelude.{◌≡◌, ℕ, ◌+◌, ◌*◌, ◌≤◌, ◌<◌, List, [], Option, Some, Result, Ok, Err}
+use Rattle.std.specs.Prelude.{◌≡◌, ℕ, ◌+◌, ◌*◌, ◌≤◌, ◌<◌, List, [], Option, Result, Ok, Err, OnOk, false}
 use Rattle.nr_units.specs.Supply.{Supply}
 use Rattle.nr_options.specs.declared.options.Options.{Options}
 use Rattle.nr_formatter.specs.Limits.{IsWithin}
 use Rattle.nr_store.specs.Stored.{charge_of}
 use Rattle.nr_engine.specs.State.{State, Choice, choices}
 use Rattle.nr_engine.specs.Machine.{choose, state_after}
+use Rattle.nr_engine.specs.Answer.{stops_reading, stops_writing}
 use Rattle.nr_engine.specs.Holding.{Shape, Holds, Made, Halts, weight, worth}
 use Rattle.nr_engine.specs.declared.outcome.Measure.TheVariants.{Stored}
 use Rattle.nr_engine.specs.declared.outcome.Outcome.{Outcome}
@@ -28,12 +29,14 @@ pub record StaysLight (e f : Shape) : Type 0 where
 -- all choices took effect, each as a move, or the run stops at one
 abbrev pub AfterChoices : Option Supply → State → ℕ → Shape → Option (List ℕ) → Result (Unit {0}) Outcome → Type 0
 AfterChoices supply s n f held (Ok x) = Made [] s n f supply held held
-AfterChoices supply s n f held (Err outcome) = Halts s n outcome held held × ((state_after n s).coming.taken ≡ s.coming.taken)
+AfterChoices supply s n f held (Err outcome) = Halts s n outcome held held
 
 -- At whatever state the engine held with these options to choose, they are chosen.
 pub record ChoosesAll (options : Options) (e f : Shape) (n : ℕ) (r : Result (Unit {0}) Outcome) : Type 0 where
   pub chooses : (supply : Option Supply) (held : Option (List ℕ)) (s : State) → Holds (choices options) supply s e → AfterChoices supply s n f held r
-  pub stays : StaysLight e f
+  pub stays : OnOk r (StaysLight e f)
+  pub reads : stops_reading r ≡ false
+  pub writes : stops_writing r ≡ false
 
 -- At whatever state the engine held, moves were made up to where the run stops as the outcome says.
 pub record Travelled (s : State) (before after : ℕ) (most : ℕ) (outcome : Outcome) (old new : Option (List ℕ)) : Type 0 where

@@ -85,6 +85,8 @@ impl<'a> Engine<'a> {
         ensures page { HoldsPage [] result.page }
         ensures page_limit { result.page.limit ≡ limits.cells }
         ensures select { result.select.now ≡ select.now }
+        ensures stored { limits.stored ≤ 2 ^ 24 }
+        ensures expansions { limits.expansions ≤ 2 ^ 32 }
     {
         let store = Store::over(memory, limits.stored() as u32);
         let line = Line::over(cells, pieces, limits.cells());
