@@ -4,10 +4,11 @@ use Rattle.std.specs.Io.KnownBytes.{Keeps}
 use Rattle.nr_units.specs.Failures.{SinkFailures, counted_if, put_counted_if, flush_counted_if}
 use Rattle.nr_units.specs.Supply.{Supply}
 use Rattle.nr_engine.specs.State.{start}
-use Rattle.nr_engine.specs.Measures.{Bounds}
+use Rattle.nr_options.specs.Limits.{Bounds}
 use Rattle.nr_engine.specs.Answer.{Answers, is_read_fault, is_write_fault}
 use Rattle.nr_engine.specs.declared.outcome.Outcome.{Outcome}
 use Rattle.nr_engine.specs.declared.outcome.Outcome.TheVariants.{Done, Limit, ReadFault, TooLong, WriteFault}
+use Rattle.nr_command.specs.Faults.{Tells, line_of}
 
 -- the status of the program
 abbrev pub status_of : Outcome → ℕ
@@ -16,14 +17,6 @@ status_of (Limit which at) = 1
 status_of TooLong = 1
 status_of (ReadFault at) = 3
 status_of WriteFault = 4
-
--- the limits that hold where none are given
-abbrev pub default_bounds : Bounds
-default_bounds = record { stored = 262144; depth = 256; cells = 65536; expansions = 1000000 }
-
--- the line that tells that there are words
-abbrev pub words_line : List ℕ
-words_line = codes "nroff: no arguments yet\n"
 
 -- the line that tells want of memory
 abbrev pub memory_line : List ℕ
@@ -41,3 +34,12 @@ pub record Ran (b : Bounds) (supply : Option Supply) (reads reads' : ℕ) (old n
   -- each failed call was counted
   pub read_failures : reads' ≡ counted_if (is_read_fault formatted) reads
   pub write_failures : writes' ≡ flush_counted_if flush_failed (put_counted_if (is_write_fault formatted) writes)
+
+-- A run over sources that no call of had failed came to an outcome: the status and the line tell it.
+pub record Comes (b : Bounds) (supply : Option Supply) (old new : Option (List ℕ)) (writes writes' : SinkFailures)
+    (old_line new_line : Option (List ℕ)) (failures failures' : SinkFailures) (status : ℕ) : Type 0 where
+  pub outcome : Outcome
+  pub reads : ℕ
+  pub ran : Ran b supply 0 reads old new writes writes' outcome
+  pub status_is : status ≡ status_of outcome
+  pub told : Tells old_line new_line failures failures' (line_of outcome)

@@ -4,7 +4,8 @@ use Rattle.std.specs.Prelude.{codes}
 use Rattle.nr_units.specs.Supply.{Never}
 use Rattle.nr_engine.specs.State.{start}
 use Rattle.nr_engine.specs.Machine.{step, state_after, text}
-use Rattle.nr_engine.specs.Measures.{Bounds, passed}
+use Rattle.nr_options.specs.Limits.{Bounds}
+use Rattle.nr_engine.specs.Measures.{passed}
 use Rattle.nr_engine.specs.declared.outcome.Measure.{Measure}
 use Rattle.nr_engine.specs.declared.outcome.Measure.TheVariants.{LineCells}
 use Rattle.nr_engine.specs.declared.mode.Mode.TheVariants.{Halted}

@@ -43,7 +43,7 @@ impl<'a> Engine<'a> {
     ghost use Rattle.std.specs.Prelude.{◌<◌, List, Option, OnOk, true, false, length};
     ghost use Rattle.nr_units.specs.Failures.{counted_if, put_counted_if};
     ghost use Rattle.nr_units.specs.Supply.{Supply};
-    ghost use Rattle.nr_engine.specs.Measures.{Bounds};
+    ghost use Rattle.nr_options.specs.Limits.{Bounds};
     ghost use Rattle.nr_engine.specs.Desks.{HasSizes};
     ghost use Rattle.nr_engine.specs.State.{State, start};
     ghost use Rattle.nr_engine.specs.Modes.{is_reader};

@@ -3,15 +3,15 @@ ghost use Rattle.std.specs.Prelude.{◌≡◌, ℕ, ◌+◌, ◌*◌, ◌^◌, �
 ghost use Rattle.nr_units.specs.Failures.{counted_if, put_counted_if};
 ghost use Rattle.nr_units.specs.Supply.{Supply};
 ghost use Rattle.nr_engine.specs.State.{start};
-ghost use Rattle.nr_engine.specs.Measures.{Bounds};
+ghost use Rattle.nr_options.specs.Limits.{Bounds};
 ghost use Rattle.nr_engine.specs.Answer.{Answers, is_read_fault, is_write_fault};
 ghost use Rattle.nr_engine.specs.Desks.{HasSizes};
 
 use super::desk::Work;
 use super::engine::Engine;
 use super::line::PieceSlot;
-use super::options::Options;
 use super::outcome::Outcome;
+use nr_options::Options;
 use nr_page::row::RowSlot;
 use nr_pool::Slot;
 use nr_units::cell::Cell;
@@ -66,7 +66,7 @@ pub fn format<R: Source, W: Sink>(
     ensures limits { work.exit.0.now ≡ work.entry.desk.now }
 {
     let Work { desk } = work;
-    let Options {} = options;
+    let _ = options;
     let limit = desk.limits.cells();
     run(
         limit,

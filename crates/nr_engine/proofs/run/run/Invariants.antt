@@ -1,7 +1,7 @@
 use Rattle.std.proofs.Common.{◌≡◌, ◌+◌, ◌^◌, ◌≤◌, Some}
 use Rattle.nr_units.specs.Supply.{Supply}
 use Rattle.nr_engine.specs.State.{start}
-use Rattle.nr_engine.specs.Measures.{Bounds}
+use Rattle.nr_options.specs.Limits.{Bounds}
 use Rattle.nr_engine.specs.Holding.{Reached, shape, weight}
 use Rattle.nr_engine.proofs.run.run.Given as goal
 
