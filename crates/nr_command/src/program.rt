@@ -130,7 +130,7 @@ fn run_texts<T: Read + Drop, W: Sink, E: Sink>(
     output: &mut W,
     errors: &mut E,
 ) -> u8
-    ensures ran { result ≢ 5 → Comes job.now.limits (files_supply (map (λ text. reader_supply (T.remaining text)) opened.items))
+    ensures ran { result ≢ 5 → Comes job.now.limits job.now.options (files_supply (map (λ text. reader_supply (T.remaining text)) opened.items))
         (W.held output.old) (W.held output.new) (W.failures output.old) (W.failures output.new)
         (E.held errors.old) (E.held errors.new) (E.failures errors.old) (E.failures errors.new) result }
 {

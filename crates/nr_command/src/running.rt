@@ -31,7 +31,7 @@ pub fn run_over<R: Source, W: Sink, E: Sink>(
 ) -> u8
     // The status and the line tell the outcome of the run.
     ensures ran { IfOk desk (λ limits. (outcome : Outcome)
-        × Ran limits (R.supply input.old) (R.failures input.old) (R.failures input.new)
+        × Ran limits options.now (R.supply input.old) (R.failures input.old) (R.failures input.new)
         (W.held output.old) (W.held output.new) (W.failures output.old) (W.failures output.new) outcome
         × (result ≡ status_of outcome)
         × Tells (E.held errors.old) (E.held errors.new) (E.failures errors.old) (E.failures errors.new) (line_of outcome)) }
@@ -61,7 +61,7 @@ pub fn run_files<F: Source, W: Sink, E: Sink>(
     output: &mut W,
     errors: &mut E,
 ) -> u8
-    ensures ran { IfOk desk (λ limits. Comes limits (files_supply (map F.supply files.old))
+    ensures ran { IfOk desk (λ limits. Comes limits options.now (files_supply (map F.supply files.old))
         (W.held output.old) (W.held output.new) (W.failures output.old) (W.failures output.new)
         (E.held errors.old) (E.held errors.new) (E.failures errors.old) (E.failures errors.new) result) }
     ensures quiet { result ≡ 0 → errors.new ≡ errors.old }
@@ -80,7 +80,7 @@ fn run_desk<R: Source, W: Sink>(
     input: &mut R,
     output: &mut W,
 ) -> Outcome
-    ensures ran { Ran desk.old (R.supply input.old) (R.failures input.old) (R.failures input.new)
+    ensures ran { Ran desk.old options.now (R.supply input.old) (R.failures input.old) (R.failures input.new)
         (W.held output.old) (W.held output.new) (W.failures output.old) (W.failures output.new) result }
     ensures passed_on { result ≢ Outcome.WriteFault → IsTrue (W.passed_on output.new) }
 {
