@@ -69,6 +69,7 @@ pub fn run_words<O: Opener, W: Write + Drop, E: Sink>(
     ensures bad_word { (complaint : Complaint) → IsAnswer (texts words.now) (Err complaint) → (result ≡ 2)
         × Tells (E.held errors.old) (E.held errors.new) (E.failures errors.old) (E.failures errors.new) (usage_text complaint.case complaint.word) }
     ensures usage { result ≡ 2 → (complaint : Complaint) × IsAnswer (texts words.now) (Err complaint) }
+    ensures quiet { result ≡ 0 → errors.new ≡ errors.old }
 {
     match read_words(words) {
         Ok(job) => run_job(alloc, &job, opener, output, errors),
@@ -93,7 +94,8 @@ fn run_job<O: Opener, W: Write + Drop, E: Sink>(
     output: W,
     errors: &mut E,
 ) -> u8
-    ensures { result ≢ 2 }
+    ensures runs { result ≢ 2 }
+    ensures quiet { result ≡ 0 → errors.new ≡ errors.old }
 {
     let opened = match open_texts(opener, job, alloc) {
         Ok(opened) => opened,
@@ -133,6 +135,7 @@ fn run_texts<T: Read + Drop, W: Sink, E: Sink>(
     ensures ran { result ≢ 5 → Comes job.now.limits job.now.options (files_supply (map (λ text. reader_supply (T.remaining text)) opened.items))
         (W.held output.old) (W.held output.new) (W.failures output.old) (W.failures output.new)
         (E.held errors.old) (E.held errors.new) (E.failures errors.old) (E.failures errors.new) result }
+    ensures quiet { result ≡ 0 → errors.new ≡ errors.old }
 {
     let desk = Desk::new(alloc, job.limits);
     let Ok(mut buffers) = buffers(alloc, opened.len()) else {
