@@ -2,10 +2,9 @@
 use Rattle.std.proofs.Common.{◌≡◌, ℕ, List, None, Some, refl}
 use Rattle.std.specs.Prelude.{codes}
 use Rattle.nr_units.specs.Supply.{Never}
-use Rattle.nr_engine.specs.State.{begun}
+use Rattle.nr_engine.specs.State.{start}
 use Rattle.nr_engine.specs.Machine.{step, state_after, text}
-use Rattle.nr_options.specs.Limits.{Bounds}
-use Rattle.nr_engine.specs.Measures.{passed}
+use Rattle.nr_engine.specs.Measures.{Bounds, passed}
 use Rattle.nr_engine.specs.declared.outcome.Measure.{Measure}
 use Rattle.nr_engine.specs.declared.outcome.Measure.TheVariants.{LineCells}
 use Rattle.nr_engine.specs.declared.mode.Mode.TheVariants.{Halted}
@@ -13,7 +12,7 @@ use Rattle.nr_engine.specs.declared.mode.Mode.TheVariants.{Halted}
 -- after n moves the run has ended, and these are its pages
 abbrev Prints : List ℕ → ℕ → List ℕ → Type 0
 Prints input n output =
-    let s = state_after n (begun (record { bytes = input; faults = Never })) in
+    let s = state_after n (start (record { bytes = input; faults = Never })) in
     (s.mode ≡ Halted) × (text s.pages ≡ output)
 
 no_bytes : Prints (codes "") 3 (codes "")
@@ -54,7 +53,7 @@ two_short_pages = (refl, refl)
 abbrev StopsAt : List ℕ → ℕ → ℕ → Measure → ℕ → Type 0
 StopsAt input cells n which at =
     let b : Bounds = record { stored = 262144; depth = 256; cells = cells; expansions = 1000000 } in
-    let s = state_after n (begun (record { bytes = input; faults = Never })) in
+    let s = state_after n (start (record { bytes = input; faults = Never })) in
     (passed b s ≡ None) × (passed b (step s) ≡ Some which) × (s.coming.taken ≡ at)
 
 word_hits_line_cells : StopsAt (codes "hello\n") 4 9 LineCells 5

@@ -6,7 +6,7 @@ use Rattle.std.proofs.lemmas.Bool.{cases_lt}
 use Rattle.nr_units.specs.Supply.{Supply}
 use Rattle.nr_engine.specs.State.{State}
 use Rattle.nr_engine.specs.Machine.{step, state_after, text}
-use Rattle.nr_options.specs.Limits.{Bounds}
+use Rattle.nr_engine.specs.Measures.{Bounds}
 use Rattle.nr_engine.specs.Answer.{Goes, Stops, Runs, Writes, Answers}
 use Rattle.nr_engine.specs.Holding.{Shape, Holds, Moved, Left, Reached, Halts, Grows, Wrote, WritesFrom}
 use Rattle.nr_engine.specs.declared.outcome.Outcome.{Outcome}

@@ -19,8 +19,7 @@ use Rattle.nr_engine.specs.Pages.{has_room_at, has_room, begin_page, make_room, 
 use Rattle.nr_engine.specs.Bytes.{prints, is_tab_or_leader}
 use Rattle.nr_engine.specs.Modes.{is_reader, mode_of}
 use Rattle.nr_engine.specs.Machine.{step, move, read, text}
-use Rattle.nr_options.specs.Limits.{Bounds}
-use Rattle.nr_engine.specs.Measures.{IsWithin, passed}
+use Rattle.nr_engine.specs.Measures.{Bounds, IsWithin, passed}
 use Rattle.nr_engine.specs.Holding.{Shape, Holds, AfterWork, AfterMove}
 use Rattle.nr_engine.specs.declared.mode.Mode.{Mode}
 use Rattle.nr_engine.specs.declared.mode.Mode.TheVariants.{Begin, Leading, Text, Name, Argument, Rest, Drop, Put, EndLine, Flow, Break, Space, Act, Eject, Halted}

@@ -7,8 +7,7 @@ use Rattle.nr_page.specs.PageBytes.{page_bytes}
 use Rattle.nr_engine.specs.Coming.{IsOneTooMany}
 use Rattle.nr_engine.specs.State.{State, Ended}
 use Rattle.nr_engine.specs.Machine.{step, state_after, text}
-use Rattle.nr_options.specs.Limits.{Bounds}
-use Rattle.nr_engine.specs.Measures.{passed}
+use Rattle.nr_engine.specs.Measures.{Bounds, passed}
 use Rattle.nr_engine.specs.Modes.{is_reader}
 use Rattle.nr_engine.specs.declared.mode.Mode.TheVariants.{Halted}
 use Rattle.nr_engine.specs.declared.outcome.Outcome.{Outcome}

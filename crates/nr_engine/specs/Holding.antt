@@ -9,8 +9,7 @@ use Rattle.nr_engine.specs.Lined.{Lined}
 use Rattle.nr_engine.specs.Coming.{Taken, items_left}
 use Rattle.nr_engine.specs.State.{State, Ended}
 use Rattle.nr_engine.specs.Machine.{step, state_after, text}
-use Rattle.nr_options.specs.Limits.{Bounds}
-use Rattle.nr_engine.specs.Measures.{IsWithin, passed}
+use Rattle.nr_engine.specs.Measures.{Bounds, IsWithin, passed}
 use Rattle.nr_engine.specs.Answer.{Goes, Stops, Runs}
 use Rattle.nr_engine.specs.Weights.{weight_of_reading, weight_of_word, weight_of_page, weight_of_mode}
 use Rattle.nr_engine.specs.declared.engine.Engine.{Engine}

@@ -2,8 +2,6 @@
 use Rattle.std.specs.Prelude.{ℕ, false, true, List, [], None}
 use Rattle.nr_units.specs.Supply.{Supply}
 use Rattle.nr_page.specs.Grid.{Placed}
-use Rattle.nr_options.specs.Limits.{Bounds}
-use Rattle.nr_options.specs.declared.options.Options.{Options}
 use Rattle.nr_engine.specs.Coming.{Coming, whole}
 use Rattle.nr_engine.specs.Pieces.{Collected, nothing_collected}
 use Rattle.nr_engine.specs.declared.mode.Mode.{Mode}
@@ -47,13 +45,9 @@ abbrev pub no_paper : Paper
 no_paper = record { state = Unbegun; place = 0; lines = [] }
 
 -- with the whole input before it
-abbrev pub begun : Supply → State
-begun supply =
+abbrev pub start : Supply → State
+start supply =
     record { coming = whole supply; reading = nothing_read; settings = first_settings; line = nothing_collected; paper = no_paper; mode = Begin; pages = [] }
-
--- the same under limits and options, which change nothing of it yet
-abbrev pub start : Bounds → Options → Supply → State
-start bounds options supply = begun supply
 
 abbrev pub in_mode : Mode → State → State
 in_mode m s = record s { mode = m }

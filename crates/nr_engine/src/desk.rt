@@ -1,10 +1,9 @@
 // The memory of a run, taken once and lent as often as wanted.
 ghost use Rattle.std.specs.Prelude.{◌≡◌, ◌+◌, ◌*◌, ◌≤◌, max, IfOk, vec_len};
-ghost use Rattle.nr_options.specs.Limits.{Bounds};
+ghost use Rattle.nr_engine.specs.Measures.{Bounds};
 
-use super::limits::Sizes;
+use super::limits::{Limits, Sizes};
 use super::line::{Line, PieceSlot};
-use nr_options::Limits;
 use nr_page::page::room;
 use nr_page::row::RowSlot;
 use nr_pool::Slot;
@@ -48,7 +47,7 @@ pub struct Desk {
 }
 
 impl Model for Desk {
-    ghost use Rattle.nr_options.specs.Limits.{Bounds};
+    ghost use Rattle.nr_engine.specs.Measures.{Bounds};
     ghost use Rattle.nr_engine.specs.Desks.{HasSizes};
     ghost use Rattle.std.specs.Prelude.{vec_len};
 

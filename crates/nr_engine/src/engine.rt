@@ -43,9 +43,9 @@ impl<'a> Engine<'a> {
     ghost use Rattle.std.specs.Prelude.{◌<◌, List, Option, OnOk, true, false, length};
     ghost use Rattle.nr_units.specs.Failures.{counted_if, put_counted_if};
     ghost use Rattle.nr_units.specs.Supply.{Supply};
-    ghost use Rattle.nr_options.specs.Limits.{Bounds};
+    ghost use Rattle.nr_engine.specs.Measures.{Bounds};
     ghost use Rattle.nr_engine.specs.Desks.{HasSizes};
-    ghost use Rattle.nr_engine.specs.State.{State, begun};
+    ghost use Rattle.nr_engine.specs.State.{State, start};
     ghost use Rattle.nr_engine.specs.Modes.{is_reader};
     ghost use Rattle.nr_engine.specs.Answer.{stops_reading, stops_writing};
     ghost use Rattle.nr_engine.specs.Holding.{Holds, Advances, shape, weight};
@@ -62,7 +62,7 @@ impl<'a> Engine<'a> {
     ) -> Self
         requires within { limit < 2 ^ 32 }
         requires sizes { HasSizes limit (length cells.now) (length pieces.now) (length row.now) (length page_cells.now) (length page_texts.now) (length page_rows.now) }
-        ensures holds { (b : Bounds) (supply : Supply) → b.cells ≡ limit → Holds b (begun supply) (shape result) }
+        ensures holds { (b : Bounds) (supply : Supply) → b.cells ≡ limit → Holds b (start supply) (shape result) }
         ensures weight { weight (shape result) ≡ 2 ^ 47 + 6 }
     {
         Engine {

@@ -2,16 +2,16 @@
 ghost use Rattle.std.specs.Prelude.{◌≡◌, ℕ, ◌+◌, ◌*◌, ◌^◌, ◌<◌, ◌≤◌, max, length, Some};
 ghost use Rattle.nr_units.specs.Failures.{counted_if, put_counted_if};
 ghost use Rattle.nr_units.specs.Supply.{Supply};
-ghost use Rattle.nr_engine.specs.State.{begun, start};
-ghost use Rattle.nr_options.specs.Limits.{Bounds};
+ghost use Rattle.nr_engine.specs.State.{start};
+ghost use Rattle.nr_engine.specs.Measures.{Bounds};
 ghost use Rattle.nr_engine.specs.Answer.{Answers, is_read_fault, is_write_fault};
 ghost use Rattle.nr_engine.specs.Desks.{HasSizes};
 
 use super::desk::Work;
 use super::engine::Engine;
 use super::line::PieceSlot;
+use super::options::Options;
 use super::outcome::Outcome;
-use nr_options::Options;
 use nr_page::row::RowSlot;
 use nr_pool::Slot;
 use nr_units::cell::Cell;
@@ -34,7 +34,7 @@ fn run<R: Source, W: Sink>(
     requires within { limit < 2 ^ 32 }
     requires sizes { HasSizes limit (length cells.old) (length pieces.old) (length row.old) (length page_cells.old) (length page_texts.old) (length page_rows.old) }
     ensures answers { (b : Bounds) (supply : Supply) → b.cells ≡ limit → R.supply input.old ≡ Some supply →
-        Answers b (begun supply) moves.new result (W.held output.old) (W.held output.new) }
+        Answers b (start supply) moves.new result (W.held output.old) (W.held output.new) }
     ensures read_failures { R.failures input.new ≡ counted_if (is_read_fault result) (R.failures input.old) }
     ensures write_failures { W.failures output.new ≡ put_counted_if (is_write_fault result) (W.failures output.old) }
 {
@@ -59,14 +59,14 @@ pub fn format<R: Source, W: Sink>(
 ) -> Outcome
     // The pages are those of the machine, which knows no limit, up to where the run stops.
     ensures answers { (supply : Supply) → R.supply input.old ≡ Some supply →
-        Answers work.entry.desk.now (start work.entry.desk.now options.now supply) moves.new result (W.held output.old) (W.held output.new) }
+        Answers work.entry.desk.now (start supply) moves.new result (W.held output.old) (W.held output.new) }
     // A fault is told where a call failed, and nowhere else.
     ensures read_failures { R.failures input.new ≡ counted_if (is_read_fault result) (R.failures input.old) }
     ensures write_failures { W.failures output.new ≡ put_counted_if (is_write_fault result) (W.failures output.old) }
     ensures limits { work.exit.0.now ≡ work.entry.desk.now }
 {
     let Work { desk } = work;
-    let _ = options;
+    let Options {} = options;
     let limit = desk.limits.cells();
     run(
         limit,
