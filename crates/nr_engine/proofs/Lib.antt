@@ -1,7 +1,3 @@
-mod Collecting
-mod LongestFront
-mod PiecesOf
-mod TakingALine
-pub mod Rows
-pub mod Standing
-pub mod Working
+mod Measured
+mod Standing
+mod Working

@@ -1,25 +1,26 @@
 -- Moves, one after another. Nothing here knows the language.
-use Rattle.std.proofs.Common.{◌≡◌, ℕ, zero, suc, ◌+◌, ◌-◌, List, [], ◌++◌, Option, Some, refl, sym, ap, ◌∙◌, subst, append-nil, append_assoc, arith, inl, inr}
+use Rattle.std.proofs.Common.{◌≡◌, ℕ, zero, suc, ◌+◌, ◌-◌, ◌*◌, ◌≤◌, List, [], ◌++◌, Option, Some, refl, sym, ap, ◌∙◌, subst, append-nil, append_assoc, arith, inl, inr}
 use Rattle.std.specs.Io.KnownBytes.{Appends, Keeps}
 use Rattle.std.proofs.KnownBytes.{Appends-nil, Appends-trans, Appends-kept}
 use Rattle.std.proofs.lemmas.Bool.{cases_lt}
 use Rattle.nr_units.specs.Supply.{Supply}
-use Rattle.nr_engine.specs.State.{State}
-use Rattle.nr_engine.specs.Machine.{step, state_after, text}
-use Rattle.nr_engine.specs.Measures.{Bounds}
-use Rattle.nr_engine.specs.Answer.{Goes, Stops, Runs, Writes, Answers}
-use Rattle.nr_engine.specs.Holding.{Shape, Holds, Moved, Left, Reached, Halts, Grows, Wrote, WritesFrom}
+use Rattle.nr_options.specs.Limits.{Bounds}
+use Rattle.nr_engine.specs.State.{State, Choice}
+use Rattle.nr_engine.specs.Machine.{step, state_after}
+use Rattle.nr_engine.specs.Printing.{text}
+use Rattle.nr_engine.specs.Answer.{Goes, Stops, Runs, Writes, Answers, moves_a_byte}
+use Rattle.nr_engine.specs.Holding.{Shape, Holds, Moved, Left, Made, Halts, Grows, Wrote, WritesFrom}
 use Rattle.nr_engine.specs.declared.outcome.Outcome.{Outcome}
 use Rattle.nr_engine.specs.declared.outcome.Outcome.TheVariants.{Done, Limit, ReadFault, TooLong, WriteFault}
 
-state_after-add : (s : State) (n m : ℕ) → state_after (n + m) s ≡ state_after m (state_after n s)
+pub state_after-add : (s : State) (n m : ℕ) → state_after (n + m) s ≡ state_after m (state_after n s)
 state_after-add s n zero = ap (λ k. state_after k s) (let e : n + 0 ≡ n = omega arith in e)
 state_after-add s n (suc m) = ap (λ k. state_after k s) (let e : n + suc m ≡ suc (n + m) = omega arith in e) ∙ ap step (state_after-add s n m)
 
-runs-add : (b : Bounds) (s : State) (n m : ℕ) → Runs b n s → Runs b m (state_after n s) → Runs b (n + m) s
-runs-add b s n m x y = λ k h. elim (cases_lt k n) [
+runs-add : (s : State) (n m : ℕ) → Runs n s → Runs m (state_after n s) → Runs (n + m) s
+runs-add s n m x y = λ k h. elim (cases_lt k n) [
   | inl i ↦ x k i
-  | inr i ↦ (let e : n + (k - n) ≡ k = omega arith in subst (λ j. Goes b (state_after j s)) e (subst (Goes b) (sym (state_after-add s n (k - n))) (y (k - n) (omega arith))))
+  | inr i ↦ (let e : n + (k - n) ≡ k = omega arith in subst (λ j. Goes (state_after j s)) e (subst Goes (sym (state_after-add s n (k - n))) (y (k - n) (omega arith))))
 ]
 
 -- ---- what was written
@@ -41,35 +42,33 @@ wrote-trans s t u old mid new a b =
 
 -- ---- moves
 
-pub reached_none : (b : Bounds) (s : State) (e : Shape) (supply : Option Supply) (held : Option (List ℕ)) → Holds b s e → supply ≡ Some s.coming.supply → Reached b s 0 e supply held held
-reached_none b s e supply held h q =
-    record { runs = λ m k. absurd (omega arith); holds = h; supply_is = q; wrote = wrote_nothing s s held refl }
+pub made_none : (chosen : List Choice) (s : State) (e : Shape) (supply : Option Supply) (held : Option (List ℕ)) → Holds chosen supply s e → Made chosen s 0 e supply held held
+made_none chosen s e supply held h =
+    record { runs = λ m k. absurd (omega arith); holds = h; wrote = wrote_nothing s s held refl }
 
 -- one move
-pub reached_one : (b : Bounds) (s : State) (e : Shape) (supply : Option Supply) (old new : Option (List ℕ)) → Moved b s e supply old new → Reached b s 1 e supply old new
-reached_one b s e supply old new m =
+pub made_one : (s : State) (e : Shape) (supply : Option Supply) (old new : Option (List ℕ)) → Moved s e supply old new → Made [] s 1 e supply old new
+made_one s e supply old new m =
     record {
-      runs = λ k h. (let same : 0 ≡ k = omega arith in subst (λ j. Goes b (state_after j s)) same m.goes);
+      runs = λ k h. (let same : 0 ≡ k = omega arith in subst (λ j. Goes (state_after j s)) same m.goes);
       holds = m.holds;
-      supply_is = m.supply_is;
       wrote = m.wrote;
     }
 
 -- moves, and then others
-pub reached_all : (b : Bounds) (s : State) (n m : ℕ) (e f : Shape) (x y : Option Supply) (old mid new : Option (List ℕ))
-    → Reached b s n e x old mid → Reached b (state_after n s) m f y mid new → Reached b s (n + m) f y old new
-reached_all b s n m e f x y old mid new p q =
+pub made_all : (before after : List Choice) (s : State) (n m : ℕ) (e f : Shape) (x y : Option Supply) (old mid new : Option (List ℕ))
+    → Made before s n e x old mid → Made after (state_after n s) m f y mid new → Made after s (n + m) f y old new
+made_all before after s n m e f x y old mid new p q =
     let both = state_after-add s n m in
     record {
-      runs = runs-add b s n m p.runs q.runs;
+      runs = runs-add s n m p.runs q.runs;
       holds = rw both q.holds;
-      supply_is = rw both q.supply_is;
       wrote = rw both (wrote-trans s (state_after n s) (state_after m (state_after n s)) old mid new p.wrote q.wrote);
     }
 
 -- the run stops after no further move
-pub halts_here : (b : Bounds) (s : State) (outcome : Outcome) (old new : Option (List ℕ)) → Stops b s outcome → Left s outcome old new → Halts b s 0 outcome old new
-halts_here b s outcome old new stops left = record { runs = λ m k. absurd (omega arith); stops = stops; writes = from outcome left }
+pub halts_here : (s : State) (outcome : Outcome) (old new : Option (List ℕ)) → Stops s outcome → Left s outcome old new → Halts s 0 outcome old new
+halts_here s outcome old new stops left = record { runs = λ m k. absurd (omega arith); stops = stops; writes = from outcome left }
   where
     from : (o : Outcome) → Left s o old new → WritesFrom s s o old new
     from Done k = wrote_kept s old new k
@@ -86,19 +85,20 @@ writes-add s t u TooLong old mid new a w = wrote-trans s t u old mid new a w
 writes-add s t u WriteFault old mid new a w = (w.0, wrote-trans s t u old mid w.0 a w.1, w.2)
 
 -- moves, and then others up to where the run stops
-pub halts_after : (b : Bounds) (s : State) (n m : ℕ) (e : Shape) (x : Option Supply) (outcome : Outcome) (old mid new : Option (List ℕ))
-    → Reached b s n e x old mid → Halts b (state_after n s) m outcome mid new → Halts b s (n + m) outcome old new
-halts_after b s n m e x outcome old mid new p q =
+pub halts_after : (chosen : List Choice) (s : State) (n m : ℕ) (e : Shape) (x : Option Supply) (outcome : Outcome) (old mid new : Option (List ℕ))
+    → Made chosen s n e x old mid → Halts (state_after n s) m outcome mid new → Halts s (n + m) outcome old new
+halts_after chosen s n m e x outcome old mid new p q =
     let both = state_after-add s n m in
     record {
-      runs = runs-add b s n m p.runs q.runs;
+      runs = runs-add s n m p.runs q.runs;
       stops = rw both q.stops;
       writes = rw both (writes-add s (state_after n s) (state_after m (state_after n s)) outcome old mid new p.wrote q.writes);
     }
 
 -- from a state in which no page has ended
-pub answers : (b : Bounds) (s : State) (n : ℕ) (outcome : Outcome) (old new : Option (List ℕ)) → s.pages ≡ [] → Halts b s n outcome old new → Answers b s n outcome old new
-answers b s n outcome old new none h = record { runs = h.runs; stops = h.stops; writes = from outcome h.writes }
+pub answers : (b : Bounds) (s : State) (n : ℕ) (outcome : Outcome) (old new : Option (List ℕ)) → s.pages ≡ [] → Halts s n outcome old new
+    → n ≤ moves_a_byte b * ((state_after n s).coming.taken + 1) → Answers b s n outcome old new
+answers b s n outcome old new none h bound = record { runs = h.runs; stops = h.stops; writes = from outcome h.writes; bound = bound }
   where
     clean : (t : State) (more : List ℕ) → Grows s t more → more ≡ text t.pages
     clean t more g = sym (g.grows ∙ ap (λ z. text z ++ more) none)

@@ -1,60 +1,62 @@
 -- How the engine holds a state of the machine.
-use Rattle.std.specs.Prelude.{◌≡◌, ℕ, ◌+◌, ◌*◌, List, [], ◌∷◌, ◌++◌, length, Option, Some, Result, Ok, Err}
+use Rattle.std.specs.Prelude.{◌≡◌, ℕ, ◌+◌, ◌*◌, ◌≤◌, ◌<◌, List, [], ◌∷◌, ◌++◌, Option, Some, Result, Ok, Err, OnOk}
 use Rattle.std.specs.Io.KnownBytes.{Appends, Keeps}
 use Rattle.nr_units.specs.Supply.{Supply}
 use Rattle.nr_units.specs.Held.{AppendsFront}
-use Rattle.nr_page.specs.PageBytes.{page_bytes}
+use Rattle.nr_fill.specs.Rows.{Row, IsRow}
 use Rattle.nr_page.specs.Sheet.{Sheet, Holds as HoldsPage}
-use Rattle.nr_engine.specs.Lined.{Lined}
-use Rattle.nr_engine.specs.Coming.{Taken, items_left}
-use Rattle.nr_engine.specs.State.{State, Ended}
-use Rattle.nr_engine.specs.Machine.{step, state_after, text}
-use Rattle.nr_engine.specs.Measures.{Bounds, IsWithin, passed}
+use Rattle.nr_page.specs.declared.selection.PageRange.{PageRange}
+use Rattle.nr_input.specs.Coming.{Reached, HoldsComing}
+use Rattle.nr_input.specs.Weights.{byte_worth}
+use Rattle.nr_formatter.specs.Weights as formatter
+use Rattle.nr_formatter.specs.declared.formatter.Formatter.{Formatter}
+use Rattle.nr_formatter.specs.declared.tasks.Task.{Task}
+use Rattle.nr_formatter.specs.declared.tasks.Task.TheVariants as tasks
+use Rattle.nr_engine.specs.State.{State, Ended, Choice}
+use Rattle.nr_engine.specs.Machine.{step, state_after, work, placed}
+use Rattle.nr_engine.specs.declared.outcome.Measure.TheVariants.{PageCells}
+use Rattle.nr_units.specs.declared.cell.Cell.{Cell}
+use Rattle.nr_page.specs.Grid.{Placed, page_charge}
+use Rattle.nr_formatter.specs.Pages.{line_placed}
+use Rattle.nr_engine.specs.Printing.{bytes_of, text}
+use Rattle.nr_engine.specs.Measures.{IsWithin, passed}
 use Rattle.nr_engine.specs.Answer.{Goes, Stops, Runs}
-use Rattle.nr_engine.specs.Weights.{weight_of_reading, weight_of_word, weight_of_page, weight_of_mode}
 use Rattle.nr_engine.specs.declared.engine.Engine.{Engine}
-use Rattle.nr_engine.specs.declared.mode.Mode.{Mode}
-use Rattle.nr_engine.specs.declared.reading.Reading.{Reading}
-use Rattle.nr_engine.specs.declared.settings.Settings.{Settings}
-use Rattle.nr_engine.specs.declared.paper.PageState.{PageState}
 use Rattle.nr_engine.specs.declared.outcome.Outcome.{Outcome}
 use Rattle.nr_engine.specs.declared.outcome.Outcome.TheVariants.{Done, Limit, ReadFault, TooLong, WriteFault}
 
 -- the engine without the facts that it keeps
 pub record Shape : Type 0 where
-  pub input : Taken
-  pub reading : Reading
-  pub settings : Settings
-  pub line : Lined
+  pub formatter : Formatter
+  pub place : Reached
+  pub row : Row
   pub page : Sheet
-  pub page_state : PageState
-  pub place : ℕ
-  pub mode : Mode
+  pub select : Option (List PageRange)
 
 abbrev pub shape : Engine → Shape
-shape e =
-    record { input = e.input; reading = e.reading; settings = e.settings; line = e.line; page = e.paper.page; page_state = e.paper.state; place = e.paper.place; mode = e.mode }
+shape e = record { formatter = e.formatter; place = e.place; row = e.row; page = e.page; select = e.select.now }
 
--- the engine holds the state, but for what is to come and what has gone out
-pub record Holds (b : Bounds) (s : State) (e : Shape) : Type 0 where
-  pub taken : e.input.taken ≡ s.coming.taken
-  pub inside : e.input.inside ≡ s.coming.inside
-  pub reading : e.reading ≡ s.reading
-  pub settings : e.settings ≡ s.settings
-  pub line : e.line.collected ≡ s.line
-  pub line_limit : e.line.limit ≡ b.cells
-  pub page : HoldsPage s.paper.lines e.page
-  pub page_limit : e.page.limit ≡ b.cells
-  pub page_state : e.page_state ≡ s.paper.state
-  pub place : e.place ≡ s.paper.place
-  pub mode : e.mode ≡ s.mode
-  pub within : IsWithin b s
+-- the state with all that the engine keeps but pages
+abbrev pub at : Shape → State → State
+at e s = record s { formatter = e.formatter }
+
+-- The engine, in front of a source that is about to give these bytes, stands at the state, but for what has gone out and what the
+-- formatter keeps. Of the options some are still to be chosen.
+pub record Stands (chosen : List Choice) (supply : Option Supply) (s : State) (e : Shape) : Type 0 where
+  pub chosen_is : s.chosen ≡ chosen
+  pub coming : HoldsComing s.coming e.place supply
+  pub row : IsRow s.row e.row
+  pub page : HoldsPage s.lines e.page
+  pub page_limit : e.page.limit ≡ s.page_limit
+  pub select : e.select ≡ s.select
+  pub within : IsWithin (at e s)
+
+-- the engine holds the state, but for what has gone out
+pub record Holds (chosen : List Choice) (supply : Option Supply) (s : State) (e : Shape) : Type 0 where
+  pub formatter : e.formatter ≡ s.formatter
+  pub stands : Stands chosen supply s e
 
 -- ---- parts of a move
-
--- whatever state the engine held, it holds f of that state now
-abbrev pub Turns : (State → State) → Shape → Shape → Type 0
-Turns f old new = (b : Bounds) (s : State) → Holds b s old → Holds b (f s) new
 
 -- the text of the pages grew by `more` between two states
 pub record Grows (s t : State) (more : List ℕ) : Type 0 where
@@ -68,26 +70,42 @@ pub record Wrote (s t : State) (old new : Option (List ℕ)) : Type 0 where
 pub record WroteFront (s t : State) (old new : Option (List ℕ)) : Type 0 where
   pub page : Ended
   pub ends : t.pages ≡ s.pages ++ page ∷ []
-  pub front : AppendsFront old new (page_bytes page.rows page.lines)
+  pub front : AppendsFront old new (bytes_of page)
 
 -- from s the machine comes to t: the engine holds t, or a limit or a write stops it
-abbrev pub AfterWork : Bounds → State → State → Shape → Option (List ℕ) → Option (List ℕ) → Result (Unit {0}) Outcome → Type 0
-AfterWork b s t e old new (Ok x) = Holds b t e × Wrote s t old new
-AfterWork b s t e old new (Err (Limit which at)) = (passed b t ≡ Some which) × (at ≡ s.coming.taken) × Keeps old new
-AfterWork b s t e old new (Err WriteFault) = IsWithin b t × WroteFront s t old new
-AfterWork b s t e old new (Err outcome) = ⊥
+abbrev pub AfterWork : Option Supply → State → State → Shape → Option (List ℕ) → Option (List ℕ) → Result (Unit {0}) Outcome → Type 0
+AfterWork supply s t e old new (Ok x) = Holds [] supply t e × Wrote s t old new
+AfterWork supply s t e old new (Err (Limit which at)) = (passed t ≡ Some which) × (at ≡ s.coming.taken) × Keeps old new
+AfterWork supply s t e old new (Err WriteFault) = IsWithin t × WroteFront s t old new
+AfterWork supply s t e old new (Err outcome) = ⊥
 
--- Whatever state the engine held, it comes to f of that state.
+-- Whatever state the engine stood at, it comes to f of that state.
 abbrev pub Works : (State → State) → Shape → Shape → Option (List ℕ) → Option (List ℕ) → Result (Unit {0}) Outcome → Type 0
-Works f e e' old new r = (b : Bounds) (s : State) → Holds b s e → AfterWork b s (f s) e' old new r
+Works f e e' old new r = (supply : Option Supply) (s : State) → Stands [] supply s e → AfterWork supply (at e s) (f (at e s)) e' old new r
+
+-- the same where nothing goes out
+abbrev pub WorksQuietly : (State → State) → Shape → Shape → Result (Unit {0}) Outcome → Type 0
+WorksQuietly f e e' r = (held : Option (List ℕ)) → Works f e e' held held r
+
+-- what is under way, where nothing is read: the run is over, or the work is done
+abbrev pub HaltsOrWorks : Task → Shape → Shape → Option (List ℕ) → Option (List ℕ) → Result (Unit {0}) Outcome → Type 0
+HaltsOrWorks tasks.Halted e e' old new r = (r ≡ Err Done) × (e' ≡ e) × (new ≡ old)
+HaltsOrWorks t e e' old new r = Works (work t) e e' old new r
+
+-- the cells go on the page as a line of this height, or the page's limit stops it; the formatter is that of the engine
+abbrev pub Places : List Cell → ℕ → Shape → Shape → Result (Unit {0}) Outcome → Type 0
+Places cells height e e' (Ok x) = (e'.formatter ≡ line_placed height e.formatter) × (e'.place ≡ e.place) × (e'.select ≡ e.select) × IsRow [] e'.row × (e'.page.limit ≡ e.page.limit)
+    × ((lines : List Placed) → HoldsPage lines e.page → HoldsPage (lines ++ placed cells height e.formatter ∷ []) e'.page × (page_charge (lines ++ placed cells height e.formatter ∷ []) ≤ e.page.limit))
+Places cells height e e' (Err (Limit PageCells at)) = (at ≡ e.place.taken)
+    × ((lines : List Placed) → HoldsPage lines e.page → e.page.limit < page_charge (lines ++ placed cells height e.formatter ∷ []))
+Places cells height e e' (Err outcome) = ⊥
 
 -- ---- one move
 
 -- the move was made
-pub record Moved (b : Bounds) (s : State) (e : Shape) (supply : Option Supply) (old new : Option (List ℕ)) : Type 0 where
-  pub goes : Goes b s
-  pub holds : Holds b (step s) e
-  pub supply_is : supply ≡ Some (step s).coming.supply
+pub record Moved (s : State) (e : Shape) (supply : Option Supply) (old new : Option (List ℕ)) : Type 0 where
+  pub goes : Goes s
+  pub holds : Holds [] supply (step s) e
   pub wrote : Wrote s (step s) old new
 
 -- what went out where the run stops
@@ -98,22 +116,20 @@ Left s (ReadFault at) old new = Keeps old new
 Left s TooLong old new = Keeps old new
 Left s WriteFault old new = WroteFront s (step s) old new
 
-abbrev pub AfterMove : Bounds → State → Shape → Option Supply → Option (List ℕ) → Option (List ℕ) → Result (Unit {0}) Outcome → Type 0
-AfterMove b s e supply old new (Ok x) = Moved b s e supply old new
-AfterMove b s e supply old new (Err outcome) = Stops b s outcome × Left s outcome old new
+abbrev pub AfterMove : State → Shape → Option Supply → Option (List ℕ) → Option (List ℕ) → Result (Unit {0}) Outcome → Type 0
+AfterMove s e supply old new (Ok x) = Moved s e supply old new
+AfterMove s e supply old new (Err outcome) = Stops s outcome × Left s outcome old new
 
--- At whatever state the engine held, one move was made, or the run stops there.
+-- At whatever state the engine stood, one move was made, or the run stops there.
 abbrev pub Advances : Shape → Shape → Option Supply → Option Supply → Option (List ℕ) → Option (List ℕ) → Result (Unit {0}) Outcome → Type 0
-Advances e f supply supply' old new r =
-    (b : Bounds) (s : State) → Holds b s e → supply ≡ Some s.coming.supply → AfterMove b s f supply' old new r
+Advances e f supply supply' old new r = (s : State) → Stands [] supply s e → AfterMove (at e s) f supply' old new r
 
 -- ---- many moves
 
 -- n moves were made from s, and the engine holds the state after them
-pub record Reached (b : Bounds) (s : State) (n : ℕ) (e : Shape) (supply : Option Supply) (old new : Option (List ℕ)) : Type 0 where
-  pub runs : Runs b n s
-  pub holds : Holds b (state_after n s) e
-  pub supply_is : supply ≡ Some (state_after n s).coming.supply
+pub record Made (chosen : List Choice) (s : State) (n : ℕ) (e : Shape) (supply : Option Supply) (old new : Option (List ℕ)) : Type 0 where
+  pub runs : Runs n s
+  pub holds : Holds chosen supply (state_after n s) e
   pub wrote : Wrote s (state_after n s) old new
 
 -- what went out from s on, where the run stops at t
@@ -125,24 +141,27 @@ WritesFrom s t TooLong old new = Wrote s t old new
 WritesFrom s t WriteFault old new = (between : Option (List ℕ)) × Wrote s t old between × WroteFront t (step t) between new
 
 -- n moves were made from s, and the run stops there
-pub record Halts (b : Bounds) (s : State) (n : ℕ) (outcome : Outcome) (old new : Option (List ℕ)) : Type 0 where
-  pub runs : Runs b n s
-  pub stops : Stops b (state_after n s) outcome
+pub record Halts (s : State) (n : ℕ) (outcome : Outcome) (old new : Option (List ℕ)) : Type 0 where
+  pub runs : Runs n s
+  pub stops : Stops (state_after n s) outcome
   pub writes : WritesFrom s (state_after n s) outcome old new
-
-abbrev pub AfterMoves : Bounds → State → ℕ → ℕ → Shape → Option Supply → Option (List ℕ) → Option (List ℕ) → Result (Unit {0}) Outcome → Type 0
-AfterMoves b s before after e supply old new (Ok x) = (n : ℕ) × (after ≡ before + n) × Reached b s n e supply old new
-AfterMoves b s before after e supply old new (Err outcome) = (n : ℕ) × (after ≡ before + n) × Halts b s n outcome old new
-
--- At whatever state the engine held, some moves were made, and then the run stops where the result says so.
-abbrev pub Travels : Shape → Shape → Option Supply → Option Supply → Option (List ℕ) → Option (List ℕ) → ℕ → ℕ → Result (Unit {0}) Outcome → Type 0
-Travels e f supply supply' old new before after r =
-    (b : Bounds) (s : State) → Holds b s e → supply ≡ Some s.coming.supply → AfterMoves b s before after f supply' old new r
 
 -- ---- what falls with each move
 
+-- what a byte that is taken pays
+abbrev pub worth : Shape → ℕ
+worth e = 256 * byte_worth e.formatter.reader.most e.formatter.store.limit
+
+-- how many moves may still come before the next byte is taken
 abbrev pub weight : Shape → ℕ
-weight e =
-    64 * items_left e.input + weight_of_reading e.reading
-    + 16 * length e.line.collected.pieces + weight_of_word e.line.collected.word
-    + weight_of_page e.page_state e.place e.settings.page_length + weight_of_mode e.mode
+weight e = formatter.weight e.place e.formatter
+
+-- where a move was made that took no byte, less may still come
+abbrev pub Lightens : Shape → Shape → Result (Unit {0}) Outcome → Type 0
+Lightens e f r = OnOk r (formatter.Falls 1 0 e.formatter f.formatter × (f.place ≡ e.place))
+
+-- A move was made: it is paid by the bytes that it took, or out of what may still come.
+pub record Spends (e f : Shape) : Type 0 where
+  pub limit : f.formatter.store.limit ≡ e.formatter.store.limit
+  pub most : f.formatter.reader.most ≡ e.formatter.reader.most
+  pub spends : weight f + 1 + worth e * e.place.taken ≤ weight e + worth e * f.place.taken

@@ -1,32 +1,34 @@
 -- What has a limit, and how much of it a state has.
-use Rattle.std.specs.Prelude.{ℕ, ◌≤◌, ◌^◌, nat_lt, if◌then◌else◌, Option, None, Some}
+use Rattle.std.specs.Prelude.{ℕ, ◌≤◌, nat_lt, if◌then◌else◌, length, Option, None, Some}
+use Rattle.nr_fill.specs.Pieces.{line_cells}
+use Rattle.nr_store.specs.Stored.{charge_of}
 use Rattle.nr_page.specs.Grid.{page_charge}
-use Rattle.nr_engine.specs.Pieces.{line_cells}
+use Rattle.nr_input.specs.declared.refusal.Refusal.{Refusal}
+use Rattle.nr_input.specs.declared.refusal.Refusal.TheVariants as refusals
+use Rattle.nr_formatter.specs.Limits as formatter
+use Rattle.nr_formatter.specs.declared.passed.Passed.{Passed}
+use Rattle.nr_formatter.specs.declared.passed.Passed.TheVariants as passes
+use Rattle.nr_formatter.specs.Access.{collected}
 use Rattle.nr_engine.specs.State.{State}
 use Rattle.nr_engine.specs.declared.outcome.Measure.{Measure}
-use Rattle.nr_engine.specs.declared.outcome.Measure.TheVariants.{LineCells, PageCells}
+use Rattle.nr_engine.specs.declared.outcome.Measure.TheVariants.{Stored, Depth, LineCells, PageCells, Expansions}
 
--- the most that each measure may come to
-pub record Bounds : Type 0 where
-  pub stored : ℕ
-  pub depth : ℕ
-  -- of a line, and of a page
-  pub cells : ℕ
-  pub expansions : ℕ
+abbrev pub measure_of : Passed → Measure
+measure_of passes.Stored = Stored
+measure_of passes.Depth = Depth
+measure_of passes.LineCells = LineCells
+measure_of passes.Expansions = Expansions
 
 -- the first measure that is above its limit
-abbrev pub passed : Bounds → State → Option Measure
-passed b s =
-    if nat_lt b.cells (line_cells s.line) then Some LineCells
-    else (if nat_lt b.cells (page_charge s.paper.lines) then Some PageCells else None)
+abbrev pub passed : State → Option Measure
+passed s =
+    if nat_lt s.formatter.store.limit (charge_of s.formatter.store) then Some Stored
+    else (if nat_lt s.formatter.store.deepest (length s.formatter.store.levels) then Some Depth
+    else (if nat_lt s.formatter.line.limit (line_cells (collected s.formatter)) then Some LineCells
+    else (if nat_lt s.page_limit (page_charge s.lines) then Some PageCells
+    else (if nat_lt s.formatter.reader.most s.formatter.reader.burst then Some Expansions else None))))
 
 -- no measure is above its limit
-pub record IsWithin (b : Bounds) (s : State) : Type 0 where
-  pub line : line_cells s.line ≤ b.cells
-  pub page : page_charge s.paper.lines ≤ b.cells
-
--- the ranges of the limits
-abbrev pub AreLimits : Bounds → Type 0
-AreLimits b =
-    (64 ≤ b.stored) × (b.stored ≤ 2 ^ 24) × (1 ≤ b.depth) × (b.depth ≤ 4096)
-    × (1 ≤ b.cells) × (b.cells ≤ 2 ^ 24) × (1 ≤ b.expansions) × (b.expansions ≤ 2 ^ 32)
+pub record IsWithin (s : State) : Type 0 where
+  pub formatter : formatter.IsWithin s.formatter
+  pub page : page_charge s.lines ≤ s.page_limit

@@ -1,53 +1,66 @@
 -- The state of the machine, between two moves.
-use Rattle.std.specs.Prelude.{ℕ, false, true, List, [], None}
+use Rattle.std.specs.Prelude.{ℕ, Bool, List, [], ◌∷◌, map, Option, ℤ}
 use Rattle.nr_units.specs.Supply.{Supply}
+use Rattle.nr_units.specs.declared.cell.Cell.{Cell}
+use Rattle.nr_fill.specs.Pieces.{nothing_collected}
 use Rattle.nr_page.specs.Grid.{Placed}
-use Rattle.nr_engine.specs.Coming.{Coming, whole}
-use Rattle.nr_engine.specs.Pieces.{Collected, nothing_collected}
-use Rattle.nr_engine.specs.declared.mode.Mode.{Mode}
-use Rattle.nr_engine.specs.declared.mode.Mode.TheVariants.{Begin}
-use Rattle.nr_engine.specs.declared.reading.Reading.{Reading}
-use Rattle.nr_engine.specs.declared.settings.Settings.{Settings}
-use Rattle.nr_engine.specs.declared.paper.PageState.{PageState}
-use Rattle.nr_engine.specs.declared.paper.PageState.TheVariants.{Unbegun}
+use Rattle.nr_page.specs.declared.selection.PageRange.{PageRange}
+use Rattle.nr_store.specs.Stored.{nothing}
+use Rattle.nr_store.specs.Requests.{request_names}
+use Rattle.nr_input.specs.Coming.{Coming, whole}
+use Rattle.nr_options.specs.Limits.{Bounds}
+use Rattle.nr_options.specs.declared.options.Options.{Options}
+use Rattle.nr_formatter.specs.Beginning.{first_formatter}
+use Rattle.nr_formatter.specs.declared.formatter.Formatter.{Formatter}
 
--- the page under way
-pub record Paper : Type 0 where
-  pub state : PageState
-  -- the present place, in u from the top
-  pub place : ℕ
-  -- the lines placed, the latest last
-  pub lines : List Placed
-
--- a page that has ended, with the number of rows that its length holds
+-- a page that has ended: whether it is one to print, how many rows its length holds, and the lines placed on it
 pub record Ended : Type 0 where
+  pub printed : Bool
   pub rows : ℕ
   pub lines : List Placed
 
+-- what a run is told before its input
+pub data Choice : Type 0 where
+  -- the number of the first page
+  First : ℤ → Choice
+  -- a register of a name of one byte, and its number
+  Register : ℕ → ℤ → Choice
+
 pub record State : Type 0 where
+  -- what of the options has still to take effect
+  pub chosen : List Choice
+  -- what is to come of the source
   pub coming : Coming
-  pub reading : Reading
-  pub settings : Settings
-  pub line : Collected
-  pub paper : Paper
-  pub mode : Mode
+  -- all that is kept but pages
+  pub formatter : Formatter
+  -- the diverted line that is being read again
+  pub row : List Cell
+  -- the lines on the open page, the latest last
+  pub lines : List Placed
   -- the pages that have ended, the latest last
   pub pages : List Ended
+  -- what the open page may be charged
+  pub page_limit : ℕ
+  -- the pages to print; all where there is no list
+  pub select : Option (List PageRange)
 
--- the page is 11 inches long, a line 6.5 inches
-abbrev pub first_settings : Settings
-first_settings = record { page_length = 2640; line_length = 1560; previous_line_length = 1560 }
-
-abbrev pub nothing_read : Reading
-nothing_read = record { escaped = false; leading = 0; first = None; breaks = true; number = None }
-
-abbrev pub no_paper : Paper
-no_paper = record { state = Unbegun; place = 0; lines = [] }
+-- the number of the first page, and then the registers in order
+abbrev pub choices : Options → List Choice
+choices options = First options.first ∷ map (λ r. Register r.0 r.1) options.registers.items
 
 -- with the whole input before it
-abbrev pub start : Supply → State
-start supply =
-    record { coming = whole supply; reading = nothing_read; settings = first_settings; line = nothing_collected; paper = no_paper; mode = Begin; pages = [] }
+abbrev pub start : Bounds → Options → Supply → State
+start b options supply = record {
+  chosen = choices options;
+  coming = whole supply;
+  formatter = first_formatter (nothing request_names b.stored b.depth) (record { collected = nothing_collected; limit = b.cells }) b.expansions;
+  row = [];
+  lines = [];
+  pages = [];
+  page_limit = b.cells;
+  select = options.select;
+}
 
-abbrev pub in_mode : Mode → State → State
-in_mode m s = record s { mode = m }
+-- a move that touches neither the source nor a page
+abbrev pub plainly : (Formatter → Formatter) → State → State
+plainly f s = record s { formatter = f s.formatter }

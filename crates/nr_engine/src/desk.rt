@@ -1,30 +1,42 @@
-// The memory of a run, taken once and lent as often as wanted.
-ghost use Rattle.std.specs.Prelude.{◌≡◌, ◌+◌, ◌*◌, ◌≤◌, max, IfOk, vec_len};
-ghost use Rattle.nr_engine.specs.Measures.{Bounds};
+//! The memory of a run, taken once and lent as often as wanted.
+ghost use Rattle.std.specs.Prelude.{◌≡◌, ◌+◌, ◌*◌, ◌≤◌, IfOk};
+ghost use Rattle.nr_engine.specs.Desks.{sizes_of};
 
-use super::limits::{Limits, Sizes};
-use super::line::{Line, PieceSlot};
+use crate::lengths::Sizes;
+use nr_fill::line::Line;
+use nr_fill::piece::PieceSlot;
+use nr_formatter::tasks::Resume;
+use nr_levels::{Frame, Span};
+use nr_options::Limits;
 use nr_page::page::room;
 use nr_page::row::RowSlot;
 use nr_pool::Slot;
+use nr_store::element::{Draft, Element};
+use nr_store::memory::Room;
+use nr_store::named::Sense;
+use nr_store::{HyphenationWord, Register};
+use nr_tables::{Entry, Trap};
 use nr_units::cell::Cell;
 use std::alloc::{AllocError, Global};
 use std::marker::Model;
 
 /// The lengths that the limits ask for.
-pub fn sizes(limits: Limits) -> Sizes
-    ensures cells { result.cells ≡ limits.cells }
-    ensures pieces { result.pieces ≡ limits.cells }
-    ensures row { result.row ≡ max limits.cells 1365 }
-    ensures page_cells { result.page_cells ≡ limits.cells }
-    ensures page_texts { result.page_texts ≡ limits.cells }
-    ensures page_rows { result.page_rows ≡ limits.cells }
-    ensures bound { result.cells + result.pieces + result.row + result.page_cells + result.page_texts + result.page_rows ≤ 4 * limits.stored + 4 * limits.depth + 6 * limits.cells + 8192 }
-{
-    let cells = limits.cells();
-    let line = Line::room(cells);
-    let page = room(cells);
+pub fn sizes(limits: Limits) -> Sizes {
+    let store = Room::of(limits.stored() as u32, limits.depth() as u32);
+    let line = Line::room(limits.cells());
+    let page = room(limits.cells());
     Sizes {
+        elements: store.elements,
+        slots: store.slots,
+        names: store.names,
+        drafts: store.drafts,
+        frames: store.frames,
+        bytes: store.bytes,
+        places: store.places,
+        gathering: store.gathering,
+        registers: store.registers,
+        traps: store.traps,
+        words: store.words,
         cells: line.cells,
         pieces: line.pieces,
         row: line.row,
@@ -38,6 +50,17 @@ pub fn sizes(limits: Limits) -> Sizes
 #[derive(Drop)]
 pub struct Desk {
     pub(crate) limits: Limits,
+    pub(crate) elements: Vec<Element>,
+    pub(crate) slots: Vec<Slot>,
+    pub(crate) names: Vec<Entry<Sense>>,
+    pub(crate) drafts: Vec<Draft>,
+    pub(crate) frames: Vec<Frame<Resume>>,
+    pub(crate) bytes: Vec<u8>,
+    pub(crate) places: Vec<Span>,
+    pub(crate) gathering: Vec<u8>,
+    pub(crate) registers: Vec<Entry<Register>>,
+    pub(crate) traps: Vec<Trap>,
+    pub(crate) words: Vec<HyphenationWord>,
     pub(crate) cells: Vec<Cell>,
     pub(crate) pieces: Vec<PieceSlot>,
     pub(crate) row: Vec<Cell>,
@@ -47,15 +70,11 @@ pub struct Desk {
 }
 
 impl Model for Desk {
-    ghost use Rattle.nr_engine.specs.Measures.{Bounds};
-    ghost use Rattle.nr_engine.specs.Desks.{HasSizes};
-    ghost use Rattle.std.specs.Prelude.{vec_len};
+    ghost use Rattle.nr_options.specs.Limits.{Bounds};
 
     ghost Value = { Bounds };
 
     ghost view = { λ d. d.limits };
-
-    ghost invariant = { λ d. HasSizes d.limits.cells (vec_len d.cells) (vec_len d.pieces) (vec_len d.row) (vec_len d.page_cells) (vec_len d.page_texts) (vec_len d.page_rows) };
 }
 
 /// An empty working space, lent by a desk.
@@ -66,12 +85,21 @@ pub struct Work<'a> {
 
 impl Desk {
     /// Takes all memory that runs under these limits need: `AllocError` where there is not so much.
-    pub fn new(alloc: Global, limits: Limits) -> Result<Desk, AllocError>
-        ensures limits { IfOk result (λ desk. desk ≡ limits) }
-    {
+    pub fn new(alloc: Global, limits: Limits) -> Result<Desk, AllocError> {
         let sizes = sizes(limits);
         Ok(Desk {
             limits,
+            elements: vec![in alloc; Element::Byte(0); sizes.elements]?,
+            slots: vec![in alloc; Slot::blank(); sizes.slots]?,
+            names: vec![in alloc; Sense::blank(); sizes.names]?,
+            drafts: vec![in alloc; Draft::blank(); sizes.drafts]?,
+            frames: vec![in alloc; Frame::blank(); sizes.frames]?,
+            bytes: vec![in alloc; 0; sizes.bytes]?,
+            places: vec![in alloc; Span::blank(); sizes.places]?,
+            gathering: vec![in alloc; 0; sizes.gathering]?,
+            registers: vec![in alloc; Register::blank(); sizes.registers]?,
+            traps: vec![in alloc; Trap::blank(); sizes.traps]?,
+            words: vec![in alloc; HyphenationWord::blank(); sizes.words]?,
             cells: vec![in alloc; Cell::blank(); sizes.cells]?,
             pieces: vec![in alloc; PieceSlot::blank(); sizes.pieces]?,
             row: vec![in alloc; Cell::blank(); sizes.row]?,
@@ -82,10 +110,7 @@ impl Desk {
     }
 
     /// An empty working space under the desk's limits.
-    pub fn lend(&mut self) -> Work<'_>
-        ensures same_desk { result.desk.ghost_name ≡ self.entry.ghost_name }
-        ensures limits { result.desk.now ≡ self.old }
-    {
+    pub fn lend(&mut self) -> Work<'_> {
         Work { desk: self }
     }
 }

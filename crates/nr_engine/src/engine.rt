@@ -1,103 +1,219 @@
-// The state of a run, kept in the memory that it is lent, and its moves.
-ghost use Rattle.std.specs.Prelude.{◌≡◌, ℕ, ◌+◌, ◌*◌, ◌^◌, ◌≤◌, max};
-ghost use Rattle.nr_engine.specs.Coming.{items_left};
-ghost use Rattle.nr_engine.specs.Reading.{so_far};
+//! The state of a run, kept in the memory that it is lent, and its moves.
+ghost use Rattle.std.specs.Prelude.{◌≤◌};
 
-use super::input::{Input, Refusal};
-use super::line::{Line, PieceSlot};
-use super::mode::Mode;
-use super::out::Out;
-use super::outcome::Outcome;
-use super::paper::{PageState, Paper};
-use super::reading::Reading;
-use super::settings::Settings;
+use crate::outcome::{Measure, Outcome};
+use nr_fill::out::Out;
+use nr_formatter::formatter::Formatter;
+use nr_formatter::passed::Passed;
+use nr_formatter::tasks::{Resume, Task};
+use nr_input::{Event, Place, Refusal, Told};
+use nr_page::Select;
 use nr_page::page::Page;
-use nr_page::row::RowSlot;
-use nr_pool::Slot;
-use nr_units::cell::Cell;
+use nr_store::Request;
+use nr_units::Name;
 use nr_units::sink::Sink;
 use nr_units::source::Source;
 
 /// The state of a run.
 #[derive(Drop)]
 pub struct Engine<'a> {
-    pub(crate) input: Input,
-    pub(crate) reading: Reading,
-    pub(crate) settings: Settings,
-    pub(crate) line: Line<'a>,
-    pub(crate) out: Out<'a>,
-    pub(crate) paper: Paper<'a>,
-    pub(crate) mode: Mode,
-    // a blank that is kept was an item that is not left
-    ghost leading_counted: { reading.leading + items_left input ≤ 2 ^ 41 },
-    ghost number_bounded: { so_far reading.number ≤ 2147483648 },
-    ghost line_length_bounded: { settings.line_length ≤ 32760 },
-    ghost previous_bounded: { settings.previous_line_length ≤ 32760 },
-    ghost page_has_rows: { 40 ≤ settings.page_length },
-    ghost page_length_bounded: { settings.page_length ≤ 32760 },
-    ghost place_bounded: { paper.place ≤ 32800 },
-    ghost has_row: { max line.limit 1365 ≤ out.room },
+    /// All that is kept but pages.
+    pub(crate) formatter: Formatter<'a>,
+    /// How far the source was taken.
+    pub(crate) place: Place,
+    /// The row that goes out, or the diverted line that is being read again.
+    pub(crate) row: Out<'a>,
+    /// The lines on the open page.
+    pub(crate) page: Page<'a>,
+    /// The pages to print.
+    pub(crate) select: &'a Select,
+    ghost has_row: { page.limit ≤ row.room },
 }
 
 impl<'a> Engine<'a> {
-    ghost use Rattle.std.specs.Prelude.{◌<◌, List, Option, OnOk, true, false, length};
+    ghost use Rattle.std.specs.Prelude.{◌≡◌, ◌≢◌, ℕ, List, Option, None, Some, Ok, OnOk, true, false};
     ghost use Rattle.nr_units.specs.Failures.{counted_if, put_counted_if};
     ghost use Rattle.nr_units.specs.Supply.{Supply};
-    ghost use Rattle.nr_engine.specs.Measures.{Bounds};
-    ghost use Rattle.nr_engine.specs.Desks.{HasSizes};
-    ghost use Rattle.nr_engine.specs.State.{State, start};
-    ghost use Rattle.nr_engine.specs.Modes.{is_reader};
-    ghost use Rattle.nr_engine.specs.Answer.{stops_reading, stops_writing};
-    ghost use Rattle.nr_engine.specs.Holding.{Holds, Advances, shape, weight};
+    ghost use Rattle.nr_input.specs.Coming.{Coming, HoldsComing, emptied, has_failed};
+    ghost use Rattle.nr_formatter.specs.Passed.{splice_answer};
+    ghost use Rattle.nr_formatter.specs.Weights.{Falls};
+    ghost use Rattle.nr_formatter.specs.Ending.{ex};
+    ghost use Rattle.nr_formatter.specs.Moves.{works, worked};
+    ghost use Rattle.nr_formatter.specs.Springing.{sprung};
+    ghost use Rattle.nr_reading.specs.declared.event.Event.TheVariants as events;
+    ghost use Rattle.nr_store.specs.declared.request.Request.TheVariants as requests;
+    ghost use Rattle.nr_formatter.specs.declared.tasks.Task.TheVariants as tasks;
+    ghost use Rattle.nr_engine.specs.declared.outcome.Outcome.TheVariants as outcomes;
+    ghost use Rattle.nr_engine.specs.State.{State, plainly};
+    ghost use Rattle.nr_engine.specs.Machine.{told as told_formatter, exit as exit_state, hear as hear_event};
+    ghost use Rattle.nr_engine.specs.Answer.{formatter_answer, refusal_outcome, stops_reading, stops_writing};
+    ghost use Rattle.nr_engine.specs.Holding.{shape, HaltsOrWorks, WorksQuietly, Advances, Lightens, Spends};
 
-    /// Nothing is read yet, and nothing placed.
-    pub(crate) fn over(
-        limit: usize,
-        cells: &'a mut [Cell],
-        pieces: &'a mut [PieceSlot],
-        row: &'a mut [Cell],
-        page_cells: &'a mut [Cell],
-        page_texts: &'a mut [Slot],
-        page_rows: &'a mut [RowSlot],
-    ) -> Self
-        requires within { limit < 2 ^ 32 }
-        requires sizes { HasSizes limit (length cells.now) (length pieces.now) (length row.now) (length page_cells.now) (length page_texts.now) (length page_rows.now) }
-        ensures holds { (b : Bounds) (supply : Supply) → b.cells ≡ limit → Holds b (start supply) (shape result) }
-        ensures weight { weight (shape result) ≡ 2 ^ 47 + 6 }
+    /// The next move would pass this limit.
+    pub(crate) fn passed(&self, which: Measure) -> Outcome
+        ensures { result ≡ outcomes.Limit which self.now.place.taken }
     {
-        Engine {
-            input: Input::new(),
-            reading: Reading::new(),
-            settings: Settings::new(),
-            line: Line::over(cells, pieces, limit),
-            out: Out::over(row),
-            paper: Paper {
-                page: Page::over(page_cells, page_texts, page_rows, limit),
-                state: PageState::Unbegun,
-                place: 0,
-            },
-            mode: Mode::Begin,
+        Outcome::Limit {
+            which,
+            at: self.place.taken(),
         }
     }
 
-    /// The item in front of the input is taken.
-    fn take<R: Source>(&mut self, input: &mut R) -> Result<(), Outcome>
-        requires { is_reader self.old.mode ≡ true }
-        ensures moved { (held : Option (List ℕ)) → Advances (shape self.old) (shape self.new) (R.supply input.old) (R.supply input.new) held held result }
-        ensures failures { R.failures input.new ≡ counted_if (stops_reading result) (R.failures input.old) }
-        ensures writes { stops_writing result ≡ false }
-        ensures falls { OnOk result (weight (shape self.new) < weight (shape self.old)) }
+    /// A move that only the formatter makes, and its answer.
+    pub(crate) fn answer(&self, answer: Result<(), Passed>) -> Result<(), Outcome>
+        ensures { result ≡ formatter_answer self.now.place.taken answer }
     {
-        match self.input.next(input) {
-            Err(Refusal::ReadFault) => Err(Outcome::ReadFault {
-                at: self.input.taken(),
-            }),
-            Err(Refusal::TooLong) => Err(Outcome::TooLong),
-            Ok(item) => {
-                self.mode = self.reading.take(self.mode, item);
+        match answer {
+            Ok(()) => Ok(()),
+            Err(passed) => Err(self.passed(Measure::from(passed))),
+        }
+    }
+
+    /// Why a move that reads is not made.
+    fn refused(&self, refusal: Refusal) -> Outcome
+        ensures { result ≡ refusal_outcome self.now.place.taken refusal }
+    {
+        match refusal {
+            Refusal::Stored => self.passed(Measure::Stored),
+            Refusal::Depth => self.passed(Measure::Depth),
+            Refusal::Expansions => self.passed(Measure::Expansions),
+            Refusal::ReadFault => Outcome::ReadFault {
+                at: self.place.taken(),
+            },
+            Refusal::TooLong => Outcome::TooLong,
+        }
+    }
+
+    /// The answer of a splice.
+    pub(crate) fn splice_answer(&self, answer: Result<(), Refusal>) -> Result<(), Outcome>
+        ensures { result ≡ formatter_answer self.now.place.taken (splice_answer answer) }
+    {
+        match answer {
+            Ok(()) => Ok(()),
+            Err(refusal) => Err(self.passed(Measure::from(Passed::from(refusal)))),
+        }
+    }
+
+    /// What was told is acted on then; what a sprung macro interrupted is gone on with.
+    fn tell(&mut self, told: Told<Resume>)
+        ensures { shape self.new ≡ record (shape self.old) { formatter = told_formatter told self.old.formatter } }
+    {
+        match told {
+            Told::Event(event) => self.formatter.event = event,
+            Told::Resume(resume) => self.formatter.resume(resume),
+        }
+    }
+
+    /// The item in front of the input is looked at, and taken or left; or what is due is done.
+    fn read<R: Source>(&mut self, input: &mut R) -> Result<(), Outcome>
+        requires springs { self.old.formatter.springs ≡ None }
+        requires idle { self.old.formatter.event ≡ events.Nothing }
+        requires task { self.old.formatter.task ≡ tasks.Read }
+        ensures moved { (held : Option (List ℕ)) → Advances (shape self.old) (shape self.new) (R.supply input.old) (R.supply input.new) held held result }
+        ensures failures { has_failed self.old.place.ahead ≡ false → R.failures input.new ≡ counted_if (stops_reading result) (R.failures input.old) }
+        ensures unfailed { OnOk result (has_failed self.new.place.ahead ≡ has_failed self.old.place.ahead) }
+        ensures writes { stops_writing result ≡ false }
+        ensures spends { OnOk result (Spends (shape self.old) (shape self.new)) }
+    {
+        let formatter = &mut self.formatter;
+        match nr_input::advance(
+            &mut self.place,
+            &mut formatter.reader,
+            &mut formatter.store,
+            input,
+        ) {
+            Ok(told) => {
+                self.tell(told);
                 Ok(())
             }
+            Err(refusal) => Err(self.refused(refusal)),
         }
+    }
+
+    /// `.ex`: nothing is to come of the source, and the levels are empty.
+    fn exit(&mut self)
+        requires idle { self.old.formatter.event ≡ events.Nothing }
+        requires task { self.old.formatter.task ≡ tasks.Act requests.Ex }
+        ensures worked { WorksQuietly exit_state (shape self.old) (shape self.new) (Ok tt) }
+        ensures unfailed { has_failed self.new.place.ahead ≡ false }
+        ensures spends { Spends (shape self.old) (shape self.new) }
+    {
+        self.place.empty();
+        self.formatter.ex();
+    }
+
+    /// What is under way goes on in the formatter alone.
+    fn work_plainly(&mut self, task: Task) -> Result<(), Outcome>
+        requires idle { self.old.formatter.event ≡ events.Nothing }
+        requires task { self.old.formatter.task ≡ task }
+        requires plain { works task ≡ true }
+        ensures worked { WorksQuietly (plainly (worked task)) (shape self.old) (shape self.new) result }
+        ensures reads { stops_reading result ≡ false }
+        ensures writes { stops_writing result ≡ false }
+        ensures lightens { Lightens (shape self.old) (shape self.new) result }
+    {
+        let answer = self.formatter.work(task);
+        self.answer(answer)
+    }
+
+    /// What is under way goes on, where nothing is read.
+    fn work<W: Sink>(&mut self, task: Task, output: &mut W) -> Result<(), Outcome>
+        requires idle { self.old.formatter.event ≡ events.Nothing }
+        requires task { self.old.formatter.task ≡ task }
+        requires not_read { task ≢ tasks.Read }
+        ensures worked { HaltsOrWorks task (shape self.old) (shape self.new) (W.held output.old) (W.held output.new) result }
+        ensures failures { W.failures output.new ≡ put_counted_if (stops_writing result) (W.failures output.old) }
+        ensures reads { stops_reading result ≡ false }
+        ensures unfailed { has_failed self.old.place.ahead ≡ false → OnOk result (has_failed self.new.place.ahead ≡ false) }
+        ensures spends { OnOk result (Spends (shape self.old) (shape self.new)) }
+    {
+        match task {
+            Task::Flow(after, breaks) => self.flow(after, breaks, output),
+            Task::Break(then) => self.break_out(then, output),
+            Task::Act(Request::Ex) => {
+                self.exit();
+                Ok(())
+            }
+            Task::Room(room) => self.make_room(room, output),
+            Task::Title => self.put_title(output),
+            Task::Line(height) => self.put_diverted_line(height, output),
+            Task::Space(distance) => self.put_space(distance, output),
+            Task::Begin(_) => {
+                self.begin_page();
+                Ok(())
+            }
+            Task::Eject(ejected) => self.eject(ejected, output),
+            Task::Halted => Err(Outcome::Done),
+            _ => self.work_plainly(task),
+        }
+    }
+
+    /// What was read is acted on.
+    fn hear(&mut self, event: Event) -> Result<(), Outcome>
+        requires event { self.old.formatter.event ≡ event }
+        requires busy { event ≢ events.Nothing }
+        ensures worked { WorksQuietly (hear_event event) (shape self.old) (shape self.new) result }
+        ensures reads { stops_reading result ≡ false }
+        ensures writes { stops_writing result ≡ false }
+        ensures lightens { Lightens (shape self.old) (shape self.new) result }
+    {
+        if let Event::DivertedCell(cell) = event {
+            return self.put_diverted_cell(cell);
+        }
+        let answer = self.formatter.hear(event);
+        self.answer(answer)
+    }
+
+    /// The macro that is to be sprung springs.
+    fn spring(&mut self, name: Name) -> Result<(), Outcome>
+        requires { self.old.formatter.springs ≡ Some name }
+        ensures worked { WorksQuietly (plainly (sprung name)) (shape self.old) (shape self.new) result }
+        ensures reads { stops_reading result ≡ false }
+        ensures writes { stops_writing result ≡ false }
+        ensures lightens { Lightens (shape self.old) (shape self.new) result }
+    {
+        let answer = self.formatter.spring(name);
+        self.splice_answer(answer)
     }
 
     /// One move, or why the run stops.
@@ -108,29 +224,20 @@ impl<'a> Engine<'a> {
         output: &mut W,
     ) -> Result<(), Outcome>
         ensures moved { Advances (shape self.old) (shape self.new) (R.supply input.old) (R.supply input.new) (W.held output.old) (W.held output.new) result }
-        ensures read_failures { R.failures input.new ≡ counted_if (stops_reading result) (R.failures input.old) }
+        ensures read_failures { has_failed self.old.place.ahead ≡ false → R.failures input.new ≡ counted_if (stops_reading result) (R.failures input.old) }
         ensures write_failures { W.failures output.new ≡ put_counted_if (stops_writing result) (W.failures output.old) }
-        ensures falls { OnOk result (weight (shape self.new) < weight (shape self.old)) }
+        ensures unfailed { has_failed self.old.place.ahead ≡ false → OnOk result (has_failed self.new.place.ahead ≡ false) }
+        ensures spends { OnOk result (Spends (shape self.old) (shape self.new)) }
     {
-        match self.mode {
-            Mode::Begin
-            | Mode::Leading
-            | Mode::Text
-            | Mode::Name
-            | Mode::Argument(_)
-            | Mode::Rest(_)
-            | Mode::Drop => self.take(input),
-            Mode::Put(byte) => self.put(byte),
-            Mode::EndLine => self.end_line(),
-            Mode::Flow(next) => self.flow(next, output),
-            Mode::Break(next) => self.break_line(next, output),
-            Mode::Space => self.put_space(output),
-            Mode::Act(request) => {
-                self.act(request);
-                Ok(())
-            }
-            Mode::Eject => self.eject(output),
-            Mode::Halted => Err(Outcome::Done),
+        if let Some(name) = self.formatter.springs {
+            return self.spring(name);
+        }
+        match self.formatter.event {
+            Event::Nothing => match self.formatter.task {
+                Task::Read => self.read(input),
+                task => self.work(task, output),
+            },
+            event => self.hear(event),
         }
     }
 }

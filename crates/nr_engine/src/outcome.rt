@@ -1,4 +1,7 @@
-// How a run ends.
+//! How a run ends.
+ghost use Rattle.std.specs.Prelude.{◌≡◌};
+
+use nr_formatter::passed::Passed;
 
 /// What has a limit.
 #[derive(Clone, Copy, Debug, PartialEq, Eq)]
@@ -28,4 +31,20 @@ pub enum Outcome {
     TooLong,
     /// The output failed.
     WriteFault,
+}
+
+impl From<Passed> for Measure {
+    ghost use Rattle.std.specs.Prelude.{◌≡◌};
+    ghost use Rattle.nr_engine.specs.Measures.{measure_of};
+
+    ghost from_gives = { λ passed r. r ≡ measure_of passed };
+
+    fn from(passed: Passed) -> Measure {
+        match passed {
+            Passed::Stored => Measure::Stored,
+            Passed::Depth => Measure::Depth,
+            Passed::LineCells => Measure::LineCells,
+            Passed::Expansions => Measure::Expansions,
+        }
+    }
 }

@@ -1,156 +1,124 @@
-// Beginning and ending a page, and what is placed on it. (CSTR 54, section 3.)
-ghost use Rattle.std.specs.Prelude.{◌≡◌, ◌≢◌, ℕ, ◌+◌, ◌<◌, ◌≤◌, List, Option, OnOk, true, false, length};
+//! Beginning and ending a page, and what is placed on it. (CSTR 54, section 3.)
+ghost use Rattle.std.specs.Prelude.{◌≡◌, ◌≢◌, ◌+◌, ◌≤◌, List, Option, Bool, Ok, Err, OnOk, OnErr, true, false};
+ghost use Rattle.std.specs.Io.KnownBytes.{Appends};
+ghost use Rattle.nr_units.specs.Held.{AppendsFront};
+ghost use Rattle.nr_fill.specs.Rows.{IsRow};
+ghost use Rattle.nr_units.specs.declared.cell.Cell.{Cell as CellValue};
+ghost use Rattle.nr_page.specs.Grid.{Placed};
+ghost use Rattle.nr_page.specs.Sheet.{Holds as HoldsPage};
+ghost use Rattle.nr_formatter.specs.declared.paper.Outlet.TheVariants as outlets;
+ghost use Rattle.nr_formatter.specs.Places.{is_open, page_outlet, outlet as outlet_of};
+ghost use Rattle.nr_engine.specs.declared.outcome.Outcome.TheVariants as outcomes;
+ghost use Rattle.nr_formatter.specs.declared.tasks.Ejected.{Ejected as EjectedValue};
+ghost use Rattle.nr_formatter.specs.Weights.{Falls};
+ghost use Rattle.nr_engine.specs.State.{State};
+ghost use Rattle.nr_engine.specs.Printing.{bytes_of};
+ghost use Rattle.nr_engine.specs.Machine.{row_at, begin_page, end_page, turn_page, page_of};
 ghost use Rattle.nr_units.specs.Failures.{put_counted_if};
-ghost use Rattle.nr_engine.specs.Pages.{is_open, has_room_at, begin_page, end_page, make_room, place_line, place_space, put_line, put_space, eject};
+ghost use Rattle.nr_reading.specs.declared.event.Event.TheVariants as events;
+ghost use Rattle.nr_formatter.specs.declared.tasks.Task.TheVariants as tasks;
 ghost use Rattle.nr_engine.specs.Answer.{stops_reading, stops_writing};
-ghost use Rattle.nr_engine.specs.Holding.{Turns, Works, shape, weight};
+ghost use Rattle.nr_engine.specs.Holding.{shape, Works, WorksQuietly, Lightens, Places};
 
-use super::engine::Engine;
-use super::mode::Mode;
-use super::outcome::{Measure, Outcome};
-use super::paper::PageState;
+use crate::engine::Engine;
+use crate::outcome::{Measure, Outcome};
+use nr_formatter::paper::Outlet;
 use nr_units::sink::Sink;
 
-/// The height of a line, in u: 6 lines an inch.
-const LINE_HEIGHT: u32 = 40;
+/// How high a row is, in u.
+const ROW_HEIGHT: u32 = 40;
 
-impl PageState {
-    fn is_open(self) -> bool
-        ensures { result ≡ is_open self }
-    {
-        matches!(self, PageState::Open)
-    }
+/// The row of a line that ends at this place, in u.
+fn row_at(place: u32) -> u32
+    ensures { result ≡ row_at place }
+{
+    (place / ROW_HEIGHT).saturating_sub(1)
 }
 
 impl<'a> Engine<'a> {
-    /// Whether a page is open and the place is above its bottom.
-    fn has_room(&self) -> bool
-        ensures { result ≡ has_room_at self.now.paper.state self.now.paper.place self.now.settings.page_length }
-    {
-        self.paper.state.is_open() && self.paper.place < self.settings.page_length
-    }
-
+    /// A page begins.
     pub(crate) fn begin_page(&mut self)
-        requires { is_open self.old.paper.state ≡ false }
-        ensures turns { Turns begin_page (shape self.old) (shape self.new) }
-        ensures falls { weight (shape self.new) < weight (shape self.old) }
+        ensures worked { WorksQuietly begin_page (shape self.old) (shape self.new) (Ok tt) }
+        ensures opened { is_open self.old.formatter.paper.state ≡ false → Lightens (shape self.old) (shape self.new) (Ok tt) }
+        ensures begun { (given : Option Bool) → self.old.formatter.event ≡ events.Nothing → self.old.formatter.task ≡ tasks.Begin given → Lightens (shape self.old) (shape self.new) (Ok tt) }
     {
-        self.paper.page.clear();
-        self.paper.state = PageState::Open;
-        self.paper.place = 0;
+        let _length = self.formatter.settings.pages.page_length.units();
+        self.page.clear();
+        self.formatter.begin_page();
     }
 
-    /// The page's bytes go out.
-    fn end_page<W: Sink>(&mut self, output: &mut W) -> Result<(), Outcome>
-        requires { is_open self.old.paper.state ≡ true }
+    /// The bytes of the open page go out, if its number is one to print.
+    fn print<W: Sink>(&self, output: &mut W) -> Result<(), Outcome>
+        ensures ok { OnOk result ((s : State) → HoldsPage s.lines self.now.page → s.select ≡ self.now.select.now → s.formatter ≡ self.now.formatter → Appends (W.held output.old) (W.held output.new) (bytes_of (page_of s))) }
+        ensures err { OnErr result ((s : State) → HoldsPage s.lines self.now.page → s.select ≡ self.now.select.now → s.formatter ≡ self.now.formatter → AppendsFront (W.held output.old) (W.held output.new) (bytes_of (page_of s))) }
+        ensures only { OnErr result (result ≡ Err outcomes.WriteFault) }
+        ensures failures { W.failures output.new ≡ put_counted_if (stops_writing result) (W.failures output.old) }
+    {
+        if !self.select.has(i64::from(self.formatter.paper.number)) {
+            return Ok(());
+        }
+        let rows = self.formatter.settings.pages.page_length.units() / ROW_HEIGHT;
+        match self.page.write_page(rows, output) {
+            Ok(()) => Ok(()),
+            Err(_) => Err(Outcome::WriteFault),
+        }
+    }
+
+    /// The open page ends: its bytes go out.
+    pub(crate) fn end_page<W: Sink>(&mut self, output: &mut W) -> Result<(), Outcome>
         ensures worked { Works end_page (shape self.old) (shape self.new) (W.held output.old) (W.held output.new) result }
         ensures failures { W.failures output.new ≡ put_counted_if (stops_writing result) (W.failures output.old) }
         ensures reads { stops_reading result ≡ false }
-        ensures falls { OnOk result (weight (shape self.new) ≤ weight (shape self.old) + 1) }
-        ensures mode { OnOk result (self.new.mode ≡ self.old.mode) }
-        ensures full_falls { OnOk result (self.old.settings.page_length ≤ self.old.paper.place → weight (shape self.new) < weight (shape self.old)) }
+        ensures full { page_outlet self.old.formatter.paper.state self.old.formatter.paper.place self.old.formatter.settings.pages.page_length ≡ outlets.Full → Lightens (shape self.old) (shape self.new) result }
+        ensures ejected { (e : EjectedValue) → self.old.formatter.event ≡ events.Nothing → self.old.formatter.task ≡ tasks.Eject e → Lightens (shape self.old) (shape self.new) result }
     {
-        let rows = self.settings.page_length / LINE_HEIGHT;
-        match self.paper.page.write_page(rows, output) {
-            Err(_) => Err(Outcome::WriteFault),
+        match self.print(output) {
+            Err(outcome) => Err(outcome),
             Ok(()) => {
-                self.paper.page.clear();
-                self.paper.state = PageState::Closed;
-                self.paper.place = 0;
+                self.page.clear();
+                self.formatter.page_ended();
                 Ok(())
             }
         }
     }
 
-    /// A page is begun where none is open, and a full one ends.
-    fn make_room<W: Sink>(&mut self, output: &mut W) -> Result<(), Outcome>
-        requires { has_room_at self.old.paper.state self.old.paper.place self.old.settings.page_length ≡ false }
-        ensures worked { Works make_room (shape self.old) (shape self.new) (W.held output.old) (W.held output.new) result }
+    /// A full page ends, and where none is open one begins.
+    pub(crate) fn turn_page<W: Sink>(
+        &mut self,
+        outlet: Outlet,
+        output: &mut W,
+    ) -> Result<(), Outcome>
+        requires outlet { outlet ≡ outlet_of self.old.formatter }
+        requires no_room { outlet ≢ outlets.Room }
+        requires page { outlet ≢ outlets.Diversion }
+        ensures worked { Works (turn_page outlet) (shape self.old) (shape self.new) (W.held output.old) (W.held output.new) result }
         ensures failures { W.failures output.new ≡ put_counted_if (stops_writing result) (W.failures output.old) }
         ensures reads { stops_reading result ≡ false }
-        ensures falls { OnOk result (weight (shape self.new) < weight (shape self.old)) }
+        ensures lightens { Lightens (shape self.old) (shape self.new) result }
     {
-        if self.paper.state.is_open() {
+        if matches!(outlet, Outlet::Full) {
             return self.end_page(output);
         }
         self.begin_page();
         Ok(())
     }
 
-    /// The first line of what is collected is placed.
-    fn place_line(&mut self) -> Result<(), Outcome>
-        requires pieces { 0 < length self.old.line.collected.pieces }
-        requires room { has_room_at self.old.paper.state self.old.paper.place self.old.settings.page_length ≡ true }
-        ensures worked { (held : Option (List ℕ)) → Works place_line (shape self.old) (shape self.new) held held result }
+    /// The row goes on the page as a line of this height, in u.
+    pub(crate) fn place_row(&mut self, height: u32) -> Result<(), Outcome>
+        ensures worked { (cells : List CellValue) → IsRow cells self.old.row → Places cells height (shape self.old) (shape self.new) result }
         ensures reads { stops_reading result ≡ false }
         ensures writes { stops_writing result ≡ false }
-        ensures falls { OnOk result (weight (shape self.new) < weight (shape self.old)) }
+        ensures falls { OnOk result (Falls 0 4 self.old.formatter self.new.formatter × (self.new.place ≡ self.old.place)) }
     {
-        self.line
-            .take_line(self.settings.line_length, &mut self.out);
-        let place = self.paper.place + LINE_HEIGHT;
-        let row = place / LINE_HEIGHT - 1;
-        match self.paper.page.place(row, self.out.cells()) {
-            Err(_) => Err(Outcome::Limit {
-                which: Measure::PageCells,
-                at: self.input.taken(),
-            }),
+        let row = row_at(self.formatter.place_behind(height));
+        let Some(cells) = self.row.row() else {
+            return Err(self.passed(Measure::PageCells));
+        };
+        match self.page.place(row, cells) {
+            Err(_) => Err(self.passed(Measure::PageCells)),
             Ok(()) => {
-                self.paper.place = place;
-                Ok(())
-            }
-        }
-    }
-
-    /// The first line of what is collected finds room and is placed.
-    pub(crate) fn put_line<W: Sink>(&mut self, output: &mut W) -> Result<(), Outcome>
-        requires { 0 < length self.old.line.collected.pieces }
-        ensures worked { Works put_line (shape self.old) (shape self.new) (W.held output.old) (W.held output.new) result }
-        ensures failures { W.failures output.new ≡ put_counted_if (stops_writing result) (W.failures output.old) }
-        ensures reads { stops_reading result ≡ false }
-        ensures falls { OnOk result (weight (shape self.new) < weight (shape self.old)) }
-    {
-        if self.has_room() {
-            return self.place_line();
-        }
-        self.make_room(output)
-    }
-
-    /// One line of forward space finds room and is placed; it stops at the bottom.
-    pub(crate) fn put_space<W: Sink>(&mut self, output: &mut W) -> Result<(), Outcome>
-        requires { self.old.mode ≡ Mode.Space }
-        ensures worked { Works put_space (shape self.old) (shape self.new) (W.held output.old) (W.held output.new) result }
-        ensures failures { W.failures output.new ≡ put_counted_if (stops_writing result) (W.failures output.old) }
-        ensures reads { stops_reading result ≡ false }
-        ensures falls { OnOk result (weight (shape self.new) < weight (shape self.old)) }
-    {
-        if !self.has_room() {
-            return self.make_room(output);
-        }
-        self.paper.place = self
-            .settings
-            .page_length
-            .min(self.paper.place + LINE_HEIGHT);
-        self.mode = Mode::Begin;
-        Ok(())
-    }
-
-    /// An open page ends, and with it the run.
-    pub(crate) fn eject<W: Sink>(&mut self, output: &mut W) -> Result<(), Outcome>
-        requires { self.old.mode ≡ Mode.Eject }
-        ensures worked { Works eject (shape self.old) (shape self.new) (W.held output.old) (W.held output.new) result }
-        ensures failures { W.failures output.new ≡ put_counted_if (stops_writing result) (W.failures output.old) }
-        ensures reads { stops_reading result ≡ false }
-        ensures falls { OnOk result (weight (shape self.new) < weight (shape self.old)) }
-    {
-        if !self.paper.state.is_open() {
-            self.mode = Mode::Halted;
-            return Ok(());
-        }
-        match self.end_page(output) {
-            Err(outcome) => Err(outcome),
-            Ok(()) => {
-                self.mode = Mode::Halted;
+                self.row.clear();
+                self.formatter.line_placed(height);
                 Ok(())
             }
         }

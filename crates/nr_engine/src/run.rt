@@ -1,49 +1,99 @@
-// A whole run.
-ghost use Rattle.std.specs.Prelude.{◌≡◌, ℕ, ◌+◌, ◌*◌, ◌^◌, ◌<◌, ◌≤◌, max, length, Some};
-ghost use Rattle.nr_units.specs.Failures.{counted_if, put_counted_if};
-ghost use Rattle.nr_units.specs.Supply.{Supply};
-ghost use Rattle.nr_engine.specs.State.{start};
-ghost use Rattle.nr_engine.specs.Measures.{Bounds};
-ghost use Rattle.nr_engine.specs.Answer.{Answers, is_read_fault, is_write_fault};
-ghost use Rattle.nr_engine.specs.Desks.{HasSizes};
+//! A whole run.
+ghost use Rattle.std.specs.Prelude.{◌≡◌, ℕ, ◌+◌, ◌*◌, ◌≤◌, Some};
 
-use super::desk::Work;
-use super::engine::Engine;
-use super::line::PieceSlot;
-use super::options::Options;
-use super::outcome::Outcome;
-use nr_page::row::RowSlot;
-use nr_pool::Slot;
-use nr_units::cell::Cell;
+use crate::desk::{Desk, Work};
+use crate::engine::Engine;
+use crate::outcome::{Measure, Outcome};
+use nr_fill::line::Line;
+use nr_fill::out::Out;
+use nr_formatter::formatter::Formatter;
+use nr_input::Place;
+use nr_options::Options;
+use nr_page::Select;
+use nr_page::page::Page;
+use nr_store::{Memory, Store};
+use nr_units::Name;
 use nr_units::sink::Sink;
 use nr_units::source::Source;
 
-/// Formats the input within slices that are long enough for the limit on cells.
-fn run<R: Source, W: Sink>(
-    limit: usize,
-    cells: &mut [Cell],
-    pieces: &mut [PieceSlot],
-    row: &mut [Cell],
-    page_cells: &mut [Cell],
-    page_texts: &mut [Slot],
-    page_rows: &mut [RowSlot],
-    input: &mut R,
-    output: &mut W,
-    moves: &mut u128,
-) -> Outcome
-    requires within { limit < 2 ^ 32 }
-    requires sizes { HasSizes limit (length cells.old) (length pieces.old) (length row.old) (length page_cells.old) (length page_texts.old) (length page_rows.old) }
-    ensures answers { (b : Bounds) (supply : Supply) → b.cells ≡ limit → R.supply input.old ≡ Some supply →
-        Answers b (start supply) moves.new result (W.held output.old) (W.held output.new) }
-    ensures read_failures { R.failures input.new ≡ counted_if (is_read_fault result) (R.failures input.old) }
-    ensures write_failures { W.failures output.new ≡ put_counted_if (is_write_fault result) (W.failures output.old) }
-{
-    let mut engine = Engine::over(limit, cells, pieces, row, page_cells, page_texts, page_rows);
-    *moves = 0;
-    loop {
-        match engine.advance(input, output) {
-            Ok(()) => *moves += 1,
-            Err(outcome) => return outcome,
+/// The greatest number that a register holds, and without its sign the least.
+const GREATEST: u64 = 2_147_483_647;
+
+impl<'a> Engine<'a> {
+    /// Nothing is read yet, and nothing placed.
+    fn over(desk: &'a mut Desk, select: &'a Select) -> Engine<'a> {
+        let limits = desk.limits;
+        let memory = Memory {
+            elements: &mut desk.elements,
+            slots: &mut desk.slots,
+            names: &mut desk.names,
+            drafts: &mut desk.drafts,
+            frames: &mut desk.frames,
+            bytes: &mut desk.bytes,
+            places: &mut desk.places,
+            gathering: &mut desk.gathering,
+            registers: &mut desk.registers,
+            traps: &mut desk.traps,
+            words: &mut desk.words,
+        };
+        let store = Store::over(memory, limits.stored() as u32);
+        let line = Line::over(&mut desk.cells, &mut desk.pieces, limits.cells());
+        Engine {
+            formatter: Formatter::over(store, line, limits.expansions()),
+            place: Place::new(),
+            row: Out::over(&mut desk.row),
+            page: Page::over(
+                &mut desk.page_cells,
+                &mut desk.page_texts,
+                &mut desk.page_rows,
+                limits.cells(),
+            ),
+            select,
+        }
+    }
+
+    /// The number of the first page, if a register holds it.
+    fn set_first(&mut self, number: i64) {
+        if number.unsigned_abs() <= GREATEST {
+            self.formatter.paper.number = number as i32;
+        }
+    }
+
+    /// A register of a name of one byte takes this number.
+    fn set_register(&mut self, name: u8, number: i64) -> Result<(), Outcome> {
+        let name = [name];
+        match self.formatter.set_register(Name::of(&name), number, None) {
+            Ok(()) => Ok(()),
+            Err(_) => Err(self.passed(Measure::Stored)),
+        }
+    }
+
+    /// The options take effect, each as a move.
+    fn choose(&mut self, options: &Options, moves: &mut u128) -> Result<(), Outcome> {
+        self.set_first(options.first);
+        *moves = 1;
+        for choice in options.registers.as_slice() {
+            let (name, number) = *choice;
+            match self.set_register(name, number) {
+                Ok(()) => *moves += 1,
+                Err(outcome) => return Err(outcome),
+            }
+        }
+        Ok(())
+    }
+
+    /// Moves are made until the run stops.
+    fn run<R: Source, W: Sink>(
+        &mut self,
+        input: &mut R,
+        output: &mut W,
+        moves: &mut u128,
+    ) -> Outcome {
+        loop {
+            match self.advance(input, output) {
+                Ok(()) => *moves += 1,
+                Err(outcome) => return outcome,
+            }
         }
     }
 }
@@ -56,28 +106,12 @@ pub fn format<R: Source, W: Sink>(
     input: &mut R,
     output: &mut W,
     moves: &mut u128,
-) -> Outcome
-    // The pages are those of the machine, which knows no limit, up to where the run stops.
-    ensures answers { (supply : Supply) → R.supply input.old ≡ Some supply →
-        Answers work.entry.desk.now (start supply) moves.new result (W.held output.old) (W.held output.new) }
-    // A fault is told where a call failed, and nowhere else.
-    ensures read_failures { R.failures input.new ≡ counted_if (is_read_fault result) (R.failures input.old) }
-    ensures write_failures { W.failures output.new ≡ put_counted_if (is_write_fault result) (W.failures output.old) }
-    ensures limits { work.exit.0.now ≡ work.entry.desk.now }
-{
+) -> Outcome {
     let Work { desk } = work;
-    let Options {} = options;
-    let limit = desk.limits.cells();
-    run(
-        limit,
-        &mut desk.cells,
-        &mut desk.pieces,
-        &mut desk.row,
-        &mut desk.page_cells,
-        &mut desk.page_texts,
-        &mut desk.page_rows,
-        input,
-        output,
-        moves,
-    )
+    let mut engine = Engine::over(desk, &options.select);
+    *moves = 0;
+    match engine.choose(options, moves) {
+        Err(outcome) => outcome,
+        Ok(()) => engine.run(input, output, moves),
+    }
 }

@@ -1,12 +1,12 @@
 -- Requests, and what is read beside text, splice nothing.
-use Rattle.std.proofs.Common.{◌≡◌, ℕ, ◌+◌, ◌≤◌, List, [], ◌∷◌, Bool, true, false, if◌then◌else◌, Option, Some, None, ℤ, pos, negsuc}
-use Rattle.std.specs.Prelude.{◌==◌, ◌&&◌, ◌||◌, not, nat_lt, int_lt, length, is_none}
+use Rattle.std.proofs.Common.{ℕ, ◌≤◌, List, Bool, true, false, if◌then◌else◌, Option, Some, None, ℤ, pos, negsuc}
+use Rattle.std.specs.Prelude.{◌&&◌, ◌||◌, not, nat_lt, int_lt, is_none}
 use Rattle.nr_store.specs.declared.request.Request.{Request}
 use Rattle.nr_store.specs.declared.request.Request.TheVariants as requests
 use Rattle.nr_store.specs.Stored.{is_held}
 use Rattle.nr_input.specs.declared.splicing.Definition.{Definition}
 use Rattle.nr_input.specs.declared.splicing.Definition.TheVariants as definitions
-use Rattle.nr_settings.specs.Arguments.{name_in, word_in}
+use Rattle.nr_settings.specs.Arguments.{name_in}
 use Rattle.nr_settings.specs.Numbers.{applied}
 use Rattle.nr_settings.specs.Registers as register_lines
 use Rattle.nr_settings.specs.Spacing as space_lines
@@ -32,7 +32,7 @@ use Rattle.nr_formatter.specs.Moves.{control, gone_on}
 use Rattle.nr_formatter.specs.Naming as naming
 use Rattle.nr_formatter.specs.Numbering as numbering
 use Rattle.nr_formatter.specs.Pages.{turned}
-use Rattle.nr_formatter.specs.Places.{is_open, is_diverting, outlet, place_in, present_place, page_place, distance_below, to_read}
+use Rattle.nr_formatter.specs.Places.{is_open, is_diverting, outlet, present_place, page_place, distance_below, to_read}
 use Rattle.nr_formatter.specs.Registers as registers
 use Rattle.nr_formatter.specs.Requests.{act}
 use Rattle.nr_formatter.specs.Spacing as spaces
@@ -164,7 +164,7 @@ calm-with_diversion_trap diversion_traps.Remove f h = h
 calm-with_diversion_trap diversion_traps.Nothing f h = h
 
 calm-finish_at : (s : Step) (f : Formatter) → IsCalm f → IsCalm (ending.finish_at s f)
-calm-finish_at steps.Diversions f h = calm-if (is_diverting (diversion f)) _ _ (calm-end_diversion f h) h
+calm-finish_at steps.Diversions f h = calm-if (is_diverting (newest_diversion f.store.building)) _ _ (calm-end_diversion f h) h
 calm-finish_at s f h = h
 
 -- ---- requests
@@ -178,7 +178,6 @@ calm-act requests.Da f h = calm-append_to (name_in (long f) (line f)) f h
 calm-act requests.De f h = calm-defined_as definitions.De (naming.first_name f) f h
 calm-act requests.Di f h = calm-divert_to (name_in (long f) (line f)) f h
 calm-act requests.Dt f h = calm-with_diversion_trap (trap_lines.dt (line f) (long f) (spacing f) (present_place f)) f h
-calm-act requests.Hw f h = calm-if (length (word_in (line f)) == 0) _ _ h h
 calm-act requests.Mk f h = calm-place_marked (name_in (long f) (line f)) (to_read f) h
 calm-act requests.Ne f h = calm-ne f h
 calm-act requests.Nr f h = calm-register_changed (register_lines.nr (line f) (long f) (spacing f)) (to_read f) h

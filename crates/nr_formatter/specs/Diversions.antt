@@ -14,6 +14,10 @@ use Rattle.nr_formatter.specs.declared.tasks.Task.TheVariants as tasks
 use Rattle.nr_formatter.specs.Access.{line, long, spacing, diversion}
 use Rattle.nr_formatter.specs.Places.{lowest, present_place, diversion_room}
 use Rattle.nr_formatter.specs.Pages.{without_no_space}
+use Rattle.nr_formatter.specs.declared.lines.Going.{Going}
+use Rattle.nr_formatter.specs.DiversionRows.{diverted_cells}
+use Rattle.nr_formatter.specs.Lines.{row_going, behind_line}
+use Rattle.nr_formatter.specs.Titles.{title_row, title_set}
 
 -- ---- lines go into a diversion
 
@@ -35,6 +39,14 @@ with_diverted indent cells height f =
 -- a row goes in as a line as high as lines are, and ends no-space mode
 abbrev pub with_diverted_row : List Cell → Formatter → Formatter
 with_diverted_row cells f = with_diverted 0 cells (spacing f) (without_no_space f)
+
+-- the line that goes out next goes in: its indent as blanks, no page offset
+abbrev pub divert_line : Going → Formatter → Formatter
+divert_line going f = with_diverted_row (diverted_cells (row_going going 0 f)) (behind_line going f)
+
+-- and so does the title that was read
+abbrev pub divert_title : Formatter → Formatter
+divert_title f = with_diverted_row (diverted_cells (title_row 0 f)) (title_set f)
 
 -- space goes in, to the diversion's trap at most
 abbrev pub with_diverted_space : ℕ → Formatter → Formatter

@@ -1,6 +1,6 @@
 -- The end of the run, step by step. (CSTR 54, section 7.6; groff manual, `.em`, `.ex`.)
 use Rattle.std.specs.Prelude.{true, if◌then◌else◌}
-use Rattle.nr_store.specs.Stored.{emptied}
+use Rattle.nr_store.specs.Stored.{emptied, newest_diversion}
 use Rattle.nr_settings.specs.Arguments.{name_in}
 use Rattle.nr_reading.specs.declared.event.Event.TheVariants as events
 use Rattle.nr_formatter.specs.declared.formatter.Formatter.{Formatter}
@@ -9,7 +9,7 @@ use Rattle.nr_formatter.specs.declared.tasks.Step.{Step}
 use Rattle.nr_formatter.specs.declared.tasks.Step.TheVariants as steps
 use Rattle.nr_formatter.specs.declared.tasks.Task.TheVariants as tasks
 use Rattle.nr_formatter.specs.declared.tasks.Then.TheVariants as thens
-use Rattle.nr_formatter.specs.Access.{line, long, diversion}
+use Rattle.nr_formatter.specs.Access.{line, long}
 use Rattle.nr_formatter.specs.Places.{is_diverting}
 use Rattle.nr_formatter.specs.Diversions.{end_diversion}
 
@@ -23,7 +23,7 @@ eject_last f = record f {
 
 -- open diversions end, from the innermost outwards, and then the open page is ejected
 abbrev pub end_last_diversion : Formatter → Formatter
-end_last_diversion f = if is_diverting (diversion f) then end_diversion f else eject_last f
+end_last_diversion f = if is_diverting (newest_diversion f.store.building) then end_diversion f else eject_last f
 
 -- The next step: all goes out; the macro of `.em` springs; all goes out; open diversions end; the open page is ejected.
 -- Where `.ex` empties the input in the midst of a break, the break goes on; behind the step of `.em` the next one comes;

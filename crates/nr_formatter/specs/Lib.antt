@@ -1,4 +1,5 @@
 pub mod Access
+pub mod Beginning
 pub mod Conditions
 pub mod DiversionRows
 pub mod Diversions

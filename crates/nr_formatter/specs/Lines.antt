@@ -1,5 +1,5 @@
 -- The ends of words, which lines go out, and breaks. (CSTR 54, section 4; on the points of `.hw` section 13.)
-use Rattle.std.specs.Prelude.{ℕ, ◌*◌, ◌-◌, Bool, true, false, not, ◌&&◌, ◌==◌, nat_le, if◌then◌else◌, List, length, Option, None, Some, is_none, min}
+use Rattle.std.specs.Prelude.{ℕ, ◌*◌, ◌-◌, Bool, true, false, not, ◌&&◌, ◌==◌, nat_le, if◌then◌else◌, List, length, take, Option, None, Some, is_none, min}
 use Rattle.std.specs.List.{fold}
 use Rattle.nr_units.specs.declared.cell.Cell.{Cell}
 use Rattle.nr_fill.specs.Pieces.{Collected, is_nil, cells_of_word, end_word, hyphenated, joined, may_hyphenate, reads_field, word_or_new}
@@ -9,7 +9,9 @@ use Rattle.nr_fill.specs.Setting.{behind, cut_of, line_row, set_width}
 use Rattle.nr_settings.specs.declared.filling.Align.TheVariants as aligns
 use Rattle.nr_settings.specs.Filling.{align_of, behind_centred_line}
 use Rattle.nr_settings.specs.Fonts.{behind_underlined_line}
-use Rattle.nr_settings.specs.Indents.{behind_line_begun}
+use Rattle.nr_settings.specs.Indents.{behind_line_begun, margins_of}
+use Rattle.nr_settings.specs.declared.indents.Indents.{Indents}
+use Rattle.nr_settings.specs.declared.settings.Settings.{Settings}
 use Rattle.nr_tables.specs.Words.{bytes_of, points_of}
 use Rattle.nr_reading.specs.Setting.{not_continued}
 use Rattle.nr_input.specs.Acting.{on_half}
@@ -25,7 +27,7 @@ use Rattle.nr_formatter.specs.declared.tasks.Task.TheVariants as tasks
 use Rattle.nr_formatter.specs.declared.lines.Going.{Going}
 use Rattle.nr_formatter.specs.declared.formatter.Formatter.{Formatter}
 use Rattle.nr_formatter.specs.declared.formatter.InputTrap.{InputTrap}
-use Rattle.nr_formatter.specs.Access.{collected, with_collected, is_filling, margins, spacing}
+use Rattle.nr_formatter.specs.Access.{collected, with_collected, is_filling, spacing}
 
 -- ---- a word's end
 
@@ -33,9 +35,13 @@ use Rattle.nr_formatter.specs.Access.{collected, with_collected, is_filling, mar
 abbrev pub with_points : List ℕ → Collected → Collected
 with_points places c = fold (λ d place. hyphenated place d) c places
 
+-- a word takes at most 31 points
+abbrev pub most_points : List ℕ → List ℕ
+most_points places = take 31 places
+
 -- the places that `.hw` gave for the word that is being read
 abbrev pub given_points : Formatter → List ℕ
-given_points f = points_of (bytes_of (cells_of_word (word_or_new 0 (collected f).word))) f.store.words
+given_points f = most_points (points_of (bytes_of (cells_of_word (word_or_new 0 (collected f).word))) f.store.words)
 
 -- what is collected where the word ends: the word takes the points of `.hw`, or is one piece in a line that is not filled
 unfoldable pub pointed : Formatter → Collected
@@ -100,30 +106,36 @@ abbrev pub pieces_going : Going → Collected → ℕ
 pieces_going going c = if going.whole then length c.pieces else cut_of c
 
 -- the cells of the line, so far from the row's beginning
+abbrev pub row_of : Going → ℕ → Collected → List Cell
+row_of going offset c = line_row (record { align = going.align; offset = offset }) c (pieces_going going c)
+
 abbrev pub row_going : Going → ℕ → Formatter → List Cell
-row_going going offset f = line_row (record { align = going.align; offset = offset }) (collected f) (pieces_going going (collected f))
+row_going going offset f = row_of going offset (collected f)
 
 -- how wide its text is, in cells
-abbrev pub width_going : Going → Formatter → ℕ
-width_going going f = set_width (record { align = going.align; offset = 0 }) (collected f) (pieces_going going (collected f))
+abbrev pub width_going : Going → Collected → ℕ
+width_going going c = set_width (record { align = going.align; offset = 0 }) c (pieces_going going c)
 
 -- no number is greater
 abbrev pub greatest : ℕ
 greatest = 2147483647
 
 -- what is left; a line that begins with it takes its margins now
+abbrev pub rest_of : Going → Indents → Collected → Collected
+rest_of going s c = behind (margins_of s) going.align c (pieces_going going c)
+
 abbrev pub rest_behind : Going → Formatter → Collected
-rest_behind going f = behind (margins f) going.align (collected f) (pieces_going going (collected f))
+rest_behind going f = rest_of going f.settings.indents (collected f)
 
 -- a line went out: where something is left a `.ti` is used up
+abbrev pub settings_behind : Going → Collected → Settings → Settings
+settings_behind going c s = record s {
+  indents = if is_nil (rest_of going s.indents c).pieces then s.indents else behind_line_begun s.indents;
+  text_width = min (24 * width_going going c) greatest;
+}
+
 abbrev pub behind_line : Going → Formatter → Formatter
-behind_line going f =
-    record (with_collected (rest_behind going f) f) {
-      settings = record f.settings {
-        indents = if is_nil (rest_behind going f).pieces then f.settings.indents else behind_line_begun f.settings.indents;
-        text_width = min (24 * width_going going f) greatest;
-      };
-    }
+behind_line going f = record (with_collected (rest_behind going f) f) { settings = settings_behind going (collected f) f.settings }
 
 -- ---- where nothing more goes out
 

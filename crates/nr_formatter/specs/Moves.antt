@@ -117,3 +117,13 @@ abbrev pub worked : Task → Formatter → Formatter
 worked tasks.Dash f = finish_dash f
 worked (tasks.Act r) f = act r f
 worked t f = gone_on t f
+
+-- what is under way and needs neither the source nor the page nor the output
+abbrev pub works : Task → Bool
+works tasks.Dash = true
+works (tasks.Act r) = true
+works tasks.Count = true
+works tasks.InputTrap = true
+works (tasks.Turn given) = true
+works tasks.Finish = true
+works t = false

@@ -1,9 +1,9 @@
 -- Names and what they stand for; control characters; hyphenation words. (CSTR 54, sections 7, 10 and 13; groff manual, `.cp`.)
-use Rattle.std.specs.Prelude.{ℕ, ◌==◌, if◌then◌else◌, List, [], length, Option, None, Some, unwrap_or}
-use Rattle.nr_store.specs.Stored.{removed, renamed, worded}
+use Rattle.std.specs.Prelude.{ℕ, zero, suc, ◌==◌, if◌then◌else◌, List, [], length, Option, None, Some, unwrap_or}
+use Rattle.nr_store.specs.Stored.{Stored, removed, renamed, worded}
 use Rattle.nr_settings.specs.Arguments.{name_in, behind_name, word_in, behind_word}
 use Rattle.nr_settings.specs.Characters as characters
-use Rattle.nr_reading.specs.Setting.{defining, with_control, with_no_break, with_long_names, with_line}
+use Rattle.nr_reading.specs.Setting.{defining, with_control, with_no_break, with_long_names}
 use Rattle.nr_input.specs.declared.splicing.Definition.{Definition}
 use Rattle.nr_input.specs.declared.splicing.Definition.TheVariants.{De, Am, Ig}
 use Rattle.nr_input.specs.Acting.{on_half}
@@ -81,13 +81,11 @@ cp f = to_read (record f { reader = on_half (with_long_names (characters.cp (lin
 
 -- ---- hyphenation words
 
--- the first word of the request's line is stored, and the rest of the line stays
-abbrev pub with_first_word : Formatter → Formatter
-with_first_word f = record f {
-  store = worded (word_in (line f)) f.store;
-  reader = on_half (with_line (behind_word (line f))) f.reader;
-}
+-- the words of a line are stored, at most so many
+abbrev pub with_words : {K : Type 0} → ℕ → List ℕ → Stored K → Stored K
+with_words zero line v = v
+with_words (suc most) line v = if length (word_in line) == 0 then v else with_words most (behind_word line) (worded (word_in line) v)
 
--- `.hw w ..`: one word each move
+-- `.hw w ..`: all words of its line
 abbrev pub hw : Formatter → Formatter
-hw f = if length (word_in (line f)) == 0 then to_read f else with_first_word f
+hw f = to_read (record f { store = with_words (length (line f)) (line f) f.store })

@@ -8,6 +8,8 @@ use Rattle.nr_store.specs.Stored.{Built}
 use Rattle.nr_reading.specs.declared.event.Event.{Event}
 use Rattle.nr_reading.specs.declared.event.Event.TheVariants as events
 use Rattle.nr_reading.specs.declared.half.Half.{Half}
+use Rattle.nr_reading.specs.declared.mode.Mode.TheVariants as modes
+use Rattle.nr_reading.specs.Conditionals.{in_mode}
 use Rattle.nr_reading.specs.Weights.{weight_of_half, blanks_owed}
 use Rattle.nr_input.specs.Coming.{Reached}
 use Rattle.nr_input.specs.Weights.{weight_before_byte}
@@ -113,7 +115,7 @@ weight_of_agenda events.Over t s = 3
 weight_of_agenda e t s = 400 + weight_of_task t s
 
 -- the moves that come before more is read
-pub steps_left : Formatter → ℕ
+unfoldable pub steps_left : Formatter → ℕ
 steps_left f =
     weight_of_agenda f.event f.task f.step + weight_of_name f.springs + weight_of_line (collected f)
     + weight_of_page f + weight_of_diversions f.store.building + weight_of_step f.step
@@ -129,7 +131,7 @@ abbrev pub owed_by_task : Task → Half → ℕ
 owed_by_task (tasks.Act r) h = 68
 owed_by_task (tasks.Break t) h = owed_by_then t
 owed_by_task (tasks.Room rooms.Line) h = 1
-owed_by_task (tasks.Room rooms.Title) h = 130 - weight_of_half h
+owed_by_task (tasks.Room rooms.Title) h = weight_of_half (in_mode modes.TitleBefore h) - weight_of_half h
 owed_by_task t h = 0
 
 abbrev pub owed_by_event : Event → ℕ
@@ -139,12 +141,12 @@ owed_by_event events.Title = 130
 owed_by_event events.Diverted = 1
 owed_by_event e = 0
 
-pub owed : Formatter → ℕ
+unfoldable pub owed : Formatter → ℕ
 owed f = owed_by_event f.event + owed_by_task f.task f.reader.half
 
 -- ---- all of it: what is read is worth 256 moves for one
 
-pub weight : Reached → Formatter → ℕ
+unfoldable pub weight : Reached → Formatter → ℕ
 weight p f = 256 * (weight_before_byte f.store p f.reader + 32 * blanks_owed f.reader.half + owed f) + steps_left f
 
 -- What may still come fell by so many moves, but for so many that it rose by; what may come behind a byte stays.

@@ -1,11 +1,16 @@
 //! Diversions. (CSTR 54, section 7.4.)
-ghost use Rattle.std.specs.Prelude.{◌≡◌, ◌≤◌, replicate, OnOk};
-ghost use Rattle.nr_formatter.specs.Diversions.{trap_between, trap_reached, with_diverted, with_diverted_row, with_diverted_space, with_diverted_cell, with_diverted_end, end_diversion, di, da, dt};
+ghost use Rattle.std.specs.Prelude.{◌≡◌, ◌<◌, ◌≤◌, length, replicate, OnOk};
+ghost use Rattle.nr_formatter.specs.Access.{collected};
+ghost use Rattle.nr_formatter.specs.Diversions.{trap_between, trap_reached, with_diverted, with_diverted_row, divert_line, divert_title, with_diverted_space, with_diverted_cell, with_diverted_end, end_diversion, di, da, dt};
 ghost use Rattle.nr_formatter.specs.Limits.{IsWithin};
-ghost use Rattle.nr_formatter.specs.Places.{diversion_room, room_above};
-ghost use Rattle.nr_store.specs.Stored.{afforded, added, blank_cell, charge_of};
+ghost use Rattle.nr_formatter.specs.Places.{diversion_room, is_diverting, room_above};
+ghost use Rattle.nr_formatter.specs.Weights.{Falls};
+ghost use Rattle.nr_reading.specs.declared.event.Event.TheVariants as events;
+ghost use Rattle.nr_store.specs.Stored.{afforded, added, blank_cell, charge_of, newest_diversion};
 
+use crate::diversion_row::{divert_going, divert_titled};
 use crate::formatter::Formatter;
+use crate::lines::Going;
 use crate::paper::LOWEST;
 use crate::tasks::{Resume, Task};
 use nr_settings as settings;
@@ -102,10 +107,49 @@ impl<'a> Formatter<'a> {
         self.divert(0, cells, height)
     }
 
+    /// The line that goes out next goes into the diversion, as high as lines are and without the page offset, and
+    /// ends no-space mode.
+    pub fn divert_line(&mut self, going: Going) -> Result<(), StoredBytes>
+        requires pieces { 0 < length (collected self.old).pieces }
+        ensures result { result ≡ afforded (divert_line going self.old).store tt }
+        ensures ok { OnOk result (self.new ≡ divert_line going self.old) }
+        ensures falls { OnOk result (Falls 1 0 self.old self.new) }
+    {
+        let height = self.settings.pages.spacing.units();
+        let springs = trap_reached(height, self.store.diversion());
+        divert_going(
+            &mut self.store,
+            &mut self.line,
+            &mut self.settings,
+            going,
+            height,
+        )?;
+        self.settings.pages.no_space = false;
+        self.springs = springs;
+        Ok(())
+    }
+
+    /// The title that was read goes into the diversion, as high as lines are, and ends no-space mode.
+    pub fn divert_title(&mut self) -> Result<(), StoredBytes>
+        ensures result { result ≡ afforded (divert_title self.old).store tt }
+        ensures ok { OnOk result (self.new ≡ divert_title self.old) }
+        ensures falls { self.old.event ≡ events.Nothing → self.old.task ≡ Task.Title → OnOk result (Falls 1 0 self.old self.new) }
+    {
+        let height = self.settings.pages.spacing.units();
+        let length = self.settings.indents.title_length.value.cells();
+        let springs = trap_reached(height, self.store.diversion());
+        divert_titled(&mut self.store, &mut self.line, length, height)?;
+        self.settings.pages.no_space = false;
+        self.springs = springs;
+        self.task = Task::Read;
+        Ok(())
+    }
+
     /// Space of so many u goes into the diversion, to its trap at most.
     pub fn divert_space(&mut self, distance: u32) -> Result<(), StoredBytes>
         ensures result { result ≡ afforded (with_diverted_space distance self.old).store tt }
         ensures ok { OnOk result (self.new ≡ with_diverted_space distance self.old) }
+        ensures falls { self.old.event ≡ events.Nothing → self.old.task ≡ Task.Space distance → OnOk result (Falls 1 0 self.old self.new) }
     {
         let height = distance.min(self.diversion_room());
         self.task = Task::Read;
@@ -116,6 +160,7 @@ impl<'a> Formatter<'a> {
     pub fn divert_cell(&mut self, indent: u32, cell: Cell) -> Result<(), StoredBytes>
         ensures result { IsWithin self.old → result ≡ afforded (with_diverted_cell indent cell self.old).store tt }
         ensures ok { OnOk result (self.new ≡ with_diverted_cell indent cell self.old) }
+        ensures falls { OnOk result (Falls 0 0 self.old self.new) }
     {
         match add_blanks(&mut self.store, indent) {
             Err(full) => Err(full),
@@ -127,6 +172,7 @@ impl<'a> Formatter<'a> {
     pub fn divert_line_end(&mut self, cells: u32, height: u32) -> Result<(), StoredBytes>
         ensures result { result ≡ afforded (with_diverted_end cells height self.old).store tt }
         ensures ok { OnOk result (self.new ≡ with_diverted_end cells height self.old) }
+        ensures falls { self.old.event ≡ events.Nothing → self.old.task ≡ Task.Line height → OnOk result (Falls 1 0 self.old self.new) }
     {
         let springs = trap_reached(height, self.store.diversion());
         match self.store.end_line(cells, height) {
@@ -140,15 +186,17 @@ impl<'a> Formatter<'a> {
         }
     }
 
-    /// The innermost diversion ends. `dn` and `dl` tell its height and its greatest width.
-    pub(crate) fn end_diversion(&mut self)
-        ensures { self.new ≡ end_diversion self.old }
+    /// The innermost diversion ends. `dn` and `dl` tell its height and its greatest width. Answers whether one ended.
+    pub(crate) fn end_diversion(&mut self) -> bool
+        ensures ended { result ≡ is_diverting (newest_diversion self.old.store.building) }
+        ensures is { self.new ≡ end_diversion self.old }
     {
         let Some(diversion) = self.store.end_diversion() else {
-            return;
+            return false;
         };
         self.given.height = diversion.height.min(LOWEST) as i32;
         self.given.width = diversion.width.min(LOWEST) as i32;
+        true
     }
 
     /// `.di`

@@ -1,6 +1,10 @@
 //! The end of the run, step by step. (groff manual, `.em`, `.ex`)
 ghost use Rattle.std.specs.Prelude.{◌≡◌};
+ghost use Rattle.nr_store.specs.declared.request.Request.TheVariants as requests;
+ghost use Rattle.nr_reading.specs.declared.event.Event.TheVariants as events;
+ghost use Rattle.nr_formatter.specs.declared.tasks.Task.TheVariants as tasks;
 ghost use Rattle.nr_formatter.specs.Ending.{finish, end_last_diversion, em, ex};
+ghost use Rattle.nr_formatter.specs.Weights.{Falls};
 
 use crate::formatter::Formatter;
 use crate::tasks::{Ejected, Step, Task, Then};
@@ -31,8 +35,7 @@ impl<'a> Formatter<'a> {
     fn end_last_diversion(&mut self)
         ensures { self.new ≡ end_last_diversion self.old }
     {
-        if self.store.diversion().is_some() {
-            self.end_diversion();
+        if self.end_diversion() {
             return;
         }
         self.step = Step::LastPage;
@@ -51,7 +54,8 @@ impl<'a> Formatter<'a> {
 
     /// `.ex`, once nothing is to come of the source: the levels are empty, and the end of the input is read.
     pub fn ex(&mut self)
-        ensures { self.new ≡ ex self.old }
+        ensures is { self.new ≡ ex self.old }
+        ensures falls { self.old.event ≡ events.Nothing → self.old.task ≡ tasks.Act requests.Ex → Falls 1 0 self.old self.new }
     {
         self.store.clear_levels();
         self.event = Event::Nothing;

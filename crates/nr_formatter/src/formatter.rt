@@ -1,5 +1,6 @@
 //! The formatter between two moves: everything but the source, the lines on the page and the output.
 ghost use Rattle.std.specs.Prelude.{◌≡◌};
+ghost use Rattle.nr_formatter.specs.Beginning.{first_formatter, with_first};
 ghost use Rattle.nr_formatter.specs.Places.{outlet, present_place};
 
 use crate::paper::{Given, Outlet, Paper};
@@ -47,7 +48,9 @@ pub struct Formatter<'a> {
 
 impl<'a> Formatter<'a> {
     /// Nothing is read yet. There may be at most so many splices and springs behind one byte of the input.
-    pub fn over(store: Store<'a, Resume>, line: Line<'a>, most: u64) -> Formatter<'a> {
+    pub fn over(store: Store<'a, Resume>, line: Line<'a>, most: u64) -> Formatter<'a>
+        ensures { result ≡ first_formatter store.entry line.entry most }
+    {
         Formatter {
             reader: Reader::new(most),
             store,
@@ -63,6 +66,13 @@ impl<'a> Formatter<'a> {
             step: Step::NotYet,
             end_macro: None,
         }
+    }
+
+    /// The next page has this number, as `-n` asks before the first.
+    pub fn set_first(&mut self, number: i32)
+        ensures { self.new ≡ with_first number self.old }
+    {
+        self.paper.number = number;
     }
 
     /// Where output goes.

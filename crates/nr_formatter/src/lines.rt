@@ -1,14 +1,17 @@
 //! The ends of words, which lines go out, and breaks. (CSTR 54, section 4.)
-ghost use Rattle.std.specs.Prelude.{◌≡◌, ◌<◌, OnOk, length};
+ghost use Rattle.std.specs.Prelude.{◌≡◌, ◌<◌, Bool, false, is_none, OnOk, length};
 ghost use Rattle.nr_fill.specs.Lined.{afforded};
+ghost use Rattle.nr_reading.specs.declared.event.Event.TheVariants as events;
 ghost use Rattle.nr_formatter.specs.Access.{collected, with_collected};
-ghost use Rattle.nr_formatter.specs.Lines.{with_points, pointed, breaks_behind, word_ended, break_word_end, goes_out, whole_line, front_line, flow_line, break_line, row_going, behind_line, task_after, flow_done, task_of, step_behind, break_done, count, count_input};
+ghost use Rattle.nr_formatter.specs.Lines.{with_points, most_points, pointed, breaks_behind, word_ended, break_word_end, goes_out, whole_line, front_line, flow_line, break_line, row_of, row_going, rest_of, settings_behind, behind_line, task_after, flow_done, task_of, step_behind, break_done, count, count_input};
+ghost use Rattle.nr_formatter.specs.Weights.{Falls};
 
 use crate::formatter::{Formatter, InputTrap};
 use crate::tasks::{After, Room, Step, Task, Then};
 use nr_fill::cells::CellSink;
 use nr_fill::line::{Line, LineCells};
 use nr_fill::setting::{Align, Setting};
+use nr_settings::Settings;
 
 /// The greatest number.
 const GREATEST: u64 = 2_147_483_647;
@@ -21,6 +24,16 @@ pub struct Going {
     pub align: Align,
 }
 
+/// A word takes at most so many points.
+const MOST_POINTS: usize = 31;
+
+/// The first of these places, at most 31.
+fn most_points(places: &[u8]) -> &[u8]
+    ensures { result.now ≡ most_points places.now }
+{
+    &places[..MOST_POINTS.min(places.len())]
+}
+
 /// The word that is being read may be cut at these places, so many cells in.
 fn cut_at(line: &mut Line<'_>, places: &[u8])
     ensures { line.new ≡ record line.old { collected = with_points places.now line.old.collected } }
@@ -28,6 +41,34 @@ fn cut_at(line: &mut Line<'_>, places: &[u8])
     for place in places {
         line.hyphenate(usize::from(*place));
     }
+}
+
+/// Sets the line that goes out next in a row behind what stands there, so many cells on, and takes it away.
+pub(crate) fn set_going<S: CellSink>(
+    line: &mut Line<'_>,
+    settings: &mut Settings,
+    going: Going,
+    offset: u32,
+    out: &mut S,
+)
+    requires { 0 < length line.old.collected.pieces }
+    ensures out { S.Adds out.old (row_of going offset line.old.collected) out.new }
+    ensures line { line.new ≡ record line.old { collected = rest_of going settings.old.indents line.old.collected } }
+    ensures settings { settings.new ≡ settings_behind going line.old.collected settings.old }
+{
+    let setting = Setting {
+        align: going.align,
+        offset,
+    };
+    let width = if going.whole {
+        line.take_all(setting, out)
+    } else {
+        line.take_line(settings.indents.margins(), setting, out)
+    };
+    if line.has_pieces() {
+        let _ = settings.indents.take_margins();
+    }
+    settings.text_width = (24 * width as u64).min(GREATEST) as u32;
 }
 
 impl After {
@@ -74,7 +115,7 @@ impl<'a> Formatter<'a> {
         }
         if self.settings.hyphenation.on && self.line.may_hyphenate() {
             let places = self.store.points(self.line.word_cells());
-            cut_at(&mut self.line, places);
+            cut_at(&mut self.line, most_points(places));
         }
     }
 
@@ -101,6 +142,7 @@ impl<'a> Formatter<'a> {
     pub fn break_word_end(&mut self) -> Result<(), LineCells>
         ensures result { result ≡ afforded (break_word_end self.old).line }
         ensures ok { OnOk result (self.new ≡ break_word_end self.old) }
+        ensures falls { is_none (collected self.old).word ≡ false → OnOk result (Falls 1 0 self.old self.new) }
     {
         if self.line.has_field() {
             return self.line.end_field();
@@ -168,26 +210,15 @@ impl<'a> Formatter<'a> {
         requires { 0 < length (collected self.old).pieces }
         ensures out { S.Adds out.old (row_going going offset self.old) out.new }
         ensures rest { self.new ≡ behind_line going self.old }
+        ensures falls { Falls 5 0 self.old self.new }
     {
-        let setting = Setting {
-            align: going.align,
-            offset,
-        };
-        let width = if going.whole {
-            self.line.take_all(setting, out)
-        } else {
-            self.line
-                .take_line(self.settings.indents.margins(), setting, out)
-        };
-        if self.line.has_pieces() {
-            let _ = self.settings.indents.take_margins();
-        }
-        self.settings.text_width = (24 * width as u64).min(GREATEST) as u32;
+        set_going(&mut self.line, &mut self.settings, going, offset, out);
     }
 
     /// Nothing more goes out where a word or a text line ended.
     pub fn flow_done(&mut self, after: After)
-        ensures { self.new ≡ flow_done after self.old }
+        ensures done { self.new ≡ flow_done after self.old }
+        ensures falls { (breaks : Bool) → self.old.event ≡ events.Nothing → self.old.task ≡ Task.Flow after breaks → Falls 1 0 self.old self.new }
     {
         self.task = after.task();
     }
@@ -207,7 +238,8 @@ impl<'a> Formatter<'a> {
 
     /// Nothing more goes out at a break. A `\p` that waits for a word is dropped, and what `\c` continues ends.
     pub fn break_done(&mut self, then: Then)
-        ensures { self.new ≡ break_done then self.old }
+        ensures done { self.new ≡ break_done then self.old }
+        ensures falls { self.old.event ≡ events.Nothing → self.old.task ≡ Task.Break then → Falls 1 0 self.old self.new }
     {
         self.breaks = false;
         self.reader.end_continuing();

@@ -1,10 +1,13 @@
 //! The moves that touch neither the source nor the page nor the output.
-ghost use Rattle.std.specs.Prelude.{◌≡◌, OnOk};
+ghost use Rattle.std.specs.Prelude.{◌≡◌, ◌≢◌, true, OnOk};
+ghost use Rattle.nr_reading.specs.declared.event.Event.TheVariants as events;
+ghost use Rattle.nr_formatter.specs.declared.tasks.Task.TheVariants as tasks;
 ghost use Rattle.nr_fill.specs.Lined.{afforded};
 ghost use Rattle.nr_formatter.specs.Limits.{IsWithin, judged};
-ghost use Rattle.nr_formatter.specs.Moves.{is_text, text_heard, heard_for, task_requested, font_set, width_given, control, heard_beside, heard, read_in, gone_on, worked};
+ghost use Rattle.nr_formatter.specs.Moves.{is_text, text_heard, heard_for, task_requested, font_set, width_given, control, heard_beside, heard, read_in, gone_on, worked, works};
 ghost use Rattle.nr_formatter.specs.Registers.{splice_checked};
 ghost use Rattle.nr_formatter.specs.Requests.{act};
+ghost use Rattle.nr_formatter.specs.Weights.{Falls};
 
 use crate::formatter::Formatter;
 use crate::passed::Passed;
@@ -73,6 +76,7 @@ impl<'a> Formatter<'a> {
     fn give_width(&mut self) -> Result<(), Refusal>
         ensures result { result ≡ splice_checked (width_given self.old) }
         ensures ok { OnOk result (self.new ≡ width_given self.old) }
+        ensures falls { OnOk result (Falls 1 0 self.old self.new) }
     {
         let units = width(
             self.reader.argument(),
@@ -118,6 +122,7 @@ impl<'a> Formatter<'a> {
     fn hear_text(&mut self, event: Event) -> Result<(), LineCells>
         ensures result { IsWithin self.old → result ≡ afforded (text_heard event self.old).line }
         ensures ok { OnOk result (self.new ≡ text_heard event self.old) }
+        ensures falls { self.old.event ≡ event → is_text event ≡ true → OnOk result (Falls 1 0 self.old self.new) }
     {
         if self.reads_title() {
             return self.title(event);
@@ -129,6 +134,7 @@ impl<'a> Formatter<'a> {
     fn hear_beside(&mut self, event: Event) -> Result<(), Passed>
         ensures result { IsWithin self.old → result ≡ judged (heard_beside event self.old) }
         ensures ok { OnOk result (self.new ≡ heard_beside event self.old) }
+        ensures falls { self.old.event ≡ event → event ≢ events.Nothing → OnOk result (Falls 1 0 self.old self.new) }
     {
         match event {
             Event::Given => Passed::of_splice(self.give_register()),
@@ -146,6 +152,7 @@ impl<'a> Formatter<'a> {
     pub fn hear(&mut self, event: Event) -> Result<(), Passed>
         ensures result { IsWithin self.old → result ≡ judged (heard event self.old) }
         ensures ok { OnOk result (self.new ≡ heard event self.old) }
+        ensures falls { self.old.event ≡ event → event ≢ events.Nothing → OnOk result (Falls 1 0 self.old self.new) }
     {
         if is_text(event) {
             return Passed::of_line(self.hear_text(event));
@@ -155,7 +162,8 @@ impl<'a> Formatter<'a> {
 
     /// There is room for what is read then.
     pub fn read_in_room(&mut self, room: Room)
-        ensures { self.new ≡ read_in room self.old }
+        ensures is { self.new ≡ read_in room self.old }
+        ensures falls { self.old.event ≡ events.Nothing → self.old.task ≡ tasks.Room room → Falls 1 0 self.old self.new }
     {
         match room {
             Room::Title => self.reader.begin_title(),
@@ -195,6 +203,7 @@ impl<'a> Formatter<'a> {
     pub fn work(&mut self, task: Task) -> Result<(), Passed>
         ensures result { IsWithin self.old → result ≡ judged (worked task self.old) }
         ensures ok { OnOk result (self.new ≡ worked task self.old) }
+        ensures falls { self.old.event ≡ events.Nothing → self.old.task ≡ task → works task ≡ true → OnOk result (Falls 1 0 self.old self.new) }
     {
         match task {
             Task::Dash => Passed::of_line(self.finish_dash()),

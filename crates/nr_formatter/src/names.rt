@@ -1,17 +1,35 @@
 //! Names and the texts that they stand for. (CSTR 54, section 7)
-ghost use Rattle.std.specs.Prelude.{◌≡◌, OnOk, Some};
-ghost use Rattle.nr_store.specs.Stored.{afforded};
+ghost use Rattle.std.specs.Prelude.{◌≡◌, ◌≤◌, length, OnOk, Some};
+ghost use Rattle.nr_store.specs.Stored.{afforded, charge_of};
 ghost use Rattle.nr_formatter.specs.Limits.{IsWithin};
-ghost use Rattle.nr_formatter.specs.Naming.{with_lines, named_definition, de, am, ig, rm, rn, cc, c2, cp, hw};
+ghost use Rattle.nr_formatter.specs.Naming.{with_lines, named_definition, de, am, ig, rm, rn, cc, c2, cp, with_words, hw};
 
 use crate::formatter::Formatter;
-use crate::request_line::RequestLine;
-use crate::tasks::Task;
+use crate::tasks::{Resume, Task};
 use nr_input::Definition;
 use nr_settings as settings;
 use nr_settings::Arguments;
-use nr_store::StoredBytes;
+use nr_store::{Store, StoredBytes};
 use nr_units::Name;
+
+/// The words of a line are stored.
+fn add_words(store: &mut Store<'_, Resume>, line: &[u8]) -> Result<(), StoredBytes>
+    ensures answer { charge_of store.old ≤ store.old.limit → result ≡ afforded (with_words (length line.now) line.now store.old) tt }
+    ensures ok { OnOk result (store.new ≡ with_words (length line.now) line.now store.old) }
+{
+    let mut arguments = Arguments::of(line);
+    for _word in 0..line.len() {
+        let word = arguments.word();
+        if word.is_empty() {
+            return Ok(());
+        }
+        match store.add_word(word) {
+            Err(full) => return Err(full),
+            Ok(()) => {}
+        }
+    }
+    Ok(())
+}
 
 impl<'a> Formatter<'a> {
     /// The lines that follow are a definition's.
@@ -123,20 +141,12 @@ impl<'a> Formatter<'a> {
         self.task = Task::Read;
     }
 
-    /// `.hw w ..`: one word of its line each move.
+    /// `.hw w ..`: all words of its line.
     pub(crate) fn hw(&mut self) -> Result<(), StoredBytes>
         ensures result { IsWithin self.old → result ≡ afforded (hw self.old).store tt }
         ensures ok { OnOk result (self.new ≡ hw self.old) }
     {
-        let line = RequestLine::of(self.reader.line());
-        let mut arguments = Arguments::of(line.as_slice());
-        let word = arguments.word();
-        if word.is_empty() {
-            self.task = Task::Read;
-            return Ok(());
-        }
-        self.store.add_word(word)?;
-        self.reader.set_line(arguments.rest);
-        Ok(())
+        self.task = Task::Read;
+        add_words(&mut self.store, self.reader.line())
     }
 }

@@ -1,10 +1,15 @@
 //! Pages: beginning, what is placed, ejecting, ending. (CSTR 54, section 3; on traps section 7.5.)
-ghost use Rattle.std.specs.Prelude.{◌≡◌, ◌≤ℤ◌, pos, IfSome, OnOk};
+ghost use Rattle.std.specs.Prelude.{◌≡◌, ◌<◌, ◌≤ℤ◌, pos, true, false, Bool, Option, IfSome, OnOk};
+ghost use Rattle.nr_reading.specs.declared.event.Event.TheVariants as events;
+ghost use Rattle.nr_formatter.specs.declared.paper.Outlet.TheVariants as outlets;
+ghost use Rattle.nr_formatter.specs.declared.tasks.Ejected.{Ejected};
+ghost use Rattle.nr_formatter.specs.declared.tasks.Task.TheVariants as tasks;
 ghost use Rattle.nr_formatter.specs.Pages.{begins_page, begins_first_page, place_behind, reached, moved_to, line_placed, task_begun, page_begun, task_ejected, task_ended, page_ended, turned, is_ejecting, names_text, next_springing};
-ghost use Rattle.nr_formatter.specs.Places.{trap_below, IsBelow};
+ghost use Rattle.nr_formatter.specs.Places.{is_open, page_outlet, trap_below, IsBelow};
 ghost use Rattle.nr_formatter.specs.Limits.{IsWithin};
 ghost use Rattle.nr_formatter.specs.Registers.{splice_checked};
 ghost use Rattle.nr_formatter.specs.Springing.{ejected_to};
+ghost use Rattle.nr_formatter.specs.Weights.{Falls};
 
 use crate::formatter::Formatter;
 use crate::paper::{LOWEST, PageState, Paper};
@@ -103,7 +108,8 @@ impl<'a> Formatter<'a> {
     /// A line of this height, in u, was placed. It ends no-space mode.
     #[inline]
     pub fn line_placed(&mut self, height: u32)
-        ensures { self.new ≡ line_placed height self.old }
+        ensures is { self.new ≡ line_placed height self.old }
+        ensures falls { Falls 0 4 self.old self.new }
     {
         self.settings.pages.no_space = false;
         self.move_to(self.place_behind(height));
@@ -120,7 +126,9 @@ impl<'a> Formatter<'a> {
 
     /// A page begins at its top, and the trap there springs.
     pub fn begin_page(&mut self)
-        ensures { self.new ≡ page_begun self.old }
+        ensures is { self.new ≡ page_begun self.old }
+        ensures opened { 0 < self.old.settings.pages.page_length → is_open self.old.paper.state ≡ false → Falls 1 0 self.old self.new }
+        ensures begun { (given : Option Bool) → 0 < self.old.settings.pages.page_length → self.old.event ≡ events.Nothing → self.old.task ≡ tasks.Begin given → Falls 1 0 self.old self.new }
     {
         let length = self.settings.pages.page_length.units();
         self.springs = reached(self.store.next_trap(-1, length as i32), 0);
@@ -132,7 +140,9 @@ impl<'a> Formatter<'a> {
 
     /// The open page has ended.
     pub fn page_ended(&mut self)
-        ensures { self.new ≡ page_ended self.old }
+        ensures is { self.new ≡ page_ended self.old }
+        ensures full { page_outlet self.old.paper.state self.old.paper.place self.old.settings.pages.page_length ≡ outlets.Full → Falls 1 0 self.old self.new }
+        ensures ejected { (e : Ejected) → self.old.event ≡ events.Nothing → self.old.task ≡ tasks.Eject e → Falls 1 0 self.old self.new }
     {
         self.paper = Paper {
             state: PageState::Closed,
@@ -167,6 +177,7 @@ impl<'a> Formatter<'a> {
     pub fn next_springing(&self) -> Option<Trap>
         ensures value { result ≡ next_springing self.now }
         ensures below { IfSome result (λ t. IsBelow 0 self.now t.place) }
+        ensures named { IfSome result (λ t. names_text t.name self.now ≡ true) }
     {
         let mut place = self.paper.place;
         while let Some(trap) = self.trap_below(place) {
@@ -183,6 +194,7 @@ impl<'a> Formatter<'a> {
         requires { pos 0 ≤ℤ trap.place }
         ensures result { IsWithin self.old → result ≡ splice_checked (ejected_to trap self.old) }
         ensures ok { OnOk result (self.new ≡ ejected_to trap self.old) }
+        ensures falls { names_text trap.name self.old ≡ true → OnOk result (Falls 1 0 self.old self.new) }
     {
         self.paper.place = trap.place as u32;
         self.spring(trap.name)

@@ -1,5 +1,6 @@
 //! The page under way, but for its lines. (CSTR 54, section 3.)
 ghost use Rattle.std.specs.Prelude.{◌≡◌};
+ghost use Rattle.nr_formatter.specs.Beginning.{first_given, first_paper};
 ghost use Rattle.nr_formatter.specs.Pages.{following};
 ghost use Rattle.nr_formatter.specs.Places.{page_outlet, is_open, page_place};
 
@@ -60,7 +61,9 @@ pub const LOWEST: u32 = 2_147_483_647;
 
 impl Paper {
     /// The first page has not begun.
-    pub fn new() -> Paper {
+    pub fn new() -> Paper
+        ensures { result ≡ first_paper }
+    {
         Paper {
             state: PageState::Unbegun,
             number: 1,
@@ -119,7 +122,9 @@ impl Paper {
 
 impl Given {
     /// 0, in digits.
-    pub fn new() -> Given {
+    pub fn new() -> Given
+        ensures { result ≡ first_given }
+    {
         let plain = Format::Arabic { places: 1 };
         Given {
             height: 0,

@@ -1,11 +1,14 @@
 //! Registers. (CSTR 54, section 8)
 ghost use Rattle.std.specs.Prelude.{◌≡◌, ◌<◌, ◌^◌, [], OnOk, None, Some, unsigned_abs};
 ghost use Rattle.nr_store.specs.Stored.{afforded};
+ghost use Rattle.nr_reading.specs.declared.event.Event.TheVariants as events;
+ghost use Rattle.nr_input.specs.Weights.{Splices};
 ghost use Rattle.nr_formatter.specs.Access.{diversion};
 ghost use Rattle.nr_formatter.specs.Limits.{IsWithin};
 ghost use Rattle.nr_formatter.specs.Places.{place_in};
 ghost use Rattle.nr_formatter.specs.Given.{given_named};
 ghost use Rattle.nr_formatter.specs.Registers.{spliced, splice_checked, distance, given_value, given_format, given_formatted, name_of, given_by, given_register, register_set_by, register_set, register_value, nr, formatted_by, af, rr, mk};
+ghost use Rattle.nr_formatter.specs.Weights.{Falls};
 
 use crate::formatter::Formatter;
 use crate::given::GivenRegister;
@@ -109,6 +112,7 @@ impl<'a> Formatter<'a> {
     pub(crate) fn splice(&mut self, bytes: &[u8]) -> Result<(), Refusal>
         ensures result { result ≡ splice_checked (spliced bytes.now self.old) }
         ensures ok { OnOk result (self.new ≡ spliced bytes.now self.old) }
+        ensures pays { OnOk result (Splices self.old.store self.old.reader self.new.store self.new.reader) }
     {
         self.reader.give(&mut self.store, bytes)
     }
@@ -117,6 +121,7 @@ impl<'a> Formatter<'a> {
     fn give_given(&mut self, register: GivenRegister) -> Result<(), Refusal>
         ensures result { result ≡ splice_checked (given_by (Some register) self.old) }
         ensures ok { OnOk result (self.new ≡ given_by (Some register) self.old) }
+        ensures pays { OnOk result (Splices self.old.store self.old.reader self.new.store self.new.reader) }
     {
         if matches!(register, GivenRegister::Diversion) {
             let name = self.diversion_name();
@@ -130,6 +135,7 @@ impl<'a> Formatter<'a> {
     pub(crate) fn give_register(&mut self) -> Result<(), Refusal>
         ensures result { IsWithin self.old → result ≡ splice_checked (given_register self.old) }
         ensures ok { OnOk result (self.new ≡ given_register self.old) }
+        ensures falls { self.old.event ≡ events.Given → OnOk result (Falls 1 0 self.old self.new) }
     {
         let name = self.reader.asked();
         let Some(register) = GivenRegister::of(name.as_bytes()) else {

@@ -1,7 +1,10 @@
 //! Vertical space. (CSTR 54, section 5.)
 ghost use Rattle.std.specs.Prelude.{◌≡◌, ◌+◌, ◌≤◌, max};
+ghost use Rattle.nr_reading.specs.declared.event.Event.TheVariants as events;
+ghost use Rattle.nr_formatter.specs.declared.tasks.Task.TheVariants as tasks;
 ghost use Rattle.nr_formatter.specs.Places.{distance_below};
 ghost use Rattle.nr_formatter.specs.Spacing.{is_spaceless, spaced, spaced_up, sp, ne, rt};
+ghost use Rattle.nr_formatter.specs.Weights.{Falls};
 
 use crate::formatter::Formatter;
 use crate::paper::Outlet;
@@ -30,7 +33,8 @@ impl<'a> Formatter<'a> {
 
     /// Space of so many u goes down on the open page, to the next trap or the bottom at most.
     pub fn space_down(&mut self, distance: u32)
-        ensures { self.new ≡ spaced distance self.old }
+        ensures is { self.new ≡ spaced distance self.old }
+        ensures falls { self.old.event ≡ events.Nothing → self.old.task ≡ tasks.Space distance → Falls 1 0 self.old self.new }
     {
         let down = distance.min(self.distance_below(self.paper.place));
         self.move_to(self.paper.place + down);

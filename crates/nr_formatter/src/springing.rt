@@ -1,9 +1,13 @@
 //! Sprung macros: their text comes before the rest of the input, and behind it what was under way is gone on with.
 //! (CSTR 54, section 7.5)
-ghost use Rattle.std.specs.Prelude.{◌≡◌, OnOk};
+ghost use Rattle.std.specs.Prelude.{◌≡◌, ◌*◌, true, Some, OnOk};
+ghost use Rattle.nr_reading.specs.declared.event.Event.TheVariants as events;
+ghost use Rattle.nr_formatter.specs.declared.tasks.Task.TheVariants as tasks;
 ghost use Rattle.nr_formatter.specs.Limits.{IsWithin};
+ghost use Rattle.nr_formatter.specs.Pages.{names_text};
 ghost use Rattle.nr_formatter.specs.Registers.{splice_checked};
 ghost use Rattle.nr_formatter.specs.Springing.{interrupted, sprung, resumed};
+ghost use Rattle.nr_formatter.specs.Weights.{Falls};
 
 use crate::formatter::Formatter;
 use crate::request_line::RequestLine;
@@ -27,6 +31,8 @@ impl<'a> Formatter<'a> {
     pub fn spring(&mut self, name: Name) -> Result<(), Refusal>
         ensures result { IsWithin self.old → result ≡ splice_checked (sprung name self.old) }
         ensures ok { OnOk result (self.new ≡ sprung name self.old) }
+        ensures text { names_text name self.old ≡ true → OnOk result (Falls 4 0 self.old self.new) }
+        ensures falls { self.old.springs ≡ Some name → OnOk result (Falls 1 0 self.old self.new) }
     {
         let resume = self.interrupted();
         match self.reader.spring(&mut self.store, name, resume) {
@@ -43,7 +49,8 @@ impl<'a> Formatter<'a> {
 
     /// What was under way is gone on with, behind the text of a sprung macro.
     pub fn resume(&mut self, resume: Resume)
-        ensures { self.new ≡ resumed resume self.old }
+        ensures is { self.new ≡ resumed resume self.old }
+        ensures falls { self.old.event ≡ events.Nothing → self.old.task ≡ tasks.Read → Falls 0 (256 * 254) self.old self.new }
     {
         self.reader.stand(resume.standing);
         self.reader.set_line(resume.line.as_slice());

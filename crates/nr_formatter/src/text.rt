@@ -4,6 +4,7 @@ ghost use Rattle.nr_fill.specs.Lined.{afforded};
 ghost use Rattle.nr_formatter.specs.Access.{margins};
 ghost use Rattle.nr_formatter.specs.Limits.{IsWithin};
 ghost use Rattle.nr_formatter.specs.Text.{line_begun, put, character, letter, blank_cell, gap_blank, blank, tab, text_byte, dash, dash_end, finish_dash, hyphen, special, cells, horizontal, ruled, mark, percent, break_word, line_end, text_sign, text};
+ghost use Rattle.nr_formatter.specs.Weights.{Falls};
 
 use crate::formatter::Formatter;
 use crate::tasks::{After, Task};
@@ -302,6 +303,7 @@ impl<'a> Formatter<'a> {
     pub(crate) fn finish_dash(&mut self) -> Result<(), LineCells>
         ensures result { result ≡ afforded (finish_dash self.old).line }
         ensures ok { OnOk result (self.new ≡ finish_dash self.old) }
+        ensures falls { self.old.event ≡ Event.Nothing → self.old.task ≡ Task.Dash → OnOk result (Falls 1 0 self.old self.new) }
     {
         if self.reads_title() {
             return self.title_dash_end();

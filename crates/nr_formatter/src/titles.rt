@@ -8,6 +8,7 @@ ghost use Rattle.nr_formatter.specs.Limits.{IsWithin};
 ghost use Rattle.nr_formatter.specs.Titles.{reads_title, title_part, with_title_cells, titled, page_number, title_byte, printed, title_special, title_dash_end, title, title_row, title_set};
 ghost use Rattle.nr_settings.specs.Specials.{special_of};
 ghost use Rattle.nr_formatter.specs.Access.{asked};
+ghost use Rattle.nr_formatter.specs.Weights.{Falls};
 
 use crate::formatter::Formatter;
 use crate::tasks::Task;
@@ -196,6 +197,7 @@ impl<'a> Formatter<'a> {
     pub fn set_title<S: CellSink>(&mut self, offset: u32, out: &mut S)
         ensures out { S.Adds out.old (title_row offset self.old) out.new }
         ensures rest { self.new ≡ title_set self.old }
+        ensures falls { self.old.event ≡ Event.Nothing → self.old.task ≡ Task.Title → Falls 5 0 self.old self.new }
     {
         let length = self.settings.indents.title_length.value.cells();
         self.line.set_title(length, offset, out);

@@ -11,31 +11,31 @@ returns-then-cell-eq32 c = (refl, refl, λ before row h. holds_blank c.args.cell
 
 pub returns-then-self : goal.returns-then-self
 returns-then-self c = (
-    refl,
-    refl,
-    λ before row h.
-        let differs : is_blank c.args.cell ≡ false = ne_eqb _ _ c.if-cell-eq32.false in
-        subst (λ (r : Bool). HoldsRow before (row ++ c.args.cell ∷ []) c.args.self.now.store.now c.args.self.now.blanks r) (sym c.if-self.true)
-        (holds_refused c.args.cell differs h c.args.self.now.store.now c.args.self.now.blanks (h.passed c.if-self.true)),
+  refl,
+  refl,
+  λ before row h.
+      let differs : is_blank c.args.cell ≡ false = ne_eqb _ _ c.if-cell-eq32.false in
+      subst (λ (r : Bool). HoldsRow before (row ++ c.args.cell ∷ []) c.args.self.now.store.now c.args.self.now.blanks r) (sym c.if-self.true)
+      (holds_refused c.args.cell differs h c.args.self.now.store.now c.args.self.now.blanks (h.passed c.if-self.true)),
 )
 
 pub returns-in-Ok : goal.returns-in-Ok
 returns-in-Ok c = (
-    refl,
-    refl,
-    λ before row h.
-        let differs : is_blank c.args.cell ≡ false = ne_eqb _ _ c.if-cell-eq32.false in
-        let held = subst (λ (r : Bool). HoldsRow before row c.args.self.now.store.now c.args.self.now.blanks r) c.if-self.false h in
-        subst (λ (r : Bool). HoldsRow before (row ++ c.args.cell ∷ []) c.add_behind.new.store 0 r) (sym c.if-self.false)
-        (holds_some c.args.cell differs held c.add_behind.new.store c.in-Ok.ensures.ok c.in-Ok.ensures.small),
+  refl,
+  refl,
+  λ before row h.
+      let differs : is_blank c.args.cell ≡ false = ne_eqb _ _ c.if-cell-eq32.false in
+      let held = subst (λ (r : Bool). HoldsRow before row c.args.self.now.store.now c.args.self.now.blanks r) c.if-self.false h in
+      subst (λ (r : Bool). HoldsRow before (row ++ c.args.cell ∷ []) c.add_behind.new.store 0 r) (sym c.if-self.false)
+      (holds_some c.args.cell differs held c.add_behind.new.store c.in-Ok.ensures.ok c.in-Ok.ensures.small),
 )
 
 pub returns-in-Err : goal.returns-in-Err
 returns-in-Err c = (
-    refl,
-    refl,
-    λ before row h.
-        let differs : is_blank c.args.cell ≡ false = ne_eqb _ _ c.if-cell-eq32.false in
-        let held = subst (λ (r : Bool). HoldsRow before row c.args.self.now.store.now c.args.self.now.blanks r) c.if-self.false h in
-        holds_no_more c.args.cell differs held c.add_behind.new.store c.args.self.now.blanks (refused_by (with_cells (replicate c.args.self.now.blanks blank ++ c.args.cell ∷ []) c.args.self.now.store.now) (charge_of (with_cells (replicate c.args.self.now.blanks blank ++ c.args.cell ∷ []) c.args.self.now.store.now)) c.in-Err.field-0 c.in-Err.ensures.result),
+  refl,
+  refl,
+  λ before row h.
+      let differs : is_blank c.args.cell ≡ false = ne_eqb _ _ c.if-cell-eq32.false in
+      let held = subst (λ (r : Bool). HoldsRow before row c.args.self.now.store.now c.args.self.now.blanks r) c.if-self.false h in
+      holds_no_more c.args.cell differs held c.add_behind.new.store c.args.self.now.blanks (refused_by (with_cells (replicate c.args.self.now.blanks blank ++ c.args.cell ∷ []) c.args.self.now.store.now) (charge_of (with_cells (replicate c.args.self.now.blanks blank ++ c.args.cell ∷ []) c.args.self.now.store.now)) c.in-Err.field-0 c.in-Err.ensures.result),
 )

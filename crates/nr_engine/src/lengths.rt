@@ -1,0 +1,23 @@
+//! The lengths of the slices of a working space.
+
+/// The lengths of the slices of a working space, in elements.
+#[derive(Clone, Copy, Debug, PartialEq, Eq)]
+pub struct Sizes {
+    pub elements: usize,
+    pub slots: usize,
+    pub names: usize,
+    pub drafts: usize,
+    pub frames: usize,
+    pub bytes: usize,
+    pub places: usize,
+    pub gathering: usize,
+    pub registers: usize,
+    pub traps: usize,
+    pub words: usize,
+    pub cells: usize,
+    pub pieces: usize,
+    pub row: usize,
+    pub page_cells: usize,
+    pub page_texts: usize,
+    pub page_rows: usize,
+}
