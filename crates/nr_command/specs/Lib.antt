@@ -1,2 +1,4 @@
+pub mod Disk
 pub mod Faults
 pub mod Running
+pub mod Unopened

@@ -4,10 +4,12 @@ use Rattle.std.specs.Io.KnownBytes.{Keeps}
 use Rattle.nr_units.specs.Failures.{SinkFailures, counted_if, put_counted_if, flush_counted_if}
 use Rattle.nr_units.specs.Supply.{Supply}
 use Rattle.nr_engine.specs.State.{start}
-use Rattle.nr_engine.specs.Measures.{Bounds}
+use Rattle.nr_options.specs.Limits.{Bounds}
+use Rattle.nr_options.specs.declared.options.Options.{Options}
 use Rattle.nr_engine.specs.Answer.{Answers, is_read_fault, is_write_fault}
 use Rattle.nr_engine.specs.declared.outcome.Outcome.{Outcome}
 use Rattle.nr_engine.specs.declared.outcome.Outcome.TheVariants.{Done, Limit, ReadFault, TooLong, WriteFault}
+use Rattle.nr_command.specs.Faults.{Tells, line_of}
 
 -- the status of the program
 abbrev pub status_of : Outcome → ℕ
@@ -17,27 +19,28 @@ status_of TooLong = 1
 status_of (ReadFault at) = 3
 status_of WriteFault = 4
 
--- the limits that hold where none are given
-abbrev pub default_bounds : Bounds
-default_bounds = record { stored = 262144; depth = 256; cells = 65536; expansions = 1000000 }
-
--- the line that tells that there are words
-abbrev pub words_line : List ℕ
-words_line = codes "nroff: no arguments yet\n"
-
 -- the line that tells want of memory
 abbrev pub memory_line : List ℕ
 memory_line = codes "nroff: out of memory\n"
 
 -- A run came to this outcome: after so many moves formatting answered, with so much put out, and then the output was flushed.
-pub record Ran (b : Bounds) (supply : Option Supply) (reads reads' : ℕ) (old new : Option (List ℕ)) (writes writes' : SinkFailures) (outcome : Outcome) : Type 0 where
+pub record Ran (b : Bounds) (options : Options) (supply : Option Supply) (reads reads' : ℕ) (old new : Option (List ℕ)) (writes writes' : SinkFailures) (outcome : Outcome) : Type 0 where
   pub formatted : Outcome
   pub moves : ℕ
   pub held : Option (List ℕ)
   pub flush_failed : Bool
-  pub answers : (known : Supply) → supply ≡ Some known → Answers b (start known) moves formatted old held
+  pub answers : (known : Supply) → supply ≡ Some known → Answers b (start b options known) moves formatted old held
   pub flushed : Keeps held new
   pub outcome_is : outcome ≡ (if flush_failed then WriteFault else formatted)
   -- each failed call was counted
   pub read_failures : reads' ≡ counted_if (is_read_fault formatted) reads
   pub write_failures : writes' ≡ flush_counted_if flush_failed (put_counted_if (is_write_fault formatted) writes)
+
+-- A run over sources of which no call had failed came to an outcome, and the status and the line tell it.
+pub record Comes (b : Bounds) (options : Options) (supply : Option Supply) (old new : Option (List ℕ)) (writes writes' : SinkFailures)
+    (old_line new_line : Option (List ℕ)) (failures failures' : SinkFailures) (status : ℕ) : Type 0 where
+  pub outcome : Outcome
+  pub reads : ℕ
+  pub ran : Ran b options supply 0 reads old new writes writes' outcome
+  pub status_is : status ≡ status_of outcome
+  pub told : Tells old_line new_line failures failures' (line_of outcome)

@@ -1,13 +1,17 @@
-//! The program nroff but for its `main`: a run over streams, the line that tells how it ended, and its
-//! status.
+//! The program nroff but for its `main`: its words, the texts that it reads, a run over streams, the
+//! lines that tell how it ended, and its status.
 #![tactic(auto)]
 
+mod disk;
 mod faults;
-mod limits;
+mod opening;
+mod program;
 mod running;
-mod streams;
+mod words;
 
+pub use disk::{Disk, Text};
 pub use faults::fault_line;
-pub use limits::default_limits;
-pub use running::{out_of_memory, run_over};
-pub use streams::{answer, has_words, run_streams};
+pub use opening::{Opener, Refusal, Unopened, open_texts, unopened_line};
+pub use program::{run_program, run_words};
+pub use running::{out_of_memory, run_files, run_over};
+pub use words::words_of;

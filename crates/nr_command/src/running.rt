@@ -1,11 +1,13 @@
 // A run of the program over given streams.
-ghost use Rattle.std.specs.Prelude.{◌≡◌, ◌≢◌, ◌↔◌, IsTrue, IsErr, IfOk, OnErr};
+ghost use Rattle.std.specs.Prelude.{◌≡◌, ◌≢◌, ◌↔◌, IsTrue, IsErr, IfOk, OnErr, map};
 ghost use Rattle.nr_engine.specs.declared.outcome.Outcome.{Outcome};
 ghost use Rattle.nr_command.specs.Faults.{Tells, line_of};
-ghost use Rattle.nr_command.specs.Running.{Ran, status_of, memory_line};
+ghost use Rattle.nr_words.specs.Files.{files_supply};
+ghost use Rattle.nr_command.specs.Running.{Comes, Ran, status_of, memory_line};
 
 use super::faults::fault_line;
 use nr_engine::{Desk, Fault, Options, Outcome, Sink, Source, format};
+use nr_words::chain;
 use std::alloc::AllocError;
 
 #[cfg(test)]
@@ -29,7 +31,7 @@ pub fn run_over<R: Source, W: Sink, E: Sink>(
 ) -> u8
     // The status and the line tell the outcome of the run.
     ensures ran { IfOk desk (λ limits. (outcome : Outcome)
-        × Ran limits (R.supply input.old) (R.failures input.old) (R.failures input.new)
+        × Ran limits options.now (R.supply input.old) (R.failures input.old) (R.failures input.new)
         (W.held output.old) (W.held output.new) (W.failures output.old) (W.failures output.new) outcome
         × (result ≡ status_of outcome)
         × Tells (E.held errors.old) (E.held errors.new) (E.failures errors.old) (E.failures errors.new) (line_of outcome)) }
@@ -50,6 +52,27 @@ pub fn run_over<R: Source, W: Sink, E: Sink>(
     }
 }
 
+/// Formats files within the desk, one after the other, each with a newline behind it where it is not empty
+/// and has none at its end. All else is as with `run_over`.
+pub fn run_files<F: Source, W: Sink, E: Sink>(
+    desk: Result<Desk, AllocError>,
+    options: &Options,
+    files: &mut [F],
+    output: &mut W,
+    errors: &mut E,
+) -> u8
+    ensures ran { IfOk desk (λ limits. Comes limits options.now (files_supply (map F.supply files.old))
+        (W.held output.old) (W.held output.new) (W.failures output.old) (W.failures output.new)
+        (E.held errors.old) (E.held errors.new) (E.failures errors.old) (E.failures errors.new) result) }
+    ensures quiet { result ≡ 0 → errors.new ≡ errors.old }
+    ensures passed_on { result ≢ 4 → result ≢ 5 → IsTrue (W.passed_on output.new) }
+    ensures refused { (result ≡ 5) ↔ IsErr desk }
+    ensures told { OnErr desk (Tells (E.held errors.old) (E.held errors.new) (E.failures errors.old) (E.failures errors.new) memory_line) }
+{
+    let mut input = chain(files);
+    run_over(desk, options, &mut input, output, errors)
+}
+
 /// Formats the input within the desk, and flushes the output.
 fn run_desk<R: Source, W: Sink>(
     desk: &mut Desk,
@@ -57,7 +80,7 @@ fn run_desk<R: Source, W: Sink>(
     input: &mut R,
     output: &mut W,
 ) -> Outcome
-    ensures ran { Ran desk.old (R.supply input.old) (R.failures input.old) (R.failures input.new)
+    ensures ran { Ran desk.old options.now (R.supply input.old) (R.failures input.old) (R.failures input.new)
         (W.held output.old) (W.held output.new) (W.failures output.old) (W.failures output.new) result }
     ensures passed_on { result ≢ Outcome.WriteFault → IsTrue (W.passed_on output.new) }
 {

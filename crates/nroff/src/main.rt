@@ -1,12 +1,11 @@
-// nroff: formats standard input for a terminal, to standard output.
+// nroff: formats text for a terminal, to standard output.
 #![tactic(auto)]
 
-use nr_command::{has_words, run_streams};
+use nr_command::run_program;
 use std::process::ExitCode;
 
-/// Formats standard input to standard output under the default limits. It takes no words yet.
+/// Formats the files that its words name, or standard input, to standard output.
 fn main(rt: HostRuntime) -> ExitCode {
-    let words = has_words(&rt);
-    let status = run_streams(rt.alloc(), words, rt.reader(), rt.stdout(), rt.stderr());
+    let status = run_program(&rt, rt.alloc(), rt.stdin(), rt.stdout(), rt.stderr());
     ExitCode::from(status)
 }
