@@ -33,7 +33,7 @@ loop-choice-preserved c =
     let fits : FitsSigned w64 r.1 = search rules in
     let given : Chooses (Register r.0 (to_z w64 (of_z w64 r.1))) (shape c.loop-choice.self) (shape c.set_register.new.self) (Ok tt) = c.in-Ok.ensures in
     let does : Chooses (Register r.0 r.1) (shape c.loop-choice.self) (shape c.set_register.new.self) (Ok tt) =
-        subst (λ (k : ℤ). Chooses (Register r.0 k) (shape c.loop-choice.self) (shape c.set_register.new.self) (Ok tt)) (to_z-of_z w64 r.1 fits) given in
+    subst (λ (k : ℤ). Chooses (Register r.0 k) (shape c.loop-choice.self) (shape c.set_register.new.self) (Ok tt)) (to_z-of_z w64 r.1 fits) given in
     record {
       items = now.items;
       moves = omega (arith, now.moves);
@@ -47,13 +47,13 @@ returns-in-Err-clause-chooses c =
     let fits : FitsSigned w64 r.1 = search rules in
     let given : Chooses (Register r.0 (to_z w64 (of_z w64 r.1))) (shape c.loop-choice.self) (shape c.set_register.new.self) (Err c.in-Err.outcome) = c.in-Err.ensures in
     let does : Chooses (Register r.0 r.1) (shape c.loop-choice.self) (shape c.set_register.new.self) (Err c.in-Err.outcome) =
-        subst (λ (k : ℤ). Chooses (Register r.0 k) (shape c.loop-choice.self) (shape c.set_register.new.self) (Err c.in-Err.outcome)) (to_z-of_z w64 r.1 fits) given in
+    subst (λ (k : ℤ). Chooses (Register r.0 k) (shape c.loop-choice.self) (shape c.set_register.new.self) (Err c.in-Err.outcome)) (to_z-of_z w64 r.1 fits) given in
     record {
-  chooses = λ supply held s h. register_halts c.as_slice-choice-items.result.now c.loop-choice.choice-index c.loop-choice.moves (0, pos 0) supply held s (shape c.loop-choice.self) c.loop-choice-test.true (c.loop-choice.invariant.made supply held s h) (shape c.set_register.new.self) c.in-Err.outcome does;
-  stays = tt;
-  reads = ap is_read_fault c.in-Err.ensures.0;
-  writes = ap is_write_fault c.in-Err.ensures.0;
-}
+      chooses = λ supply held s h. register_halts c.as_slice-choice-items.result.now c.loop-choice.choice-index c.loop-choice.moves (0, pos 0) supply held s (shape c.loop-choice.self) c.loop-choice-test.true (c.loop-choice.invariant.made supply held s h) (shape c.set_register.new.self) c.in-Err.outcome does;
+      stays = tt;
+      reads = ap is_read_fault c.in-Err.ensures.0;
+      writes = ap is_write_fault c.in-Err.ensures.0;
+    }
 
 pub returns-clause-chooses : goal.returns-clause-chooses
 returns-clause-chooses c = record {
