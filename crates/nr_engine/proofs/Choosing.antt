@@ -139,10 +139,10 @@ module _ (c : Choice) (cs : List Choice) (supply : Option Supply) (held : Option
   pub choice_halts : (f : Shape) (outcome : Outcome) → Chooses c e f (Err outcome) → Halts t 0 outcome held held
   choice_halts f outcome does =
       let over : (next c cs t).formatter.store.limit < charge_of (next c cs t).formatter.store =
-          subst (λ (x : Formatter). x.store.limit < charge_of x.store) of_formatter
-          (subst (λ k. k < charge_of (choose c e.formatter).store) (sym (ap (λ x. x.store.limit) (chosen c e.formatter).is)) (does.1 h.stands.within.formatter)) in
+      subst (λ (x : Formatter). x.store.limit < charge_of x.store) of_formatter
+      (subst (λ k. k < charge_of (choose c e.formatter).store) (sym (ap (λ x. x.store.limit) (chosen c e.formatter).is)) (does.1 h.stands.within.formatter)) in
       let stops : Stops t (Limit Stored e.place.taken) =
-          (subst (λ k. PassesBy k t Stored) (sym (works t c cs h.stands.chosen_is)) (ap passed same ∙ passed_stored (next c cs t) over), h.stands.coming.taken) in
+      (subst (λ k. PassesBy k t Stored) (sym (works t c cs h.stands.chosen_is)) (ap passed same ∙ passed_stored (next c cs t) over), h.stands.coming.taken) in
       subst (λ o. Halts t 0 o held held) (sym does.0) (halts_here t (Limit Stored e.place.taken) held held stops (Keeps-refl held))
 
 -- ---- the registers, one after another

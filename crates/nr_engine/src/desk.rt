@@ -82,23 +82,23 @@ impl Model for Desk {
     ghost view = { λ d. d.limits };
 
     ghost invariant = { λ d. HasSizes d.limits (record {
-        elements = vec_len d.elements;
-        slots = vec_len d.slots;
-        names = vec_len d.names;
-        drafts = vec_len d.drafts;
-        frames = vec_len d.frames;
-        bytes = vec_len d.bytes;
-        places = vec_len d.places;
-        gathering = vec_len d.gathering;
-        registers = vec_len d.registers;
-        traps = vec_len d.traps;
-        words = vec_len d.words;
-        cells = vec_len d.cells;
-        pieces = vec_len d.pieces;
-        row = vec_len d.row;
-        page_cells = vec_len d.page_cells;
-        page_texts = vec_len d.page_texts;
-        page_rows = vec_len d.page_rows;
+      elements = vec_len d.elements;
+      slots = vec_len d.slots;
+      names = vec_len d.names;
+      drafts = vec_len d.drafts;
+      frames = vec_len d.frames;
+      bytes = vec_len d.bytes;
+      places = vec_len d.places;
+      gathering = vec_len d.gathering;
+      registers = vec_len d.registers;
+      traps = vec_len d.traps;
+      words = vec_len d.words;
+      cells = vec_len d.cells;
+      pieces = vec_len d.pieces;
+      row = vec_len d.row;
+      page_cells = vec_len d.page_cells;
+      page_texts = vec_len d.page_texts;
+      page_rows = vec_len d.page_rows;
     }) };
 }
 

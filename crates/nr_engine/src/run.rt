@@ -270,7 +270,15 @@ fn run_in<'a, R: Source, W: Sink>(
         words,
     };
     let mut engine = Engine::over(
-        limits, memory, cells, pieces, row, page_cells, page_texts, page_rows, &options.select,
+        limits,
+        memory,
+        cells,
+        pieces,
+        row,
+        page_cells,
+        page_texts,
+        page_rows,
+        &options.select,
     );
     *moves = 0;
     match engine.choose(options, moves) {
