@@ -85,8 +85,21 @@ told_spends p q f v r e idle task pays fewer =
     let owed_before : owed_by_event f.event + owed_by_task f.task f.reader.half ≡ 0 = rw (idle, task) refl in
     let behind : weight_of_agenda e f.task f.step ≡ weight_of_agenda e tasks.Read f.step = rw task refl in
     let owed_behind : owed_by_task f.task r.half ≡ 0 = rw task refl in
-    omega (arith, before, owed_before, behind, owed_behind, pays.pays w (omega arith), event_paid e f.step, blanks_paid e (blanks_owed f.reader.half) (blanks_owed r.half) pays.lead,
-    same_count v.building, same_count f.store.building, fewer, times w p.taken, times w q.taken)
+    omega (
+      arith,
+      before,
+      owed_before,
+      behind,
+      owed_behind,
+      pays.pays w (omega arith),
+      event_paid e f.step,
+      blanks_paid e (blanks_owed f.reader.half) (blanks_owed r.half) pays.lead,
+      same_count v.building,
+      same_count f.store.building,
+      fewer,
+      times w p.taken,
+      times w q.taken,
+    )
 
 -- what was under way is gone on with
 pub resumed_spends : (p q : Reached) (f g : Formatter) (v : Stored Resume) (r : Reader) (k : Resume) → f.event ≡ events.Nothing → f.task ≡ tasks.Read
