@@ -1,5 +1,5 @@
 -- What goes into a diversion leaves fewer moves to come.
-use Rattle.std.proofs.Common.{◌≡◌, ℕ, ◌+◌, ◌-◌, ◌*◌, ◌<◌, ◌≤◌, Bool, true, false, if◌then◌else◌, List, [], ◌∷◌, ◌++◌, length, drop, min, replicate, Option, None, Some, Result, Ok, Err, OnOk, refl, ap, sym, subst, arith, length-drop}
+use Rattle.std.proofs.Common.{◌≡◌, ℕ, ◌+◌, ◌<◌, ◌≤◌, Bool, true, false, if◌then◌else◌, List, [], ◌∷◌, ◌++◌, length, min, replicate, Option, None, Some, Result, Ok, Err, OnOk, refl, ap, sym, subst, arith, length-drop}
 use Rattle.std.specs.List.{fold}
 use Rattle.std.specs.Option.{option_map}
 use Rattle.nr_units.specs.declared.cell.Cell.{Cell}

@@ -1,16 +1,16 @@
 -- What is held of a row that goes into a diversion, once more cells came.
-use Rattle.std.proofs.Common.{◌≡◌, ℕ, ◌+◌, ◌-◌, ◌^◌, ◌<◌, ◌≤◌, min, Bool, true, false, List, [], ◌∷◌, ◌++◌, length, map, replicate, Result, Ok, Err, refl, ap, ap₂, sym, ◌∙◌, append_assoc, arith, length-append, inl, inr}
+use Rattle.std.proofs.Common.{◌≡◌, ℕ, ◌+◌, ◌-◌, ◌^◌, ◌<◌, min, Bool, true, false, List, [], ◌∷◌, ◌++◌, length, map, replicate, Result, Err, refl, ap, ap₂, sym, ◌∙◌, append_assoc, arith, length-append, inl, inr}
 use Rattle.std.proofs.lemmas.Bool.{cases_lt}
 use Rattle.std.proofs.lemmas.List.{append-nil, length-replicate, map-append, replicate-append-replicate, replicate_more}
 use Rattle.nr_units.specs.Cells.{blank, is_blank, trimmed}
 use Rattle.nr_units.specs.declared.cell.Cell.{Cell}
 use Rattle.nr_store.specs.declared.element.Element.TheVariants as elements
 use Rattle.nr_store.specs.declared.refusal.StoredBytes.{StoredBytes}
-use Rattle.nr_store.proofs.Building.{affordable, unaffordable}
+use Rattle.nr_store.proofs.Building.{affordable}
 use Rattle.nr_store.specs.Stored.{Stored, Built, afforded, charge_of, on_newest, longer, diverted, diverted_end}
 use Rattle.nr_formatter.specs.declared.tasks.Resume.{Resume}
 use Rattle.nr_formatter.specs.DiversionRows.{plain, diverted_cells, with_cells, HoldsRow}
-use Rattle.nr_formatter.proofs.DivertedRows.{share, share-le, share-add, with_cells-with_cells, with_cells-nothing, charge_of-with_cells, share-with_cells, diverted_end-with_cells, charge_of-diverted-le, trimmed-blanks, trimmed-some, plain-blank, plain-some, plain-blanks}
+use Rattle.nr_formatter.proofs.DivertedRows.{share, share-le, with_cells-with_cells, with_cells-nothing, charge_of-with_cells, diverted_end-with_cells, charge_of-diverted-le, trimmed-blanks, trimmed-some, plain-blank, plain-some, plain-blanks}
 
 pub holds_nothing : (v : Stored Resume) → HoldsRow v [] v 0 false
 holds_nothing v = record {

@@ -1,6 +1,6 @@
 -- The rows that go into a diversion. (CSTR 54, section 7.4.)
 use Rattle.std.specs.Prelude.{◌≡◌, ℕ, ◌<◌, ◌^◌, ◌-◌, min, Bool, true, false, if◌then◌else◌, List, [], ◌++◌, map, replicate}
-use Rattle.std.proofs.Common.{sym, ◌∙◌, append_assoc, subst}
+use Rattle.std.proofs.Common.{sym, append_assoc, subst}
 use Rattle.std.proofs.lemmas.List.{append-nil}
 use Rattle.nr_units.specs.Cells.{blank, is_blank, trimmed}
 use Rattle.nr_units.specs.declared.cell.Cell.{Cell}

@@ -1,6 +1,4 @@
-use Rattle.std.proofs.Common.{◌≡◌, [], OnOk, rules, ◌∙◌}
-use Rattle.nr_store.specs.Stored.{diverted}
-use Rattle.nr_formatter.specs.DiversionRows.{diverted_cells}
+use Rattle.std.proofs.Common.{[], rules, ◌∙◌}
 use Rattle.nr_formatter.specs.Lines.{row_of}
 use Rattle.nr_formatter.proofs.HeldRows.{holds_nothing}
 use Rattle.nr_formatter.proofs.diversion_row.divert_going.Goals as goal
