@@ -50,7 +50,7 @@ impl<'a> Formatter<'a> {
     /// What was under way is gone on with, behind the text of a sprung macro.
     pub fn resume(&mut self, resume: Resume)
         ensures is { self.new ≡ resumed resume self.old }
-        ensures falls { self.old.event ≡ events.Nothing → self.old.task ≡ tasks.Read → Falls 0 (256 * 254) self.old self.new }
+        ensures falls { self.old.event ≡ events.Nothing → self.old.task ≡ tasks.Read → Falls 0 510 self.old self.new }
     {
         self.reader.stand(resume.standing);
         self.reader.set_line(resume.line.as_slice());
