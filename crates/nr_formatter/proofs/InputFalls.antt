@@ -1,6 +1,6 @@
 -- What may still come where a text is sprung or given, behind its end, and where there is room for what is read.
 use Rattle.std.specs.Prelude.{is_some}
-use Rattle.std.proofs.Common.{◌≡◌, ℕ, ◌+◌, ◌-◌, ◌*◌, ◌≤◌, List, true, Option, None, Some, refl, arith}
+use Rattle.std.proofs.Common.{◌≡◌, ℕ, ◌+◌, ◌-◌, ◌≤◌, List, true, Option, None, Some, refl, arith}
 use Rattle.nr_store.specs.declared.element.Element.{Element}
 use Rattle.nr_tables.specs.Named.{find}
 use Rattle.nr_store.specs.Stored.{words}

@@ -1,4 +1,4 @@
-use Rattle.std.proofs.Common.{◌*◌, rules}
+use Rattle.std.proofs.Common.{rules}
 use Rattle.nr_formatter.specs.Springing.{resumed}
 use Rattle.nr_formatter.proofs.Falling.{falls-is}
 use Rattle.nr_formatter.proofs.InputFalls.{falls-resumed}
