@@ -1,6 +1,6 @@
 //! Sprung macros: their text comes before the rest of the input, and behind it what was under way is gone on with.
 //! (CSTR 54, section 7.5)
-ghost use Rattle.std.specs.Prelude.{◌≡◌, ◌*◌, true, Some, OnOk};
+ghost use Rattle.std.specs.Prelude.{◌≡◌, true, Some, OnOk};
 ghost use Rattle.nr_reading.specs.declared.event.Event.TheVariants as events;
 ghost use Rattle.nr_formatter.specs.declared.tasks.Task.TheVariants as tasks;
 ghost use Rattle.nr_formatter.specs.Limits.{IsWithin};
