@@ -17,7 +17,7 @@ use Rattle.nr_formatter.proofs.TaskFalls.{falls-task}
 pub falls-cell : (x : Cell) (f : Formatter) → f.event ≡ events.DivertedCell x → Falls 1 0 f (done f)
 unfolding steps_left owed
 falls-cell x f is =
-    let agenda : weight_of_agenda f.event f.task f.step ≡ 400 + weight_of_task f.task f.step = rw is refl in
+    let agenda : weight_of_agenda f.event f.task f.step ≡ 19 + weight_of_task f.task f.step = rw is refl in
     falls-kept 1 0 f (done f) (record { levels = refl; limit = refl; burst = refl; most = refl }) (omega arith) (omega arith)
 
 -- a diverted line goes out

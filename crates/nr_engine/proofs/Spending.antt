@@ -1,5 +1,5 @@
 -- What a move that reads costs.
-use Rattle.std.proofs.Common.{◌≡◌, ℕ, ◌+◌, ◌-◌, ◌*◌, ◌≤◌, List, [], ◌∷◌, Option, None, Some, refl, arith, mul_assoc}
+use Rattle.std.proofs.Common.{◌≡◌, ℕ, ◌+◌, ◌-◌, ◌*◌, ◌≤◌, List, [], ◌∷◌, Option, None, Some, refl, arith}
 use Rattle.std.proofs.lemmas.List.Sums.{sum_by-cons}
 use Rattle.nr_store.specs.declared.element.Diversion.{Diversion}
 use Rattle.nr_reading.specs.declared.event.Event.{Event}
@@ -19,11 +19,11 @@ use Rattle.nr_formatter.specs.declared.tasks.Task.TheVariants as tasks
 
 -- a blank of a line's beginning is told out of the blanks that are owed
 abbrev lead_of : Event → ℕ
-lead_of events.Lead = 32
+lead_of events.Lead = 178
 lead_of e = 0
 
 -- what is told weighs no more than what the move pays for it
-event_paid : (e : Event) (s : Step) → weight_of_agenda e tasks.Read s + 256 * owed_by_event e + 1 ≤ 4 + 256 * (cost_of_event e + lead_of e)
+event_paid : (e : Event) (s : Step) → weight_of_agenda e tasks.Read s + owed_by_event e + 1 ≤ 4 + cost_of_event e + lead_of e
 event_paid events.Nothing s = omega arith
 event_paid events.Over s = omega arith
 event_paid events.Empty s = omega arith
@@ -57,7 +57,7 @@ event_paid events.Request s = omega arith
 event_paid (events.Judge q) s = omega arith
 
 -- the blanks that are owed
-blanks_paid : (e : Event) (old new : ℕ) → IfLead {K = Resume} (tells.Event e) (new + 1 ≡ old) → 32 * new + lead_of e ≤ 32 * (new - old) + 32 * old
+blanks_paid : (e : Event) (old new : ℕ) → IfLead {K = Resume} (tells.Event e) (new + 1 ≡ old) → 178 * new + lead_of e ≤ 178 * (new - old) + 178 * old
 blanks_paid events.Lead old new h = omega (arith, h)
 blanks_paid e old new h = omega arith
 
@@ -70,14 +70,11 @@ same_count : (bs : List Built) → weight_of_diversions bs ≡ diversions_in bs
 same_count [] = refl
 same_count (b ∷ bs) = omega (arith, sum_by-cons weight_of_built b bs, sum_by-cons diversions_of b bs, same_diversion b.diversion, same_count bs)
 
-times : (w t : ℕ) → 256 * w * t ≡ 256 * (w * t)
-times w t = mul_assoc 256 w t
-
 -- an event is told
 pub told_spends : (p q : Reached) (f : Formatter) (v : Stored Resume) (r : Reader) (e : Event) → f.event ≡ events.Nothing → f.task ≡ tasks.Read
     → Pays f.store p f.reader (tells.Event e) v q r → diversions_in v.building ≤ diversions_in f.store.building
-    → weight q (record f { store = v; reader = r; event = e }) + 1 + 256 * byte_worth f.reader.most f.store.limit * p.taken
-    ≤ weight p f + 256 * byte_worth f.reader.most f.store.limit * q.taken
+    → weight q (record f { store = v; reader = r; event = e }) + 1 + byte_worth f.reader.most f.store.limit * p.taken
+    ≤ weight p f + byte_worth f.reader.most f.store.limit * q.taken
 unfolding weight steps_left owed
 told_spends p q f v r e idle task pays fewer =
     let w = byte_worth f.reader.most f.store.limit in
@@ -97,21 +94,19 @@ told_spends p q f v r e idle task pays fewer =
       same_count v.building,
       same_count f.store.building,
       fewer,
-      times w p.taken,
-      times w q.taken,
     )
 
 -- what was under way is gone on with
 pub resumed_spends : (p q : Reached) (f g : Formatter) (v : Stored Resume) (r : Reader) (k : Resume) → f.event ≡ events.Nothing → f.task ≡ tasks.Read
     → Pays f.store p f.reader (tells.Resume k) v q r → diversions_in v.building ≤ diversions_in f.store.building
-    → Falls 0 65024 (record f { store = v; reader = r }) g
-    → weight q g + 1 + 256 * byte_worth f.reader.most f.store.limit * p.taken ≤ weight p f + 256 * byte_worth f.reader.most f.store.limit * q.taken
+    → Falls 0 510 (record f { store = v; reader = r }) g
+    → weight q g + 1 + byte_worth f.reader.most f.store.limit * p.taken ≤ weight p f + byte_worth f.reader.most f.store.limit * q.taken
 unfolding weight steps_left owed
 resumed_spends p q f g v r k idle task pays fewer falls =
     let w = byte_worth f.reader.most f.store.limit in
     let owed_before : owed_by_event f.event + owed_by_task f.task f.reader.half ≡ 0 = rw (idle, task) refl in
     let owed_behind : owed_by_event f.event + owed_by_task f.task r.half ≡ 0 = rw (idle, task) refl in
-    omega (arith, owed_before, owed_behind, falls.falls q, pays.pays w (omega arith), same_count v.building, same_count f.store.building, fewer, times w p.taken, times w q.taken)
+    omega (arith, owed_before, owed_behind, falls.falls q, pays.pays w (omega arith), same_count v.building, same_count f.store.building, fewer)
 
 -- nothing is to come of the source any more
 pub exit_spends : (w : ℕ) (p : Reached) (f g : Formatter) → Falls 1 0 f g → weight (ended p) g + 1 + w * p.taken ≤ weight p f + w * p.taken

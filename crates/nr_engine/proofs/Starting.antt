@@ -58,14 +58,14 @@ starts b options supply e formatter_is place row page limit select = record {
 
 -- ---- how many moves there may be
 
-first_weight : (b : Bounds) → weights.weight nothing_reached (formatter_at_first b) + 33 ≤ 256 * (expansions_worth b.expansions 0 b.stored + 512)
+first_weight : (b : Bounds) → weights.weight nothing_reached (formatter_at_first b) + 33 ≤ expansions_worth b.expansions 0 b.stored + 512
 unfolding weights.weight owed steps_left
 first_weight b = omega arith
 
 pub starts_light : (b : Bounds) (e : Shape) → e.formatter ≡ formatter_at_first b → e.place ≡ nothing_reached → weight e + 33 ≤ worth e * (e.place.taken + 1)
 starts_light b e formatter_is place = rw (formatter_is, place) (omega (arith, first_weight b))
 
-worth_first : (b : Bounds) (e : Shape) → e.formatter ≡ formatter_at_first b → worth e ≡ 256 * (expansions_worth b.expansions 0 b.stored + 512)
+worth_first : (b : Bounds) (e : Shape) → e.formatter ≡ formatter_at_first b → worth e ≡ expansions_worth b.expansions 0 b.stored + 512
 worth_first b e formatter_is = rw formatter_is refl
 
 expansions-is : (x s : ℕ) → expansions_worth x 0 s ≡ x * (256 * (s + 3))
@@ -79,16 +79,16 @@ starts_small b e stored expansions formatter_is =
     let most = mul-le b.expansions (256 * (b.stored + 3)) (2 ^ 32) (256 * (2 ^ 24 + 3)) expansions (omega (arith, stored)) in
     omega (arith, is, all, most)
 
-few : (x s p d : ℕ) → 256 * (x * (256 * (s + 3)) + 512) ≤ 65536 * (x + 1) * (s + p + d + 4)
+few : (x s p d : ℕ) → x * (256 * (s + 3)) + 512 ≤ 256 * (x + 1) * (s + p + d + 4)
 few x s p d =
     let a : x * (256 * (s + 3)) ≡ 256 * (x * (s + 3)) = grind arith in
     let more = mul-le x (s + 3) x (s + p + d + 4) (omega arith) (omega arith) in
-    let b : 65536 * (x + 1) * (s + p + d + 4) ≡ 65536 * (x * (s + p + d + 4)) + 65536 * (s + p + d + 4) = grind arith in
+    let b : 256 * (x + 1) * (s + p + d + 4) ≡ 256 * (x * (s + p + d + 4)) + 256 * (s + p + d + 4) = grind arith in
     omega (arith, a, more, b)
 
 pub within_moves : (b : Bounds) (e : Shape) (n taken : ℕ) → e.formatter ≡ formatter_at_first b → n ≤ worth e * (taken + 1) → n ≤ moves_a_byte b * (taken + 1)
 within_moves b e n taken formatter_is within =
-    let is = worth_first b e formatter_is ∙ ap (λ k. 256 * (k + 512)) (expansions-is b.expansions b.stored) in
+    let is = worth_first b e formatter_is ∙ ap (λ k. k + 512) (expansions-is b.expansions b.stored) in
     let less : worth e ≤ moves_a_byte b = subst (λ k. k ≤ moves_a_byte b) (sym is) (few b.expansions b.stored b.cells b.depth) in
     let all = mul-le (worth e) (taken + 1) (moves_a_byte b) (taken + 1) less (omega arith) in
     omega (arith, within, all)
@@ -108,7 +108,7 @@ chosen_bound b e f m formatter_is place stays few_moves =
 
 pub few_moves : (b : Bounds) (n taken : ℕ) → n ≤ 33 → n ≤ moves_a_byte b * (taken + 1)
 few_moves b n taken few_enough =
-    let all = mul-le 33 1 (65536 * (b.expansions + 1)) (b.stored + b.cells + b.depth + 4) (omega arith) (omega arith) in
+    let all = mul-le 33 1 (256 * (b.expansions + 1)) (b.stored + b.cells + b.depth + 4) (omega arith) (omega arith) in
     let more = mul-le 33 1 (moves_a_byte b) (taken + 1) (omega (arith, all)) (omega arith) in
     omega (arith, few_enough, more)
 

@@ -44,7 +44,7 @@ bound_more worth m w w' t t' before spent = omega arith
 
 pub worth_same : (e f : Shape) → f.formatter.store.limit ≡ e.formatter.store.limit → f.formatter.reader.most ≡ e.formatter.reader.most → worth f ≡ worth e
 worth_same e f limit most =
-    ap (λ m. 256 * byte_worth m f.formatter.store.limit) most ∙ ap (λ l. 256 * byte_worth e.formatter.reader.most l) limit
+    ap (λ m. byte_worth m f.formatter.store.limit) most ∙ ap (λ l. byte_worth e.formatter.reader.most l) limit
 
 -- the first engine's bound holds still after a move
 pub spent : (first e f : Shape) (m : ℕ) → e.formatter.store.limit ≡ first.formatter.store.limit → e.formatter.reader.most ≡ first.formatter.reader.most

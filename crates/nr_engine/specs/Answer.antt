@@ -117,7 +117,7 @@ Writes s WriteFault old new = BreaksOff s old new
 
 -- How many moves there may be for each byte that is taken, and as many before the first.
 abbrev pub moves_a_byte : Bounds → ℕ
-moves_a_byte b = 65536 * (b.expansions + 1) * (b.stored + b.cells + b.depth + 4)
+moves_a_byte b = 256 * (b.expansions + 1) * (b.stored + b.cells + b.depth + 4)
 
 -- The machine makes n moves from s, and the run stops there as the outcome says.
 pub record Answers (b : Bounds) (s : State) (n : ℕ) (outcome : Outcome) (old new : Option (List ℕ)) : Type 0 where

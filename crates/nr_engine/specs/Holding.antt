@@ -150,7 +150,7 @@ pub record Halts (s : State) (n : ℕ) (outcome : Outcome) (old new : Option (Li
 
 -- what a byte that is taken pays
 abbrev pub worth : Shape → ℕ
-worth e = 256 * byte_worth e.formatter.reader.most e.formatter.store.limit
+worth e = byte_worth e.formatter.reader.most e.formatter.store.limit
 
 -- how many moves may still come before the next byte is taken
 abbrev pub weight : Shape → ℕ

@@ -99,7 +99,7 @@ impl<'a> Engine<'a> {
     /// What was told is acted on then; what a sprung macro interrupted is gone on with.
     fn tell(&mut self, told: Told<Resume>)
         ensures is { shape self.new ≡ record (shape self.old) { formatter = told_formatter told self.old.formatter } }
-        ensures falls { (resume : ResumeValue) → told ≡ tells.Resume resume → self.old.formatter.event ≡ events.Nothing → self.old.formatter.task ≡ tasks.Read → Falls 0 65024 self.old.formatter self.new.formatter }
+        ensures falls { (resume : ResumeValue) → told ≡ tells.Resume resume → self.old.formatter.event ≡ events.Nothing → self.old.formatter.task ≡ tasks.Read → Falls 0 510 self.old.formatter self.new.formatter }
     {
         match told {
             Told::Event(event) => self.formatter.event = event,

@@ -21,7 +21,7 @@ use Rattle.nr_formatter.specs.Weights.{Falls, weight, steps_left, owed, weight_o
 
 -- what is half read, with its blanks
 abbrev pub weight_read : Half → ℕ
-weight_read h = weight_of_half h + 32 * blanks_owed h
+weight_read h = weight_of_half h + 178 * blanks_owed h
 
 pub weight_of_name-le : (name : Option (List ℕ)) → weight_of_name name ≤ 1
 weight_of_name-le None = omega arith
@@ -69,7 +69,7 @@ pub record KeepsInput (f g : Formatter) : Type 0 where
 
 -- where what is half read and owed costs so much more
 pub falls-costing : (cost down up : ℕ) (f g : Formatter) → KeepsInput f g → weight_read g.reader.half + owed g ≤ weight_read f.reader.half + owed f + cost
-    → steps_left g + down ≤ steps_left f + up → Falls down (256 * cost + up) f g
+    → steps_left g + down ≤ steps_left f + up → Falls down (cost + up) f g
 unfolding weight
 falls-costing cost down up f g keeps read left = record {
   limit = keeps.limit;
@@ -82,7 +82,7 @@ falls-costing cost down up f g keeps read left = record {
 
 pub falls-kept : (down up : ℕ) (f g : Formatter) → KeepsInput f g → weight_read g.reader.half + owed g ≤ weight_read f.reader.half + owed f
     → steps_left g + down ≤ steps_left f + up → Falls down up f g
-falls-kept down up f g keeps read left = falls-less down (256 * 0 + up) down up f g (falls-costing 0 down up f g keeps (omega arith) left) (omega arith)
+falls-kept down up f g keeps read left = falls-less down (0 + up) down up f g (falls-costing 0 down up f g keeps (omega arith) left) (omega arith)
 
 -- ---- where a text is spliced
 

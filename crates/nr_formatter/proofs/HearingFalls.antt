@@ -48,7 +48,7 @@ requested-le : (b : Bool) (r : Request) (s : Step) → weight_of_task (if b then
 requested-le true r s = omega arith
 requested-le false r s = omega arith
 
-owed_requested-le : (b : Bool) (r : Request) (h : Half) → owed_by_task (if b then tasks.Break (thens.Act r) else tasks.Act r) h ≤ 68
+owed_requested-le : (b : Bool) (r : Request) (h : Half) → owed_by_task (if b then tasks.Break (thens.Act r) else tasks.Act r) h ≤ 23
 owed_requested-le true r h = omega arith
 owed_requested-le false r h = omega arith
 
@@ -62,7 +62,7 @@ part_blanks : (holds : Bool) → blanks_of_mode (part_mode holds) ≡ 0
 part_blanks true = refl
 part_blanks false = refl
 
-judged_owes : (b : Bool) (t : Task) (h : Half) → weight_read (judged b h) + owed_by_task t (judged b h) ≤ weight_read h + owed_by_task t h + 67
+judged_owes : (b : Bool) (t : Task) (h : Half) → weight_read (judged b h) + owed_by_task t (judged b h) ≤ weight_read h + owed_by_task t h + 22
 judged_owes b (tasks.Room rooms.Title) h = omega (arith, judged_costs b h, part_blanks (answer_of b h.notes))
 judged_owes b (tasks.Room rooms.Line) h = omega (arith, judged_costs b h)
 judged_owes b t h = omega (arith, judged_costs b h)
@@ -80,17 +80,17 @@ falls-control (events.DivertedEnd (Some height)) f is some = falls-heard (events
 falls-control events.Title f is some = falls-heard events.Title (tasks.Room rooms.Title) f is (omega arith) (omega (arith, title_costs f.reader.half))
 falls-control events.TitlePart f is some =
     let g = title_part f in
-    let agenda : weight_of_agenda f.event f.task f.step ≡ 400 + weight_of_task f.task f.step = rw is refl in
+    let agenda : weight_of_agenda f.event f.task f.step ≡ 19 + weight_of_task f.task f.step = rw is refl in
     falls-kept 1 0 f g (record { levels = refl; limit = refl; burst = refl; most = refl }) (omega arith) (omega (arith, part_weighs (collected f).title (collected f)))
 falls-control events.TitleEnd f is some = falls-heard events.TitleEnd tasks.Title f is (omega arith) (omega arith)
 falls-control events.Font f is some =
     let g = font_set f in
-    let agenda : weight_of_agenda f.event f.task f.step ≡ 400 + weight_of_task f.task f.step = rw is refl in
+    let agenda : weight_of_agenda f.event f.task f.step ≡ 19 + weight_of_task f.task f.step = rw is refl in
     falls-kept 1 0 f g (record { levels = refl; limit = refl; burst = refl; most = refl }) (omega arith) (omega arith)
 falls-control (events.Judge q) f is some =
     let g = answered q f in
-    let agenda : weight_of_agenda f.event f.task f.step ≡ 400 + weight_of_task f.task f.step = rw is refl in
-    let event : owed_by_event f.event ≡ 130 = rw is refl in
+    let agenda : weight_of_agenda f.event f.task f.step ≡ 31 + weight_of_task f.task f.step = rw is refl in
+    let event : owed_by_event f.event ≡ 40 = rw is refl in
     falls-kept 1 0 f g (record { levels = refl; limit = refl; burst = refl; most = refl })
     (omega (arith, judged_owes (holds q f) f.task f.reader.half)) (omega arith)
 falls-control events.Request f is some =

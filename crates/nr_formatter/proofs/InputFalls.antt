@@ -1,6 +1,6 @@
 -- What may still come where a text is sprung or given, behind its end, and where there is room for what is read.
 use Rattle.std.specs.Prelude.{is_some}
-use Rattle.std.proofs.Common.{◌≡◌, ℕ, ◌+◌, ◌-◌, ◌*◌, ◌≤◌, List, true, Option, None, Some, refl, arith}
+use Rattle.std.proofs.Common.{◌≡◌, ℕ, ◌+◌, ◌-◌, ◌≤◌, List, true, Option, None, Some, refl, arith}
 use Rattle.nr_store.specs.declared.element.Element.{Element}
 use Rattle.nr_tables.specs.Named.{find}
 use Rattle.nr_store.specs.Stored.{words}
@@ -83,26 +83,26 @@ blanks_stood standings.Leading h = omega arith
 blanks_stood standings.Text h = omega arith
 blanks_stood standings.Continued h = omega arith
 
-owed_by_then-le : (t : Then) → owed_by_then t ≤ 68
+owed_by_then-le : (t : Then) → owed_by_then t ≤ 23
 owed_by_then-le (thens.Act r) = omega arith
 owed_by_then-le thens.Diverted = omega arith
 owed_by_then-le t = omega arith
 
-resumed-costs : (t : Task) (s : Standing) (line : List ℕ) (h : Half) → let k = setting.with_line line (setting.resumed s h) in weight_read k + owed_by_task t k ≤ weight_read h + 231
+resumed-costs : (t : Task) (s : Standing) (line : List ℕ) (h : Half) → let k = setting.with_line line (setting.resumed s h) in weight_read k + owed_by_task t k ≤ weight_read h + 260
 resumed-costs (tasks.Act r) s line h = omega (arith, stand_costs s h)
 resumed-costs (tasks.Break t) s line h = omega (arith, stand_costs s h, owed_by_then-le t)
 resumed-costs (tasks.Room rooms.Line) s line h = omega (arith, stand_costs s h)
 resumed-costs (tasks.Room rooms.Title) s line h = omega (arith, stand_costs s h, title_costs h, blanks_stood s h)
 resumed-costs t s line h = omega (arith, stand_costs s h)
 
-pub falls-resumed : (r : Resume) (f : Formatter) → f.event ≡ events.Nothing → f.task ≡ tasks.Read → Falls 0 (256 * 254) f (resumed r f)
+pub falls-resumed : (r : Resume) (f : Formatter) → f.event ≡ events.Nothing → f.task ≡ tasks.Read → Falls 0 510 f (resumed r f)
 unfolding steps_left owed
 falls-resumed r f none read =
     let g = resumed r f in
     let agenda : weight_of_agenda f.event f.task f.step ≡ 4 = rw (none, read) refl in
     let owes : owed_by_event f.event + owed_by_task f.task f.reader.half ≡ 0 = rw (none, read) refl in
-    falls-less 0 (256 * 231 + 190) 0 (256 * 254) f g
-    (falls-costing 231 0 190 f g (record { levels = refl; limit = refl; burst = refl; most = refl })
+    falls-less 0 (260 + 190) 0 510 f g
+    (falls-costing 260 0 190 f g (record { levels = refl; limit = refl; burst = refl; most = refl })
     (omega (arith, resumed-costs r.task r.standing r.line f.reader.half)) (omega (arith, weight_of_task-le r.task f.step)))
     (omega arith)
 

@@ -58,10 +58,10 @@ use Rattle.nr_formatter.proofs.Views.{StoreView, View, view, view-stored, view-i
 
 -- ---- by what stays
 
--- what a request leaves: it may set up to 68 items to be read, and begin a diversion
+-- what a request leaves: it may set what is read next, for 23 moves, and begin a diversion
 pub record Acts (f g : Formatter) : Type 0 where
   pub input : KeepsInput f g
-  pub read : weight_read g.reader.half ≤ weight_read f.reader.half + 68
+  pub read : weight_read g.reader.half ≤ weight_read f.reader.half + 23
   pub line : weight_of_line (collected g) ≡ weight_of_line (collected f)
   pub diversions : weight_of_diversions g.store.building ≤ weight_of_diversions f.store.building + 1
   pub step : g.step ≡ f.step
@@ -75,7 +75,7 @@ falls-acts r f g none is acts =
     let agenda : weight_of_agenda f.event f.task f.step ≡ 25 = rw (none, is) refl in
     let event : g.event ≡ events.Nothing = acts.event ∙ none in
     let left : weight_of_agenda g.event g.task g.step ≡ weight_of_task g.task g.step = rw event refl in
-    let owes : owed_by_event f.event + owed_by_task f.task f.reader.half ≡ 68 = rw (none, is) refl in
+    let owes : owed_by_event f.event + owed_by_task f.task f.reader.half ≡ 23 = rw (none, is) refl in
     let owes_new : owed_by_event g.event ≡ 0 = rw event refl in
     let step = ap weight_of_step acts.step in
     falls-kept 1 0 f g acts.input (omega (arith, acts.read, acts.owes))
@@ -195,12 +195,12 @@ falls-sp_by (negsuc n) f none is = falls-read requests.Sp f _ none is (view-task
 
 -- ---- definitions
 
-body-le : (d : Due) (e : Escape) → weight_by d (modes.BodyStart 0) e ≤ weight_by d modes.Diverting e + 67
+body-le : (d : Due) (e : Escape) → weight_by d (modes.BodyStart 0) e ≤ weight_by d modes.Diverting e + 22
 body-le dues.Seek e = omega arith
 body-le (dues.Judge b) e = omega arith
 body-le d e = omega arith
 
-defining-le : (h : Half) (name ends : List ℕ) (kept : Bool) → weight_read (defining name ends kept h) ≤ weight_read h + 68
+defining-le : (h : Half) (name ends : List ℕ) (kept : Bool) → weight_read (defining name ends kept h) ≤ weight_read h + 23
 defining-le h name ends kept = omega (arith, body-le h.reading.due h.reading.escape, diverting_costs h)
 
 base-keeps : (d : Definition) (name : List ℕ) (f : Formatter) → KeepsInput f (record f { store = base d name f.store })
@@ -295,7 +295,7 @@ pub falls-ex : (f : Formatter) → f.event ≡ events.Nothing → f.task ≡ tas
 unfolding steps_left owed weight
 falls-ex f none is =
     let agenda : weight_of_agenda f.event f.task f.step ≡ 25 = rw (none, is) refl in
-    let owes : owed_by_event f.event + owed_by_task f.task f.reader.half ≡ 68 = rw (none, is) refl in
+    let owes : owed_by_event f.event + owed_by_task f.task f.reader.half ≡ 23 = rw (none, is) refl in
     record { limit = refl; most = refl; falls = λ p. omega arith }
 
 -- ---- all of them

@@ -1,5 +1,5 @@
 -- What may still come falls by what the work that is left weighs less, where nothing else that is weighed changed.
-use Rattle.std.proofs.Common.{◌≡◌, ◌≤◌, ℕ, ◌+◌, ◌*◌, true, List, Option, Result, Ok, Err, refl, ap, sym, subst, ◌∙◌, arith}
+use Rattle.std.proofs.Common.{◌≡◌, ◌≤◌, ℕ, ◌+◌, ◌*◌, List, Option, Result, Ok, Err, refl, ap, sym, subst, ◌∙◌, arith}
 use Rattle.std.specs.Prelude.{OnOk}
 use Rattle.nr_store.specs.Stored.{Stored}
 use Rattle.nr_reading.specs.declared.event.Event.{Event}
@@ -13,9 +13,8 @@ use Rattle.nr_formatter.specs.declared.tasks.Resume.{Resume}
 use Rattle.nr_formatter.specs.declared.tasks.Step.{Step}
 use Rattle.nr_formatter.specs.declared.tasks.Task.{Task}
 use Rattle.nr_formatter.specs.Access.{collected}
-use Rattle.nr_formatter.specs.Moves.{is_text}
 use Rattle.nr_formatter.specs.Places.{page_outlet}
-use Rattle.nr_formatter.specs.Weights.{weight_of_line, weight_of_outlet, weight_of_diversions, weight_of_name, weight_of_step, weight_of_task, weight_of_agenda, steps_left, owed_by_event, owed_by_task, owed, weight, Falls}
+use Rattle.nr_formatter.specs.Weights.{weight_of_line, weight_of_outlet, weight_of_diversions, weight_of_name, weight_of_step, weight_of_task, weight_of_event, weight_of_agenda, steps_left, owed_by_event, owed_by_task, owed, weight, Falls}
 
 -- what is weighed beside the work that is left
 pub record Rest : Type 0 where
@@ -42,7 +41,7 @@ rest_of f = record {
 
 weight_of_rest : Reached → Rest → ℕ
 weight_of_rest p r =
-    256 * (256 * (items_left r.store.levels + newline_left p.inside) + expansions_worth r.most r.burst r.store.limit + r.half + 32 * r.blanks)
+    256 * (items_left r.store.levels + newline_left p.inside) + expansions_worth r.most r.burst r.store.limit + r.half + 178 * r.blanks
     + weight_of_name r.springs + weight_of_outlet (page_outlet r.paper.state r.paper.place r.page_length) + weight_of_diversions r.store.building
 
 -- what is under way, the line, and the step of the end
@@ -53,7 +52,7 @@ weight_of_work f = weight_of_agenda f.event f.task f.step + weight_of_line (coll
 abbrev pub owed_by_work : Formatter → ℕ
 owed_by_work f = owed_by_event f.event + owed_by_task f.task f.reader.half
 
-weight-parts : (p : Reached) (f : Formatter) → weight p f ≡ weight_of_rest p (rest_of f) + 256 * owed_by_work f + weight_of_work f
+weight-parts : (p : Reached) (f : Formatter) → weight p f ≡ weight_of_rest p (rest_of f) + owed_by_work f + weight_of_work f
 unfolding weight owed steps_left weight_of_rest
 weight-parts p f = omega arith
 
@@ -82,32 +81,20 @@ falls-on_ok down up f g h (Err e) is falls = tt
 
 -- ---- text was heard
 
-weight-text_agenda : (e : Event) (t : Task) (s : Step) → is_text e ≡ true → weight_of_agenda e t s ≡ 400 + weight_of_task t s
-weight-text_agenda events.Lead t s is = refl
-weight-text_agenda (events.Byte b) t s is = refl
-weight-text_agenda (events.Cell x) t s is = refl
-weight-text_agenda (events.Plain b) t s is = refl
-weight-text_agenda events.Fixed t s is = refl
-weight-text_agenda events.Zero t s is = refl
-weight-text_agenda events.Percent t s is = refl
-weight-text_agenda events.BreakWord t s is = refl
-weight-text_agenda events.Tab t s is = refl
-weight-text_agenda events.Leader t s is = refl
-weight-text_agenda events.Special t s is = refl
-weight-text_agenda events.Horizontal t s is = refl
-weight-text_agenda events.Rule t s is = refl
-weight-text_agenda events.EndLine t s is = refl
-weight-text_agenda events.EndContinued t s is = refl
-weight-text_agenda e t s is = cc
+-- what was told is acted on before what is under way
+weight-agenda : (e : Event) (t : Task) (s : Step) → 1 ≤ weight_of_event e → weight_of_agenda e t s ≡ weight_of_event e + weight_of_task t s
+weight-agenda events.Nothing t s some = let wrong : ⊥ = omega (arith, some) in absurd wrong
+weight-agenda events.Over t s some = let wrong : ⊥ = omega (arith, some) in absurd wrong
+weight-agenda e t s some = refl
 
 -- it is acted on by another task, or none
-pub falls-heard_for : (f g : Formatter) → rest_of g ≡ rest_of f → is_text f.event ≡ true → g.event ≡ events.Nothing → g.step ≡ f.step → weight_of_task g.task g.step ≤ weight_of_task f.task f.step + 190 → owed_by_task g.task g.reader.half ≤ owed_by_task f.task f.reader.half → weight_of_line (collected g) ≤ weight_of_line (collected f) + 176 → Falls 1 0 f g
-falls-heard_for f g rest is event step task owes line =
+pub falls-heard_for : (more longer : ℕ) (f g : Formatter) → rest_of g ≡ rest_of f → more + longer + 1 ≤ weight_of_event f.event → g.event ≡ events.Nothing → g.step ≡ f.step → weight_of_task g.task g.step ≤ weight_of_task f.task f.step + more → owed_by_task g.task g.reader.half ≤ owed_by_task f.task f.reader.half → weight_of_line (collected g) ≤ weight_of_line (collected f) + longer → Falls 1 0 f g
+falls-heard_for more longer f g rest enough event step task owes line =
     falls-work 1 0 f g rest (omega (arith, ap owed_by_event event))
-    (omega (arith, weight-text_agenda f.event f.task f.step is, ap (λ e. weight_of_agenda e g.task g.step) event, ap weight_of_step step))
+    (omega (arith, enough, task, line, weight-agenda f.event f.task f.step (omega (arith, enough)), ap (λ e. weight_of_agenda e g.task g.step) event, ap weight_of_step step))
 
-pub falls-heard : (f g : Formatter) → rest_of g ≡ rest_of f → is_text f.event ≡ true → g.event ≡ events.Nothing → g.step ≡ f.step → g.task ≡ f.task → g.reader ≡ f.reader → weight_of_line (collected g) ≤ weight_of_line (collected f) + 176 → Falls 1 0 f g
-falls-heard f g rest is event step task reader line =
+pub falls-heard : (longer : ℕ) (f g : Formatter) → rest_of g ≡ rest_of f → longer + 1 ≤ weight_of_event f.event → g.event ≡ events.Nothing → g.step ≡ f.step → g.task ≡ f.task → g.reader ≡ f.reader → weight_of_line (collected g) ≤ weight_of_line (collected f) + longer → Falls 1 0 f g
+falls-heard longer f g rest enough event step task reader line =
     let weighs : weight_of_task g.task g.step ≡ weight_of_task f.task f.step = cc in
     let owes : owed_by_task g.task g.reader.half ≡ owed_by_task f.task f.reader.half = cc in
-    falls-heard_for f g rest is event step (omega arith) (omega arith) line
+    falls-heard_for 0 longer f g rest (omega (arith, enough)) event step (omega arith) (omega arith) line

@@ -10,7 +10,7 @@ use Rattle.nr_reading.specs.declared.event.Event.TheVariants as events
 use Rattle.nr_reading.specs.declared.half.Half.{Half}
 use Rattle.nr_reading.specs.declared.mode.Mode.TheVariants as modes
 use Rattle.nr_reading.specs.Conditionals.{in_mode}
-use Rattle.nr_reading.specs.Weights.{weight_of_half, blanks_owed}
+use Rattle.nr_reading.specs.Weights.{cost_of_event, weight_of_half, blanks_owed}
 use Rattle.nr_input.specs.Coming.{Reached}
 use Rattle.nr_input.specs.Weights.{weight_before_byte}
 use Rattle.nr_formatter.specs.declared.formatter.Formatter.{Formatter}
@@ -108,11 +108,24 @@ weight_of_task (tasks.Eject e) s = 7
 weight_of_task tasks.Finish s = 2
 weight_of_task tasks.Halted s = 0
 
+-- what an event may set to be read next
+abbrev pub owed_by_event : Event → ℕ
+owed_by_event events.Request = 40
+owed_by_event (events.Judge q) = 40
+owed_by_event events.Title = 40
+owed_by_event events.Diverted = 1
+owed_by_event e = 0
+
+-- What the move that told it has paid for those who act on it. A blank of a line's beginning is paid by those that are owed.
+abbrev pub weight_of_event : Event → ℕ
+weight_of_event events.Lead = 177
+weight_of_event e = cost_of_event e - (1 + owed_by_event e)
+
 -- what was read is acted on before what is under way goes on; the end of the input takes the place of it
 abbrev pub weight_of_agenda : Event → Task → Step → ℕ
 weight_of_agenda events.Nothing t s = weight_of_task t s
 weight_of_agenda events.Over t s = 3
-weight_of_agenda e t s = 400 + weight_of_task t s
+weight_of_agenda e t s = weight_of_event e + weight_of_task t s
 
 -- the moves that come before more is read
 unfoldable pub steps_left : Formatter → ℕ
@@ -123,31 +136,24 @@ steps_left f =
 -- ---- what may be set to be read next
 
 abbrev pub owed_by_then : Then → ℕ
-owed_by_then (thens.Act r) = 68
+owed_by_then (thens.Act r) = 23
 owed_by_then thens.Diverted = 1
 owed_by_then t = 0
 
 abbrev pub owed_by_task : Task → Half → ℕ
-owed_by_task (tasks.Act r) h = 68
+owed_by_task (tasks.Act r) h = 23
 owed_by_task (tasks.Break t) h = owed_by_then t
 owed_by_task (tasks.Room rooms.Line) h = 1
 owed_by_task (tasks.Room rooms.Title) h = weight_of_half (in_mode modes.TitleBefore h) - weight_of_half h
 owed_by_task t h = 0
 
-abbrev pub owed_by_event : Event → ℕ
-owed_by_event events.Request = 130
-owed_by_event (events.Judge q) = 130
-owed_by_event events.Title = 130
-owed_by_event events.Diverted = 1
-owed_by_event e = 0
-
 unfoldable pub owed : Formatter → ℕ
 owed f = owed_by_event f.event + owed_by_task f.task f.reader.half
 
--- ---- all of it: what is read is worth 256 moves for one
+-- ---- all of it
 
 unfoldable pub weight : Reached → Formatter → ℕ
-weight p f = 256 * (weight_before_byte f.store p f.reader + 32 * blanks_owed f.reader.half + owed f) + steps_left f
+weight p f = weight_before_byte f.store p f.reader + 178 * blanks_owed f.reader.half + owed f + steps_left f
 
 -- What may still come fell by so many moves, but for so many that it rose by; what may come behind a byte stays.
 pub record Falls (down up : ℕ) (f g : Formatter) : Type 0 where

@@ -1,6 +1,6 @@
 //! Sprung macros: their text comes before the rest of the input, and behind it what was under way is gone on with.
 //! (CSTR 54, section 7.5)
-ghost use Rattle.std.specs.Prelude.{◌≡◌, ◌*◌, true, Some, OnOk};
+ghost use Rattle.std.specs.Prelude.{◌≡◌, true, Some, OnOk};
 ghost use Rattle.nr_reading.specs.declared.event.Event.TheVariants as events;
 ghost use Rattle.nr_formatter.specs.declared.tasks.Task.TheVariants as tasks;
 ghost use Rattle.nr_formatter.specs.Limits.{IsWithin};
@@ -50,7 +50,7 @@ impl<'a> Formatter<'a> {
     /// What was under way is gone on with, behind the text of a sprung macro.
     pub fn resume(&mut self, resume: Resume)
         ensures is { self.new ≡ resumed resume self.old }
-        ensures falls { self.old.event ≡ events.Nothing → self.old.task ≡ tasks.Read → Falls 0 (256 * 254) self.old self.new }
+        ensures falls { self.old.event ≡ events.Nothing → self.old.task ≡ tasks.Read → Falls 0 510 self.old self.new }
     {
         self.reader.stand(resume.standing);
         self.reader.set_line(resume.line.as_slice());

@@ -38,7 +38,7 @@ use Rattle.nr_input.proofs.Spending.{Opens, opened, idle-le}
 -- ---- modes that are set
 
 -- whatever mode it was, with a `\` that is begun or not
-mode-ge : (m : Mode) → 131 ≤ weight_of_mode m + weight_of_backslash m
+mode-ge : (m : Mode) → 155 ≤ weight_of_mode m + weight_of_backslash m
 mode-ge modes.Text = omega arith
 mode-ge modes.Interrupted = omega arith
 mode-ge modes.Continued = omega arith
@@ -49,33 +49,33 @@ mode-ge modes.Diverted = omega arith
 mode-ge m = omega arith
 
 -- in another mode that weighs so much, and so much with a `\`
-in_mode-le : (d : Due) (m k : Mode) (e : Escape) (w : ℕ) → weight_of_mode k ≤ w → weight_of_mode k + weight_of_backslash k ≤ w + 131 → held_by_mode k ≡ 0 → weight_by d k e ≤ weight_by d m e + w
+in_mode-le : (d : Due) (m k : Mode) (e : Escape) (w : ℕ) → weight_of_mode k ≤ w → weight_of_mode k + weight_of_backslash k ≤ w + 155 → held_by_mode k ≡ 0 → weight_by d k e ≤ weight_by d m e + w
 in_mode-le dues.Seek m k e w few begun none = omega arith
 in_mode-le (dues.Judge b) m k e w few begun none = omega arith
 in_mode-le d m k escapes.Begun w few begun none = omega (arith, mode-ge m)
 in_mode-le d m k e w few begun none = omega arith
 
-pub title_costs : (h : Half) → CostsAtMost 130 h (in_mode modes.TitleBefore h)
-title_costs h = omega (arith, in_mode-le h.reading.due h.reading.mode modes.TitleBefore h.reading.escape 130 (omega arith) (omega arith) refl)
+pub title_costs : (h : Half) → CostsAtMost 40 h (in_mode modes.TitleBefore h)
+title_costs h = omega (arith, in_mode-le h.reading.due h.reading.mode modes.TitleBefore h.reading.escape 40 (omega arith) (omega arith) refl)
 
 pub diverting_costs : (h : Half) → CostsAtMost 1 h (in_mode modes.Diverting h)
 diverting_costs h = omega (arith, in_mode-le h.reading.due h.reading.mode modes.Diverting h.reading.escape 1 (omega arith) (omega arith) refl)
 
-pub stand_costs : (s : Standing) (h : Half) → CostsAtMost 163 h (resumed s h)
-stand_costs standings.Start h = omega (arith, in_mode-le h.reading.due h.reading.mode modes.Start h.reading.escape 66 (omega arith) (omega arith) refl)
-stand_costs standings.Leading h = omega (arith, in_mode-le h.reading.due h.reading.mode (modes.Leading 1) h.reading.escape 131 (omega arith) (omega arith) refl)
-stand_costs standings.Text h = omega (arith, in_mode-le h.reading.due h.reading.mode modes.Text h.reading.escape 130 (omega arith) (omega arith) refl)
-stand_costs standings.Continued h = omega (arith, in_mode-le h.reading.due h.reading.mode modes.Continued h.reading.escape 131 (omega arith) (omega arith) refl)
+pub stand_costs : (s : Standing) (h : Half) → CostsAtMost 219 h (resumed s h)
+stand_costs standings.Start h = omega (arith, in_mode-le h.reading.due h.reading.mode modes.Start h.reading.escape 21 (omega arith) (omega arith) refl)
+stand_costs standings.Leading h = omega (arith, in_mode-le h.reading.due h.reading.mode (modes.Leading 1) h.reading.escape 41 (omega arith) (omega arith) refl)
+stand_costs standings.Text h = omega (arith, in_mode-le h.reading.due h.reading.mode modes.Text h.reading.escape 40 (omega arith) (omega arith) refl)
+stand_costs standings.Continued h = omega (arith, in_mode-le h.reading.due h.reading.mode modes.Continued h.reading.escape 41 (omega arith) (omega arith) refl)
 
-part_costs : (holds : Bool) (n : Notes) (h : Half) → CostsAtMost 67 h (in_mode (part_mode holds) (record h { notes = n }))
-part_costs true n h = omega (arith, in_mode-le h.reading.due h.reading.mode modes.Accepted h.reading.escape 67 (omega arith) (omega arith) refl)
-part_costs false n h = omega (arith, in_mode-le h.reading.due h.reading.mode (modes.Skip 0) h.reading.escape 67 (omega arith) (omega arith) refl)
+part_costs : (holds : Bool) (n : Notes) (h : Half) → CostsAtMost 22 h (in_mode (part_mode holds) (record h { notes = n }))
+part_costs true n h = omega (arith, in_mode-le h.reading.due h.reading.mode modes.Accepted h.reading.escape 22 (omega arith) (omega arith) refl)
+part_costs false n h = omega (arith, in_mode-le h.reading.due h.reading.mode (modes.Skip 0) h.reading.escape 22 (omega arith) (omega arith) refl)
 
-pub judged_costs : (b : Bool) (h : Half) → CostsAtMost 67 h (judged b h)
+pub judged_costs : (b : Bool) (h : Half) → CostsAtMost 22 h (judged b h)
 judged_costs b h = part_costs (answer_of b h.notes) (remembering b h).notes h
 
-defining_costs : (h : Half) (name ending : List ℕ) (kept : Bool) → CostsAtMost 68 h (defining name ending kept h)
-defining_costs h name ending kept = omega (arith, in_mode-le h.reading.due h.reading.mode (modes.BodyStart 0) h.reading.escape 68 (omega arith) (omega arith) refl)
+defining_costs : (h : Half) (name ending : List ℕ) (kept : Bool) → CostsAtMost 23 h (defining name ending kept h)
+defining_costs h name ending kept = omega (arith, in_mode-le h.reading.due h.reading.mode (modes.BodyStart 0) h.reading.escape 23 (omega arith) (omega arith) refl)
 
 -- ---- definitions whose lines follow
 
@@ -99,7 +99,7 @@ lines_define d name ending v w r s is = beginning_defines (base_answer d name v)
 
 -- ---- splices
 
-splices : {K : Type 0} (v w : Stored K) (r : Reader) (k : Half) → Opens v w → r.burst < r.most → weight_of_half k + 32 * (blanks_owed k - blanks_owed r.half) ≤ weight_of_half r.half + 188
+splices : {K : Type 0} (v w : Stored K) (r : Reader) (k : Half) → Opens v w → r.burst < r.most → weight_of_half k + 178 * (blanks_owed k - blanks_owed r.half) ≤ weight_of_half r.half + 188
     → Splices v r w (record r { half = k; burst = r.burst + 1 })
 splices v w r k opens few weighs =
     let items = opens.items in

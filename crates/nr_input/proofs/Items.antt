@@ -18,7 +18,12 @@ left_of-items (x ∷ xs) old charge resume ls v =
     let before = sum_by-cons items_in (Read (record { rest = x ∷ xs; old = old; charge = charge; resume = resume })) ls in
     let behind = sum_by-cons items_in (Read (record { rest = xs; old = old; charge = charge; resume = resume })) ls in omega arith
 
-pub left_in-items : {K : Type 0} (l : Level K) (ls : List (Level K)) (v : Stored K) → items_left (left_in l ls v).levels + 1 ≡ items_left (l ∷ ls)
+-- what is taken of a level is one item; a mark counts as two
+abbrev pub items_taken : {K : Type 0} → Level K → ℕ
+items_taken (Read l) = 1
+items_taken (Mark mode) = 2
+
+pub left_in-items : {K : Type 0} (l : Level K) (ls : List (Level K)) (v : Stored K) → items_left (left_in l ls v).levels + items_taken l ≡ items_left (l ∷ ls)
 left_in-items (Read l) ls v = left_of-items l.rest l.old l.charge l.resume ls v
 left_in-items (Mark mode) ls v = omega (arith, sum_by-cons items_in (Mark mode) ls)
 

@@ -47,7 +47,7 @@ use Rattle.nr_input.proofs.Items.{expansions_worth-spent}
 
 -- ---- what is half read, with nothing due
 
-weight_of_escape-le : (w : ℕ) (e : Escape) → w ≤ 132 → weight_of_escape w e ≤ weight_of_escape 132 e
+weight_of_escape-le : (w : ℕ) (e : Escape) → w ≤ 156 → weight_of_escape w e ≤ weight_of_escape 156 e
 weight_of_escape-le w escapes.Plain few = omega arith
 weight_of_escape-le w escapes.Begun few = few
 weight_of_escape-le w escapes.Comment few = omega arith
@@ -73,7 +73,7 @@ none_made v p r x w s = record { pays = λ e is. let wrong : ⊥ = cc in absurd 
 
 -- another half is read, and what is stored keeps its levels
 kept_pays : {K : Type 0} (v w : Stored K) (p : Reached) (r : Reader) (k : Half) (q : Request) (e : Event) → Keeps v w
-    → weight_of_half k + cost_of_event e + 32 * risen r.half k ≤ weight_of_half r.half → IfLead {K = K} (tells.Event e) (blanks_owed k + 1 ≡ blanks_owed r.half)
+    → weight_of_half k + cost_of_event e + 178 * risen r.half k ≤ weight_of_half r.half → IfLead {K = K} (tells.Event e) (blanks_owed k + 1 ≡ blanks_owed r.half)
     → Pays v p r (tells.Event e) w p (record { half = k; request = q; burst = r.burst; most = r.most })
 kept_pays v w p r k q e keeps weighs lead =
     let items = ap items_left keeps.levels in
@@ -81,7 +81,7 @@ kept_pays v w p r k q e keeps weighs lead =
     record { limit = keeps.limit; most = refl; pays = λ worth enough. omega arith; lead = lead }
 
 kept : {K : Type 0} (v w : Stored K) (p : Reached) (r : Reader) (k : Half) (q : Request) (e : Event) → Keeps v w
-    → weight_of_half k + cost_of_event e + 32 * risen r.half k ≤ weight_of_half r.half → IfLead {K = K} (tells.Event e) (blanks_owed k + 1 ≡ blanks_owed r.half)
+    → weight_of_half k + cost_of_event e + 178 * risen r.half k ≤ weight_of_half r.half → IfLead {K = K} (tells.Event e) (blanks_owed k + 1 ≡ blanks_owed r.half)
     → Spends v p r (done e w (record { half = k; request = q; burst = r.burst; most = r.most }))
 kept {K} v w p r k q e keeps weighs lead = record {
   pays = λ x is.
@@ -91,9 +91,9 @@ kept {K} v w p r k q e keeps weighs lead = record {
 
 -- ---- splices
 
--- a level more: its items are fewer than a splice is worth, by 17 items
+-- a level more: its items are fewer than a splice is worth, by 16 items
 pub record Opens {K : Type 0} (v w : Stored K) : Type 0 where
-  pub items : items_left w.levels + 14 ≤ items_left v.levels + v.limit
+  pub items : items_left w.levels + 13 ≤ items_left v.levels + v.limit
   pub limit : w.limit ≡ v.limit
 
 -- the next one is counted, if it may come
@@ -116,7 +116,7 @@ expanding_spends v w p d r opens = expanding_by (nat_le r.most r.burst) v w p d 
 
 -- a text that may be stored is shorter than all that may be
 pub opened : {K : Type 0} (text : List Element) (arguments : List (List ℕ)) (charge : ℕ) (resume : Option K) (v : Stored K) → length text + 16 ≤ charge
-    → let w = reading text arguments charge resume v in charge_of w ≤ w.limit → items_left w.levels + 14 ≤ items_left v.levels + v.limit
+    → let w = reading text arguments charge resume v in charge_of w ≤ w.limit → items_left w.levels + 13 ≤ items_left v.levels + v.limit
 opened {K} text arguments charge None v long afforded =
     let level : Level K = Read (record { rest = text; old = v.arguments; charge = charge; resume = None }) in
     omega (arith, sum_by-cons items_in level v.levels, sum_by-cons level_charge level v.levels)
@@ -167,7 +167,7 @@ call_spends {K} (Some text) v p d r less =
     splicing_text_by (nat_lt w.limit (charge_of w)) (nat_lt w.deepest (length w.levels)) v w p d r
     (λ few. record { items = called_items text v (ltb-false w.limit (charge_of w) few); limit = refl })
   where
-    called_items : (text : List Element) (v : Stored K) → let w = called (Some text) v in charge_of w ≤ w.limit → items_left w.levels + 14 ≤ items_left v.levels + v.limit
+    called_items : (text : List Element) (v : Stored K) → let w = called (Some text) v in charge_of w ≤ w.limit → items_left w.levels + 13 ≤ items_left v.levels + v.limit
     called_items text v afforded =
         let level : Level K = Read (record { rest = text; old = v.arguments; charge = share text + bytes_in v.gathered.kept; resume = None }) in
         omega (arith, sum_by-cons items_in level v.levels, sum_by-cons level_charge level v.levels)
@@ -184,7 +184,7 @@ bytes_spend bytes v p d r =
 -- ---- what is added to what is stored
 
 storing_by : {K : Type 0} (x : Result (Unit {0}) StoredBytes) (v w : Stored K) (p : Reached) (d t : Due) (r : Reader) → Keeps v w
-    → weight_by t r.half.reading.mode r.half.reading.escape + 1 + 32 * blanks_of_due t ≤ weight_by d r.half.reading.mode r.half.reading.escape
+    → weight_by t r.half.reading.mode r.half.reading.escape + 1 + 178 * blanks_of_due t ≤ weight_by d r.half.reading.mode r.half.reading.escape
     → Spends v p (then_due d r) (storing x w (then_due t (then_due d r)) v (then_due d r))
 storing_by (Ok x) v w p d t r keeps less = kept v w p (then_due d r) (then_due t (then_due d r)).half r.request events.Nothing keeps (omega arith) tt
 storing_by (Err e) v w p d t r keeps less = none_made v p (then_due d r) refusals.Stored v (then_due d r)
@@ -206,17 +206,17 @@ written_keeps None name v = record { levels = refl; limit = refl }
 written_keeps (Some x) name v = record { levels = refl; limit = refl }
 
 -- a byte that was held back
-release_weighs : (held n : ℕ) (b : Option ℕ) (m : Mode) (e : Escape) → weight_by (behind_held held n b) m e + 1 + 32 * blanks_of_due (behind_held held n b) ≤ weight_by (dues.Release held n b) m e
+release_weighs : (held n : ℕ) (b : Option ℕ) (m : Mode) (e : Escape) → weight_by (behind_held held n b) m e + 1 + 178 * blanks_of_due (behind_held held n b) ≤ weight_by (dues.Release held n b) m e
 release_weighs held n (Some b) m e = more (nat_lt (n + 1) held) (ltb-true (n + 1) held)
   where
     more : (t : Bool) → (t ≡ true → n + 1 < held)
-        → let d = if t then dues.Release held (n + 1) (Some b) else dues.Add b in weight_by d m e + 1 + 32 * blanks_of_due d ≤ weight_by (dues.Release held n (Some b)) m e
+        → let d = if t then dues.Release held (n + 1) (Some b) else dues.Add b in weight_by d m e + 1 + 178 * blanks_of_due d ≤ weight_by (dues.Release held n (Some b)) m e
     more true less = let few = less refl in omega arith
     more false less = omega arith
 release_weighs held n None m e = more (nat_lt (n + 1) held) (ltb-true (n + 1) held)
   where
     more : (t : Bool) → (t ≡ true → n + 1 < held)
-        → let d = if t then dues.Release held (n + 1) None else dues.Look in weight_by d m e + 1 + 32 * blanks_of_due d ≤ weight_by (dues.Release held n None) m e
+        → let d = if t then dues.Release held (n + 1) None else dues.Look in weight_by d m e + 1 + 178 * blanks_of_due d ≤ weight_by (dues.Release held n None) m e
     more true less = let few = less refl in omega arith
     more false less = omega arith
 
@@ -228,8 +228,8 @@ definition_spends false v w p r keeps = kept v w p (then_due dues.DefineAndCall 
 
 -- ---- what a control line calls
 
-title_weighs : (e : Escape) → weight_of_escape 11 e ≤ weight_of_escape 132 e
-title_weighs e = weight_of_escape-le 11 e (omega arith)
+title_weighs : (e : Escape) → weight_of_escape 115 e ≤ weight_of_escape 156 e
+title_weighs e = weight_of_escape-le 115 e (omega arith)
 
 -- the half behind a name that was looked up, with other notes
 abbrev found : Notes → Reader → Half

@@ -22,7 +22,7 @@ use Rattle.nr_input.specs.Acting.{is_look}
 use Rattle.nr_input.specs.Coming.{Reached, StaysThere, front_seen, passed_by, passed_in, element_front, seen_front}
 use Rattle.nr_input.specs.Moving.{burst_past, told_of}
 use Rattle.nr_input.specs.Weights.{IfLead, Pays, cost_of_told, risen, items_left, newline_left, expansions_worth}
-use Rattle.nr_input.proofs.Items.{left_in-items, left_in-limit, expansions_worth-le}
+use Rattle.nr_input.proofs.Items.{items_taken, left_in-items, left_in-limit, expansions_worth-le}
 
 -- no blank of a line's beginning is told by an item
 leads : (K : Type 0) (e : Event) (P : Type 0) → is_lead e ≡ false → IfLead {K = K} (tells.Event e) P
@@ -81,7 +81,7 @@ source_pays {K} (aheads.Byte b) v p q r k e stays empty paid =
     }
 source_pays {K} aheads.End v p q r k e stays empty paid = end_pays q.inside paid.pays (ap newline_left stays.inside)
   where
-    end_pays : (inside : Bool) → weight_of_half k + cost_of_event e + 32 * risen r.half k ≤ weight_of_half r.half + paid_by true (worth_of_front (seen_front aheads.End inside))
+    end_pays : (inside : Bool) → weight_of_half k + cost_of_event e + 178 * risen r.half k ≤ weight_of_half r.half + paid_by true (worth_of_front (seen_front aheads.End inside))
         → newline_left inside ≡ newline_left p.inside
         → Pays v p r (tells.Event e) v (record q { inside = false }) (record r { half = k; burst = burst_past q.taken q.taken r.burst })
     end_pays true weighs same =
@@ -114,7 +114,7 @@ source_pays {K} a v p q r k e stays empty paid =
 
 -- of a level: an element, its end, or the mark behind a sprung text
 level_pays : {K : Type 0} (l : Level K) (ls : List (Level K)) (v : Stored K) (p q : Reached) (r : Reader) (k : Half) (e : Event) → StaysThere p q → v.levels ≡ l ∷ ls
-    → weight_of_half k + cost_of_told (told_of (shown_in l) e) + 32 * risen r.half k ≤ weight_of_half r.half + 256
+    → weight_of_half k + cost_of_told (told_of (shown_in l) e) + 178 * risen r.half k ≤ weight_of_half r.half + 256 * items_taken l
     → IfLead (told_of (shown_in l) e) (blanks_owed k + 1 ≡ blanks_owed r.half)
     → Pays v p r (told_of (shown_in l) e) (left_in l ls v) q (record r { half = k; burst = burst_past q.taken q.taken r.burst })
 level_pays l ls v p q r k e stays is weighs unled =

@@ -26,11 +26,11 @@ held_by_due d = 0
 abbrev pub held_back : Half → ℕ
 held_back h = held_by_mode h.reading.mode + held_by_due h.reading.due
 
-pub weight_of_mode-le : (m : Mode) → weight_of_mode m ≤ 255 + held_by_mode m
+pub weight_of_mode-le : (m : Mode) → weight_of_mode m ≤ 114 + held_by_mode m
 weight_of_mode-le (modes.BodyStart held) = omega arith
 weight_of_mode-le m = omega arith
 
-pub weight_of_backslash-le : (m : Mode) → weight_of_backslash m ≤ 132
+pub weight_of_backslash-le : (m : Mode) → weight_of_backslash m ≤ 156
 weight_of_backslash-le modes.Text = omega arith
 weight_of_backslash-le modes.Interrupted = omega arith
 weight_of_backslash-le modes.Continued = omega arith
@@ -51,20 +51,20 @@ weight_of_due-le (dues.Register signs.Plus) = omega arith
 weight_of_due-le (dues.Register signs.Minus) = omega arith
 weight_of_due-le d = omega arith
 
-weight_by-le : (d : Due) (m : Mode) (e : Escape) → weight_by d m e ≤ 389 + held_by_mode m + held_by_due d
-weight_by-le dues.Seek m e = omega (arith, weight_of_escape-le 132 e)
-weight_by-le (dues.Judge b) m e = omega (arith, weight_of_escape-le 132 e)
+weight_by-le : (d : Due) (m : Mode) (e : Escape) → weight_by d m e ≤ 272 + held_by_mode m + held_by_due d
+weight_by-le dues.Seek m e = omega (arith, weight_of_escape-le 156 e)
+weight_by-le (dues.Judge b) m e = omega (arith, weight_of_escape-le 156 e)
 weight_by-le d m e = omega (arith, weight_of_due-le d, weight_of_mode-le m, weight_of_backslash-le m, weight_of_escape-le (weight_of_backslash m) e)
 
-weight_of_stage-le : (s : Stage) → weight_of_stage s ≤ 66
+weight_of_stage-le : (s : Stage) → weight_of_stage s ≤ 368
 weight_of_stage-le stages.Sign = omega arith
 weight_of_stage-le s = omega arith
 
-weight_of_asks-le : (asks : List Ask) → sum_by weight_of_ask asks ≤ 66 * length asks
+weight_of_asks-le : (asks : List Ask) → sum_by weight_of_ask asks ≤ 368 * length asks
 weight_of_asks-le [] = omega arith
 weight_of_asks-le (a ∷ asks) = omega (arith, sum_by-cons weight_of_ask a asks, weight_of_stage-le a.stage, weight_of_asks-le asks)
 
-pub weight_of_half-le : (h : Half) → weight_of_half h ≤ 389 + 66 * length h.asks + held_back h
+pub weight_of_half-le : (h : Half) → weight_of_half h ≤ 272 + 368 * length h.asks + held_back h
 weight_of_half-le h = omega (arith, weight_by-le h.reading.due h.reading.mode h.reading.escape, weight_of_asks-le h.asks)
 
 -- ---- failures

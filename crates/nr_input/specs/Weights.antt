@@ -13,13 +13,15 @@ use Rattle.nr_input.specs.Coming.{Reached}
 
 -- ---- the items before the next byte: those of the levels, their marks among them, and the newline that is added
 
+-- The mark behind a sprung text counts as two: it pays for what goes on there.
+
 abbrev pub count_of_resume : {K : Type 0} → Option K → ℕ
 count_of_resume None = 0
-count_of_resume (Some mode) = 1
+count_of_resume (Some mode) = 2
 
 abbrev pub items_in : {K : Type 0} → Level K → ℕ
 items_in (Read l) = length l.rest + 1 + count_of_resume l.resume
-items_in (Mark mode) = 1
+items_in (Mark mode) = 2
 
 abbrev pub items_left : {K : Type 0} → List (Level K) → ℕ
 items_left levels = sum_by items_in levels
@@ -47,10 +49,10 @@ weight_before_byte v p r =
 abbrev pub byte_worth : ℕ → ℕ → ℕ
 byte_worth most stored = expansions_worth most 0 stored + 512
 
--- what a move costs by what it tells: behind a sprung text it leaves 254 moves
+-- what a move costs by what it tells: behind a sprung text it leaves 510 moves
 abbrev pub cost_of_told : {K : Type 0} → Told K → ℕ
 cost_of_told (tells.Event e) = cost_of_event e
-cost_of_told (tells.Resume k) = 255
+cost_of_told (tells.Resume k) = 511
 
 -- a blank of a line's beginning is told
 abbrev pub IfLead : {K : Type 0} → Told K → Type 0 → Type 0
@@ -67,7 +69,7 @@ pub record Pays {K : Type 0} (v : Stored K) (p : Reached) (r : Reader) (t : Told
   pub limit : v'.limit ≡ v.limit
   pub most : r'.most ≡ r.most
   pub pays : (worth : ℕ) → byte_worth r.most v.limit ≤ worth →
-      weight_before_byte v' p' r' + cost_of_told t + 32 * risen r.half r'.half + worth * p.taken ≤ weight_before_byte v p r + worth * p'.taken
+      weight_before_byte v' p' r' + cost_of_told t + 178 * risen r.half r'.half + worth * p.taken ≤ weight_before_byte v p r + worth * p'.taken
   pub lead : IfLead t (blanks_owed r'.half + 1 ≡ blanks_owed r.half)
 
 abbrev pub PaysIfMade : {K : Type 0} → Stored K → Reached → Reader → Result (Told K) Refusal → Stored K → Reached → Reader → Type 0
@@ -76,11 +78,11 @@ PaysIfMade v p r (Err e) v' p' r' = Unit {0}
 
 -- ---- what those who read events do
 
--- A text is spliced or sprung: it is paid out of what may still come, and leaves 4096 moves.
+-- A text is spliced or sprung: it is paid out of what may still come, and leaves 3584 moves.
 pub record Splices {K : Type 0} (v : Stored K) (r : Reader) (v' : Stored K) (r' : Reader) : Type 0 where
   pub limit : v'.limit ≡ v.limit
   pub most : r'.most ≡ r.most
-  pub pays : (p : Reached) → weight_before_byte v' p r' + 4096 + 32 * risen r.half r'.half ≤ weight_before_byte v p r
+  pub pays : (p : Reached) → weight_before_byte v' p r' + 3584 + 178 * risen r.half r'.half ≤ weight_before_byte v p r
 
 -- where no text is sprung nothing changes
 abbrev pub Springs : {K : Type 0} → Stored K → Reader → Result Bool Refusal → Stored K → Reader → Type 0
@@ -90,7 +92,7 @@ Springs v r (Err e) v' r' = Unit {0}
 
 -- what is read was set anew: it weighs so much more at most
 abbrev pub CostsAtMost : ℕ → Half → Half → Type 0
-CostsAtMost most old new = weight_of_half new + 32 * risen old new ≤ weight_of_half old + most
+CostsAtMost most old new = weight_of_half new + 178 * risen old new ≤ weight_of_half old + most
 
 -- the lines of a definition follow
 pub record Defines {K : Type 0} (v : Stored K) (r : Reader) (v' : Stored K) (r' : Reader) : Type 0 where
@@ -98,7 +100,7 @@ pub record Defines {K : Type 0} (v : Stored K) (r : Reader) (v' : Stored K) (r' 
   pub limit : v'.limit ≡ v.limit
   pub burst : r'.burst ≡ r.burst
   pub most : r'.most ≡ r.most
-  pub costs : CostsAtMost 68 r.half r'.half
+  pub costs : CostsAtMost 23 r.half r'.half
 
 -- ---- diversions: none begins where something is read
 

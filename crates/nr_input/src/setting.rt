@@ -17,7 +17,7 @@ impl Reader {
     /// The condition that was to be judged holds, or not. One that is not judged is rejected.
     pub fn accept(&mut self, holds: bool)
         ensures sets { self.new ≡ on_half (judged holds) self.old }
-        ensures costs { CostsAtMost 67 self.old.half self.new.half }
+        ensures costs { CostsAtMost 22 self.old.half self.new.half }
     {
         self.half.judge(holds);
     }
@@ -25,7 +25,7 @@ impl Reader {
     /// The line of a title is read.
     pub fn begin_title(&mut self)
         ensures sets { self.new ≡ on_half (in_mode modes.TitleBefore) self.old }
-        ensures costs { CostsAtMost 130 self.old.half self.new.half }
+        ensures costs { CostsAtMost 40 self.old.half self.new.half }
     {
         self.half.begin_title();
     }
@@ -48,7 +48,7 @@ impl Reader {
     /// The line goes on there: of its leading blanks one was read.
     pub fn stand(&mut self, standing: Standing)
         ensures sets { self.new ≡ on_half (resumed standing) self.old }
-        ensures costs { CostsAtMost 163 self.old.half self.new.half }
+        ensures costs { CostsAtMost 219 self.old.half self.new.half }
     {
         self.half.stand(standing);
     }

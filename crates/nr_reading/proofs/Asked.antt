@@ -30,7 +30,7 @@ use Rattle.nr_reading.proofs.Weighing.{at, weight_of_backslash-ge, weight_of_sta
 
 -- an item met what is half read: what comes of it is paid, at so much for the item
 pub record Meets (h : Half) (worth : ℕ) (m : Met) : Type 0 where
-  pub pays : weight_of_half m.half + cost_of_event m.event + 32 * (blanks_owed m.half - blanks_owed h) ≤ weight_of_half h + paid_by m.takes worth
+  pub pays : weight_of_half m.half + cost_of_event m.event + 178 * (blanks_owed m.half - blanks_owed h) ≤ weight_of_half h + paid_by m.takes worth
   pub tells : is_lead m.event ≡ false
 
 abbrev pub half_at : Reading → Signs → List Ask → Texts → Notes → Half
@@ -79,15 +79,15 @@ byte_answers stages.Second b long k n = either (is_digit b) (record { pays = ome
 pub answer_answers : (b : ℕ) (long : Bool) (a : Ask) → Affords a (answer b long a)
 answer_answers b long a = either (b == 10) (record { pays = omega arith }) (byte_answers a.stage b long a.kind a.name)
 
--- ---- where it has ended, what it splices and what it tells weigh 65
+-- ---- where it has ended, what it splices and what it tells weigh 367
 
 record Ends (k : Kind) (name : List ℕ) (m : Mode) (e : Escape) : Type 0 where
-  pub pays : weight_by (due_of k name) m e + cost_of_event (event_of k name) ≤ weight_by dues.Look m e + 65
+  pub pays : weight_by (due_of k name) m e + cost_of_event (event_of k name) ≤ weight_by dues.Look m e + 367
   pub blanks : blanks_of_due (due_of k name) ≡ 0
   pub tells : is_lead (event_of k name) ≡ false
 
 register_ends : (given : Bool) (s : Sign) (m : Mode) (e : Escape)
-    → (weight_by (if given then dues.Look else dues.Register s) m e + cost_of_event (if given then events.Given else events.Nothing) ≤ weight_by dues.Look m e + 65)
+    → (weight_by (if given then dues.Look else dues.Register s) m e + cost_of_event (if given then events.Given else events.Nothing) ≤ weight_by dues.Look m e + 367)
     × (blanks_of_due (if given then dues.Look else dues.Register s) ≡ 0)
     × (is_lead (if given then events.Given else events.Nothing) ≡ false)
 register_ends true s m e = (omega arith, refl, refl)

@@ -20,7 +20,7 @@ use Rattle.nr_reading.specs.Steps.{to, tell}
 use Rattle.nr_reading.specs.TextEscapes.{plain, interpolated, asked_in_text, is_nothing, is_plain, event_behind, escape_in_text, escape_by, spliced_or, lone_escape, escaped}
 use Rattle.nr_reading.specs.Weights.{worth_of_front, is_lead}
 use Rattle.nr_reading.proofs.Unescaped.{unescaped_pays}
-use Rattle.nr_reading.proofs.Weighing.{at, Pays, either, cost_of_event-le, weight_of_stage-le}
+use Rattle.nr_reading.proofs.Weighing.{at, Pays, either, cost_of_event-le, weight_of_stage-le, weight_of_backslash-ge}
 
 -- accepted and rejected parts read escapes in another way
 abbrev reads_escapes : Mode → Bool
@@ -89,7 +89,7 @@ escape_by_pays b long modes.Diverted c n is own = diverted_escape_pays b (asked_
 escape_by_pays b long m c n is own = let wrong : ⊥ = cc in absurd wrong
 
 spliced_or_pays : (b : ℕ) (o : Option Kind) (long : Bool) (m : Mode) (c n : Bool) → is_direct m ≡ true → reads_escapes m ≡ true → Pays (at m escapes.Begun c n) 256 (spliced_or b o long (at m escapes.Begun c n))
-spliced_or_pays b (Some k) long m c n is own = record { pays = omega (arith, weight_of_stage-le (first_stage k)); tells = refl }
+spliced_or_pays b (Some k) long m c n is own = record { pays = omega (arith, weight_of_stage-le (first_stage k), weight_of_backslash-ge m); tells = refl }
 spliced_or_pays b None long m c n is own =
     either (b == 10) (record { pays = omega arith; tells = refl }) (either (b == 34) (record { pays = omega arith; tells = refl }) (escape_by_pays b long m c n is own))
 

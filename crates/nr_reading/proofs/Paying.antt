@@ -36,7 +36,7 @@ use Rattle.nr_reading.specs.Weights.{worth_of_front, paid_by, weight_by, weight_
 use Rattle.nr_reading.proofs.Asked.{Meets, half_at, left_escape-le, answer_answers, front_meets, backslash_meets, stop_meets}
 use Rattle.nr_reading.proofs.Copied.{Hears, read_hears, over_hears}
 use Rattle.nr_reading.proofs.Escaped.{direct_pays}
-use Rattle.nr_reading.proofs.Weighing.{at, Pays, weight_of_note, blanks_in, weight_of_stage-le, weight_of_backslash-le}
+use Rattle.nr_reading.proofs.Weighing.{at, Pays, weight_of_note, blanks_in, weight_of_stage-le, weight_of_backslash-ge, weight_of_backslash-le}
 
 -- ---- escapes that begin
 
@@ -55,14 +55,14 @@ step_reads n h = refl
 
 -- ---- the reader
 
-weight_by-le : (d : Due) (m : Mode) (e : Escape) → weight_by d m e ≤ weight_by d m escapes.Plain + weight_of_escape 132 e
+weight_by-le : (d : Due) (m : Mode) (e : Escape) → weight_by d m e ≤ weight_by d m escapes.Plain + weight_of_escape 156 e
 weight_by-le dues.Seek m e = omega arith
 weight_by-le (dues.Judge b) m e = omega arith
 weight_by-le d m escapes.Plain = omega arith
 weight_by-le d m escapes.Begun = omega (arith, weight_of_backslash-le m)
 weight_by-le d m escapes.Comment = omega arith
 
-weight_of_backslash-copied : (m : Mode) → is_direct m ≡ false → weight_of_backslash m ≡ 132
+weight_of_backslash-copied : (m : Mode) → is_direct m ≡ false → weight_of_backslash m ≡ 156
 weight_of_backslash-copied modes.Text is = let wrong : ⊥ = cc in absurd wrong
 weight_of_backslash-copied modes.Interrupted is = let wrong : ⊥ = cc in absurd wrong
 weight_of_backslash-copied modes.Continued is = let wrong : ⊥ = cc in absurd wrong
@@ -94,20 +94,20 @@ behind r n h = record h { reading = r; notes = noted n h.notes }
 
 -- where the element is left, the escape stays as far as it was read, or a comment ends
 left_weighs : (r : Reading) (n : Note) (h : Half) (e : Escape) → h.reading ≡ r → r.escape ≡ e
-    → weight_by r.due r.mode (left_escape (asked_by n h).reading.escape) ≤ weight_by r.due r.mode escapes.Plain + weight_of_escape 132 e
+    → weight_by r.due r.mode (left_escape (asked_by n h).reading.escape) ≤ weight_by r.due r.mode escapes.Plain + weight_of_escape 156 e
 left_weighs r n h e is reached =
     let x = (asked_by n h).reading.escape in
     let same : x ≡ e = ap (λ (q : Reading). q.escape) (step_reads n h ∙ is) ∙ reached in
-    let weighs = ap (λ (y : Escape). weight_of_escape 132 (left_escape y)) same in
-    omega (arith, weight_by-le r.due r.mode (left_escape x), left_escape-le 132 e)
+    let weighs = ap (λ (y : Escape). weight_of_escape 156 (left_escape y)) same in
+    omega (arith, weight_by-le r.due r.mode (left_escape x), left_escape-le 156 e)
 
 -- a `\` that is begun weighs this where elements are copied
-copied_weighs : (m : Mode) (e : Escape) → is_direct m ≡ false → weight_of_escape (weight_of_backslash m) e ≡ weight_of_escape 132 e
+copied_weighs : (m : Mode) (e : Escape) → is_direct m ≡ false → weight_of_escape (weight_of_backslash m) e ≡ weight_of_escape 156 e
 copied_weighs m e copied = ap (λ w. weight_of_escape w e) (weight_of_backslash-copied m copied)
 
 -- an element comes to the reader, as the item in front or not: an item pays for it, or the `\` that was begun
 heard : (front takes : Bool) (r : Reading) (k : Note) (v : Event) (m : Mode) (e : Escape) (c n : Bool) (s : Signs) (d : Texts) (o : Notes) (worth w : ℕ)
-    → is_direct m ≡ false → Hears (at m e c n) worth (stepping r k v takes) → worth ≤ paid_by front w + weight_of_escape 132 e
+    → is_direct m ≡ false → Hears (at m e c n) worth (stepping r k v takes) → worth ≤ paid_by front w + weight_of_escape 156 e
     → let h = half_at (at m e c n) s [] d o in Meets h w (met_copied front (stepping r k v takes) h)
 heard true true r k v m e c n s d o worth w copied p enough =
     let h = half_at (at m e c n) s [] d o in
@@ -134,7 +134,7 @@ heard front false r k v m e c n s d o worth w copied p enough =
     record { pays = omega (arith, copied_weighs m e copied); tells = p.tells }
 
 hears : (front : Bool) (t : Step) (m : Mode) (e : Escape) (c n : Bool) (s : Signs) (d : Texts) (o : Notes) (worth w : ℕ)
-    → is_direct m ≡ false → Hears (at m e c n) worth t → worth ≤ paid_by front w + weight_of_escape 132 e
+    → is_direct m ≡ false → Hears (at m e c n) worth t → worth ≤ paid_by front w + weight_of_escape 156 e
     → let h = half_at (at m e c n) s [] d o in Meets h w (met_copied front t h)
 hears front t m e c n s d o worth w copied p enough = heard front t.takes t.reading t.note t.event m e c n s d o worth w copied p enough
 
@@ -176,16 +176,16 @@ skip_offers escapes.Begun asks m e c n s d o = record { meets = record { pays = 
 skip_offers escapes.Comment asks m e c n s d o = record { meets = record { pays = omega arith; tells = refl } }
 
 -- an escape begins, or is nested too deep
-begun_meets : (nests : Bool) (k : Kind) (asks : List Ask) (m : Mode) (e : Escape) (c n : Bool) (s : Signs) (d : Texts) (o : Notes)
+begun_meets : (nests : Bool) (k : Kind) (asks : List Ask) (m : Mode) (c n : Bool) (s : Signs) (d : Texts) (o : Notes)
     → let h = half_at (at m escapes.Plain c n) s asks d o in
-    Meets (half_at (at m e c n) s asks d o) 256 (silent (if nests then asking (begun_ask k) h else too_deep k h))
-begun_meets true k asks m e c n s d o =
-    record { pays = omega (arith, pushed-le (nat_lt (length asks) 10) (begun_ask k) asks, weight_of_stage-le (first_stage k)); tells = refl }
-begun_meets false (kinds.Register x) asks m e c n s d o = record { pays = omega arith; tells = refl }
-begun_meets false k asks m e c n s d o = record { pays = omega arith; tells = refl }
+    Meets (half_at (at m escapes.Begun c n) s asks d o) 256 (silent (if nests then asking (begun_ask k) h else too_deep k h))
+begun_meets true k asks m c n s d o =
+    record { pays = omega (arith, pushed-le (nat_lt (length asks) 10) (begun_ask k) asks, weight_of_stage-le (first_stage k), weight_of_backslash-ge m); tells = refl }
+begun_meets false (kinds.Register x) asks m c n s d o = record { pays = omega arith; tells = refl }
+begun_meets false k asks m c n s d o = record { pays = omega arith; tells = refl }
 
-begin_offers : (k : Kind) (asks : List Ask) (m : Mode) (e : Escape) (c n : Bool) (s : Signs) (d : Texts) (o : Notes) → Offers (half_at (at m e c n) s asks d o) 256 (offers.Begin k)
-begin_offers k asks m e c n s d o = record { meets = begun_meets (may_nest m asks) k asks m e c n s d o }
+begin_offers : (k : Kind) (asks : List Ask) (m : Mode) (c n : Bool) (s : Signs) (d : Texts) (o : Notes) → Offers (half_at (at m escapes.Begun c n) s asks d o) 256 (offers.Begin k)
+begin_offers k asks m c n s d o = record { meets = begun_meets (may_nest m asks) k asks m c n s d o }
 
 byte_offers : (b : ℕ) (asks : List Ask) (m : Mode) (e : Escape) (c n : Bool) (s : Signs) (d : Texts) (o : Notes) → IsCopied asks m → Offers (half_at (at m e c n) s asks d o) 256 (offers.Byte b)
 byte_offers b asks m e c n s d o copied = record { meets = item_met asks b m e c n s d o copied }
@@ -206,10 +206,10 @@ escaped_offers b argument asks m c n s d o copied =
     (either (b == 97) (byte_offers 1 asks m e c n s d o copied)
     (either (b == 10) (skip_offers escapes.Plain asks m e c n s d o)
     (either (b == 34) (skip_offers escapes.Comment asks m e c n s d o)
-    (either (b == 42) (begin_offers kinds.String asks m e c n s d o)
-    (either (b == 36) (begin_offers kinds.Argument asks m e c n s d o)
-    (either (b == 110) (begin_offers (kinds.Register signs.None) asks m e c n s d o)
-    (either ((b == 119) && argument) (begin_offers kinds.Width asks m e c n s d o) (backslash_offers asks m c n s d o 256 copied))))))))))
+    (either (b == 42) (begin_offers kinds.String asks m c n s d o)
+    (either (b == 36) (begin_offers kinds.Argument asks m c n s d o)
+    (either (b == 110) (begin_offers (kinds.Register signs.None) asks m c n s d o)
+    (either ((b == 119) && argument) (begin_offers kinds.Width asks m c n s d o) (backslash_offers asks m c n s d o 256 copied))))))))))
 
 mark_offers : (asks : List Ask) (m : Mode) (e : Escape) (c n : Bool) (s : Signs) (d : Texts) (o : Notes) → Offers (half_at (at m e c n) s asks d o) 1 (offers.Skip e)
 mark_offers asks m e c n s d o = record { meets = record { pays = omega arith; tells = refl } }

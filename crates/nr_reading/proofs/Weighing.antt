@@ -14,25 +14,34 @@ use Rattle.nr_reading.specs.declared.step.Note.TheVariants as notes
 use Rattle.nr_reading.specs.declared.step.Step.{Step}
 use Rattle.nr_reading.specs.Weights.{cost_of_event, paid_by, weight_of_backslash, weight_of_reading, weight_of_stage, weight_of_ask, blanks_of_mode, blanks_of_due, is_lead}
 
-pub cost_of_event-le : (e : Event) → cost_of_event e ≤ 133
+pub cost_of_event-le : (e : Event) → cost_of_event e ≤ 367
 cost_of_event-le events.Nothing = omega arith
 cost_of_event-le events.Over = omega arith
 cost_of_event-le events.Lead = omega arith
+cost_of_event-le (events.Byte b) = omega arith
+cost_of_event-le (events.Cell x) = omega arith
+cost_of_event-le (events.Plain b) = omega arith
+cost_of_event-le events.Fixed = omega arith
+cost_of_event-le events.Zero = omega arith
+cost_of_event-le events.Tab = omega arith
+cost_of_event-le events.Leader = omega arith
+cost_of_event-le events.Horizontal = omega arith
+cost_of_event-le events.Rule = omega arith
+cost_of_event-le events.Special = omega arith
 cost_of_event-le events.Request = omega arith
 cost_of_event-le (events.Judge q) = omega arith
 cost_of_event-le events.Title = omega arith
-cost_of_event-le events.TitleEnd = omega arith
 cost_of_event-le e = omega arith
 
-pub weight_of_stage-le : (s : Stage) → weight_of_stage s ≤ 66
+pub weight_of_stage-le : (s : Stage) → weight_of_stage s ≤ 368
 weight_of_stage-le stages.Sign = omega arith
 weight_of_stage-le s = omega arith
 
-pub weight_of_stage-ge : (s : Stage) → 65 ≤ weight_of_stage s
+pub weight_of_stage-ge : (s : Stage) → 367 ≤ weight_of_stage s
 weight_of_stage-ge stages.Sign = omega arith
 weight_of_stage-ge s = omega arith
 
-pub weight_of_backslash-le : (m : Mode) → weight_of_backslash m ≤ 132
+pub weight_of_backslash-le : (m : Mode) → weight_of_backslash m ≤ 156
 weight_of_backslash-le modes.Text = omega arith
 weight_of_backslash-le modes.Interrupted = omega arith
 weight_of_backslash-le modes.Continued = omega arith
@@ -42,7 +51,7 @@ weight_of_backslash-le (modes.Title d n) = omega arith
 weight_of_backslash-le modes.Diverted = omega arith
 weight_of_backslash-le m = omega arith
 
-pub weight_of_backslash-ge : (m : Mode) → 1 ≤ weight_of_backslash m
+pub weight_of_backslash-ge : (m : Mode) → 115 ≤ weight_of_backslash m
 weight_of_backslash-ge modes.Text = omega arith
 weight_of_backslash-ge modes.Interrupted = omega arith
 weight_of_backslash-ge modes.Continued = omega arith
@@ -66,7 +75,7 @@ at m e c n = record { mode = m; escape = e; due = dues.Look; continued = c; no_b
 
 -- a step is paid, at so much for the item
 pub record Pays (r : Reading) (worth : ℕ) (s : Step) : Type 0 where
-  pub pays : weight_of_reading s.reading + weight_of_note s.note + cost_of_event s.event + 32 * (blanks_in s.reading - blanks_in r) ≤ weight_of_reading r + paid_by s.takes worth
+  pub pays : weight_of_reading s.reading + weight_of_note s.note + cost_of_event s.event + 178 * (blanks_in s.reading - blanks_in r) ≤ weight_of_reading r + paid_by s.takes worth
   pub tells : is_lead s.event ≡ false
 
 pub either : {r : Reading} {w : ℕ} (b : Bool) {x y : Step} → Pays r w x → Pays r w y → Pays r w (if b then x else y)

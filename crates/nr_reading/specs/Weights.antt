@@ -18,20 +18,30 @@ use Rattle.nr_reading.specs.declared.mode.Mode.{Mode}
 use Rattle.nr_reading.specs.declared.mode.Mode.TheVariants as modes
 use Rattle.nr_reading.specs.declared.mode.Reading.{Reading}
 
--- What a move costs by what it tells: the move itself, and 64 moves more for those to whom something is told, 54 at a title's
--- end; 68 more yet where they may set what is read next. They count the end of the input and the blanks of a line's beginning
+-- What a move costs by what it tells: the move itself, and the moves of those to whom something is told. What may begin a word
+-- leaves them 177 moves, a special character, which may be a dash of two cells, 366; a request, a condition and a title, which
+-- may set what is read next, 71; anything else 19. They count the end of the input and the blanks of a line's beginning
 -- themselves.
 abbrev pub cost_of_event : Event → ℕ
 cost_of_event events.Nothing = 1
 cost_of_event events.Over = 0
 cost_of_event events.Lead = 0
-cost_of_event events.Request = 133
-cost_of_event (events.Judge q) = 133
-cost_of_event events.Title = 133
-cost_of_event events.TitleEnd = 55
-cost_of_event e = 65
+cost_of_event (events.Byte b) = 178
+cost_of_event (events.Cell x) = 178
+cost_of_event (events.Plain b) = 178
+cost_of_event events.Fixed = 178
+cost_of_event events.Zero = 178
+cost_of_event events.Tab = 178
+cost_of_event events.Leader = 178
+cost_of_event events.Horizontal = 178
+cost_of_event events.Rule = 178
+cost_of_event events.Special = 367
+cost_of_event events.Request = 72
+cost_of_event (events.Judge q) = 72
+cost_of_event events.Title = 72
+cost_of_event e = 20
 
--- What an item that is taken pays: one that is text up to 256 moves, a mark its own.
+-- What an item that is taken pays: one that is text 256 moves, a mark its own.
 abbrev pub worth_of_front : Front → ℕ
 worth_of_front fronts.Mark = 1
 worth_of_front fronts.Resume = 1
@@ -46,43 +56,43 @@ paid_by false worth = 0
 
 -- in a definition's line, so many bytes being held back
 abbrev pub weight_of_held : ℕ → ℕ
-weight_of_held held = 67 + 5 * min 1 held + held
+weight_of_held held = 22 + 5 * min 1 held + held
 
 abbrev pub weight_of_mode : Mode → ℕ
 weight_of_mode modes.Diverting = 0
-weight_of_mode modes.Start = 65
-weight_of_mode modes.Accepted = 66
-weight_of_mode (modes.Skip n) = 66
-weight_of_mode modes.Text = 130
-weight_of_mode modes.TitleBefore = 120
-weight_of_mode (modes.Title d n) = 120
-weight_of_mode modes.TitleRest = 120
-weight_of_mode modes.Diverted = 130
-weight_of_mode modes.Continued = 131
-weight_of_mode modes.Interrupted = 131
-weight_of_mode (modes.Leading n) = 131
-weight_of_mode modes.Drop = 66
-weight_of_mode modes.Transparent = 67
-weight_of_mode modes.MacroGap = 67
-weight_of_mode modes.MacroBlanks = 68
-weight_of_mode modes.Word = 69
-weight_of_mode modes.Quoted = 69
-weight_of_mode modes.Quote = 69
-weight_of_mode modes.StringText = 67
-weight_of_mode modes.StringBlanks = 69
-weight_of_mode modes.StringName = 70
-weight_of_mode modes.StringBefore = 71
-weight_of_mode modes.BodyEnd = 68
-weight_of_mode modes.Body = 69
+weight_of_mode modes.Start = 20
+weight_of_mode modes.Accepted = 21
+weight_of_mode (modes.Skip n) = 21
+weight_of_mode modes.Text = 40
+weight_of_mode modes.TitleBefore = 40
+weight_of_mode (modes.Title d n) = 40
+weight_of_mode modes.TitleRest = 40
+weight_of_mode modes.Diverted = 40
+weight_of_mode modes.Continued = 41
+weight_of_mode modes.Interrupted = 41
+weight_of_mode (modes.Leading n) = 41
+weight_of_mode modes.Drop = 21
+weight_of_mode modes.Transparent = 22
+weight_of_mode modes.MacroGap = 22
+weight_of_mode modes.MacroBlanks = 23
+weight_of_mode modes.Word = 24
+weight_of_mode modes.Quoted = 24
+weight_of_mode modes.Quote = 24
+weight_of_mode modes.StringText = 22
+weight_of_mode modes.StringBlanks = 24
+weight_of_mode modes.StringName = 25
+weight_of_mode modes.StringBefore = 26
+weight_of_mode modes.BodyEnd = 23
+weight_of_mode modes.Body = 24
 weight_of_mode (modes.BodyStart held) = weight_of_held held
-weight_of_mode (modes.First d) = 68
-weight_of_mode (modes.Second d) = 68
-weight_of_mode modes.RequestLine = 198
-weight_of_mode modes.RequestBlanks = 199
-weight_of_mode (modes.Number depth) = 199
-weight_of_mode modes.Condition = 200
-weight_of_mode modes.Name = 254
-weight_of_mode modes.Control = 255
+weight_of_mode (modes.First d) = 23
+weight_of_mode (modes.Second d) = 23
+weight_of_mode modes.RequestLine = 92
+weight_of_mode modes.RequestBlanks = 93
+weight_of_mode (modes.Number depth) = 93
+weight_of_mode modes.Condition = 94
+weight_of_mode modes.Name = 113
+weight_of_mode modes.Control = 114
 
 -- ---- what is due
 
@@ -99,14 +109,14 @@ weight_of_due d = 1
 -- ---- a `\` that is begun: it begins the line's text, or is an element itself
 
 abbrev pub weight_of_backslash : Mode → ℕ
-weight_of_backslash modes.Text = 1
-weight_of_backslash modes.Interrupted = 1
-weight_of_backslash modes.Continued = 1
-weight_of_backslash (modes.Leading n) = 1
-weight_of_backslash modes.TitleBefore = 11
-weight_of_backslash (modes.Title d n) = 11
-weight_of_backslash modes.Diverted = 1
-weight_of_backslash m = 132
+weight_of_backslash modes.Text = 115
+weight_of_backslash modes.Interrupted = 115
+weight_of_backslash modes.Continued = 115
+weight_of_backslash (modes.Leading n) = 115
+weight_of_backslash modes.TitleBefore = 115
+weight_of_backslash (modes.Title d n) = 115
+weight_of_backslash modes.Diverted = 115
+weight_of_backslash m = 156
 
 abbrev pub weight_of_escape : ℕ → Escape → ℕ
 weight_of_escape n escapes.Begun = n
@@ -121,8 +131,8 @@ held_by_mode m = 0
 
 -- Behind a name that is looked up, and behind a condition that is judged, another mode follows.
 abbrev pub weight_by : Due → Mode → Escape → ℕ
-weight_by dues.Seek m e = 253 + held_by_mode m + weight_of_escape 132 e
-weight_by (dues.Judge b) m e = 67 + held_by_mode m + weight_of_escape 132 e
+weight_by dues.Seek m e = 112 + held_by_mode m + weight_of_escape 156 e
+weight_by (dues.Judge b) m e = 22 + held_by_mode m + weight_of_escape 156 e
 weight_by d m e = weight_of_mode m + weight_of_due d + weight_of_escape (weight_of_backslash m) e
 
 abbrev pub weight_of_reading : Reading → ℕ
@@ -130,8 +140,8 @@ weight_of_reading r = weight_by r.due r.mode r.escape
 
 -- an escape whose argument is half read: it may end at once, and tell that
 abbrev pub weight_of_stage : Stage → ℕ
-weight_of_stage stages.Sign = 66
-weight_of_stage s = 65
+weight_of_stage stages.Sign = 368
+weight_of_stage s = 367
 
 abbrev pub weight_of_ask : Ask → ℕ
 weight_of_ask a = weight_of_stage a.stage
@@ -159,7 +169,7 @@ abbrev pub is_lead : Event → Bool
 is_lead events.Lead = true
 is_lead e = false
 
--- What it leads to and tells weighs no more than what was half read, and what is taken of it; a blank more that is owed costs 32.
+-- What it leads to and tells weighs no more than what was half read, and what is taken of it; a blank more that is owed costs 178.
 pub record PaysFor (f : Front) (old new : Half) (seen : Seen) : Type 0 where
-  pub pays : weight_of_half new + cost_of_event seen.event + 32 * (blanks_owed new - blanks_owed old) ≤ weight_of_half old + paid_by seen.takes (worth_of_front f)
+  pub pays : weight_of_half new + cost_of_event seen.event + 178 * (blanks_owed new - blanks_owed old) ≤ weight_of_half old + paid_by seen.takes (worth_of_front f)
   pub tells : is_lead seen.event ≡ false

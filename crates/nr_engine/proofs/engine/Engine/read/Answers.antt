@@ -59,7 +59,7 @@ returns-in-Ok-clause-moved g c = λ held s h.
 told_read : (e f : Shape) (t : Told Resume) (v : Stored Resume) (r : Reader) → e.formatter.event ≡ events.Nothing → e.formatter.task ≡ tasks.Read
     → Pays e.formatter.store e.place e.formatter.reader t v f.place r → diversions_in v.building ≤ diversions_in e.formatter.store.building
     → f.formatter ≡ told t (record e.formatter { store = v; reader = r })
-    → ((k : Resume) → t ≡ tells.Resume k → Falls 0 65024 (record e.formatter { store = v; reader = r }) f.formatter) → Spends e f
+    → ((k : Resume) → t ≡ tells.Resume k → Falls 0 510 (record e.formatter { store = v; reader = r }) f.formatter) → Spends e f
 told_read e f (tells.Event x) v r idle task pays fewer is falls = record {
   limit = ap (λ x. x.store.limit) is ∙ pays.limit;
   most = ap (λ x. x.reader.most) is ∙ pays.most;
