@@ -5,6 +5,7 @@ mod Lightening
 mod Measured
 mod Moving
 mod NextMoves
+mod PlainGaps
 mod PlainText
 mod Selected
 mod Spending

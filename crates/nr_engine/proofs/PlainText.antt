@@ -48,7 +48,7 @@ glides-add s n m t u a b = record {
   leads = state_after-add s n m ∙ ap (state_after m) a.leads ∙ b.leads;
 }
 
-glides-one : (s t : State) → Goes s → step s ≡ t → Glides s 1 t
+pub glides-one : (s t : State) → Goes s → step s ≡ t → Glides s 1 t
 glides-one s t goes is = record {
   runs = λ k below. (let first : 0 ≡ k = omega arith in subst (λ j. Goes (state_after j s)) first goes);
   leads = is;
@@ -57,14 +57,14 @@ glides-one s t goes is = record {
 -- ---- bytes that come next
 
 -- a front of one byte more
-front_more : (xs : List ℕ) (b : ℕ) (bs : List ℕ) → take (suc (length bs)) xs ≡ b ∷ bs → (rest : List ℕ) × (xs ≡ b ∷ rest) × (take (length bs) rest ≡ bs)
+pub front_more : (xs : List ℕ) (b : ℕ) (bs : List ℕ) → take (suc (length bs)) xs ≡ b ∷ bs → (rest : List ℕ) × (xs ≡ b ∷ rest) × (take (length bs) rest ≡ bs)
 front_more [] b bs is = absurd (let wrong : [] ≡ b ∷ bs = is in cc)
 front_more (x ∷ xs) b bs is =
     let first : x ≡ b = cc in
     let others : take (length bs) xs ≡ bs = cc in
     (xs, ap (λ y. y ∷ xs) first, others)
 
-may_give_one : (n : ℕ) (f : Faults) → MayGiveAll (suc n) f → MayGive f
+pub may_give_one : (n : ℕ) (f : Faults) → MayGiveAll (suc n) f → MayGive f
 may_give_one n Never h = tt
 may_give_one n (After m) h = omega (arith, h)
 may_give_one n Anytime h = tt
@@ -110,7 +110,7 @@ abbrev pub typed : List ℕ → State → State
 typed bs s = record s { coming = behind_many (length bs) s.coming; formatter = run_put bs (unburst s.formatter) }
 
 -- one was read
-abbrev seen : ℕ → State → State
+abbrev pub seen : ℕ → State → State
 seen b s = record s { coming = behind_many 1 s.coming; formatter = record (unburst s.formatter) { event = events.Byte b } }
 
 -- the next bytes of the source are read in a text line that has begun
@@ -126,7 +126,8 @@ newline b plain = ne_eqb b 10 (λ e. omega (arith, plain.0, e))
 escape : (b : ℕ) → IsPlain b → (b == 92) ≡ false
 escape b plain = ne_eqb b 92 plain.2
 
-module _ (b : ℕ) (rest : List ℕ) (s : State) (typing : IsTyping s) (plain : IsPlain b) (next : s.coming.supply.bytes ≡ b ∷ rest) (gives : MayGive s.coming.supply.faults) (few : s.coming.taken + 1 < 2 ^ 40) where
+module _ (b : ℕ) (rest : List ℕ) (s : State) (typing : IsTyping s) (line : (b == 10) ≡ false) (plain : (b == 92) ≡ false) (next : s.coming.supply.bytes ≡ b ∷ rest)
+    (gives : MayGive s.coming.supply.faults) (few : s.coming.taken + 1 < 2 ^ 40) where
   half : IsInText s.formatter.reader.half
   half = in_text s.formatter.reader.half typing.line.half
 
@@ -137,11 +138,11 @@ module _ (b : ℕ) (rest : List ℕ) (s : State) (typing : IsTyping s) (plain : 
   looks = rw half.due refl
 
   meets : meet (front (shown s.formatter.store.levels) s.coming) s.formatter.reader.half ≡ record { half = s.formatter.reader.half; event = events.Byte b; takes = true }
-  meets = rw (typing.levels, next) (meet-plain b s.formatter.reader.half half (newline b plain) (escape b plain))
+  meets = rw (typing.levels, next) (meet-plain b s.formatter.reader.half half line plain)
 
   takes : met_at (record { half = s.formatter.reader.half; event = events.Byte b; takes = true }) (situation_of s)
       ≡ record { situation = situation s.formatter.store (behind_many 1 s.coming) (record s.formatter.reader { burst = 0 }); told = tells.Event (events.Byte b) }
-  takes = rw (typing.levels, next, further, newline b plain, later-one s.coming.supply.faults) refl
+  takes = rw (typing.levels, next, further, line, later-one s.coming.supply.faults) refl
 
   read_is : read s ≡ seen b s
   read_is = ap (λ m. with_situation m s) (looks ∙ ap (λ m. met_at m (situation_of s)) meets ∙ takes)
@@ -155,20 +156,29 @@ module _ (b : ℕ) (rest : List ℕ) (s : State) (typing : IsTyping s) (plain : 
       let sees : input.Goes (situation_of s) = rw (half.due, typing.levels, next) (gives, λ many. omega (arith, many, few)) in
       subst (λ k. GoesBy k s) (sym reads) sees
 
+  -- the byte is read
+  glides_read : Glides s 1 (seen b s)
+  glides_read = glides-one s (seen b s) goes_read step_read
+
+  -- it is heard then
+  pub glides_heard : (t : State) → step (seen b s) ≡ t → IsWithin t → Glides s 2 t
+  glides_heard t is within =
+      let hears = kind-hear (seen b s) (events.Byte b) typing.chosen typing.line.springs refl (λ e. let wrong : ⊥ = cc in wrong) in
+      let goes = subst (λ k. GoesBy k (seen b s)) (sym hears) (ap passed is ∙ passed_none t within) in
+      glides-add s 1 1 (seen b s) t glides_read (glides-one (seen b s) t goes is)
+
+module _ (b : ℕ) (rest : List ℕ) (s : State) (typing : IsTyping s) (plain : IsPlain b) (next : s.coming.supply.bytes ≡ b ∷ rest) (gives : MayGive s.coming.supply.faults) (few : s.coming.taken + 1 < 2 ^ 40) where
+  text : IsInText s.formatter.reader.half
+  text = in_text s.formatter.reader.half typing.line.half
+
   step_hear : step (seen b s) ≡ typed (b ∷ []) s
   step_hear =
       step-hear (seen b s) (events.Byte b) typing.chosen typing.line.springs refl
-      ∙ ap (λ f. record (seen b s) { formatter = f }) (heard-plain b (seen b s).formatter plain half.mode typing.line.begun)
+      ∙ ap (λ f. record (seen b s) { formatter = f }) (heard-plain b (seen b s).formatter plain text.mode typing.line.begun)
       ∙ ap (λ e. record (typed (b ∷ []) s) { formatter = record (typed (b ∷ []) s).formatter { event = e } }) (sym typing.line.event)
 
-  goes_hear : IsWithin (typed (b ∷ []) s) → Goes (seen b s)
-  goes_hear within =
-      let hears = kind-hear (seen b s) (events.Byte b) typing.chosen typing.line.springs refl (λ e. let wrong : ⊥ = cc in wrong) in
-      subst (λ k. GoesBy k (seen b s)) (sym hears) (ap passed step_hear ∙ passed_none (typed (b ∷ []) s) within)
-
   pub glides_byte : IsWithin (typed (b ∷ []) s) → Glides s 2 (typed (b ∷ []) s)
-  glides_byte within =
-      glides-add s 1 1 (seen b s) (typed (b ∷ []) s) (glides-one s (seen b s) goes_read step_read) (glides-one (seen b s) (typed (b ∷ []) s) (goes_hear within) step_hear)
+  glides_byte within = glides_heard b rest s typing (newline b plain) (escape b plain) next gives few (typed (b ∷ []) s) step_hear within
 
 -- ---- a run
 
@@ -265,7 +275,7 @@ come_front n bs c less next =
 abbrev pub run_shape : List ℕ → Shape → Shape
 run_shape bs e = record e { formatter = run_put bs (unburst e.formatter); place = passed_many (length bs) e.place }
 
-stands_typing : (supply : Option Supply) (s : State) (e : Shape) → Stands [] supply s e → is_in_line e.formatter ≡ true → e.formatter.store.levels ≡ [] → IsTyping (at e s)
+pub stands_typing : (supply : Option Supply) (s : State) (e : Shape) → Stands [] supply s e → is_in_line e.formatter ≡ true → e.formatter.store.levels ≡ [] → IsTyping (at e s)
 stands_typing supply s e h line levels = record { chosen = h.chosen_is; line = in_line e.formatter line; levels = levels; within = h.within }
 
 within_run : (b : ℕ) (bs : List ℕ) (s : State) → IsWithin s → line_cells (collected (typed (b ∷ bs) s).formatter) ≤ s.formatter.line.limit → IsWithin (typed (b ∷ bs) s)
@@ -294,10 +304,11 @@ glided b bs e supply supply' held s h line levels plain next fits behind =
 
 -- ---- what the moves cost
 
-paid : (w n t : ℕ) → 0 < n → 256 * (w + 512) * t + (256 * w + 131072 * n) ≤ 256 * (w + 512) * (t + n)
+-- each byte pays 512, and the first what splices may cost
+pub paid : (w n t : ℕ) → 0 < n → (w + 512) * t + (w + 512 * n) ≤ (w + 512) * (t + n)
 paid w n t some =
     let once = mul-le w 1 w n (omega arith) some in
-    let all : 256 * (w + 512) * (t + n) ≡ 256 * (w + 512) * t + (256 * (w * n) + 131072 * n) = grind arith in
+    let all : (w + 512) * (t + n) ≡ (w + 512) * t + (w * n + 512 * n) = grind arith in
     omega (arith, once, all)
 
 run_spends : (bs : List ℕ) (e : Shape) → 0 < length bs → weight (run_shape bs e) + 2 * length bs + worth e * e.place.taken ≤ weight e + worth e * (e.place.taken + length bs)

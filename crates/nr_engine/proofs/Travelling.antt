@@ -71,3 +71,15 @@ pub few_enough : (worth t n : ℕ) → worth < 2 ^ 80 → t < 2 ^ 40 → n ≤ w
 few_enough worth t n small taken within =
     let most = mul-le worth (t + 1) (2 ^ 80) (2 ^ 40) (omega (arith, small)) (omega (arith, taken)) in
     omega (arith, most, within)
+
+-- moves within a text line, and then more of them
+pub makes-add : (n m : ℕ) (e f g : Shape) (x y z : Option Supply) → Makes n e f x y → Makes m f g y z → Makes (n + m) e g x z
+makes-add n m e f g x y z a b =
+    let same = worth_same e f a.limit a.most in
+    let more : weight g + m + worth e * f.place.taken ≤ weight f + worth e * g.place.taken = subst (λ k. weight g + m + k * f.place.taken ≤ weight f + k * g.place.taken) same b.spends in
+    record {
+      makes = λ held s h. made_run (at e s) n m f g y z held held (a.makes held s h) b;
+      limit = b.limit ∙ a.limit;
+      most = b.most ∙ a.most;
+      spends = omega (arith, a.spends, more);
+    }

@@ -1,12 +1,12 @@
 -- Runs of bytes that stand for themselves, byte by byte.
-use Rattle.std.proofs.Common.{◌≡◌, ℕ, ◌+◌, ◌*◌, ◌≤◌, ◌<◌, ◌≢◌, Bool, true, false, ◌&&◌, List, [], ◌∷◌, length, Option, None, Some, refl, sym, ap, ◌∙◌, arith}
-use Rattle.std.specs.Prelude.{◌==◌, if◌then◌else◌, nat_le, not, is_none}
-use Rattle.std.proofs.lemmas.Bool.{ne_eqb, le-leb}
+use Rattle.std.proofs.Common.{◌≡◌, ℕ, ◌+◌, ◌*◌, ◌≤◌, ◌<◌, ◌≢◌, Bool, true, false, ◌&&◌, List, [], ◌∷◌, length, Option, None, Some, refl, sym, ap, ◌∙◌, arith, length-append, ◌++◌}
+use Rattle.std.specs.Prelude.{◌==◌, if◌then◌else◌, nat_le, nat_lt, not, is_none}
+use Rattle.std.proofs.lemmas.Bool.{ne_eqb, le-leb, lt-ltb}
 use Rattle.nr_units.specs.declared.cell.Cell.{Cell}
 use Rattle.nr_settings.specs.declared.indents.Margins.{Margins}
 use Rattle.nr_fill.specs.declared.piece.Behind.{Behind}
 use Rattle.nr_fill.specs.declared.piece.Behind.TheVariants.{Letter}
-use Rattle.nr_fill.specs.Pieces.{Collected, add_cell, begins_line, is_nil, line_cells, text_cells}
+use Rattle.nr_fill.specs.Pieces.{Collected, Word, add_cell, begins_line, end_word, one_blank_more, is_nil, line_cells, may_hyphenate, text_cells}
 use Rattle.nr_fill.specs.Runs.{IsPlain, add_run, run_cell}
 use Rattle.nr_fill.proofs.Measures.{line_cells-add_cell}
 use Rattle.nr_reading.specs.InText.{is_in_text}
@@ -15,12 +15,14 @@ use Rattle.nr_reading.specs.declared.event.Event.TheVariants as events
 use Rattle.nr_reading.specs.declared.mode.Mode.TheVariants as modes
 use Rattle.nr_settings.specs.Characters.{prints}
 use Rattle.nr_formatter.specs.declared.formatter.Formatter.{Formatter}
+use Rattle.nr_formatter.specs.declared.tasks.After.TheVariants as afters
 use Rattle.nr_formatter.specs.declared.tasks.Task.{Task}
 use Rattle.nr_formatter.specs.declared.tasks.Task.TheVariants as tasks
-use Rattle.nr_formatter.specs.Access.{collected, done}
+use Rattle.nr_formatter.specs.Access.{collected, done, is_filling, with_collected}
+use Rattle.nr_formatter.specs.Lines.{breaks_behind, pointed, reads_a_field}
 use Rattle.nr_formatter.specs.Moves.{heard}
-use Rattle.nr_formatter.specs.Runs.{IsInLine, is_in_line, reads_next, run_put}
-use Rattle.nr_formatter.specs.Text.{text_byte}
+use Rattle.nr_formatter.specs.Runs.{IsInLine, is_in_line, reads_next, run_put, gaps_plainly, gapped, gap_flows}
+use Rattle.nr_formatter.specs.Text.{text_byte, blank, gap_blank, has_word}
 use Rattle.nr_formatter.specs.Weights.{weight_of_line}
 use Rattle.nr_formatter.proofs.LineWeights.{weight-add_cell}
 
@@ -100,3 +102,68 @@ in_line f is =
     let one = both (is_none f.springs) idle two.0 in
     let reads = is_idle f.event f.task one.1 in
     record { springs = springs_none f.springs one.0; event = reads.0; task = reads.1; half = two.1; begun = not_true (begins_line (collected f)) three.1 }
+
+-- ---- a blank behind a word
+
+no_words : {X : Type 0} (xs : List X) → not (nat_lt 0 (length xs)) ≡ true → xs ≡ []
+no_words [] is = refl
+no_words (x ∷ xs) is = absurd (let some : nat_lt 0 (length (x ∷ xs)) ≡ true = lt-ltb 0 (length (x ∷ xs)) (omega arith) in let wrong : true ≡ false = sym some ∙ not_true (nat_lt 0 (length (x ∷ xs))) is in cc)
+
+-- what such a blank asks for, part by part
+pub record EndsWord (f : Formatter) : Type 0 where
+  pub filling : is_filling f ≡ true
+  pub word : is_none (collected f).word ≡ false
+  pub field : reads_a_field f ≡ false
+  pub breaks : f.breaks ≡ false
+  pub words : f.store.words ≡ []
+
+pub ends_word : (f : Formatter) → gaps_plainly f ≡ true → EndsWord f
+ends_word f is =
+    let all = both ((is_filling f && not (is_none (collected f).word)) && not (reads_a_field f)) (not f.breaks && not (nat_lt 0 (length f.store.words))) is in
+    let three = both (is_filling f && not (is_none (collected f).word)) (not (reads_a_field f)) all.0 in
+    let two = both (is_filling f) (not (is_none (collected f).word)) three.0 in
+    let others = both (not f.breaks) (not (nat_lt 0 (length f.store.words))) all.1 in
+    record {
+      filling = two.0;
+      word = not_true (is_none (collected f).word) two.1;
+      field = not_true (reads_a_field f) three.1;
+      breaks = not_true f.breaks others.0;
+      words = no_words f.store.words others.1;
+    }
+
+either_way : (b : Bool) (c : Collected) → (if b then c else c) ≡ c
+either_way true c = refl
+either_way false c = refl
+
+-- there are no points
+pointed-plain : (f : Formatter) → is_filling f ≡ true → f.store.words ≡ [] → pointed f ≡ collected f
+unfolding pointed
+pointed-plain f filling words = rw (filling, words) (either_way (f.settings.hyphenation.on && may_hyphenate (collected f)) (collected f))
+
+blank_heard : (f : Formatter) → EndsWord f → f.reader.half.reading.mode ≡ modes.Text → heard (events.Byte 32) f ≡ gap_blank f
+unfolding text_byte blank
+blank_heard f ends mode = rw (mode, ends.filling, ends.field) refl
+
+-- with what is collected where the word ends
+abbrev gap_behind : Collected → Formatter → Formatter
+gap_behind c f = record (with_collected (one_blank_more (end_word c)) f) {
+  event = events.Nothing;
+  breaks = f.breaks && not (breaks_behind f);
+  task = if has_word f then tasks.Flow afters.Text (breaks_behind f) else tasks.Read;
+}
+
+gap_behind-is : (f : Formatter) → EndsWord f → gap_behind (collected f) f ≡ done (gap_flows f)
+gap_behind-is f ends = rw (ends.word, ends.breaks) refl
+
+-- the blank is heard as the word's end
+pub heard-gap : (f : Formatter) → EndsWord f → f.reader.half.reading.mode ≡ modes.Text → heard (events.Byte 32) f ≡ done (gap_flows f)
+heard-gap f ends mode =
+    blank_heard f ends mode ∙ ap (λ c. gap_behind c f) (pointed-plain f ends.filling ends.words) ∙ gap_behind-is f ends
+
+-- the word becomes pieces, which weigh less
+pub weight-gap : (c : Collected) → weight_of_line (gapped c) ≤ weight_of_line c
+weight-gap c = by_word c.word c refl
+  where
+    by_word : (o : Option Word) (c : Collected) → c.word ≡ o → weight_of_line (gapped c) ≤ weight_of_line c
+    by_word None c is = rw is (omega (arith, length-append c.pieces []))
+    by_word (Some w) c is = rw is (omega (arith, length-append c.pieces (w.parts ++ w.last ∷ []), length-append w.parts (w.last ∷ [])))

@@ -19,7 +19,7 @@ pub mod passed;
 pub mod registers;
 pub mod request_line;
 pub mod requests;
-mod runs;
+pub mod runs;
 pub mod settings;
 pub mod spacing;
 pub mod springing;

@@ -3,11 +3,22 @@ ghost use Rattle.std.specs.Prelude.{◌≡◌, ◌<◌, ◌≤◌, false, length
 ghost use Rattle.nr_fill.specs.Pieces.{begins_line, line_cells, text_cells};
 ghost use Rattle.nr_fill.specs.Runs.{IsPlain};
 ghost use Rattle.nr_formatter.specs.Access.{collected};
-ghost use Rattle.nr_formatter.specs.Runs.{reads_next, is_in_line, run_put};
+ghost use Rattle.nr_formatter.specs.Runs.{reads_next, is_in_line, run_put, gaps_plainly, AfterGap};
 
 use crate::formatter::Formatter;
-use crate::tasks::Task;
+use crate::tasks::{After, Task};
 use nr_input::Event;
+
+/// What became of a blank behind a word.
+#[derive(Clone, Copy, Debug, PartialEq, Eq)]
+pub enum Gap {
+    /// It was left, and nothing changed.
+    Left,
+    /// It was read, and full lines go out next.
+    Flows,
+    /// It was read, and more is read next.
+    Reads,
+}
 
 impl<'a> Formatter<'a> {
     /// Whether the input is read next, unless a macro springs.
@@ -46,5 +57,35 @@ impl<'a> Formatter<'a> {
         let margins = self.settings.indents.margins();
         let under = self.settings.fonts.is_under();
         self.line.put_run(margins, under, bytes)
+    }
+
+    /// Whether a blank does nothing but end the word and widen the gap.
+    #[inline]
+    fn gaps_plainly(&self) -> bool
+        ensures { result ≡ gaps_plainly self.now }
+    {
+        self.settings.filling.is_filling()
+            && self.line.has_word()
+            && !self.line.has_field()
+            && (!self.breaks && !self.store.has_words())
+    }
+
+    /// Reads a blank behind a word, where it does nothing but end the word and widen the gap, and passes no limit.
+    #[inline]
+    pub fn put_gap(&mut self) -> Gap
+        ensures { AfterGap self.old result self.new }
+    {
+        if !self.gaps_plainly() {
+            return Gap::Left;
+        }
+        if self.line.end_word().is_err() {
+            return Gap::Left;
+        }
+        self.line.widen_gap();
+        if self.line.fits() {
+            return Gap::Reads;
+        }
+        self.task = Task::Flow(After::Text, false);
+        Gap::Flows
     }
 }
