@@ -1,8 +1,12 @@
 -- What the options do to the engine, and a whole run of it.
-use Rattle.std.specs.Prelude.{◌≡◌, ℕ, ◌+◌, ◌*◌, ◌≤◌, ◌<◌, List, [], Option, Result, Ok, Err, OnOk, false}
+use Rattle.std.specs.Prelude.{◌≡◌, ℕ, ◌+◌, ◌*◌, ◌≤◌, ◌<◌, List, [], length, slice_index, Option, Result, Ok, Err, OnOk, false}
 use Rattle.nr_units.specs.Supply.{Supply}
 use Rattle.nr_options.specs.declared.options.Options.{Options}
+use Rattle.nr_fill.specs.Pieces.{text_cells}
+use Rattle.nr_fill.specs.Runs.{IsPlain}
+use Rattle.nr_formatter.specs.Access.{collected}
 use Rattle.nr_formatter.specs.Limits.{IsWithin}
+use Rattle.nr_formatter.specs.declared.formatter.Formatter.{Formatter}
 use Rattle.nr_store.specs.Stored.{charge_of}
 use Rattle.nr_engine.specs.State.{State, Choice, choices}
 use Rattle.nr_engine.specs.Machine.{choose, state_after}
@@ -32,6 +36,12 @@ pub record Makes (n : ℕ) (e f : Shape) (supply supply' : Option Supply) : Type
   pub limit : f.formatter.store.limit ≡ e.formatter.store.limit
   pub most : f.formatter.reader.most ≡ e.formatter.reader.most
   pub spends : weight f + n + worth e * e.place.taken ≤ weight e + worth e * f.place.taken
+
+-- As many of these bytes were put as could be: up to the end, to one that is not plain, or to the limit of the line.
+pub record Longest (bs : List ℕ) (n : ℕ) (f : Formatter) : Type 0 where
+  pub count : ℕ
+  pub moves : n ≡ 2 * count
+  pub stops : count < length bs → IsPlain (slice_index bs count) → text_cells (collected f) ≡ f.line.limit
 
 -- all choices took effect, each as a move, or the run stops at one
 abbrev pub AfterChoices : Option Supply → State → ℕ → Shape → Option (List ℕ) → Result (Unit {0}) Outcome → Type 0

@@ -1,8 +1,10 @@
 //! Runs of plain bytes of a text line: many moves in one call.
-ghost use Rattle.std.specs.Prelude.{◌≡◌, ◌≢◌, ◌<◌, ◌≤◌, ◌^◌, true, false, length, slice_index};
+ghost use Rattle.std.specs.Prelude.{◌≡◌, ◌≢◌, ◌<◌, ◌≤◌, ◌+◌, ◌^◌, true, false, [], length, slice_index};
+ghost use Rattle.nr_input.specs.AtHand.{is_unseen};
 ghost use Rattle.nr_input.specs.Coming.{has_failed};
+ghost use Rattle.nr_formatter.specs.Runs.{is_in_line};
 ghost use Rattle.nr_engine.specs.Holding.{shape};
-ghost use Rattle.nr_engine.specs.Running.{Makes};
+ghost use Rattle.nr_engine.specs.Running.{Makes, Longest};
 
 use crate::engine::Engine;
 use nr_formatter::runs::Gap;
@@ -27,6 +29,8 @@ impl<'a> Engine<'a> {
     fn put_plain<R: Source>(&mut self, input: &mut R) -> u128
         ensures makes { Makes result (shape self.old) (shape self.new) (R.supply input.old) (R.supply input.new) }
         ensures few { result < 2 ^ 66 }
+        ensures longest { is_in_line self.old.formatter ≡ true → self.old.formatter.store.levels ≡ [] → is_unseen self.old.place.ahead ≡ true →
+            self.old.place.taken + length (R.at_hand input.old) < 2 ^ 40 → Longest (R.at_hand input.old) result self.new.formatter }
         ensures failures { R.failures input.new ≡ R.failures input.old }
         ensures unfailed { has_failed self.old.place.ahead ≡ false → has_failed self.new.place.ahead ≡ false }
     {

@@ -22,6 +22,7 @@ pub fn window<'s, K: Copy, R: Source>(
     ensures next { 0 < length result.now → (c : Coming) → HoldsComing c place.now (R.supply source.now) → ComeNext result.now c }
     ensures unseen { 0 < length result.now → is_unseen place.now.ahead ≡ true }
     ensures levels { 0 < length result.now → store.now.levels ≡ [] }
+    ensures whole { is_unseen place.now.ahead ≡ true → store.now.levels ≡ [] → place.now.taken + length (R.at_hand source.now) < 2 ^ 40 → result.now ≡ R.at_hand source.now }
 {
     let room = place.room();
     if !place.is_unseen() || store.is_reading() {
