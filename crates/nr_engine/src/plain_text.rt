@@ -80,6 +80,9 @@ impl<'a> Engine<'a> {
         ensures failures { R.failures input.new ≡ R.failures input.old }
         ensures unfailed { has_failed self.old.place.ahead ≡ false → has_failed self.new.place.ahead ≡ false }
     {
+        if !self.formatter.is_in_line() {
+            return 0;
+        }
         let plain = self.put_plain(input);
         let gap = self.put_gap(input);
         plain + gap
