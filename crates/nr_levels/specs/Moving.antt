@@ -25,7 +25,7 @@ gone_on n (reads.Mark mode) = reads.Mark mode
 
 -- it has so many
 abbrev pub MayGoOn : {K : Type 0} → ℕ → Reads K → Type 0
-MayGoOn n (reads.Text id place) = place + n < 2 ^ 32
+MayGoOn n (reads.Text id place) = 0 < n → place + n < 2 ^ 32
 MayGoOn n (reads.Own s) = n ≤ s.last - s.first
 MayGoOn n (reads.Mark mode) = Unit {0}
 

@@ -50,7 +50,7 @@ impl<K: Copy> Reads<K> {
     {
         match self {
             Reads::Text(_, place) => *place += n,
-            Reads::Own(span) => span.first += n,
+            Reads::Own(span) => *span = span.behind(n),
             Reads::Mark(_) => {}
         }
     }

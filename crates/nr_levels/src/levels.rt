@@ -101,7 +101,7 @@ impl<'a, K: Copy> Levels<'a, K> {
         if let Some(next) = self.frames.at(0).reads.mode() {
             *mode = next;
         }
-        self.frames.pop();
+        self.drop_mode();
     }
 
     /// Takes the mode that comes next away.
