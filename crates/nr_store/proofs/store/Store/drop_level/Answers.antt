@@ -1,4 +1,4 @@
-use Rattle.std.proofs.Common.{Some, ap, sym, ◌∙◌}
+use Rattle.std.proofs.Common.{ap, sym, ◌∙◌}
 use Rattle.nr_store.specs.Stored.{Stored, dropped}
 use Rattle.nr_store.specs.Holders.{beside_of}
 use Rattle.nr_levels.specs.Levels.{Text}

@@ -1,4 +1,4 @@
-use Rattle.std.proofs.Common.{Some, ap, sym, ◌∙◌}
+use Rattle.std.proofs.Common.{ap, sym, ◌∙◌}
 use Rattle.nr_store.specs.Holders.{beside_of}
 use Rattle.nr_store.specs.Stored.{Stored, shown, left}
 use Rattle.nr_store.proofs.Reading.{newest_text, item_shown, item_left, end_left, text_ended, text_ended_stands}
