@@ -100,6 +100,7 @@ impl<'a> Engine<'a> {
     }
 
     /// What was told is acted on then; what a sprung macro interrupted is gone on with.
+    #[inline(always)]
     fn tell(&mut self, heard: Heard)
         ensures is { shape self.new ≡ record (shape self.old) { formatter = told_formatter (told_as self.old.resumed heard) self.old.formatter } }
         ensures falls { (resume : ResumeValue) → told_as self.old.resumed heard ≡ tells.Resume resume → self.old.formatter.event ≡ events.Nothing → self.old.formatter.task ≡ tasks.Read → Falls 0 65024 self.old.formatter self.new.formatter }
@@ -111,6 +112,7 @@ impl<'a> Engine<'a> {
     }
 
     /// The item in front of the input is looked at, and taken or left; or what is due is done.
+    #[inline(always)]
     fn read<R: Source>(&mut self, input: &mut R) -> Result<(), Outcome>
         requires springs { self.old.formatter.springs ≡ None }
         requires idle { self.old.formatter.event ≡ events.Nothing }
@@ -242,7 +244,7 @@ impl<'a> Engine<'a> {
     }
 
     /// One move, or why the run stops.
-    #[inline]
+    #[inline(always)]
     pub(crate) fn advance<R: Source, W: Sink>(
         &mut self,
         input: &mut R,

@@ -20,15 +20,15 @@ pub(crate) fn read_control(byte: u8, reading: &mut Reading) -> Said
 }
 
 /// The byte is the second of a name of two.
-pub(crate) fn completes(long: bool, name: Spelled) -> bool
-    ensures { result ≡ completes long name }
+pub(crate) fn completes(long: bool, name: &Spelled) -> bool
+    ensures { result ≡ completes long name.now }
 {
     !long && name.bytes.len() == 1
 }
 
 /// In a control line's name.
-pub(crate) fn read_name(byte: u8, long: bool, name: Spelled, reading: &mut Reading) -> Said
-    ensures { joined reading.new result ≡ read_name byte long name reading.old }
+pub(crate) fn read_name(byte: u8, long: bool, name: &Spelled, reading: &mut Reading) -> Said
+    ensures { joined reading.new result ≡ read_name byte long name.now reading.old }
 {
     if ends_name(byte) {
         reading.due = Due::Seek;

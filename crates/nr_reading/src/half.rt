@@ -63,6 +63,7 @@ impl Half {
     }
 
     // An escape whose argument is still to be read begins.
+    #[inline(never)]
     fn ask(&mut self, ask: Ask)
         ensures { self.new ≡ asking ask self.old }
     {
@@ -169,13 +170,14 @@ impl Half {
     }
 
     // This is noted, the reader having gone on.
+    #[inline(always)]
     fn note(&mut self, note: Jot)
         ensures { self.new ≡ noted_in (note_of note) self.old }
     {
-        self.notes.note(note);
         match note {
+            Jot::Nothing => {}
             Jot::Begin(begun) => self.ask(begun.ask()),
-            _ => {}
+            _ => self.notes.note(note),
         }
     }
 

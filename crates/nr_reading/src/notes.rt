@@ -125,6 +125,7 @@ impl Notes {
     }
 
     /// What an element adds.
+    #[inline(never)]
     pub(crate) fn note(&mut self, note: Jot)
         ensures { self.new ≡ noted (note_of note) self.old }
     {

@@ -28,7 +28,7 @@ pub(crate) fn read(byte: u8, signs: Signs, notes: &Notes, reading: &mut Reading)
 {
     match reading.mode {
         Mode::Control => read_control(byte, reading),
-        Mode::Name => read_name(byte, signs.long, notes.name, reading),
+        Mode::Name => read_name(byte, signs.long, &notes.name, reading),
         Mode::Drop => read_drop(byte, reading),
         Mode::TitleRest => read_title_rest(byte, reading),
         Mode::RequestBlanks => read_request_blanks(byte, reading),
@@ -39,7 +39,7 @@ pub(crate) fn read(byte: u8, signs: Signs, notes: &Notes, reading: &mut Reading)
         Mode::Quoted => read_quoted(byte, reading),
         Mode::Quote => read_quote(byte, reading),
         Mode::StringBefore => read_string_before(byte, reading),
-        Mode::StringName => read_string_name(byte, signs.long, notes.name, reading),
+        Mode::StringName => read_string_name(byte, signs.long, &notes.name, reading),
         Mode::StringBlanks => read_string_blanks(byte, reading),
         Mode::StringText => read_string_text(byte, reading),
         Mode::BodyStart(held) => notes.defining.read_body_start(byte, held, reading),

@@ -20,8 +20,8 @@ pub(crate) fn read_string_before(byte: u8, reading: &mut Reading) -> Said
 }
 
 // A string's name ends.
-fn end_string_name(name: Spelled, reading: &mut Reading)
-    ensures { reading.new ≡ behind_string_name name reading.old }
+fn end_string_name(name: &Spelled, reading: &mut Reading)
+    ensures { reading.new ≡ behind_string_name name.now reading.old }
 {
     if name.name().is_empty() {
         reading.mode = Mode::Drop;
@@ -31,8 +31,8 @@ fn end_string_name(name: Spelled, reading: &mut Reading)
 }
 
 /// In a string's name.
-pub(crate) fn read_string_name(byte: u8, long: bool, name: Spelled, reading: &mut Reading) -> Said
-    ensures { joined reading.new result ≡ read_string_name byte long name reading.old }
+pub(crate) fn read_string_name(byte: u8, long: bool, name: &Spelled, reading: &mut Reading) -> Said
+    ensures { joined reading.new result ≡ read_string_name byte long name.now reading.old }
 {
     if ends_name(byte) {
         end_string_name(name, reading);
