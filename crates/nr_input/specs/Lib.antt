@@ -1,5 +1,6 @@
 pub mod Acting
 pub mod Coming
+pub mod Hearing
 pub mod Laws
 pub mod Moving
 pub mod Refusals
