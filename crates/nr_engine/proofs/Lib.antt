@@ -5,6 +5,8 @@ mod Lightening
 mod Measured
 mod Moving
 mod NextMoves
+mod PlainGaps
+mod PlainText
 mod Selected
 mod Spending
 mod Standing

@@ -17,7 +17,7 @@ pub state_after-add : (s : State) (n m : ℕ) → state_after (n + m) s ≡ stat
 state_after-add s n zero = ap (λ k. state_after k s) (let e : n + 0 ≡ n = omega arith in e)
 state_after-add s n (suc m) = ap (λ k. state_after k s) (let e : n + suc m ≡ suc (n + m) = omega arith in e) ∙ ap step (state_after-add s n m)
 
-runs-add : (s : State) (n m : ℕ) → Runs n s → Runs m (state_after n s) → Runs (n + m) s
+pub runs-add : (s : State) (n m : ℕ) → Runs n s → Runs m (state_after n s) → Runs (n + m) s
 runs-add s n m x y = λ k h. elim (cases_lt k n) [
   | inl i ↦ x k i
   | inr i ↦ (let e : n + (k - n) ≡ k = omega arith in subst (λ j. Goes (state_after j s)) e (subst Goes (sym (state_after-add s n (k - n))) (y (k - n) (omega arith))))

@@ -1,11 +1,13 @@
 -- A whole run: its moves, and how many there are.
-use Rattle.std.proofs.Common.{◌≡◌, ℕ, ◌+◌, ◌*◌, ◌≤◌, List, [], Option, Ok, Err, ap, ◌∙◌, subst, arith}
+use Rattle.std.proofs.Common.{◌≡◌, ℕ, ◌+◌, ◌*◌, ◌<◌, ◌≤◌, ◌^◌, List, [], Option, Ok, Err, ap, ◌∙◌, subst, arith}
+use Rattle.std.proofs.lemmas.Nat.{mul-le}
 use Rattle.nr_input.specs.Weights.{byte_worth}
 use Rattle.nr_units.specs.Supply.{Supply}
 use Rattle.nr_engine.specs.State.{State, Choice}
 use Rattle.nr_engine.specs.Machine.{state_after}
 use Rattle.nr_engine.specs.Answer.{Stops}
 use Rattle.nr_engine.specs.Holding.{Shape, Holds, Moved, Left, Made, Halts, Advances, Spends, at, weight, worth}
+use Rattle.nr_engine.specs.Running.{Makes}
 use Rattle.nr_engine.specs.declared.outcome.Outcome.{Outcome}
 use Rattle.nr_engine.proofs.Standing.{made_one, made_all, halts_here, halts_after}
 
@@ -18,6 +20,14 @@ made_more s n e f x y old mid new m advances =
     let t = state_after n s in
     let moved = subst (λ u. Moved u f y mid new) (same_state [] x t e m.holds) (advances t m.holds.stands) in
     made_all [] [] s n 1 e f x y old mid new m (made_one t f y mid new moved)
+
+-- moves within a text line, and then others
+pub made_run : (s : State) (n m : ℕ) (e f : Shape) (x y : Option Supply) (old mid : Option (List ℕ))
+    → Made [] s n e x old mid → Makes m e f x y → Made [] s (n + m) f y old mid
+made_run s n m e f x y old mid made run =
+    let t = state_after n s in
+    let more = subst (λ u. Made [] u m f y mid mid) (same_state [] x t e made.holds) (run.makes mid t made.holds.stands) in
+    made_all [] [] s n m e f x y old mid mid made more
 
 pub halted : (s : State) (n : ℕ) (e f : Shape) (x y : Option Supply) (outcome : Outcome) (old mid new : Option (List ℕ))
     → Made [] s n e x old mid → Advances e f x y mid new (Err outcome) → Halts s n outcome old new
@@ -43,5 +53,33 @@ spent first e f m limit most within spends =
     bound_more (worth first) m (weight e) (weight f) e.place.taken f.place.taken within
     (subst (λ k. weight f + 1 + k * e.place.taken ≤ weight e + k * f.place.taken) (worth_same first e limit most) spends.spends)
 
+bound_run : (worth m n w w' t t' : ℕ) → m + w ≤ worth * (t + 1) → w' + n + worth * t ≤ w + worth * t' → m + n + w' ≤ worth * (t' + 1)
+bound_run worth m n w w' t t' before spent = omega arith
+
+-- and after many
+pub spent_run : (first e f : Shape) (x y : Option Supply) (m n : ℕ) → e.formatter.store.limit ≡ first.formatter.store.limit → e.formatter.reader.most ≡ first.formatter.reader.most
+    → m + weight e ≤ worth first * (e.place.taken + 1) → Makes n e f x y → m + n + weight f ≤ worth first * (f.place.taken + 1)
+spent_run first e f x y m n limit most within run =
+    bound_run (worth first) m n (weight e) (weight f) e.place.taken f.place.taken within
+    (subst (λ k. weight f + n + k * e.place.taken ≤ weight e + k * f.place.taken) (worth_same first e limit most) run.spends)
+
 pub bound_there : (worth m w t t' : ℕ) → t ≡ t' → m + w ≤ worth * (t + 1) → m ≤ worth * (t' + 1)
 bound_there worth m w t t' same within = subst (λ k. m ≤ worth * (k + 1)) same (omega (arith, within))
+
+-- the count of moves can be told
+pub few_enough : (worth t n : ℕ) → worth < 2 ^ 80 → t < 2 ^ 40 → n ≤ worth * (t + 1) → n < 2 ^ 128
+few_enough worth t n small taken within =
+    let most = mul-le worth (t + 1) (2 ^ 80) (2 ^ 40) (omega (arith, small)) (omega (arith, taken)) in
+    omega (arith, most, within)
+
+-- moves within a text line, and then more of them
+pub makes-add : (n m : ℕ) (e f g : Shape) (x y z : Option Supply) → Makes n e f x y → Makes m f g y z → Makes (n + m) e g x z
+makes-add n m e f g x y z a b =
+    let same = worth_same e f a.limit a.most in
+    let more : weight g + m + worth e * f.place.taken ≤ weight f + worth e * g.place.taken = subst (λ k. weight g + m + k * f.place.taken ≤ weight f + k * g.place.taken) same b.spends in
+    record {
+      makes = λ held s h. made_run (at e s) n m f g y z held held (a.makes held s h) b;
+      limit = b.limit ∙ a.limit;
+      most = b.most ∙ a.most;
+      spends = omega (arith, a.spends, more);
+    }

@@ -7,7 +7,7 @@ use Rattle.nr_store.specs.Stored.{charge_of}
 use Rattle.nr_engine.specs.State.{State, Choice, choices}
 use Rattle.nr_engine.specs.Machine.{choose, state_after}
 use Rattle.nr_engine.specs.Answer.{stops_reading, stops_writing}
-use Rattle.nr_engine.specs.Holding.{Shape, Holds, Made, Halts, weight, worth}
+use Rattle.nr_engine.specs.Holding.{Shape, at, Stands, Holds, Made, Halts, weight, worth}
 use Rattle.nr_engine.specs.declared.outcome.Measure.TheVariants.{Stored}
 use Rattle.nr_engine.specs.declared.outcome.Outcome.{Outcome}
 use Rattle.nr_engine.specs.declared.outcome.Outcome.TheVariants.{Limit}
@@ -25,6 +25,13 @@ pub record StaysLight (e f : Shape) : Type 0 where
   pub limit : f.formatter.store.limit ≡ e.formatter.store.limit
   pub most : f.formatter.reader.most ≡ e.formatter.reader.most
   pub weighs : weight f ≡ weight e
+
+-- n moves were made, at whatever state the engine stood, and nothing went out
+pub record Makes (n : ℕ) (e f : Shape) (supply supply' : Option Supply) : Type 0 where
+  pub makes : (held : Option (List ℕ)) (s : State) → Stands [] supply s e → Made [] (at e s) n f supply' held held
+  pub limit : f.formatter.store.limit ≡ e.formatter.store.limit
+  pub most : f.formatter.reader.most ≡ e.formatter.reader.most
+  pub spends : weight f + n + worth e * e.place.taken ≤ weight e + worth e * f.place.taken
 
 -- all choices took effect, each as a move, or the run stops at one
 abbrev pub AfterChoices : Option Supply → State → ℕ → Shape → Option (List ℕ) → Result (Unit {0}) Outcome → Type 0

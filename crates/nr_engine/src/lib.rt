@@ -10,6 +10,7 @@ mod lengths;
 mod lines;
 mod outcome;
 mod pages;
+mod plain_text;
 mod rooms;
 mod run;
 mod spacing;

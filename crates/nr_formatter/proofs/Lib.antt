@@ -16,6 +16,7 @@ pub mod LineWeights
 pub mod Nearest
 pub mod NextSprings
 pub mod PageFalls
+pub mod PlainText
 pub mod RequestFalls
 pub mod Splices
 pub mod TaskFalls

@@ -17,6 +17,7 @@ pub mod Places
 pub mod Registers
 pub mod RequestLines
 pub mod Requests
+pub mod Runs
 pub mod Settings
 pub mod Spacing
 pub mod Springing

@@ -19,6 +19,7 @@ pub mod passed;
 pub mod registers;
 pub mod request_line;
 pub mod requests;
+pub mod runs;
 pub mod settings;
 pub mod spacing;
 pub mod springing;

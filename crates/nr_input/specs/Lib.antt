@@ -1,4 +1,5 @@
 pub mod Acting
+pub mod AtHand
 pub mod Coming
 pub mod Hearing
 pub mod Laws

@@ -3,6 +3,7 @@
 #![tactic(auto)]
 
 mod acting;
+mod at_hand;
 mod moving;
 mod place;
 mod reader;
@@ -13,6 +14,7 @@ mod splicing;
 mod tests;
 mod told;
 
+pub use at_hand::{take_window, window};
 pub use moving::advance;
 pub use nr_reading::{Event, Question, Standing};
 pub use place::{Ahead, Place};

@@ -45,12 +45,13 @@ impl Model for Place {
 }
 
 impl Place {
-    ghost use Rattle.std.specs.Prelude.{◌<◌, ◌^◌, OnOk, IfOk, Option, true};
+    ghost use Rattle.std.specs.Prelude.{◌<◌, ◌+◌, ◌^◌, OnOk, IfOk, Option, true};
     ghost use Rattle.nr_units.specs.Supply.{Supply};
     ghost use Rattle.nr_units.specs.Failures.{counted_if};
     ghost use Rattle.nr_store.specs.Stored.{shown, left};
     ghost use Rattle.nr_store.specs.Sights.{shown_with};
     ghost use Rattle.nr_input.specs.Coming.{Coming, Reached, HoldsComing, AfterSee, AfterLook, is_seen, is_ready, seen_front, passed, ended, front_seen, passed_in, StaysThere, nothing_reached, behind, emptied, fails_now, has_failed};
+    ghost use Rattle.nr_input.specs.AtHand.{is_unseen, passed_many};
 
     /// Nothing is taken yet.
     pub fn new() -> Self
@@ -69,6 +70,34 @@ impl Place {
         ensures within { result < 2 ^ 40 }
     {
         self.taken
+    }
+
+    /// Whether nothing was read ahead.
+    #[inline]
+    pub(crate) fn is_unseen(&self) -> bool
+        ensures { result ≡ is_unseen self.now.ahead }
+    {
+        matches!(self.ahead, Ahead::Unseen)
+    }
+
+    /// How many bytes more may be taken.
+    #[inline]
+    pub(crate) fn room(&self) -> usize
+        ensures value { self.now.taken + result < 2 ^ 40 }
+        ensures most { self.now.taken + result + 1 ≡ 2 ^ 40 }
+    {
+        (TOO_MANY - 1 - self.taken) as usize
+    }
+
+    /// So many bytes were taken, and the last was no newline.
+    #[inline]
+    pub(crate) fn pass_many(&mut self, n: usize)
+        requires unseen { is_unseen self.old.ahead ≡ true }
+        requires room { self.old.taken + n < 2 ^ 40 }
+        ensures { self.new ≡ passed_many n self.old }
+    {
+        self.taken += n as u64;
+        self.inside = true;
     }
 
     // The byte in front of the source is read ahead, or its end is seen.

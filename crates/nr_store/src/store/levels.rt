@@ -1,5 +1,5 @@
 // Levels: texts that are being read.
-ghost use Rattle.std.specs.Prelude.{◌≡◌, ◌++◌, ◌≤◌, length, drop, OnOk, OnErr, is_some, None, Some};
+ghost use Rattle.std.specs.Prelude.{◌≡◌, ◌++◌, ◌≤◌, nat_lt, length, drop, OnOk, OnErr, is_some, None, Some};
 ghost use Rattle.nr_tables.specs.Named.{find};
 ghost use Rattle.nr_levels.specs.Levels.{argument};
 ghost use Rattle.nr_store.specs.Stored.{checked, words, entered, reading_bytes, shown, left, dropped, emptied};
@@ -156,6 +156,14 @@ impl<'a, K: Copy> Store<'a, K> {
                 Sight::End
             }
         }
+    }
+
+    /// Whether a level is being read.
+    #[inline]
+    pub fn is_reading(&self) -> bool
+        ensures { result ≡ nat_lt 0 (length self.now.levels) }
+    {
+        self.levels.depth() > 0
     }
 
     /// The elements that come next of the newest level, as far as they lie in one row: all that is left of a text, and

@@ -1,5 +1,5 @@
 // Hyphenation words.
-ghost use Rattle.std.specs.Prelude.{◌≡◌, OnOk, OnErr};
+ghost use Rattle.std.specs.Prelude.{◌≡◌, nat_lt, length, OnOk, OnErr};
 ghost use Rattle.nr_tables.specs.Words.{bytes_of, points_of};
 ghost use Rattle.nr_store.specs.Stored.{afforded, worded};
 
@@ -29,6 +29,14 @@ impl<'a, K: Copy> Store<'a, K> {
         self.words.push(word);
         self.charge += weight;
         Ok(())
+    }
+
+    /// Whether there is a hyphenation word.
+    #[inline]
+    pub fn has_words(&self) -> bool
+        ensures { result ≡ nat_lt 0 (length self.now.words) }
+    {
+        self.words.len() > 0
     }
 
     /// The places where a word may be cut, each so many cells in, in rising order: those of the latest hyphenation word

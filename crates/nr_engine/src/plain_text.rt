@@ -1,0 +1,83 @@
+//! Runs of plain bytes of a text line: many moves in one call.
+ghost use Rattle.std.specs.Prelude.{◌≡◌, ◌≢◌, ◌<◌, ◌≤◌, ◌^◌, true, false, length, slice_index};
+ghost use Rattle.nr_input.specs.Coming.{has_failed};
+ghost use Rattle.nr_engine.specs.Holding.{shape};
+ghost use Rattle.nr_engine.specs.Running.{Makes};
+
+use crate::engine::Engine;
+use nr_formatter::runs::Gap;
+use nr_units::source::Source;
+
+/// Whether a blank comes first.
+#[inline]
+fn begins_with_blank(bytes: &[u8]) -> bool
+    ensures some { result ≡ true → 0 < length bytes.now }
+    ensures blank { result ≡ true → slice_index bytes.now 0 ≡ 32 }
+    ensures other { result ≡ false → 0 < length bytes.now → slice_index bytes.now 0 ≢ 32 }
+{
+    if bytes.is_empty() {
+        return false;
+    }
+    bytes[0] == b' '
+}
+
+impl<'a> Engine<'a> {
+    /// Reads and puts the bytes at hand that are plain, in a text line that has begun, and tells how many moves that were.
+    #[inline]
+    fn put_plain<R: Source>(&mut self, input: &mut R) -> u128
+        ensures makes { Makes result (shape self.old) (shape self.new) (R.supply input.old) (R.supply input.new) }
+        ensures few { result < 2 ^ 66 }
+        ensures failures { R.failures input.new ≡ R.failures input.old }
+        ensures unfailed { has_failed self.old.place.ahead ≡ false → has_failed self.new.place.ahead ≡ false }
+    {
+        if !self.formatter.is_in_line() {
+            return 0;
+        }
+        let bytes = nr_input::window(&self.place, &self.formatter.store, input);
+        let count = self.formatter.put_run(bytes);
+        if count == 0 {
+            return 0;
+        }
+        nr_input::take_window(&mut self.place, &mut self.formatter.reader, input, count);
+        2 * count as u128
+    }
+
+    /// Reads the blank behind a word where it is at hand and does nothing but end the word, and tells how many moves that
+    /// was.
+    #[inline]
+    fn put_gap<R: Source>(&mut self, input: &mut R) -> u128
+        ensures makes { Makes result (shape self.old) (shape self.new) (R.supply input.old) (R.supply input.new) }
+        ensures few { result ≤ 3 }
+        ensures failures { R.failures input.new ≡ R.failures input.old }
+        ensures unfailed { has_failed self.old.place.ahead ≡ false → has_failed self.new.place.ahead ≡ false }
+    {
+        if !self.formatter.is_in_line() {
+            return 0;
+        }
+        let bytes = nr_input::window(&self.place, &self.formatter.store, input);
+        if !begins_with_blank(bytes) {
+            return 0;
+        }
+        let gap = self.formatter.put_gap();
+        let moves = match gap {
+            Gap::Left => return 0,
+            Gap::Flows => 2,
+            Gap::Reads => 3,
+        };
+        nr_input::take_window(&mut self.place, &mut self.formatter.reader, input, 1);
+        moves
+    }
+
+    /// Reads and puts the plain bytes at hand and the blank behind them, in a text line that has begun, and tells how many
+    /// moves that were.
+    #[inline]
+    pub(crate) fn put_text<R: Source>(&mut self, input: &mut R) -> u128
+        ensures makes { Makes result (shape self.old) (shape self.new) (R.supply input.old) (R.supply input.new) }
+        ensures failures { R.failures input.new ≡ R.failures input.old }
+        ensures unfailed { has_failed self.old.place.ahead ≡ false → has_failed self.new.place.ahead ≡ false }
+    {
+        let plain = self.put_plain(input);
+        let gap = self.put_gap(input);
+        plain + gap
+    }
+}

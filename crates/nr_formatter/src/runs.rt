@@ -1,0 +1,91 @@
+//! Runs of bytes that stand for themselves, in a text line that has begun.
+ghost use Rattle.std.specs.Prelude.{◌≡◌, ◌<◌, ◌≤◌, false, length, take, slice_index, All};
+ghost use Rattle.nr_fill.specs.Pieces.{begins_line, line_cells, text_cells};
+ghost use Rattle.nr_fill.specs.Runs.{IsPlain};
+ghost use Rattle.nr_formatter.specs.Access.{collected};
+ghost use Rattle.nr_formatter.specs.Runs.{reads_next, is_in_line, run_put, gaps_plainly, AfterGap};
+
+use crate::formatter::Formatter;
+use crate::tasks::{After, Task};
+use nr_input::Event;
+
+/// What became of a blank behind a word.
+#[derive(Clone, Copy, Debug, PartialEq, Eq)]
+pub enum Gap {
+    /// It was left, and nothing changed.
+    Left,
+    /// It was read, and full lines go out next.
+    Flows,
+    /// It was read, and more is read next.
+    Reads,
+}
+
+impl<'a> Formatter<'a> {
+    /// Whether the input is read next, unless a macro springs.
+    #[inline]
+    fn reads_next(&self) -> bool
+        ensures { result ≡ reads_next self.now.event self.now.task }
+    {
+        match (self.event, self.task) {
+            (Event::Nothing, Task::Read) => true,
+            _ => false,
+        }
+    }
+
+    /// Whether the next item is read in a text line that has begun.
+    #[inline]
+    pub fn is_in_line(&self) -> bool
+        ensures { result ≡ is_in_line self.now }
+    {
+        self.springs.is_none()
+            && self.reads_next()
+            && self.reader.half.is_in_text()
+            && !self.line.is_empty()
+    }
+
+    /// Adds a front of these bytes to the line, up to the first that is not plain or whose cell would pass the limit. Tells
+    /// how many it added.
+    #[inline]
+    pub fn put_run(&mut self, bytes: &[u8]) -> usize
+        requires begun { begins_line (collected self.old) ≡ false }
+        ensures front { result ≤ length bytes.now }
+        ensures plain { All IsPlain (take result bytes.now) }
+        ensures is { self.new ≡ run_put (take result bytes.now) self.old }
+        ensures within { 0 < result → line_cells (collected self.new) ≤ self.new.line.limit }
+        ensures stops { result < length bytes.now → IsPlain (slice_index bytes.now result) → text_cells (collected self.new) ≡ self.new.line.limit }
+    {
+        let margins = self.settings.indents.margins();
+        let under = self.settings.fonts.is_under();
+        self.line.put_run(margins, under, bytes)
+    }
+
+    /// Whether a blank does nothing but end the word and widen the gap.
+    #[inline]
+    fn gaps_plainly(&self) -> bool
+        ensures { result ≡ gaps_plainly self.now }
+    {
+        self.settings.filling.is_filling()
+            && self.line.has_word()
+            && !self.line.has_field()
+            && (!self.breaks && !self.store.has_words())
+    }
+
+    /// Reads a blank behind a word, where it does nothing but end the word and widen the gap, and passes no limit.
+    #[inline]
+    pub fn put_gap(&mut self) -> Gap
+        ensures { AfterGap self.old result self.new }
+    {
+        if !self.gaps_plainly() {
+            return Gap::Left;
+        }
+        if self.line.end_word().is_err() {
+            return Gap::Left;
+        }
+        self.line.widen_gap();
+        if self.line.fits() {
+            return Gap::Reads;
+        }
+        self.task = Task::Flow(After::Text, false);
+        Gap::Flows
+    }
+}

@@ -1,0 +1,51 @@
+//! Bytes that the source has at hand, taken many at once.
+ghost use Rattle.std.specs.Prelude.{◌≡◌, ℕ, ◌+◌, ◌<◌, ◌≤◌, ◌^◌, true, length, take, [], Option};
+ghost use Rattle.nr_units.specs.Supply.{Skips};
+ghost use Rattle.nr_input.specs.AtHand.{is_unseen, ComeNext, behind_many, passed_many};
+ghost use Rattle.nr_input.specs.Coming.{Coming, HoldsComing};
+
+use super::place::Place;
+use super::reader::Reader;
+use nr_store::Store;
+use nr_units::source::Source;
+
+/// The bytes that come next of the input, as far as the source has them at hand: none where a level is read or a byte
+/// was read ahead.
+#[inline]
+pub fn window<'s, K: Copy, R: Source>(
+    place: &Place,
+    store: &Store<'_, K>,
+    source: &'s R,
+) -> &'s [u8]
+    ensures room { place.now.taken + length result.now < 2 ^ 40 }
+    ensures front { take (length result.now) (R.at_hand source.now) ≡ result.now }
+    ensures next { 0 < length result.now → (c : Coming) → HoldsComing c place.now (R.supply source.now) → ComeNext result.now c }
+    ensures unseen { 0 < length result.now → is_unseen place.now.ahead ≡ true }
+    ensures levels { 0 < length result.now → store.now.levels ≡ [] }
+{
+    let room = place.room();
+    if !place.is_unseen() || store.is_reading() {
+        return &[];
+    }
+    let window = source.window();
+    if window.len() > room {
+        return &window[..room];
+    }
+    window
+}
+
+/// Takes the first n of the bytes at hand, the last of them no newline.
+#[inline]
+pub fn take_window<R: Source>(place: &mut Place, reader: &mut Reader, source: &mut R, n: usize)
+    requires unseen { is_unseen place.old.ahead ≡ true }
+    requires room { place.old.taken + n < 2 ^ 40 }
+    requires at_hand { n ≤ length (R.at_hand source.old) }
+    ensures place { place.new ≡ passed_many n place.old }
+    ensures reader { reader.new ≡ record reader.old { burst = 0 } }
+    ensures coming { (c : Coming) → HoldsComing c place.old (R.supply source.old) → HoldsComing (behind_many n c) place.new (R.supply source.new) }
+    ensures failures { R.failures source.new ≡ R.failures source.old }
+{
+    source.skip(n);
+    place.pass_many(n);
+    reader.burst = 0;
+}

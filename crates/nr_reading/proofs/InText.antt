@@ -1,0 +1,29 @@
+-- A byte that stands for itself in the midst of a text line.
+use Rattle.std.proofs.Common.{◌≡◌, ◌≢◌, ℕ, Bool, true, false, List, [], ◌∷◌, refl, sym, ap, ◌∙◌}
+use Rattle.std.specs.Prelude.{◌==◌, if◌then◌else◌}
+use Rattle.nr_reading.specs.declared.ask.Ask.{Ask}
+use Rattle.nr_reading.specs.declared.event.Event.TheVariants as events
+use Rattle.nr_reading.specs.declared.front.Front.TheVariants as fronts
+use Rattle.nr_reading.specs.declared.half.Half.{Half}
+use Rattle.nr_reading.specs.declared.mode.Due.{Due}
+use Rattle.nr_reading.specs.declared.mode.Due.TheVariants as dues
+use Rattle.nr_reading.specs.declared.mode.Escape.{Escape}
+use Rattle.nr_reading.specs.declared.mode.Escape.TheVariants as escapes
+use Rattle.nr_reading.specs.declared.mode.Mode.{Mode}
+use Rattle.nr_reading.specs.declared.mode.Mode.TheVariants as modes
+use Rattle.nr_reading.specs.InText.{is_in_text, is_in_text_at, IsInText}
+use Rattle.nr_reading.specs.Meeting.{meet}
+
+parts : (m : Mode) (e : Escape) (d : Due) (asks : List Ask) → is_in_text_at m e d asks ≡ true → (m ≡ modes.Text) × (e ≡ escapes.Plain) × (d ≡ dues.Look) × (asks ≡ [])
+parts modes.Text escapes.Plain dues.Look [] is = (refl, refl, refl, refl)
+parts modes.Text escapes.Plain dues.Look (a ∷ asks) is = absurd (let wrong : false ≡ true = is in cc)
+parts m e d asks is = absurd (let wrong : false ≡ true = is in cc)
+
+pub in_text : (h : Half) → is_in_text h ≡ true → IsInText h
+in_text h is =
+    let all = parts h.reading.mode h.reading.escape h.reading.due h.asks is in
+    record { mode = all.0; escape = all.1; due = all.2; asks = all.3 }
+
+-- it is taken and told, and nothing else changes
+pub meet-plain : (b : ℕ) (h : Half) → IsInText h → (b == 10) ≡ false → (b == 92) ≡ false → meet (fronts.Byte b) h ≡ record { half = h; event = events.Byte b; takes = true }
+meet-plain b h is newline escape = rw (is.asks, is.mode, is.escape, newline, escape) refl
