@@ -74,8 +74,10 @@ fn passes<R: Files + AllocGlobal + Print>(
 ) -> anyhow::Result<bool> {
     let mut buffer = [0u8; BUFFER_SIZE];
     let whole = gives(rt, desk, name, end, &mut buffer)?;
-    let bytewise = gives(rt, desk, name, end, &mut buffer[..1])?;
-    Ok(whole && bytewise)
+    if !whole {
+        return Ok(false);
+    }
+    gives(rt, desk, name, end, &mut buffer[..1])
 }
 
 /// Whether a row gives its pages and ends so, read into this buffer.
