@@ -27,7 +27,7 @@
 .\"   )w 1 for a note that goes to the next page
 .\"   )p height of a line kept aside   )u fill mode    )i, )j, )e an indent
 .\"   )C 1 while lines are centred     )K 1 in a keep   )k height of a keep
-.\"   )g 1 while text is in italics
+.\"   )g 1 while text is in italics    )d place behind a display
 .\" Private names
 .\"   )N number of a heading  )M mark of a note    )r text of notes to be set
 .\"   )n notes of this page, )o of the next, )X newest notes, set
@@ -109,6 +109,7 @@
 .br
 .if \\n()r .)t
 .if \\n()B \{\
+.rs
 .bp
 .bp
 .\}
@@ -160,6 +161,7 @@
 .nr )I -\\n(QI
 .nr )l -\\n(QI*-1
 .sp
+.ns
 ..
 .\" before a paragraph
 .de )p
@@ -277,6 +279,8 @@
 .)c
 .in \\n()Iu
 .sp \\n(PDu
+.ns
+.nr )d \\n(.d
 ..
 .\" keep: set apart, then placed where it fits, with its notes
 .de KS
@@ -300,6 +304,7 @@
 .in \\n()eu
 .rm )k
 .if \\n()h .)a
+.if \\n()k=\\n()d .ns
 .\}
 ..
 .\" footnote: its text is set at the next break, or at the page's bottom if that
@@ -398,3 +403,4 @@
 .wh 0 )h
 .wh -5v )f
 .em )e
+.\" end of tmac.s
