@@ -8,7 +8,8 @@
 .\" Displays    .DS kind .DE   lines as they are: L at the margin, I indented, C
 .\"             centred
 .\" Keeps       .KS .KE   text that stays on one page, if it fits on one
-.\" Footnotes   \** a number in the text, then .FS mark .FE around the note
+.\" Footnotes   \** a number in the text, then .FS mark .FE around the note, which
+.\"             is read in copy mode first
 .\" Titles      .DA date   strings LH CH RH from the second page on, LF CF RF
 .\" Strings     \*Q \*U quotes   \*- a dash
 .\" Registers   LL line length, FL that of footnotes, PI indent of paragraphs,
@@ -31,7 +32,7 @@
 .\" Private names
 .\"   )N number of a heading  )M mark of a note    )r text of notes to be set
 .\"   )n notes of this page, )o of the next, )X newest notes, set
-.\"   )q a line kept aside    )k a keep
+.\"   )q a line kept aside    )k a keep          )y text of notes being set
 .ds Q "\(dq
 .ds U "\(dq
 .ds - --
