@@ -6,7 +6,7 @@ use nr_fill::out::Out;
 use nr_formatter::formatter::Formatter;
 use nr_formatter::passed::Passed;
 use nr_formatter::tasks::{Resume, Task};
-use nr_input::{Event, Place, Refusal, Told};
+use nr_input::{Event, Heard, Place, Refusal};
 use nr_page::Select;
 use nr_page::page::Page;
 use nr_store::Request;
@@ -27,6 +27,8 @@ pub struct Engine<'a> {
     pub(crate) page: Page<'a>,
     /// The pages to print.
     pub(crate) select: &'a Select,
+    /// What was under way where the text was sprung whose mark was taken last.
+    pub(crate) resumed: Resume,
     ghost has_row: { page.limit ≤ row.room },
 }
 
@@ -39,6 +41,7 @@ impl<'a> Engine<'a> {
     ghost use Rattle.nr_formatter.specs.Weights.{Falls};
     ghost use Rattle.nr_formatter.specs.declared.tasks.Resume.{Resume as ResumeValue};
     ghost use Rattle.nr_input.specs.declared.told.Told.TheVariants as tells;
+    ghost use Rattle.nr_input.specs.Hearing.{told_as};
     ghost use Rattle.nr_formatter.specs.Ending.{ex};
     ghost use Rattle.nr_formatter.specs.Moves.{works, worked};
     ghost use Rattle.nr_formatter.specs.Springing.{sprung};
@@ -97,17 +100,19 @@ impl<'a> Engine<'a> {
     }
 
     /// What was told is acted on then; what a sprung macro interrupted is gone on with.
-    fn tell(&mut self, told: Told<Resume>)
-        ensures is { shape self.new ≡ record (shape self.old) { formatter = told_formatter told self.old.formatter } }
-        ensures falls { (resume : ResumeValue) → told ≡ tells.Resume resume → self.old.formatter.event ≡ events.Nothing → self.old.formatter.task ≡ tasks.Read → Falls 0 510 self.old.formatter self.new.formatter }
+    #[inline(always)]
+    fn tell(&mut self, heard: Heard)
+        ensures is { shape self.new ≡ record (shape self.old) { formatter = told_formatter (told_as self.old.resumed heard) self.old.formatter } }
+        ensures falls { (resume : ResumeValue) → told_as self.old.resumed heard ≡ tells.Resume resume → self.old.formatter.event ≡ events.Nothing → self.old.formatter.task ≡ tasks.Read → Falls 0 510 self.old.formatter self.new.formatter }
     {
-        match told {
-            Told::Event(event) => self.formatter.event = event,
-            Told::Resume(resume) => self.formatter.resume(resume),
+        match heard {
+            Heard::Event(event) => self.formatter.event = event,
+            Heard::Resume => self.formatter.resume(&self.resumed),
         }
     }
 
     /// The item in front of the input is looked at, and taken or left; or what is due is done.
+    #[inline(always)]
     fn read<R: Source>(&mut self, input: &mut R) -> Result<(), Outcome>
         requires springs { self.old.formatter.springs ≡ None }
         requires idle { self.old.formatter.event ≡ events.Nothing }
@@ -124,9 +129,10 @@ impl<'a> Engine<'a> {
             &mut formatter.reader,
             &mut formatter.store,
             input,
+            &mut self.resumed,
         ) {
-            Ok(told) => {
-                self.tell(told);
+            Ok(heard) => {
+                self.tell(heard);
                 self.formatter.fit_memory();
                 Ok(())
             }
@@ -238,7 +244,7 @@ impl<'a> Engine<'a> {
     }
 
     /// One move, or why the run stops.
-    #[inline]
+    #[inline(always)]
     pub(crate) fn advance<R: Source, W: Sink>(
         &mut self,
         input: &mut R,

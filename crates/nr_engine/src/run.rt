@@ -96,6 +96,7 @@ impl<'a> Engine<'a> {
             row: Out::over(row),
             page: Page::over(page_cells, page_texts, page_rows, limits.cells()),
             select,
+            resumed: Resume::blank(),
         }
     }
 

@@ -48,8 +48,8 @@ impl<'a> Formatter<'a> {
     }
 
     /// What was under way is gone on with, behind the text of a sprung macro.
-    pub fn resume(&mut self, resume: Resume)
-        ensures is { self.new ≡ resumed resume self.old }
+    pub fn resume(&mut self, resume: &Resume)
+        ensures is { self.new ≡ resumed resume.now self.old }
         ensures falls { self.old.event ≡ events.Nothing → self.old.task ≡ tasks.Read → Falls 0 510 self.old self.new }
     {
         self.reader.stand(resume.standing);

@@ -96,6 +96,17 @@ pub struct Resume {
     pub line: RequestLine,
 }
 
+impl Resume {
+    /// The input is read, at the beginning of a line.
+    pub fn blank() -> Resume {
+        Resume {
+            task: Task::Read,
+            standing: Standing::Start,
+            line: RequestLine::of(&[]),
+        }
+    }
+}
+
 /// The steps of the end.
 #[derive(Clone, Copy, Debug, PartialEq, Eq)]
 pub enum Step {

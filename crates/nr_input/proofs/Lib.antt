@@ -1,3 +1,4 @@
+mod Hearing
 pub mod Costs
 pub mod Items
 pub mod Spending

@@ -1,6 +1,7 @@
 pub mod Acting
 pub mod AtHand
 pub mod Coming
+pub mod Hearing
 pub mod Laws
 pub mod Moving
 pub mod Refusals

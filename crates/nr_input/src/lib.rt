@@ -21,4 +21,4 @@ pub use place::{Ahead, Place};
 pub use reader::Reader;
 pub use refusal::Refusal;
 pub use splicing::Definition;
-pub use told::Told;
+pub use told::{Heard, Told};

@@ -3,15 +3,16 @@ ghost use Rattle.std.specs.Prelude.{◌≡◌, ◌≤◌, true, OnOk};
 ghost use Rattle.nr_units.specs.Failures.{counted_if};
 ghost use Rattle.nr_input.specs.Acting.{is_look};
 ghost use Rattle.nr_input.specs.Coming.{Coming, HoldsComing, fails_now, has_failed};
-ghost use Rattle.nr_input.specs.Moving.{burst_past, told_of, situation, AfterMove};
+ghost use Rattle.nr_input.specs.Moving.{burst_past, situation, AfterMove};
+ghost use Rattle.nr_input.specs.Hearing.{heard_of, told_with};
 ghost use Rattle.nr_input.specs.Weights.{PaysIfMade, diversions_in};
 
 use super::place::Place;
 use super::reader::Reader;
 use super::refusal::Refusal;
-use super::told::Told;
+use super::told::Heard;
 use nr_reading::Event;
-use nr_store::{Shown, Store};
+use nr_store::{Sight, Store};
 use nr_units::source::Source;
 
 // How many splices there were since the last byte of the input was taken, behind an item, by how many bytes were taken before
@@ -26,12 +27,12 @@ fn burst_behind(before: u64, taken: u64, burst: u64) -> u64
 }
 
 // What is told: a resume mark that is taken resumes what was under way.
-fn told_of<K: Copy>(shown: Shown<K>, event: Event) -> Told<K>
-    ensures { result ≡ told_of shown event }
+fn heard_of(sight: Sight, event: Event) -> Heard
+    ensures { result ≡ heard_of sight event }
 {
-    match shown {
-        Shown::Resume(mode) => Told::Resume(mode),
-        _ => Told::Event(event),
+    match sight {
+        Sight::Resume => Heard::Resume,
+        _ => Heard::Event(event),
     }
 }
 
@@ -41,45 +42,48 @@ fn look<K: Copy, R: Source>(
     reader: &mut Reader,
     store: &mut Store<'_, K>,
     source: &mut R,
-) -> Result<Told<K>, Refusal>
+    mode: &mut K,
+) -> Result<Heard, Refusal>
     requires { is_look reader.old.half.reading.due ≡ true }
     ensures moved { (c : Coming) → HoldsComing c place.old (R.supply source.old) →
-        AfterMove (situation store.old c reader.old) result store.new reader.new place.new (R.supply source.new) }
+        AfterMove (situation store.old c reader.old) (told_with mode.new result) store.new reader.new place.new (R.supply source.new) }
     ensures failures { R.failures source.new ≡ counted_if (fails_now place.old.ahead result) (R.failures source.old) }
-    ensures pays { PaysIfMade store.old place.old reader.old result store.new place.new reader.new }
+    ensures pays { PaysIfMade store.old place.old reader.old (told_with mode.new result) store.new place.new reader.new }
     ensures diversions { diversions_in store.new.building ≤ diversions_in store.old.building }
     ensures unfailed { OnOk result (has_failed place.new.ahead ≡ has_failed place.old.ahead) }
 {
     let front = place.look(store, source)?;
     let seen = reader.half.meet(front);
     if !seen.takes {
-        return Ok(Told::Event(seen.event));
+        return Ok(Heard::Event(seen.event));
     }
     let before = place.taken();
-    let shown = place.take(store);
+    let sight = place.take(store, mode);
     reader.burst = burst_behind(before, place.taken(), reader.burst);
-    Ok(told_of(shown, seen.event))
+    Ok(heard_of(sight, seen.event))
 }
 
-/// One move: it takes an item, or makes a splice, or adds an element, or sees what is next.
+/// One move: it takes an item, or makes a splice, or adds an element, or sees what is next. Where it takes the mark
+/// behind a sprung text, it puts what was under way into `mode`.
 pub fn advance<K: Copy, R: Source>(
     place: &mut Place,
     reader: &mut Reader,
     store: &mut Store<'_, K>,
     source: &mut R,
-) -> Result<Told<K>, Refusal>
+    mode: &mut K,
+) -> Result<Heard, Refusal>
     ensures moved { (c : Coming) → HoldsComing c place.old (R.supply source.old) →
-        AfterMove (situation store.old c reader.old) result store.new reader.new place.new (R.supply source.new) }
+        AfterMove (situation store.old c reader.old) (told_with mode.new result) store.new reader.new place.new (R.supply source.new) }
     ensures failures { R.failures source.new ≡ counted_if (fails_now place.old.ahead result) (R.failures source.old) }
-    ensures pays { PaysIfMade store.old place.old reader.old result store.new place.new reader.new }
+    ensures pays { PaysIfMade store.old place.old reader.old (told_with mode.new result) store.new place.new reader.new }
     ensures diversions { diversions_in store.new.building ≤ diversions_in store.old.building }
     ensures unfailed { OnOk result (has_failed place.new.ahead ≡ has_failed place.old.ahead) }
 {
     if reader.looks() {
-        return look(place, reader, store, source);
+        return look(place, reader, store, source, mode);
     }
     match reader.act(store) {
-        Ok(event) => Ok(Told::Event(event)),
+        Ok(event) => Ok(Heard::Event(event)),
         Err(refusal) => Err(refusal),
     }
 }

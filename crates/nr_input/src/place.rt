@@ -3,7 +3,7 @@ ghost use Rattle.std.specs.Prelude.{◌≡◌};
 
 use super::refusal::Refusal;
 use nr_reading::Front;
-use nr_store::{Element, Shown, Store};
+use nr_store::{Element, Sight, Store};
 use nr_units::source::Source;
 use std::marker::Model;
 
@@ -49,6 +49,7 @@ impl Place {
     ghost use Rattle.nr_units.specs.Supply.{Supply};
     ghost use Rattle.nr_units.specs.Failures.{counted_if};
     ghost use Rattle.nr_store.specs.Stored.{shown, left};
+    ghost use Rattle.nr_store.specs.Sights.{shown_with};
     ghost use Rattle.nr_input.specs.Coming.{Coming, Reached, HoldsComing, AfterSee, AfterLook, is_seen, is_ready, seen_front, passed, ended, front_seen, passed_in, StaysThere, nothing_reached, behind, emptied, fails_now, has_failed};
     ghost use Rattle.nr_input.specs.AtHand.{is_unseen, passed_many};
 
@@ -178,34 +179,35 @@ impl Place {
         ensures unfailed { OnOk result (has_failed self.new.ahead ≡ has_failed self.old.ahead) }
     {
         match store.look() {
-            Shown::Item(element) => match element {
+            Sight::Item(element) => match element {
                 Element::Byte(byte) => Ok(Front::Byte(byte)),
                 Element::Cell(cell) => Ok(Front::Cell(cell)),
                 Element::LineEnd(height) => Ok(Front::LineEnd(height)),
             },
-            Shown::End => Ok(Front::Mark),
-            Shown::Resume(_) => Ok(Front::Resume),
-            Shown::Nothing => {
+            Sight::End => Ok(Front::Mark),
+            Sight::Resume => Ok(Front::Resume),
+            Sight::Nothing => {
                 self.see(source)?;
                 Ok(self.front())
             }
         }
     }
 
-    /// The item in front of the list, which was looked at, is taken. Answers what was taken of the levels.
-    pub(crate) fn take<K: Copy>(&mut self, store: &mut Store<'_, K>) -> Shown<K>
+    /// The item in front of the list, which was looked at, is taken. Answers what was taken of the levels, and puts a mode
+    /// into `mode`.
+    pub(crate) fn take<K: Copy>(&mut self, store: &mut Store<'_, K>, mode: &mut K) -> Sight
         requires { is_ready (shown store.old.levels) self.old.ahead ≡ true }
-        ensures was { result ≡ shown store.old.levels }
+        ensures was { shown_with result mode.new ≡ shown store.old.levels }
         ensures store { store.new ≡ left store.old.levels store.old }
         ensures place { self.new ≡ passed_in (shown store.old.levels) self.old }
         ensures takes { (c : Coming) → (supply : Option Supply) → HoldsComing c self.old supply → HoldsComing (behind (shown store.old.levels) c) self.new supply }
     {
-        let shown = store.take();
-        match shown {
-            Shown::Nothing => self.pass(),
+        let sight = store.take(mode);
+        match sight {
+            Sight::Nothing => self.pass(),
             _ => {}
         }
-        shown
+        sight
     }
 
     /// What is unread of the source is to come no more: the source is not asked again. Levels are the store's (CSTR 54, `.ex`).

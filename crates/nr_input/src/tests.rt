@@ -143,10 +143,10 @@ fn read(text: &mut Vec<u8>, bytes: &[u8], limit: u32, most: u64) -> Result<(), A
     let mut place = Place::new();
     let mut reader = Reader::new(most);
     for _ in 0..4000 {
-        match advance(&mut place, &mut reader, &mut store, &mut source) {
-            Ok(Told::Event(Event::Over)) => return Ok(()),
-            Ok(Told::Event(event)) => show(event, &mut place, &mut reader, &mut store, text)?,
-            Ok(Told::Resume(_)) => {}
+        match advance(&mut place, &mut reader, &mut store, &mut source, &mut 0) {
+            Ok(Heard::Event(Event::Over)) => return Ok(()),
+            Ok(Heard::Event(event)) => show(event, &mut place, &mut reader, &mut store, text)?,
+            Ok(Heard::Resume) => {}
             Err(refusal) => {
                 match refusal {
                     Refusal::Stored => text.extend_from_slice(b"<stored>")?,

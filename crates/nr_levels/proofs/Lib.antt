@@ -1,3 +1,4 @@
+mod Going
 pub mod Stacked
 pub mod Pushing
 pub mod Cutting

@@ -1,12 +1,11 @@
 -- Lemmas on levels in a row of frames.
 use Rattle.std.proofs.Common.{◌≡◌, ℕ, ◌+◌, ◌*◌, ◌^◌, ◌<◌, ◌≤◌, List, [], ◌∷◌, ◌++◌, length, map, take, drop, get_or, Option, Some, None, refl, ap, ap₂, sym, ◌∙◌, subst, inl, inr, arith}
 use Rattle.std.specs.List.{slice_get}
-use Rattle.std.proofs.lemmas.List.{take-take, length-take, drop_all, drop_more, get_or-take, length-take-le, drop-drop}
+use Rattle.std.proofs.lemmas.List.{take-take, length-take, drop_all, drop_more, get_or-take, length-take-le}
 use Rattle.std.proofs.lemmas.Bool.{cases_lt}
 use Rattle.std.proofs.lemmas.List.Sums.{sum_by-cons}
 use Rattle.std.proofs.lemmas.Option.{get_or_from_slice_get}
-use Rattle.nr_levels.specs.Levels.{Source, Text, Own, Mark, Open, Levels, total, front, front_of, behind, advanced, marks, closed, HasNext}
-use Rattle.nr_levels.specs.Further.{further, further_on, Reaches, NewestReaches}
+use Rattle.nr_levels.specs.Levels.{Source, Text, Own, Mark, Open, Levels, total, front, front_of, marks, closed, HasNext}
 use Rattle.nr_levels.specs.Frames.{part, arguments_of, source_of, open_of, levels_of, EndBy, AreBelow, ReadsBelow, reader, readers, IsStacked, AreLevels}
 use Rattle.nr_levels.specs.declared.frame.Span.{Span}
 use Rattle.nr_levels.specs.declared.frame.Frame.{Frame}
@@ -157,59 +156,6 @@ has_next_own xs s o is next = elim (cases_lt s.first s.last) [
 
 pub has_next_text : {K : Type 0} → (id place : ℕ) (o : Option (Front K)) → o ≡ Some (front (Text id place)) → HasNext o → place + 1 < 2 ^ 32
 has_next_text id place o is next = rw is at next
-
--- the newest level goes on
-pub advanced_is : {K : Type 0} → (fs gs : List (Frame K)) (xs : List ℕ) (ps : List Span) (now : Span) (room most : ℕ) (v : Levels K) (f : Frame K) (r : Reads K)
-    → levels_of fs xs ps now room most ≡ v → slice_get fs 0 ≡ Some f → gs ≡ record f { reads = r } ∷ drop 1 fs → source_of xs r ≡ behind (source_of xs f.reads)
-    → levels_of gs xs ps now room most ≡ record v { levels = advanced v.levels }
-advanced_is fs gs xs ps now room most v f r view top is source =
-    let step = λ (w : Levels _). record w { levels = advanced w.levels } in
-    ap (λ ks. levels_of ks xs ps now room most) is
-    ∙ ap (λ s. record (levels_of (drop 1 fs) xs ps now room most) { levels = record (open_of xs ps f) { source = s } ∷ map (open_of xs ps) (drop 1 fs) }) source
-    ∙ ap (λ ks. step (levels_of ks xs ps now room most)) (sym (cons_of fs f top))
-    ∙ ap step view
-
-pub behind_own : {K : Type 0} → (xs : List ℕ) (s : Span) → behind {K = K} (Own (part xs s)) ≡ Own (part xs (record s { first = s.first + 1 }))
-behind_own xs s = ap Own (drop-drop 1 s.first (take s.last xs))
-
-pub advanced_own : {K : Type 0} → (fs gs : List (Frame K)) (xs : List ℕ) (ps : List Span) (now : Span) (room most : ℕ) (v : Levels K) (f : Frame K) (s : Span)
-    → levels_of fs xs ps now room most ≡ v → slice_get fs 0 ≡ Some f → f.reads ≡ reads.Own s → gs ≡ record f { reads = reads.Own (record s { first = s.first + 1 }) } ∷ drop 1 fs
-    → levels_of gs xs ps now room most ≡ record v { levels = advanced v.levels }
-advanced_own fs gs xs ps now room most v f s view top was is =
-    advanced_is fs gs xs ps now room most v f (reads.Own (record s { first = s.first + 1 })) view top is (sym (behind_own xs s) ∙ ap (λ r. behind (source_of xs r)) (sym was))
-
--- the newest level goes on by so many
-module _ {K : Type 0} (fs : List (Frame K)) (xs : List ℕ) (ps : List Span) (now : Span) (room most n : ℕ) (v : Levels K) (view : levels_of fs xs ps now room most ≡ v) (f : Frame K) (top : slice_get fs 0 ≡ Some f) where
-  pub further_is : (r : Reads K) → source_of xs r ≡ further n (source_of xs f.reads) → levels_of (record f { reads = r } ∷ drop 1 fs) xs ps now room most ≡ record v { levels = further_on n v.levels }
-  further_is r source =
-      let step = λ (w : Levels _). record w { levels = further_on n w.levels } in
-      ap (λ s. record (levels_of (drop 1 fs) xs ps now room most) { levels = record (open_of xs ps f) { source = s } ∷ map (open_of xs ps) (drop 1 fs) }) source
-      ∙ ap (λ ks. step (levels_of ks xs ps now room most)) (sym (cons_of fs f top))
-      ∙ ap step view
-
-  pub further_text : (id place : ℕ) → f.reads ≡ reads.Text id place → levels_of (record f { reads = reads.Text id (place + n) } ∷ drop 1 fs) xs ps now room most ≡ record v { levels = further_on n v.levels }
-  further_text id place was = further_is (reads.Text id (place + n)) (ap (λ r. further n (source_of xs r)) (sym was))
-
-  pub further_own : (s : Span) → f.reads ≡ reads.Own s → levels_of (record f { reads = reads.Own (record s { first = s.first + n }) } ∷ drop 1 fs) xs ps now room most ≡ record v { levels = further_on n v.levels }
-  further_own s was =
-      further_is (reads.Own (record s { first = s.first + n })) (sym (ap Own (drop-drop n s.first (take s.last xs))) ∙ ap (λ r. further n (source_of xs r)) (sym was))
-
-  pub further_mark : (mode : K) → f.reads ≡ reads.Mark mode → v ≡ record v { levels = further_on n v.levels }
-  further_mark mode was =
-      sym view ∙ ap (λ ks. levels_of ks xs ps now room most) (cons_of fs f top ∙ ap (λ r. record f { reads = r } ∷ drop 1 fs) was)
-      ∙ further_is (reads.Mark mode) (ap (λ r. further n (source_of xs r)) (sym was))
-
-  -- it has so many more
-  pub reaches : NewestReaches n v.levels → Reaches n (source_of xs f.reads)
-  reaches h =
-      let all : NewestReaches n (map (open_of xs ps) fs) = subst (λ (w : Levels K). NewestReaches n w.levels) (sym view) h in
-      subst (λ gs. NewestReaches n (map (open_of xs ps) gs)) (cons_of fs f top) all
-
-  pub reaches_text : (id place : ℕ) → f.reads ≡ reads.Text id place → NewestReaches n v.levels → 0 < n → place + n < 2 ^ 32
-  reaches_text id place was h some = subst (λ r. Reaches n (source_of xs r)) was (reaches h) some
-
-  pub reaches_own : (s : Span) → f.reads ≡ reads.Own s → NewestReaches n v.levels → n ≤ length (part xs s)
-  reaches_own s was h = subst (λ r. Reaches n (source_of xs r)) was (reaches h)
 
 -- ---- the newest level's end
 

@@ -3,3 +3,4 @@ pub mod Frames
 pub mod Further
 pub mod Gathered
 pub mod Laws
+pub mod Moving

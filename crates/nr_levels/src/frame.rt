@@ -39,6 +39,33 @@ pub(crate) enum Reads<K> {
     Mark(K),
 }
 
+impl<K: Copy> Reads<K> {
+    ghost use Rattle.nr_levels.specs.Moving.{gone_on, MayGoOn, mode_of};
+
+    // So many elements further on.
+    #[inline]
+    pub(crate) fn go_on(&mut self, n: u32)
+        requires { MayGoOn n self.old }
+        ensures { self.new ≡ gone_on n self.old }
+    {
+        match self {
+            Reads::Text(_, place) => *place += n,
+            Reads::Own(span) => *span = span.behind(n),
+            Reads::Mark(_) => {}
+        }
+    }
+
+    // The mode that is to be resumed.
+    pub(crate) fn mode(&self) -> Option<K>
+        ensures { result ≡ mode_of self.now }
+    {
+        match self {
+            Reads::Mark(mode) => Some(*mode),
+            _ => None,
+        }
+    }
+}
+
 /// A level, with a mode of `K` to resume behind its end.
 //
 // The arguments in force before it are a part of the row of places, and below `height` lie the bytes that were kept
@@ -76,6 +103,21 @@ impl<K: Copy> Frame<K> {
             resume: self.resume,
         }
     }
+}
+
+/// What the newest level gives next, a mode left where it lies.
+#[derive(Clone, Copy, Debug, Drop)]
+pub enum Next {
+    /// There is no level.
+    Nothing,
+    /// What a text has at a place, or the end where it has no more.
+    Text(Id, u32),
+    /// A byte.
+    Byte(u8),
+    /// The level's end.
+    End,
+    /// The mode that is resumed behind a level whose end was taken.
+    Resume,
 }
 
 /// What the newest level gives next.

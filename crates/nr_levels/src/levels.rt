@@ -2,8 +2,10 @@
 ghost use Rattle.std.specs.Prelude.{◌≡◌, ◌+◌, ◌*◌, ◌/◌, ◌^◌, ◌<◌, ◌≤◌, [], length, min, sum, nat_le, Some, None};
 ghost use Rattle.nr_levels.specs.Levels.{Text, Own, total, front_of, advanced, HasNext, HasEnd, HasMark, deeper, closed, charge_of_newest, resumed, argument, cut};
 ghost use Rattle.nr_levels.specs.Further.{further_on, NewestReaches};
+ghost use Rattle.nr_levels.specs.Moving.{Comes};
+ghost use Rattle.nr_levels.specs.declared.frame.Front.TheVariants as fronts;
 
-use crate::frame::{Frame, Front, Reads, Span};
+use crate::frame::{Frame, Next, Reads, Span};
 use crate::spans::{push_spans, span_of};
 use crate::stack::Stack;
 use nr_pool::Id;
@@ -72,23 +74,42 @@ impl<'a, K: Copy> Levels<'a, K> {
 
     /// What the newest level gives next.
     #[inline]
-    pub fn front(&self) -> Option<Front<K>>
-        ensures { result ≡ front_of self.now.levels }
+    pub fn front(&self) -> Next
+        ensures { Comes result (front_of self.now.levels) }
     {
-        let Some(frame) = self.frames.top() else {
-            return None;
-        };
-        let reads = frame.reads;
-        match reads {
-            Reads::Text(id, place) => Some(Front::Text(id, place)),
+        if self.frames.is_empty() {
+            return Next::Nothing;
+        }
+        match self.frames.at(0).reads {
+            Reads::Text(id, place) => Next::Text(id, place),
             Reads::Own(span) => {
                 if span.first >= span.last {
-                    return Some(Front::End);
+                    return Next::End;
                 }
-                Some(Front::Byte(self.bytes.get(span.first as usize)))
+                Next::Byte(self.bytes.get(span.first as usize))
             }
-            Reads::Mark(mode) => Some(Front::Resume(mode)),
+            Reads::Mark(_) => Next::Resume,
         }
+    }
+
+    /// Takes the mode that comes next away, and puts it into `mode`.
+    pub fn resume(&mut self, mode: &mut K)
+        requires { HasMark (front_of self.old.levels) }
+        ensures mode { front_of self.old.levels ≡ Some (fronts.Resume mode.new) }
+        ensures rest { self.new ≡ resumed self.old.levels self.old }
+    {
+        if let Some(next) = self.frames.at(0).reads.mode() {
+            *mode = next;
+        }
+        self.drop_mode();
+    }
+
+    /// Takes the mode that comes next away.
+    pub fn drop_mode(&mut self)
+        requires { HasMark (front_of self.old.levels) }
+        ensures { self.new ≡ resumed self.old.levels self.old }
+    {
+        self.frames.pop();
     }
 
     /// The newest level goes on behind the element that it gave.
@@ -97,15 +118,7 @@ impl<'a, K: Copy> Levels<'a, K> {
         requires { HasNext (front_of self.old.levels) }
         ensures { self.new ≡ record self.old { levels = advanced self.old.levels } }
     {
-        let Some(frame) = self.frames.top() else {
-            return;
-        };
-        let reads = frame.reads;
-        match reads {
-            Reads::Text(id, place) => self.frames.set_top(frame.with(Reads::Text(id, place + 1))),
-            Reads::Own(span) => self.frames.set_top(frame.with(Reads::Own(span.behind(1)))),
-            Reads::Mark(_) => {}
-        }
+        self.frames.go_on(1);
     }
 
     /// The newest level goes on behind so many elements.
@@ -114,15 +127,10 @@ impl<'a, K: Copy> Levels<'a, K> {
         requires { NewestReaches n self.old.levels }
         ensures { self.new ≡ record self.old { levels = further_on n self.old.levels } }
     {
-        let Some(frame) = self.frames.top() else {
+        if self.frames.is_empty() {
             return;
-        };
-        let reads = frame.reads;
-        match reads {
-            Reads::Text(id, place) => self.frames.set_top(frame.with(Reads::Text(id, place + n))),
-            Reads::Own(span) => self.frames.set_top(frame.with(Reads::Own(span.behind(n)))),
-            Reads::Mark(_) => {}
         }
+        self.frames.go_on(n);
     }
 
     /// Opens a level that reads a text, with no arguments in force, and with a mode to resume behind its end.
@@ -253,15 +261,6 @@ impl<'a, K: Copy> Levels<'a, K> {
             resume: None,
         });
         frame.charge
-    }
-
-    /// Takes the mode that comes next away.
-    #[inline]
-    pub fn resume(&mut self)
-        requires { HasMark (front_of self.old.levels) }
-        ensures { self.new ≡ resumed self.old.levels self.old }
-    {
-        self.frames.pop();
     }
 
     /// With no levels there are no arguments in force.

@@ -1,6 +1,7 @@
 //! A stack over a slice that is lent.
 ghost use Rattle.std.specs.Prelude.{◌≡◌, ◌==◌, ◌<◌, ◌≤◌, [], ◌∷◌, length, drop, slice_get, Some};
 
+use crate::frame::Frame;
 use std::marker::Model;
 
 /// Items in a slice that is lent. A clause sees the last that came as the first, and the room, the greatest number
@@ -111,5 +112,18 @@ impl<'a, T: Copy> Stack<'a, T> {
         ensures { self.new ≡ record self.old { items = drop 1 self.old.items } }
     {
         self.len -= 1;
+    }
+}
+
+impl<'a, K: Copy> Stack<'a, Frame<K>> {
+    ghost use Rattle.nr_levels.specs.Moving.{newest_gone_on, NewestMayGoOn};
+
+    /// What came last reads so many elements further on.
+    #[inline]
+    pub(crate) fn go_on(&mut self, n: u32)
+        requires { NewestMayGoOn n self.old.items }
+        ensures { self.new ≡ record self.old { items = newest_gone_on n self.old.items } }
+    {
+        self.items[self.len - 1].reads.go_on(n);
     }
 }

@@ -13,7 +13,7 @@ use Rattle.nr_reading.specs.declared.notes.Condition.{Condition}
 use Rattle.nr_reading.specs.declared.notes.Defining.{Defining}
 use Rattle.nr_reading.specs.declared.notes.Notes.{Notes}
 use Rattle.nr_reading.specs.declared.spelled.Spelled.{Spelled}
-use Rattle.nr_reading.specs.declared.step.Step.{Step}
+use Rattle.nr_reading.specs.Steps.{Step}
 use Rattle.nr_reading.specs.Conditions.{begins_number, read_condition_byte, read_condition, read_number, read_first, read_second}
 use Rattle.nr_reading.specs.Control.{completes, read_name, read_macro_gap, read_word, read_quoted}
 use Rattle.nr_reading.specs.Definitions.{last_line, ends_whole, not_last, read_body_start, over_body_start}

@@ -11,7 +11,7 @@ use Rattle.nr_reading.specs.declared.mode.Escape.TheVariants as escapes
 use Rattle.nr_reading.specs.declared.mode.Mode.{Mode}
 use Rattle.nr_reading.specs.declared.mode.Mode.TheVariants as modes
 use Rattle.nr_reading.specs.declared.mode.Signs.{Signs}
-use Rattle.nr_reading.specs.declared.step.Step.{Step}
+use Rattle.nr_reading.specs.Steps.{Step}
 use Rattle.nr_reading.specs.Asking.{first_stage}
 use Rattle.nr_reading.specs.Modes.{is_direct}
 use Rattle.nr_reading.specs.Reading.{unescaped, behind_backslash, direct}

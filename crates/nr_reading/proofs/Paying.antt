@@ -21,9 +21,9 @@ use Rattle.nr_reading.specs.declared.mode.Mode.TheVariants as modes
 use Rattle.nr_reading.specs.declared.mode.Reading.{Reading}
 use Rattle.nr_reading.specs.declared.mode.Signs.{Signs}
 use Rattle.nr_reading.specs.declared.notes.Notes.{Notes}
-use Rattle.nr_reading.specs.declared.step.Note.{Note}
-use Rattle.nr_reading.specs.declared.step.Note.TheVariants as notes
-use Rattle.nr_reading.specs.declared.step.Step.{Step}
+use Rattle.nr_reading.specs.Notes.{Note}
+use Rattle.nr_reading.specs.Notes as notes
+use Rattle.nr_reading.specs.Steps.{Step}
 use Rattle.nr_reading.specs.Asking.{begun_ask, first_stage, answer, cut, reads_argument, is_size}
 use Rattle.nr_reading.specs.Copying.{offer, raw_offer, escaped}
 use Rattle.nr_reading.specs.Delimiting.{Texts}

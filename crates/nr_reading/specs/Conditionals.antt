@@ -1,5 +1,5 @@
 -- Answers of conditions, and what follows them (CSTR 54, 16).
-use Rattle.std.specs.Prelude.{◌-◌, ◌==◌, not, Bool, true, false, if◌then◌else◌, List, [], ◌∷◌, drop, slice_get, Option, None, Some}
+use Rattle.std.specs.Prelude.{not, Bool, true, false, if◌then◌else◌, drop, slice_get, Option, None, Some}
 use Rattle.nr_reading.specs.declared.half.Half.{Half}
 use Rattle.nr_reading.specs.declared.mode.Mode.{Mode}
 use Rattle.nr_reading.specs.declared.mode.Mode.TheVariants as modes

@@ -1,13 +1,13 @@
 -- Conditions (CSTR 54, 16).
-use Rattle.std.specs.Prelude.{ℕ, ◌+◌, ◌-◌, ◌==◌, ◌&&◌, ◌||◌, not, nat_le, Bool, true, false, if◌then◌else◌}
+use Rattle.std.specs.Prelude.{ℕ, ◌-◌, ◌==◌, ◌&&◌, ◌||◌, not, Bool, true, false, if◌then◌else◌}
 use Rattle.nr_reading.specs.declared.event.Event.TheVariants as events
 use Rattle.nr_reading.specs.declared.event.Question.TheVariants as questions
 use Rattle.nr_reading.specs.declared.mode.Due.TheVariants as dues
 use Rattle.nr_reading.specs.declared.mode.Mode.TheVariants as modes
 use Rattle.nr_reading.specs.declared.mode.Reading.{Reading}
 use Rattle.nr_reading.specs.declared.notes.Condition.{Condition}
-use Rattle.nr_reading.specs.declared.step.Note.TheVariants as notes
-use Rattle.nr_reading.specs.declared.step.Step.{Step}
+use Rattle.nr_reading.specs.Notes as notes
+use Rattle.nr_reading.specs.Steps.{Step}
 use Rattle.nr_reading.specs.Asking.{is_digit}
 use Rattle.nr_reading.specs.Noting.{one_more, are_equal}
 use Rattle.nr_reading.specs.Spelling.{is_blank}

@@ -5,8 +5,8 @@ use Rattle.nr_reading.specs.declared.mode.Due.TheVariants as dues
 use Rattle.nr_reading.specs.declared.mode.Mode.TheVariants as modes
 use Rattle.nr_reading.specs.declared.mode.Reading.{Reading}
 use Rattle.nr_reading.specs.declared.spelled.Spelled.{Spelled}
-use Rattle.nr_reading.specs.declared.step.Note.TheVariants as notes
-use Rattle.nr_reading.specs.declared.step.Step.{Step}
+use Rattle.nr_reading.specs.Notes as notes
+use Rattle.nr_reading.specs.Steps.{Step}
 use Rattle.nr_reading.specs.Spelling.{is_blank, ends_name}
 use Rattle.nr_reading.specs.Steps.{to, due, go, leave, tell, noting, leave_noting}
 

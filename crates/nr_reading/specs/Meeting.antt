@@ -1,5 +1,5 @@
 -- What the item in front does to what is half read.
-use Rattle.std.specs.Prelude.{ℕ, ◌-◌, ◌==◌, ◌&&◌, not, Bool, true, false, if◌then◌else◌, List, [], ◌∷◌, drop, slice_get, Option, None, Some}
+use Rattle.std.specs.Prelude.{ℕ, ◌&&◌, Bool, true, false, if◌then◌else◌, List, [], ◌∷◌, drop}
 use Rattle.nr_reading.specs.declared.ask.Ask.{Ask}
 use Rattle.nr_reading.specs.declared.ask.Answer.{Answer}
 use Rattle.nr_reading.specs.declared.ask.Answer.TheVariants as answers
@@ -13,14 +13,13 @@ use Rattle.nr_reading.specs.declared.event.Event.TheVariants as events
 use Rattle.nr_reading.specs.declared.front.Front.{Front}
 use Rattle.nr_reading.specs.declared.half.Half.{Half}
 use Rattle.nr_reading.specs.declared.half.Seen.{Seen}
-use Rattle.nr_reading.specs.declared.mode.Due.{Due}
 use Rattle.nr_reading.specs.declared.mode.Due.TheVariants as dues
 use Rattle.nr_reading.specs.declared.mode.Escape.{Escape}
 use Rattle.nr_reading.specs.declared.mode.Escape.TheVariants as escapes
-use Rattle.nr_reading.specs.declared.step.Note.{Note}
-use Rattle.nr_reading.specs.declared.step.Note.TheVariants as notes
-use Rattle.nr_reading.specs.declared.step.Step.{Step}
-use Rattle.nr_reading.specs.Asking.{counts, has_text, reads_argument, is_size, begun_ask, answer, due_of, event_of}
+use Rattle.nr_reading.specs.Notes.{Note}
+use Rattle.nr_reading.specs.Notes as notes
+use Rattle.nr_reading.specs.Steps.{Step}
+use Rattle.nr_reading.specs.Asking.{has_text, reads_argument, is_size, begun_ask, answer, due_of, event_of}
 use Rattle.nr_reading.specs.Copying.{offer, raw_offer}
 use Rattle.nr_reading.specs.Delimiting.{begun_text, with_text_byte, ended_text, no_texts}
 use Rattle.nr_reading.specs.Modes.{is_direct, reads_arguments, at_a_line, first_signs}
@@ -118,6 +117,10 @@ answered front (answers.Argument n) h = settled true front events.Nothing (argue
 abbrev pub asked_by : Note → Half → Half
 asked_by (notes.Begin a) h = asking a h
 asked_by n h = h
+
+-- what was noted, the reader having gone on
+abbrev pub noted_in : Note → Half → Half
+noted_in n h = asked_by n (record h { notes = noted n h.notes })
 
 abbrev pub stepped : Step → Half → Half
 stepped s h = asked_by s.note (record h { reading = s.reading; notes = noted s.note h.notes })

@@ -1,10 +1,10 @@
 -- What is noted of a line while it is read.
-use Rattle.std.specs.Prelude.{ℕ, ◌+◌, ◌==◌, ◌&&◌, ◌^◌, ◌-◌, min, not, Bool, true, false, if◌then◌else◌, List, [], ◌∷◌, take, drop, length}
+use Rattle.std.specs.Prelude.{ℕ, ◌+◌, ◌==◌, ◌&&◌, ◌^◌, ◌-◌, min, Bool, true, false, List, [], ◌∷◌, take}
 use Rattle.nr_reading.specs.declared.notes.Condition.{Condition}
 use Rattle.nr_reading.specs.declared.notes.Defining.{Defining}
 use Rattle.nr_reading.specs.declared.notes.Notes.{Notes}
-use Rattle.nr_reading.specs.declared.step.Note.{Note}
-use Rattle.nr_reading.specs.declared.step.Note.TheVariants as notes
+use Rattle.nr_reading.specs.Notes.{Note}
+use Rattle.nr_reading.specs.Notes as notes
 use Rattle.nr_reading.specs.Keeping.{kept, fits_at}
 use Rattle.nr_reading.specs.Spelling.{nothing_spelled, spelled}
 

@@ -9,12 +9,12 @@ use Rattle.nr_reading.specs.declared.mode.Mode.TheVariants as modes
 use Rattle.nr_reading.specs.declared.mode.Reading.{Reading}
 use Rattle.nr_reading.specs.declared.mode.Signs.{Signs}
 use Rattle.nr_reading.specs.declared.notes.Notes.{Notes}
-use Rattle.nr_reading.specs.declared.step.Step.{Step}
+use Rattle.nr_reading.specs.Steps.{Step}
 use Rattle.nr_reading.specs.Control.{read_control, read_name, read_drop, read_request_blanks, read_request_line, read_macro_blanks, read_macro_gap, read_word, read_quoted, read_quote}
 use Rattle.nr_reading.specs.Conditions.{read_condition, read_number, read_first, read_second}
 use Rattle.nr_reading.specs.Definitions.{read_body_start, read_body, read_body_end, over_body_start}
-use Rattle.nr_reading.specs.Skipping.{is_begun, accepted, accepted_escape, skip, skip_escape, diverted, diverting}
-use Rattle.nr_reading.specs.Steps.{go, leave}
+use Rattle.nr_reading.specs.Skipping.{accepted, accepted_escape, skip, skip_escape, diverted, diverting}
+use Rattle.nr_reading.specs.Steps.{go}
 use Rattle.nr_reading.specs.Strings.{read_string_before, read_string_name, read_string_blanks, read_string_text, read_transparent}
 use Rattle.nr_reading.specs.Text.{start, leading, continued, text}
 use Rattle.nr_reading.specs.TextEscapes.{escaped, plain}

@@ -1,5 +1,5 @@
 -- What those who read events set (CSTR 54, 7.1, 10.4, 14; the groff manual, `.cp`).
-use Rattle.std.specs.Prelude.{ℕ, Bool, true, false, List, [], take}
+use Rattle.std.specs.Prelude.{ℕ, Bool, false, List, [], take}
 use Rattle.nr_reading.specs.declared.half.Half.{Half}
 use Rattle.nr_reading.specs.declared.mode.Due.TheVariants as dues
 use Rattle.nr_reading.specs.declared.mode.Escape.TheVariants as escapes
@@ -8,7 +8,6 @@ use Rattle.nr_reading.specs.declared.mode.Standing.{Standing}
 use Rattle.nr_reading.specs.Conditionals.{in_mode}
 use Rattle.nr_reading.specs.Delimiting.{no_texts}
 use Rattle.nr_reading.specs.Modes.{mode_of}
-use Rattle.nr_reading.specs.Spelling.{nothing_spelled}
 
 -- the control characters
 abbrev pub with_control : ℕ → Half → Half

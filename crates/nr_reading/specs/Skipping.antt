@@ -1,5 +1,5 @@
 -- Accepted and rejected parts of conditionals, and diverted lines (CSTR 54, 16, 7.4).
-use Rattle.std.specs.Prelude.{ℕ, ◌-◌, ◌==◌, ◌||◌, Bool, true, false, if◌then◌else◌, Option, None, Some}
+use Rattle.std.specs.Prelude.{ℕ, ◌-◌, ◌==◌, Bool, true, false, if◌then◌else◌, None, Some}
 use Rattle.nr_reading.specs.declared.event.Event.TheVariants as events
 use Rattle.nr_reading.specs.declared.front.Front.{Front}
 use Rattle.nr_reading.specs.declared.front.Front.TheVariants as fronts
@@ -8,10 +8,10 @@ use Rattle.nr_reading.specs.declared.mode.Escape.TheVariants as escapes
 use Rattle.nr_reading.specs.declared.mode.Mode.TheVariants as modes
 use Rattle.nr_reading.specs.declared.mode.Reading.{Reading}
 use Rattle.nr_reading.specs.declared.mode.Signs.{Signs}
-use Rattle.nr_reading.specs.declared.step.Step.{Step}
+use Rattle.nr_reading.specs.Steps.{Step}
 use Rattle.nr_reading.specs.Noting.{one_more}
 use Rattle.nr_reading.specs.Spelling.{is_blank}
-use Rattle.nr_reading.specs.Steps.{to, escaping, go, leave, tell, leave_telling}
+use Rattle.nr_reading.specs.Steps.{to, go, leave, tell, leave_telling}
 use Rattle.nr_reading.specs.Text.{begin_escape, start}
 use Rattle.nr_reading.specs.TextEscapes.{plain}
 

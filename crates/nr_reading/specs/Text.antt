@@ -1,6 +1,5 @@
 -- Text lines (CSTR 54, 1.1, 4, 10).
-use Rattle.std.specs.Prelude.{ℕ, ◌+◌, ◌==◌, ◌||◌, ◌-◌, ◌^◌, min, not, Bool, true, false, if◌then◌else◌}
-use Rattle.nr_units.specs.declared.cell.Cell.{Cell}
+use Rattle.std.specs.Prelude.{ℕ, ◌+◌, ◌==◌, ◌-◌, ◌^◌, min, Bool, true, false, if◌then◌else◌}
 use Rattle.nr_reading.specs.declared.event.Event.{Event}
 use Rattle.nr_reading.specs.declared.event.Event.TheVariants as events
 use Rattle.nr_reading.specs.declared.front.Front.{Front}
@@ -11,9 +10,9 @@ use Rattle.nr_reading.specs.declared.mode.Mode.{Mode}
 use Rattle.nr_reading.specs.declared.mode.Mode.TheVariants as modes
 use Rattle.nr_reading.specs.declared.mode.Reading.{Reading}
 use Rattle.nr_reading.specs.declared.mode.Signs.{Signs}
-use Rattle.nr_reading.specs.declared.step.Note.TheVariants as notes
-use Rattle.nr_reading.specs.declared.step.Step.{Step}
-use Rattle.nr_reading.specs.Steps.{to, escaping, due, go, leave, tell, noting, leave_telling, leave_noting}
+use Rattle.nr_reading.specs.Notes as notes
+use Rattle.nr_reading.specs.Steps.{Step}
+use Rattle.nr_reading.specs.Steps.{to, escaping, due, go, leave, tell, noting, leave_telling}
 
 -- the next text line continues no word, or does
 abbrev pub continuing : Bool → Reading → Reading

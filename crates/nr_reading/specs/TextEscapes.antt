@@ -12,11 +12,10 @@ use Rattle.nr_reading.specs.declared.mode.Escape.TheVariants as escapes
 use Rattle.nr_reading.specs.declared.mode.Mode.{Mode}
 use Rattle.nr_reading.specs.declared.mode.Mode.TheVariants as modes
 use Rattle.nr_reading.specs.declared.mode.Reading.{Reading}
-use Rattle.nr_reading.specs.declared.mode.Signs.{Signs}
-use Rattle.nr_reading.specs.declared.step.Note.TheVariants as notes
-use Rattle.nr_reading.specs.declared.step.Step.{Step}
+use Rattle.nr_reading.specs.Notes as notes
+use Rattle.nr_reading.specs.Steps.{Step}
 use Rattle.nr_reading.specs.Asking.{begun_ask, bracketed_ask}
-use Rattle.nr_reading.specs.Steps.{to, escaping, due, go, leave, tell, noting}
+use Rattle.nr_reading.specs.Steps.{to, escaping, go, leave, tell, noting}
 use Rattle.nr_reading.specs.Text.{continuing, text_behind_blanks}
 
 -- the escape has ended

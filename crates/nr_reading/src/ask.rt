@@ -77,6 +77,29 @@ pub struct Ask {
     pub name: Spelled,
 }
 
+/// How an escape begins whose argument is still to be read.
+#[derive(Clone, Copy, Debug)]
+pub(crate) enum Begun {
+    /// It asks for this.
+    Of(Kind),
+    /// It asks for a special character whose name stands in brackets.
+    Bracket,
+}
+
+impl Begun {
+    ghost use Rattle.nr_reading.specs.Steps.{ask_of};
+
+    /// The escape.
+    pub(crate) fn ask(self) -> Ask
+        ensures { result ≡ ask_of self }
+    {
+        match self {
+            Begun::Of(kind) => Ask::begun(kind),
+            Begun::Bracket => Ask::bracketed(),
+        }
+    }
+}
+
 /// What an ask does with a byte.
 #[derive(Clone, Copy, Debug)]
 pub(crate) enum Answer {

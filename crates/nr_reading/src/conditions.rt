@@ -1,5 +1,6 @@
 //! Conditions.
 ghost use Rattle.std.specs.Prelude.{◌≡◌};
+ghost use Rattle.nr_reading.specs.Steps.{joined};
 ghost use Rattle.nr_reading.specs.Conditions.{begins_number, read_condition_byte, read_condition, parentheses, read_number, read_first, read_second};
 
 use super::ask::is_digit;
@@ -7,7 +8,7 @@ use super::event::{Event, Question};
 use super::mode::{Due, Mode, Reading};
 use super::notes::Condition;
 use super::spelled::is_blank;
-use super::step::{Note, Step, go, leave, leave_noting, leave_telling, noting, tell};
+use super::step::{Jot, Said, go, leave, leave_noting, leave_telling, noting, tell};
 
 // The byte begins a number.
 fn begins_number(byte: u8) -> bool
@@ -17,42 +18,50 @@ fn begins_number(byte: u8) -> bool
 }
 
 // The first byte of a condition.
-fn read_condition_byte(byte: u8, reading: Reading) -> Step
-    ensures { result ≡ read_condition_byte byte reading }
+fn read_condition_byte(byte: u8, reading: &mut Reading) -> Said
+    ensures { joined reading.new result ≡ read_condition_byte byte reading.old }
 {
     if byte == b'o' {
-        return tell(Event::Judge(Question::Odd), reading.to(Mode::Skip(0)));
+        reading.mode = Mode::Skip(0);
+        return tell(Event::Judge(Question::Odd));
     }
     if byte == b'e' {
-        return tell(Event::Judge(Question::Even), reading.to(Mode::Skip(0)));
+        reading.mode = Mode::Skip(0);
+        return tell(Event::Judge(Question::Even));
     }
     if byte == b't' {
-        return go(reading.due(Due::Judge(false)));
+        reading.due = Due::Judge(false);
+        return go();
     }
     if byte == b'n' {
-        return go(reading.due(Due::Judge(true)));
+        reading.due = Due::Judge(true);
+        return go();
     }
     if begins_number(byte) {
-        return leave_noting(Note::NewLine, reading.to(Mode::Number(0)));
+        reading.mode = Mode::Number(0);
+        return leave_noting(Jot::NewLine);
     }
-    noting(Note::Strings, reading.to(Mode::First(byte)))
+    reading.mode = Mode::First(byte);
+    noting(Jot::Strings)
 }
 
 /// Before a condition.
-pub(crate) fn read_condition(byte: u8, negated: bool, reading: Reading) -> Step
-    ensures { result ≡ read_condition byte negated reading }
+pub(crate) fn read_condition(byte: u8, negated: bool, reading: &mut Reading) -> Said
+    ensures { joined reading.new result ≡ read_condition byte negated reading.old }
 {
     if byte == b'\n' {
-        return leave(reading.due(Due::Judge(false)));
+        reading.due = Due::Judge(false);
+        return leave();
     }
     if is_blank(byte) {
         if negated {
-            return leave(reading.due(Due::Judge(false)));
+            reading.due = Due::Judge(false);
+            return leave();
         }
-        return go(reading);
+        return go();
     }
     if byte == b'!' && !negated {
-        return noting(Note::Negated, reading);
+        return noting(Jot::Negated);
     }
     read_condition_byte(byte, reading)
 }
@@ -71,40 +80,53 @@ fn parentheses(byte: u8, depth: u64) -> u64
 }
 
 /// In a number.
-pub(crate) fn read_number(byte: u8, depth: u64, reading: Reading) -> Step
-    ensures { result ≡ read_number byte depth reading }
+pub(crate) fn read_number(byte: u8, depth: u64, reading: &mut Reading) -> Said
+    ensures { joined reading.new result ≡ read_number byte depth reading.old }
 {
     if byte == b'\n' || (depth == 0 && (is_blank(byte) || byte == b'\\')) {
-        return leave_telling(Event::Judge(Question::Number), reading.to(Mode::Skip(0)));
+        reading.mode = Mode::Skip(0);
+        return leave_telling(Event::Judge(Question::Number));
     }
-    noting(
-        Note::Line(byte),
-        reading.to(Mode::Number(parentheses(byte, depth))),
-    )
+    reading.mode = Mode::Number(parentheses(byte, depth));
+    noting(Jot::Line(byte))
 }
 
 /// In the first string.
-pub(crate) fn read_first(byte: u8, delimiter: u8, condition: Condition, reading: Reading) -> Step
-    ensures { result ≡ read_first byte delimiter condition reading }
+pub(crate) fn read_first(
+    byte: u8,
+    delimiter: u8,
+    condition: Condition,
+    reading: &mut Reading,
+) -> Said
+    ensures { joined reading.new result ≡ read_first byte delimiter condition reading.old }
 {
     if byte == b'\n' {
-        return leave(reading.due(Due::Judge(condition.are_equal())));
+        reading.due = Due::Judge(condition.are_equal());
+        return leave();
     }
     if byte == delimiter {
-        return go(reading.to(Mode::Second(delimiter)));
+        reading.mode = Mode::Second(delimiter);
+        return go();
     }
-    noting(Note::First(byte), reading)
+    noting(Jot::First(byte))
 }
 
 /// In the second string.
-pub(crate) fn read_second(byte: u8, delimiter: u8, condition: Condition, reading: Reading) -> Step
-    ensures { result ≡ read_second byte delimiter condition reading }
+pub(crate) fn read_second(
+    byte: u8,
+    delimiter: u8,
+    condition: Condition,
+    reading: &mut Reading,
+) -> Said
+    ensures { joined reading.new result ≡ read_second byte delimiter condition reading.old }
 {
     if byte == b'\n' {
-        return leave(reading.due(Due::Judge(condition.are_equal())));
+        reading.due = Due::Judge(condition.are_equal());
+        return leave();
     }
     if byte == delimiter {
-        return go(reading.due(Due::Judge(condition.are_equal())));
+        reading.due = Due::Judge(condition.are_equal());
+        return go();
     }
-    noting(Note::Second(byte), reading)
+    noting(Jot::Second(byte))
 }

@@ -1,130 +1,156 @@
 //! Control lines: names, the lines of requests, and the arguments of macros.
 ghost use Rattle.std.specs.Prelude.{◌≡◌};
+ghost use Rattle.nr_reading.specs.Steps.{joined};
 ghost use Rattle.nr_reading.specs.Control.{read_control, completes, read_name, read_drop, read_request_blanks, read_request_line, read_macro_blanks, read_macro_gap, read_word, read_quoted, read_quote};
 
 use super::event::Event;
 use super::mode::{Due, Mode, Reading};
 use super::spelled::{Spelled, ends_name, is_blank};
-use super::step::{Note, Step, go, leave, leave_noting, noting, tell};
+use super::step::{Jot, Said, go, leave, leave_noting, noting, tell};
 
 /// Behind the control character.
-pub(crate) fn read_control(byte: u8, reading: Reading) -> Step
-    ensures { result ≡ read_control byte reading }
+pub(crate) fn read_control(byte: u8, reading: &mut Reading) -> Said
+    ensures { joined reading.new result ≡ read_control byte reading.old }
 {
     if is_blank(byte) {
-        return go(reading);
+        return go();
     }
-    leave(reading.to(Mode::Name))
+    reading.mode = Mode::Name;
+    leave()
 }
 
 /// The byte is the second of a name of two.
-pub(crate) fn completes(long: bool, name: Spelled) -> bool
-    ensures { result ≡ completes long name }
+pub(crate) fn completes(long: bool, name: &Spelled) -> bool
+    ensures { result ≡ completes long name.now }
 {
     !long && name.bytes.len() == 1
 }
 
 /// In a control line's name.
-pub(crate) fn read_name(byte: u8, long: bool, name: Spelled, reading: Reading) -> Step
-    ensures { result ≡ read_name byte long name reading }
+pub(crate) fn read_name(byte: u8, long: bool, name: &Spelled, reading: &mut Reading) -> Said
+    ensures { joined reading.new result ≡ read_name byte long name.now reading.old }
 {
     if ends_name(byte) {
-        return leave(reading.due(Due::Seek));
+        reading.due = Due::Seek;
+        return leave();
     }
     if completes(long, name) {
-        return noting(Note::Name(byte), reading.due(Due::Seek));
+        reading.due = Due::Seek;
+        return noting(Jot::Name(byte));
     }
-    noting(Note::Name(byte), reading)
+    noting(Jot::Name(byte))
 }
 
 /// In a line that does nothing.
-pub(crate) fn read_drop(byte: u8, reading: Reading) -> Step
-    ensures { result ≡ read_drop byte reading }
+pub(crate) fn read_drop(byte: u8, reading: &mut Reading) -> Said
+    ensures { joined reading.new result ≡ read_drop byte reading.old }
 {
     if byte == b'\n' {
-        return go(reading.to(Mode::Start));
+        reading.mode = Mode::Start;
+        return go();
     }
-    go(reading)
+    go()
 }
 
 /// In the blanks before a request's arguments.
-pub(crate) fn read_request_blanks(byte: u8, reading: Reading) -> Step
-    ensures { result ≡ read_request_blanks byte reading }
+pub(crate) fn read_request_blanks(byte: u8, reading: &mut Reading) -> Said
+    ensures { joined reading.new result ≡ read_request_blanks byte reading.old }
 {
     if is_blank(byte) {
-        return go(reading);
+        return go();
     }
-    leave_noting(Note::NewLine, reading.to(Mode::RequestLine))
+    reading.mode = Mode::RequestLine;
+    leave_noting(Jot::NewLine)
 }
 
 /// In a request's arguments.
-pub(crate) fn read_request_line(byte: u8, reading: Reading) -> Step
-    ensures { result ≡ read_request_line byte reading }
+pub(crate) fn read_request_line(byte: u8, reading: &mut Reading) -> Said
+    ensures { joined reading.new result ≡ read_request_line byte reading.old }
 {
     if byte == b'\n' {
-        return tell(Event::Request, reading.to(Mode::Start));
+        reading.mode = Mode::Start;
+        return tell(Event::Request);
     }
-    noting(Note::Line(byte), reading)
+    noting(Jot::Line(byte))
 }
 
 /// In the blanks before a macro's arguments.
-pub(crate) fn read_macro_blanks(byte: u8, reading: Reading) -> Step
-    ensures { result ≡ read_macro_blanks byte reading }
+pub(crate) fn read_macro_blanks(byte: u8, reading: &mut Reading) -> Said
+    ensures { joined reading.new result ≡ read_macro_blanks byte reading.old }
 {
     if is_blank(byte) {
-        return go(reading);
+        return go();
     }
-    leave(reading.to(Mode::MacroGap))
+    reading.mode = Mode::MacroGap;
+    leave()
 }
 
 /// Before an argument of a macro.
-pub(crate) fn read_macro_gap(byte: u8, reading: Reading) -> Step
-    ensures { result ≡ read_macro_gap byte reading }
+pub(crate) fn read_macro_gap(byte: u8, reading: &mut Reading) -> Said
+    ensures { joined reading.new result ≡ read_macro_gap byte reading.old }
 {
     if byte == b'\n' {
-        return go(reading.to(Mode::Start).due(Due::Call));
+        reading.mode = Mode::Start;
+        reading.due = Due::Call;
+        return go();
     }
     if byte == b' ' {
-        return go(reading);
+        return go();
     }
     if byte == b'"' {
-        return go(reading.to(Mode::Quoted));
+        reading.mode = Mode::Quoted;
+        return go();
     }
-    go(reading.to(Mode::Word).due(Due::Put(byte)))
+    reading.mode = Mode::Word;
+    reading.due = Due::Put(byte);
+    go()
 }
 
 /// In an argument of a macro.
-pub(crate) fn read_word(byte: u8, reading: Reading) -> Step
-    ensures { result ≡ read_word byte reading }
+pub(crate) fn read_word(byte: u8, reading: &mut Reading) -> Said
+    ensures { joined reading.new result ≡ read_word byte reading.old }
 {
     if byte == b'\n' {
-        return leave(reading.to(Mode::MacroGap).due(Due::EndArgument));
+        reading.mode = Mode::MacroGap;
+        reading.due = Due::EndArgument;
+        return leave();
     }
     if byte == b' ' {
-        return go(reading.to(Mode::MacroGap).due(Due::EndArgument));
+        reading.mode = Mode::MacroGap;
+        reading.due = Due::EndArgument;
+        return go();
     }
-    go(reading.due(Due::Put(byte)))
+    reading.due = Due::Put(byte);
+    go()
 }
 
 /// In an argument of a macro that began with a quote.
-pub(crate) fn read_quoted(byte: u8, reading: Reading) -> Step
-    ensures { result ≡ read_quoted byte reading }
+pub(crate) fn read_quoted(byte: u8, reading: &mut Reading) -> Said
+    ensures { joined reading.new result ≡ read_quoted byte reading.old }
 {
     if byte == b'\n' {
-        return leave(reading.to(Mode::MacroGap).due(Due::EndArgument));
+        reading.mode = Mode::MacroGap;
+        reading.due = Due::EndArgument;
+        return leave();
     }
     if byte == b'"' {
-        return go(reading.to(Mode::Quote));
+        reading.mode = Mode::Quote;
+        return go();
     }
-    go(reading.due(Due::Put(byte)))
+    reading.due = Due::Put(byte);
+    go()
 }
 
 /// In such an argument, behind a quote.
-pub(crate) fn read_quote(byte: u8, reading: Reading) -> Step
-    ensures { result ≡ read_quote byte reading }
+pub(crate) fn read_quote(byte: u8, reading: &mut Reading) -> Said
+    ensures { joined reading.new result ≡ read_quote byte reading.old }
 {
     if byte == b'"' {
-        return go(reading.to(Mode::Quoted).due(Due::Put(b'"')));
+        reading.mode = Mode::Quoted;
+        reading.due = Due::Put(b'"');
+        return go();
     }
-    leave(reading.to(Mode::MacroGap).due(Due::EndArgument))
+    reading.mode = Mode::MacroGap;
+    reading.due = Due::EndArgument;
+    leave()
 }

@@ -1,11 +1,12 @@
 //! Definitions of macros.
 ghost use Rattle.std.specs.Prelude.{◌≡◌, ◌≤◌, length, slice_index};
+ghost use Rattle.nr_reading.specs.Steps.{joined};
 ghost use Rattle.nr_reading.specs.Definitions.{last_line, ends_whole, kept_byte, released, in_body, not_last, nearer_last, read_body_start, read_body, read_body_end, over_body_start};
 
 use super::mode::{Due, Mode, Reading};
 use super::notes::Defining;
 use super::spelled::is_blank;
-use super::step::{Step, go, leave};
+use super::step::{Said, go, leave};
 
 impl Defining {
     // How many bytes tell the last line.
@@ -69,17 +70,17 @@ impl Defining {
     }
 
     // The line is not the last.
-    fn not_last(&self, byte: u8, held: u8, reading: Reading) -> Step
-        ensures { result ≡ not_last byte self.now held reading }
+    fn not_last(&self, byte: u8, held: u8, reading: &mut Reading) -> Said
+        ensures { joined reading.new result ≡ not_last byte self.now held reading.old }
     {
         if held == 0 {
-            return go(reading.to(in_body(byte)).due(self.kept_byte(byte)));
+            reading.mode = in_body(byte);
+            reading.due = self.kept_byte(byte);
+            return go();
         }
-        go(
-            reading
-                .to(in_body(byte))
-                .due(self.released(held, Some(byte))),
-        )
+        reading.mode = in_body(byte);
+        reading.due = self.released(held, Some(byte));
+        go()
     }
 
     // One more byte of the last line came.
@@ -94,39 +95,48 @@ impl Defining {
     }
 
     /// In a line that may be the last.
-    pub(crate) fn read_body_start(&self, byte: u8, held: u8, reading: Reading) -> Step
-        ensures { result ≡ read_body_start byte self.now held reading }
+    pub(crate) fn read_body_start(&self, byte: u8, held: u8, reading: &mut Reading) -> Said
+        ensures { joined reading.new result ≡ read_body_start byte self.now held reading.old }
     {
         if held < self.last_line_len() {
             if byte == self.last_line_byte(held) {
-                return go(reading.to(self.nearer_last(held)));
+                reading.mode = self.nearer_last(held);
+                return go();
             }
             return self.not_last(byte, held, reading);
         }
         if byte == b'\n' || is_blank(byte) {
-            return leave(reading.to(Mode::BodyEnd));
+            reading.mode = Mode::BodyEnd;
+            return leave();
         }
         self.not_last(byte, held, reading)
     }
 
     /// In another line.
-    pub(crate) fn read_body(&self, byte: u8, reading: Reading) -> Step
-        ensures { result ≡ read_body byte self.now reading }
+    pub(crate) fn read_body(&self, byte: u8, reading: &mut Reading) -> Said
+        ensures { joined reading.new result ≡ read_body byte self.now reading.old }
     {
-        go(reading.to(in_body(byte)).due(self.kept_byte(byte)))
+        reading.mode = in_body(byte);
+        reading.due = self.kept_byte(byte);
+        go()
     }
 
     /// The list ends in a line that may be the last.
-    pub(crate) fn over_body_start(&self, held: u8, reading: Reading) -> Step
-        ensures { result ≡ over_body_start self.now held reading }
+    pub(crate) fn over_body_start(&self, held: u8, reading: &mut Reading) -> Said
+        ensures { joined reading.new result ≡ over_body_start self.now held reading.old }
     {
         if held == 0 {
-            return leave(reading.to(Mode::Start).due(Due::Define));
+            reading.mode = Mode::Start;
+            reading.due = Due::Define;
+            return leave();
         }
         if held < self.last_line_len() {
-            return leave(reading.to(Mode::Body).due(self.released(held, None)));
+            reading.mode = Mode::Body;
+            reading.due = self.released(held, None);
+            return leave();
         }
-        leave(reading.to(Mode::BodyEnd))
+        reading.mode = Mode::BodyEnd;
+        leave()
     }
 }
 
@@ -141,11 +151,13 @@ fn in_body(byte: u8) -> Mode
 }
 
 /// In the last line, behind what tells it.
-pub(crate) fn read_body_end(byte: u8, reading: Reading) -> Step
-    ensures { result ≡ read_body_end byte reading }
+pub(crate) fn read_body_end(byte: u8, reading: &mut Reading) -> Said
+    ensures { joined reading.new result ≡ read_body_end byte reading.old }
 {
     if byte == b'\n' {
-        return go(reading.to(Mode::Start).due(Due::DefineAndCall));
+        reading.mode = Mode::Start;
+        reading.due = Due::DefineAndCall;
+        return go();
     }
-    go(reading)
+    go()
 }

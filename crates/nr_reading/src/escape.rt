@@ -42,6 +42,7 @@ fn escaped(byte: u8, argument: bool) -> Offer
 
 impl Escape {
     // A byte, by what of an escape was read.
+    #[inline(always)]
     fn offer_byte(self, byte: u8, argument: bool) -> Offer
         ensures { result ≡ offer_byte byte self argument }
     {
@@ -63,6 +64,7 @@ impl Escape {
     }
 
     /// What the item in front is; in argument mode a width is interpolated too.
+    #[inline(always)]
     pub(crate) fn offer(self, front: Front, argument: bool) -> Offer
         ensures { result ≡ offer front self argument }
     {

@@ -11,7 +11,7 @@ use super::front::Front;
 use super::mode::{Due, Escape, Mode, Reading, Signs};
 use super::notes::Notes;
 use super::reader::{direct, read, read_over};
-use super::step::{Note, Step};
+use super::step::Jot;
 use nr_units::Name;
 
 /// What an item tells, and whether it is taken.
@@ -46,7 +46,8 @@ impl Half {
     ghost use Rattle.nr_reading.specs.Asking.{event_of};
     ghost use Rattle.nr_reading.specs.InText.{is_in_text};
     ghost use Rattle.nr_reading.specs.Spelling.{name_of};
-    ghost use Rattle.nr_reading.specs.Meeting.{asking, too_deep, beginning, settled, replaced, finished, argued, longer, answered, asked_by, stepped, met_directly, met_copied, hear_by, over_by, escaping, silent, offered, meet_by, met};
+    ghost use Rattle.nr_reading.specs.Steps.{note_of};
+    ghost use Rattle.nr_reading.specs.Meeting.{asking, too_deep, beginning, settled, replaced, finished, argued, longer, answered, asked_by, noted_in, met_directly, met_copied, hear_by, over_by, escaping, silent, offered, meet_by, met};
     ghost use Rattle.nr_reading.specs.Weights.{PaysFor};
 
     /// Nothing is half read.
@@ -74,6 +75,7 @@ impl Half {
     }
 
     // An escape whose argument is still to be read begins.
+    #[inline(never)]
     fn ask(&mut self, ask: Ask)
         ensures { self.new ≡ asking ask self.old }
     {
@@ -109,6 +111,7 @@ impl Half {
     }
 
     // It is settled whether the element is taken.
+    #[inline(always)]
     fn settle(&mut self, takes: bool, front: bool, event: Event) -> Seen
         ensures { met self.new result ≡ settled takes front event self.old }
     {
@@ -178,15 +181,15 @@ impl Half {
         }
     }
 
-    // The reader goes on.
-    fn step(&mut self, step: Step)
-        ensures { self.new ≡ stepped step self.old }
+    // This is noted, the reader having gone on.
+    #[inline(always)]
+    fn note(&mut self, note: Jot)
+        ensures { self.new ≡ noted_in (note_of note) self.old }
     {
-        self.reading = step.reading;
-        self.notes.note(step.note);
-        match step.note {
-            Note::Begin(ask) => self.ask(ask),
-            _ => {}
+        match note {
+            Jot::Nothing => {}
+            Jot::Begin(begun) => self.ask(begun.ask()),
+            _ => self.notes.note(note),
         }
     }
 
@@ -195,10 +198,9 @@ impl Half {
         ensures { met self.new result ≡ hear_by self.old.asks front byte self.old }
     {
         let Some(ask) = self.asks.newest() else {
-            let step = read(byte, self.signs, &self.notes, self.reading);
-            let Step { event, takes, .. } = step;
-            self.step(step);
-            return self.settle(takes, front, event);
+            let said = read(byte, self.signs, &self.notes, &mut self.reading);
+            self.note(said.note);
+            return self.settle(said.takes, front, said.event);
         };
         self.answered(front, ask.answer(byte, self.signs.long))
     }
@@ -208,15 +210,15 @@ impl Half {
         ensures { met self.new result ≡ over_by self.old.asks self.old }
     {
         let Some(ask) = self.asks.newest() else {
-            let step = read_over(self.signs, &self.notes, self.reading);
-            let Step { event, takes, .. } = step;
-            self.step(step);
-            return self.settle(takes, false, event);
+            let said = read_over(self.signs, &self.notes, &mut self.reading);
+            self.note(said.note);
+            return self.settle(said.takes, false, said.event);
         };
         self.answered(false, ask.answer(b'\n', self.signs.long))
     }
 
     // The item in front was offered, in copy mode.
+    #[inline(always)]
     fn offered(&mut self, offer: Offer) -> Seen
         ensures { met self.new result ≡ offered offer self.old }
     {
@@ -243,15 +245,18 @@ impl Half {
     }
 
     // The item in front, where no escape is half read.
+    #[inline(always)]
     fn meet_reader(&mut self, front: Front) -> Seen
         ensures { met self.new result ≡ meet_by [] front self.old }
     {
         let mode = self.reading.mode;
         if mode.is_direct() {
-            let step = direct(front, self.signs, self.reading);
-            let Step { event, takes, .. } = step;
-            self.step(step);
-            return Seen { event, takes };
+            let said = direct(front, self.signs, &mut self.reading);
+            self.note(said.note);
+            return Seen {
+                event: said.event,
+                takes: said.takes,
+            };
         }
         let offer = self.reading.escape.offer(front, mode.reads_arguments());
         self.offered(offer)

@@ -1,11 +1,12 @@
 //! What is noted of a line while it is read.
 ghost use Rattle.std.specs.Prelude.{◌≡◌};
+ghost use Rattle.nr_reading.specs.Steps.{note_of};
 ghost use Rattle.nr_reading.specs.Noting.{no_condition, no_definition, are_equal, compared, one_more, no_notes, noted};
 
 use super::answers::Answers;
 use super::kept::Kept;
 use super::spelled::Spelled;
-use super::step::Note;
+use super::step::Jot;
 use nr_units::Name;
 
 /// What was read of a condition (CSTR 54, 16).
@@ -124,27 +125,28 @@ impl Notes {
     }
 
     /// What an element adds.
-    pub(crate) fn note(&mut self, note: Note)
-        ensures { self.new ≡ noted note self.old }
+    #[inline(never)]
+    pub(crate) fn note(&mut self, note: Jot)
+        ensures { self.new ≡ noted (note_of note) self.old }
     {
         match note {
-            Note::Nothing | Note::Begin(_) => {}
-            Note::NewName => self.name = Spelled::new(),
-            Note::Name(byte) => self.name = self.name.with(byte),
-            Note::NewLine => self.line.clear(),
-            Note::Line(byte) => self.line.keep(byte),
-            Note::Negated => self.condition.negated = true,
-            Note::Strings => {
+            Jot::Nothing | Jot::Begin(_) => {}
+            Jot::NewName => self.name = Spelled::new(),
+            Jot::Name(byte) => self.name = self.name.with(byte),
+            Jot::NewLine => self.line.clear(),
+            Jot::Line(byte) => self.line.keep(byte),
+            Jot::Negated => self.condition.negated = true,
+            Jot::Strings => {
                 self.line.clear();
                 self.condition.first = 0;
                 self.condition.second = 0;
                 self.condition.same = true;
             }
-            Note::First(byte) => {
+            Jot::First(byte) => {
                 self.line.keep(byte);
                 self.condition.first = one_more(self.condition.first);
             }
-            Note::Second(byte) => self.condition = self.condition.compared(byte, &self.line),
+            Jot::Second(byte) => self.condition = self.condition.compared(byte, &self.line),
         }
     }
 }

@@ -1,5 +1,6 @@
 //! What the reader does with an item, by its mode.
 ghost use Rattle.std.specs.Prelude.{◌≡◌};
+ghost use Rattle.nr_reading.specs.Steps.{joined};
 ghost use Rattle.nr_reading.specs.Reading.{read, read_over, unescaped, behind_backslash, ends_comment, direct};
 
 use super::conditions::{read_condition, read_first, read_number, read_second};
@@ -12,7 +13,7 @@ use super::front::Front;
 use super::mode::{Escape, Mode, Reading, Signs};
 use super::notes::Notes;
 use super::skipping::{accepted, accepted_escape, diverted, diverting, skip, skip_escape};
-use super::step::{Step, go};
+use super::step::{Said, go};
 use super::strings::{
     read_string_before, read_string_blanks, read_string_name, read_string_text, read_transparent,
 };
@@ -21,12 +22,13 @@ use super::text_escape::escaped;
 use super::titles::{before_title, read_title_rest, title};
 
 /// A copied element comes.
-pub(crate) fn read(byte: u8, signs: Signs, notes: &Notes, reading: Reading) -> Step
-    ensures { result ≡ read byte signs notes.now reading }
+#[inline(always)]
+pub(crate) fn read(byte: u8, signs: Signs, notes: &Notes, reading: &mut Reading) -> Said
+    ensures { joined reading.new result ≡ read byte signs notes.now reading.old }
 {
     match reading.mode {
         Mode::Control => read_control(byte, reading),
-        Mode::Name => read_name(byte, signs.long, notes.name, reading),
+        Mode::Name => read_name(byte, signs.long, &notes.name, reading),
         Mode::Drop => read_drop(byte, reading),
         Mode::TitleRest => read_title_rest(byte, reading),
         Mode::RequestBlanks => read_request_blanks(byte, reading),
@@ -37,7 +39,7 @@ pub(crate) fn read(byte: u8, signs: Signs, notes: &Notes, reading: Reading) -> S
         Mode::Quoted => read_quoted(byte, reading),
         Mode::Quote => read_quote(byte, reading),
         Mode::StringBefore => read_string_before(byte, reading),
-        Mode::StringName => read_string_name(byte, signs.long, notes.name, reading),
+        Mode::StringName => read_string_name(byte, signs.long, &notes.name, reading),
         Mode::StringBlanks => read_string_blanks(byte, reading),
         Mode::StringText => read_string_text(byte, reading),
         Mode::BodyStart(held) => notes.defining.read_body_start(byte, held, reading),
@@ -48,13 +50,13 @@ pub(crate) fn read(byte: u8, signs: Signs, notes: &Notes, reading: Reading) -> S
         Mode::First(delimiter) => read_first(byte, delimiter, notes.condition, reading),
         Mode::Second(delimiter) => read_second(byte, delimiter, notes.condition, reading),
         Mode::Transparent => read_transparent(byte, reading),
-        _ => go(reading),
+        _ => go(),
     }
 }
 
 /// A resume mark or the empty list comes where elements are copied.
-pub(crate) fn read_over(signs: Signs, notes: &Notes, reading: Reading) -> Step
-    ensures { result ≡ read_over signs notes.now reading }
+pub(crate) fn read_over(signs: Signs, notes: &Notes, reading: &mut Reading) -> Said
+    ensures { joined reading.new result ≡ read_over signs notes.now reading.old }
 {
     match reading.mode {
         Mode::BodyStart(held) => notes.defining.over_body_start(held, reading),
@@ -63,8 +65,9 @@ pub(crate) fn read_over(signs: Signs, notes: &Notes, reading: Reading) -> Step
 }
 
 // An item as it is.
-fn unescaped(front: Front, signs: Signs, reading: Reading) -> Step
-    ensures { result ≡ unescaped reading.mode front signs reading }
+#[inline(always)]
+fn unescaped(front: Front, signs: Signs, reading: &mut Reading) -> Said
+    ensures { joined reading.new result ≡ unescaped reading.old.mode front signs reading.old }
 {
     match reading.mode {
         Mode::Diverting => diverting(front, signs, reading),
@@ -81,8 +84,8 @@ fn unescaped(front: Front, signs: Signs, reading: Reading) -> Step
 }
 
 // An item behind a `\`.
-fn behind_backslash(front: Front, signs: Signs, reading: Reading) -> Step
-    ensures { result ≡ behind_backslash reading.mode front signs reading }
+fn behind_backslash(front: Front, signs: Signs, reading: &mut Reading) -> Said
+    ensures { joined reading.new result ≡ behind_backslash reading.old.mode front signs reading.old }
 {
     match reading.mode {
         Mode::Accepted => accepted_escape(front, reading),
@@ -103,17 +106,19 @@ fn ends_comment(front: Front) -> bool
 }
 
 /// An item where items are read as they are.
-pub(crate) fn direct(front: Front, signs: Signs, reading: Reading) -> Step
-    ensures { result ≡ direct front signs reading }
+#[inline(always)]
+pub(crate) fn direct(front: Front, signs: Signs, reading: &mut Reading) -> Said
+    ensures { joined reading.new result ≡ direct front signs reading.old }
 {
     match reading.escape {
         Escape::Plain => unescaped(front, signs, reading),
         Escape::Begun => behind_backslash(front, signs, reading),
         Escape::Comment => {
             if ends_comment(front) {
-                return unescaped(front, signs, reading.plain());
+                reading.escape = Escape::Plain;
+                return unescaped(front, signs, reading);
             }
-            go(reading)
+            go()
         }
     }
 }

@@ -1,70 +1,82 @@
 //! Accepted and rejected parts of conditionals, and diverted lines.
 ghost use Rattle.std.specs.Prelude.{◌≡◌};
+ghost use Rattle.nr_reading.specs.Steps.{joined};
 ghost use Rattle.nr_reading.specs.Skipping.{is_begun, accepted_byte, accepted, accepted_escape, behind_newline, skip_byte, skip, braces, skip_escape, diverted, diverting};
 
 use super::event::Event;
 use super::front::Front;
-use super::mode::{Mode, Reading, Signs};
+use super::mode::{Escape, Mode, Reading, Signs};
 use super::spelled::is_blank;
-use super::step::{Step, go, leave, leave_telling, tell};
+use super::step::{Said, go, leave, leave_telling, tell};
 use super::text::{begin_escape, start};
 
 // A byte behind an accepted condition.
-fn accepted_byte(byte: u8, reading: Reading) -> Step
-    ensures { result ≡ accepted_byte byte reading }
+fn accepted_byte(byte: u8, reading: &mut Reading) -> Said
+    ensures { joined reading.new result ≡ accepted_byte byte reading.old }
 {
     if is_blank(byte) {
-        return go(reading);
+        return go();
     }
     if byte == b'\n' {
-        return go(reading.to(Mode::Start));
+        reading.mode = Mode::Start;
+        return go();
     }
     if byte == b'\\' {
         return begin_escape(reading);
     }
-    leave(reading.to(Mode::Start))
+    reading.mode = Mode::Start;
+    leave()
 }
 
 /// Behind an accepted condition.
-pub(crate) fn accepted(front: Front, reading: Reading) -> Step
-    ensures { result ≡ accepted front reading }
+pub(crate) fn accepted(front: Front, reading: &mut Reading) -> Said
+    ensures { joined reading.new result ≡ accepted front reading.old }
 {
     match front {
-        Front::Mark => go(reading),
+        Front::Mark => go(),
         Front::Byte(byte) => accepted_byte(byte, reading),
-        _ => leave(reading.to(Mode::Start)),
+        _ => {
+            reading.mode = Mode::Start;
+            leave()
+        }
     }
 }
 
 /// Behind an accepted condition and `\`.
-pub(crate) fn accepted_escape(front: Front, reading: Reading) -> Step
-    ensures { result ≡ accepted_escape front reading }
+pub(crate) fn accepted_escape(front: Front, reading: &mut Reading) -> Said
+    ensures { joined reading.new result ≡ accepted_escape front reading.old }
 {
     match front {
-        Front::Mark => go(reading),
+        Front::Mark => go(),
         Front::Byte(byte) => {
             if byte == b'{' {
-                return go(reading.plain());
+                reading.escape = Escape::Plain;
+                return go();
             }
-            leave(reading.to(Mode::Start))
+            reading.mode = Mode::Start;
+            leave()
         }
-        _ => leave(reading.to(Mode::Start)),
+        _ => {
+            reading.mode = Mode::Start;
+            leave()
+        }
     }
 }
 
 // A newline in a rejected part.
-fn behind_newline(count: u64, reading: Reading) -> Step
-    ensures { result ≡ behind_newline count reading }
+fn behind_newline(count: u64, reading: &mut Reading) -> Said
+    ensures { joined reading.new result ≡ behind_newline count reading.old }
 {
     if count == 0 {
-        return go(reading.to(Mode::Start));
+        reading.mode = Mode::Start;
+        return go();
     }
-    go(reading)
+    go()
 }
 
 // A byte in a rejected part.
-fn skip_byte(byte: u8, count: u64, reading: Reading) -> Step
-    ensures { result ≡ skip_byte byte count reading }
+fn skip_byte(byte: u8, count: u64, reading: &mut Reading) -> Said
+    ensures { joined reading.new result ≡ skip_byte byte count reading.old }
 {
     if byte == b'\n' {
         return behind_newline(count, reading);
@@ -72,18 +84,21 @@ fn skip_byte(byte: u8, count: u64, reading: Reading) -> Step
     if byte == b'\\' {
         return begin_escape(reading);
     }
-    go(reading)
+    go()
 }
 
 /// In a rejected part.
-pub(crate) fn skip(front: Front, count: u64, reading: Reading) -> Step
-    ensures { result ≡ skip front count reading }
+pub(crate) fn skip(front: Front, count: u64, reading: &mut Reading) -> Said
+    ensures { joined reading.new result ≡ skip front count reading.old }
 {
     match front {
-        Front::Mark | Front::Cell(_) => go(reading),
+        Front::Mark | Front::Cell(_) => go(),
         Front::Byte(byte) => skip_byte(byte, count, reading),
         Front::LineEnd(_) => behind_newline(count, reading),
-        Front::Resume | Front::Over => leave(reading.to(Mode::Start)),
+        Front::Resume | Front::Over => {
+            reading.mode = Mode::Start;
+            leave()
+        }
     }
 }
 
@@ -99,39 +114,58 @@ fn braces(byte: u8, count: u64) -> u64
 }
 
 /// In a rejected part, behind `\`.
-pub(crate) fn skip_escape(front: Front, count: u64, reading: Reading) -> Step
-    ensures { result ≡ skip_escape front count reading }
+pub(crate) fn skip_escape(front: Front, count: u64, reading: &mut Reading) -> Said
+    ensures { joined reading.new result ≡ skip_escape front count reading.old }
 {
     match front {
-        Front::Mark => go(reading),
-        Front::Byte(byte) => go(reading.to(Mode::Skip(braces(byte, count))).plain()),
-        Front::Cell(_) | Front::LineEnd(_) => go(reading.plain()),
-        Front::Resume | Front::Over => leave(reading.to(Mode::Start).plain()),
+        Front::Mark => go(),
+        Front::Byte(byte) => {
+            reading.mode = Mode::Skip(braces(byte, count));
+            reading.escape = Escape::Plain;
+            go()
+        }
+        Front::Cell(_) | Front::LineEnd(_) => {
+            reading.escape = Escape::Plain;
+            go()
+        }
+        Front::Resume | Front::Over => {
+            reading.mode = Mode::Start;
+            reading.escape = Escape::Plain;
+            leave()
+        }
     }
 }
 
 /// In a diverted line.
-pub(crate) fn diverted(front: Front, reading: Reading) -> Step
-    ensures { result ≡ diverted front reading }
+pub(crate) fn diverted(front: Front, reading: &mut Reading) -> Said
+    ensures { joined reading.new result ≡ diverted front reading.old }
 {
     match front {
-        Front::Mark => go(reading),
-        Front::Cell(cell) => tell(Event::DivertedCell(cell), reading),
+        Front::Mark => go(),
+        Front::Cell(cell) => tell(Event::DivertedCell(cell)),
         Front::LineEnd(height) => {
-            tell(Event::DivertedEnd(Some(height)), reading.to(Mode::Start))
+            reading.mode = Mode::Start;
+            tell(Event::DivertedEnd(Some(height)))
         }
-        _ => leave_telling(Event::DivertedEnd(None), reading.to(Mode::Start)),
+        _ => {
+            reading.mode = Mode::Start;
+            leave_telling(Event::DivertedEnd(None))
+        }
     }
 }
 
 /// At the beginning of a line that may be a diverted one.
-pub(crate) fn diverting(front: Front, signs: Signs, reading: Reading) -> Step
-    ensures { result ≡ diverting front signs reading }
+pub(crate) fn diverting(front: Front, signs: Signs, reading: &mut Reading) -> Said
+    ensures { joined reading.new result ≡ diverting front signs reading.old }
 {
     match front {
-        Front::Cell(cell) => tell(Event::DivertedCell(cell), reading.to(Mode::Diverted)),
+        Front::Cell(cell) => {
+            reading.mode = Mode::Diverted;
+            tell(Event::DivertedCell(cell))
+        }
         Front::LineEnd(height) => {
-            tell(Event::DivertedEnd(Some(height)), reading.to(Mode::Start))
+            reading.mode = Mode::Start;
+            tell(Event::DivertedEnd(Some(height)))
         }
         _ => start(front, signs, reading),
     }

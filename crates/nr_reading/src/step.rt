@@ -1,14 +1,15 @@
 //! What comes of an item.
 ghost use Rattle.std.specs.Prelude.{◌≡◌};
-ghost use Rattle.nr_reading.specs.Steps.{to, escaping, due, go, leave, tell, noting, leave_telling, leave_noting};
+ghost use Rattle.std.specs.Prelude.{true, false};
+ghost use Rattle.nr_reading.specs.declared.step.Jot.TheVariants as jots;
+ghost use Rattle.nr_reading.specs.declared.event.Event.TheVariants as events;
 
-use super::ask::Ask;
+use super::ask::Begun;
 use super::event::Event;
-use super::mode::{Due, Escape, Mode, Reading};
 
-/// What is noted beside.
+/// What is noted beside an item.
 #[derive(Clone, Copy, Debug)]
-pub(crate) enum Note {
+pub(crate) enum Jot {
     /// Nothing.
     Nothing,
     /// A name begins.
@@ -28,93 +29,54 @@ pub(crate) enum Note {
     /// A byte of the second.
     Second(u8),
     /// An escape whose argument is still to be read.
-    Begin(Ask),
+    Begin(Begun),
 }
 
-/// What comes of an item.
+/// What comes of an item, beside where the reader is then.
 #[derive(Clone, Copy, Debug)]
-pub(crate) struct Step {
-    /// Where the reader is then.
-    pub(crate) reading: Reading,
+pub(crate) struct Said {
     /// What is noted beside.
-    pub(crate) note: Note,
+    pub(crate) note: Jot,
     /// What is told.
     pub(crate) event: Event,
     /// The item is taken.
     pub(crate) takes: bool,
 }
 
-impl Reading {
-    /// In another mode.
-    pub(crate) fn to(self, mode: Mode) -> Reading
-        ensures { result ≡ to mode self }
-    {
-        let mut reading = self;
-        reading.mode = mode;
-        reading
-    }
-
-    /// With another part of an escape read.
-    pub(crate) fn escaping(self, escape: Escape) -> Reading
-        ensures { result ≡ escaping escape self }
-    {
-        let mut reading = self;
-        reading.escape = escape;
-        reading
-    }
-
-    /// With this to be done next.
-    pub(crate) fn due(self, what: Due) -> Reading
-        ensures { result ≡ due what self }
-    {
-        let mut reading = self;
-        reading.due = what;
-        reading
-    }
-}
-
 /// The item is taken.
-pub(crate) fn go(reading: Reading) -> Step
-    ensures { result ≡ go reading }
+#[inline(always)]
+pub(crate) fn go() -> Said
+    ensures { result ≡ record { note = jots.Nothing; event = events.Nothing; takes = true } }
 {
-    Step {
-        reading,
-        note: Note::Nothing,
-        event: Event::Nothing,
-        takes: true,
-    }
+    noting(Jot::Nothing)
 }
 
 /// The item is left to another mode.
-pub(crate) fn leave(reading: Reading) -> Step
-    ensures { result ≡ leave reading }
+#[inline(always)]
+pub(crate) fn leave() -> Said
+    ensures { result ≡ record { note = jots.Nothing; event = events.Nothing; takes = false } }
 {
-    Step {
-        reading,
-        note: Note::Nothing,
-        event: Event::Nothing,
-        takes: false,
-    }
+    leave_noting(Jot::Nothing)
 }
 
 /// The item is taken, and this is told.
-pub(crate) fn tell(event: Event, reading: Reading) -> Step
-    ensures { result ≡ tell event reading }
+#[inline(always)]
+pub(crate) fn tell(event: Event) -> Said
+    ensures { result ≡ record { note = jots.Nothing; event = event; takes = true } }
 {
-    Step {
-        reading,
-        note: Note::Nothing,
+    Said {
+        note: Jot::Nothing,
         event,
         takes: true,
     }
 }
 
 /// The item is taken, and this is noted.
-pub(crate) fn noting(what: Note, reading: Reading) -> Step
-    ensures { result ≡ noting what reading }
+#[inline(always)]
+pub(crate) fn noting(what: Jot) -> Said
+    ensures { result ≡ record { note = what; event = events.Nothing; takes = true } }
 {
-    Step {
-        reading,
+    Said {
         note: what,
         event: Event::Nothing,
         takes: true,
@@ -122,23 +84,23 @@ pub(crate) fn noting(what: Note, reading: Reading) -> Step
 }
 
 /// The item is left, and this is told.
-pub(crate) fn leave_telling(event: Event, reading: Reading) -> Step
-    ensures { result ≡ leave_telling event reading }
+#[inline(always)]
+pub(crate) fn leave_telling(event: Event) -> Said
+    ensures { result ≡ record { note = jots.Nothing; event = event; takes = false } }
 {
-    Step {
-        reading,
-        note: Note::Nothing,
+    Said {
+        note: Jot::Nothing,
         event,
         takes: false,
     }
 }
 
 /// The item is left, and this is noted.
-pub(crate) fn leave_noting(what: Note, reading: Reading) -> Step
-    ensures { result ≡ leave_noting what reading }
+#[inline(always)]
+pub(crate) fn leave_noting(what: Jot) -> Said
+    ensures { result ≡ record { note = what; event = events.Nothing; takes = false } }
 {
-    Step {
-        reading,
+    Said {
         note: what,
         event: Event::Nothing,
         takes: false,

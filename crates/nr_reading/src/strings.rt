@@ -1,75 +1,87 @@
 //! Definitions of strings, and transparent lines.
 ghost use Rattle.std.specs.Prelude.{◌≡◌};
+ghost use Rattle.nr_reading.specs.Steps.{joined};
 ghost use Rattle.nr_reading.specs.Strings.{read_string_before, behind_string_name, read_string_name, read_string_blanks, read_string_text, read_transparent};
 
 use super::control::completes;
 use super::mode::{Due, Mode, Reading};
 use super::spelled::{Spelled, ends_name, is_blank};
-use super::step::{Note, Step, go, leave, leave_noting, noting};
+use super::step::{Jot, Said, go, leave, leave_noting, noting};
 
 /// In the blanks before a string's name.
-pub(crate) fn read_string_before(byte: u8, reading: Reading) -> Step
-    ensures { result ≡ read_string_before byte reading }
+pub(crate) fn read_string_before(byte: u8, reading: &mut Reading) -> Said
+    ensures { joined reading.new result ≡ read_string_before byte reading.old }
 {
     if is_blank(byte) {
-        return go(reading);
+        return go();
     }
-    leave_noting(Note::NewName, reading.to(Mode::StringName))
+    reading.mode = Mode::StringName;
+    leave_noting(Jot::NewName)
 }
 
-// Behind a string's name.
-fn behind_string_name(name: Spelled, reading: Reading) -> Reading
-    ensures { result ≡ behind_string_name name reading }
+// A string's name ends.
+fn end_string_name(name: &Spelled, reading: &mut Reading)
+    ensures { reading.new ≡ behind_string_name name.now reading.old }
 {
     if name.name().is_empty() {
-        return reading.to(Mode::Drop);
+        reading.mode = Mode::Drop;
+        return;
     }
-    reading.to(Mode::StringBlanks)
+    reading.mode = Mode::StringBlanks;
 }
 
 /// In a string's name.
-pub(crate) fn read_string_name(byte: u8, long: bool, name: Spelled, reading: Reading) -> Step
-    ensures { result ≡ read_string_name byte long name reading }
+pub(crate) fn read_string_name(byte: u8, long: bool, name: &Spelled, reading: &mut Reading) -> Said
+    ensures { joined reading.new result ≡ read_string_name byte long name.now reading.old }
 {
     if ends_name(byte) {
-        return leave(behind_string_name(name, reading));
+        end_string_name(name, reading);
+        return leave();
     }
     if completes(long, name) {
-        return noting(Note::Name(byte), reading.to(Mode::StringBlanks));
+        reading.mode = Mode::StringBlanks;
+        return noting(Jot::Name(byte));
     }
-    noting(Note::Name(byte), reading)
+    noting(Jot::Name(byte))
 }
 
 /// In the blanks before a string's text.
-pub(crate) fn read_string_blanks(byte: u8, reading: Reading) -> Step
-    ensures { result ≡ read_string_blanks byte reading }
+pub(crate) fn read_string_blanks(byte: u8, reading: &mut Reading) -> Said
+    ensures { joined reading.new result ≡ read_string_blanks byte reading.old }
 {
     if is_blank(byte) {
-        return go(reading);
+        return go();
     }
-    let text = reading.to(Mode::StringText).due(Due::Begin);
+    reading.mode = Mode::StringText;
+    reading.due = Due::Begin;
     if byte == b'"' {
-        return go(text);
+        return go();
     }
-    leave(text)
+    leave()
 }
 
 /// In a string's text.
-pub(crate) fn read_string_text(byte: u8, reading: Reading) -> Step
-    ensures { result ≡ read_string_text byte reading }
+pub(crate) fn read_string_text(byte: u8, reading: &mut Reading) -> Said
+    ensures { joined reading.new result ≡ read_string_text byte reading.old }
 {
     if byte == b'\n' {
-        return go(reading.to(Mode::Start).due(Due::Define));
+        reading.mode = Mode::Start;
+        reading.due = Due::Define;
+        return go();
     }
-    go(reading.due(Due::Add(byte)))
+    reading.due = Due::Add(byte);
+    go()
 }
 
 /// In a transparent line.
-pub(crate) fn read_transparent(byte: u8, reading: Reading) -> Step
-    ensures { result ≡ read_transparent byte reading }
+pub(crate) fn read_transparent(byte: u8, reading: &mut Reading) -> Said
+    ensures { joined reading.new result ≡ read_transparent byte reading.old }
 {
     if byte == b'\n' {
-        return go(reading.to(Mode::Start).due(Due::Add(b'\n')));
+        reading.mode = Mode::Start;
+        reading.due = Due::Add(b'\n');
+        return go();
     }
-    go(reading.due(Due::Add(byte)))
+    reading.due = Due::Add(byte);
+    go()
 }

@@ -1,44 +1,26 @@
 //! Text lines.
 ghost use Rattle.std.specs.Prelude.{◌≡◌};
-ghost use Rattle.nr_reading.specs.Text.{continuing, begin_escape, in_text, start_blank, start_newline, start_control, start_byte, start, one_blank_more, text_behind_blanks, leading_byte, leading, end_continued, continued_byte, continued, is_interrupted, ended, end_event, text_byte, text};
+ghost use Rattle.nr_reading.specs.Steps.{joined};
+ghost use Rattle.nr_reading.specs.Text.{begin_escape, in_text, start_blank, start_newline, start_control, start_byte, start, one_blank_more, text_behind_blanks, leading_byte, leading, continued_byte, continued, is_interrupted, ended, end_event, text_byte, text};
 
 use super::event::Event;
 use super::front::Front;
 use super::mode::{Due, Escape, Mode, Reading, Signs};
-use super::step::{Note, Step, go, leave, leave_telling, noting, tell};
+use super::step::{Jot, Said, go, leave, leave_telling, noting, tell};
 
 impl Reading {
-    /// The next text line continues a word, or not.
-    pub(crate) fn continuing(self, continued: bool) -> Reading
-        ensures { result ≡ continuing continued self }
+    // A text line ends. Answers what that tells.
+    fn end_line(&mut self) -> Event
+        ensures reading { self.new ≡ ended self.old }
+        ensures event { result ≡ end_event self.old }
     {
-        let mut reading = self;
-        reading.continued = continued;
-        reading
-    }
-
-    // Behind a text line that ends.
-    fn ended(self) -> Reading
-        ensures { result ≡ ended self }
-    {
-        self.continuing(is_interrupted(self.mode)).to(Mode::Start)
-    }
-
-    // What the end of a text line tells.
-    fn end_event(self) -> Event
-        ensures { result ≡ end_event self }
-    {
-        if is_interrupted(self.mode) {
+        let interrupted = is_interrupted(self.mode);
+        self.continued = interrupted;
+        self.mode = Mode::Start;
+        if interrupted {
             return Event::EndInterrupted;
         }
         Event::EndLine
-    }
-
-    // Behind an empty line that continued a word.
-    fn end_continued(self) -> Reading
-        ensures { result ≡ end_continued self }
-    {
-        self.to(Mode::Start).continuing(false)
     }
 }
 
@@ -50,51 +32,58 @@ fn is_interrupted(mode: Mode) -> bool
 }
 
 /// A `\`.
-pub(crate) fn begin_escape(reading: Reading) -> Step
-    ensures { result ≡ begin_escape reading }
+pub(crate) fn begin_escape(reading: &mut Reading) -> Said
+    ensures { joined reading.new result ≡ begin_escape reading.old }
 {
-    go(reading.escaping(Escape::Begun))
+    reading.escape = Escape::Begun;
+    go()
 }
 
 // What begins a line's text, or goes on in it.
-fn in_text(event: Event, reading: Reading) -> Step
-    ensures { result ≡ in_text event reading }
+#[inline(always)]
+fn in_text(event: Event, reading: &mut Reading) -> Said
+    ensures { joined reading.new result ≡ in_text event reading.old }
 {
-    tell(event, reading.to(Mode::Text).continuing(false))
+    reading.mode = Mode::Text;
+    reading.continued = false;
+    tell(event)
 }
 
 // A blank at a line's beginning.
-fn start_blank(reading: Reading) -> Step
-    ensures { result ≡ start_blank reading }
+fn start_blank(reading: &mut Reading) -> Said
+    ensures { joined reading.new result ≡ start_blank reading.old }
 {
     if reading.continued {
-        return tell(Event::Byte(b' '), reading.to(Mode::Continued));
+        reading.mode = Mode::Continued;
+        return tell(Event::Byte(b' '));
     }
-    tell(Event::Leading, reading.to(Mode::Leading(1)))
+    reading.mode = Mode::Leading(1);
+    tell(Event::Leading)
 }
 
 // A newline at a line's beginning.
-fn start_newline(reading: Reading) -> Step
-    ensures { result ≡ start_newline reading }
+fn start_newline(reading: &mut Reading) -> Said
+    ensures { joined reading.new result ≡ start_newline reading.old }
 {
     if reading.continued {
-        return tell(Event::EndContinued, reading.continuing(false));
+        reading.continued = false;
+        return tell(Event::EndContinued);
     }
-    tell(Event::Empty, reading)
+    tell(Event::Empty)
 }
 
 // A control character.
-fn start_control(no_break: bool, reading: Reading) -> Step
-    ensures { result ≡ start_control no_break reading }
+fn start_control(no_break: bool, reading: &mut Reading) -> Said
+    ensures { joined reading.new result ≡ start_control no_break reading.old }
 {
-    let mut control = reading.to(Mode::Control);
-    control.no_break = no_break;
-    noting(Note::NewName, control)
+    reading.mode = Mode::Control;
+    reading.no_break = no_break;
+    noting(Jot::NewName)
 }
 
 // A byte at a line's beginning.
-fn start_byte(byte: u8, signs: Signs, reading: Reading) -> Step
-    ensures { result ≡ start_byte byte signs reading }
+fn start_byte(byte: u8, signs: Signs, reading: &mut Reading) -> Said
+    ensures { joined reading.new result ≡ start_byte byte signs reading.old }
 {
     if byte == signs.control {
         return start_control(false, reading);
@@ -115,16 +104,17 @@ fn start_byte(byte: u8, signs: Signs, reading: Reading) -> Step
 }
 
 /// At the beginning of a line.
-pub(crate) fn start(front: Front, signs: Signs, reading: Reading) -> Step
-    ensures { result ≡ start front signs reading }
+pub(crate) fn start(front: Front, signs: Signs, reading: &mut Reading) -> Said
+    ensures { joined reading.new result ≡ start front signs reading.old }
 {
     match front {
-        Front::Mark | Front::Resume => go(reading),
+        Front::Mark | Front::Resume => go(),
         Front::Byte(byte) => start_byte(byte, signs, reading),
         Front::Cell(_) | Front::LineEnd(_) => {
-            leave_telling(Event::Diverted, reading.to(Mode::Diverting))
+            reading.mode = Mode::Diverting;
+            leave_telling(Event::Diverted)
         }
-        Front::Over => leave_telling(Event::Over, reading),
+        Front::Over => leave_telling(Event::Over),
     }
 }
 
@@ -136,21 +126,25 @@ fn one_blank_more(count: u32) -> u32
 }
 
 /// The text behind leading blanks.
-pub(crate) fn text_behind_blanks(count: u32, reading: Reading) -> Step
-    ensures { result ≡ text_behind_blanks count reading }
+pub(crate) fn text_behind_blanks(count: u32, reading: &mut Reading) -> Said
+    ensures { joined reading.new result ≡ text_behind_blanks count reading.old }
 {
-    leave(reading.to(Mode::Text).due(Due::Lead(count)))
+    reading.mode = Mode::Text;
+    reading.due = Due::Lead(count);
+    leave()
 }
 
 // A byte behind leading blanks.
-fn leading_byte(byte: u8, count: u32, reading: Reading) -> Step
-    ensures { result ≡ leading_byte byte count reading }
+fn leading_byte(byte: u8, count: u32, reading: &mut Reading) -> Said
+    ensures { joined reading.new result ≡ leading_byte byte count reading.old }
 {
     if byte == b'\n' {
-        return tell(Event::Empty, reading.to(Mode::Start));
+        reading.mode = Mode::Start;
+        return tell(Event::Empty);
     }
     if byte == b' ' {
-        return go(reading.to(Mode::Leading(one_blank_more(count))));
+        reading.mode = Mode::Leading(one_blank_more(count));
+        return go();
     }
     if byte == b'\\' {
         return begin_escape(reading);
@@ -159,27 +153,35 @@ fn leading_byte(byte: u8, count: u32, reading: Reading) -> Step
 }
 
 /// Behind leading blanks.
-pub(crate) fn leading(front: Front, count: u32, reading: Reading) -> Step
-    ensures { result ≡ leading front count reading }
+pub(crate) fn leading(front: Front, count: u32, reading: &mut Reading) -> Said
+    ensures { joined reading.new result ≡ leading front count reading.old }
 {
     match front {
-        Front::Mark => go(reading),
+        Front::Mark => go(),
         Front::Byte(byte) => leading_byte(byte, count, reading),
         Front::Cell(_) => text_behind_blanks(count, reading),
-        Front::LineEnd(_) => tell(Event::Empty, reading.to(Mode::Start)),
-        Front::Resume | Front::Over => leave_telling(Event::Empty, reading.to(Mode::Start)),
+        Front::LineEnd(_) => {
+            reading.mode = Mode::Start;
+            tell(Event::Empty)
+        }
+        Front::Resume | Front::Over => {
+            reading.mode = Mode::Start;
+            leave_telling(Event::Empty)
+        }
     }
 }
 
 // A byte behind the blanks of a line that continues a word.
-fn continued_byte(byte: u8, reading: Reading) -> Step
-    ensures { result ≡ continued_byte byte reading }
+fn continued_byte(byte: u8, reading: &mut Reading) -> Said
+    ensures { joined reading.new result ≡ continued_byte byte reading.old }
 {
     if byte == b'\n' {
-        return tell(Event::EndContinued, reading.end_continued());
+        reading.mode = Mode::Start;
+        reading.continued = false;
+        return tell(Event::EndContinued);
     }
     if byte == b' ' {
-        return tell(Event::Byte(b' '), reading);
+        return tell(Event::Byte(b' '));
     }
     if byte == b'\\' {
         return begin_escape(reading);
@@ -188,42 +190,61 @@ fn continued_byte(byte: u8, reading: Reading) -> Step
 }
 
 /// Behind the blanks of a line that continues a word.
-pub(crate) fn continued(front: Front, reading: Reading) -> Step
-    ensures { result ≡ continued front reading }
+pub(crate) fn continued(front: Front, reading: &mut Reading) -> Said
+    ensures { joined reading.new result ≡ continued front reading.old }
 {
     match front {
-        Front::Mark => go(reading),
+        Front::Mark => go(),
         Front::Byte(byte) => continued_byte(byte, reading),
         Front::Cell(cell) => in_text(Event::Cell(cell), reading),
-        Front::LineEnd(_) => tell(Event::EndContinued, reading.end_continued()),
+        Front::LineEnd(_) => {
+            reading.mode = Mode::Start;
+            reading.continued = false;
+            tell(Event::EndContinued)
+        }
         Front::Resume | Front::Over => {
-            leave_telling(Event::EndContinued, reading.end_continued())
+            reading.mode = Mode::Start;
+            reading.continued = false;
+            leave_telling(Event::EndContinued)
         }
     }
 }
 
 // A byte in a text line.
-fn text_byte(byte: u8, reading: Reading) -> Step
-    ensures { result ≡ text_byte byte reading }
+#[inline(always)]
+fn text_byte(byte: u8, reading: &mut Reading) -> Said
+    ensures { joined reading.new result ≡ text_byte byte reading.old }
 {
     if byte == b'\n' {
-        return tell(reading.end_event(), reading.ended());
+        let event = reading.end_line();
+        return tell(event);
     }
     if byte == b'\\' {
         return begin_escape(reading);
     }
-    tell(Event::Byte(byte), reading.to(Mode::Text))
+    reading.mode = Mode::Text;
+    tell(Event::Byte(byte))
 }
 
 /// In a text line.
-pub(crate) fn text(front: Front, reading: Reading) -> Step
-    ensures { result ≡ text front reading }
+#[inline(always)]
+pub(crate) fn text(front: Front, reading: &mut Reading) -> Said
+    ensures { joined reading.new result ≡ text front reading.old }
 {
     match front {
-        Front::Mark => go(reading),
+        Front::Mark => go(),
         Front::Byte(byte) => text_byte(byte, reading),
-        Front::Cell(cell) => tell(Event::Cell(cell), reading.to(Mode::Text)),
-        Front::LineEnd(_) => tell(reading.end_event(), reading.ended()),
-        Front::Resume | Front::Over => leave_telling(reading.end_event(), reading.ended()),
+        Front::Cell(cell) => {
+            reading.mode = Mode::Text;
+            tell(Event::Cell(cell))
+        }
+        Front::LineEnd(_) => {
+            let event = reading.end_line();
+            tell(event)
+        }
+        Front::Resume | Front::Over => {
+            let event = reading.end_line();
+            leave_telling(event)
+        }
     }
 }

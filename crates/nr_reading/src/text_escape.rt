@@ -1,22 +1,15 @@
 //! Escapes in text.
 ghost use Rattle.std.specs.Prelude.{◌≡◌};
-ghost use Rattle.nr_reading.specs.TextEscapes.{plain, interpolated, asked_in_text, is_nothing, is_plain, other_byte, event_behind, is_titled, behind_escape, escape_in_text, escape_at_start, escape_by, escaped_byte, lone_escape, escaped};
+ghost use Rattle.nr_reading.specs.Steps.{ask_of, joined};
+ghost use Rattle.std.specs.Option.{option_map};
+ghost use Rattle.nr_reading.specs.TextEscapes.{interpolated, asked_in_text, is_nothing, is_plain, other_byte, event_behind, is_titled, behind_escape, escape_in_text, escape_at_start, escape_by, escaped_byte, lone_escape, escaped};
 
-use super::ask::{Ask, Kind, Sign};
+use super::ask::{Begun, Kind, Sign};
 use super::event::Event;
 use super::front::Front;
 use super::mode::{Escape, Mode, Reading};
-use super::step::{Note, Step, go, leave, noting, tell};
+use super::step::{Jot, Said, go, leave, noting, tell};
 use super::text::text_behind_blanks;
-
-impl Reading {
-    /// An escape has ended.
-    pub(crate) fn plain(self) -> Reading
-        ensures { result ≡ plain self }
-    {
-        self.escaping(Escape::Plain)
-    }
-}
 
 // What is interpolated, by the byte behind `\`.
 fn interpolated(byte: u8) -> Option<Kind>
@@ -32,18 +25,18 @@ fn interpolated(byte: u8) -> Option<Kind>
 }
 
 // An escape whose argument is still to be read, by the byte behind `\`.
-fn asked_in_text(byte: u8, long: bool) -> Option<Ask>
-    ensures { result ≡ asked_in_text byte long }
+fn asked_in_text(byte: u8, long: bool) -> Option<Begun>
+    ensures { option_map ask_of result ≡ asked_in_text byte long }
 {
     match byte {
-        b'(' => Some(Ask::begun(Kind::Special)),
-        b'[' if long => Some(Ask::bracketed()),
-        b'f' => Some(Ask::begun(Kind::Font)),
-        b'k' => Some(Ask::begun(Kind::Mark)),
-        b'h' => Some(Ask::begun(Kind::Horizontal)),
-        b'l' => Some(Ask::begun(Kind::Rule)),
-        b'v' | b'x' | b'b' | b'o' | b'L' | b'D' => Some(Ask::begun(Kind::Ignored)),
-        b's' => Some(Ask::begun(Kind::Size)),
+        b'(' => Some(Begun::Of(Kind::Special)),
+        b'[' if long => Some(Begun::Bracket),
+        b'f' => Some(Begun::Of(Kind::Font)),
+        b'k' => Some(Begun::Of(Kind::Mark)),
+        b'h' => Some(Begun::Of(Kind::Horizontal)),
+        b'l' => Some(Begun::Of(Kind::Rule)),
+        b'v' | b'x' | b'b' | b'o' | b'L' | b'D' => Some(Begun::Of(Kind::Ignored)),
+        b's' => Some(Begun::Of(Kind::Size)),
         _ => None,
     }
 }
@@ -132,75 +125,105 @@ fn behind_escape(byte: u8, mode: Mode) -> Mode
 }
 
 // An escape in the text itself.
-fn escape_in_text(byte: u8, asked: Option<Ask>, reading: Reading) -> Step
-    ensures { result ≡ escape_in_text byte asked reading }
+fn escape_in_text(byte: u8, asked: Option<Begun>, reading: &mut Reading) -> Said
+    ensures { joined reading.new result ≡ escape_in_text byte (option_map ask_of asked) reading.old }
 {
-    let Some(ask) = asked else {
+    let Some(begun) = asked else {
         let event = event_behind(byte, is_titled(reading.mode));
-        return tell(event, reading.to(behind_escape(byte, reading.mode)).plain());
+        reading.mode = behind_escape(byte, reading.mode);
+        reading.escape = Escape::Plain;
+        return tell(event);
     };
-    noting(Note::Begin(ask), reading.plain())
+    reading.escape = Escape::Plain;
+    noting(Jot::Begin(begun))
 }
 
 // An escape that begins the line's text, or `\!`.
-fn escape_at_start(byte: u8, reading: Reading) -> Step
-    ensures { result ≡ escape_at_start byte reading }
+fn escape_at_start(byte: u8, reading: &mut Reading) -> Said
+    ensures { joined reading.new result ≡ escape_at_start byte reading.old }
 {
     if byte == b'!' {
-        return go(reading.to(Mode::Transparent).plain());
+        reading.mode = Mode::Transparent;
+        reading.escape = Escape::Plain;
+        return go();
     }
-    leave(reading.to(Mode::Text).continuing(false))
+    reading.mode = Mode::Text;
+    reading.continued = false;
+    leave()
 }
 
 // Any escape that is not interpolated.
-fn escape_by(byte: u8, long: bool, reading: Reading) -> Step
-    ensures { result ≡ escape_by byte long reading.mode reading }
+fn escape_by(byte: u8, long: bool, reading: &mut Reading) -> Said
+    ensures { joined reading.new result ≡ escape_by byte long reading.old.mode reading.old }
 {
     match reading.mode {
         Mode::Start | Mode::Diverting => escape_at_start(byte, reading),
         Mode::Leading(count) => text_behind_blanks(count, reading),
-        Mode::Continued => leave(reading.to(Mode::Text).continuing(false)),
-        Mode::Interrupted => leave(reading.to(Mode::Text)),
+        Mode::Continued => {
+            reading.mode = Mode::Text;
+            reading.continued = false;
+            leave()
+        }
+        Mode::Interrupted => {
+            reading.mode = Mode::Text;
+            leave()
+        }
         _ => escape_in_text(byte, asked_in_text(byte, long), reading),
     }
 }
 
 // A byte behind `\`.
-fn escaped_byte(byte: u8, long: bool, reading: Reading) -> Step
-    ensures { result ≡ escaped_byte byte long reading }
+fn escaped_byte(byte: u8, long: bool, reading: &mut Reading) -> Said
+    ensures { joined reading.new result ≡ escaped_byte byte long reading.old }
 {
     let Some(kind) = interpolated(byte) else {
         if byte == b'\n' {
-            return go(reading.plain());
+            reading.escape = Escape::Plain;
+            return go();
         }
         if byte == b'"' {
-            return go(reading.escaping(Escape::Comment));
+            reading.escape = Escape::Comment;
+            return go();
         }
         return escape_by(byte, long, reading);
     };
-    noting(Note::Begin(Ask::begun(kind)), reading.plain())
+    reading.escape = Escape::Plain;
+    noting(Jot::Begin(Begun::Of(kind)))
 }
 
 // A `\` before what is no byte.
-fn lone_escape(reading: Reading) -> Step
-    ensures { result ≡ lone_escape reading.mode reading }
+fn lone_escape(reading: &mut Reading) -> Said
+    ensures { joined reading.new result ≡ lone_escape reading.old.mode reading.old }
 {
     match reading.mode {
         Mode::Start | Mode::Diverting | Mode::Continued => {
-            leave(reading.to(Mode::Text).continuing(false).plain())
+            reading.mode = Mode::Text;
+            reading.continued = false;
+            reading.escape = Escape::Plain;
+            leave()
         }
-        Mode::Leading(count) => text_behind_blanks(count, reading.plain()),
-        Mode::Interrupted => leave(reading.to(Mode::Text).plain()),
-        _ => leave(reading.plain()),
+        Mode::Leading(count) => {
+            reading.escape = Escape::Plain;
+            text_behind_blanks(count, reading)
+        }
+        Mode::Interrupted => {
+            reading.mode = Mode::Text;
+            reading.escape = Escape::Plain;
+            leave()
+        }
+        _ => {
+            reading.escape = Escape::Plain;
+            leave()
+        }
     }
 }
 
 /// The item behind `\`.
-pub(crate) fn escaped(front: Front, long: bool, reading: Reading) -> Step
-    ensures { result ≡ escaped front long reading }
+pub(crate) fn escaped(front: Front, long: bool, reading: &mut Reading) -> Said
+    ensures { joined reading.new result ≡ escaped front long reading.old }
 {
     match front {
-        Front::Mark => go(reading),
+        Front::Mark => go(),
         Front::Byte(byte) => escaped_byte(byte, long, reading),
         _ => lone_escape(reading),
     }

@@ -1,95 +1,113 @@
 //! Titles.
 ghost use Rattle.std.specs.Prelude.{◌≡◌};
+ghost use Rattle.nr_reading.specs.Steps.{joined};
 ghost use Rattle.nr_reading.specs.Titles.{ended_title, before_title_byte, before_title, next_part, title_byte, title, read_title_rest};
 
 use super::event::Event;
 use super::front::Front;
 use super::mode::{Mode, Reading};
 use super::spelled::is_blank;
-use super::step::{Step, go, leave_telling, tell};
+use super::step::{Said, go, leave_telling, tell};
 use super::text::begin_escape;
 
-// Behind a title's line.
-fn ended_title(reading: Reading) -> Reading
-    ensures { result ≡ ended_title reading }
+// A title's line ends.
+fn end_title(reading: &mut Reading)
+    ensures { reading.new ≡ ended_title reading.old }
 {
-    reading.to(Mode::Start)
+    reading.mode = Mode::Start;
 }
 
 // A byte before the first delimiter.
-fn before_title_byte(byte: u8, reading: Reading) -> Step
-    ensures { result ≡ before_title_byte byte reading }
+fn before_title_byte(byte: u8, reading: &mut Reading) -> Said
+    ensures { joined reading.new result ≡ before_title_byte byte reading.old }
 {
     if byte == b'\n' {
-        return tell(Event::TitleEnd, ended_title(reading));
+        end_title(reading);
+        return tell(Event::TitleEnd);
     }
     if byte == b'\\' {
         return begin_escape(reading);
     }
     if is_blank(byte) {
-        return go(reading);
+        return go();
     }
-    tell(Event::TitlePart, reading.to(Mode::Title(byte, 0)))
+    reading.mode = Mode::Title(byte, 0);
+    tell(Event::TitlePart)
 }
 
 /// Before the first delimiter.
-pub(crate) fn before_title(front: Front, reading: Reading) -> Step
-    ensures { result ≡ before_title front reading }
+pub(crate) fn before_title(front: Front, reading: &mut Reading) -> Said
+    ensures { joined reading.new result ≡ before_title front reading.old }
 {
     match front {
-        Front::Mark | Front::Cell(_) => go(reading),
+        Front::Mark | Front::Cell(_) => go(),
         Front::Byte(byte) => before_title_byte(byte, reading),
-        Front::LineEnd(_) => tell(Event::TitleEnd, ended_title(reading)),
-        Front::Resume | Front::Over => leave_telling(Event::TitleEnd, ended_title(reading)),
+        Front::LineEnd(_) => {
+            end_title(reading);
+            tell(Event::TitleEnd)
+        }
+        Front::Resume | Front::Over => {
+            end_title(reading);
+            leave_telling(Event::TitleEnd)
+        }
     }
 }
 
-// Behind a part.
-fn next_part(delimiter: u8, part: u8, reading: Reading) -> Reading
-    ensures { result ≡ next_part delimiter part reading }
+// A part ends.
+fn end_part(delimiter: u8, part: u8, reading: &mut Reading)
+    ensures { reading.new ≡ next_part delimiter part reading.old }
 {
     match part {
-        0 => reading.to(Mode::Title(delimiter, 1)),
-        1 => reading.to(Mode::Title(delimiter, 2)),
-        _ => reading.to(Mode::TitleRest),
+        0 => reading.mode = Mode::Title(delimiter, 1),
+        1 => reading.mode = Mode::Title(delimiter, 2),
+        _ => reading.mode = Mode::TitleRest,
     }
 }
 
 // A byte in a part.
-fn title_byte(byte: u8, delimiter: u8, part: u8, reading: Reading) -> Step
-    ensures { result ≡ title_byte byte delimiter part reading }
+fn title_byte(byte: u8, delimiter: u8, part: u8, reading: &mut Reading) -> Said
+    ensures { joined reading.new result ≡ title_byte byte delimiter part reading.old }
 {
     if byte == b'\n' {
-        return tell(Event::TitleEnd, ended_title(reading));
+        end_title(reading);
+        return tell(Event::TitleEnd);
     }
     if byte == b'\\' {
         return begin_escape(reading);
     }
     if byte == delimiter {
-        return tell(Event::TitlePart, next_part(delimiter, part, reading));
+        end_part(delimiter, part, reading);
+        return tell(Event::TitlePart);
     }
-    tell(Event::Byte(byte), reading)
+    tell(Event::Byte(byte))
 }
 
 /// In a part.
-pub(crate) fn title(front: Front, delimiter: u8, part: u8, reading: Reading) -> Step
-    ensures { result ≡ title front delimiter part reading }
+pub(crate) fn title(front: Front, delimiter: u8, part: u8, reading: &mut Reading) -> Said
+    ensures { joined reading.new result ≡ title front delimiter part reading.old }
 {
     match front {
-        Front::Mark => go(reading),
+        Front::Mark => go(),
         Front::Byte(byte) => title_byte(byte, delimiter, part, reading),
-        Front::Cell(cell) => tell(Event::Cell(cell), reading),
-        Front::LineEnd(_) => tell(Event::TitleEnd, ended_title(reading)),
-        Front::Resume | Front::Over => leave_telling(Event::TitleEnd, ended_title(reading)),
+        Front::Cell(cell) => tell(Event::Cell(cell)),
+        Front::LineEnd(_) => {
+            end_title(reading);
+            tell(Event::TitleEnd)
+        }
+        Front::Resume | Front::Over => {
+            end_title(reading);
+            leave_telling(Event::TitleEnd)
+        }
     }
 }
 
 /// Behind the last delimiter.
-pub(crate) fn read_title_rest(byte: u8, reading: Reading) -> Step
-    ensures { result ≡ read_title_rest byte reading }
+pub(crate) fn read_title_rest(byte: u8, reading: &mut Reading) -> Said
+    ensures { joined reading.new result ≡ read_title_rest byte reading.old }
 {
     if byte == b'\n' {
-        return tell(Event::TitleEnd, ended_title(reading));
+        end_title(reading);
+        return tell(Event::TitleEnd);
     }
-    go(reading)
+    go()
 }

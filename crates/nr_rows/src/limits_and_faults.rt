@@ -1,7 +1,7 @@
-// Runs that meet a limit or a fault, and the ranges of the limits.
+// Runs that meet a fault, a desk that is lent again, and the ranges of the limits.
 
 use super::formatted;
-use super::row::{DEFAULTS, Row, check, desk_under, passes};
+use super::row::{DEFAULTS, Row, check, desk_under};
 use nr_engine::{Limits, Measure, Outcome};
 use nr_units::fakes::{Script, Slate};
 use std::test::Fail;
@@ -19,34 +19,6 @@ fn limits_ranges(rt: HostRuntime) -> Result<(), Fail> {
     assert!(rt; Limits::new(64, 1, 16_777_217, 1).is_none());
     assert!(rt; Limits::new(64, 1, 1, 4_294_967_297).is_none());
     Ok(())
-}
-
-#[test]
-fn word_hits_line_cells(rt: HostRuntime) -> Result<(), Fail> {
-    let row = Row {
-        input: b"hello\n",
-        limits: (262_144, 256, 4, 1_000_000),
-        output: b"",
-        outcome: Outcome::Limit {
-            which: Measure::LineCells,
-            at: 5,
-        },
-    };
-    passes(&rt, rt.alloc(), &row)
-}
-
-#[test]
-fn breaks_hit_page_cells(rt: HostRuntime) -> Result<(), Fail> {
-    let row = Row {
-        input: b"abcd\n.br\nabcd\n.br\nabcd\n.br\n",
-        limits: (262_144, 256, 12, 1_000_000),
-        output: b"",
-        outcome: Outcome::Limit {
-            which: Measure::PageCells,
-            at: 27,
-        },
-    };
-    passes(&rt, rt.alloc(), &row)
 }
 
 // The first page is out where the reader fails behind the last byte, and not where it fails before it.

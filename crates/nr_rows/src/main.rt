@@ -1,54 +1,91 @@
-// Worked rows: inputs of the formatter with the pages that they must give. Those that end under the
-// limits by default are files in data/, NAME.roff and NAME.out, and data/rows lists them; the program
-// runs them. Those with limits or faults of their own are tests.
+// Worked rows: inputs of the formatter with the pages that they must give, as files in data/, NAME.roff
+// and NAME.out. data/rows lists those that end under the limits by default, data/rows_with_limits the
+// others, with their limits and their ends; the program runs them. Those with faults of their own are
+// tests.
 #![tactic(auto)]
 
 use nr_engine::{Buffered, Desk, Limits, Options, Outcome, Sink, Source, format};
 use nr_units::fakes::Slate;
+use std::alloc::{AllocError, Global};
 use std::fs;
 use std::rt::Files;
 
+mod limits;
 #[cfg(test)]
 mod limits_and_faults;
 #[cfg(test)]
 mod row;
+#[cfg(test)]
+mod sweeps;
+#[cfg(test)]
+mod whole;
+
+use limits::limits_of;
 
 /// The bytes of the buffer of a row's input.
 const BUFFER_SIZE: usize = 4096;
 
-/// Formats on what the desk lends.
-fn formatted<R: Source, W: Sink>(desk: &mut Desk, input: &mut R, output: &mut W) -> Outcome {
-    let options = Options::plain();
-    let mut moves = 0;
-    format(desk.lend(), &options, input, output, &mut moves)
-}
-
-/// Runs each row that is listed, and prints the names of those that give other pages.
+/// Runs all rows, and prints how many of each list passed.
 fn main(rt: HostRuntime) -> anyhow::Result<()> {
-    let limits = Limits::new(262_144, 256, 65_536, 1_000_000).ok_or(anyhow::anyhow!(
-        "limits out of range"
-    ))?;
-    let mut desk = Desk::new(rt.alloc(), limits)?;
-    let mut buffer = [0u8; BUFFER_SIZE];
-    let list = fs::read_to_string(&rt, "rows")?;
-    let mut count = 0u64;
-    for name in list.lines() {
-        let whole = gives_its_pages(&rt, &mut desk, name, &mut buffer)?;
-        let bytewise = gives_its_pages(&rt, &mut desk, name, &mut buffer[..1])?;
-        if !(whole && bytewise) {
-            println!(rt; "other pages: {name}")?;
-        }
-        count = count.saturating_add(1);
-    }
-    println!(rt; "{count} rows")?;
+    let plain = plain_rows(&rt)?;
+    println!(rt; "{plain} rows")?;
+    let limited = rows_with_limits(&rt)?;
+    println!(rt; "{limited} rows with limits")?;
     Ok(())
 }
 
-/// Whether the row's input gives the row's pages, read into this buffer.
-fn gives_its_pages<R: Files + AllocGlobal>(
+/// How many of the rows under the limits by default pass. One desk serves them all.
+fn plain_rows<R: Files + AllocGlobal + Print>(rt: &R) -> anyhow::Result<u64> {
+    let mut desk = Desk::new(rt.alloc(), Limits::default())?;
+    let list = fs::read_to_string(rt, "rows")?;
+    let mut passed = 0u64;
+    for name in list.lines() {
+        if passes(rt, &mut desk, name, "Done")? {
+            passed = passed.saturating_add(1);
+        }
+    }
+    Ok(passed)
+}
+
+/// How many of the rows with limits of their own pass. Each has a desk of its own.
+fn rows_with_limits<R: Files + AllocGlobal + Print>(rt: &R) -> anyhow::Result<u64> {
+    let list = fs::read_to_string(rt, "rows_with_limits")?;
+    let mut passed = 0u64;
+    for line in list.lines() {
+        let (row, end) = line
+            .split_once(": ")
+            .ok_or(anyhow::anyhow!("no end: {line}"))?;
+        let (name, words) = row.split_once(' ').unwrap_or((row, ""));
+        let mut desk = Desk::new(rt.alloc(), limits_of(words)?)?;
+        if passes(rt, &mut desk, name, end)? {
+            passed = passed.saturating_add(1);
+        }
+    }
+    Ok(passed)
+}
+
+/// Whether a row gives its pages and ends so, read in large pieces and byte by byte. Prints its name and
+/// how it ends where it does not.
+fn passes<R: Files + AllocGlobal + Print>(
     rt: &R,
     desk: &mut Desk,
     name: &str,
+    end: &str,
+) -> anyhow::Result<bool> {
+    let mut buffer = [0u8; BUFFER_SIZE];
+    let whole = gives(rt, desk, name, end, &mut buffer)?;
+    if !whole {
+        return Ok(false);
+    }
+    gives(rt, desk, name, end, &mut buffer[..1])
+}
+
+/// Whether a row gives its pages and ends so, read into this buffer.
+fn gives<R: Files + AllocGlobal + Print>(
+    rt: &R,
+    desk: &mut Desk,
+    name: &str,
+    end: &str,
     buffer: &mut [u8],
 ) -> anyhow::Result<bool> {
     let pages = fs::read(rt, format!(in rt.alloc(); "{name}.out")?)?;
@@ -57,5 +94,25 @@ fn gives_its_pages<R: Files + AllocGlobal>(
     let mut input = Buffered::over(file, buffer);
     let mut output = Slate::over(&mut printed);
     let outcome = formatted(desk, &mut input, &mut output);
-    Ok(outcome == Outcome::Done && output.bytes() == pages.as_slice())
+    let ended = end_of(rt.alloc(), outcome)?;
+    let good = ended.as_str() == end && output.bytes() == pages.as_slice();
+    if !good {
+        println!(rt; "other pages or another end: {name}, {ended}")?;
+    }
+    Ok(good)
+}
+
+/// How a run ended, as the list of the rows with limits says it: `Stored at 17`.
+fn end_of(alloc: Global, outcome: Outcome) -> Result<String, AllocError> {
+    match outcome {
+        Outcome::Limit { which, at } => format!(in alloc; "{which:?} at {at}"),
+        other => format!(in alloc; "{other:?}"),
+    }
+}
+
+/// Formats on what the desk lends.
+fn formatted<R: Source, W: Sink>(desk: &mut Desk, input: &mut R, output: &mut W) -> Outcome {
+    let options = Options::plain();
+    let mut moves = 0;
+    format(desk.lend(), &options, input, output, &mut moves)
 }

@@ -1,9 +1,8 @@
-// How a row with limits of its own is run.
+// How a row with a fault of its own is run.
 
 use super::formatted;
 use nr_engine::{Desk, Limits, Outcome};
-use nr_units::buffered::Buffered;
-use nr_units::fakes::{Script, Slate};
+use nr_units::fakes::Slate;
 use nr_units::source::Source;
 use std::alloc::Global;
 use std::process::Abort;
@@ -51,16 +50,4 @@ pub fn desk_under(alloc: Global, four: Four) -> Result<Desk, Fail> {
     let (stored, depth, cells, expansions) = four;
     let limits = Limits::new(stored, depth, cells, expansions).ok_or("limits out of range")?;
     Ok(Desk::new(alloc, limits)?)
-}
-
-/// The row's input byte by byte, in pieces of one byte, and in one piece.
-pub fn passes(rt: &impl Abort, alloc: Global, row: &Row) -> Result<(), Fail> {
-    let mut script = Script::new(row.input);
-    check(rt, alloc, &mut script, row)?;
-    let mut one = [0u8; 1];
-    let mut bytes = Buffered::over(row.input, &mut one);
-    check(rt, alloc, &mut bytes, row)?;
-    let mut many = [0u8; 512];
-    let mut whole = Buffered::over(row.input, &mut many);
-    check(rt, alloc, &mut whole, row)
 }

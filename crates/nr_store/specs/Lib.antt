@@ -4,3 +4,4 @@ pub mod Requests
 pub mod Holders
 pub mod Windows
 pub mod Laws
+pub mod Sights

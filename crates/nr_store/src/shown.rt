@@ -1,6 +1,19 @@
 //! What comes next of the levels.
 use crate::element::Element;
 
+/// What comes next of the levels, a mode left where it lies.
+#[derive(Clone, Copy, Debug)]
+pub enum Sight {
+    /// An element of the newest level.
+    Item(Element),
+    /// The end of the newest level.
+    End,
+    /// A mode that is to be resumed.
+    Resume,
+    /// There is no level.
+    Nothing,
+}
+
 /// What comes next of the levels, with the modes `K` that sprung texts resume. A level gives its text, then its end;
 /// behind the end of a sprung one comes its mode.
 #[derive(Clone, Copy, Debug)]

@@ -21,14 +21,14 @@ fn define(rt: &impl Abort, store: &mut Store<'_, u8>, name: Name, first: u8, sec
 
 // What comes next is this byte.
 fn assert_byte(rt: &impl Abort, store: &mut Store<'_, u8>, byte: u8) {
-    let next = store.take();
-    assert!(rt; matches!(&next, Shown::Item(Element::Byte(b)) if *b == byte));
+    let next = store.take(&mut 0);
+    assert!(rt; matches!(&next, Sight::Item(Element::Byte(b)) if *b == byte));
 }
 
 // What comes next is an end.
 fn assert_end(rt: &impl Abort, store: &mut Store<'_, u8>) {
-    let next = store.take();
-    assert!(rt; matches!(&next, Shown::End));
+    let next = store.take(&mut 0);
+    assert!(rt; matches!(&next, Sight::End));
 }
 
 // A level goes on reading a text that is given another, and then taken away.
@@ -50,8 +50,10 @@ fn reads_what_it_began(rt: &impl Abort, store: &mut Store<'_, u8>) {
     assert_end(rt, store);
     assert_eq!(rt; store.charge(), 0);
     assert_eq!(rt; store.depth(), 1);
-    let next = store.take();
-    assert!(rt; matches!(&next, Shown::Resume(3)));
+    let mut mode = 0;
+    let next = store.take(&mut mode);
+    assert!(rt; matches!(&next, Sight::Resume));
+    assert_eq!(rt; mode, 3);
     assert_eq!(rt; store.depth(), 0);
 }
 

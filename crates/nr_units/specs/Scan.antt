@@ -213,6 +213,10 @@ pub record Scan : Type 0 where
   pub level : Level
   pub outer : List Waiting
 
+-- outside parentheses, this level
+abbrev pub outermost : Level → Scan
+outermost l = record { level = l; outer = [] }
+
 abbrev pub on_level : List Waiting → Option Level → Option Scan
 on_level ws l = option_map (λ l. record { level = l; outer = ws }) l
 

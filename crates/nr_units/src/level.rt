@@ -2,7 +2,7 @@
 ghost use Rattle.std.specs.Prelude.{◌≡◌, option_and_then};
 ghost use Rattle.std.specs.Option.{option_map};
 
-use crate::expression::Ctx;
+use crate::expression::{Ctx, Read};
 use crate::operators::Operator;
 use crate::symbols::Symbol;
 use crate::units::{Scale, in_range};
@@ -353,6 +353,73 @@ impl Level {
             Symbol::Bar => self.with_bar(ctx.here),
             Symbol::Blank if inside => self.with_blank(ctx),
             Symbol::Blank | Symbol::Digit(_) | Symbol::Open | Symbol::Close => None,
+        }
+    }
+}
+
+impl Level {
+    ghost use Rattle.std.specs.Prelude.{[]};
+    ghost use Rattle.nr_units.specs.Scan.{with_digit, in_mode, level_value, on_level, outermost, after_symbol};
+    ghost use Rattle.nr_units.specs.Scanner.{read_at, noted};
+    ghost use Rattle.nr_units.specs.declared.symbols.Symbol.TheVariants.{Open};
+
+    /// With a digit.
+    fn with_digit(self, digit: u8) -> Option<Self>
+        ensures { result ≡ option_map (in_mode self) (with_digit digit self.mode) }
+    {
+        let digit = u32::from(digit);
+        let mode = match self.mode {
+            Mode::Before(_) => Mode::Whole(digit),
+            Mode::LonePoint => Mode::more_fraction(0, 0, 1000, digit),
+            Mode::Whole(whole) => Mode::more_whole(whole, digit),
+            Mode::Fraction {
+                whole,
+                fraction,
+                place,
+            } => Mode::more_fraction(whole, fraction, place, digit),
+            Mode::Complete(_) => return None,
+        };
+        Some(Level {
+            mode,
+            waiting: self.waiting,
+        })
+    }
+
+    /// After a symbol that opens no parenthesis, outside parentheses; None where no expression goes on so.
+    pub(crate) fn step(self, symbol: Symbol, ctx: &Ctx) -> Option<Self>
+        requires { symbol ≡ Open → ⊥ }
+        ensures { on_level [] result ≡ after_symbol ctx.now (outermost self) symbol }
+    {
+        match symbol {
+            Symbol::Digit(digit) => self.with_digit(digit),
+            _ => self.after(symbol, false, ctx),
+        }
+    }
+
+    /// The longest expression among the bytes so far, of which there are `at`: all of them, or the one given.
+    pub(crate) fn read(self, ctx: &Ctx, at: usize, longest: Read) -> Read
+        ensures { result ≡ read_at (level_value ctx.now self) at longest }
+    {
+        match self.value(ctx) {
+            Some(Some(value)) => Read {
+                value: Some(i64::from(value)),
+                used: at,
+            },
+            Some(None) => Read {
+                value: None,
+                used: at,
+            },
+            None => longest,
+        }
+    }
+
+    /// The same before an operator; before another symbol the one given.
+    pub(crate) fn noted(self, symbol: Symbol, ctx: &Ctx, at: usize, longest: Read) -> Read
+        ensures { result ≡ noted (level_value ctx.now self) symbol at longest }
+    {
+        match symbol {
+            Symbol::Mark(_) => self.read(ctx, at, longest),
+            _ => longest,
         }
     }
 }

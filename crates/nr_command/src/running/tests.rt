@@ -1,8 +1,10 @@
-// Statuses and lines, a flush that fails, and a desk that was refused.
+// Statuses and lines, faults at every byte, a flush that fails, and a desk that was refused.
 use super::{out_of_memory, run_over, tell};
 use nr_engine::{Desk, Limits, Measure, Options, Outcome};
 use nr_units::fakes::{Script, Shut, Slate};
 use std::alloc::{AllocError, Global};
+use std::process::Abort;
+use std::test::Fail;
 
 /// Each outcome with its status and its line.
 static OUTCOMES: [(Outcome, u8, &[u8]); 5] = [
@@ -82,16 +84,88 @@ fn empty_input_is_done(rt: HostRuntime) {
     assert_eq!(rt; errors.failed_puts(), 0);
 }
 
-// Nothing but the flush fails.
-#[test]
-fn failing_flush_is_a_write_fault(rt: HostRuntime) {
-    let desk = small_desk(rt.alloc());
+/// Two pages with a title on top and a trap at the bottom.
+static HEADER_AND_FOOTER: &[u8] =
+    b".pl 4v\n.de hd\n.tl 'H''%'\n..\n.de fo\n'bp\n..\n.wh 0 hd\n.wh -1v fo\n.lt 5n\n.nf\na\nb\nc\n";
+
+static ITS_PAGES: &[u8] = b"H   1\na\nb\n\nH   2\nc\n\n\n";
+
+/// Runs over the input, and looks at the status, at what was printed and at the line.
+fn expect(
+    rt: &impl Abort,
+    alloc: Global,
+    input: &mut Script<'_>,
+    output: &mut Slate<'_>,
+    status: u8,
+    printed: &[u8],
+    line: &[u8],
+) {
+    let limits = Limits::new(1024, 4, 100, 10).unwrap();
+    let desk = Desk::new(alloc, limits);
     assert!(rt; desk.is_ok());
-    let mut input = Script::new(b"");
-    let mut room = [0; 10];
+    let mut out = [0; 80];
+    let mut errors = Slate::over(&mut out);
+    let came = run_over(desk, &Options::plain(), input, output, &mut errors);
+    assert_eq!(rt; came, status);
+    assert!(rt; output.bytes() == printed, "status {status}");
+    assert!(rt; errors.bytes() == line, "status {status}");
+}
+
+#[test]
+fn writer_at_every_byte(rt: HostRuntime) {
+    let line = b"nroff: write fault\n".as_slice();
+    for taken in 0..ITS_PAGES.len() {
+        let mut room = [0; 80];
+        assert!(rt; taken <= room.len());
+        let mut output = Slate::over(&mut room[..taken]);
+        let mut input = Script::new(HEADER_AND_FOOTER);
+        let printed = &ITS_PAGES[..taken];
+        expect(&rt, rt.alloc(), &mut input, &mut output, 4, printed, line);
+    }
+    let mut room = [0; 21];
+    let mut output = Slate::over(&mut room);
+    let mut input = Script::new(HEADER_AND_FOOTER);
+    expect(&rt, rt.alloc(), &mut input, &mut output, 0, ITS_PAGES, b"");
+}
+
+// The first page is out where the line behind it was read.
+#[test]
+fn reader_at_every_byte(rt: HostRuntime) -> Result<(), Fail> {
+    for given in 0..=HEADER_AND_FOOTER.len() {
+        let mut room = [0; 80];
+        let mut output = Slate::over(&mut room);
+        let mut input = Script::failing_after(HEADER_AND_FOOTER, given);
+        let printed = if given < 77 { &[] } else { &ITS_PAGES[..11] };
+        let line = format!(in rt.alloc(); "nroff: read fault at byte {given}\n")?;
+        let line = line.as_bytes();
+        expect(&rt, rt.alloc(), &mut input, &mut output, 3, printed, line);
+    }
+    Ok(())
+}
+
+// Nothing but the flush fails: all bytes went out.
+#[test]
+fn flush_fault_alone(rt: HostRuntime) {
+    let mut room = [0; 80];
     let mut output = Slate::failing_flush(&mut room);
-    let mut line = [0; 80];
-    let mut errors = Slate::over(&mut line);
+    let mut input = Script::new(HEADER_AND_FOOTER);
+    let line = b"nroff: write fault\n";
+    expect(&rt, rt.alloc(), &mut input, &mut output, 4, ITS_PAGES, line);
+    assert_eq!(rt; (output.failed_puts(), output.failed_flushes()), (0, 1));
+}
+
+// Where no allocation is refused, the page is printed; where one is, nothing is read or printed. No test
+// can have one refused: `rt try --test --fail-alloc N` runs this with the N-th refused.
+#[test]
+fn every_allocation_refused(rt: HostRuntime) {
+    let text = b".pl 2v\nhello\n".as_slice();
+    let desk = Desk::new(rt.alloc(), Limits::default());
+    let refused = desk.is_err();
+    let mut input = Script::new(text);
+    let mut room = [0; 10];
+    let mut output = Slate::over(&mut room);
+    let mut out = [0; 80];
+    let mut errors = Slate::over(&mut out);
     let status = run_over(
         desk,
         &Options::plain(),
@@ -99,9 +173,16 @@ fn failing_flush_is_a_write_fault(rt: HostRuntime) {
         &mut output,
         &mut errors,
     );
-    assert_eq!(rt; status, 4);
-    assert_eq!(rt; (output.failed_puts(), output.failed_flushes()), (0, 1));
-    assert!(rt; errors.bytes() == b"nroff: write fault\n".as_slice());
+    if refused {
+        assert_eq!(rt; status, 5);
+        assert!(rt; input.rest() == text);
+        assert!(rt; output.bytes().is_empty());
+        assert!(rt; errors.bytes() == b"nroff: out of memory\n".as_slice());
+        return;
+    }
+    assert_eq!(rt; status, 0);
+    assert!(rt; output.bytes() == b"hello\n\n".as_slice());
+    assert!(rt; errors.bytes().is_empty());
 }
 
 // Without a desk nothing is read, written or flushed but the line.

@@ -4,13 +4,14 @@ ghost use Rattle.nr_tables.specs.Named.{find};
 ghost use Rattle.nr_levels.specs.Levels.{argument};
 ghost use Rattle.nr_store.specs.Stored.{checked, words, entered, reading_bytes, shown, left, dropped, emptied};
 ghost use Rattle.nr_store.specs.Windows.{rest_of, left_times};
+ghost use Rattle.nr_store.specs.Sights.{Shows, shown_with};
 
 use crate::element::Element;
 use crate::refusal::Refusal;
-use crate::shown::Shown;
+use crate::shown::Sight;
 use crate::store::Store;
 use crate::store::names::text_in;
-use nr_levels::Front;
+use nr_levels::Next;
 use nr_units::Name;
 
 impl<'a, K: Copy> Store<'a, K> {
@@ -104,59 +105,55 @@ impl<'a, K: Copy> Store<'a, K> {
 
     /// What comes next of the levels, which stays there.
     #[inline]
-    pub fn look(&self) -> Shown<K>
-        ensures { result ≡ shown self.now.levels }
+    pub fn look(&self) -> Sight
+        ensures { Shows result (shown self.now.levels) }
     {
-        let Some(front) = self.levels.front() else {
-            return Shown::Nothing;
-        };
-        match front {
-            Front::Byte(byte) => Shown::Item(Element::Byte(byte)),
-            Front::End => Shown::End,
-            Front::Resume(mode) => Shown::Resume(mode),
-            Front::Text(id, place) => {
+        match self.levels.front() {
+            Next::Nothing => Sight::Nothing,
+            Next::Byte(byte) => Sight::Item(Element::Byte(byte)),
+            Next::End => Sight::End,
+            Next::Resume => Sight::Resume,
+            Next::Text(id, place) => {
                 let place = place as usize;
                 if place < self.pool.len(id) {
-                    return Shown::Item(self.pool.get(id, place));
+                    return Sight::Item(self.pool.get(id, place));
                 }
-                Shown::End
+                Sight::End
             }
         }
     }
 
     /// Takes what comes next of the levels. Taking an end gives back the level's charge, and puts the arguments before it
-    /// in force again; the mode that is resumed behind it, if there is one, comes next.
+    /// in force again; the mode that is resumed behind it, if there is one, comes next, and taking it puts it into `mode`.
     #[inline]
-    pub fn take(&mut self) -> Shown<K>
-        ensures was { result ≡ shown self.old.levels }
+    pub fn take(&mut self, mode: &mut K) -> Sight
+        ensures was { shown_with result mode.new ≡ shown self.old.levels }
         ensures is { self.new ≡ left self.old.levels self.old }
     {
-        let Some(front) = self.levels.front() else {
-            return Shown::Nothing;
-        };
-        match front {
-            Front::Byte(byte) => {
+        match self.levels.front() {
+            Next::Nothing => Sight::Nothing,
+            Next::Byte(byte) => {
                 self.levels.advance();
-                Shown::Item(Element::Byte(byte))
+                Sight::Item(Element::Byte(byte))
             }
-            Front::End => {
+            Next::End => {
                 self.charge -= self.levels.close();
-                Shown::End
+                Sight::End
             }
-            Front::Resume(mode) => {
-                self.levels.resume();
-                Shown::Resume(mode)
+            Next::Resume => {
+                self.levels.resume(mode);
+                Sight::Resume
             }
-            Front::Text(id, place) => {
+            Next::Text(id, place) => {
                 let place = place as usize;
                 if place < self.pool.len(id) {
                     let element = self.pool.get(id, place);
                     self.levels.advance();
-                    return Shown::Item(element);
+                    return Sight::Item(element);
                 }
                 self.pool.release(id);
                 self.charge -= self.levels.close();
-                Shown::End
+                Sight::End
             }
         }
     }
@@ -176,10 +173,7 @@ impl<'a, K: Copy> Store<'a, K> {
         ensures within { length result.now ≤ length (rest_of self.now.levels) }
         ensures front { let rest = rest_of self.now.levels in result.now ++ drop (length result.now) rest ≡ rest }
     {
-        let Some(front) = self.levels.front() else {
-            return &[];
-        };
-        let Front::Text(id, place) = front else {
+        let Next::Text(id, place) = self.levels.front() else {
             return &[];
         };
         let text = self.pool.text(id);
@@ -202,14 +196,12 @@ impl<'a, K: Copy> Store<'a, K> {
     fn drop_level(&mut self)
         ensures { self.new ≡ dropped self.old.levels self.old }
     {
-        let Some(front) = self.levels.front() else {
-            return;
-        };
-        match front {
-            Front::Byte(_) => self.charge -= self.levels.close(),
-            Front::End => self.charge -= self.levels.close(),
-            Front::Resume(_) => self.levels.resume(),
-            Front::Text(id, _) => {
+        match self.levels.front() {
+            Next::Nothing => {}
+            Next::Byte(_) => self.charge -= self.levels.close(),
+            Next::End => self.charge -= self.levels.close(),
+            Next::Resume => self.levels.drop_mode(),
+            Next::Text(id, _) => {
                 self.pool.release(id);
                 self.charge -= self.levels.close();
             }

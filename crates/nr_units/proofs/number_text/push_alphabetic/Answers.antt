@@ -1,8 +1,7 @@
-use Rattle.std.proofs.Common.{◌≡◌, ◌++◌, ◌-◌, List, ℕ, length, take, drop, replicate, sym, ap, ◌∙◌, arith, rules}
+use Rattle.std.proofs.Common.{◌++◌, ◌-◌, List, ℕ, drop, replicate, sym, ap, ◌∙◌, arith, rules}
 use Rattle.std.proofs.lemmas.Grind.{common_steps}
 use Rattle.std.proofs.lemmas.List.{take_all, length-drop, length-replicate}
 use Rattle.nr_units.proofs.Letters.{letters_step, letters_none, letters_all, letters_left, letters_text}
-use Rattle.nr_units.specs.NumberText.{letters, letters_before}
 use Rattle.nr_units.proofs.number_text.push_alphabetic.Goals as goal
 
 pub loop-rest-init : goal.loop-rest-init

@@ -2,6 +2,7 @@ use Rattle.std.proofs.Common.{◌≡◌, ◌≤◌, [], Option, Some, refl, sym,
 use Rattle.nr_reading.specs.declared.event.Event.TheVariants as events
 use Rattle.nr_store.specs.Stored.{Stored}
 use Rattle.nr_input.specs.Moving.{move}
+use Rattle.nr_input.specs.Hearing.{told_as}
 use Rattle.nr_input.specs.Weights.{Pays, diversions_in}
 use Rattle.nr_input.specs.declared.reader.Reader.{Reader}
 use Rattle.nr_formatter.specs.declared.tasks.Task.TheVariants as tasks
@@ -74,6 +75,6 @@ told_read e f (tells.Resume k) v r idle task pays fewer is falls = record {
 pub returns-in-Ok-clause-spends : goal.returns-in-Ok-clause-spends
 returns-in-Ok-clause-spends g c =
     let after : Shape = shape c.tell.new.self in
-    told_read (shape c.args.self.now) after c.in-Ok.told c.advance.new.store c.advance.new.reader c.requires.idle c.requires.task
+    told_read (shape c.args.self.now) after (told_as c.advance.new.mode c.in-Ok.heard) c.advance.new.store c.advance.new.reader c.requires.idle c.requires.task
     (rw (ap (λ e. e.place) c.tell.ensures.is) c.in-Ok.ensures.pays) c.in-Ok.ensures.diversions (ap (λ e. e.formatter) c.tell.ensures.is)
     (λ k is. c.tell.ensures.falls k is c.requires.idle c.requires.task)

@@ -5,4 +5,4 @@ use Rattle.nr_formatter.proofs.InputFalls.{falls-resumed}
 use Rattle.nr_formatter.proofs.formatter.Formatter.resume.Goals as goal
 
 pub returns-clause-falls : goal.returns-clause-falls
-returns-clause-falls c = λ none read. let f = c.args.self.now in falls-is 0 510 f _ (resumed c.args.resume f) (search rules) (falls-resumed c.args.resume f none read)
+returns-clause-falls c = λ none read. let f = c.args.self.now in falls-is 0 510 f _ (resumed c.args.resume.now f) (search rules) (falls-resumed c.args.resume.now f none read)

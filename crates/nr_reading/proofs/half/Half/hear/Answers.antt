@@ -1,7 +1,7 @@
 use Rattle.std.proofs.Common.{sym, ap, ◌∙◌}
 use Rattle.nr_reading.specs.declared.ask.Answer.{Answer}
 use Rattle.nr_reading.specs.declared.half.Half.{Half}
-use Rattle.nr_reading.specs.declared.step.Step.{Step}
+use Rattle.nr_reading.specs.Steps.{Step}
 use Rattle.nr_reading.specs.Meeting.{settled, met_copied, answered}
 use Rattle.nr_reading.proofs.Newest.{hear_reader, hear_ask}
 use Rattle.nr_reading.proofs.half.Half.hear.Goals as goal
@@ -9,9 +9,9 @@ use Rattle.nr_reading.proofs.half.Half.hear.Goals as goal
 pub returns-in_default : goal.returns-in_default
 returns-in_default c =
     let h = c.args.self.now in
-    let s = c.read-step.result in
-    c.settle.ensures ∙ ap (λ (k : Half). settled s.takes c.args.front s.event k) c.step.ensures
-    ∙ ap (λ (t : Step). met_copied c.args.front t h) c.read-step.ensures
+    let s = c.read-said.result in
+    c.settle.ensures ∙ ap (λ (k : Half). settled s.takes c.args.front s.event k) c.note.ensures
+    ∙ ap (λ (t : Step). met_copied c.args.front t h) c.read-said.ensures
     ∙ sym (hear_reader h.asks c.args.front c.args.byte h (sym c.newest.ensures ∙ c.in_default.is))
 
 pub returns : goal.returns

@@ -1,4 +1,4 @@
-use Rattle.std.proofs.Common.{Some, ap, sym, ◌∙◌}
+use Rattle.std.proofs.Common.{ap, sym, ◌∙◌}
 use Rattle.nr_store.specs.Holders.{beside_of}
 use Rattle.nr_store.specs.Stored.{Stored, shown}
 use Rattle.nr_store.proofs.Reading.{newest_text, item_shown}
@@ -7,5 +7,5 @@ use Rattle.nr_store.proofs.store.Store.look.Goals as goal
 pub returns-then-place-len : goal.returns-then-place-len
 returns-then-place-len g c =
     let s = c.self.inside in
-    let n = newest_text s.levels.levels c.in-Text.id c.in-Text.place (sym c.front.ensures ∙ c.in-Some.is ∙ ap Some c.in-Text.is) in
-    sym (sym (ap (λ (v : Stored _). shown v.levels) c.self.view_is) ∙ item_shown s.pool s.names.entries s.drafts.items s.levels (beside_of s.gathering s.registers s.traps s.words) s.stored c.in-Text.id c.in-Text.place n c.get.result c.get.ensures)
+    let n = newest_text s.levels.levels c.in-Text.id c.in-Text.place c.in-Text.ensures in
+    sym (ap (λ (v : Stored _). shown v.levels) c.self.view_is) ∙ item_shown s.pool s.names.entries s.drafts.items s.levels (beside_of s.gathering s.registers s.traps s.words) s.stored c.in-Text.id c.in-Text.place n c.get.result c.get.ensures

@@ -1,4 +1,4 @@
-use Rattle.std.proofs.Common.{Some, ap, sym, ◌∙◌}
+use Rattle.std.proofs.Common.{ap, sym, ◌∙◌}
 use Rattle.nr_store.specs.Holders.{beside_of}
 use Rattle.nr_store.specs.Stored.{Stored, shown, left}
 use Rattle.nr_store.proofs.Reading.{newest_text, item_shown, item_left, end_left, text_ended, text_ended_stands}
@@ -7,26 +7,26 @@ use Rattle.nr_store.proofs.store.Store.take.Goals as goal
 pub returns-then-place-len-clause-was : goal.returns-then-place-len-clause-was
 returns-then-place-len-clause-was g c =
     let s = c.self.inside in
-    let n = newest_text s.levels.levels c.in-Text.id c.in-Text.place (sym c.front.ensures ∙ c.in-Some.is ∙ ap Some c.in-Text.is) in
+    let n = newest_text s.levels.levels c.in-Text.id c.in-Text.place c.in-Text.ensures in
     sym (sym (ap (λ (v : Stored _). shown v.levels) c.self.view_is) ∙ item_shown s.pool s.names.entries s.drafts.items s.levels (beside_of s.gathering s.registers s.traps s.words) s.stored c.in-Text.id c.in-Text.place n c.get-element.result c.get-element.ensures)
 
 pub returns-then-place-len-clause-is : goal.returns-then-place-len-clause-is
 returns-then-place-len-clause-is g c =
     let s = c.self.inside in
-    let n = newest_text s.levels.levels c.in-Text.id c.in-Text.place (sym c.front.ensures ∙ c.in-Some.is ∙ ap Some c.in-Text.is) in
+    let n = newest_text s.levels.levels c.in-Text.id c.in-Text.place c.in-Text.ensures in
     rw c.advance-then-place-len.ensures (item_left s.pool s.names.entries s.drafts.items s.levels (beside_of s.gathering s.registers s.traps s.words) s.stored c.in-Text.id c.in-Text.place n c.get-element.result c.get-element.ensures ∙ ap (λ (v : Stored _). left v.levels v) c.self.view_is)
 
 pub invariant_of-self-in-Text : goal.invariant_of-self-in-Text
 invariant_of-self-in-Text g c =
     let s = c.self.inside in
-    let n = newest_text s.levels.levels c.in-Text.id c.in-Text.place (sym c.front.ensures ∙ c.in-Some.is ∙ ap Some c.in-Text.is) in
+    let n = newest_text s.levels.levels c.in-Text.id c.in-Text.place c.in-Text.ensures in
     let closed = c.close-in-Text.ensures in
     rw (c.release.ensures.released, closed.rest, closed.charge) (text_ended_stands s.pool s.names s.drafts s.levels (beside_of s.gathering s.registers s.traps s.words) s.charge s.stored c.in-Text.id c.in-Text.place c.self.invariant n)
 
 pub returns-else-place-len-clause-is : goal.returns-else-place-len-clause-is
 returns-else-place-len-clause-is g c =
     let s = c.self.inside in
-    let n = newest_text s.levels.levels c.in-Text.id c.in-Text.place (sym c.front.ensures ∙ c.in-Some.is ∙ ap Some c.in-Text.is) in
+    let n = newest_text s.levels.levels c.in-Text.id c.in-Text.place c.in-Text.ensures in
     let closed = c.close-in-Text.ensures in
     let none = c.if-place-len.false in
     rw (c.release.ensures.released, closed.rest) (text_ended s.pool s.names s.drafts s.levels (beside_of s.gathering s.registers s.traps s.words) s.charge s.stored c.in-Text.id c.in-Text.place c.self.invariant n ∙ sym (end_left s.pool s.names.entries s.drafts.items s.levels (beside_of s.gathering s.registers s.traps s.words) s.stored c.in-Text.id c.in-Text.place n (rw c.len.ensures at none)) ∙ ap (λ (v : Stored _). left v.levels v) c.self.view_is)

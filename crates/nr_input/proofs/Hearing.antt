@@ -1,0 +1,54 @@
+-- What is told of an item that is taken, with the mode beside it.
+use Rattle.std.specs.Prelude.{if◌then◌else◌}
+use Rattle.std.proofs.Common.{◌≡◌, ℕ, true, Option, refl, ap, ap₂, sym, ◌∙◌, subst}
+use Rattle.nr_units.specs.Supply.{Supply}
+use Rattle.nr_store.specs.Stored.{Stored, shown, left}
+use Rattle.nr_store.specs.Sights.{shown_with}
+use Rattle.nr_store.specs.declared.shown.Sight.{Sight}
+use Rattle.nr_store.specs.declared.shown.Sight.TheVariants as sights
+use Rattle.nr_reading.specs.Meeting.{Met, meet}
+use Rattle.nr_reading.specs.declared.event.Event.{Event}
+use Rattle.nr_reading.specs.declared.front.Front.{Front}
+use Rattle.nr_reading.specs.declared.half.Half.{Half}
+use Rattle.nr_input.specs.declared.reader.Reader.{Reader}
+use Rattle.nr_input.specs.declared.told.Told.{Told}
+use Rattle.nr_input.specs.Acting.{is_look}
+use Rattle.nr_input.specs.Coming.{Coming, Reached, HoldsComing, MayLook, front, behind}
+use Rattle.nr_input.specs.Moving.{Situation, situation, Move, told_of, taken_at, met_at, look, acted_at, move, burst_past, burst_behind, Stands, Goes, GoesBy}
+use Rattle.nr_input.specs.Hearing.{heard_of, told_as}
+
+pub heard_is : {K : Type 0} → (s : Sight) (mode : K) (e : Event) → told_as mode (heard_of s e) ≡ told_of (shown_with s mode) e
+heard_is (sights.Item x) mode e = refl
+heard_is sights.End mode e = refl
+heard_is sights.Resume mode e = refl
+heard_is sights.Nothing mode e = refl
+
+-- ---- where an item leads that is taken
+
+module _ {K : Type 0} (v : Stored K) (r : Reader) (c : Coming) (k : Half) (e : Event) where
+  abbrev at : Situation K
+  at = situation v c r
+
+  abbrev seen : Met
+  seen = record { half = k; event = e; takes = true }
+
+  moved_is : is_look r.half.reading.due ≡ true → seen ≡ meet (front (shown v.levels) c) r.half → move at ≡ taken_at seen at
+  moved_is looks meets = ap (λ b. if b then look at else acted_at at) looks ∙ ap (λ m. met_at m at) (sym meets)
+
+  -- the reader behind it, and the situation
+  pub taken_moves : (q n : Reached) (f : Front) (w : Stored K) (t : Told K) (burst : ℕ) (before supply : Option Supply) → is_look r.half.reading.due ≡ true
+      → f ≡ front (shown v.levels) c → HoldsComing c q before → MayLook (shown v.levels) c → seen ≡ meet f r.half
+      → w ≡ left v.levels v → HoldsComing (behind (shown v.levels) c) n supply → burst ≡ burst_past q.taken n.taken r.burst → t ≡ told_of (shown v.levels) e
+      → (t ≡ (move at).told) × Stands (move at).situation w (record r { half = k; burst = burst }) n supply × Goes at
+  taken_moves q n f w t burst before supply looks is holds may meets store coming burst_is told =
+      let there = moved_is looks (meets ∙ ap (λ g. meet g r.half) is) in
+      let burst_at : burst ≡ burst_behind c (behind (shown v.levels) c) r.burst = burst_is ∙ ap₂ (λ a b. burst_past a b r.burst) holds.taken coming.taken in
+      let stands : Stands (taken_at seen at).situation w (record r { half = k; burst = burst }) n supply = record {
+        stored = store;
+        reader = ap (λ b. record r { half = k; burst = b }) burst_at;
+        coming = coming;
+      } in (
+        told ∙ ap (λ (m : Move K). m.told) (sym there),
+        subst (λ (m : Move K). Stands m.situation w (record r { half = k; burst = burst }) n supply) (sym there) stands,
+        subst (λ b. GoesBy b at) (sym looks) may,
+      )

@@ -1,0 +1,45 @@
+-- What the newest frame gives next, and how it goes on.
+use Rattle.std.specs.Prelude.{◌≡◌, ℕ, ◌+◌, ◌-◌, ◌^◌, ◌<◌, ◌≤◌, List, [], ◌∷◌, Option, Some, None}
+use Rattle.nr_levels.specs.Levels.{HasMark}
+use Rattle.nr_levels.specs.declared.frame.Next.{Next}
+use Rattle.nr_levels.specs.declared.frame.Next.TheVariants as nexts
+use Rattle.nr_levels.specs.declared.frame.Front.{Front}
+use Rattle.nr_levels.specs.declared.frame.Front.TheVariants as fronts
+use Rattle.nr_levels.specs.declared.frame.Frame.{Frame}
+use Rattle.nr_levels.specs.declared.frame.Reads.{Reads}
+use Rattle.nr_levels.specs.declared.frame.Reads.TheVariants as reads
+
+-- this says what comes next of the newest level
+abbrev pub Comes : {K : Type 0} → Next → Option (Front K) → Type 0
+Comes nexts.Nothing front = front ≡ None
+Comes (nexts.Text id place) front = front ≡ Some (fronts.Text id place)
+Comes (nexts.Byte b) front = front ≡ Some (fronts.Byte b)
+Comes nexts.End front = front ≡ Some fronts.End
+Comes nexts.Resume front = HasMark front
+
+-- what a frame reads, so many elements further on
+abbrev pub gone_on : {K : Type 0} → ℕ → Reads K → Reads K
+gone_on n (reads.Text id place) = reads.Text id (place + n)
+gone_on n (reads.Own s) = reads.Own (record s { first = s.first + n })
+gone_on n (reads.Mark mode) = reads.Mark mode
+
+-- it has so many
+abbrev pub MayGoOn : {K : Type 0} → ℕ → Reads K → Type 0
+MayGoOn n (reads.Text id place) = 0 < n → place + n < 2 ^ 32
+MayGoOn n (reads.Own s) = n ≤ s.last - s.first
+MayGoOn n (reads.Mark mode) = Unit {0}
+
+-- the newest frame, so many elements further on
+abbrev pub newest_gone_on : {K : Type 0} → ℕ → List (Frame K) → List (Frame K)
+newest_gone_on n [] = []
+newest_gone_on n (f ∷ fs) = record f { reads = gone_on n f.reads } ∷ fs
+
+abbrev pub NewestMayGoOn : {K : Type 0} → ℕ → List (Frame K) → Type 0
+NewestMayGoOn n [] = ⊥
+NewestMayGoOn n (f ∷ fs) = MayGoOn n f.reads
+
+-- the mode that a frame still has to resume
+abbrev pub mode_of : {K : Type 0} → Reads K → Option K
+mode_of (reads.Text id place) = None
+mode_of (reads.Own s) = None
+mode_of (reads.Mark mode) = Some mode
