@@ -87,7 +87,7 @@ impl Pending {
 impl<'a> Line<'a> {
     /// There is a word from now on: a new one takes the gap that waits, and the margins where it begins the line.
     /// A title that is being read is given up.
-    #[inline]
+    #[inline(always)]
     pub fn open_word(&mut self, margins: Margins)
         ensures opened { self.new ≡ record self.old { collected = with_word margins self.old.collected } }
         ensures within { line_cells self.new.collected ≤ self.new.limit }
@@ -107,7 +107,7 @@ impl<'a> Line<'a> {
     }
 
     /// A break point that waits ends a piece of the word.
-    #[inline]
+    #[inline(always)]
     pub(crate) fn end_piece(&mut self)
         ensures { self.new ≡ record self.old { collected = in_word ended self.old.collected } }
     {
@@ -132,7 +132,7 @@ impl<'a> Line<'a> {
 
     /// Reads one more cell of a word; the first cell of a line gives it its margins. It fails where the cell would
     /// pass the limit.
-    #[inline]
+    #[inline(always)]
     pub fn put(&mut self, margins: Margins, cell: Cell, behind: Behind) -> Result<(), LineCells>
         ensures result { result ≡ afforded (record self.old { collected = add_cell margins behind cell self.old.collected }) }
         ensures ok { OnOk result (self.new ≡ record self.old { collected = add_cell margins behind cell self.old.collected }) }
@@ -148,7 +148,7 @@ impl<'a> Line<'a> {
     }
 
     /// One more cell of the piece that is being read.
-    #[inline]
+    #[inline(always)]
     fn push_cell(&mut self, cell: Cell, behind: Behind)
         requires room { text_cells self.old.collected < self.old.limit }
         requires no_title { self.old.collected.title ≡ None }

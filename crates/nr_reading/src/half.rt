@@ -148,6 +148,7 @@ impl Half {
     }
 
     // The newest escape has answered.
+    #[inline(never)]
     fn answered(&mut self, front: bool, answer: Answer) -> Seen
         requires { 0 < length self.old.asks }
         ensures { met self.new result ≡ answered front answer self.old }
@@ -194,6 +195,7 @@ impl Half {
     }
 
     // An element comes: to the newest escape, and else to the reader.
+    #[inline(always)]
     fn hear(&mut self, front: bool, byte: u8) -> Seen
         ensures { met self.new result ≡ hear_by self.old.asks front byte self.old }
     {
@@ -206,6 +208,7 @@ impl Half {
     }
 
     // What is read ends here.
+    #[inline(never)]
     fn over(&mut self) -> Seen
         ensures { met self.new result ≡ over_by self.old.asks self.old }
     {

@@ -34,8 +34,7 @@ fn place_of<V: Copy>(row: &[Entry<V>], name: Name) -> Result<usize, usize>
     let mut high = row.len();
     while low < high {
         let middle = low + (high - low) / 2;
-        let there = row[middle].name;
-        match there.compare(&name) {
+        match row[middle].name.compare(&name) {
             Ordering::Less => low = middle + 1,
             Ordering::Equal => return Ok(middle),
             Ordering::Greater => high = middle,
