@@ -5,4 +5,5 @@ pub mod Machine
 pub mod Measures
 pub mod Printing
 pub mod State
+pub mod Rereading
 pub mod Running

@@ -72,16 +72,16 @@ impl<'a> Engine<'a> {
         moves
     }
 
-    /// Reads and puts the plain bytes at hand and the blank behind them, in a text line that has begun, and tells how many
-    /// moves that were.
+    /// Reads and puts what is at hand, and tells how many moves that was: in a text line that has begun plain bytes and the
+    /// blank behind them, in a diverted line cells.
     #[inline]
-    pub(crate) fn put_text<R: Source>(&mut self, input: &mut R) -> u128
+    pub(crate) fn put_at_hand<R: Source>(&mut self, input: &mut R) -> u128
         ensures makes { Makes result (shape self.old) (shape self.new) (R.supply input.old) (R.supply input.new) }
         ensures failures { R.failures input.new ≡ R.failures input.old }
         ensures unfailed { has_failed self.old.place.ahead ≡ false → has_failed self.new.place.ahead ≡ false }
     {
         if !self.formatter.is_in_line() {
-            return 0;
+            return self.put_row();
         }
         let plain = self.put_plain(input);
         let gap = self.put_gap(input);

@@ -152,10 +152,10 @@ impl<'a> Engine<'a> {
         ensures write_failures { W.failures output.new ≡ put_counted_if (is_write_fault result) (W.failures output.old) }
     {
         loop {
-            let plain = self.put_text(input);
+            let many = self.put_at_hand(input);
             let _reached = self.place.taken();
-            *moves += plain;
-            if plain > 0 {
+            *moves += many;
+            if many > 0 {
                 continue;
             }
             match self.advance(input, output) {

@@ -10,6 +10,7 @@ use Rattle.nr_fill.specs.Pieces.{Collected, Word, add_cell, begins_line, end_wor
 use Rattle.nr_fill.specs.Runs.{IsPlain, add_run, run_cell}
 use Rattle.nr_fill.proofs.Measures.{line_cells-add_cell}
 use Rattle.nr_reading.specs.InText.{is_in_text}
+use Rattle.nr_reading.specs.Rereading.{is_rereading}
 use Rattle.nr_reading.specs.declared.event.Event.{Event}
 use Rattle.nr_reading.specs.declared.event.Event.TheVariants as events
 use Rattle.nr_reading.specs.declared.mode.Mode.TheVariants as modes
@@ -21,7 +22,8 @@ use Rattle.nr_formatter.specs.declared.tasks.Task.TheVariants as tasks
 use Rattle.nr_formatter.specs.Access.{collected, done, is_filling, with_collected}
 use Rattle.nr_formatter.specs.Lines.{breaks_behind, pointed, reads_a_field}
 use Rattle.nr_formatter.specs.Moves.{heard}
-use Rattle.nr_formatter.specs.Runs.{IsInLine, is_in_line, reads_next, run_put, gaps_plainly, gapped, gap_flows}
+use Rattle.nr_formatter.specs.Runs.{IsInLine, is_in_line, reads_next, run_put, gaps_plainly, gapped, gap_flows, is_rereading_line, IsRereadingLine}
+use Rattle.nr_formatter.specs.Places.{outlet, is_on_page}
 use Rattle.nr_formatter.specs.Text.{text_byte, blank, gap_blank, has_word}
 use Rattle.nr_formatter.specs.Weights.{weight_of_line}
 use Rattle.nr_formatter.proofs.LineWeights.{weight-add_cell}
@@ -167,3 +169,15 @@ weight-gap c = by_word c.word c refl
     by_word : (o : Option Word) (c : Collected) → c.word ≡ o → weight_of_line (gapped c) ≤ weight_of_line c
     by_word None c is = rw is (omega (arith, length-append c.pieces []))
     by_word (Some w) c is = rw is (omega (arith, length-append c.pieces (w.parts ++ w.last ∷ []), length-append w.parts (w.last ∷ [])))
+
+-- ---- a diverted line that is read again
+
+pub rereading_line : (f : Formatter) → is_rereading_line f ≡ true → IsRereadingLine f
+rereading_line f is =
+    let idle = reads_next f.event f.task in
+    let half = is_rereading f.reader.half in
+    let three = both ((is_none f.springs && idle) && half) (is_on_page (outlet f)) is in
+    let two = both (is_none f.springs && idle) half three.0 in
+    let one = both (is_none f.springs) idle two.0 in
+    let reads = is_idle f.event f.task one.1 in
+    record { springs = springs_none f.springs one.0; event = reads.0; task = reads.1; half = two.1; outlet = three.1 }

@@ -35,6 +35,11 @@ outlet_of (Some d) f = outlets.Diversion
 abbrev pub outlet : Formatter → Outlet
 outlet f = outlet_of (diversion f) f
 
+-- it is a page
+abbrev pub is_on_page : Outlet → Bool
+is_on_page outlets.Diversion = false
+is_on_page o = true
+
 abbrev pub is_diverting : Option Diversion → Bool
 is_diverting None = false
 is_diverting (Some d) = true

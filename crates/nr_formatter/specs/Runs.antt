@@ -3,12 +3,14 @@ use Rattle.std.specs.Prelude.{◌≡◌, ◌≤◌, ℕ, Bool, true, false, not,
 use Rattle.nr_fill.specs.Pieces.{Collected, begins_line, end_word, line_cells, one_blank_more}
 use Rattle.nr_fill.specs.Runs.{add_run}
 use Rattle.nr_reading.specs.InText.{is_in_text}
+use Rattle.nr_reading.specs.Rereading.{is_rereading}
 use Rattle.nr_reading.specs.declared.event.Event.{Event}
 use Rattle.nr_reading.specs.declared.event.Event.TheVariants as events
 use Rattle.nr_settings.specs.Fonts.{is_under}
 use Rattle.nr_formatter.specs.Access.{collected, with_collected, margins, is_filling}
 use Rattle.nr_formatter.specs.Lines.{fits_line, reads_a_field}
 use Rattle.nr_formatter.specs.declared.formatter.Formatter.{Formatter}
+use Rattle.nr_formatter.specs.Places.{outlet, is_on_page}
 use Rattle.nr_formatter.specs.declared.runs.Gap.{Gap}
 use Rattle.nr_formatter.specs.declared.runs.Gap.TheVariants as gaps
 use Rattle.nr_formatter.specs.declared.tasks.After.TheVariants as afters
@@ -66,3 +68,17 @@ abbrev pub AfterGap : Formatter → Gap → Formatter → Type 0
 AfterGap f gaps.Left g = g ≡ f
 AfterGap f gaps.Flows g = IsGap f × (g ≡ gap_flows f)
 AfterGap f gaps.Reads g = IsGap f × (fits_line (gapped (collected f)) ≡ true) × (g ≡ gap_put f)
+
+-- ---- a diverted line that is read again
+
+-- the next item is read in the midst of a diverted line that goes on the page
+abbrev pub is_rereading_line : Formatter → Bool
+is_rereading_line f = ((is_none f.springs && reads_next f.event f.task) && is_rereading f.reader.half) && is_on_page (outlet f)
+
+-- the same, part by part
+pub record IsRereadingLine (f : Formatter) : Type 0 where
+  pub springs : f.springs ≡ None
+  pub event : f.event ≡ events.Nothing
+  pub task : f.task ≡ tasks.Read
+  pub half : is_rereading f.reader.half ≡ true
+  pub outlet : is_on_page (outlet f) ≡ true

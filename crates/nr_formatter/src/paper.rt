@@ -2,7 +2,7 @@
 ghost use Rattle.std.specs.Prelude.{◌≡◌};
 ghost use Rattle.nr_formatter.specs.Beginning.{first_given, first_paper};
 ghost use Rattle.nr_formatter.specs.Pages.{following};
-ghost use Rattle.nr_formatter.specs.Places.{page_outlet, is_open, page_place};
+ghost use Rattle.nr_formatter.specs.Places.{page_outlet, is_on_page, is_open, page_place};
 
 use nr_units::Format;
 
@@ -27,6 +27,19 @@ pub enum Outlet {
     Full,
     /// To the open page.
     Room,
+}
+
+impl Outlet {
+    /// Whether it is a page.
+    #[inline]
+    pub fn is_on_page(self) -> bool
+        ensures { result ≡ is_on_page self }
+    {
+        match self {
+            Outlet::Diversion => false,
+            _ => true,
+        }
+    }
 }
 
 /// The page under way.

@@ -3,7 +3,7 @@ ghost use Rattle.std.specs.Prelude.{◌≡◌, ◌<◌, ◌≤◌, false, length
 ghost use Rattle.nr_fill.specs.Pieces.{begins_line, line_cells, text_cells};
 ghost use Rattle.nr_fill.specs.Runs.{IsPlain};
 ghost use Rattle.nr_formatter.specs.Access.{collected};
-ghost use Rattle.nr_formatter.specs.Runs.{reads_next, is_in_line, run_put, gaps_plainly, AfterGap};
+ghost use Rattle.nr_formatter.specs.Runs.{reads_next, is_in_line, run_put, gaps_plainly, AfterGap, is_rereading_line};
 
 use crate::formatter::Formatter;
 use crate::tasks::{After, Task};
@@ -87,5 +87,16 @@ impl<'a> Formatter<'a> {
         }
         self.task = Task::Flow(After::Text, false);
         Gap::Flows
+    }
+
+    /// Whether the next item is read in the midst of a diverted line that goes on the page.
+    #[inline]
+    pub fn is_rereading(&self) -> bool
+        ensures { result ≡ is_rereading_line self.now }
+    {
+        self.springs.is_none()
+            && self.reads_next()
+            && self.reader.half.is_rereading()
+            && self.outlet().is_on_page()
     }
 }

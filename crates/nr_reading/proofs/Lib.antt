@@ -3,6 +3,7 @@ pub mod InText
 pub mod Newest
 pub mod Over
 pub mod Paying
+pub mod Rereading
 pub mod Asked
 pub mod Copied
 pub mod Escaped

@@ -45,6 +45,7 @@ impl Half {
     ghost use Rattle.std.specs.Prelude.{[]};
     ghost use Rattle.nr_reading.specs.Asking.{event_of};
     ghost use Rattle.nr_reading.specs.InText.{is_in_text};
+    ghost use Rattle.nr_reading.specs.Rereading.{is_rereading};
     ghost use Rattle.nr_reading.specs.Spelling.{name_of};
     ghost use Rattle.nr_reading.specs.Steps.{note_of};
     ghost use Rattle.nr_reading.specs.Meeting.{asking, too_deep, beginning, settled, replaced, finished, argued, longer, answered, asked_by, noted_in, met_directly, met_copied, hear_by, over_by, escaping, silent, offered, meet_by, met};
@@ -70,6 +71,17 @@ impl Half {
     {
         match (self.reading.mode, self.reading.escape, self.reading.due) {
             (Mode::Text, Escape::Plain, Due::Look) => self.asks.is_empty(),
+            _ => false,
+        }
+    }
+
+    /// Whether the next item is read in the midst of a diverted line.
+    #[inline]
+    pub fn is_rereading(&self) -> bool
+        ensures { result ≡ is_rereading self.now }
+    {
+        match (self.reading.mode, self.reading.escape, self.reading.due) {
+            (Mode::Diverted, Escape::Plain, Due::Look) => self.asks.is_empty(),
             _ => false,
         }
     }

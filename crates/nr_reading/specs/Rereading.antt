@@ -1,0 +1,26 @@
+-- The midst of a diverted line that is read again.
+use Rattle.std.specs.Prelude.{◌≡◌, Bool, true, false, List, []}
+use Rattle.nr_reading.specs.declared.ask.Ask.{Ask}
+use Rattle.nr_reading.specs.declared.half.Half.{Half}
+use Rattle.nr_reading.specs.declared.mode.Due.{Due}
+use Rattle.nr_reading.specs.declared.mode.Due.TheVariants as dues
+use Rattle.nr_reading.specs.declared.mode.Escape.{Escape}
+use Rattle.nr_reading.specs.declared.mode.Escape.TheVariants as escapes
+use Rattle.nr_reading.specs.declared.mode.Mode.{Mode}
+use Rattle.nr_reading.specs.declared.mode.Mode.TheVariants as modes
+use Rattle.nr_reading.specs.Nesting.{is_none}
+
+abbrev pub is_rereading_at : Mode → Escape → Due → List Ask → Bool
+is_rereading_at modes.Diverted escapes.Plain dues.Look asks = is_none asks
+is_rereading_at m e d asks = false
+
+-- the next item is read in the midst of a diverted line
+abbrev pub is_rereading : Half → Bool
+is_rereading h = is_rereading_at h.reading.mode h.reading.escape h.reading.due h.asks
+
+-- the same, part by part
+pub record IsRereading (h : Half) : Type 0 where
+  pub mode : h.reading.mode ≡ modes.Diverted
+  pub escape : h.reading.escape ≡ escapes.Plain
+  pub due : h.reading.due ≡ dues.Look
+  pub asks : h.asks ≡ []
