@@ -1,15 +1,16 @@
 -- What the slices of a row of pieces hold once a part of it changes.
-use Rattle.std.proofs.Common.{◌≡◌, ℕ, ◌+◌, ◌-◌, ◌≤◌, ◌<◌, min, List, [], ◌∷◌, ◌++◌, length, take, drop, replicate, refl, ap, ap₂, sym, ◌∙◌, append_assoc, arith, length-take, length-drop, length-append, zero, suc}
+use Rattle.std.proofs.Common.{◌≡◌, ℕ, ◌+◌, ◌-◌, ◌≤◌, ◌<◌, min, List, [], ◌∷◌, ◌++◌, length, take, drop, replicate, refl, ap, ap₂, sym, ◌∙◌, append_assoc, arith, length-take, length-drop, length-append, zero, suc, get_or}
 use Rattle.std.specs.List.{flat_map}
 use Rattle.std.proofs.lemmas.List.{take-append-drop, take_all, drop_all, take-take, take-append-le, drop-append-le, drop-drop, drop-take, length-take-le, length-replicate}
-use Rattle.std.proofs.lemmas.List.Sums.{sum_by-take-drop, sum_by-take-le, sum_by-cons}
+use Rattle.std.proofs.lemmas.List.Sums.{sum_by-take-drop, sum_by-take-le, sum_by-cons, sum_by_more_le}
 use Rattle.nr_units.specs.declared.cell.Cell.{Cell}
 use Rattle.nr_fill.specs.declared.piece.Join.{Join}
 use Rattle.nr_fill.specs.declared.piece.PieceSlot.{PieceSlot}
+use Rattle.nr_fill.specs.Cut.{join_width, pieces_width}
 use Rattle.nr_fill.specs.Laid.{Laid, laid_of, read_cells, IsLaid}
 use Rattle.nr_fill.specs.Pieces.{Piece, cells_in}
-use Rattle.nr_fill.specs.Slots.{pieces_of, cells_in_slots}
-use Rattle.nr_fill.proofs.PiecesOf.{length-pieces_of, pieces_of-append, pieces_of_push, take-pieces_of, drop-pieces_of, cells_in-pieces_of}
+use Rattle.nr_fill.specs.Slots.{blank_slot, pieces_of, cells_in_slots, slots_width}
+use Rattle.nr_fill.proofs.PiecesOf.{length-pieces_of, pieces_of-append, pieces_of_push, take-pieces_of, drop-pieces_of, cells_in-pieces_of, pieces_width-pieces_of}
 
 -- the parts of a row's value
 pub same_laid : {p p' : List Piece} {l l' t t' : List Cell} {r r' : ℕ} → p ≡ p' → l ≡ l' → t ≡ t' → r ≡ r'
@@ -238,6 +239,18 @@ front_within {slots} n h =
     let part = sum_by-take-le (λ (s : PieceSlot). s.len) slots n in
     let all = h.pieced_is in
     (omega (arith, h.pieced_within, h.read_within), omega arith)
+
+-- how wide they are, and that the first gap is a part of that
+pub front_widths : {slots : List PieceSlot} {cells : List Cell} {slot_room cell_room pieced read : ℕ} (now : Laid) (room n wide : ℕ) → IsLaid slots cells slot_room cell_room pieced read
+    → laid_of slots cells pieced read room ≡ now → 0 < n → n ≤ length now.pieces → pieces_width (take n now.pieces) ≡ wide
+    → (slots_width (take n slots) ≡ wide) × (join_width (get_or (take n slots) 0 blank_slot).join ≤ wide)
+front_widths {slots} {cells} now room n wide h is some within wide_is =
+    let all = slots_are now room h is in
+    let long = length-take-le n slots (omega arith) in
+    let same = pieces_width-pieces_of (take n slots) cells (front_within n h).0 in
+    let width : slots_width (take n slots) ≡ wide = sym same ∙ ap pieces_width (front_is now room n h is) ∙ wide_is in
+    let first = sum_by_more_le (λ (s : PieceSlot). join_width s.join + s.len) (take n slots) 0 blank_slot (omega arith) in
+    (width, omega arith)
 
 -- the cells of the first pieces
 pub front_cells : {slots : List PieceSlot} {cells : List Cell} {slot_room cell_room pieced read : ℕ} (now : Laid) (room n k : ℕ) → IsLaid slots cells slot_room cell_room pieced read

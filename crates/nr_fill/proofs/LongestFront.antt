@@ -1,6 +1,6 @@
 -- The longest front of the pieces that fits a line.
 use Rattle.std.proofs.Common.{◌≡◌, ℕ, ◌+◌, ◌≤◌, ◌<◌, List, [], ◌∷◌, length, take, drop, get_or, zero, suc, refl, ap, arith, true, false, nat_le, inl, inr}
-use Rattle.std.proofs.lemmas.Bool.{lt-leb, cases_lt}
+use Rattle.std.proofs.lemmas.Bool.{lt-leb, cases_lt, cases_Bool}
 use Rattle.std.proofs.lemmas.List.{length-take-le, get_or-take, take-take, drop_all}
 use Rattle.std.proofs.lemmas.List.Sums.{sum_by-take-le, sum_by-cons}
 use Rattle.nr_units.specs.declared.cell.Cell.{Cell}
@@ -17,6 +17,13 @@ most_that_fit_yes line ps n k e h = let yes : fits line (suc k) ps ≡ true = rw
 -- and where they do not
 pub most_that_fit_no : (line : ℕ) (ps : List Piece) (n k : ℕ) → n ≡ suc k → fits line n ps ≡ false → most_that_fit line ps n ≡ most_that_fit line ps k
 most_that_fit_no line ps n k e h = let no : fits line (suc k) ps ≡ false = rw (← e) h in rw (e, no) refl
+
+-- no more fit than there are
+pub most_that_fit-le : (line : ℕ) (ps : List Piece) (n : ℕ) → most_that_fit line ps n ≤ n
+most_that_fit-le line ps zero = omega arith
+most_that_fit-le line ps (suc n) =
+    let fewer = most_that_fit-le line ps n in
+    elim (cases_Bool (fits line (suc n) ps)) [ inl here ↦ rw here (omega arith) | inr below ↦ rw below (omega arith) ]
 
 -- none more fits
 pub most_that_fit_stays : (line : ℕ) (ps : List Piece) (n k : ℕ) → k ≤ n → ((m : ℕ) → k < m → m ≤ n → fits line m ps ≡ false) → most_that_fit line ps n ≡ most_that_fit line ps k

@@ -1,18 +1,21 @@
 -- How wide the text of a set line is.
 use Rattle.std.proofs.Common.{◌≡◌, ℕ, ◌+◌, ◌*◌, ◌^◌, ◌≤◌, ◌<◌, List, [], ◌∷◌, ◌++◌, length, replicate, nat_lt, nat_le, ◌&&◌, cond, ap, ◌∙◌, arith, length-append, inl, inr}
 use Rattle.std.specs.Prelude.{count_by}
+use Rattle.std.proofs.Math.Nat.{div-mul-le_self}
 use Rattle.std.proofs.lemmas.Bool.{cases_Bool}
 use Rattle.std.proofs.lemmas.List.{length-replicate}
 use Rattle.std.proofs.lemmas.List.Sums.{sum_by-cons, count_by-le-length}
 use Rattle.nr_units.specs.Cells.{blank, trimmed}
 use Rattle.nr_units.specs.declared.cell.Cell.{Cell}
+use Rattle.nr_fill.specs.declared.margins.Turn.{Turn}
+use Rattle.nr_fill.specs.declared.margins.Turn.TheVariants as turns
 use Rattle.nr_fill.specs.declared.piece.Join.{Join}
 use Rattle.nr_fill.specs.declared.piece.Join.TheVariants.{Gap, Soft, Hard}
 use Rattle.nr_fill.specs.declared.setting.Extra.{Extra}
 use Rattle.nr_fill.specs.Cut.{join_width, piece_width, pieces_width}
 use Rattle.nr_fill.specs.Pieces.{Piece}
 use Rattle.nr_fill.specs.Rows.{counted}
-use Rattle.nr_fill.specs.Spreading.{is_gap, gaps, extra_at, blanks_before, next_gap, cells_behind, cells_in_line}
+use Rattle.nr_fill.specs.Spreading.{is_gap, gaps, shared, extra_at, blanks_before, next_gap, cells_behind, cells_in_line}
 use Rattle.nr_fill.proofs.Trimming.{length-trimmed}
 
 extra_at-le : (x : Extra) (i : ℕ) → extra_at x i ≤ x.each + 1
@@ -58,3 +61,12 @@ counted-trimmed text small = let part = length-trimmed text in omega arith
 pub gaps-le : (ps : List Piece) → gaps ps ≤ length ps
 gaps-le [] = omega arith
 gaps-le (p ∷ ps) = let few = count_by-le-length (λ (q : Piece). is_gap q.join) ps in omega arith
+
+-- no more is spread than is left over
+pub shared-within : (turn : Turn) (e g : ℕ) → (shared turn e g).each * g ≤ e
+shared-within turns.Left e g = div-mul-le_self e g
+shared-within turns.Right e g = div-mul-le_self e g
+
+-- how long a line is at most
+pub text_within : (x : Extra) (ps : List Piece) (e : ℕ) → x.each * gaps ps ≤ e → length (cells_in_line x ps) ≤ pieces_width ps + e + gaps ps
+text_within x ps e h = let long = length-cells_in_line x ps in omega arith

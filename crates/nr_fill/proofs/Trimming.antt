@@ -1,5 +1,5 @@
 -- Rows of cells, and the blanks at their ends.
-use Rattle.std.proofs.Common.{◌≡◌, ℕ, ◌+◌, ◌-◌, ◌^◌, ◌<◌, min, List, ◌++◌, length, take, replicate, get_or, reverse, refl, ap, ap₂, sym, ◌∙◌, arith, length-take, length-append, true, false, cond, eqb, inl, inr}
+use Rattle.std.proofs.Common.{◌≡◌, ℕ, ◌+◌, ◌-◌, ◌^◌, ◌<◌, ◌≤◌, min, List, ◌++◌, length, take, replicate, get_or, reverse, refl, ap, ap₂, sym, ◌∙◌, arith, length-take, length-append, true, false, cond, eqb, inl, inr}
 use Rattle.std.specs.List.{suffix_len, prefix_len}
 use Rattle.std.proofs.Math.Seq.{take-append-add}
 use Rattle.std.proofs.lemmas.Bool.{cases_lt, eq-eqb, ne_eqb}
@@ -139,3 +139,22 @@ extent_blanked xs n count_is reached_is =
     let after = length-trimmed (xs ++ replicate n blank) in
     let same = written-append_none xs (replicate n blank) (written-replicate n) in
     (omega (arith, length-append xs (replicate n blank), length-replicate n blank), omega arith)
+
+-- a row with more cells for which there is room, and none of whose own are gone
+pub row_laid : {items : List Cell} {count reached room : ℕ} (xs ys : List Cell) (n w : ℕ) → items ≡ take room xs → count ≡ counted (length xs) → reached ≡ counted (length (trimmed xs))
+    → room < 2 ^ 32 → count ≡ length items → length items + length ys ≤ room → n ≡ counted (length ys) → w ≡ counted (length (trimmed ys))
+    → ◌≡◌ {A = Row} (record { kept = items ++ ys; count = length items + n; written = written_behind reached (length items) w; room = room }) (row_of room (xs ++ ys))
+row_laid {items} {count} {reached} {room} xs ys n w items_is count_is reached_is small none_gone fits n_is w_is =
+    let long = ap length items_is in
+    let part = length-take room xs in
+    let both = length-append xs ys in
+    let within : length xs ≤ room = omega arith in
+    let whole : items ≡ xs = items_is ∙ take_all room xs within in
+    let all : take room (xs ++ ys) ≡ xs ++ ys = take_all room (xs ++ ys) (omega arith) in
+    let count_of : length items ≡ counted (length xs) = omega arith in
+    let written_of : w ≡ written ys = let reach = length-trimmed ys in omega arith in
+    same_row
+    (ap (λ zs. zs ++ ys) whole ∙ sym all)
+    (omega arith)
+    (ap₂ (λ a b. written_behind a b w) reached_is count_of ∙ ap (written_behind (counted (length (trimmed xs))) (counted (length xs))) written_of ∙ written_more xs ys)
+    refl

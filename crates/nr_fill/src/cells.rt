@@ -1,8 +1,14 @@
 //! Where the cells of a row go.
-ghost use Rattle.std.specs.Prelude.{List, [], ◌∷◌, ◌++◌, replicate};
+ghost use Rattle.std.specs.Prelude.{◌≡◌, ◌<◌, ◌≤◌, ◌^◌, List, [], ◌∷◌, ◌++◌, length, replicate, IfSome, None};
 ghost use Rattle.nr_units.specs.Cells.{blank};
 ghost use Rattle.nr_units.specs.declared.cell.Cell.{Cell as CellValue};
+ghost use Rattle.nr_fill.specs.Extents.{IsExtent};
+ghost use Rattle.nr_fill.specs.Slots.{pieces_of, cells_in_slots};
+ghost use Rattle.nr_fill.specs.Spreading.{cells_in_line};
 
+use crate::measured::Extent;
+use crate::piece::PieceSlot;
+use crate::setting::Extra;
 use nr_units::cell::Cell;
 
 /// Takes the cells of a row one after another.
@@ -21,6 +27,27 @@ pub trait CellSink {
     /// Adds n blanks.
     fn blanks(&mut self, n: usize)
         ensures { Adds self.old (replicate n blank) self.new };
+
+    /// Adds these pieces as a line of at most so many cells, where it can do so at once, and tells how far they reach.
+    /// Else nothing has changed.
+    fn lay(
+        &mut self,
+        _slots: &[PieceSlot],
+        _cells: &[Cell],
+        _extra: Extra,
+        _most: usize,
+    ) -> Option<Extent>
+        requires some { 0 < length _slots.now }
+        requires cells { cells_in_slots _slots.now ≤ length _cells.now }
+        requires each { _extra.each < 2 ^ 62 }
+        requires few { length _slots.now < 2 ^ 32 }
+        requires most { length (cells_in_line _extra (pieces_of _slots.now _cells.now)) ≤ _most }
+        ensures set { IfSome result (λ extent. Adds self.old (cells_in_line _extra (pieces_of _slots.now _cells.now)) self.new) }
+        ensures extent { IfSome result (λ extent. IsExtent (cells_in_line _extra (pieces_of _slots.now _cells.now)) extent.count extent.written) }
+        ensures none { result ≡ None → self.new ≡ self.old }
+    {
+        None
+    }
 
     /// Between a row and itself no cells were added.
     ghost adds_nothing: { (row : Self) → Adds row [] row };

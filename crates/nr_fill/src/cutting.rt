@@ -1,15 +1,17 @@
 // Which pieces go out in one line, and how they are set.
-ghost use Rattle.std.specs.Prelude.{◌≡◌, ◌+◌, ◌<◌, ◌≤◌, ◌^◌, List, length, replicate};
-ghost use Rattle.nr_units.specs.Cells.{blank};
+ghost use Rattle.std.specs.Prelude.{◌≡◌, ◌+◌, ◌<◌, ◌≤◌, ◌^◌, ◌++◌, List, length, get_or};
 ghost use Rattle.nr_units.specs.declared.cell.Cell.{Cell as CellValue};
-ghost use Rattle.nr_fill.specs.Cut.{cut};
-ghost use Rattle.nr_fill.specs.Slots.{pieces_of, cells_in_slots, slots_width, gap_slots};
+ghost use Rattle.nr_fill.specs.Cut.{cut, join_width};
+ghost use Rattle.nr_fill.specs.Extents.{IsExtent};
+ghost use Rattle.nr_fill.specs.Slots.{blank_slot, pieces_of, cells_in_slots, slots_width, gap_slots};
 ghost use Rattle.nr_fill.specs.Spreading.{blanks_before, cells_in_line, next_gap};
 
 use crate::cells::CellSink;
+use crate::measured::Extent;
 use crate::piece::{Join, PieceSlot};
 use crate::setting::Extra;
 use nr_units::cell::Cell;
+use nr_units::slice_vec::SliceVec;
 
 /// What the pieces of a line come to.
 #[derive(Clone, Copy)]
@@ -43,6 +45,27 @@ pub(crate) fn longest_front(slots: &[PieceSlot], line: usize) -> usize
     if width <= line { count } else { best }
 }
 
+/// The same, from the last piece on. The pieces are so wide without the gap before the first.
+pub(crate) fn front_from_behind(slots: &[PieceSlot], wide: usize, line: usize) -> usize
+    requires some { 0 < length slots.now }
+    requires wide { slots_width slots.now ≡ wide + join_width (get_or slots.now 0 blank_slot).join }
+    requires small { wide < 2 ^ 63 }
+    ensures pieces { (cells : List CellValue) → cells_in_slots slots.now ≤ length cells → result ≡ cut line (pieces_of slots.now cells) }
+    ensures some { 0 < result }
+    ensures within { result ≤ length slots.now }
+{
+    let mut count = slots.len();
+    let mut width = wide;
+    let mut hyphen = 0;
+    while count > 1 && width + hyphen > line {
+        count -= 1;
+        let PieceSlot { join, len } = slots[count];
+        width -= usize::from(join.width()) + len as usize;
+        hyphen = usize::from(join.hyphen());
+    }
+    count
+}
+
 /// What these pieces come to.
 pub(crate) fn sums_of(slots: &[PieceSlot]) -> Sums
     requires some { 0 < length slots.now }
@@ -64,45 +87,85 @@ pub(crate) fn sums_of(slots: &[PieceSlot]) -> Sums
     Sums { cells, wide, gaps }
 }
 
-/// Sets the blanks of a join, of the next gap where it is one, and tells the number of the gap after it.
+/// How many blanks stand before a piece that is not the first, and has this gap where it hangs on one.
 #[inline]
-fn set_join<S: CellSink>(join: Join, extra: Extra, gap: usize, out: &mut S) -> usize
+fn blanks_of(join: Join, extra: Extra, gap: usize) -> usize
     requires each { extra.each < 2 ^ 62 }
+    ensures { result ≡ blanks_before extra gap join }
+{
+    match join {
+        Join::Gap(blanks) => usize::from(blanks) + extra.at(gap),
+        Join::Soft | Join::Hard => 0,
+    }
+}
+
+/// The number of the next gap.
+#[inline]
+fn gap_behind(join: Join, gap: usize) -> usize
     requires gap { gap < 2 ^ 62 }
-    ensures set { S.Adds out.old (replicate (blanks_before extra gap join) blank) out.new }
     ensures next { result ≡ next_gap gap join }
     ensures near { result ≤ gap + 1 }
 {
     match join {
-        Join::Gap(blanks) => {
-            out.blanks(usize::from(blanks) + extra.at(gap));
-            gap + 1
-        }
+        Join::Gap(_) => gap + 1,
         Join::Soft | Join::Hard => gap,
     }
 }
 
-/// Sets these pieces in the row behind what stands there.
+/// Sets these pieces in the row behind what stands there, and tells how far they reach.
 pub(crate) fn set_pieces<S: CellSink>(
     slots: &[PieceSlot],
     cells: &[Cell],
     extra: Extra,
     out: &mut S,
+) -> Extent
+    requires some { 0 < length slots.now }
+    requires cells { cells_in_slots slots.now ≤ length cells.now }
+    requires each { extra.each < 2 ^ 62 }
+    requires few { length slots.now < 2 ^ 32 }
+    ensures set { S.Adds out.old (cells_in_line extra (pieces_of slots.now cells.now)) out.new }
+    ensures extent { IsExtent (cells_in_line extra (pieces_of slots.now cells.now)) result.count result.written }
+{
+    let mut taken = slots[0].len as usize;
+    out.extend(&cells[..taken]);
+    let mut extent = Extent::none().with_cells(&cells[..taken]);
+    let mut gap = 1;
+    let others = &slots[1..];
+    for slot in others {
+        let blanks = blanks_of(slot.join, extra, gap);
+        out.blanks(blanks);
+        gap = gap_behind(slot.join, gap);
+        let end = taken + slot.len as usize;
+        out.extend(&cells[taken..end]);
+        extent = extent.with_blanks(blanks).with_cells(&cells[taken..end]);
+        taken = end;
+    }
+    extent
+}
+
+/// The same where the row has room for them: in blocks.
+pub(crate) fn lay_pieces(
+    slots: &[PieceSlot],
+    cells: &[Cell],
+    extra: Extra,
+    row: &mut SliceVec<'_, Cell>,
 )
     requires some { 0 < length slots.now }
     requires cells { cells_in_slots slots.now ≤ length cells.now }
     requires each { extra.each < 2 ^ 62 }
-    requires small { length slots.now < 2 ^ 32 }
-    ensures { S.Adds out.old (cells_in_line extra (pieces_of slots.now cells.now)) out.new }
+    requires few { length slots.now < 2 ^ 32 }
+    requires room { length row.old.items + length (cells_in_line extra (pieces_of slots.now cells.now)) ≤ row.old.room }
+    ensures items { row.new.items ≡ row.old.items ++ cells_in_line extra (pieces_of slots.now cells.now) }
+    ensures room { row.new.room ≡ row.old.room }
 {
     let mut taken = slots[0].len as usize;
-    out.extend(&cells[..taken]);
+    row.extend_front(cells, taken);
     let mut gap = 1;
     let others = &slots[1..];
     for slot in others {
-        gap = set_join(slot.join, extra, gap, out);
-        let end = taken + slot.len as usize;
-        out.extend(&cells[taken..end]);
-        taken = end;
+        row.extend_copies(Cell::blank(), blanks_of(slot.join, extra, gap));
+        gap = gap_behind(slot.join, gap);
+        row.extend_front(&cells[taken..], slot.len as usize);
+        taken += slot.len as usize;
     }
 }

@@ -6,7 +6,7 @@ pub mod cells;
 mod cutting;
 pub mod line;
 pub mod margins;
-mod measured;
+pub mod measured;
 pub mod out;
 pub mod piece;
 mod piece_row;

@@ -1,12 +1,16 @@
 //! The row that a line is set in.
-ghost use Rattle.std.specs.Prelude.{◌≡◌, ◌+◌, ◌-◌, ◌<◌, ◌≤◌, ◌^◌, List, [], ◌++◌, length, replicate, MatchOption};
+ghost use Rattle.std.specs.Prelude.{◌≡◌, ◌-◌, ◌<◌, ◌≤◌, ◌^◌, List, [], length, MatchOption};
 ghost use Rattle.std.specs.List.{suffix_len};
-ghost use Rattle.nr_units.specs.Cells.{blank, is_blank, trimmed};
+ghost use Rattle.nr_units.specs.Cells.{is_blank, trimmed};
 ghost use Rattle.nr_units.specs.declared.cell.Cell.{Cell as CellValue};
 ghost use Rattle.nr_fill.specs.Pieces.{is_nil};
 ghost use Rattle.nr_fill.specs.Rows.{AddsToRow, AddsToRow-both, AddsToRow-nothing, IsRow, row_of, written_behind};
 
 use crate::cells::CellSink;
+use crate::cutting::lay_pieces;
+use crate::measured::Extent;
+use crate::piece::PieceSlot;
+use crate::setting::Extra;
 use nr_units::cell::Cell;
 use nr_units::slice_vec::SliceVec;
 use std::marker::Model;
@@ -105,24 +109,32 @@ impl CellSink for Out<'_> {
     #[inline]
     fn blanks(&mut self, n: usize) {
         let kept = n.min(self.cells.room() - self.cells.len());
-        push_blanks(&mut self.cells, kept);
+        self.cells.extend_copies(Cell::blank(), kept);
         self.count = self.count.saturating_add(n);
+    }
+
+    fn lay(
+        &mut self,
+        slots: &[PieceSlot],
+        cells: &[Cell],
+        extra: Extra,
+        most: usize,
+    ) -> Option<Extent> {
+        let start = self.cells.len();
+        if self.count != start || most > self.cells.room() - start {
+            return None;
+        }
+        lay_pieces(slots, cells, extra, &mut self.cells);
+        let laid = &self.cells.as_slice()[start..];
+        let extent = Extent::none().with_cells(laid);
+        self.written = written_behind(self.written, start, extent.written);
+        self.count = start + extent.count;
+        Some(extent)
     }
 
     ghost adds_nothing = { AddsToRow-nothing };
 
     ghost adds_both = { AddsToRow-both };
-}
-
-/// Adds n blanks.
-fn push_blanks(cells: &mut SliceVec<'_, Cell>, n: usize)
-    requires { length cells.old.items + n ≤ cells.old.room }
-    ensures items { cells.new.items ≡ cells.old.items ++ replicate n blank }
-    ensures room { cells.new.room ≡ cells.old.room }
-{
-    for _blank in 0..n {
-        cells.push(Cell::blank());
-    }
 }
 
 /// How many cells there are up to the last that is no blank, where `more` of those that were added are, behind

@@ -3,13 +3,15 @@ ghost use Rattle.std.specs.Prelude.{◌≡◌, ℕ, ◌+◌, ◌-◌, ◌<◌, �
 ghost use Rattle.std.specs.List.{flat_map};
 ghost use Rattle.nr_units.specs.declared.cell.Cell.{Cell as CellValue};
 ghost use Rattle.nr_fill.specs.Cut.{cut, hyphen_before, pieces_width};
+ghost use Rattle.nr_fill.specs.Extents.{IsExtent};
 ghost use Rattle.nr_fill.specs.Laid.{read_cells};
 ghost use Rattle.nr_fill.specs.Pieces.{Piece, cells_in, join_before};
 ghost use Rattle.nr_fill.specs.Runs.{run_cell};
 ghost use Rattle.nr_fill.specs.Spreading.{cells_in_line, gaps};
 
 use crate::cells::CellSink;
-use crate::cutting::{Sums, longest_front, set_pieces, sums_of};
+use crate::cutting::{Sums, front_from_behind, longest_front, set_pieces, sums_of};
+use crate::measured::Extent;
 use crate::piece::{Join, PieceSlot};
 use crate::setting::Extra;
 use crate::slice_queue::SliceQueue;
@@ -203,16 +205,25 @@ impl<'a> PieceRow<'a> {
         &self.cells.as_slice()[self.pieced - parted..self.read]
     }
 
-    /// The number of pieces in the longest front of the first n that fits the line, and 1 where none does.
-    pub(crate) fn longest_front(&self, n: usize, line: usize) -> usize
+    /// The number of pieces in the longest front of the first n, which are so wide, that fits the line, and 1 where none
+    /// does.
+    pub(crate) fn longest_front(&self, n: usize, wide: usize, line: usize) -> usize
         requires some { 0 < n }
         requires within { n ≤ length self.now.pieces }
-        requires wide { pieces_width (take n self.now.pieces) < 2 ^ 63 }
+        requires wide { pieces_width (take n self.now.pieces) ≡ wide }
+        requires small { wide < 2 ^ 63 }
+        requires line { line < 2 ^ 62 }
         ensures pieces { result ≡ cut line (take n self.now.pieces) }
         ensures some { 0 < result }
         ensures within { result ≤ n }
     {
-        longest_front(&self.slots.as_slice()[..n], line)
+        let slots = &self.slots.as_slice()[..n];
+        let width = wide - usize::from(slots[0].join.width());
+        if width <= 2 * line {
+            front_from_behind(slots, width, line)
+        } else {
+            longest_front(slots, line)
+        }
     }
 
     /// What the first n pieces come to.
@@ -240,19 +251,27 @@ impl<'a> PieceRow<'a> {
         self.slots.as_slice()[n].join.hyphen()
     }
 
-    /// Sets the first n pieces in the row behind what stands there.
-    pub(crate) fn set<S: CellSink>(&self, n: usize, extra: Extra, out: &mut S)
+    /// Sets the first n pieces in the row behind what stands there, at most so many cells, and tells how far they reach.
+    pub(crate) fn set<S: CellSink>(
+        &self,
+        n: usize,
+        extra: Extra,
+        most: usize,
+        out: &mut S,
+    ) -> Extent
         requires some { 0 < n }
         requires within { n ≤ length self.now.pieces }
         requires each { extra.each < 2 ^ 62 }
-        ensures { S.Adds out.old (cells_in_line extra (take n self.now.pieces)) out.new }
+        requires most { length (cells_in_line extra (take n self.now.pieces)) ≤ most }
+        ensures set { S.Adds out.old (cells_in_line extra (take n self.now.pieces)) out.new }
+        ensures extent { IsExtent (cells_in_line extra (take n self.now.pieces)) result.count result.written }
     {
-        set_pieces(
-            &self.slots.as_slice()[..n],
-            self.cells.as_slice(),
-            extra,
-            out,
-        );
+        let slots = &self.slots.as_slice()[..n];
+        let cells = self.cells.as_slice();
+        match out.lay(slots, cells, extra, most) {
+            Some(extent) => extent,
+            None => set_pieces(slots, cells, extra, out),
+        }
     }
 
     /// Takes the first n pieces away, which have so many cells.

@@ -10,7 +10,6 @@ use crate::cells::CellSink;
 use crate::cutting::Sums;
 use crate::line::Line;
 use crate::margins::{Margins, margins_behind};
-use crate::measured::Measured;
 use crate::setting::{Extra, Setting, shift_of, spreads_gaps};
 use nr_units::cell::Cell;
 
@@ -35,6 +34,8 @@ struct Plan {
     cells: usize,
     /// How wide they are with all their gaps, the first one's too.
     wide: usize,
+    /// How many cells they have as a line, at most.
+    most: usize,
 }
 
 /// Adds a hyphen where one is to be printed.
@@ -62,7 +63,7 @@ impl<'a> Line<'a> {
     {
         let n = self
             .row
-            .longest_front(self.pieces, self.margins.length as usize);
+            .longest_front(self.pieces, self.wide, self.margins.length as usize);
         self.take_front(n, next, setting, out)
     }
 
@@ -112,6 +113,7 @@ impl<'a> Line<'a> {
         ensures gaps { result.sums.gaps ≡ gaps (take n self.now.collected.pieces) }
         ensures hyphens { result.hyphens ≡ hyphen_before (drop n self.now.collected.pieces) }
         ensures one { result.hyphens ≤ 1 }
+        ensures small { result.sums.wide < 2 ^ 44 }
     {
         let sums = self.row.sums(n);
         let first = usize::from(self.row.first_join().width());
@@ -132,7 +134,8 @@ impl<'a> Line<'a> {
         ensures start_small { result.start < 2 ^ 34 }
         ensures extra { result.extra ≡ extra_of setting.align self.now.collected n }
         ensures each { result.extra.each < 2 ^ 32 }
-        ensures total { result.extra.each * gaps (take n self.now.collected.pieces) < 2 ^ 32 }
+        ensures most { length (cells_in_line result.extra (take n self.now.collected.pieces)) ≤ result.most }
+        ensures most_small { result.most < 2 ^ 47 }
         ensures spread { result.spread ≡ spreads setting.align self.now.collected n }
         ensures hyphens { result.hyphens ≡ hyphen_before (drop n self.now.collected.pieces) }
         ensures one { result.hyphens ≤ 1 }
@@ -157,6 +160,7 @@ impl<'a> Line<'a> {
             hyphens,
             cells: sums.cells,
             wide: sums.wide,
+            most: sums.wide + left_over + sums.gaps,
         }
     }
 
@@ -165,7 +169,8 @@ impl<'a> Line<'a> {
         requires some { 0 < n }
         requires within { n ≤ length self.now.collected.pieces }
         requires each { plan.extra.each < 2 ^ 32 }
-        requires total { plan.extra.each * gaps (take n self.now.collected.pieces) < 2 ^ 32 }
+        requires most { length (cells_in_line plan.extra (take n self.now.collected.pieces)) ≤ plan.most }
+        requires most_small { plan.most < 2 ^ 47 }
         requires start { plan.start < 2 ^ 34 }
         requires hyphens { plan.hyphens ≤ 1 }
         ensures out { S.Adds out.old (replicate plan.start blank ++ (cells_in_line plan.extra (take n self.now.collected.pieces) ++ hyphens plan.hyphens)) out.new }
@@ -173,10 +178,13 @@ impl<'a> Line<'a> {
         ensures small { result < 2 ^ 48 }
     {
         out.blanks(plan.start);
-        let mut text = Measured::over(out);
-        self.row.set(n, plan.extra, &mut text);
-        push_hyphens(&mut text, plan.hyphens);
-        text.written()
+        let extent = self.row.set(n, plan.extra, plan.most, out);
+        push_hyphens(out, plan.hyphens);
+        if plan.hyphens > 0 {
+            extent.count + usize::from(plan.hyphens)
+        } else {
+            extent.written
+        }
     }
 
     /// Takes the first n pieces away.

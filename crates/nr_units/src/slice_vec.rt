@@ -1,5 +1,5 @@
 //! A vector over a slice that is lent: it grows at its end up to the slice's length.
-ghost use Rattle.std.specs.Prelude.{◌≡◌, ◌==◌, ◌+◌, ◌-◌, ◌<◌, ◌≤◌, [], ◌∷◌, ◌++◌, length, take, drop, slice_get, slice_set, Some, map, ℕ, List};
+ghost use Rattle.std.specs.Prelude.{◌≡◌, ◌==◌, ◌+◌, ◌-◌, ◌<◌, ◌≤◌, [], ◌∷◌, ◌++◌, length, take, drop, replicate, slice_get, slice_set, Some, map, ℕ, List};
 ghost use Rattle.std.specs.List.{insert, remove};
 ghost use Rattle.nr_units.specs.declared.cell.Cell.{Cell as CellValue};
 
@@ -171,6 +171,23 @@ impl<'a, T: Copy> SliceVec<'a, T> {
         self.extend(&more[..n]);
     }
 
+    /// Adds n copies of an item. A few more are written than are added where there is room, as with `extend_front`.
+    #[inline]
+    pub fn extend_copies(&mut self, item: T, n: usize)
+        requires { length self.old.items + n ≤ self.old.room }
+        ensures items { self.new.items ≡ self.old.items ++ replicate n item }
+        ensures room { self.new.room ≡ self.old.room }
+    {
+        let len = self.len;
+        if n <= CHUNK && self.slots.len() - len >= CHUNK {
+            self.slots[len..len + CHUNK].copy_from_slice(&[item; CHUNK]);
+            self.len = len + n;
+            return;
+        }
+        set_all(&mut self.slots[len..len + n], item);
+        self.len = len + n;
+    }
+
     /// Puts an item before the one at a place, or at the end.
     #[inline]
     pub fn insert(&mut self, place: usize, item: T)
@@ -242,6 +259,15 @@ impl<'a> SliceVec<'a, u8> {
         let end = self.len + cells.len();
         set_bytes(&mut self.slots[self.len..end], cells);
         self.len = end;
+    }
+}
+
+/// Puts the item everywhere.
+fn set_all<T: Copy>(slots: &mut [T], item: T)
+    ensures { slots.new ≡ replicate (length slots.old) item }
+{
+    for slot in slots.iter_mut() {
+        *slot = item;
     }
 }
 

@@ -1,8 +1,9 @@
-use Rattle.std.proofs.Common.{◌≡◌, ◌+◌, ◌-◌, ◌++◌, length, take, drop, replicate, get_or, ap, ◌∙◌, append_assoc, arith, subst}
+use Rattle.std.proofs.Common.{◌≡◌, ◌+◌, ◌-◌, [], ◌++◌, length, take, drop, replicate, get_or, ap, ◌∙◌, append_assoc, arith, subst}
 use Rattle.std.proofs.lemmas.List.{take_rest}
 use Rattle.std.proofs.lemmas.List.Sums.{sum_by-drop_more}
 use Rattle.nr_units.specs.Cells.{blank}
 use Rattle.nr_fill.specs.declared.piece.PieceSlot.{PieceSlot}
+use Rattle.nr_fill.specs.Extents.{IsExtent}
 use Rattle.nr_fill.specs.Slots.{blank_slot, pieces_of}
 use Rattle.nr_fill.specs.Spreading.{blanks_before, cells_in_line}
 use Rattle.nr_fill.proofs.SettingPieces.{cells_in_line_first, set_more, set_all_pieces}
@@ -14,10 +15,11 @@ loop-slot-init g c =
     let cells = c.args.cells.now in
     let first = get_or slots 0 blank_slot in
     let total = sum_by-drop_more (λ (s : PieceSlot). s.len) slots 0 blank_slot c.requires.some in
+    let extent = c.with_cells-extent.ensures [] (c.none.ensures.none, c.none.ensures.blank) in
     rw (take_rest slots 1) record {
       gap = omega arith;
       taken = omega arith;
-      set = (take first.len cells, c.extend.ensures, cells_in_line_first c.args.extra slots cells blank_slot c.requires.some);
+      set = (take first.len cells, c.extend.ensures, cells_in_line_first c.args.extra slots cells blank_slot c.requires.some, extent);
     }
 
 pub loop-slot-preserved : goal.loop-slot-preserved
@@ -34,19 +36,23 @@ loop-slot-preserved g c =
     let gap = loop.invariant.gap in
     let part : (loop.taken + slot.len) - loop.taken ≡ slot.len = omega arith in
     let blanks = replicate (blanks_before x loop.gap slot.join) blank in
+    let set_blanks = replicate c.blanks_of-blanks.result blank in
     let piece = take slot.len (drop loop.taken cells) in
+    let set_piece = take ((loop.taken + slot.len) - loop.taken) (drop loop.taken cells) in
     record {
-      gap = omega (arith, c.set_join-gap.ensures.near);
+      gap = omega (arith, c.gap_behind-gap.ensures.near);
       taken = omega arith;
       set =
           let old = loop.invariant.set in
-          let joined = g.met.S.CellSink.adds_both c.args.out.now loop.out c.set_join-gap.new.out old.0 blanks old.1 c.set_join-gap.ensures.set in
-          let longer = g.met.S.CellSink.adds_both c.args.out.now c.set_join-gap.new.out c.extend-in-loop-slot.new.self (old.0 ++ blanks) (take ((loop.taken + slot.len) - loop.taken) (drop loop.taken cells)) joined c.extend-in-loop-slot.ensures in
-          let same : (old.0 ++ blanks) ++ take ((loop.taken + slot.len) - loop.taken) (drop loop.taken cells) ≡ old.0 ++ (blanks ++ piece) =
-          ap (λ n. (old.0 ++ blanks) ++ take n (drop loop.taken cells)) part ∙ append_assoc old.0 blanks piece in (
+          let joined = g.met.S.CellSink.adds_both c.args.out.now loop.out c.blanks.new.self old.0 set_blanks old.1 c.blanks.ensures in
+          let longer = g.met.S.CellSink.adds_both c.args.out.now c.blanks.new.self c.extend-in-loop-slot.new.self (old.0 ++ set_blanks) set_piece joined c.extend-in-loop-slot.ensures in
+          let extent = c.with_cells-extent-in-loop-slot.ensures (old.0 ++ set_blanks) (c.with_blanks.ensures old.0 old.3) in
+          let same : (old.0 ++ set_blanks) ++ set_piece ≡ old.0 ++ (blanks ++ piece) =
+          ap (λ n. (old.0 ++ replicate n blank) ++ set_piece) c.blanks_of-blanks.ensures ∙ ap (λ n. (old.0 ++ blanks) ++ take n (drop loop.taken cells)) part ∙ append_assoc old.0 blanks piece in (
             old.0 ++ (blanks ++ piece),
             subst (λ zs. g.S.CellSink.Adds c.args.out.now zs c.extend-in-loop-slot.new.self) same longer,
-            rw c.set_join-gap.ensures.next (set_more x loop.gap others i blank_slot cells loop.taken old.0 (cells_in_line x (pieces_of slots cells)) c.loop-slot-test.true old.2),
+            rw c.gap_behind-gap.ensures.next (set_more x loop.gap others i blank_slot cells loop.taken old.0 (cells_in_line x (pieces_of slots cells)) c.loop-slot-test.true old.2),
+            subst (λ zs. IsExtent zs c.with_cells-extent-in-loop-slot.result.count c.with_cells-extent-in-loop-slot.result.written) same extent,
           );
     }
 
@@ -56,4 +62,7 @@ returns g c =
     let slots = c.args.slots.now in
     let others = take (length slots - 1) (drop 1 slots) in
     let all = set_all_pieces c.args.extra c.loop-slot.gap others c.loop-slot.slot-index (drop c.loop-slot.taken c.args.cells.now) old.0 (cells_in_line c.args.extra (pieces_of slots c.args.cells.now)) c.loop-slot-test.false old.2 in
-    subst (λ zs. g.S.CellSink.Adds c.args.out.now zs c.loop-slot.out) all old.1
+    record {
+      set = subst (λ zs. g.S.CellSink.Adds c.args.out.now zs c.loop-slot.out) all old.1;
+      extent = subst (λ zs. IsExtent zs c.loop-slot.extent.count c.loop-slot.extent.written) all old.3;
+    }

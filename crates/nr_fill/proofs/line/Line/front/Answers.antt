@@ -49,4 +49,5 @@ returns c =
       gaps = c.sums-sums.ensures.gaps ∙ ap gaps front_is;
       hyphens = hyphen ∙ ap (λ (v : Lined). hyphen_before (drop n v.collected.pieces)) c.self.view_is;
       one = c.hyphen-hyphens.ensures.one;
+      small = front.small;
     }

@@ -1,11 +1,11 @@
 use Rattle.std.proofs.Common.{arith}
-use Rattle.nr_fill.specs.Cut.{piece_width}
 use Rattle.std.proofs.lemmas.List.Sums.{sum_by-take-le}
+use Rattle.nr_fill.specs.Cut.{piece_width}
 use Rattle.nr_fill.proofs.Lines.{widths_small}
 use Rattle.nr_fill.proofs.line.Line.take_line.Goals as goal
 
-pub longest_front-n-requires-clause-wide : goal.longest_front-n-requires-clause-wide
-longest_front-n-requires-clause-wide g c =
+pub longest_front-n-requires-clause-small : goal.longest_front-n-requires-clause-small
+longest_front-n-requires-clause-small g c =
     let small = widths_small c.self.invariant in
     let part = sum_by-take-le piece_width c.self.inside.row.pieces c.self.inside.pieces in
-    omega arith
+    omega (arith, c.self.invariant.wide_is)

@@ -1,22 +1,23 @@
 use Rattle.std.proofs.Common.{◌≡◌, ◌+◌, ◌-◌, ◌^◌, ◌++◌, min, length, take, replicate, ap, ap₂, sym, ◌∙◌}
 use Rattle.nr_units.specs.Cells.{blank}
+use Rattle.nr_units.specs.declared.cell.Cell.{Cell}
 use Rattle.nr_fill.specs.Rows.{Row, row_of}
 use Rattle.nr_fill.proofs.Trimming.{same_row, row_blanked}
 use Rattle.nr_fill.proofs.out.OutCellSink.blanks.Goals as goal
 
 pub returns : goal.returns
 returns c = (
-  c.push_blanks.ensures.room ∙ ap (λ (r : Row). r.room) c.self.view_is,
+  c.extend_copies.ensures.room ∙ ap (λ (r : Row). r.room) c.self.view_is,
   λ cells h.
       let e = c.self.view_is ∙ h in
       let room = c.args.self.now.room in
       let n = c.args.n in
       let m = c.min-kept.result in
       let kept_is : c.self.inside.cells.items ≡ take room cells = ap (λ (r : Row). r.kept) e in
-      let room_is : c.push_blanks.new.cells.room ≡ room = c.push_blanks.ensures.room ∙ ap (λ (r : Row). r.room) e in
+      let room_is : c.extend_copies.new.self.room ≡ room = c.extend_copies.ensures.room ∙ ap (λ (r : Row). r.room) e in
       let m_is : m ≡ min n (room - length (take room cells)) = c.min-kept.ensures
       ∙ ap₂ (λ a b. min n (a - b)) (c.room.ensures.value ∙ ap (λ (r : Row). r.room) e) (c.len.ensures.value ∙ ap length kept_is) in
       let count_is = c.saturating_add-self-inside.ensures ∙ ap (λ k. min (k + n) (2 ^ 64 - 1)) (ap (λ (r : Row). r.count) e) in
-      same_row (c.push_blanks.ensures.items ∙ ap (λ k. k ++ replicate m blank) kept_is) count_is (ap (λ (r : Row). r.written) e) room_is
+      same_row (c.extend_copies.ensures.items ∙ ap (λ (b : Cell). c.self.inside.cells.items ++ replicate m b) c.blank.ensures ∙ ap (λ k. k ++ replicate m blank) kept_is) count_is (ap (λ (r : Row). r.written) e) room_is
       ∙ row_blanked room cells n m m_is ∙ ap (λ r. row_of r (cells ++ replicate n blank)) (sym room_is),
 )

@@ -1,0 +1,45 @@
+use Rattle.std.proofs.Common.{◌≡◌, ◌*◌, ◌≤◌, length, take, ap, sym, ◌∙◌, arith, length-take}
+use Rattle.nr_fill.specs.declared.setting.Extra.{Extra}
+use Rattle.nr_fill.specs.Lined.{Lined}
+use Rattle.nr_fill.specs.Spreading.{gaps, shared}
+use Rattle.nr_fill.proofs.TextWidth.{gaps-le, shared-within, text_within}
+use Rattle.nr_fill.proofs.line.Line.plan.Goals as goal
+use Rattle.nr_fill.proofs.line.Line.plan.Goals.{then-spread, else-spread}
+
+pub overflow_add-result-4 : goal.overflow_add-result-4
+overflow_add-result-4 c =
+    let s = c.self.inside in
+    let h = c.self.invariant in
+    let count = ap (λ (v : Lined). length v.collected.pieces) c.self.view_is in
+    let few = gaps-le (take c.args.n c.args.self.now.collected.pieces) in
+    let f = c.front-hyphens.ensures in
+    omega (arith, f.small, f.short, f.gaps, length-take c.args.n c.args.self.now.collected.pieces, length-take s.pieces s.row.pieces, h.within, h.is_small)
+
+pub returns-clause-most : goal.returns-clause-most
+returns-clause-most c =
+    let ps = take c.args.n c.args.self.now.collected.pieces in
+    let r = c.front-hyphens.result in
+    let f = c.front-hyphens.ensures in
+    let spread : c.if-spread.result.each * gaps ps ≤ r.left_over = elim c.if-spread.branch [
+      | then-spread w ↦
+          let turn = c.self.inside.turn in
+          let x = shared turn r.left_over r.sums.gaps in
+          let is : c.if-spread.result.each * gaps ps ≡ x.each * r.sums.gaps =
+          ap (λ (y : Extra). y.each * gaps ps) (w.result-is ∙ w.share.ensures) ∙ ap (λ k. x.each * k) (sym f.gaps) in
+          let within = shared-within turn r.left_over r.sums.gaps in
+          omega arith
+      | else-spread w ↦
+          let is = ap (λ (x : Extra). x.each * gaps ps) (w.result-is ∙ w.none.ensures) in
+          omega arith
+    ] in
+    let within = text_within c.if-spread.result ps r.left_over spread in
+    omega (arith, f.wide, f.gaps)
+
+pub returns-clause-most_small : goal.returns-clause-most_small
+returns-clause-most_small c =
+    let s = c.self.inside in
+    let h = c.self.invariant in
+    let count = ap (λ (v : Lined). length v.collected.pieces) c.self.view_is in
+    let few = gaps-le (take c.args.n c.args.self.now.collected.pieces) in
+    let f = c.front-hyphens.ensures in
+    omega (arith, f.small, f.short, f.gaps, length-take c.args.n c.args.self.now.collected.pieces, length-take s.pieces s.row.pieces, h.within, h.is_small)

@@ -1,0 +1,39 @@
+use Rattle.std.proofs.Common.{◌≡◌, ◌+◌, ◌-◌, ◌++◌, [], length, take, drop, ap, sym, ◌∙◌, subst, arith}
+use Rattle.std.proofs.Math.Seq.{drop-append_seam}
+use Rattle.std.proofs.lemmas.List.{take_rest}
+use Rattle.nr_fill.specs.Extents.{IsExtent}
+use Rattle.nr_fill.specs.Rows.{Row, row_of, written_behind}
+use Rattle.nr_fill.specs.Slots.{pieces_of}
+use Rattle.nr_fill.specs.Spreading.{cells_in_line}
+use Rattle.nr_fill.proofs.Trimming.{row_laid, same_row}
+use Rattle.nr_fill.proofs.out.OutCellSink.lay.Goals as goal
+
+pub returns : goal.returns
+returns c =
+    let line = cells_in_line c.args.extra (pieces_of c.args.slots.now c.args.cells.now) in
+    let items = c.self.inside.cells.items in
+    let start = c.len-start.result in
+    let room = c.args.self.now.room in
+    let r = c.as_slice.result.now in
+    let n = c.with_cells-extent.result.count in
+    let w = c.with_cells-extent.result.written in
+    let r_is : r ≡ items ++ line = c.as_slice.ensures.value ∙ c.lay_pieces.ensures.items in
+    let laid_is : take (length r - start) (drop start r) ≡ line =
+    take_rest r start ∙ ap (drop start) r_is ∙ ap (λ k. drop k (items ++ line)) c.len-start.ensures.value ∙ drop-append_seam items line in
+    let extent : IsExtent line n w = subst (λ zs. IsExtent zs n w) laid_is (c.with_cells-extent.ensures [] (c.none.ensures.none, c.none.ensures.blank)) in
+    record {
+      set = (
+        c.lay_pieces.ensures.room ∙ ap (λ (v : Row). v.room) c.self.view_is,
+        λ cells h.
+            let e = c.self.view_is ∙ h in
+            let room_is : c.lay_pieces.new.row.room ≡ room = c.lay_pieces.ensures.room ∙ ap (λ (v : Row). v.room) e in
+            let own : c.self.inside.cells.room ≡ room = ap (λ (v : Row). v.room) e in
+            same_row c.lay_pieces.ensures.items (ap (λ k. k + n) c.len-start.ensures.value)
+            (c.written_behind-self-inside.ensures ∙ ap (λ k. written_behind c.self.inside.written k w) c.len-start.ensures.value) room_is
+            ∙ row_laid cells line n w (ap (λ (v : Row). v.kept) e) (ap (λ (v : Row). v.count) e) (ap (λ (v : Row). v.written) e) (omega (arith, c.self.invariant)) (omega (arith, c.if-self-start.false, c.len-start.ensures.value))
+            (omega (arith, c.requires.most, c.if-most-room.false, c.room.ensures.value, c.len-start.ensures.value)) extent.0 extent.1
+            ∙ ap (λ k. row_of k (cells ++ line)) (sym room_is),
+      );
+      extent = extent;
+      none = λ is. absurd (let f = is in cc);
+    }
