@@ -1,7 +1,7 @@
 -- What a line's fields tell of its value, and how they change.
-use Rattle.std.proofs.Common.{◌≡◌, ℕ, ◌+◌, ◌-◌, ◌*◌, ◌^◌, ◌≤◌, ◌<◌, List, [], ◌∷◌, ◌++◌, length, take, drop, sum_by, Option, None, Some, is_none, is_some, Bool, true, false, All, refl, ap, sym, ◌∙◌, append_assoc, arith, length-take, length-drop, length-append, eqb, get_or, subst, suc}
+use Rattle.std.proofs.Common.{◌≡◌, ℕ, ◌+◌, ◌-◌, ◌*◌, ◌^◌, ◌≤◌, ◌<◌, List, [], ◌∷◌, ◌++◌, length, take, drop, sum_by, Option, None, Some, is_none, is_some, Bool, true, false, All, refl, ap, sym, ◌∙◌, append_assoc, arith, length-take, length-drop, length-append, eqb, get_or, subst, suc, inl, inr}
 use Rattle.std.proofs.lemmas.List.{take-append-drop, take_all, drop_all, drop-drop, drop-take, take-take, length-take-le, take-append-le, drop-append-le}
-use Rattle.std.proofs.lemmas.Bool.{ne_eqb}
+use Rattle.std.proofs.lemmas.Bool.{ne_eqb, cases_lt}
 use Rattle.std.proofs.lemmas.List.Elements.{All-drop, All-push, All-take}
 use Rattle.std.proofs.lemmas.List.Sums.{sum_by-cons, sum_by_push, sum_by-take-drop}
 use Rattle.nr_units.specs.declared.cell.Cell.{Cell}
@@ -419,3 +419,13 @@ column_pieces {row} {pieces = pieces} {word = Some w} {gap} barred sentence marg
 pub parts_within : (t : Option Title) → (length (title_or_empty t).left ≤ title_cells t) × (length (title_or_empty t).centre ≤ title_cells t) × (length (title_or_empty t).right ≤ title_cells t)
 parts_within None = (omega arith, omega arith, omega arith)
 parts_within (Some t) = (omega arith, omega arith, omega arith)
+
+-- what is wide has pieces
+pub has_pieces : {row : Laid} {limit pieces wide n : ℕ} {word : Option WordState} {gap : ℕ} {title : Option TitleState} → IsLine row limit pieces wide word gap title → n < wide → 0 < pieces
+has_pieces {row} {pieces = pieces} h some = elim (cases_lt 0 pieces) [
+  | inl more ↦ more
+  | inr none ↦
+      let is : pieces ≡ 0 = omega arith in
+      let width : pieces_width (take pieces row.pieces) ≡ 0 = ap (λ k. pieces_width (take k row.pieces)) is in
+      absurd (omega (arith, h.wide_is))
+]

@@ -1,13 +1,13 @@
 -- The pieces that slots cut off a row of cells.
-use Rattle.std.proofs.Common.{◌≡◌, ℕ, ◌+◌, ◌≤◌, ◌<◌, List, [], ◌∷◌, ◌++◌, length, take, drop, zero, suc, refl, ap, sym, ◌∙◌, arith, length-take, length-drop, get_or, cond, length-append}
+use Rattle.std.proofs.Common.{◌≡◌, ℕ, ◌+◌, ◌≤◌, ◌<◌, List, [], ◌∷◌, ◌++◌, length, take, drop, zero, suc, refl, ap, ap₂, sym, ◌∙◌, arith, length-take, length-drop, get_or, cond, length-append}
 use Rattle.std.specs.Prelude.{count_by}
 use Rattle.std.specs.List.{flat_map}
-use Rattle.std.proofs.lemmas.List.{take-append-le, drop-append-le, drop-drop}
+use Rattle.std.proofs.lemmas.List.{take-append-le, drop-append-le, drop-drop, take_all, drop_all}
 use Rattle.std.proofs.lemmas.List.Sums.{sum_by-cons}
 use Rattle.nr_units.specs.declared.cell.Cell.{Cell}
 use Rattle.nr_fill.specs.declared.piece.Join.{Join}
 use Rattle.nr_fill.specs.declared.piece.PieceSlot.{PieceSlot}
-use Rattle.nr_fill.specs.Cut.{join_width, piece_width, pieces_width, width}
+use Rattle.nr_fill.specs.Cut.{join_width, piece_width, pieces_width, width, front_width, hyphen_before}
 use Rattle.nr_fill.specs.Pieces.{Piece, cells_in, join_before}
 use Rattle.nr_fill.specs.Slots.{pieces_of, cells_in_slots, slots_width, gap_slots}
 use Rattle.nr_fill.specs.Spreading.{gaps, is_gap}
@@ -99,3 +99,12 @@ gaps-pieces_of (slot ∷ slots) cells = count_by-pieces_of slots (drop slot.len 
 pub width-first : (ps : List Piece) (d : Piece) → 0 < length ps → width ps + join_width (get_or ps 0 d).join ≡ pieces_width ps
 width-first [] d h = absurd (omega arith)
 width-first (p ∷ ps) d h = let all = sum_by-cons piece_width p ps in omega arith
+
+pub width-le : (ps : List Piece) → width ps ≤ pieces_width ps
+width-le [] = omega arith
+width-le (p ∷ ps) = let all = sum_by-cons piece_width p ps in omega arith
+
+-- all of them have no hyphen behind them
+pub front_width-all : (ps : List Piece) → front_width (length ps) ps ≡ width ps
+front_width-all ps =
+    ap₂ (λ a b. width a + hyphen_before b) (take_all (length ps) ps (omega arith)) (drop_all (length ps) ps (omega arith)) ∙ (let e : width ps + 0 ≡ width ps = omega arith in e)

@@ -184,11 +184,12 @@ impl<'a> Line<'a> {
     pub fn fits(&self) -> bool
         ensures { result ≡ fits self.now.collected.margins.length (length self.now.collected.pieces) self.now.collected.pieces }
     {
-        if self.pieces == 0 {
+        let length = self.margins.length as usize;
+        if self.wide <= length {
             return true;
         }
         let first = usize::from(self.row.first_join().width());
-        self.wide - first <= self.margins.length as usize
+        self.wide - first <= length
     }
 
     /// How many cells stand before the next one of the word, from the indent: of a word that is still to begin, behind
