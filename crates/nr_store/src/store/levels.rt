@@ -1,5 +1,5 @@
 // Levels: texts that are being read.
-ghost use Rattle.std.specs.Prelude.{◌≡◌, ◌++◌, ◌≤◌, nat_lt, length, drop, OnOk, OnErr, is_some, None, Some};
+ghost use Rattle.std.specs.Prelude.{◌≡◌, ◌++◌, ◌≤◌, ◌<◌, nat_lt, length, drop, OnOk, OnErr, is_some, None, Some};
 ghost use Rattle.nr_tables.specs.Named.{find};
 ghost use Rattle.nr_levels.specs.Levels.{argument};
 ghost use Rattle.nr_store.specs.Stored.{checked, words, entered, reading_bytes, shown, left, dropped, emptied};
@@ -172,6 +172,7 @@ impl<'a, K: Copy> Store<'a, K> {
     pub fn window(&self) -> &[Element]
         ensures within { length result.now ≤ length (rest_of self.now.levels) }
         ensures front { let rest = rest_of self.now.levels in result.now ++ drop (length result.now) rest ≡ rest }
+        ensures all { 0 < length result.now → result.now ≡ rest_of self.now.levels }
     {
         let Next::Text(id, place) = self.levels.front() else {
             return &[];
