@@ -1,5 +1,5 @@
 //! Bytes that the source has at hand, taken many at once.
-ghost use Rattle.std.specs.Prelude.{◌≡◌, ℕ, ◌+◌, ◌<◌, ◌≤◌, ◌^◌, true, length, take, [], Option};
+ghost use Rattle.std.specs.Prelude.{◌≡◌, ℕ, ◌+◌, ◌-◌, ◌<◌, ◌≤◌, ◌^◌, true, length, take, [], Option};
 ghost use Rattle.nr_units.specs.Supply.{Skips};
 ghost use Rattle.nr_input.specs.AtHand.{is_unseen, ComeNext, behind_many, passed_many};
 ghost use Rattle.nr_input.specs.Coming.{Coming, HoldsComing};
@@ -17,6 +17,7 @@ pub fn window<'s, K: Copy, R: Source>(
     store: &Store<'_, K>,
     source: &'s R,
 ) -> &'s [u8]
+    ensures all { is_unseen place.now.ahead ≡ true → store.now.levels ≡ [] → result.now ≡ take (2 ^ 40 - 1 - place.now.taken) (R.at_hand source.now) }
     ensures room { place.now.taken + length result.now < 2 ^ 40 }
     ensures front { take (length result.now) (R.at_hand source.now) ≡ result.now }
     ensures next { 0 < length result.now → (c : Coming) → HoldsComing c place.now (R.supply source.now) → ComeNext result.now c }
