@@ -3,7 +3,8 @@ ghost use Rattle.std.specs.Prelude.{◌≡◌, ◌<◌, ◌≤◌, false, length
 ghost use Rattle.nr_fill.specs.Pieces.{begins_line, line_cells, text_cells};
 ghost use Rattle.nr_fill.specs.Runs.{IsPlain};
 ghost use Rattle.nr_formatter.specs.Access.{collected};
-ghost use Rattle.nr_formatter.specs.Runs.{reads_next, is_in_line, run_put, gaps_plainly, AfterGap, is_rereading_line};
+ghost use Rattle.nr_formatter.specs.declared.runs.Gap.TheVariants as gaps;
+ghost use Rattle.nr_formatter.specs.Runs.{reads_next, is_in_line, run_put, gaps_plainly, IsGap, AfterGap, is_rereading_line};
 
 use crate::formatter::Formatter;
 use crate::tasks::{After, Task};
@@ -73,7 +74,8 @@ impl<'a> Formatter<'a> {
     /// Reads a blank behind a word, where it does nothing but end the word and widen the gap, and passes no limit.
     #[inline]
     pub fn put_gap(&mut self) -> Gap
-        ensures { AfterGap self.old result self.new }
+        ensures is { AfterGap self.old result self.new }
+        ensures left { result ≡ gaps.Left → IsGap self.old → ⊥ }
     {
         if !self.gaps_plainly() {
             return Gap::Left;

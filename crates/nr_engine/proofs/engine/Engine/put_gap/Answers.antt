@@ -21,6 +21,6 @@ returns-clause-makes g c =
     let behind : (k : Coming) → HoldsComing k e.place (g.R.Source.supply c.args.input.now) → HoldsComing (behind_many 1 k) (passed_many 1 e.place) (g.R.Source.supply c.take_window.new.source) =
     λ k h. subst (λ q. HoldsComing (behind_many 1 k) q (g.R.Source.supply c.take_window.new.source)) taken.place (taken.coming k h) in
     elim c.match-gap.branch [
-      | in-Flows w ↦ (rw (w.moves-is, taken.reader, taken.place, w.in-Flows.ensures.1) (makes_flows front.0 e _ _ line levels w.in-Flows.ensures.0 next behind))
-      | in-Reads w ↦ (rw (w.moves-is, taken.reader, taken.place, w.in-Reads.ensures.2) (makes_put front.0 e _ _ line levels w.in-Reads.ensures.0 next behind w.in-Reads.ensures.1))
+      | in-Flows w ↦ (rw (w.moves-is, taken.reader, taken.place, w.in-Flows.ensures.is.1) (makes_flows front.0 e _ _ line levels w.in-Flows.ensures.is.0 next behind))
+      | in-Reads w ↦ (rw (w.moves-is, taken.reader, taken.place, w.in-Reads.ensures.is.2) (makes_put front.0 e _ _ line levels w.in-Reads.ensures.is.0 next behind w.in-Reads.ensures.is.1))
     ]
