@@ -140,6 +140,11 @@ extent_blanked xs n count_is reached_is =
     let same = written-append_none xs (replicate n blank) (written-replicate n) in
     (omega (arith, length-append xs (replicate n blank), length-replicate n blank), omega arith)
 
+-- a row none of whose cells are gone
+pub row_whole : {items : List Cell} {count room : ℕ} (xs : List Cell) → items ≡ take room xs → count ≡ counted (length xs) → room < 2 ^ 32 → count ≡ length items
+    → length items ≡ length xs
+row_whole {room = room} xs items_is count_is small none_gone = let long = ap length items_is in omega (arith, length-take room xs)
+
 -- a row with more cells for which there is room, and none of whose own are gone
 pub row_laid : {items : List Cell} {count reached room : ℕ} (xs ys : List Cell) (n w : ℕ) → items ≡ take room xs → count ≡ counted (length xs) → reached ≡ counted (length (trimmed xs))
     → room < 2 ^ 32 → count ≡ length items → length items + length ys ≤ room → n ≡ counted (length ys) → w ≡ counted (length (trimmed ys))

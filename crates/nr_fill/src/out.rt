@@ -1,10 +1,13 @@
 //! The row that a line is set in.
-ghost use Rattle.std.specs.Prelude.{◌≡◌, ◌-◌, ◌<◌, ◌≤◌, ◌^◌, List, [], length, MatchOption};
+ghost use Rattle.std.specs.Prelude.{◌≡◌, ◌+◌, ◌-◌, ◌<◌, ◌≤◌, ◌^◌, ◌↔◌, List, [], length, MatchOption, None, IfSome, IsSome};
 ghost use Rattle.std.specs.List.{suffix_len};
 ghost use Rattle.nr_units.specs.Cells.{is_blank, trimmed};
 ghost use Rattle.nr_units.specs.declared.cell.Cell.{Cell as CellValue};
+ghost use Rattle.nr_fill.specs.Extents.{IsExtent};
 ghost use Rattle.nr_fill.specs.Pieces.{is_nil};
 ghost use Rattle.nr_fill.specs.Rows.{AddsToRow, AddsToRow-both, AddsToRow-nothing, IsRow, row_of, written_behind};
+ghost use Rattle.nr_fill.specs.Slots.{cells_in_slots, pieces_of};
+ghost use Rattle.nr_fill.specs.Spreading.{cells_in_line};
 
 use crate::cells::CellSink;
 use crate::cutting::lay_pieces;
@@ -113,13 +116,24 @@ impl CellSink for Out<'_> {
         self.count = self.count.saturating_add(n);
     }
 
+    /// It does so exactly where none of the row's cells is gone and there is room for `most` more.
     fn lay(
         &mut self,
         slots: &[PieceSlot],
         cells: &[Cell],
         extra: Extra,
         most: usize,
-    ) -> Option<Extent> {
+    ) -> Option<Extent>
+        requires some { 0 < length slots.now }
+        requires cells { cells_in_slots slots.now ≤ length cells.now }
+        requires each { extra.each < 2 ^ 62 }
+        requires few { length slots.now < 2 ^ 32 }
+        requires most { length (cells_in_line extra (pieces_of slots.now cells.now)) ≤ most }
+        ensures set { IfSome result (λ extent. AddsToRow self.old (cells_in_line extra (pieces_of slots.now cells.now)) self.new) }
+        ensures extent { IfSome result (λ extent. IsExtent (cells_in_line extra (pieces_of slots.now cells.now)) extent.count extent.written) }
+        ensures none { result ≡ None → self.new ≡ self.old }
+        ensures laid { (before : List CellValue) → IsRow before self.old → (IsSome result ↔ (length before + most ≤ self.old.room)) }
+    {
         let start = self.cells.len();
         if self.count != start || most > self.cells.room() - start {
             return None;

@@ -1,11 +1,11 @@
-use Rattle.std.proofs.Common.{◌≡◌, ◌+◌, ◌-◌, ◌++◌, [], length, take, drop, ap, sym, ◌∙◌, subst, arith}
+use Rattle.std.proofs.Common.{◌≡◌, ◌+◌, ◌-◌, ◌≤◌, ◌++◌, [], length, take, drop, ap, sym, ◌∙◌, subst, refl, arith}
 use Rattle.std.proofs.Math.Seq.{drop-append_seam}
 use Rattle.std.proofs.lemmas.List.{take_rest}
 use Rattle.nr_fill.specs.Extents.{IsExtent}
 use Rattle.nr_fill.specs.Rows.{Row, row_of, written_behind}
 use Rattle.nr_fill.specs.Slots.{pieces_of}
 use Rattle.nr_fill.specs.Spreading.{cells_in_line}
-use Rattle.nr_fill.proofs.Trimming.{row_laid, same_row}
+use Rattle.nr_fill.proofs.Trimming.{row_laid, row_whole, same_row}
 use Rattle.nr_fill.proofs.out.OutCellSink.lay.Goals as goal
 
 pub returns : goal.returns
@@ -36,4 +36,11 @@ returns c =
       );
       extent = extent;
       none = λ is. absurd (let f = is in cc);
+      laid = λ before h.
+          let e = c.self.view_is ∙ h in
+          let none_gone : c.self.inside.count ≡ length items = omega (arith, c.if-self-start.false, c.len-start.ensures.value) in
+          let fits : length items + c.args.most ≤ c.self.inside.cells.room = omega (arith, c.if-most-room.false, c.room.ensures.value, c.room.ensures.holds, c.len-start.ensures.value, c.len-start.ensures.within) in
+          let own : c.self.inside.cells.room ≡ room = ap (λ (v : Row). v.room) e in
+          let whole = row_whole before (ap (λ (v : Row). v.kept) e) (ap (λ (v : Row). v.count) e) (omega (arith, c.self.invariant)) none_gone in
+          (λ some. omega arith, λ fits. refl);
     }
