@@ -87,4 +87,21 @@ impl<'a> Engine<'a> {
         let gap = self.put_gap(input);
         plain + gap
     }
+
+    /// Many moves that read.
+    #[inline]
+    pub(crate) fn read_run<R: Source>(&mut self, input: &mut R) -> u128 {
+        if !self.formatter.reads_input() {
+            return 0;
+        }
+        let formatter = &mut self.formatter;
+        let run = nr_input::read_run(
+            &mut self.place,
+            &mut formatter.reader,
+            &mut formatter.store,
+            input,
+        );
+        self.formatter.event = run.event;
+        run.moves as u128
+    }
 }

@@ -8,6 +8,7 @@ mod moving;
 mod place;
 mod reader;
 mod refusal;
+mod runs;
 mod setting;
 mod splicing;
 #[cfg(test)]
@@ -20,5 +21,6 @@ pub use nr_reading::{Event, Question, Standing};
 pub use place::{Ahead, Place};
 pub use reader::Reader;
 pub use refusal::Refusal;
+pub use runs::read_run;
 pub use splicing::Definition;
 pub use told::{Heard, Told};

@@ -100,6 +100,13 @@ impl Place {
         self.inside = true;
     }
 
+    /// So many bytes were taken, and this was the last.
+    #[inline]
+    pub(crate) fn pass_run(&mut self, last: u8, n: usize) {
+        self.taken += n as u64;
+        self.inside = last != b'\n';
+    }
+
     // The byte in front of the source is read ahead, or its end is seen.
     fn see<R: Source>(&mut self, source: &mut R) -> Result<(), Refusal>
         ensures sees { (c : Coming) → HoldsComing c self.old (R.supply source.old) → AfterSee c result self.new (R.supply source.new) }

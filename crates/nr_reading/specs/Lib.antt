@@ -13,6 +13,7 @@ pub mod Nesting
 pub mod Notes
 pub mod Noting
 pub mod Reading
+pub mod Runs
 pub mod Rereading
 pub mod Seeking
 pub mod Setting
