@@ -10,3 +10,4 @@ pub mod Escaped
 pub mod Unescaped
 pub mod Weighing
 pub mod Stacked
+pub mod Moving
