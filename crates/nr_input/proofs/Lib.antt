@@ -1,6 +1,8 @@
 mod Hearing
 pub mod Costs
 pub mod Items
+pub mod Rows
+pub mod RowsRead
 pub mod Spending
 pub mod Staying
 pub mod Taking

@@ -1,8 +1,14 @@
 //! Many moves over items that lie in a row.
+ghost use Rattle.std.specs.Prelude.{◌≡◌, ◌≤◌, map, false, Option};
+ghost use Rattle.nr_units.specs.Supply.{Supply};
+ghost use Rattle.nr_input.specs.Coming.{Coming, Reached, HoldsComing, element_front, has_failed};
+ghost use Rattle.nr_input.specs.Moving.{situation};
+ghost use Rattle.nr_input.specs.Runs.{HasRead, PaysAll};
 
+use super::at_hand::window;
 use super::place::Place;
 use super::reader::Reader;
-use nr_reading::{Bytes, Event, Front, Items, Run};
+use nr_reading::{Bytes, Front, Items, Run};
 use nr_store::{Element, Store};
 use nr_units::source::Source;
 
@@ -13,6 +19,8 @@ struct Elements<'a> {
 }
 
 impl<'a> Items for Elements<'a> {
+    ghost fronts = { λ e. map element_front e.elements.now };
+
     #[inline(always)]
     fn count(&self) -> usize {
         self.elements.len()
@@ -28,61 +36,61 @@ impl<'a> Items for Elements<'a> {
     }
 }
 
-// The items of the newest level.
-fn read_level<K: Copy>(reader: &mut Reader, store: &mut Store<'_, K>) -> Run {
+/// The items of the newest level are read.
+#[inline]
+fn read_level<K: Copy>(reader: &mut Reader, store: &mut Store<'_, K>) -> Run
+    ensures read { (c : Coming) (p : Reached) (supply : Option Supply) → HoldsComing c p supply → HasRead result.moves (situation store.old c reader.old) result.event store.new reader.new p supply }
+    ensures pays { (p : Reached) → PaysAll result.moves store.old p reader.old result.event store.new p reader.new }
+    ensures few { result.moves ≤ 65536 }
+{
     let elements = store.window();
-    let run = if elements.is_empty() {
-        reader.half.meet_run(&Bytes {
-            bytes: store.own_window(),
-        })
-    } else {
-        reader.half.meet_run(&Elements { elements })
-    };
+    let run = reader.half.meet_run(&Elements { elements });
     store.skip(run.taken as u32);
     run
 }
 
-// The bytes that the source has at hand.
-fn read_source<R: Source>(place: &mut Place, reader: &mut Reader, source: &mut R) -> Run {
-    let room = place.room();
-    let window = source.window();
-    let bytes = if window.len() > room {
-        &window[..room]
-    } else {
-        window
-    };
+/// The bytes that the source has at hand are read, where nothing else comes first.
+#[inline]
+fn read_source<K: Copy, R: Source>(
+    place: &mut Place,
+    reader: &mut Reader,
+    store: &Store<'_, K>,
+    source: &mut R,
+) -> Run
+    ensures read { (c : Coming) → HoldsComing c place.old (R.supply source.old) → HasRead result.moves (situation store.now c reader.old) result.event store.now reader.new place.new (R.supply source.new) }
+    ensures pays { PaysAll result.moves store.now place.old reader.old result.event store.now place.new reader.new }
+    ensures few { result.moves ≤ 65536 }
+    ensures failures { R.failures source.new ≡ R.failures source.old }
+    ensures unfailed { has_failed place.old.ahead ≡ false → has_failed place.new.ahead ≡ false }
+{
+    let bytes = window(place, store, source);
     let run = reader.half.meet_run(&Bytes { bytes });
-    if run.taken > 0 {
-        place.pass_run(bytes[run.taken - 1], run.taken);
-        source.skip(run.taken);
-        reader.burst = 0;
+    if run.taken == 0 {
+        return run;
     }
+    place.pass_run(bytes[run.taken - 1], run.taken);
+    source.skip(run.taken);
+    reader.burst = 0;
     run
 }
 
-/// Many moves.
+/// Items that lie in a row are read, many moves at once: up to the first that tells something or behind which something
+/// is due, and none where an item has to be looked at alone.
+#[inline]
 pub fn read_run<K: Copy, R: Source>(
     place: &mut Place,
     reader: &mut Reader,
     store: &mut Store<'_, K>,
     source: &mut R,
-) -> Run {
-    if !reader.looks() {
-        return Run {
-            taken: 0,
-            moves: 0,
-            event: Event::Nothing,
-        };
-    }
+) -> Run
+    ensures read { (c : Coming) → HoldsComing c place.old (R.supply source.old) → HasRead result.moves (situation store.old c reader.old) result.event store.new reader.new place.new (R.supply source.new) }
+    ensures pays { PaysAll result.moves store.old place.old reader.old result.event store.new place.new reader.new }
+    ensures few { result.moves ≤ 65536 }
+    ensures failures { R.failures source.new ≡ R.failures source.old }
+    ensures unfailed { has_failed place.old.ahead ≡ false → has_failed place.new.ahead ≡ false }
+{
     if store.is_reading() {
         return read_level(reader, store);
     }
-    if !place.is_unseen() {
-        return Run {
-            taken: 0,
-            moves: 0,
-            event: Event::Nothing,
-        };
-    }
-    read_source(place, reader, source)
+    read_source(place, reader, store, source)
 }

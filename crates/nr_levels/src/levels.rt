@@ -92,18 +92,6 @@ impl<'a, K: Copy> Levels<'a, K> {
         }
     }
 
-    /// The bytes that come next of the newest level.
-    #[inline]
-    pub fn window(&self) -> &[u8] {
-        if self.frames.is_empty() {
-            return &[];
-        }
-        match self.frames.at(0).reads {
-            Reads::Own(span) => &self.bytes.as_slice()[span.first as usize..span.last as usize],
-            _ => &[],
-        }
-    }
-
     /// Takes the mode that comes next away, and puts it into `mode`.
     pub fn resume(&mut self, mode: &mut K)
         requires { HasMark (front_of self.old.levels) }

@@ -184,15 +184,6 @@ impl<'a, K: Copy> Store<'a, K> {
         &text[place as usize..]
     }
 
-    /// The bytes that come next of the newest level, as far as they lie in one row: all that is left of bytes that were
-    /// given or of an argument, and none of a text.
-    #[inline]
-    pub fn own_window(&self) -> &[u8]
-        ensures all { 0 < length result.now → map elements.Byte result.now ≡ rest_of self.now.levels }
-    {
-        self.levels.window()
-    }
-
     /// Takes so many elements of the newest level, which it has left.
     #[inline]
     pub fn skip(&mut self, n: u32)
