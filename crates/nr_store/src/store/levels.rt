@@ -1,8 +1,9 @@
 // Levels: texts that are being read.
-ghost use Rattle.std.specs.Prelude.{◌≡◌, ◌++◌, ◌≤◌, ◌<◌, nat_lt, length, drop, OnOk, OnErr, is_some, None, Some};
+ghost use Rattle.std.specs.Prelude.{◌≡◌, ◌++◌, ◌≤◌, ◌<◌, nat_lt, length, map, drop, OnOk, OnErr, is_some, None, Some};
 ghost use Rattle.nr_tables.specs.Named.{find};
 ghost use Rattle.nr_levels.specs.Levels.{argument};
 ghost use Rattle.nr_store.specs.Stored.{checked, words, entered, reading_bytes, shown, left, dropped, emptied};
+ghost use Rattle.nr_store.specs.declared.element.Element.TheVariants as elements;
 ghost use Rattle.nr_store.specs.Windows.{rest_of, left_times};
 ghost use Rattle.nr_store.specs.Sights.{Shows, shown_with};
 
