@@ -11,6 +11,7 @@ mod lines;
 mod outcome;
 mod pages;
 mod plain_text;
+mod reading;
 mod rereading;
 mod rooms;
 mod run;

@@ -73,35 +73,17 @@ impl<'a> Engine<'a> {
     }
 
     /// Reads and puts what is at hand, and tells how many moves that was: in a text line that has begun plain bytes and the
-    /// blank behind them, in a diverted line cells.
+    /// blank behind them, in a diverted line cells, and else what may be read at once.
     #[inline]
     pub(crate) fn put_at_hand<R: Source>(&mut self, input: &mut R) -> u128
         ensures makes { Makes result (shape self.old) (shape self.new) (R.supply input.old) (R.supply input.new) }
         ensures failures { R.failures input.new ≡ R.failures input.old }
         ensures unfailed { has_failed self.old.place.ahead ≡ false → has_failed self.new.place.ahead ≡ false }
     {
-        if !self.formatter.is_in_line() {
-            return self.put_row();
-        }
+        let cells = self.put_row();
         let plain = self.put_plain(input);
         let gap = self.put_gap(input);
-        plain + gap
-    }
-
-    /// Many moves that read.
-    #[inline]
-    pub(crate) fn read_run<R: Source>(&mut self, input: &mut R) -> u128 {
-        if !self.formatter.reads_input() {
-            return 0;
-        }
-        let formatter = &mut self.formatter;
-        let run = nr_input::read_run(
-            &mut self.place,
-            &mut formatter.reader,
-            &mut formatter.store,
-            input,
-        );
-        self.formatter.event = run.event;
-        run.moves as u128
+        let read = self.read_run(input);
+        cells + plain + gap + read
     }
 }

@@ -158,11 +158,6 @@ impl<'a> Engine<'a> {
             if many > 0 {
                 continue;
             }
-            let many = self.read_run(input);
-            *moves += many;
-            if many > 0 {
-                continue;
-            }
             match self.advance(input, output) {
                 Ok(()) => {
                     let _taken = self.place.taken();

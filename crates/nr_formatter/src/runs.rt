@@ -33,12 +33,6 @@ impl<'a> Formatter<'a> {
         }
     }
 
-    /// Whether the input is read next.
-    #[inline]
-    pub fn reads_input(&self) -> bool {
-        self.springs.is_none() && self.reads_next()
-    }
-
     /// Whether the next item is read in a text line that has begun.
     #[inline]
     pub fn is_in_line(&self) -> bool

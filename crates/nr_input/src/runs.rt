@@ -44,6 +44,12 @@ fn read_level<K: Copy>(reader: &mut Reader, store: &mut Store<'_, K>) -> Run
     ensures few { result.moves ≤ 65536 }
 {
     let elements = store.window();
+    if elements.is_empty() {
+        let bytes = store.own_window();
+        let run = reader.half.meet_run(&Bytes { bytes });
+        store.skip(run.taken as u32);
+        return run;
+    }
     let run = reader.half.meet_run(&Elements { elements });
     store.skip(run.taken as u32);
     run

@@ -1,8 +1,9 @@
 // Levels: texts that are being read.
-ghost use Rattle.std.specs.Prelude.{◌≡◌, ◌++◌, ◌≤◌, ◌<◌, nat_lt, length, drop, OnOk, OnErr, is_some, None, Some};
+ghost use Rattle.std.specs.Prelude.{◌≡◌, ◌++◌, ◌≤◌, ◌<◌, nat_lt, length, map, drop, OnOk, OnErr, is_some, None, Some};
 ghost use Rattle.nr_tables.specs.Named.{find};
 ghost use Rattle.nr_levels.specs.Levels.{argument};
 ghost use Rattle.nr_store.specs.Stored.{checked, words, entered, reading_bytes, shown, left, dropped, emptied};
+ghost use Rattle.nr_store.specs.declared.element.Element.TheVariants as elements;
 ghost use Rattle.nr_store.specs.Windows.{rest_of, left_times};
 ghost use Rattle.nr_store.specs.Sights.{Shows, shown_with};
 
@@ -182,6 +183,15 @@ impl<'a, K: Copy> Store<'a, K> {
             return &[];
         }
         &text[place as usize..]
+    }
+
+    /// The bytes that come next of the newest level, as far as they lie in one row: all that is left of bytes that were
+    /// given or of an argument, and none of a text.
+    #[inline]
+    pub fn own_window(&self) -> &[u8]
+        ensures all { 0 < length result.now → map elements.Byte result.now ≡ rest_of self.now.levels }
+    {
+        self.levels.window()
     }
 
     /// Takes so many elements of the newest level, which it has left.
