@@ -220,3 +220,9 @@ holds_behind k bs c q supply supply' less unseen next holds skips = record {
   inside = ap (λ (b : ℕ). not (b == 10)) (ap (λ (ys : List ℕ). slice_index ys k) (sym next.bytes) ∙ get_or-take (length bs) c.supply.bytes k 0 less);
   stands = supply_behind q.ahead (suc k) c supply supply' unseen holds.stands skips;
 }
+
+-- a level has as many elements as bytes of its own
+pub own_within : {K : Type 0} (bs : List ℕ) (levels : List (Level K)) → (0 < length bs → map elements.Byte bs ≡ rest_of levels) → length (map fronts.Byte bs) ≤ length (rest_of levels)
+own_within [] levels all = omega arith
+own_within (b ∷ bs) levels all =
+    let same = ap length (all (omega arith)) in omega (arith, same, length-map (b ∷ bs) fronts.Byte, length-map (b ∷ bs) elements.Byte)
