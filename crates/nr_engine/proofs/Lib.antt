@@ -7,6 +7,7 @@ mod Moving
 mod NextMoves
 mod PlainGaps
 mod PlainText
+mod ReadRuns
 mod RereadCells
 mod Selected
 mod Spending
