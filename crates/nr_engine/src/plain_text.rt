@@ -72,18 +72,35 @@ impl<'a> Engine<'a> {
         moves
     }
 
-    /// Reads and puts what is at hand, and tells how many moves that was: in a text line that has begun plain bytes and the
-    /// blank behind them, in a diverted line cells, and else what may be read at once.
+    /// Reads and puts the plain bytes of a text line that are at hand and the blank behind them, and tells how many moves that
+    /// was.
+    #[inline]
+    fn put_text<R: Source>(&mut self, input: &mut R) -> u128
+        ensures makes { Makes result (shape self.old) (shape self.new) (R.supply input.old) (R.supply input.new) }
+        ensures failures { R.failures input.new ≡ R.failures input.old }
+        ensures unfailed { has_failed self.old.place.ahead ≡ false → has_failed self.new.place.ahead ≡ false }
+    {
+        let plain = self.put_plain(input);
+        let gap = self.put_gap(input);
+        plain + gap
+    }
+
+    /// Reads and puts what is at hand, and tells how many moves that was: plain text, else cells of a diverted line, else what
+    /// can be read without anything being done.
     #[inline]
     pub(crate) fn put_at_hand<R: Source>(&mut self, input: &mut R) -> u128
         ensures makes { Makes result (shape self.old) (shape self.new) (R.supply input.old) (R.supply input.new) }
         ensures failures { R.failures input.new ≡ R.failures input.old }
         ensures unfailed { has_failed self.old.place.ahead ≡ false → has_failed self.new.place.ahead ≡ false }
     {
+        let text = self.put_text(input);
+        if text > 0 {
+            return text;
+        }
         let cells = self.put_row();
-        let plain = self.put_plain(input);
-        let gap = self.put_gap(input);
-        let read = self.read_run(input);
-        cells + plain + gap + read
+        if cells > 0 {
+            return cells;
+        }
+        self.read_run(input)
     }
 }
