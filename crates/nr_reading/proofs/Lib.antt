@@ -11,3 +11,4 @@ pub mod Unescaped
 pub mod Weighing
 pub mod Stacked
 pub mod Moving
+pub mod PlainBytes

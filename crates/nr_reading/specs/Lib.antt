@@ -10,6 +10,7 @@ pub mod Keeping
 pub mod Meeting
 pub mod Modes
 pub mod Nesting
+pub mod Passing
 pub mod Notes
 pub mod Noting
 pub mod Reading

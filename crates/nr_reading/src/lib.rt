@@ -16,6 +16,7 @@ mod half;
 mod kept;
 mod mode;
 mod notes;
+mod passing;
 mod reader;
 mod runs;
 mod seeking;

@@ -63,12 +63,13 @@ pub struct Run {
 }
 
 impl Half {
-    /// Items are met, up to the first that tells something or behind which something is due.
+    /// Items are met, up to the first that tells something or behind which something is due, in 65,536 moves at most.
     #[inline(always)]
     pub fn meet_run<I: Items>(&mut self, items: &I) -> Run
         ensures met { HasMet result.moves (I.fronts items.now) self.old (spot result self.new) }
         ensures few { result.moves ≤ 65536 }
-        ensures longest { result.event ≡ events.Nothing → self.new.reading.due ≡ dues.Look → result.moves < 65536 → result.taken ≡ length (I.fronts items.now) }
+        ensures longest { result.event ≡ events.Nothing → self.new.reading.due ≡ dues.Look
+            → result.moves < 65536 → result.taken ≡ length (I.fronts items.now) }
     {
         let mut run = Run {
             taken: 0,
@@ -79,7 +80,15 @@ impl Half {
             && run.moves < LONGEST
             && matches!(self.reading.due, Due::Look)
         {
-            let seen = self.meet(items.item(run.taken));
+            let room = LONGEST - run.moves;
+            let to = run.taken + room.min(items.count() - run.taken);
+            let place = self.meet_plain(items, run.taken, to);
+            run.moves += place - run.taken;
+            run.taken = place;
+            if place == to {
+                return run;
+            }
+            let seen = self.meet(items.item(place));
             run.moves += 1;
             if seen.takes {
                 run.taken += 1;

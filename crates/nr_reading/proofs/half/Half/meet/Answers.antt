@@ -1,19 +1,10 @@
-use Rattle.std.proofs.Common.{◌≡◌, Bool, sym, subst, ap, ◌∙◌}
+use Rattle.std.proofs.Common.{Bool, sym, ap, ◌∙◌}
 use Rattle.nr_reading.specs.declared.escape.Offer.{Offer}
-use Rattle.nr_reading.specs.declared.front.Front.{Front}
-use Rattle.nr_reading.specs.declared.half.Half.{Half}
-use Rattle.nr_reading.specs.declared.half.Seen.{Seen}
-use Rattle.nr_reading.specs.declared.mode.Due.TheVariants as dues
 use Rattle.nr_reading.specs.Copying.{offer}
-use Rattle.nr_reading.specs.Meeting.{Met, met, meet, offered}
-use Rattle.nr_reading.specs.Weights.{PaysFor, worth_of_front}
-use Rattle.nr_reading.proofs.Asked.{Meets}
+use Rattle.nr_reading.specs.Meeting.{offered}
 use Rattle.nr_reading.proofs.Newest.{meet_reader, meet_ask, offer_copied, offer_raw}
-use Rattle.nr_reading.proofs.Paying.{meet_meets}
+use Rattle.nr_reading.proofs.Paying.{pays_for}
 use Rattle.nr_reading.proofs.half.Half.meet.Goals as goal
-
-paid : (f : Front) (h k : Half) (seen : Seen) → met k seen ≡ meet f h → h.reading.due ≡ dues.Look → PaysFor f h k seen
-paid f h k seen is look = let m : Meets h (worth_of_front f) (met k seen) = subst (λ (x : Met). Meets h (worth_of_front f) x) (sym is) (meet_meets f h look) in record { pays = m.pays; tells = m.tells }
 
 pub returns-in_default-clause-meets : goal.returns-in_default-clause-meets
 returns-in_default-clause-meets c =
@@ -21,7 +12,7 @@ returns-in_default-clause-meets c =
     c.meet_reader.ensures ∙ sym (meet_reader h.asks c.args.front h (sym c.newest.ensures ∙ c.in_default.is))
 
 pub returns-in_default-clause-pays : goal.returns-in_default-clause-pays
-returns-in_default-clause-pays c = paid c.args.front c.args.self.now _ _ (returns-in_default-clause-meets c)
+returns-in_default-clause-pays c = pays_for c.args.front c.args.self.now _ _ (returns-in_default-clause-meets c)
 
 pub returns-then-is_size-clause-meets : goal.returns-then-is_size-clause-meets
 returns-then-is_size-clause-meets c =
@@ -33,7 +24,7 @@ returns-then-is_size-clause-meets c =
     ∙ sym (meet_ask h.asks c.in-Some.ask c.args.front h (sym c.newest.ensures ∙ c.in-Some.is))
 
 pub returns-then-is_size-clause-pays : goal.returns-then-is_size-clause-pays
-returns-then-is_size-clause-pays c = paid c.args.front c.args.self.now _ _ (returns-then-is_size-clause-meets c)
+returns-then-is_size-clause-pays c = pays_for c.args.front c.args.self.now _ _ (returns-then-is_size-clause-meets c)
 
 pub returns-clause-meets : goal.returns-clause-meets
 returns-clause-meets c =
@@ -45,4 +36,4 @@ returns-clause-meets c =
     ∙ sym (meet_ask h.asks c.in-Some.ask c.args.front h (sym c.newest.ensures ∙ c.in-Some.is))
 
 pub returns-clause-pays : goal.returns-clause-pays
-returns-clause-pays c = paid c.args.front c.args.self.now _ _ (returns-clause-meets c)
+returns-clause-pays c = pays_for c.args.front c.args.self.now _ _ (returns-clause-meets c)
