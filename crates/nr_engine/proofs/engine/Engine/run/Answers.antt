@@ -12,8 +12,8 @@ overflow_add-moves g c =
     (omega (arith, c.taken-reached.ensures.value, c.taken-reached.ensures.within)) (omega (arith, bound)) in
     omega (arith, few)
 
-pub loop-many-preserved-then-many-gt0 : goal.loop-many-preserved-then-many-gt0
-loop-many-preserved-then-many-gt0 g c =
+pub loop-many-preserved-then-and-many-gt0 : goal.loop-many-preserved-then-many-gt0
+loop-many-preserved-then-and-many-gt0 g c =
     let now = c.loop-many.invariant in
     let run = c.put_at_hand-many.ensures.makes in
     let first : Shape = shape c.args.self.now in
