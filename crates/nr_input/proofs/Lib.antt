@@ -1,6 +1,8 @@
 mod Hearing
 pub mod Costs
 pub mod Items
+pub mod Putting
+pub mod PuttingRead
 pub mod Rows
 pub mod RowsRead
 pub mod Spending

@@ -1,14 +1,13 @@
 -- Items in a row, met one after another, as moves of the machine that reads.
-use Rattle.std.specs.Prelude.{not, map, slice_get, slice_index, min}
+use Rattle.std.specs.Prelude.{not, map, slice_get, slice_index}
 use Rattle.std.specs.Option.{option_map}
-use Rattle.std.proofs.Common.{◌≡◌, ◌≢◌, ℕ, zero, suc, ◌+◌, ◌-◌, ◌*◌, ◌^◌, ◌<◌, ◌≤◌, ◌==◌, Bool, true, false, if◌then◌else◌, List, [], ◌∷◌, length, take, drop, get_or, Option, None, Some, refl, ap, ap₂, sym, ◌∙◌, subst, arith, length-drop}
+use Rattle.std.proofs.Common.{◌≡◌, ℕ, zero, suc, ◌+◌, ◌-◌, ◌<◌, ◌==◌, Bool, true, false, if◌then◌else◌, List, [], ◌∷◌, length, drop, get_or, Option, Some, refl, ap, ap₂, sym, ◌∙◌, subst, arith}
 use Rattle.std.proofs.Math.Seq.{drop-cons}
 use Rattle.std.proofs.lemmas.Bool.{eq-eqb, ne_eqb}
 use Rattle.std.proofs.lemmas.List.{length-map, length-take, get_or-take}
 use Rattle.nr_units.specs.Supply.{Supply, Faults, Never, After, Anytime, MayGive, MayGiveAll, one_later, later}
 use Rattle.std.proofs.lemmas.Option.{slice_get-map, slice_get-get_or}
-use Rattle.nr_store.specs.Stored.{Stored, Level, Read, Mark, Reading, left, shown}
-use Rattle.nr_store.specs.Windows.{rest_of, levels_behind, run_left}
+use Rattle.nr_store.specs.Stored.{Stored, Level, Read, Reading}
 use Rattle.nr_store.specs.declared.element.Element.{Element}
 use Rattle.nr_store.specs.declared.element.Element.TheVariants as elements
 use Rattle.nr_reading.specs.declared.event.Event.{Event}
@@ -20,10 +19,9 @@ use Rattle.nr_reading.specs.declared.mode.Due.TheVariants as dues
 use Rattle.nr_reading.specs.Meeting.{Met, meet}
 use Rattle.nr_reading.specs.Runs.{Spot, MayGoOn, HasMet, behind, behind_met, one_if, spot_after}
 use Rattle.nr_input.specs.declared.reader.Reader.{Reader}
-use Rattle.nr_input.specs.declared.told.Told.{Told}
 use Rattle.nr_input.specs.declared.told.Told.TheVariants as tells
 use Rattle.nr_input.specs.AtHand.{ComeNext}
-use Rattle.nr_input.specs.Coming.{Coming, Reached, element_front, front}
+use Rattle.nr_input.specs.Coming.{Coming, Reached, element_front}
 use Rattle.nr_input.specs.Moving.{Situation, Stands, situation, move, met_at, Goes, burst_past}
 use Rattle.nr_input.specs.Runs.{HasRead, moves, told_last, behind_run, inside_behind}
 

@@ -1,16 +1,15 @@
 -- Many moves over a row, as those who read it say it.
 use Rattle.std.specs.Prelude.{not, map, slice_get, slice_index}
-use Rattle.std.proofs.Common.{◌≡◌, ℕ, zero, suc, ◌+◌, ◌-◌, ◌*◌, ◌^◌, ◌<◌, ◌≤◌, ◌==◌, Bool, true, false, List, [], ◌∷◌, length, take, drop, Option, None, Some, refl, ap, sym, ◌∙◌, subst, arith, length-drop}
+use Rattle.std.proofs.Common.{◌≡◌, ℕ, zero, suc, ◌+◌, ◌-◌, ◌*◌, ◌<◌, ◌≤◌, ◌==◌, Bool, true, false, List, [], ◌∷◌, length, drop, Option, None, Some, refl, ap, sym, ◌∙◌, subst, arith, length-drop}
 use Rattle.std.proofs.lemmas.Bool.{eq-eqb, ne_eqb}
 use Rattle.std.proofs.lemmas.List.{length-map, get_or-take}
 use Rattle.std.proofs.lemmas.List.Sums.{sum_by-cons}
 use Rattle.nr_units.specs.Supply.{Supply, Skips, Faults, Never, After, Anytime, later, skipped}
-use Rattle.nr_store.specs.Stored.{Stored, Level, Read, Mark, Reading}
+use Rattle.nr_store.specs.Stored.{Stored, Level, Read, Mark}
 use Rattle.nr_store.specs.Windows.{rest_of, left_times, levels_behind, run_left}
 use Rattle.nr_store.specs.Laws.{left_times-run}
 use Rattle.nr_store.specs.declared.element.Element.{Element}
 use Rattle.nr_store.specs.declared.element.Element.TheVariants as elements
-use Rattle.nr_reading.specs.declared.event.Event.TheVariants as events
 use Rattle.nr_reading.specs.declared.front.Front.{Front}
 use Rattle.nr_reading.specs.declared.front.Front.TheVariants as fronts
 use Rattle.nr_reading.specs.declared.half.Half.{Half}
@@ -21,11 +20,10 @@ use Rattle.nr_input.specs.declared.place.Ahead.{Ahead}
 use Rattle.nr_input.specs.declared.place.Ahead.TheVariants.{Unseen, Byte, End, Failed, TooMany}
 use Rattle.nr_input.specs.AtHand.{ComeNext, is_unseen}
 use Rattle.nr_input.specs.Coming.{Coming, Reached, HoldsComing, HoldsSupply, element_front}
-use Rattle.nr_input.specs.Moving.{Situation, Stands, situation, burst_past}
-use Rattle.nr_input.specs.Runs.{HasRead, PaysAll, behind_run, inside_behind, passed_run}
-use Rattle.nr_input.specs.Weights.{items_in, items_left, newline_left, expansions_worth, byte_worth}
+use Rattle.nr_input.specs.Moving.{situation, burst_past}
+use Rattle.nr_input.specs.Runs.{HasRead, PaysAll, behind_run, passed_run}
+use Rattle.nr_input.specs.Weights.{items_in, items_left, newline_left, expansions_worth}
 use Rattle.std.proofs.Math.Nat.{mul-le-mul_right}
-use Rattle.nr_input.proofs.Items.{expansions_worth-le}
 use Rattle.nr_input.proofs.Rows.{at_level, at_source, with_rest, level_goings, source_goings, has_read, met_none, reads_nothing}
 
 -- ---- elements of a level
@@ -66,7 +64,7 @@ own_met n bs r p met = subst (λ fs. HasMet n fs r.half p) (bytes_are bs) met
 
 -- ---- what they cost
 
-items_behind : {K : Type 0} (n : ℕ) (levels : List (Level K)) → n ≤ length (rest_of levels) → items_left (levels_behind n levels) + n ≤ items_left levels
+pub items_behind : {K : Type 0} (n : ℕ) (levels : List (Level K)) → n ≤ length (rest_of levels) → items_left (levels_behind n levels) + n ≤ items_left levels
 items_behind n [] few = omega (arith, few)
 items_behind n (Mark mode ∷ ls) few = omega (arith, few)
 items_behind n (Read l ∷ ls) few =
@@ -104,11 +102,11 @@ behind_none c =
 burst_none : (taken burst : ℕ) → burst_past taken (taken + 0) burst ≡ burst
 burst_none taken burst = let same : (taken + 0 == taken) ≡ true = eq-eqb (taken + 0) taken (omega arith) in rw same refl
 
-burst_some : (taken n burst : ℕ) → burst_past taken (taken + suc n) burst ≡ 0
+pub burst_some : (taken n burst : ℕ) → burst_past taken (taken + suc n) burst ≡ 0
 burst_some taken n burst = rw (ne_eqb (taken + suc n) taken (λ e. omega (arith, e))) refl
 
 module _ {K : Type 0} (v : Stored K) (c : Coming) (r : Reader) (bs : List ℕ) (none : v.levels ≡ []) (next : ComeNext bs c) where
-  begins_there : at_source v c r (spot_after 0 (map fronts.Byte bs) r.half) ≡ situation v c r
+  pub begins_there : at_source v c r (spot_after 0 (map fronts.Byte bs) r.half) ≡ situation v c r
   begins_there =
       ap (λ (d : Coming). situation v d (record r { half = r.half; burst = burst_past c.taken (c.taken + 0) r.burst })) (behind_none c)
       ∙ ap (λ (n : ℕ). situation v c (record r { burst = n })) (burst_none c.taken r.burst)
@@ -135,15 +133,15 @@ module _ {K : Type 0} (v : Stored K) (c : Coming) (r : Reader) (bs : List ℕ) (
         coming = subst (λ j. HoldsComing (behind_run j c) q supply) (sym many) holds;
       })
 
-newline_left-le : (b : Bool) → newline_left b ≤ 1
+pub newline_left-le : (b : Bool) → newline_left b ≤ 1
 newline_left-le true = omega arith
 newline_left-le false = omega arith
 
 -- n bytes pay n times
-worth_more : (worth before k : ℕ) → worth * (before + suc k) ≡ worth * before + worth + worth * k
+pub worth_more : (worth before k : ℕ) → worth * (before + suc k) ≡ worth * before + worth + worth * k
 worth_more worth before k = omega arith
 
-pays_each : (worth k : ℕ) → 512 ≤ worth → 512 * k ≤ worth * k
+pub pays_each : (worth k : ℕ) → 512 ≤ worth → 512 * k ≤ worth * k
 pays_each worth k enough = mul-le-mul_right k enough
 
 module _ {K : Type 0} (n : ℕ) (fs : List Front) (v : Stored K) (q : Reached) (r : Reader) (p : Spot) (met : HasMet n fs r.half p) where

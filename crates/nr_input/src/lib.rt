@@ -3,6 +3,7 @@
 #![tactic(auto)]
 
 mod acting;
+mod arguments;
 mod at_hand;
 mod moving;
 mod place;

@@ -5,6 +5,7 @@ ghost use Rattle.nr_input.specs.Coming.{Coming, Reached, HoldsComing, element_fr
 ghost use Rattle.nr_input.specs.Moving.{situation};
 ghost use Rattle.nr_input.specs.Runs.{HasRead, PaysAll};
 
+use super::arguments::read_argument;
 use super::at_hand::window;
 use super::place::Place;
 use super::reader::Reader;
@@ -57,7 +58,7 @@ fn read_level<K: Copy>(reader: &mut Reader, store: &mut Store<'_, K>) -> Run
 
 /// The bytes that the source has at hand are read, where nothing else comes first.
 #[inline]
-fn read_source<K: Copy, R: Source>(
+pub(crate) fn read_source<K: Copy, R: Source>(
     place: &mut Place,
     reader: &mut Reader,
     store: &Store<'_, K>,
@@ -97,6 +98,9 @@ pub fn read_run<K: Copy, R: Source>(
 {
     if store.is_reading() {
         return read_level(reader, store);
+    }
+    if reader.half.is_in_argument() {
+        return read_argument(place, reader, store, source);
     }
     read_source(place, reader, store, source)
 }

@@ -1,4 +1,5 @@
 pub mod Fronts
+pub mod InArgument
 pub mod InText
 pub mod Newest
 pub mod Over

@@ -5,6 +5,7 @@ pub mod Control
 pub mod Copying
 pub mod Definitions
 pub mod Delimiting
+pub mod InArgument
 pub mod InText
 pub mod Keeping
 pub mod Meeting

@@ -2,6 +2,7 @@
 #![tactic(auto)]
 
 mod answers;
+mod arguments;
 mod ask;
 mod asks;
 mod conditionals;
