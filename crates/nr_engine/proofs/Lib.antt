@@ -1,6 +1,8 @@
 mod Bursts
 mod Choosing
+mod Gliding
 mod Going
+mod LevelText
 mod Lightening
 mod Measured
 mod Moving

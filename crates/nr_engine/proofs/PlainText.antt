@@ -120,10 +120,10 @@ pub record IsTyping (s : State) : Type 0 where
   pub levels : s.formatter.store.levels ≡ []
   pub within : IsWithin s
 
-newline : (b : ℕ) → IsPlain b → (b == 10) ≡ false
+pub newline : (b : ℕ) → IsPlain b → (b == 10) ≡ false
 newline b plain = ne_eqb b 10 (λ e. omega (arith, plain.0, e))
 
-escape : (b : ℕ) → IsPlain b → (b == 92) ≡ false
+pub escape : (b : ℕ) → IsPlain b → (b == 92) ≡ false
 escape b plain = ne_eqb b 92 plain.2
 
 module _ (b : ℕ) (rest : List ℕ) (s : State) (typing : IsTyping s) (line : (b == 10) ≡ false) (plain : (b == 92) ≡ false) (next : s.coming.supply.bytes ≡ b ∷ rest)
@@ -186,10 +186,10 @@ module _ (b : ℕ) (rest : List ℕ) (s : State) (typing : IsTyping s) (plain : 
 abbrev pub ArePlain : List ℕ → Type 0
 ArePlain bs = All IsPlain bs
 
-first_plain : (b : ℕ) (bs : List ℕ) → ArePlain (b ∷ bs) → IsPlain b
+pub first_plain : (b : ℕ) (bs : List ℕ) → ArePlain (b ∷ bs) → IsPlain b
 first_plain b bs plain = plain 0 0 (omega arith)
 
-others_plain : (b : ℕ) (bs : List ℕ) → ArePlain (b ∷ bs) → ArePlain bs
+pub others_plain : (b : ℕ) (bs : List ℕ) → ArePlain (b ∷ bs) → ArePlain bs
 others_plain b bs plain = λ k d below. plain (suc k) d (omega (arith, below))
 
 -- a run within the limits is so before its end

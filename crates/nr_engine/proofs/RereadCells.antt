@@ -160,7 +160,7 @@ module _ (l : Reading Resume) (ls : List (Level Resume)) (s : State) (chosen : s
 abbrev pub reread_shape : ℕ → Row → Shape → Shape
 reread_shape n row e = record e { formatter = record e.formatter { store = run_left n e.formatter.store }; row = row }
 
-items_fewer : (n : ℕ) (levels : List (Level Resume)) → n ≤ length (rest_of levels) → items_left (levels_behind n levels) + n ≤ items_left levels
+pub items_fewer : (n : ℕ) (levels : List (Level Resume)) → n ≤ length (rest_of levels) → items_left (levels_behind n levels) + n ≤ items_left levels
 items_fewer n [] few = omega (arith, few)
 items_fewer n (Mark mode ∷ ls) few = omega (arith, few)
 items_fewer n (Read l ∷ ls) few =

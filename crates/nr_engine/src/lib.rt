@@ -7,6 +7,7 @@ mod diverted;
 mod ejecting;
 mod engine;
 mod lengths;
+mod level_text;
 mod lines;
 mod outcome;
 mod pages;

@@ -72,14 +72,20 @@ impl<'a> Engine<'a> {
         moves
     }
 
-    /// Reads and puts the plain bytes of a text line that are at hand and the blank behind them, and tells how many moves that
-    /// was.
+    /// Reads and puts the plain bytes of a text line that are at hand, those of the newest level if there is one, and the blank
+    /// behind them, and tells how many moves that was.
     #[inline]
     fn put_text<R: Source>(&mut self, input: &mut R) -> u128
         ensures makes { Makes result (shape self.old) (shape self.new) (R.supply input.old) (R.supply input.new) }
         ensures failures { R.failures input.new ≡ R.failures input.old }
         ensures unfailed { has_failed self.old.place.ahead ≡ false → has_failed self.new.place.ahead ≡ false }
     {
+        if !self.formatter.is_in_line() {
+            return 0;
+        }
+        if self.formatter.store.is_reading() {
+            return self.put_level_text();
+        }
         let plain = self.put_plain(input);
         let gap = self.put_gap(input);
         plain + gap

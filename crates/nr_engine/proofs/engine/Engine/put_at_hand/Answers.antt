@@ -26,6 +26,6 @@ returns-clause-makes g c =
     let s1 = g.R.Source.supply c.put_text-text.new.input in
     let s2 = g.R.Source.supply c.read_run.new.input in
     let all = makes-add (text + cells) c.read_run.result first behind_cells last s0 s1 s2
-        (makes-add text cells first behind_text behind_cells s0 s1 s1 c.put_text-text.ensures.makes (c.put_row-cells.ensures.makes s1)) c.read_run.ensures.makes in
+    (makes-add text cells first behind_text behind_cells s0 s1 s1 c.put_text-text.ensures.makes (c.put_row-cells.ensures.makes s1)) c.read_run.ensures.makes in
     let count : text + cells + c.read_run.result ≡ c.read_run.result = omega (arith, c.if-text-gt0.false, c.if-cells-gt0.false) in
     subst (λ (n : ℕ). Makes n first last s0 s2) count all
