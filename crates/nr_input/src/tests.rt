@@ -215,6 +215,7 @@ fn rows(rt: HostRuntime) -> Result<(), Fail> {
         let mut text = Vec::new(rt.alloc());
         read(&mut text, bytes.as_bytes(), 2048, 20)?;
         assert_eq!(rt; text.as_slice(), want.as_bytes(), "{bytes}");
+        println!(rt; "{bytes:?} is read as {want:?}")?;
     }
     Ok(())
 }

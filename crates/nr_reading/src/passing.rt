@@ -1,5 +1,5 @@
 //! Bytes that are met many at once.
-ghost use Rattle.std.specs.Prelude.{◌≡◌, ◌≤◌, length, true};
+ghost use Rattle.std.specs.Prelude.{◌≡◌, ◌≤◌, ◌+◌, length, true};
 ghost use Rattle.nr_reading.specs.declared.mode.Due.TheVariants as dues;
 ghost use Rattle.nr_reading.specs.Passing.{GoesOn, is_plain, drops_plain, passes_plain, notes_plain};
 
@@ -95,19 +95,21 @@ impl Half {
         to
     }
 
-    /// Bytes that do little are met, up to a place at most. The result is the place behind them.
+    /// Bytes that do little are met, so many at most. The result is the place behind them.
     #[inline(always)]
-    pub(crate) fn meet_plain<I: Items>(&mut self, items: &I, from: usize, to: usize) -> usize
+    pub(crate) fn meet_plain<I: Items>(&mut self, items: &I, from: usize, room: usize) -> usize
         requires due { self.old.reading.due ≡ dues.Look }
-        requires onward { from ≤ to }
-        requires within { to ≤ length (I.fronts items.now) }
+        requires within { from ≤ length (I.fronts items.now) }
         ensures goes { GoesOn (I.fronts items.now) from result self.old self.new }
-        ensures within { result ≤ to }
+        ensures within { result ≤ length (I.fronts items.now) }
+        ensures room { result ≤ from + room }
     {
         if self.passes_plain() {
+            let to = from + room.min(items.count() - from);
             return self.pass_plain(items, from, to);
         }
         if self.notes_plain() {
+            let to = from + room.min(items.count() - from);
             return self.note_plain(items, from, to);
         }
         from

@@ -64,7 +64,7 @@ pub struct Run {
 
 impl Half {
     /// Items are met, up to the first that tells something or behind which something is due, in 65,536 moves at most.
-    #[inline(always)]
+    #[inline(never)]
     pub fn meet_run<I: Items>(&mut self, items: &I) -> Run
         ensures met { HasMet result.moves (I.fronts items.now) self.old (spot result self.new) }
         ensures few { result.moves ≤ 65536 }
@@ -80,15 +80,13 @@ impl Half {
             && run.moves < LONGEST
             && matches!(self.reading.due, Due::Look)
         {
-            let room = LONGEST - run.moves;
-            let to = run.taken + room.min(items.count() - run.taken);
-            let place = self.meet_plain(items, run.taken, to);
+            let place = self.meet_plain(items, run.taken, LONGEST - run.moves);
             run.moves += place - run.taken;
             run.taken = place;
-            if place == to {
+            if place >= items.count() || run.moves >= LONGEST {
                 return run;
             }
-            let seen = self.meet(items.item(place));
+            let seen = self.meet_here(items.item(place));
             run.moves += 1;
             if seen.takes {
                 run.taken += 1;

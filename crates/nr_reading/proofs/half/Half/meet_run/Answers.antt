@@ -14,13 +14,13 @@ returns-then-not-matches-clause-met g c =
     let look = goes.due ∙ is_look in
     let run = run_on c.loop-run.run c.meet_plain-place.result in
     let has = met_on (g.I.Items.fronts c.args.items.now) c.args.self.now c.loop-run.run c.meet_plain-place.result c.loop-run.self c.meet_plain-place.new.self goes c.loop-run.invariant.event c.loop-run.invariant.met in
-    let counted : IsCounted run c.if-seen.run c.meet-seen.result.takes = elim c.if-seen.branch [
+    let counted : IsCounted run c.if-seen.run c.meet_here-seen.result.takes = elim c.if-seen.branch [
       | then-seen w ↦ counted_taken run c.if-seen.run _ w.if-seen.true w.run-is
       | else-seen w ↦ counted_left run c.if-seen.run _ w.if-seen.false w.run-is
     ] in
-    met_counted (g.I.Items.fronts c.args.items.now) c.args.self.now run c.if-seen.run c.item.result c.meet_plain-place.new.self c.meet-seen.new.self c.meet-seen.result
+    met_counted (g.I.Items.fronts c.args.items.now) c.args.self.now run c.if-seen.run c.item.result c.meet_plain-place.new.self c.meet_here-seen.new.self c.meet_here-seen.result
     has (record { some = omega arith; due = look; event = c.loop-run.invariant.event })
-    c.item.ensures.value c.item.ensures.text c.meet-seen.ensures.meets (c.meet-seen.ensures.pays look) counted
+    c.item.ensures.value c.item.ensures.text c.meet_here-seen.ensures.meets (c.meet_here-seen.ensures.pays look) counted
 
 pub loop-run-preserved : goal.loop-run-preserved
 loop-run-preserved g c =
@@ -29,16 +29,16 @@ loop-run-preserved g c =
     let look = goes.due ∙ is_look in
     let run = run_on c.loop-run.run c.meet_plain-place.result in
     let has = met_on (g.I.Items.fronts c.args.items.now) c.args.self.now c.loop-run.run c.meet_plain-place.result c.loop-run.self c.meet_plain-place.new.self goes c.loop-run.invariant.event c.loop-run.invariant.met in
-    let counted : IsCounted run c.if-seen.run c.meet-seen.result.takes = elim c.if-seen.branch [
+    let counted : IsCounted run c.if-seen.run c.meet_here-seen.result.takes = elim c.if-seen.branch [
       | then-seen w ↦ counted_taken run c.if-seen.run _ w.if-seen.true w.run-is
       | else-seen w ↦ counted_left run c.if-seen.run _ w.if-seen.false w.run-is
     ] in
-    let is_silent : c.meet-seen.result.event ≡ events.Nothing = elim c.match-matches-2.branch [ in-Nothing w ↦ w.in-Nothing.is | in_default-matches w ↦ absurd (false≢true (sym w.matches-is ∙ c.if-not-matches.false)) ] in
+    let is_silent : c.meet_here-seen.result.event ≡ events.Nothing = elim c.match-matches-2.branch [ in-Nothing w ↦ w.in-Nothing.is | in_default-matches w ↦ absurd (false≢true (sym w.matches-is ∙ c.if-not-matches.false)) ] in
     record {
       met =
-          met_silently (g.I.Items.fronts c.args.items.now) c.args.self.now run c.if-seen.run c.item.result c.meet_plain-place.new.self c.meet-seen.new.self c.meet-seen.result
+          met_silently (g.I.Items.fronts c.args.items.now) c.args.self.now run c.if-seen.run c.item.result c.meet_plain-place.new.self c.meet_here-seen.new.self c.meet_here-seen.result
           has (record { some = omega arith; due = look; event = c.loop-run.invariant.event })
-          c.item.ensures.value c.item.ensures.text c.meet-seen.ensures.meets (c.meet-seen.ensures.pays look) counted is_silent;
+          c.item.ensures.value c.item.ensures.text c.meet_here-seen.ensures.meets (c.meet_here-seen.ensures.pays look) counted is_silent;
       event = counted.event ∙ c.loop-run.invariant.event;
       few = let moves = counted.moves in omega arith;
     }
