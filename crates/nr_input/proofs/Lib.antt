@@ -2,6 +2,7 @@ mod Hearing
 pub mod Costs
 pub mod Items
 pub mod Putting
+pub mod PuttingLevel
 pub mod PuttingRead
 pub mod Rows
 pub mod RowsRead

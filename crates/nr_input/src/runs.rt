@@ -5,7 +5,7 @@ ghost use Rattle.nr_input.specs.Coming.{Coming, Reached, HoldsComing, element_fr
 ghost use Rattle.nr_input.specs.Moving.{situation};
 ghost use Rattle.nr_input.specs.Runs.{HasRead, PaysAll};
 
-use super::arguments::read_argument;
+use super::arguments::{read_argument, read_level_argument};
 use super::at_hand::window;
 use super::place::Place;
 use super::reader::Reader;
@@ -39,7 +39,7 @@ impl<'a> Items for Elements<'a> {
 
 /// The items of the newest level are read.
 #[inline]
-fn read_level<K: Copy>(reader: &mut Reader, store: &mut Store<'_, K>) -> Run
+pub(crate) fn read_level<K: Copy>(reader: &mut Reader, store: &mut Store<'_, K>) -> Run
     ensures read { (c : Coming) (p : Reached) (supply : Option Supply) → HoldsComing c p supply → HasRead result.moves (situation store.old c reader.old) result.event store.new reader.new p supply }
     ensures pays { (p : Reached) → PaysAll result.moves store.old p reader.old result.event store.new p reader.new }
     ensures few { result.moves ≤ 65536 }
@@ -96,10 +96,14 @@ pub fn read_run<K: Copy, R: Source>(
     ensures failures { R.failures source.new ≡ R.failures source.old }
     ensures unfailed { has_failed place.old.ahead ≡ false → has_failed place.new.ahead ≡ false }
 {
+    let in_argument = reader.half.is_in_argument();
     if store.is_reading() {
+        if in_argument {
+            return read_level_argument(reader, store);
+        }
         return read_level(reader, store);
     }
-    if reader.half.is_in_argument() {
+    if in_argument {
         return read_argument(place, reader, store, source);
     }
     read_source(place, reader, store, source)
