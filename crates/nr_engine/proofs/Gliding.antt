@@ -1,7 +1,6 @@
 -- Many moves, and a byte that was read and is heard: as a cell of the word, or as the blank behind it.
-use Rattle.std.proofs.Common.{◌≡◌, ℕ, ◌+◌, ◌<◌, Bool, true, false, List, [], ◌∷◌, Option, None, refl, sym, ap, ◌∙◌, subst, arith}
+use Rattle.std.proofs.Common.{◌≡◌, ℕ, ◌+◌, Bool, true, false, [], ◌∷◌, Option, None, refl, sym, ap, ◌∙◌, subst, arith}
 use Rattle.std.specs.Prelude.{if◌then◌else◌}
-use Rattle.nr_units.specs.Supply.{Supply}
 use Rattle.nr_fill.specs.Pieces.{is_nil}
 use Rattle.nr_fill.specs.Runs.{IsPlain}
 use Rattle.nr_reading.specs.declared.event.Event.TheVariants as events

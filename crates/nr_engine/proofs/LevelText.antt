@@ -1,12 +1,12 @@
 -- Bytes of the newest level in a text line that has begun: two moves a plain byte, and two or three the blank behind them.
-use Rattle.std.proofs.Common.{◌≡◌, ℕ, zero, suc, ◌+◌, ◌*◌, ◌<◌, ◌≤◌, Bool, true, false, List, [], ◌∷◌, ◌++◌, length, map, drop, Option, refl, sym, ap, ◌∙◌, subst, arith, length-append, drop_at, take-append-drop}
+use Rattle.std.proofs.Common.{◌≡◌, ℕ, zero, suc, ◌+◌, ◌*◌, ◌<◌, ◌≤◌, true, false, List, [], ◌∷◌, ◌++◌, length, map, drop, Option, refl, sym, ap, ◌∙◌, subst, arith, length-append, drop_at, take-append-drop}
 use Rattle.std.specs.Prelude.{◌==◌}
 use Rattle.std.proofs.lemmas.Bool.{eq-eqb}
 use Rattle.std.proofs.lemmas.List.{length-map, nil_from_length}
 use Rattle.std.proofs.lemmas.List.Sums.{sum_by-cons}
 use Rattle.nr_units.specs.Supply.{Supply}
 use Rattle.nr_fill.specs.Pieces.{line_cells}
-use Rattle.nr_fill.specs.Runs.{IsPlain, run_cell}
+use Rattle.nr_fill.specs.Runs.{run_cell}
 use Rattle.nr_store.specs.Stored.{Stored, Level, Read, Mark, Reading, shown, level_charge}
 use Rattle.nr_store.specs.Windows.{rest_of, left_times, levels_behind, run_left}
 use Rattle.nr_store.specs.Laws.{left_times-run}

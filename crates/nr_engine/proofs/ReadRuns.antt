@@ -24,7 +24,7 @@ use Rattle.nr_engine.specs.Holding.{Shape, at, Stands, Holds, Made, weight, wort
 use Rattle.nr_engine.specs.Running.{Makes}
 use Rattle.nr_engine.proofs.Bursts.{move-short}
 use Rattle.nr_engine.proofs.NextMoves.{step-read, kind-read}
-use Rattle.nr_engine.proofs.PlainText.{Glides}
+use Rattle.nr_engine.proofs.Gliding.{Glides}
 use Rattle.nr_engine.proofs.Spending.{told_all}
 use Rattle.nr_engine.proofs.Standing.{wrote_nothing}
 use Rattle.nr_engine.proofs.Working.{holds_of}

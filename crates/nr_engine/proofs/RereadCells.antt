@@ -42,7 +42,7 @@ use Rattle.nr_engine.specs.Running.{Makes}
 use Rattle.nr_engine.proofs.Going.{cells}
 use Rattle.nr_engine.proofs.Measured.{passed_none}
 use Rattle.nr_engine.proofs.NextMoves.{step-read, kind-read, step-hear, kind-hear}
-use Rattle.nr_engine.proofs.PlainText.{Glides, glides-add, glides-one}
+use Rattle.nr_engine.proofs.Gliding.{Glides, glides-add, glides-one}
 use Rattle.nr_engine.proofs.Standing.{wrote_nothing}
 use Rattle.nr_engine.proofs.Working.{holds_of}
 

@@ -94,6 +94,19 @@ puts_level f bs xs (suc k) l w all front put left =
       stops = λ some few plain. stops f bs xs n l front put (cases_lt n (length bs)) few (subst (λ ys. IsPlainByte (get_or ys n (elements.Byte 0))) (sym rest) plain);
     }
 
+-- nothing was put
+pub puts_none : (f : Formatter) → PutsLevel f 0 f
+puts_none f = record {
+  bytes = [];
+  count = refl;
+  front = refl;
+  plain = λ k d below. absurd (omega (arith, below));
+  is = ap (λ v. record f { store = v }) (left_times-run 0 f.store (omega arith));
+  within = λ some. absurd (omega (arith, some));
+  few = omega arith;
+  stops = λ some few plain. absurd (omega (arith, some));
+}
+
 -- a front of bytes is one of the level that they are
 pub own_front : (own : List ℕ) (m : ℕ) → m ≡ min (length own) 64 → IsFront (take m own) (map elements.Byte own)
 own_front own m is =

@@ -26,8 +26,8 @@ pub enum Gap {
     Reads,
 }
 
-/// Copies a front of this text, up to the first element that is no byte or stands before the first that prints. Tells how
-/// many bytes it copied.
+/// Copies the bytes that this text begins with, up to an element that is no byte, a blank or a control byte. Tells how many
+/// it copied.
 #[inline]
 fn copy_bytes(text: &[Element], bytes: &mut [u8]) -> usize
     requires room { length text.now ≤ length bytes.old }
@@ -107,6 +107,9 @@ impl<'a> Formatter<'a> {
         }
         let mut bytes = [0; LONGEST_RUN];
         let copied = copy_bytes(&text[..text.len().min(LONGEST_RUN)], &mut bytes);
+        if copied == 0 {
+            return 0;
+        }
         let count = self.line.put_run(margins, under, &bytes[..copied]);
         self.store.skip(count as u32);
         count

@@ -1,4 +1,4 @@
-use Rattle.std.proofs.Common.{◌≡◌, ℕ, subst, arith}
+use Rattle.std.proofs.Common.{◌≡◌, subst, arith}
 use Rattle.nr_formatter.specs.Runs.{PutsLevel}
 use Rattle.nr_engine.specs.Holding.{shape}
 use Rattle.nr_engine.proofs.LevelText.{makes_puts}

@@ -1,7 +1,7 @@
 use Rattle.std.proofs.Common.{◌≤◌, map, take, arith}
 use Rattle.std.proofs.lemmas.List.{length-map, length-take}
 use Rattle.nr_store.specs.declared.element.Element.TheVariants as elements
-use Rattle.nr_formatter.proofs.LevelRuns.{copied_front, own_front, puts_level, puts_run}
+use Rattle.nr_formatter.proofs.LevelRuns.{copied_front, own_front, puts_level, puts_none, puts_run}
 use Rattle.nr_formatter.proofs.formatter.Formatter.put_level_run.Goals as goal
 
 pub returns-then-is_empty : goal.returns-then-is_empty
@@ -15,6 +15,9 @@ returns-then-is_empty c =
     (own_front own c.min.result c.min.ensures)
     (puts_run f _ _ bs n c.put_run-count.new.self c.margins-margins.ensures c.is_under-under.ensures put.front put.plain put.cells put.within put.stops)
     c.skip.ensures
+
+pub returns-then-copied-eq0 : goal.returns-then-copied-eq0
+returns-then-copied-eq0 c = puts_none c.args.self.now
 
 pub returns : goal.returns
 returns c =
