@@ -37,6 +37,7 @@ impl<'a> Line<'a> {
     /// Reads a front of these bytes as cells of a word, underlined or not, as many calls of `put` would: up to the first
     /// that is not plain or whose cell would pass the limit. Tells how many it read. It takes the time of two passes
     /// over those bytes.
+    #[inline(always)]
     pub fn put_run(&mut self, margins: Margins, under: bool, bytes: &[u8]) -> usize
         ensures front { result ≤ length bytes.now }
         ensures plain { All IsPlain (take result bytes.now) }

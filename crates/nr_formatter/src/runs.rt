@@ -91,7 +91,7 @@ impl<'a> Formatter<'a> {
 
     /// Adds a front of what comes next of the newest level to the line, and takes it: up to the first that is no plain byte
     /// or whose cell would pass the limit, and 64 at most. Tells how many it added.
-    #[inline]
+    #[inline(never)]
     pub fn put_level_run(&mut self) -> usize
         ensures { PutsLevel self.old result self.new }
     {
@@ -127,7 +127,7 @@ impl<'a> Formatter<'a> {
     }
 
     /// Reads a blank behind a word, where it does nothing but end the word and widen the gap, and passes no limit.
-    #[inline]
+    #[inline(always)]
     pub fn put_gap(&mut self) -> Gap
         ensures is { AfterGap self.old result self.new }
         ensures left { result ≡ gaps.Left → IsGap self.old → ⊥ }

@@ -1,6 +1,7 @@
 //! Many moves over items that lie in a row.
 ghost use Rattle.std.specs.Prelude.{◌≡◌, ◌≤◌, map, false, Option};
 ghost use Rattle.nr_units.specs.Supply.{Supply};
+ghost use Rattle.nr_reading.specs.declared.event.Event.TheVariants as events;
 ghost use Rattle.nr_input.specs.Coming.{Coming, Reached, HoldsComing, element_front, has_failed};
 ghost use Rattle.nr_input.specs.Moving.{situation};
 ghost use Rattle.nr_input.specs.Runs.{HasRead, PaysAll};
@@ -9,7 +10,7 @@ use super::arguments::{read_argument, read_level_argument};
 use super::at_hand::window;
 use super::place::Place;
 use super::reader::Reader;
-use nr_reading::{Bytes, Front, Items, Run};
+use nr_reading::{Bytes, Event, Front, Items, Run};
 use nr_store::{Element, Store};
 use nr_units::source::Source;
 
@@ -57,7 +58,7 @@ pub(crate) fn read_level<K: Copy>(reader: &mut Reader, store: &mut Store<'_, K>)
 }
 
 /// The bytes that the source has at hand are read, where nothing else comes first.
-#[inline]
+#[inline(never)]
 pub(crate) fn read_source<K: Copy, R: Source>(
     place: &mut Place,
     reader: &mut Reader,
@@ -97,6 +98,9 @@ pub fn read_run<K: Copy, R: Source>(
     ensures unfailed { has_failed place.old.ahead ≡ false → has_failed place.new.ahead ≡ false }
 {
     let in_argument = reader.half.is_in_argument();
+    if !in_argument && !reader.half.is_in_run() {
+        return none();
+    }
     if store.is_reading() {
         if in_argument {
             return read_level_argument(reader, store);

@@ -278,17 +278,7 @@ impl Half {
     }
 
     /// What the item in front does.
-    #[inline(never)]
     pub fn meet(&mut self, front: Front) -> Seen
-        ensures meets { met self.new result ≡ meet front self.old }
-        ensures pays { self.old.reading.due ≡ Due.Look → PaysFor front self.old self.new result }
-    {
-        self.meet_here(front)
-    }
-
-    // The same, as a part of a loop.
-    #[inline(always)]
-    pub(crate) fn meet_here(&mut self, front: Front) -> Seen
         ensures meets { met self.new result ≡ meet front self.old }
         ensures pays { self.old.reading.due ≡ Due.Look → PaysFor front self.old self.new result }
     {

@@ -33,7 +33,7 @@ impl Mode {
 impl Half {
     // Such bytes do nothing.
     #[inline(always)]
-    fn passes_plain(&self) -> bool
+    pub(crate) fn passes_plain(&self) -> bool
         ensures { result ≡ passes_plain self.now }
     {
         if !self.asks.is_empty() {
@@ -48,7 +48,7 @@ impl Half {
 
     // Such bytes are noted of a request's line.
     #[inline(always)]
-    fn notes_plain(&self) -> bool
+    pub(crate) fn notes_plain(&self) -> bool
         ensures { result ≡ notes_plain self.now }
     {
         match (self.reading.escape, self.reading.mode) {

@@ -1,9 +1,8 @@
 //! Many items met one after another.
-ghost use Rattle.std.specs.Prelude.{◌≡◌, ◌<◌, ◌≤◌, List, length, map, slice_get, Some};
-ghost use Rattle.nr_reading.specs.declared.event.Event.TheVariants as events;
+ghost use Rattle.std.specs.Prelude.{◌≡◌, ◌<◌, ◌≤◌, ◌||◌, List, length, map, slice_get, Some};
 ghost use Rattle.nr_reading.specs.declared.front.Front.{Front as FrontItem};
 ghost use Rattle.nr_reading.specs.declared.front.Front.TheVariants as fronts;
-ghost use Rattle.nr_reading.specs.declared.mode.Due.TheVariants as dues;
+ghost use Rattle.nr_reading.specs.Passing.{passes_plain, notes_plain};
 ghost use Rattle.nr_reading.specs.Runs.{HasMet, spot};
 ghost use Rattle.nr_reading.specs.Weights.{worth_of_front};
 
@@ -63,39 +62,31 @@ pub struct Run {
 }
 
 impl Half {
-    /// Items are met, up to the first that tells something or behind which something is due, in 65,536 moves at most.
+    /// Whether bytes that are plain would only be noted or dropped here.
+    #[inline(always)]
+    pub fn is_in_run(&self) -> bool
+        ensures { result ≡ (passes_plain self.now || notes_plain self.now) }
+    {
+        self.passes_plain() || self.notes_plain()
+    }
+
+    /// A front of the items is met where they are bytes that are only noted or dropped, 65,536 at most.
     #[inline(never)]
     pub fn meet_run<I: Items>(&mut self, items: &I) -> Run
         ensures met { HasMet result.moves (I.fronts items.now) self.old (spot result self.new) }
         ensures few { result.moves ≤ 65536 }
-        ensures longest { result.event ≡ events.Nothing → self.new.reading.due ≡ dues.Look
-            → result.moves < 65536 → result.taken ≡ length (I.fronts items.now) }
     {
         let mut run = Run {
             taken: 0,
             moves: 0,
             event: Event::Nothing,
         };
-        while run.taken < items.count()
-            && run.moves < LONGEST
-            && matches!(self.reading.due, Due::Look)
-        {
-            let place = self.meet_plain(items, run.taken, LONGEST - run.moves);
-            run.moves += place - run.taken;
-            run.taken = place;
-            if place >= items.count() || run.moves >= LONGEST {
-                return run;
-            }
-            let seen = self.meet_here(items.item(place));
-            run.moves += 1;
-            if seen.takes {
-                run.taken += 1;
-            }
-            if !matches!(seen.event, Event::Nothing) {
-                run.event = seen.event;
-                return run;
-            }
+        if !matches!(self.reading.due, Due::Look) {
+            return run;
         }
+        let place = self.meet_plain(items, 0, LONGEST);
+        run.taken = place;
+        run.moves = place;
         run
     }
 }

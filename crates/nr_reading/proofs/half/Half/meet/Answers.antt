@@ -4,7 +4,7 @@ use Rattle.nr_reading.specs.Copying.{offer}
 use Rattle.nr_reading.specs.Meeting.{offered}
 use Rattle.nr_reading.proofs.Newest.{meet_reader, meet_ask, offer_copied, offer_raw}
 use Rattle.nr_reading.proofs.Paying.{pays_for}
-use Rattle.nr_reading.proofs.half.Half.meet_here.Goals as goal
+use Rattle.nr_reading.proofs.half.Half.meet.Goals as goal
 
 pub returns-in_default-clause-meets : goal.returns-in_default-clause-meets
 returns-in_default-clause-meets c =
