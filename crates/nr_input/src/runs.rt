@@ -38,8 +38,20 @@ impl<'a> Items for Elements<'a> {
     }
 }
 
+/// No move.
+#[inline(always)]
+fn none() -> Run
+    ensures { result ≡ record { taken = 0; moves = 0; event = events.Nothing } }
+{
+    Run {
+        taken: 0,
+        moves: 0,
+        event: Event::Nothing,
+    }
+}
+
 /// The items of the newest level are read.
-#[inline]
+#[inline(never)]
 pub(crate) fn read_level<K: Copy>(reader: &mut Reader, store: &mut Store<'_, K>) -> Run
     ensures read { (c : Coming) (p : Reached) (supply : Option Supply) → HoldsComing c p supply → HasRead result.moves (situation store.old c reader.old) result.event store.new reader.new p supply }
     ensures pays { (p : Reached) → PaysAll result.moves store.old p reader.old result.event store.new p reader.new }
@@ -82,8 +94,8 @@ pub(crate) fn read_source<K: Copy, R: Source>(
     run
 }
 
-/// Items that lie in a row are read, many moves at once: up to the first that tells something or behind which something
-/// is due, and none where an item has to be looked at alone.
+/// Items that lie in a row are read, many moves at once: the bytes of a macro's argument, and bytes that are only noted or
+/// dropped. None where the reader stands elsewhere.
 #[inline]
 pub fn read_run<K: Copy, R: Source>(
     place: &mut Place,
