@@ -243,24 +243,28 @@ impl<'a, K: Copy> Levels<'a, K> {
         ensures charge { result ≡ charge_of_newest self.old.levels }
         ensures rest { self.new ≡ closed self.old.levels self.old }
     {
-        let Some(frame) = self.frames.top() else {
+        if self.frames.is_empty() {
             return 0;
-        };
-        self.bytes.truncate(frame.height as usize);
-        self.places.truncate(frame.old.last as usize);
-        self.in_force = frame.old;
+        }
+        let frame = self.frames.at(0);
+        let old = frame.old;
+        let charge = frame.charge;
+        let height = frame.height;
+        self.bytes.truncate(height as usize);
+        self.places.truncate(old.last as usize);
+        self.in_force = old;
         let Some(mode) = frame.resume else {
             self.frames.pop();
-            return frame.charge;
+            return charge;
         };
         self.frames.set_top(Frame {
             reads: Reads::Mark(mode),
-            old: frame.old,
+            old,
             charge: 0,
-            height: frame.height,
+            height,
             resume: None,
         });
-        frame.charge
+        charge
     }
 
     /// With no levels there are no arguments in force.

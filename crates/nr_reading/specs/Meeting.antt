@@ -23,7 +23,7 @@ use Rattle.nr_reading.specs.Asking.{has_text, reads_argument, is_size, begun_ask
 use Rattle.nr_reading.specs.Copying.{offer, raw_offer}
 use Rattle.nr_reading.specs.Delimiting.{begun_text, with_text_byte, ended_text, no_texts}
 use Rattle.nr_reading.specs.Modes.{is_direct, reads_arguments, at_a_line, first_signs}
-use Rattle.nr_reading.specs.Nesting.{pushed, may_nest}
+use Rattle.nr_reading.specs.Nesting.{pushed, may_nest, is_none}
 use Rattle.nr_reading.specs.Noting.{noted, no_notes}
 use Rattle.nr_reading.specs.Reading.{read, read_over, direct}
 use Rattle.nr_reading.specs.Spelling.{name_of}
@@ -170,3 +170,20 @@ meet_by (a ∷ asks) f h = offered (offer_to a.kind f h.reading.escape) h
 
 abbrev pub meet : Front → Half → Met
 meet f h = meet_by h.asks f h
+
+-- what the item in front is in copy mode
+abbrev pub offer_by : List Ask → Front → Half → Offer
+offer_by [] f h = offer f h.reading.escape (reads_arguments h.reading.mode)
+offer_by (a ∷ asks) f h = offer_to a.kind f h.reading.escape
+
+-- items are read as they are, behind no escape whose argument is half read
+abbrev pub reads_directly : Half → Bool
+reads_directly h = is_none h.asks && is_direct h.reading.mode
+
+-- the next item is read in copy mode, behind no part of an escape
+abbrev pub copies_at : List Ask → Escape → Bool → Bool
+copies_at [] escapes.Plain false = true
+copies_at asks e direct = false
+
+abbrev pub copies : Half → Bool
+copies h = copies_at h.asks h.reading.escape (is_direct h.reading.mode)

@@ -1,5 +1,6 @@
 //! The escapes whose arguments are half read.
 ghost use Rattle.std.specs.Prelude.{◌≡◌, ◌<◌, ◌≤◌, [], ◌∷◌, length, drop, slice_get, count_by, nat_lt, if◌then◌else◌};
+ghost use Rattle.std.specs.Option.{option_map};
 ghost use Rattle.nr_reading.specs.Nesting.{pushed, counted, is_none};
 
 use super::ask::{Ask, Kind};
@@ -64,6 +65,17 @@ impl Asks {
             return None;
         }
         Some(self.asks[self.len - 1])
+    }
+
+    /// What the newest asks for.
+    #[inline]
+    pub(crate) fn newest_kind(&self) -> Option<Kind>
+        ensures { result ≡ option_map (λ (a : Ask). a.kind) (slice_get self.now 0) }
+    {
+        if self.len == 0 {
+            return None;
+        }
+        Some(self.asks[self.len - 1].kind)
     }
 
     /// Another begins.

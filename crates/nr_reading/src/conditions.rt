@@ -18,6 +18,7 @@ fn begins_number(byte: u8) -> bool
 }
 
 // The first byte of a condition.
+#[inline(always)]
 fn read_condition_byte(byte: u8, reading: &mut Reading) -> Said
     ensures { joined reading.new result ≡ read_condition_byte byte reading.old }
 {
@@ -46,6 +47,7 @@ fn read_condition_byte(byte: u8, reading: &mut Reading) -> Said
 }
 
 /// Before a condition.
+#[inline(always)]
 pub(crate) fn read_condition(byte: u8, negated: bool, reading: &mut Reading) -> Said
     ensures { joined reading.new result ≡ read_condition byte negated reading.old }
 {
@@ -67,6 +69,7 @@ pub(crate) fn read_condition(byte: u8, negated: bool, reading: &mut Reading) -> 
 }
 
 // The parentheses that are open behind a byte.
+#[inline(always)]
 fn parentheses(byte: u8, depth: u64) -> u64
     ensures { result ≡ parentheses byte depth }
 {
@@ -80,6 +83,7 @@ fn parentheses(byte: u8, depth: u64) -> u64
 }
 
 /// In a number.
+#[inline(always)]
 pub(crate) fn read_number(byte: u8, depth: u64, reading: &mut Reading) -> Said
     ensures { joined reading.new result ≡ read_number byte depth reading.old }
 {
@@ -92,6 +96,7 @@ pub(crate) fn read_number(byte: u8, depth: u64, reading: &mut Reading) -> Said
 }
 
 /// In the first string.
+#[inline(always)]
 pub(crate) fn read_first(
     byte: u8,
     delimiter: u8,
@@ -112,6 +117,7 @@ pub(crate) fn read_first(
 }
 
 /// In the second string.
+#[inline(always)]
 pub(crate) fn read_second(
     byte: u8,
     delimiter: u8,

@@ -9,6 +9,7 @@ use super::spelled::{Spelled, ends_name, is_blank};
 use super::step::{Jot, Said, go, leave, leave_noting, noting, tell};
 
 /// Behind the control character.
+#[inline(always)]
 pub(crate) fn read_control(byte: u8, reading: &mut Reading) -> Said
     ensures { joined reading.new result ≡ read_control byte reading.old }
 {
@@ -27,6 +28,7 @@ pub(crate) fn completes(long: bool, name: &Spelled) -> bool
 }
 
 /// In a control line's name.
+#[inline(always)]
 pub(crate) fn read_name(byte: u8, long: bool, name: &Spelled, reading: &mut Reading) -> Said
     ensures { joined reading.new result ≡ read_name byte long name.now reading.old }
 {
@@ -42,6 +44,7 @@ pub(crate) fn read_name(byte: u8, long: bool, name: &Spelled, reading: &mut Read
 }
 
 /// In a line that does nothing.
+#[inline(always)]
 pub(crate) fn read_drop(byte: u8, reading: &mut Reading) -> Said
     ensures { joined reading.new result ≡ read_drop byte reading.old }
 {
@@ -53,6 +56,7 @@ pub(crate) fn read_drop(byte: u8, reading: &mut Reading) -> Said
 }
 
 /// In the blanks before a request's arguments.
+#[inline(always)]
 pub(crate) fn read_request_blanks(byte: u8, reading: &mut Reading) -> Said
     ensures { joined reading.new result ≡ read_request_blanks byte reading.old }
 {
@@ -64,6 +68,7 @@ pub(crate) fn read_request_blanks(byte: u8, reading: &mut Reading) -> Said
 }
 
 /// In a request's arguments.
+#[inline(always)]
 pub(crate) fn read_request_line(byte: u8, reading: &mut Reading) -> Said
     ensures { joined reading.new result ≡ read_request_line byte reading.old }
 {
@@ -75,6 +80,7 @@ pub(crate) fn read_request_line(byte: u8, reading: &mut Reading) -> Said
 }
 
 /// In the blanks before a macro's arguments.
+#[inline(always)]
 pub(crate) fn read_macro_blanks(byte: u8, reading: &mut Reading) -> Said
     ensures { joined reading.new result ≡ read_macro_blanks byte reading.old }
 {
@@ -86,6 +92,7 @@ pub(crate) fn read_macro_blanks(byte: u8, reading: &mut Reading) -> Said
 }
 
 /// Before an argument of a macro.
+#[inline(always)]
 pub(crate) fn read_macro_gap(byte: u8, reading: &mut Reading) -> Said
     ensures { joined reading.new result ≡ read_macro_gap byte reading.old }
 {
@@ -107,6 +114,7 @@ pub(crate) fn read_macro_gap(byte: u8, reading: &mut Reading) -> Said
 }
 
 /// In an argument of a macro.
+#[inline(always)]
 pub(crate) fn read_word(byte: u8, reading: &mut Reading) -> Said
     ensures { joined reading.new result ≡ read_word byte reading.old }
 {
@@ -125,6 +133,7 @@ pub(crate) fn read_word(byte: u8, reading: &mut Reading) -> Said
 }
 
 /// In an argument of a macro that began with a quote.
+#[inline(always)]
 pub(crate) fn read_quoted(byte: u8, reading: &mut Reading) -> Said
     ensures { joined reading.new result ≡ read_quoted byte reading.old }
 {
@@ -142,6 +151,7 @@ pub(crate) fn read_quoted(byte: u8, reading: &mut Reading) -> Said
 }
 
 /// In such an argument, behind a quote.
+#[inline(always)]
 pub(crate) fn read_quote(byte: u8, reading: &mut Reading) -> Said
     ensures { joined reading.new result ≡ read_quote byte reading.old }
 {

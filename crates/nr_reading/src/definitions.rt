@@ -70,6 +70,7 @@ impl Defining {
     }
 
     // The line is not the last.
+    #[inline(always)]
     fn not_last(&self, byte: u8, held: u8, reading: &mut Reading) -> Said
         ensures { joined reading.new result ≡ not_last byte self.now held reading.old }
     {
@@ -95,6 +96,7 @@ impl Defining {
     }
 
     /// In a line that may be the last.
+    #[inline(always)]
     pub(crate) fn read_body_start(&self, byte: u8, held: u8, reading: &mut Reading) -> Said
         ensures { joined reading.new result ≡ read_body_start byte self.now held reading.old }
     {
@@ -113,6 +115,7 @@ impl Defining {
     }
 
     /// In another line.
+    #[inline(always)]
     pub(crate) fn read_body(&self, byte: u8, reading: &mut Reading) -> Said
         ensures { joined reading.new result ≡ read_body byte self.now reading.old }
     {
@@ -151,6 +154,7 @@ fn in_body(byte: u8) -> Mode
 }
 
 /// In the last line, behind what tells it.
+#[inline(always)]
 pub(crate) fn read_body_end(byte: u8, reading: &mut Reading) -> Said
     ensures { joined reading.new result ≡ read_body_end byte reading.old }
 {

@@ -1,5 +1,5 @@
 //! What is half read, and what the item in front does to it.
-ghost use Rattle.std.specs.Prelude.{◌≡◌, ◌<◌, length, drop};
+ghost use Rattle.std.specs.Prelude.{◌≡◌, ◌<◌, length, drop, true, false};
 ghost use Rattle.nr_reading.specs.Meeting.{nothing_half, meet};
 
 use super::ask::{Answer, Ask, Kind, Sign};
@@ -41,6 +41,19 @@ pub struct Half {
 /// How many names deep an interpolation may stand.
 const DEEPEST: usize = 8;
 
+impl Seen {
+    // The same, put together anew: what a call answers lies in memory, and this need not.
+    #[inline(always)]
+    fn anew(self) -> Seen
+        ensures { result ≡ self }
+    {
+        Seen {
+            event: self.event,
+            takes: self.takes,
+        }
+    }
+}
+
 impl Half {
     ghost use Rattle.std.specs.Prelude.{[]};
     ghost use Rattle.nr_reading.specs.Asking.{event_of};
@@ -48,7 +61,8 @@ impl Half {
     ghost use Rattle.nr_reading.specs.Rereading.{is_rereading};
     ghost use Rattle.nr_reading.specs.Spelling.{name_of};
     ghost use Rattle.nr_reading.specs.Steps.{note_of};
-    ghost use Rattle.nr_reading.specs.Meeting.{asking, too_deep, beginning, settled, replaced, finished, argued, longer, answered, asked_by, noted_in, met_directly, met_copied, hear_by, over_by, escaping, silent, offered, meet_by, met};
+    ghost use Rattle.nr_reading.specs.Meeting.{asking, too_deep, beginning, settled, replaced, finished, argued, longer, answered, asked_by, noted_in, met_directly, met_copied, hear_by, over_by, escaping, silent, offered, meet_by, met, copies, offer_by, reads_directly};
+    ghost use Rattle.nr_reading.specs.declared.front.Front.TheVariants as fronts;
     ghost use Rattle.nr_reading.specs.Weights.{PaysFor};
 
     /// Nothing is half read.
@@ -207,7 +221,6 @@ impl Half {
     }
 
     // An element comes: to the newest escape, and else to the reader.
-    #[inline(always)]
     fn hear(&mut self, front: bool, byte: u8) -> Seen
         ensures { met self.new result ≡ hear_by self.old.asks front byte self.old }
     {
@@ -259,36 +272,95 @@ impl Half {
         }
     }
 
-    // The item in front, where no escape is half read.
+    // What the item in front is in copy mode.
     #[inline(always)]
-    fn meet_reader(&mut self, front: Front) -> Seen
-        ensures { met self.new result ≡ meet_by [] front self.old }
+    fn offer(&self, front: Front) -> Offer
+        ensures { result ≡ offer_by self.now.asks front self.now }
     {
-        let mode = self.reading.mode;
-        if mode.is_direct() {
-            let said = direct(front, self.signs, &mut self.reading);
-            self.note(said.note);
-            return Seen {
-                event: said.event,
-                takes: said.takes,
-            };
+        let escape = self.reading.escape;
+        let Some(kind) = self.asks.newest_kind() else {
+            return escape.offer(front, self.reading.mode.reads_arguments());
+        };
+        if kind.is_size() {
+            return escape.raw_offer(front);
         }
-        let offer = self.reading.escape.offer(front, mode.reads_arguments());
+        escape.offer(front, kind.reads_argument())
+    }
+
+    // The item in front, in copy mode.
+    #[inline(never)]
+    fn meet_copied(&mut self, front: Front) -> Seen
+        requires { reads_directly self.old ≡ false }
+        ensures { met self.new result ≡ meet front self.old }
+    {
+        let offer = self.offer(front);
         self.offered(offer)
     }
 
+    // Whether the next item is read in copy mode, behind no part of an escape.
+    #[inline(always)]
+    fn copies(&self) -> bool
+        ensures { result ≡ copies self.now }
+    {
+        matches!(self.reading.escape, Escape::Plain)
+            && !self.reading.mode.is_direct()
+            && self.asks.is_empty()
+    }
+
+    // A byte there.
+    #[inline(always)]
+    fn copy_byte(&mut self, byte: u8) -> Seen
+        requires { copies self.old ≡ true }
+        ensures { met self.new result ≡ meet (fronts.Byte byte) self.old }
+    {
+        if byte == b'\\' {
+            self.reading.escape = Escape::Begun;
+            return Seen {
+                event: Event::Nothing,
+                takes: true,
+            };
+        }
+        let said = read(byte, self.signs, &self.notes, &mut self.reading);
+        self.note(said.note);
+        self.settle(said.takes, true, said.event)
+    }
+
+    // The item in front where items are read as they are, behind no escape whose argument is half read.
+    #[inline(always)]
+    fn meet_directly(&mut self, front: Front) -> Seen
+        requires { reads_directly self.old ≡ true }
+        ensures { met self.new result ≡ meet front self.old }
+    {
+        let said = direct(front, self.signs, &mut self.reading);
+        self.note(said.note);
+        Seen {
+            event: said.event,
+            takes: said.takes,
+        }
+    }
+
+    // Whether items are read as they are, behind no escape whose argument is half read.
+    #[inline(always)]
+    fn reads_directly(&self) -> bool
+        ensures { result ≡ reads_directly self.now }
+    {
+        self.asks.is_empty() && self.reading.mode.is_direct()
+    }
+
     /// What the item in front does.
+    #[inline]
     pub fn meet(&mut self, front: Front) -> Seen
         ensures meets { met self.new result ≡ meet front self.old }
         ensures pays { self.old.reading.due ≡ Due.Look → PaysFor front self.old self.new result }
     {
-        let Some(ask) = self.asks.newest() else {
-            return self.meet_reader(front);
-        };
-        let escape = self.reading.escape;
-        if ask.kind.is_size() {
-            return self.offered(escape.raw_offer(front));
+        if self.reads_directly() {
+            return self.meet_directly(front);
         }
-        self.offered(escape.offer(front, ask.kind.reads_argument()))
+        if let Front::Byte(byte) = front
+            && self.copies()
+        {
+            return self.copy_byte(byte);
+        }
+        self.meet_copied(front.anew()).anew()
     }
 }

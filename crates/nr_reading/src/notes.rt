@@ -125,14 +125,14 @@ impl Notes {
     }
 
     /// What an element adds.
-    #[inline(never)]
+    #[inline(always)]
     pub(crate) fn note(&mut self, note: Jot)
         ensures { self.new ≡ noted (note_of note) self.old }
     {
         match note {
             Jot::Nothing | Jot::Begin(_) => {}
             Jot::NewName => self.name = Spelled::new(),
-            Jot::Name(byte) => self.name = self.name.with(byte),
+            Jot::Name(byte) => self.name.push(byte),
             Jot::NewLine => self.line.clear(),
             Jot::Line(byte) => self.line.keep(byte),
             Jot::Negated => self.condition.negated = true,

@@ -11,6 +11,7 @@ use super::step::{Said, go, leave, leave_telling, tell};
 use super::text::{begin_escape, start};
 
 // A byte behind an accepted condition.
+#[inline(always)]
 fn accepted_byte(byte: u8, reading: &mut Reading) -> Said
     ensures { joined reading.new result ≡ accepted_byte byte reading.old }
 {
@@ -29,6 +30,7 @@ fn accepted_byte(byte: u8, reading: &mut Reading) -> Said
 }
 
 /// Behind an accepted condition.
+#[inline(always)]
 pub(crate) fn accepted(front: Front, reading: &mut Reading) -> Said
     ensures { joined reading.new result ≡ accepted front reading.old }
 {
@@ -64,6 +66,7 @@ pub(crate) fn accepted_escape(front: Front, reading: &mut Reading) -> Said
 }
 
 // A newline in a rejected part.
+#[inline(always)]
 fn behind_newline(count: u64, reading: &mut Reading) -> Said
     ensures { joined reading.new result ≡ behind_newline count reading.old }
 {
@@ -75,6 +78,7 @@ fn behind_newline(count: u64, reading: &mut Reading) -> Said
 }
 
 // A byte in a rejected part.
+#[inline(always)]
 fn skip_byte(byte: u8, count: u64, reading: &mut Reading) -> Said
     ensures { joined reading.new result ≡ skip_byte byte count reading.old }
 {
@@ -88,6 +92,7 @@ fn skip_byte(byte: u8, count: u64, reading: &mut Reading) -> Said
 }
 
 /// In a rejected part.
+#[inline(always)]
 pub(crate) fn skip(front: Front, count: u64, reading: &mut Reading) -> Said
     ensures { joined reading.new result ≡ skip front count reading.old }
 {
@@ -137,6 +142,7 @@ pub(crate) fn skip_escape(front: Front, count: u64, reading: &mut Reading) -> Sa
 }
 
 /// In a diverted line.
+#[inline(always)]
 pub(crate) fn diverted(front: Front, reading: &mut Reading) -> Said
     ensures { joined reading.new result ≡ diverted front reading.old }
 {
@@ -155,6 +161,7 @@ pub(crate) fn diverted(front: Front, reading: &mut Reading) -> Said
 }
 
 /// At the beginning of a line that may be a diverted one.
+#[inline(always)]
 pub(crate) fn diverting(front: Front, signs: Signs, reading: &mut Reading) -> Said
     ensures { joined reading.new result ≡ diverting front signs reading.old }
 {

@@ -38,16 +38,24 @@ impl Spelled {
         }
     }
 
+    /// One byte more comes.
+    #[inline]
+    pub(crate) fn push(&mut self, byte: u8)
+        ensures { self.new ≡ spelled byte self.old }
+    {
+        if self.bytes.is_full() {
+            self.bad = true;
+            return;
+        }
+        self.bytes.push(byte);
+    }
+
     /// The name with one byte more.
     pub(crate) fn with(self, byte: u8) -> Spelled
         ensures { result ≡ spelled byte self }
     {
         let mut name = self;
-        if name.bytes.is_full() {
-            name.bad = true;
-            return name;
-        }
-        name.bytes.push(byte);
+        name.push(byte);
         name
     }
 

@@ -9,6 +9,7 @@ use super::spelled::{Spelled, ends_name, is_blank};
 use super::step::{Jot, Said, go, leave, leave_noting, noting};
 
 /// In the blanks before a string's name.
+#[inline(always)]
 pub(crate) fn read_string_before(byte: u8, reading: &mut Reading) -> Said
     ensures { joined reading.new result ≡ read_string_before byte reading.old }
 {
@@ -31,6 +32,7 @@ fn end_string_name(name: &Spelled, reading: &mut Reading)
 }
 
 /// In a string's name.
+#[inline(always)]
 pub(crate) fn read_string_name(byte: u8, long: bool, name: &Spelled, reading: &mut Reading) -> Said
     ensures { joined reading.new result ≡ read_string_name byte long name.now reading.old }
 {
@@ -46,6 +48,7 @@ pub(crate) fn read_string_name(byte: u8, long: bool, name: &Spelled, reading: &m
 }
 
 /// In the blanks before a string's text.
+#[inline(always)]
 pub(crate) fn read_string_blanks(byte: u8, reading: &mut Reading) -> Said
     ensures { joined reading.new result ≡ read_string_blanks byte reading.old }
 {
@@ -61,6 +64,7 @@ pub(crate) fn read_string_blanks(byte: u8, reading: &mut Reading) -> Said
 }
 
 /// In a string's text.
+#[inline(always)]
 pub(crate) fn read_string_text(byte: u8, reading: &mut Reading) -> Said
     ensures { joined reading.new result ≡ read_string_text byte reading.old }
 {
@@ -74,6 +78,7 @@ pub(crate) fn read_string_text(byte: u8, reading: &mut Reading) -> Said
 }
 
 /// In a transparent line.
+#[inline(always)]
 pub(crate) fn read_transparent(byte: u8, reading: &mut Reading) -> Said
     ensures { joined reading.new result ≡ read_transparent byte reading.old }
 {

@@ -10,6 +10,7 @@ use super::step::{Jot, Said, go, leave, leave_telling, noting, tell};
 
 impl Reading {
     // A text line ends. Answers what that tells.
+    #[inline(always)]
     fn end_line(&mut self) -> Event
         ensures reading { self.new ≡ ended self.old }
         ensures event { result ≡ end_event self.old }
@@ -32,6 +33,7 @@ fn is_interrupted(mode: Mode) -> bool
 }
 
 /// A `\`.
+#[inline(always)]
 pub(crate) fn begin_escape(reading: &mut Reading) -> Said
     ensures { joined reading.new result ≡ begin_escape reading.old }
 {
@@ -50,6 +52,7 @@ fn in_text(event: Event, reading: &mut Reading) -> Said
 }
 
 // A blank at a line's beginning.
+#[inline(always)]
 fn start_blank(reading: &mut Reading) -> Said
     ensures { joined reading.new result ≡ start_blank reading.old }
 {
@@ -62,6 +65,7 @@ fn start_blank(reading: &mut Reading) -> Said
 }
 
 // A newline at a line's beginning.
+#[inline(always)]
 fn start_newline(reading: &mut Reading) -> Said
     ensures { joined reading.new result ≡ start_newline reading.old }
 {
@@ -73,6 +77,7 @@ fn start_newline(reading: &mut Reading) -> Said
 }
 
 // A control character.
+#[inline(always)]
 fn start_control(no_break: bool, reading: &mut Reading) -> Said
     ensures { joined reading.new result ≡ start_control no_break reading.old }
 {
@@ -82,6 +87,7 @@ fn start_control(no_break: bool, reading: &mut Reading) -> Said
 }
 
 // A byte at a line's beginning.
+#[inline(always)]
 fn start_byte(byte: u8, signs: Signs, reading: &mut Reading) -> Said
     ensures { joined reading.new result ≡ start_byte byte signs reading.old }
 {
@@ -104,6 +110,7 @@ fn start_byte(byte: u8, signs: Signs, reading: &mut Reading) -> Said
 }
 
 /// At the beginning of a line.
+#[inline(always)]
 pub(crate) fn start(front: Front, signs: Signs, reading: &mut Reading) -> Said
     ensures { joined reading.new result ≡ start front signs reading.old }
 {
@@ -126,6 +133,7 @@ fn one_blank_more(count: u32) -> u32
 }
 
 /// The text behind leading blanks.
+#[inline(always)]
 pub(crate) fn text_behind_blanks(count: u32, reading: &mut Reading) -> Said
     ensures { joined reading.new result ≡ text_behind_blanks count reading.old }
 {
@@ -135,6 +143,7 @@ pub(crate) fn text_behind_blanks(count: u32, reading: &mut Reading) -> Said
 }
 
 // A byte behind leading blanks.
+#[inline(always)]
 fn leading_byte(byte: u8, count: u32, reading: &mut Reading) -> Said
     ensures { joined reading.new result ≡ leading_byte byte count reading.old }
 {
@@ -153,6 +162,7 @@ fn leading_byte(byte: u8, count: u32, reading: &mut Reading) -> Said
 }
 
 /// Behind leading blanks.
+#[inline(always)]
 pub(crate) fn leading(front: Front, count: u32, reading: &mut Reading) -> Said
     ensures { joined reading.new result ≡ leading front count reading.old }
 {
@@ -172,6 +182,7 @@ pub(crate) fn leading(front: Front, count: u32, reading: &mut Reading) -> Said
 }
 
 // A byte behind the blanks of a line that continues a word.
+#[inline(always)]
 fn continued_byte(byte: u8, reading: &mut Reading) -> Said
     ensures { joined reading.new result ≡ continued_byte byte reading.old }
 {
@@ -190,6 +201,7 @@ fn continued_byte(byte: u8, reading: &mut Reading) -> Said
 }
 
 /// Behind the blanks of a line that continues a word.
+#[inline(always)]
 pub(crate) fn continued(front: Front, reading: &mut Reading) -> Said
     ensures { joined reading.new result ≡ continued front reading.old }
 {

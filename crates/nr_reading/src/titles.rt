@@ -18,6 +18,7 @@ fn end_title(reading: &mut Reading)
 }
 
 // A byte before the first delimiter.
+#[inline(always)]
 fn before_title_byte(byte: u8, reading: &mut Reading) -> Said
     ensures { joined reading.new result ≡ before_title_byte byte reading.old }
 {
@@ -36,6 +37,7 @@ fn before_title_byte(byte: u8, reading: &mut Reading) -> Said
 }
 
 /// Before the first delimiter.
+#[inline(always)]
 pub(crate) fn before_title(front: Front, reading: &mut Reading) -> Said
     ensures { joined reading.new result ≡ before_title front reading.old }
 {
@@ -65,6 +67,7 @@ fn end_part(delimiter: u8, part: u8, reading: &mut Reading)
 }
 
 // A byte in a part.
+#[inline(always)]
 fn title_byte(byte: u8, delimiter: u8, part: u8, reading: &mut Reading) -> Said
     ensures { joined reading.new result ≡ title_byte byte delimiter part reading.old }
 {
@@ -83,6 +86,7 @@ fn title_byte(byte: u8, delimiter: u8, part: u8, reading: &mut Reading) -> Said
 }
 
 /// In a part.
+#[inline(always)]
 pub(crate) fn title(front: Front, delimiter: u8, part: u8, reading: &mut Reading) -> Said
     ensures { joined reading.new result ≡ title front delimiter part reading.old }
 {
@@ -102,6 +106,7 @@ pub(crate) fn title(front: Front, delimiter: u8, part: u8, reading: &mut Reading
 }
 
 /// Behind the last delimiter.
+#[inline(always)]
 pub(crate) fn read_title_rest(byte: u8, reading: &mut Reading) -> Said
     ensures { joined reading.new result ≡ read_title_rest byte reading.old }
 {
