@@ -13,7 +13,10 @@ use nr_units::cell::Cell;
 fn is_plain(byte: u8) -> bool
     ensures { IsTrue result ↔ IsPlain byte }
 {
-    byte > b' ' && byte != b'-' && byte != b'\\' && byte != 127
+    if byte > b'\\' {
+        return byte != 127;
+    }
+    byte > b' ' && byte != b'-' && byte != b'\\'
 }
 
 /// How many bytes there are before the first that is not plain.
