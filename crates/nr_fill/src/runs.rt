@@ -3,7 +3,7 @@ ghost use Rattle.std.specs.Prelude.{◌≡◌, ◌+◌, ◌-◌, ◌<◌, ◌≤
 ghost use Rattle.nr_fill.specs.Pieces.{ends_sentence, in_word, line_cells, text_cells};
 ghost use Rattle.nr_fill.specs.Runs.{IsPlain, add_run, run_behind, run_cell};
 
-use crate::line::{Line, WordState};
+use crate::line::Line;
 use crate::margins::Margins;
 use crate::words::ends_sentence;
 use nr_units::cell::Cell;
@@ -13,7 +13,10 @@ use nr_units::cell::Cell;
 fn is_plain(byte: u8) -> bool
     ensures { IsTrue result ↔ IsPlain byte }
 {
-    byte > b' ' && byte != b'-' && byte != b'\\' && byte != 127
+    if byte > b'\\' {
+        return byte != 127;
+    }
+    byte > b' ' && byte != b'-' && byte != b'\\'
 }
 
 /// How many bytes there are before the first that is not plain.
@@ -66,14 +69,10 @@ impl<'a> Line<'a> {
             byte: bytes[bytes.len() - 1],
             under,
         });
-        let Some(word) = self.word else {
-            return;
-        };
-        self.row.push_run(under, bytes);
-        self.word = Some(WordState {
-            pending: word.pending.without_point(),
-            blanks: 0,
-            ..word
-        });
+        if let Some(word) = &mut self.word {
+            self.row.push_run(under, bytes);
+            word.pending.drop_point();
+            word.blanks = 0;
+        }
     }
 }

@@ -4,7 +4,7 @@ ghost use Rattle.nr_fill.specs.Lined.{afforded};
 ghost use Rattle.nr_fill.specs.Pieces.{in_word, text_cells};
 ghost use Rattle.nr_fill.specs.Tabs.{before_stop, field_fill, fill_count, first_beyond, is_aligned, tabbed, with_field, with_field_filled};
 
-use crate::line::{Line, LineCells, WordState};
+use crate::line::{Line, LineCells};
 use crate::margins::Margins;
 use crate::stops::{Field, Pending, Stop, StopKind};
 use nr_units::cell::Cell;
@@ -87,19 +87,16 @@ impl<'a> Line<'a> {
     {
         self.row.clear_title();
         self.title = None;
-        let Some(word) = self.word else {
+        let Some(word) = &mut self.word else {
             return;
         };
-        self.word = Some(WordState {
-            pending: Pending::ForStop(Field {
-                before: self.row.last_len(),
-                width,
-                kind,
-                fill,
-            }),
-            blanks: 0,
-            ..word
+        word.pending = Pending::ForStop(Field {
+            before: self.row.last_len(),
+            width,
+            kind,
+            fill,
         });
+        word.blanks = 0;
     }
 
     /// The text for a right or centring stop, where one is being read, ends: as many cells as align it are filled in
@@ -138,16 +135,13 @@ impl<'a> Line<'a> {
     {
         self.row.clear_title();
         self.title = None;
-        let Some(word) = self.word else {
+        let Some(word) = &mut self.word else {
             return;
         };
         let Pending::ForStop(field) = word.pending else {
             return;
         };
         self.row.insert_copies(field.before, field.fill, n);
-        self.word = Some(WordState {
-            pending: Pending::Nothing,
-            ..word
-        });
+        word.pending = Pending::Nothing;
     }
 }

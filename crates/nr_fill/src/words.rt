@@ -36,8 +36,8 @@ impl WordState {
 impl WordState {
     /// Whether a place so many cells in is between two of the n cells of the piece that is being read, blanks at the
     /// word's end aside.
-    fn is_inside(self, at: usize, n: usize) -> bool
-        ensures { result ≡ is_inside at self.blanks n self.pending }
+    fn is_inside(&self, at: usize, n: usize) -> bool
+        ensures { result ≡ is_inside at self.now.blanks n self.now.pending }
     {
         if matches!(self.pending, Pending::ForStop(_)) {
             return false;
@@ -47,19 +47,19 @@ impl WordState {
 }
 
 impl Pending {
-    /// What waits behind a cell, where the word has n cells then.
+    /// Goes on behind a cell, where the word has n cells then.
     #[inline]
-    fn behind(self, mark: Behind, n: usize) -> Self
-        ensures { result ≡ pending_behind mark n self }
+    fn step_behind(&mut self, mark: Behind, n: usize)
+        ensures { self.new ≡ pending_behind mark n self.old }
     {
         if matches!(self, Pending::ForStop(_)) {
-            return self;
+            return;
         }
-        match mark {
+        *self = match mark {
             Behind::Letter => Pending::Nothing,
             _ if mark.mark_cells() < n => Pending::AtPoint(Point::Hard),
             _ => Pending::Nothing,
-        }
+        };
     }
 
     /// What waits behind `\%`, where n cells stand before it.
@@ -72,14 +72,13 @@ impl Pending {
         }
     }
 
-    /// What waits where no break point stands.
+    /// No break point stands here.
     #[inline]
-    pub(crate) fn without_point(self) -> Self
-        ensures { result ≡ pending_without_point self }
+    pub(crate) fn drop_point(&mut self)
+        ensures { self.new ≡ pending_without_point self.old }
     {
-        match self {
-            Pending::ForStop(_) => self,
-            Pending::Nothing | Pending::AtPoint(_) => Pending::Nothing,
+        if matches!(self, Pending::AtPoint(_)) {
+            *self = Pending::Nothing;
         }
     }
 }
@@ -113,7 +112,7 @@ impl<'a> Line<'a> {
     {
         self.row.clear_title();
         self.title = None;
-        let Some(word) = self.word else {
+        let Some(word) = &mut self.word else {
             return;
         };
         let Pending::AtPoint(point) = word.pending else {
@@ -121,13 +120,10 @@ impl<'a> Line<'a> {
         };
         let len = self.row.last_len();
         self.row.close(word.join, len);
-        self.word = Some(WordState {
-            join: Join::at(point),
-            pending: Pending::Nothing,
-            parted: word.parted + len,
-            wide: word.wide + usize::from(word.join.width()) + len,
-            ..word
-        });
+        word.parted += len;
+        word.wide += usize::from(word.join.width()) + len;
+        word.join = Join::at(point);
+        word.pending = Pending::Nothing;
     }
 
     /// Reads one more cell of a word; the first cell of a line gives it its margins. It fails where the cell would
@@ -155,16 +151,12 @@ impl<'a> Line<'a> {
         ensures { self.new ≡ record self.old { collected = record (in_word (add_cell_behind behind cell) self.old.collected) { sentence = ends_sentence cell } } }
     {
         self.sentence = ends_sentence(cell);
-        let Some(word) = self.word else {
-            return;
-        };
-        self.row.push(cell);
-        let n = word.parted + self.row.last_len();
-        self.word = Some(WordState {
-            pending: word.pending.behind(behind, n),
-            blanks: 0,
-            ..word
-        });
+        if let Some(word) = &mut self.word {
+            self.row.push(cell);
+            let n = word.parted + self.row.last_len();
+            word.pending.step_behind(behind, n);
+            word.blanks = 0;
+        }
     }
 
     /// Reads a blank of the text as a cell: so in no-fill mode and where lines are centred. It fails where the blank
@@ -191,14 +183,10 @@ impl<'a> Line<'a> {
         ensures { self.new ≡ record self.old { collected = record (in_word add_blank_to self.old.collected) { sentence = false } } }
     {
         self.sentence = false;
-        let Some(word) = self.word else {
-            return;
-        };
-        self.row.push(Cell::blank());
-        self.word = Some(WordState {
-            blanks: word.blanks + 1,
-            ..word
-        });
+        if let Some(word) = &mut self.word {
+            self.row.push(Cell::blank());
+            word.blanks += 1;
+        }
     }
 
     /// Reads n equal cells of a word, none or more, as one addition. It fails where they would pass the limit.
@@ -226,12 +214,11 @@ impl<'a> Line<'a> {
         ensures { self.new ≡ record self.old { collected = record (in_word (append (replicate n cell)) self.old.collected) { sentence = ends_sentence cell } } }
     {
         self.sentence = ends_sentence(cell);
-        let Some(word) = self.word else {
-            return;
-        };
-        let len = self.row.last_len();
-        self.row.insert_copies(len, cell, n);
-        self.word = Some(WordState { blanks: 0, ..word });
+        if let Some(word) = &mut self.word {
+            let len = self.row.last_len();
+            self.row.insert_copies(len, cell, n);
+            word.blanks = 0;
+        }
     }
 
     /// Reads `\&`: a word exists, and what was read before it ends no sentence.
@@ -240,10 +227,10 @@ impl<'a> Line<'a> {
     {
         self.open_word(margins);
         self.sentence = false;
-        let Some(word) = self.word else {
+        let Some(word) = &mut self.word else {
             return;
         };
-        self.word = Some(WordState { blanks: 0, ..word });
+        word.blanks = 0;
     }
 
     /// Reads `\%`: a soft break point behind a cell, and no point of `.hw` in this word.
@@ -251,14 +238,11 @@ impl<'a> Line<'a> {
         ensures { self.new ≡ record self.old { collected = barred_here self.old.collected } }
     {
         self.barred = true;
-        let Some(word) = self.word else {
+        let Some(word) = &mut self.word else {
             return;
         };
         let n = self.row.last_len();
-        self.word = Some(WordState {
-            pending: word.pending.soft(n),
-            ..word
-        });
+        word.pending = word.pending.soft(n);
     }
 
     /// Makes the word one piece, as `join_word` does, and drops the blanks of the text at its end. Call it where a line
@@ -267,16 +251,12 @@ impl<'a> Line<'a> {
         ensures { self.new ≡ record self.old { collected = without_blanks self.old.collected } }
     {
         self.join_word();
-        let Some(word) = self.word else {
-            return;
-        };
-        let len = self.row.last_len().saturating_sub(word.blanks);
-        self.row.shorten(len);
-        self.word = Some(WordState {
-            pending: word.pending.without_point(),
-            blanks: 0,
-            ..word
-        });
+        if let Some(word) = &mut self.word {
+            let len = self.row.last_len().saturating_sub(word.blanks);
+            self.row.shorten(len);
+            word.pending.drop_point();
+            word.blanks = 0;
+        }
     }
 
     /// A soft break point stands so many cells in, where that is between two cells of the piece that is being read.
@@ -285,7 +265,7 @@ impl<'a> Line<'a> {
     {
         self.row.clear_title();
         self.title = None;
-        let Some(word) = self.word else {
+        let Some(word) = &mut self.word else {
             return;
         };
         let at = place.saturating_sub(word.parted);
@@ -293,12 +273,9 @@ impl<'a> Line<'a> {
             return;
         }
         self.row.close(word.join, at);
-        self.word = Some(WordState {
-            join: Join::Soft,
-            parted: word.parted + at,
-            wide: word.wide + usize::from(word.join.width()) + at,
-            ..word
-        });
+        word.parted += at;
+        word.wide += usize::from(word.join.width()) + at;
+        word.join = Join::Soft;
     }
 
     /// The word is one piece from now on: so it is where it ends in no-fill mode or in a line that is centred. Call it
@@ -309,21 +286,17 @@ impl<'a> Line<'a> {
     {
         self.row.clear_title();
         self.title = None;
-        let Some(word) = self.word else {
+        let Some(word) = &mut self.word else {
             return;
         };
         if matches!(word.pending, Pending::ForStop(_)) {
             return;
         }
-        let join = self.row.join_before(self.pieces, word.join);
+        word.join = self.row.join_before(self.pieces, word.join);
         self.row.open_behind(self.pieces, word.parted);
-        self.word = Some(WordState {
-            join,
-            pending: Pending::Nothing,
-            blanks: word.blanks,
-            parted: 0,
-            wide: 0,
-        });
+        word.pending = Pending::Nothing;
+        word.parted = 0;
+        word.wide = 0;
     }
 
     /// The word, where there is one, becomes pieces of the line. It fails where they would pass the limit.
@@ -333,18 +306,20 @@ impl<'a> Line<'a> {
         ensures ok { OnOk result (self.new ≡ record self.old { collected = end_word self.old.collected }) }
         ensures err { OnErr result (self.new ≡ self.old) }
     {
-        let Some(word) = self.word else {
+        let Some(word) = &self.word else {
             self.barred = false;
             return Ok(());
         };
+        let join = word.join;
+        let wide = word.wide;
         let more = self.row.pieces() - self.pieces + 1;
         if more > self.limit - self.measure() {
             return Err(LineCells);
         }
         let len = self.row.last_len();
-        self.row.close(word.join, len);
+        self.row.close(join, len);
         self.pieces += more;
-        self.wide += word.wide + usize::from(word.join.width()) + len;
+        self.wide += wide + usize::from(join.width()) + len;
         self.word = None;
         self.barred = false;
         Ok(())

@@ -1,5 +1,5 @@
 -- Lemmas on lines that are added to a text.
-use Rattle.std.proofs.Common.{◌≡◌, ℕ, ◌+◌, ◌<◌, ◌↔◌, List, [], ◌∷◌, ◌++◌, length, map, replicate, Result, Ok, Err, refl, ap, sym, ◌∙◌, append_assoc, length-append, arith}
+use Rattle.std.proofs.Common.{◌≡◌, ℕ, ◌+◌, ◌<◌, ◌≤◌, ◌↔◌, List, [], ◌∷◌, ◌++◌, length, map, replicate, Result, Ok, Err, refl, ap, sym, ◌∙◌, append_assoc, length-append, arith}
 use Rattle.std.specs.Result.{IsErr, OnOk}
 use Rattle.std.specs.Option.{option_map}
 use Rattle.std.proofs.lemmas.List.{append-nil, length-map, length-replicate}
@@ -50,6 +50,14 @@ module _ (p : Texts Element) (id : ℕ) (is_open : IsOpen p id) where
       let used_is : used q ≡ used p + length xs = ap used wrote ∙ more_used xs in
       let capacity_is : q.capacity ≡ p.capacity = ap (λ (t : Texts Element). t.capacity) wrote in
       more_more q r xs (x ∷ []) wrote (ok_of answer _ (λ err. let is = full.0 err in omega arith) ok)
+
+  -- a slice of more
+  pub some_more : (q r : Texts Element) (xs ys : List Element) (answer : Result (Unit {0}) Full) → q ≡ with_more xs → used p + (length xs + length ys) ≤ p.capacity → (IsErr answer ↔ (q.capacity < used q + length ys))
+      → OnOk answer (r ≡ with_text q id (text q id ++ ys)) → r ≡ with_more (xs ++ ys)
+  some_more q r xs ys answer wrote room full ok =
+      let used_is : used q ≡ used p + length xs = ap used wrote ∙ more_used xs in
+      let capacity_is : q.capacity ≡ p.capacity = ap (λ (t : Texts Element). t.capacity) wrote in
+      more_more q r xs ys wrote (ok_of answer _ (λ err. let is = full.0 err in omega arith) ok)
 
 pub length-line_of : (indent : ℕ) (cells : List Cell) (height : ℕ) → length (line_of indent cells height) ≡ indent + length cells + 1
 length-line_of indent cells height =

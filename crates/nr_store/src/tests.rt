@@ -215,6 +215,19 @@ fn ends_lines(rt: &impl Abort, store: &mut Store<'_, u8>) {
     store.remove(d);
 }
 
+// Cells are added all at once, or none where they can't be afforded.
+fn adds_cells(rt: &impl Abort, store: &mut Store<'_, u8>) {
+    let d = name(b'd', b'd');
+    let cells = [Cell::blank(); 160];
+    assert!(rt; store.begin_diversion(d).is_ok());
+    assert_eq!(rt; store.add_cells(&cells[..33]), Ok(()));
+    assert_eq!(rt; store.charge(), 48 + 33);
+    assert_eq!(rt; store.add_cells(&cells), Err(StoredBytes));
+    assert_eq!(rt; store.charge(), 48 + 33);
+    assert!(rt; store.end_diversion().is_some());
+    store.remove(d);
+}
+
 #[test]
 fn works(rt: HostRuntime) {
     let mut elements = [Element::Byte(0); 240];
@@ -250,6 +263,7 @@ fn works(rt: HostRuntime) {
     keeps_registers(&rt, &mut store);
     keeps_traps(&rt, &mut store);
     ends_lines(&rt, &mut store);
+    adds_cells(&rt, &mut store);
     diverts(&rt, &mut store);
     keeps_words(&rt, &mut store);
 }

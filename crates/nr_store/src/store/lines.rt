@@ -3,13 +3,16 @@ ghost use Rattle.std.specs.Prelude.{◌≡◌, ◌+◌, ◌∷◌, [], ◌++◌,
 ghost use Rattle.std.specs.Option.{option_map};
 ghost use Rattle.nr_pool.specs.Texts.{IsOpen, text, used, with_text};
 ghost use Rattle.nr_store.specs.declared.element.Element.TheVariants.{Cell as cell_element};
-ghost use Rattle.nr_store.specs.Stored.{afforded, blank_cell, line_of, taken, diverted, diverted_end};
+ghost use Rattle.nr_store.specs.Stored.{added, afforded, blank_cell, line_of, taken, diverted, diverted_end};
 
 use crate::element::{Diversion, Draft, Element};
 use crate::refusal::StoredBytes;
 use crate::store::Store;
 use nr_pool::{Id, Pool};
 use nr_units::cell::Cell;
+
+// How many cells are added to a text at once.
+const BLOCK: usize = 16;
 
 // Adds blanks to a text.
 fn append_blanks(pool: &mut Pool<'_, Element>, id: Id, n: u32)
@@ -22,14 +25,29 @@ fn append_blanks(pool: &mut Pool<'_, Element>, id: Id, n: u32)
     }
 }
 
-// Adds cells to a text.
+// Puts cells in a block as long as they are.
+fn fill(block: &mut [Element], cells: &[Cell])
+    requires { length block.old ≡ length cells.now }
+    ensures { block.new ≡ map cell_element cells.now }
+{
+    for i in 0..cells.len() {
+        block[i] = Element::Cell(cells[i]);
+    }
+}
+
+// Adds cells to a text, a block at a time.
 fn append_cells(pool: &mut Pool<'_, Element>, id: Id, cells: &[Cell])
     requires is_open { IsOpen pool.old id }
     requires room { used pool.old + length cells.now ≤ pool.old.capacity }
     ensures { pool.new ≡ with_text pool.old id (text pool.old id ++ map cell_element cells.now) }
 {
-    for cell in cells {
-        let _ = pool.append(id, Element::Cell(*cell));
+    let mut block = [Element::LineEnd(0); BLOCK];
+    let mut done = 0;
+    while done < cells.len() {
+        let count = (cells.len() - done).min(BLOCK);
+        fill(&mut block[..count], &cells[done..done + count]);
+        let _ = pool.append_slice(id, &block[..count]);
+        done += count;
     }
 }
 
@@ -55,6 +73,24 @@ fn with_line(diversion: Option<Diversion>, cells: usize, height: u32) -> Option<
 }
 
 impl<'a, K: Copy> Store<'a, K> {
+    /// Adds cells to the newest text being built: all of them or, where they can't be afforded, none. Nothing happens where
+    /// none is being built.
+    pub fn add_cells(&mut self, cells: &[Cell]) -> Result<(), StoredBytes>
+        ensures answer { result ≡ afforded (added (map cell_element cells.now) self.old) tt }
+        ensures ok { OnOk result (self.new ≡ added (map cell_element cells.now) self.old) }
+        ensures err { OnErr result (self.new ≡ self.old) }
+    {
+        let Some(draft) = self.drafts.top() else {
+            return Ok(());
+        };
+        let room = (self.stored - self.charge) as usize;
+        if room < cells.len() {
+            return Err(StoredBytes);
+        }
+        append_cells(&mut self.pool, draft.id, cells);
+        self.charge += cells.len() as u32;
+        Ok(())
+    }
     /// Adds a line to the newest text being built: so many blanks, the cells, and a line end of this height in u. It is
     /// checked once, for all of it. A diversion's height and width grow by it. Nothing happens where no text is being
     /// built.

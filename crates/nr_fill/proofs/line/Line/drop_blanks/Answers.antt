@@ -16,7 +16,7 @@ invariant_of-self c =
     let fewer : length (take n last) ≡ n = length-take-le n last (omega arith) in
     let v : WordState = record w { pending = pending_without_point w.pending; blanks = 0 } in
     let needed = needed_dropped w.pending w.blanks w.parted (length last) iw.needed in
-    rw (c.shorten.ensures, c.without_point.ensures, c.saturating_sub-len.ensures, c.last_len.ensures) (is_line_last (take n last) v h (record {
+    rw (c.shorten.ensures, c.drop_point.ensures, c.saturating_sub-len.ensures, c.last_len.ensures) (is_line_last (take n last) v h (record {
       parted_is = iw.parted_is;
       wide_is = iw.wide_is;
       pieces_have_cells = iw.pieces_have_cells;

@@ -11,7 +11,7 @@ use Rattle.nr_fill.proofs.Pendings.{are_small}
 use Rattle.nr_fill.proofs.line.Line.fill_field.Goals as goal
 
 pub invariant_of-self-in_default-pending : goal.invariant_of-self-in_default-pending
-invariant_of-self-in_default-pending c = rw c.clear_title.ensures (is_line_untitled c.self.invariant)
+invariant_of-self-in_default-pending c = let h = rw c.in-Some.is at (is_line_untitled c.self.invariant) in rw c.clear_title.ensures h
 
 pub insert_copies-requires : goal.insert_copies-requires
 insert_copies-requires c =

@@ -1,9 +1,9 @@
-use Rattle.std.proofs.Common.{◌≡◌, ◌+◌, ◌-◌, ◌<◌, [], length, take, ap, ap₂, sym, ◌∙◌, refl, arith}
+use Rattle.std.proofs.Common.{◌≡◌, ◌-◌, [], length, take, ap, sym, ◌∙◌, refl, arith}
 use Rattle.std.proofs.lemmas.Bool.{le-leb}
 use Rattle.std.proofs.lemmas.List.{length-take-le}
 use Rattle.std.proofs.Common.{get_or}
 use Rattle.std.proofs.lemmas.List.{get_or-take}
-use Rattle.nr_fill.specs.Cut.{width, join_width, front_width, hyphen_before}
+use Rattle.nr_fill.specs.Cut.{join_width, front_width}
 use Rattle.nr_fill.specs.Pieces.{Piece}
 use Rattle.nr_fill.specs.declared.piece.Join.TheVariants.{Soft}
 use Rattle.nr_fill.proofs.PiecesOf.{width-first, width-le, front_width-all}

@@ -11,7 +11,7 @@ use Rattle.nr_fill.proofs.Pendings.{inside_at, needed_behind_point}
 use Rattle.nr_fill.proofs.line.Line.hyphenate.Goals as goal
 
 pub invariant_of-self-then-not-is_inside : goal.invariant_of-self-then-not-is_inside
-invariant_of-self-then-not-is_inside c = rw c.clear_title.ensures (is_line_untitled c.self.invariant)
+invariant_of-self-then-not-is_inside c = let h = rw c.in-Some.is at (is_line_untitled c.self.invariant) in rw c.clear_title.ensures h
 
 pub returns-then-not-is_inside : goal.returns-then-not-is_inside
 returns-then-not-is_inside c =
@@ -36,15 +36,8 @@ close-requires-clause-room c =
     let inside = inside_at at w.blanks c.last_len.result w.pending (sym c.is_inside.ensures ∙ c.if-not-is_inside.false) in
     rw c.clear_title.ensures (omega (arith, small.room, small.text, small.parted, small.pieces_are))
 
-pub overflow_add-self-2 : goal.overflow_add-self-2
-overflow_add-self-2 c =
-    let h = rw c.in-Some.is at (is_line_untitled c.self.invariant) in
-    let small = are_small h in
-    let join = c.from.ensures ∙ c.width.ensures in
-    omega (arith, small.widths, small.join)
-
-pub overflow_add-self-3 : goal.overflow_add-self-3
-overflow_add-self-3 c =
+pub overflow_add-word-3 : goal.overflow_add-word-3
+overflow_add-word-3 c =
     let s = c.self.inside in
     let h = rw c.in-Some.is at (is_line_untitled c.self.invariant) in
     let small = are_small h in
@@ -65,7 +58,7 @@ invariant_of-self-2 c =
     let len : c.last_len.result ≡ length s.row.last = c.last_len.ensures ∙ ap (λ (l : Laid). length l.last) c.clear_title.ensures in
     let inside = inside_at at w.blanks c.last_len.result w.pending (sym c.is_inside.ensures ∙ c.if-not-is_inside.false) in
     let width = c.from.ensures ∙ c.width.ensures in
-    let v : WordState = record { join = Soft; pending = w.pending; blanks = w.blanks; parted = w.parted + at; wide = w.wide + c.from.result + at } in
+    let v : WordState = record { join = Soft; pending = w.pending; blanks = w.blanks; parted = w.parted + at; wide = w.wide + (c.from.result + at) } in
     let needed = needed_behind_point w.pending w.blanks v.parted (length s.row.last - at) inside.2 (omega arith) in
     rw (c.close.ensures, c.clear_title.ensures) (is_line_closed v at h (omega arith) inside.0 refl (omega arith) (omega arith) needed)
 

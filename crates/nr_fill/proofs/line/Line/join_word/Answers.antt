@@ -14,7 +14,7 @@ use Rattle.nr_fill.proofs.Pendings.{needed_blanks}
 use Rattle.nr_fill.proofs.line.Line.join_word.Goals as goal
 
 pub invariant_of-self-then-matches : goal.invariant_of-self-then-matches
-invariant_of-self-then-matches c = rw c.clear_title.ensures (is_line_untitled c.self.invariant)
+invariant_of-self-then-matches c = let h = rw c.in-Some.is at (is_line_untitled c.self.invariant) in rw c.clear_title.ensures h
 
 pub open_behind-requires-clause-cells : goal.open_behind-requires-clause-cells
 open_behind-requires-clause-cells c =
@@ -29,10 +29,10 @@ invariant_of-self-2 c =
     let iw = the_word h in
     let w = c.in-Some.word in
     let ps = s.row.pieces in
-    let v : WordState = record { join = c.join_before-join.result; pending = Nothing; blanks = w.blanks; parted = 0; wide = 0 } in
+    let v : WordState = record { join = c.join_before-word.result; pending = Nothing; blanks = w.blanks; parted = 0; wide = 0 } in
     let cells = flat_map (λ (p : Piece). p.cells) (drop s.pieces ps) ++ s.row.last in
     let none : drop s.pieces (take s.pieces ps) ≡ [] = drop_all s.pieces (take s.pieces ps) (omega (arith, length-take s.pieces ps)) in
-    let join_is : c.join_before-join.result ≡ join_before (drop s.pieces ps) w.join = c.join_before-join.ensures ∙ ap (λ (l : Laid). join_before (drop s.pieces l.pieces) w.join) c.clear_title.ensures in
+    let join_is : c.join_before-word.result ≡ join_before (drop s.pieces ps) w.join = c.join_before-word.ensures ∙ ap (λ (l : Laid). join_before (drop s.pieces l.pieces) w.join) c.clear_title.ensures in
     let within = join_before-within (drop s.pieces ps) w.join (All-drop (λ (p : Piece). join_width p.join ≤ 1365) s.pieces ps h.gaps_within) iw.join_within in
     let parted = iw.parted_is in
     let long = length-flat_map (drop s.pieces ps) in

@@ -1,22 +1,21 @@
-use Rattle.std.proofs.Common.{◌≡◌, ◌+◌, ◌++◌, ◌∷◌, [], length, None, ap, ◌∙◌, refl, arith, length-append}
+use Rattle.std.proofs.Common.{◌+◌, ◌++◌, ◌∷◌, [], length, ap, ◌∙◌, arith, length-append}
 use Rattle.nr_fill.specs.Lined.{Lined}
 use Rattle.nr_fill.specs.declared.line.WordState.{WordState}
 use Rattle.nr_fill.specs.Pieces.{text_cells}
 use Rattle.nr_fill.proofs.Lines.{the_word, is_line_last, text_cells-collected_of, no_title_cells}
 use Rattle.nr_fill.proofs.Pendings.{are_small, needed_blanks, needed_one_more}
-use Rattle.nr_fill.specs.TitleStates.{title_of}
 use Rattle.nr_units.specs.Cells.{blank}
 use Rattle.nr_fill.proofs.line.Line.push_blank.Goals as goal
 
-pub overflow_add-self : goal.overflow_add-self
-overflow_add-self c =
+pub overflow_add-word : goal.overflow_add-word
+overflow_add-word c =
     let h = rw c.in-Some.is at c.self.invariant in
     let small = are_small h in
     let blanks = needed_blanks c.in-Some.word.pending c.in-Some.word.blanks c.in-Some.word.parted (length c.self.inside.row.last) small.needed in
     omega (arith, small.parted, small.text, small.small)
 
-pub invariant_of-self-2 : goal.invariant_of-self-2
-invariant_of-self-2 c =
+pub invariant_of-self : goal.invariant_of-self
+invariant_of-self c =
     let s = c.self.inside in
     let h = rw c.in-Some.is at c.self.invariant in
     let iw = the_word h in
@@ -34,9 +33,3 @@ invariant_of-self-2 c =
       join_within = iw.join_within;
       needed = rw longer (needed_one_more w.pending w.blanks w.parted (length s.row.last) iw.needed);
     }) (omega (arith, c.requires.room)))
-
-pub returns : goal.returns
-returns c =
-    let s = c.self.inside in
-    let none : title_of s.title s.row.title ≡ None = ap (λ (v : Lined). v.collected.title) c.self.view_is ∙ c.requires.no_title in
-    rw (c.push.ensures, c.blank.ensures, ← c.self.view_is, c.in-Some.is, none) refl

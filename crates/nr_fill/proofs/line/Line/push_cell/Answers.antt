@@ -16,8 +16,8 @@ overflow_add-n c =
     let len = c.last_len.ensures ∙ ap (λ (l : Laid). length l.last) c.push.ensures in
     omega (arith, length-append c.self.inside.row.last (c.args.cell ∷ []), small.parted, small.text, small.small)
 
-pub invariant_of-self-2 : goal.invariant_of-self-2
-invariant_of-self-2 c =
+pub invariant_of-self : goal.invariant_of-self
+invariant_of-self c =
     let s = c.self.inside in
     let h = rw c.in-Some.is at c.self.invariant in
     let iw = the_word h in
@@ -27,23 +27,23 @@ invariant_of-self-2 c =
     let limit = ap (λ (v : Lined). v.limit) c.self.view_is in
     let title = no_title_cells c.self.invariant (ap (λ (v : Lined). v.collected.title) c.self.view_is ∙ c.requires.no_title) in
     let longer = length-append s.row.last (c.args.cell ∷ []) in
-    let v : WordState = record w { pending = c.behind.result; blanks = 0 } in
+    let v : WordState = record w { pending = c.step_behind.new.self; blanks = 0 } in
     rw c.push.ensures (is_line_last (s.row.last ++ c.args.cell ∷ []) v h (record {
       parted_is = iw.parted_is;
       wide_is = iw.wide_is;
       pieces_have_cells = iw.pieces_have_cells;
       join_within = iw.join_within;
-      needed = rw (c.behind.ensures, longer) (needed_behind c.args.behind (w.parted + c.last_len.result) w.pending w.blanks w.parted (length s.row.last) iw.needed);
+      needed = rw (c.step_behind.ensures, longer) (needed_behind c.args.behind (w.parted + c.last_len.result) w.pending w.blanks w.parted (length s.row.last) iw.needed);
     }) (omega (arith, c.requires.room)))
 
-pub returns : goal.returns
-returns c =
+pub returns-in-Some : goal.returns-in-Some
+returns-in-Some c =
     let s = c.self.inside in
     let h = rw c.in-Some.is at c.self.invariant in
     let iw = the_word h in
     let w = c.in-Some.word in
     let none : title_of s.title s.row.title ≡ None = ap (λ (v : Lined). v.collected.title) c.self.view_is ∙ c.requires.no_title in
     let len = c.last_len.ensures ∙ ap (λ (l : Laid). length l.last) c.push.ensures in
-    let pending_is : c.behind.result ≡ pending_behind c.args.behind (cells_in (drop s.pieces s.row.pieces) + length (s.row.last ++ c.args.cell ∷ [])) w.pending =
-    c.behind.ensures ∙ ap₂ (λ a b. pending_behind c.args.behind (a + b) w.pending) (sym iw.parted_is) len in
+    let pending_is : c.step_behind.new.self ≡ pending_behind c.args.behind (cells_in (drop s.pieces s.row.pieces) + length (s.row.last ++ c.args.cell ∷ [])) w.pending =
+    c.step_behind.ensures ∙ ap₂ (λ a b. pending_behind c.args.behind (a + b) w.pending) (sym iw.parted_is) len in
     rw (c.push.ensures, pending_is, c.ends_sentence-self-inside.ensures, ← c.self.view_is, c.in-Some.is, none) refl

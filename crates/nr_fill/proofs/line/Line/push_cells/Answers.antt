@@ -1,11 +1,10 @@
-use Rattle.std.proofs.Common.{◌≡◌, ◌+◌, ◌++◌, length, take, drop, replicate, None, ap, ap₂, ◌∙◌, refl, arith, length-append}
+use Rattle.std.proofs.Common.{◌≡◌, ◌+◌, ◌++◌, length, take, drop, replicate, ap, ◌∙◌, arith, length-append}
 use Rattle.nr_fill.specs.Lined.{Lined}
 use Rattle.nr_fill.specs.declared.line.WordState.{WordState}
 use Rattle.nr_fill.specs.Pieces.{text_cells}
 use Rattle.nr_fill.proofs.Lines.{the_word, is_line_last, text_cells-collected_of, no_title_cells}
 use Rattle.nr_fill.proofs.Pendings.{needed_none}
-use Rattle.std.proofs.lemmas.List.{length-replicate, take-append-drop, take_all, drop_all, append-nil}
-use Rattle.nr_fill.specs.TitleStates.{title_of}
+use Rattle.std.proofs.lemmas.List.{length-replicate, take-append-drop}
 use Rattle.nr_fill.proofs.line.Line.push_cells.Goals as goal
 
 pub insert_copies-requires-clause-room : goal.insert_copies-requires-clause-room
@@ -16,8 +15,8 @@ insert_copies-requires-clause-room c =
     let limit = ap (λ (v : Lined). v.limit) c.self.view_is in
     omega (arith, c.requires.room, c.self.invariant.room)
 
-pub invariant_of-self-2 : goal.invariant_of-self-2
-invariant_of-self-2 c =
+pub invariant_of-self : goal.invariant_of-self
+invariant_of-self c =
     let s = c.self.inside in
     let h = rw c.in-Some.is at c.self.invariant in
     let iw = the_word h in
@@ -47,13 +46,3 @@ invariant_of-self-2 c =
       join_within = iw.join_within;
       needed = omega arith;
     }) (omega (arith, c.requires.room)))
-
-pub returns : goal.returns
-returns c =
-    let s = c.self.inside in
-    let last = s.row.last in
-    let len = c.last_len-len.ensures in
-    let none : title_of s.title s.row.title ≡ None = ap (λ (v : Lined). v.collected.title) c.self.view_is ∙ c.requires.no_title in
-    let cells_is : take c.last_len-len.result last ++ replicate c.args.n c.args.cell ++ drop c.last_len-len.result last ≡ last ++ replicate c.args.n c.args.cell =
-    ap₂ (λ a b. a ++ replicate c.args.n c.args.cell ++ b) (take_all c.last_len-len.result last (omega arith)) (drop_all c.last_len-len.result last (omega arith)) ∙ append-nil (last ++ replicate c.args.n c.args.cell) in
-    rw (c.insert_copies.ensures, cells_is, c.ends_sentence-self-inside.ensures, ← c.self.view_is, c.in-Some.is, none) refl

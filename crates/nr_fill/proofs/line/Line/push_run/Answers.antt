@@ -1,16 +1,15 @@
-use Rattle.std.proofs.Common.{◌≡◌, ◌++◌, length, map, None, ap, ◌∙◌, refl, arith, length-append}
+use Rattle.std.proofs.Common.{◌++◌, length, map, ap, ◌∙◌, arith, length-append}
 use Rattle.std.proofs.lemmas.List.{length-map}
 use Rattle.nr_fill.specs.Lined.{Lined}
 use Rattle.nr_fill.specs.declared.line.WordState.{WordState}
 use Rattle.nr_fill.specs.Pieces.{text_cells}
 use Rattle.nr_fill.specs.Runs.{run_cell}
-use Rattle.nr_fill.specs.TitleStates.{title_of}
 use Rattle.nr_fill.proofs.Lines.{the_word, is_line_last, text_cells-collected_of, no_title_cells}
 use Rattle.nr_fill.proofs.Pendings.{needed_none, needed_without_point}
 use Rattle.nr_fill.proofs.line.Line.push_run.Goals as goal
 
-pub invariant_of-self-2 : goal.invariant_of-self-2
-invariant_of-self-2 c =
+pub invariant_of-self : goal.invariant_of-self
+invariant_of-self c =
     let s = c.self.inside in
     let h = rw c.in-Some.is at c.self.invariant in
     let iw = the_word h in
@@ -22,21 +21,15 @@ invariant_of-self-2 c =
     let title = no_title_cells c.self.invariant (ap (λ (v : Lined). v.collected.title) c.self.view_is ∙ c.requires.no_title) in
     let many = length-map c.args.bytes.now (run_cell c.args.under) in
     let longer = length-append s.row.last run in
-    let v : WordState = record w { pending = c.without_point.result; blanks = 0 } in
+    let v : WordState = record w { pending = c.drop_point.new.self; blanks = 0 } in
     let needed = needed_without_point w.pending 0 w.parted (length s.row.last) (needed_none w.pending w.blanks w.parted (length s.row.last) iw.needed) in
     rw c.push_run.ensures (is_line_last (s.row.last ++ run) v h (record {
       parted_is = iw.parted_is;
       wide_is = iw.wide_is;
       pieces_have_cells = iw.pieces_have_cells;
       join_within = iw.join_within;
-      needed = rw c.without_point.ensures (omega arith);
+      needed = rw c.drop_point.ensures (omega arith);
     }) (omega (arith, c.requires.room)))
-
-pub returns : goal.returns
-returns c =
-    let s = c.self.inside in
-    let none : title_of s.title s.row.title ≡ None = ap (λ (v : Lined). v.collected.title) c.self.view_is ∙ c.requires.no_title in
-    rw (c.push_run.ensures, c.without_point.ensures, c.ends_sentence-self-inside.ensures, ← c.self.view_is, c.in-Some.is, none) refl
 
 pub push_run-requires-clause-room : goal.push_run-requires-clause-room
 push_run-requires-clause-room c =
