@@ -1,6 +1,7 @@
 -- What is held of a row that goes into a diversion, once more cells came.
-use Rattle.std.proofs.Common.{◌≡◌, ℕ, ◌+◌, ◌-◌, ◌^◌, ◌<◌, min, Bool, true, false, List, [], ◌∷◌, ◌++◌, length, map, replicate, Result, Err, refl, ap, ap₂, sym, ◌∙◌, append_assoc, arith, length-append, inl, inr}
-use Rattle.std.proofs.lemmas.Bool.{cases_lt}
+use Rattle.std.proofs.Common.{◌≡◌, ℕ, ◌+◌, ◌-◌, ◌^◌, ◌<◌, min, Bool, true, false, List, [], ◌∷◌, ◌++◌, length, map, replicate, Result, Err, refl, ap, ap₂, sym, ◌∙◌, append_assoc, subst, arith, length-append, inl, inr}
+use Rattle.std.specs.List.{list_any}
+use Rattle.std.proofs.lemmas.Bool.{cases_lt, or_parts}
 use Rattle.std.proofs.lemmas.List.{append-nil, length-replicate, map-append, replicate-append-replicate, replicate_more}
 use Rattle.nr_units.specs.Cells.{blank, is_blank, trimmed}
 use Rattle.nr_units.specs.declared.cell.Cell.{Cell}
@@ -50,29 +51,50 @@ holds_blank {before} {store} {row} {blanks} {refused} cell now agrees h now_is =
   passed = h.passed;
 }
 
--- the row up to a cell that is no blank
-module _ {before store : Stored Resume} {row : List Cell} {blanks : ℕ} {refused : Bool} (cell : Cell) (differs : is_blank cell ≡ false) (h : HoldsRow before row store blanks refused) where
+-- cells with which a row ends that has no blank to leave out
+pub record EndsRow (cells : List Cell) : Type 0 where
+  pub plain_is : map plain cells ≡ cells
+  pub all_written : (xs : List Cell) → trimmed (xs ++ cells) ≡ xs ++ cells
+
+plain_cells : (cells : List Cell) → list_any is_blank cells ≡ false → map plain cells ≡ cells
+plain_cells [] none = refl
+plain_cells (cell ∷ cells) none =
+    let parts = or_parts (is_blank cell) (list_any is_blank cells) none in
+    ap₂ (λ (x : Cell) (xs : List Cell). x ∷ xs) (plain-some cell parts.0) (plain_cells cells parts.1)
+
+all_written_cells : (cells : List Cell) → 0 < length cells → list_any is_blank cells ≡ false → (xs : List Cell) → trimmed (xs ++ cells) ≡ xs ++ cells
+all_written_cells [] some none xs = absurd (omega arith)
+all_written_cells (cell ∷ []) some none xs = trimmed-some xs cell (or_parts (is_blank cell) false none).0
+all_written_cells (cell ∷ next ∷ cells) some none xs =
+    let parts = or_parts (is_blank cell) (list_any is_blank (next ∷ cells)) none in
+    subst (λ (zs : List Cell). trimmed zs ≡ zs) (append_assoc xs (cell ∷ []) (next ∷ cells)) (all_written_cells (next ∷ cells) (omega arith) parts.1 (xs ++ cell ∷ []))
+
+pub ends_row : (cells : List Cell) → 0 < length cells → list_any is_blank cells ≡ false → EndsRow cells
+ends_row cells some none = record { plain_is = plain_cells cells none; all_written = all_written_cells cells some none }
+
+-- the row up to such cells
+module _ {before store : Stored Resume} {row : List Cell} {blanks : ℕ} {refused : Bool} (cells : List Cell) (ends : EndsRow cells) (h : HoldsRow before row store blanks refused) where
   abbrev pub longer_row : List Cell
-  longer_row = (h.done ++ replicate h.waiting blank) ++ cell ∷ []
+  longer_row = (h.done ++ replicate h.waiting blank) ++ cells
 
-  pub longer_row_is : map plain (row ++ cell ∷ []) ≡ longer_row ++ []
-  longer_row_is = map-append plain row (cell ∷ []) ∙ ap₂ (λ a x. a ++ x ∷ []) h.row_is (plain-some cell differs) ∙ sym (append-nil longer_row)
+  pub longer_row_is : map plain (row ++ cells) ≡ longer_row ++ []
+  longer_row_is = map-append plain row cells ∙ ap₂ (λ a b. a ++ b) h.row_is ends.plain_is ∙ sym (append-nil longer_row)
 
-  length-longer_row : length longer_row ≡ length h.done + h.waiting + 1
-  length-longer_row = omega (arith, length-append (h.done ++ replicate h.waiting blank) (cell ∷ []), length-append h.done (replicate h.waiting blank), length-replicate h.waiting blank)
+  length-longer_row : length longer_row ≡ length h.done + h.waiting + length cells
+  length-longer_row = omega (arith, length-append (h.done ++ replicate h.waiting blank) cells, length-append h.done (replicate h.waiting blank), length-replicate h.waiting blank)
 
-  pub charge_is : charge_of (with_cells longer_row before) ≡ charge_of before + share before.building (length h.done + h.waiting + 1)
+  pub charge_is : charge_of (with_cells longer_row before) ≡ charge_of before + share before.building (length h.done + h.waiting + length cells)
   charge_is = charge_of-with_cells longer_row before ∙ ap (λ n. charge_of before + share before.building n) length-longer_row
 
-  pub holds_refused : (store_now : Stored Resume) (now : ℕ) → before.limit < charge_of (with_cells h.done before) → HoldsRow before (row ++ cell ∷ []) store_now now true
+  pub holds_refused : (store_now : Stored Resume) (now : ℕ) → before.limit < charge_of (with_cells h.done before) → HoldsRow before (row ++ cells) store_now now true
   holds_refused store_now now above = record {
     done = longer_row;
     waiting = 0;
     row_is = longer_row_is;
-    all_written = trimmed-some (h.done ++ replicate h.waiting blank) cell differs;
+    all_written = ends.all_written (h.done ++ replicate h.waiting blank);
     blanks_are = λ e. cc;
     store_is = λ e. cc;
-    passed = λ agrees. let was = charge_of-with_cells h.done before in let more = share-le before.building (length h.done) (length h.done + h.waiting + 1) (omega arith) in let is = charge_is in omega arith;
+    passed = λ agrees. let was = charge_of-with_cells h.done before in let more = share-le before.building (length h.done) (length h.done + h.waiting + length cells) (omega arith) in let is = charge_is in omega arith;
   }
 
 -- where nothing is being built nothing is added
@@ -81,57 +103,57 @@ none_added v xs ys is =
     ap (λ (bs : List Built). let w : Stored Resume = record v { building = on_newest (longer (map elements.Cell xs)) bs } in w) is
     ∙ sym (ap (λ (bs : List Built). let w : Stored Resume = record v { building = on_newest (longer (map elements.Cell ys)) bs } in w) is)
 
--- all blanks that wait were counted, where a cell behind them is afforded
-counted_all : (v : Stored Resume) (bs : List Built) → v.building ≡ bs → (done : List Cell) (blanks waiting : ℕ) (cell : Cell) → blanks ≡ min waiting (2 ^ 64 - 1)
-    → share bs (blanks + 1) < 2 ^ 32 → with_cells (done ++ (replicate blanks blank ++ cell ∷ [])) v ≡ with_cells ((done ++ replicate waiting blank) ++ cell ∷ []) v
-counted_all v [] is done blanks waiting cell counted few = none_added v _ _ is
-counted_all v (b ∷ bs) is done blanks waiting cell counted few =
+-- all blanks that wait were counted, where the cells behind them are afforded
+counted_all : (v : Stored Resume) (bs : List Built) → v.building ≡ bs → (done : List Cell) (blanks waiting : ℕ) (cells : List Cell) → blanks ≡ min waiting (2 ^ 64 - 1)
+    → share bs (blanks + length cells) < 2 ^ 32 → with_cells (done ++ (replicate blanks blank ++ cells)) v ≡ with_cells ((done ++ replicate waiting blank) ++ cells) v
+counted_all v [] is done blanks waiting cells counted few = none_added v _ _ is
+counted_all v (b ∷ bs) is done blanks waiting cells counted few =
     let all : blanks ≡ waiting = omega arith in
-    ap (λ n. with_cells (done ++ (replicate n blank ++ cell ∷ [])) v) all ∙ ap (λ zs. with_cells zs v) (sym (append_assoc done (replicate waiting blank) (cell ∷ [])))
+    ap (λ n. with_cells (done ++ (replicate n blank ++ cells)) v) all ∙ ap (λ zs. with_cells zs v) (sym (append_assoc done (replicate waiting blank) cells))
 
--- a cell that is no blank, where nothing was refused before
-module _ {before store : Stored Resume} {row : List Cell} {blanks : ℕ} (cell : Cell) (differs : is_blank cell ≡ false) (h : HoldsRow before row store blanks false) where
+-- such cells, where nothing was refused before
+module _ {before store : Stored Resume} {row : List Cell} {blanks : ℕ} (cells : List Cell) (ends : EndsRow cells) (h : HoldsRow before row store blanks false) where
   abbrev pub behind : List Cell
-  behind = replicate blanks blank ++ cell ∷ []
+  behind = replicate blanks blank ++ cells
 
   added_is : with_cells behind store ≡ with_cells (h.done ++ behind) before
   added_is = ap (with_cells behind) (h.store_is refl) ∙ with_cells-with_cells h.done behind before
 
-  length-behind : length behind ≡ blanks + 1
-  length-behind = omega (arith, length-append (replicate blanks blank) (cell ∷ []), length-replicate blanks blank)
+  length-behind : length behind ≡ blanks + length cells
+  length-behind = omega (arith, length-append (replicate blanks blank) cells, length-replicate blanks blank)
 
-  charge_behind : charge_of (with_cells behind store) ≡ charge_of before + share before.building (length h.done + (blanks + 1))
+  charge_behind : charge_of (with_cells behind store) ≡ charge_of before + share before.building (length h.done + (blanks + length cells))
   charge_behind = ap charge_of added_is ∙ charge_of-with_cells (h.done ++ behind) before
       ∙ ap (λ n. charge_of before + share before.building n) (length-append h.done behind ∙ ap (λ n. length h.done + n) length-behind)
 
-  pub holds_some : (store_now : Stored Resume) → store_now ≡ with_cells behind store → charge_of (with_cells behind store) < 2 ^ 32 → HoldsRow before (row ++ cell ∷ []) store_now 0 false
+  pub holds_some : (store_now : Stored Resume) → store_now ≡ with_cells behind store → charge_of (with_cells behind store) < 2 ^ 32 → HoldsRow before (row ++ cells) store_now 0 false
   holds_some store_now now_is small = record {
-    done = longer_row cell differs h;
+    done = longer_row cells ends h;
     waiting = 0;
-    row_is = longer_row_is cell differs h;
-    all_written = trimmed-some (h.done ++ replicate h.waiting blank) cell differs;
+    row_is = longer_row_is cells ends h;
+    all_written = ends.all_written (h.done ++ replicate h.waiting blank);
     blanks_are = λ e. refl;
     store_is = λ e.
         let is = charge_behind in
-        let part = share-le before.building (blanks + 1) (length h.done + (blanks + 1)) (omega arith) in
-        now_is ∙ added_is ∙ counted_all before before.building refl h.done blanks h.waiting cell (h.blanks_are refl) (omega arith);
+        let part = share-le before.building (blanks + length cells) (length h.done + (blanks + length cells)) (omega arith) in
+        now_is ∙ added_is ∙ counted_all before before.building refl h.done blanks h.waiting cells (h.blanks_are refl) (omega arith);
     passed = λ agrees. cc;
   }
 
-  pub holds_no_more : (store_now : Stored Resume) (now : ℕ) → store.limit < charge_of (with_cells behind store) → HoldsRow before (row ++ cell ∷ []) store_now now true
+  pub holds_no_more : (store_now : Stored Resume) (now : ℕ) → store.limit < charge_of (with_cells behind store) → HoldsRow before (row ++ cells) store_now now true
   holds_no_more store_now now above = record {
-    done = longer_row cell differs h;
+    done = longer_row cells ends h;
     waiting = 0;
-    row_is = longer_row_is cell differs h;
-    all_written = trimmed-some (h.done ++ replicate h.waiting blank) cell differs;
+    row_is = longer_row_is cells ends h;
+    all_written = ends.all_written (h.done ++ replicate h.waiting blank);
     blanks_are = λ e. cc;
     store_is = λ e. cc;
     passed = λ agrees.
         let is = charge_behind in
-        let all = charge_is cell differs h in
+        let all = charge_is cells ends h in
         let counted = h.blanks_are refl in
         let limit : store.limit ≡ before.limit = ap (λ (v : Stored Resume). v.limit) (h.store_is refl) in
-        let more = share-le before.building (length h.done + (blanks + 1)) (length h.done + h.waiting + 1) (omega arith) in
+        let more = share-le before.building (length h.done + (blanks + length cells)) (length h.done + h.waiting + length cells) (omega arith) in
         omega arith;
   }
 

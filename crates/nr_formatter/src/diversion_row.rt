@@ -1,7 +1,8 @@
-// The row that goes into a diversion, cell by cell. (CSTR 54, section 7.4.)
+// The row that goes into a diversion, word by word. (CSTR 54, section 7.4.)
 ghost use Rattle.std.specs.Prelude.{◌≡◌, ◌<◌, length, ◌^◌, ◌++◌, ◌∷◌, [], List, replicate, OnOk, false, refl};
 ghost use Rattle.std.proofs.Common.{◌∙◌};
-ghost use Rattle.nr_units.specs.Cells.{blank};
+ghost use Rattle.std.specs.List.{list_any};
+ghost use Rattle.nr_units.specs.Cells.{blank, is_blank};
 ghost use Rattle.nr_units.specs.declared.cell.Cell.{Cell as CellValue};
 ghost use Rattle.nr_store.specs.Stored.{Stored, afforded, charge_of, diverted};
 ghost use Rattle.nr_fill.specs.Pieces.{without_title};
@@ -30,20 +31,64 @@ pub(crate) struct DiversionRow<'b, 'a> {
     refused: bool,
 }
 
-/// Adds so many blanks and a cell behind them, and tells what the store is charged then.
-fn add_behind(store: &mut Store<'_, Resume>, blanks: usize, cell: Cell) -> Result<u32, StoredBytes>
-    ensures result { result ≡ afforded (with_cells (replicate blanks blank ++ cell ∷ []) store.old) (charge_of (with_cells (replicate blanks blank ++ cell ∷ []) store.old)) }
-    ensures ok { OnOk result (store.new ≡ with_cells (replicate blanks blank ++ cell ∷ []) store.old) }
-    ensures small { OnOk result (charge_of (with_cells (replicate blanks blank ++ cell ∷ []) store.old) < 2 ^ 32) }
+/// Whether one of the cells is a blank.
+fn has_blank(cells: &[Cell]) -> bool
+    ensures { result ≡ list_any is_blank cells.now }
+{
+    for cell in cells {
+        if cell.byte == b' ' {
+            return true;
+        }
+    }
+    false
+}
+
+/// Adds so many blanks and cells behind them, and tells what the store is charged then.
+fn add_behind(
+    store: &mut Store<'_, Resume>,
+    blanks: usize,
+    cells: &[Cell],
+) -> Result<u32, StoredBytes>
+    ensures result { result ≡ afforded (with_cells (replicate blanks blank ++ cells.now) store.old) (charge_of (with_cells (replicate blanks blank ++ cells.now) store.old)) }
+    ensures ok { OnOk result (store.new ≡ with_cells (replicate blanks blank ++ cells.now) store.old) }
+    ensures small { OnOk result (charge_of (with_cells (replicate blanks blank ++ cells.now) store.old) < 2 ^ 32) }
 {
     for _blank in 0..blanks {
         store.add(Element::Cell(Cell::blank()))?;
     }
-    store.add(Element::Cell(cell))?;
+    store.add_cells(cells)?;
     Ok(store.charge())
 }
 
+/// Adds the cells one after another.
+fn push_each(row: &mut DiversionRow<'_, '_>, cells: &[Cell])
+    ensures same_reference { row.new.store.ghost_name ≡ row.old.store.ghost_name }
+    ensures charge { row.new.charge ≡ row.old.charge }
+    ensures adds { AddsToDiversion row.old.store.now row.old.blanks row.old.refused cells.now row.new.store.now row.new.blanks row.new.refused }
+{
+    for cell in cells {
+        row.push(*cell);
+    }
+}
+
 impl<'b, 'a> DiversionRow<'b, 'a> {
+    /// Adds cells, of which none is a blank, behind the blanks that wait.
+    fn add_written(&mut self, cells: &[Cell])
+        requires some { 0 < length cells.now }
+        requires no_blank { list_any is_blank cells.now ≡ false }
+        ensures same_reference { self.new.store.ghost_name ≡ self.old.store.ghost_name }
+        ensures charge { self.new.charge ≡ self.old.charge }
+        ensures adds { AddsToDiversion self.old.store.now self.old.blanks self.old.refused cells.now self.new.store.now self.new.blanks self.new.refused }
+    {
+        if self.refused {
+            return;
+        }
+        match add_behind(self.store, self.blanks, cells) {
+            Ok(_charge) => self.blanks = 0,
+            Err(StoredBytes) => self.refused = true,
+        }
+    }
+
     /// The row ends as a line of this height, in u.
     pub(crate) fn end(&mut self, height: u32) -> Result<(), StoredBytes>
         ensures same_reference { self.new.store.ghost_name ≡ self.old.store.ghost_name }
@@ -70,19 +115,15 @@ impl CellSink for DiversionRow<'_, '_> {
             self.blanks = self.blanks.saturating_add(1);
             return;
         }
-        if self.refused {
-            return;
-        }
-        match add_behind(self.store, self.blanks, cell) {
-            Ok(_charge) => self.blanks = 0,
-            Err(StoredBytes) => self.refused = true,
-        }
+        self.add_written(&[cell]);
     }
 
     fn extend(&mut self, cells: &[Cell]) {
-        for cell in cells {
-            self.push(*cell);
+        if cells.is_empty() || has_blank(cells) {
+            push_each(self, cells);
+            return;
         }
+        self.add_written(cells);
     }
 
     fn blanks(&mut self, n: usize) {

@@ -2,12 +2,12 @@ use Rattle.std.proofs.Common.{List, take, sym, ◌∙◌, subst}
 use Rattle.std.proofs.lemmas.List.{take_more, take_all}
 use Rattle.nr_units.specs.declared.cell.Cell.{Cell}
 use Rattle.nr_formatter.specs.DiversionRows.{AddsToDiversion, AddsToDiversion-both}
-use Rattle.nr_formatter.proofs.diversion_row.DiversionRowCellSink.extend.Goals as goal
+use Rattle.nr_formatter.proofs.diversion_row.push_each.Goals as goal
 
 pub loop-cell-preserved : goal.loop-cell-preserved
 loop-cell-preserved c =
-    let old = c.args.self.now in
-    let now = c.loop-cell.self in
+    let old = c.args.row.now in
+    let now = c.loop-cell.row in
     let new = c.push.new.self in
     let i = c.loop-cell.cell-index in
     let inv = c.loop-cell.invariant in
@@ -20,10 +20,11 @@ loop-cell-preserved c =
 
 pub returns : goal.returns
 returns c =
-    let old = c.args.self.now in
-    let now = c.loop-cell.self in
-    let inv = c.loop-cell.invariant in (
-      inv.same,
-      inv.charge,
-      subst (λ (zs : List Cell). AddsToDiversion old.store.now old.blanks old.refused zs now.store.now now.blanks now.refused) (take_all c.loop-cell.cell-index c.args.cells.now c.loop-cell-test.false) inv.adds,
-    )
+    let old = c.args.row.now in
+    let now = c.loop-cell.row in
+    let inv = c.loop-cell.invariant in
+    record {
+      same_reference = inv.same;
+      charge = inv.charge;
+      adds = subst (λ (zs : List Cell). AddsToDiversion old.store.now old.blanks old.refused zs now.store.now now.blanks now.refused) (take_all c.loop-cell.cell-index c.args.cells.now c.loop-cell-test.false) inv.adds;
+    }
