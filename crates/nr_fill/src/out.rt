@@ -98,7 +98,10 @@ impl CellSink for Out<'_> {
     #[inline]
     fn push(&mut self, cell: Cell) {
         let one = [cell];
-        self.extend(&one);
+        let kept = one.len().min(self.cells.room() - self.cells.len());
+        self.cells.extend_copies(cell, kept);
+        self.written = written_behind(self.written, self.count, written_len(&one));
+        self.count = self.count.saturating_add(one.len());
     }
 
     #[inline]

@@ -11,7 +11,7 @@ use Rattle.nr_reading.specs.Copying.{offer, raw_offer}
 use Rattle.nr_reading.specs.declared.front.Front.TheVariants as fronts
 use Rattle.nr_reading.specs.declared.mode.Escape.TheVariants as escapes
 use Rattle.nr_reading.specs.Modes.{is_direct, reads_arguments}
-use Rattle.nr_reading.specs.Meeting.{copies, copies_at, offer_by, reads_directly, silent, escaping, meet, met_copied, met_directly, answered, hear_by, meet_by, offered, offer_to}
+use Rattle.nr_reading.specs.Meeting.{reads_plainly, reads_plainly_at, meet, met_copied, answered, hear_by}
 use Rattle.nr_reading.specs.Nesting.{is_none}
 use Rattle.nr_reading.specs.Reading.{read, direct}
 
@@ -23,14 +23,13 @@ pub hear_ask : (asks : List Ask) (a : Ask) (front : Bool) (b : ℕ) (h : Half) �
 hear_ask [] a front b h some = let wrong : ⊥ = cc in absurd wrong
 hear_ask (n ∷ asks) a front b h some = let same : n ≡ a = cc in ap (λ (x : Ask). answered front (answer b h.signs.long x) h) same
 
--- ---- in copy mode
+-- ---- where no part of an escape is half read
 
-parts : (asks : List Ask) (e : Escape) (direct : Bool) → copies_at asks e direct ≡ true → (asks ≡ []) × (e ≡ escapes.Plain) × (direct ≡ false)
-parts [] escapes.Plain false is = (refl, refl, refl)
-parts [] escapes.Plain true is = absurd (let wrong : false ≡ true = is in cc)
-parts [] escapes.Begun direct is = absurd (let wrong : false ≡ true = is in cc)
-parts [] escapes.Comment direct is = absurd (let wrong : false ≡ true = is in cc)
-parts (a ∷ asks) e direct is = absurd (let wrong : false ≡ true = is in cc)
+parts : (asks : List Ask) (e : Escape) → reads_plainly_at asks e ≡ true → (asks ≡ []) × (e ≡ escapes.Plain)
+parts [] escapes.Plain is = (refl, refl)
+parts [] escapes.Begun is = absurd (let wrong : false ≡ true = is in cc)
+parts [] escapes.Comment is = absurd (let wrong : false ≡ true = is in cc)
+parts (a ∷ asks) e is = absurd (let wrong : false ≡ true = is in cc)
 
-pub meet-copied : (b : ℕ) (h : Half) → copies h ≡ true → (b == 92) ≡ false → meet (fronts.Byte b) h ≡ met_copied true (read b h.signs h.notes h.reading) h
-meet-copied b h is plain = let all = parts h.asks h.reading.escape (is_direct h.reading.mode) is in rw (all.0, all.1, all.2, plain) refl
+pub meet-copied : (b : ℕ) (h : Half) → reads_plainly h ≡ true → is_direct h.reading.mode ≡ false → (b == 92) ≡ false → meet (fronts.Byte b) h ≡ met_copied true (read b h.signs h.notes h.reading) h
+meet-copied b h is copied plain = let all = parts h.asks h.reading.escape is in rw (all.0, all.1, copied, plain) refl

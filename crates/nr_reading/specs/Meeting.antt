@@ -180,10 +180,10 @@ offer_by (a ∷ asks) f h = offer_to a.kind f h.reading.escape
 abbrev pub reads_directly : Half → Bool
 reads_directly h = is_none h.asks && is_direct h.reading.mode
 
--- the next item is read in copy mode, behind no part of an escape
-abbrev pub copies_at : List Ask → Escape → Bool → Bool
-copies_at [] escapes.Plain false = true
-copies_at asks e direct = false
+-- no part of an escape is half read
+abbrev pub reads_plainly_at : List Ask → Escape → Bool
+reads_plainly_at [] escapes.Plain = true
+reads_plainly_at asks e = false
 
-abbrev pub copies : Half → Bool
-copies h = copies_at h.asks h.reading.escape (is_direct h.reading.mode)
+abbrev pub reads_plainly : Half → Bool
+reads_plainly h = reads_plainly_at h.asks h.reading.escape

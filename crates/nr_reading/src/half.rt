@@ -10,7 +10,7 @@ use super::event::Event;
 use super::front::Front;
 use super::mode::{Due, Escape, Mode, Reading, Signs};
 use super::notes::Notes;
-use super::reader::{direct, read, read_over};
+use super::reader::{direct, read, read_over, unescaped};
 use super::step::Jot;
 use nr_units::Name;
 
@@ -61,7 +61,8 @@ impl Half {
     ghost use Rattle.nr_reading.specs.Rereading.{is_rereading};
     ghost use Rattle.nr_reading.specs.Spelling.{name_of};
     ghost use Rattle.nr_reading.specs.Steps.{note_of};
-    ghost use Rattle.nr_reading.specs.Meeting.{asking, too_deep, beginning, settled, replaced, finished, argued, longer, answered, asked_by, noted_in, met_directly, met_copied, hear_by, over_by, escaping, silent, offered, meet_by, met, copies, offer_by, reads_directly};
+    ghost use Rattle.nr_reading.specs.Meeting.{asking, too_deep, beginning, settled, replaced, finished, argued, longer, answered, asked_by, noted_in, met_directly, met_copied, hear_by, over_by, escaping, silent, offered, meet_by, met, offer_by, reads_directly, reads_plainly};
+    ghost use Rattle.nr_reading.specs.Modes.{is_direct};
     ghost use Rattle.nr_reading.specs.declared.front.Front.TheVariants as fronts;
     ghost use Rattle.nr_reading.specs.Weights.{PaysFor};
 
@@ -287,30 +288,58 @@ impl Half {
         escape.offer(front, kind.reads_argument())
     }
 
-    // The item in front, in copy mode.
+    // The item in front, whatever it is.
     #[inline(never)]
-    fn meet_copied(&mut self, front: Front) -> Seen
-        requires { reads_directly self.old ≡ false }
+    fn meet_item(&mut self, front: Front) -> Seen
         ensures { met self.new result ≡ meet front self.old }
     {
-        let offer = self.offer(front);
-        self.offered(offer)
+        if !self.reads_directly() {
+            let offer = self.offer(front);
+            return self.offered(offer);
+        }
+        let said = direct(front, self.signs, &mut self.reading);
+        self.note(said.note);
+        Seen {
+            event: said.event,
+            takes: said.takes,
+        }
     }
 
-    // Whether the next item is read in copy mode, behind no part of an escape.
-    #[inline(always)]
-    fn copies(&self) -> bool
-        ensures { result ≡ copies self.now }
+    // Whether items are read as they are, behind no escape whose argument is half read.
+    fn reads_directly(&self) -> bool
+        ensures { result ≡ reads_directly self.now }
     {
-        matches!(self.reading.escape, Escape::Plain)
-            && !self.reading.mode.is_direct()
-            && self.asks.is_empty()
+        self.asks.is_empty() && self.reading.mode.is_direct()
     }
 
-    // A byte there.
+    // Whether no part of an escape is half read.
+    #[inline(always)]
+    fn reads_plainly(&self) -> bool
+        ensures { result ≡ reads_plainly self.now }
+    {
+        matches!(self.reading.escape, Escape::Plain) && self.asks.is_empty()
+    }
+
+    // An item there, where items are read as they are.
+    #[inline(always)]
+    fn meet_unescaped(&mut self, front: Front) -> Seen
+        requires plain { reads_plainly self.old ≡ true }
+        requires direct { is_direct self.old.reading.mode ≡ true }
+        ensures { met self.new result ≡ meet front self.old }
+    {
+        let said = unescaped(front, self.signs, &mut self.reading);
+        self.note(said.note);
+        Seen {
+            event: said.event,
+            takes: said.takes,
+        }
+    }
+
+    // A byte there, in copy mode.
     #[inline(always)]
     fn copy_byte(&mut self, byte: u8) -> Seen
-        requires { copies self.old ≡ true }
+        requires plain { reads_plainly self.old ≡ true }
+        requires copied { is_direct self.old.reading.mode ≡ false }
         ensures { met self.new result ≡ meet (fronts.Byte byte) self.old }
     {
         if byte == b'\\' {
@@ -325,42 +354,21 @@ impl Half {
         self.settle(said.takes, true, said.event)
     }
 
-    // The item in front where items are read as they are, behind no escape whose argument is half read.
-    #[inline(always)]
-    fn meet_directly(&mut self, front: Front) -> Seen
-        requires { reads_directly self.old ≡ true }
-        ensures { met self.new result ≡ meet front self.old }
-    {
-        let said = direct(front, self.signs, &mut self.reading);
-        self.note(said.note);
-        Seen {
-            event: said.event,
-            takes: said.takes,
-        }
-    }
-
-    // Whether items are read as they are, behind no escape whose argument is half read.
-    #[inline(always)]
-    fn reads_directly(&self) -> bool
-        ensures { result ≡ reads_directly self.now }
-    {
-        self.asks.is_empty() && self.reading.mode.is_direct()
-    }
-
     /// What the item in front does.
     #[inline]
     pub fn meet(&mut self, front: Front) -> Seen
         ensures meets { met self.new result ≡ meet front self.old }
         ensures pays { self.old.reading.due ≡ Due.Look → PaysFor front self.old self.new result }
     {
-        if self.reads_directly() {
-            return self.meet_directly(front);
+        if !self.reads_plainly() {
+            return self.meet_item(front.anew()).anew();
         }
-        if let Front::Byte(byte) = front
-            && self.copies()
-        {
-            return self.copy_byte(byte);
+        if self.reading.mode.is_direct() {
+            return self.meet_unescaped(front);
         }
-        self.meet_copied(front.anew()).anew()
+        match front {
+            Front::Byte(byte) => self.copy_byte(byte),
+            _ => self.meet_item(front.anew()).anew(),
+        }
     }
 }

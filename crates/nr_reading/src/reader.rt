@@ -1,7 +1,6 @@
 //! What the reader does with an item, by its mode.
 ghost use Rattle.std.specs.Prelude.{◌≡◌};
 ghost use Rattle.nr_reading.specs.Steps.{joined};
-ghost use Rattle.nr_reading.specs.declared.mode.Escape.TheVariants as escapes;
 ghost use Rattle.nr_reading.specs.Reading.{read, read_over, unescaped, behind_backslash, ends_comment, direct};
 
 use super::conditions::{read_condition, read_first, read_number, read_second};
@@ -65,9 +64,9 @@ pub(crate) fn read_over(signs: Signs, notes: &Notes, reading: &mut Reading) -> S
     }
 }
 
-// An item as it is.
+/// An item as it is.
 #[inline(always)]
-fn unescaped(front: Front, signs: Signs, reading: &mut Reading) -> Said
+pub(crate) fn unescaped(front: Front, signs: Signs, reading: &mut Reading) -> Said
     ensures { joined reading.new result ≡ unescaped reading.old.mode front signs reading.old }
 {
     match reading.mode {
@@ -85,7 +84,6 @@ fn unescaped(front: Front, signs: Signs, reading: &mut Reading) -> Said
 }
 
 // An item behind a `\`.
-#[inline(never)]
 fn behind_backslash(front: Front, signs: Signs, reading: &mut Reading) -> Said
     ensures { joined reading.new result ≡ behind_backslash reading.old.mode front signs reading.old }
 {
@@ -107,27 +105,19 @@ fn ends_comment(front: Front) -> bool
     }
 }
 
-// An item behind `\"`.
-#[inline(never)]
-fn in_comment(front: Front, signs: Signs, reading: &mut Reading) -> Said
-    requires { reading.old.escape ≡ escapes.Comment }
-    ensures { joined reading.new result ≡ direct front signs reading.old }
-{
-    if ends_comment(front) {
-        reading.escape = Escape::Plain;
-        return unescaped(front, signs, reading);
-    }
-    go()
-}
-
 /// An item where items are read as they are.
-#[inline(always)]
 pub(crate) fn direct(front: Front, signs: Signs, reading: &mut Reading) -> Said
     ensures { joined reading.new result ≡ direct front signs reading.old }
 {
     match reading.escape {
         Escape::Plain => unescaped(front, signs, reading),
-        Escape::Begun => behind_backslash(front.anew(), signs, reading).anew(),
-        Escape::Comment => in_comment(front.anew(), signs, reading).anew(),
+        Escape::Begun => behind_backslash(front, signs, reading),
+        Escape::Comment => {
+            if ends_comment(front) {
+                reading.escape = Escape::Plain;
+                return unescaped(front, signs, reading);
+            }
+            go()
+        }
     }
 }

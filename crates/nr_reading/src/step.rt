@@ -43,20 +43,6 @@ pub(crate) struct Said {
     pub(crate) takes: bool,
 }
 
-impl Said {
-    /// The same, put together anew: what a call answers lies in memory, and this need not.
-    #[inline(always)]
-    pub(crate) fn anew(self) -> Said
-        ensures { result ≡ self }
-    {
-        Said {
-            note: self.note,
-            event: self.event,
-            takes: self.takes,
-        }
-    }
-}
-
 /// The item is taken.
 #[inline(always)]
 pub(crate) fn go() -> Said

@@ -8,26 +8,29 @@ use Rattle.nr_reading.specs.Weights.{PaysFor, worth_of_front}
 use Rattle.nr_reading.proofs.Asked.{Meets}
 use Rattle.nr_reading.proofs.Paying.{meet_meets}
 use Rattle.nr_reading.proofs.half.Half.meet.Goals as goal
-use Rattle.nr_reading.proofs.half.Half.meet.Goals.{in_default-via-in-Mark-1, in_default-via-in-Byte+else-copies}
 
 paid : (f : Front) (h k : Half) (seen : Seen) → met k seen ≡ meet f h → h.reading.due ≡ dues.Look → PaysFor f h k seen
 paid f h k seen is look = let m : Meets h (worth_of_front f) (met k seen) = subst (λ (x : Met). Meets h (worth_of_front f) x) (sym is) (meet_meets f h look) in record { pays = m.pays; tells = m.tells }
 
-pub returns-then-reads_directly-clause-pays : goal.returns-then-reads_directly-clause-pays
-returns-then-reads_directly-clause-pays c = paid c.args.front c.args.self.now _ _ c.meet_directly.ensures
+-- what a function that meets any item answers, its item and its answer put together anew
+again : (f g : Front) (h k : Half) (seen now : Seen) → now ≡ seen → met k seen ≡ meet g h → g ≡ f → met k now ≡ meet f h
+again f g h k seen now same is front = ap (λ (s : Seen). met k s) same ∙ is ∙ ap (λ (x : Front). meet x h) front
 
-pub returns-clause-pays : goal.returns-clause-pays
-returns-clause-pays c =
+pub returns-then-not-reads_plainly-clause-pays : goal.returns-then-not-reads_plainly-clause-pays
+returns-then-not-reads_plainly-clause-pays c =
+    let h = c.args.self.now in
+    paid c.args.front h _ _ (again c.args.front _ h _ _ _ c.anew-then-not-reads_plainly.ensures c.meet_item.ensures c.anew.ensures)
+
+pub returns-then-is_direct-clause-pays : goal.returns-then-is_direct-clause-pays
+returns-then-is_direct-clause-pays c = paid c.args.front c.args.self.now _ _ c.meet_unescaped.ensures
+
+pub returns-in-Byte-clause-pays : goal.returns-in-Byte-clause-pays
+returns-in-Byte-clause-pays c =
     let h = c.args.self.now in
     paid c.args.front h _ _ (c.copy_byte.ensures ∙ ap (λ (f : Front). meet f h) (sym c.in-Byte.is))
 
-pub returns-2-clause-meets : goal.returns-2-clause-meets
-returns-2-clause-meets c =
+pub returns-in_default : goal.returns-in_default
+returns-in_default c =
     let h = c.args.self.now in
-    let same : c.in_default.front ≡ c.args.front = elim c.in_default.branch [ in_default-via-in-Mark-1 w ↦ w.front-is | in_default-via-in-Byte+else-copies w ↦ w.front-is ∙ sym w.in-Byte.is ] in
-    ap (λ (seen : Seen). met c.meet_copied.new.self seen) c.anew-2.ensures
-    ∙ c.meet_copied.ensures
-    ∙ ap (λ (f : Front). meet f h) (c.anew.ensures ∙ same)
-
-pub returns-2-clause-pays : goal.returns-2-clause-pays
-returns-2-clause-pays c = paid c.args.front c.args.self.now _ _ (returns-2-clause-meets c)
+    let is = again c.args.front _ h _ _ _ c.anew-in_default-2.ensures c.meet_item-in_default.ensures c.anew-in_default.ensures in
+    record { meets = is; pays = paid c.args.front h _ _ is }
