@@ -1,7 +1,7 @@
 -- What is added to a line's measure.
-use Rattle.std.proofs.Common.{◌≡◌, ℕ, ◌+◌, ◌-◌, ◌≤◌, ◌<◌, List, [], ◌∷◌, ◌++◌, length, take, drop, replicate, sum_by, Option, None, Some, Result, Ok, Err, false, refl, ap, arith, inl, inr, length-append, eqb}
+use Rattle.std.proofs.Common.{◌≡◌, ℕ, ◌+◌, ◌-◌, ◌≤◌, ◌<◌, List, [], ◌∷◌, ◌++◌, length, take, drop, replicate, map, sum_by, Bool, Option, None, Some, Result, Ok, Err, false, refl, ap, arith, inl, inr, length-append, eqb}
 use Rattle.std.proofs.lemmas.Bool.{lt-ltb, le-ltb, ne_eqb, cases_lt}
-use Rattle.std.proofs.lemmas.List.{length-replicate, take-append-drop}
+use Rattle.std.proofs.lemmas.List.{length-map, length-replicate, take-append-drop}
 use Rattle.std.proofs.lemmas.List.Sums.{sum_by_push, sum_by-append, sum_by-cons}
 use Rattle.nr_units.specs.Cells.{blank}
 use Rattle.nr_units.specs.declared.cell.Cell.{Cell}
@@ -14,7 +14,9 @@ use Rattle.nr_settings.specs.declared.stops.StopKind.{StopKind}
 use Rattle.std.specs.Option.{option_map}
 use Rattle.nr_fill.specs.Lined.{Lined, afforded}
 use Rattle.nr_fill.specs.Pieces.{Piece, Word, Collected, cells_in, word_or_new, with_word, in_word, word_length, word_cells, word_pieces, text_cells, line_cells, ended, ended_at, add_cell, add_blank, add_cells, joined, joined_at, end_word}
+use Rattle.nr_fill.specs.Runs.{add_run, run_cell}
 use Rattle.nr_fill.proofs.PiecesOf.{length-flat_map}
+use Rattle.nr_fill.proofs.RunLemmas.{add_run-run}
 use Rattle.std.specs.List.{flat_map}
 use Rattle.nr_fill.specs.Tabs.{with_field, field_fill, pending_fill, fill_count, filled_by, with_field_filled}
 
@@ -55,6 +57,17 @@ line_cells-add_cell m b x c =
     let same = word_length-ended_at w.pending w in
     let longer = length-append (ended w).last.cells (x ∷ []) in
     omega arith
+
+-- a run is as many cells more as it has bytes
+pub measured_run : (m : Margins) (under : Bool) (bs : List ℕ) (c : Collected) → 0 < length bs
+    → (text_cells (add_run m under bs c) ≡ text_cells c + length bs) × (line_cells (add_run m under bs c) ≡ text_cells c + length bs)
+measured_run m under bs c some =
+    let w = word_or_new c.gap c.word in
+    let new = word_length-new c.gap c.word in
+    let same = word_length-ended_at w.pending w in
+    let longer = length-append (ended w).last.cells (map (run_cell under) bs) in
+    let many = length-map bs (run_cell under) in
+    rw (add_run-run m under bs c some) (omega arith, omega arith)
 
 pub line_cells-add_blank : (m : Margins) (c : Collected) → line_cells (add_blank m c) ≡ text_cells c + 1
 line_cells-add_blank m c =

@@ -1,6 +1,6 @@
 -- Items of a slice between two places.
 use Rattle.std.proofs.Common.{◌≡◌, ℕ, ◌+◌, ◌-◌, ◌≤◌, List, ◌++◌, length, take, drop, replicate, ap, ap₂, sym, ◌∙◌, arith, length-drop, length-append, append_assoc}
-use Rattle.std.proofs.Math.Seq.{paste}
+use Rattle.std.proofs.Math.Seq.{paste, take-append-add}
 use Rattle.std.proofs.lemmas.List.{take-take, take-append-le, take_at, drop_at, length-take-le, drop-drop, drop-append-le, drop-take, length-replicate}
 use Rattle.std.proofs.lemmas.List.Edits.{take-paste}
 use Rattle.std.proofs.lemmas.Slice.{between_is}
@@ -32,6 +32,18 @@ extended xs ys start end n h k long =
     ap (λ zs. drop start (take (end + n) zs)) (sym (append_assoc (take end xs) ys (drop n (drop end xs))))
     ∙ ap (drop start) (take_at (take end xs ++ ys) (drop n (drop end xs)) (end + n) (omega (arith, length-append (take end xs) ys)))
     ∙ drop-append-le start (take end xs) ys (omega arith)
+
+-- a front of them stands behind the others
+pub extended_front : {X : Type 0} (xs ys : List X) (start end n k : ℕ) → start ≤ end → end + n ≤ length xs → length ys ≡ n → k ≤ n
+    → drop start (take (end + k) (put_mid end n xs ys)) ≡ drop start (take end xs) ++ take k ys
+extended_front xs ys start end n k ordered free long fewer =
+    let items = drop start (take end xs) in
+    let size : length items ≡ end - start = length_between xs start end (omega arith) in
+    let at : start + (length items + k) ≡ end + k = omega arith in
+    ap (λ m. drop start (take m (put_mid end n xs ys))) (sym at)
+    ∙ sym (take_behind (put_mid end n xs ys) start (length items + k) (end + n) (omega arith))
+    ∙ ap (take (length items + k)) (extended xs ys start end n ordered free long)
+    ∙ take-append-add items ys k
 
 -- n items stand at a place, and what stood there behind them
 pub inserted : {X : Type 0} (xs ys : List X) (start place end n : ℕ) (y : X) → start + place ≤ end → end + n ≤ length xs

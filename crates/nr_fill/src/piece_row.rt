@@ -1,12 +1,12 @@
 // Pieces one after another in two lent slices, behind them the cells of one that has no end yet, and those of a title.
-ghost use Rattle.std.specs.Prelude.{◌≡◌, ℕ, ◌+◌, ◌-◌, ◌<◌, ◌≤◌, ◌^◌, List, [], ◌∷◌, ◌++◌, length, map, min, take, drop, replicate};
+ghost use Rattle.std.specs.Prelude.{◌≡◌, ℕ, ◌+◌, ◌-◌, ◌<◌, ◌≤◌, ◌^◌, List, [], ◌∷◌, ◌++◌, length, map, min, take, drop, replicate, slice_index, All};
 ghost use Rattle.std.specs.List.{flat_map};
 ghost use Rattle.nr_units.specs.declared.cell.Cell.{Cell as CellValue};
 ghost use Rattle.nr_fill.specs.Cut.{cut, hyphen_before, pieces_width};
 ghost use Rattle.nr_fill.specs.Extents.{IsExtent};
 ghost use Rattle.nr_fill.specs.Laid.{read_cells};
 ghost use Rattle.nr_fill.specs.Pieces.{Piece, cells_in, join_before};
-ghost use Rattle.nr_fill.specs.Runs.{run_cell};
+ghost use Rattle.nr_fill.specs.Runs.{IsPlain, run_cell};
 ghost use Rattle.nr_fill.specs.Spreading.{cells_in_line, gaps};
 
 use crate::cells::CellSink;
@@ -106,15 +106,20 @@ impl<'a> PieceRow<'a> {
         self.read += 1;
     }
 
-    /// Puts a cell for each of these bytes behind the last piece.
+    /// Puts the cells of these bytes behind the last piece, up to the first that is not plain, and tells how many these
+    /// are.
     #[inline]
-    pub(crate) fn push_run(&mut self, under: bool, bytes: &[u8])
+    pub(crate) fn push_plain(&mut self, under: bool, bytes: &[u8]) -> usize
         requires room { read_cells self.old + length bytes.now ≤ self.old.room }
         requires no_title { self.old.title ≡ [] }
-        ensures { self.new ≡ record self.old { last = self.old.last ++ map (run_cell under) bytes.now } }
+        ensures front { result ≤ length bytes.now }
+        ensures plain { All IsPlain (take result bytes.now) }
+        ensures stops { result < length bytes.now → ¬ IsPlain (slice_index bytes.now result) }
+        ensures cells { self.new ≡ record self.old { last = self.old.last ++ map (run_cell under) (take result bytes.now) } }
     {
-        self.cells.push_run(under, bytes);
-        self.read += bytes.len();
+        let count = self.cells.push_plain(under, bytes);
+        self.read += count;
+        count
     }
 
     /// Puts n copies of a cell in, so many cells behind the last piece.

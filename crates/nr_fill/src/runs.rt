@@ -1,5 +1,5 @@
 // Runs of bytes that stand for themselves, read in one call.
-ghost use Rattle.std.specs.Prelude.{◌≡◌, ◌+◌, ◌-◌, ◌<◌, ◌≤◌, ◌↔◌, IsTrue, length, take, slice_index, All, None};
+ghost use Rattle.std.specs.Prelude.{◌≡◌, ◌+◌, ◌-◌, ◌<◌, ◌≤◌, ◌↔◌, IsTrue, length, map, take, slice_index, All, None, is_none, false};
 ghost use Rattle.nr_fill.specs.Pieces.{ends_sentence, in_word, line_cells, text_cells};
 ghost use Rattle.nr_fill.specs.Runs.{IsPlain, add_run, run_behind, run_cell};
 
@@ -19,26 +19,29 @@ fn is_plain(byte: u8) -> bool
     byte > b' ' && byte != b'-' && byte != b'\\'
 }
 
-/// How many bytes there are before the first that is not plain.
+/// Puts the cells of these bytes there, up to the first that is not plain, and tells how many these are.
 #[inline]
-fn plain_count(bytes: &[u8]) -> usize
+pub(crate) fn set_plain(slots: &mut [Cell], under: bool, bytes: &[u8]) -> usize
+    requires { length bytes.now ≤ length slots.old }
     ensures front { result ≤ length bytes.now }
     ensures plain { All IsPlain (take result bytes.now) }
     ensures stops { result < length bytes.now → ¬ IsPlain (slice_index bytes.now result) }
+    ensures cells { take result slots.new ≡ map (run_cell under) (take result bytes.now) }
+    ensures length { length slots.new ≡ length slots.old }
 {
-    let mut count = 0;
-    for byte in bytes {
-        if !is_plain(*byte) {
-            return count;
+    for i in 0..bytes.len() {
+        let byte = bytes[i];
+        if !is_plain(byte) {
+            return i;
         }
-        count += 1;
+        slots[i] = Cell { byte, under };
     }
-    count
+    bytes.len()
 }
 
 impl<'a> Line<'a> {
     /// Reads a front of these bytes as cells of a word, underlined or not, as many calls of `put` would: up to the first
-    /// that is not plain or whose cell would pass the limit. Tells how many it read. It takes the time of two passes
+    /// that is not plain or whose cell would pass the limit. Tells how many it read. It takes the time of one pass
     /// over those bytes.
     pub fn put_run(&mut self, margins: Margins, under: bool, bytes: &[u8]) -> usize
         ensures front { result ≤ length bytes.now }
@@ -48,31 +51,40 @@ impl<'a> Line<'a> {
         ensures stops { result < length bytes.now → IsPlain (slice_index bytes.now result) → text_cells self.new.collected ≡ self.new.limit }
     {
         let room = self.limit - self.text_measure();
-        let count = plain_count(&bytes[..room.min(bytes.len())]);
-        if count == 0 {
+        let bytes = &bytes[..room.min(bytes.len())];
+        if bytes.is_empty() || !is_plain(bytes[0]) {
             return 0;
         }
         self.open_word(margins);
         self.end_piece();
-        self.push_run(under, &bytes[..count]);
-        count
+        self.push_plain(under, bytes)
     }
 
-    /// More cells of the piece that is being read.
-    fn push_run(&mut self, under: bool, bytes: &[u8])
+    /// More cells of the piece that is being read: those of the bytes before the first that is not plain, at least one.
+    fn push_plain(&mut self, under: bool, bytes: &[u8]) -> usize
         requires some { 0 < length bytes.now }
+        requires first { IsPlain (slice_index bytes.now 0) }
         requires room { text_cells self.old.collected + length bytes.now ≤ self.old.limit }
+        requires word { is_none self.old.collected.word ≡ false }
         requires no_title { self.old.collected.title ≡ None }
-        ensures { self.new ≡ record self.old { collected = record (in_word (run_behind under bytes.now) self.old.collected) { sentence = ends_sentence (run_cell under (slice_index bytes.now (length bytes.now - 1))) } } }
+        ensures some { 0 < result }
+        ensures front { result ≤ length bytes.now }
+        ensures plain { All IsPlain (take result bytes.now) }
+        ensures stops { result < length bytes.now → ¬ IsPlain (slice_index bytes.now result) }
+        ensures cells { self.new ≡ record self.old { collected = record (in_word (run_behind under (take result bytes.now)) self.old.collected) { sentence = ends_sentence (run_cell under (slice_index bytes.now (result - 1))) } } }
     {
-        self.sentence = ends_sentence(Cell {
-            byte: bytes[bytes.len() - 1],
-            under,
-        });
-        if let Some(word) = &mut self.word {
-            self.row.push_run(under, bytes);
-            word.pending.drop_point();
-            word.blanks = 0;
+        match &mut self.word {
+            None => 0,
+            Some(word) => {
+                let count = self.row.push_plain(under, bytes);
+                self.sentence = ends_sentence(Cell {
+                    byte: bytes[count - 1],
+                    under,
+                });
+                word.pending.drop_point();
+                word.blanks = 0;
+                count
+            }
         }
     }
 }

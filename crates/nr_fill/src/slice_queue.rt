@@ -1,7 +1,8 @@
 // Items in a lent slice that come in at the end and go out at the front.
-ghost use Rattle.std.specs.Prelude.{◌≡◌, ◌+◌, ◌-◌, ◌<◌, ◌≤◌, [], ◌∷◌, ◌++◌, length, map, take, drop, replicate};
-ghost use Rattle.nr_fill.specs.Runs.{run_cell};
+ghost use Rattle.std.specs.Prelude.{◌≡◌, ◌+◌, ◌-◌, ◌<◌, ◌≤◌, [], ◌∷◌, ◌++◌, length, map, take, drop, replicate, slice_index, All};
+ghost use Rattle.nr_fill.specs.Runs.{IsPlain, run_cell};
 
+use crate::runs::set_plain;
 use nr_units::cell::Cell;
 use std::marker::Model;
 
@@ -61,25 +62,15 @@ fn set_all<T: Copy>(slots: &mut [T], item: T)
     }
 }
 
-/// Puts the cells of as many bytes there.
-fn set_run(slots: &mut [Cell], under: bool, bytes: &[u8])
-    requires { length slots.old ≡ length bytes.now }
-    ensures { slots.new ≡ map (run_cell under) bytes.now }
-{
-    for i in 0..slots.len() {
-        slots[i] = Cell {
-            byte: bytes[i],
-            under,
-        };
-    }
-}
-
 impl<'a> SliceQueue<'a, Cell> {
-    /// Puts a cell for each of these bytes at the end.
+    /// Puts the cells of these bytes at the end, up to the first that is not plain, and tells how many these are.
     #[inline]
-    pub(crate) fn push_run(&mut self, under: bool, bytes: &[u8])
+    pub(crate) fn push_plain(&mut self, under: bool, bytes: &[u8]) -> usize
         requires { length self.old.items + length bytes.now ≤ self.old.room }
-        ensures items { self.new.items ≡ self.old.items ++ map (run_cell under) bytes.now }
+        ensures front { result ≤ length bytes.now }
+        ensures plain { All IsPlain (take result bytes.now) }
+        ensures stops { result < length bytes.now → ¬ IsPlain (slice_index bytes.now result) }
+        ensures items { self.new.items ≡ self.old.items ++ map (run_cell under) (take result bytes.now) }
         ensures room { self.new.room ≡ self.old.room }
     {
         let span = Span {
@@ -89,9 +80,10 @@ impl<'a> SliceQueue<'a, Cell> {
         let n = bytes.len();
         let slots = &mut *self.slots;
         let span = make_room(slots, span, n);
-        set_run(&mut slots[span.end..span.end + n], under, bytes);
+        let count = set_plain(&mut slots[span.end..span.end + n], under, bytes);
         self.start = span.start;
-        self.end = span.end + n;
+        self.end = span.end + count;
+        count
     }
 }
 

@@ -1,28 +1,61 @@
-use Rattle.std.proofs.Common.{◌<◌, ◌-◌, All, length, take, get_or, ap, sym, ◌∙◌, arith}
-use Rattle.std.proofs.lemmas.List.{length-take, length-take-le, take-take}
+use Rattle.std.proofs.Common.{◌≡◌, ℕ, ◌-◌, ◌≤◌, List, length, take, get_or, ap, ap₂, sym, ◌∙◌, arith, inl, inr}
+use Rattle.std.proofs.lemmas.Bool.{cases_lt}
+use Rattle.std.proofs.lemmas.List.{get_or-take, length-take, length-take-le, take-take}
 use Rattle.nr_fill.specs.Lined.{Lined}
-use Rattle.nr_fill.specs.Pieces.{Collected, ended, ends_sentence, in_word}
-use Rattle.nr_fill.specs.Runs.{IsPlain, run_behind, run_cell}
+use Rattle.nr_fill.specs.Pieces.{Collected, ended, ends_sentence, in_word, line_cells, text_cells, with_word}
+use Rattle.nr_fill.specs.Runs.{run_behind, run_cell}
+use Rattle.nr_fill.proofs.Measures.{measured_run}
 use Rattle.nr_fill.proofs.RunLemmas.{add_run-run}
 use Rattle.nr_fill.proofs.line.Line.put_run.Goals as goal
 
-pub returns-clause-plain : goal.returns-clause-plain
-returns-clause-plain c =
-    let count = c.plain_count-count.result in
-    let bytes = c.args.bytes.now in
-    let front = c.plain_count-count.ensures.front in
-    let plain : All IsPlain (take count bytes) = rw (take-take count c.min.result bytes (omega (arith, front, length-take c.min.result bytes))) at c.plain_count-count.ensures.plain in
-    plain
-
 pub returns-clause-cells : goal.returns-clause-cells
 returns-clause-cells c =
-    let run = take c.plain_count-count.result c.args.bytes.now in
+    let bytes = c.args.bytes.now in
     let under = c.args.under in
-    let long = length-take-le c.plain_count-count.result c.args.bytes.now (omega (arith, c.plain_count-count.ensures.front, length-take c.min.result c.args.bytes.now)) in
-    let some : 0 < length run = omega (arith, c.if-count-eq0.false) in
-    let last = run_cell under (get_or run (length run - 1) 0) in
+    let margins = c.args.margins in
     let now = c.args.self.now in
-    c.push_run.ensures
-    ∙ ap (λ (v : Lined). record v { collected = record (in_word (run_behind under run) v.collected) { sentence = ends_sentence last } })
+    let m = c.min.result in
+    let count = c.push_plain.result in
+    let front = c.push_plain.ensures.front in
+    let short : count ≤ m = omega (arith, front, length-take m bytes) in
+    let run : List ℕ = take count bytes in
+    let run_is : take count (take m bytes) ≡ run = take-take count m bytes short in
+    let long : length run ≡ count = length-take-le count bytes (omega (arith, front, length-take m bytes)) in
+    let some = c.push_plain.ensures.some in
+    let size : count - 1 ≡ length run - 1 = ap (λ k. k - 1) (sym long) in
+    let last_is : get_or (take m bytes) (count - 1) 0 ≡ get_or run (length run - 1) 0 =
+    get_or-take m bytes (count - 1) 0 (omega arith) ∙ sym (get_or-take count bytes (count - 1) 0 (omega arith)) ∙ ap (λ k. get_or run k 0) size in
+    c.push_plain.ensures.cells
+    ∙ ap (λ (v : Lined). record v { collected = record (in_word (run_behind under (take count (take m bytes))) v.collected) { sentence = ends_sentence (run_cell under (get_or (take m bytes) (count - 1) 0)) } })
     (c.end_piece.ensures ∙ ap (λ (v : Lined). record v { collected = in_word ended v.collected }) c.open_word.ensures.opened)
-    ∙ ap (λ (k : Collected). record now { collected = k }) (sym (add_run-run c.args.margins under run now.collected some))
+    ∙ ap₂ (λ (zs : List ℕ) (b : ℕ). record now { collected = record (in_word (run_behind under zs) (in_word ended (with_word margins now.collected))) { sentence = ends_sentence (run_cell under b) } }) run_is last_is
+    ∙ ap (λ (k : Collected). record now { collected = k }) (sym (add_run-run margins under run now.collected (omega arith)))
+
+pub returns-clause-within : goal.returns-clause-within
+returns-clause-within c =
+    let bytes = c.args.bytes.now in
+    let count = c.push_plain.result in
+    let front = c.push_plain.ensures.front in
+    let long : length (take count bytes) ≡ count = length-take-le count bytes (omega (arith, front, length-take c.min.result bytes)) in
+    let measured = measured_run c.args.margins c.args.under (take count bytes) c.args.self.now.collected (omega (arith, c.push_plain.ensures.some)) in
+    let cells = ap (λ (v : Lined). line_cells v.collected) (returns-clause-cells c) in
+    let limit = ap (λ (v : Lined). v.limit) (returns-clause-cells c) in
+    let own = ap (λ (v : Lined). v.limit) c.self.view_is in
+    λ some. omega (arith, front, length-take c.min.result bytes, c.text_measure.ensures.value, c.text_measure.ensures.within)
+
+pub returns-clause-stops : goal.returns-clause-stops
+returns-clause-stops c =
+    let bytes = c.args.bytes.now in
+    let m = c.min.result in
+    let count = c.push_plain.result in
+    let front = c.push_plain.ensures.front in
+    let taken = length-take m bytes in
+    let long : length (take count bytes) ≡ count = length-take-le count bytes (omega (arith, front, taken)) in
+    let measured = measured_run c.args.margins c.args.under (take count bytes) c.args.self.now.collected (omega (arith, c.push_plain.ensures.some)) in
+    let cells = ap (λ (v : Lined). text_cells v.collected) (returns-clause-cells c) in
+    let limit = ap (λ (v : Lined). v.limit) (returns-clause-cells c) in
+    let own = ap (λ (v : Lined). v.limit) c.self.view_is in
+    λ more plain. elim (cases_lt count m) [
+      | inl below ↦ absurd (c.push_plain.ensures.stops (omega (arith, taken)) (rw (get_or-take m bytes count 0 below) plain))
+      | inr all ↦ omega (arith, front, taken, c.text_measure.ensures.value, c.text_measure.ensures.within)
+    ]
