@@ -10,3 +10,4 @@ pub mod Lines
 pub mod Pendings
 pub mod Measures
 pub mod TextWidth
+pub mod ApartTitles

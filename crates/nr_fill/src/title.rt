@@ -1,5 +1,6 @@
 //! Titles of three parts. (CSTR 54, section 14.)
-ghost use Rattle.std.specs.Prelude.{◌≡◌, ◌≤◌, ◌<◌, ◌^◌, length, is_none, Some, true};
+ghost use Rattle.std.specs.Prelude.{◌≡◌, ◌+◌, ◌≤◌, ◌<◌, ◌^◌, ◌&&◌, nat_le, max, length, map, is_none, Some, true};
+ghost use Rattle.std.specs.List.{range_with_len};
 ghost use Rattle.nr_fill.specs.TitleStates.{next_state, parted_title, title_of};
 ghost use Rattle.nr_fill.specs.Titles.{Title, cell_of, is_within, title_or_empty, title_row};
 
@@ -112,6 +113,47 @@ impl<'t> TitleParts<'t> {
         }
         Cell::blank()
     }
+
+    /// Whether each part ends before the next one begins, of which two do so far on.
+    fn are_apart(self, centre: usize, right: usize) -> bool
+        requires centre { centre < 2 ^ 32 }
+        requires cells { length self.centre.now < 2 ^ 32 }
+        ensures { result ≡ (nat_le (length self.entry.left.now) centre && nat_le (centre + length self.entry.centre.now) right) }
+    {
+        self.left.len() <= centre && centre + self.centre.len() <= right
+    }
+
+    /// Sets such parts in the row behind what stands there: in blocks.
+    fn set_apart<S: CellSink>(self, centre: usize, right: usize, out: &mut S)
+        requires left { length self.left.now ≤ centre }
+        requires centre { centre + length self.centre.now ≤ right }
+        ensures { S.Adds out.old (map (cell_of centre right self.entry.left.now self.entry.centre.now self.entry.right.now)
+            (range_with_len 0 (max (length self.entry.left.now) (max (centre + length self.entry.centre.now) (right + length self.entry.right.now))))) out.new }
+    {
+        out.extend(self.left);
+        out.blanks(centre - self.left.len());
+        out.extend(self.centre);
+        out.blanks(right - centre - self.centre.len());
+        out.extend(self.right);
+    }
+
+    /// The same cell by cell, also where a part stands in another's place.
+    fn set_each<S: CellSink>(self, centre: usize, right: usize, out: &mut S)
+        requires centre { centre < 2 ^ 32 }
+        requires right { right < 2 ^ 32 }
+        requires centre_cells { length self.centre.now < 2 ^ 32 }
+        requires right_cells { length self.right.now < 2 ^ 32 }
+        ensures { S.Adds out.old (map (cell_of centre right self.entry.left.now self.entry.centre.now self.entry.right.now)
+            (range_with_len 0 (max (length self.entry.left.now) (max (centre + length self.entry.centre.now) (right + length self.entry.right.now))))) out.new }
+    {
+        let reach = self
+            .left
+            .len()
+            .max((centre + self.centre.len()).max(right + self.right.len()));
+        for column in 0..reach {
+            out.push(self.cell_at(centre, right, column));
+        }
+    }
 }
 
 /// Sets a title of this length in the row behind what stands there.
@@ -125,8 +167,9 @@ pub(crate) fn set_parts<S: CellSink>(parts: TitleParts<'_>, line: usize, out: &m
 {
     let centre = line.saturating_sub(parts.centre.len()) / 2;
     let right = line.saturating_sub(parts.right.len());
-    let reach = parts.left.len().max((centre + parts.centre.len()).max(right + parts.right.len()));
-    for column in 0..reach {
-        out.push(parts.cell_at(centre, right, column));
+    if parts.are_apart(centre, right) {
+        parts.set_apart(centre, right, out);
+    } else {
+        parts.set_each(centre, right, out);
     }
 }
