@@ -91,6 +91,7 @@ impl<'a, K: Copy> Store<'a, K> {
         self.charge += cells.len() as u32;
         Ok(())
     }
+
     /// Adds a line to the newest text being built: so many blanks, the cells, and a line end of this height in u. It is
     /// checked once, for all of it. A diversion's height and width grow by it. Nothing happens where no text is being
     /// built.
@@ -116,6 +117,7 @@ impl<'a, K: Copy> Store<'a, K> {
         self.charge += width as u32 + 1;
         Ok(())
     }
+
     /// Ends a line of the newest text being built whose cells, so many, were added one by one: adds a line end of this
     /// height in u. A diversion's height and width grow by the line. Nothing happens where no text is being built.
     pub fn end_line(&mut self, cells: u32, height: u32) -> Result<(), StoredBytes>
