@@ -3,7 +3,7 @@
 use nr_engine::{Limit, Limits};
 
 /// The limits by default, but for those that the words set.
-pub fn limits_of(words: &str) -> anyhow::Result<Limits> {
+pub(crate) fn limits_of(words: &str) -> anyhow::Result<Limits> {
     let mut limits = Limits::default();
     for word in words.split_whitespace() {
         set(&mut limits, word)?;

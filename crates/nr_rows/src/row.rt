@@ -24,7 +24,7 @@ pub struct Row<'a> {
 }
 
 /// Formats a source into a buffer of 4096 bytes and compares.
-pub fn check<R: Source>(
+pub(crate) fn check<R: Source>(
     rt: &impl Abort,
     alloc: Global,
     input: &mut R,
@@ -46,7 +46,7 @@ fn is_same(one: &[u8], other: &[u8]) -> bool {
 }
 
 /// A desk under four limits.
-pub fn desk_under(alloc: Global, four: Four) -> Result<Desk, Fail> {
+pub(crate) fn desk_under(alloc: Global, four: Four) -> Result<Desk, Fail> {
     let (stored, depth, cells, expansions) = four;
     let limits = Limits::new(stored, depth, cells, expansions).ok_or("limits out of range")?;
     Ok(Desk::new(alloc, limits)?)

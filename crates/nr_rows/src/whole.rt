@@ -12,7 +12,7 @@ pub struct Text {
 
 impl Text {
     /// How much is printed where the input fails behind so many bytes.
-    pub fn printed_after(&self, given: usize) -> usize {
+    pub(crate) fn printed_after(&self, given: usize) -> usize {
         let mut printed = 0;
         for &(read, written) in self.ends {
             if read <= given {
