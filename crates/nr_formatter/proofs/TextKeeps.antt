@@ -1,6 +1,6 @@
 -- Text and titles change the line and what is under way, but nothing that is stored or half read.
 use Rattle.std.proofs.Common.{◌≡◌, ◌≤◌, ◌==◌, ℕ, Bool, length, subst, sym, true, false, if◌then◌else◌, Option, None, Some, refl, ◌∙◌}
-use Rattle.std.specs.Prelude.{not, Result}
+use Rattle.std.specs.Prelude.{not}
 use Rattle.nr_fill.specs.Lined.{afforded}
 use Rattle.nr_store.specs.Stored.{Stored, charge_of}
 use Rattle.nr_settings.specs.Characters.{prints}
@@ -16,7 +16,7 @@ use Rattle.nr_formatter.specs.declared.tasks.Resume.{Resume}
 use Rattle.nr_input.specs.declared.reader.Reader.{Reader}
 use Rattle.nr_formatter.specs.Access.{is_filling, asked}
 use Rattle.nr_formatter.specs.Lines.{reads_a_field, break_word_end}
-use Rattle.nr_formatter.specs.Text.{blank, tab, text_byte, special_at, special, blanks_dropped, trimmed_end, line_end, finish_dash, text}
+use Rattle.nr_formatter.specs.Text.{blank, tab, text_byte, special_at, special, blanks_dropped, line_end, finish_dash, text}
 use Rattle.nr_formatter.specs.Limits.{IsWithin, judged}
 use Rattle.nr_formatter.specs.Passed.{line_answer}
 use Rattle.nr_formatter.specs.Titles.{reads_title, title_special, title}

@@ -1,5 +1,5 @@
 -- The moves that touch neither the source nor the page nor the output.
-use Rattle.std.specs.Prelude.{Bool, true, false, not, ◌&&◌, if◌then◌else◌, decimal, Option, None, Some}
+use Rattle.std.specs.Prelude.{Bool, true, false, not, ◌&&◌, if◌then◌else◌, decimal, None, Some}
 use Rattle.nr_settings.specs.Fonts.{with_named}
 use Rattle.nr_settings.specs.Widths.{width_of}
 use Rattle.nr_reading.specs.Conditionals.{in_mode}

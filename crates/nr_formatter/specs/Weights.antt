@@ -16,7 +16,6 @@ use Rattle.nr_input.specs.Weights.{weight_before_byte}
 use Rattle.nr_formatter.specs.declared.formatter.Formatter.{Formatter}
 use Rattle.nr_formatter.specs.declared.paper.Outlet.{Outlet}
 use Rattle.nr_formatter.specs.declared.paper.Outlet.TheVariants as outlets
-use Rattle.nr_formatter.specs.declared.tasks.Ejected.TheVariants as ejecteds
 use Rattle.nr_formatter.specs.declared.tasks.Room.TheVariants as rooms
 use Rattle.nr_formatter.specs.declared.tasks.Step.{Step}
 use Rattle.nr_formatter.specs.declared.tasks.Step.TheVariants as steps

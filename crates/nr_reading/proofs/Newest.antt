@@ -1,19 +1,15 @@
 -- The newest escape that is half read, or that there is none.
-use Rattle.std.specs.Prelude.{slice_get, ◌==◌, ◌&&◌}
-use Rattle.std.proofs.Common.{◌≡◌, ℕ, Bool, true, false, List, [], ◌∷◌, None, Some, refl, ap, ◌∙◌}
+use Rattle.std.specs.Prelude.{slice_get, ◌==◌}
+use Rattle.std.proofs.Common.{◌≡◌, ℕ, Bool, true, false, List, [], ◌∷◌, None, Some, refl, ap}
 use Rattle.nr_reading.specs.declared.ask.Ask.{Ask}
-use Rattle.nr_reading.specs.declared.ask.Kind.{Kind}
-use Rattle.nr_reading.specs.declared.front.Front.{Front}
 use Rattle.nr_reading.specs.declared.half.Half.{Half}
 use Rattle.nr_reading.specs.declared.mode.Escape.{Escape}
-use Rattle.nr_reading.specs.Asking.{answer, is_size, reads_argument}
-use Rattle.nr_reading.specs.Copying.{offer, raw_offer}
+use Rattle.nr_reading.specs.Asking.{answer}
 use Rattle.nr_reading.specs.declared.front.Front.TheVariants as fronts
 use Rattle.nr_reading.specs.declared.mode.Escape.TheVariants as escapes
-use Rattle.nr_reading.specs.Modes.{is_direct, reads_arguments}
+use Rattle.nr_reading.specs.Modes.{is_direct}
 use Rattle.nr_reading.specs.Meeting.{reads_plainly, reads_plainly_at, meet, met_copied, answered, hear_by}
-use Rattle.nr_reading.specs.Nesting.{is_none}
-use Rattle.nr_reading.specs.Reading.{read, direct}
+use Rattle.nr_reading.specs.Reading.{read}
 
 pub hear_reader : (asks : List Ask) (front : Bool) (b : ℕ) (h : Half) → slice_get asks 0 ≡ None → hear_by asks front b h ≡ met_copied front (read b h.signs h.notes h.reading) h
 hear_reader [] front b h none = refl

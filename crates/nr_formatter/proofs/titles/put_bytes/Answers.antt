@@ -1,7 +1,5 @@
-use Rattle.std.proofs.Common.{get_or, ap, sym, ◌∙◌}
-use Rattle.nr_settings.specs.Fonts.{cell_of}
+use Rattle.std.proofs.Common.{◌∙◌}
 use Rattle.std.proofs.lemmas.Result.{err_from_is_err_and}
-use Rattle.nr_fill.specs.Pieces.{with_title_cell}
 use Rattle.nr_formatter.proofs.TitleCells.{refused_byte}
 use Rattle.nr_formatter.proofs.titles.put_bytes.Goals as goal
 

@@ -1,4 +1,4 @@
-use Rattle.std.proofs.Common.{◌≡◌, ◌++◌, replicate, Bool, sym, subst}
+use Rattle.std.proofs.Common.{◌++◌, replicate, Bool, sym, subst}
 use Rattle.nr_units.specs.Cells.{blank}
 use Rattle.nr_store.specs.Stored.{charge_of}
 use Rattle.nr_formatter.specs.DiversionRows.{HoldsRow, with_cells}
