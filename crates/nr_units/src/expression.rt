@@ -40,6 +40,10 @@ fn read_outermost(text: &[u8], ctx: &Ctx) -> Option<Read>
         used: 0,
     };
     for (at, byte) in text.iter().enumerate() {
+        if let Some(mode) = level.mode.behind_digit(*byte) {
+            level.mode = mode;
+            continue;
+        }
         let Some(symbol) = symbol_of(*byte) else {
             return Some(level.read(ctx, at, longest));
         };

@@ -1,5 +1,5 @@
 //! One level of a number expression: what is read of it, from its start or its parenthesis on.
-ghost use Rattle.std.specs.Prelude.{◌≡◌, option_and_then};
+ghost use Rattle.std.specs.Prelude.{◌≡◌, ◌-◌, Some, IfSome, option_and_then};
 ghost use Rattle.std.specs.Option.{option_map};
 
 use crate::expression::{Ctx, Read};
@@ -188,13 +188,30 @@ impl Waiting {
 }
 
 impl Mode {
-    ghost use Rattle.nr_units.specs.Scan.{more_whole, more_fraction, with_point, number_of};
+    ghost use Rattle.nr_units.specs.Scan.{more_whole, more_fraction, with_digit, with_point, number_of, symbol_of};
+    ghost use Rattle.nr_units.specs.declared.symbols.Symbol.TheVariants.{Digit};
 
     /// With a digit behind the whole part.
     pub(crate) fn more_whole(whole: u32, digit: u32) -> Self
         ensures { result ≡ more_whole whole digit }
     {
         Mode::Whole(whole.saturating_mul(10).saturating_add(digit))
+    }
+
+    /// Behind the byte, if it is a digit of a whole number.
+    #[inline(always)]
+    pub(crate) fn behind_digit(self, byte: u8) -> Option<Self>
+        ensures { IfSome result (λ mode. (symbol_of byte ≡ Some (Digit (byte - 48))) × (with_digit (byte - 48) self ≡ Some mode)) }
+    {
+        if !byte.is_ascii_digit() {
+            return None;
+        }
+        let digit = u32::from(byte - b'0');
+        match self {
+            Mode::Before(_) => Some(Mode::Whole(digit)),
+            Mode::Whole(whole) => Some(Mode::more_whole(whole, digit)),
+            _ => None,
+        }
     }
 
     /// With a digit behind the fraction.

@@ -1,11 +1,13 @@
-use Rattle.std.proofs.Common.{◌≡◌, ◌+◌, ◌<◌, ◌∙◌, [], get_or, length, refl, sym, subst, ap, arith, add-one, None}
-use Rattle.std.specs.Option.{option_and_then}
+use Rattle.std.proofs.Common.{◌≡◌, ◌+◌, ◌-◌, ◌<◌, ◌∙◌, [], get_or, length, refl, sym, subst, ap, arith, add-one, None}
+use Rattle.std.specs.Option.{option_and_then, option_map}
 use Rattle.std.proofs.Math.Seq.{take-suc}
 use Rattle.nr_units.specs.Expression.{IsAnswer}
-use Rattle.nr_units.specs.Scan.{Scan, after_symbol, on_level, outermost, whole_value}
+use Rattle.nr_units.specs.Scan.{Scan, after_symbol, in_mode, on_level, outermost, whole_value}
 use Rattle.nr_units.specs.Scanner.{Steps, noted}
 use Rattle.nr_units.specs.declared.expression.Read.{Read}
 use Rattle.nr_units.specs.declared.scanner.Step.TheVariants.{Taken}
+use Rattle.nr_units.specs.declared.symbols.Symbol.{Symbol}
+use Rattle.nr_units.specs.declared.symbols.Symbol.TheVariants.{Digit}
 use Rattle.nr_units.proofs.Reading.{Along, advances, stops, ends}
 use Rattle.nr_units.proofs.Longest.{Reads, computed_more, computed_stuck, answer_in_range, reads_first, stuck_read}
 use Rattle.nr_units.proofs.expression.read_outermost.Goals as goal
@@ -22,27 +24,42 @@ loop-at-preserved c =
     let s : Scan = outermost c.loop-at.level in
     let t : Scan = outermost c.in-Some-step.next in
     let inside : i < length text = omega arith in
-    let taken : Steps c.args.ctx.now s c.in-Some.symbol Taken t = (sym c.step.ensures ∙ ap (on_level []) c.in-Some-step.is, λ is. omega arith) in
-    let next = advances c.args.ctx.now text i (get_or text i 0) c.in-Some.symbol s t c.loop-at.longest inside (take-suc text i 0 inside) (sym c.in-Some.ensures) c.loop-at.invariant.along taken in
-    let computed = computed_more c.args.ctx.now text i s t c.loop-at.longest c.in-Some.symbol inside (sym c.in-Some.ensures) taken c.loop-at.invariant.computed in
-    let known : Reads c.args.ctx.now text (i + 1) t (noted (whole_value c.args.ctx.now s) c.in-Some.symbol i c.loop-at.longest) = record {
-      along = subst (λ n. Along c.args.ctx.now text n t (noted (whole_value c.args.ctx.now s) c.in-Some.symbol i c.loop-at.longest)) (sym (add-one i)) next;
+    let taken : Steps c.args.ctx.now s c.in-Some-symbol_of.symbol Taken t = (sym c.step.ensures ∙ ap (on_level []) c.in-Some-step.is, λ is. omega arith) in
+    let next = advances c.args.ctx.now text i (get_or text i 0) c.in-Some-symbol_of.symbol s t c.loop-at.longest inside (take-suc text i 0 inside) (sym c.in-Some-symbol_of.ensures) c.loop-at.invariant.along taken in
+    let computed = computed_more c.args.ctx.now text i s t c.loop-at.longest c.in-Some-symbol_of.symbol inside (sym c.in-Some-symbol_of.ensures) taken c.loop-at.invariant.computed in
+    let known : Reads c.args.ctx.now text (i + 1) t (noted (whole_value c.args.ctx.now s) c.in-Some-symbol_of.symbol i c.loop-at.longest) = record {
+      along = subst (λ n. Along c.args.ctx.now text n t (noted (whole_value c.args.ctx.now s) c.in-Some-symbol_of.symbol i c.loop-at.longest)) (sym (add-one i)) next;
       computed = computed;
     } in
     subst (Reads c.args.ctx.now text (i + 1) t) (sym c.noted-longest.ensures) known
 
-pub returns-in_default-clause-answer : goal.returns-in_default-clause-answer
-returns-in_default-clause-answer c =
+pub loop-at-preserved-in-Some : goal.loop-at-preserved-in-Some
+loop-at-preserved-in-Some c =
+    let text = c.args.text.now in
+    let i = c.loop-at.at in
+    let s : Scan = outermost c.loop-at.level in
+    let t : Scan = outermost (record c.loop-at.level { mode = c.in-Some.mode }) in
+    let digit : Symbol = Digit (get_or text i 0 - 48) in
+    let inside : i < length text = omega arith in
+    let taken : Steps c.args.ctx.now s digit Taken t = (ap (λ m. on_level [] (option_map (in_mode c.loop-at.level) m)) c.in-Some.ensures.1, λ is. omega arith) in
+    let next = advances c.args.ctx.now text i (get_or text i 0) digit s t c.loop-at.longest inside (take-suc text i 0 inside) c.in-Some.ensures.0 c.loop-at.invariant.along taken in
+    record {
+      along = subst (λ n. Along c.args.ctx.now text n t c.loop-at.longest) (sym (add-one i)) next;
+      computed = computed_more c.args.ctx.now text i s t c.loop-at.longest digit inside c.in-Some.ensures.0 taken c.loop-at.invariant.computed;
+    }
+
+pub returns-in_default-symbol_of-clause-answer : goal.returns-in_default-symbol_of-clause-answer
+returns-in_default-symbol_of-clause-answer c =
     let text = c.args.text.now in
     let i = c.loop-at.at in
     let s : Scan = outermost c.loop-at.level in
     let inside : i < length text = omega arith in
-    let step = ap (option_and_then (after_symbol c.args.ctx.now s)) (sym c.in_default.ensures) in
+    let step = ap (option_and_then (after_symbol c.args.ctx.now s)) (sym c.in_default-symbol_of.ensures) in
     subst (IsAnswer c.args.ctx.now text) (sym c.read.ensures)
     (stops c.args.ctx.now text i (get_or text i 0) s c.loop-at.longest (take-suc text i 0 inside) step c.loop-at.invariant.along)
 
-pub returns-in_default-clause-range : goal.returns-in_default-clause-range
-returns-in_default-clause-range c = answer_in_range c.args.ctx.now c.args.text.now c.read.result (returns-in_default-clause-answer c)
+pub returns-in_default-symbol_of-clause-range : goal.returns-in_default-symbol_of-clause-range
+returns-in_default-symbol_of-clause-range c = answer_in_range c.args.ctx.now c.args.text.now c.read.result (returns-in_default-symbol_of-clause-answer c)
 
 pub returns-in_default-step-clause-answer : goal.returns-in_default-step-clause-answer
 returns-in_default-step-clause-answer c =
@@ -50,18 +67,18 @@ returns-in_default-step-clause-answer c =
     let i = c.loop-at.at in
     let s : Scan = outermost c.loop-at.level in
     let inside : i < length text = omega arith in
-    let none : after_symbol c.args.ctx.now s c.in-Some.symbol ≡ None = sym c.step.ensures ∙ ap (on_level []) c.in_default-step.is in
-    let step = ap (option_and_then (after_symbol c.args.ctx.now s)) (sym c.in-Some.ensures) ∙ none in
-    subst (IsAnswer c.args.ctx.now text) (sym (stuck_read c.args.ctx.now s s c.in-Some.symbol i c.loop-at.longest c.noted-longest.result c.read-in_default-step.result c.read-in_default-step.ensures refl c.noted-longest.ensures))
+    let none : after_symbol c.args.ctx.now s c.in-Some-symbol_of.symbol ≡ None = sym c.step.ensures ∙ ap (on_level []) c.in_default-step.is in
+    let step = ap (option_and_then (after_symbol c.args.ctx.now s)) (sym c.in-Some-symbol_of.ensures) ∙ none in
+    subst (IsAnswer c.args.ctx.now text) (sym (stuck_read c.args.ctx.now s s c.in-Some-symbol_of.symbol i c.loop-at.longest c.noted-longest.result c.read-in_default-step.result c.read-in_default-step.ensures refl c.noted-longest.ensures))
     (stops c.args.ctx.now text i (get_or text i 0) s c.loop-at.longest (take-suc text i 0 inside) step c.loop-at.invariant.along)
 
 pub returns-in_default-step-clause-computed : goal.returns-in_default-step-clause-computed
 returns-in_default-step-clause-computed c =
     let inside : c.loop-at.at < length c.args.text.now = omega arith in
     let s : Scan = outermost c.loop-at.level in
-    let none : after_symbol c.args.ctx.now s c.in-Some.symbol ≡ None = sym c.step.ensures ∙ ap (on_level []) c.in_default-step.is in
-    stuck_read c.args.ctx.now s s c.in-Some.symbol c.loop-at.at c.loop-at.longest c.noted-longest.result c.read-in_default-step.result c.read-in_default-step.ensures refl c.noted-longest.ensures
-    ∙ sym (computed_stuck c.args.ctx.now c.args.text.now c.loop-at.at s c.loop-at.longest c.in-Some.symbol inside (sym c.in-Some.ensures) none c.loop-at.invariant.computed)
+    let none : after_symbol c.args.ctx.now s c.in-Some-symbol_of.symbol ≡ None = sym c.step.ensures ∙ ap (on_level []) c.in_default-step.is in
+    stuck_read c.args.ctx.now s s c.in-Some-symbol_of.symbol c.loop-at.at c.loop-at.longest c.noted-longest.result c.read-in_default-step.result c.read-in_default-step.ensures refl c.noted-longest.ensures
+    ∙ sym (computed_stuck c.args.ctx.now c.args.text.now c.loop-at.at s c.loop-at.longest c.in-Some-symbol_of.symbol inside (sym c.in-Some-symbol_of.ensures) none c.loop-at.invariant.computed)
 
 pub returns-in_default-step-clause-range : goal.returns-in_default-step-clause-range
 returns-in_default-step-clause-range c = answer_in_range c.args.ctx.now c.args.text.now c.read-in_default-step.result (returns-in_default-step-clause-answer c)
