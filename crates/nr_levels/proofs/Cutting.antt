@@ -4,8 +4,8 @@ use Rattle.std.proofs.lemmas.List.{take-append-le, drop-append-le, length-take-l
 use Rattle.std.proofs.lemmas.List.Sums.{sum_by-append}
 use Rattle.std.proofs.lemmas.Bool.{cases_lt, cond-true, cond-false, eq-eqb, ne_eqb}
 use Rattle.nr_levels.specs.Levels.{cut}
-use Rattle.nr_levels.specs.Laws.{sum-cons, length-joined}
-use Rattle.nr_levels.specs.Gathered.{Gathered, joined, gathered_len, with_byte, with_end, gathered_of, IsGathering}
+use Rattle.nr_levels.specs.Laws.{sum-cons, length-joined, with_bytes-full, with_bytes-more}
+use Rattle.nr_levels.specs.Gathered.{Gathered, joined, gathered_len, with_byte, with_bytes, with_end, gathered_of, IsGathering}
 
 -- more bytes behind change nothing
 pub cut_more : (lens bytes more : List ℕ) → sum lens ≤ length bytes → cut lens (bytes ++ more) ≡ cut lens bytes
@@ -85,6 +85,17 @@ module _ (lens bytes : List ℕ) (count from room : ℕ) (h : IsGathering lens b
 
   pub pushed_stands : (byte : ℕ) → IsGathering lens (bytes ++ byte ∷ []) count from room
   pushed_stands byte = record { nine = h.nine; all = h.all; start = h.start; within = (let within = h.within in omega (arith, length-append bytes (byte ∷ []))); small = h.small }
+
+  pub unchanged_bytes : count ≡ 9 → (more : List ℕ) → now ≡ with_bytes more now
+  unchanged_bytes full more = sym (with_bytes-full more now (eq-eqb (length now.kept) 9 (kept_count ∙ full)))
+
+  pub extended_bytes : (count ≡ 9 → ⊥) → (more : List ℕ) → gathered_of (take count lens) (bytes ++ more) from ≡ with_bytes more now
+  extended_bytes fewer more =
+      ap₂ (λ ks l. record { kept = ks; last = l }) (cut_more (take count lens) bytes more sum_within) (drop-append-le from bytes more h.within)
+      ∙ sym (with_bytes-more more now (ne_eqb (length now.kept) 9 (λ e. fewer (sym kept_count ∙ e))))
+
+  pub extended_stands : (more : List ℕ) → IsGathering lens (bytes ++ more) count from room
+  extended_stands more = record { nine = h.nine; all = h.all; start = h.start; within = (let within = h.within in omega (arith, length-append bytes more)); small = h.small }
 
   pub unchanged_end : count ≡ 9 → now ≡ with_end now
   unchanged_end full = sym (cond-true (eqb (length now.kept) 9) now _ (eq-eqb (length now.kept) 9 (kept_count ∙ full)))

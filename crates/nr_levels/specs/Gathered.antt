@@ -28,6 +28,11 @@ gathered_len g = bytes_in g.kept + length g.last
 abbrev pub with_byte : ℕ → Gathered → Gathered
 with_byte byte g = if length g.kept == 9 then g else record g { last = g.last ++ byte ∷ [] }
 
+-- with these bytes more, one after another
+abbrev pub with_bytes : List ℕ → Gathered → Gathered
+with_bytes [] g = g
+with_bytes (b ∷ bs) g = with_bytes bs (with_byte b g)
+
 -- where the one under way is read whole
 abbrev pub with_end : Gathered → Gathered
 with_end g = if length g.kept == 9 then g else record { kept = g.kept ++ g.last ∷ []; last = [] }

@@ -4,3 +4,4 @@ pub mod Further
 pub mod Gathered
 pub mod Laws
 pub mod Moving
+pub mod Windows

@@ -1,6 +1,6 @@
 //! The arguments of a macro that are being read.
-ghost use Rattle.std.specs.Prelude.{◌≡◌, ◌==◌, ◌^◌, ◌<◌, ◌≤◌, length, map};
-ghost use Rattle.nr_levels.specs.Gathered.{joined, none_gathered, gathered_len, with_byte, with_end};
+ghost use Rattle.std.specs.Prelude.{◌≡◌, ◌==◌, ◌+◌, ◌^◌, ◌<◌, ◌≤◌, length, map};
+ghost use Rattle.nr_levels.specs.Gathered.{joined, none_gathered, gathered_len, with_byte, with_bytes, with_end};
 
 use nr_units::slice_vec::SliceVec;
 use std::marker::Model;
@@ -78,6 +78,18 @@ impl<'a> Gathering<'a> {
             return;
         }
         self.bytes.push(byte);
+    }
+
+    /// Adds bytes to the one under way, where fewer than nine are read whole.
+    #[inline]
+    pub fn extend(&mut self, bytes: &[u8])
+        requires { gathered_len self.old.gathered + length bytes.now ≤ self.old.room }
+        ensures { self.new ≡ record self.old { gathered = with_bytes bytes.now self.old.gathered } }
+    {
+        if self.count == MOST {
+            return;
+        }
+        self.bytes.extend(bytes);
     }
 
     /// The one under way is read whole, and the next begins.

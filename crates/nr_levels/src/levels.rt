@@ -2,6 +2,7 @@
 ghost use Rattle.std.specs.Prelude.{◌≡◌, ◌+◌, ◌*◌, ◌/◌, ◌^◌, ◌<◌, ◌≤◌, [], length, min, sum, nat_le, Some, None};
 ghost use Rattle.nr_levels.specs.Levels.{Text, Own, total, front_of, advanced, HasNext, HasEnd, HasMark, deeper, closed, charge_of_newest, resumed, argument, cut};
 ghost use Rattle.nr_levels.specs.Further.{further_on, NewestReaches};
+ghost use Rattle.nr_levels.specs.Windows.{bytes_left};
 ghost use Rattle.nr_levels.specs.Moving.{Comes};
 ghost use Rattle.nr_levels.specs.declared.frame.Front.TheVariants as fronts;
 
@@ -73,7 +74,7 @@ impl<'a, K: Copy> Levels<'a, K> {
     }
 
     /// What the newest level gives next.
-    #[inline]
+    #[inline(always)]
     pub fn front(&self) -> Next
         ensures { Comes result (front_of self.now.levels) }
     {
@@ -90,6 +91,23 @@ impl<'a, K: Copy> Levels<'a, K> {
             }
             Reads::Mark(_) => Next::Resume,
         }
+    }
+
+    /// The bytes that are left of the newest level, where it reads bytes that were given or an argument.
+    #[inline(always)]
+    pub fn window(&self) -> &[u8]
+        ensures { result.now ≡ bytes_left self.now.levels }
+    {
+        if self.frames.is_empty() {
+            return &[];
+        }
+        let Reads::Own(span) = self.frames.at(0).reads else {
+            return &[];
+        };
+        if span.last <= span.first {
+            return &[];
+        }
+        &self.bytes.as_slice()[span.first as usize..span.last as usize]
     }
 
     /// Takes the mode that comes next away, and puts it into `mode`.
@@ -122,7 +140,7 @@ impl<'a, K: Copy> Levels<'a, K> {
     }
 
     /// The newest level goes on behind so many elements.
-    #[inline]
+    #[inline(always)]
     pub fn skip(&mut self, n: u32)
         requires { NewestReaches n self.old.levels }
         ensures { self.new ≡ record self.old { levels = further_on n self.old.levels } }

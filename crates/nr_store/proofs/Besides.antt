@@ -8,12 +8,16 @@ use Rattle.nr_tables.specs.Named.{Named, find, put, without}
 use Rattle.nr_tables.specs.Rows.{Table}
 use Rattle.nr_tables.specs.Given.{word_in}
 use Rattle.nr_levels.specs.Levels.{Levels}
-use Rattle.nr_levels.specs.Gathered.{Gathered, bytes_in, gathered_len, with_byte, with_end}
+use Rattle.nr_levels.specs.Gathered.{Gathered, Gathering, bytes_in, gathered_len, with_byte, with_bytes, with_end}
+use Rattle.nr_levels.specs.Laws.{with_bytes-more, with_bytes-append}
+use Rattle.nr_tables.specs.declared.trap.Trap.{Trap}
+use Rattle.nr_tables.specs.declared.word.HyphenationWord.{HyphenationWord}
+use Rattle.nr_store.specs.declared.register.Register.{Register}
 use Rattle.nr_store.specs.declared.named.Sense.{Sense}
 use Rattle.nr_store.specs.declared.element.Element.{Element}
 use Rattle.nr_store.specs.declared.element.Draft.{Draft}
-use Rattle.nr_store.specs.Stored.{charge_of, charge_beside}
-use Rattle.nr_store.specs.Holders.{Beside, Suffice, stored_of, IsStore}
+use Rattle.nr_store.specs.Stored.{Stored, charge_of, charge_beside, gathering}
+use Rattle.nr_store.specs.Holders.{Beside, Suffice, beside_of, stored_of, IsStore}
 use Rattle.nr_store.proofs.Naming.{sum_of, put_sum, put_sum_new, without_sum}
 
 -- what is charged beside texts and levels
@@ -63,6 +67,38 @@ end_same g = elim (cases_Bool (eqb (length g.kept) 9)) [
       let one = sum_by-cons (λ (b : List ℕ). length b) g.last [] in
       let e : bytes_in (g.kept ++ g.last ∷ []) + 0 ≡ gathered_len g = omega arith in e)
 ]
+
+pub bytes_more : (bytes : List ℕ) (g : Gathered) → eqb (length g.kept) 9 ≡ false → gathered_len (with_bytes bytes g) ≡ gathered_len g + length bytes
+bytes_more bytes g more = ap gathered_len (with_bytes-more bytes g more) ∙ (let all = length-append g.last bytes in let e : bytes_in g.kept + length (g.last ++ bytes) ≡ gathered_len g + length bytes = omega arith in e)
+
+-- with bytes more, for which there is room
+module _ {K : Type 0} (p : Texts Element) (names : Table Sense) (drafts : Items Draft) (levels : Levels K) (g : Gathering) (registers : Table Register) (traps : Items Trap) (words : Items HyphenationWord) (charge limit : ℕ)
+    (h : IsStore p names drafts levels (beside_of g registers traps words) charge limit) (more : eqb (length g.gathered.kept) 9 ≡ false) (bytes : List ℕ) (count : ℕ) (long : length bytes ≡ count) where
+  abbrev pub extended : Beside
+  extended = beside_of (record g { gathered = with_bytes bytes g.gathered }) registers traps words
+
+  abbrev pub extended_store : Stored K
+  extended_store = stored_of p names.entries drafts.items levels extended limit
+
+  cost : charge + count + beside_cost (beside_of g registers traps words) ≡ charge + beside_cost extended
+  cost = omega (arith, long, bytes_more bytes g.gathered more)
+
+  pub extended_charge : charge + count ≡ charge_of extended_store
+  extended_charge = beside_charge p names drafts levels (beside_of g registers traps words) charge limit h extended (charge + count) cost
+
+  pub extended_stands : charge + count ≤ limit → IsStore p names drafts levels extended (charge + count) limit
+  extended_stands fits =
+      beside_stands p names drafts levels (beside_of g registers traps words) charge limit h extended (charge + count) cost fits
+      (record { gathering = h.beside_suffices.gathering; registers = h.beside_suffices.registers; traps = h.beside_suffices.traps; words = h.beside_suffices.words })
+
+  one_cost : (b : ℕ) → gathered_len (with_byte b (with_bytes bytes g.gathered)) ≡ gathered_len (with_bytes bytes g.gathered) + 1
+  one_cost b =
+      let all = ap gathered_len (with_bytes-append bytes b g.gathered) in
+      omega (arith, all, bytes_more bytes g.gathered more, bytes_more (bytes ++ b ∷ []) g.gathered more, length-append bytes (b ∷ []))
+
+  -- one byte more
+  pub gathering_charge : (b : ℕ) → charge_of (gathering b extended_store) ≡ charge + count + 1
+  gathering_charge b = let all = extended_charge in omega (arith, all, one_cost b)
 
 -- ---- registers
 

@@ -257,3 +257,18 @@ module _ {K : Type 0} (p : Texts Element) (names : Table Sense) (drafts : Items 
       let is : added xs (stored_of p names.entries drafts.items levels beside limit) ≡ record (stored_of p names.entries drafts.items levels beside limit) { building = record { text = text p d.id ++ xs; diversion = d.diversion } ∷ map (built_of p) ds } =
       ap (λ b. record (stored_of p names.entries drafts.items levels beside limit) { building = on_newest (longer xs) (map (built_of p) b) }) first in
       ap charge_of is ∙ charge_of-grown xs (built_of p d) (map (built_of p) ds) d.diversion (stored_of p names.entries drafts.items levels beside limit) (ap (map (built_of p)) first) ∙ ap (λ n. n + length xs) (sym was)
+
+-- with so many elements more, for which there is room
+module _ {K : Type 0} (p : Texts Element) (names : Table Sense) (drafts : Items Draft) (levels : Levels K) (beside : Beside) (charge limit : ℕ) (d : Draft) (ds : List Draft) (xs : List Element) (count : ℕ)
+    (h : IsStore p names drafts levels beside charge limit) (first : drafts.items ≡ d ∷ ds) (long : length xs ≡ count) (room : charge + count ≤ limit) where
+  pub run_stands : IsStore (with_text p d.id (text p d.id ++ xs)) names drafts levels beside (charge + count) limit
+  run_stands =
+      subst (λ n. IsStore (with_text p d.id (text p d.id ++ xs)) names drafts levels beside (charge + n) limit) long
+      (added_stands p names drafts levels beside charge limit d ds xs h first (omega (arith, long, room)))
+
+  pub run_afforded : charge_of (stored_of (with_text p d.id (text p d.id ++ xs)) names.entries drafts.items levels beside limit) ≤ limit
+  run_afforded = let charged = run_stands.charged in omega (arith, charged, room)
+
+  -- and then one more
+  pub charge_behind_run : (x : Element) → charge_of (added (x ∷ []) (stored_of (with_text p d.id (text p d.id ++ xs)) names.entries drafts.items levels beside limit)) ≡ charge + count + 1
+  charge_behind_run x = charge_of-added (with_text p d.id (text p d.id ++ xs)) names drafts levels beside (charge + count) limit d ds (x ∷ []) run_stands first

@@ -6,7 +6,7 @@ use Rattle.nr_units.specs.declared.cell.Cell.{Cell}
 use Rattle.nr_units.specs.declared.number_text.Format.{Format}
 use Rattle.nr_units.specs.declared.number_text.Format.TheVariants.{Arabic}
 use Rattle.nr_tables.specs.Named.{Named, is_same, find, put, without}
-use Rattle.nr_levels.specs.Gathered.{Gathered, none_gathered, gathered_len, bytes_in, with_byte, with_end}
+use Rattle.nr_levels.specs.Gathered.{Gathered, none_gathered, gathered_len, bytes_in, with_byte, with_bytes, with_end}
 use Rattle.nr_tables.specs.Words.{Word, word_weight, word_of}
 use Rattle.nr_tables.specs.Traps.{planted, unplanted, changed}
 use Rattle.nr_tables.specs.declared.trap.Trap.{Trap}
@@ -259,6 +259,10 @@ ungathered v = record v { gathered = none_gathered }
 -- with a byte more in the argument that is being read
 abbrev pub gathering : {K : Type 0} → ℕ → Stored K → Stored K
 gathering byte v = record v { gathered = with_byte byte v.gathered }
+
+-- with these bytes more in it, one after another
+abbrev pub gathering_all : {K : Type 0} → List ℕ → Stored K → Stored K
+gathering_all bytes v = record v { gathered = with_bytes bytes v.gathered }
 
 -- where the argument that is being read is read whole
 abbrev pub gathered_whole : {K : Type 0} → Stored K → Stored K

@@ -1,6 +1,7 @@
 //! What the store keeps beside texts, in slices that are lent: tables of what has a name, traps, hyphenation words.
 #![tactic(auto)]
 
+mod hints;
 pub mod table;
 pub mod trap;
 pub mod word;

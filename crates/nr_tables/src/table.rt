@@ -3,6 +3,7 @@ ghost use Rattle.std.specs.Prelude.{◌≡◌, ◌<◌, length, [], MatchResult,
 ghost use Rattle.nr_tables.specs.Named.{find, put, without};
 ghost use Rattle.nr_tables.specs.Rows.{IsSorted, IsFound, IsMissed};
 
+use crate::hints::Hints;
 use nr_units::Name;
 use nr_units::slice_vec::SliceVec;
 use std::cmp::Ordering;
@@ -43,13 +44,29 @@ fn place_of<V: Copy>(row: &[Entry<V>], name: Name) -> Result<usize, usize>
     Err(low)
 }
 
-/// What has a name, in a slice that is lent, in the order of the names. A name is found in as many steps as the
-/// logarithm of the number of names; one that is new or goes moves those behind it at once.
+// The same, where the name may stand at a place that is looked at first.
+#[inline]
+fn place_near<V: Copy>(row: &[Entry<V>], near: usize, name: Name) -> Result<usize, usize>
+    requires { IsSorted row.now }
+    ensures { MatchResult result (IsFound row.now name) (IsMissed row.now name) }
+{
+    if near >= row.len() {
+        return place_of(row, name);
+    }
+    match row[near].name.compare(&name) {
+        Ordering::Equal => Ok(near),
+        _ => place_of(row, name),
+    }
+}
+
+/// What has a name, in a slice that is lent, in the order of the names. A name is found at once, or in as many steps as
+/// the logarithm of the number of names; one that is new or goes moves those behind it at once.
 ///
 /// Clauses see the list of names with their values, and the room, the greatest number of names.
 #[derive(Drop)]
 pub struct Table<'a, V: Copy> {
     entries: SliceVec<'a, Entry<V>>,
+    hints: Hints,
 }
 
 impl<'a, V: Copy> Model for Table<'a, V> {
@@ -70,6 +87,7 @@ impl<'a, V: Copy> Table<'a, V> {
     {
         Table {
             entries: SliceVec::over(entries),
+            hints: Hints::new(),
         }
     }
 
@@ -84,7 +102,7 @@ impl<'a, V: Copy> Table<'a, V> {
     pub fn get(&self, name: Name) -> Option<V>
         ensures { result ≡ find name self.now.entries }
     {
-        match place_of(self.entries.as_slice(), name) {
+        match place_near(self.entries.as_slice(), self.hints.place(&name), name) {
             Ok(place) => {
                 let entry = self.entries.get(place);
                 Some(entry.value)
@@ -99,7 +117,7 @@ impl<'a, V: Copy> Table<'a, V> {
         ensures was { result ≡ find name self.old.entries }
         ensures is { self.new ≡ record self.old { entries = put name value self.old.entries } }
     {
-        match place_of(self.entries.as_slice(), name) {
+        match place_near(self.entries.as_slice(), self.hints.place(&name), name) {
             Ok(place) => {
                 let was = self.entries.get(place);
                 self.entries.set(place, Entry { name, value });
@@ -107,6 +125,7 @@ impl<'a, V: Copy> Table<'a, V> {
             }
             Err(place) => {
                 self.entries.insert(place, Entry { name, value });
+                self.hints.opened(&name, place);
                 None
             }
         }
@@ -118,10 +137,11 @@ impl<'a, V: Copy> Table<'a, V> {
         ensures is { self.new ≡ record self.old { entries = without name self.old.entries } }
         ensures gone { find name self.new.entries ≡ None }
     {
-        match place_of(self.entries.as_slice(), name) {
+        match place_near(self.entries.as_slice(), self.hints.place(&name), name) {
             Ok(place) => {
                 let was = self.entries.get(place);
                 self.entries.remove(place);
+                self.hints.closed(place);
                 Some(was.value)
             }
             Err(_) => None,

@@ -1,7 +1,7 @@
 // Arguments that are being read, and the call of a macro with them.
-ghost use Rattle.std.specs.Prelude.{◌≡◌, OnOk, OnErr, is_some};
+ghost use Rattle.std.specs.Prelude.{◌≡◌, ◌<◌, ◌≤◌, length, take, slice_index, OnOk, OnErr, is_some};
 ghost use Rattle.nr_tables.specs.Named.{find};
-ghost use Rattle.nr_store.specs.Stored.{afforded, checked, words, gathering, gathered_whole, ungathered, called};
+ghost use Rattle.nr_store.specs.Stored.{charge_of, afforded, checked, words, gathering, gathering_all, gathered_whole, ungathered, called};
 
 use crate::refusal::{Refusal, StoredBytes};
 use crate::store::Store;
@@ -34,6 +34,26 @@ impl<'a, K: Copy> Store<'a, K> {
         self.gathering.push(byte);
         self.charge += 1;
         Ok(())
+    }
+
+    /// Adds bytes to the argument that is being read, as calls of `add_argument_byte` for one after another do, up to the
+    /// first that is refused. Answers how many.
+    #[inline]
+    pub fn add_argument_bytes(&mut self, bytes: &[u8]) -> usize
+        ensures within { result ≤ length bytes.now }
+        ensures added { self.new ≡ gathering_all (take result bytes.now) self.old }
+        ensures afforded { charge_of self.new ≤ self.new.limit }
+        ensures most { result < length bytes.now → self.new.limit < charge_of (gathering (slice_index bytes.now result) self.new) }
+    {
+        let drops = self.gathering.is_full();
+        if drops {
+            return bytes.len();
+        }
+        let room = (self.stored - self.charge) as usize;
+        let count = room.min(bytes.len());
+        self.gathering.extend(&bytes[..count]);
+        self.charge += count as u32;
+        count
     }
 
     /// The argument that is being read is read whole.

@@ -1,13 +1,14 @@
 // Texts being built, and diversions.
-ghost use Rattle.std.specs.Prelude.{◌≡◌, ◌+◌, ◌∷◌, [], ◌++◌, ◌<◌, ◌≤◌, length, map, replicate, OnOk, OnErr, None, Some, slice_get};
+ghost use Rattle.std.specs.Prelude.{◌≡◌, ◌+◌, ◌∷◌, [], ◌++◌, ◌<◌, ◌≤◌, length, map, replicate, take, OnOk, OnErr, None, Some, slice_get, slice_index};
 ghost use Rattle.nr_pool.specs.Texts.{IsOpen, text, used, with_text};
 ghost use Rattle.nr_store.specs.declared.element.Element.TheVariants as elements;
-ghost use Rattle.nr_store.specs.Stored.{afforded, begun, text_of, fresh, added, diverted, defined, innermost, trapped, newest_diversion, diversion_ended, taken};
+ghost use Rattle.nr_store.specs.Stored.{charge_of, afforded, begun, text_of, fresh, added, diverted, defined, innermost, trapped, newest_diversion, diversion_ended, taken};
 
 use crate::element::{Diversion, Draft, Element};
 use crate::named::Sense;
 use crate::refusal::StoredBytes;
 use crate::store::Store;
+use crate::store::lines::append_all;
 use crate::store::names::text_in;
 use nr_tables::Trap;
 use nr_units::Name;
@@ -113,6 +114,25 @@ impl<'a, K: Copy> Store<'a, K> {
         };
         self.charge += 1;
         Ok(())
+    }
+
+    /// Adds bytes to the newest text being built, as calls of `add` for one after another do, up to the first that is
+    /// refused. Answers how many: all of them where no text is being built.
+    #[inline]
+    pub fn add_bytes(&mut self, bytes: &[u8]) -> usize
+        ensures within { result ≤ length bytes.now }
+        ensures added { self.new ≡ added (map elements.Byte (take result bytes.now)) self.old }
+        ensures afforded { charge_of self.new ≤ self.new.limit }
+        ensures most { result < length bytes.now → self.new.limit < charge_of (added (elements.Byte (slice_index bytes.now result) ∷ []) self.new) }
+    {
+        let Some(draft) = self.drafts.top() else {
+            return bytes.len();
+        };
+        let room = (self.stored - self.charge) as usize;
+        let count = room.min(bytes.len());
+        append_all(&mut self.pool, draft.id, &bytes[..count]);
+        self.charge += count as u32;
+        count
     }
 
     /// Gives the newest text being built a name. Levels go on reading the text that had it. Nothing happens where no text

@@ -1,8 +1,9 @@
 // Levels: texts that are being read.
-ghost use Rattle.std.specs.Prelude.{◌≡◌, ◌++◌, ◌≤◌, ◌<◌, nat_lt, length, drop, OnOk, OnErr, is_some, None, Some};
+ghost use Rattle.std.specs.Prelude.{◌≡◌, ◌++◌, ◌≤◌, ◌<◌, nat_lt, length, map, drop, OnOk, OnErr, is_some, None, Some};
 ghost use Rattle.nr_tables.specs.Named.{find};
 ghost use Rattle.nr_levels.specs.Levels.{argument};
 ghost use Rattle.nr_store.specs.Stored.{checked, words, entered, reading_bytes, shown, left, dropped, emptied};
+ghost use Rattle.nr_store.specs.declared.element.Element.TheVariants as elements;
 ghost use Rattle.nr_store.specs.Windows.{rest_of, left_times};
 ghost use Rattle.nr_store.specs.Sights.{Shows, shown_with};
 
@@ -168,7 +169,7 @@ impl<'a, K: Copy> Store<'a, K> {
 
     /// The elements that come next of the newest level, as far as they lie in one row: all that is left of a text, and
     /// none of bytes that were given or of an argument.
-    #[inline]
+    #[inline(always)]
     pub fn window(&self) -> &[Element]
         ensures within { length result.now ≤ length (rest_of self.now.levels) }
         ensures front { let rest = rest_of self.now.levels in result.now ++ drop (length result.now) rest ≡ rest }
@@ -184,8 +185,17 @@ impl<'a, K: Copy> Store<'a, K> {
         &text[place as usize..]
     }
 
+    /// The bytes that come next of the newest level, as far as they lie in one row: all that is left of bytes that were
+    /// given or of an argument, and none of a text.
+    #[inline(always)]
+    pub fn own_window(&self) -> &[u8]
+        ensures all { 0 < length result.now → map elements.Byte result.now ≡ rest_of self.now.levels }
+    {
+        self.levels.window()
+    }
+
     /// Takes so many elements of the newest level, which it has left.
-    #[inline]
+    #[inline(always)]
     pub fn skip(&mut self, n: u32)
         requires { n ≤ length (rest_of self.old.levels) }
         ensures { self.new ≡ left_times n self.old }

@@ -2,7 +2,8 @@
 ghost use Rattle.std.specs.Prelude.{◌≡◌, ◌+◌, ◌∷◌, [], ◌++◌, ◌≤◌, length, map, replicate, OnOk, OnErr};
 ghost use Rattle.std.specs.Option.{option_map};
 ghost use Rattle.nr_pool.specs.Texts.{IsOpen, text, used, with_text};
-ghost use Rattle.nr_store.specs.declared.element.Element.TheVariants.{Cell as cell_element};
+ghost use Rattle.nr_store.specs.declared.element.Element.{Element as AnElement};
+ghost use Rattle.nr_store.specs.declared.element.Element.TheVariants as elements;
 ghost use Rattle.nr_store.specs.Stored.{added, afforded, blank_cell, line_of, taken, diverted, diverted_end};
 
 use crate::element::{Diversion, Draft, Element};
@@ -11,7 +12,7 @@ use crate::store::Store;
 use nr_pool::{Id, Pool};
 use nr_units::cell::Cell;
 
-// How many cells are added to a text at once.
+// How many elements are added to a text at once.
 const BLOCK: usize = 16;
 
 // Adds blanks to a text.
@@ -25,27 +26,55 @@ fn append_blanks(pool: &mut Pool<'_, Element>, id: Id, n: u32)
     }
 }
 
-// Puts cells in a block as long as they are.
-fn fill(block: &mut [Element], cells: &[Cell])
-    requires { length block.old ≡ length cells.now }
-    ensures { block.new ≡ map cell_element cells.now }
-{
-    for i in 0..cells.len() {
-        block[i] = Element::Cell(cells[i]);
+// What is an element of a text.
+pub(super) trait Single: Copy {
+    // Which one.
+    ghost single: { Self → AnElement };
+
+    // The element.
+    fn element(self) -> Element
+        ensures { result ≡ single self };
+}
+
+impl Single for Cell {
+    ghost single = { elements.Cell };
+
+    #[inline(always)]
+    fn element(self) -> Element {
+        Element::Cell(self)
     }
 }
 
-// Adds cells to a text, a block at a time.
-fn append_cells(pool: &mut Pool<'_, Element>, id: Id, cells: &[Cell])
+impl Single for u8 {
+    ghost single = { elements.Byte };
+
+    #[inline(always)]
+    fn element(self) -> Element {
+        Element::Byte(self)
+    }
+}
+
+// Puts elements in a block as long as they are.
+fn fill<T: Single>(block: &mut [Element], more: &[T])
+    requires { length block.old ≡ length more.now }
+    ensures { block.new ≡ map T.single more.now }
+{
+    for i in 0..more.len() {
+        block[i] = more[i].element();
+    }
+}
+
+// Adds elements to a text, a block at a time.
+pub(super) fn append_all<T: Single>(pool: &mut Pool<'_, Element>, id: Id, more: &[T])
     requires is_open { IsOpen pool.old id }
-    requires room { used pool.old + length cells.now ≤ pool.old.capacity }
-    ensures { pool.new ≡ with_text pool.old id (text pool.old id ++ map cell_element cells.now) }
+    requires room { used pool.old + length more.now ≤ pool.old.capacity }
+    ensures { pool.new ≡ with_text pool.old id (text pool.old id ++ map T.single more.now) }
 {
     let mut block = [Element::LineEnd(0); BLOCK];
     let mut done = 0;
-    while done < cells.len() {
-        let count = (cells.len() - done).min(BLOCK);
-        fill(&mut block[..count], &cells[done..done + count]);
+    while done < more.len() {
+        let count = (more.len() - done).min(BLOCK);
+        fill(&mut block[..count], &more[done..done + count]);
         let _ = pool.append_slice(id, &block[..count]);
         done += count;
     }
@@ -58,7 +87,7 @@ fn append_line(pool: &mut Pool<'_, Element>, id: Id, indent: u32, cells: &[Cell]
     ensures { pool.new ≡ with_text pool.old id (text pool.old id ++ line_of indent cells.now height) }
 {
     append_blanks(pool, id, indent);
-    append_cells(pool, id, cells);
+    append_all(pool, id, cells);
     let _ = pool.append(id, Element::LineEnd(height));
 }
 
@@ -76,8 +105,8 @@ impl<'a, K: Copy> Store<'a, K> {
     /// Adds cells to the newest text being built: all of them or, where they can't be afforded, none. Nothing happens where
     /// none is being built.
     pub fn add_cells(&mut self, cells: &[Cell]) -> Result<(), StoredBytes>
-        ensures answer { result ≡ afforded (added (map cell_element cells.now) self.old) tt }
-        ensures ok { OnOk result (self.new ≡ added (map cell_element cells.now) self.old) }
+        ensures answer { result ≡ afforded (added (map elements.Cell cells.now) self.old) tt }
+        ensures ok { OnOk result (self.new ≡ added (map elements.Cell cells.now) self.old) }
         ensures err { OnErr result (self.new ≡ self.old) }
     {
         let Some(draft) = self.drafts.top() else {
@@ -87,7 +116,7 @@ impl<'a, K: Copy> Store<'a, K> {
         if room < cells.len() {
             return Err(StoredBytes);
         }
-        append_cells(&mut self.pool, draft.id, cells);
+        append_all(&mut self.pool, draft.id, cells);
         self.charge += cells.len() as u32;
         Ok(())
     }

@@ -21,14 +21,14 @@ returns-then-room-cells-clause-answer g c =
     let is = ap (λ (v : Stored _). charge_of (added xs v)) c.self.view_is in
     sym (unaffordable (added xs c.args.self.now) tt (omega arith))
 
-pub append_cells-requires-clause-is_open : goal.append_cells-requires-clause-is_open
-append_cells-requires-clause-is_open g c =
+pub append_all-requires-clause-is_open : goal.append_all-requires-clause-is_open
+append_all-requires-clause-is_open g c =
     let s = c.self.inside in
     let one = one_holder s.pool s.names s.drafts s.levels (beside_of s.gathering s.registers s.traps s.words) s.charge s.stored c.in-Some.draft (drop 1 s.drafts.items) (map elements.Cell c.args.cells.now) c.self.invariant (cons_of _ _ (sym c.top.ensures ∙ c.in-Some.is)) in
     omega arith
 
-pub append_cells-requires-clause-room : goal.append_cells-requires-clause-room
-append_cells-requires-clause-room g c =
+pub append_all-requires-clause-room : goal.append_all-requires-clause-room
+append_all-requires-clause-room g c =
     let s = c.self.inside in
     let below = c.self.invariant.within in
     let test = c.if-room-cells.false in
@@ -42,7 +42,7 @@ invariant_of-self g c =
     let test = c.if-room-cells.false in
     let long = length-map c.args.cells.now elements.Cell in
     let more : s.charge + length xs ≡ s.charge + length c.args.cells.now = omega arith in
-    rw (c.append_cells.ensures, sym more) (added_stands s.pool s.names s.drafts s.levels (beside_of s.gathering s.registers s.traps s.words) s.charge s.stored c.in-Some.draft (drop 1 s.drafts.items) xs c.self.invariant (cons_of _ _ (sym c.top.ensures ∙ c.in-Some.is)) (omega arith))
+    rw (c.append_all.ensures, sym more) (added_stands s.pool s.names s.drafts s.levels (beside_of s.gathering s.registers s.traps s.words) s.charge s.stored c.in-Some.draft (drop 1 s.drafts.items) xs c.self.invariant (cons_of _ _ (sym c.top.ensures ∙ c.in-Some.is)) (omega arith))
 
 pub returns-clause-answer : goal.returns-clause-answer
 returns-clause-answer g c =
@@ -62,4 +62,4 @@ pub returns-clause-ok : goal.returns-clause-ok
 returns-clause-ok g c =
     let s = c.self.inside in
     let xs = map elements.Cell c.args.cells.now in
-    rw c.append_cells.ensures (added_is s.pool s.names s.drafts s.levels (beside_of s.gathering s.registers s.traps s.words) s.charge s.stored c.in-Some.draft (drop 1 s.drafts.items) xs c.self.invariant (cons_of _ _ (sym c.top.ensures ∙ c.in-Some.is)) ∙ ap (added xs) c.self.view_is)
+    rw c.append_all.ensures (added_is s.pool s.names s.drafts s.levels (beside_of s.gathering s.registers s.traps s.words) s.charge s.stored c.in-Some.draft (drop 1 s.drafts.items) xs c.self.invariant (cons_of _ _ (sym c.top.ensures ∙ c.in-Some.is)) ∙ ap (added xs) c.self.view_is)
