@@ -1,6 +1,12 @@
 mod Hearing
+pub mod Adding
 pub mod Costs
 pub mod Items
+pub mod Putting
+pub mod PuttingLevel
+pub mod PuttingRead
+pub mod Rows
+pub mod RowsRead
 pub mod Spending
 pub mod Staying
 pub mod Taking

@@ -54,7 +54,7 @@ base_more : {K : Type 0} (appends : Bool) (name : List ℕ) (v : Stored K) → N
 base_more true name v = begun_more (text_of name v) v
 base_more false name v = begun_more [] v
 
-longer_count : (xs : List Element) (building : List Built) → diversions_in (on_newest (longer xs) building) ≡ diversions_in building
+pub longer_count : (xs : List Element) (building : List Built) → diversions_in (on_newest (longer xs) building) ≡ diversions_in building
 longer_count xs [] = refl
 longer_count xs (b ∷ bs) = omega (arith, sum_by-cons diversions_of (longer xs b) bs, sum_by-cons diversions_of b bs)
 

@@ -5,5 +5,6 @@ pub mod Hearing
 pub mod Laws
 pub mod Moving
 pub mod Refusals
+pub mod Runs
 pub mod Splicing
 pub mod Weights

@@ -3,11 +3,14 @@
 #![tactic(auto)]
 
 mod acting;
+mod arguments;
 mod at_hand;
+mod defined_texts;
 mod moving;
 mod place;
 mod reader;
 mod refusal;
+mod runs;
 mod setting;
 mod splicing;
 #[cfg(test)]
@@ -20,5 +23,6 @@ pub use nr_reading::{Event, Question, Standing};
 pub use place::{Ahead, Place};
 pub use reader::Reader;
 pub use refusal::Refusal;
+pub use runs::read_run;
 pub use splicing::Definition;
 pub use told::{Heard, Told};

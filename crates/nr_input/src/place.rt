@@ -52,6 +52,7 @@ impl Place {
     ghost use Rattle.nr_store.specs.Sights.{shown_with};
     ghost use Rattle.nr_input.specs.Coming.{Coming, Reached, HoldsComing, AfterSee, AfterLook, is_seen, is_ready, seen_front, passed, ended, front_seen, passed_in, StaysThere, nothing_reached, behind, emptied, fails_now, has_failed};
     ghost use Rattle.nr_input.specs.AtHand.{is_unseen, passed_many};
+    ghost use Rattle.nr_input.specs.Runs.{passed_run};
 
     /// Nothing is taken yet.
     pub fn new() -> Self
@@ -98,6 +99,17 @@ impl Place {
     {
         self.taken += n as u64;
         self.inside = true;
+    }
+
+    /// So many bytes were taken, and this was the last.
+    #[inline]
+    pub(crate) fn pass_run(&mut self, last: u8, n: usize)
+        requires unseen { is_unseen self.old.ahead ≡ true }
+        requires room { self.old.taken + n < 2 ^ 40 }
+        ensures { self.new ≡ passed_run last n self.old }
+    {
+        self.taken += n as u64;
+        self.inside = last != b'\n';
     }
 
     // The byte in front of the source is read ahead, or its end is seen.

@@ -1,4 +1,6 @@
 pub mod Fronts
+pub mod InArgument
+pub mod InDefinition
 pub mod InText
 pub mod Newest
 pub mod Over
@@ -10,3 +12,6 @@ pub mod Escaped
 pub mod Unescaped
 pub mod Weighing
 pub mod Stacked
+pub mod Moving
+pub mod PlainBytes
+pub mod ControlNames

@@ -1,6 +1,6 @@
 -- Each item that meets what is half read pays for what comes of it.
 use Rattle.std.specs.Prelude.{sum_by, ◌&&◌, nat_lt, length}
-use Rattle.std.proofs.Common.{◌≡◌, ℕ, ◌+◌, ◌≤◌, ◌==◌, Bool, true, false, if◌then◌else◌, List, [], ◌∷◌, refl, ap, ◌∙◌, arith}
+use Rattle.std.proofs.Common.{◌≡◌, ℕ, ◌+◌, ◌≤◌, ◌==◌, Bool, true, false, if◌then◌else◌, List, [], ◌∷◌, refl, sym, subst, ap, ◌∙◌, arith}
 use Rattle.std.proofs.lemmas.List.Sums.{sum_by-cons}
 use Rattle.nr_reading.specs.declared.ask.Ask.{Ask}
 use Rattle.nr_reading.specs.declared.ask.Kind.{Kind}
@@ -12,6 +12,7 @@ use Rattle.nr_reading.specs.declared.event.Event.{Event}
 use Rattle.nr_reading.specs.declared.front.Front.{Front}
 use Rattle.nr_reading.specs.declared.front.Front.TheVariants as fronts
 use Rattle.nr_reading.specs.declared.half.Half.{Half}
+use Rattle.nr_reading.specs.declared.half.Seen.{Seen}
 use Rattle.nr_reading.specs.declared.mode.Due.{Due}
 use Rattle.nr_reading.specs.declared.mode.Due.TheVariants as dues
 use Rattle.nr_reading.specs.declared.mode.Escape.{Escape}
@@ -27,12 +28,12 @@ use Rattle.nr_reading.specs.Steps.{Step}
 use Rattle.nr_reading.specs.Asking.{begun_ask, first_stage, answer, cut, reads_argument, is_size}
 use Rattle.nr_reading.specs.Copying.{offer, raw_offer, escaped}
 use Rattle.nr_reading.specs.Delimiting.{Texts}
-use Rattle.nr_reading.specs.Meeting.{asking, too_deep, left_escape, met_directly, met_copied, asked_by, silent, hear_by, over_by, offered, meet}
+use Rattle.nr_reading.specs.Meeting.{Met, met, asking, too_deep, left_escape, met_directly, met_copied, asked_by, silent, hear_by, over_by, offered, meet}
 use Rattle.nr_reading.specs.Modes.{is_direct, reads_arguments}
 use Rattle.nr_reading.specs.Nesting.{may_nest}
 use Rattle.nr_reading.specs.Noting.{noted}
 use Rattle.nr_reading.specs.Reading.{read, read_over, direct}
-use Rattle.nr_reading.specs.Weights.{worth_of_front, paid_by, weight_by, weight_of_escape, weight_of_backslash, weight_of_half, weight_of_ask, blanks_owed}
+use Rattle.nr_reading.specs.Weights.{PaysFor, worth_of_front, paid_by, weight_by, weight_of_escape, weight_of_backslash, weight_of_half, weight_of_ask, blanks_owed}
 use Rattle.nr_reading.proofs.Asked.{Meets, half_at, left_escape-le, answer_answers, front_meets, backslash_meets, stop_meets}
 use Rattle.nr_reading.proofs.Copied.{Hears, read_hears, over_hears}
 use Rattle.nr_reading.proofs.Escaped.{direct_pays}
@@ -284,3 +285,7 @@ due_meets due asks f m e c n s d o is = let wrong : ⊥ = cc in absurd wrong
 pub meet_meets : (f : Front) (h : Half) → h.reading.due ≡ dues.Look → Meets h (worth_of_front f) (meet f h)
 meet_meets f h is =
     due_meets h.reading.due h.asks f h.reading.mode h.reading.escape h.reading.continued h.reading.no_break h.signs h.delimited h.notes is
+
+-- the same, as the program has it
+pub pays_for : (f : Front) (h k : Half) (seen : Seen) → met k seen ≡ meet f h → h.reading.due ≡ dues.Look → PaysFor f h k seen
+pays_for f h k seen is look = let m : Meets h (worth_of_front f) (met k seen) = subst (λ (x : Met). Meets h (worth_of_front f) x) (sym is) (meet_meets f h look) in record { pays = m.pays; tells = m.tells }

@@ -13,6 +13,7 @@ use Rattle.nr_reading.specs.declared.event.Event.TheVariants as events
 use Rattle.nr_reading.specs.declared.front.Front.{Front}
 use Rattle.nr_reading.specs.declared.half.Half.{Half}
 use Rattle.nr_reading.specs.declared.half.Seen.{Seen}
+use Rattle.nr_reading.specs.declared.mode.Due.{Due}
 use Rattle.nr_reading.specs.declared.mode.Due.TheVariants as dues
 use Rattle.nr_reading.specs.declared.mode.Escape.{Escape}
 use Rattle.nr_reading.specs.declared.mode.Escape.TheVariants as escapes
@@ -187,3 +188,11 @@ reads_plainly_at asks e = false
 
 abbrev pub reads_plainly : Half → Bool
 reads_plainly h = reads_plainly_at h.asks h.reading.escape
+
+-- an item is read next, and no part of an escape is half read
+abbrev pub reads_next_at : Due → List Ask → Escape → Bool
+reads_next_at dues.Look asks e = reads_plainly_at asks e
+reads_next_at d asks e = false
+
+abbrev pub reads_next : Half → Bool
+reads_next h = reads_next_at h.reading.due h.asks h.reading.escape

@@ -1,5 +1,4 @@
 //! The front of the list of items.
-ghost use Rattle.std.specs.Prelude.{◌≡◌};
 
 use nr_units::cell::Cell;
 
@@ -18,21 +17,4 @@ pub enum Front {
     Resume,
     /// The list is empty.
     Over,
-}
-
-impl Front {
-    /// The same, put together anew: what a call is given lies in memory, and this need not.
-    #[inline(always)]
-    pub(crate) fn anew(self) -> Front
-        ensures { result ≡ self }
-    {
-        match self {
-            Front::Mark => Front::Mark,
-            Front::Byte(byte) => Front::Byte(byte),
-            Front::Cell(cell) => Front::Cell(cell),
-            Front::LineEnd(height) => Front::LineEnd(height),
-            Front::Resume => Front::Resume,
-            Front::Over => Front::Over,
-        }
-    }
 }

@@ -61,7 +61,7 @@ impl Half {
     ghost use Rattle.nr_reading.specs.Rereading.{is_rereading};
     ghost use Rattle.nr_reading.specs.Spelling.{name_of};
     ghost use Rattle.nr_reading.specs.Steps.{note_of};
-    ghost use Rattle.nr_reading.specs.Meeting.{asking, too_deep, beginning, settled, replaced, finished, argued, longer, answered, asked_by, noted_in, met_directly, met_copied, hear_by, over_by, escaping, silent, offered, meet_by, met, offer_by, reads_directly, reads_plainly};
+    ghost use Rattle.nr_reading.specs.Meeting.{asking, too_deep, beginning, settled, replaced, finished, argued, longer, answered, asked_by, noted_in, met_directly, met_copied, hear_by, over_by, escaping, silent, offered, meet_by, met, offer_by, reads_directly, reads_plainly, reads_next};
     ghost use Rattle.nr_reading.specs.Modes.{is_direct};
     ghost use Rattle.nr_reading.specs.declared.front.Front.TheVariants as fronts;
     ghost use Rattle.nr_reading.specs.Weights.{PaysFor};
@@ -84,10 +84,7 @@ impl Half {
     pub fn is_in_text(&self) -> bool
         ensures { result ≡ is_in_text self.now }
     {
-        match (self.reading.mode, self.reading.escape, self.reading.due) {
-            (Mode::Text, Escape::Plain, Due::Look) => self.asks.is_empty(),
-            _ => false,
-        }
+        matches!(self.reading.mode, Mode::Text) && self.reads_next()
     }
 
     /// Whether the next item is read in the midst of a diverted line.
@@ -95,10 +92,7 @@ impl Half {
     pub fn is_rereading(&self) -> bool
         ensures { result ≡ is_rereading self.now }
     {
-        match (self.reading.mode, self.reading.escape, self.reading.due) {
-            (Mode::Diverted, Escape::Plain, Due::Look) => self.asks.is_empty(),
-            _ => false,
-        }
+        matches!(self.reading.mode, Mode::Diverted) && self.reads_next()
     }
 
     // An escape whose argument is still to be read begins.
@@ -289,7 +283,7 @@ impl Half {
     }
 
     // The item in front, whatever it is.
-    #[inline(never)]
+    #[inline]
     fn meet_item(&mut self, front: Front) -> Seen
         ensures { met self.new result ≡ meet front self.old }
     {
@@ -312,9 +306,17 @@ impl Half {
         self.asks.is_empty() && self.reading.mode.is_direct()
     }
 
+    /// Whether an item is read next, behind no part of an escape.
+    #[inline(always)]
+    pub(crate) fn reads_next(&self) -> bool
+        ensures { result ≡ reads_next self.now }
+    {
+        matches!(self.reading.due, Due::Look) && self.reads_plainly()
+    }
+
     // Whether no part of an escape is half read.
     #[inline(always)]
-    fn reads_plainly(&self) -> bool
+    pub(crate) fn reads_plainly(&self) -> bool
         ensures { result ≡ reads_plainly self.now }
     {
         matches!(self.reading.escape, Escape::Plain) && self.asks.is_empty()
@@ -355,20 +357,26 @@ impl Half {
     }
 
     /// What the item in front does.
-    #[inline]
+    #[inline(never)]
     pub fn meet(&mut self, front: Front) -> Seen
         ensures meets { met self.new result ≡ meet front self.old }
         ensures pays { self.old.reading.due ≡ Due.Look → PaysFor front self.old self.new result }
     {
+        self.meet_item(front)
+    }
+
+    /// What a byte in front does, as a part of a loop.
+    #[inline]
+    pub(crate) fn meet_byte(&mut self, byte: u8) -> Seen
+        ensures meets { met self.new result ≡ meet (fronts.Byte byte) self.old }
+        ensures pays { self.old.reading.due ≡ Due.Look → PaysFor (fronts.Byte byte) self.old self.new result }
+    {
         if !self.reads_plainly() {
-            return self.meet_item(front.anew()).anew();
+            return self.meet(Front::Byte(byte)).anew();
         }
         if self.reading.mode.is_direct() {
-            return self.meet_unescaped(front);
+            return self.meet_unescaped(Front::Byte(byte));
         }
-        match front {
-            Front::Byte(byte) => self.copy_byte(byte),
-            _ => self.meet_item(front.anew()).anew(),
-        }
+        self.copy_byte(byte)
     }
 }

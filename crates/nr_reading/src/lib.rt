@@ -2,11 +2,14 @@
 #![tactic(auto)]
 
 mod answers;
+mod arguments;
 mod ask;
 mod asks;
 mod conditionals;
 mod conditions;
 mod control;
+mod control_names;
+mod defined_texts;
 mod definitions;
 mod delimited;
 mod escape;
@@ -16,7 +19,9 @@ mod half;
 mod kept;
 mod mode;
 mod notes;
+mod passing;
 mod reader;
+mod runs;
 mod seeking;
 mod setting;
 mod skipping;
@@ -37,4 +42,5 @@ pub use half::{Half, Seen};
 pub use kept::Kept;
 pub use mode::{Calls, Due, Escape, Mode, Reading, Signs, Standing};
 pub use notes::{Condition, Defining, Notes};
+pub use runs::{Items, Run};
 pub use spelled::Spelled;

@@ -1,0 +1,166 @@
+-- Bytes that are added one by one to what is stored, as moves of the machine that reads; and how an argument grows by them.
+use Rattle.std.specs.Prelude.{slice_get, slice_index}
+use Rattle.std.proofs.Common.{◌≡◌, ℕ, zero, suc, ◌+◌, ◌*◌, ◌<◌, ◌≤◌, ◌==◌, true, false, List, length, take, Option, Some, Ok, IsOk, Result, inl, inr, refl, ap, sym, ◌∙◌, subst, arith}
+use Rattle.std.proofs.Math.Seq.{take-suc}
+use Rattle.std.proofs.lemmas.Bool.{cases_lt, cases_Bool, cond-false, le-ltb}
+use Rattle.std.proofs.lemmas.List.{length-append, length-take}
+use Rattle.nr_units.specs.Supply.{Supply}
+use Rattle.nr_levels.specs.Gathered.{Gathered, gathered_len, with_bytes}
+use Rattle.nr_levels.specs.Laws.{with_bytes-full, with_bytes-more, with_bytes-append}
+use Rattle.nr_store.specs.Stored.{Stored, charge_of, afforded, gathering, gathering_all}
+use Rattle.nr_store.specs.declared.refusal.StoredBytes.{StoredBytes}
+use Rattle.nr_reading.specs.declared.event.Event.TheVariants as events
+use Rattle.nr_reading.specs.declared.front.Front.{Front}
+use Rattle.nr_reading.specs.declared.front.Front.TheVariants as fronts
+use Rattle.nr_reading.specs.declared.half.Half.{Half}
+use Rattle.nr_reading.specs.declared.mode.Due.{Due}
+use Rattle.nr_reading.specs.declared.mode.Due.TheVariants as dues
+use Rattle.nr_reading.specs.Meeting.{Met, meet}
+use Rattle.nr_reading.specs.Runs.{Spot, MayGoOn, behind, behind_met}
+use Rattle.nr_input.specs.declared.reader.Reader.{Reader}
+use Rattle.nr_input.specs.declared.told.Told.TheVariants as tells
+use Rattle.nr_input.specs.Acting.{Acted, act, storing, is_look, next, then_due, idle}
+use Rattle.nr_input.specs.Coming.{Coming, Reached}
+use Rattle.nr_input.specs.Moving.{Situation, Move, Stands, situation, move, told_by, acting, Goes, GoesBy}
+use Rattle.nr_input.specs.Runs.{HasRead, moves, told_last}
+use Rattle.nr_input.proofs.Rows.{Goings}
+
+-- ---- moves that tell nothing
+
+-- such a move leads there
+abbrev pub quiet : {K : Type 0} → Situation K → Move K
+quiet s = record { situation = s; told = tells.Event events.Nothing }
+
+-- n moves lead there, and none tells anything
+pub record Quietly {K : Type 0} (n : ℕ) (s t : Situation K) : Type 0 where
+  pub goes : (k : ℕ) → k < n → Goes (moves k s)
+  pub silent : (k : ℕ) → k ≤ n → told_last k s ≡ tells.Event events.Nothing
+  pub leads : moves n s ≡ t
+
+silent_none : {K : Type 0} (k : ℕ) (s : Situation K) → k ≤ 0 → told_last k s ≡ tells.Event events.Nothing
+silent_none zero s few = refl
+silent_none (suc k) s few = absurd (omega (arith, few))
+
+no_moves : {K : Type 0} (s : Situation K) → Quietly 0 s s
+no_moves s = record { goes = λ k below. absurd (omega (arith, below)); silent = λ k few. silent_none k s few; leads = refl }
+
+one_more : {K : Type 0} (n : ℕ) (s t u : Situation K) → Quietly n s t → Goes t → move t ≡ quiet u → Quietly (suc n) s u
+one_more n s t u so_far goes is = record {
+  goes = λ k below. elim (cases_lt k n) [
+    | inl less ↦ so_far.goes k less
+    | inr last ↦ let same : n ≡ k = omega (arith, below, last) in subst (λ j. Goes (moves j s)) same (subst Goes (sym so_far.leads) goes)
+  ];
+  silent = λ k within. elim (cases_lt n k) [
+    | inl last ↦
+        let same : suc n ≡ k = omega (arith, within, last) in
+        subst (λ j. told_last j s ≡ tells.Event events.Nothing) same (ap (λ x. (move x).told) so_far.leads ∙ ap (λ m. m.told) is)
+    | inr few ↦ so_far.silent k few
+  ];
+  leads = ap (λ x. (move x).situation) so_far.leads ∙ ap (λ m. m.situation) is;
+}
+
+pub has_read_quietly : {K : Type 0} (n : ℕ) (s t : Situation K) (v : Stored K) (r : Reader) (q : Reached) (supply : Option Supply) → Quietly n s t → Stands t v r q supply → HasRead n s events.Nothing v r q supply
+has_read_quietly n s t v r q supply all stands = record {
+  goes = all.goes;
+  quiet = λ k below. all.silent k (omega (arith, below));
+  tells = all.silent n (omega arith);
+  stands = subst (λ x. Stands x v r q supply) (sym all.leads) stands;
+}
+
+-- ---- a byte that is to be added
+
+storing_ok : {K : Type 0} (a : Result (Unit {0}) StoredBytes) (w : Stored K) (r : Reader) (v : Stored K) (q : Reader) → a ≡ Ok tt → storing a w r v q ≡ storing (Ok tt) w r v q
+storing_ok a w r v q is = ap (λ x. storing x w r v q) is
+
+-- what is due adds to what is stored, and that is within the limit
+pub record Adds {K : Type 0} (d : Due) (w w' : Stored K) : Type 0 where
+  pub waits : is_look d ≡ false
+  pub acts : (r : Reader) → act d w (then_due d r) ≡ storing (afforded w' tt) w' (idle (then_due d r)) w (then_due d r)
+  pub fits : charge_of w' ≤ w'.limit
+
+module _ {K : Type 0} (d : Due) (w w' : Stored K) (c : Coming) (r : Reader) (adds : Adds d w w') where
+  -- where it is due
+  abbrev pub before_put : Situation K
+  before_put = situation w c (then_due d r)
+
+  acts : acting before_put ≡ storing (Ok tt) w' (idle (then_due d r)) w (then_due d r)
+  acts = adds.acts r ∙ storing_ok (afforded w' tt) w' (idle (then_due d r)) w (then_due d r) (cond-false _ _ _ (le-ltb w'.limit (charge_of w') adds.fits))
+
+  pub goes_put : Goes before_put
+  goes_put = subst (λ l. GoesBy l before_put) (sym adds.waits) (subst (λ (a : Acted K). IsOk a.answer) (sym acts) refl)
+
+  pub move-put : r.half.reading.due ≡ dues.Look → move before_put ≡ quiet (situation w' c r)
+  move-put due =
+      cond-false (is_look d) _ _ adds.waits
+      ∙ ap (λ (a : Acted K). record { situation = situation a.stored c a.reader; told = told_by a.answer }) acts
+      ∙ ap (λ (x : Due). quiet (situation w' c (then_due x r))) (sym due)
+
+-- ---- each byte is taken and added
+
+abbrev pub twice : ℕ → ℕ
+twice zero = zero
+twice (suc n) = suc (suc (twice n))
+
+pub twice-is : (n : ℕ) → twice n ≡ 2 * n
+twice-is zero = refl
+twice-is (suc n) = omega (arith, twice-is n)
+
+-- behind so many items of a row
+abbrev pub spot_at : ℕ → Half → Spot
+spot_at k h = record { taken = k; half = h; event = events.Nothing }
+
+-- n bytes of a row can be added one after another, where so many were added
+pub record Puttings {K : Type 0} (n : ℕ) (fs : List Front) (byte : ℕ → ℕ) (due : ℕ → Due) (h : Half) (at : ℕ → Spot → Situation K) : Type 0 where
+  pub goings : (k : ℕ) → k < n → Goings fs (at k)
+  pub meets : (k : ℕ) → k < n → meet (fronts.Byte (byte k)) h ≡ record { half = next (due k) h; event = events.Nothing; takes = true }
+  pub fronts : (k : ℕ) → k < n → slice_get fs k ≡ Some (fronts.Byte (byte k))
+  pub goes : (k : ℕ) → k < n → Goes (at k (spot_at (suc k) (next (due k) h)))
+  pub puts : (k : ℕ) → k < n → move (at k (spot_at (suc k) (next (due k) h))) ≡ quiet (at (suc k) (spot_at (suc k) h))
+
+module _ {K : Type 0} (n : ℕ) (fs : List Front) (byte : ℕ → ℕ) (due : ℕ → Due) (h : Half) (at : ℕ → Spot → Situation K) (looks : h.reading.due ≡ dues.Look) (within : n ≤ length fs) (each : Puttings n fs byte due h at) where
+  met_there : (k : ℕ) → k < n → behind (slice_get fs k) (spot_at k h) ≡ spot_at (suc k) (next (due k) h)
+  met_there k below =
+      let more : k + 1 ≡ suc k = omega arith in
+      ap (λ f. behind f (spot_at k h)) (each.fronts k below) ∙ ap (λ (m : Met). behind_met m k) (each.meets k below) ∙ ap (λ j. spot_at j (next (due k) h)) more
+
+  taken_there : (k : ℕ) → k < n → MayGoOn fs (spot_at k h)
+  taken_there k below = record { some = omega (arith, below, within); due = looks; event = refl }
+
+  takes : (k : ℕ) → (below : k < n) → move (at k (spot_at k h)) ≡ quiet (at k (spot_at (suc k) (next (due k) h)))
+  takes k below =
+      (each.goings k below).leads (spot_at k h) (taken_there k below) ∙ ap (λ (x : Spot). record { situation = at k x; told = tells.Event x.event }) (met_there k below)
+
+  pub all_put : (k : ℕ) → k ≤ n → Quietly (twice k) (at 0 (spot_at 0 h)) (at k (spot_at k h))
+  all_put zero few = no_moves (at 0 (spot_at 0 h))
+  all_put (suc k) few =
+      let taken = one_more (twice k) _ _ _ (all_put k (omega (arith, few))) ((each.goings k few).goes (spot_at k h) (taken_there k few)) (takes k few) in
+      one_more (suc (twice k)) _ _ _ taken (each.goes k few) (each.puts k few)
+
+-- ---- an argument
+
+-- a byte is put where that is within the limit
+pub puts_byte : {K : Type 0} (b : ℕ) (w : Stored K) → charge_of (gathering b w) ≤ w.limit → Adds (dues.Put b) w (gathering b w)
+puts_byte b w fits = record { waits = refl; acts = λ r. refl; fits = fits }
+
+-- one byte more
+pub gathering-all : {K : Type 0} (k : ℕ) (bs : List ℕ) (v : Stored K) → k < length bs → gathering (slice_index bs k) (gathering_all (take k bs) v) ≡ gathering_all (take (suc k) bs) v
+gathering-all k bs v less =
+    ap (λ (g : Gathered). record v { gathered = g }) (sym (with_bytes-append (take k bs) (slice_index bs k) v.gathered) ∙ ap (λ (ys : List ℕ). with_bytes ys v.gathered) (sym (take-suc bs k 0 less)))
+
+-- more bytes are charged no less
+pub gathered_len-le : (xs ys : List ℕ) (g : Gathered) → length xs ≤ length ys → gathered_len (with_bytes xs g) ≤ gathered_len (with_bytes ys g)
+gathered_len-le xs ys g fewer = elim (cases_Bool (length g.kept == 9)) [
+  | inl full ↦ let x = ap gathered_len (with_bytes-full xs g full) in let y = ap gathered_len (with_bytes-full ys g full) in omega (arith, x, y)
+  | inr more ↦
+      let x = ap gathered_len (with_bytes-more xs g more) in
+      let y = ap gathered_len (with_bytes-more ys g more) in
+      omega (arith, x, y, fewer, length-append g.last xs, length-append g.last ys)
+]
+
+-- where all can be stored, so can some
+pub charge_of-some : {K : Type 0} (k n : ℕ) (bs : List ℕ) (v : Stored K) → k < n → n ≤ length bs → charge_of (gathering_all (take n bs) v) ≤ v.limit
+    → charge_of (gathering (slice_index bs k) (gathering_all (take k bs) v)) ≤ v.limit
+charge_of-some k n bs v below within fits =
+    let less = gathered_len-le (take (suc k) bs) (take n bs) v.gathered (omega (arith, below, within, length-take (suc k) bs, length-take n bs)) in
+    let is = ap (λ (w : Stored _). charge_of w) (gathering-all k bs v (omega (arith, below, within))) in
+    omega (arith, is, less, fits)

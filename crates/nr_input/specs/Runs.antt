@@ -1,0 +1,55 @@
+-- Many moves of the machine that reads, of which only the last may tell something.
+use Rattle.std.specs.Prelude.{◌≡◌, ℕ, zero, suc, ◌+◌, ◌*◌, ◌<◌, ◌≤◌, ◌==◌, Bool, false, not, List, slice_index, Option}
+use Rattle.nr_units.specs.Supply.{Supply, skipped}
+use Rattle.nr_store.specs.Stored.{Stored}
+use Rattle.nr_reading.specs.declared.event.Event.{Event}
+use Rattle.nr_reading.specs.declared.event.Event.TheVariants as events
+use Rattle.nr_reading.specs.Weights.{cost_of_event, is_lead}
+use Rattle.nr_input.specs.declared.reader.Reader.{Reader}
+use Rattle.nr_input.specs.declared.place.Ahead.TheVariants.{Unseen}
+use Rattle.nr_input.specs.declared.told.Told.{Told}
+use Rattle.nr_input.specs.declared.told.Told.TheVariants as tells
+use Rattle.nr_input.specs.Coming.{Coming, Reached}
+use Rattle.nr_input.specs.Moving.{Situation, Stands, move, Goes}
+use Rattle.nr_input.specs.Weights.{weight_before_byte, byte_worth, risen, diversions_in}
+
+-- behind n moves
+abbrev pub moves : {K : Type 0} → ℕ → Situation K → Situation K
+moves zero s = s
+moves (suc n) s = (move (moves n s)).situation
+
+-- what the last of them told
+abbrev pub told_last : {K : Type 0} → ℕ → Situation K → Told K
+told_last zero s = tells.Event events.Nothing
+told_last (suc n) s = (move (moves n s)).told
+
+-- n moves were made, all but the last told nothing and the last this, and the program stands where they lead
+pub record HasRead {K : Type 0} (n : ℕ) (s : Situation K) (e : Event) (v : Stored K) (r : Reader) (p : Reached) (supply : Option Supply) : Type 0 where
+  pub goes : (k : ℕ) → k < n → Goes (moves k s)
+  pub quiet : (k : ℕ) → k < n → told_last k s ≡ tells.Event events.Nothing
+  pub tells : told_last n s ≡ tells.Event e
+  pub stands : Stands (moves n s) v r p supply
+
+-- n moves were made: they are paid out of what may still come, and each byte that they took pays this much or more
+pub record PaysAll {K : Type 0} (n : ℕ) (v : Stored K) (p : Reached) (r : Reader) (e : Event) (v' : Stored K) (p' : Reached) (r' : Reader) : Type 0 where
+  pub limit : v'.limit ≡ v.limit
+  pub diversions : diversions_in v'.building ≡ diversions_in v.building
+  pub most : r'.most ≡ r.most
+  pub pays : (worth : ℕ) → byte_worth r.most v.limit ≤ worth →
+      weight_before_byte v' p' r' + cost_of_event e + n + 178 * risen r.half r'.half + worth * p.taken ≤ weight_before_byte v p r + 1 + worth * p'.taken
+  pub tells : is_lead e ≡ false
+
+-- ---- bytes that the source has at hand
+
+-- the last of so many bytes is no newline
+abbrev pub inside_behind : ℕ → List ℕ → Bool → Bool
+inside_behind zero bs inside = inside
+inside_behind (suc n) bs inside = not (slice_index bs n == 10)
+
+-- behind the next n bytes
+abbrev pub behind_run : ℕ → Coming → Coming
+behind_run n c = record { supply = skipped n c.supply; taken = c.taken + n; inside = inside_behind n c.supply.bytes c.inside }
+
+-- so many bytes were taken, and this was the last
+abbrev pub passed_run : ℕ → ℕ → Reached → Reached
+passed_run last n p = record { ahead = Unseen; taken = p.taken + n; inside = not (last == 10) }

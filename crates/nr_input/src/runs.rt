@@ -1,0 +1,130 @@
+//! Many moves over items that lie in a row.
+ghost use Rattle.std.specs.Prelude.{◌≡◌, ◌≤◌, ◌++◌, map, false, Option};
+ghost use Rattle.nr_units.specs.Supply.{Supply};
+ghost use Rattle.nr_reading.specs.declared.front.Front.TheVariants as variants;
+ghost use Rattle.nr_input.specs.Coming.{Coming, Reached, HoldsComing, element_front, has_failed};
+ghost use Rattle.nr_input.specs.Moving.{situation};
+ghost use Rattle.nr_input.specs.Runs.{HasRead, PaysAll};
+
+use super::arguments::{read_argument, read_level_argument};
+use super::at_hand::window;
+use super::defined_texts::read_definition;
+use super::place::Place;
+use super::reader::Reader;
+use nr_reading::{Items, Run};
+use nr_store::{Element, Store};
+use nr_units::source::Source;
+
+/// The most bytes that are added in one run: each is two moves.
+pub(crate) const LONGEST: usize = 32_768;
+
+/// Bytes, and elements behind them, as items in a row.
+#[derive(Clone, Copy)]
+struct Row<'a> {
+    bytes: &'a [u8],
+    elements: &'a [Element],
+}
+
+impl<'a> Items for Row<'a> {
+    ghost fronts = { λ row. map variants.Byte row.bytes.now ++ map element_front row.elements.now };
+
+    #[inline(always)]
+    fn count(&self) -> usize {
+        self.bytes.len() + self.elements.len()
+    }
+
+    #[inline(always)]
+    fn byte(&self, n: usize) -> Option<u8> {
+        if n < self.bytes.len() {
+            return Some(self.bytes[n]);
+        }
+        match self.elements[n - self.bytes.len()] {
+            Element::Byte(byte) => Some(byte),
+            _ => None,
+        }
+    }
+}
+
+/// The items of the newest level are read.
+#[inline(always)]
+pub(crate) fn read_level<K: Copy>(reader: &mut Reader, store: &mut Store<'_, K>) -> Run
+    ensures read { (c : Coming) (p : Reached) (supply : Option Supply) → HoldsComing c p supply → HasRead result.moves (situation store.old c reader.old) result.event store.new reader.new p supply }
+    ensures pays { (p : Reached) → PaysAll result.moves store.old p reader.old result.event store.new p reader.new }
+    ensures few { result.moves ≤ 65536 }
+{
+    let elements = store.window();
+    if elements.is_empty() {
+        let bytes = store.own_window();
+        let run = reader.half.meet_run(&Row {
+            bytes,
+            elements: &[],
+        });
+        store.skip(run.taken as u32);
+        return run;
+    }
+    let run = reader.half.meet_run(&Row {
+        bytes: &[],
+        elements,
+    });
+    store.skip(run.taken as u32);
+    run
+}
+
+/// The bytes that the source has at hand are read, where nothing else comes first.
+#[inline(always)]
+pub(crate) fn read_source<K: Copy, R: Source>(
+    place: &mut Place,
+    reader: &mut Reader,
+    store: &Store<'_, K>,
+    source: &mut R,
+) -> Run
+    ensures read { (c : Coming) → HoldsComing c place.old (R.supply source.old) → HasRead result.moves (situation store.now c reader.old) result.event store.now reader.new place.new (R.supply source.new) }
+    ensures pays { PaysAll result.moves store.now place.old reader.old result.event store.now place.new reader.new }
+    ensures few { result.moves ≤ 65536 }
+    ensures failures { R.failures source.new ≡ R.failures source.old }
+    ensures unfailed { has_failed place.old.ahead ≡ false → has_failed place.new.ahead ≡ false }
+{
+    let bytes = window(place, store, source);
+    let run = reader.half.meet_run(&Row {
+        bytes,
+        elements: &[],
+    });
+    if run.taken == 0 {
+        return run;
+    }
+    place.pass_run(bytes[run.taken - 1], run.taken);
+    source.skip(run.taken);
+    reader.burst = 0;
+    run
+}
+
+/// Items that lie in a row are read, many moves at once: up to the first that tells something or behind which something
+/// is due, and none where an item has to be looked at alone.
+#[inline(always)]
+pub fn read_run<K: Copy, R: Source>(
+    place: &mut Place,
+    reader: &mut Reader,
+    store: &mut Store<'_, K>,
+    source: &mut R,
+) -> Run
+    ensures read { (c : Coming) → HoldsComing c place.old (R.supply source.old) → HasRead result.moves (situation store.old c reader.old) result.event store.new reader.new place.new (R.supply source.new) }
+    ensures pays { PaysAll result.moves store.old place.old reader.old result.event store.new place.new reader.new }
+    ensures few { result.moves ≤ 65536 }
+    ensures failures { R.failures source.new ≡ R.failures source.old }
+    ensures unfailed { has_failed place.old.ahead ≡ false → has_failed place.new.ahead ≡ false }
+{
+    let in_argument = reader.half.is_in_argument();
+    if store.is_reading() {
+        if in_argument {
+            return read_level_argument(reader, store);
+        }
+        return read_level(reader, store);
+    }
+    if in_argument {
+        return read_argument(place, reader, store, source);
+    }
+    if reader.half.is_in_definition() {
+        return read_definition(place, reader, store, source);
+    }
+    read_source(place, reader, store, source)
+}

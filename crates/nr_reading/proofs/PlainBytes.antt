@@ -1,0 +1,118 @@
+-- Bytes that are met many at once.
+use Rattle.std.specs.Prelude.{slice_get, ◌==◌, ◌&&◌, ◌||◌, not}
+use Rattle.std.proofs.Common.{◌≡◌, ℕ, ◌+◌, ◌<◌, Bool, true, false, List, [], ◌∷◌, length, Some, refl, sym, subst, ap₂, ◌∙◌}
+use Rattle.nr_reading.specs.declared.ask.Ask.{Ask}
+use Rattle.nr_reading.specs.declared.event.Event.TheVariants as events
+use Rattle.nr_reading.specs.declared.front.Front.{Front}
+use Rattle.nr_reading.specs.declared.front.Front.TheVariants as fronts
+use Rattle.nr_reading.specs.declared.half.Half.{Half}
+use Rattle.nr_reading.specs.declared.half.Seen.{Seen}
+use Rattle.nr_reading.specs.declared.mode.Due.{Due}
+use Rattle.nr_reading.specs.declared.mode.Due.TheVariants as dues
+use Rattle.nr_reading.specs.declared.mode.Escape.{Escape}
+use Rattle.nr_reading.specs.declared.mode.Escape.TheVariants as escapes
+use Rattle.nr_reading.specs.declared.mode.Mode.{Mode}
+use Rattle.nr_reading.specs.declared.mode.Mode.TheVariants as modes
+use Rattle.nr_reading.specs.declared.mode.Signs.{Signs}
+use Rattle.nr_reading.specs.declared.notes.Notes.{Notes}
+use Rattle.nr_reading.specs.Delimiting.{Texts}
+use Rattle.nr_reading.specs.Keeping.{kept}
+use Rattle.nr_reading.specs.Meeting.{meet, meet_by}
+use Rattle.nr_reading.specs.Modes.{is_direct}
+use Rattle.nr_reading.specs.Nesting.{is_none}
+use Rattle.nr_reading.specs.Passing.{is_plain, drops_plain, passes_by, passes_plain, notes_by, notes_plain, quiet, GoesOn}
+use Rattle.nr_reading.proofs.Asked.{half_at}
+use Rattle.nr_reading.proofs.Moving.{met_more}
+use Rattle.nr_reading.proofs.Paying.{pays_for}
+use Rattle.nr_reading.proofs.Weighing.{at}
+
+-- ---- from the first item of a row to a place
+
+-- the byte is taken, and tells nothing
+abbrev taking : Seen
+taking = record { event = events.Nothing; takes = true }
+
+-- one byte more is taken
+pub goes_more : (fs : List Front) (to b : ℕ) (old half new : Half) → GoesOn fs to old half → to < length fs → slice_get fs to ≡ Some (fronts.Byte b) → half.reading.due ≡ dues.Look → new.reading.due ≡ half.reading.due
+    → meet (fronts.Byte b) half ≡ record { half = new; event = events.Nothing; takes = true } → GoesOn fs (to + 1) old new
+goes_more fs to b old half new goes within some look same is = record {
+  due = same ∙ goes.due;
+  met = met_more to fs old (quiet to half) (fronts.Byte b) new taking goes.met (record { some = within; due = look; event = refl }) some refl (sym is) (pays_for (fronts.Byte b) half new taking (sym is) look);
+}
+
+-- ---- one plain byte
+
+record IsApart (b : ℕ) : Type 0 where
+  escape : (b == 92) ≡ false
+  newline : (b == 10) ≡ false
+
+neither : (x y : Bool) → not (x || y) ≡ true → (x ≡ false) × (y ≡ false)
+neither false false is = (refl, refl)
+neither false true is = let wrong : ⊥ = cc in absurd wrong
+neither true y is = let wrong : ⊥ = cc in absurd wrong
+
+apart : (b : ℕ) → is_plain b ≡ true → IsApart b
+apart b is = let two = neither (b == 92) (b == 10) is in record { escape = two.0; newline = two.1 }
+
+both : (x y : Bool) → (x && y) ≡ true → (x ≡ true) × (y ≡ true)
+both true true is = (refl, refl)
+both true false is = let wrong : ⊥ = cc in absurd wrong
+both false y is = let wrong : ⊥ = cc in absurd wrong
+
+no_asks : (asks : List Ask) → is_none asks ≡ true → asks ≡ []
+no_asks [] is = refl
+no_asks (a ∷ asks) is = let wrong : ⊥ = cc in absurd wrong
+
+-- it is taken, and nothing else changes
+abbrev Passes : ℕ → Half → Type 0
+Passes b h = meet_by [] (fronts.Byte b) h ≡ record { half = h; event = events.Nothing; takes = true }
+
+-- in a comment
+in_comment : (direct : Bool) (m : Mode) (c n : Bool) (s : Signs) (d : Texts) (o : Notes) (b : ℕ) → is_direct m ≡ direct → IsApart b → Passes b (half_at (at m escapes.Comment c n) s [] d o)
+in_comment true m c n s d o b is byte = rw (is, byte.newline) refl
+in_comment false m c n s d o b is byte = rw (is, byte.newline) refl
+
+not_true : (x : Bool) → not x ≡ true → x ≡ false
+not_true false is = refl
+not_true true is = let wrong : ⊥ = cc in absurd wrong
+
+-- in a mode in which it does nothing
+in_mode : (m : Mode) (c n : Bool) (s : Signs) (d : Texts) (o : Notes) (b : ℕ) → drops_plain m o.defining ≡ true → IsApart b → Passes b (half_at (at m escapes.Plain c n) s [] d o)
+in_mode (modes.Skip k) c n s d o b is byte = rw (byte.newline, byte.escape) refl
+in_mode modes.Drop c n s d o b is byte = rw (byte.escape, byte.newline) refl
+in_mode modes.TitleRest c n s d o b is byte = rw (byte.escape, byte.newline) refl
+in_mode modes.BodyEnd c n s d o b is byte = rw (byte.escape, byte.newline) refl
+in_mode modes.Body c n s d o b is byte = rw (byte.escape, byte.newline, not_true o.defining.keeps is) refl
+in_mode m c n s d o b is byte = let wrong : ⊥ = cc in absurd wrong
+
+by_escape : (e : Escape) (m : Mode) (c n : Bool) (s : Signs) (d : Texts) (o : Notes) (b : ℕ) → passes_by e m o.defining ≡ true → IsApart b → Passes b (half_at (at m e c n) s [] d o)
+by_escape escapes.Plain m c n s d o b is byte = in_mode m c n s d o b is byte
+by_escape escapes.Begun m c n s d o b is byte = let wrong : ⊥ = cc in absurd wrong
+by_escape escapes.Comment m c n s d o b is byte = in_comment (is_direct m) m c n s d o b refl byte
+
+-- with nothing asked, and nothing due
+looking : (h : Half) → h.asks ≡ [] → h.reading.due ≡ dues.Look → h ≡ half_at (at h.reading.mode h.reading.escape h.reading.continued h.reading.no_break) h.signs [] h.delimited h.notes
+looking h none look = ap₂ (λ (asks : List Ask) (due : Due). record h { reading = record h.reading { due = due }; asks = asks }) none look
+
+pub meet-passed : (b : ℕ) (h : Half) → passes_plain h ≡ true → h.reading.due ≡ dues.Look → is_plain b ≡ true → meet (fronts.Byte b) h ≡ record { half = h; event = events.Nothing; takes = true }
+meet-passed b h passes look plain =
+    let two = both (is_none h.asks) (passes_by h.reading.escape h.reading.mode h.notes.defining) passes in
+    subst (λ (k : Half). meet (fronts.Byte b) k ≡ record { half = k; event = events.Nothing; takes = true }) (sym (looking h (no_asks h.asks two.0) look))
+    (by_escape h.reading.escape h.reading.mode h.reading.continued h.reading.no_break h.signs h.delimited h.notes b two.1 (apart b plain))
+
+-- ---- a byte of a request's line
+
+-- what is half read, the byte being noted
+abbrev pub noting : ℕ → Half → Half
+noting b h = record h { notes = record h.notes { line = kept b h.notes.line } }
+
+in_line : (e : Escape) (m : Mode) (c n : Bool) (s : Signs) (d : Texts) (o : Notes) (b : ℕ) → notes_by e m ≡ true → IsApart b
+    → let h = half_at (at m e c n) s [] d o in meet_by [] (fronts.Byte b) h ≡ record { half = noting b h; event = events.Nothing; takes = true }
+in_line escapes.Plain modes.RequestLine c n s d o b is byte = rw (byte.escape, byte.newline) refl
+in_line e m c n s d o b is byte = let wrong : ⊥ = cc in absurd wrong
+
+pub meet-noted : (b : ℕ) (h : Half) → notes_plain h ≡ true → h.reading.due ≡ dues.Look → is_plain b ≡ true → meet (fronts.Byte b) h ≡ record { half = noting b h; event = events.Nothing; takes = true }
+meet-noted b h notes look plain =
+    let two = both (is_none h.asks) (notes_by h.reading.escape h.reading.mode) notes in
+    subst (λ (k : Half). meet (fronts.Byte b) k ≡ record { half = noting b k; event = events.Nothing; takes = true }) (sym (looking h (no_asks h.asks two.0) look))
+    (in_line h.reading.escape h.reading.mode h.reading.continued h.reading.no_break h.signs h.delimited h.notes b two.1 (apart b plain))
