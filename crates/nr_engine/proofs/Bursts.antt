@@ -1,19 +1,17 @@
 -- A move that reads is made only where the splices stay within their limit.
-use Rattle.std.proofs.Common.{◌≡◌, ℕ, ◌+◌, ◌≤◌, Bool, true, false, Result, Ok, Err, refl, arith}
-use Rattle.std.specs.Prelude.{nat_le, ◌==◌, if◌then◌else◌, IsOk}
+use Rattle.std.proofs.Common.{◌≡◌, ℕ, ◌≤◌, Bool, true, false, Result, Ok, Err, refl, arith}
+use Rattle.std.specs.Prelude.{nat_le, if◌then◌else◌, IsOk}
 use Rattle.std.proofs.lemmas.Bool.{leb-false}
-use Rattle.nr_store.specs.Stored.{Stored, afforded, checked}
+use Rattle.nr_store.specs.Stored.{Stored}
 use Rattle.nr_store.specs.declared.refusal.Refusal as stored
 use Rattle.nr_store.specs.declared.refusal.StoredBytes.{StoredBytes}
 use Rattle.nr_reading.specs.Meeting.{Met}
 use Rattle.nr_reading.specs.declared.ask.Sign.TheVariants as signs
-use Rattle.nr_reading.specs.declared.event.Event.{Event}
 use Rattle.nr_reading.specs.declared.mode.Due.{Due}
 use Rattle.nr_reading.specs.declared.mode.Due.TheVariants as dues
 use Rattle.nr_input.specs.declared.reader.Reader.{Reader}
-use Rattle.nr_input.specs.Acting.{Acted, act, storing, splicing, splicing_text, expanded_answer, expanded_reader, is_look}
-use Rattle.nr_input.specs.Moving.{Situation, Move, met_at, look, move, acted_at, looks, Goes, GoesBy, burst_past}
-use Rattle.nr_input.specs.declared.refusal.Refusal.{Refusal}
+use Rattle.nr_input.specs.Acting.{Acted, act, storing, splicing, splicing_text, expanded_answer, expanded_reader}
+use Rattle.nr_input.specs.Moving.{Situation, met_at, look, move, acted_at, looks, Goes, GoesBy}
 
 -- the splices stay within their limit
 abbrev pub IsShort : Reader → Type 0

@@ -12,7 +12,6 @@ use Rattle.nr_fill.specs.Pieces.{line_cells}
 use Rattle.nr_formatter.specs.Access.{collected}
 use Rattle.nr_input.specs.Coming.{Reached}
 use Rattle.nr_formatter.specs.Limits as formatter
-use Rattle.nr_formatter.specs.Weights as weights
 use Rattle.nr_formatter.specs.Weights.{weight, owed, steps_left}
 use Rattle.nr_formatter.specs.Registers.{register_set_by}
 use Rattle.nr_formatter.specs.declared.formatter.Formatter.{Formatter}

@@ -1,5 +1,5 @@
 -- Parts of a move, as parts of a whole one.
-use Rattle.std.proofs.Common.{◌≡◌, ◌≢◌, ℕ, ◌+◌, ◌*◌, ◌≤◌, Bool, true, false, List, [], Option, None, Some, Result, Ok, Err, refl, sym, ap, ◌∙◌}
+use Rattle.std.proofs.Common.{◌≡◌, ◌≢◌, ℕ, true, false, List, [], Option, None, Result, Ok, Err, refl}
 use Rattle.std.specs.Prelude.{OnOk}
 use Rattle.std.proofs.KnownBytes.{Keeps-refl}
 use Rattle.nr_units.specs.Supply.{Supply}
@@ -15,11 +15,10 @@ use Rattle.nr_store.specs.declared.request.Request.{Request}
 use Rattle.nr_store.specs.declared.request.Request.TheVariants as requests
 use Rattle.nr_formatter.specs.Weights.{Falls}
 use Rattle.nr_engine.specs.State.{State, plainly}
-use Rattle.nr_engine.specs.Machine.{step, work, act, hear}
-use Rattle.nr_engine.specs.Answer.{Kind, Works, kind, stops_reading, stops_writing, formatter_answer}
+use Rattle.nr_engine.specs.Machine.{work, act, hear}
+use Rattle.nr_engine.specs.Answer.{stops_reading, stops_writing, formatter_answer}
 use Rattle.nr_engine.specs.Holding.{Shape, at, Stands, AfterMove, Lightens, WorksQuietly, HaltsOrWorks, Spends}
 use Rattle.nr_engine.specs.declared.outcome.Outcome.{Outcome}
-use Rattle.nr_engine.specs.declared.outcome.Outcome.TheVariants.{Done}
 use Rattle.nr_engine.proofs.NextMoves.{step-work, kind-work}
 use Rattle.nr_engine.proofs.Spending.{work_spends}
 use Rattle.nr_engine.proofs.Working.{worked}

@@ -1,14 +1,13 @@
 -- The kind of the next move, and where it leads.
-use Rattle.std.proofs.Common.{◌≡◌, ◌≢◌, ℕ, List, [], Option, None, Some, refl, sym, ap, ◌∙◌}
+use Rattle.std.proofs.Common.{◌≡◌, ◌≢◌, ℕ, List, [], None, Some, refl}
 use Rattle.nr_reading.specs.declared.event.Event.{Event}
 use Rattle.nr_reading.specs.declared.event.Event.TheVariants as events
 use Rattle.nr_formatter.specs.declared.tasks.Task.{Task}
 use Rattle.nr_formatter.specs.declared.tasks.Task.TheVariants as tasks
-use Rattle.nr_formatter.specs.Moves.{heard}
 use Rattle.nr_formatter.specs.Springing.{sprung}
 use Rattle.nr_engine.specs.State.{State, plainly}
 use Rattle.nr_engine.specs.Machine.{step, read, work, hear}
-use Rattle.nr_engine.specs.Answer.{Kind, Reads, Works, Over, kind, kind_of_event, kind_of_task}
+use Rattle.nr_engine.specs.Answer.{Reads, Works, kind, kind_of_event, kind_of_task}
 
 -- what the next move does, by what there is to do
 

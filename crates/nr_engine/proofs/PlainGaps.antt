@@ -1,92 +1,48 @@
 -- A blank behind a word: two moves where the line is full, and else three.
-use Rattle.std.proofs.Common.{◌≡◌, ◌≢◌, ℕ, ◌+◌, ◌*◌, ◌<◌, ◌≤◌, ◌^◌, Bool, true, false, List, [], ◌∷◌, length, Option, None, Some, refl, sym, ap, ◌∙◌, subst, arith}
-use Rattle.std.specs.Prelude.{get_or, if◌then◌else◌}
+use Rattle.std.proofs.Common.{◌≡◌, ℕ, ◌+◌, ◌*◌, ◌<◌, ◌≤◌, ◌^◌, true, false, List, [], ◌∷◌, length, Option, refl, ap, arith}
+use Rattle.std.specs.Prelude.{get_or}
 use Rattle.nr_units.specs.Supply.{Supply, MayGive}
-use Rattle.nr_fill.specs.Pieces.{is_nil}
 use Rattle.nr_reading.specs.declared.event.Event.TheVariants as events
-use Rattle.nr_reading.specs.InText.{IsInText}
-use Rattle.nr_reading.proofs.InText.{in_text}
 use Rattle.nr_input.specs.AtHand.{ComeNext, behind_many, passed_many}
 use Rattle.nr_input.specs.Coming.{Coming, HoldsComing}
 use Rattle.nr_input.specs.Weights.{expansions_worth}
 use Rattle.nr_formatter.specs.Access.{collected}
-use Rattle.nr_formatter.specs.Lines.{fits_line, flow_line, flow_done}
-use Rattle.nr_formatter.specs.Runs.{IsGap, gapped, gap_put, gap_flows, is_in_line}
+use Rattle.nr_formatter.specs.Lines.{fits_line}
+use Rattle.nr_formatter.specs.Runs.{IsGap, IsInLine, gapped, gap_put, gap_flows, is_in_line}
 use Rattle.nr_formatter.specs.Weights as weights
 use Rattle.nr_formatter.specs.Weights.{weight_of_agenda, owed_by_event, owed_by_task}
 use Rattle.nr_formatter.specs.declared.formatter.Formatter.{Formatter}
-use Rattle.nr_formatter.specs.declared.lines.Going.{Going}
 use Rattle.nr_formatter.specs.declared.tasks.After.TheVariants as afters
 use Rattle.nr_formatter.specs.declared.tasks.Task.TheVariants as tasks
-use Rattle.nr_formatter.proofs.PlainText.{EndsWord, ends_word, heard-gap, weight-gap, in_line}
-use Rattle.nr_engine.specs.State.{State, plainly}
-use Rattle.nr_engine.specs.Machine.{step, state_after, work, put_or}
-use Rattle.nr_engine.specs.Measures.{IsWithin, passed}
-use Rattle.nr_engine.specs.Answer.{Works, kind, Goes, GoesBy}
+use Rattle.nr_formatter.proofs.PlainText.{weight-gap, in_line}
+use Rattle.nr_engine.specs.State.{State}
+use Rattle.nr_engine.specs.Machine.{step}
+use Rattle.nr_engine.specs.Measures.{IsWithin}
+use Rattle.nr_engine.specs.Answer.{Goes}
 use Rattle.nr_engine.specs.Holding.{Shape, at, Stands, Holds, Made, weight, worth}
-use Rattle.nr_engine.specs.Running.{Makes}
-use Rattle.nr_engine.proofs.Measured.{passed_none}
-use Rattle.nr_engine.proofs.NextMoves.{step-hear, step-work, kind-work}
-use Rattle.nr_engine.proofs.PlainText.{Glides, glides-add, glides-one, glides_heard, IsTyping, seen, unburst, front_more, may_give_one, paid, stands_typing}
-use Rattle.nr_engine.proofs.Standing.{made_all, wrote_nothing}
+use Rattle.nr_engine.specs.Running.{Makes, unburst}
+use Rattle.nr_engine.proofs.Gliding.{Glides, glides_flows, glides_gap, made_of, told, within_flows, within_gap}
+use Rattle.nr_engine.proofs.PlainText.{IsTyping, behind_byte, front_more, goes_byte, line_behind, may_give_one, paid, reads_byte, stands_typing}
+use Rattle.nr_engine.proofs.Standing.{wrote_nothing}
 use Rattle.nr_engine.proofs.Working.{holds_of}
 
--- behind a byte, with this formatter
-abbrev pub gone : (Formatter → Formatter) → State → State
-gone g s = record s { coming = behind_many 1 s.coming; formatter = g (unburst s.formatter) }
+-- the blank of the source is read
+record IsBlankNext (s : State) : Type 0 where
+  goes : Goes s
+  reads : step s ≡ told 32 (behind_byte s)
+  gap : IsGap (behind_byte s).formatter
+  within : IsWithin (behind_byte s)
 
--- nothing goes out where nothing is full
-none_flows : (f : Formatter) → EndsWord f → fits_line (gapped (collected f)) ≡ true → flow_line afters.Text false (gap_flows f) ≡ None
-none_flows f ends fits = rw (ends.filling, fits) (either_way (is_nil (gapped (collected f)).pieces))
-  where
-    either_way : (b : Bool) → ◌≡◌ {A = Option Going} (if b then None else None) None
-    either_way true = refl
-    either_way false = refl
-
-module _ (rest : List ℕ) (s : State) (typing : IsTyping s) (gap : IsGap s.formatter) (next : s.coming.supply.bytes ≡ 32 ∷ rest) (gives : MayGive s.coming.supply.faults) (few : s.coming.taken + 1 < 2 ^ 40) where
-  text : IsInText s.formatter.reader.half
-  text = in_text s.formatter.reader.half typing.line.half
-
-  ends : EndsWord s.formatter
-  ends = ends_word s.formatter gap.plain
-
-  step_heard : step (seen 32 s) ≡ gone gap_flows s
-  step_heard =
-      step-hear (seen 32 s) (events.Byte 32) typing.chosen typing.line.springs refl
-      ∙ ap (λ f. record (seen 32 s) { formatter = f }) (heard-gap (seen 32 s).formatter (ends_word (seen 32 s).formatter gap.plain) text.mode)
-      ∙ ap (λ e. record (gone gap_flows s) { formatter = record (gone gap_flows s).formatter { event = e } }) (sym typing.line.event)
-
-  within_flows : IsWithin (gone gap_flows s)
-  within_flows = record {
-    formatter = record { stored = typing.within.formatter.stored; depth = typing.within.formatter.depth; line = gap.within; burst = omega arith };
+blank_next : (rest : List ℕ) (s : State) → IsTyping s → IsGap s.formatter → s.coming.supply.bytes ≡ 32 ∷ rest → MayGive s.coming.supply.faults → s.coming.taken + 1 < 2 ^ 40 → IsBlankNext s
+blank_next rest s typing gap next gives few = record {
+  goes = goes_byte 32 rest s typing refl refl next gives few;
+  reads = reads_byte 32 rest s typing refl refl next gives few;
+  gap = record { plain = gap.plain; within = gap.within };
+  within = record {
+    formatter = record { stored = typing.within.formatter.stored; depth = typing.within.formatter.depth; line = typing.within.formatter.line; burst = omega arith };
     page = typing.within.page;
-  }
-
-  -- the word ends
-  pub glides_flows : Glides s 2 (gone gap_flows s)
-  glides_flows = glides_heard 32 rest s typing refl refl next gives few (gone gap_flows s) step_heard within_flows
-
-  within_put : IsWithin (gone gap_put s)
-  within_put = record {
-    formatter = record { stored = typing.within.formatter.stored; depth = typing.within.formatter.depth; line = gap.within; burst = omega arith };
-    page = typing.within.page;
-  }
-
-  step_flowed : fits_line (gapped (collected s.formatter)) ≡ true → step (gone gap_flows s) ≡ gone gap_put s
-  step_flowed fits =
-      step-work (gone gap_flows s) (tasks.Flow afters.Text false) typing.chosen typing.line.springs typing.line.event refl
-      ∙ ap (λ o. put_or o (flow_done afters.Text) (gone gap_flows s)) (none_flows (unburst s.formatter) (ends_word (unburst s.formatter) gap.plain) fits)
-      ∙ ap (λ t. record (gone gap_put s) { formatter = record (gone gap_put s).formatter { task = t } }) (sym typing.line.task)
-
-  goes_flowed : fits_line (gapped (collected s.formatter)) ≡ true → Goes (gone gap_flows s)
-  goes_flowed fits =
-      let works = kind-work (gone gap_flows s) (tasks.Flow afters.Text false) typing.chosen typing.line.springs typing.line.event refl in
-      subst (λ k. GoesBy k (gone gap_flows s)) (sym works) (ap passed (step_flowed fits) ∙ passed_none (gone gap_put s) within_put)
-
-  -- and no line is full
-  pub glides_put : fits_line (gapped (collected s.formatter)) ≡ true → Glides s 3 (gone gap_put s)
-  glides_put fits =
-      glides-add s 2 1 (gone gap_flows s) (gone gap_put s) glides_flows (glides-one (gone gap_flows s) (gone gap_put s) (goes_flowed fits) (step_flowed fits))
+  };
+}
 
 -- ---- the engine
 
@@ -95,11 +51,11 @@ gone_shape g e = record e { formatter = g (unburst e.formatter); place = passed_
 
 -- the moves lead where the engine stands
 made_gone : (n : ℕ) (g : Formatter → Formatter) (e : Shape) (supply supply' : Option Supply) (held : Option (List ℕ)) (s : State) → Stands [] supply s e
-    → HoldsComing (behind_many 1 s.coming) (passed_many 1 e.place) supply' → IsWithin (gone g (at e s)) → Glides (at e s) n (gone g (at e s))
+    → HoldsComing (behind_many 1 s.coming) (passed_many 1 e.place) supply' → IsWithin (made_of g (behind_byte (at e s))) → Glides (at e s) n (made_of g (behind_byte (at e s)))
     → Made [] (at e s) n (gone_shape g e) supply' held held
 made_gone n g e supply supply' held s h behind within glides =
-    let holds : Holds [] supply' (gone g (at e s)) (gone_shape g e) =
-    holds_of supply' (gone g (at e s)) (gone_shape g e) refl h.chosen_is behind h.row h.page h.page_limit h.select within in
+    let holds : Holds [] supply' (made_of g (behind_byte (at e s))) (gone_shape g e) =
+    holds_of supply' (made_of g (behind_byte (at e s))) (gone_shape g e) refl h.chosen_is behind h.row h.page h.page_limit h.select within in
     record {
       runs = glides.runs;
       holds = rw glides.leads holds;
@@ -148,17 +104,27 @@ spends_put e =
 module _ (bs : List ℕ) (e : Shape) (supply supply' : Option Supply) (is : is_in_line e.formatter ≡ true) (levels : e.formatter.store.levels ≡ []) (gap : IsGap e.formatter)
     (next : (c : Coming) → HoldsComing c e.place supply → ComeNext (32 ∷ bs) c)
     (behind : (c : Coming) → HoldsComing c e.place supply → HoldsComing (behind_many 1 c) (passed_many 1 e.place) supply') where
+  blank : (s : State) → Stands [] supply s e → IsBlankNext (at e s)
+  blank s h =
+      let x = first 32 bs s.coming (next s.coming h.coming) in
+      blank_next x.rest (at e s) (stands_typing supply s e h is levels) gap x.is x.gives x.few
+
+  line_in : (s : State) → Stands [] supply s e → IsInLine (behind_byte (at e s)).formatter
+  line_in s h = line_behind (at e s) (stands_typing supply s e h is levels)
+
   made_flows : (held : Option (List ℕ)) (s : State) → Stands [] supply s e → Made [] (at e s) 2 (gone_shape gap_flows e) supply' held held
   made_flows held s h =
-      let typing = stands_typing supply s e h is levels in
-      let x = first 32 bs s.coming (next s.coming h.coming) in
-      made_gone 2 gap_flows e supply supply' held s h (behind s.coming h.coming) (within_flows x.rest (at e s) typing gap x.is x.gives x.few) (glides_flows x.rest (at e s) typing gap x.is x.gives x.few)
+      let x = blank s h in
+      made_gone 2 gap_flows e supply supply' held s h (behind s.coming h.coming)
+      (within_flows (at e s) (behind_byte (at e s)) h.chosen_is (line_in s h) x.goes x.reads x.gap x.within)
+      (glides_flows (at e s) (behind_byte (at e s)) h.chosen_is (line_in s h) x.goes x.reads x.gap x.within)
 
   made_put : fits_line (gapped (collected e.formatter)) ≡ true → (held : Option (List ℕ)) (s : State) → Stands [] supply s e → Made [] (at e s) 3 (gone_shape gap_put e) supply' held held
   made_put fits held s h =
-      let typing = stands_typing supply s e h is levels in
-      let x = first 32 bs s.coming (next s.coming h.coming) in
-      made_gone 3 gap_put e supply supply' held s h (behind s.coming h.coming) (within_put x.rest (at e s) typing gap x.is x.gives x.few) (glides_put x.rest (at e s) typing gap x.is x.gives x.few fits)
+      let x = blank s h in
+      made_gone 3 gap_put e supply supply' held s h (behind s.coming h.coming)
+      (within_gap (at e s) (behind_byte (at e s)) h.chosen_is (line_in s h) x.goes x.reads x.gap x.within)
+      (glides_gap (at e s) (behind_byte (at e s)) h.chosen_is (line_in s h) x.goes x.reads x.gap x.within fits)
 
   pub makes_flows : Makes 2 e (gone_shape gap_flows e) supply supply'
   makes_flows =

@@ -1,13 +1,13 @@
 -- Runs of plain bytes in a text line that has begun: two moves a byte.
-use Rattle.std.proofs.Common.{◌≡◌, ◌≢◌, ℕ, zero, suc, ◌+◌, ◌-◌, ◌*◌, ◌<◌, ◌≤◌, ◌^◌, Bool, true, false, List, [], ◌∷◌, length, take, drop, Option, None, Some, refl, sym, ap, ◌∙◌, subst, arith, take-take, length-take-le}
-use Rattle.std.specs.Prelude.{◌==◌, if◌then◌else◌, All, not}
+use Rattle.std.proofs.Common.{◌≡◌, ℕ, zero, suc, ◌+◌, ◌*◌, ◌<◌, ◌≤◌, ◌^◌, true, false, List, [], ◌∷◌, length, take, drop, Option, refl, sym, ap, ◌∙◌, subst, arith, take-take, length-take-le}
+use Rattle.std.specs.Prelude.{◌==◌, All}
 use Rattle.std.proofs.lemmas.Bool.{ne_eqb}
 use Rattle.std.proofs.lemmas.Nat.{mul-le}
 use Rattle.nr_units.specs.Supply.{Faults, Never, After, Anytime, Supply, MayGive, MayGiveAll, one_later, later}
-use Rattle.nr_fill.specs.Pieces.{line_cells, begins_line}
+use Rattle.nr_fill.specs.Pieces.{line_cells}
 use Rattle.nr_fill.specs.Runs.{IsPlain, run_cell}
 use Rattle.nr_reading.specs.declared.event.Event.TheVariants as events
-use Rattle.nr_reading.specs.InText.{IsInText, is_in_text}
+use Rattle.nr_reading.specs.InText.{IsInText}
 use Rattle.nr_reading.proofs.InText.{in_text, meet-plain}
 use Rattle.nr_input.specs.AtHand.{ComeNext, behind_many, passed_many}
 use Rattle.nr_input.specs.Coming.{Coming, HoldsComing, front}
@@ -17,42 +17,21 @@ use Rattle.nr_input.specs.declared.told.Told.TheVariants as tells
 use Rattle.nr_store.specs.Stored.{shown}
 use Rattle.nr_reading.specs.Meeting.{meet}
 use Rattle.nr_settings.specs.Fonts.{is_under}
-use Rattle.nr_formatter.specs.Access.{collected, margins, done}
-use Rattle.nr_formatter.specs.Limits as formatter
-use Rattle.nr_formatter.specs.Moves.{heard}
+use Rattle.nr_formatter.specs.Access.{collected, margins}
 use Rattle.nr_formatter.specs.Runs.{IsInLine, is_in_line, run_put}
 use Rattle.nr_formatter.specs.Weights as weights
 use Rattle.nr_input.specs.Weights.{expansions_worth}
-use Rattle.nr_formatter.specs.declared.formatter.Formatter.{Formatter}
-use Rattle.nr_formatter.specs.declared.tasks.Task.TheVariants as tasks
-use Rattle.nr_formatter.proofs.PlainText.{heard-plain, begun-cell, line_cells-run, weight-run, in_line}
-use Rattle.nr_engine.specs.State.{State, plainly}
-use Rattle.nr_engine.specs.Machine.{step, state_after, read, situation_of, with_situation}
-use Rattle.nr_engine.specs.Measures.{IsWithin, passed}
-use Rattle.nr_engine.specs.Answer.{Reads, Works, kind, Goes, GoesBy, Runs}
+use Rattle.nr_formatter.proofs.PlainText.{begun-cell, line_cells-run, weight-run, in_line}
+use Rattle.nr_engine.specs.State.{State}
+use Rattle.nr_engine.specs.Machine.{step, read, situation_of, with_situation}
+use Rattle.nr_engine.specs.Measures.{IsWithin}
+use Rattle.nr_engine.specs.Answer.{Goes, GoesBy}
 use Rattle.nr_engine.specs.Holding.{Shape, at, Stands, Holds, Made, weight, worth}
-use Rattle.nr_engine.specs.Running.{Makes}
-use Rattle.nr_engine.proofs.Measured.{passed_none}
-use Rattle.nr_engine.proofs.NextMoves.{step-read, kind-read, step-hear, kind-hear}
-use Rattle.nr_engine.proofs.Standing.{state_after-add, runs-add, wrote_nothing}
+use Rattle.nr_engine.specs.Running.{Makes, unburst}
+use Rattle.nr_engine.proofs.Gliding.{Glides, glides-add, glides_plain, told}
+use Rattle.nr_engine.proofs.NextMoves.{step-read, kind-read}
+use Rattle.nr_engine.proofs.Standing.{wrote_nothing}
 use Rattle.nr_engine.proofs.Working.{holds_of}
-
--- n moves are made from s, and lead to t
-pub record Glides (s : State) (n : ℕ) (t : State) : Type 0 where
-  pub runs : Runs n s
-  pub leads : state_after n s ≡ t
-
-pub glides-add : (s : State) (n m : ℕ) (t u : State) → Glides s n t → Glides t m u → Glides s (n + m) u
-glides-add s n m t u a b = record {
-  runs = runs-add s n m a.runs (rw a.leads b.runs);
-  leads = state_after-add s n m ∙ ap (state_after m) a.leads ∙ b.leads;
-}
-
-pub glides-one : (s t : State) → Goes s → step s ≡ t → Glides s 1 t
-glides-one s t goes is = record {
-  runs = λ k below. (let first : 0 ≡ k = omega arith in subst (λ j. Goes (state_after j s)) first goes);
-  leads = is;
-}
 
 -- ---- bytes that come next
 
@@ -101,17 +80,13 @@ behind_many-more n c =
 
 -- ---- one byte
 
--- behind a byte of the source nothing was spliced
-abbrev pub unburst : Formatter → Formatter
-unburst f = record f { reader = record f.reader { burst = 0 } }
+-- behind one byte of the source
+abbrev pub behind_byte : State → State
+behind_byte s = record s { coming = behind_many 1 s.coming; formatter = unburst s.formatter }
 
 -- the bytes were read, and are cells of the word
 abbrev pub typed : List ℕ → State → State
 typed bs s = record s { coming = behind_many (length bs) s.coming; formatter = run_put bs (unburst s.formatter) }
-
--- one was read
-abbrev pub seen : ℕ → State → State
-seen b s = record s { coming = behind_many 1 s.coming; formatter = record (unburst s.formatter) { event = events.Byte b } }
 
 -- the next bytes of the source are read in a text line that has begun
 pub record IsTyping (s : State) : Type 0 where
@@ -120,10 +95,10 @@ pub record IsTyping (s : State) : Type 0 where
   pub levels : s.formatter.store.levels ≡ []
   pub within : IsWithin s
 
-newline : (b : ℕ) → IsPlain b → (b == 10) ≡ false
+pub newline : (b : ℕ) → IsPlain b → (b == 10) ≡ false
 newline b plain = ne_eqb b 10 (λ e. omega (arith, plain.0, e))
 
-escape : (b : ℕ) → IsPlain b → (b == 92) ≡ false
+pub escape : (b : ℕ) → IsPlain b → (b == 92) ≡ false
 escape b plain = ne_eqb b 92 plain.2
 
 module _ (b : ℕ) (rest : List ℕ) (s : State) (typing : IsTyping s) (line : (b == 10) ≡ false) (plain : (b == 92) ≡ false) (next : s.coming.supply.bytes ≡ b ∷ rest)
@@ -144,41 +119,34 @@ module _ (b : ℕ) (rest : List ℕ) (s : State) (typing : IsTyping s) (line : (
       ≡ record { situation = situation s.formatter.store (behind_many 1 s.coming) (record s.formatter.reader { burst = 0 }); told = tells.Event (events.Byte b) }
   takes = rw (typing.levels, next, further, line, later-one s.coming.supply.faults) refl
 
-  read_is : read s ≡ seen b s
+  read_is : read s ≡ told b (behind_byte s)
   read_is = ap (λ m. with_situation m s) (looks ∙ ap (λ m. met_at m (situation_of s)) meets ∙ takes)
 
-  step_read : step s ≡ seen b s
-  step_read = step-read s typing.chosen typing.line.springs typing.line.event typing.line.task ∙ read_is
+  -- the byte is read
+  pub reads_byte : step s ≡ told b (behind_byte s)
+  reads_byte = step-read s typing.chosen typing.line.springs typing.line.event typing.line.task ∙ read_is
 
-  goes_read : Goes s
-  goes_read =
+  pub goes_byte : Goes s
+  goes_byte =
       let reads = kind-read s typing.chosen typing.line.springs typing.line.event typing.line.task in
       let sees : input.Goes (situation_of s) = rw (half.due, typing.levels, next) (gives, λ many. omega (arith, many, few)) in
       subst (λ k. GoesBy k s) (sym reads) sees
 
-  -- the byte is read
-  glides_read : Glides s 1 (seen b s)
-  glides_read = glides-one s (seen b s) goes_read step_read
+-- it is read in the same line
+pub line_behind : (s : State) → IsTyping s → IsInLine (behind_byte s).formatter
+line_behind s typing = record {
+  springs = typing.line.springs;
+  event = typing.line.event;
+  task = typing.line.task;
+  half = typing.line.half;
+  begun = typing.line.begun;
+}
 
-  -- it is heard then
-  pub glides_heard : (t : State) → step (seen b s) ≡ t → IsWithin t → Glides s 2 t
-  glides_heard t is within =
-      let hears = kind-hear (seen b s) (events.Byte b) typing.chosen typing.line.springs refl (λ e. let wrong : ⊥ = cc in wrong) in
-      let goes = subst (λ k. GoesBy k (seen b s)) (sym hears) (ap passed is ∙ passed_none t within) in
-      glides-add s 1 1 (seen b s) t glides_read (glides-one (seen b s) t goes is)
-
-module _ (b : ℕ) (rest : List ℕ) (s : State) (typing : IsTyping s) (plain : IsPlain b) (next : s.coming.supply.bytes ≡ b ∷ rest) (gives : MayGive s.coming.supply.faults) (few : s.coming.taken + 1 < 2 ^ 40) where
-  text : IsInText s.formatter.reader.half
-  text = in_text s.formatter.reader.half typing.line.half
-
-  step_hear : step (seen b s) ≡ typed (b ∷ []) s
-  step_hear =
-      step-hear (seen b s) (events.Byte b) typing.chosen typing.line.springs refl
-      ∙ ap (λ f. record (seen b s) { formatter = f }) (heard-plain b (seen b s).formatter plain text.mode typing.line.begun)
-      ∙ ap (λ e. record (typed (b ∷ []) s) { formatter = record (typed (b ∷ []) s).formatter { event = e } }) (sym typing.line.event)
-
-  pub glides_byte : IsWithin (typed (b ∷ []) s) → Glides s 2 (typed (b ∷ []) s)
-  glides_byte within = glides_heard b rest s typing (newline b plain) (escape b plain) next gives few (typed (b ∷ []) s) step_hear within
+glides_byte : (b : ℕ) (rest : List ℕ) (s : State) → IsTyping s → IsPlain b → s.coming.supply.bytes ≡ b ∷ rest → MayGive s.coming.supply.faults → s.coming.taken + 1 < 2 ^ 40
+    → IsWithin (typed (b ∷ []) s) → Glides s 2 (typed (b ∷ []) s)
+glides_byte b rest s typing plain next gives few within =
+    glides_plain s (behind_byte s) b typing.chosen (line_behind s typing) (goes_byte b rest s typing (newline b plain) (escape b plain) next gives few)
+    (reads_byte b rest s typing (newline b plain) (escape b plain) next gives few) plain within
 
 -- ---- a run
 
@@ -186,10 +154,10 @@ module _ (b : ℕ) (rest : List ℕ) (s : State) (typing : IsTyping s) (plain : 
 abbrev pub ArePlain : List ℕ → Type 0
 ArePlain bs = All IsPlain bs
 
-first_plain : (b : ℕ) (bs : List ℕ) → ArePlain (b ∷ bs) → IsPlain b
+pub first_plain : (b : ℕ) (bs : List ℕ) → ArePlain (b ∷ bs) → IsPlain b
 first_plain b bs plain = plain 0 0 (omega arith)
 
-others_plain : (b : ℕ) (bs : List ℕ) → ArePlain (b ∷ bs) → ArePlain bs
+pub others_plain : (b : ℕ) (bs : List ℕ) → ArePlain (b ∷ bs) → ArePlain bs
 others_plain b bs plain = λ k d below. plain (suc k) d (omega (arith, below))
 
 -- a run within the limits is so before its end

@@ -1,13 +1,12 @@
 -- Cells of a diverted line that is read again: two moves a cell.
-use Rattle.std.proofs.Common.{◌≡◌, ◌≢◌, ℕ, zero, suc, ◌+◌, ◌-◌, ◌*◌, ◌<◌, ◌≤◌, Bool, true, false, List, [], ◌∷◌, ◌++◌, length, take, drop, Option, None, Some, refl, sym, ap, ◌∙◌, subst, arith, append-nil, append_assoc, length-append, length-drop, drop_at, take-append-drop}
-use Rattle.std.specs.Prelude.{◌==◌, if◌then◌else◌}
+use Rattle.std.proofs.Common.{◌≡◌, ℕ, ◌+◌, ◌*◌, ◌≤◌, true, false, List, [], ◌∷◌, ◌++◌, length, take, drop, Option, None, Some, refl, sym, ap, ◌∙◌, subst, arith, append-nil, append_assoc, length-append, length-drop, drop_at, take-append-drop}
 use Rattle.std.proofs.lemmas.Bool.{eq-eqb}
 use Rattle.std.proofs.lemmas.List.Sums.{sum_by-cons}
 use Rattle.nr_units.specs.Supply.{Supply}
 use Rattle.nr_units.specs.declared.cell.Cell.{Cell}
 use Rattle.nr_fill.specs.Pieces.{is_nil}
 use Rattle.nr_fill.specs.Rows.{Row, IsRow, AddsToRow}
-use Rattle.nr_store.specs.Stored.{Stored, Level, Read, Mark, Reading, shown, level_charge, charge_of}
+use Rattle.nr_store.specs.Stored.{Level, Read, Mark, Reading, level_charge}
 use Rattle.nr_store.specs.Windows.{rest_of, levels_behind, run_left}
 use Rattle.nr_store.specs.declared.element.Element.{Element}
 use Rattle.nr_store.specs.declared.element.Element.TheVariants as elements
@@ -16,7 +15,6 @@ use Rattle.nr_reading.specs.declared.front.Front.TheVariants as fronts
 use Rattle.nr_reading.specs.Meeting.{meet}
 use Rattle.nr_reading.specs.Rereading.{IsRereading}
 use Rattle.nr_reading.proofs.Rereading.{rereading, meet-cell}
-use Rattle.nr_input.specs.Coming.{front}
 use Rattle.nr_input.specs.Moving.{move as input_move, situation, met_at}
 use Rattle.nr_input.specs.Moving as input
 use Rattle.nr_input.specs.Weights.{items_in, items_left}
@@ -33,16 +31,16 @@ use Rattle.nr_formatter.specs.declared.paper.Outlet.TheVariants as outlets
 use Rattle.nr_formatter.specs.declared.tasks.Resume.{Resume}
 use Rattle.nr_formatter.proofs.PlainText.{rereading_line}
 use Rattle.nr_engine.specs.State.{State}
-use Rattle.nr_engine.specs.Machine.{step, state_after, read, situation_of, with_situation, cell_to}
+use Rattle.nr_engine.specs.Machine.{step, read, situation_of, with_situation, cell_to}
 use Rattle.nr_engine.specs.Measures.{IsWithin, passed}
-use Rattle.nr_engine.specs.Answer.{kind, Goes, GoesBy, Runs}
+use Rattle.nr_engine.specs.Answer.{Goes, GoesBy}
 use Rattle.nr_engine.specs.Holding.{Shape, at, Stands, Holds, Made, weight, worth}
 use Rattle.nr_engine.specs.Rereading.{AreCells, cells_of}
 use Rattle.nr_engine.specs.Running.{Makes}
 use Rattle.nr_engine.proofs.Going.{cells}
 use Rattle.nr_engine.proofs.Measured.{passed_none}
 use Rattle.nr_engine.proofs.NextMoves.{step-read, kind-read, step-hear, kind-hear}
-use Rattle.nr_engine.proofs.PlainText.{Glides, glides-add, glides-one}
+use Rattle.nr_engine.proofs.Gliding.{Glides, glides-add, glides-one}
 use Rattle.nr_engine.proofs.Standing.{wrote_nothing}
 use Rattle.nr_engine.proofs.Working.{holds_of}
 
@@ -160,7 +158,7 @@ module _ (l : Reading Resume) (ls : List (Level Resume)) (s : State) (chosen : s
 abbrev pub reread_shape : ℕ → Row → Shape → Shape
 reread_shape n row e = record e { formatter = record e.formatter { store = run_left n e.formatter.store }; row = row }
 
-items_fewer : (n : ℕ) (levels : List (Level Resume)) → n ≤ length (rest_of levels) → items_left (levels_behind n levels) + n ≤ items_left levels
+pub items_fewer : (n : ℕ) (levels : List (Level Resume)) → n ≤ length (rest_of levels) → items_left (levels_behind n levels) + n ≤ items_left levels
 items_fewer n [] few = omega (arith, few)
 items_fewer n (Mark mode ∷ ls) few = omega (arith, few)
 items_fewer n (Read l ∷ ls) few =

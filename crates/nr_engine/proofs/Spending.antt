@@ -1,15 +1,15 @@
 -- What a move that reads costs.
-use Rattle.std.proofs.Common.{◌≡◌, ℕ, ◌+◌, ◌-◌, ◌*◌, ◌≤◌, List, [], ◌∷◌, Option, None, Some, refl, arith}
+use Rattle.std.proofs.Common.{◌≡◌, ℕ, ◌+◌, ◌-◌, ◌*◌, ◌≤◌, true, false, List, [], ◌∷◌, Option, None, Some, refl, ap, arith}
 use Rattle.std.proofs.lemmas.List.Sums.{sum_by-cons}
 use Rattle.nr_store.specs.declared.element.Diversion.{Diversion}
 use Rattle.nr_reading.specs.declared.event.Event.{Event}
 use Rattle.nr_reading.specs.declared.event.Event.TheVariants as events
-use Rattle.nr_reading.specs.Weights.{cost_of_event, blanks_owed}
+use Rattle.nr_reading.specs.Weights.{cost_of_event, blanks_owed, is_lead}
 use Rattle.nr_store.specs.Stored.{Stored, Built}
 use Rattle.nr_input.specs.Coming.{Reached, ended}
+use Rattle.nr_input.specs.Runs.{PaysAll}
 use Rattle.nr_input.specs.Weights.{byte_worth, Pays, IfLead, diversions_in, diversions_of, count_of_diversion}
 use Rattle.nr_input.specs.declared.reader.Reader.{Reader}
-use Rattle.nr_input.specs.declared.told.Told.{Told}
 use Rattle.nr_input.specs.declared.told.Told.TheVariants as tells
 use Rattle.nr_formatter.specs.Weights.{Falls, weight, steps_left, owed, owed_by_event, owed_by_task, weight_of_agenda, weight_of_diversion, weight_of_built, weight_of_diversions}
 use Rattle.nr_formatter.specs.declared.formatter.Formatter.{Formatter}
@@ -116,3 +116,38 @@ exit_spends w p f g falls = let a = falls.falls (ended p) in omega arith
 -- a move that takes no byte
 pub work_spends : (w : ℕ) (p : Reached) (f g : Formatter) → Falls 1 0 f g → weight p g + 1 + w * p.taken ≤ weight p f + w * p.taken
 work_spends w p f g falls = let a = falls.falls p in omega arith
+
+-- the blanks that are owed, where none is told
+blanks_kept : (old new : ℕ) → 178 * new ≤ 178 * (new - old) + 178 * old
+blanks_kept old new = omega arith
+
+no_lead : (e : Event) → is_lead e ≡ false → lead_of e ≡ 0
+no_lead events.Lead is = absurd (let wrong : true ≡ false = is in cc)
+no_lead e is = refl
+
+-- many moves read, and the last of them told this
+pub told_all : (n : ℕ) (p q : Reached) (f : Formatter) (v : Stored Resume) (r : Reader) (e : Event) → f.event ≡ events.Nothing → f.task ≡ tasks.Read
+    → PaysAll n f.store p f.reader e v q r
+    → weight q (record f { store = v; reader = r; event = e }) + n + byte_worth f.reader.most f.store.limit * p.taken
+    ≤ weight p f + byte_worth f.reader.most f.store.limit * q.taken
+unfolding weight steps_left owed
+told_all n p q f v r e idle task pays =
+    let w = byte_worth f.reader.most f.store.limit in
+    let before : weight_of_agenda f.event f.task f.step ≡ 4 = rw (idle, task) refl in
+    let owed_before : owed_by_event f.event + owed_by_task f.task f.reader.half ≡ 0 = rw (idle, task) refl in
+    let behind : weight_of_agenda e f.task f.step ≡ weight_of_agenda e tasks.Read f.step = rw task refl in
+    let owed_behind : owed_by_task f.task r.half ≡ 0 = rw task refl in
+    omega (
+      arith,
+      before,
+      owed_before,
+      behind,
+      owed_behind,
+      pays.pays w (omega arith),
+      event_paid e f.step,
+      no_lead e pays.tells,
+      blanks_kept (blanks_owed f.reader.half) (blanks_owed r.half),
+      same_count v.building,
+      same_count f.store.building,
+      pays.diversions,
+    )

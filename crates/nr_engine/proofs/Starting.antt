@@ -17,7 +17,6 @@ use Rattle.nr_formatter.specs.Weights as weights
 use Rattle.nr_formatter.specs.Weights.{owed, steps_left}
 use Rattle.nr_formatter.specs.declared.formatter.Formatter.{Formatter}
 use Rattle.nr_engine.specs.State.{State, start, choices}
-use Rattle.nr_engine.specs.Measures.{IsWithin}
 use Rattle.nr_engine.specs.Machine.{state_after}
 use Rattle.nr_engine.specs.Answer.{Answers, moves_a_byte}
 use Rattle.nr_engine.specs.Holding.{Shape, Holds, Made, weight, worth}

@@ -1,5 +1,5 @@
 -- A whole run: its moves, and how many there are.
-use Rattle.std.proofs.Common.{◌≡◌, ℕ, ◌+◌, ◌*◌, ◌<◌, ◌≤◌, ◌^◌, List, [], Option, Ok, Err, ap, ◌∙◌, subst, arith}
+use Rattle.std.proofs.Common.{◌≡◌, ℕ, ◌+◌, ◌*◌, ◌<◌, ◌≤◌, ◌^◌, List, [], Option, Ok, Err, refl, ap, ◌∙◌, subst, arith}
 use Rattle.std.proofs.lemmas.Nat.{mul-le}
 use Rattle.nr_input.specs.Weights.{byte_worth}
 use Rattle.nr_units.specs.Supply.{Supply}
@@ -9,7 +9,8 @@ use Rattle.nr_engine.specs.Answer.{Stops}
 use Rattle.nr_engine.specs.Holding.{Shape, Holds, Moved, Left, Made, Halts, Advances, Spends, at, weight, worth}
 use Rattle.nr_engine.specs.Running.{Makes}
 use Rattle.nr_engine.specs.declared.outcome.Outcome.{Outcome}
-use Rattle.nr_engine.proofs.Standing.{made_one, made_all, halts_here, halts_after}
+use Rattle.nr_engine.proofs.Standing.{made_none, made_one, made_all, halts_here, halts_after}
+use Rattle.nr_engine.proofs.Working.{holds_of}
 
 same_state : (chosen : List Choice) (supply : Option Supply) (s : State) (e : Shape) → Holds chosen supply s e → at e s ≡ s
 same_state chosen supply s e h = ap (λ f. record s { formatter = f }) h.formatter
@@ -83,3 +84,18 @@ makes-add n m e f g x y z a b =
       most = b.most ∙ a.most;
       spends = omega (arith, a.spends, more);
     }
+
+-- none were made
+pub makes_none : (e : Shape) (supply : Option Supply) → Makes 0 e e supply supply
+makes_none e supply = record {
+  makes = λ held s h. made_none [] (at e s) e supply held (holds_of supply (at e s) e refl h.chosen_is h.coming h.row h.page h.page_limit h.select h.within);
+  limit = refl;
+  most = refl;
+  spends = omega arith;
+}
+
+-- none were made, and then some
+pub makes_later : (m : ℕ) (e f g : Shape) (x y z : Option Supply) → Makes 0 e f x y → Makes m f g y z → Makes m e g x z
+makes_later m e f g x y z a b =
+    let same : 0 + m ≡ m = omega arith in
+    subst (λ n. Makes n e g x z) same (makes-add 0 m e f g x y z a b)

@@ -1,7 +1,6 @@
 -- Parts of a move.
-use Rattle.std.proofs.Common.{◌≡◌, ℕ, ◌+◌, ◌≤◌, ◌<◌, Bool, true, false, List, [], ◌∷◌, ◌++◌, length, Option, None, Some, Result, Ok, Err, refl, sym, ap, ◌∙◌, subst, append-nil, arith}
+use Rattle.std.proofs.Common.{◌≡◌, ℕ, ◌+◌, ◌<◌, Bool, true, false, List, [], ◌∷◌, ◌++◌, length, Option, Result, Ok, Err, refl, sym, ap, ◌∙◌, subst, append-nil, arith}
 use Rattle.std.specs.Prelude.{OnOk, if◌then◌else◌}
-use Rattle.std.specs.Io.KnownBytes.{Keeps}
 use Rattle.std.proofs.KnownBytes.{Keeps-refl}
 use Rattle.std.proofs.lemmas.Grind.{flat_map-append}
 use Rattle.std.proofs.lemmas.List.Sums.{sum_by_push}
@@ -18,8 +17,8 @@ use Rattle.nr_engine.specs.State.{State, Ended, plainly}
 use Rattle.nr_engine.specs.Machine.{step}
 use Rattle.nr_engine.specs.Printing.{bytes_of, text}
 use Rattle.nr_engine.specs.Measures.{IsWithin, passed}
-use Rattle.nr_engine.specs.Answer.{Kind, Reads, Works as WorksKind, Over, kind, Goes, GoesBy, PassesBy, Passes, formatter_answer}
-use Rattle.nr_engine.specs.Holding.{Shape, at, Stands, Holds, AfterWork, AfterMove, Wrote, Grows}
+use Rattle.nr_engine.specs.Answer.{Works as WorksKind, kind, GoesBy, PassesBy, formatter_answer}
+use Rattle.nr_engine.specs.Holding.{Shape, at, Stands, Holds, AfterWork, AfterMove}
 use Rattle.nr_engine.specs.declared.outcome.Measure.TheVariants as measures
 use Rattle.nr_engine.specs.declared.outcome.Outcome.{Outcome}
 use Rattle.nr_engine.specs.declared.outcome.Outcome.TheVariants.{Done, Limit, ReadFault, TooLong, WriteFault}

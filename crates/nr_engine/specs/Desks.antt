@@ -1,5 +1,5 @@
 -- How long the slices of a desk are.
-use Rattle.std.specs.Prelude.{◌≡◌, ℕ, ◌+◌, ◌*◌, ◌/◌, ◌≤◌, min}
+use Rattle.std.specs.Prelude.{◌≡◌, ℕ, ◌+◌, ◌*◌, ◌/◌, min}
 use Rattle.nr_options.specs.Limits.{Bounds}
 use Rattle.nr_engine.specs.declared.lengths.Sizes.{Sizes}
 

@@ -1,10 +1,8 @@
 -- What has a limit, and how much of it a state has.
-use Rattle.std.specs.Prelude.{ℕ, ◌≤◌, nat_lt, if◌then◌else◌, length, Option, None, Some}
+use Rattle.std.specs.Prelude.{◌≤◌, nat_lt, if◌then◌else◌, length, Option, None, Some}
 use Rattle.nr_fill.specs.Pieces.{line_cells}
 use Rattle.nr_store.specs.Stored.{charge_of}
 use Rattle.nr_page.specs.Grid.{page_charge}
-use Rattle.nr_input.specs.declared.refusal.Refusal.{Refusal}
-use Rattle.nr_input.specs.declared.refusal.Refusal.TheVariants as refusals
 use Rattle.nr_formatter.specs.Limits as formatter
 use Rattle.nr_formatter.specs.declared.passed.Passed.{Passed}
 use Rattle.nr_formatter.specs.declared.passed.Passed.TheVariants as passes

@@ -1,12 +1,17 @@
 -- What the options do to the engine, and a whole run of it.
-use Rattle.std.specs.Prelude.{◌≡◌, ℕ, ◌+◌, ◌*◌, ◌≤◌, ◌<◌, List, [], length, slice_index, Option, Result, Ok, Err, OnOk, false}
-use Rattle.nr_units.specs.Supply.{Supply}
+use Rattle.std.specs.Prelude.{◌≡◌, ℕ, ◌+◌, ◌*◌, ◌≤◌, ◌<◌, List, [], length, slice_index, Option, Result, Ok, Err, OnOk, true, false}
+use Rattle.std.specs.Option.{option_map}
+use Rattle.nr_units.specs.Supply.{Supply, skipped}
 use Rattle.nr_options.specs.declared.options.Options.{Options}
+use Rattle.nr_input.specs.AtHand.{ComeNext, is_unseen, passed_many}
+use Rattle.nr_input.specs.Coming.{Coming, HoldsComing}
 use Rattle.nr_fill.specs.Pieces.{text_cells}
 use Rattle.nr_fill.specs.Runs.{IsPlain}
 use Rattle.nr_formatter.specs.Access.{collected}
 use Rattle.nr_formatter.specs.Limits.{IsWithin}
+use Rattle.nr_formatter.specs.Runs.{IsGap}
 use Rattle.nr_formatter.specs.declared.formatter.Formatter.{Formatter}
+use Rattle.nr_formatter.specs.declared.tasks.Task.TheVariants as tasks
 use Rattle.nr_store.specs.Stored.{charge_of}
 use Rattle.nr_engine.specs.State.{State, Choice, choices}
 use Rattle.nr_engine.specs.Machine.{choose, state_after}
@@ -37,11 +42,40 @@ pub record Makes (n : ℕ) (e f : Shape) (supply supply' : Option Supply) : Type
   pub most : f.formatter.reader.most ≡ e.formatter.reader.most
   pub spends : weight f + n + worth e * e.place.taken ≤ weight e + worth e * f.place.taken
 
--- As many of these bytes were put as could be: up to the end, to one that is not plain, or to the limit of the line.
-pub record Longest (bs : List ℕ) (n : ℕ) (f : Formatter) : Type 0 where
-  pub count : ℕ
-  pub moves : n ≡ 2 * count
-  pub stops : count < length bs → IsPlain (slice_index bs count) → text_cells (collected f) ≡ f.line.limit
+-- ---- text of the source that is at hand
+
+-- behind a byte of the source nothing was spliced
+abbrev pub unburst : Formatter → Formatter
+unburst f = record f { reader = record f.reader { burst = 0 } }
+
+-- n bytes were taken, and this is the formatter behind them
+abbrev pub taken_shape : ℕ → Formatter → Shape → Shape
+taken_shape n g e = record e { formatter = unburst g; place = passed_many n e.place }
+
+-- these bytes of the source are read next
+pub record HasNext (bs : List ℕ) (e : Shape) (supply : Option Supply) : Type 0 where
+  pub levels : e.formatter.store.levels ≡ []
+  pub unseen : is_unseen e.place.ahead ≡ true
+  pub next : (c : Coming) → HoldsComing c e.place supply → ComeNext bs c
+
+-- So many of these bytes were put, two or three moves each, whatever the engine has besides the formatter. What was spliced
+-- before them does not matter.
+pub record PutsText (bs : List ℕ) (taken moves : ℕ) (f g : Formatter) : Type 0 where
+  pub front : taken ≤ length bs
+  pub least : 2 * taken ≤ moves
+  pub most : moves ≤ 3 * taken
+  pub none : taken ≡ 0 → g ≡ f
+  pub store : g.store ≡ f.store
+  pub makes : (e : Shape) (supply : Option Supply) → unburst e.formatter ≡ unburst f → HasNext bs e supply → 0 < taken
+      → Makes moves e (taken_shape taken g e) supply (option_map (skipped taken) supply)
+
+-- As many of these bytes were put as could be, two or three moves each: where the line is not full, what comes next is neither
+-- a plain byte that fits nor a blank that does nothing but end its word.
+pub record Longest (bs : List ℕ) (taken moves : ℕ) (f : Formatter) : Type 0 where
+  pub least : 2 * taken ≤ moves
+  pub most : moves ≤ 3 * taken
+  pub stops : taken < length bs → f.task ≡ tasks.Read → IsPlain (slice_index bs taken) → text_cells (collected f) ≡ f.line.limit
+  pub blank : taken < length bs → f.task ≡ tasks.Read → slice_index bs taken ≡ 32 → IsGap f → ⊥
 
 -- all choices took effect, each as a move, or the run stops at one
 abbrev pub AfterChoices : Option Supply → State → ℕ → Shape → Option (List ℕ) → Result (Unit {0}) Outcome → Type 0

@@ -1,90 +1,131 @@
 //! Runs of plain bytes of a text line: many moves in one call.
-ghost use Rattle.std.specs.Prelude.{◌≡◌, ◌≢◌, ◌<◌, ◌≤◌, ◌+◌, ◌^◌, true, false, [], length, slice_index};
+ghost use Rattle.std.specs.Prelude.{◌≡◌, ◌≢◌, ◌<◌, ◌+◌, ◌-◌, ◌^◌, true, false, [], length, slice_index};
 ghost use Rattle.nr_input.specs.AtHand.{is_unseen};
 ghost use Rattle.nr_input.specs.Coming.{has_failed};
 ghost use Rattle.nr_formatter.specs.Runs.{is_in_line};
 ghost use Rattle.nr_engine.specs.Holding.{shape};
-ghost use Rattle.nr_engine.specs.Running.{Makes, Longest};
+ghost use Rattle.nr_engine.specs.Running.{Makes, Longest, PutsText};
 
 use crate::engine::Engine;
+use nr_formatter::formatter::Formatter;
 use nr_formatter::runs::Gap;
 use nr_units::source::Source;
 
-/// Whether a blank comes first.
-#[inline]
-fn begins_with_blank(bytes: &[u8]) -> bool
-    ensures some { result ≡ true → 0 < length bytes.now }
-    ensures blank { result ≡ true → slice_index bytes.now 0 ≡ 32 }
-    ensures other { result ≡ false → 0 < length bytes.now → slice_index bytes.now 0 ≢ 32 }
+/// Whether a blank stands at this place.
+#[inline(always)]
+fn has_blank(bytes: &[u8], place: usize) -> bool
+    ensures within { result ≡ true → place < length bytes.now }
+    ensures blank { result ≡ true → slice_index bytes.now place ≡ 32 }
+    ensures other { result ≡ false → place < length bytes.now → slice_index bytes.now place ≢ 32 }
 {
-    if bytes.is_empty() {
-        return false;
+    place < bytes.len() && bytes[place] == b' '
+}
+
+/// How much of some bytes was put.
+#[derive(Clone, Copy)]
+struct Words {
+    taken: usize,
+    moves: usize,
+}
+
+/// Puts the words that these bytes begin with, and the blanks behind them that do nothing but end their word, in a text line
+/// that has begun: up to a byte that is neither, or to the limit of the line.
+#[inline(always)]
+fn put_words(formatter: &mut Formatter<'_>, bytes: &[u8]) -> Words
+    requires line { is_in_line formatter.old ≡ true }
+    requires few { length bytes.now < 2 ^ 40 }
+    ensures puts { PutsText bytes.now result.taken result.moves formatter.old formatter.new }
+    ensures longest { Longest bytes.now result.taken result.moves formatter.new }
+{
+    let mut taken = 0;
+    let mut moves = 0;
+    loop {
+        let count = formatter.put_run(&bytes[taken..]);
+        taken += count;
+        moves += 2 * count;
+        if !has_blank(bytes, taken) {
+            return Words { taken, moves };
+        }
+        match formatter.put_gap() {
+            Gap::Left => return Words { taken, moves },
+            Gap::Flows => {
+                return Words {
+                    taken: taken + 1,
+                    moves: moves + 2,
+                };
+            }
+            Gap::Reads => {
+                taken += 1;
+                moves += 3;
+            }
+        }
     }
-    bytes[0] == b' '
 }
 
 impl<'a> Engine<'a> {
-    /// Reads and puts the bytes at hand that are plain, in a text line that has begun, and tells how many moves that were.
-    #[inline]
-    fn put_plain<R: Source>(&mut self, input: &mut R) -> u128
+    /// Reads and puts the words of the source at hand, in a text line that has begun, and the blanks behind them that do
+    /// nothing but end their word, and tells how many moves that was.
+    #[inline(always)]
+    fn put_source_text<R: Source>(&mut self, input: &mut R) -> u128
+        requires line { is_in_line self.old.formatter ≡ true }
         ensures makes { Makes result (shape self.old) (shape self.new) (R.supply input.old) (R.supply input.new) }
         ensures few { result < 2 ^ 66 }
-        ensures longest { is_in_line self.old.formatter ≡ true → self.old.formatter.store.levels ≡ [] → is_unseen self.old.place.ahead ≡ true →
-            self.old.place.taken + length (R.at_hand input.old) < 2 ^ 40 → Longest (R.at_hand input.old) result self.new.formatter }
+        ensures longest { self.old.formatter.store.levels ≡ [] → is_unseen self.old.place.ahead ≡ true →
+            self.old.place.taken + length (R.at_hand input.old) < 2 ^ 40 →
+            Longest (R.at_hand input.old) (self.new.place.taken - self.old.place.taken) result self.new.formatter }
         ensures failures { R.failures input.new ≡ R.failures input.old }
         ensures unfailed { has_failed self.old.place.ahead ≡ false → has_failed self.new.place.ahead ≡ false }
     {
-        if !self.formatter.is_in_line() {
-            return 0;
-        }
         let bytes = nr_input::window(&self.place, &self.formatter.store, input);
-        let count = self.formatter.put_run(bytes);
-        if count == 0 {
+        let words = put_words(&mut self.formatter, bytes);
+        if words.taken == 0 {
             return 0;
         }
-        nr_input::take_window(&mut self.place, &mut self.formatter.reader, input, count);
-        2 * count as u128
+        nr_input::take_window(
+            &mut self.place,
+            &mut self.formatter.reader,
+            input,
+            words.taken,
+        );
+        words.moves as u128
     }
 
-    /// Reads the blank behind a word where it is at hand and does nothing but end the word, and tells how many moves that
-    /// was.
-    #[inline]
-    fn put_gap<R: Source>(&mut self, input: &mut R) -> u128
+    /// Reads and puts the plain bytes of a text line that are at hand, those of the newest level if there is one, and the
+    /// blanks behind them, and tells how many moves that was.
+    #[inline(always)]
+    fn put_text<R: Source>(&mut self, input: &mut R) -> u128
+        requires line { is_in_line self.old.formatter ≡ true }
         ensures makes { Makes result (shape self.old) (shape self.new) (R.supply input.old) (R.supply input.new) }
-        ensures few { result ≤ 3 }
         ensures failures { R.failures input.new ≡ R.failures input.old }
         ensures unfailed { has_failed self.old.place.ahead ≡ false → has_failed self.new.place.ahead ≡ false }
     {
-        if !self.formatter.is_in_line() {
-            return 0;
+        if self.formatter.store.is_reading() {
+            return self.put_level_text();
         }
-        let bytes = nr_input::window(&self.place, &self.formatter.store, input);
-        if !begins_with_blank(bytes) {
-            return 0;
-        }
-        let gap = self.formatter.put_gap();
-        let moves = match gap {
-            Gap::Left => return 0,
-            Gap::Flows => 2,
-            Gap::Reads => 3,
-        };
-        nr_input::take_window(&mut self.place, &mut self.formatter.reader, input, 1);
-        moves
+        self.put_source_text(input)
     }
 
-    /// Reads and puts what is at hand, and tells how many moves that was: in a text line that has begun plain bytes and the
-    /// blank behind them, in a diverted line cells.
-    #[inline]
+    /// Reads and puts what is at hand, and tells how many moves that was: plain text, else cells of a diverted line, else what
+    /// can be read without anything being done.
+    #[inline(always)]
     pub(crate) fn put_at_hand<R: Source>(&mut self, input: &mut R) -> u128
         ensures makes { Makes result (shape self.old) (shape self.new) (R.supply input.old) (R.supply input.new) }
         ensures failures { R.failures input.new ≡ R.failures input.old }
         ensures unfailed { has_failed self.old.place.ahead ≡ false → has_failed self.new.place.ahead ≡ false }
     {
-        if !self.formatter.is_in_line() {
-            return self.put_row();
+        if !self.reads_next() {
+            return 0;
         }
-        let plain = self.put_plain(input);
-        let gap = self.put_gap(input);
-        plain + gap
+        if self.formatter.is_in_line() {
+            let text = self.put_text(input);
+            if text > 0 {
+                return text;
+            }
+        }
+        let cells = self.put_row();
+        if cells > 0 {
+            return cells;
+        }
+        self.read_run(input)
     }
 }

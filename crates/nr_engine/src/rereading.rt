@@ -33,7 +33,7 @@ fn put_cells(row: &mut Out<'_>, elements: &[Element]) -> usize
 
 impl<'a> Engine<'a> {
     /// Reads and puts the cells that come next of a diverted line that goes on the page, and tells how many moves that was.
-    #[inline]
+    #[inline(always)]
     pub(crate) fn put_row(&mut self) -> u128
         ensures makes { (supply : Option Supply) → Makes result (shape self.old) (shape self.new) supply supply }
         ensures place { self.new.place ≡ self.old.place }

@@ -155,7 +155,7 @@ impl<'a> Engine<'a> {
             let many = self.put_at_hand(input);
             let _reached = self.place.taken();
             *moves += many;
-            if many > 0 {
+            if many > 0 && self.reads_on() {
                 continue;
             }
             match self.advance(input, output) {

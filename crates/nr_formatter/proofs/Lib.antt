@@ -11,6 +11,7 @@ pub mod HearingFalls
 pub mod HeldRows
 pub mod InputFalls
 pub mod Judging
+pub mod LevelRuns
 pub mod LineFalls
 pub mod LineWeights
 pub mod Nearest

@@ -1,7 +1,10 @@
 -- Runs of bytes that stand for themselves, in a text line that has begun.
-use Rattle.std.specs.Prelude.{◌≡◌, ◌≤◌, ℕ, Bool, true, false, not, ◌&&◌, nat_lt, List, length, is_none, None}
-use Rattle.nr_fill.specs.Pieces.{Collected, begins_line, end_word, line_cells, one_blank_more}
-use Rattle.nr_fill.specs.Runs.{add_run}
+use Rattle.std.specs.Prelude.{◌≡◌, ◌≤◌, ◌<◌, ℕ, Bool, true, false, not, ◌&&◌, nat_lt, List, length, map, take, get_or, All, is_none, None}
+use Rattle.nr_fill.specs.Pieces.{Collected, begins_line, end_word, line_cells, one_blank_more, text_cells}
+use Rattle.nr_fill.specs.Runs.{IsPlain, add_run}
+use Rattle.nr_store.specs.Windows.{rest_of, run_left}
+use Rattle.nr_store.specs.declared.element.Element.{Element}
+use Rattle.nr_store.specs.declared.element.Element.TheVariants as elements
 use Rattle.nr_reading.specs.InText.{is_in_text}
 use Rattle.nr_reading.specs.Rereading.{is_rereading}
 use Rattle.nr_reading.specs.declared.event.Event.{Event}
@@ -37,6 +40,28 @@ pub record IsInLine (f : Formatter) : Type 0 where
 -- the bytes one after another, each a cell of the word
 abbrev pub run_put : List ℕ → Formatter → Formatter
 run_put bs f = with_collected (add_run (margins f) (is_under f.settings.fonts) bs (collected f)) f
+
+-- ---- bytes of the newest level
+
+-- a byte that stands for itself
+abbrev pub IsPlainByte : Element → Type 0
+IsPlainByte (elements.Byte b) = IsPlain b
+IsPlainByte x = ⊥
+
+-- the newest level behind so many elements, which were these bytes, each a cell of the word
+abbrev pub level_run_put : List ℕ → Formatter → Formatter
+level_run_put bs f = run_put bs (record f { store = run_left (length bs) f.store })
+
+-- So many plain bytes that came next of the newest level were put: if any, as many as could be, up to 64.
+pub record PutsLevel (f : Formatter) (n : ℕ) (g : Formatter) : Type 0 where
+  pub bytes : List ℕ
+  pub count : length bytes ≡ n
+  pub front : map elements.Byte bytes ≡ take n (rest_of f.store.levels)
+  pub plain : All IsPlain bytes
+  pub is : g ≡ level_run_put bytes f
+  pub within : 0 < n → line_cells (collected g) ≤ g.line.limit
+  pub few : n ≤ 64
+  pub stops : 0 < n → n < 64 → IsPlainByte (get_or (rest_of f.store.levels) n (elements.Byte 0)) → text_cells (collected g) ≡ g.line.limit
 
 -- ---- a blank behind a word
 

@@ -1,14 +1,19 @@
 //! Runs of bytes that stand for themselves, in a text line that has begun.
-ghost use Rattle.std.specs.Prelude.{◌≡◌, ◌<◌, ◌≤◌, false, length, take, slice_index, All};
+ghost use Rattle.std.specs.Prelude.{◌≡◌, ◌<◌, ◌≤◌, false, length, take, map, get_or, slice_index, All};
 ghost use Rattle.nr_fill.specs.Pieces.{begins_line, line_cells, text_cells};
 ghost use Rattle.nr_fill.specs.Runs.{IsPlain};
+ghost use Rattle.nr_store.specs.declared.element.Element.TheVariants as elements;
 ghost use Rattle.nr_formatter.specs.Access.{collected};
 ghost use Rattle.nr_formatter.specs.declared.runs.Gap.TheVariants as gaps;
-ghost use Rattle.nr_formatter.specs.Runs.{reads_next, is_in_line, run_put, gaps_plainly, IsGap, AfterGap, is_rereading_line};
+ghost use Rattle.nr_formatter.specs.Runs.{reads_next, is_in_line, run_put, gaps_plainly, IsGap, AfterGap, IsPlainByte, PutsLevel, is_rereading_line};
 
 use crate::formatter::Formatter;
 use crate::tasks::{After, Task};
 use nr_input::Event;
+use nr_store::Element;
+
+/// How many bytes of a level are put in one call, at most.
+const LONGEST_RUN: usize = 64;
 
 /// What became of a blank behind a word.
 #[derive(Clone, Copy, Debug, PartialEq, Eq)]
@@ -19,6 +24,30 @@ pub enum Gap {
     Flows,
     /// It was read, and more is read next.
     Reads,
+}
+
+/// Copies the bytes that this text begins with, up to an element that is no byte, a blank or a control byte. Tells how many
+/// it copied.
+#[inline]
+fn copy_bytes(text: &[Element], bytes: &mut [u8]) -> usize
+    requires room { length text.now ≤ length bytes.old }
+    ensures front { result ≤ length text.now }
+    ensures room { length bytes.new ≡ length bytes.old }
+    ensures copied { map elements.Byte (take result bytes.new) ≡ take result text.now }
+    ensures stops { IsPlainByte (get_or text.now result (elements.Byte 0)) → ⊥ }
+{
+    let mut count = 0;
+    for element in text {
+        let Element::Byte(byte) = *element else {
+            return count;
+        };
+        if byte <= b' ' {
+            return count;
+        }
+        bytes[count] = byte;
+        count += 1;
+    }
+    count
 }
 
 impl<'a> Formatter<'a> {
@@ -58,6 +87,35 @@ impl<'a> Formatter<'a> {
         let margins = self.settings.indents.margins();
         let under = self.settings.fonts.is_under();
         self.line.put_run(margins, under, bytes)
+    }
+
+    /// Adds a front of what comes next of the newest level to the line, and takes it: up to the first that is no plain byte
+    /// or whose cell would pass the limit, and 64 at most. Tells how many it added.
+    #[inline]
+    pub fn put_level_run(&mut self) -> usize
+        ensures { PutsLevel self.old result self.new }
+    {
+        let margins = self.settings.indents.margins();
+        let under = self.settings.fonts.is_under();
+        let text = self.store.window();
+        if text.is_empty() {
+            let own = self.store.own_window();
+            if own.is_empty() {
+                return 0;
+            }
+            let front = &own[..own.len().min(LONGEST_RUN)];
+            let count = self.line.put_run(margins, under, front);
+            self.store.skip(count as u32);
+            return count;
+        }
+        let mut bytes = [0; LONGEST_RUN];
+        let copied = copy_bytes(&text[..text.len().min(LONGEST_RUN)], &mut bytes);
+        if copied == 0 {
+            return 0;
+        }
+        let count = self.line.put_run(margins, under, &bytes[..copied]);
+        self.store.skip(count as u32);
+        count
     }
 
     /// Whether a blank does nothing but end the word and widen the gap.

@@ -1,4 +1,3 @@
-use Rattle.std.proofs.Common.{◌≡◌, refl}
 use Rattle.nr_engine.specs.Holding.{shape, at}
 use Rattle.nr_engine.proofs.Moving.{acts_plainly, spends-lightens, unfailed-lightens}
 use Rattle.nr_engine.proofs.engine.Engine.act.Goals as goal

@@ -1,4 +1,4 @@
-use Rattle.std.proofs.Common.{◌≡◌, Some, refl, sym, ap, ◌∙◌}
+use Rattle.std.proofs.Common.{refl}
 use Rattle.nr_formatter.specs.Springing.{sprung}
 use Rattle.nr_engine.specs.State.{plainly}
 use Rattle.nr_engine.specs.Machine.{hear}

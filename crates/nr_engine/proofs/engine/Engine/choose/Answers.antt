@@ -1,4 +1,4 @@
-use Rattle.std.proofs.Common.{◌≡◌, ℕ, ℤ, pos, ◌+◌, Ok, Err, rules, refl, sym, ap, subst, arith, get_or, FitsSigned, w64, to_z, of_z}
+use Rattle.std.proofs.Common.{◌≡◌, ℤ, pos, Ok, Err, rules, refl, sym, ap, subst, arith, get_or, FitsSigned, w64, to_z, of_z}
 use Rattle.std.proofs.lemmas.Int.{to_z-of_z}
 use Rattle.nr_engine.specs.State.{First, Register}
 use Rattle.nr_engine.specs.Answer.{is_read_fault, is_write_fault}

@@ -1,5 +1,3 @@
-use Rattle.std.proofs.Common.{◌≡◌, ap}
-use Rattle.nr_engine.specs.Holding.{shape}
 use Rattle.nr_engine.proofs.Spending.{exit_spends}
 use Rattle.nr_engine.proofs.engine.Engine.exit.Goals as goal
 

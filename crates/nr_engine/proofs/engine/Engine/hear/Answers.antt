@@ -1,4 +1,4 @@
-use Rattle.std.proofs.Common.{◌≡◌, refl, sym}
+use Rattle.std.proofs.Common.{refl}
 use Rattle.nr_formatter.specs.Moves.{heard}
 use Rattle.nr_engine.specs.Holding.{shape, at}
 use Rattle.nr_engine.proofs.Moving.{reads-formatter, writes-formatter, lightens-formatter, heard_plainly}

@@ -1,7 +1,6 @@
-use Rattle.std.proofs.Common.{◌≡◌, ◌≤◌, ℕ, ◌*◌, ◌++◌, List, length, take, drop, true, false, sym, ◌∙◌, ap, subst, arith, length-take-le, length-append}
-use Rattle.nr_fill.specs.Pieces.{is_nil}
+use Rattle.std.proofs.Common.{◌≡◌, ◌≤◌, ◌*◌, ◌++◌, List, length, take, drop, true, sym, ◌∙◌, ap, subst, arith, length-take-le, length-append}
 use Rattle.nr_store.specs.Laws.{left_times-run}
-use Rattle.nr_store.specs.Windows.{rest_of, run_left}
+use Rattle.nr_store.specs.Windows.{rest_of}
 use Rattle.nr_store.specs.declared.element.Element.{Element}
 use Rattle.nr_formatter.specs.Runs.{is_rereading_line}
 use Rattle.nr_engine.specs.Holding.{Shape, shape}

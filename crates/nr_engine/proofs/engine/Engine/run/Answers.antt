@@ -1,69 +1,69 @@
-use Rattle.std.proofs.Common.{◌≡◌, ℕ, ◌+◌, ◌*◌, ◌<◌, ◌≤◌, ◌^◌, ◌∙◌, arith}
+use Rattle.std.proofs.Common.{◌+◌, ◌∙◌, arith}
 use Rattle.nr_engine.specs.Holding.{Shape, shape, weight, worth}
 use Rattle.nr_engine.proofs.Travelling.{made_more, made_run, halted, spent, spent_run, bound_there, few_enough}
 use Rattle.nr_engine.proofs.engine.Engine.run.Goals as goal
 
 pub overflow_add-moves : goal.overflow_add-moves
 overflow_add-moves g c =
-    let now = c.loop-many.invariant in
+    let now = c.loop-self.invariant in
     let first : Shape = shape c.args.self.now in
-    let bound = spent_run first (shape c.loop-many.self) (shape c.put_at_hand-many.new.self) _ _ c.loop-many.moves c.put_at_hand-many.result now.limit now.most now.bound c.put_at_hand-many.ensures.makes in
-    let few = few_enough (worth first) c.put_at_hand-many.new.self.place.taken (c.loop-many.moves + c.put_at_hand-many.result) c.requires.small
+    let bound = spent_run first (shape c.loop-self.self) (shape c.put_at_hand-many.new.self) _ _ c.loop-self.moves c.put_at_hand-many.result now.limit now.most now.bound c.put_at_hand-many.ensures.makes in
+    let few = few_enough (worth first) c.put_at_hand-many.new.self.place.taken (c.loop-self.moves + c.put_at_hand-many.result) c.requires.small
     (omega (arith, c.taken-reached.ensures.value, c.taken-reached.ensures.within)) (omega (arith, bound)) in
     omega (arith, few)
 
-pub loop-many-preserved-then-many-gt0 : goal.loop-many-preserved-then-many-gt0
-loop-many-preserved-then-many-gt0 g c =
-    let now = c.loop-many.invariant in
+pub loop-self-preserved-then-reads_on : goal.loop-self-preserved-then-reads_on
+loop-self-preserved-then-reads_on g c =
+    let now = c.loop-self.invariant in
     let run = c.put_at_hand-many.ensures.makes in
     let first : Shape = shape c.args.self.now in
     record {
       limit = run.limit ∙ now.limit;
       most = run.most ∙ now.most;
-      bound = spent_run first (shape c.loop-many.self) (shape c.put_at_hand-many.new.self) _ _ c.loop-many.moves c.put_at_hand-many.result now.limit now.most now.bound run;
+      bound = spent_run first (shape c.loop-self.self) (shape c.put_at_hand-many.new.self) _ _ c.loop-self.moves c.put_at_hand-many.result now.limit now.most now.bound run;
       unfailed = c.put_at_hand-many.ensures.unfailed now.unfailed;
       reads = c.put_at_hand-many.ensures.failures ∙ now.reads;
       writes = now.writes;
       made = λ s h.
           let t = now.made s h in
-          (t.0 + c.put_at_hand-many.result, omega (arith, t.1), made_run s t.0 c.put_at_hand-many.result (shape c.loop-many.self) (shape c.put_at_hand-many.new.self) _ _ _ _ t.2 run);
+          (t.0 + c.put_at_hand-many.result, omega (arith, t.1), made_run s t.0 c.put_at_hand-many.result (shape c.loop-self.self) (shape c.put_at_hand-many.new.self) _ _ _ _ t.2 run);
     }
 
-pub loop-many-preserved : goal.loop-many-preserved
-loop-many-preserved g c =
-    let now = c.loop-many.invariant in
+pub loop-self-preserved : goal.loop-self-preserved
+loop-self-preserved g c =
+    let now = c.loop-self.invariant in
     let run = c.put_at_hand-many.ensures.makes in
     let made = c.in-Ok.ensures in
     let first : Shape = shape c.args.self.now in
     let limit = run.limit ∙ now.limit in
     let most = run.most ∙ now.most in
     let unfailed = c.put_at_hand-many.ensures.unfailed now.unfailed in
-    let bound = spent_run first (shape c.loop-many.self) (shape c.put_at_hand-many.new.self) _ _ c.loop-many.moves c.put_at_hand-many.result now.limit now.most now.bound run in
+    let bound = spent_run first (shape c.loop-self.self) (shape c.put_at_hand-many.new.self) _ _ c.loop-self.moves c.put_at_hand-many.result now.limit now.most now.bound run in
     record {
       limit = made.spends.limit ∙ limit;
       most = made.spends.most ∙ most;
-      bound = spent first (shape c.put_at_hand-many.new.self) (shape c.advance.new.self) (c.loop-many.moves + c.put_at_hand-many.result) limit most bound made.spends;
+      bound = spent first (shape c.put_at_hand-many.new.self) (shape c.advance.new.self) (c.loop-self.moves + c.put_at_hand-many.result) limit most bound made.spends;
       unfailed = made.unfailed unfailed;
       reads = made.read_failures unfailed ∙ c.put_at_hand-many.ensures.failures ∙ now.reads;
       writes = made.write_failures ∙ now.writes;
       made = λ s h.
           let t = now.made s h in
-          let glided = made_run s t.0 c.put_at_hand-many.result (shape c.loop-many.self) (shape c.put_at_hand-many.new.self) _ _ _ _ t.2 run in
+          let glided = made_run s t.0 c.put_at_hand-many.result (shape c.loop-self.self) (shape c.put_at_hand-many.new.self) _ _ _ _ t.2 run in
           (t.0 + c.put_at_hand-many.result + 1, omega (arith, t.1), made_more s (t.0 + c.put_at_hand-many.result) (shape c.put_at_hand-many.new.self) (shape c.advance.new.self) _ _ _ _ _ glided made.moved);
     }
 
 pub returns-in-Err-clause-travels : goal.returns-in-Err-clause-travels
 returns-in-Err-clause-travels g c = λ s h.
-    let now = c.loop-many.invariant in
+    let now = c.loop-self.invariant in
     let run = c.put_at_hand-many.ensures.makes in
     let first : Shape = shape c.args.self.now in
     let t = now.made s h in
-    let glided = made_run s t.0 c.put_at_hand-many.result (shape c.loop-many.self) (shape c.put_at_hand-many.new.self) _ _ _ _ t.2 run in
-    let bound = spent_run first (shape c.loop-many.self) (shape c.put_at_hand-many.new.self) _ _ c.loop-many.moves c.put_at_hand-many.result now.limit now.most now.bound run in
+    let glided = made_run s t.0 c.put_at_hand-many.result (shape c.loop-self.self) (shape c.put_at_hand-many.new.self) _ _ _ _ t.2 run in
+    let bound = spent_run first (shape c.loop-self.self) (shape c.put_at_hand-many.new.self) _ _ c.loop-self.moves c.put_at_hand-many.result now.limit now.most now.bound run in
     record {
       count = t.0 + c.put_at_hand-many.result;
       counted = omega (arith, t.1);
       halts = halted s (t.0 + c.put_at_hand-many.result) (shape c.put_at_hand-many.new.self) (shape c.advance.new.self) (g.R.Source.supply c.put_at_hand-many.new.input) (g.R.Source.supply c.advance.new.input)
           c.in-Err.outcome _ _ _ glided c.in-Err.ensures.moved;
-      bound = bound_there (worth first) (c.loop-many.moves + c.put_at_hand-many.result) (weight (shape c.put_at_hand-many.new.self)) _ _ glided.holds.stands.coming.taken bound;
+      bound = bound_there (worth first) (c.loop-self.moves + c.put_at_hand-many.result) (weight (shape c.put_at_hand-many.new.self)) _ _ glided.holds.stands.coming.taken bound;
     }

@@ -4,8 +4,8 @@ use Rattle.nr_engine.specs.State.{State}
 use Rattle.nr_engine.specs.Holding.{Holds, Made, shape, weight, worth}
 use Rattle.nr_engine.proofs.engine.Engine.run.Given as goal
 
-abbrev pub invariant-loop-many : goal.invariant-loop-many
-invariant-loop-many g l = record {
+abbrev pub invariant-loop-self : goal.invariant-loop-self
+invariant-loop-self g l = record {
   limit : l.self.formatter.store.limit ≡ l.fn.self.formatter.store.limit;
   most : l.self.formatter.reader.most ≡ l.fn.self.formatter.reader.most;
   bound : l.moves + weight (shape l.self) ≤ worth (shape l.fn.self) * (l.self.place.taken + 1);
@@ -16,5 +16,5 @@ invariant-loop-many g l = record {
       (n : ℕ) × (l.moves ≡ l.fn.moves + n) × Made [] s n (shape l.self) (g.R.Source.supply l.input) (g.W.Sink.held l.fn.output) (g.W.Sink.held l.output);
 }
 
-abbrev pub decreases-loop-many : goal.decreases-loop-many
-decreases-loop-many g l = worth (shape l.fn.self) * 2 ^ 40 - l.moves
+abbrev pub decreases-loop-self : goal.decreases-loop-self
+decreases-loop-self g l = worth (shape l.fn.self) * 2 ^ 40 - l.moves

@@ -1,4 +1,3 @@
-use Rattle.std.proofs.Common.{◌≡◌}
 use Rattle.nr_engine.specs.Holding.{shape}
 use Rattle.nr_engine.proofs.Moving.{plain_works}
 use Rattle.nr_engine.proofs.engine.Engine.work.Goals as goal

@@ -1,0 +1,336 @@
+-- Bytes of the newest level in a text line that has begun: two moves a plain byte, and two or three the blank behind them.
+use Rattle.std.proofs.Common.{◌≡◌, ℕ, zero, suc, ◌+◌, ◌*◌, ◌<◌, ◌≤◌, true, false, List, [], ◌∷◌, ◌++◌, length, map, drop, Option, refl, sym, ap, ◌∙◌, subst, arith, length-append, drop_at, take-append-drop}
+use Rattle.std.specs.Prelude.{◌==◌}
+use Rattle.std.proofs.lemmas.Bool.{eq-eqb}
+use Rattle.std.proofs.lemmas.List.{length-map, nil_from_length}
+use Rattle.std.proofs.lemmas.List.Sums.{sum_by-cons}
+use Rattle.nr_units.specs.Supply.{Supply}
+use Rattle.nr_fill.specs.Pieces.{line_cells}
+use Rattle.nr_fill.specs.Runs.{run_cell}
+use Rattle.nr_store.specs.Stored.{Stored, Level, Read, Mark, Reading, shown, level_charge}
+use Rattle.nr_store.specs.Windows.{rest_of, left_times, levels_behind, run_left}
+use Rattle.nr_store.specs.Laws.{left_times-run}
+use Rattle.nr_store.specs.declared.element.Element.{Element}
+use Rattle.nr_store.specs.declared.element.Element.TheVariants as elements
+use Rattle.nr_store.specs.declared.shown.Shown.{Shown}
+use Rattle.nr_store.specs.declared.shown.Shown.TheVariants as shows
+use Rattle.nr_reading.specs.declared.event.Event.TheVariants as events
+use Rattle.nr_reading.specs.declared.front.Front.TheVariants as fronts
+use Rattle.nr_reading.specs.InText.{IsInText}
+use Rattle.nr_reading.specs.Meeting.{meet}
+use Rattle.nr_reading.proofs.InText.{in_text, meet-plain}
+use Rattle.nr_input.specs.Moving.{move as input_move, situation, met_at}
+use Rattle.nr_input.specs.Moving as input
+use Rattle.nr_input.specs.declared.told.Told.TheVariants as tells
+use Rattle.nr_settings.specs.Fonts.{is_under}
+use Rattle.nr_formatter.specs.Access.{collected, margins}
+use Rattle.nr_formatter.specs.Lines.{fits_line}
+use Rattle.nr_formatter.specs.Runs.{IsGap, IsInLine, gap_flows, gap_put, gapped, PutsLevel, is_in_line, level_run_put, run_put}
+use Rattle.nr_formatter.specs.Weights as weights
+use Rattle.nr_formatter.specs.Weights.{weight_of_agenda, owed_by_event, owed_by_task}
+use Rattle.nr_formatter.specs.declared.formatter.Formatter.{Formatter}
+use Rattle.nr_formatter.specs.declared.tasks.After.TheVariants as afters
+use Rattle.nr_formatter.specs.declared.tasks.Resume.{Resume}
+use Rattle.nr_formatter.specs.declared.tasks.Task.TheVariants as tasks
+use Rattle.nr_formatter.proofs.PlainText.{begun-cell, in_line, line_cells-run, weight-gap, weight-run}
+use Rattle.nr_engine.specs.State.{State}
+use Rattle.nr_engine.specs.Machine.{step, read, situation_of, with_situation}
+use Rattle.nr_engine.specs.Measures.{IsWithin}
+use Rattle.nr_engine.specs.Answer.{Goes, GoesBy}
+use Rattle.nr_engine.specs.Holding.{Shape, at, Stands, Holds, Made, weight, worth}
+use Rattle.nr_engine.specs.Running.{Makes}
+use Rattle.nr_engine.proofs.Gliding.{Glides, glides-add, glides_plain, glides_flows, glides_gap, made_of, told, within_flows, within_gap}
+use Rattle.nr_engine.proofs.NextMoves.{step-read, kind-read}
+use Rattle.nr_engine.proofs.PlainText.{ArePlain, escape, first_plain, newline, others_plain}
+use Rattle.nr_engine.proofs.RereadCells.{items_fewer}
+use Rattle.nr_engine.proofs.Standing.{wrote_nothing}
+use Rattle.nr_engine.proofs.Travelling.{makes_none}
+use Rattle.nr_engine.proofs.Working.{holds_of}
+
+-- with so much left of the newest level's text
+abbrev pub at_text : Reading Resume → List (Level Resume) → List Element → State → State
+at_text l ls xs s = record s { formatter = record s.formatter { store = record s.formatter.store { levels = Read (record l { rest = xs }) ∷ ls } } }
+
+-- ---- one byte
+
+module _ (l : Reading Resume) (ls : List (Level Resume)) (b : ℕ) (xs : List Element) (s : State) where
+  looks : IsInText s.formatter.reader.half
+      → input_move (situation_of (at_text l ls (elements.Byte b ∷ xs) s)) ≡ met_at (meet (fronts.Byte b) s.formatter.reader.half) (situation_of (at_text l ls (elements.Byte b ∷ xs) s))
+  looks half = rw half.due refl
+
+  takes : met_at (record { half = s.formatter.reader.half; event = events.Byte b; takes = true }) (situation_of (at_text l ls (elements.Byte b ∷ xs) s))
+      ≡ record { situation = situation (at_text l ls xs s).formatter.store s.coming s.formatter.reader; told = tells.Event (events.Byte b) }
+  takes = rw (eq-eqb s.coming.taken s.coming.taken refl) refl
+
+  read_is : IsInText s.formatter.reader.half → (b == 10) ≡ false → (b == 92) ≡ false → read (at_text l ls (elements.Byte b ∷ xs) s) ≡ told b (at_text l ls xs s)
+  read_is half newline escape =
+      ap (λ m. with_situation m (at_text l ls (elements.Byte b ∷ xs) s))
+      (looks half ∙ ap (λ m. met_at m (situation_of (at_text l ls (elements.Byte b ∷ xs) s))) (meet-plain b s.formatter.reader.half half newline escape) ∙ takes)
+
+  reads_byte : s.chosen ≡ [] → IsInLine s.formatter → (b == 10) ≡ false → (b == 92) ≡ false → step (at_text l ls (elements.Byte b ∷ xs) s) ≡ told b (at_text l ls xs s)
+  reads_byte chosen line newline escape =
+      step-read (at_text l ls (elements.Byte b ∷ xs) s) chosen line.springs line.event line.task ∙ read_is (in_text s.formatter.reader.half line.half) newline escape
+
+  sees_byte : IsInText s.formatter.reader.half → input.Goes (situation_of (at_text l ls (elements.Byte b ∷ xs) s))
+  sees_byte half = rw half.due tt
+
+  goes_byte : s.chosen ≡ [] → IsInLine s.formatter → Goes (at_text l ls (elements.Byte b ∷ xs) s)
+  goes_byte chosen line =
+      let reads = kind-read (at_text l ls (elements.Byte b ∷ xs) s) chosen line.springs line.event line.task in
+      subst (λ k. GoesBy k (at_text l ls (elements.Byte b ∷ xs) s)) (sym reads) (sees_byte (in_text s.formatter.reader.half line.half))
+
+-- ---- a run
+
+module _ (l : Reading Resume) (ls : List (Level Resume)) where
+  line_there : (xs : List Element) (s : State) → IsInLine s.formatter → IsInLine (at_text l ls xs s).formatter
+  line_there xs s line = record { springs = line.springs; event = line.event; task = line.task; half = line.half; begun = line.begun }
+
+  line_behind : (b : ℕ) (xs : List Element) (s : State) → IsInLine s.formatter → IsInLine (made_of (run_put (b ∷ [])) (at_text l ls xs s)).formatter
+  line_behind b xs s line = record {
+    springs = line.springs;
+    event = line.event;
+    task = line.task;
+    half = line.half;
+    begun = begun-cell (margins s.formatter) (run_cell (is_under s.formatter.settings.fonts) b) (collected s.formatter);
+  }
+
+  -- what is left of a text is charged nothing
+  within_text : (xs ys : List Element) (bs : List ℕ) (s : State) → IsWithin (at_text l ls xs s) → line_cells (collected (run_put bs s.formatter)) ≤ s.formatter.line.limit
+      → IsWithin (made_of (run_put bs) (at_text l ls ys s))
+  within_text xs ys bs s w fits = record {
+    formatter = record {
+      stored = omega (arith, w.formatter.stored, sum_by-cons level_charge (Read (record l { rest = xs })) ls, sum_by-cons level_charge (Read (record l { rest = ys })) ls);
+      depth = w.formatter.depth;
+      line = fits;
+      burst = w.formatter.burst;
+    };
+    page = w.page;
+  }
+
+  fits_first : (b : ℕ) (bs : List ℕ) (s : State) → line_cells (collected (run_put (b ∷ bs) s.formatter)) ≤ s.formatter.line.limit → line_cells (collected (run_put (b ∷ []) s.formatter)) ≤ s.formatter.line.limit
+  fits_first b bs s fits =
+      omega (
+        arith,
+        fits,
+        line_cells-run (margins s.formatter) (is_under s.formatter.settings.fonts) b bs (collected s.formatter),
+        line_cells-run (margins s.formatter) (is_under s.formatter.settings.fonts) b [] (collected s.formatter),
+      )
+
+  glides_text : (bs : List ℕ) (zs : List Element) (s : State) → s.chosen ≡ [] → IsInLine s.formatter → ArePlain bs → IsWithin (at_text l ls (map elements.Byte bs ++ zs) s)
+      → line_cells (collected (run_put bs s.formatter)) ≤ s.formatter.line.limit
+      → Glides (at_text l ls (map elements.Byte bs ++ zs) s) (2 * length bs) (made_of (run_put bs) (at_text l ls zs s))
+  glides_text [] zs s chosen line plain within fits = record { runs = λ m below. absurd (omega (arith, below)); leads = refl }
+  glides_text (b ∷ bs) zs s chosen line plain within fits =
+      let rest : List Element = map elements.Byte bs ++ zs in
+      let first = first_plain b bs plain in
+      let behind : State = made_of (run_put (b ∷ [])) (at_text l ls rest s) in
+      let within_one = within_text (elements.Byte b ∷ rest) rest (b ∷ []) s within (fits_first b bs s fits) in
+      let one = glides_plain (at_text l ls (elements.Byte b ∷ rest) s) (at_text l ls rest s) b chosen (line_there rest s line) (goes_byte l ls b rest s chosen line)
+      (reads_byte l ls b rest s chosen line (newline b first) (escape b first)) first within_one in
+      let more = glides_text bs zs behind chosen (line_behind b rest s line) (others_plain b bs plain) within_one fits in
+      let count : 2 + 2 * length bs ≡ 2 * length (b ∷ bs) = omega arith in
+      subst (λ n. Glides (at_text l ls (elements.Byte b ∷ rest) s) n (made_of (run_put (b ∷ bs)) (at_text l ls zs s))) count
+      (glides-add (at_text l ls (elements.Byte b ∷ rest) s) 2 (2 * length bs) behind (made_of (run_put (b ∷ bs)) (at_text l ls zs s)) one more)
+
+-- ---- the engine
+
+-- The moves lead to a state with this formatter, all else as it was.
+made_glided : (n : ℕ) (e : Shape) (f g : Formatter) (supply : Option Supply) (held : Option (List ℕ)) (s : State) → Stands [] supply s e → g ≡ f
+    → IsWithin (record (at e s) { formatter = f }) → Glides (at e s) n (record (at e s) { formatter = f }) → Made [] (at e s) n (record e { formatter = g }) supply held held
+made_glided n e f g supply held s h is within glides =
+    let holds : Holds [] supply (record (at e s) { formatter = f }) (record e { formatter = g }) =
+    holds_of supply (record (at e s) { formatter = f }) (record e { formatter = g }) is h.chosen_is h.coming h.row h.page h.page_limit h.select within in
+    record {
+      runs = glides.runs;
+      holds = rw glides.leads holds;
+      wrote = wrote_nothing (at e s) _ held (ap (λ t. t.pages) glides.leads);
+    }
+
+-- the newest level's text was read and put
+abbrev pub level_shape : List ℕ → Shape → Shape
+level_shape bs e = record e { formatter = level_run_put bs e.formatter }
+
+level_spends : (bs : List ℕ) (e : Shape) → length bs ≤ length (rest_of e.formatter.store.levels)
+    → weight (level_shape bs e) + 2 * length bs + worth e * e.place.taken ≤ weight e + worth e * e.place.taken
+unfolding weights.weight weights.steps_left weights.owed
+level_spends bs e few =
+    omega (arith, few, items_fewer (length bs) e.formatter.store.levels few, weight-run (margins e.formatter) (is_under e.formatter.settings.fonts) bs (collected e.formatter))
+
+module _ (bs : List ℕ) (zs : List Element) (e : Shape) (supply : Option Supply) (held : Option (List ℕ)) (s : State) (h : Stands [] supply s e) (is : is_in_line e.formatter ≡ true) (plain : ArePlain bs)
+    (fits : line_cells (collected (run_put bs e.formatter)) ≤ e.formatter.line.limit) where
+  made_text : (l : Reading Resume) (ls : List (Level Resume)) → e.formatter.store.levels ≡ Read l ∷ ls → map elements.Byte bs ++ zs ≡ l.rest
+      → Made [] (at e s) (2 * length bs) (level_shape bs e) supply held held
+  made_text l ls levels_is rest_is =
+      let xs : List Element = map elements.Byte bs ++ zs in
+      let start : at_text l ls xs (at e s) ≡ at e s =
+      ap (λ r. at_text l ls r (at e s)) rest_is
+      ∙ ap (λ v. record (at e s) { formatter = record e.formatter { store = record e.formatter.store { levels = v } } }) (sym levels_is) in
+      let within = subst IsWithin (sym start) h.within in
+      let end : State = made_of (run_put bs) (at_text l ls zs (at e s)) in
+      let glides : Glides (at e s) (2 * length bs) end =
+      subst (λ t. Glides t (2 * length bs) end) start (glides_text l ls bs zs (at e s) h.chosen_is (in_line e.formatter is) plain within fits) in
+      let left : drop (length bs) l.rest ≡ zs = ap (drop (length bs)) (sym rest_is) ∙ drop_at (map elements.Byte bs) zs (length bs) (length-map bs elements.Byte) in
+      let formatter_is : level_run_put bs e.formatter ≡ end.formatter =
+      ap (λ v. run_put bs (record e.formatter { store = record e.formatter.store { levels = v } })) (ap (levels_behind (length bs)) levels_is ∙ ap (λ r. Read (record l { rest = r }) ∷ ls) left) in
+      made_glided (2 * length bs) e end.formatter (level_run_put bs e.formatter) supply held s h formatter_is (within_text l ls xs zs bs (at e s) within fits) glides
+
+  -- nothing is left to be read of a level
+  made_no_text : 0 < length bs → map elements.Byte bs ++ zs ≡ [] → Made [] (at e s) (2 * length bs) (level_shape bs e) supply held held
+  made_no_text some none = absurd (let all = ap length none in omega (arith, some, all, length-append (map elements.Byte bs) zs, length-map bs elements.Byte))
+
+  made_by : (levels : List (Level Resume)) → e.formatter.store.levels ≡ levels → 0 < length bs → map elements.Byte bs ++ zs ≡ rest_of levels
+      → Made [] (at e s) (2 * length bs) (level_shape bs e) supply held held
+  made_by [] levels_is some rest_is = made_no_text some rest_is
+  made_by (Mark mode ∷ ls) levels_is some rest_is = made_no_text some rest_is
+  made_by (Read l ∷ ls) levels_is some rest_is = made_text l ls levels_is rest_is
+
+-- plain bytes that come next of the newest level, in a line that has begun
+pub makes_text : (bs : List ℕ) (zs : List Element) (e : Shape) (supply : Option Supply) → 0 < length bs → is_in_line e.formatter ≡ true → ArePlain bs
+    → map elements.Byte bs ++ zs ≡ rest_of e.formatter.store.levels → line_cells (collected (run_put bs e.formatter)) ≤ e.formatter.line.limit
+    → Makes (2 * length bs) e (level_shape bs e) supply supply
+makes_text bs zs e supply some is plain rest_is fits = record {
+  makes = λ held s h. made_by bs zs e supply held s h is plain fits e.formatter.store.levels refl some rest_is;
+  limit = refl;
+  most = refl;
+  spends = level_spends bs e (let all = ap length rest_is in omega (arith, all, length-append (map elements.Byte bs) zs, length-map bs elements.Byte));
+}
+
+-- so many were put
+pub makes_puts : (n : ℕ) (e : Shape) (g : Formatter) (supply : Option Supply) → is_in_line e.formatter ≡ true → PutsLevel e.formatter n g → Makes (2 * n) e (record e { formatter = g }) supply supply
+makes_puts zero e g supply is puts =
+    let none : puts.bytes ≡ [] = nil_from_length puts.bytes puts.count in
+    let same : g ≡ e.formatter =
+    puts.is ∙ ap (λ bs. level_run_put bs e.formatter) none ∙ ap (λ v. record e.formatter { store = v }) (sym (left_times-run 0 e.formatter.store (omega arith))) in
+    subst (λ f. Makes 0 e (record e { formatter = f }) supply supply) (sym same) (makes_none e supply)
+makes_puts (suc k) e g supply is puts =
+    let rest = rest_of e.formatter.store.levels in
+    let fits = subst (λ f. line_cells (collected f) ≤ f.line.limit) puts.is (puts.within (omega arith)) in
+    let whole : map elements.Byte puts.bytes ++ drop (suc k) rest ≡ rest = ap (λ xs. xs ++ drop (suc k) rest) puts.front ∙ take-append-drop (suc k) rest in
+    let some : 0 < length puts.bytes = omega (arith, puts.count) in
+    let run = makes_text puts.bytes (drop (suc k) rest) e supply some is puts.plain whole fits in
+    subst (λ f. Makes (2 * suc k) e (record e { formatter = f }) supply supply) (sym puts.is)
+    (subst (λ n. Makes (2 * n) e (level_shape puts.bytes e) supply supply) puts.count run)
+
+-- ---- a blank behind a word
+
+-- behind an element of the newest level, with this made of the formatter
+abbrev pub level_gone : (Formatter → Formatter) → Shape → Shape
+level_gone g e = record e { formatter = g (record e.formatter { store = run_left 1 e.formatter.store }) }
+
+-- the level that shows an element
+record Showing (levels : List (Level Resume)) (x : Element) : Type 0 where
+  l : Reading Resume
+  ls : List (Level Resume)
+  xs : List Element
+  is : levels ≡ Read (record l { rest = x ∷ xs }) ∷ ls
+
+showing_in : (rest : List Element) (l : Reading Resume) (ls : List (Level Resume)) (x : Element) → l.rest ≡ rest → shown (Read (record l { rest = rest }) ∷ ls) ≡ shows.Item x → Showing (Read l ∷ ls) x
+showing_in [] l ls x rest_is is = absurd (let wrong : ◌≡◌ {A = Shown Resume} shows.End (shows.Item x) = is in cc)
+showing_in (y ∷ ys) l ls x rest_is is =
+    let same : y ≡ x = cc in
+    record { l = l; ls = ls; xs = ys; is = ap (λ r. Read (record l { rest = r }) ∷ ls) (rest_is ∙ ap (λ z. z ∷ ys) same) }
+
+showing : (levels : List (Level Resume)) (x : Element) → shown levels ≡ shows.Item x → Showing levels x
+showing [] x is = absurd (let wrong : ◌≡◌ {A = Shown Resume} shows.Nothing (shows.Item x) = is in cc)
+showing (Mark mode ∷ ls) x is = absurd (let wrong : ◌≡◌ {A = Shown Resume} (shows.Resume mode) (shows.Item x) = is in cc)
+showing (Read l ∷ ls) x is = showing_in l.rest l ls x refl is
+
+-- so one element is left
+one_left : (levels : List (Level Resume)) (x : Element) → Showing levels x → 1 ≤ length (rest_of levels)
+one_left levels x there = subst (λ v. 1 ≤ length (rest_of v)) (sym there.is) (omega arith)
+
+module _ (e : Shape) (supply : Option Supply) (held : Option (List ℕ)) (s : State) (h : Stands [] supply s e) (is : is_in_line e.formatter ≡ true) (gap : IsGap e.formatter)
+    (l : Reading Resume) (ls : List (Level Resume)) (xs : List Element) (levels_is : e.formatter.store.levels ≡ Read (record l { rest = elements.Byte 32 ∷ xs }) ∷ ls) where
+  start_is : at_text l ls (elements.Byte 32 ∷ xs) (at e s) ≡ at e s
+  start_is = ap (λ v. record (at e s) { formatter = record e.formatter { store = record e.formatter.store { levels = v } } }) (sym levels_is)
+
+  line_in : IsInLine (at_text l ls xs (at e s)).formatter
+  line_in = line_there l ls xs (at e s) (in_line e.formatter is)
+
+  goes_blank : Goes (at_text l ls (elements.Byte 32 ∷ xs) (at e s))
+  goes_blank = goes_byte l ls 32 xs (at e s) h.chosen_is (in_line e.formatter is)
+
+  reads_blank : step (at_text l ls (elements.Byte 32 ∷ xs) (at e s)) ≡ told 32 (at_text l ls xs (at e s))
+  reads_blank = reads_byte l ls 32 xs (at e s) h.chosen_is (in_line e.formatter is) refl refl
+
+  gap_there : IsGap (at_text l ls xs (at e s)).formatter
+  gap_there = record { plain = gap.plain; within = gap.within }
+
+  within_there : IsWithin (at_text l ls xs (at e s))
+  within_there = within_text l ls (elements.Byte 32 ∷ xs) xs [] (at e s) (subst IsWithin (sym start_is) h.within) h.within.formatter.line
+
+  formatter_is : (g : Formatter → Formatter) → (level_gone g e).formatter ≡ g (at_text l ls xs (at e s)).formatter
+  formatter_is g = ap (λ v. g (record e.formatter { store = record e.formatter.store { levels = v } })) (ap (levels_behind 1) levels_is)
+
+  made_flows : Made [] (at e s) 2 (level_gone gap_flows e) supply held held
+  made_flows =
+      made_glided 2 e (gap_flows (at_text l ls xs (at e s)).formatter) (level_gone gap_flows e).formatter supply held s h (formatter_is gap_flows)
+      (within_flows (at_text l ls (elements.Byte 32 ∷ xs) (at e s)) (at_text l ls xs (at e s)) h.chosen_is line_in goes_blank reads_blank gap_there within_there)
+      (subst (λ t. Glides t 2 (made_of gap_flows (at_text l ls xs (at e s)))) start_is
+      (glides_flows (at_text l ls (elements.Byte 32 ∷ xs) (at e s)) (at_text l ls xs (at e s)) h.chosen_is line_in goes_blank reads_blank gap_there within_there))
+
+  made_put : fits_line (gapped (collected e.formatter)) ≡ true → Made [] (at e s) 3 (level_gone gap_put e) supply held held
+  made_put fits =
+      made_glided 3 e (gap_put (at_text l ls xs (at e s)).formatter) (level_gone gap_put e).formatter supply held s h (formatter_is gap_put)
+      (within_gap (at_text l ls (elements.Byte 32 ∷ xs) (at e s)) (at_text l ls xs (at e s)) h.chosen_is line_in goes_blank reads_blank gap_there within_there)
+      (subst (λ t. Glides t 3 (made_of gap_put (at_text l ls xs (at e s)))) start_is
+      (glides_gap (at_text l ls (elements.Byte 32 ∷ xs) (at e s)) (at_text l ls xs (at e s)) h.chosen_is line_in goes_blank reads_blank gap_there within_there fits))
+
+gap_spends : (e : Shape) → 1 ≤ length (rest_of e.formatter.store.levels) → weight (level_gone gap_put e) + 3 + worth e * e.place.taken ≤ weight e + worth e * e.place.taken
+unfolding weights.weight weights.steps_left weights.owed
+gap_spends e few = omega (arith, items_fewer 1 e.formatter.store.levels few, weight-gap (collected e.formatter))
+
+flows_spends : (e : Shape) → e.formatter.event ≡ events.Nothing → e.formatter.task ≡ tasks.Read → 1 ≤ length (rest_of e.formatter.store.levels)
+    → weight (level_gone gap_flows e) + 2 + worth e * e.place.taken ≤ weight e + worth e * e.place.taken
+unfolding weights.weight weights.steps_left weights.owed
+flows_spends e event task few =
+    let before : weight_of_agenda e.formatter.event e.formatter.task e.formatter.step ≡ 4 = rw (event, task) refl in
+    let owed_before : owed_by_event e.formatter.event + owed_by_task e.formatter.task e.formatter.reader.half ≡ 0 = rw (event, task) refl in
+    let behind : weight_of_agenda e.formatter.event (tasks.Flow afters.Text false) e.formatter.step ≡ 8 = rw event refl in
+    let owed_behind : owed_by_event e.formatter.event + owed_by_task (tasks.Flow afters.Text false) e.formatter.reader.half ≡ 0 = rw event refl in
+    omega (arith, before, owed_before, behind, owed_behind, items_fewer 1 e.formatter.store.levels few, weight-gap (collected e.formatter))
+
+-- a blank that comes next of the newest level
+module _ (e : Shape) (supply : Option Supply) (is : is_in_line e.formatter ≡ true) (gap : IsGap e.formatter) (blank : shown e.formatter.store.levels ≡ shows.Item (elements.Byte 32)) where
+  there : Showing e.formatter.store.levels (elements.Byte 32)
+  there = showing e.formatter.store.levels (elements.Byte 32) blank
+
+  makes_flows : Makes 2 e (level_gone gap_flows e) supply supply
+  makes_flows =
+      let line = in_line e.formatter is in
+      record {
+        makes = λ held s h. made_flows e supply held s h is gap there.l there.ls there.xs there.is;
+        limit = refl;
+        most = refl;
+        spends = flows_spends e line.event line.task (one_left e.formatter.store.levels (elements.Byte 32) there);
+      }
+
+  makes_gap : fits_line (gapped (collected e.formatter)) ≡ true → Makes 3 e (level_gone gap_put e) supply supply
+  makes_gap fits = record {
+    makes = λ held s h. made_put e supply held s h is gap there.l there.ls there.xs there.is fits;
+    limit = refl;
+    most = refl;
+    spends = gap_spends e (one_left e.formatter.store.levels (elements.Byte 32) there);
+  }
+
+-- the store behind that blank
+store_behind : (e : Shape) (f : Formatter) (w : Stored Resume) → shown e.formatter.store.levels ≡ shows.Item (elements.Byte 32) → f.store ≡ e.formatter.store → w ≡ left_times 1 f.store
+    → w ≡ run_left 1 e.formatter.store
+store_behind e f w blank same left =
+    let few = one_left e.formatter.store.levels (elements.Byte 32) (showing e.formatter.store.levels (elements.Byte 32) blank) in
+    left ∙ ap (left_times 1) same ∙ left_times-run 1 e.formatter.store few
+
+-- the blank was put, and taken then
+module _ (e : Shape) (f : Formatter) (w : Stored Resume) (supply : Option Supply) (is : is_in_line e.formatter ≡ true) (gap : IsGap e.formatter)
+    (blank : shown e.formatter.store.levels ≡ shows.Item (elements.Byte 32)) (left : w ≡ left_times 1 f.store) where
+  pub makes_flowed : f ≡ gap_flows e.formatter → Makes 2 e (record e { formatter = record f { store = w } }) supply supply
+  makes_flowed flows =
+      let store_is = store_behind e f w blank (ap (λ g. g.store) flows) left in
+      subst (λ g. Makes 2 e (record e { formatter = g }) supply supply)
+      (sym (ap (λ v. record f { store = v }) store_is ∙ ap (λ (g : Formatter). record g { store = run_left 1 e.formatter.store }) flows)) (makes_flows e supply is gap blank)
+
+  pub makes_read : fits_line (gapped (collected e.formatter)) ≡ true → f ≡ gap_put e.formatter → Makes 3 e (record e { formatter = record f { store = w } }) supply supply
+  makes_read fits put =
+      let store_is = store_behind e f w blank (ap (λ g. g.store) put) left in
+      subst (λ g. Makes 3 e (record e { formatter = g }) supply supply)
+      (sym (ap (λ v. record f { store = v }) store_is ∙ ap (λ (g : Formatter). record g { store = run_left 1 e.formatter.store }) put)) (makes_gap e supply is gap blank fits)

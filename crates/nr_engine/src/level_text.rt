@@ -1,0 +1,76 @@
+//! Plain text of the newest level: many moves in one call.
+ghost use Rattle.std.specs.Prelude.{◌≡◌, ℕ, ◌*◌, ◌≤◌, true, false, Option};
+ghost use Rattle.nr_units.specs.Supply.{Supply};
+ghost use Rattle.nr_store.specs.Stored.{shown};
+ghost use Rattle.nr_store.specs.declared.element.Element.TheVariants as elements;
+ghost use Rattle.nr_store.specs.declared.shown.Shown.TheVariants as shows;
+ghost use Rattle.nr_formatter.specs.Runs.{is_in_line, PutsLevel};
+ghost use Rattle.nr_engine.specs.Holding.{shape};
+ghost use Rattle.nr_engine.specs.Running.{Makes};
+
+use crate::engine::Engine;
+use nr_formatter::runs::Gap;
+use nr_store::Sight;
+use nr_store::element::Element;
+
+impl<'a> Engine<'a> {
+    /// Reads and puts the plain bytes that come next of the newest level, in a text line that has begun, and tells how many
+    /// moves that was.
+    #[inline]
+    fn put_level_plain(&mut self) -> u128
+        requires line { is_in_line self.old.formatter ≡ true }
+        ensures makes { (supply : Option Supply) → Makes result (shape self.old) (shape self.new) supply supply }
+        ensures place { self.new.place ≡ self.old.place }
+        ensures few { result ≤ 128 }
+        ensures longest { (n : ℕ) → result ≡ 2 * n → PutsLevel self.old.formatter n self.new.formatter }
+    {
+        let count = self.formatter.put_level_run();
+        2 * count as u128
+    }
+
+    /// Whether a blank comes next of the newest level.
+    #[inline]
+    fn is_blank_next(&self) -> bool
+        ensures blank { result ≡ true → shown self.now.formatter.store.levels ≡ shows.Item (elements.Byte 32) }
+        ensures other { result ≡ false → shown self.now.formatter.store.levels ≡ shows.Item (elements.Byte 32) → ⊥ }
+    {
+        let Sight::Item(Element::Byte(byte)) = self.formatter.store.look() else {
+            return false;
+        };
+        byte == b' '
+    }
+
+    /// Reads the blank behind a word that comes next of the newest level, where it does nothing but end the word, and tells
+    /// how many moves that was.
+    #[inline]
+    fn put_level_gap(&mut self) -> u128
+        ensures makes { (supply : Option Supply) → Makes result (shape self.old) (shape self.new) supply supply }
+        ensures place { self.new.place ≡ self.old.place }
+        ensures few { result ≤ 3 }
+    {
+        if !self.is_blank_next() || !self.formatter.is_in_line() {
+            return 0;
+        }
+        let gap = self.formatter.put_gap();
+        let moves = match gap {
+            Gap::Left => return 0,
+            Gap::Flows => 2,
+            Gap::Reads => 3,
+        };
+        self.formatter.store.skip(1);
+        moves
+    }
+
+    /// Reads and puts the plain bytes of the newest level and the blank behind them, in a text line that has begun, and tells
+    /// how many moves that was.
+    #[inline]
+    pub(crate) fn put_level_text(&mut self) -> u128
+        requires line { is_in_line self.old.formatter ≡ true }
+        ensures makes { (supply : Option Supply) → Makes result (shape self.old) (shape self.new) supply supply }
+        ensures place { self.new.place ≡ self.old.place }
+    {
+        let plain = self.put_level_plain();
+        let gap = self.put_level_gap();
+        plain + gap
+    }
+}

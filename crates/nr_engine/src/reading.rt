@@ -1,0 +1,65 @@
+//! Many moves that read, in one call.
+ghost use Rattle.std.specs.Prelude.{◌≡◌, ◌≤◌, false, true, None};
+ghost use Rattle.nr_reading.specs.declared.event.Event.TheVariants as events;
+ghost use Rattle.nr_formatter.specs.declared.tasks.Task.TheVariants as tasks;
+ghost use Rattle.nr_input.specs.Coming.{has_failed};
+ghost use Rattle.nr_engine.specs.Holding.{shape};
+ghost use Rattle.nr_engine.specs.Running.{Makes};
+
+use crate::engine::Engine;
+use nr_formatter::tasks::Task;
+use nr_input::Event;
+use nr_reading::Due;
+use nr_units::source::Source;
+
+impl<'a> Engine<'a> {
+    /// Whether the input is read next.
+    #[inline(always)]
+    pub(crate) fn reads_next(&self) -> bool
+        ensures springs { result ≡ true → self.now.formatter.springs ≡ None }
+        ensures event { result ≡ true → self.now.formatter.event ≡ events.Nothing }
+        ensures task { result ≡ true → self.now.formatter.task ≡ tasks.Read }
+    {
+        if self.formatter.springs.is_some() {
+            return false;
+        }
+        match (self.formatter.event, self.formatter.task) {
+            (Event::Nothing, Task::Read) => true,
+            _ => false,
+        }
+    }
+
+    /// Whether an item is looked at next, and nothing is to be done before.
+    #[inline(always)]
+    pub(crate) fn reads_on(&self) -> bool {
+        let due = self.formatter.reader.half.reading.due;
+        match (self.formatter.event, self.formatter.task, due) {
+            (Event::Nothing, Task::Read, Due::Look) => true,
+            _ => false,
+        }
+    }
+
+    /// Items that lie in a row are read, up to the first that tells something or behind which something is due. Tells how many
+    /// moves that was.
+    #[inline(always)]
+    pub(crate) fn read_run<R: Source>(&mut self, input: &mut R) -> u128
+        ensures makes { Makes result (shape self.old) (shape self.new) (R.supply input.old) (R.supply input.new) }
+        ensures few { result ≤ 65536 }
+        ensures failures { R.failures input.new ≡ R.failures input.old }
+        ensures unfailed { has_failed self.old.place.ahead ≡ false → has_failed self.new.place.ahead ≡ false }
+    {
+        if !self.reads_next() {
+            return 0;
+        }
+        let formatter = &mut self.formatter;
+        let run = nr_input::read_run(
+            &mut self.place,
+            &mut formatter.reader,
+            &mut formatter.store,
+            input,
+        );
+        self.formatter.event = run.event;
+        self.formatter.fit_memory();
+        run.moves as u128
+    }
+}
