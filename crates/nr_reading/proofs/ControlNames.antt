@@ -26,6 +26,7 @@ use Rattle.nr_reading.specs.Spelling.{ends_name, is_blank, nothing_spelled, spel
 use Rattle.nr_reading.proofs.Asked.{half_at}
 use Rattle.nr_reading.proofs.Moving.{met_counted}
 use Rattle.nr_reading.proofs.Paying.{pays_for}
+use Rattle.nr_reading.proofs.PlainBytes.{neither}
 use Rattle.nr_reading.proofs.Weighing.{at}
 
 -- a byte that goes on a name
@@ -33,11 +34,6 @@ record GoesOn (b : ℕ) : Type 0 where
   ends : ends_name b ≡ false
   blank : is_blank b ≡ false
   escape : (b == 92) ≡ false
-
-neither : (x y : Bool) → not (x || y) ≡ true → (x ≡ false) × (y ≡ false)
-neither false false is = (refl, refl)
-neither false true is = let wrong : ⊥ = cc in absurd wrong
-neither true y is = let wrong : ⊥ = cc in absurd wrong
 
 -- a blank ends a name
 apart_blank : (b : ℕ) → ends_name b ≡ false → is_blank b ≡ false

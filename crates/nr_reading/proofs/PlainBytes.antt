@@ -46,7 +46,8 @@ record IsApart (b : ℕ) : Type 0 where
   escape : (b == 92) ≡ false
   newline : (b == 10) ≡ false
 
-neither : (x y : Bool) → not (x || y) ≡ true → (x ≡ false) × (y ≡ false)
+-- of two facts none holds
+pub neither : (x y : Bool) → not (x || y) ≡ true → (x ≡ false) × (y ≡ false)
 neither false false is = (refl, refl)
 neither false true is = let wrong : ⊥ = cc in absurd wrong
 neither true y is = let wrong : ⊥ = cc in absurd wrong
