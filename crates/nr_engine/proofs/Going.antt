@@ -1,8 +1,7 @@
 -- What goes out, and where it does.
-use Rattle.std.proofs.Common.{◌≡◌, ℕ, ◌<◌, Bool, List, [], ◌∷◌, ◌++◌, replicate, length, Option, None, Some, is_some, Result, Ok, Err, refl, sym, ap, subst, arith}
+use Rattle.std.proofs.Common.{◌≡◌, ℕ, ◌<◌, Bool, List, [], ◌∷◌, ◌++◌, replicate, length, Option, None, Some, is_some, refl, ap, arith}
 use Rattle.std.specs.Prelude.{if◌then◌else◌}
 use Rattle.std.proofs.lemmas.Bool.{false≢true}
-use Rattle.nr_units.specs.Supply.{Supply}
 use Rattle.nr_units.specs.Cells.{blank}
 use Rattle.nr_units.specs.declared.cell.Cell.{Cell}
 use Rattle.nr_fill.specs.Pieces.{is_nil, Piece}
@@ -15,10 +14,6 @@ use Rattle.nr_formatter.specs.declared.paper.Outlet.{Outlet}
 use Rattle.nr_formatter.specs.declared.paper.Outlet.TheVariants as outlets
 use Rattle.nr_engine.specs.State.{State}
 use Rattle.nr_engine.specs.Machine.{begin_page, turn_page, cell_to, with_cell, margin_in}
-use Rattle.nr_engine.specs.Measures.{IsWithin}
-use Rattle.nr_engine.specs.Holding.{Shape, AfterWork, WroteFront}
-use Rattle.nr_engine.specs.declared.outcome.Outcome.{Outcome}
-use Rattle.nr_engine.specs.declared.outcome.Outcome.TheVariants.{WriteFault}
 
 some_pieces : (ps : List Piece) (o : Option Going) (g : Going) → (if is_nil ps then None else o) ≡ Some g → 0 < length ps
 some_pieces [] o g is = absurd (false≢true (ap is_some is))
@@ -38,16 +33,6 @@ begins outlets.Diversion s other = refl
 begins outlets.NoPage s other = refl
 begins outlets.Full s other = absurd (other refl)
 begins outlets.Room s other = refl
-
--- the outcome of a move that was not made
-abbrev pub error : Result (Unit {0}) Outcome → Outcome
-error (Ok x) = WriteFault
-error (Err e) = e
-
--- a write failed where a page ends
-pub write_failed : (supply : Option Supply) (s t : State) (e : Shape) (old new : Option (List ℕ)) (o : Outcome) → o ≡ WriteFault → IsWithin t → WroteFront s t old new
-    → AfterWork supply s t e old new (Err o)
-write_failed supply s t e old new o is within front = subst (λ x. AfterWork supply s t e old new (Err x)) (sym is) (within, front)
 
 -- a cell that is not diverted
 pub cells : (o : Outlet) (x : Cell) (s : State) → (o ≡ outlets.Diversion → ⊥) → cell_to o x s ≡ cell_to outlets.Room x s

@@ -1,5 +1,6 @@
 mod Bursts
 mod Choosing
+mod EmptyLines
 mod Gliding
 mod Going
 mod LevelText

@@ -29,6 +29,11 @@ pub step-hear : (s : State) (e : Event) → s.chosen ≡ [] → s.formatter.spri
 unfolding step
 step-hear s e chosen springs event = rw (chosen, springs, event) refl
 
+pub kind_working : (t : Task) → t ≢ tasks.Read → t ≢ tasks.Halted → kind_of_task t ≡ Works
+kind_working tasks.Read reading over = absurd (reading refl)
+kind_working tasks.Halted reading over = absurd (over refl)
+kind_working t reading over = refl
+
 kind_busy : (e : Event) (t : Task) → e ≢ events.Nothing → kind_of_event e t ≡ Works
 kind_busy events.Nothing t busy = absurd (busy refl)
 kind_busy e t busy = refl

@@ -48,22 +48,22 @@ may_give_one n Never h = tt
 may_give_one n (After m) h = omega (arith, h)
 may_give_one n Anytime h = tt
 
-may_give_more : (n : ℕ) (f : Faults) → MayGiveAll (suc n) f → MayGiveAll n (later 1 f)
+pub may_give_more : (n : ℕ) (f : Faults) → MayGiveAll (suc n) f → MayGiveAll n (later 1 f)
 may_give_more n Never h = tt
 may_give_more n (After m) h = omega (arith, h)
 may_give_more n Anytime h = tt
 
-later-one : (f : Faults) → later 1 f ≡ one_later f
+pub later-one : (f : Faults) → later 1 f ≡ one_later f
 later-one Never = refl
 later-one (After m) = refl
 later-one Anytime = refl
 
-later-more : (n : ℕ) (f : Faults) → later n (later 1 f) ≡ later (suc n) f
+pub later-more : (n : ℕ) (f : Faults) → later n (later 1 f) ≡ later (suc n) f
 later-more n Never = refl
 later-more n (After m) = ap After (omega arith)
 later-more n Anytime = refl
 
-drop-more : (n : ℕ) (xs : List ℕ) → drop n (drop 1 xs) ≡ drop (suc n) xs
+pub drop-more : (n : ℕ) (xs : List ℕ) → drop n (drop 1 xs) ≡ drop (suc n) xs
 drop-more n (x ∷ xs) = refl
 drop-more zero [] = refl
 drop-more (suc n) [] = refl

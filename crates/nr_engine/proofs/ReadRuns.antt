@@ -1,5 +1,5 @@
 -- Many moves that read, of which only the last may tell something.
-use Rattle.std.proofs.Common.{◌≡◌, ℕ, zero, suc, ◌<◌, ◌≤◌, [], Option, None, refl, sym, ap, ◌∙◌, subst, arith}
+use Rattle.std.proofs.Common.{◌≡◌, ℕ, zero, suc, ◌<◌, ◌≤◌, [], Option, refl, sym, ap, ◌∙◌, subst, arith}
 use Rattle.nr_units.specs.Supply.{Supply}
 use Rattle.nr_store.specs.Stored.{Stored}
 use Rattle.nr_reading.specs.declared.event.Event.{Event}
@@ -12,14 +12,12 @@ use Rattle.nr_input.specs.Moving.{Situation, Move, situation, move}
 use Rattle.nr_input.specs.Moving as input
 use Rattle.nr_input.specs.Runs.{HasRead, PaysAll, moves, told_last}
 use Rattle.nr_formatter.specs.Limits as formatter
-use Rattle.nr_formatter.specs.declared.formatter.Formatter.{Formatter}
 use Rattle.nr_formatter.specs.declared.tasks.Resume.{Resume}
-use Rattle.nr_formatter.specs.declared.tasks.Task.TheVariants as tasks
 use Rattle.nr_engine.specs.State.{State}
 use Rattle.nr_engine.specs.Machine.{step, state_after, read, situation_of, with_situation}
 use Rattle.nr_engine.specs.Measures.{IsWithin}
 use Rattle.nr_engine.specs.Answer.{Goes, GoesBy}
-use Rattle.nr_engine.specs.Holding.{Shape, at, Holds}
+use Rattle.nr_engine.specs.Holding.{Shape, at, Holds, ReadsNext}
 use Rattle.nr_engine.specs.Running.{Makes}
 use Rattle.nr_engine.proofs.Bursts.{move-short}
 use Rattle.nr_engine.proofs.NextMoves.{step-read, kind-read}
@@ -27,12 +25,6 @@ use Rattle.nr_engine.proofs.Gliding.{Glides}
 use Rattle.nr_engine.proofs.Spending.{told_all}
 use Rattle.nr_engine.proofs.Standing.{wrote_nothing}
 use Rattle.nr_engine.proofs.Working.{holds_of}
-
--- the input is read next
-pub record ReadsNext (f : Formatter) : Type 0 where
-  pub springs : f.springs ≡ None
-  pub event : f.event ≡ events.Nothing
-  pub task : f.task ≡ tasks.Read
 
 -- the state with this read, and this told
 abbrev pub reached : Situation Resume → Event → State → State

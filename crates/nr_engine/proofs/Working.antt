@@ -1,29 +1,30 @@
 -- Parts of a move.
-use Rattle.std.proofs.Common.{◌≡◌, ℕ, ◌+◌, ◌<◌, Bool, true, false, List, [], ◌∷◌, ◌++◌, length, Option, Result, Ok, Err, refl, sym, ap, ◌∙◌, subst, append-nil, arith}
+use Rattle.std.proofs.Common.{◌≡◌, ℕ, ◌+◌, Bool, true, false, List, [], ◌∷◌, ◌++◌, length, Option, Some, Result, Ok, Err, refl, sym, ap, ◌∙◌, subst, append-nil, arith}
 use Rattle.std.specs.Prelude.{OnOk, if◌then◌else◌}
 use Rattle.std.proofs.KnownBytes.{Keeps-refl}
 use Rattle.std.proofs.lemmas.Grind.{flat_map-append}
 use Rattle.std.proofs.lemmas.List.Sums.{sum_by_push}
 use Rattle.nr_units.specs.Supply.{Supply}
 use Rattle.nr_fill.specs.Rows.{IsRow}
-use Rattle.nr_store.specs.Stored.{charge_of}
 use Rattle.nr_page.specs.Grid.{Placed, page_charge}
 use Rattle.nr_page.specs.Sheet.{Holds as HoldsPage}
 use Rattle.nr_input.specs.Coming.{HoldsComing}
+use Rattle.nr_formatter.specs.Limits as formatter
 use Rattle.nr_formatter.specs.Limits.{judged}
+use Rattle.nr_formatter.specs.Weights.{Falls}
 use Rattle.nr_formatter.specs.declared.formatter.Formatter.{Formatter}
 use Rattle.nr_formatter.specs.declared.passed.Passed.{Passed}
 use Rattle.nr_engine.specs.State.{State, Ended, plainly}
 use Rattle.nr_engine.specs.Machine.{step}
 use Rattle.nr_engine.specs.Printing.{bytes_of, text}
 use Rattle.nr_engine.specs.Measures.{IsWithin, passed}
-use Rattle.nr_engine.specs.Answer.{Works as WorksKind, kind, GoesBy, PassesBy, formatter_answer}
-use Rattle.nr_engine.specs.Holding.{Shape, at, Stands, Holds, AfterWork, AfterMove}
-use Rattle.nr_engine.specs.declared.outcome.Measure.TheVariants as measures
-use Rattle.nr_engine.specs.declared.outcome.Outcome.{Outcome}
-use Rattle.nr_engine.specs.declared.outcome.Outcome.TheVariants.{Done, Limit, ReadFault, TooLong, WriteFault}
+use Rattle.nr_engine.specs.Answer.{Works as WorksKind, kind, GoesBy, PassesBy, Passes, measured, limited, stopped}
+use Rattle.nr_engine.specs.Holding.{Shape, at, Stands, Holds, Wrote, Moved, IsLighter, AfterWork, AfterQuietWork, AfterMove, Works, WorksQuietly}
+use Rattle.nr_engine.specs.declared.outcome.Measure.{Measure}
+use Rattle.nr_engine.specs.declared.outcome.Stop.{Stop}
+use Rattle.nr_engine.specs.declared.outcome.Stop.TheVariants as stops
 use Rattle.nr_engine.proofs.Standing.{wrote_nothing}
-use Rattle.nr_engine.proofs.Measured.{passed_none, passed_stored, judged_within, judged_passed}
+use Rattle.nr_engine.proofs.Measured.{passed_none, judged_within, judged_passed}
 
 -- the engine holds a state whose formatter is its own
 pub holds_of : (supply : Option Supply) (t : State) (e : Shape) → e.formatter ≡ t.formatter → t.chosen ≡ [] → HoldsComing t.coming e.place supply
@@ -48,23 +49,36 @@ holds_plainly g supply s e f h is within =
     holds_of supply (plainly g (at e s)) (record e { formatter = f }) is h.chosen_is h.coming h.row h.page h.page_limit h.select within
 
 -- a work of the formatter alone, by its answer
-pub formatter_worked : (g : Formatter → Formatter) (supply : Option Supply) (s : State) (e : Shape) (f : Formatter) (r : Result (Unit {0}) Passed) (held : Option (List ℕ))
+pub formatter_worked : (g : Formatter → Formatter) (supply : Option Supply) (s : State) (e : Shape) (f : Formatter) (r : Result (Unit {0}) Passed)
     → Stands [] supply s e → r ≡ judged (g e.formatter) → OnOk r (f ≡ g e.formatter)
-    → AfterWork supply (at e s) (plainly g (at e s)) (record e { formatter = f }) held held (formatter_answer e.place.taken r)
-formatter_worked g supply s e f (Ok x) held h is new =
-    (holds_plainly g supply s e f h new (record { formatter = judged_within (g e.formatter) (sym is); page = h.within.page }), wrote_nothing (at e s) (plainly g (at e s)) held refl)
-formatter_worked g supply s e f (Err p) held h is new =
-    (judged_passed (plainly g (at e s)) p h.within.page (sym is), h.coming.taken, Keeps-refl held)
+    → AfterQuietWork supply (at e s) (plainly g (at e s)) (record e { formatter = f }) (measured r)
+formatter_worked g supply s e f (Ok x) h is new =
+    (holds_plainly g supply s e f h new (record { formatter = judged_within (g e.formatter) (sym is); page = h.within.page }), refl)
+formatter_worked g supply s e f (Err p) h is new = judged_passed (plainly g (at e s)) p h.within.page (sym is)
 
 -- a work of the formatter alone that nothing refuses
-pub plainly_worked : (g : Formatter → Formatter) (supply : Option Supply) (s : State) (e : Shape) (f : Formatter) (held : Option (List ℕ))
-    → Stands [] supply s e → f ≡ g e.formatter → IsWithin (plainly g (at e s)) → AfterWork supply (at e s) (plainly g (at e s)) (record e { formatter = f }) held held (Ok tt)
-plainly_worked g supply s e f held h new within = (holds_plainly g supply s e f h new within, wrote_nothing (at e s) (plainly g (at e s)) held refl)
+pub plainly_worked : (g : Formatter → Formatter) (supply : Option Supply) (s : State) (e : Shape) (f : Formatter)
+    → Stands [] supply s e → f ≡ g e.formatter → IsWithin (plainly g (at e s)) → AfterQuietWork supply (at e s) (plainly g (at e s)) (record e { formatter = f }) (Ok tt)
+plainly_worked g supply s e f h new within = (holds_plainly g supply s e f h new within, refl)
 
--- what is stored would pass its limit
-pub stored_refused : (supply : Option Supply) (s t : State) (e e' : Shape) (held : Option (List ℕ)) → Stands [] supply s e
-    → t.formatter.store.limit < charge_of t.formatter.store → AfterWork supply (at e s) t e' held held (Err (Limit measures.Stored e.place.taken))
-stored_refused supply s t e e' held h over = (passed_stored t over, h.coming.taken, Keeps-refl held)
+-- what the formatter alone does, as a part of a move
+pub formatter_works : (g : Formatter → Formatter) (e : Shape) (f : Formatter) (r : Result (Unit {0}) Passed) → (formatter.IsWithin e.formatter → r ≡ judged (g e.formatter))
+    → OnOk r (f ≡ g e.formatter) → OnOk r (Falls 1 0 e.formatter f) → WorksQuietly (plainly g) e (record e { formatter = f }) (measured r)
+formatter_works g e f r is new falls = record {
+  comes = λ supply s h. formatter_worked g supply s e f r h (is h.within.formatter) new;
+  lightens = lightens r falls;
+}
+  where
+    lightens : (q : Result (Unit {0}) Passed) → OnOk q (Falls 1 0 e.formatter f) → OnOk (measured q) (IsLighter e (record e { formatter = f }))
+    lightens (Ok x) h = (h, refl)
+    lightens (Err p) h = tt
+
+-- a part that writes nothing, as one that might
+pub works_loudly : (f : State → State) (e e' : Shape) (held : Option (List ℕ)) → WorksQuietly f e e' (Ok tt) → Works f e e' held held (Ok tt)
+works_loudly f e e' held w = record {
+  comes = λ supply s h. (let come = w.comes supply s h in (come.0, wrote_nothing (at e s) (f (at e s)) held come.1));
+  lightens = w.lightens;
+}
 
 -- ---- a test that refuses
 
@@ -78,26 +92,33 @@ made_is false x y e is = refl
 
 -- ---- a whole move
 
--- a work that is all of a move
-pub worked : (supply : Option Supply) (s t : State) (e : Shape) (old new : Option (List ℕ)) (r : Result (Unit {0}) Outcome)
-    → kind s ≡ WorksKind → step s ≡ t → AfterWork supply s t e old new r → AfterMove s e supply old new r
-worked supply s t e old new (Ok x) works is w = record {
-  goes = subst (λ k. GoesBy k s) (sym works) (ap passed is ∙ passed_none t (within_of w.0));
-  holds = rw is w.0;
-  wrote = rw is w.1;
-}
-  where
-    within_of : Holds [] supply t e → IsWithin t
-    within_of h = subst (λ f. IsWithin (record t { formatter = f })) h.formatter h.stands.within
-worked supply s t e old new (Err Done) works is w = absurd w
-worked supply s t e old new (Err (Limit which at)) works is w =
-    ((subst (λ k. PassesBy k s which) (sym works) (ap passed is ∙ w.0), w.1), w.2)
-worked supply s t e old new (Err (ReadFault at)) works is w = absurd w
-worked supply s t e old new (Err TooLong) works is w = absurd w
-worked supply s t e old new (Err WriteFault) works is w = (
-  (subst (λ k. GoesBy k s) (sym works) (ap passed is ∙ passed_none t w.0), (w.1.page, ap (λ x. x.pages) is ∙ w.1.ends)),
-  record { page = w.1.page; ends = ap (λ x. x.pages) is ∙ w.1.ends; front = w.1.front },
-)
+within_of : (supply : Option Supply) (t : State) (e : Shape) → Holds [] supply t e → IsWithin t
+within_of supply t e h = subst (λ f. IsWithin (record t { formatter = f })) h.formatter h.stands.within
+
+-- s leads to t, and the input is not read
+module _ (supply : Option Supply) (s t : State) (e : Shape) (works : kind s ≡ WorksKind) (is : step s ≡ t) where
+  moved : (old new : Option (List ℕ)) → Holds [] supply t e → Wrote s t old new → Moved s e supply old new
+  moved old new holds wrote = record {
+    goes = subst (λ k. GoesBy k s) (sym works) (ap passed is ∙ passed_none t (within_of supply t e holds));
+    holds = rw is holds;
+    wrote = rw is wrote;
+  }
+
+  passes : (which : Measure) → passed t ≡ Some which → Passes s which
+  passes which over = subst (λ k. PassesBy k s which) (sym works) (ap passed is ∙ over)
+
+  -- a work that is all of a move, at this place of the input
+  pub worked : (old new : Option (List ℕ)) (r : Result (Unit {0}) Stop) (n : ℕ) → n ≡ s.coming.taken → AfterWork supply s t e old new r → AfterMove s e supply old new (stopped n r)
+  worked old new (Ok x) n taken w = moved old new w.0 w.1
+  worked old new (Err (stops.Limit which)) n taken w = ((passes which w.0, taken), w.1)
+  worked old new (Err stops.WriteFault) n taken w = (
+    (subst (λ k. GoesBy k s) (sym works) (ap passed is ∙ passed_none t w.0), (w.1.page, ap (λ x. x.pages) is ∙ w.1.ends)),
+    record { page = w.1.page; ends = ap (λ x. x.pages) is ∙ w.1.ends; front = w.1.front },
+  )
+
+  pub worked_quietly : (held : Option (List ℕ)) (r : Result (Unit {0}) Measure) (n : ℕ) → n ≡ s.coming.taken → AfterQuietWork supply s t e r → AfterMove s e supply held held (limited n r)
+  worked_quietly held (Ok x) n taken w = moved held held w.0 (wrote_nothing s t held w.1)
+  worked_quietly held (Err which) n taken w = ((passes which w, taken), Keeps-refl held)
 
 -- ---- pages
 

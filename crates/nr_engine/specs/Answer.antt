@@ -19,6 +19,8 @@ use Rattle.nr_engine.specs.declared.outcome.Measure.{Measure}
 use Rattle.nr_engine.specs.declared.outcome.Measure.TheVariants as measures
 use Rattle.nr_engine.specs.declared.outcome.Outcome.{Outcome}
 use Rattle.nr_engine.specs.declared.outcome.Outcome.TheVariants.{Done, Limit, ReadFault, TooLong, WriteFault}
+use Rattle.nr_engine.specs.declared.outcome.Stop.{Stop}
+use Rattle.nr_engine.specs.declared.outcome.Stop.TheVariants as stops
 
 -- ---- the kind of a move
 
@@ -135,10 +137,34 @@ refusal_outcome at refusals.Expansions = Limit measures.Expansions at
 refusal_outcome at refusals.ReadFault = ReadFault at
 refusal_outcome at refusals.TooLong = TooLong
 
+abbrev pub stop_outcome : ℕ → Stop → Outcome
+stop_outcome at (stops.Limit which) = Limit which at
+stop_outcome at stops.WriteFault = WriteFault
+
+-- the answer of a move at this place of the input, where it reads
+abbrev pub refused : ℕ → Result (Unit {0}) Refusal → Result (Unit {0}) Outcome
+refused at (Ok x) = Ok x
+refused at (Err refusal) = Err (refusal_outcome at refusal)
+
+-- where it neither reads nor writes
+abbrev pub limited : ℕ → Result (Unit {0}) Measure → Result (Unit {0}) Outcome
+limited at (Ok x) = Ok x
+limited at (Err which) = Err (Limit which at)
+
+-- where it may write
+abbrev pub stopped : ℕ → Result (Unit {0}) Stop → Result (Unit {0}) Outcome
+stopped at (Ok x) = Ok x
+stopped at (Err stop) = Err (stop_outcome at stop)
+
 -- the answer of a move that only the formatter makes
-abbrev pub formatter_answer : ℕ → Result (Unit {0}) Passed → Result (Unit {0}) Outcome
-formatter_answer at (Ok x) = Ok x
-formatter_answer at (Err p) = Err (Limit (measure_of p) at)
+abbrev pub measured : Result (Unit {0}) Passed → Result (Unit {0}) Measure
+measured (Ok x) = Ok x
+measured (Err p) = Err (measure_of p)
+
+-- of one that might have written
+abbrev pub unwritten : Result (Unit {0}) Measure → Result (Unit {0}) Stop
+unwritten (Ok x) = Ok x
+unwritten (Err which) = Err (stops.Limit which)
 
 -- ---- faults are told where a call failed, and nowhere else
 
@@ -158,3 +184,9 @@ stops_writing (Err outcome) = is_write_fault outcome
 abbrev pub stops_reading : Result (Unit {0}) Outcome → Bool
 stops_reading (Ok x) = false
 stops_reading (Err outcome) = is_read_fault outcome
+
+-- of a part of one
+abbrev pub fails_writing : Result (Unit {0}) Stop → Bool
+fails_writing (Ok x) = false
+fails_writing (Err (stops.Limit which)) = false
+fails_writing (Err stops.WriteFault) = true

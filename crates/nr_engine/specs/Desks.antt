@@ -21,8 +21,8 @@ sizes_of b = record {
   pieces = b.cells;
   row = b.cells + 4096;
   page_cells = b.cells;
-  page_texts = b.cells;
-  page_rows = b.cells;
+  page_texts = b.cells / 2;
+  page_rows = b.cells / 2;
 }
 
 -- the elements of all slices
@@ -48,5 +48,5 @@ pub record HasSizes (b : Bounds) (s : Sizes) : Type 0 where
   pub pieces_are : s.pieces ≡ b.cells
   pub row_are : s.row ≡ b.cells + 4096
   pub page_cells_are : s.page_cells ≡ b.cells
-  pub page_texts_are : s.page_texts ≡ b.cells
-  pub page_rows_are : s.page_rows ≡ b.cells
+  pub page_texts_are : s.page_texts ≡ b.cells / 2
+  pub page_rows_are : s.page_rows ≡ b.cells / 2

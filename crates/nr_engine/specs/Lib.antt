@@ -1,5 +1,6 @@
 pub mod Answer
 pub mod Desks
+pub mod EmptyLines
 pub mod Holding
 pub mod Machine
 pub mod Measures

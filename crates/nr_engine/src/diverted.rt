@@ -1,5 +1,5 @@
 //! Diverted lines that are read again. (CSTR 54, section 7.4.)
-ghost use Rattle.std.specs.Prelude.{◌≡◌, ◌++◌, ◌∷◌, [], List, Option, replicate, false, Ok};
+ghost use Rattle.std.specs.Prelude.{◌≡◌, ◌++◌, ◌∷◌, [], List, replicate, Ok};
 ghost use Rattle.nr_units.specs.Cells.{blank};
 ghost use Rattle.nr_units.specs.declared.cell.Cell.{Cell as CellValue};
 ghost use Rattle.nr_fill.specs.Rows.{IsRow, AddsToRow};
@@ -9,11 +9,11 @@ ghost use Rattle.nr_engine.specs.Machine.{margin_in, cell_to, line_to};
 ghost use Rattle.nr_units.specs.Failures.{put_counted_if};
 ghost use Rattle.nr_reading.specs.declared.event.Event.TheVariants as events;
 ghost use Rattle.nr_formatter.specs.declared.tasks.Task.TheVariants as tasks;
-ghost use Rattle.nr_engine.specs.Answer.{stops_reading, stops_writing};
-ghost use Rattle.nr_engine.specs.Holding.{shape, Works, WorksQuietly, Lightens};
+ghost use Rattle.nr_engine.specs.Answer.{fails_writing};
+ghost use Rattle.nr_engine.specs.Holding.{shape, IsUnderWay, Works, WorksQuietly};
 
 use crate::engine::Engine;
-use crate::outcome::{Measure, Outcome};
+use crate::outcome::{Measure, Stop};
 use nr_fill::cells::CellSink;
 use nr_formatter::paper::Outlet;
 use nr_formatter::tasks::Task;
@@ -39,17 +39,14 @@ impl<'a> Engine<'a> {
     }
 
     /// The cell goes into the row and into the innermost diversion.
-    fn divert_cell(&mut self, cell: Cell) -> Result<(), Outcome>
+    fn divert_cell(&mut self, cell: Cell) -> Result<(), Measure>
         requires { self.old.formatter.event ≡ events.DivertedCell cell }
-        ensures worked { WorksQuietly (cell_to outlets.Diversion cell) (shape self.old) (shape self.new) result }
-        ensures reads { stops_reading result ≡ false }
-        ensures writes { stops_writing result ≡ false }
-        ensures lightens { Lightens (shape self.old) (shape self.new) result }
+        ensures works { WorksQuietly (cell_to outlets.Diversion cell) (shape self.old) (shape self.new) result }
     {
         let indent = self.formatter.settings.indents.indent.value.cells();
         let blanks = self.margin(indent);
         match self.formatter.divert_cell(blanks, cell) {
-            Err(_) => Err(self.passed(Measure::Stored)),
+            Err(_) => Err(Measure::Stored),
             Ok(()) => {
                 self.push(blanks, cell);
                 self.formatter.fit_memory();
@@ -62,8 +59,7 @@ impl<'a> Engine<'a> {
     /// The cell goes into the row.
     fn read_cell(&mut self, cell: Cell)
         requires { self.old.formatter.event ≡ events.DivertedCell cell }
-        ensures worked { WorksQuietly (cell_to outlets.Room cell) (shape self.old) (shape self.new) (Ok tt) }
-        ensures lightens { Lightens (shape self.old) (shape self.new) (Ok tt) }
+        ensures works { WorksQuietly (cell_to outlets.Room cell) (shape self.old) (shape self.new) (Ok tt) }
     {
         let indent = self.formatter.settings.indents.indent.value.cells();
         let blanks = self.margin(self.offset() + indent);
@@ -72,12 +68,9 @@ impl<'a> Engine<'a> {
     }
 
     /// A cell of a diverted line that is read again goes into its row, and where that is diverted also there.
-    pub(crate) fn put_diverted_cell(&mut self, cell: Cell) -> Result<(), Outcome>
+    pub(crate) fn put_diverted_cell(&mut self, cell: Cell) -> Result<(), Measure>
         requires { self.old.formatter.event ≡ events.DivertedCell cell }
-        ensures worked { WorksQuietly (λ s. cell_to (outlet s.formatter) cell s) (shape self.old) (shape self.new) result }
-        ensures reads { stops_reading result ≡ false }
-        ensures writes { stops_writing result ≡ false }
-        ensures lightens { Lightens (shape self.old) (shape self.new) result }
+        ensures works { WorksQuietly (λ s. cell_to (outlet s.formatter) cell s) (shape self.old) (shape self.new) result }
     {
         match self.formatter.outlet() {
             Outlet::Diversion => self.divert_cell(cell),
@@ -89,17 +82,13 @@ impl<'a> Engine<'a> {
     }
 
     /// The diverted line ends in the innermost diversion.
-    fn end_line(&mut self, height: u32) -> Result<(), Outcome>
-        requires idle { self.old.formatter.event ≡ events.Nothing }
-        requires task { self.old.formatter.task ≡ tasks.Line height }
-        ensures worked { WorksQuietly (line_to outlets.Diversion height) (shape self.old) (shape self.new) result }
-        ensures reads { stops_reading result ≡ false }
-        ensures writes { stops_writing result ≡ false }
-        ensures lightens { Lightens (shape self.old) (shape self.new) result }
+    fn end_line(&mut self, height: u32) -> Result<(), Measure>
+        requires { IsUnderWay (tasks.Line height) self.old.formatter }
+        ensures works { WorksQuietly (line_to outlets.Diversion height) (shape self.old) (shape self.new) result }
     {
         let cells = self.row.written().min(u32::MAX as usize) as u32;
         match self.formatter.divert_line_end(cells, height) {
-            Err(_) => Err(self.passed(Measure::Stored)),
+            Err(_) => Err(Measure::Stored),
             Ok(()) => {
                 self.row.clear();
                 Ok(())
@@ -108,13 +97,9 @@ impl<'a> Engine<'a> {
     }
 
     /// The diverted line goes on the open page as it is.
-    fn place_diverted_line(&mut self, height: u32) -> Result<(), Outcome>
-        requires idle { self.old.formatter.event ≡ events.Nothing }
-        requires task { self.old.formatter.task ≡ tasks.Line height }
-        ensures worked { WorksQuietly (line_to outlets.Room height) (shape self.old) (shape self.new) result }
-        ensures reads { stops_reading result ≡ false }
-        ensures writes { stops_writing result ≡ false }
-        ensures lightens { Lightens (shape self.old) (shape self.new) result }
+    fn place_diverted_line(&mut self, height: u32) -> Result<(), Measure>
+        requires { IsUnderWay (tasks.Line height) self.old.formatter }
+        ensures works { WorksQuietly (line_to outlets.Room height) (shape self.old) (shape self.new) result }
     {
         self.formatter.task = Task::Read;
         self.place_row(height)
@@ -125,17 +110,14 @@ impl<'a> Engine<'a> {
         &mut self,
         height: u32,
         output: &mut W,
-    ) -> Result<(), Outcome>
-        requires idle { self.old.formatter.event ≡ events.Nothing }
-        requires task { self.old.formatter.task ≡ tasks.Line height }
-        ensures worked { Works (λ s. line_to (outlet s.formatter) height s) (shape self.old) (shape self.new) (W.held output.old) (W.held output.new) result }
-        ensures failures { W.failures output.new ≡ put_counted_if (stops_writing result) (W.failures output.old) }
-        ensures reads { stops_reading result ≡ false }
-        ensures lightens { Lightens (shape self.old) (shape self.new) result }
+    ) -> Result<(), Stop>
+        requires { IsUnderWay (tasks.Line height) self.old.formatter }
+        ensures works { Works (λ s. line_to (outlet s.formatter) height s) (shape self.old) (shape self.new) (W.held output.old) (W.held output.new) result }
+        ensures failures { W.failures output.new ≡ put_counted_if (fails_writing result) (W.failures output.old) }
     {
         match self.formatter.outlet() {
-            Outlet::Diversion => self.end_line(height),
-            Outlet::Room => self.place_diverted_line(height),
+            Outlet::Diversion => Stop::of_limit(self.end_line(height)),
+            Outlet::Room => Stop::of_limit(self.place_diverted_line(height)),
             outlet => self.turn_page(outlet, output),
         }
     }

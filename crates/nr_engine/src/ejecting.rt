@@ -1,50 +1,42 @@
 //! Ejecting a page. (CSTR 54, section 3.)
-ghost use Rattle.std.specs.Prelude.{◌≡◌, ◌≤ℤ◌, pos, List, Option, true, false};
+ghost use Rattle.std.specs.Prelude.{◌≡◌, ◌≤ℤ◌, pos, true};
 ghost use Rattle.nr_formatter.specs.Pages.{names_text};
 ghost use Rattle.nr_formatter.specs.Springing.{ejected_to};
 ghost use Rattle.nr_engine.specs.State.{plainly};
 ghost use Rattle.nr_engine.specs.Machine.{eject};
 ghost use Rattle.nr_units.specs.Failures.{put_counted_if};
-ghost use Rattle.nr_reading.specs.declared.event.Event.TheVariants as events;
 ghost use Rattle.nr_formatter.specs.declared.tasks.Task.TheVariants as tasks;
-ghost use Rattle.nr_engine.specs.Answer.{stops_reading, stops_writing};
-ghost use Rattle.nr_engine.specs.Holding.{shape, Works, WorksQuietly, Lightens};
+ghost use Rattle.nr_engine.specs.Answer.{fails_writing};
+ghost use Rattle.nr_engine.specs.Holding.{shape, IsUnderWay, Works, WorksQuietly};
 
 use crate::engine::Engine;
-use crate::outcome::Outcome;
+use crate::outcome::{Measure, Stop};
 use nr_formatter::tasks::Ejected;
 use nr_store::Trap;
 use nr_units::sink::Sink;
 
 impl<'a> Engine<'a> {
     /// The page goes to a trap, whose macro springs.
-    fn eject_to(&mut self, trap: Trap) -> Result<(), Outcome>
+    fn eject_to(&mut self, trap: Trap) -> Result<(), Measure>
         requires below { pos 0 ≤ℤ trap.place }
         requires named { names_text trap.name self.old.formatter ≡ true }
-        ensures worked { WorksQuietly (plainly (ejected_to trap)) (shape self.old) (shape self.new) result }
-        ensures reads { stops_reading result ≡ false }
-        ensures writes { stops_writing result ≡ false }
-        ensures lightens { Lightens (shape self.old) (shape self.new) result }
+        ensures works { WorksQuietly (plainly (ejected_to trap)) (shape self.old) (shape self.new) result }
     {
-        let answer = self.formatter.eject_to(trap);
-        self.splice_answer(answer)
+        Measure::of_splice(self.formatter.eject_to(trap))
     }
 
     /// The page that is being ejected goes to the next trap, and with none left it ends.
-    pub(crate) fn eject<W: Sink>(&mut self, ejected: Ejected, output: &mut W) -> Result<(), Outcome>
-        requires idle { self.old.formatter.event ≡ events.Nothing }
-        requires task { self.old.formatter.task ≡ tasks.Eject ejected }
-        ensures worked { Works (eject ejected) (shape self.old) (shape self.new) (W.held output.old) (W.held output.new) result }
-        ensures failures { W.failures output.new ≡ put_counted_if (stops_writing result) (W.failures output.old) }
-        ensures reads { stops_reading result ≡ false }
-        ensures lightens { Lightens (shape self.old) (shape self.new) result }
+    pub(crate) fn eject<W: Sink>(&mut self, ejected: Ejected, output: &mut W) -> Result<(), Stop>
+        requires { IsUnderWay (tasks.Eject ejected) self.old.formatter }
+        ensures works { Works (eject ejected) (shape self.old) (shape self.new) (W.held output.old) (W.held output.new) result }
+        ensures failures { W.failures output.new ≡ put_counted_if (fails_writing result) (W.failures output.old) }
     {
         if !self.formatter.is_ejecting() {
             self.formatter.task = ejected.task();
             return Ok(());
         }
         match self.formatter.next_springing() {
-            Some(trap) => self.eject_to(trap),
+            Some(trap) => Stop::of_limit(self.eject_to(trap)),
             None => self.end_page(output),
         }
     }

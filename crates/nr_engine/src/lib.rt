@@ -5,6 +5,7 @@ mod breaks;
 mod desk;
 mod diverted;
 mod ejecting;
+mod empty_lines;
 mod engine;
 mod lengths;
 mod level_text;

@@ -1,5 +1,5 @@
 //! The lines that go out where a word or a text line ended. (CSTR 54, section 4.)
-ghost use Rattle.std.specs.Prelude.{◌≡◌, ◌<◌, ◌≤◌, List, Option, length, false};
+ghost use Rattle.std.specs.Prelude.{◌≡◌, ◌<◌, ◌≤◌, length};
 ghost use Rattle.nr_formatter.specs.Access.{collected};
 ghost use Rattle.nr_formatter.specs.Places.{outlet};
 ghost use Rattle.nr_formatter.specs.Diversions.{divert_line};
@@ -7,13 +7,12 @@ ghost use Rattle.nr_formatter.specs.declared.paper.Outlet.TheVariants as outlets
 ghost use Rattle.nr_engine.specs.State.{plainly};
 ghost use Rattle.nr_engine.specs.Machine.{offset, put_line_to, put_line, flow};
 ghost use Rattle.nr_units.specs.Failures.{put_counted_if};
-ghost use Rattle.nr_reading.specs.declared.event.Event.TheVariants as events;
 ghost use Rattle.nr_formatter.specs.declared.tasks.Task.TheVariants as tasks;
-ghost use Rattle.nr_engine.specs.Answer.{stops_reading, stops_writing};
-ghost use Rattle.nr_engine.specs.Holding.{shape, Works, WorksQuietly, Lightens};
+ghost use Rattle.nr_engine.specs.Answer.{fails_writing};
+ghost use Rattle.nr_engine.specs.Holding.{shape, IsUnderWay, Works, WorksQuietly};
 
 use crate::engine::Engine;
-use crate::outcome::{Measure, Outcome};
+use crate::outcome::{Measure, Stop};
 use nr_formatter::lines::Going;
 use nr_formatter::paper::Outlet;
 use nr_formatter::tasks::After;
@@ -29,29 +28,23 @@ impl<'a> Engine<'a> {
     }
 
     /// The line goes into the innermost diversion.
-    fn divert_line(&mut self, going: Going) -> Result<(), Outcome>
+    fn divert_line(&mut self, going: Going) -> Result<(), Measure>
         requires { 0 < length (collected self.old.formatter).pieces }
-        ensures worked { WorksQuietly (plainly (divert_line going)) (shape self.old) (shape self.new) result }
-        ensures reads { stops_reading result ≡ false }
-        ensures writes { stops_writing result ≡ false }
-        ensures lightens { Lightens (shape self.old) (shape self.new) result }
+        ensures works { WorksQuietly (plainly (divert_line going)) (shape self.old) (shape self.new) result }
     {
         match self.formatter.divert_line(going) {
             Ok(()) => {
                 self.formatter.fit_memory();
                 Ok(())
             }
-            Err(_) => Err(self.passed(Measure::Stored)),
+            Err(_) => Err(Measure::Stored),
         }
     }
 
     /// The line goes on the open page.
-    fn place_line(&mut self, going: Going) -> Result<(), Outcome>
+    fn place_line(&mut self, going: Going) -> Result<(), Measure>
         requires { 0 < length (collected self.old.formatter).pieces }
-        ensures worked { WorksQuietly (put_line_to outlets.Room going) (shape self.old) (shape self.new) result }
-        ensures reads { stops_reading result ≡ false }
-        ensures writes { stops_writing result ≡ false }
-        ensures lightens { Lightens (shape self.old) (shape self.new) result }
+        ensures works { WorksQuietly (put_line_to outlets.Room going) (shape self.old) (shape self.new) result }
     {
         let offset = self.offset();
         let height = self.formatter.settings.pages.spacing.units();
@@ -62,17 +55,14 @@ impl<'a> Engine<'a> {
     }
 
     /// The line that goes out is diverted, or finds room and is placed.
-    pub(crate) fn put_line<W: Sink>(&mut self, going: Going, output: &mut W) -> Result<(), Outcome>
-        requires pieces { 0 < length (collected self.old.formatter).pieces }
-        requires idle { self.old.formatter.event ≡ events.Nothing }
-        ensures worked { Works (put_line going) (shape self.old) (shape self.new) (W.held output.old) (W.held output.new) result }
-        ensures failures { W.failures output.new ≡ put_counted_if (stops_writing result) (W.failures output.old) }
-        ensures reads { stops_reading result ≡ false }
-        ensures lightens { Lightens (shape self.old) (shape self.new) result }
+    pub(crate) fn put_line<W: Sink>(&mut self, going: Going, output: &mut W) -> Result<(), Stop>
+        requires { 0 < length (collected self.old.formatter).pieces }
+        ensures works { Works (put_line going) (shape self.old) (shape self.new) (W.held output.old) (W.held output.new) result }
+        ensures failures { W.failures output.new ≡ put_counted_if (fails_writing result) (W.failures output.old) }
     {
         match self.formatter.outlet() {
-            Outlet::Diversion => self.divert_line(going),
-            Outlet::Room => self.place_line(going),
+            Outlet::Diversion => Stop::of_limit(self.divert_line(going)),
+            Outlet::Room => Stop::of_limit(self.place_line(going)),
             outlet => self.turn_page(outlet, output),
         }
     }
@@ -83,13 +73,10 @@ impl<'a> Engine<'a> {
         after: After,
         breaks: bool,
         output: &mut W,
-    ) -> Result<(), Outcome>
-        requires idle { self.old.formatter.event ≡ events.Nothing }
-        requires task { self.old.formatter.task ≡ tasks.Flow after breaks }
-        ensures worked { Works (flow after breaks) (shape self.old) (shape self.new) (W.held output.old) (W.held output.new) result }
-        ensures failures { W.failures output.new ≡ put_counted_if (stops_writing result) (W.failures output.old) }
-        ensures reads { stops_reading result ≡ false }
-        ensures lightens { Lightens (shape self.old) (shape self.new) result }
+    ) -> Result<(), Stop>
+        requires { IsUnderWay (tasks.Flow after breaks) self.old.formatter }
+        ensures works { Works (flow after breaks) (shape self.old) (shape self.new) (W.held output.old) (W.held output.new) result }
+        ensures failures { W.failures output.new ≡ put_counted_if (fails_writing result) (W.failures output.old) }
     {
         match self.formatter.flow_line(after, breaks) {
             Some(going) => self.put_line(going, output),

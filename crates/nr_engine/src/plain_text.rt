@@ -106,7 +106,7 @@ impl<'a> Engine<'a> {
     }
 
     /// Reads and puts what is at hand, and tells how many moves that was: plain text, else cells of a diverted line, else what
-    /// can be read without anything being done.
+    /// can be read without anything being done, and empty lines behind it.
     #[inline(always)]
     pub(crate) fn put_at_hand<R: Source>(&mut self, input: &mut R) -> u128
         ensures makes { Makes result (shape self.old) (shape self.new) (R.supply input.old) (R.supply input.new) }
@@ -126,6 +126,6 @@ impl<'a> Engine<'a> {
         if cells > 0 {
             return cells;
         }
-        self.read_run(input)
+        self.read_lines(input)
     }
 }

@@ -1,29 +1,24 @@
 //! The room of titles and of diverted lines, before they are read.
-ghost use Rattle.std.specs.Prelude.{◌≡◌, List, Option, false};
+ghost use Rattle.std.specs.Prelude.{◌≡◌};
 ghost use Rattle.nr_formatter.specs.Places.{outlet};
-ghost use Rattle.nr_engine.specs.State.{State};
 ghost use Rattle.nr_engine.specs.Machine.{room_in};
 ghost use Rattle.nr_units.specs.Failures.{put_counted_if};
-ghost use Rattle.nr_reading.specs.declared.event.Event.TheVariants as events;
 ghost use Rattle.nr_formatter.specs.declared.tasks.Task.TheVariants as tasks;
-ghost use Rattle.nr_engine.specs.Answer.{stops_reading, stops_writing};
-ghost use Rattle.nr_engine.specs.Holding.{shape, Works, WorksQuietly, Lightens};
+ghost use Rattle.nr_engine.specs.Answer.{fails_writing};
+ghost use Rattle.nr_engine.specs.Holding.{shape, IsUnderWay, Works};
 
 use crate::engine::Engine;
-use crate::outcome::Outcome;
+use crate::outcome::Stop;
 use nr_formatter::paper::Outlet;
 use nr_formatter::tasks::Room;
 use nr_units::sink::Sink;
 
 impl<'a> Engine<'a> {
     /// A title or a diverted line makes room, and is read then.
-    pub(crate) fn make_room<W: Sink>(&mut self, room: Room, output: &mut W) -> Result<(), Outcome>
-        requires idle { self.old.formatter.event ≡ events.Nothing }
-        requires task { self.old.formatter.task ≡ tasks.Room room }
-        ensures worked { Works (λ s. room_in (outlet s.formatter) room s) (shape self.old) (shape self.new) (W.held output.old) (W.held output.new) result }
-        ensures failures { W.failures output.new ≡ put_counted_if (stops_writing result) (W.failures output.old) }
-        ensures reads { stops_reading result ≡ false }
-        ensures lightens { Lightens (shape self.old) (shape self.new) result }
+    pub(crate) fn make_room<W: Sink>(&mut self, room: Room, output: &mut W) -> Result<(), Stop>
+        requires { IsUnderWay (tasks.Room room) self.old.formatter }
+        ensures works { Works (λ s. room_in (outlet s.formatter) room s) (shape self.old) (shape self.new) (W.held output.old) (W.held output.new) result }
+        ensures failures { W.failures output.new ≡ put_counted_if (fails_writing result) (W.failures output.old) }
     {
         match self.formatter.outlet() {
             Outlet::Diversion | Outlet::Room => {

@@ -1,55 +1,43 @@
 //! Vertical space finds room. (CSTR 54, section 5.)
-ghost use Rattle.std.specs.Prelude.{◌≡◌, List, Option, false};
+ghost use Rattle.std.specs.Prelude.{◌≡◌};
 ghost use Rattle.nr_formatter.specs.Diversions.{with_diverted_space};
 ghost use Rattle.nr_engine.specs.State.{plainly};
 ghost use Rattle.nr_engine.specs.Machine.{put_space};
 ghost use Rattle.nr_units.specs.Failures.{put_counted_if};
-ghost use Rattle.nr_reading.specs.declared.event.Event.TheVariants as events;
 ghost use Rattle.nr_formatter.specs.declared.tasks.Task.TheVariants as tasks;
-ghost use Rattle.nr_engine.specs.Answer.{stops_reading, stops_writing};
-ghost use Rattle.nr_engine.specs.Holding.{shape, Works, WorksQuietly, Lightens};
+ghost use Rattle.nr_engine.specs.Answer.{fails_writing};
+ghost use Rattle.nr_engine.specs.Holding.{shape, IsUnderWay, Works, WorksQuietly};
 
 use crate::engine::Engine;
-use crate::outcome::{Measure, Outcome};
+use crate::outcome::{Measure, Stop};
 use nr_formatter::paper::Outlet;
 use nr_formatter::tasks::Task;
 use nr_units::sink::Sink;
 
 impl<'a> Engine<'a> {
     /// Space of so many u goes into the innermost diversion.
-    fn divert_space(&mut self, distance: u32) -> Result<(), Outcome>
-        requires idle { self.old.formatter.event ≡ events.Nothing }
-        requires task { self.old.formatter.task ≡ tasks.Space distance }
-        ensures worked { WorksQuietly (plainly (with_diverted_space distance)) (shape self.old) (shape self.new) result }
-        ensures reads { stops_reading result ≡ false }
-        ensures writes { stops_writing result ≡ false }
-        ensures lightens { Lightens (shape self.old) (shape self.new) result }
+    fn divert_space(&mut self, distance: u32) -> Result<(), Measure>
+        requires { IsUnderWay (tasks.Space distance) self.old.formatter }
+        ensures works { WorksQuietly (plainly (with_diverted_space distance)) (shape self.old) (shape self.new) result }
     {
         match self.formatter.divert_space(distance) {
             Ok(()) => Ok(()),
-            Err(_) => Err(self.passed(Measure::Stored)),
+            Err(_) => Err(Measure::Stored),
         }
     }
 
     /// Space of so many u is diverted, or finds room and is placed; in no-space mode there is none.
-    pub(crate) fn put_space<W: Sink>(
-        &mut self,
-        distance: u32,
-        output: &mut W,
-    ) -> Result<(), Outcome>
-        requires idle { self.old.formatter.event ≡ events.Nothing }
-        requires task { self.old.formatter.task ≡ tasks.Space distance }
-        ensures worked { Works (put_space distance) (shape self.old) (shape self.new) (W.held output.old) (W.held output.new) result }
-        ensures failures { W.failures output.new ≡ put_counted_if (stops_writing result) (W.failures output.old) }
-        ensures reads { stops_reading result ≡ false }
-        ensures lightens { Lightens (shape self.old) (shape self.new) result }
+    pub(crate) fn put_space<W: Sink>(&mut self, distance: u32, output: &mut W) -> Result<(), Stop>
+        requires { IsUnderWay (tasks.Space distance) self.old.formatter }
+        ensures works { Works (put_space distance) (shape self.old) (shape self.new) (W.held output.old) (W.held output.new) result }
+        ensures failures { W.failures output.new ≡ put_counted_if (fails_writing result) (W.failures output.old) }
     {
         if self.formatter.is_spaceless(distance) {
             self.formatter.task = Task::Read;
             return Ok(());
         }
         match self.formatter.outlet() {
-            Outlet::Diversion => self.divert_space(distance),
+            Outlet::Diversion => Stop::of_limit(self.divert_space(distance)),
             Outlet::Room => {
                 self.formatter.space_down(distance);
                 Ok(())

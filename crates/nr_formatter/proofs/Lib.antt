@@ -3,6 +3,7 @@ pub mod Calm
 pub mod Cells
 pub mod DivertedFalls
 pub mod DivertedRows
+pub mod EmptyLines
 pub mod Falling
 pub mod Filled
 pub mod GivenNames

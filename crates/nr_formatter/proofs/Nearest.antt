@@ -316,3 +316,37 @@ passed_kept kept above length ts x e k =
 -- the macro of a trap that is found is that at its place
 pub macro_found : (above length : ℤ) (ts : List Trap) (x : Trap) → nearest above length ts ≡ Some x → macro_at length x.place ts ≡ Some x.name
 macro_found above length ts x e = subst (λ n. IsNamed length n ts) (sym (nearest-near above length ts) ∙ e) (named_near above length ts)
+
+-- ---- a place further down
+
+-- a place is above a trap, if there is one
+abbrev pub IsAbove : ℤ → Option Trap → Type 0
+IsAbove place None = Unit {0}
+IsAbove place (Some x) = place <ℤ x.place
+
+lt_least : (place z : ℤ) (n : Option Trap) → IsAbove place n → IsAtLeast n z → place <ℤ z
+lt_least place z None above least = absurd least
+lt_least place z (Some x) above least = omega (arith, ints, above, least)
+
+ahead_further : (above place length z : ℤ) → above ≤ℤ place → (is_ahead above length z ≡ true → place <ℤ z) → is_ahead place length z ≡ is_ahead above length z
+ahead_further above place length z down beyond =
+    and_same (int_lt place z) (int_lt above z) (int_lt (negsuc 0) z && int_lt z length)
+    (λ r. elim (int_lt above z) as (λ v. int_lt above z ≡ v → int_lt place z ≡ v) [
+      | true ↦ λ e. true_lt place z (beyond (rw e (rw r refl)))
+      | false ↦ λ e. let le = lt_false above z e in false_lt place z (omega (arith, ints, le, down))
+    ] refl)
+
+near_further : (above place length : ℤ) (ts : List Trap) (n : Option Trap) → above ≤ℤ place → IsAbove place n → AreAtLeast above length n ts → near place length ts ≡ near above length ts
+near_further above place length [] n down over least = refl
+near_further above place length (t ∷ ts) n down over least =
+    let z = on_page t.place length in
+    let same = ahead_further above place length z down (λ a. lt_least place z n over (least.0 a)) in
+    rw (same, near_further above place length ts n down over least.1) refl
+
+-- the nearest trap is the same further down, as long as it lies below
+pub nearest_further : (above place length : ℤ) (ts : List Trap) → above ≤ℤ place → IsAbove place (nearest above length ts) → nearest place length ts ≡ nearest above length ts
+nearest_further above place length ts down over =
+    let same = nearest-near above length ts in
+    nearest-near place length ts
+    ∙ near_further above place length ts (near above length ts) down (subst (IsAbove place) same over) (least_near above length ts)
+    ∙ sym same

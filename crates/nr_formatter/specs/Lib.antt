@@ -3,6 +3,7 @@ pub mod Beginning
 pub mod Conditions
 pub mod DiversionRows
 pub mod Diversions
+pub mod EmptyLines
 pub mod Ending
 pub mod Given
 pub mod Limits

@@ -4,6 +4,7 @@
 pub mod conditions;
 mod diversion_row;
 pub mod diversions;
+pub mod empty_lines;
 pub mod ending;
 pub mod formatter;
 pub mod given;

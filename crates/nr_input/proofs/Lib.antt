@@ -1,7 +1,7 @@
 mod Hearing
-pub mod Adding
 pub mod Costs
 pub mod Items
+pub mod Longest
 pub mod Putting
 pub mod PuttingLevel
 pub mod PuttingRead
@@ -10,3 +10,4 @@ pub mod RowsRead
 pub mod Spending
 pub mod Staying
 pub mod Taking
+pub mod Targets

@@ -1,13 +1,9 @@
--- Bytes that are added one by one to what is stored, as moves of the machine that reads; and how an argument grows by them.
-use Rattle.std.specs.Prelude.{slice_get, slice_index}
-use Rattle.std.proofs.Common.{◌≡◌, ℕ, zero, suc, ◌+◌, ◌*◌, ◌<◌, ◌≤◌, ◌==◌, true, false, List, length, take, Option, Some, Ok, IsOk, Result, inl, inr, refl, ap, sym, ◌∙◌, subst, arith}
-use Rattle.std.proofs.Math.Seq.{take-suc}
-use Rattle.std.proofs.lemmas.Bool.{cases_lt, cases_Bool, cond-false, le-ltb}
-use Rattle.std.proofs.lemmas.List.{length-append, length-take}
+-- Bytes that are added one by one to what is stored, as moves of the machine that reads.
+use Rattle.std.specs.Prelude.{slice_get}
+use Rattle.std.proofs.Common.{◌≡◌, ℕ, zero, suc, ◌+◌, ◌*◌, ◌<◌, ◌≤◌, true, false, List, length, Option, Some, Ok, IsOk, Result, inl, inr, refl, ap, sym, ◌∙◌, subst, arith}
+use Rattle.std.proofs.lemmas.Bool.{cases_lt, cond-false, le-ltb}
 use Rattle.nr_units.specs.Supply.{Supply}
-use Rattle.nr_levels.specs.Gathered.{Gathered, gathered_len, with_bytes}
-use Rattle.nr_levels.specs.Laws.{with_bytes-full, with_bytes-more, with_bytes-append}
-use Rattle.nr_store.specs.Stored.{Stored, charge_of, afforded, gathering, gathering_all}
+use Rattle.nr_store.specs.Stored.{Stored, charge_of, afforded}
 use Rattle.nr_store.specs.declared.refusal.StoredBytes.{StoredBytes}
 use Rattle.nr_reading.specs.declared.event.Event.TheVariants as events
 use Rattle.nr_reading.specs.declared.front.Front.{Front}
@@ -135,32 +131,3 @@ module _ {K : Type 0} (n : ℕ) (fs : List Front) (byte : ℕ → ℕ) (due : �
   all_put (suc k) few =
       let taken = one_more (twice k) _ _ _ (all_put k (omega (arith, few))) ((each.goings k few).goes (spot_at k h) (taken_there k few)) (takes k few) in
       one_more (suc (twice k)) _ _ _ taken (each.goes k few) (each.puts k few)
-
--- ---- an argument
-
--- a byte is put where that is within the limit
-pub puts_byte : {K : Type 0} (b : ℕ) (w : Stored K) → charge_of (gathering b w) ≤ w.limit → Adds (dues.Put b) w (gathering b w)
-puts_byte b w fits = record { waits = refl; acts = λ r. refl; fits = fits }
-
--- one byte more
-pub gathering-all : {K : Type 0} (k : ℕ) (bs : List ℕ) (v : Stored K) → k < length bs → gathering (slice_index bs k) (gathering_all (take k bs) v) ≡ gathering_all (take (suc k) bs) v
-gathering-all k bs v less =
-    ap (λ (g : Gathered). record v { gathered = g }) (sym (with_bytes-append (take k bs) (slice_index bs k) v.gathered) ∙ ap (λ (ys : List ℕ). with_bytes ys v.gathered) (sym (take-suc bs k 0 less)))
-
--- more bytes are charged no less
-pub gathered_len-le : (xs ys : List ℕ) (g : Gathered) → length xs ≤ length ys → gathered_len (with_bytes xs g) ≤ gathered_len (with_bytes ys g)
-gathered_len-le xs ys g fewer = elim (cases_Bool (length g.kept == 9)) [
-  | inl full ↦ let x = ap gathered_len (with_bytes-full xs g full) in let y = ap gathered_len (with_bytes-full ys g full) in omega (arith, x, y)
-  | inr more ↦
-      let x = ap gathered_len (with_bytes-more xs g more) in
-      let y = ap gathered_len (with_bytes-more ys g more) in
-      omega (arith, x, y, fewer, length-append g.last xs, length-append g.last ys)
-]
-
--- where all can be stored, so can some
-pub charge_of-some : {K : Type 0} (k n : ℕ) (bs : List ℕ) (v : Stored K) → k < n → n ≤ length bs → charge_of (gathering_all (take n bs) v) ≤ v.limit
-    → charge_of (gathering (slice_index bs k) (gathering_all (take k bs) v)) ≤ v.limit
-charge_of-some k n bs v below within fits =
-    let less = gathered_len-le (take (suc k) bs) (take n bs) v.gathered (omega (arith, below, within, length-take (suc k) bs, length-take n bs)) in
-    let is = ap (λ (w : Stored _). charge_of w) (gathering-all k bs v (omega (arith, below, within))) in
-    omega (arith, is, less, fits)

@@ -86,6 +86,11 @@ level_pays n fs v w q r p met within is =
       tells = met.tells;
     }
 
+-- behind a byte that was taken
+pub some_taken : (n : ℕ) → (n ≡ 0 → ⊥) → (k : ℕ) × (n ≡ suc k)
+some_taken zero some = absurd (some refl)
+some_taken (suc k) some = (k, refl)
+
 -- ---- bytes of the source
 
 later-none : (f : Faults) → later 0 f ≡ f
@@ -122,15 +127,16 @@ module _ {K : Type 0} (v : Stored K) (c : Coming) (r : Reader) (bs : List ℕ) (
         coming = subst (λ d. HoldsComing d q supply) (sym (ap (λ k. behind_run k c) few ∙ behind_none c)) holds;
       })
 
-  -- so many bytes were taken
-  pub source_read : (n k : ℕ) (p : Spot) (q : Reached) (supply : Option Supply) → p.taken ≡ suc k → HasMet n (map fronts.Byte bs) r.half p → HoldsComing (behind_run (suc k) c) q supply
+  -- some were taken
+  pub source_read : (n : ℕ) (p : Spot) (q : Reached) (supply : Option Supply) → 0 < p.taken → HasMet n (map fronts.Byte bs) r.half p → HoldsComing (behind_run p.taken c) q supply
       → HasRead n (situation v c r) p.event v (record r { half = p.half; burst = 0 }) q supply
-  source_read n k p q supply many met holds =
+  source_read n p q supply some met holds =
+      let many = some_taken p.taken (λ e. omega (arith, e, some)) in
       has_read n (map fronts.Byte bs) r.half p (at_source v c r) (situation v c r) v (record r { half = p.half; burst = 0 }) q supply (source_goings v c r bs none next) met begins_there
       (record {
         stored = refl;
-        reader = sym (ap (λ (j : ℕ). record r { half = p.half; burst = burst_past c.taken (c.taken + j) r.burst }) many ∙ ap (λ (j : ℕ). record r { half = p.half; burst = j }) (burst_some c.taken k r.burst));
-        coming = subst (λ j. HoldsComing (behind_run j c) q supply) (sym many) holds;
+        reader = sym (ap (λ (j : ℕ). record r { half = p.half; burst = burst_past c.taken (c.taken + j) r.burst }) many.1 ∙ ap (λ (j : ℕ). record r { half = p.half; burst = j }) (burst_some c.taken many.0 r.burst));
+        coming = holds;
       })
 
 pub newline_left-le : (b : Bool) → newline_left b ≤ 1
@@ -154,8 +160,8 @@ module _ {K : Type 0} (n : ℕ) (fs : List Front) (v : Stored K) (q : Reached) (
     tells = met.tells;
   }
 
-  pub source_pays : (k last : ℕ) → p.taken ≡ suc k → PaysAll n v q r p.event v (passed_run last (suc k) q) (record r { half = p.half; burst = 0 })
-  source_pays k last many = record {
+  source_paid : (k last : ℕ) → p.taken ≡ suc k → PaysAll n v q r p.event v (passed_run last (suc k) q) (record r { half = p.half; burst = 0 })
+  source_paid k last many = record {
     limit = refl;
     diversions = refl;
     most = refl;
@@ -172,6 +178,11 @@ module _ {K : Type 0} (n : ℕ) (fs : List Front) (v : Stored K) (q : Reached) (
         );
     tells = met.tells;
   }
+
+  pub source_pays : (last : ℕ) (q' : Reached) → 0 < p.taken → q' ≡ passed_run last p.taken q → PaysAll n v q r p.event v q' (record r { half = p.half; burst = 0 })
+  source_pays last q' some is =
+      let many = some_taken p.taken (λ e. omega (arith, e, some)) in
+      subst (λ x. PaysAll n v q r p.event v x (record r { half = p.half; burst = 0 })) (ap (λ k. passed_run last k q) (sym many.1) ∙ sym is) (source_paid many.0 last many.1)
 
 -- none was taken, whether there was one or not
 pub none_taken : {K : Type 0} (bs : List ℕ) (v : Stored K) (c : Coming) (r : Reader) (n : ℕ) (p : Spot) (q : Reached) (supply : Option Supply) → (0 < length bs → v.levels ≡ []) → (0 < length bs → ComeNext bs c)
@@ -198,11 +209,6 @@ taken_after (suc n) fs h = omega (arith, taken_by (slice_get fs (spot_after n fs
 pub taken-le : (n : ℕ) (fs : List Front) (h : Half) (p : Spot) → HasMet n fs h p → p.taken ≤ n
 taken-le n fs h p met = let is = ap (λ x. x.taken) met.leads in omega (arith, is, taken_after n fs h)
 
--- behind a byte that was taken
-pub some_taken : (n : ℕ) → (n ≡ 0 → ⊥) → (k : ℕ) × (n ≡ suc k)
-some_taken zero some = absurd (some refl)
-some_taken (suc k) some = (k, refl)
-
 supply_behind : (a : Ahead) (n : ℕ) (c : Coming) (supply supply' : Option Supply) → is_unseen a ≡ true → HoldsSupply c a supply → Skips supply n supply' → supply' ≡ Some (skipped n c.supply)
 supply_behind Unseen n c supply supply' unseen holds skips = subst (λ q. Skips q n supply') holds skips
 supply_behind (Byte b) n c supply supply' unseen holds skips = absurd (let wrong : false ≡ true = unseen in cc)
@@ -211,7 +217,7 @@ supply_behind Failed n c supply supply' unseen holds skips = absurd (let wrong :
 supply_behind TooMany n c supply supply' unseen holds skips = absurd (let wrong : false ≡ true = unseen in cc)
 
 -- the program stands behind bytes that it took
-pub holds_behind : (k : ℕ) (bs : List ℕ) (c : Coming) (q : Reached) (supply supply' : Option Supply) → k < length bs → is_unseen q.ahead ≡ true → ComeNext bs c → HoldsComing c q supply → Skips supply (suc k) supply'
+holds_behind : (k : ℕ) (bs : List ℕ) (c : Coming) (q : Reached) (supply supply' : Option Supply) → k < length bs → is_unseen q.ahead ≡ true → ComeNext bs c → HoldsComing c q supply → Skips supply (suc k) supply'
     → HoldsComing (behind_run (suc k) c) (passed_run (slice_index bs k) (suc k) q) supply'
 holds_behind k bs c q supply supply' less unseen next holds skips = record {
   taken = let taken = holds.taken in omega (arith, taken);

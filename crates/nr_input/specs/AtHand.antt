@@ -21,3 +21,10 @@ behind_many n c = record { supply = skipped n c.supply; taken = c.taken + n; ins
 
 abbrev pub passed_many : ℕ → Reached → Reached
 passed_many n p = record { ahead = Unseen; taken = p.taken + n; inside = true }
+
+-- behind the next n bytes, the last of them a newline
+abbrev pub behind_newlines : ℕ → Coming → Coming
+behind_newlines n c = record { supply = skipped n c.supply; taken = c.taken + n; inside = false }
+
+abbrev pub passed_newlines : ℕ → Reached → Reached
+passed_newlines n p = record { ahead = Unseen; taken = p.taken + n; inside = false }

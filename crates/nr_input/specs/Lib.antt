@@ -7,4 +7,5 @@ pub mod Moving
 pub mod Refusals
 pub mod Runs
 pub mod Splicing
+pub mod Targets
 pub mod Weights

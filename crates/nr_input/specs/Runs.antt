@@ -1,16 +1,21 @@
 -- Many moves of the machine that reads, of which only the last may tell something.
-use Rattle.std.specs.Prelude.{◌≡◌, ℕ, zero, suc, ◌+◌, ◌*◌, ◌<◌, ◌≤◌, ◌==◌, Bool, false, not, List, slice_index, Option}
+use Rattle.std.specs.Prelude.{◌≡◌, ℕ, zero, suc, ◌+◌, ◌-◌, ◌*◌, ◌^◌, ◌<◌, ◌≤◌, ◌==◌, Bool, true, false, not, List, [], ◌∷◌, length, slice_index, Option}
 use Rattle.nr_units.specs.Supply.{Supply, skipped}
-use Rattle.nr_store.specs.Stored.{Stored}
+use Rattle.nr_store.specs.Stored.{Stored, charge_of}
 use Rattle.nr_reading.specs.declared.event.Event.{Event}
 use Rattle.nr_reading.specs.declared.event.Event.TheVariants as events
+use Rattle.nr_reading.specs.declared.half.Half.{Half}
+use Rattle.nr_reading.specs.declared.mode.Due.TheVariants as dues
+use Rattle.nr_reading.specs.InArgument.{ending_of, IsPlain}
 use Rattle.nr_reading.specs.Weights.{cost_of_event, is_lead}
 use Rattle.nr_input.specs.declared.reader.Reader.{Reader}
+use Rattle.nr_input.specs.declared.target.Target.{Target}
 use Rattle.nr_input.specs.declared.place.Ahead.TheVariants.{Unseen}
 use Rattle.nr_input.specs.declared.told.Told.{Told}
 use Rattle.nr_input.specs.declared.told.Told.TheVariants as tells
 use Rattle.nr_input.specs.Coming.{Coming, Reached}
 use Rattle.nr_input.specs.Moving.{Situation, Stands, move, Goes}
+use Rattle.nr_input.specs.Targets.{is_read_for, with_more}
 use Rattle.nr_input.specs.Weights.{weight_before_byte, byte_worth, risen, diversions_in}
 
 -- behind n moves
@@ -38,6 +43,23 @@ pub record PaysAll {K : Type 0} (n : ℕ) (v : Stored K) (p : Reached) (r : Read
   pub pays : (worth : ℕ) → byte_worth r.most v.limit ≤ worth →
       weight_before_byte v' p' r' + cost_of_event e + n + 178 * risen r.half r'.half + worth * p.taken ≤ weight_before_byte v p r + 1 + worth * p'.taken
   pub tells : is_lead e ≡ false
+
+-- ---- how many moves are made
+
+-- A byte at hand is left: it is to be added to an argument or to a text that is being defined, and does not stand for itself
+-- there or finds no room.
+pub record IsLeft {K : Type 0} (b : ℕ) (h : Half) (v : Stored K) : Type 0 where
+  pub target : Target
+  pub reads : is_read_for target h ≡ true
+  pub stops : IsPlain (ending_of h.reading.mode) b → v.limit < charge_of (with_more target (b ∷ []) v)
+
+-- Of the bytes that the source has at hand as many were read in n moves as can be: one move at least where nothing was due.
+-- Fewer than 65,536 moves of which none told anything and behind which nothing is due took all, up to one that is left; no byte
+-- is the 2^40th.
+pub record IsLongest {K : Type 0} (bs : List ℕ) (n : ℕ) (p : Reached) (r : Reader) (e : Event) (v' : Stored K) (p' : Reached) (r' : Reader) : Type 0 where
+  pub some : 0 < length bs → p.taken + 1 < 2 ^ 40 → r.half.reading.due ≡ dues.Look → 0 < n
+  pub all : n < 65536 → e ≡ events.Nothing → r'.half.reading.due ≡ dues.Look → p'.taken + 1 < 2 ^ 40 → p'.taken < p.taken + length bs
+      → IsLeft (slice_index bs (p'.taken - p.taken)) r.half v'
 
 -- ---- bytes that the source has at hand
 

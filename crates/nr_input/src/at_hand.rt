@@ -1,7 +1,7 @@
 //! Bytes that the source has at hand, taken many at once.
 ghost use Rattle.std.specs.Prelude.{◌≡◌, ℕ, ◌+◌, ◌-◌, ◌<◌, ◌≤◌, ◌^◌, true, length, take, [], Option};
 ghost use Rattle.nr_units.specs.Supply.{Skips};
-ghost use Rattle.nr_input.specs.AtHand.{is_unseen, ComeNext, behind_many, passed_many};
+ghost use Rattle.nr_input.specs.AtHand.{is_unseen, ComeNext, behind_many, behind_newlines, passed_many, passed_newlines};
 ghost use Rattle.nr_input.specs.Coming.{Coming, HoldsComing};
 
 use super::place::Place;
@@ -49,5 +49,21 @@ pub fn take_window<R: Source>(place: &mut Place, reader: &mut Reader, source: &m
 {
     source.skip(n);
     place.pass_many(n);
+    reader.burst = 0;
+}
+
+/// Takes the first n of the bytes at hand, the last of them a newline.
+#[inline]
+pub fn take_newlines<R: Source>(place: &mut Place, reader: &mut Reader, source: &mut R, n: usize)
+    requires unseen { is_unseen place.old.ahead ≡ true }
+    requires room { place.old.taken + n < 2 ^ 40 }
+    requires at_hand { n ≤ length (R.at_hand source.old) }
+    ensures place { place.new ≡ passed_newlines n place.old }
+    ensures reader { reader.new ≡ record reader.old { burst = 0 } }
+    ensures coming { (c : Coming) → HoldsComing c place.old (R.supply source.old) → HoldsComing (behind_newlines n c) place.new (R.supply source.new) }
+    ensures failures { R.failures source.new ≡ R.failures source.old }
+{
+    source.skip(n);
+    place.pass_run(b'\n', n);
     reader.burst = 0;
 }

@@ -3,9 +3,8 @@
 #![tactic(auto)]
 
 mod acting;
-mod arguments;
+mod adding;
 mod at_hand;
-mod defined_texts;
 mod moving;
 mod place;
 mod reader;
@@ -13,11 +12,12 @@ mod refusal;
 mod runs;
 mod setting;
 mod splicing;
+mod target;
 #[cfg(test)]
 mod tests;
 mod told;
 
-pub use at_hand::{take_window, window};
+pub use at_hand::{take_newlines, take_window, window};
 pub use moving::advance;
 pub use nr_reading::{Event, Question, Standing};
 pub use place::{Ahead, Place};

@@ -194,7 +194,7 @@ impl Place {
             Sight::Item(element) => match element {
                 Element::Byte(byte) => Ok(Front::Byte(byte)),
                 Element::Cell(cell) => Ok(Front::Cell(cell)),
-                Element::LineEnd(height) => Ok(Front::LineEnd(height)),
+                Element::LineEnd(height) => Ok(Front::LineEnd(height.units())),
             },
             Sight::End => Ok(Front::Mark),
             Sight::Resume => Ok(Front::Resume),

@@ -1,22 +1,20 @@
 //! Many moves over items that lie in a row.
-ghost use Rattle.std.specs.Prelude.{◌≡◌, ◌≤◌, ◌++◌, map, false, Option};
+ghost use Rattle.std.specs.Prelude.{◌≡◌, ◌≤◌, ◌++◌, [], map, true, false, Option};
 ghost use Rattle.nr_units.specs.Supply.{Supply};
 ghost use Rattle.nr_reading.specs.declared.front.Front.TheVariants as variants;
+ghost use Rattle.nr_input.specs.AtHand.{is_unseen};
 ghost use Rattle.nr_input.specs.Coming.{Coming, Reached, HoldsComing, element_front, has_failed};
 ghost use Rattle.nr_input.specs.Moving.{situation};
-ghost use Rattle.nr_input.specs.Runs.{HasRead, PaysAll};
+ghost use Rattle.nr_input.specs.Runs.{HasRead, PaysAll, IsLongest};
 
-use super::arguments::{read_argument, read_level_argument};
+use super::adding::{add_from_level, add_from_source};
 use super::at_hand::window;
-use super::defined_texts::read_definition;
 use super::place::Place;
 use super::reader::Reader;
+use super::target::Target;
 use nr_reading::{Items, Run};
 use nr_store::{Element, Store};
 use nr_units::source::Source;
-
-/// The most bytes that are added in one run: each is two moves.
-pub(crate) const LONGEST: usize = 32_768;
 
 /// Bytes, and elements behind them, as items in a row.
 #[derive(Clone, Copy)]
@@ -81,6 +79,7 @@ pub(crate) fn read_source<K: Copy, R: Source>(
     ensures read { (c : Coming) → HoldsComing c place.old (R.supply source.old) → HasRead result.moves (situation store.now c reader.old) result.event store.now reader.new place.new (R.supply source.new) }
     ensures pays { PaysAll result.moves store.now place.old reader.old result.event store.now place.new reader.new }
     ensures few { result.moves ≤ 65536 }
+    ensures longest { store.now.levels ≡ [] → is_unseen place.old.ahead ≡ true → IsLongest (R.at_hand source.old) result.moves place.old reader.old result.event store.now place.new reader.new }
     ensures failures { R.failures source.new ≡ R.failures source.old }
     ensures unfailed { has_failed place.old.ahead ≡ false → has_failed place.new.ahead ≡ false }
 {
@@ -110,21 +109,19 @@ pub fn read_run<K: Copy, R: Source>(
     ensures read { (c : Coming) → HoldsComing c place.old (R.supply source.old) → HasRead result.moves (situation store.old c reader.old) result.event store.new reader.new place.new (R.supply source.new) }
     ensures pays { PaysAll result.moves store.old place.old reader.old result.event store.new place.new reader.new }
     ensures few { result.moves ≤ 65536 }
+    ensures longest { store.old.levels ≡ [] → is_unseen place.old.ahead ≡ true → IsLongest (R.at_hand source.old) result.moves place.old reader.old result.event store.new place.new reader.new }
     ensures failures { R.failures source.new ≡ R.failures source.old }
     ensures unfailed { has_failed place.old.ahead ≡ false → has_failed place.new.ahead ≡ false }
 {
-    let in_argument = reader.half.is_in_argument();
+    let target = Target::of(&reader.half);
     if store.is_reading() {
-        if in_argument {
-            return read_level_argument(reader, store);
-        }
-        return read_level(reader, store);
+        return match target {
+            Some(Target::Argument) => add_from_level(reader, store),
+            _ => read_level(reader, store),
+        };
     }
-    if in_argument {
-        return read_argument(place, reader, store, source);
+    match target {
+        Some(target) => add_from_source(target, place, reader, store, source),
+        None => read_source(place, reader, store, source),
     }
-    if reader.half.is_in_definition() {
-        return read_definition(place, reader, store, source);
-    }
-    read_source(place, reader, store, source)
 }

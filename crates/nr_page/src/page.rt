@@ -1,5 +1,5 @@
 //! The open page.
-ghost use Rattle.std.specs.Prelude.{◌≡◌, ℕ, ◌+◌, ◌^◌, ◌<◌, ◌≤◌, ◌↔◌, List, [], ◌∷◌, ◌++◌, length, OnOk, OnErr, IsErr, IsTrue};
+ghost use Rattle.std.specs.Prelude.{◌≡◌, ℕ, ◌+◌, ◌/◌, ◌^◌, ◌<◌, ◌≤◌, ◌↔◌, List, [], ◌∷◌, ◌++◌, length, OnOk, OnErr, IsErr, IsTrue};
 ghost use Rattle.nr_page.specs.Grid.{Placed, page_charge};
 ghost use Rattle.nr_page.specs.Sheet.{Holds};
 ghost use Rattle.std.specs.Io.KnownBytes.{Appends};
@@ -33,16 +33,17 @@ pub struct PageRoom {
     pub rows: usize,
 }
 
-/// The least lengths of the slices of a page whose charge is at most `limit`.
+/// The least lengths of the slices of a page whose charge is at most `limit`. Only a line with cells needs a text and a row,
+/// and is charged 2 or more.
 pub fn room(limit: usize) -> PageRoom
     ensures cells { result.cells ≡ limit }
-    ensures texts { result.texts ≡ limit }
-    ensures rows { result.rows ≡ limit }
+    ensures texts { result.texts ≡ limit / 2 }
+    ensures rows { result.rows ≡ limit / 2 }
 {
     PageRoom {
         cells: limit,
-        texts: limit,
-        rows: limit,
+        texts: limit / 2,
+        rows: limit / 2,
     }
 }
 
@@ -84,13 +85,13 @@ impl<'a> Page<'a> {
     ) -> Self
         requires in_range { limit < 2 ^ 32 }
         requires cells { limit ≤ length cells.now }
-        requires texts { limit ≤ length texts.now }
-        requires rows { limit ≤ length rows.now }
+        requires texts { limit / 2 ≤ length texts.now }
+        requires rows { limit / 2 ≤ length rows.now }
         ensures empty { Holds [] result }
         ensures limit { result.limit ≡ limit }
     {
         Page {
-            texts: Pool::over(&mut cells[..limit], &mut texts[..limit]),
+            texts: Pool::over(&mut cells[..limit], &mut texts[..limit / 2]),
             rows: GapVec::over(rows),
             row_count: 0,
             charge: 0,

@@ -2,6 +2,7 @@
 ghost use Rattle.std.specs.Prelude.{◌≡◌};
 ghost use Rattle.nr_store.specs.Stored.{fresh, taken};
 
+use crate::height::Height;
 use nr_pool::Id;
 use nr_tables::Trap;
 use nr_units::Name;
@@ -11,14 +12,14 @@ use nr_units::cell::Cell;
 const GREATEST: u64 = 2147483647;
 
 /// One element of a text.
-#[derive(Clone, Copy, Debug, PartialEq, Eq)]
+#[derive(Clone, Copy, Debug)]
 pub enum Element {
     /// A byte, to be read as input.
     Byte(u8),
     /// A cell of a diverted line, set already.
     Cell(Cell),
     /// The end of a diverted line of this height in u.
-    LineEnd(u32),
+    LineEnd(Height),
 }
 
 /// An open diversion (CSTR 54, diversions).

@@ -3,6 +3,7 @@
 #![tactic(auto)]
 
 pub mod element;
+pub mod height;
 pub mod memory;
 pub mod named;
 pub mod refusal;
@@ -14,6 +15,7 @@ pub mod store;
 mod tests;
 
 pub use element::{Diversion, Draft, Element};
+pub use height::Height;
 pub use memory::{Memory, Room};
 pub use named::{Meaning, Sense};
 pub use nr_tables::{HyphenationWord, Trap};

@@ -7,6 +7,7 @@ ghost use Rattle.nr_store.specs.declared.element.Element.TheVariants as elements
 ghost use Rattle.nr_store.specs.Stored.{added, afforded, blank_cell, line_of, taken, diverted, diverted_end};
 
 use crate::element::{Diversion, Draft, Element};
+use crate::height::Height;
 use crate::refusal::StoredBytes;
 use crate::store::Store;
 use nr_pool::{Id, Pool};
@@ -70,7 +71,7 @@ pub(super) fn append_all<T: Single>(pool: &mut Pool<'_, Element>, id: Id, more: 
     requires room { used pool.old + length more.now ≤ pool.old.capacity }
     ensures { pool.new ≡ with_text pool.old id (text pool.old id ++ map T.single more.now) }
 {
-    let mut block = [Element::LineEnd(0); BLOCK];
+    let mut block = [Element::Byte(0); BLOCK];
     let mut done = 0;
     while done < more.len() {
         let count = (more.len() - done).min(BLOCK);
@@ -88,7 +89,7 @@ fn append_line(pool: &mut Pool<'_, Element>, id: Id, indent: u32, cells: &[Cell]
 {
     append_blanks(pool, id, indent);
     append_all(pool, id, cells);
-    let _ = pool.append(id, Element::LineEnd(height));
+    let _ = pool.append(id, Element::LineEnd(Height::of(height)));
 }
 
 // The diversion, where a line of so many cells and of this height was taken.
@@ -161,7 +162,7 @@ impl<'a, K: Copy> Store<'a, K> {
             return Err(StoredBytes);
         }
         let Draft { id, diversion } = draft;
-        let Ok(()) = self.pool.append(id, Element::LineEnd(height)) else {
+        let Ok(()) = self.pool.append(id, Element::LineEnd(Height::of(height))) else {
             return Err(StoredBytes);
         };
         self.drafts.set_top(Draft {

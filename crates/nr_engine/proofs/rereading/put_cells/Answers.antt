@@ -12,7 +12,7 @@ loop-element-preserved c =
     let i = c.loop-element.element-index in
     let x = c.in-Cell.cell in
     let now = c.loop-element.invariant in
-    let more : take (i + 1) xs ≡ take i xs ++ elements.Cell x ∷ [] = take_more xs i (elements.Byte 0) c.loop-element-test.true ∙ ap (λ y. take i xs ++ y ∷ []) c.in-Cell.is in
+    let more : take (i + 1) xs ≡ take i xs ++ elements.Cell x ∷ [] = take_more xs i c.element-item.result c.loop-element-test.true ∙ ap (λ y. take i xs ++ y ∷ []) (sym c.element-item.is ∙ c.in-Cell.is) in
     let added = AddsToRow-both c.args.row.now c.loop-element.row c.push.new.self (cells_of (take i xs)) (x ∷ []) now.adds c.push.ensures in
     record {
       count = omega (arith, now.count);

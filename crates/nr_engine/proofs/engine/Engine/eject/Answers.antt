@@ -1,10 +1,16 @@
-use Rattle.std.proofs.Common.{refl, sym, ◌∙◌}
+use Rattle.std.proofs.Common.{rules, refl}
+use Rattle.nr_engine.specs.Holding.{IsEjected}
 use Rattle.nr_engine.proofs.Lightening.{falls-unejecting}
 use Rattle.nr_engine.proofs.engine.Engine.eject.Goals as goal
 
-pub returns-then-not-is_ejecting-clause-lightens : goal.returns-then-not-is_ejecting-clause-lightens
-returns-then-not-is_ejecting-clause-lightens g c = (rw c.task-self.ensures (falls-unejecting c.args.ejected c.args.self.now.formatter c.requires.idle c.requires.task), refl)
+pub returns-then-not-is_ejecting-clause-works : goal.returns-then-not-is_ejecting-clause-works
+returns-then-not-is_ejecting-clause-works g c = record {
+  comes = search rules;
+  lightens = (rw c.task-self.ensures (falls-unejecting c.args.ejected c.args.self.now.formatter c.requires.idle c.requires.task), refl);
+}
 
-pub returns-in-Some-clause-worked : goal.returns-in-Some-clause-worked
-returns-in-Some-clause-worked g c = λ supply s h.
-    rw (sym c.is_ejecting.ensures ∙ c.if-not-is_ejecting.false, sym c.next_springing.ensures.value ∙ c.in-Some.is) (c.eject_to.ensures.worked (g.W.Sink.held c.args.output.now) supply s h)
+pub returns-in-None-clause-works : goal.returns-in-None-clause-works
+returns-in-None-clause-works g c = record {
+  comes = search rules;
+  lightens = c.end_page.ensures.lightens (IsEjected c.args.ejected c.requires);
+}

@@ -1,24 +1,21 @@
-use Rattle.std.proofs.Common.{refl, ap, sym, ◌∙◌, arith}
+use Rattle.std.proofs.Common.{refl, sym, ◌∙◌, arith}
 use Rattle.nr_engine.specs.Printing.{bytes_of}
 use Rattle.nr_engine.specs.Machine.{end_page, page_of}
 use Rattle.nr_engine.specs.Measures.{IsWithin}
 use Rattle.nr_engine.specs.Holding.{shape, at}
-use Rattle.nr_engine.proofs.Going.{error, write_failed}
 use Rattle.nr_engine.proofs.Working.{holds_of, text-push}
 use Rattle.nr_engine.proofs.engine.Engine.end_page.Goals as goal
 
-pub returns-in-Err-clause-worked : goal.returns-in-Err-clause-worked
-returns-in-Err-clause-worked g c = λ supply s h.
+pub returns-in-Err-clause-comes : goal.returns-in-Err-clause-comes
+returns-in-Err-clause-comes g c = λ supply s h.
     let t = at (shape c.args.self.now) s in
     let within : IsWithin (end_page t) =
     record { formatter = record { stored = h.within.formatter.stored; depth = h.within.formatter.depth; line = h.within.formatter.line; burst = h.within.formatter.burst }; page = omega arith }
     in
-    let front = c.in-Err.ensures.err t h.page (sym h.select) refl in
-    write_failed supply t (end_page t) (shape c.args.self.now) (g.W.Sink.held c.args.output.now) (g.W.Sink.held c.print.new.output) c.in-Err.outcome (ap error c.in-Err.ensures.only) within
-    (record { page = page_of t; ends = refl; front = front })
+    (within, record { page = page_of t; ends = refl; front = c.in-Err.ensures.err t h.page (sym h.select) refl })
 
-pub returns-in-Ok-clause-worked : goal.returns-in-Ok-clause-worked
-returns-in-Ok-clause-worked g c = λ supply s h.
+pub returns-in-Ok-clause-comes : goal.returns-in-Ok-clause-comes
+returns-in-Ok-clause-comes g c = λ supply s h.
     let t = at (shape c.args.self.now) s in
     let within : IsWithin (end_page t) =
     record { formatter = record { stored = h.within.formatter.stored; depth = h.within.formatter.depth; line = h.within.formatter.line; burst = h.within.formatter.burst }; page = omega arith }

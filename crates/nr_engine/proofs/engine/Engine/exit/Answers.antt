@@ -1,11 +1,18 @@
+use Rattle.std.proofs.Common.{rules, refl}
 use Rattle.nr_engine.proofs.Spending.{exit_spends}
 use Rattle.nr_engine.proofs.engine.Engine.exit.Goals as goal
 
-pub returns-clause-spends : goal.returns-clause-spends
-returns-clause-spends c =
+pub returns : goal.returns
+returns c =
     let falls = c.ex.ensures.falls c.requires.idle c.requires.task in
     record {
-      limit = falls.limit;
-      most = falls.most;
-      spends = rw c.empty.ensures.place (exit_spends _ c.args.self.now.place c.args.self.now.formatter c.ex.new.self falls);
+      exits = record {
+        comes = search rules;
+        unfailed = rw c.empty.ensures.place refl;
+        spends = record {
+          limit = falls.limit;
+          most = falls.most;
+          spends = rw c.empty.ensures.place (exit_spends _ c.args.self.now.place c.args.self.now.formatter c.ex.new.self falls);
+        };
+      };
     }

@@ -9,8 +9,8 @@ use Rattle.nr_engine.specs.Machine.{placed, row_at}
 use Rattle.nr_engine.proofs.Working.{page_charge-push}
 use Rattle.nr_engine.proofs.engine.Engine.place_row.Goals as goal
 
-pub returns-in-Ok-clause-worked : goal.returns-in-Ok-clause-worked
-returns-in-Ok-clause-worked c = λ cells is.
+pub returns-in-Ok-clause-places : goal.returns-in-Ok-clause-places
+returns-in-Ok-clause-places c = λ cells is.
     let f = c.args.self.now.formatter in
     let limit = c.args.self.now.page.limit in
     let cells_is : c.in-Some.cells.now ≡ trimmed cells = c.in-Some.ensures cells is in

@@ -25,11 +25,11 @@ pub returns-clause-makes : goal.returns-clause-makes
 returns-clause-makes g c =
     let next : Shape = shape c.if-is_in_line.self in
     let behind : Shape = shape c.put_row-cells.new.self in
-    let last : Shape = shape c.read_run.new.self in
+    let last : Shape = shape c.read_lines.new.self in
     let s0 = g.R.Source.supply c.args.input.now in
     let s1 = g.R.Source.supply c.if-is_in_line.input in
-    let s2 = g.R.Source.supply c.read_run.new.input in
+    let s2 = g.R.Source.supply c.read_lines.new.input in
     let none : c.put_row-cells.result ≡ 0 = omega (arith, c.if-cells-gt0.false) in
     let no_cells : Makes 0 next behind s1 s1 = subst (λ (n : ℕ). Makes n next behind s1 s1) none (c.put_row-cells.ensures.makes s1) in
-    makes_later c.read_run.result (shape c.args.self.now) next last s0 s1 s2 (no_text g (goal.at.returns-clause-makes g c).Joined-is_in_line)
-    (makes_later c.read_run.result next behind last s1 s1 s2 no_cells c.read_run.ensures.makes)
+    makes_later c.read_lines.result (shape c.args.self.now) next last s0 s1 s2 (no_text g (goal.at.returns-clause-makes g c).Joined-is_in_line)
+    (makes_later c.read_lines.result next behind last s1 s1 s2 no_cells c.read_lines.ensures.makes)

@@ -29,33 +29,6 @@ told-burst : (t : Told Resume) (f : Formatter) → f.reader.burst ≤ f.reader.m
 told-burst (tells.Event e) f h = h
 told-burst (tells.Resume k) f h = h
 
-pub returns-in-Ok-clause-moved : goal.returns-in-Ok-clause-moved
-returns-in-Ok-clause-moved g c = λ held s h.
-    let before : Shape = shape c.args.self.now in
-    let now : State = at before s in
-    let after : Shape = shape c.tell.new.self in
-    let m = c.in-Ok.ensures.moved s.coming h.coming in
-    let is = step-read now h.chosen_is c.requires.springs c.requires.idle c.requires.task in
-    let kinds = kind-read now h.chosen_is c.requires.springs c.requires.idle c.requires.task in
-    let formatter_is : after.formatter ≡ (read now).formatter = ap (λ e. e.formatter) c.tell.ensures.is ∙ rw (m.0, m.1.stored, m.1.reader) refl in
-    let short = told-burst (move (situation_of now)).told (record before.formatter { store = (move (situation_of now)).situation.stored; reader = (move (situation_of now)).situation.reader })
-    (move-short (situation_of now) m.2 h.within.formatter.burst) in
-    let fits : formatter.FitsMemory (read now).formatter = subst (λ f. formatter.FitsMemory f) formatter_is c.fit_memory.ensures in
-    let within : IsWithin (read now) = record {
-      formatter = record { stored = fits.stored; depth = fits.depth; line = fits.line; burst = short };
-      page = h.within.page;
-    }
-    in
-    let holds : Holds [] _ (read now) after = holds_of _ (read now) after formatter_is h.chosen_is
-    (rw (ap (λ e. e.place) c.tell.ensures.is) m.1.coming) (rw (ap (λ e. e.row) c.tell.ensures.is) h.row) (rw (ap (λ e. e.page) c.tell.ensures.is) h.page)
-    (ap (λ e. e.page.limit) c.tell.ensures.is ∙ h.page_limit) (ap (λ e. e.select) c.tell.ensures.is ∙ h.select) within
-    in
-    record {
-      goes = subst (λ k. GoesBy k now) (sym kinds) m.2;
-      holds = rw is holds;
-      wrote = rw is (wrote_nothing now (read now) held refl);
-    }
-
 -- a move that reads is paid
 told_read : (e f : Shape) (t : Told Resume) (v : Stored Resume) (r : Reader) → e.formatter.event ≡ events.Nothing → e.formatter.task ≡ tasks.Read
     → Pays e.formatter.store e.place e.formatter.reader t v f.place r → diversions_in v.building ≤ diversions_in e.formatter.store.building
@@ -72,9 +45,36 @@ told_read e f (tells.Resume k) v r idle task pays fewer is falls = record {
   spends = resumed_spends e.place f.place e.formatter f.formatter v r k idle task pays fewer (falls k refl);
 }
 
-pub returns-in-Ok-clause-spends : goal.returns-in-Ok-clause-spends
-returns-in-Ok-clause-spends g c =
-    let after : Shape = shape c.tell.new.self in
-    told_read (shape c.args.self.now) after (told_as c.advance.new.mode c.in-Ok.heard) c.advance.new.store c.advance.new.reader c.requires.idle c.requires.task
-    (rw (ap (λ e. e.place) c.tell.ensures.is) c.in-Ok.ensures.pays) c.in-Ok.ensures.diversions (ap (λ e. e.formatter) c.tell.ensures.is)
-    (λ k is. c.tell.ensures.falls k is c.requires.idle c.requires.task)
+pub returns-in-Ok-clause-moves : goal.returns-in-Ok-clause-moves
+returns-in-Ok-clause-moves g c = λ held. record {
+  advances = λ s h.
+      let before : Shape = shape c.args.self.now in
+      let now : State = at before s in
+      let after : Shape = shape c.tell.new.self in
+      let m = c.in-Ok.ensures.moved s.coming h.coming in
+      let is = step-read now h.chosen_is c.requires.springs c.requires.event c.requires.task in
+      let kinds = kind-read now h.chosen_is c.requires.springs c.requires.event c.requires.task in
+      let formatter_is : after.formatter ≡ (read now).formatter = ap (λ e. e.formatter) c.tell.ensures.is ∙ rw (m.0, m.1.stored, m.1.reader) refl in
+      let short = told-burst (move (situation_of now)).told (record before.formatter { store = (move (situation_of now)).situation.stored; reader = (move (situation_of now)).situation.reader })
+      (move-short (situation_of now) m.2 h.within.formatter.burst) in
+      let fits : formatter.FitsMemory (read now).formatter = subst (λ f. formatter.FitsMemory f) formatter_is c.fit_memory.ensures in
+      let within : IsWithin (read now) = record {
+        formatter = record { stored = fits.stored; depth = fits.depth; line = fits.line; burst = short };
+        page = h.within.page;
+      }
+      in
+      let holds : Holds [] _ (read now) after = holds_of _ (read now) after formatter_is h.chosen_is
+      (rw (ap (λ e. e.place) c.tell.ensures.is) m.1.coming) (rw (ap (λ e. e.row) c.tell.ensures.is) h.row) (rw (ap (λ e. e.page) c.tell.ensures.is) h.page)
+      (ap (λ e. e.page.limit) c.tell.ensures.is ∙ h.page_limit) (ap (λ e. e.select) c.tell.ensures.is ∙ h.select) within
+      in
+      record {
+        goes = subst (λ k. GoesBy k now) (sym kinds) m.2;
+        holds = rw is holds;
+        wrote = rw is (wrote_nothing now (read now) held refl);
+      };
+  spends =
+      let after : Shape = shape c.tell.new.self in
+      told_read (shape c.args.self.now) after (told_as c.advance.new.mode c.in-Ok.heard) c.advance.new.store c.advance.new.reader c.requires.event c.requires.task
+      (rw (ap (λ e. e.place) c.tell.ensures.is) c.in-Ok.ensures.pays) c.in-Ok.ensures.diversions (ap (λ e. e.formatter) c.tell.ensures.is)
+      (λ k is. c.tell.ensures.falls k is c.requires.event c.requires.task);
+}

@@ -1,4 +1,4 @@
-use Rattle.std.proofs.Common.{◌≡◌, ◌+◌, [], ◌∷◌, ◌++◌, replicate, refl, ap, sym, ◌∙◌, arith}
+use Rattle.std.proofs.Common.{◌≡◌, ◌+◌, [], ◌∷◌, ◌++◌, replicate, Ok, refl, ap, sym, ◌∙◌, arith}
 use Rattle.nr_units.specs.Cells.{blank}
 use Rattle.nr_fill.specs.Rows.{IsRow}
 use Rattle.nr_formatter.specs.Access.{done}
@@ -6,19 +6,19 @@ use Rattle.nr_formatter.specs.Weights.{Falls}
 use Rattle.nr_formatter.specs.declared.paper.Outlet.TheVariants as outlets
 use Rattle.nr_engine.specs.Machine.{cell_to, offset, indent, margin_in, with_cell}
 use Rattle.nr_engine.specs.Measures.{IsWithin}
-use Rattle.nr_engine.specs.Holding.{shape, at}
+use Rattle.nr_engine.specs.Holding.{shape, at, ComesQuietly}
 use Rattle.nr_engine.proofs.Going.{with_cell-is}
 use Rattle.nr_engine.proofs.Lightening.{falls-cell}
-use Rattle.nr_engine.proofs.Standing.{wrote_nothing}
 use Rattle.nr_engine.proofs.Working.{holds_of}
 use Rattle.nr_engine.proofs.engine.Engine.read_cell.Goals as goal
 
-pub returns-clause-worked : goal.returns-clause-worked
-returns-clause-worked c = λ held supply s h.
+pub returns : goal.returns
+returns c =
     let e = shape c.args.self.now in
     let rest = c.push.ensures.rest in
-    let t = cell_to outlets.Room c.args.cell (at e s) in
     let e' = record e { formatter = done c.push.new.self.formatter; place = c.push.new.self.place; row = c.push.new.self.row; page = c.push.new.self.page; select = c.push.new.self.select.now } in
+    let comes : ComesQuietly (cell_to outlets.Room c.args.cell) e e' (Ok tt) = λ supply s h.
+    let t = cell_to outlets.Room c.args.cell (at e s) in
     let margin : c.margin-blanks.result ≡ margin_in (offset e.formatter + indent e.formatter) s.row =
     c.margin-blanks.ensures s.row h.row ∙ ap (λ n. margin_in n s.row) (let n : c.offset.result + c.cells-indent.result ≡ offset e.formatter + indent e.formatter = omega (arith, c.offset.ensures.value, c.cells-indent.ensures.value) in n)
     in
@@ -31,11 +31,13 @@ returns-clause-worked c = λ held supply s h.
     in (
       holds_of supply t e' (ap (λ x. done x.formatter) rest) h.chosen_is (rw (ap (λ x. x.place) rest) h.coming) row (rw (ap (λ x. x.page) rest) h.page)
           (ap (λ x. x.page.limit) rest ∙ h.page_limit) (ap (λ x. x.select) rest ∙ h.select) within,
-      wrote_nothing (at e s) t held refl,
+      refl,
     )
-
-pub returns-clause-lightens : goal.returns-clause-lightens
-returns-clause-lightens c =
-    let rest = c.push.ensures.rest in
+    in
     let falls : Falls 1 0 c.args.self.now.formatter (done c.args.self.now.formatter) = falls-cell c.args.cell c.args.self.now.formatter c.requires in
-    (rw (ap (λ x. x.formatter) rest) falls, ap (λ x. x.place) rest)
+    record {
+      works = record {
+        comes = comes;
+        lightens = (rw (ap (λ x. x.formatter) rest) falls, ap (λ x. x.place) rest);
+      };
+    }

@@ -40,16 +40,16 @@ loop-self-preserved g c =
     let unfailed = c.put_at_hand-many.ensures.unfailed now.unfailed in
     let bound = spent_run first (shape c.loop-self.self) (shape c.put_at_hand-many.new.self) _ _ c.loop-self.moves c.put_at_hand-many.result now.limit now.most now.bound run in
     record {
-      limit = made.spends.limit ∙ limit;
-      most = made.spends.most ∙ most;
-      bound = spent first (shape c.put_at_hand-many.new.self) (shape c.advance.new.self) (c.loop-self.moves + c.put_at_hand-many.result) limit most bound made.spends;
-      unfailed = made.unfailed unfailed;
-      reads = made.read_failures unfailed ∙ c.put_at_hand-many.ensures.failures ∙ now.reads;
+      limit = made.moves.spends.limit ∙ limit;
+      most = made.moves.spends.most ∙ most;
+      bound = spent first (shape c.put_at_hand-many.new.self) (shape c.advance.new.self) (c.loop-self.moves + c.put_at_hand-many.result) limit most bound made.moves.spends;
+      unfailed = made.tells.unfailed unfailed;
+      reads = made.tells.counts unfailed ∙ c.put_at_hand-many.ensures.failures ∙ now.reads;
       writes = made.write_failures ∙ now.writes;
       made = λ s h.
           let t = now.made s h in
           let glided = made_run s t.0 c.put_at_hand-many.result (shape c.loop-self.self) (shape c.put_at_hand-many.new.self) _ _ _ _ t.2 run in
-          (t.0 + c.put_at_hand-many.result + 1, omega (arith, t.1), made_more s (t.0 + c.put_at_hand-many.result) (shape c.put_at_hand-many.new.self) (shape c.advance.new.self) _ _ _ _ _ glided made.moved);
+          (t.0 + c.put_at_hand-many.result + 1, omega (arith, t.1), made_more s (t.0 + c.put_at_hand-many.result) (shape c.put_at_hand-many.new.self) (shape c.advance.new.self) _ _ _ _ _ glided made.moves.advances);
     }
 
 pub returns-in-Err-clause-travels : goal.returns-in-Err-clause-travels
@@ -64,6 +64,6 @@ returns-in-Err-clause-travels g c = λ s h.
       count = t.0 + c.put_at_hand-many.result;
       counted = omega (arith, t.1);
       halts = halted s (t.0 + c.put_at_hand-many.result) (shape c.put_at_hand-many.new.self) (shape c.advance.new.self) (g.R.Source.supply c.put_at_hand-many.new.input) (g.R.Source.supply c.advance.new.input)
-          c.in-Err.outcome _ _ _ glided c.in-Err.ensures.moved;
+          c.in-Err.outcome _ _ _ glided c.in-Err.ensures.moves.advances;
       bound = bound_there (worth first) (c.loop-self.moves + c.put_at_hand-many.result) (weight (shape c.put_at_hand-many.new.self)) _ _ glided.holds.stands.coming.taken bound;
     }

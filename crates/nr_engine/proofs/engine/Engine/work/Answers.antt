@@ -1,13 +1,14 @@
-use Rattle.nr_engine.specs.Holding.{shape}
-use Rattle.nr_engine.proofs.Moving.{plain_works}
+use Rattle.std.proofs.Common.{Ok}
+use Rattle.nr_engine.specs.Machine.{begin_page}
+use Rattle.nr_engine.specs.Holding.{shape, WorksQuietly}
+use Rattle.nr_engine.proofs.Moving.{acts_of}
+use Rattle.nr_engine.proofs.Working.{works_loudly}
 use Rattle.nr_engine.proofs.engine.Engine.work.Goals as goal
 
-pub returns-in-Begin-clause-worked : goal.returns-in-Begin-clause-worked
-returns-in-Begin-clause-worked g c = rw c.in-Begin.is (c.begin_page.ensures.worked (g.W.Sink.held c.args.output.now))
-
-pub returns-in-Act-clause-worked : goal.returns-in-Act-clause-worked
-returns-in-Act-clause-worked g c = rw c.in-Act.is (c.act.ensures.worked (g.W.Sink.held c.args.output.now))
-
-pub returns-in_default-clause-worked : goal.returns-in_default-clause-worked
-returns-in_default-clause-worked g c =
-    plain_works c.args.task (shape c.args.self.now) (shape c.work_plainly.new.self) _ c.work_plainly.result c.work_plainly.ensures.plain c.in_default.not-Act c.work_plainly.ensures.worked
+pub returns-in-Begin-clause-acts : goal.returns-in-Begin-clause-acts
+returns-in-Begin-clause-acts g c =
+    let e = shape c.args.self.now in
+    let f = shape c.begin_page.new.self in
+    let under_way = c.requires.under_way in
+    let begins : WorksQuietly begin_page e f (Ok tt) = record { comes = c.begin_page.ensures.comes; lightens = c.begin_page.ensures.begun _ (rw c.in-Begin.is at under_way) } in
+    rw c.in-Begin.is (acts_of begin_page e f _ _ (Ok tt) (works_loudly begin_page e f _ begins))

@@ -19,6 +19,7 @@ invariant_of-self c =
       cell_room = grows.capacity ∙ kept.cell_room;
       text_room = grows.numbers ∙ kept.text_room;
       row_room = omega (arith, grows.room, kept.row_room);
+      halved = omega (arith, grows.texts, kept.halved);
       kept = c.put.ensures.kept;
       above = c.put.ensures.above c.max-self-inside.result here (AreAbove-weaker inside.row_count c.max-self-inside.result inside.rows.items lower kept.above);
       filled = omega (arith, grows.filled, kept.filled);

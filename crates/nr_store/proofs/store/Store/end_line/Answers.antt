@@ -39,7 +39,7 @@ invariant_of-self-2 g c =
     let first : s.drafts.items ≡ c.in-Some.draft ∷ drop 1 s.drafts.items = cons_of _ _ (sym c.top.ensures ∙ c.in-Some.is) in
     let below = c.self.invariant.within in
     let dv = option_map (taken c.args.cells c.args.height) c.in-Some.draft.diversion in
-    rw (c.in-Ok.ensures.ok, c.set_top.ensures, c.with_line.ensures)
+    rw (c.in-Ok.ensures.ok, c.of.ensures, c.set_top.ensures, c.with_line.ensures)
     (grown_stands s.pool s.names s.drafts s.levels (beside_of s.gathering s.registers s.traps s.words) s.charge s.stored c.in-Some.draft (drop 1 s.drafts.items) (LineEnd c.args.height ∷ []) c.self.invariant first dv (omega arith))
 
 pub returns-clause-answer : goal.returns-clause-answer
@@ -60,7 +60,7 @@ returns-clause-ok g c =
     let beside = beside_of s.gathering s.registers s.traps s.words in
     let first : s.drafts.items ≡ c.in-Some.draft ∷ drop 1 s.drafts.items = cons_of _ _ (sym c.top.ensures ∙ c.in-Some.is) in
     let dv = option_map (taken c.args.cells c.args.height) c.in-Some.draft.diversion in
-    rw (c.in-Ok.ensures.ok, c.set_top.ensures, c.with_line.ensures)
+    rw (c.in-Ok.ensures.ok, c.of.ensures, c.set_top.ensures, c.with_line.ensures)
     (grown_is s.pool s.names s.drafts s.levels beside s.charge s.stored c.in-Some.draft (drop 1 s.drafts.items) (LineEnd c.args.height ∷ []) c.self.invariant first dv
     ∙ sym (diverted_end_is s.pool s.names s.drafts s.levels beside s.charge s.stored c.in-Some.draft (drop 1 s.drafts.items) c.self.invariant first c.args.cells c.args.height)
     ∙ ap (diverted_end c.args.cells c.args.height) c.self.view_is)

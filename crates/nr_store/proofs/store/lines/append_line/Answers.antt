@@ -30,5 +30,5 @@ returns c =
     let long = length-append blanks cells in
     let long_blanks = length-replicate c.args.indent blank_cell in
     let long_cells = length-map c.args.cells.now elements.Cell in
-    one_more c.args.pool.now c.args.id c.requires.is_open _ _ (blanks ++ cells) end _ both (omega arith) c.append.ensures.full c.append.ensures.ok
+    one_more c.args.pool.now c.args.id c.requires.is_open _ _ (blanks ++ cells) end _ both (omega arith) c.append.ensures.full (rw c.of.ensures at c.append.ensures.ok)
     ∙ ap (with_more c.args.pool.now c.args.id c.requires.is_open) (append_assoc blanks cells (end ∷ []))

@@ -1,7 +1,7 @@
 use Rattle.std.proofs.Common.{arith}
 use Rattle.nr_store.specs.Windows.{rest_of}
 use Rattle.nr_input.proofs.PuttingLevel.{own_front}
-use Rattle.nr_input.proofs.arguments.copy_level.Goals as goal
+use Rattle.nr_input.proofs.adding.copy_level.Goals as goal
 
 pub returns-clause-bytes : goal.returns-clause-bytes
 returns-clause-bytes g c =

@@ -1,40 +1,49 @@
-//! Bytes of a macro's argument, taken and added many at once.
-ghost use Rattle.std.specs.Prelude.{◌≡◌, ◌≤◌, ◌<◌, ℕ, All, Option, length, map, take, slice_get, slice_index, true, false};
+//! Bytes that stand for themselves in copy mode, taken and added many at once.
+ghost use Rattle.std.specs.Prelude.{◌≡◌, ◌≤◌, ◌<◌, ◌∷◌, [], ℕ, All, Option, length, map, take, slice_get, slice_index, Some, true, false};
 ghost use Rattle.nr_units.specs.Supply.{Supply};
-ghost use Rattle.nr_store.specs.Stored.{charge_of, gathering, gathering_all};
+ghost use Rattle.nr_store.specs.Stored.{charge_of};
 ghost use Rattle.nr_store.specs.Windows.{rest_of};
 ghost use Rattle.nr_store.specs.declared.element.Element.TheVariants as variants;
-ghost use Rattle.nr_reading.specs.InArgument.{is_in_argument, ending_of, IsPlain};
+ghost use Rattle.nr_reading.specs.InArgument.{ending_of, IsPlain};
+ghost use Rattle.nr_input.specs.declared.target.Target.TheVariants.{Argument};
+ghost use Rattle.nr_input.specs.AtHand.{is_unseen};
 ghost use Rattle.nr_input.specs.Coming.{Coming, Reached, HoldsComing, has_failed};
 ghost use Rattle.nr_input.specs.Moving.{situation};
-ghost use Rattle.nr_input.specs.Runs.{HasRead, PaysAll};
+ghost use Rattle.nr_input.specs.Runs.{HasRead, PaysAll, IsLongest};
+ghost use Rattle.nr_input.specs.Targets.{is_read_for, with_more};
 
 use super::at_hand::window;
 use super::place::Place;
 use super::reader::Reader;
-use super::runs::{LONGEST, read_level, read_source};
+use super::runs::{read_level, read_source};
+use super::target::Target;
 use nr_reading::{Event, Half, Run};
 use nr_store::{Element, Store};
 use nr_units::source::Source;
 
+/// The most bytes that are added in one run: each is two moves.
+const LONGEST: usize = 32_768;
+
 /// The most bytes of a level in one run.
 const CHUNK: usize = 256;
 
-// Adds a front of these bytes, each of which stands for itself, to the argument that is read, as far as they find room.
-// Answers how many.
+// Adds a front of these bytes, each of which stands for itself, as far as they find room. Answers how many.
 #[inline]
-fn put_front<K: Copy>(half: &Half, store: &mut Store<'_, K>, bytes: &[u8]) -> usize
+fn add_front<K: Copy>(target: Target, half: &Half, store: &mut Store<'_, K>, bytes: &[u8]) -> usize
     ensures front { result ≤ length bytes.now }
     ensures few { result ≤ 32768 }
     ensures plain { All (IsPlain (ending_of half.now.reading.mode)) (take result bytes.now) }
-    ensures added { store.new ≡ gathering_all (take result bytes.now) store.old }
+    ensures added { store.new ≡ with_more target (take result bytes.now) store.old }
     ensures afforded { charge_of store.new ≤ store.new.limit }
     ensures longest { result < 32768 → result < length bytes.now → IsPlain (ending_of half.now.reading.mode) (slice_index bytes.now result) →
-        store.new.limit < charge_of (gathering (slice_index bytes.now result) store.new) }
+        store.new.limit < charge_of (with_more target (slice_index bytes.now result ∷ []) store.new) }
 {
     let near = &bytes[..bytes.len().min(LONGEST)];
-    let count = half.plain_bytes(near);
-    store.add_argument_bytes(&near[..count])
+    let plain = &near[..half.plain_bytes(near)];
+    match target {
+        Target::Argument => store.add_argument_bytes(plain),
+        Target::Text => store.add_bytes(plain),
+    }
 }
 
 // The bytes in front of these elements are put into the chunk, as many as it holds. Answers how many.
@@ -74,15 +83,15 @@ fn copy_level<K: Copy>(store: &Store<'_, K>, chunk: &mut [u8]) -> usize
 
 /// As `read_level`, in the midst of a macro's argument: the bytes in front that stand for themselves are added to it.
 #[inline]
-pub(crate) fn read_level_argument<K: Copy>(reader: &mut Reader, store: &mut Store<'_, K>) -> Run
-    requires { is_in_argument reader.old.half ≡ true }
+pub(crate) fn add_from_level<K: Copy>(reader: &mut Reader, store: &mut Store<'_, K>) -> Run
+    requires { is_read_for Argument reader.old.half ≡ true }
     ensures read { (c : Coming) (p : Reached) (supply : Option Supply) → HoldsComing c p supply → HasRead result.moves (situation store.old c reader.old) result.event store.new reader.new p supply }
     ensures pays { (p : Reached) → PaysAll result.moves store.old p reader.old result.event store.new p reader.new }
     ensures few { result.moves ≤ 65536 }
 {
     let mut chunk = [0; CHUNK];
     let near = copy_level(store, &mut chunk);
-    let taken = put_front(&reader.half, store, &chunk[..near]);
+    let taken = add_front(Target::Argument, &reader.half, store, &chunk[..near]);
     if taken == 0 {
         return read_level(reader, store);
     }
@@ -94,23 +103,25 @@ pub(crate) fn read_level_argument<K: Copy>(reader: &mut Reader, store: &mut Stor
     }
 }
 
-/// As `read_source`, in the midst of a macro's argument: the bytes in front that stand for themselves are added to it.
+/// As `read_source`, where items are read for this target: the bytes in front that stand for themselves are added to it.
 #[inline]
-pub(crate) fn read_argument<K: Copy, R: Source>(
+pub(crate) fn add_from_source<K: Copy, R: Source>(
+    target: Target,
     place: &mut Place,
     reader: &mut Reader,
     store: &mut Store<'_, K>,
     source: &mut R,
 ) -> Run
-    requires { is_in_argument reader.old.half ≡ true }
+    requires { is_read_for target reader.old.half ≡ true }
     ensures read { (c : Coming) → HoldsComing c place.old (R.supply source.old) → HasRead result.moves (situation store.old c reader.old) result.event store.new reader.new place.new (R.supply source.new) }
     ensures pays { PaysAll result.moves store.old place.old reader.old result.event store.new place.new reader.new }
     ensures few { result.moves ≤ 65536 }
+    ensures longest { store.old.levels ≡ [] → is_unseen place.old.ahead ≡ true → IsLongest (R.at_hand source.old) result.moves place.old reader.old result.event store.new place.new reader.new }
     ensures failures { R.failures source.new ≡ R.failures source.old }
     ensures unfailed { has_failed place.old.ahead ≡ false → has_failed place.new.ahead ≡ false }
 {
     let bytes = window(place, store, source);
-    let taken = put_front(&reader.half, store, bytes);
+    let taken = add_front(target, &reader.half, store, bytes);
     if taken == 0 {
         return read_source(place, reader, store, source);
     }

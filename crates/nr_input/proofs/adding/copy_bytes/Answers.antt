@@ -3,7 +3,7 @@ use Rattle.std.proofs.lemmas.List.{map-append, take_more, take_more_set}
 use Rattle.std.proofs.lemmas.Option.{slice_get-get_or}
 use Rattle.nr_store.specs.declared.element.Element.{Element}
 use Rattle.nr_store.specs.declared.element.Element.TheVariants as elements
-use Rattle.nr_input.proofs.arguments.copy_bytes.Goals as goal
+use Rattle.nr_input.proofs.adding.copy_bytes.Goals as goal
 
 pub loop-place-init : goal.loop-place-init
 loop-place-init c = refl
@@ -17,8 +17,8 @@ returns-in_default c =
       front = omega (arith, most, c.loop-place-test.true);
       bytes = c.loop-place.invariant;
       longest = λ fewer less byte is.
-          let both : Some (get_or c.args.elements.now i (elements.Byte 0)) ≡ Some (elements.Byte byte) = sym (slice_get-get_or c.args.elements.now i (elements.Byte 0) less) ∙ is in
-          let same : get_or c.args.elements.now i (elements.Byte 0) ≡ elements.Byte byte = cc in
+          let both : Some (get_or c.args.elements.now i c.result-1.given.0) ≡ Some (elements.Byte byte) = sym (slice_get-get_or c.args.elements.now i c.result-1.given.0 less) ∙ is in
+          let same : get_or c.args.elements.now i c.result-1.given.0 ≡ elements.Byte byte = cc in
           c.in_default.not-Byte byte same;
     }
 
@@ -33,7 +33,7 @@ loop-place-preserved c =
     ∙ map-append elements.Byte (take i c.loop-place.chunk) (b ∷ [])
     ∙ ap (λ ys. ys ++ elements.Byte b ∷ []) c.loop-place.invariant
     ∙ ap (λ (x : Element). take i xs ++ x ∷ []) (sym c.in-Byte.is)
-    ∙ sym (take_more xs i (elements.Byte 0) (omega (arith, most, c.loop-place-test.true)))
+    ∙ sym (take_more xs i c.result-1.given.0 (omega (arith, most, c.loop-place-test.true)))
 
 pub returns-clause-bytes : goal.returns-clause-bytes
 returns-clause-bytes c =

@@ -1,0 +1,26 @@
+-- What bytes are added to that stand for themselves in copy mode.
+use Rattle.std.specs.Prelude.{ℕ, Bool, List, map}
+use Rattle.nr_store.specs.Stored.{Stored, added, gathering_all}
+use Rattle.nr_store.specs.declared.element.Element.TheVariants as elements
+use Rattle.nr_reading.specs.declared.half.Half.{Half}
+use Rattle.nr_reading.specs.declared.mode.Due.{Due}
+use Rattle.nr_reading.specs.declared.mode.Due.TheVariants as dues
+use Rattle.nr_reading.specs.InArgument.{is_in_argument}
+use Rattle.nr_reading.specs.InDefinition.{is_in_definition}
+use Rattle.nr_input.specs.declared.target.Target.{Target}
+use Rattle.nr_input.specs.declared.target.Target.TheVariants.{Argument, Text}
+
+-- the next item is read for it, and in its midst
+abbrev pub is_read_for : Target → Half → Bool
+is_read_for Argument h = is_in_argument h
+is_read_for Text h = is_in_definition h
+
+-- what is due where a byte is to be added to it
+abbrev pub due_for : Target → ℕ → Due
+due_for Argument b = dues.Put b
+due_for Text b = dues.Add b
+
+-- with these bytes more in it
+abbrev pub with_more : {K : Type 0} → Target → List ℕ → Stored K → Stored K
+with_more Argument bs v = gathering_all bs v
+with_more Text bs v = added (map elements.Byte bs) v
