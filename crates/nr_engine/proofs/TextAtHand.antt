@@ -3,7 +3,7 @@ use Rattle.std.proofs.Common.{◌≡◌, ℕ, zero, suc, ◌+◌, ◌-◌, ◌*�
 use Rattle.std.specs.Prelude.{is_none, slice_index}
 use Rattle.std.specs.Option.{option_map}
 use Rattle.std.proofs.Math.Seq.{drop-nil}
-use Rattle.std.proofs.lemmas.List.{drop-take, get_or-drop, take_rest}
+use Rattle.std.proofs.lemmas.List.{drop-take, get_or-drop, get_or-take, take_rest}
 use Rattle.nr_units.specs.Supply.{Faults, Never, After, Anytime, Supply, MayGiveAll, later, skipped}
 use Rattle.nr_settings.specs.declared.indents.Margins.{Margins}
 use Rattle.nr_settings.specs.Fonts.{is_under}
@@ -256,6 +256,15 @@ module _ (bs : List ℕ) (f : Formatter) (line : is_in_line f ≡ true) (some : 
 -- the bytes behind the first t, as they are lent
 abbrev pub rest_of : ℕ → List ℕ → List ℕ
 rest_of t bs = take (length bs - t) (drop t bs)
+
+-- each of them stands among all bytes
+pub index_rest : (t n : ℕ) (bs : List ℕ) → n < length (rest_of t bs) → slice_index (rest_of t bs) n ≡ slice_index bs (t + n)
+index_rest t n bs below =
+    let left = length-drop t bs in
+    get_or-take (length bs - t) (drop t bs) n 0 (omega (arith, below, length-take-le (length bs - t) (drop t bs) (omega (arith, left)))) ∙ get_or-drop t bs n 0
+
+pub length_rest : (t : ℕ) (bs : List ℕ) → length (rest_of t bs) ≡ length bs - t
+length_rest t bs = length-take-le (length bs - t) (drop t bs) (omega (arith, length-drop t bs))
 
 -- behind the first t bytes comes a run
 pub turn_run : (t m n : ℕ) (bs : List ℕ) (f g h : Formatter) → PutsText bs t m f g → is_in_line g ≡ true → n ≤ length (rest_of t bs) → ArePlain (take n (rest_of t bs))

@@ -78,6 +78,7 @@ impl<'a> Engine<'a> {
     #[inline(always)]
     pub(crate) fn read_lines<R: Source>(&mut self, input: &mut R) -> u128
         ensures makes { Makes result (shape self.old) (shape self.new) (R.supply input.old) (R.supply input.new) }
+        ensures few { result < 2 ^ 67 }
         ensures failures { R.failures input.new ≡ R.failures input.old }
         ensures unfailed { has_failed self.old.place.ahead ≡ false → has_failed self.new.place.ahead ≡ false }
     {

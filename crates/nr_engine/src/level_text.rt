@@ -68,6 +68,7 @@ impl<'a> Engine<'a> {
         requires line { is_in_line self.old.formatter ≡ true }
         ensures makes { (supply : Option Supply) → Makes result (shape self.old) (shape self.new) supply supply }
         ensures place { self.new.place ≡ self.old.place }
+        ensures few { result ≤ 131 }
     {
         let plain = self.put_level_plain();
         let gap = self.put_level_gap();

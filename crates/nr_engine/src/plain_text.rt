@@ -11,16 +11,6 @@ use nr_formatter::formatter::Formatter;
 use nr_formatter::runs::Gap;
 use nr_units::source::Source;
 
-/// Whether a blank stands at this place.
-#[inline(always)]
-fn has_blank(bytes: &[u8], place: usize) -> bool
-    ensures within { result ≡ true → place < length bytes.now }
-    ensures blank { result ≡ true → slice_index bytes.now place ≡ 32 }
-    ensures other { result ≡ false → place < length bytes.now → slice_index bytes.now place ≢ 32 }
-{
-    place < bytes.len() && bytes[place] == b' '
-}
-
 /// How much of some bytes was put.
 #[derive(Clone, Copy)]
 struct Words {
@@ -39,14 +29,12 @@ fn put_words(formatter: &mut Formatter<'_>, bytes: &[u8]) -> Words
 {
     let mut taken = 0;
     let mut moves = 0;
+    let manner = formatter.manner();
     loop {
-        let count = formatter.put_run(&bytes[taken..]);
-        taken += count;
-        moves += 2 * count;
-        if !has_blank(bytes, taken) {
-            return Words { taken, moves };
-        }
-        match formatter.put_gap() {
+        let word = formatter.put_word(manner, &bytes[taken..]);
+        taken += word.count;
+        moves += 2 * word.count;
+        match word.gap {
             Gap::Left => return Words { taken, moves },
             Gap::Flows => {
                 return Words {
@@ -96,6 +84,7 @@ impl<'a> Engine<'a> {
     fn put_text<R: Source>(&mut self, input: &mut R) -> u128
         requires line { is_in_line self.old.formatter ≡ true }
         ensures makes { Makes result (shape self.old) (shape self.new) (R.supply input.old) (R.supply input.new) }
+        ensures few { result < 2 ^ 66 }
         ensures failures { R.failures input.new ≡ R.failures input.old }
         ensures unfailed { has_failed self.old.place.ahead ≡ false → has_failed self.new.place.ahead ≡ false }
     {
@@ -103,6 +92,21 @@ impl<'a> Engine<'a> {
             return self.put_level_text();
         }
         self.put_source_text(input)
+    }
+
+    /// Behind text of the source, what can be read there without anything being done, and empty lines behind it. Tells how
+    /// many moves that was.
+    #[inline(always)]
+    fn read_behind<R: Source>(&mut self, input: &mut R) -> u128
+        ensures makes { Makes result (shape self.old) (shape self.new) (R.supply input.old) (R.supply input.new) }
+        ensures few { result < 2 ^ 67 }
+        ensures failures { R.failures input.new ≡ R.failures input.old }
+        ensures unfailed { has_failed self.old.place.ahead ≡ false → has_failed self.new.place.ahead ≡ false }
+    {
+        if self.formatter.store.is_reading() {
+            return 0;
+        }
+        self.read_lines(input)
     }
 
     /// Reads and puts what is at hand, and tells how many moves that was: plain text, else cells of a diverted line, else what
@@ -119,7 +123,7 @@ impl<'a> Engine<'a> {
         if self.formatter.is_in_line() {
             let text = self.put_text(input);
             if text > 0 {
-                return text;
+                return text + self.read_behind(input);
             }
         }
         let cells = self.put_row();

@@ -277,6 +277,49 @@ is_line_ended {row} {pieces = pieces} {w = w} more all_wide h more_is wide_is wi
       no_title = h.no_title;
     }
 
+-- a word opens with these cells
+pub is_line_begun : {row : Laid} {limit pieces wide : ℕ} {gap : ℕ} {title : Option TitleState} (w : WordState) (cells : List Cell) → IsLine row limit pieces wide None gap title
+    → w ≡ record { join = Gap gap; pending = Nothing; blanks = 0; parted = 0; wide = 0 } → pieces + (cells_in row.pieces + length cells) + length row.title ≤ limit
+    → IsLine (record row { last = cells }) limit pieces wide (Some w) 0 title
+is_line_begun w cells h is within =
+    let opened = is_line_opened w h is in
+    let iw = the_word opened in
+    is_line_last cells w opened (record {
+      parted_is = iw.parted_is;
+      wide_is = iw.wide_is;
+      pieces_have_cells = iw.pieces_have_cells;
+      join_within = iw.join_within;
+      needed = rw is (omega arith);
+    }) within
+
+-- a word of one piece is read at once
+pub is_line_worded : {row : Laid} {limit pieces wide : ℕ} {gap : ℕ} {title : Option TitleState} (cells : List Cell) (n : ℕ) → IsLine row limit pieces wide None gap title
+    → length cells ≡ n → pieces + read_cells row + length row.title + n < limit
+    → IsLine (record row { pieces = row.pieces ++ record { join = Gap gap; cells = cells } ∷ []; last = [] }) limit (pieces + 1) (wide + (gap + n)) None 1 title
+is_line_worded {row} {limit} {pieces} {wide} {gap} {title} cells n h many within =
+    let p : Piece = record { join = Gap gap; cells = cells } in
+    let none = h.no_word refl in
+    let longer = length-append row.pieces (p ∷ []) in
+    let counted = sum_by_push (λ (q : Piece). length q.cells) row.pieces p in
+    let widths = sum_by_push piece_width row.pieces p in
+    let old = ap pieces_width (take_all pieces row.pieces (omega arith)) in
+    let first = h.wide_is in
+    let all = take_all (pieces + 1) (row.pieces ++ p ∷ []) (omega arith) in
+    let total : pieces_width (row.pieces ++ p ∷ []) ≡ wide + (gap + n) = omega arith in
+    record {
+      room = h.room;
+      is_small = h.is_small;
+      within = omega arith;
+      pieces_within = omega arith;
+      wide_is = ap pieces_width all ∙ total;
+      gaps_within = All-push (λ (q : Piece). join_width q.join ≤ 1365) row.pieces p h.gaps_within h.gap_within;
+      gap_within = omega arith;
+      word_is = λ v e. absurd (let f : ◌≡◌ {A = Option WordState} None (Some v) = e in cc);
+      no_word = λ same. (omega arith, refl);
+      title_is = h.title_is;
+      no_title = h.no_title;
+    }
+
 -- the first pieces are gone
 pub is_line_removed : {row : Laid} {limit pieces wide : ℕ} {word : Option WordState} {gap : ℕ} {title : Option TitleState} (n taken_wide : ℕ) → IsLine row limit pieces wide word gap title
     → n ≤ pieces → taken_wide ≡ pieces_width (take n row.pieces)
@@ -333,6 +376,17 @@ none_from_title_of None cells h = refl
 none_from_title_of (Some states.Left) cells h = (cc)
 none_from_title_of (Some (states.Centre left)) cells h = (cc)
 none_from_title_of (Some (states.Right left centre)) cells h = (cc)
+
+-- where no word and no title is collected there is no state of one
+pub none_from_word_of : (word : Option WordState) (ps : List Piece) (cells : List Cell) → word_of word ps cells ≡ None → word ≡ None
+none_from_word_of None ps cells h = refl
+none_from_word_of (Some w) ps cells h = (cc)
+
+pub no_title_of : (title : Option TitleState) (cells : List Cell) → title_of title cells ≡ None → title ≡ None
+no_title_of None cells h = refl
+no_title_of (Some states.Left) cells h = (cc)
+no_title_of (Some (states.Centre left)) cells h = (cc)
+no_title_of (Some (states.Right left centre)) cells h = (cc)
 
 -- without a title there are no cells of one
 pub no_title_cells : {row : Laid} {limit pieces wide : ℕ} {word : Option WordState} {gap : ℕ} {title : Option TitleState} → IsLine row limit pieces wide word gap title

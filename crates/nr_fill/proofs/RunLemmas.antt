@@ -1,12 +1,13 @@
 -- A run of bytes, read byte by byte and at once.
-use Rattle.std.proofs.Common.{◌≡◌, ℕ, suc, ◌-◌, ◌<◌, List, [], ◌∷◌, ◌++◌, length, map, get_or, None, Some, Bool, true, false, ◌&&◌, refl, ap, sym, ◌∙◌, append_assoc, arith}
+use Rattle.std.proofs.Common.{◌≡◌, ℕ, suc, ◌-◌, ◌<◌, List, [], ◌∷◌, ◌++◌, length, map, get_or, None, Some, Bool, true, false, ◌&&◌, if◌then◌else◌, refl, ap, sym, ◌∙◌, append_assoc, arith}
 use Rattle.nr_units.specs.declared.cell.Cell.{Cell}
 use Rattle.nr_settings.specs.declared.indents.Margins.{Margins}
 use Rattle.nr_fill.specs.declared.piece.Behind.TheVariants.{Letter}
 use Rattle.nr_fill.specs.declared.stops.Pending.{Pending}
 use Rattle.nr_fill.specs.declared.stops.Pending.TheVariants.{Nothing, AtPoint, ForStop}
-use Rattle.nr_fill.specs.Pieces.{Collected, Word, add_cell, add_cell_behind, append, ended, ended_at, ends_sentence, in_word, is_nil, pending_behind, pending_without_point, with_word, word_length, word_or_new}
-use Rattle.nr_fill.specs.Runs.{add_run, run_behind, run_cell}
+use Rattle.nr_fill.specs.Pieces.{Collected, Word, add_cell, add_cell_behind, append, begins_line, end_word, ended, ended_at, ends_sentence, in_word, is_nil, one_blank_more, pending_behind, pending_without_point, with_word, word_length, word_or_new}
+use Rattle.nr_fill.specs.Runs.{add_run, add_word, run_behind, run_cell}
+use Rattle.nr_fill.specs.declared.piece.Join.TheVariants.{Gap}
 
 -- whether a sentence ends behind a run, where one ended before it or not
 run_sentence : Bool → Bool → List ℕ → Bool
@@ -114,3 +115,29 @@ pub add_run-run : (m : Margins) (under : Bool) (bs : List ℕ) (c : Collected) �
     ≡ record (in_word (run_behind under bs) (in_word ended (with_word m c))) { sentence = ends_sentence (run_cell under (get_or bs (length bs - 1) 0)) }
 add_run-run m under [] c some = absurd (omega arith)
 add_run-run m under (b ∷ bs) c some = add_run-at_once m under b bs c
+
+-- a run that begins a word
+pub add_run-none : (m : Margins) (under : Bool) (bs : List ℕ) (c : Collected) → c.word ≡ None → 0 < length bs
+    → add_run m under bs c
+    ≡ record c {
+      word = Some (record { parts = []; last = record { join = Gap c.gap; cells = map (run_cell under) bs }; pending = Nothing; blanks = 0 });
+      gap = 0;
+      sentence = ends_sentence (run_cell under (get_or bs (length bs - 1) 0));
+      margins = if begins_line c then m else c.margins;
+      title = None;
+    }
+add_run-none m under bs c none some = add_run-run m under bs c some ∙ rw none refl
+
+-- a word at once, and the blank behind it
+pub add_word-none : (m : Margins) (under : Bool) (bs : List ℕ) (c : Collected) → c.word ≡ None → 0 < length bs
+    → add_word m under bs c
+    ≡ record c {
+      pieces = c.pieces ++ record { join = Gap c.gap; cells = map (run_cell under) bs } ∷ [];
+      word = None;
+      gap = 1;
+      barred = false;
+      sentence = ends_sentence (run_cell under (get_or bs (length bs - 1) 0));
+      margins = if begins_line c then m else c.margins;
+      title = None;
+    }
+add_word-none m under bs c none some = ap (λ (k : Collected). one_blank_more (end_word k)) (add_run-none m under bs c none some)

@@ -1,9 +1,9 @@
 -- Runs of bytes that stand for themselves.
-use Rattle.std.specs.Prelude.{ℕ, ◌<◌, ◌≢◌, Bool, List, [], ◌∷◌, map}
+use Rattle.std.specs.Prelude.{◌≡◌, ℕ, ◌<◌, ◌≢◌, Bool, true, List, [], ◌∷◌, length, map, slice_index, None}
 use Rattle.nr_units.specs.declared.cell.Cell.{Cell}
 use Rattle.nr_settings.specs.declared.indents.Margins.{Margins}
 use Rattle.nr_fill.specs.declared.piece.Behind.TheVariants.{Letter}
-use Rattle.nr_fill.specs.Pieces.{Collected, Word, add_cell, append, pending_without_point}
+use Rattle.nr_fill.specs.Pieces.{Collected, Word, add_cell, append, end_word, one_blank_more, pending_without_point}
 
 -- a byte that prints, but for the blank, `-` and `\`
 abbrev pub IsPlain : ℕ → Type 0
@@ -20,3 +20,15 @@ add_run margins under (b ∷ bs) c = add_run margins under bs (add_cell margins 
 -- the cells of a run behind those of a word: no break point waits behind them
 abbrev pub run_behind : Bool → List ℕ → Word → Word
 run_behind under bs w = record (append (map (run_cell under) bs) w) { pending = pending_without_point w.pending }
+
+-- the bytes as a word, and the blank behind it
+abbrev pub add_word : Margins → Bool → List ℕ → Collected → Collected
+add_word margins under bs c = one_blank_more (end_word (add_run margins under bs c))
+
+-- a word of so many of these bytes ends at a blank behind it, where blanks end words and it begins there
+pub record EndsWord (ends : Bool) (n : ℕ) (bs : List ℕ) (c : Collected) : Type 0 where
+  pub some : 0 < n
+  pub within : n < length bs
+  pub blank : slice_index bs n ≡ 32
+  pub ends_is : ends ≡ true
+  pub word : c.word ≡ None

@@ -1,10 +1,11 @@
 // Runs of bytes that stand for themselves, read in one call.
-ghost use Rattle.std.specs.Prelude.{◌≡◌, ◌+◌, ◌-◌, ◌<◌, ◌≤◌, ◌↔◌, IsTrue, length, map, take, slice_index, All, None, is_none, false};
+ghost use Rattle.std.specs.Prelude.{◌≡◌, ◌+◌, ◌-◌, ◌<◌, ◌≤◌, ◌↔◌, IsTrue, length, map, take, slice_index, All, None, is_none, true, false};
 ghost use Rattle.nr_fill.specs.Pieces.{ends_sentence, in_word, line_cells, text_cells};
-ghost use Rattle.nr_fill.specs.Runs.{IsPlain, add_run, run_behind, run_cell};
+ghost use Rattle.nr_fill.specs.Runs.{EndsWord, IsPlain, add_run, add_word, run_behind, run_cell};
 
-use crate::line::Line;
+use crate::line::{Line, WordState};
 use crate::margins::Margins;
+use crate::piece::Join;
 use crate::words::ends_sentence;
 use nr_units::cell::Cell;
 
@@ -39,7 +40,21 @@ pub(crate) fn set_plain(slots: &mut [Cell], under: bool, bytes: &[u8]) -> usize
     bytes.len()
 }
 
+/// How much of some bytes was read.
+#[derive(Clone, Copy, Debug, PartialEq, Eq)]
+pub struct WordRun {
+    /// How many of them are cells of a word.
+    pub count: usize,
+    /// The blank behind them was read, and ended the word.
+    pub ended: bool,
+}
+
 impl<'a> Line<'a> {
+    #[inline]
+    pub fn is_full(&self) -> bool {
+        self.text_measure() == self.limit
+    }
+
     /// Reads a front of these bytes as cells of a word, underlined or not, as many calls of `put` would: up to the first
     /// that is not plain or whose cell would pass the limit. Tells how many it read. It takes the time of one pass
     /// over those bytes.
@@ -58,6 +73,75 @@ impl<'a> Line<'a> {
         self.open_word(margins);
         self.end_piece();
         self.push_plain(under, bytes)
+    }
+
+    /// Reads a front of these bytes as `put_run` would, and behind it a blank as `end_word` and `widen_gap` would: where
+    /// `ends` says that a blank ends a word, no word and no title was being read, and the piece passes no limit.
+    pub fn put_word(&mut self, margins: Margins, under: bool, ends: bool, bytes: &[u8]) -> WordRun
+        ensures front { result.count ≤ length bytes.now }
+        ensures plain { All IsPlain (take result.count bytes.now) }
+        ensures run { result.ended ≡ false → self.new ≡ record self.old { collected = add_run margins under (take result.count bytes.now) self.old.collected } }
+        ensures word { result.ended ≡ true → self.new ≡ record self.old { collected = add_word margins under (take result.count bytes.now) self.old.collected } }
+        ensures ends { result.ended ≡ true → EndsWord ends result.count bytes.now self.old.collected }
+        ensures within { 0 < result.count → line_cells self.new.collected ≤ self.new.limit }
+        ensures stops { result.ended ≡ false → result.count < length bytes.now → IsPlain (slice_index bytes.now result.count) → text_cells self.new.collected ≡ self.new.limit }
+        ensures longest { result.ended ≡ false → self.old.collected.title ≡ None → EndsWord ends result.count bytes.now self.old.collected → text_cells self.new.collected ≡ self.new.limit }
+    {
+        if ends && self.word.is_none() && self.title.is_none() {
+            return self.put_new_word(margins, under, bytes);
+        }
+        let count = self.put_run(margins, under, bytes);
+        WordRun {
+            count,
+            ended: false,
+        }
+    }
+
+    /// The same where a blank ends a word, and no word and no title is being read.
+    fn put_new_word(&mut self, margins: Margins, under: bool, bytes: &[u8]) -> WordRun
+        requires word { self.old.collected.word ≡ None }
+        requires title { self.old.collected.title ≡ None }
+        ensures front { result.count ≤ length bytes.now }
+        ensures plain { All IsPlain (take result.count bytes.now) }
+        ensures run { result.ended ≡ false → self.new ≡ record self.old { collected = add_run margins under (take result.count bytes.now) self.old.collected } }
+        ensures word { result.ended ≡ true → self.new ≡ record self.old { collected = add_word margins under (take result.count bytes.now) self.old.collected } }
+        ensures ends { result.ended ≡ true → EndsWord true result.count bytes.now self.old.collected }
+        ensures within { 0 < result.count → line_cells self.new.collected ≤ self.new.limit }
+        ensures stops { result.ended ≡ false → result.count < length bytes.now → IsPlain (slice_index bytes.now result.count) → text_cells self.new.collected ≡ self.new.limit }
+        ensures longest { result.ended ≡ false → EndsWord true result.count bytes.now self.old.collected → text_cells self.new.collected ≡ self.new.limit }
+    {
+        let room = self.limit - self.text_measure();
+        let near = &bytes[..room.min(bytes.len())];
+        let count = self.row.push_plain(under, near);
+        if count == 0 {
+            return WordRun {
+                count,
+                ended: false,
+            };
+        }
+        self.sentence = ends_sentence(Cell {
+            byte: near[count - 1],
+            under,
+        });
+        self.margins = if self.pieces == 0 {
+            margins
+        } else {
+            self.margins
+        };
+        if count == near.len() || near[count] != b' ' {
+            self.word = Some(WordState::new(self.gap));
+            self.gap = 0;
+            return WordRun {
+                count,
+                ended: false,
+            };
+        }
+        self.row.close(Join::Gap(self.gap), count);
+        self.wide += usize::from(self.gap) + count;
+        self.pieces += 1;
+        self.gap = 1;
+        self.barred = false;
+        WordRun { count, ended: true }
     }
 
     /// More cells of the piece that is being read: those of the bytes before the first that is not plain, at least one.

@@ -497,6 +497,42 @@ fn a_run_of_bytes(rt: HostRuntime) -> Result<(), Fail> {
 }
 
 #[test]
+fn words_and_the_blanks_behind_them(rt: HostRuntime) -> Result<(), Fail> {
+    let mut cells = [Cell::blank(); 64];
+    let mut pieces = [PieceSlot::blank(); 64];
+    let mut line = Line::over(&mut cells, &mut pieces, 9);
+    let mut row = [Cell::blank(); 80];
+    let mut out = Out::over(&mut row);
+    let margins = Margins {
+        indent: 0,
+        length: 65,
+    };
+    let first = line.put_word(margins, false, true, b"Oh! it".as_slice());
+    assert!(rt; first.ended && first.count == 3);
+    assert!(rt; !line.has_word());
+    let kept = line.put_word(margins, false, false, b"it is".as_slice());
+    assert!(rt; !kept.ended && kept.count == 2);
+    let more = line.put_word(margins, false, true, b"s x".as_slice());
+    assert!(rt; !more.ended && more.count == 1);
+    line.end_word()?;
+    let last = line.put_word(margins, false, true, b"x y".as_slice());
+    assert!(rt; !last.ended && last.count == 1);
+    assert!(rt; line.end_word().is_err());
+    line.drop_blanks();
+    let setting = Setting {
+        align: Align::Left,
+        offset: 0,
+    };
+    assert_eq!(rt; line.take_all(setting, &mut out), 7);
+    let right = match out.row() {
+        None => false,
+        Some(cells) => is_text(cells, b"Oh! its".as_slice()),
+    };
+    assert!(rt; right);
+    Ok(())
+}
+
+#[test]
 fn a_row_longer_than_its_slice(rt: HostRuntime) -> Result<(), Fail> {
     let mut row = [Cell::blank(); 3];
     let mut out = Out::over(&mut row);

@@ -29,3 +29,4 @@ pub mod Views
 pub mod WordEnds
 pub mod WordsStored
 pub mod WorkFalls
+pub mod WordsAtOnce

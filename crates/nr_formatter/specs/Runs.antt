@@ -1,5 +1,5 @@
 -- Runs of bytes that stand for themselves, in a text line that has begun.
-use Rattle.std.specs.Prelude.{◌≡◌, ◌≤◌, ◌<◌, ℕ, Bool, true, false, not, ◌&&◌, nat_lt, List, length, map, take, get_or, All, is_none, None}
+use Rattle.std.specs.Prelude.{◌≡◌, ◌≤◌, ◌<◌, ℕ, Bool, true, false, not, ◌&&◌, nat_lt, List, length, map, take, get_or, slice_index, All, is_none, None}
 use Rattle.nr_fill.specs.Pieces.{Collected, begins_line, end_word, line_cells, one_blank_more, text_cells}
 use Rattle.nr_fill.specs.Runs.{IsPlain, add_run}
 use Rattle.nr_store.specs.Windows.{rest_of, run_left}
@@ -15,6 +15,8 @@ use Rattle.nr_formatter.specs.Lines.{fits_line, reads_a_field}
 use Rattle.nr_formatter.specs.declared.formatter.Formatter.{Formatter}
 use Rattle.nr_formatter.specs.Places.{outlet, is_on_page}
 use Rattle.nr_formatter.specs.declared.runs.Gap.{Gap}
+use Rattle.nr_formatter.specs.declared.runs.Manner.{Manner}
+use Rattle.nr_formatter.specs.declared.runs.WordPut.{WordPut}
 use Rattle.nr_formatter.specs.declared.runs.Gap.TheVariants as gaps
 use Rattle.nr_formatter.specs.declared.tasks.After.TheVariants as afters
 use Rattle.nr_formatter.specs.declared.tasks.Task.{Task}
@@ -93,6 +95,38 @@ abbrev pub AfterGap : Formatter → Gap → Formatter → Type 0
 AfterGap f gaps.Left g = g ≡ f
 AfterGap f gaps.Flows g = IsGap f × (g ≡ gap_flows f)
 AfterGap f gaps.Reads g = IsGap f × (fits_line (gapped (collected f)) ≡ true) × (g ≡ gap_put f)
+
+-- behind a word: full lines go out next, or the pieces fit the line
+abbrev pub BehindWord : Formatter → Gap → Formatter → Type 0
+BehindWord f gaps.Left g = ⊥
+BehindWord f gaps.Flows g = g ≡ record f { task = tasks.Flow afters.Text false }
+BehindWord f gaps.Reads g = (fits_line (collected f) ≡ true) × (g ≡ f)
+
+-- ---- words, and the blanks behind them
+
+-- how they are read: a blank ends a word where lines are filled, no break was asked for, and there is no hyphenation word
+abbrev pub manner_of : Formatter → Manner
+manner_of f = record {
+  margins = margins f;
+  under = is_under f.settings.fonts;
+  ends = is_filling f && (not f.breaks && not (nat_lt 0 (length f.store.words)));
+}
+
+-- a blank was read
+abbrev pub is_read : Gap → Bool
+is_read gaps.Left = false
+is_read gap = true
+
+-- A front of these bytes was put, and a blank behind it read: as many bytes as could be, and the blank where it could be.
+pub record PutsWord (bs : List ℕ) (f : Formatter) (word : WordPut) (g : Formatter) : Type 0 where
+  pub front : word.count ≤ length bs
+  pub plain : All IsPlain (take word.count bs)
+  pub within : 0 < word.count → line_cells (collected (run_put (take word.count bs) f)) ≤ f.line.limit
+  pub gap : AfterGap (run_put (take word.count bs) f) word.gap g
+  pub below : is_read word.gap ≡ true → word.count < length bs
+  pub blank : is_read word.gap ≡ true → slice_index bs word.count ≡ 32
+  pub stops : is_read word.gap ≡ false → word.count < length bs → IsPlain (slice_index bs word.count) → text_cells (collected g) ≡ g.line.limit
+  pub left : is_read word.gap ≡ false → word.count < length bs → slice_index bs word.count ≡ 32 → IsGap g → ⊥
 
 -- ---- a diverted line that is read again
 

@@ -5,10 +5,11 @@ ghost use Rattle.nr_fill.specs.Runs.{IsPlain};
 ghost use Rattle.nr_store.specs.declared.element.Element.TheVariants as elements;
 ghost use Rattle.nr_formatter.specs.Access.{collected};
 ghost use Rattle.nr_formatter.specs.declared.runs.Gap.TheVariants as gaps;
-ghost use Rattle.nr_formatter.specs.Runs.{reads_next, is_in_line, run_put, gaps_plainly, IsGap, AfterGap, IsPlainByte, PutsLevel, is_rereading_line};
+ghost use Rattle.nr_formatter.specs.Runs.{reads_next, is_in_line, run_put, gaps_plainly, IsGap, BehindWord, AfterGap, IsPlainByte, PutsLevel, PutsWord, is_rereading_line, manner_of};
 
 use crate::formatter::Formatter;
 use crate::tasks::{After, Task};
+use nr_fill::margins::Margins;
 use nr_input::Event;
 use nr_store::Element;
 
@@ -24,6 +25,26 @@ pub enum Gap {
     Flows,
     /// It was read, and more is read next.
     Reads,
+}
+
+/// How words and the blanks behind them are read.
+#[derive(Clone, Copy, Debug, PartialEq, Eq)]
+pub struct Manner {
+    /// Those of a line that begins now.
+    pub margins: Margins,
+    /// Cells are underlined.
+    pub under: bool,
+    /// A blank does nothing but end a word and widen the gap, unless text for a stop is being read.
+    pub ends: bool,
+}
+
+/// What was read of some bytes.
+#[derive(Clone, Copy, Debug, PartialEq, Eq)]
+pub struct WordPut {
+    /// How many of them are cells of a word.
+    pub count: usize,
+    /// What became of a blank behind them.
+    pub gap: Gap,
 }
 
 /// Copies the bytes that this text begins with, up to an element that is no byte, a blank or a control byte. Tells how many
@@ -71,22 +92,6 @@ impl<'a> Formatter<'a> {
             && self.reads_next()
             && self.reader.half.is_in_text()
             && !self.line.is_empty()
-    }
-
-    /// Adds a front of these bytes to the line, up to the first that is not plain or whose cell would pass the limit. Tells
-    /// how many it added.
-    #[inline]
-    pub fn put_run(&mut self, bytes: &[u8]) -> usize
-        requires begun { begins_line (collected self.old) ≡ false }
-        ensures front { result ≤ length bytes.now }
-        ensures plain { All IsPlain (take result bytes.now) }
-        ensures is { self.new ≡ run_put (take result bytes.now) self.old }
-        ensures within { 0 < result → line_cells (collected self.new) ≤ self.new.line.limit }
-        ensures stops { result < length bytes.now → IsPlain (slice_index bytes.now result) → text_cells (collected self.new) ≡ self.new.line.limit }
-    {
-        let margins = self.settings.indents.margins();
-        let under = self.settings.fonts.is_under();
-        self.line.put_run(margins, under, bytes)
     }
 
     /// Adds a front of what comes next of the newest level to the line, and takes it: up to the first that is no plain byte
@@ -142,6 +147,51 @@ impl<'a> Formatter<'a> {
             return Gap::Left;
         }
         self.line.widen_gap();
+        self.flow_behind()
+    }
+
+    /// How words and the blanks behind them are read.
+    #[inline]
+    pub fn manner(&self) -> Manner
+        ensures { result ≡ manner_of self.now }
+    {
+        Manner {
+            margins: self.settings.indents.margins(),
+            under: self.settings.fonts.is_under(),
+            ends: self.settings.filling.is_filling() && (!self.breaks && !self.store.has_words()),
+        }
+    }
+
+    /// Adds a front of these bytes to the line, up to the first that is not plain or whose cell would pass the limit, and
+    /// reads the blank behind it as `put_gap` does.
+    #[inline]
+    pub fn put_word(&mut self, manner: Manner, bytes: &[u8]) -> WordPut
+        requires { manner ≡ manner_of self.old }
+        ensures { PutsWord bytes.now self.old result self.new }
+    {
+        let run = self
+            .line
+            .put_word(manner.margins, manner.under, manner.ends, bytes);
+        let count = run.count;
+        if run.ended {
+            return WordPut {
+                count,
+                gap: self.flow_behind(),
+            };
+        }
+        let gap = if count < bytes.len() && bytes[count] == b' ' {
+            self.put_gap()
+        } else {
+            Gap::Left
+        };
+        WordPut { count, gap }
+    }
+
+    /// Behind a word: full lines go out next where the pieces do not fit the line.
+    #[inline]
+    fn flow_behind(&mut self) -> Gap
+        ensures { BehindWord self.old result self.new }
+    {
         if self.line.fits() {
             return Gap::Reads;
         }

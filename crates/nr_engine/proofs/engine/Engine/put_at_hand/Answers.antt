@@ -1,7 +1,7 @@
 use Rattle.std.proofs.Common.{◌≡◌, ℕ, subst, arith}
 use Rattle.nr_engine.specs.Holding.{Shape, shape}
 use Rattle.nr_engine.specs.Running.{Makes}
-use Rattle.nr_engine.proofs.Travelling.{makes_later, makes_none}
+use Rattle.nr_engine.proofs.Travelling.{makes-add, makes_later, makes_none}
 use Rattle.nr_engine.proofs.engine.Engine.put_at_hand.Given.{Over}
 use Rattle.nr_engine.proofs.engine.Engine.put_at_hand.Goals.{Joined-is_in_line, then-is_in_line+else-text-gt0, else-is_in_line}
 use Rattle.nr_engine.proofs.engine.Engine.put_at_hand.Goals as goal
@@ -33,3 +33,9 @@ returns-clause-makes g c =
     let no_cells : Makes 0 next behind s1 s1 = subst (λ (n : ℕ). Makes n next behind s1 s1) none (c.put_row-cells.ensures.makes s1) in
     makes_later c.read_lines.result (shape c.args.self.now) next last s0 s1 s2 (no_text g (goal.at.returns-clause-makes g c).Joined-is_in_line)
     (makes_later c.read_lines.result next behind last s1 s1 s2 no_cells c.read_lines.ensures.makes)
+
+pub returns-then-text-gt0-clause-makes : goal.returns-then-text-gt0-clause-makes
+returns-then-text-gt0-clause-makes g c =
+    makes-add c.put_text-text.result c.read_behind.result (shape c.args.self.now) (shape c.put_text-text.new.self) (shape c.read_behind.new.self)
+    (g.R.Source.supply c.args.input.now) (g.R.Source.supply c.put_text-text.new.input) (g.R.Source.supply c.read_behind.new.input)
+    c.put_text-text.ensures.makes c.read_behind.ensures.makes
