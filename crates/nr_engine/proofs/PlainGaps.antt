@@ -20,7 +20,7 @@ use Rattle.nr_engine.specs.Machine.{step}
 use Rattle.nr_engine.specs.Measures.{IsWithin}
 use Rattle.nr_engine.specs.Answer.{Goes}
 use Rattle.nr_engine.specs.Holding.{Shape, at, Stands, Holds, Made, weight, worth}
-use Rattle.nr_engine.specs.Running.{Makes, unburst}
+use Rattle.nr_engine.specs.Running.{Makes, Saves, unburst}
 use Rattle.nr_engine.proofs.Gliding.{Glides, glides_flows, glides_gap, made_of, told, within_flows, within_gap}
 use Rattle.nr_engine.proofs.PlainText.{IsTyping, behind_byte, front_more, goes_byte, line_behind, may_give_one, paid, reads_byte, stands_typing}
 use Rattle.nr_engine.proofs.Standing.{wrote_nothing}
@@ -74,10 +74,10 @@ first b bs c next =
     let front = front_more c.supply.bytes b bs next.bytes in
     record { rest = front.0; is = front.1; gives = may_give_one (length bs) c.supply.faults next.faults; few = omega (arith, next.few) }
 
-spends_flows : (e : Shape) → e.formatter.event ≡ events.Nothing → e.formatter.task ≡ tasks.Read
-    → weight (gone_shape gap_flows e) + 2 + worth e * e.place.taken ≤ weight e + worth e * (e.place.taken + 1)
+-- 20 moves more are paid
+pub saves_flows : (e : Shape) → e.formatter.event ≡ events.Nothing → e.formatter.task ≡ tasks.Read → Saves 20 2 e (gone_shape gap_flows e)
 unfolding weights.weight weights.steps_left weights.owed
-spends_flows e event task =
+saves_flows e event task =
     let before : weight_of_agenda e.formatter.event e.formatter.task e.formatter.step ≡ 4 = rw (event, task) refl in
     let owed_before : owed_by_event e.formatter.event + owed_by_task e.formatter.task e.formatter.reader.half ≡ 0 = rw (event, task) refl in
     let behind : weight_of_agenda e.formatter.event (tasks.Flow afters.Text false) e.formatter.step ≡ 8 = rw event refl in
@@ -92,9 +92,10 @@ spends_flows e event task =
       paid (expansions_worth e.formatter.reader.most 0 e.formatter.store.limit) 1 e.place.taken (omega arith),
     )
 
-spends_put : (e : Shape) → weight (gone_shape gap_put e) + 3 + worth e * e.place.taken ≤ weight e + worth e * (e.place.taken + 1)
+-- and where the line is not full
+pub saves_put : (e : Shape) → Saves 20 3 e (gone_shape gap_put e)
 unfolding weights.weight weights.steps_left weights.owed
-spends_put e =
+saves_put e =
     omega (
       arith,
       weight-gap (collected e.formatter),
@@ -129,10 +130,10 @@ module _ (bs : List ℕ) (e : Shape) (supply supply' : Option Supply) (is : is_i
   pub makes_flows : Makes 2 e (gone_shape gap_flows e) supply supply'
   makes_flows =
       let line = in_line e.formatter is in
-      record { makes = made_flows; limit = refl; most = refl; spends = spends_flows e line.event line.task }
+      record { makes = made_flows; limit = refl; most = refl; spends = (let saves = saves_flows e line.event line.task in omega (arith, saves)) }
 
   pub makes_put : fits_line (gapped (collected e.formatter)) ≡ true → Makes 3 e (gone_shape gap_put e) supply supply'
-  makes_put fits = record { makes = made_put fits; limit = refl; most = refl; spends = spends_put e }
+  makes_put fits = record { makes = made_put fits; limit = refl; most = refl; spends = (let saves = saves_put e in omega (arith, saves)) }
 
 -- bytes of which the first is known
 pub first_of : (bs : List ℕ) (b : ℕ) → 0 < length bs → get_or bs 0 0 ≡ b → (rest : List ℕ) × (bs ≡ b ∷ rest)
