@@ -63,13 +63,13 @@ made_gone n g e supply supply' held s h behind within glides =
     }
 
 -- the first byte that comes next
-record First (b : ℕ) (c : Coming) : Type 0 where
-  rest : List ℕ
-  is : c.supply.bytes ≡ b ∷ rest
-  gives : MayGive c.supply.faults
-  few : c.taken + 1 < 2 ^ 40
+pub record First (b : ℕ) (c : Coming) : Type 0 where
+  pub rest : List ℕ
+  pub is : c.supply.bytes ≡ b ∷ rest
+  pub gives : MayGive c.supply.faults
+  pub few : c.taken + 1 < 2 ^ 40
 
-first : (b : ℕ) (bs : List ℕ) (c : Coming) → ComeNext (b ∷ bs) c → First b c
+pub first : (b : ℕ) (bs : List ℕ) (c : Coming) → ComeNext (b ∷ bs) c → First b c
 first b bs c next =
     let front = front_more c.supply.bytes b bs next.bytes in
     record { rest = front.0; is = front.1; gives = may_give_one (length bs) c.supply.faults next.faults; few = omega (arith, next.few) }
