@@ -64,6 +64,10 @@ begun_line f at is =
     let same : is_in_text (half_begun f.reader.half) ≡ reading.is_at_text f.reader.half = begun_text f.reader.half is ∙ sym here in
     ap (λ t. ((is_none f.springs && reads_next f.event f.task) && t) && not (begins_line (collected f))) same ∙ at
 
+-- and the same bytes would begin it there
+pub begins_still : (bs : List ℕ) (f : Formatter) → BeginsText bs f → BeginsText bs (text_begun f)
+begins_still bs f begins = record { some = begins.some; plain = begins.plain; control = begins.control; room = begins.room }
+
 -- ---- the byte that begins it
 
 -- the text of the line has begun
