@@ -5,6 +5,7 @@ mod Gliding
 mod Going
 mod LevelText
 mod Lightening
+mod LineBeginnings
 mod Measured
 mod Moving
 mod NextMoves

@@ -1,5 +1,5 @@
 -- A blank behind a word: two moves where the line is full, and else three.
-use Rattle.std.proofs.Common.{◌≡◌, ℕ, ◌+◌, ◌*◌, ◌<◌, ◌≤◌, ◌^◌, true, false, List, [], ◌∷◌, length, Option, refl, ap, arith}
+use Rattle.std.proofs.Common.{◌≡◌, ℕ, ◌+◌, ◌<◌, ◌^◌, true, false, List, [], ◌∷◌, length, Option, refl, ap, arith}
 use Rattle.std.specs.Prelude.{get_or}
 use Rattle.nr_units.specs.Supply.{Supply, MayGive}
 use Rattle.nr_reading.specs.declared.event.Event.TheVariants as events
@@ -19,8 +19,8 @@ use Rattle.nr_engine.specs.State.{State}
 use Rattle.nr_engine.specs.Machine.{step}
 use Rattle.nr_engine.specs.Measures.{IsWithin}
 use Rattle.nr_engine.specs.Answer.{Goes}
-use Rattle.nr_engine.specs.Holding.{Shape, at, Stands, Holds, Made, weight, worth}
-use Rattle.nr_engine.specs.Running.{Makes, unburst}
+use Rattle.nr_engine.specs.Holding.{Shape, at, Stands, Holds, Made}
+use Rattle.nr_engine.specs.Running.{Makes, Saves, unburst}
 use Rattle.nr_engine.proofs.Gliding.{Glides, glides_flows, glides_gap, made_of, told, within_flows, within_gap}
 use Rattle.nr_engine.proofs.PlainText.{IsTyping, behind_byte, front_more, goes_byte, line_behind, may_give_one, paid, reads_byte, stands_typing}
 use Rattle.nr_engine.proofs.Standing.{wrote_nothing}
@@ -63,21 +63,21 @@ made_gone n g e supply supply' held s h behind within glides =
     }
 
 -- the first byte that comes next
-record First (b : ℕ) (c : Coming) : Type 0 where
-  rest : List ℕ
-  is : c.supply.bytes ≡ b ∷ rest
-  gives : MayGive c.supply.faults
-  few : c.taken + 1 < 2 ^ 40
+pub record First (b : ℕ) (c : Coming) : Type 0 where
+  pub rest : List ℕ
+  pub is : c.supply.bytes ≡ b ∷ rest
+  pub gives : MayGive c.supply.faults
+  pub few : c.taken + 1 < 2 ^ 40
 
-first : (b : ℕ) (bs : List ℕ) (c : Coming) → ComeNext (b ∷ bs) c → First b c
+pub first : (b : ℕ) (bs : List ℕ) (c : Coming) → ComeNext (b ∷ bs) c → First b c
 first b bs c next =
     let front = front_more c.supply.bytes b bs next.bytes in
     record { rest = front.0; is = front.1; gives = may_give_one (length bs) c.supply.faults next.faults; few = omega (arith, next.few) }
 
-spends_flows : (e : Shape) → e.formatter.event ≡ events.Nothing → e.formatter.task ≡ tasks.Read
-    → weight (gone_shape gap_flows e) + 2 + worth e * e.place.taken ≤ weight e + worth e * (e.place.taken + 1)
+-- 20 moves more are paid
+pub saves_flows : (e : Shape) → e.formatter.event ≡ events.Nothing → e.formatter.task ≡ tasks.Read → Saves 20 2 e (gone_shape gap_flows e)
 unfolding weights.weight weights.steps_left weights.owed
-spends_flows e event task =
+saves_flows e event task =
     let before : weight_of_agenda e.formatter.event e.formatter.task e.formatter.step ≡ 4 = rw (event, task) refl in
     let owed_before : owed_by_event e.formatter.event + owed_by_task e.formatter.task e.formatter.reader.half ≡ 0 = rw (event, task) refl in
     let behind : weight_of_agenda e.formatter.event (tasks.Flow afters.Text false) e.formatter.step ≡ 8 = rw event refl in
@@ -92,9 +92,10 @@ spends_flows e event task =
       paid (expansions_worth e.formatter.reader.most 0 e.formatter.store.limit) 1 e.place.taken (omega arith),
     )
 
-spends_put : (e : Shape) → weight (gone_shape gap_put e) + 3 + worth e * e.place.taken ≤ weight e + worth e * (e.place.taken + 1)
+-- and where the line is not full
+pub saves_put : (e : Shape) → Saves 20 3 e (gone_shape gap_put e)
 unfolding weights.weight weights.steps_left weights.owed
-spends_put e =
+saves_put e =
     omega (
       arith,
       weight-gap (collected e.formatter),
@@ -129,10 +130,10 @@ module _ (bs : List ℕ) (e : Shape) (supply supply' : Option Supply) (is : is_i
   pub makes_flows : Makes 2 e (gone_shape gap_flows e) supply supply'
   makes_flows =
       let line = in_line e.formatter is in
-      record { makes = made_flows; limit = refl; most = refl; spends = spends_flows e line.event line.task }
+      record { makes = made_flows; limit = refl; most = refl; spends = (let saves = saves_flows e line.event line.task in omega (arith, saves)) }
 
   pub makes_put : fits_line (gapped (collected e.formatter)) ≡ true → Makes 3 e (gone_shape gap_put e) supply supply'
-  makes_put fits = record { makes = made_put fits; limit = refl; most = refl; spends = spends_put e }
+  makes_put fits = record { makes = made_put fits; limit = refl; most = refl; spends = (let saves = saves_put e in omega (arith, saves)) }
 
 -- bytes of which the first is known
 pub first_of : (bs : List ℕ) (b : ℕ) → 0 < length bs → get_or bs 0 0 ≡ b → (rest : List ℕ) × (bs ≡ b ∷ rest)

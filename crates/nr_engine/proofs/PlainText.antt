@@ -26,8 +26,8 @@ use Rattle.nr_engine.specs.State.{State}
 use Rattle.nr_engine.specs.Machine.{step, read, situation_of, with_situation}
 use Rattle.nr_engine.specs.Measures.{IsWithin}
 use Rattle.nr_engine.specs.Answer.{Goes, GoesBy}
-use Rattle.nr_engine.specs.Holding.{Shape, at, Stands, Holds, Made, weight, worth}
-use Rattle.nr_engine.specs.Running.{Makes, unburst}
+use Rattle.nr_engine.specs.Holding.{Shape, at, Stands, Holds, Made}
+use Rattle.nr_engine.specs.Running.{Makes, Saves, unburst}
 use Rattle.nr_engine.proofs.Gliding.{Glides, glides-add, glides_plain, told}
 use Rattle.nr_engine.proofs.NextMoves.{step-read, kind-read}
 use Rattle.nr_engine.proofs.Standing.{wrote_nothing}
@@ -279,9 +279,10 @@ paid w n t some =
     let all : (w + 512) * (t + n) ≡ (w + 512) * t + (w * n + 512 * n) = grind arith in
     omega (arith, once, all)
 
-run_spends : (bs : List ℕ) (e : Shape) → 0 < length bs → weight (run_shape bs e) + 2 * length bs + worth e * e.place.taken ≤ weight e + worth e * (e.place.taken + length bs)
+-- 20 moves more are paid
+pub run_saves : (bs : List ℕ) (e : Shape) → 0 < length bs → Saves 20 (2 * length bs) e (run_shape bs e)
 unfolding weights.weight weights.steps_left weights.owed
-run_spends bs e some =
+run_saves bs e some =
     omega (
       arith,
       some,
@@ -300,5 +301,5 @@ makes_run (b ∷ bs) e supply supply' some line levels plain next fits behind = 
   makes = λ held s h. glided b bs e supply supply' held s h line levels plain next fits behind;
   limit = refl;
   most = refl;
-  spends = run_spends (b ∷ bs) e some;
+  spends = (let saves = run_saves (b ∷ bs) e some in omega (arith, saves));
 }

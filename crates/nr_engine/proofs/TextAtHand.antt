@@ -19,11 +19,11 @@ use Rattle.nr_formatter.specs.Runs.{IsGap, gap_flows, gap_put, gapped, is_in_lin
 use Rattle.nr_formatter.specs.declared.formatter.Formatter.{Formatter}
 use Rattle.nr_formatter.proofs.PlainText.{begun-cell, ends_word, in_line}
 use Rattle.nr_engine.specs.Machine.{state_after}
-use Rattle.nr_engine.specs.Holding.{Shape, at}
-use Rattle.nr_engine.specs.Running.{HasNext, Longest, Makes, PutsText, taken_shape, unburst}
-use Rattle.nr_engine.proofs.PlainGaps.{first_of, makes_flows, makes_put}
-use Rattle.nr_engine.proofs.PlainText.{ArePlain, come_front, makes_run}
-use Rattle.nr_engine.proofs.Travelling.{makes-add}
+use Rattle.nr_engine.specs.Holding.{Shape, at, weight, worth}
+use Rattle.nr_engine.specs.Running.{HasNext, Longest, Makes, PutsText, Saves, taken_shape, unburst}
+use Rattle.nr_engine.proofs.PlainGaps.{first_of, makes_flows, makes_put, saves_flows, saves_put}
+use Rattle.nr_engine.proofs.PlainText.{ArePlain, come_front, makes_run, run_saves}
+use Rattle.nr_engine.proofs.Travelling.{makes-add, worth_same}
 
 -- ---- what is to come behind some bytes
 
@@ -154,7 +154,15 @@ line_gap f is gap =
 
 -- nothing yet
 pub puts_none : (bs : List ℕ) (f : Formatter) → PutsText bs 0 0 f f
-puts_none bs f = record { front = omega arith; least = omega arith; most = omega arith; none = λ same. refl; store = refl; makes = λ e supply is has some. absurd (omega (arith, some)) }
+puts_none bs f = record { front = omega arith; least = omega arith; most = omega arith; none = λ same. refl; store = refl; makes = λ e supply is has some. absurd (omega (arith, some)); saves = λ e supply is has some. absurd (omega (arith, some)) }
+
+-- what the later of two runs of moves saves, both save
+saves_on : (saved m k : ℕ) (e f g : Shape) → f.formatter.store.limit ≡ e.formatter.store.limit → f.formatter.reader.most ≡ e.formatter.reader.most
+    → Saves saved m e f → Saves saved k f g → Saves saved (m + k) e g
+saves_on saved m k e f g limit most a b =
+    let more : weight g + k + saved + worth e * f.place.taken ≤ weight f + worth e * g.place.taken =
+    subst (λ w. weight g + k + saved + w * f.place.taken ≤ weight f + w * g.place.taken) (worth_same e f limit most) b in
+    omega (arith, a, more)
 
 -- one after the other
 puts_on : (t m n k : ℕ) (bs : List ℕ) (f g h : Formatter) → PutsText bs t m f g → PutsText (drop t bs) n k g h → PutsText bs (t + n) (m + k) f h
@@ -183,6 +191,13 @@ puts_on (suc t) m (suc n) k bs f g h a b =
           subst (λ q. Makes (m + k) e (taken_shape (suc t + suc n) h e) supply q) (skipped_on (suc t) (suc n) supply)
           (subst (λ p. Makes (m + k) e (record e { formatter = unburst h; place = p }) supply (option_map (skipped (suc n)) rest)) (passed_on (suc t) (suc n) e.place)
           (makes-add m k e between (taken_shape (suc n) h between) supply rest (option_map (skipped (suc n)) rest) first second));
+      saves = λ e supply is has some.
+          let between : Shape = taken_shape (suc t) g e in
+          let levels : g.store.levels ≡ [] = ap (λ v. v.levels) (a.store ∙ sym (ap (λ (x : Formatter). x.store) is)) ∙ has.levels in
+          let first = a.makes e supply is has (omega arith) in
+          let second = b.saves between (option_map (skipped (suc t)) supply) refl (next_behind (suc t) bs e supply g a.front levels has) (omega arith) in
+          subst (λ p. Saves 20 (m + k) e (record e { formatter = unburst h; place = p })) (passed_on (suc t) (suc n) e.place)
+          (saves_on 20 m k e between (taken_shape (suc n) h between) first.limit first.most (a.saves e supply is has (omega arith)) second);
     }
 
 -- a run of plain bytes
@@ -205,6 +220,10 @@ puts_run n bs f line front plain fits =
           (λ c h. subst (λ m. HoldsComing (behind_many m c) (passed_many m e.place) rest) (sym count) (holds_behind n c e.place supply has.unseen h)) in
           subst (λ (x : Formatter). Makes (2 * n) e (record e { formatter = run_put (take n bs) x; place = passed_many n e.place }) supply rest) is
           (subst (λ m. Makes (2 * m) e (record e { formatter = run_put (take n bs) (unburst e.formatter); place = passed_many m e.place }) supply rest) count run);
+      saves = λ e supply is has some.
+          subst (λ (x : Formatter). Saves 20 (2 * n) e (record e { formatter = run_put (take n bs) x; place = passed_many n e.place })) is
+          (subst (λ m. Saves 20 (2 * m) e (record e { formatter = run_put (take n bs) (unburst e.formatter); place = passed_many m e.place })) count
+          (run_saves (take n bs) e (omega (arith, count, some))));
     }
 
 -- a blank that does nothing but end its word
@@ -233,6 +252,9 @@ module _ (bs : List ℕ) (f : Formatter) (line : is_in_line f ≡ true) (some : 
         subst (λ (x : Formatter). Makes 2 e (record e { formatter = gap_flows x; place = passed_many 1 e.place }) supply rest) is
         (makes_flows (first_of bs 32 some blank).0 e supply rest (ap is_in_line is ∙ line) has.levels (gap_there e is) (blank_next e supply has)
         (λ c h. holds_behind 1 c e.place supply has.unseen h));
+    saves = λ e supply is has any.
+        let there = in_line e.formatter (ap is_in_line is ∙ line) in
+        subst (λ (x : Formatter). Saves 20 2 e (record e { formatter = gap_flows x; place = passed_many 1 e.place })) is (saves_flows e there.event there.task);
   }
 
   -- or it is not
@@ -249,6 +271,8 @@ module _ (bs : List ℕ) (f : Formatter) (line : is_in_line f ≡ true) (some : 
         subst (λ (x : Formatter). Makes 3 e (record e { formatter = gap_put x; place = passed_many 1 e.place }) supply rest) is
         (makes_put (first_of bs 32 some blank).0 e supply rest (ap is_in_line is ∙ line) has.levels (gap_there e is) (blank_next e supply has)
         (λ c h. holds_behind 1 c e.place supply has.unseen h) fits_there);
+    saves = λ e supply is has any.
+        subst (λ (x : Formatter). Saves 20 3 e (record e { formatter = gap_put x; place = passed_many 1 e.place })) is (saves_put e);
   }
 
 -- ---- one turn

@@ -42,6 +42,10 @@ pub record Makes (n : ℕ) (e f : Shape) (supply supply' : Option Supply) : Type
   pub most : f.formatter.reader.most ≡ e.formatter.reader.most
   pub spends : weight f + n + worth e * e.place.taken ≤ weight e + worth e * f.place.taken
 
+-- So many moves were paid, and as many besides as `saved` says.
+abbrev pub Saves : ℕ → ℕ → Shape → Shape → Type 0
+Saves saved n e f = weight f + n + saved + worth e * e.place.taken ≤ weight e + worth e * f.place.taken
+
 -- ---- text of the source that is at hand
 
 -- behind a byte of the source nothing was spliced
@@ -58,8 +62,8 @@ pub record HasNext (bs : List ℕ) (e : Shape) (supply : Option Supply) : Type 0
   pub unseen : is_unseen e.place.ahead ≡ true
   pub next : (c : Coming) → HoldsComing c e.place supply → ComeNext bs c
 
--- So many of these bytes were put, two or three moves each, whatever the engine has besides the formatter. What was spliced
--- before them does not matter.
+-- So many of these bytes were put, two or three moves each, whatever the engine has besides the formatter, and 20 moves more are
+-- paid. What was spliced before them does not matter.
 pub record PutsText (bs : List ℕ) (taken moves : ℕ) (f g : Formatter) : Type 0 where
   pub front : taken ≤ length bs
   pub least : 2 * taken ≤ moves
@@ -68,6 +72,8 @@ pub record PutsText (bs : List ℕ) (taken moves : ℕ) (f g : Formatter) : Type
   pub store : g.store ≡ f.store
   pub makes : (e : Shape) (supply : Option Supply) → unburst e.formatter ≡ unburst f → HasNext bs e supply → 0 < taken
       → Makes moves e (taken_shape taken g e) supply (option_map (skipped taken) supply)
+  pub saves : (e : Shape) (supply : Option Supply) → unburst e.formatter ≡ unburst f → HasNext bs e supply → 0 < taken
+      → Saves 20 moves e (taken_shape taken g e)
 
 -- As many of these bytes were put as could be, two or three moves each: where the line is not full, what comes next is neither
 -- a plain byte that fits nor a blank that does nothing but end its word.

@@ -2,9 +2,11 @@
 ghost use Rattle.std.specs.Prelude.{◌≡◌, ◌≢◌, ◌<◌, ◌+◌, ◌-◌, ◌^◌, true, false, [], length, slice_index};
 ghost use Rattle.nr_input.specs.AtHand.{is_unseen};
 ghost use Rattle.nr_input.specs.Coming.{has_failed};
+ghost use Rattle.nr_formatter.specs.LineBeginnings.{is_at_text, BeginsText};
 ghost use Rattle.nr_formatter.specs.Runs.{is_in_line};
 ghost use Rattle.nr_engine.specs.Holding.{shape};
-ghost use Rattle.nr_engine.specs.Running.{Makes, Longest, PutsText};
+ghost use Rattle.nr_engine.specs.LineBeginnings.{may_take, Begins};
+ghost use Rattle.nr_engine.specs.Running.{Makes, Longest, PutsText, Saves};
 
 use crate::engine::Engine;
 use nr_formatter::formatter::Formatter;
@@ -61,6 +63,9 @@ impl<'a> Engine<'a> {
         ensures longest { self.old.formatter.store.levels ≡ [] → is_unseen self.old.place.ahead ≡ true →
             self.old.place.taken + length (R.at_hand input.old) < 2 ^ 40 →
             Longest (R.at_hand input.old) (self.new.place.taken - self.old.place.taken) result self.new.formatter }
+        ensures saves { 0 < result → Saves 20 result (shape self.old) (shape self.new) }
+        ensures some { self.old.formatter.store.levels ≡ [] → is_unseen self.old.place.ahead ≡ true →
+            BeginsText (may_take self.old.place (R.at_hand input.old)) self.old.formatter → 0 < result }
         ensures failures { R.failures input.new ≡ R.failures input.old }
         ensures unfailed { has_failed self.old.place.ahead ≡ false → has_failed self.new.place.ahead ≡ false }
     {
@@ -78,18 +83,37 @@ impl<'a> Engine<'a> {
         words.moves as u128
     }
 
+    /// The text of a line begins with what the source has at hand, if the first byte of it is put. Tells whether it does.
+    #[inline(always)]
+    fn begin_text<R: Source>(&mut self, input: &R) -> bool
+        ensures begins { result ≡ true → Begins (may_take self.old.place (R.at_hand input.now)) (shape self.old) (shape self.new) (R.supply input.now) }
+        ensures left { result ≡ false → shape self.new ≡ shape self.old }
+        ensures longest { result ≡ false → self.old.formatter.store.levels ≡ [] → is_unseen self.old.place.ahead ≡ true →
+            BeginsText (may_take self.old.place (R.at_hand input.now)) self.old.formatter → ⊥ }
+    {
+        let bytes = nr_input::window(&self.place, &self.formatter.store, input);
+        self.formatter.begin_text(bytes)
+    }
+
     /// Reads and puts the plain bytes of a text line that are at hand, those of the newest level if there is one, and the
-    /// blanks behind them, and tells how many moves that was.
+    /// blanks behind them, and tells how many moves that was. At the beginning of a line only the source's are read.
     #[inline(always)]
     fn put_text<R: Source>(&mut self, input: &mut R) -> u128
-        requires line { is_in_line self.old.formatter ≡ true }
+        requires at_text { is_at_text self.old.formatter ≡ true }
         ensures makes { Makes result (shape self.old) (shape self.new) (R.supply input.old) (R.supply input.new) }
         ensures few { result < 2 ^ 66 }
         ensures failures { R.failures input.new ≡ R.failures input.old }
         ensures unfailed { has_failed self.old.place.ahead ≡ false → has_failed self.new.place.ahead ≡ false }
     {
+        let in_line = self.formatter.is_in_line();
         if self.formatter.store.is_reading() {
+            if !in_line {
+                return 0;
+            }
             return self.put_level_text();
+        }
+        if !in_line && !self.begin_text(input) {
+            return 0;
         }
         self.put_source_text(input)
     }
@@ -120,7 +144,7 @@ impl<'a> Engine<'a> {
         if !self.reads_next() {
             return 0;
         }
-        if self.formatter.is_in_line() {
+        if self.formatter.is_at_text() {
             let text = self.put_text(input);
             if text > 0 {
                 return text + self.read_behind(input);

@@ -1,5 +1,5 @@
 // Runs of bytes that stand for themselves, read in one call.
-ghost use Rattle.std.specs.Prelude.{◌≡◌, ◌+◌, ◌-◌, ◌<◌, ◌≤◌, ◌↔◌, IsTrue, length, map, take, slice_index, All, None, is_none, true, false};
+ghost use Rattle.std.specs.Prelude.{◌≡◌, ◌≢◌, ◌+◌, ◌-◌, ◌<◌, ◌≤◌, ◌↔◌, IsTrue, length, map, take, slice_index, All, None, is_none, true, false};
 ghost use Rattle.nr_fill.specs.Pieces.{ends_sentence, in_word, line_cells, text_cells};
 ghost use Rattle.nr_fill.specs.Runs.{EndsWord, IsPlain, add_run, add_word, run_behind, run_cell};
 
@@ -142,6 +142,16 @@ impl<'a> Line<'a> {
         self.gap = 1;
         self.barred = false;
         WordRun { count, ended: true }
+    }
+
+    /// Whether a run that begins with this byte is read: the byte is plain, and the line is not full.
+    #[inline]
+    pub fn takes_plain(&self, byte: u8) -> bool
+        ensures plain { result ≡ true → IsPlain byte }
+        ensures room { result ≡ true → text_cells self.now.collected ≢ self.now.limit }
+        ensures stops { result ≡ false → IsPlain byte → text_cells self.now.collected ≡ self.now.limit }
+    {
+        is_plain(byte) && self.text_measure() != self.limit
     }
 
     /// More cells of the piece that is being read: those of the bytes before the first that is not plain, at least one.

@@ -7,6 +7,7 @@ pub mod EmptyLines
 pub mod Ending
 pub mod Given
 pub mod Limits
+pub mod LineBeginnings
 pub mod Lines
 pub mod Motions
 pub mod Moves

@@ -5,6 +5,7 @@ ghost use Rattle.nr_fill.specs.Runs.{IsPlain};
 ghost use Rattle.nr_store.specs.declared.element.Element.TheVariants as elements;
 ghost use Rattle.nr_formatter.specs.Access.{collected};
 ghost use Rattle.nr_formatter.specs.declared.runs.Gap.TheVariants as gaps;
+ghost use Rattle.nr_formatter.specs.LineBeginnings.{is_at_text, AfterBeginning};
 ghost use Rattle.nr_formatter.specs.Runs.{reads_next, is_in_line, run_put, gaps_plainly, IsGap, BehindWord, AfterGap, IsPlainByte, PutsLevel, PutsWord, is_rereading_line, manner_of};
 
 use crate::formatter::Formatter;
@@ -92,6 +93,34 @@ impl<'a> Formatter<'a> {
             && self.reads_next()
             && self.reader.half.is_in_text()
             && !self.line.is_empty()
+    }
+
+    /// Whether the next item is read in a text line or at the beginning of a line, and what is collected has begun.
+    #[inline]
+    pub fn is_at_text(&self) -> bool
+        ensures { result ≡ is_at_text self.now }
+    {
+        self.springs.is_none()
+            && self.reads_next()
+            && self.reader.half.is_at_text()
+            && !self.line.is_empty()
+    }
+
+    /// The text of a line begins with these bytes, if the first of them is put: where it is plain and no control character, and
+    /// the line that is collected is not full. Tells whether it does.
+    #[inline]
+    pub fn begin_text(&mut self, bytes: &[u8]) -> bool
+        ensures { AfterBeginning bytes.now self.old result self.new }
+    {
+        if bytes.is_empty() || !self.line.takes_plain(bytes[0]) {
+            return false;
+        }
+        let half = &mut self.reader.half;
+        if half.signs.begins_control(bytes[0]) {
+            return false;
+        }
+        half.begin_text();
+        true
     }
 
     /// Adds a front of what comes next of the newest level to the line, and takes it: up to the first that is no plain byte

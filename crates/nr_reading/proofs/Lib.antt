@@ -2,6 +2,7 @@ pub mod Fronts
 pub mod InArgument
 pub mod InDefinition
 pub mod InText
+pub mod LineBeginnings
 pub mod Newest
 pub mod Over
 pub mod Paying

@@ -10,6 +10,7 @@ pub mod InArgument
 pub mod InDefinition
 pub mod InText
 pub mod Keeping
+pub mod LineBeginnings
 pub mod Meeting
 pub mod Modes
 pub mod Nesting

@@ -58,6 +58,7 @@ impl Half {
     ghost use Rattle.std.specs.Prelude.{[]};
     ghost use Rattle.nr_reading.specs.Asking.{event_of};
     ghost use Rattle.nr_reading.specs.InText.{is_in_text};
+    ghost use Rattle.nr_reading.specs.LineBeginnings.{is_at_text, text_begun};
     ghost use Rattle.nr_reading.specs.Rereading.{is_rereading};
     ghost use Rattle.nr_reading.specs.Spelling.{name_of};
     ghost use Rattle.nr_reading.specs.Steps.{note_of};
@@ -85,6 +86,23 @@ impl Half {
         ensures { result ≡ is_in_text self.now }
     {
         matches!(self.reading.mode, Mode::Text) && self.reads_next()
+    }
+
+    /// Whether the next item is read in the midst of a text line or at the beginning of a line, behind no part of an escape.
+    #[inline]
+    pub fn is_at_text(&self) -> bool
+        ensures { result ≡ is_at_text self.now }
+    {
+        matches!(self.reading.mode, Mode::Text | Mode::Start) && self.reads_next()
+    }
+
+    /// The text of the line has begun.
+    #[inline]
+    pub fn begin_text(&mut self)
+        ensures { self.new ≡ text_begun self.old }
+    {
+        self.reading.mode = Mode::Text;
+        self.reading.continued = false;
     }
 
     /// Whether the next item is read in the midst of a diverted line.

@@ -1,6 +1,7 @@
 //! Where the reader is.
 ghost use Rattle.std.specs.Prelude.{◌≡◌};
 ghost use Rattle.nr_reading.specs.Modes.{is_direct, reads_arguments, reads_name, standing_of, mode_of, at_a_line, first_signs};
+ghost use Rattle.nr_reading.specs.LineBeginnings.{begins_control};
 
 use super::ask::Sign;
 
@@ -289,5 +290,13 @@ impl Signs {
             no_break: b'\'',
             long: false,
         }
+    }
+
+    /// Whether a line that begins with this byte is a control line.
+    #[inline]
+    pub fn begins_control(self, byte: u8) -> bool
+        ensures { result ≡ begins_control byte self }
+    {
+        byte == self.control || byte == self.no_break
     }
 }

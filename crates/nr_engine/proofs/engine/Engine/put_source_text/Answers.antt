@@ -1,4 +1,4 @@
-use Rattle.std.proofs.Common.{◌≡◌, ◌+◌, ◌-◌, ◌<◌, length, subst, arith}
+use Rattle.std.proofs.Common.{◌≡◌, ◌+◌, ◌-◌, ◌<◌, length, refl, subst, arith}
 use Rattle.nr_input.specs.AtHand.{behind_many}
 use Rattle.nr_input.specs.Coming.{HoldsComing}
 use Rattle.nr_engine.specs.Holding.{shape}
@@ -31,3 +31,15 @@ returns-clause-longest g c = λ levels unseen few.
     let count : start + words.taken - start ≡ words.taken = omega arith in
     let longest = longest_taken c.window-bytes.result.now words.taken words.moves f c.put_words-words.ensures.longest in
     rw (taken.reader, taken.place, count) (subst (λ xs. Longest xs words.taken words.moves (unburst f)) (c.window-bytes.ensures.whole unseen levels few) longest)
+
+pub returns-clause-saves : goal.returns-clause-saves
+returns-clause-saves g c = λ moved.
+    let words = c.put_words-words.result in
+    let bs = c.window-bytes.result.now in
+    let e = shape c.args.self.now in
+    let puts = c.put_words-words.ensures.puts in
+    let some : 0 < words.taken = omega (arith, c.if-words-eq0.false) in
+    let any : 0 < length bs = omega (arith, some, puts.front) in
+    let has : HasNext bs e (g.R.Source.supply c.args.input.now) =
+    record { levels = c.window-bytes.ensures.levels any; unseen = c.window-bytes.ensures.unseen any; next = c.window-bytes.ensures.next any } in
+    rw (c.take_window.ensures.reader, c.take_window.ensures.place) (puts.saves e (g.R.Source.supply c.args.input.now) refl has some)

@@ -1,0 +1,38 @@
+-- The beginning of a text line.
+use Rattle.std.specs.Prelude.{◌≡◌, ℕ, ◌==◌, ◌||◌, Bool, false, List, []}
+use Rattle.nr_reading.specs.declared.ask.Ask.{Ask}
+use Rattle.nr_reading.specs.declared.half.Half.{Half}
+use Rattle.nr_reading.specs.declared.mode.Due.{Due}
+use Rattle.nr_reading.specs.declared.mode.Due.TheVariants as dues
+use Rattle.nr_reading.specs.declared.mode.Escape.{Escape}
+use Rattle.nr_reading.specs.declared.mode.Escape.TheVariants as escapes
+use Rattle.nr_reading.specs.declared.mode.Mode.{Mode}
+use Rattle.nr_reading.specs.declared.mode.Mode.TheVariants as modes
+use Rattle.nr_reading.specs.declared.mode.Signs.{Signs}
+use Rattle.nr_reading.specs.Nesting.{is_none}
+use Rattle.nr_reading.specs.Steps.{to}
+use Rattle.nr_reading.specs.Text.{continuing}
+
+-- a line that begins with this byte is a control line
+abbrev pub begins_control : ℕ → Signs → Bool
+begins_control b s = b == s.control || b == s.no_break
+
+abbrev pub is_at_text_at : Mode → Escape → Due → List Ask → Bool
+is_at_text_at modes.Text escapes.Plain dues.Look asks = is_none asks
+is_at_text_at modes.Start escapes.Plain dues.Look asks = is_none asks
+is_at_text_at m e d asks = false
+
+-- the next item is read in the midst of a text line or at the beginning of a line, behind no part of an escape
+abbrev pub is_at_text : Half → Bool
+is_at_text h = is_at_text_at h.reading.mode h.reading.escape h.reading.due h.asks
+
+-- it is read at the beginning of a line, part by part
+pub record IsBeforeLine (h : Half) : Type 0 where
+  pub mode : h.reading.mode ≡ modes.Start
+  pub escape : h.reading.escape ≡ escapes.Plain
+  pub due : h.reading.due ≡ dues.Look
+  pub asks : h.asks ≡ []
+
+-- the text of the line has begun
+abbrev pub text_begun : Half → Half
+text_begun h = record h { reading = continuing false (to modes.Text h.reading) }
