@@ -1,5 +1,5 @@
 -- A blank behind a word: two moves where the line is full, and else three.
-use Rattle.std.proofs.Common.{◌≡◌, ℕ, ◌+◌, ◌*◌, ◌<◌, ◌≤◌, ◌^◌, true, false, List, [], ◌∷◌, length, Option, refl, ap, arith}
+use Rattle.std.proofs.Common.{◌≡◌, ℕ, ◌+◌, ◌<◌, ◌^◌, true, false, List, [], ◌∷◌, length, Option, refl, ap, arith}
 use Rattle.std.specs.Prelude.{get_or}
 use Rattle.nr_units.specs.Supply.{Supply, MayGive}
 use Rattle.nr_reading.specs.declared.event.Event.TheVariants as events
@@ -19,7 +19,7 @@ use Rattle.nr_engine.specs.State.{State}
 use Rattle.nr_engine.specs.Machine.{step}
 use Rattle.nr_engine.specs.Measures.{IsWithin}
 use Rattle.nr_engine.specs.Answer.{Goes}
-use Rattle.nr_engine.specs.Holding.{Shape, at, Stands, Holds, Made, weight, worth}
+use Rattle.nr_engine.specs.Holding.{Shape, at, Stands, Holds, Made}
 use Rattle.nr_engine.specs.Running.{Makes, Saves, unburst}
 use Rattle.nr_engine.proofs.Gliding.{Glides, glides_flows, glides_gap, made_of, told, within_flows, within_gap}
 use Rattle.nr_engine.proofs.PlainText.{IsTyping, behind_byte, front_more, goes_byte, line_behind, may_give_one, paid, reads_byte, stands_typing}

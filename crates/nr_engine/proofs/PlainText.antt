@@ -26,7 +26,7 @@ use Rattle.nr_engine.specs.State.{State}
 use Rattle.nr_engine.specs.Machine.{step, read, situation_of, with_situation}
 use Rattle.nr_engine.specs.Measures.{IsWithin}
 use Rattle.nr_engine.specs.Answer.{Goes, GoesBy}
-use Rattle.nr_engine.specs.Holding.{Shape, at, Stands, Holds, Made, weight, worth}
+use Rattle.nr_engine.specs.Holding.{Shape, at, Stands, Holds, Made}
 use Rattle.nr_engine.specs.Running.{Makes, Saves, unburst}
 use Rattle.nr_engine.proofs.Gliding.{Glides, glides-add, glides_plain, told}
 use Rattle.nr_engine.proofs.NextMoves.{step-read, kind-read}
