@@ -72,6 +72,7 @@ begins_still bs f begins = record { some = begins.some; plain = begins.plain; co
 abbrev begun : State → State
 begun s = plainly text_begun s
 
+-- a plain byte is no blank
 blank : (b : ℕ) → IsPlain b → (b == 32) ≡ false
 blank b plain = ne_eqb b 32 (λ e. omega (arith, plain.0, e))
 
@@ -79,24 +80,30 @@ blank b plain = ne_eqb b 32 (λ e. omega (arith, plain.0, e))
 module _ (b : ℕ) (rest : List ℕ) (s : State) (typing : IsTyping (begun s)) (half : IsBeforeLine s.formatter.reader.half) (plain : IsPlain b)
     (control : begins_control b s.formatter.reader.half.signs ≡ false) (next : s.coming.supply.bytes ≡ b ∷ rest)
     (gives : MayGive s.coming.supply.faults) (few : s.coming.taken + 1 < 2 ^ 40) where
+  -- the place of the source is another behind it
   further : (s.coming.taken + 1 == s.coming.taken) ≡ false
   further = ne_eqb (s.coming.taken + 1) s.coming.taken (λ e. omega (arith, e))
 
+  -- the item in front is looked at
   looks : input_move (situation_of s) ≡ met_at (meet (front (shown s.formatter.store.levels) s.coming) s.formatter.reader.half) (situation_of s)
   looks = rw half.due refl
 
+  -- it begins the text
   meets : meet (front (shown s.formatter.store.levels) s.coming) s.formatter.reader.half ≡ record { half = half_begun s.formatter.reader.half; event = events.Byte b; takes = true }
   meets = rw (typing.levels, next, meet-first b s.formatter.reader.half half control (newline b plain) (escape b plain) (blank b plain)) refl
 
+  -- it is taken and told
   takes : met_at (record { half = half_begun s.formatter.reader.half; event = events.Byte b; takes = true }) (situation_of s)
       ≡ record { situation = situation s.formatter.store (behind_many 1 s.coming) (record s.formatter.reader { half = half_begun s.formatter.reader.half; burst = 0 }); told = tells.Event (events.Byte b) }
   takes = rw (typing.levels, next, further, newline b plain, later-one s.coming.supply.faults) refl
 
+  -- this is the first move
   reads_first : step s ≡ told b (behind_byte (begun s))
   reads_first =
       step-read s typing.chosen typing.line.springs typing.line.event typing.line.task
       ∙ ap (λ m. with_situation m s) (looks ∙ ap (λ m. met_at m (situation_of s)) meets ∙ takes)
 
+  -- and it is made
   goes_first : Goes s
   goes_first =
       let reads = kind-read s typing.chosen typing.line.springs typing.line.event typing.line.task in
@@ -121,6 +128,7 @@ module _ (b : ℕ) (rest : List ℕ) (s : State) (typing : IsTyping (begun s)) (
 
 -- ---- the engine
 
+-- the engine stands where it stood before the text began
 stands_begun : (supply : Option Supply) (s : State) (e : Shape) → Stands [] supply s e → Stands [] supply s (begun_shape e)
 stands_begun supply s e h = record {
   chosen_is = h.chosen_is;
@@ -138,6 +146,7 @@ stands_begun supply s e h = record {
 -- bytes that begin the text of a line come next
 module _ (bs : List ℕ) (e : Shape) (supply : Option Supply) (at_text : is_at_text e.formatter ≡ true) (half : IsBeforeLine e.formatter.reader.half)
     (begins : BeginsText bs e.formatter) (has : HasNext bs e supply) where
+  -- the next bytes are read in a text line that has begun
   typing_begun : (s : State) → Stands [] supply s e → IsTyping (begun (at e s))
   typing_begun s h = record {
     chosen = h.chosen_is;
@@ -173,6 +182,7 @@ module _ (bs : List ℕ) (e : Shape) (supply : Option Supply) (at_text : is_at_t
       let owed : owed_by_task e.formatter.task (half_begun e.formatter.reader.half) ≡ 0 = rw task refl in
       omega (arith, before, blanks, owed)
 
+  -- so they are the engine's moves
   pub makes_begun : (n : ℕ) (f : Shape) (supply' : Option Supply) → 0 < n → Makes n (begun_shape e) f supply supply' → Saves 20 n (begun_shape e) f → Makes n e f supply supply'
   makes_begun zero f supply' some makes saves = absurd (omega (arith, some))
   makes_begun (suc n) f supply' some makes saves = record {
