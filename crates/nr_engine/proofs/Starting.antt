@@ -2,11 +2,10 @@
 use Rattle.std.proofs.Common.{◌≡◌, ℕ, ◌+◌, ◌-◌, ◌*◌, ◌^◌, ◌≤◌, ◌<◌, List, [], Option, Some, refl, sym, ap, ◌∙◌, subst, arith}
 use Rattle.std.proofs.lemmas.Nat.{mul-le}
 use Rattle.nr_units.specs.Supply.{Supply}
-use Rattle.nr_fill.specs.Rows.{IsRow}
+use Rattle.nr_fill.specs.Lined.{Lined}
 use Rattle.nr_fill.specs.Pieces.{nothing_collected}
-use Rattle.nr_page.specs.Sheet.{Holds as HoldsPage}
-use Rattle.nr_store.specs.Stored.{charge_of, nothing}
 use Rattle.nr_store.specs.Requests.{request_names}
+use Rattle.nr_store.specs.Stored.{Stored, charge_of, nothing}
 use Rattle.nr_input.specs.Coming.{nothing_reached}
 use Rattle.nr_input.specs.Weights.{expansions_worth}
 use Rattle.nr_options.specs.Limits.{Bounds}
@@ -16,18 +15,21 @@ use Rattle.nr_formatter.specs.Limits as formatter
 use Rattle.nr_formatter.specs.Weights as weights
 use Rattle.nr_formatter.specs.Weights.{owed, steps_left}
 use Rattle.nr_formatter.specs.declared.formatter.Formatter.{Formatter}
-use Rattle.nr_engine.specs.State.{State, start, choices}
+use Rattle.nr_formatter.specs.declared.tasks.Resume.{Resume}
+use Rattle.nr_engine.specs.State.{State, start, choices, formatter_at_first}
 use Rattle.nr_engine.specs.Machine.{state_after}
 use Rattle.nr_engine.specs.Answer.{Answers, moves_a_byte}
 use Rattle.nr_engine.specs.Holding.{Shape, Holds, Made, weight, worth}
-use Rattle.nr_engine.specs.Running.{StaysLight, Travelled}
+use Rattle.nr_engine.specs.Running.{IsNew, StaysLight, Travelled}
 use Rattle.nr_engine.specs.declared.outcome.Outcome.{Outcome}
 use Rattle.nr_engine.proofs.Standing.{state_after-add, halts_after, answers}
 use Rattle.nr_engine.proofs.Travelling.{worth_same}
 
--- with nothing read
-abbrev pub formatter_at_first : Bounds → Formatter
-formatter_at_first b = first_formatter (nothing request_names b.stored b.depth) (record { collected = nothing_collected; limit = b.cells }) b.expansions
+-- what it is made of
+pub formatter_is_first : (b : Bounds) (f : Formatter) (store : Stored Resume) (line : Lined) (stored depth cells expansions : ℕ) → f ≡ first_formatter store line expansions
+    → store ≡ nothing request_names stored depth → line ≡ record { collected = nothing_collected; limit = cells }
+    → stored ≡ b.stored → depth ≡ b.depth → cells ≡ b.cells → expansions ≡ b.expansions → f ≡ formatter_at_first b
+formatter_is_first b f store line stored depth cells expansions is store_is line_is s d c x = rw (is, store_is, line_is, s, d, c, x) refl
 
 no_charge : (b : Bounds) → charge_of (formatter_at_first b).store ≡ 0
 no_charge b = refl
@@ -40,18 +42,17 @@ within_first b = record {
   burst = omega arith;
 }
 
-pub starts : (b : Bounds) (options : Options) (supply : Supply) (e : Shape) → e.formatter ≡ formatter_at_first b → e.place ≡ nothing_reached → IsRow [] e.row
-    → HoldsPage [] e.page → e.page.limit ≡ b.cells → e.select ≡ options.select → Holds (choices options) (Some supply) (start b options supply) e
-starts b options supply e formatter_is place row page limit select = record {
-  formatter = formatter_is;
+pub starts : (b : Bounds) (options : Options) (supply : Supply) (e : Shape) → IsNew b options.select e → Holds (choices options) (Some supply) (start b options supply) e
+starts b options supply e new = record {
+  formatter = new.formatter;
   stands = record {
     chosen_is = refl;
-    coming = record { taken = ap (λ p. p.taken) place; inside = ap (λ p. p.inside) place; stands = rw place refl };
-    row = row;
-    page = page;
-    page_limit = limit;
-    select = select;
-    within = record { formatter = subst (λ (x : Formatter). formatter.IsWithin x) (sym formatter_is) (within_first b); page = omega arith };
+    coming = record { taken = ap (λ p. p.taken) new.place; inside = ap (λ p. p.inside) new.place; stands = rw new.place refl };
+    row = new.row;
+    page = new.page;
+    page_limit = new.page_limit;
+    select = new.select;
+    within = record { formatter = subst (λ (x : Formatter). formatter.IsWithin x) (sym new.formatter) (within_first b); page = omega arith };
   };
 }
 

@@ -7,7 +7,7 @@ use Rattle.nr_engine.specs.State.{State, Choice}
 use Rattle.nr_engine.specs.Machine.{state_after}
 use Rattle.nr_engine.specs.Answer.{Stops}
 use Rattle.nr_engine.specs.Holding.{Shape, Holds, Moved, Left, Made, Halts, Advances, Spends, at, weight, worth}
-use Rattle.nr_engine.specs.Running.{Makes}
+use Rattle.nr_engine.specs.Running.{Makes, MakesInPlace, MakesReading}
 use Rattle.nr_engine.specs.declared.outcome.Outcome.{Outcome}
 use Rattle.nr_engine.proofs.Standing.{made_none, made_one, made_all, halts_here, halts_after}
 use Rattle.nr_engine.proofs.Working.{holds_of}
@@ -94,8 +94,25 @@ makes_none e supply = record {
   spends = omega arith;
 }
 
+-- ---- in which no call of the source failed
+
+pub reading-add : (n m : ℕ) (e f g : Shape) (x y z : Option Supply) (a b c : ℕ) → MakesReading n e f x y a b → MakesReading m f g y z b c → MakesReading (n + m) e g x z a c
+reading-add n m e f g x y z a b c p q = record {
+  makes = makes-add n m e f g x y z p.makes q.makes;
+  failures = q.failures ∙ p.failures;
+  unfailed = λ u. q.unfailed (p.unfailed u);
+}
+
+-- none were made
+pub reading_none : (e : Shape) (supply : Option Supply) (failures : ℕ) → MakesReading 0 e e supply supply failures failures
+reading_none e supply failures = record { makes = makes_none e supply; failures = refl; unfailed = λ u. u }
+
 -- none were made, and then some
-pub makes_later : (m : ℕ) (e f g : Shape) (x y z : Option Supply) → Makes 0 e f x y → Makes m f g y z → Makes m e g x z
-makes_later m e f g x y z a b =
+pub reading_later : (m : ℕ) (e f g : Shape) (x y z : Option Supply) (a b c : ℕ) → MakesReading 0 e f x y a b → MakesReading m f g y z b c → MakesReading m e g x z a c
+reading_later m e f g x y z a b c p q =
     let same : 0 + m ≡ m = omega arith in
-    subst (λ n. Makes n e g x z) same (makes-add 0 m e f g x y z a b)
+    subst (λ n. MakesReading n e g x z a c) same (reading-add 0 m e f g x y z a b c p q)
+
+-- nothing of the source was taken
+pub reading_in_place : (n : ℕ) (e f : Shape) (supply : Option Supply) (failures : ℕ) → MakesInPlace n e f → MakesReading n e f supply supply failures failures
+reading_in_place n e f supply failures p = record { makes = p.makes supply; failures = refl; unfailed = λ u. rw p.place u }

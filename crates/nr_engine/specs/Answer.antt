@@ -1,6 +1,7 @@
 -- What a run under limits answers: the moves that it makes, and where it stops.
 use Rattle.std.specs.Prelude.{◌≡◌, ℕ, ◌<◌, ◌≤◌, ◌+◌, ◌*◌, List, [], ◌∷◌, ◌++◌, Option, None, Some, Result, Ok, Err, Bool, true, false}
 use Rattle.std.specs.Io.KnownBytes.{Appends}
+use Rattle.nr_units.specs.Failures.{SinkFailures, counted_if, put_counted_if}
 use Rattle.nr_units.specs.Held.{AppendsFront}
 use Rattle.nr_input.specs.Moving as input
 use Rattle.nr_input.specs.declared.refusal.Refusal.{Refusal}
@@ -190,3 +191,8 @@ abbrev pub fails_writing : Result (Unit {0}) Stop → Bool
 fails_writing (Ok x) = false
 fails_writing (Err (stops.Limit which)) = false
 fails_writing (Err stops.WriteFault) = true
+
+-- A fault of the source or the sink is told where a call of it failed, and no other call failed: by the counts of failed calls.
+pub record ToldFaults (outcome : Outcome) (reads reads' : ℕ) (writes writes' : SinkFailures) : Type 0 where
+  pub read_failures : reads' ≡ counted_if (is_read_fault outcome) reads
+  pub write_failures : writes' ≡ put_counted_if (is_write_fault outcome) writes

@@ -2,24 +2,37 @@
 use Rattle.std.specs.Prelude.{◌≡◌, ℕ, ◌+◌, ◌*◌, ◌≤◌, ◌<◌, List, [], length, slice_index, Option, Result, Ok, Err, OnOk, true, false}
 use Rattle.std.specs.Option.{option_map}
 use Rattle.nr_units.specs.Supply.{Supply, skipped}
+use Rattle.nr_options.specs.Limits.{Bounds}
 use Rattle.nr_options.specs.declared.options.Options.{Options}
 use Rattle.nr_input.specs.AtHand.{ComeNext, is_unseen, passed_many}
-use Rattle.nr_input.specs.Coming.{Coming, HoldsComing}
+use Rattle.nr_input.specs.Coming.{Coming, HoldsComing, has_failed, nothing_reached}
 use Rattle.nr_fill.specs.Pieces.{text_cells}
+use Rattle.nr_fill.specs.Rows.{IsRow}
 use Rattle.nr_fill.specs.Runs.{IsPlain}
 use Rattle.nr_formatter.specs.Access.{collected}
 use Rattle.nr_formatter.specs.Limits.{IsWithin}
 use Rattle.nr_formatter.specs.Runs.{IsGap}
 use Rattle.nr_formatter.specs.declared.formatter.Formatter.{Formatter}
 use Rattle.nr_formatter.specs.declared.tasks.Task.TheVariants as tasks
+use Rattle.nr_page.specs.Sheet.{Holds as HoldsPage}
+use Rattle.nr_page.specs.declared.selection.PageRange.{PageRange}
 use Rattle.nr_store.specs.Stored.{charge_of}
-use Rattle.nr_engine.specs.State.{State, Choice, choices}
+use Rattle.nr_engine.specs.State.{State, Choice, choices, formatter_at_first}
 use Rattle.nr_engine.specs.Machine.{choose, state_after}
 use Rattle.nr_engine.specs.Answer.{stops_reading, stops_writing}
 use Rattle.nr_engine.specs.Holding.{Shape, at, Stands, Holds, Made, Halts, weight, worth}
 use Rattle.nr_engine.specs.declared.outcome.Measure.TheVariants.{Stored}
 use Rattle.nr_engine.specs.declared.outcome.Outcome.{Outcome}
 use Rattle.nr_engine.specs.declared.outcome.Outcome.TheVariants.{Limit}
+
+-- Under these limits nothing is read yet, and nothing placed; of the pages these are to be printed.
+pub record IsNew (b : Bounds) (printed : Option (List PageRange)) (e : Shape) : Type 0 where
+  pub formatter : e.formatter ≡ formatter_at_first b
+  pub place : e.place ≡ nothing_reached
+  pub row : IsRow [] e.row
+  pub page : HoldsPage [] e.page
+  pub page_limit : e.page.limit ≡ b.cells
+  pub select : e.select ≡ printed
 
 -- a choice takes effect, or too much would be stored
 abbrev pub Chooses : Choice → Shape → Shape → Result (Unit {0}) Outcome → Type 0
@@ -41,6 +54,17 @@ pub record Makes (n : ℕ) (e f : Shape) (supply supply' : Option Supply) : Type
   pub limit : f.formatter.store.limit ≡ e.formatter.store.limit
   pub most : f.formatter.reader.most ≡ e.formatter.reader.most
   pub spends : weight f + n + worth e * e.place.taken ≤ weight e + worth e * f.place.taken
+
+-- n moves were made, whatever the source is about to give, of which nothing was taken
+pub record MakesInPlace (n : ℕ) (e f : Shape) : Type 0 where
+  pub makes : (supply : Option Supply) → Makes n e f supply supply
+  pub place : f.place ≡ e.place
+
+-- n moves were made and no call of the source failed in them; `old` and `new` count its failed calls before and after
+pub record MakesReading (n : ℕ) (e f : Shape) (supply supply' : Option Supply) (old new : ℕ) : Type 0 where
+  pub makes : Makes n e f supply supply'
+  pub failures : new ≡ old
+  pub unfailed : has_failed e.place.ahead ≡ false → has_failed f.place.ahead ≡ false
 
 -- So many moves were paid, and as many besides as `saved` says.
 abbrev pub Saves : ℕ → ℕ → Shape → Shape → Type 0

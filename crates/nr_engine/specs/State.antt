@@ -48,12 +48,16 @@ pub record State : Type 0 where
 abbrev pub choices : Options → List Choice
 choices options = First options.first ∷ map (λ r. Register r.0 r.1) options.registers.items
 
+-- with nothing read
+abbrev pub formatter_at_first : Bounds → Formatter
+formatter_at_first b = first_formatter (nothing request_names b.stored b.depth) (record { collected = nothing_collected; limit = b.cells }) b.expansions
+
 -- with the whole input before it
 abbrev pub start : Bounds → Options → Supply → State
 start b options supply = record {
   chosen = choices options;
   coming = whole supply;
-  formatter = first_formatter (nothing request_names b.stored b.depth) (record { collected = nothing_collected; limit = b.cells }) b.expansions;
+  formatter = formatter_at_first b;
   row = [];
   lines = [];
   pages = [];

@@ -1,12 +1,11 @@
 //! Empty lines: many moves in one call.
-ghost use Rattle.std.specs.Prelude.{◌≡◌, ◌≢◌, ◌+◌, ◌-◌, ◌<◌, ◌≤◌, ◌^◌, true, false, [], length, take, replicate, slice_index};
+ghost use Rattle.std.specs.Prelude.{◌≡◌, ◌≢◌, ◌+◌, ◌-◌, ◌<◌, ◌≤◌, ◌^◌, true, [], length, take, replicate, slice_index};
 ghost use Rattle.nr_reading.specs.declared.event.Event.TheVariants as events;
 ghost use Rattle.nr_input.specs.AtHand.{is_unseen};
-ghost use Rattle.nr_input.specs.Coming.{has_failed};
 ghost use Rattle.nr_formatter.specs.EmptyLines.{is_at_line};
-ghost use Rattle.nr_engine.specs.EmptyLines.{NewlinesNext, WentDown};
+ghost use Rattle.nr_engine.specs.EmptyLines.{NewlinesAtHand, WentDown};
 ghost use Rattle.nr_engine.specs.Holding.{shape};
-ghost use Rattle.nr_engine.specs.Running.{Makes};
+ghost use Rattle.nr_engine.specs.Running.{MakesReading};
 
 use crate::engine::Engine;
 use nr_input::Event;
@@ -32,9 +31,7 @@ impl<'a> Engine<'a> {
     /// How many newlines the source has at hand at the beginning of a line, as far as they are asked for.
     fn newlines_next<R: Source>(&self, input: &R, most: usize) -> usize
         ensures most { result ≤ most }
-        ensures next { 0 < result → NewlinesNext result (shape self.now) (R.supply input.now) }
-        ensures room { 0 < result → self.now.place.taken + result < 2 ^ 40 }
-        ensures front { result ≤ length (R.at_hand input.now) }
+        ensures next { NewlinesAtHand (R.at_hand input.now) result (shape self.now) (R.supply input.now) }
         ensures longest { self.now.formatter.store.levels ≡ [] → is_unseen self.now.place.ahead ≡ true →
             self.now.place.taken + length (R.at_hand input.now) < 2 ^ 40 → is_at_line self.now.formatter.reader.half ≡ true →
             result < most → result < length (R.at_hand input.now) → slice_index (R.at_hand input.now) result ≢ 10 }
@@ -51,13 +48,11 @@ impl<'a> Engine<'a> {
     #[inline(never)]
     fn put_empty_lines<R: Source>(&mut self, input: &mut R) -> u128
         requires empty { self.old.formatter.event ≡ events.Empty }
-        ensures makes { Makes result (shape self.old) (shape self.new) (R.supply input.old) (R.supply input.new) }
+        ensures reads { MakesReading result (shape self.old) (shape self.new) (R.supply input.old) (R.supply input.new) (R.failures input.old) (R.failures input.new) }
         ensures few { result < 2 ^ 66 }
         ensures longest { self.old.formatter.store.levels ≡ [] → is_unseen self.old.place.ahead ≡ true →
             self.old.place.taken + length (R.at_hand input.old) < 2 ^ 40 →
             WentDown (R.at_hand input.old) (self.new.place.taken - self.old.place.taken) result self.old.formatter }
-        ensures failures { R.failures input.new ≡ R.failures input.old }
-        ensures unfailed { has_failed self.old.place.ahead ≡ false → has_failed self.new.place.ahead ≡ false }
     {
         let lines = self.formatter.lines_below();
         if lines == 0 {
@@ -77,10 +72,8 @@ impl<'a> Engine<'a> {
     /// nothing else. Tells how many moves that was.
     #[inline(always)]
     pub(crate) fn read_lines<R: Source>(&mut self, input: &mut R) -> u128
-        ensures makes { Makes result (shape self.old) (shape self.new) (R.supply input.old) (R.supply input.new) }
+        ensures reads { MakesReading result (shape self.old) (shape self.new) (R.supply input.old) (R.supply input.new) (R.failures input.old) (R.failures input.new) }
         ensures few { result < 2 ^ 67 }
-        ensures failures { R.failures input.new ≡ R.failures input.old }
-        ensures unfailed { has_failed self.old.place.ahead ≡ false → has_failed self.new.place.ahead ≡ false }
     {
         let run = self.read_run(input);
         if !matches!(self.formatter.event, Event::Empty) {

@@ -1,12 +1,11 @@
 //! Plain text of the newest level: many moves in one call.
-ghost use Rattle.std.specs.Prelude.{◌≡◌, ℕ, ◌*◌, ◌≤◌, true, false, Option};
-ghost use Rattle.nr_units.specs.Supply.{Supply};
+ghost use Rattle.std.specs.Prelude.{◌≡◌, ℕ, ◌*◌, ◌≤◌, true, false};
 ghost use Rattle.nr_store.specs.Stored.{shown};
 ghost use Rattle.nr_store.specs.declared.element.Element.TheVariants as elements;
 ghost use Rattle.nr_store.specs.declared.shown.Shown.TheVariants as shows;
 ghost use Rattle.nr_formatter.specs.Runs.{is_in_line, PutsLevel};
 ghost use Rattle.nr_engine.specs.Holding.{shape};
-ghost use Rattle.nr_engine.specs.Running.{Makes};
+ghost use Rattle.nr_engine.specs.Running.{MakesInPlace};
 
 use crate::engine::Engine;
 use nr_formatter::runs::Gap;
@@ -19,8 +18,7 @@ impl<'a> Engine<'a> {
     #[inline]
     fn put_level_plain(&mut self) -> u128
         requires line { is_in_line self.old.formatter ≡ true }
-        ensures makes { (supply : Option Supply) → Makes result (shape self.old) (shape self.new) supply supply }
-        ensures place { self.new.place ≡ self.old.place }
+        ensures puts { MakesInPlace result (shape self.old) (shape self.new) }
         ensures few { result ≤ 128 }
         ensures longest { (n : ℕ) → result ≡ 2 * n → PutsLevel self.old.formatter n self.new.formatter }
     {
@@ -44,8 +42,7 @@ impl<'a> Engine<'a> {
     /// how many moves that was.
     #[inline]
     fn put_level_gap(&mut self) -> u128
-        ensures makes { (supply : Option Supply) → Makes result (shape self.old) (shape self.new) supply supply }
-        ensures place { self.new.place ≡ self.old.place }
+        ensures puts { MakesInPlace result (shape self.old) (shape self.new) }
         ensures few { result ≤ 3 }
     {
         if !self.is_blank_next() || !self.formatter.is_in_line() {
@@ -66,8 +63,7 @@ impl<'a> Engine<'a> {
     #[inline]
     pub(crate) fn put_level_text(&mut self) -> u128
         requires line { is_in_line self.old.formatter ≡ true }
-        ensures makes { (supply : Option Supply) → Makes result (shape self.old) (shape self.new) supply supply }
-        ensures place { self.new.place ≡ self.old.place }
+        ensures puts { MakesInPlace result (shape self.old) (shape self.new) }
         ensures few { result ≤ 131 }
     {
         let plain = self.put_level_plain();

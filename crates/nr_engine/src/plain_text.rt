@@ -1,12 +1,11 @@
 //! Runs of plain bytes of a text line: many moves in one call.
-ghost use Rattle.std.specs.Prelude.{◌≡◌, ◌≢◌, ◌<◌, ◌+◌, ◌-◌, ◌^◌, true, false, [], length, slice_index};
+ghost use Rattle.std.specs.Prelude.{◌≡◌, ◌<◌, ◌^◌, true, false, [], length};
 ghost use Rattle.nr_input.specs.AtHand.{is_unseen};
-ghost use Rattle.nr_input.specs.Coming.{has_failed};
 ghost use Rattle.nr_formatter.specs.LineBeginnings.{is_at_text, BeginsText};
 ghost use Rattle.nr_formatter.specs.Runs.{is_in_line};
 ghost use Rattle.nr_engine.specs.Holding.{shape};
-ghost use Rattle.nr_engine.specs.LineBeginnings.{may_take, Begins};
-ghost use Rattle.nr_engine.specs.Running.{Makes, Longest, PutsText, Saves};
+ghost use Rattle.nr_engine.specs.LineBeginnings.{may_take, Begins, PutsMost};
+ghost use Rattle.nr_engine.specs.Running.{MakesReading, Longest, PutsText};
 
 use crate::engine::Engine;
 use nr_formatter::formatter::Formatter;
@@ -58,16 +57,9 @@ impl<'a> Engine<'a> {
     #[inline(always)]
     fn put_source_text<R: Source>(&mut self, input: &mut R) -> u128
         requires line { is_in_line self.old.formatter ≡ true }
-        ensures makes { Makes result (shape self.old) (shape self.new) (R.supply input.old) (R.supply input.new) }
+        ensures reads { MakesReading result (shape self.old) (shape self.new) (R.supply input.old) (R.supply input.new) (R.failures input.old) (R.failures input.new) }
         ensures few { result < 2 ^ 66 }
-        ensures longest { self.old.formatter.store.levels ≡ [] → is_unseen self.old.place.ahead ≡ true →
-            self.old.place.taken + length (R.at_hand input.old) < 2 ^ 40 →
-            Longest (R.at_hand input.old) (self.new.place.taken - self.old.place.taken) result self.new.formatter }
-        ensures saves { 0 < result → Saves 20 result (shape self.old) (shape self.new) }
-        ensures some { self.old.formatter.store.levels ≡ [] → is_unseen self.old.place.ahead ≡ true →
-            BeginsText (may_take self.old.place (R.at_hand input.old)) self.old.formatter → 0 < result }
-        ensures failures { R.failures input.new ≡ R.failures input.old }
-        ensures unfailed { has_failed self.old.place.ahead ≡ false → has_failed self.new.place.ahead ≡ false }
+        ensures most { PutsMost (R.at_hand input.old) result (shape self.old) (shape self.new) }
     {
         let bytes = nr_input::window(&self.place, &self.formatter.store, input);
         let words = put_words(&mut self.formatter, bytes);
@@ -100,10 +92,8 @@ impl<'a> Engine<'a> {
     #[inline(always)]
     fn put_text<R: Source>(&mut self, input: &mut R) -> u128
         requires at_text { is_at_text self.old.formatter ≡ true }
-        ensures makes { Makes result (shape self.old) (shape self.new) (R.supply input.old) (R.supply input.new) }
+        ensures reads { MakesReading result (shape self.old) (shape self.new) (R.supply input.old) (R.supply input.new) (R.failures input.old) (R.failures input.new) }
         ensures few { result < 2 ^ 66 }
-        ensures failures { R.failures input.new ≡ R.failures input.old }
-        ensures unfailed { has_failed self.old.place.ahead ≡ false → has_failed self.new.place.ahead ≡ false }
     {
         let in_line = self.formatter.is_in_line();
         if self.formatter.store.is_reading() {
@@ -122,10 +112,8 @@ impl<'a> Engine<'a> {
     /// many moves that was.
     #[inline(always)]
     fn read_behind<R: Source>(&mut self, input: &mut R) -> u128
-        ensures makes { Makes result (shape self.old) (shape self.new) (R.supply input.old) (R.supply input.new) }
+        ensures reads { MakesReading result (shape self.old) (shape self.new) (R.supply input.old) (R.supply input.new) (R.failures input.old) (R.failures input.new) }
         ensures few { result < 2 ^ 67 }
-        ensures failures { R.failures input.new ≡ R.failures input.old }
-        ensures unfailed { has_failed self.old.place.ahead ≡ false → has_failed self.new.place.ahead ≡ false }
     {
         if self.formatter.store.is_reading() {
             return 0;
@@ -137,9 +125,7 @@ impl<'a> Engine<'a> {
     /// can be read without anything being done, and empty lines behind it.
     #[inline(always)]
     pub(crate) fn put_at_hand<R: Source>(&mut self, input: &mut R) -> u128
-        ensures makes { Makes result (shape self.old) (shape self.new) (R.supply input.old) (R.supply input.new) }
-        ensures failures { R.failures input.new ≡ R.failures input.old }
-        ensures unfailed { has_failed self.old.place.ahead ≡ false → has_failed self.new.place.ahead ≡ false }
+        ensures reads { MakesReading result (shape self.old) (shape self.new) (R.supply input.old) (R.supply input.new) (R.failures input.old) (R.failures input.new) }
     {
         if !self.reads_next() {
             return 0;

@@ -1,10 +1,9 @@
 //! Many moves that read, in one call.
-ghost use Rattle.std.specs.Prelude.{◌≡◌, ◌≤◌, false, true, None};
+ghost use Rattle.std.specs.Prelude.{◌≡◌, ◌≤◌, true, None};
 ghost use Rattle.nr_reading.specs.declared.event.Event.TheVariants as events;
 ghost use Rattle.nr_formatter.specs.declared.tasks.Task.TheVariants as tasks;
-ghost use Rattle.nr_input.specs.Coming.{has_failed};
 ghost use Rattle.nr_engine.specs.Holding.{shape};
-ghost use Rattle.nr_engine.specs.Running.{Makes};
+ghost use Rattle.nr_engine.specs.Running.{MakesReading};
 
 use crate::engine::Engine;
 use nr_formatter::tasks::Task;
@@ -43,10 +42,8 @@ impl<'a> Engine<'a> {
     /// moves that was.
     #[inline(always)]
     pub(crate) fn read_run<R: Source>(&mut self, input: &mut R) -> u128
-        ensures makes { Makes result (shape self.old) (shape self.new) (R.supply input.old) (R.supply input.new) }
+        ensures reads { MakesReading result (shape self.old) (shape self.new) (R.supply input.old) (R.supply input.new) (R.failures input.old) (R.failures input.new) }
         ensures few { result ≤ 65536 }
-        ensures failures { R.failures input.new ≡ R.failures input.old }
-        ensures unfailed { has_failed self.old.place.ahead ≡ false → has_failed self.new.place.ahead ≡ false }
     {
         if !self.reads_next() {
             return 0;

@@ -1,10 +1,9 @@
 //! Cells of a diverted line that is read again: many moves in one call.
-ghost use Rattle.std.specs.Prelude.{◌≡◌, ◌≤◌, ◌<◌, ◌^◌, length, take, Option};
-ghost use Rattle.nr_units.specs.Supply.{Supply};
+ghost use Rattle.std.specs.Prelude.{◌≤◌, ◌<◌, ◌^◌, length, take};
 ghost use Rattle.nr_fill.specs.Rows.{AddsToRow};
 ghost use Rattle.nr_engine.specs.Rereading.{AreCells, cells_of};
 ghost use Rattle.nr_engine.specs.Holding.{shape};
-ghost use Rattle.nr_engine.specs.Running.{Makes};
+ghost use Rattle.nr_engine.specs.Running.{MakesInPlace};
 
 use crate::engine::Engine;
 use nr_fill::cells::CellSink;
@@ -35,8 +34,7 @@ impl<'a> Engine<'a> {
     /// Reads and puts the cells that come next of a diverted line that goes on the page, and tells how many moves that was.
     #[inline(always)]
     pub(crate) fn put_row(&mut self) -> u128
-        ensures makes { (supply : Option Supply) → Makes result (shape self.old) (shape self.new) supply supply }
-        ensures place { self.new.place ≡ self.old.place }
+        ensures puts { MakesInPlace result (shape self.old) (shape self.new) }
         ensures few { result < 2 ^ 66 }
     {
         if !self.formatter.is_rereading() || self.row.is_empty() {

@@ -1,9 +1,8 @@
 //! A whole run.
 ghost use Rattle.std.specs.Prelude.{◌≡◌, ℕ, ◌+◌, ◌*◌, ◌^◌, ◌<◌, ◌≤◌, length, Some};
-ghost use Rattle.nr_units.specs.Failures.{counted_if, put_counted_if};
 ghost use Rattle.nr_units.specs.Supply.{Supply};
 ghost use Rattle.nr_engine.specs.State.{start};
-ghost use Rattle.nr_engine.specs.Answer.{Answers, is_read_fault, is_write_fault};
+ghost use Rattle.nr_engine.specs.Answer.{Answers, ToldFaults};
 ghost use Rattle.nr_engine.specs.Desks.{HasSizes};
 
 use crate::desk::Work;
@@ -34,19 +33,12 @@ use nr_units::source::Source;
 const GREATEST: u64 = 2_147_483_647;
 
 impl<'a> Engine<'a> {
-    ghost use Rattle.std.specs.Prelude.{[], ◌∷◌, ℤ, None, List, Option, OnOk, false};
-    ghost use Rattle.nr_fill.specs.Pieces.{nothing_collected};
-    ghost use Rattle.nr_fill.specs.Rows.{IsRow};
-    ghost use Rattle.nr_page.specs.Sheet.{Holds as HoldsPage};
-    ghost use Rattle.nr_store.specs.Stored.{nothing};
-    ghost use Rattle.nr_store.specs.Requests.{request_names};
-    ghost use Rattle.nr_input.specs.Coming.{nothing_reached, has_failed};
-    ghost use Rattle.nr_formatter.specs.Beginning.{first_formatter};
-    ghost use Rattle.nr_formatter.specs.Registers.{register_set};
-    ghost use Rattle.nr_engine.specs.State.{State, Register as SetRegister};
+    ghost use Rattle.std.specs.Prelude.{false};
+    ghost use Rattle.nr_input.specs.Coming.{has_failed};
+    ghost use Rattle.nr_engine.specs.State.{Register as SetRegister};
     ghost use Rattle.nr_engine.specs.Machine.{first_set};
-    ghost use Rattle.nr_engine.specs.Holding.{Shape, shape, weight, worth};
-    ghost use Rattle.nr_engine.specs.Running.{Chooses, ChoosesAll, Travels};
+    ghost use Rattle.nr_engine.specs.Holding.{shape, weight, worth};
+    ghost use Rattle.nr_engine.specs.Running.{Chooses, ChoosesAll, IsNew, Travels};
 
     /// Nothing is read yet, and nothing placed. The slices are long enough for the limits.
     fn over(
@@ -79,12 +71,7 @@ impl<'a> Engine<'a> {
           page_texts = length page_texts.now;
           page_rows = length page_rows.now;
         }) }
-        ensures formatter { result.formatter ≡ first_formatter (nothing request_names limits.stored limits.depth) (record { collected = nothing_collected; limit = limits.cells }) limits.expansions }
-        ensures place { result.place ≡ nothing_reached }
-        ensures row { IsRow [] result.row }
-        ensures page { HoldsPage [] result.page }
-        ensures page_limit { result.page.limit ≡ limits.cells }
-        ensures select { result.select.now ≡ select.now }
+        ensures is_new { IsNew limits select.now (shape result) }
         ensures stored { limits.stored ≤ 2 ^ 24 }
         ensures expansions { limits.expansions ≤ 2 ^ 32 }
     {
@@ -148,8 +135,7 @@ impl<'a> Engine<'a> {
         requires small { worth (shape self.old) < 2 ^ 80 }
         requires bound { moves.old + weight (shape self.old) ≤ worth (shape self.old) * (self.old.place.taken + 1) }
         ensures travels { Travels (shape self.old) (R.supply input.old) (W.held output.old) (W.held output.new) moves.old moves.new result }
-        ensures read_failures { R.failures input.new ≡ counted_if (is_read_fault result) (R.failures input.old) }
-        ensures write_failures { W.failures output.new ≡ put_counted_if (is_write_fault result) (W.failures output.old) }
+        ensures faults { ToldFaults result (R.failures input.old) (R.failures input.new) (W.failures output.old) (W.failures output.new) }
     {
         loop {
             let many = self.put_at_hand(input);
@@ -182,8 +168,7 @@ pub fn format<R: Source, W: Sink>(
     ensures answers { (supply : Supply) → R.supply input.old ≡ Some supply →
         Answers work.entry.desk.now (start work.entry.desk.now options.now supply) moves.new result (W.held output.old) (W.held output.new) }
     // A fault is told where a call failed, and nowhere else.
-    ensures read_failures { R.failures input.new ≡ counted_if (is_read_fault result) (R.failures input.old) }
-    ensures write_failures { W.failures output.new ≡ put_counted_if (is_write_fault result) (W.failures output.old) }
+    ensures faults { ToldFaults result (R.failures input.old) (R.failures input.new) (W.failures output.old) (W.failures output.new) }
     ensures limits { work.exit.0.now ≡ work.entry.desk.now }
 {
     let Work { desk } = work;
@@ -260,8 +245,7 @@ fn run_in<'a, R: Source, W: Sink>(
     }) }
     ensures answers { (supply : Supply) → R.supply input.old ≡ Some supply →
         Answers limits (start limits options.now supply) moves.new result (W.held output.old) (W.held output.new) }
-    ensures read_failures { R.failures input.new ≡ counted_if (is_read_fault result) (R.failures input.old) }
-    ensures write_failures { W.failures output.new ≡ put_counted_if (is_write_fault result) (W.failures output.old) }
+    ensures faults { ToldFaults result (R.failures input.old) (R.failures input.new) (W.failures output.old) (W.failures output.new) }
 {
     let memory = Memory {
         elements,

@@ -11,8 +11,8 @@ returns-in-Ok-clause-ran g c =
       answers = λ known e. rw c.lend.ensures.limits at (c.format-outcome.ensures.answers known e);
       flushed = c.flush.ensures.held;
       outcome_is = refl;
-      read_failures = c.format-outcome.ensures.read_failures;
-      write_failures = rw c.format-outcome.ensures.write_failures at c.in-Ok.ensures.failures;
+      read_failures = c.format-outcome.ensures.faults.read_failures;
+      write_failures = rw c.format-outcome.ensures.faults.write_failures at c.in-Ok.ensures.failures;
     }
 
 pub returns-in-Err-clause-ran : goal.returns-in-Err-clause-ran
@@ -25,6 +25,6 @@ returns-in-Err-clause-ran g c =
       answers = λ known e. rw c.lend.ensures.limits at (c.format-outcome.ensures.answers known e);
       flushed = c.flush.ensures.held;
       outcome_is = refl;
-      read_failures = c.format-outcome.ensures.read_failures;
-      write_failures = rw c.format-outcome.ensures.write_failures at c.in-Err.ensures.failures;
+      read_failures = c.format-outcome.ensures.faults.read_failures;
+      write_failures = rw c.format-outcome.ensures.faults.write_failures at c.in-Err.ensures.failures;
     }

@@ -2,9 +2,13 @@ use Rattle.nr_engine.specs.Holding.{shape}
 use Rattle.nr_engine.proofs.ReadRuns.{makes_reading}
 use Rattle.nr_engine.proofs.engine.Engine.read_run.Goals as goal
 
-pub returns-clause-makes : goal.returns-clause-makes
-returns-clause-makes g c =
+pub returns-clause-reads : goal.returns-clause-reads
+returns-clause-reads g c =
     let run = c.read_run-run.result in
-    makes_reading run.moves run.event c.read_run-run.new.store c.read_run-run.new.reader c.read_run-run.new.place (shape c.args.self.now) _ _
-    (record { springs = c.reads_next.ensures.springs c.if-not-reads_next.false; event = c.reads_next.ensures.event c.if-not-reads_next.false; task = c.reads_next.ensures.task c.if-not-reads_next.false })
-    c.read_run-run.ensures.read c.read_run-run.ensures.pays c.fit_memory.ensures
+    record {
+      makes = makes_reading run.moves run.event c.read_run-run.new.store c.read_run-run.new.reader c.read_run-run.new.place (shape c.args.self.now) _ _
+          (record { springs = c.reads_next.ensures.springs c.if-not-reads_next.false; event = c.reads_next.ensures.event c.if-not-reads_next.false; task = c.reads_next.ensures.task c.if-not-reads_next.false })
+          c.read_run-run.ensures.read c.read_run-run.ensures.pays c.fit_memory.ensures;
+      failures = c.read_run-run.ensures.failures;
+      unfailed = c.read_run-run.ensures.unfailed;
+    }

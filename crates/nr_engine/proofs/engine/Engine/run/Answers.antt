@@ -7,7 +7,7 @@ pub overflow_add-moves : goal.overflow_add-moves
 overflow_add-moves g c =
     let now = c.loop-self.invariant in
     let first : Shape = shape c.args.self.now in
-    let bound = spent_run first (shape c.loop-self.self) (shape c.put_at_hand-many.new.self) _ _ c.loop-self.moves c.put_at_hand-many.result now.limit now.most now.bound c.put_at_hand-many.ensures.makes in
+    let bound = spent_run first (shape c.loop-self.self) (shape c.put_at_hand-many.new.self) _ _ c.loop-self.moves c.put_at_hand-many.result now.limit now.most now.bound c.put_at_hand-many.ensures.reads.makes in
     let few = few_enough (worth first) c.put_at_hand-many.new.self.place.taken (c.loop-self.moves + c.put_at_hand-many.result) c.requires.small
     (omega (arith, c.taken-reached.ensures.value, c.taken-reached.ensures.within)) (omega (arith, bound)) in
     omega (arith, few)
@@ -15,14 +15,14 @@ overflow_add-moves g c =
 pub loop-self-preserved-then-reads_on : goal.loop-self-preserved-then-reads_on
 loop-self-preserved-then-reads_on g c =
     let now = c.loop-self.invariant in
-    let run = c.put_at_hand-many.ensures.makes in
+    let run = c.put_at_hand-many.ensures.reads.makes in
     let first : Shape = shape c.args.self.now in
     record {
       limit = run.limit ∙ now.limit;
       most = run.most ∙ now.most;
       bound = spent_run first (shape c.loop-self.self) (shape c.put_at_hand-many.new.self) _ _ c.loop-self.moves c.put_at_hand-many.result now.limit now.most now.bound run;
-      unfailed = c.put_at_hand-many.ensures.unfailed now.unfailed;
-      reads = c.put_at_hand-many.ensures.failures ∙ now.reads;
+      unfailed = c.put_at_hand-many.ensures.reads.unfailed now.unfailed;
+      reads = c.put_at_hand-many.ensures.reads.failures ∙ now.reads;
       writes = now.writes;
       made = λ s h.
           let t = now.made s h in
@@ -32,19 +32,19 @@ loop-self-preserved-then-reads_on g c =
 pub loop-self-preserved : goal.loop-self-preserved
 loop-self-preserved g c =
     let now = c.loop-self.invariant in
-    let run = c.put_at_hand-many.ensures.makes in
+    let run = c.put_at_hand-many.ensures.reads.makes in
     let made = c.in-Ok.ensures in
     let first : Shape = shape c.args.self.now in
     let limit = run.limit ∙ now.limit in
     let most = run.most ∙ now.most in
-    let unfailed = c.put_at_hand-many.ensures.unfailed now.unfailed in
+    let unfailed = c.put_at_hand-many.ensures.reads.unfailed now.unfailed in
     let bound = spent_run first (shape c.loop-self.self) (shape c.put_at_hand-many.new.self) _ _ c.loop-self.moves c.put_at_hand-many.result now.limit now.most now.bound run in
     record {
       limit = made.moves.spends.limit ∙ limit;
       most = made.moves.spends.most ∙ most;
       bound = spent first (shape c.put_at_hand-many.new.self) (shape c.advance.new.self) (c.loop-self.moves + c.put_at_hand-many.result) limit most bound made.moves.spends;
       unfailed = made.tells.unfailed unfailed;
-      reads = made.tells.counts unfailed ∙ c.put_at_hand-many.ensures.failures ∙ now.reads;
+      reads = made.tells.counts unfailed ∙ c.put_at_hand-many.ensures.reads.failures ∙ now.reads;
       writes = made.write_failures ∙ now.writes;
       made = λ s h.
           let t = now.made s h in
@@ -55,7 +55,7 @@ loop-self-preserved g c =
 pub returns-in-Err-clause-travels : goal.returns-in-Err-clause-travels
 returns-in-Err-clause-travels g c = λ s h.
     let now = c.loop-self.invariant in
-    let run = c.put_at_hand-many.ensures.makes in
+    let run = c.put_at_hand-many.ensures.reads.makes in
     let first : Shape = shape c.args.self.now in
     let t = now.made s h in
     let glided = made_run s t.0 c.put_at_hand-many.result (shape c.loop-self.self) (shape c.put_at_hand-many.new.self) _ _ _ _ t.2 run in
