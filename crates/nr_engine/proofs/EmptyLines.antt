@@ -8,11 +8,12 @@ use Rattle.nr_reading.specs.declared.event.Event.TheVariants as events
 use Rattle.nr_reading.specs.declared.front.Front.TheVariants as fronts
 use Rattle.nr_reading.specs.declared.half.Half.{Half}
 use Rattle.nr_reading.specs.Meeting.{meet}
-use Rattle.nr_input.specs.AtHand.{ComeNext, behind_newlines, passed_newlines}
+use Rattle.nr_input.specs.AtHand.{ComeNext, behind_last}
 use Rattle.nr_input.specs.Coming.{Coming, HoldsComing, front}
 use Rattle.nr_input.specs.Moving.{met_at, situation}
 use Rattle.nr_input.specs.Moving.{move as input_move}
 use Rattle.nr_input.specs.Moving as input
+use Rattle.nr_input.specs.Runs.{passed_run}
 use Rattle.nr_input.specs.Weights.{expansions_worth}
 use Rattle.nr_input.specs.declared.reader.Reader.{Reader}
 use Rattle.nr_input.specs.declared.told.Told.TheVariants as tells
@@ -30,13 +31,12 @@ use Rattle.nr_formatter.specs.declared.tasks.Then.TheVariants as thens
 use Rattle.nr_formatter.proofs.EmptyLines.{GoesDown, HasRoom, at_line, falls_gone, line_gone, lines_gone, room_on, weigh_gone}
 use Rattle.nr_engine.specs.State.{State, plainly}
 use Rattle.nr_engine.specs.Machine.{situation_of, step, with_situation, work}
-use Rattle.nr_engine.specs.Measures.{IsWithin, passed}
-use Rattle.nr_engine.specs.Answer.{Goes, GoesBy, Works, kind}
+use Rattle.nr_engine.specs.Measures.{IsWithin}
+use Rattle.nr_engine.specs.Answer.{Goes, GoesBy}
 use Rattle.nr_engine.specs.EmptyLines.{NewlinesNext}
 use Rattle.nr_engine.specs.Holding.{Holds, Made, Shape, Stands, at, weight, worth}
 use Rattle.nr_engine.specs.Running.{Makes, unburst}
-use Rattle.nr_engine.proofs.Gliding.{Glides, glides-add, glides-one}
-use Rattle.nr_engine.proofs.Measured.{passed_none}
+use Rattle.nr_engine.proofs.Gliding.{Glides, glides-add, glides-by, glides-one}
 use Rattle.nr_engine.proofs.NextMoves.{kind-hear, kind-read, kind-work, step-hear, step-read, step-work}
 use Rattle.nr_engine.proofs.PlainText.{drop-more, front_more, later-more, later-one, may_give_more, may_give_one, paid}
 use Rattle.nr_engine.proofs.Standing.{wrote_nothing}
@@ -44,11 +44,6 @@ use Rattle.nr_engine.proofs.Travelling.{makes-add}
 use Rattle.nr_engine.proofs.Working.{holds_of}
 
 -- ---- an empty line that was read
-
--- a move that only the formatter makes
-glides_by : (g : Formatter → Formatter) (s : State) → kind s ≡ Works → step s ≡ plainly g s → IsWithin (plainly g s) → Glides s 1 (plainly g s)
-glides_by g s works is within =
-    glides-one s (plainly g s) (subst (λ k. GoesBy k s) (sym works) (ap passed is ∙ passed_none (plainly g s) within)) is
 
 -- it is heard
 abbrev begun : State → State
@@ -85,12 +80,12 @@ module _ (s : State) (chosen : s.chosen ≡ []) (empty : s.formatter.event ≡ e
 
   hears : Glides s 1 (begun s)
   hears =
-      glides_by (heard events.Empty) s (kind-hear s events.Empty chosen room.down.springs empty (λ e. let wrong : ⊥ = cc in wrong))
+      glides-by (heard events.Empty) s (kind-hear s events.Empty chosen room.down.springs empty (λ e. let wrong : ⊥ = cc in wrong))
       (step-hear s events.Empty chosen room.down.springs empty) (within_kept s s.coming (begun s).formatter refl refl burst within)
 
   breaks : Glides (begun s) 1 (broken s)
   breaks =
-      glides_by (break_done thens.Space) (begun s) (kind-work (begun s) (tasks.Break thens.Space) chosen room.down.springs refl refl)
+      glides-by (break_done thens.Space) (begun s) (kind-work (begun s) (tasks.Break thens.Space) chosen room.down.springs refl refl)
       (step-work (begun s) (tasks.Break thens.Space) chosen room.down.springs refl refl ∙ breaks_is s room.down) (within_kept s s.coming (broken s).formatter refl refl burst within)
 
   positive : (spacing s.formatter == 0) ≡ false
@@ -98,7 +93,7 @@ module _ (s : State) (chosen : s.chosen ≡ []) (empty : s.formatter.event ≡ e
 
   spaces : Glides (broken s) 1 (down s)
   spaces =
-      glides_by (spaced (spacing s.formatter)) (broken s) (kind-work (broken s) (tasks.Space (spacing s.formatter)) chosen room.down.springs refl refl)
+      glides-by (spaced (spacing s.formatter)) (broken s) (kind-work (broken s) (tasks.Space (spacing s.formatter)) chosen room.down.springs refl refl)
       (step-work (broken s) (tasks.Space (spacing s.formatter)) chosen room.down.springs refl refl ∙ spaces_is s room.down positive) (within_kept s s.coming (down s).formatter refl refl burst within)
 
   leads : down s ≡ plainly (gone_down 1) s
@@ -141,11 +136,11 @@ told_empty t = record t { formatter = record t.formatter { event = events.Empty 
 
 -- behind it
 abbrev behind_newline : State → State
-behind_newline s = record s { coming = behind_newlines 1 s.coming; formatter = unburst s.formatter }
+behind_newline s = record s { coming = behind_last 10 1 s.coming; formatter = unburst s.formatter }
 
 -- behind so many of them, which went down
 abbrev lines_down : ℕ → State → State
-lines_down n s = record s { coming = behind_newlines n s.coming; formatter = unburst (gone_down n s.formatter) }
+lines_down n s = record s { coming = behind_last 10 n s.coming; formatter = unburst (gone_down n s.formatter) }
 
 -- the same the other way round
 other : (n : ℕ) → (n == 10) ≡ false → (10 == n) ≡ false
@@ -167,7 +162,7 @@ module _ (rest : List ℕ) (s : State) (chosen : s.chosen ≡ []) (start : IsSta
   meets = rw (start.levels, next, meet-newline s.formatter.reader.half start.half start.continued) refl
 
   takes : met_at (record { half = s.formatter.reader.half; event = events.Empty; takes = true }) (situation_of s)
-      ≡ record { situation = situation s.formatter.store (behind_newlines 1 s.coming) (record s.formatter.reader { burst = 0 }); told = tells.Event events.Empty }
+      ≡ record { situation = situation s.formatter.store (behind_last 10 1 s.coming) (record s.formatter.reader { burst = 0 }); told = tells.Event events.Empty }
   takes = rw (start.levels, next, further, later-one s.coming.supply.faults) refl
 
   reads : step s ≡ told_empty (behind_newline s)
@@ -187,13 +182,13 @@ module _ (rest : List ℕ) (s : State) (chosen : s.chosen ≡ []) (start : IsSta
       let t = told_empty (behind_newline s) in
       glides-add s 1 3 t (lines_down 1 s) (glides-one s t goes reads) (glides_empty t chosen refl
       (room_kept 1 s.formatter (record s.formatter.reader { burst = 0 }) events.Empty room)
-      (within_kept s (behind_newlines 1 s.coming) t.formatter refl refl (omega arith) within))
+      (within_kept s (behind_last 10 1 s.coming) t.formatter refl refl (omega arith) within))
 
 -- ---- many newlines
 
 -- within the limits as before
 within_lines : (n : ℕ) (s : State) → IsWithin s → IsWithin (lines_down n s)
-within_lines n s within = within_kept s (behind_newlines n s.coming) (lines_down n s).formatter refl refl (omega arith) within
+within_lines n s within = within_kept s (behind_last 10 n s.coming) (lines_down n s).formatter refl refl (omega arith) within
 
 -- behind a line that went down another begins
 starting_on : (f : Formatter) → IsAtLine f.reader.half → f.springs ≡ None → f.store.levels ≡ [] → IsStarting (gone_down 1 f)
@@ -234,7 +229,7 @@ abbrev coming_of : List ℕ → Faults → ℕ → Coming
 coming_of bs f n = record { supply = record { bytes = bs; faults = f }; taken = n; inside = false }
 
 -- behind a newline and then others
-behind-more : (n : ℕ) (c : Coming) → behind_newlines n (behind_newlines 1 c) ≡ behind_newlines (suc n) c
+behind-more : (n : ℕ) (c : Coming) → behind_last 10 n (behind_last 10 1 c) ≡ behind_last 10 (suc n) c
 behind-more n c =
     let counts : c.taken + 1 + n ≡ c.taken + suc n = omega arith in
     ap (λ bs. coming_of bs (later n (later 1 c.supply.faults)) (c.taken + 1 + n)) (drop-more n c.supply.bytes)
@@ -246,11 +241,11 @@ lines-more : (n : ℕ) (s : State) → lines_down n (lines_down 1 s) ≡ lines_d
 lines-more n s =
     let counts : 1 + n ≡ suc n = omega arith in
     ap (λ c. record s { coming = c; formatter = unburst (gone_down n (gone_down 1 s.formatter)) }) (behind-more n s.coming)
-    ∙ ap (λ f. record s { coming = behind_newlines (suc n) s.coming; formatter = unburst f }) (lines_gone 1 n s.formatter)
-    ∙ ap (λ k. record s { coming = behind_newlines (suc n) s.coming; formatter = unburst (gone_down k s.formatter) }) counts
+    ∙ ap (λ f. record s { coming = behind_last 10 (suc n) s.coming; formatter = unburst f }) (lines_gone 1 n s.formatter)
+    ∙ ap (λ k. record s { coming = behind_last 10 (suc n) s.coming; formatter = unburst (gone_down k s.formatter) }) counts
 
 -- the others come next
-next_more : (bs rest : List ℕ) (c : Coming) → c.supply.bytes ≡ 10 ∷ rest → take (length bs) rest ≡ bs → ComeNext (10 ∷ bs) c → ComeNext bs (behind_newlines 1 c)
+next_more : (bs rest : List ℕ) (c : Coming) → c.supply.bytes ≡ 10 ∷ rest → take (length bs) rest ≡ bs → ComeNext (10 ∷ bs) c → ComeNext bs (behind_last 10 1 c)
 next_more bs rest c is others next = record {
   bytes = rw is others;
   faults = may_give_more (length bs) c.supply.faults next.faults;
@@ -283,7 +278,7 @@ down_shape e = record e { formatter = gone_down 1 e.formatter }
 
 -- so many newlines were read, and their lines went down
 abbrev pub lines_shape : ℕ → Shape → Shape
-lines_shape n e = record e { formatter = unburst (gone_down n e.formatter); place = passed_newlines n e.place }
+lines_shape n e = record e { formatter = unburst (gone_down n e.formatter); place = passed_run 10 n e.place }
 
 -- the moves of the line that was read
 made_empty : (e : Shape) (supply : Option Supply) (held : Option (List ℕ)) (s : State) → Stands [] supply s e → e.formatter.event ≡ events.Empty → HasRoom 1 e.formatter
@@ -313,7 +308,7 @@ makes_empty e supply empty room =
 -- the moves of the others
 made_lines : (n : ℕ) (e : Shape) (supply supply' : Option Supply) (held : Option (List ℕ)) (s : State) → Stands [] supply s e → IsStarting e.formatter → HasRoom (suc n) e.formatter
     → ((c : Coming) → HoldsComing c e.place supply → ComeNext (replicate (suc n) 10) c)
-    → ((c : Coming) → HoldsComing c e.place supply → HoldsComing (behind_newlines (suc n) c) (passed_newlines (suc n) e.place) supply')
+    → ((c : Coming) → HoldsComing c e.place supply → HoldsComing (behind_last 10 (suc n) c) (passed_run 10 (suc n) e.place) supply')
     → Made [] (at e s) (4 * suc n) (lines_shape (suc n) e) supply' held held
 made_lines n e supply supply' held s h start room next behind =
     let t = lines_down (suc n) (at e s) in
@@ -343,7 +338,7 @@ spends_lines n e start room =
 -- newlines that come next
 makes_lines : (n : ℕ) (e : Shape) (supply supply' : Option Supply) → 0 < n → IsStarting e.formatter → HasRoom n e.formatter
     → ((c : Coming) → HoldsComing c e.place supply → ComeNext (replicate n 10) c)
-    → ((c : Coming) → HoldsComing c e.place supply → HoldsComing (behind_newlines n c) (passed_newlines n e.place) supply')
+    → ((c : Coming) → HoldsComing c e.place supply → HoldsComing (behind_last 10 n c) (passed_run 10 n e.place) supply')
     → Makes (4 * n) e (lines_shape n e) supply supply'
 makes_lines zero e supply supply' some start room next behind = absurd (omega (arith, some))
 makes_lines (suc n) e supply supply' some start room next behind = record {
@@ -355,7 +350,7 @@ makes_lines (suc n) e supply supply' some start room next behind = record {
 
 -- and the newlines behind it
 pub makes_more : (n : ℕ) (e : Shape) (supply supply' : Option Supply) → e.formatter.event ≡ events.Empty → 0 < n → HasRoom (1 + n) e.formatter → NewlinesNext n e supply
-    → ((c : Coming) → HoldsComing c e.place supply → HoldsComing (behind_newlines n c) (passed_newlines n e.place) supply')
+    → ((c : Coming) → HoldsComing c e.place supply → HoldsComing (behind_last 10 n c) (passed_run 10 n e.place) supply')
     → Makes (3 + 4 * n) e (lines_shape n (down_shape e)) supply supply'
 makes_more n e supply supply' empty some room next behind =
     let f = e.formatter in

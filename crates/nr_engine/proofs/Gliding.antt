@@ -14,10 +14,10 @@ use Rattle.nr_formatter.specs.declared.lines.Going.{Going}
 use Rattle.nr_formatter.specs.declared.tasks.After.TheVariants as afters
 use Rattle.nr_formatter.specs.declared.tasks.Task.TheVariants as tasks
 use Rattle.nr_formatter.proofs.PlainText.{EndsWord, ends_word, heard-gap, heard-plain}
-use Rattle.nr_engine.specs.State.{State}
+use Rattle.nr_engine.specs.State.{State, plainly}
 use Rattle.nr_engine.specs.Machine.{step, state_after, put_or}
 use Rattle.nr_engine.specs.Measures.{IsWithin, passed}
-use Rattle.nr_engine.specs.Answer.{Goes, GoesBy, Runs}
+use Rattle.nr_engine.specs.Answer.{Goes, GoesBy, Runs, Works, kind}
 use Rattle.nr_engine.proofs.Measured.{passed_none}
 use Rattle.nr_engine.proofs.NextMoves.{step-hear, kind-hear, step-work, kind-work}
 use Rattle.nr_engine.proofs.Standing.{state_after-add, runs-add}
@@ -38,6 +38,11 @@ glides-one s t goes is = record {
   runs = λ k below. (let first : 0 ≡ k = omega arith in subst (λ j. Goes (state_after j s)) first goes);
   leads = is;
 }
+
+-- a move that only the formatter makes
+pub glides-by : (g : Formatter → Formatter) (s : State) → kind s ≡ Works → step s ≡ plainly g s → IsWithin (plainly g s) → Glides s 1 (plainly g s)
+glides-by g s works is within =
+    glides-one s (plainly g s) (subst (λ k. GoesBy k s) (sym works) (ap passed is ∙ passed_none (plainly g s) within)) is
 
 -- ---- a byte that was read
 

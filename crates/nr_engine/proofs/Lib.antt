@@ -6,10 +6,12 @@ mod Going
 mod LevelText
 mod Lightening
 mod LineBeginnings
+mod LinesAtHand
 mod Measured
 mod Moving
 mod NextMoves
 mod PlainGaps
+mod PlainNewlines
 mod PlainText
 mod ReadRuns
 mod RereadCells

@@ -12,7 +12,7 @@ use Rattle.nr_reading.specs.LineBeginnings as reading
 use Rattle.nr_reading.specs.Meeting.{meet}
 use Rattle.nr_reading.specs.Weights.{blanks_owed, weight_of_half}
 use Rattle.nr_reading.proofs.LineBeginnings.{before_line, begun_text, meet-first}
-use Rattle.nr_input.specs.AtHand.{ComeNext, behind_many}
+use Rattle.nr_input.specs.AtHand.{ComeNext}
 use Rattle.nr_input.specs.Coming.{front}
 use Rattle.nr_input.specs.Moving.{met_at, situation}
 use Rattle.nr_input.specs.Moving.{move as input_move}
@@ -36,7 +36,7 @@ use Rattle.nr_engine.specs.Running.{HasNext, Makes, Saves}
 use Rattle.nr_engine.proofs.Gliding.{told}
 use Rattle.nr_engine.proofs.NextMoves.{kind-read, step-read}
 use Rattle.nr_engine.proofs.PlainGaps.{first, first_of}
-use Rattle.nr_engine.proofs.PlainText.{IsTyping, behind_byte, escape, later-one, newline, reads_byte}
+use Rattle.nr_engine.proofs.PlainText.{IsTyping, behind_byte, behind_many, escape, later-one, newline, reads_byte}
 use Rattle.nr_engine.proofs.Standing.{state_after-add}
 
 -- ---- where the text of a line begins

@@ -3,7 +3,7 @@ use Rattle.std.proofs.Common.{◌≡◌, ℕ, ◌+◌, ◌<◌, ◌^◌, true, f
 use Rattle.std.specs.Prelude.{get_or}
 use Rattle.nr_units.specs.Supply.{Supply, MayGive}
 use Rattle.nr_reading.specs.declared.event.Event.TheVariants as events
-use Rattle.nr_input.specs.AtHand.{ComeNext, behind_many, passed_many}
+use Rattle.nr_input.specs.AtHand.{ComeNext}
 use Rattle.nr_input.specs.Coming.{Coming, HoldsComing}
 use Rattle.nr_input.specs.Weights.{expansions_worth}
 use Rattle.nr_formatter.specs.Access.{collected}
@@ -22,7 +22,7 @@ use Rattle.nr_engine.specs.Answer.{Goes}
 use Rattle.nr_engine.specs.Holding.{Shape, at, Stands, Holds, Made}
 use Rattle.nr_engine.specs.Running.{Makes, Saves, unburst}
 use Rattle.nr_engine.proofs.Gliding.{Glides, glides_flows, glides_gap, made_of, told, within_flows, within_gap}
-use Rattle.nr_engine.proofs.PlainText.{IsTyping, behind_byte, front_more, goes_byte, line_behind, may_give_one, paid, reads_byte, stands_typing}
+use Rattle.nr_engine.proofs.PlainText.{IsTyping, behind_byte, behind_many, front_more, goes_byte, line_behind, may_give_one, paid, passed_many, reads_byte, stands_typing}
 use Rattle.nr_engine.proofs.Standing.{wrote_nothing}
 use Rattle.nr_engine.proofs.Working.{holds_of}
 

@@ -3,16 +3,17 @@ use Rattle.std.proofs.Common.{◌≡◌, ℕ, zero, suc, ◌+◌, ◌*◌, ◌<�
 use Rattle.std.specs.Prelude.{◌==◌, All}
 use Rattle.std.proofs.lemmas.Bool.{ne_eqb}
 use Rattle.std.proofs.lemmas.Nat.{mul-le}
-use Rattle.nr_units.specs.Supply.{Faults, Never, After, Anytime, Supply, MayGive, MayGiveAll, one_later, later}
+use Rattle.nr_units.specs.Supply.{Faults, Never, After, Anytime, Supply, MayGive, MayGiveAll, one_later, later, skipped}
 use Rattle.nr_fill.specs.Pieces.{line_cells}
 use Rattle.nr_fill.specs.Runs.{IsPlain, run_cell}
 use Rattle.nr_reading.specs.declared.event.Event.TheVariants as events
 use Rattle.nr_reading.specs.InText.{IsInText}
 use Rattle.nr_reading.proofs.InText.{in_text, meet-plain}
-use Rattle.nr_input.specs.AtHand.{ComeNext, behind_many, passed_many}
-use Rattle.nr_input.specs.Coming.{Coming, HoldsComing, front}
+use Rattle.nr_input.specs.AtHand.{ComeNext}
+use Rattle.nr_input.specs.Coming.{Coming, HoldsComing, Reached, front}
 use Rattle.nr_input.specs.Moving.{move as input_move, situation, met_at}
 use Rattle.nr_input.specs.Moving as input
+use Rattle.nr_input.specs.declared.place.Ahead.TheVariants.{Unseen}
 use Rattle.nr_input.specs.declared.told.Told.TheVariants as tells
 use Rattle.nr_store.specs.Stored.{shown}
 use Rattle.nr_reading.specs.Meeting.{meet}
@@ -34,6 +35,13 @@ use Rattle.nr_engine.proofs.Standing.{wrote_nothing}
 use Rattle.nr_engine.proofs.Working.{holds_of}
 
 -- ---- bytes that come next
+
+-- behind the next n bytes, the last of them no newline
+abbrev pub behind_many : ℕ → Coming → Coming
+behind_many n c = record { supply = skipped n c.supply; taken = c.taken + n; inside = true }
+
+abbrev pub passed_many : ℕ → Reached → Reached
+passed_many n p = record { ahead = Unseen; taken = p.taken + n; inside = true }
 
 -- a front of one byte more
 pub front_more : (xs : List ℕ) (b : ℕ) (bs : List ℕ) → take (suc (length bs)) xs ≡ b ∷ bs → (rest : List ℕ) × (xs ≡ b ∷ rest) × (take (length bs) rest ≡ bs)

@@ -1,6 +1,6 @@
 -- Text of the source that is at hand: runs of plain bytes, and the blanks behind them.
 use Rattle.std.proofs.Common.{◌≡◌, ℕ, zero, suc, ◌+◌, ◌-◌, ◌*◌, ◌<◌, ◌≤◌, Bool, true, false, List, [], ◌∷◌, ◌++◌, length, take, drop, Option, None, Some, refl, sym, ap, ◌∙◌, subst, arith, length-drop, length-take-le}
-use Rattle.std.specs.Prelude.{is_none, slice_index}
+use Rattle.std.specs.Prelude.{◌==◌, is_none, not, slice_index}
 use Rattle.std.specs.Option.{option_map}
 use Rattle.std.proofs.Math.Seq.{drop-nil}
 use Rattle.std.proofs.lemmas.List.{drop-take, get_or-drop, get_or-take, take_rest}
@@ -9,8 +9,9 @@ use Rattle.nr_settings.specs.declared.indents.Margins.{Margins}
 use Rattle.nr_settings.specs.Fonts.{is_under}
 use Rattle.nr_fill.specs.Pieces.{Collected, Piece, Word, begins_line, is_nil, line_cells, word_pieces}
 use Rattle.nr_fill.specs.Runs.{add_run, run_cell}
-use Rattle.nr_input.specs.AtHand.{ComeNext, behind_many, is_unseen, passed_many}
+use Rattle.nr_input.specs.AtHand.{ComeNext, behind_last, is_unseen}
 use Rattle.nr_input.specs.Coming.{Coming, HoldsComing, HoldsSupply, Reached}
+use Rattle.nr_input.specs.Runs.{passed_run}
 use Rattle.nr_input.specs.declared.place.Ahead.{Ahead}
 use Rattle.nr_input.specs.declared.place.Ahead.TheVariants.{Unseen}
 use Rattle.nr_formatter.specs.Access.{collected, margins}
@@ -22,7 +23,7 @@ use Rattle.nr_engine.specs.Machine.{state_after}
 use Rattle.nr_engine.specs.Holding.{Shape, at, weight, worth}
 use Rattle.nr_engine.specs.Running.{HasNext, Longest, Makes, PutsText, Saves, taken_shape, unburst}
 use Rattle.nr_engine.proofs.PlainGaps.{first_of, makes_flows, makes_put, saves_flows, saves_put}
-use Rattle.nr_engine.proofs.PlainText.{ArePlain, come_front, makes_run, run_saves}
+use Rattle.nr_engine.proofs.PlainText.{ArePlain, behind_many, come_front, makes_run, newline, passed_many, run_saves}
 use Rattle.nr_engine.proofs.Travelling.{makes-add, worth_same}
 
 -- ---- what is to come behind some bytes
@@ -38,33 +39,34 @@ supply_held c Unseen unseen = refl
 supply_held c a unseen = absurd (let wrong : false ≡ true = unseen in cc)
 
 -- the program stands behind the next n bytes
-holds_behind : (n : ℕ) (c : Coming) (p : Reached) (supply : Option Supply) → is_unseen p.ahead ≡ true → HoldsComing c p supply
-    → HoldsComing (behind_many n c) (passed_many n p) (option_map (skipped n) supply)
-holds_behind n c p supply unseen h = record {
+pub holds_behind : (last n : ℕ) (c : Coming) (p : Reached) (supply : Option Supply) → is_unseen p.ahead ≡ true → HoldsComing c p supply
+    → HoldsComing (behind_last last n c) (passed_run last n p) (option_map (skipped n) supply)
+holds_behind last n c p supply unseen h = record {
   taken = ap (λ t. t + n) h.taken;
   inside = refl;
   stands = ap (option_map (skipped n)) (supply_unseen c p.ahead supply unseen h.stands);
 }
 
 -- what is to come behind the next n bytes is so of something that was to come before them
-record Before (n : ℕ) (k : Coming) (p : Reached) (supply : Option Supply) : Type 0 where
+record Before (last n : ℕ) (k : Coming) (p : Reached) (supply : Option Supply) : Type 0 where
   coming : Coming
   holds : HoldsComing coming p supply
-  is : k ≡ behind_many n coming
+  is : k ≡ behind_last last n coming
 
 -- where the program stands behind n bytes, it stood before them
-before : (n : ℕ) (k : Coming) (p : Reached) (supply : Option Supply) → is_unseen p.ahead ≡ true → HoldsComing k (passed_many n p) (option_map (skipped n) supply) → Before n k p supply
-before n k p None unseen h = absurd (let wrong : None ≡ Some k.supply = h.stands in cc)
-before n k p (Some q) unseen h =
+before : (last n : ℕ) (k : Coming) (p : Reached) (supply : Option Supply) → is_unseen p.ahead ≡ true → HoldsComing k (passed_run last n p) (option_map (skipped n) supply) → Before last n k p supply
+before last n k p None unseen h = absurd (let wrong : None ≡ Some k.supply = h.stands in cc)
+before last n k p (Some q) unseen h =
     let coming : Coming = record { supply = q; taken = p.taken; inside = p.inside } in
     let stands : Some (skipped n q) ≡ Some k.supply = h.stands in
     let supply : k.supply ≡ skipped n q = cc in
     let taken : k.taken ≡ p.taken + n = sym h.taken in
-    let inside : k.inside ≡ true = sym h.inside in
+    let inside : k.inside ≡ not (last == 10) = sym h.inside in
     record {
       coming = coming;
       holds = record { taken = refl; inside = refl; stands = supply_held coming p.ahead unseen };
-      is = ap (λ x. record k { supply = x }) supply ∙ ap (λ x. record (behind_many n coming) { taken = x; inside = k.inside }) taken ∙ ap (λ x. record (behind_many n coming) { inside = x }) inside;
+      is = ap (λ x. record k { supply = x }) supply ∙ ap (λ x. record (behind_last last n coming) { taken = x; inside = k.inside }) taken
+      ∙ ap (λ x. record (behind_last last n coming) { inside = x }) inside;
     }
 
 -- so many bytes on, and then more of them
@@ -80,15 +82,28 @@ later_on t n (After m) = let counts : m - t - n ≡ m - (t + n) = omega arith in
 later_on t n Anytime = refl
 
 -- what is to come behind them all
-skipped_on : (t n : ℕ) (supply : Option Supply) → option_map (skipped n) (option_map (skipped t) supply) ≡ option_map (skipped (t + n)) supply
+pub skipped_on : (t n : ℕ) (supply : Option Supply) → option_map (skipped n) (option_map (skipped t) supply) ≡ option_map (skipped (t + n)) supply
 skipped_on t n None = refl
 skipped_on t n (Some q) =
     ap (λ xs. Some (record { bytes = xs; faults = later n (later t q.faults) })) (drop_on t n q.bytes)
     ∙ ap (λ f. Some (record { bytes = drop (t + n) q.bytes; faults = f })) (later_on t n q.faults)
 
 -- where the program stands behind them all
-passed_on : (t n : ℕ) (p : Reached) → passed_many n (passed_many t p) ≡ passed_many (t + n) p
-passed_on t n p = let counts : p.taken + t + n ≡ p.taken + (t + n) = omega arith in ap (λ k. record (passed_many (t + n) p) { taken = k }) counts
+pub passed_on : (t n : ℕ) (bs : List ℕ) (p : Reached) → 0 < n
+    → passed_run (slice_index (drop t bs) (n - 1)) n (passed_run (slice_index bs (t - 1)) t p) ≡ passed_run (slice_index bs (t + n - 1)) (t + n) p
+passed_on t n bs p some =
+    let counts : p.taken + t + n ≡ p.taken + (t + n) = omega arith in
+    let place : t + (n - 1) ≡ t + n - 1 = omega (arith, some) in
+    let last : slice_index (drop t bs) (n - 1) ≡ slice_index bs (t + n - 1) = get_or-drop t bs (n - 1) 0 ∙ ap (slice_index bs) place in
+    ap (λ k. record (passed_run (slice_index (drop t bs) (n - 1)) n p) { taken = k }) counts ∙ ap (λ b. passed_run b (t + n) p) last
+
+-- a byte that is no newline is the last
+pub passed_inside : (b n : ℕ) (p : Reached) → (b == 10) ≡ false → passed_many n p ≡ passed_run b n p
+passed_inside b n p is = rw is refl
+
+holds_inside : (n : ℕ) (c : Coming) (p : Reached) (supply : Option Supply) → is_unseen p.ahead ≡ true → HoldsComing c p supply
+    → HoldsComing (behind_many n c) (passed_many n p) (option_map (skipped n) supply)
+holds_inside n c p supply unseen h = holds_behind 0 n c p supply unseen h
 
 -- no call for the other bytes fails
 may_give_behind : (t n m : ℕ) (f : Faults) → t + n ≤ m → MayGiveAll m f → MayGiveAll n (later t f)
@@ -97,8 +112,8 @@ may_give_behind t n m (After k) less h = omega (arith, less, h)
 may_give_behind t n m Anytime less h = tt
 
 -- the other bytes come next behind the first t
-come_behind : (t : ℕ) (bs : List ℕ) (c : Coming) → t ≤ length bs → ComeNext bs c → ComeNext (drop t bs) (behind_many t c)
-come_behind t bs c less next =
+come_behind : (last t : ℕ) (bs : List ℕ) (c : Coming) → t ≤ length bs → ComeNext bs c → ComeNext (drop t bs) (behind_last last t c)
+come_behind last t bs c less next =
     let xs = c.supply.bytes in
     let left : length (drop t bs) ≡ length bs - t = length-drop t bs in
     let all : t + (length bs - t) ≡ length bs = omega (arith, less) in
@@ -109,14 +124,15 @@ come_behind t bs c less next =
     }
 
 -- they are read next once the first t were put
-next_behind : (t : ℕ) (bs : List ℕ) (e : Shape) (supply : Option Supply) (g : Formatter) → t ≤ length bs → g.store.levels ≡ [] → HasNext bs e supply
-    → HasNext (drop t bs) (taken_shape t g e) (option_map (skipped t) supply)
+pub next_behind : (t : ℕ) (bs : List ℕ) (e : Shape) (supply : Option Supply) (g : Formatter) → t ≤ length bs → g.store.levels ≡ [] → HasNext bs e supply
+    → HasNext (drop t bs) (taken_shape bs t g e) (option_map (skipped t) supply)
 next_behind t bs e supply g less levels has = record {
   levels = levels;
   unseen = refl;
   next = λ k h.
-      let b = before t k e.place supply has.unseen h in
-      subst (λ c. ComeNext (drop t bs) c) (sym b.is) (come_behind t bs b.coming less (has.next b.coming b.holds));
+      let last = slice_index bs (t - 1) in
+      let b = before last t k e.place supply has.unseen h in
+      subst (λ c. ComeNext (drop t bs) c) (sym b.is) (come_behind last t bs b.coming less (has.next b.coming b.holds));
 }
 
 -- ---- a line that has begun
@@ -139,7 +155,7 @@ some_behind [] (q ∷ qs) p = refl
 some_behind (x ∷ ps) qs p = refl
 
 -- and behind the blank that ends a word
-begun-gap : (c : Collected) (word : Option Word) → c.word ≡ word → is_none word ≡ false → begins_line (gapped c) ≡ false
+pub begun-gap : (c : Collected) (word : Option Word) → c.word ≡ word → is_none word ≡ false → begins_line (gapped c) ≡ false
 begun-gap c None is some = absurd (let wrong : true ≡ false = some in cc)
 begun-gap c (Some w) is some = let pieces : is_nil (c.pieces ++ word_pieces c.word) ≡ false = rw is (some_behind c.pieces w.parts w.last) in rw pieces refl
 
@@ -157,7 +173,7 @@ pub puts_none : (bs : List ℕ) (f : Formatter) → PutsText bs 0 0 f f
 puts_none bs f = record { front = omega arith; least = omega arith; most = omega arith; none = λ same. refl; store = refl; makes = λ e supply is has some. absurd (omega (arith, some)); saves = λ e supply is has some. absurd (omega (arith, some)) }
 
 -- what the later of two runs of moves saves, both save
-saves_on : (saved m k : ℕ) (e f g : Shape) → f.formatter.store.limit ≡ e.formatter.store.limit → f.formatter.reader.most ≡ e.formatter.reader.most
+pub saves_on : (saved m k : ℕ) (e f g : Shape) → f.formatter.store.limit ≡ e.formatter.store.limit → f.formatter.reader.most ≡ e.formatter.reader.most
     → Saves saved m e f → Saves saved k f g → Saves saved (m + k) e g
 saves_on saved m k e f g limit most a b =
     let more : weight g + k + saved + worth e * f.place.taken ≤ weight f + worth e * g.place.taken =
@@ -165,7 +181,7 @@ saves_on saved m k e f g limit most a b =
     omega (arith, a, more)
 
 -- one after the other
-puts_on : (t m n k : ℕ) (bs : List ℕ) (f g h : Formatter) → PutsText bs t m f g → PutsText (drop t bs) n k g h → PutsText bs (t + n) (m + k) f h
+pub puts_on : (t m n k : ℕ) (bs : List ℕ) (f g h : Formatter) → PutsText bs t m f g → PutsText (drop t bs) n k g h → PutsText bs (t + n) (m + k) f h
 puts_on zero m n k bs f g h a b =
     let count : n ≡ 0 + n = omega arith in
     let moves : k ≡ m + k = omega (arith, a.most) in
@@ -183,22 +199,28 @@ puts_on (suc t) m (suc n) k bs f g h a b =
       none = λ none. absurd (omega (arith, none));
       store = b.store ∙ a.store;
       makes = λ e supply is has some.
-          let between : Shape = taken_shape (suc t) g e in
+          let between : Shape = taken_shape bs (suc t) g e in
           let rest = option_map (skipped (suc t)) supply in
           let levels : g.store.levels ≡ [] = ap (λ v. v.levels) (a.store ∙ sym (ap (λ (x : Formatter). x.store) is)) ∙ has.levels in
           let first = a.makes e supply is has (omega arith) in
           let second = b.makes between rest refl (next_behind (suc t) bs e supply g a.front levels has) (omega arith) in
-          subst (λ q. Makes (m + k) e (taken_shape (suc t + suc n) h e) supply q) (skipped_on (suc t) (suc n) supply)
-          (subst (λ p. Makes (m + k) e (record e { formatter = unburst h; place = p }) supply (option_map (skipped (suc n)) rest)) (passed_on (suc t) (suc n) e.place)
-          (makes-add m k e between (taken_shape (suc n) h between) supply rest (option_map (skipped (suc n)) rest) first second));
+          subst (λ q. Makes (m + k) e (taken_shape bs (suc t + suc n) h e) supply q) (skipped_on (suc t) (suc n) supply)
+          (subst (λ p. Makes (m + k) e (record e { formatter = unburst h; place = p }) supply (option_map (skipped (suc n)) rest)) (passed_on (suc t) (suc n) bs e.place (omega arith))
+          (makes-add m k e between (taken_shape (drop (suc t) bs) (suc n) h between) supply rest (option_map (skipped (suc n)) rest) first second));
       saves = λ e supply is has some.
-          let between : Shape = taken_shape (suc t) g e in
+          let between : Shape = taken_shape bs (suc t) g e in
           let levels : g.store.levels ≡ [] = ap (λ v. v.levels) (a.store ∙ sym (ap (λ (x : Formatter). x.store) is)) ∙ has.levels in
           let first = a.makes e supply is has (omega arith) in
           let second = b.saves between (option_map (skipped (suc t)) supply) refl (next_behind (suc t) bs e supply g a.front levels has) (omega arith) in
-          subst (λ p. Saves 20 (m + k) e (record e { formatter = unburst h; place = p })) (passed_on (suc t) (suc n) e.place)
-          (saves_on 20 m k e between (taken_shape (suc n) h between) first.limit first.most (a.saves e supply is has (omega arith)) second);
+          subst (λ p. Saves 20 (m + k) e (record e { formatter = unburst h; place = p })) (passed_on (suc t) (suc n) bs e.place (omega arith))
+          (saves_on 20 m k e between (taken_shape (drop (suc t) bs) (suc n) h between) first.limit first.most (a.saves e supply is has (omega arith)) second);
     }
+
+-- the last byte of a run is no newline
+last_inside : (n : ℕ) (bs : List ℕ) → n ≤ length bs → ArePlain (take n bs) → 0 < n → (slice_index bs (n - 1) == 10) ≡ false
+last_inside n bs front plain some =
+    let below : n - 1 < n = omega (arith, some) in
+    subst (λ b. (b == 10) ≡ false) (get_or-take n bs (n - 1) 0 below) (newline (slice_index (take n bs) (n - 1)) (plain (n - 1) 0 (omega (arith, below, length-take-le n bs front))))
 
 -- a run of plain bytes
 puts_run : (n : ℕ) (bs : List ℕ) (f : Formatter) → is_in_line f ≡ true → n ≤ length bs → ArePlain (take n bs)
@@ -217,13 +239,15 @@ puts_run n bs f line front plain fits =
           subst (λ (x : Formatter). line_cells (collected (run_put (take n bs) x)) ≤ x.line.limit) (sym is) (fits some) in
           let run = makes_run (take n bs) e supply rest (omega (arith, count, some)) (ap is_in_line is ∙ line) has.levels plain
           (λ c h. come_front n bs c front (has.next c h)) fits_there
-          (λ c h. subst (λ m. HoldsComing (behind_many m c) (passed_many m e.place) rest) (sym count) (holds_behind n c e.place supply has.unseen h)) in
-          subst (λ (x : Formatter). Makes (2 * n) e (record e { formatter = run_put (take n bs) x; place = passed_many n e.place }) supply rest) is
-          (subst (λ m. Makes (2 * m) e (record e { formatter = run_put (take n bs) (unburst e.formatter); place = passed_many m e.place }) supply rest) count run);
+          (λ c h. subst (λ m. HoldsComing (behind_many m c) (passed_many m e.place) rest) (sym count) (holds_inside n c e.place supply has.unseen h)) in
+          subst (λ p. Makes (2 * n) e (record e { formatter = run_put (take n bs) (unburst f); place = p }) supply rest) (passed_inside (slice_index bs (n - 1)) n e.place (last_inside n bs front plain some))
+          (subst (λ (x : Formatter). Makes (2 * n) e (record e { formatter = run_put (take n bs) x; place = passed_many n e.place }) supply rest) is
+          (subst (λ m. Makes (2 * m) e (record e { formatter = run_put (take n bs) (unburst e.formatter); place = passed_many m e.place }) supply rest) count run));
       saves = λ e supply is has some.
-          subst (λ (x : Formatter). Saves 20 (2 * n) e (record e { formatter = run_put (take n bs) x; place = passed_many n e.place })) is
+          subst (λ p. Saves 20 (2 * n) e (record e { formatter = run_put (take n bs) (unburst f); place = p })) (passed_inside (slice_index bs (n - 1)) n e.place (last_inside n bs front plain some))
+          (subst (λ (x : Formatter). Saves 20 (2 * n) e (record e { formatter = run_put (take n bs) x; place = passed_many n e.place })) is
           (subst (λ m. Saves 20 (2 * m) e (record e { formatter = run_put (take n bs) (unburst e.formatter); place = passed_many m e.place })) count
-          (run_saves (take n bs) e (omega (arith, count, some))));
+          (run_saves (take n bs) e (omega (arith, count, some)))));
     }
 
 -- a blank that does nothing but end its word
@@ -239,6 +263,10 @@ module _ (bs : List ℕ) (f : Formatter) (line : is_in_line f ≡ true) (some : 
   blank_next : (e : Shape) (supply : Option Supply) → HasNext bs e supply → (c : Coming) → HoldsComing c e.place supply → ComeNext (32 ∷ (first_of bs 32 some blank).0) c
   blank_next e supply has c h = subst (λ xs. ComeNext xs c) (first_of bs 32 some blank).1 (has.next c h)
 
+  -- it is no newline
+  passed_blank : (p : Reached) → passed_many 1 p ≡ passed_run (slice_index bs 0) 1 p
+  passed_blank p = ap (λ b. passed_run b 1 p) (sym blank)
+
   -- the line is full then
   puts_flows : PutsText bs 1 2 f (gap_flows f)
   puts_flows = record {
@@ -249,12 +277,14 @@ module _ (bs : List ℕ) (f : Formatter) (line : is_in_line f ≡ true) (some : 
     store = refl;
     makes = λ e supply is has any.
         let rest = option_map (skipped 1) supply in
-        subst (λ (x : Formatter). Makes 2 e (record e { formatter = gap_flows x; place = passed_many 1 e.place }) supply rest) is
+        subst (λ p. Makes 2 e (record e { formatter = gap_flows (unburst f); place = p }) supply rest) (passed_blank e.place)
+        (subst (λ (x : Formatter). Makes 2 e (record e { formatter = gap_flows x; place = passed_many 1 e.place }) supply rest) is
         (makes_flows (first_of bs 32 some blank).0 e supply rest (ap is_in_line is ∙ line) has.levels (gap_there e is) (blank_next e supply has)
-        (λ c h. holds_behind 1 c e.place supply has.unseen h));
+        (λ c h. holds_inside 1 c e.place supply has.unseen h)));
     saves = λ e supply is has any.
         let there = in_line e.formatter (ap is_in_line is ∙ line) in
-        subst (λ (x : Formatter). Saves 20 2 e (record e { formatter = gap_flows x; place = passed_many 1 e.place })) is (saves_flows e there.event there.task);
+        subst (λ p. Saves 20 2 e (record e { formatter = gap_flows (unburst f); place = p })) (passed_blank e.place)
+        (subst (λ (x : Formatter). Saves 20 2 e (record e { formatter = gap_flows x; place = passed_many 1 e.place })) is (saves_flows e there.event there.task));
   }
 
   -- or it is not
@@ -268,11 +298,13 @@ module _ (bs : List ℕ) (f : Formatter) (line : is_in_line f ≡ true) (some : 
     makes = λ e supply is has any.
         let rest = option_map (skipped 1) supply in
         let fits_there : fits_line (gapped (collected e.formatter)) ≡ true = ap (λ (x : Formatter). fits_line (gapped (collected x))) is ∙ fits in
-        subst (λ (x : Formatter). Makes 3 e (record e { formatter = gap_put x; place = passed_many 1 e.place }) supply rest) is
+        subst (λ p. Makes 3 e (record e { formatter = gap_put (unburst f); place = p }) supply rest) (passed_blank e.place)
+        (subst (λ (x : Formatter). Makes 3 e (record e { formatter = gap_put x; place = passed_many 1 e.place }) supply rest) is
         (makes_put (first_of bs 32 some blank).0 e supply rest (ap is_in_line is ∙ line) has.levels (gap_there e is) (blank_next e supply has)
-        (λ c h. holds_behind 1 c e.place supply has.unseen h) fits_there);
+        (λ c h. holds_inside 1 c e.place supply has.unseen h) fits_there));
     saves = λ e supply is has any.
-        subst (λ (x : Formatter). Saves 20 3 e (record e { formatter = gap_put x; place = passed_many 1 e.place })) is (saves_put e);
+        subst (λ p. Saves 20 3 e (record e { formatter = gap_put (unburst f); place = p })) (passed_blank e.place)
+        (subst (λ (x : Formatter). Saves 20 3 e (record e { formatter = gap_put x; place = passed_many 1 e.place })) is (saves_put e));
   }
 
 -- ---- one turn
@@ -357,18 +389,24 @@ makes_there n e f x y z m there = record {
 
 -- the source was moved behind the bytes that were put
 pub makes_taken : (t m : ℕ) (bs : List ℕ) (e : Shape) (supply supply' : Option Supply) (g : Formatter) → PutsText bs t m e.formatter g → 0 < t → HasNext bs e supply
-    → ((c : Coming) → HoldsComing c e.place supply → HoldsComing (behind_many t c) (passed_many t e.place) supply') → Makes m e (taken_shape t g e) supply supply'
+    → ((c : Coming) → HoldsComing c e.place supply → HoldsComing (behind_last (slice_index bs (t - 1)) t c) (passed_run (slice_index bs (t - 1)) t e.place) supply')
+    → Makes m e (taken_shape bs t g e) supply supply'
 makes_taken t m bs e supply supply' g puts some has behind =
-    makes_there m e (taken_shape t g e) supply (option_map (skipped t) supply) supply' (puts.makes e supply refl has some)
+    makes_there m e (taken_shape bs t g e) supply (option_map (skipped t) supply) supply' (puts.makes e supply refl has some)
     (λ k h.
-    let b = before t k e.place supply has.unseen h in
-    subst (λ c. HoldsComing c (passed_many t e.place) supply') (sym b.is) (behind b.coming b.holds))
+    let last = slice_index bs (t - 1) in
+    let b = before last t k e.place supply has.unseen h in
+    subst (λ c. HoldsComing c (passed_run last t e.place) supply') (sym b.is) (behind b.coming b.holds))
 
 -- no less could be put
 pub longest_taken : (bs : List ℕ) (t m : ℕ) (f : Formatter) → Longest bs t m f → Longest bs t m (unburst f)
 longest_taken bs t m f h = record {
   least = h.least;
   most = h.most;
-  stops = h.stops;
-  blank = λ below reads is gap. h.blank below reads is (record { plain = gap.plain; within = gap.within });
+  words = record {
+    stops = h.words.stops;
+    blank = λ below line is gap. h.words.blank below line is (record { plain = gap.plain; within = gap.within });
+  };
+  newline = λ below is line. h.newline below is (record { line = line.line; plain = line.plain; trap = line.trap; underlined = line.underlined; within = line.within });
+  begins = λ at out begins. h.begins at out (record { some = begins.some; plain = begins.plain; control = begins.control; room = begins.room });
 }

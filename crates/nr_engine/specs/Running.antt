@@ -1,19 +1,21 @@
 -- What the options do to the engine, and a whole run of it.
-use Rattle.std.specs.Prelude.{◌≡◌, ℕ, ◌+◌, ◌*◌, ◌≤◌, ◌<◌, List, [], length, slice_index, Option, Result, Ok, Err, OnOk, true, false}
+use Rattle.std.specs.Prelude.{◌≡◌, ℕ, ◌+◌, ◌-◌, ◌*◌, ◌≤◌, ◌<◌, List, [], length, drop, slice_index, Option, Result, Ok, Err, OnOk, true, false}
 use Rattle.std.specs.Option.{option_map}
 use Rattle.nr_units.specs.Supply.{Supply, skipped}
 use Rattle.nr_options.specs.Limits.{Bounds}
 use Rattle.nr_options.specs.declared.options.Options.{Options}
-use Rattle.nr_input.specs.AtHand.{ComeNext, is_unseen, passed_many}
+use Rattle.nr_input.specs.AtHand.{ComeNext, is_unseen}
 use Rattle.nr_input.specs.Coming.{Coming, HoldsComing, has_failed, nothing_reached}
+use Rattle.nr_input.specs.Runs.{passed_run}
 use Rattle.nr_fill.specs.Pieces.{text_cells}
 use Rattle.nr_fill.specs.Rows.{IsRow}
 use Rattle.nr_fill.specs.Runs.{IsPlain}
 use Rattle.nr_formatter.specs.Access.{collected}
 use Rattle.nr_formatter.specs.Limits.{IsWithin}
-use Rattle.nr_formatter.specs.Runs.{IsGap}
+use Rattle.nr_formatter.specs.LineBeginnings.{BeginsText, is_at_text}
+use Rattle.nr_formatter.specs.LineEnds.{IsNewline}
+use Rattle.nr_formatter.specs.Runs.{IsGap, is_in_line}
 use Rattle.nr_formatter.specs.declared.formatter.Formatter.{Formatter}
-use Rattle.nr_formatter.specs.declared.tasks.Task.TheVariants as tasks
 use Rattle.nr_page.specs.Sheet.{Holds as HoldsPage}
 use Rattle.nr_page.specs.declared.selection.PageRange.{PageRange}
 use Rattle.nr_store.specs.Stored.{charge_of}
@@ -76,9 +78,9 @@ Saves saved n e f = weight f + n + saved + worth e * e.place.taken ≤ weight e 
 abbrev pub unburst : Formatter → Formatter
 unburst f = record f { reader = record f.reader { burst = 0 } }
 
--- n bytes were taken, and this is the formatter behind them
-abbrev pub taken_shape : ℕ → Formatter → Shape → Shape
-taken_shape n g e = record e { formatter = unburst g; place = passed_many n e.place }
+-- the first n of these bytes were taken, and this is the formatter behind them
+abbrev pub taken_shape : List ℕ → ℕ → Formatter → Shape → Shape
+taken_shape bs n g e = record e { formatter = unburst g; place = passed_run (slice_index bs (n - 1)) n e.place }
 
 -- these bytes of the source are read next
 pub record HasNext (bs : List ℕ) (e : Shape) (supply : Option Supply) : Type 0 where
@@ -86,26 +88,33 @@ pub record HasNext (bs : List ℕ) (e : Shape) (supply : Option Supply) : Type 0
   pub unseen : is_unseen e.place.ahead ≡ true
   pub next : (c : Coming) → HoldsComing c e.place supply → ComeNext bs c
 
--- So many of these bytes were put, two or three moves each, whatever the engine has besides the formatter, and 20 moves more are
+-- So many of these bytes were put, two to five moves each, whatever the engine has besides the formatter, and 20 moves more are
 -- paid. What was spliced before them does not matter.
 pub record PutsText (bs : List ℕ) (taken moves : ℕ) (f g : Formatter) : Type 0 where
   pub front : taken ≤ length bs
   pub least : 2 * taken ≤ moves
-  pub most : moves ≤ 3 * taken
+  pub most : moves ≤ 5 * taken
   pub none : taken ≡ 0 → g ≡ f
   pub store : g.store ≡ f.store
   pub makes : (e : Shape) (supply : Option Supply) → unburst e.formatter ≡ unburst f → HasNext bs e supply → 0 < taken
-      → Makes moves e (taken_shape taken g e) supply (option_map (skipped taken) supply)
+      → Makes moves e (taken_shape bs taken g e) supply (option_map (skipped taken) supply)
   pub saves : (e : Shape) (supply : Option Supply) → unburst e.formatter ≡ unburst f → HasNext bs e supply → 0 < taken
-      → Saves 20 moves e (taken_shape taken g e)
+      → Saves 20 moves e (taken_shape bs taken g e)
 
--- As many of these bytes were put as could be, two or three moves each: where the line is not full, what comes next is neither
--- a plain byte that fits nor a blank that does nothing but end its word.
+-- As many bytes of a line's words were put as could be: in the midst of a line that is not full, what comes next is neither a plain
+-- byte nor a blank that does nothing but end its word.
+pub record LongestWords (bs : List ℕ) (taken : ℕ) (f : Formatter) : Type 0 where
+  pub stops : taken < length bs → is_in_line f ≡ true → IsPlain (slice_index bs taken) → text_cells (collected f) ≡ f.line.limit
+  pub blank : taken < length bs → is_in_line f ≡ true → slice_index bs taken ≡ 32 → IsGap f → ⊥
+
+-- As many of these bytes were put as could be, two to five moves each: what comes next is none of a line's words, no newline that
+-- does nothing but end its line, and at a line's beginning no text that is put.
 pub record Longest (bs : List ℕ) (taken moves : ℕ) (f : Formatter) : Type 0 where
   pub least : 2 * taken ≤ moves
-  pub most : moves ≤ 3 * taken
-  pub stops : taken < length bs → f.task ≡ tasks.Read → IsPlain (slice_index bs taken) → text_cells (collected f) ≡ f.line.limit
-  pub blank : taken < length bs → f.task ≡ tasks.Read → slice_index bs taken ≡ 32 → IsGap f → ⊥
+  pub most : moves ≤ 5 * taken
+  pub words : LongestWords bs taken f
+  pub newline : taken < length bs → slice_index bs taken ≡ 10 → IsNewline f → ⊥
+  pub begins : is_at_text f ≡ true → is_in_line f ≡ false → BeginsText (drop taken bs) f → ⊥
 
 -- all choices took effect, each as a move, or the run stops at one
 abbrev pub AfterChoices : Option Supply → State → ℕ → Shape → Option (List ℕ) → Result (Unit {0}) Outcome → Type 0

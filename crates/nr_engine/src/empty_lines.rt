@@ -64,7 +64,7 @@ impl<'a> Engine<'a> {
             return 3;
         }
         let reader = &mut self.formatter.reader;
-        nr_input::take_newlines(&mut self.place, reader, input, count);
+        nr_input::take_window(&mut self.place, reader, input, b'\n', count);
         4 * count as u128 + 3
     }
 

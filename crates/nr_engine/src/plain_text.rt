@@ -5,7 +5,7 @@ ghost use Rattle.nr_formatter.specs.LineBeginnings.{is_at_text, BeginsText};
 ghost use Rattle.nr_formatter.specs.Runs.{is_in_line};
 ghost use Rattle.nr_engine.specs.Holding.{shape};
 ghost use Rattle.nr_engine.specs.LineBeginnings.{may_take, Begins, PutsMost};
-ghost use Rattle.nr_engine.specs.Running.{MakesReading, Longest, PutsText};
+ghost use Rattle.nr_engine.specs.Running.{MakesReading, Longest, LongestWords, PutsText};
 
 use crate::engine::Engine;
 use nr_formatter::formatter::Formatter;
@@ -22,11 +22,12 @@ struct Words {
 /// Puts the words that these bytes begin with, and the blanks behind them that do nothing but end their word, in a text line
 /// that has begun: up to a byte that is neither, or to the limit of the line.
 #[inline(always)]
-fn put_words(formatter: &mut Formatter<'_>, bytes: &[u8]) -> Words
+fn put_line_words(formatter: &mut Formatter<'_>, bytes: &[u8]) -> Words
     requires line { is_in_line formatter.old ≡ true }
     requires few { length bytes.now < 2 ^ 40 }
     ensures puts { PutsText bytes.now result.taken result.moves formatter.old formatter.new }
-    ensures longest { Longest bytes.now result.taken result.moves formatter.new }
+    ensures longest { LongestWords bytes.now result.taken formatter.new }
+    ensures line { is_at_text formatter.new ≡ true → is_in_line formatter.new ≡ true }
 {
     let mut taken = 0;
     let mut moves = 0;
@@ -51,8 +52,44 @@ fn put_words(formatter: &mut Formatter<'_>, bytes: &[u8]) -> Words
     }
 }
 
+/// Puts the text that these bytes begin with, in a text line that has begun: its words, and behind the newline that ends it and does
+/// nothing else, where it begins with a byte that is put, the next line's.
+#[inline(always)]
+fn put_words(formatter: &mut Formatter<'_>, bytes: &[u8]) -> Words
+    requires line { is_in_line formatter.old ≡ true }
+    requires few { length bytes.now < 2 ^ 40 }
+    ensures puts { PutsText bytes.now result.taken result.moves formatter.old formatter.new }
+    ensures longest { Longest bytes.now result.taken result.moves formatter.new }
+{
+    let mut taken = 0;
+    let mut moves = 0;
+    loop {
+        let line = put_line_words(formatter, &bytes[taken..]);
+        taken += line.taken;
+        moves += line.moves;
+        if taken == bytes.len() || bytes[taken] != b'\n' {
+            return Words { taken, moves };
+        }
+        match formatter.put_newline() {
+            Gap::Left => return Words { taken, moves },
+            Gap::Flows => {
+                return Words {
+                    taken: taken + 1,
+                    moves: moves + 2,
+                };
+            }
+            Gap::Reads => {}
+        }
+        taken += 1;
+        moves += 5;
+        if !formatter.begin_text(&bytes[taken..]) {
+            return Words { taken, moves };
+        }
+    }
+}
+
 impl<'a> Engine<'a> {
-    /// Reads and puts the words of the source at hand, in a text line that has begun, and the blanks behind them that do
+    /// Reads and puts the text of the source at hand, in a text line that has begun, with the blanks and newlines that do
     /// nothing but end their word, and tells how many moves that was.
     #[inline(always)]
     fn put_source_text<R: Source>(&mut self, input: &mut R) -> u128
@@ -66,12 +103,9 @@ impl<'a> Engine<'a> {
         if words.taken == 0 {
             return 0;
         }
-        nr_input::take_window(
-            &mut self.place,
-            &mut self.formatter.reader,
-            input,
-            words.taken,
-        );
+        let last = bytes[words.taken - 1];
+        let reader = &mut self.formatter.reader;
+        nr_input::take_window(&mut self.place, reader, input, last, words.taken);
         words.moves as u128
     }
 

@@ -137,7 +137,7 @@ either_way true c = refl
 either_way false c = refl
 
 -- there are no points
-pointed-plain : (f : Formatter) → is_filling f ≡ true → f.store.words ≡ [] → pointed f ≡ collected f
+pub pointed-plain : (f : Formatter) → is_filling f ≡ true → f.store.words ≡ [] → pointed f ≡ collected f
 unfolding pointed
 pointed-plain f filling words = rw (filling, words) (either_way (f.settings.hyphenation.on && may_hyphenate (collected f)) (collected f))
 

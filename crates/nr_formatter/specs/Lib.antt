@@ -8,6 +8,7 @@ pub mod Ending
 pub mod Given
 pub mod Limits
 pub mod LineBeginnings
+pub mod LineEnds
 pub mod Lines
 pub mod Motions
 pub mod Moves

@@ -6,6 +6,7 @@ ghost use Rattle.nr_store.specs.declared.element.Element.TheVariants as elements
 ghost use Rattle.nr_formatter.specs.Access.{collected};
 ghost use Rattle.nr_formatter.specs.declared.runs.Gap.TheVariants as gaps;
 ghost use Rattle.nr_formatter.specs.LineBeginnings.{is_at_text, AfterBeginning};
+ghost use Rattle.nr_formatter.specs.LineEnds.{IsNewline, AfterNewline};
 ghost use Rattle.nr_formatter.specs.Runs.{reads_next, is_in_line, run_put, gaps_plainly, IsGap, BehindWord, AfterGap, IsPlainByte, PutsLevel, PutsWord, is_rereading_line, manner_of};
 
 use crate::formatter::Formatter;
@@ -17,7 +18,7 @@ use nr_store::Element;
 /// How many bytes of a level are put in one call, at most.
 const LONGEST_RUN: usize = 64;
 
-/// What became of a blank behind a word.
+/// What became of a blank or a newline behind a word.
 #[derive(Clone, Copy, Debug, PartialEq, Eq)]
 pub enum Gap {
     /// It was left, and nothing changed.
@@ -177,6 +178,31 @@ impl<'a> Formatter<'a> {
         }
         self.line.widen_gap();
         self.flow_behind()
+    }
+
+    /// Reads the newline that ends a text line, where it does nothing but end the word and widen the gap, and passes no limit.
+    #[inline]
+    pub fn put_newline(&mut self) -> Gap
+        ensures is { AfterNewline self.old result self.new }
+        ensures left { result ≡ gaps.Left → IsNewline self.old → ⊥ }
+    {
+        if !self.is_in_line()
+            || !self.gaps_plainly()
+            || self.input_trap.is_some()
+            || self.settings.fonts.underlined > 0
+        {
+            return Gap::Left;
+        }
+        if self.line.end_word().is_err() {
+            return Gap::Left;
+        }
+        self.line.newline_gap();
+        self.reader.half.end_text();
+        if self.line.fits() {
+            return Gap::Reads;
+        }
+        self.task = Task::Flow(After::Line, false);
+        Gap::Flows
     }
 
     /// How words and the blanks behind them are read.

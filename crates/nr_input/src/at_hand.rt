@@ -1,8 +1,9 @@
 //! Bytes that the source has at hand, taken many at once.
 ghost use Rattle.std.specs.Prelude.{◌≡◌, ℕ, ◌+◌, ◌-◌, ◌<◌, ◌≤◌, ◌^◌, true, length, take, [], Option};
 ghost use Rattle.nr_units.specs.Supply.{Skips};
-ghost use Rattle.nr_input.specs.AtHand.{is_unseen, ComeNext, behind_many, behind_newlines, passed_many, passed_newlines};
+ghost use Rattle.nr_input.specs.AtHand.{is_unseen, ComeNext, behind_last};
 ghost use Rattle.nr_input.specs.Coming.{Coming, HoldsComing};
+ghost use Rattle.nr_input.specs.Runs.{passed_run};
 
 use super::place::Place;
 use super::reader::Reader;
@@ -36,34 +37,24 @@ pub fn window<'s, K: Copy, R: Source>(
     window
 }
 
-/// Takes the first n of the bytes at hand, the last of them no newline.
+/// Takes the first n of the bytes at hand, of which this is the last.
 #[inline]
-pub fn take_window<R: Source>(place: &mut Place, reader: &mut Reader, source: &mut R, n: usize)
+pub fn take_window<R: Source>(
+    place: &mut Place,
+    reader: &mut Reader,
+    source: &mut R,
+    last: u8,
+    n: usize,
+)
     requires unseen { is_unseen place.old.ahead ≡ true }
     requires room { place.old.taken + n < 2 ^ 40 }
     requires at_hand { n ≤ length (R.at_hand source.old) }
-    ensures place { place.new ≡ passed_many n place.old }
+    ensures place { place.new ≡ passed_run last n place.old }
     ensures reader { reader.new ≡ record reader.old { burst = 0 } }
-    ensures coming { (c : Coming) → HoldsComing c place.old (R.supply source.old) → HoldsComing (behind_many n c) place.new (R.supply source.new) }
+    ensures coming { (c : Coming) → HoldsComing c place.old (R.supply source.old) → HoldsComing (behind_last last n c) place.new (R.supply source.new) }
     ensures failures { R.failures source.new ≡ R.failures source.old }
 {
     source.skip(n);
-    place.pass_many(n);
-    reader.burst = 0;
-}
-
-/// Takes the first n of the bytes at hand, the last of them a newline.
-#[inline]
-pub fn take_newlines<R: Source>(place: &mut Place, reader: &mut Reader, source: &mut R, n: usize)
-    requires unseen { is_unseen place.old.ahead ≡ true }
-    requires room { place.old.taken + n < 2 ^ 40 }
-    requires at_hand { n ≤ length (R.at_hand source.old) }
-    ensures place { place.new ≡ passed_newlines n place.old }
-    ensures reader { reader.new ≡ record reader.old { burst = 0 } }
-    ensures coming { (c : Coming) → HoldsComing c place.old (R.supply source.old) → HoldsComing (behind_newlines n c) place.new (R.supply source.new) }
-    ensures failures { R.failures source.new ≡ R.failures source.old }
-{
-    source.skip(n);
-    place.pass_run(b'\n', n);
+    place.pass_run(last, n);
     reader.burst = 0;
 }

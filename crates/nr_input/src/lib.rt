@@ -17,7 +17,7 @@ mod target;
 mod tests;
 mod told;
 
-pub use at_hand::{take_newlines, take_window, window};
+pub use at_hand::{take_window, window};
 pub use moving::advance;
 pub use nr_reading::{Event, Question, Standing};
 pub use place::{Ahead, Place};

@@ -51,7 +51,7 @@ impl Place {
     ghost use Rattle.nr_store.specs.Stored.{shown, left};
     ghost use Rattle.nr_store.specs.Sights.{shown_with};
     ghost use Rattle.nr_input.specs.Coming.{Coming, Reached, HoldsComing, AfterSee, AfterLook, is_seen, is_ready, seen_front, passed, ended, front_seen, passed_in, StaysThere, nothing_reached, behind, emptied, fails_now, has_failed};
-    ghost use Rattle.nr_input.specs.AtHand.{is_unseen, passed_many};
+    ghost use Rattle.nr_input.specs.AtHand.{is_unseen};
     ghost use Rattle.nr_input.specs.Runs.{passed_run};
 
     /// Nothing is taken yet.
@@ -88,17 +88,6 @@ impl Place {
         ensures most { self.now.taken + result + 1 ≡ 2 ^ 40 }
     {
         (TOO_MANY - 1 - self.taken) as usize
-    }
-
-    /// So many bytes were taken, and the last was no newline.
-    #[inline]
-    pub(crate) fn pass_many(&mut self, n: usize)
-        requires unseen { is_unseen self.old.ahead ≡ true }
-        requires room { self.old.taken + n < 2 ^ 40 }
-        ensures { self.new ≡ passed_many n self.old }
-    {
-        self.taken += n as u64;
-        self.inside = true;
     }
 
     /// So many bytes were taken, and this was the last.

@@ -1,4 +1,4 @@
--- A byte that stands for itself in the midst of a text line.
+-- A byte that stands for itself in the midst of a text line, and the newline that ends the line.
 use Rattle.std.proofs.Common.{◌≡◌, ℕ, true, false, List, [], ◌∷◌, refl}
 use Rattle.std.specs.Prelude.{◌==◌}
 use Rattle.nr_reading.specs.declared.ask.Ask.{Ask}
@@ -12,6 +12,7 @@ use Rattle.nr_reading.specs.declared.mode.Escape.TheVariants as escapes
 use Rattle.nr_reading.specs.declared.mode.Mode.{Mode}
 use Rattle.nr_reading.specs.declared.mode.Mode.TheVariants as modes
 use Rattle.nr_reading.specs.InText.{is_in_text, is_in_text_at, IsInText}
+use Rattle.nr_reading.specs.LineBeginnings.{IsBeforeLine, text_ended}
 use Rattle.nr_reading.specs.Meeting.{meet}
 
 parts : (m : Mode) (e : Escape) (d : Due) (asks : List Ask) → is_in_text_at m e d asks ≡ true → (m ≡ modes.Text) × (e ≡ escapes.Plain) × (d ≡ dues.Look) × (asks ≡ [])
@@ -27,3 +28,11 @@ in_text h is =
 -- it is taken and told, and nothing else changes
 pub meet-plain : (b : ℕ) (h : Half) → IsInText h → (b == 10) ≡ false → (b == 92) ≡ false → meet (fronts.Byte b) h ≡ record { half = h; event = events.Byte b; takes = true }
 meet-plain b h is newline escape = rw (is.asks, is.mode, is.escape, newline, escape) refl
+
+-- it is taken and told, and the text has ended
+pub meet-newline : (h : Half) → IsInText h → meet (fronts.Byte 10) h ≡ record { half = text_ended h; event = events.EndLine; takes = true }
+meet-newline h is = rw (is.asks, is.mode, is.escape) refl
+
+-- a line begins next then
+pub ended_text : (h : Half) → IsInText h → IsBeforeLine (text_ended h)
+ended_text h is = record { mode = refl; escape = is.escape; due = is.due; asks = is.asks }

@@ -1,4 +1,4 @@
--- The beginning of a text line.
+-- The beginning of a text line, and its end.
 use Rattle.std.specs.Prelude.{◌≡◌, ℕ, ◌==◌, ◌||◌, Bool, false, List, []}
 use Rattle.nr_reading.specs.declared.ask.Ask.{Ask}
 use Rattle.nr_reading.specs.declared.half.Half.{Half}
@@ -36,3 +36,7 @@ pub record IsBeforeLine (h : Half) : Type 0 where
 -- the text of the line has begun
 abbrev pub text_begun : Half → Half
 text_begun h = record h { reading = continuing false (to modes.Text h.reading) }
+
+-- the text of the line has ended
+abbrev pub text_ended : Half → Half
+text_ended h = record h { reading = continuing false (to modes.Start h.reading) }

@@ -58,7 +58,7 @@ impl Half {
     ghost use Rattle.std.specs.Prelude.{[]};
     ghost use Rattle.nr_reading.specs.Asking.{event_of};
     ghost use Rattle.nr_reading.specs.InText.{is_in_text};
-    ghost use Rattle.nr_reading.specs.LineBeginnings.{is_at_text, text_begun};
+    ghost use Rattle.nr_reading.specs.LineBeginnings.{is_at_text, text_begun, text_ended};
     ghost use Rattle.nr_reading.specs.Rereading.{is_rereading};
     ghost use Rattle.nr_reading.specs.Spelling.{name_of};
     ghost use Rattle.nr_reading.specs.Steps.{note_of};
@@ -102,6 +102,15 @@ impl Half {
         ensures { self.new ≡ text_begun self.old }
     {
         self.reading.mode = Mode::Text;
+        self.reading.continued = false;
+    }
+
+    /// The text of the line has ended.
+    #[inline]
+    pub fn end_text(&mut self)
+        ensures { self.new ≡ text_ended self.old }
+    {
+        self.reading.mode = Mode::Start;
         self.reading.continued = false;
     }
 

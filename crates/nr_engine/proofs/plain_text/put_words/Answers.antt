@@ -1,68 +1,124 @@
-use Rattle.std.proofs.Common.{◌≡◌, ◌+◌, ◌*◌, ◌<◌, true, length, take, refl, sym, ap, ◌∙◌, subst, arith}
+use Rattle.std.proofs.Common.{◌≡◌, ℕ, ◌+◌, ◌*◌, ◌<◌, ◌≤◌, true, List, length, drop, refl, sym, ap, ◌∙◌, subst, arith}
 use Rattle.std.specs.Prelude.{slice_index}
-use Rattle.nr_formatter.specs.Runs.{is_in_line, manner_of, run_put}
+use Rattle.std.proofs.lemmas.List.{take_rest}
+use Rattle.nr_formatter.specs.LineBeginnings.{BeginsText}
+use Rattle.nr_formatter.specs.Runs.{is_in_line}
 use Rattle.nr_formatter.specs.declared.formatter.Formatter.{Formatter}
-use Rattle.nr_engine.specs.Running.{PutsText}
-use Rattle.nr_engine.proofs.TextAtHand.{index_rest, length_rest, rest_of, turn_flows, turn_gap, turn_line, turn_on, turn_run}
-use Rattle.nr_engine.proofs.plain_text.put_words.Goals.{After-put_word-word}
+use Rattle.nr_engine.specs.Running.{Longest, LongestWords, PutsText}
+use Rattle.nr_engine.proofs.LineBeginnings.{begun_line}
+use Rattle.nr_engine.proofs.LinesAtHand.{before_out, flows_away, flows_out, goes_begun, goes_first, line_at_text, line_before, line_ends, line_flows, longest_line, longest_out, takes_longest, words_behind}
+use Rattle.nr_engine.proofs.plain_text.put_words.Goals.{After-put_line_words-line, then-taken-bytes-via-then-taken-bytes, then-taken-bytes-via-else-taken-bytes+then-bytes-taken-ne10}
 use Rattle.nr_engine.proofs.plain_text.put_words.Goals as goal
 
--- the word, before the blank
-abbrev word_put : (c : After-put_word-word) → Formatter
-word_put c = run_put (take c.put_word-word.result.count (rest_of c.loop-taken.taken c.args.bytes.now)) c.loop-taken.formatter
+-- the bytes that were given
+abbrev all : (c : After-put_line_words-line) → List ℕ
+all c = c.args.bytes.now
 
--- it was put
-run : (c : After-put_word-word)
-    → PutsText c.args.bytes.now (c.loop-taken.taken + c.put_word-word.result.count) (c.loop-taken.moves + 2 * c.put_word-word.result.count) c.args.formatter.now (word_put c)
-run c =
-    let now = c.loop-taken.invariant in
-    let put = c.put_word-word.ensures in
-    turn_run c.loop-taken.taken c.loop-taken.moves c.put_word-word.result.count c.args.bytes.now c.args.formatter.now c.loop-taken.formatter (word_put c)
-    now.puts now.line put.front put.plain refl put.within
+-- what was taken of them, and the moves
+abbrev taken : (c : After-put_line_words-line) → ℕ
+taken c = c.loop-taken.taken + c.put_line_words-line.result.taken
 
--- in a line that has begun
-line : (c : After-put_word-word) → is_in_line (word_put c) ≡ true
-line c = turn_line (take c.put_word-word.result.count (rest_of c.loop-taken.taken c.args.bytes.now)) c.loop-taken.formatter (word_put c) c.loop-taken.invariant.line refl
+abbrev moves : (c : After-put_line_words-line) → ℕ
+moves c = c.loop-taken.moves + c.put_line_words-line.result.moves
 
--- a blank stands behind it
-blank : (c : After-put_word-word) → c.put_word-word.result.count < length (rest_of c.loop-taken.taken c.args.bytes.now)
-    → slice_index (rest_of c.loop-taken.taken c.args.bytes.now) c.put_word-word.result.count ≡ 32
-    → (c.loop-taken.taken + c.put_word-word.result.count < length c.args.bytes.now) × (slice_index c.args.bytes.now (c.loop-taken.taken + c.put_word-word.result.count) ≡ 32)
-blank c below is =
+-- the formatter behind a line's words
+abbrev behind : (c : After-put_line_words-line) → Formatter
+behind c = c.put_line_words-line.new.formatter
+
+-- as many of the words as could be were put
+longest : (c : After-put_line_words-line) → LongestWords (drop c.loop-taken.taken (all c)) c.put_line_words-line.result.taken (behind c)
+longest c = subst (λ xs. LongestWords xs c.put_line_words-line.result.taken (behind c)) (take_rest (all c) c.loop-taken.taken) c.put_line_words-line.ensures.longest
+
+-- all was put up to them
+puts : (c : After-put_line_words-line) → PutsText (all c) (taken c) (moves c) c.args.formatter.now (behind c)
+puts c =
     let t = c.loop-taken.taken in
-    let bs = c.args.bytes.now in
-    (omega (arith, below, length_rest t bs), sym (index_rest t c.put_word-word.result.count bs below) ∙ is)
+    let n = c.put_line_words-line.result.taken in
+    let k = c.put_line_words-line.result.moves in
+    let g = c.loop-taken.formatter in
+    let line : PutsText (drop t (all c)) n k g (behind c) = subst (λ xs. PutsText xs n k g (behind c)) (take_rest (all c) t) c.put_line_words-line.ensures.puts in
+    c.loop-taken.invariant.goes_on n k (behind c) (takes_longest (drop t (all c)) n k g (behind c) c.loop-taken.invariant.line line (longest c)) line
 
-pub loop-taken-preserved : goal.loop-taken-preserved
-loop-taken-preserved c =
-    let h = (goal.at.loop-taken-preserved c).After-put_word-word in
-    let n = c.put_word-word.result.count in
-    let t = c.loop-taken.taken + n in
-    let m = c.loop-taken.moves + 2 * n in
-    let bs = c.args.bytes.now in
-    let f = c.args.formatter.now in
-    let put = rw c.in-Reads.is at c.put_word-word.ensures in
-    let gap = put.gap in
-    let b = blank h (put.below refl) (put.blank refl) in
-    let g = c.put_word-word.new.self in
-    record {
-      line = turn_on t m bs f (word_put h) (run h) (line h) b.0 b.1 gap.0 g gap.2;
-      manner = c.loop-taken.invariant.manner ∙ ap manner_of (sym gap.2);
-      puts = turn_gap t m bs f (word_put h) (run h) (line h) b.0 b.1 gap.0 g gap.1 gap.2;
-    }
+words : (c : After-put_line_words-line) → LongestWords (all c) (taken c) (behind c)
+words c = words_behind c.loop-taken.taken c.put_line_words-line.result.taken (all c) (behind c) (longest c)
+
+pub loop-taken-init : goal.loop-taken-init
+loop-taken-init c = record { line = c.requires.line; front = omega arith; few = omega arith; goes_on = goes_first c.args.bytes.now c.args.formatter.now }
+
+pub returns-then-taken-bytes-clause-puts : goal.returns-then-taken-bytes-clause-puts
+returns-then-taken-bytes-clause-puts c = puts ((goal.at.returns-then-taken-bytes-clause-puts c).After-put_line_words-line)
+
+pub returns-then-taken-bytes-clause-longest : goal.returns-then-taken-bytes-clause-longest
+returns-then-taken-bytes-clause-longest c =
+    let h = (goal.at.returns-then-taken-bytes-clause-longest c).After-put_line_words-line in
+    longest_line (all h) (taken h) (moves h) (behind h) (puts h).least (puts h).most (words h) c.put_line_words-line.ensures.line
+    (λ below is newline. elim c.then-taken-bytes.branch [
+      | then-taken-bytes-via-then-taken-bytes w ↦ omega (arith, below, w.if-taken-bytes.true)
+      | then-taken-bytes-via-else-taken-bytes+then-bytes-taken-ne10 w ↦ omega (arith, is, w.if-bytes-taken-ne10.true)
+    ])
 
 pub returns-in-Left-clause-puts : goal.returns-in-Left-clause-puts
 returns-in-Left-clause-puts c =
-    let h = (goal.at.returns-in-Left-clause-puts c).After-put_word-word in
-    let put = rw c.in-Left.is at c.put_word-word.ensures in
-    subst (λ (x : Formatter). PutsText c.args.bytes.now (c.loop-taken.taken + c.put_word-word.result.count) (c.loop-taken.moves + 2 * c.put_word-word.result.count) c.args.formatter.now x)
-    (sym put.gap) (run h)
+    let h = (goal.at.returns-in-Left-clause-puts c).After-put_line_words-line in
+    subst (λ (x : Formatter). PutsText (all h) (taken h) (moves h) c.args.formatter.now x) (sym c.in-Left.ensures.is) (puts h)
+
+pub returns-in-Left-clause-longest : goal.returns-in-Left-clause-longest
+returns-in-Left-clause-longest c =
+    let h = (goal.at.returns-in-Left-clause-longest c).After-put_line_words-line in
+    subst (λ (x : Formatter). Longest (all h) (taken h) (moves h) x) (sym c.in-Left.ensures.is)
+    (longest_line (all h) (taken h) (moves h) (behind h) (puts h).least (puts h).most (words h) c.put_line_words-line.ensures.line (λ below is. c.in-Left.ensures.left refl))
 
 pub returns-in-Flows-clause-puts : goal.returns-in-Flows-clause-puts
 returns-in-Flows-clause-puts c =
-    let h = (goal.at.returns-in-Flows-clause-puts c).After-put_word-word in
-    let n = c.put_word-word.result.count in
-    let put = rw c.in-Flows.is at c.put_word-word.ensures in
-    let gap = put.gap in
-    let b = blank h (put.below refl) (put.blank refl) in
-    turn_flows (c.loop-taken.taken + n) (c.loop-taken.moves + 2 * n) c.args.bytes.now c.args.formatter.now (word_put h) (run h) (line h) b.0 b.1 gap.0 c.put_word-word.new.self gap.1
+    let h = (goal.at.returns-in-Flows-clause-puts c).After-put_line_words-line in
+    let flows = c.in-Flows.ensures.is in
+    let below : taken h < length (all h) = omega (arith, (puts h).front, c.if-taken-bytes.false) in
+    let newline : slice_index (all h) (taken h) ≡ 10 = omega (arith, c.if-bytes-taken-ne10.false) in
+    line_flows (taken h) (moves h) (all h) c.args.formatter.now (behind h) (puts h) below newline flows.0 c.put_newline.new.self flows.1
+
+pub returns-in-Flows-clause-longest : goal.returns-in-Flows-clause-longest
+returns-in-Flows-clause-longest c =
+    let h = (goal.at.returns-in-Flows-clause-longest c).After-put_line_words-line in
+    let is = c.in-Flows.ensures.is.1 in
+    let g = c.put_newline.new.self in
+    longest_out (all h) (taken h + 1) (moves h + 2) g (omega (arith, (puts h).least)) (omega (arith, (puts h).most)) (flows_out (behind h) g is)
+    (λ at begins. flows_away (behind h) g is at)
+
+pub returns-then-not-begin_text-clause-puts : goal.returns-then-not-begin_text-clause-puts
+returns-then-not-begin_text-clause-puts c =
+    let h = (goal.at.returns-then-not-begin_text-clause-puts c).After-put_line_words-line in
+    let reads = c.in-Reads.ensures.is in
+    let below : taken h < length (all h) = omega (arith, (puts h).front, c.if-taken-bytes.false) in
+    let newline : slice_index (all h) (taken h) ≡ 10 = omega (arith, c.if-bytes-taken-ne10.false) in
+    subst (λ (x : Formatter). PutsText (all h) (taken h + 1) (moves h + 5) c.args.formatter.now x) (sym c.if-not-begin_text.ensures.1)
+    (line_ends (taken h) (moves h) (all h) c.args.formatter.now (behind h) (puts h) below newline reads.0 c.put_newline.new.self reads.1 reads.2)
+
+pub returns-then-not-begin_text-clause-longest : goal.returns-then-not-begin_text-clause-longest
+returns-then-not-begin_text-clause-longest c =
+    let h = (goal.at.returns-then-not-begin_text-clause-longest c).After-put_line_words-line in
+    let reads = c.in-Reads.ensures.is in
+    let g = c.put_newline.new.self in
+    let none = c.if-not-begin_text.ensures in
+    subst (λ (x : Formatter). Longest (all h) (taken h + 1) (moves h + 5) x) (sym none.1)
+    (longest_out (all h) (taken h + 1) (moves h + 5) g (omega (arith, (puts h).least)) (omega (arith, (puts h).most)) (before_out g (line_before (behind h) g reads.0 reads.2))
+    (λ at begins. none.0 (subst (λ xs. BeginsText xs g) (sym (take_rest (all h) (taken h + 1))) begins)))
+
+pub loop-taken-preserved : goal.loop-taken-preserved
+loop-taken-preserved c =
+    let h = (goal.at.loop-taken-preserved c).After-put_line_words-line in
+    let reads = c.in-Reads.ensures.is in
+    let g = c.put_newline.new.self in
+    let f = c.args.formatter.now in
+    let begins = c.if-not-begin_text.ensures in
+    let below : taken h < length (all h) = omega (arith, (puts h).front, c.if-taken-bytes.false) in
+    let newline : slice_index (all h) (taken h) ≡ 10 = omega (arith, c.if-bytes-taken-ne10.false) in
+    let ends = line_ends (taken h) (moves h) (all h) f (behind h) (puts h) below newline reads.0 g reads.1 reads.2 in
+    let at = line_at_text (behind h) g reads.0 reads.2 in
+    let half = line_before (behind h) g reads.0 reads.2 in
+    record {
+      line = ap is_in_line begins.1 ∙ begun_line g at half;
+      front = omega (arith, below);
+      few = omega (arith, (puts h).most);
+      goes_on = goes_begun (taken h + 1) (moves h + 5) (all h) f g c.begin_text.new.self (omega arith) ends at half
+      (subst (λ xs. BeginsText xs g) (take_rest (all h) (taken h + 1)) begins.0) begins.1;
+    }

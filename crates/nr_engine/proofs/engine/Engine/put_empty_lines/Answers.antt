@@ -1,5 +1,5 @@
 use Rattle.std.proofs.Common.{◌≡◌, ◌+◌, ◌*◌, ◌<◌, ◌≤◌, refl, ap, ◌∙◌, subst, sym, arith}
-use Rattle.nr_input.specs.AtHand.{behind_newlines}
+use Rattle.nr_input.specs.AtHand.{behind_last}
 use Rattle.nr_input.specs.Coming.{HoldsComing}
 use Rattle.nr_formatter.specs.EmptyLines.{gone_down, lines_below}
 use Rattle.nr_formatter.proofs.EmptyLines.{lines_gone, room_below}
@@ -27,8 +27,8 @@ returns-clause-reads g c =
     let n = c.newlines_next-count.result in
     let e = shape c.args.self.now in
     let old = g.R.Source.supply c.args.input.now in
-    let new = g.R.Source.supply c.take_newlines.new.source in
-    let taken = c.take_newlines.ensures in
+    let new = g.R.Source.supply c.take_window.new.source in
+    let taken = c.take_window.ensures in
     let some : 0 < n = omega (arith, c.if-count-eq0.false) in
     let fits : 1 + n ≤ lines_below f = omega (arith, c.if-lines-eq0.false, c.lines_below-lines.ensures.value, c.newlines_next-count.ensures.most) in
     let counts : n + 1 ≡ 1 + n = omega arith in
@@ -38,7 +38,7 @@ returns-clause-reads g c =
       makes = rw (taken.reader, taken.place, is)
           (subst (λ k. Makes k e (lines_shape n (down_shape e)) old new) moves
           (makes_more n e old new c.requires.empty some (room_below (1 + n) f (omega arith) fits) (c.newlines_next-count.ensures.next.next some)
-          (λ k h. subst (λ q. HoldsComing (behind_newlines n k) q new) taken.place (taken.coming k h))));
+          (λ k h. subst (λ q. HoldsComing (behind_last 10 n k) q new) taken.place (taken.coming k h))));
       failures = taken.failures;
       unfailed = λ u. rw taken.place refl;
     }

@@ -1,5 +1,6 @@
 use Rattle.std.proofs.Common.{◌≡◌, ◌+◌, ◌-◌, ◌<◌, length, refl, subst, arith}
-use Rattle.nr_input.specs.AtHand.{behind_many}
+use Rattle.std.specs.Prelude.{slice_index}
+use Rattle.nr_input.specs.AtHand.{behind_last}
 use Rattle.nr_input.specs.Coming.{HoldsComing}
 use Rattle.nr_engine.specs.Holding.{shape}
 use Rattle.nr_engine.specs.Running.{HasNext, Longest, unburst}
@@ -27,7 +28,7 @@ returns-clause-reads g c =
     record {
       makes = rw (taken.reader, taken.place) (makes_taken words.taken words.moves c.window-bytes.result.now (shape c.args.self.now) (g.R.Source.supply c.args.input.now) new
           c.put_words-words.new.formatter c.put_words-words.ensures.puts (some g h) (has g h)
-          (λ k q. subst (λ p. HoldsComing (behind_many words.taken k) p new) taken.place (taken.coming k q)));
+          (λ k q. subst (λ p. HoldsComing (behind_last (slice_index c.window-bytes.result.now (words.taken - 1)) words.taken k) p new) taken.place (taken.coming k q)));
       failures = taken.failures;
       unfailed = λ u. rw taken.place refl;
     }
