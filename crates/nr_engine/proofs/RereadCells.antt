@@ -240,9 +240,8 @@ cells-push (elements.Byte b ∷ ys) x = cells-push ys x
 cells-push (elements.LineEnd h ∷ ys) x = cells-push ys x
 
 -- a front of a front, and what is behind it
-pub front-behind : (n m : ℕ) (xs more : List Element) → take n (take m xs) ++ (drop n (take m xs) ++ (drop m xs ++ more)) ≡ xs ++ more
-front-behind n m xs more =
-    sym (append_assoc (take n (take m xs)) (drop n (take m xs)) (drop m xs ++ more))
-    ∙ ap (λ ys. ys ++ (drop m xs ++ more)) (take-append-drop n (take m xs))
-    ∙ sym (append_assoc (take m xs) (drop m xs) more)
-    ∙ ap (λ ys. ys ++ more) (take-append-drop m xs)
+pub front-behind : (n m : ℕ) (xs : List Element) → take n (take m xs) ++ (drop n (take m xs) ++ drop m xs) ≡ xs
+front-behind n m xs =
+    sym (append_assoc (take n (take m xs)) (drop n (take m xs)) (drop m xs))
+    ∙ ap (λ ys. ys ++ drop m xs) (take-append-drop n (take m xs))
+    ∙ take-append-drop m xs

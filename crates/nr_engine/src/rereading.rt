@@ -8,6 +8,7 @@ ghost use Rattle.nr_engine.specs.Running.{MakesInPlace};
 use crate::engine::Engine;
 use nr_fill::cells::CellSink;
 use nr_fill::out::Out;
+use nr_store::Rest;
 use nr_store::element::Element;
 
 /// How many elements are looked at in one call.
@@ -40,7 +41,9 @@ impl<'a> Engine<'a> {
         if !self.formatter.is_rereading() || self.row.is_empty() {
             return 0;
         }
-        let elements = self.formatter.store.window();
+        let Rest::Text(elements) = self.formatter.store.rest() else {
+            return 0;
+        };
         let count = put_cells(&mut self.row, &elements[..elements.len().min(LONGEST_RUN)]);
         self.formatter.store.skip(count as u32);
         2 * count as u128

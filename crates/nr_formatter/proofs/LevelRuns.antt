@@ -1,5 +1,5 @@
 -- Bytes that come next of the newest level.
-use Rattle.std.proofs.Common.{◌≡◌, ◌<◌, ◌≤◌, ℕ, zero, suc, Bool, List, [], length, map, take, get_or, min, refl, sym, ap, ◌∙◌, subst, arith, take-take, length-take-le, ◌⊎◌, inl, inr}
+use Rattle.std.proofs.Common.{◌≡◌, ◌<◌, ◌≤◌, ℕ, Bool, List, length, map, take, get_or, min, sym, ap, ◌∙◌, subst, arith, take-take, length-take-le, ◌⊎◌, inl, inr}
 use Rattle.std.specs.Prelude.{All}
 use Rattle.std.proofs.lemmas.Bool.{cases_lt}
 use Rattle.std.proofs.lemmas.List.{get_or-map, get_or-take, get_or_past, length-map, length-take, take-map, take_all}
@@ -64,48 +64,23 @@ module _ (f : Formatter) (bs : List ℕ) (xs : List Element) (n : ℕ) (l : Line
   bytes_are = sym (take-map elements.Byte n bs) ∙ ap (take n) front.are ∙ take-take n (length bs) xs put.front
 
 -- a front of the newest level was put and taken
-pub puts_level : (f : Formatter) (bs : List ℕ) (xs : List Element) (n : ℕ) (l : Lined) (w : Stored Resume) → (0 < length xs → xs ≡ rest_of f.store.levels) → IsFront bs xs → PutsRun f bs n l
-    → w ≡ left_times n f.store → PutsLevel f n (record f { store = w; line = l })
-puts_level f bs xs zero l w all front put left = record {
-  bytes = [];
-  count = refl;
-  front = refl;
-  plain = put.plain;
-  is = ap (λ v. record f { store = v; line = l }) (left ∙ left_times-run 0 f.store (omega arith)) ∙ ap (λ x. record f { store = run_left 0 f.store; line = x }) put.is;
-  within = put.within;
-  few = omega arith;
-  stops = λ some few plain. absurd (omega (arith, some));
-}
-puts_level f bs xs (suc k) l w all front put left =
-    let n : ℕ = suc k in
-    let some = some_of bs xs front in
-    let rest : xs ≡ rest_of f.store.levels = all (omega (arith, some, put.front)) in
+pub puts_level : (f : Formatter) (bs : List ℕ) (n : ℕ) (l : Lined) (w : Stored Resume) → IsFront bs (rest_of f.store.levels) → PutsRun f bs n l → w ≡ left_times n f.store
+    → PutsLevel f n (record f { store = w; line = l })
+puts_level f bs n l w front put left =
+    let xs : List Element = rest_of f.store.levels in
     let count : length (take n bs) ≡ n = length-take-le n bs put.front in
-    let few : n ≤ length (rest_of f.store.levels) = omega (arith, put.front, some, ap length rest) in
+    let few : n ≤ length xs = omega (arith, put.front, some_of bs xs front) in
     let store_is : w ≡ run_left (length (take n bs)) f.store = left ∙ left_times-run n f.store few ∙ ap (λ m. run_left m f.store) (sym count) in
     record {
       bytes = take n bs;
       count = count;
-      front = bytes_are f bs xs n l front put ∙ ap (take n) rest;
+      front = bytes_are f bs xs n l front put;
       plain = put.plain;
       is = ap (λ v. record f { store = v; line = l }) store_is ∙ ap (λ x. record f { store = run_left (length (take n bs)) f.store; line = x }) put.is;
       within = put.within;
       few = omega (arith, put.front, front.few);
-      stops = λ some few plain. stops f bs xs n l front put (cases_lt n (length bs)) few (subst (λ ys. IsPlainByte (get_or ys n (elements.Byte 0))) (sym rest) plain);
+      stops = stops f bs xs n l front put (cases_lt n (length bs));
     }
-
--- nothing was put
-pub puts_none : (f : Formatter) → PutsLevel f 0 f
-puts_none f = record {
-  bytes = [];
-  count = refl;
-  front = refl;
-  plain = λ k d below. absurd (omega (arith, below));
-  is = ap (λ v. record f { store = v }) (left_times-run 0 f.store (omega arith));
-  within = λ some. absurd (omega (arith, some));
-  few = omega arith;
-  stops = λ some few plain. absurd (omega (arith, some));
-}
 
 -- a front of bytes is one of the level that they are
 pub own_front : (own : List ℕ) (m : ℕ) → m ≡ min (length own) 64 → IsFront (take m own) (map elements.Byte own)

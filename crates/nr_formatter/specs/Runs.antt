@@ -54,7 +54,7 @@ IsPlainByte x = ⊥
 abbrev pub level_run_put : List ℕ → Formatter → Formatter
 level_run_put bs f = run_put bs (record f { store = run_left (length bs) f.store })
 
--- So many plain bytes that came next of the newest level were put: if any, as many as could be, up to 64.
+-- So many plain bytes that came next of the newest level were put: as many as could be, up to 64.
 pub record PutsLevel (f : Formatter) (n : ℕ) (g : Formatter) : Type 0 where
   pub bytes : List ℕ
   pub count : length bytes ≡ n
@@ -63,7 +63,7 @@ pub record PutsLevel (f : Formatter) (n : ℕ) (g : Formatter) : Type 0 where
   pub is : g ≡ level_run_put bytes f
   pub within : 0 < n → line_cells (collected g) ≤ g.line.limit
   pub few : n ≤ 64
-  pub stops : 0 < n → n < 64 → IsPlainByte (get_or (rest_of f.store.levels) n (elements.Byte 0)) → text_cells (collected g) ≡ g.line.limit
+  pub stops : n < 64 → IsPlainByte (get_or (rest_of f.store.levels) n (elements.Byte 0)) → text_cells (collected g) ≡ g.line.limit
 
 -- ---- a blank behind a word
 

@@ -13,7 +13,7 @@ use crate::formatter::Formatter;
 use crate::tasks::{After, Task};
 use nr_fill::margins::Margins;
 use nr_input::Event;
-use nr_store::Element;
+use nr_store::{Element, Rest};
 
 /// How many bytes of a level are put in one call, at most.
 const LONGEST_RUN: usize = 64;
@@ -132,17 +132,15 @@ impl<'a> Formatter<'a> {
     {
         let margins = self.settings.indents.margins();
         let under = self.settings.fonts.is_under();
-        let text = self.store.window();
-        if text.is_empty() {
-            let own = self.store.own_window();
-            if own.is_empty() {
-                return 0;
+        let text = match self.store.rest() {
+            Rest::Text(text) => text,
+            Rest::Bytes(own) => {
+                let front = &own[..own.len().min(LONGEST_RUN)];
+                let count = self.line.put_run(margins, under, front);
+                self.store.skip(count as u32);
+                return count;
             }
-            let front = &own[..own.len().min(LONGEST_RUN)];
-            let count = self.line.put_run(margins, under, front);
-            self.store.skip(count as u32);
-            return count;
-        }
+        };
         let mut bytes = [0; LONGEST_RUN];
         let copied = copy_bytes(&text[..text.len().min(LONGEST_RUN)], &mut bytes);
         if copied == 0 {

@@ -49,18 +49,14 @@ module _ {K : Type 0} (v : Stored K) (c : Coming) (r : Reader) (q : Reached) (su
       has_read n (map element_front xs) r.half p (at_level l ls xs v c r) (situation v c r) (left_times p.taken v) (record r { half = p.half }) q supply
       (level_goings l ls xs v c r) met begins (record { stored = ends; reader = refl; coming = holds })
 
-  pub level_read : (n : ℕ) (xs : List Element) (p : Spot) → (0 < length xs → xs ≡ rest_of v.levels) → HasMet n (map element_front xs) r.half p → HoldsComing c q supply
+  pub level_read : (n : ℕ) (p : Spot) → HasMet n (map element_front (rest_of v.levels)) r.half p → HoldsComing c q supply
       → HasRead n (situation v c r) p.event (left_times p.taken v) (record r { half = p.half }) q supply
-  level_read n [] p all met holds = nothing_read n p met holds
-  level_read n (x ∷ xs) p all met holds = level_read_by v.levels n (x ∷ xs) p refl (all (omega arith)) met holds
-
-bytes_are : (bs : List ℕ) → map fronts.Byte bs ≡ map element_front (map elements.Byte bs)
-bytes_are [] = refl
-bytes_are (b ∷ bs) = ap (λ fs. fronts.Byte b ∷ fs) (bytes_are bs)
+  level_read n p met holds = level_read_by v.levels n (rest_of v.levels) p refl refl met holds
 
 -- bytes that a level has as its own
-pub own_met : (n : ℕ) (bs : List ℕ) (r : Reader) (p : Spot) → HasMet n (map fronts.Byte bs) r.half p → HasMet n (map element_front (map elements.Byte bs)) r.half p
-own_met n bs r p met = subst (λ fs. HasMet n fs r.half p) (bytes_are bs) met
+pub bytes_are : (bs : List ℕ) → map fronts.Byte bs ≡ map element_front (map elements.Byte bs)
+bytes_are [] = refl
+bytes_are (b ∷ bs) = ap (λ fs. fronts.Byte b ∷ fs) (bytes_are bs)
 
 -- ---- what they cost
 
@@ -70,10 +66,10 @@ items_behind n (Mark mode ∷ ls) few = omega (arith, few)
 items_behind n (Read l ∷ ls) few =
     omega (arith, few, length-drop n l.rest, sum_by-cons items_in (Read l) ls, sum_by-cons items_in (Read (record l { rest = drop n l.rest })) ls)
 
-pub level_pays : {K : Type 0} (n : ℕ) (fs : List Front) (v w : Stored K) (q : Reached) (r : Reader) (p : Spot) → HasMet n fs r.half p → length fs ≤ length (rest_of v.levels)
-    → w ≡ left_times p.taken v → PaysAll n v q r p.event w q (record r { half = p.half })
-level_pays n fs v w q r p met within is =
-    let few : p.taken ≤ length (rest_of v.levels) = omega (arith, met.within, within) in
+pub level_pays : {K : Type 0} (n : ℕ) (v w : Stored K) (q : Reached) (r : Reader) (p : Spot) → HasMet n (map element_front (rest_of v.levels)) r.half p → w ≡ left_times p.taken v
+    → PaysAll n v q r p.event w q (record r { half = p.half })
+level_pays n v w q r p met is =
+    let few : p.taken ≤ length (rest_of v.levels) = omega (arith, met.within, length-map (rest_of v.levels) element_front) in
     let w_is : w ≡ run_left p.taken v = is ∙ left_times-run p.taken v few in
     let items = items_behind p.taken v.levels few in
     let left = ap (λ x. items_left x.levels) w_is in
@@ -233,12 +229,6 @@ holds_past (suc k) bs c q p supply supply' some within unseen next holds skips i
     let last : k ≡ suc k - 1 = omega arith in
     subst (λ x. HoldsComing (behind_run (suc k) c) x supply') (ap (λ j. passed_run (slice_index bs j) (suc k) q) last ∙ sym is)
     (holds_behind k bs c q supply supply' (omega (arith, within)) unseen next holds skips)
-
--- a level has as many elements as bytes of its own
-pub own_within : {K : Type 0} (bs : List ℕ) (levels : List (Level K)) → (0 < length bs → map elements.Byte bs ≡ rest_of levels) → length (map fronts.Byte bs) ≤ length (rest_of levels)
-own_within [] levels all = omega arith
-own_within (b ∷ bs) levels all =
-    let same = ap length (all (omega arith)) in omega (arith, same, length-map (b ∷ bs) fronts.Byte, length-map (b ∷ bs) elements.Byte)
 
 -- a row of bytes alone
 pub bytes_met : (n : ℕ) (bs : List ℕ) (h : Half) (p : Spot) → HasMet n (map fronts.Byte bs ++ []) h p → HasMet n (map fronts.Byte bs) h p

@@ -18,7 +18,7 @@ use super::reader::Reader;
 use super::runs::{read_level, read_source};
 use super::target::Target;
 use nr_reading::{Event, Half, Run};
-use nr_store::{Element, Store};
+use nr_store::{Element, Rest, Store};
 use nr_units::source::Source;
 
 /// The most bytes that are added in one run: each is two moves.
@@ -71,14 +71,14 @@ fn copy_level<K: Copy>(store: &Store<'_, K>, chunk: &mut [u8]) -> usize
     ensures front { result ≤ length (rest_of store.now.levels) }
     ensures bytes { map variants.Byte (take result chunk.new) ≡ take result (rest_of store.now.levels) }
 {
-    let elements = store.window();
-    if !elements.is_empty() {
-        return copy_bytes(elements, chunk);
+    match store.rest() {
+        Rest::Text(elements) => copy_bytes(elements, chunk),
+        Rest::Bytes(bytes) => {
+            let most = chunk.len().min(bytes.len());
+            chunk[..most].copy_from_slice(&bytes[..most]);
+            most
+        }
     }
-    let bytes = store.own_window();
-    let most = chunk.len().min(bytes.len());
-    chunk[..most].copy_from_slice(&bytes[..most]);
-    most
 }
 
 /// As `read_level`, in the midst of a macro's argument: the bytes in front that stand for themselves are added to it.

@@ -2,6 +2,7 @@
 ghost use Rattle.std.specs.Prelude.{◌≡◌, ◌≤◌, ◌++◌, [], map, true, false, Option};
 ghost use Rattle.nr_units.specs.Supply.{Supply};
 ghost use Rattle.nr_reading.specs.declared.front.Front.TheVariants as variants;
+ghost use Rattle.nr_store.specs.Windows.{elements_in};
 ghost use Rattle.nr_input.specs.AtHand.{is_unseen};
 ghost use Rattle.nr_input.specs.Coming.{Coming, Reached, HoldsComing, element_front, has_failed};
 ghost use Rattle.nr_input.specs.Moving.{situation};
@@ -13,7 +14,7 @@ use super::place::Place;
 use super::reader::Reader;
 use super::target::Target;
 use nr_reading::{Items, Run};
-use nr_store::{Element, Store};
+use nr_store::{Element, Rest, Store};
 use nr_units::source::Source;
 
 /// Bytes, and elements behind them, as items in a row.
@@ -43,6 +44,25 @@ impl<'a> Items for Row<'a> {
     }
 }
 
+impl<'a> Row<'a> {
+    // What is left of a level.
+    #[inline(always)]
+    fn of(rest: Rest<'a>) -> Self
+        ensures { map variants.Byte result.bytes.now ++ map element_front result.elements.now ≡ map element_front (elements_in rest.entry) }
+    {
+        match rest {
+            Rest::Text(elements) => Row {
+                bytes: &[],
+                elements,
+            },
+            Rest::Bytes(bytes) => Row {
+                bytes,
+                elements: &[],
+            },
+        }
+    }
+}
+
 /// The items of the newest level are read.
 #[inline(always)]
 pub(crate) fn read_level<K: Copy>(reader: &mut Reader, store: &mut Store<'_, K>) -> Run
@@ -50,20 +70,8 @@ pub(crate) fn read_level<K: Copy>(reader: &mut Reader, store: &mut Store<'_, K>)
     ensures pays { (p : Reached) → PaysAll result.moves store.old p reader.old result.event store.new p reader.new }
     ensures few { result.moves ≤ 65536 }
 {
-    let elements = store.window();
-    if elements.is_empty() {
-        let bytes = store.own_window();
-        let run = reader.half.meet_run(&Row {
-            bytes,
-            elements: &[],
-        });
-        store.skip(run.taken as u32);
-        return run;
-    }
-    let run = reader.half.meet_run(&Row {
-        bytes: &[],
-        elements,
-    });
+    let row = Row::of(store.rest());
+    let run = reader.half.meet_run(&row);
     store.skip(run.taken as u32);
     run
 }

@@ -7,7 +7,7 @@ use Rattle.std.proofs.lemmas.List.Sums.{sum_by-cons}
 use Rattle.std.proofs.lemmas.Option.{get_or_from_slice_get}
 use Rattle.nr_levels.specs.Levels.{Source, Text, Own, Mark, Open, Levels, total, front, front_of, marks, closed, HasNext}
 use Rattle.nr_levels.specs.Frames.{part, arguments_of, source_of, open_of, levels_of, EndBy, AreBelow, ReadsBelow, reader, readers, IsStacked, AreLevels}
-use Rattle.nr_levels.specs.Windows.{bytes_of, bytes_left}
+use Rattle.nr_levels.specs.Windows.{left_in, rest_of}
 use Rattle.nr_levels.specs.declared.frame.Span.{Span}
 use Rattle.nr_levels.specs.declared.frame.Frame.{Frame}
 use Rattle.nr_levels.specs.declared.frame.Front.{Front}
@@ -136,17 +136,11 @@ pub front_is : {K : Type 0} → (fs : List (Frame K)) (xs : List ℕ) (ps : List
 front_is fs xs ps now room most v f r view top is =
     ap (λ (w : Levels _). front_of w.levels) (sym view) ∙ ap (λ gs. front_of (map (open_of xs ps) gs)) (cons_of fs f top) ∙ ap (λ t. Some (front (source_of xs t))) is
 
--- the bytes that are left of it
+-- what is left of it
 pub left_is : {K : Type 0} → (fs : List (Frame K)) (xs : List ℕ) (ps : List Span) (now : Span) (room most : ℕ) (v : Levels K) (f : Frame K) (r : Reads K)
-    → levels_of fs xs ps now room most ≡ v → slice_get fs 0 ≡ Some f → f.reads ≡ r → bytes_left v.levels ≡ bytes_of (source_of xs r)
+    → levels_of fs xs ps now room most ≡ v → slice_get fs 0 ≡ Some f → f.reads ≡ r → rest_of v.levels ≡ left_in (source_of xs r)
 left_is fs xs ps now room most v f r view top is =
-    ap (λ (w : Levels _). bytes_left w.levels) (sym view) ∙ ap (λ gs. bytes_left (map (open_of xs ps) gs)) (cons_of fs f top) ∙ ap (λ t. bytes_of (source_of xs t)) is
-
--- there are none where it reads no bytes of its own
-pub none_left : {K : Type 0} → (xs : List ℕ) (r : Reads K) → ((s : Span) → r ≡ reads.Own s → ⊥) → bytes_of (source_of xs r) ≡ []
-none_left xs (reads.Text id place) other = refl
-none_left xs (reads.Own s) other = absurd (other s refl)
-none_left xs (reads.Mark mode) other = refl
+    ap (λ (w : Levels _). rest_of w.levels) (sym view) ∙ ap (λ gs. rest_of (map (open_of xs ps) gs)) (cons_of fs f top) ∙ ap (λ t. left_in (source_of xs t)) is
 
 -- the newest frame is on the others
 pub newest_on : {K : Type 0} → (fs : List (Frame K)) (ps : List Span) (now : Span) (h : ℕ) (f : Frame K) → IsStacked ps fs now h → slice_get fs 0 ≡ Some f → IsStacked ps (f ∷ drop 1 fs) now h

@@ -132,3 +132,12 @@ pub enum Front<K> {
     /// The mode that is resumed behind a level whose end was taken.
     Resume(K),
 }
+
+/// What is left of a level.
+#[derive(Clone, Copy, Debug)]
+pub enum Rest<'s> {
+    /// What a text has from a place on.
+    Text(Id, u32),
+    /// These bytes.
+    Bytes(&'s [u8]),
+}

@@ -2,11 +2,11 @@
 ghost use Rattle.std.specs.Prelude.{◌≡◌, ◌+◌, ◌*◌, ◌/◌, ◌^◌, ◌<◌, ◌≤◌, [], length, min, sum, nat_le, Some, None};
 ghost use Rattle.nr_levels.specs.Levels.{Text, Own, total, front_of, advanced, HasNext, HasEnd, HasMark, deeper, closed, charge_of_newest, resumed, argument, cut};
 ghost use Rattle.nr_levels.specs.Further.{further_on, NewestReaches};
-ghost use Rattle.nr_levels.specs.Windows.{bytes_left};
+ghost use Rattle.nr_levels.specs.Windows.{source_in, rest_of};
 ghost use Rattle.nr_levels.specs.Moving.{Comes};
 ghost use Rattle.nr_levels.specs.declared.frame.Front.TheVariants as fronts;
 
-use crate::frame::{Frame, Next, Reads, Span};
+use crate::frame::{Frame, Next, Reads, Rest, Span};
 use crate::spans::{push_spans, span_of};
 use crate::stack::Stack;
 use nr_pool::Id;
@@ -93,21 +93,24 @@ impl<'a, K: Copy> Levels<'a, K> {
         }
     }
 
-    /// The bytes that are left of the newest level, where it reads bytes that were given or an argument.
+    /// What is left of the newest level: no bytes where there is none, and where its end was taken.
     #[inline(always)]
-    pub fn window(&self) -> &[u8]
-        ensures { result.now ≡ bytes_left self.now.levels }
+    pub fn rest(&self) -> Rest<'_>
+        ensures { source_in result ≡ rest_of self.now.levels }
     {
         if self.frames.is_empty() {
-            return &[];
+            return Rest::Bytes(&[]);
         }
-        let Reads::Own(span) = self.frames.at(0).reads else {
-            return &[];
-        };
-        if span.last <= span.first {
-            return &[];
+        match self.frames.at(0).reads {
+            Reads::Text(id, place) => Rest::Text(id, place),
+            Reads::Own(span) => {
+                if span.last <= span.first {
+                    return Rest::Bytes(&[]);
+                }
+                Rest::Bytes(&self.bytes.as_slice()[span.first as usize..span.last as usize])
+            }
+            Reads::Mark(_) => Rest::Bytes(&[]),
         }
-        &self.bytes.as_slice()[span.first as usize..span.last as usize]
     }
 
     /// Takes the mode that comes next away, and puts it into `mode`.

@@ -7,7 +7,7 @@ pub mod levels;
 mod spans;
 pub mod stack;
 
-pub use frame::{Frame, Front, Next, Span};
+pub use frame::{Frame, Front, Next, Rest, Span};
 pub use gathering::Gathering;
 pub use levels::Levels;
 pub use stack::Stack;

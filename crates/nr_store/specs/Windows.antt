@@ -1,6 +1,9 @@
 -- A run of elements of the newest level.
-use Rattle.std.specs.Prelude.{ℕ, zero, suc, List, [], ◌∷◌, drop}
+use Rattle.std.specs.Prelude.{ℕ, zero, suc, List, [], ◌∷◌, drop, map}
 use Rattle.nr_store.specs.declared.element.Element.{Element}
+use Rattle.nr_store.specs.declared.element.Element.TheVariants as elements
+use Rattle.nr_store.specs.declared.shown.Rest.{Rest}
+use Rattle.nr_store.specs.declared.shown.Rest.TheVariants as rests
 use Rattle.nr_store.specs.Stored.{Level, Read, Mark, Stored, left}
 
 -- what is left of a level's text
@@ -12,6 +15,11 @@ rest_in (Mark mode) = []
 abbrev pub rest_of : {K : Type 0} → List (Level K) → List Element
 rest_of [] = []
 rest_of (l ∷ ls) = rest_in l
+
+-- the elements of a rest
+abbrev pub elements_in : Rest → List Element
+elements_in (rests.Text text) = text.now
+elements_in (rests.Bytes bytes) = map elements.Byte bytes.now
 
 -- behind what comes next, so many times
 abbrev pub left_times : {K : Type 0} → ℕ → Stored K → Stored K

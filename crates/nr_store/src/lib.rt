@@ -22,5 +22,5 @@ pub use nr_tables::{HyphenationWord, Trap};
 pub use refusal::{Refusal, StoredBytes};
 pub use register::Register;
 pub use request::Request;
-pub use shown::{Shown, Sight};
+pub use shown::{Rest, Shown, Sight};
 pub use store::Store;

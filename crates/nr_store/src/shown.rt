@@ -27,3 +27,12 @@ pub enum Shown<K> {
     /// There is no level.
     Nothing,
 }
+
+/// What is left of a level's text.
+#[derive(Clone, Copy, Debug)]
+pub enum Rest<'s> {
+    /// Elements of a text.
+    Text(&'s [Element]),
+    /// Bytes that were given, or of an argument.
+    Bytes(&'s [u8]),
+}

@@ -1,15 +1,14 @@
 // Levels: texts that are being read.
-ghost use Rattle.std.specs.Prelude.{◌≡◌, ◌++◌, ◌≤◌, ◌<◌, nat_lt, length, map, drop, OnOk, OnErr, is_some, None, Some};
+ghost use Rattle.std.specs.Prelude.{◌≡◌, ◌≤◌, nat_lt, length, OnOk, OnErr, is_some, None, Some};
 ghost use Rattle.nr_tables.specs.Named.{find};
 ghost use Rattle.nr_levels.specs.Levels.{argument};
 ghost use Rattle.nr_store.specs.Stored.{checked, words, entered, reading_bytes, shown, left, dropped, emptied};
-ghost use Rattle.nr_store.specs.declared.element.Element.TheVariants as elements;
-ghost use Rattle.nr_store.specs.Windows.{rest_of, left_times};
+ghost use Rattle.nr_store.specs.Windows.{elements_in, rest_of, left_times};
 ghost use Rattle.nr_store.specs.Sights.{Shows, shown_with};
 
 use crate::element::Element;
 use crate::refusal::Refusal;
-use crate::shown::Sight;
+use crate::shown::{Rest, Sight};
 use crate::store::Store;
 use crate::store::names::text_in;
 use nr_levels::Next;
@@ -167,31 +166,21 @@ impl<'a, K: Copy> Store<'a, K> {
         self.levels.depth() > 0
     }
 
-    /// The elements that come next of the newest level, as far as they lie in one row: all that is left of a text, and
-    /// none of bytes that were given or of an argument.
+    /// All that is left of the newest level's text: nothing where there is no level, and where its end was taken.
     #[inline(always)]
-    pub fn window(&self) -> &[Element]
-        ensures within { length result.now ≤ length (rest_of self.now.levels) }
-        ensures front { let rest = rest_of self.now.levels in result.now ++ drop (length result.now) rest ≡ rest }
-        ensures all { 0 < length result.now → result.now ≡ rest_of self.now.levels }
+    pub fn rest(&self) -> Rest<'_>
+        ensures { elements_in result ≡ rest_of self.now.levels }
     {
-        let Next::Text(id, place) = self.levels.front() else {
-            return &[];
-        };
-        let text = self.pool.text(id);
-        if text.len() <= place as usize {
-            return &[];
+        match self.levels.rest() {
+            nr_levels::Rest::Text(id, place) => {
+                let text = self.pool.text(id);
+                if text.len() <= place as usize {
+                    return Rest::Text(&[]);
+                }
+                Rest::Text(&text[place as usize..])
+            }
+            nr_levels::Rest::Bytes(bytes) => Rest::Bytes(bytes),
         }
-        &text[place as usize..]
-    }
-
-    /// The bytes that come next of the newest level, as far as they lie in one row: all that is left of bytes that were
-    /// given or of an argument, and none of a text.
-    #[inline(always)]
-    pub fn own_window(&self) -> &[u8]
-        ensures all { 0 < length result.now → map elements.Byte result.now ≡ rest_of self.now.levels }
-    {
-        self.levels.window()
     }
 
     /// Takes so many elements of the newest level, which it has left.
