@@ -1,3 +1,6 @@
+ghost use Rattle.std.specs.Prelude.{◌≡◌, length};
+ghost use Rattle.nr_store.specs.Windows.{rest_of};
+
 use super::*;
 use nr_levels::{Frame, Span};
 use nr_pool::Slot;
@@ -58,7 +61,9 @@ fn reads_what_it_began(rt: &impl Abort, store: &mut Store<'_, u8>) {
 }
 
 // How much is left of the newest level.
-fn count_left(store: &Store<'_, u8>) -> usize {
+fn count_left(store: &Store<'_, u8>) -> usize
+    ensures { result ≡ length (rest_of store.now.levels) }
+{
     match store.rest() {
         Rest::Text(text) => text.len(),
         Rest::Bytes(bytes) => bytes.len(),
