@@ -1,5 +1,5 @@
 -- Lines of the source that are at hand: the newline that ends one, and the text of the next behind it.
-use Rattle.std.proofs.Common.{◌≡◌, ◌≢◌, ℕ, zero, suc, ◌+◌, ◌-◌, ◌*◌, ◌<◌, ◌≤◌, Bool, true, false, List, [], ◌∷◌, length, take, drop, Option, refl, sym, ap, ◌∙◌, subst, arith, length-drop}
+use Rattle.std.proofs.Common.{◌≡◌, ◌≢◌, ℕ, zero, suc, ◌+◌, ◌-◌, ◌*◌, ◌<◌, ◌≤◌, true, false, List, [], ◌∷◌, length, drop, Option, refl, sym, ap, ◌∙◌, subst, arith, length-drop}
 use Rattle.std.specs.Prelude.{◌&&◌, is_none, not, slice_index}
 use Rattle.std.specs.Option.{option_map}
 use Rattle.std.proofs.lemmas.Bool.{and_parts}
@@ -30,8 +30,8 @@ use Rattle.nr_engine.specs.LineBeginnings.{begun_shape}
 use Rattle.nr_engine.specs.Running.{HasNext, Longest, LongestWords, Makes, PutsText, Saves, taken_shape, unburst}
 use Rattle.nr_engine.proofs.LineBeginnings.{makes_begun}
 use Rattle.nr_engine.proofs.PlainGaps.{first_of}
-use Rattle.nr_engine.proofs.PlainNewlines.{ended_shape, makes_newline, makes_newline_flows, saves_newline, saves_newline_flows}
-use Rattle.nr_engine.proofs.TextAtHand.{begun-gap, holds_behind, next_behind, passed_on, puts_on, saves_on, skipped_on}
+use Rattle.nr_engine.proofs.PlainNewlines.{makes_newline, makes_newline_flows, saves_newline, saves_newline_flows}
+use Rattle.nr_engine.proofs.TextAtHand.{begun-gap, holds_behind, next_behind, passed_on, puts_on, skipped_on}
 use Rattle.nr_engine.proofs.Travelling.{makes-add, worth_same}
 
 -- ---- the newline

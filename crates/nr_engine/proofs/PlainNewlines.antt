@@ -5,12 +5,12 @@ use Rattle.std.proofs.lemmas.Bool.{ne_eqb}
 use Rattle.nr_units.specs.Supply.{MayGive, Supply}
 use Rattle.nr_fill.specs.Pieces.{line_cells}
 use Rattle.nr_reading.specs.InText.{IsInText}
-use Rattle.nr_reading.specs.LineBeginnings.{IsBeforeLine, is_at_text as reads_text, text_ended}
+use Rattle.nr_reading.specs.LineBeginnings.{text_ended}
 use Rattle.nr_reading.specs.Meeting.{meet}
 use Rattle.nr_reading.specs.Weights.{blanks_owed, weight_of_half}
 use Rattle.nr_reading.specs.declared.event.Event.TheVariants as events
 use Rattle.nr_reading.specs.declared.mode.Mode.TheVariants as modes
-use Rattle.nr_reading.proofs.InText.{ended_text, in_text, meet-newline}
+use Rattle.nr_reading.proofs.InText.{in_text, meet-newline}
 use Rattle.nr_input.specs.Acting.{on_half}
 use Rattle.nr_input.specs.AtHand.{ComeNext, behind_last}
 use Rattle.nr_input.specs.Coming.{Coming, HoldsComing, front}
@@ -21,10 +21,10 @@ use Rattle.nr_input.specs.Runs.{passed_run}
 use Rattle.nr_input.specs.Weights.{expansions_worth}
 use Rattle.nr_input.specs.declared.told.Told.TheVariants as tells
 use Rattle.nr_store.specs.Stored.{shown}
-use Rattle.nr_formatter.specs.Access.{collected, is_filling, with_collected}
+use Rattle.nr_formatter.specs.Access.{collected, with_collected}
 use Rattle.nr_formatter.specs.LineEnds.{IsNewline, line_gapped, newline_flows, newline_put}
 use Rattle.nr_formatter.specs.Lines.{fits_line, flow_done}
-use Rattle.nr_formatter.specs.Runs.{IsInLine, is_in_line}
+use Rattle.nr_formatter.specs.Runs.{IsInLine}
 use Rattle.nr_formatter.specs.Weights as weights
 use Rattle.nr_formatter.specs.Weights.{owed_by_event, owed_by_task, weight_of_agenda}
 use Rattle.nr_formatter.specs.declared.formatter.Formatter.{Formatter}

@@ -66,7 +66,7 @@ before last n k p (Some q) unseen h =
       coming = coming;
       holds = record { taken = refl; inside = refl; stands = supply_held coming p.ahead unseen };
       is = ap (λ x. record k { supply = x }) supply ∙ ap (λ x. record (behind_last last n coming) { taken = x; inside = k.inside }) taken
-      ∙ ap (λ x. record (behind_last last n coming) { inside = x }) inside;
+          ∙ ap (λ x. record (behind_last last n coming) { inside = x }) inside;
     }
 
 -- so many bytes on, and then more of them

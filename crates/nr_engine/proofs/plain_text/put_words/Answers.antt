@@ -1,4 +1,4 @@
-use Rattle.std.proofs.Common.{◌≡◌, ℕ, ◌+◌, ◌*◌, ◌<◌, ◌≤◌, true, List, length, drop, refl, sym, ap, ◌∙◌, subst, arith}
+use Rattle.std.proofs.Common.{◌≡◌, ℕ, ◌+◌, ◌<◌, List, length, drop, refl, sym, ap, ◌∙◌, subst, arith}
 use Rattle.std.specs.Prelude.{slice_index}
 use Rattle.std.proofs.lemmas.List.{take_rest}
 use Rattle.nr_formatter.specs.LineBeginnings.{BeginsText}
@@ -120,5 +120,5 @@ loop-taken-preserved c =
       front = omega (arith, below);
       few = omega (arith, (puts h).most);
       goes_on = goes_begun (taken h + 1) (moves h + 5) (all h) f g c.begin_text.new.self (omega arith) ends at half
-      (subst (λ xs. BeginsText xs g) (take_rest (all h) (taken h + 1)) begins.0) begins.1;
+          (subst (λ xs. BeginsText xs g) (take_rest (all h) (taken h + 1)) begins.0) begins.1;
     }
