@@ -1,5 +1,8 @@
-//! The program nroff but for its `main`: its words, the texts that it reads, a run over streams, the
-//! lines that tell how it ended, and its status.
+//! The program nroff but for its `main`: its words, the texts that it reads, a run over streams, the lines that
+//! tell how it ended, and its status.
+//!
+//! It stands on nr_units, nr_options, nr_engine and nr_words. To read: `faults`, `running`; `opening`, `disk`;
+//! `words`; `program`.
 #![tactic(auto)]
 
 mod disk;

@@ -1,4 +1,9 @@
 //! A formatter for terminals: marked-up text into pages, under four limits.
+//!
+//! It stands on nr_formatter, nr_page, nr_options and the crates below them. To read: `outcome`, `lengths`,
+//! `desk`; `engine`; its moves in `pages`, `lines`, `breaks`, `titles`, `rooms`, `diverted`, `spacing`,
+//! `ejecting`; many moves at once in `reading`, `plain_text`, `level_text`, `rereading`, `empty_lines`; `run`,
+//! with `format`.
 #![tactic(auto)]
 
 mod breaks;

@@ -1,5 +1,9 @@
-//! The collected line: text that is read and not set yet, cutting lines off it, spreading them, setting
-//! them in a row of cells, tab stops, and titles.
+//! The collected line: text that is read and not set yet, cutting lines off it, spreading them, setting them in
+//! a row of cells, tab stops, and titles.
+//!
+//! It stands on nr_units and nr_settings. To read: `piece`, `margins`, `setting`, `stops`, `title`; `cells`,
+//! `measured`, `out`; `slice_queue`, `cutting`, `piece_row`; then `line`, and its calls in `words`, `runs`,
+//! `tabs`, `taking`, `titling`.
 #![tactic(auto)]
 
 pub mod cells;

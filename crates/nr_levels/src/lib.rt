@@ -1,4 +1,7 @@
-//! Levels of input: the stack of texts that are being read, with the arguments in force, in slices that are lent.
+//! Levels of input: the stack of texts that are being read, with the arguments in force, in slices that are
+//! lent.
+//!
+//! It stands on nr_units and nr_pool. To read: `frame`, `stack`, `spans`, `levels`; `gathering`.
 #![tactic(auto)]
 
 pub mod frame;

@@ -1,5 +1,7 @@
-//! What a run is told beside its input: the four limits, the first page's number, registers, and which
-//! pages are printed.
+//! What a run is told beside its input: the four limits, the first page's number, registers, and which pages
+//! are printed.
+//!
+//! It stands on nr_units and nr_page. To read: `limits`, `options`.
 #![tactic(auto)]
 
 mod limits;

@@ -1,5 +1,8 @@
-//! The open page: lines of cells placed on rows, later ones over earlier ones, and the bytes that it
-//! prints; and which pages are printed.
+//! The open page: lines of cells placed on rows, later ones over earlier ones, and the bytes that it prints;
+//! and which pages are printed.
+//!
+//! It stands on nr_units and nr_pool. To read: `row`, `gap_vec`, `placing`; `gathering`, `writing`; `page`;
+//! `selection`.
 #![tactic(auto)]
 
 mod gap_vec;

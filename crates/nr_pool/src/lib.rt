@@ -1,5 +1,7 @@
 //! Texts in two lent slices. The elements of all texts lie in the one, without holes, and the other says where
 //! each text lies and how many hold it. No call allocates.
+//!
+//! It stands on no crate of the repository. To read: this file, and then `slot`.
 #![tactic(auto)]
 
 ghost use Rattle.std.specs.Prelude.{◌≡◌, ◌≢◌, ℕ, ◌+◌, ◌^◌, ◌<◌, ◌≤◌, ◌↔◌, [], ◌∷◌, ◌++◌, length, take, replicate, All, IsErr, IfOk, OnOk, OnErr, IsTrue, slice_get, slice_set, Some};

@@ -1,4 +1,10 @@
 //! Reading: what each item of the input does to what is half read. Plain data, and functions of it.
+//!
+//! It stands on nr_units. To read: `front`, `event`, `spelled`, `ask`, `mode`; `answers`, `kept`, `notes`,
+//! `delimited`, `asks`; `escape`, `step`; a file for each group of modes, `text`, `text_escape`, `titles`,
+//! `control`, `strings`, `definitions`, `conditions`, `skipping`; `reader`, which puts them together, and
+//! `half`, where an item is met; `seeking`, `conditionals` and `setting`, what comes from outside; `runs`, many
+//! items at once, with `passing`, `control_names`, `arguments` and `defined_texts`.
 #![tactic(auto)]
 
 mod answers;

@@ -1,7 +1,8 @@
-// Worked rows: inputs of the formatter with the pages that they must give, as files in data/, NAME.roff
-// and NAME.out. data/rows lists those that end under the limits by default, data/rows_with_limits the
-// others, with their limits and their ends; the program runs them. Those with faults of their own are
-// tests.
+//! Worked rows: inputs of the formatter with the pages that they must give, as files in data/, NAME.roff and NAME.out.
+//! data/rows lists those that end under the limits by default, data/rows_with_limits the others, with their limits and
+//! their ends; the program runs them. Those with faults of their own are tests.
+//!
+//! It stands on nr_units and nr_engine. To read: this file, `limits`; then the tests.
 #![tactic(auto)]
 
 use nr_engine::{Buffered, Desk, Limits, Options, Outcome, Sink, Source, format};

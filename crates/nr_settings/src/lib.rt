@@ -1,5 +1,9 @@
-//! The formatter's settings, the requests that only set them, and the arguments of the other requests; the widths of
-//! `\w`, `\h` and `\l`. Plain data and plain functions.
+//! The formatter's settings, the requests that only set them, and the arguments of the other requests; the
+//! widths of `\w`, `\h` and `\l`. Plain data and plain functions.
+//!
+//! It stands on nr_units. To read: `lengths`, `arguments`, `numbers`; then a file for each matter, in any
+//! order, from `filling`, `indents` and `fonts` to `traps`; `stops` before `tabs`; `settings`; `specials`,
+//! `motions`, `escapes`, `widths`.
 #![tactic(auto)]
 
 mod arguments;

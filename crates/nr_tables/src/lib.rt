@@ -1,4 +1,7 @@
-//! What the store keeps beside texts, in slices that are lent: tables of what has a name, traps, hyphenation words.
+//! What the store keeps beside texts, in slices that are lent: tables of what has a name, traps, hyphenation
+//! words.
+//!
+//! It stands on nr_units. To read: `table`, with `hints` below it; `trap`; `word`.
 #![tactic(auto)]
 
 mod hints;

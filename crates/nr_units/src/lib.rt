@@ -1,5 +1,8 @@
-//! What the other crates of the formatter stand on: units, number expressions, the texts of numbers,
-//! names, cells, and where bytes come from and go to.
+//! What the other crates of the formatter stand on: units, number expressions, the texts of numbers, names,
+//! cells, vectors over lent slices, and where bytes come from and go to.
+//!
+//! It stands on no crate of the repository. To read: `units`; `operators`, `symbols`, `level`, `scanner`,
+//! `expression`; `number_text`; `name`; `cell`, `slice_vec`; `source`, `sink`, `over_std`, `buffered`; `fakes`.
 #![tactic(auto)]
 
 pub mod buffered;

@@ -1,4 +1,7 @@
 //! What the command line says, and files read one after the other.
+//!
+//! It stands on nr_units, nr_page and nr_options. To read: `usage`, `texts`, `settings`, `job`, `words`;
+//! `inputs`; `chained`, `files`.
 #![tactic(auto)]
 
 mod chained;

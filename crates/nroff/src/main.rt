@@ -1,4 +1,5 @@
-// nroff: formats text for a terminal, to standard output.
+//! The program nroff: it formats text for a terminal, to standard output. It stands on nr_command, which has all but
+//! `main`.
 #![tactic(auto)]
 
 use nr_command::run_program;
