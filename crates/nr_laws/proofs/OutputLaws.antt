@@ -1,0 +1,174 @@
+-- The laws of the output.
+use Rattle.std.proofs.lemmas.Bool.{cases_lt}
+use Rattle.std.proofs.lemmas.Grind.{flat_map-append}
+use Rattle.std.proofs.Common.{◌≡◌, ℕ, zero, suc, ◌+◌, ◌<◌, ◌≤◌, true, false, List, [], ◌∷◌, ◌++◌, Option, None, Some, refl, ap, sym, subst, ◌∙◌, append-nil, append_assoc, arith, inl, inr}
+use Rattle.std.specs.Io.KnownBytes.{Appends}
+use Rattle.nr_units.specs.Held.{AppendsFront}
+use Rattle.nr_units.specs.Supply.{Supply}
+use Rattle.nr_options.specs.Limits.{Bounds}
+use Rattle.nr_options.specs.declared.options.Options.{Options}
+use Rattle.nr_engine.specs.State.{State, Ended, start}
+use Rattle.nr_engine.specs.Machine.{step, state_after}
+use Rattle.nr_engine.specs.Printing.{bytes_of, text}
+use Rattle.nr_engine.specs.Answer.{Kind, Over, kind, Goes, Runs, Stops, Writes, BreaksOff, is_write_fault}
+use Rattle.nr_engine.specs.declared.outcome.Outcome.{Outcome}
+use Rattle.nr_engine.specs.declared.outcome.Outcome.TheVariants.{Done, Limit, ReadFault, TooLong, WriteFault}
+use Rattle.nr_laws.specs.Limited.{state_under}
+use Rattle.nr_laws.specs.Unlimited.{step_by, step_freely, freely_after}
+use Rattle.nr_laws.specs.Laws.{IsFrontOf, AtLeast, is_unfaulted, nothing_allowed, unlimited, unlimited_text, AnswersWith, LimitsOnlyStop, NoLimitAsked, LimitsCut, LimitsCutOutput, DoneIsWhole, OneWhole, WiderLimits, OneAnswer}
+use Rattle.nr_laws.proofs.StepLimits.{step_freely-under, freely_after-under}
+use Rattle.nr_laws.proofs.Freely.{goes-free, goes-wider, reaches}
+use Rattle.nr_laws.proofs.Growing.{text-grows, freely_after-add}
+use Rattle.nr_laws.proofs.Stopping.{goes-stops, stops-one}
+
+front-trans : (a b c : List ℕ) → IsFrontOf a b → IsFrontOf b c → IsFrontOf a c
+front-trans a b c x y = record { rest = x.rest ++ y.rest; whole_is = y.whole_is ∙ ap (λ z. z ++ y.rest) x.whole_is ∙ append_assoc a x.rest y.rest }
+
+-- ---- what went out
+
+-- the pages that have ended
+wrote : (s : State) (o : Outcome) (out : List ℕ) → is_write_fault o ≡ false → Writes s o (Some []) (Some out) → out ≡ text s.pages
+wrote s Done out told w = w
+wrote s (Limit which at) out told w = w
+wrote s TooLong out told w = w
+wrote s (ReadFault at) out told w = w
+wrote s WriteFault out told w = (let e : true ≡ false = told in cc)
+
+unfaulted-writes : (o : Outcome) → is_unfaulted o ≡ true → is_write_fault o ≡ false
+unfaulted-writes WriteFault told = (let e : false ≡ true = told in cc)
+unfaulted-writes o told = refl
+
+text-one : (pages : List Ended) (page : Ended) → text (pages ++ page ∷ []) ≡ text pages ++ bytes_of page
+text-one pages page = flat_map-append bytes_of pages (page ∷ []) ∙ ap (λ z. text pages ++ z) (append-nil (bytes_of page))
+
+broken : (s : State) (out : List ℕ) (b : BreaksOff s (Some []) (Some out)) (between : Option (List ℕ)) → Appends (Some []) between (text s.pages) → AppendsFront between (Some out) (bytes_of b.page) → IsFrontOf out (text (step s).pages)
+broken s out b None ended front = absurd ended
+broken s out b (Some xs) ended front =
+    record {
+      rest = front.1;
+      whole_is = ap text b.ends ∙ text-one s.pages b.page ∙ ap (λ z. text s.pages ++ z) front.2 ∙ sym (append_assoc (text s.pages) front.0 front.1)
+          ∙ ap (λ z. (z ++ front.0) ++ front.1) (sym ended) ∙ ap (λ z. z ++ front.1) (sym front.3);
+    }
+
+-- a front of what the next move brings
+wrote_front : (s : State) (o : Outcome) (out : List ℕ) → Stops s o → Writes s o (Some []) (Some out) → IsFrontOf (text s.pages) (text (step_freely s).pages) → IsFrontOf out (text (step_freely s).pages)
+wrote_front s Done out stops w grows = subst (λ z. IsFrontOf z (text (step_freely s).pages)) (sym w) grows
+wrote_front s (Limit which at) out stops w grows = subst (λ z. IsFrontOf z (text (step_freely s).pages)) (sym w) grows
+wrote_front s (ReadFault at) out stops w grows = subst (λ z. IsFrontOf z (text (step_freely s).pages)) (sym w) grows
+wrote_front s TooLong out stops w grows = subst (λ z. IsFrontOf z (text (step_freely s).pages)) (sym w) grows
+wrote_front s WriteFault out stops w grows =
+    subst (λ (t : State). IsFrontOf out (text t.pages)) (goes-free s stops.0) (broken s out w w.between w.ended w.front)
+
+-- ---- states of a run, and of that without limits
+
+module _ (b : Bounds) (options : Options) (supply : Supply) where
+  -- without limits
+  abbrev free : ℕ → State
+  free n = unlimited options supply n
+
+  at : (n : ℕ) → Runs n (start b options supply) → state_after n (start b options supply) ≡ state_under b (free n)
+  at n runs = reaches b nothing_allowed options supply n runs
+
+  -- a run of n moves is one of fewer
+  fewer : (n m : ℕ) → m ≤ n → Runs n (start b options supply) → Runs m (start b options supply)
+  fewer n m h runs = λ k i. runs k (omega arith)
+
+  pub text_at : (n : ℕ) (o : Outcome) (out : List ℕ) → AnswersWith b options supply n o out → is_write_fault o ≡ false → out ≡ unlimited_text options supply n
+  text_at n o out a told = wrote (state_after n (start b options supply)) o out told a.writes ∙ ap (λ (s : State). text s.pages) (at n a.runs)
+
+  pub cut_at : (n : ℕ) (o : Outcome) (out : List ℕ) → AnswersWith b options supply n o out → IsFrontOf out (unlimited_text options supply (suc n))
+  cut_at n o out a =
+      let s = state_after n (start b options supply) in
+      let e : text (step_freely s).pages ≡ unlimited_text options supply (suc n) =
+      ap (λ (t : State). text (step_freely t).pages) (at n a.runs) ∙ ap (λ (t : State). text t.pages) (step_freely-under b (free n)) in
+      subst (IsFrontOf out) e (wrote_front s o out a.stops a.writes (text-grows zero (suc zero) s (omega arith)))
+
+stays : (k : Kind) (s : State) → kind s ≡ Over → k ≡ kind s → step_by k s ≡ s
+stays k s over is = subst (λ (j : Kind). step_by j s ≡ s) (sym (is ∙ over)) refl
+
+over_stays : (n : ℕ) (s : State) → kind s ≡ Over → freely_after n s ≡ s
+over_stays zero s over = refl
+over_stays (suc n) s over = ap step_freely (over_stays n s over) ∙ stays (kind s) s over refl
+
+-- ---- the laws
+
+pub limits_only_stop : LimitsOnlyStop
+limits_only_stop b options supply n runs = reaches b nothing_allowed options supply n runs
+
+pub no_limit_asked : NoLimitAsked
+no_limit_asked b options supply n = freely_after-under b n (start nothing_allowed options supply)
+
+pub limits_cut : LimitsCut
+limits_cut b options supply n o out a m h =
+    front-trans out (unlimited_text options supply (suc n)) (unlimited_text options supply m) (cut_at b options supply n o out a)
+    (text-grows (suc n) m (start nothing_allowed options supply) (omega arith))
+
+-- what is over stays
+after_over : (options : Options) (supply : Supply) (n m : ℕ) → kind (unlimited options supply n) ≡ Over → unlimited_text options supply (n + m) ≡ unlimited_text options supply n
+after_over options supply n m over =
+    let s = start nothing_allowed options supply in
+    ap (λ (t : State). text t.pages) (freely_after-add s n m ∙ over_stays m (freely_after n s) over)
+
+pub limits_cut_output : LimitsCutOutput
+limits_cut_output b options supply n o out whole a w =
+    subst (IsFrontOf out) (after_over options supply w.moves (n + 1) w.over ∙ sym w.whole_is) (limits_cut b options supply n o out a (w.moves + (n + 1)) (omega arith))
+
+-- the run without limits is over then too
+pub over_at : (b : Bounds) (options : Options) (supply : Supply) (n : ℕ) (out : List ℕ) → AnswersWith b options supply n Done out → kind (unlimited options supply n) ≡ Over
+over_at b options supply n out a = ap kind (sym (at b options supply n a.runs)) ∙ a.stops
+
+pub done_is_whole : DoneIsWhole
+done_is_whole b options supply n out a = record {
+  moves = n;
+  over = over_at b options supply n out a;
+  whole_is = text_at b options supply n Done out a refl;
+}
+
+pub one_whole : OneWhole
+one_whole options supply x y v w =
+    let e : v.moves + w.moves ≡ w.moves + v.moves = omega arith in
+    v.whole_is ∙ sym (after_over options supply v.moves w.moves v.over) ∙ ap (unlimited_text options supply) e
+    ∙ after_over options supply w.moves v.moves w.over ∙ sym w.whole_is
+
+-- under wider limits the run does not stop earlier
+no_earlier : (b b' : Bounds) (options : Options) (supply : Supply) (n n' : ℕ) (o' : Outcome) → AtLeast b b' → is_unfaulted o' ≡ true → Runs n (start b options supply) → Runs n' (start b' options supply)
+    → Stops (state_after n' (start b' options supply)) o' → n' < n → ⊥
+no_earlier b b' options supply n n' o' h told runs runs' stops less =
+    let t = unlimited options supply n' in
+    let e = at b options supply n' (fewer b options supply n n' (omega arith) runs) in
+    let e' = at b' options supply n' runs' in
+    goes-stops (state_under b' t) o' told (goes-wider b b' t h (subst Goes e (runs n' less))) (subst (λ (s : State). Stops s o') e' stops)
+
+-- what went out, a page of which a fault broke off among it, is a front of what goes out without limits where the run goes as far
+front_at : (b : Bounds) (options : Options) (supply : Supply) (n m : ℕ) (o : Outcome) (out : List ℕ) → AnswersWith b options supply n o out → n ≤ m
+    → (Goes (state_after n (start b options supply)) → n + 1 ≤ m) → IsFrontOf out (unlimited_text options supply m)
+front_at b options supply n m WriteFault out a far further = limits_cut b options supply n WriteFault out a m (further a.stops.0)
+front_at b options supply n m o out a far further =
+    subst (λ z. IsFrontOf z (unlimited_text options supply m)) (sym (text_at b options supply n o out a refl)) (text-grows n m (start nothing_allowed options supply) far)
+
+-- a move more
+runs_on : (n : ℕ) (s : State) → Runs n s → Goes (state_after n s) → Runs (n + 1) s
+runs_on n s runs goes m h = elim (cases_lt m n) [ inl less ↦ runs m less | inr more ↦ (let e : n ≡ m = omega arith in subst (λ k. Goes (state_after k s)) e goes) ]
+
+pub wider_limits : WiderLimits
+wider_limits b b' options supply n n' o o' out out' h a a' told' =
+    let s = start b options supply in
+    let far : n ≤ n' = elim (cases_lt n' n) [ inl less ↦ absurd (no_earlier b b' options supply n n' o' h told' a.runs a'.runs a'.stops less) | inr more ↦ omega arith ] in
+    let further = λ (goes : Goes (state_after n s)). (let x : n + 1 ≤ n' = elim (cases_lt n' (n + 1)) [
+      | inl less ↦ absurd (no_earlier b b' options supply (n + 1) n' o' h told' (runs_on n s a.runs goes) a'.runs a'.stops less)
+      | inr more ↦ omega arith
+    ] in x) in
+    subst (IsFrontOf out) (sym (text_at b' options supply n' o' out' a' (unfaulted-writes o' told'))) (front_at b options supply n n' o out a far further)
+
+at_least_itself : (b : Bounds) → AtLeast b b
+at_least_itself b = record { stored = omega arith; depth = omega arith; cells = omega arith; expansions = omega arith }
+
+pub one_answer : OneAnswer
+one_answer b options supply n n' o o' out out' a a' told told' =
+    let first = no_earlier b b options supply n n' o' (at_least_itself b) told' a.runs a'.runs a'.stops in
+    let second = no_earlier b b options supply n' n o (at_least_itself b) told a'.runs a.runs a.stops in
+    let e : n ≡ n' = elim (cases_lt n' n) [ inl x ↦ absurd (first x) | inr x ↦ elim (cases_lt n n') [ inl y ↦ absurd (second y) | inr y ↦ omega arith ] ] in (
+      e,
+      stops-one (state_after n' (start b options supply)) o o' told told' (subst (λ k. Stops (state_after k (start b options supply)) o) e a.stops) a'.stops,
+      text_at b options supply n o out a (unfaulted-writes o told) ∙ ap (unlimited_text options supply) e ∙ sym (text_at b options supply n' o' out' a' (unfaulted-writes o' told')),
+    )

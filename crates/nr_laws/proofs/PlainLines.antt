@@ -1,0 +1,208 @@
+-- What the collected line holds of plain text, less blanks, and what of it goes out.
+use Rattle.std.specs.Prelude.{nat_lt, replicate}
+use Rattle.std.specs.List.{flat_map}
+use Rattle.std.proofs.lemmas.Grind.{flat_map-append}
+use Rattle.std.proofs.lemmas.List.{take-append-drop}
+use Rattle.std.proofs.Common.{◌≡◌, ℕ, zero, suc, ◌+◌, Bool, true, false, if◌then◌else◌, List, [], ◌∷◌, ◌++◌, take, drop, Option, None, Some, refl, ap, ap₂, sym, subst, ◌∙◌, append-nil, append_assoc}
+use Rattle.nr_units.specs.Cells.{blank}
+use Rattle.nr_units.specs.declared.cell.Cell.{Cell}
+use Rattle.nr_fill.specs.declared.piece.Behind.{Behind}
+use Rattle.nr_fill.specs.declared.piece.Behind.TheVariants as behinds
+use Rattle.nr_fill.specs.declared.piece.Join.{Join}
+use Rattle.nr_fill.specs.declared.piece.Join.TheVariants as joins
+use Rattle.nr_fill.specs.declared.stops.Pending.{Pending}
+use Rattle.nr_fill.specs.declared.stops.Pending.TheVariants as pendings
+use Rattle.nr_fill.specs.declared.piece.Point.TheVariants as points
+use Rattle.nr_fill.specs.Pieces.{Piece, Word, Collected, ended, ended_at, word_or_new, pending_behind, word_length, add_cell_behind, add_cell, add_blank, word_pieces, end_word}
+use Rattle.nr_fill.specs.Cut.{hyphen_before, hyphen_width}
+use Rattle.nr_fill.specs.Spreading.{blanks_before, next_gap, cells_behind, cells_in_line}
+use Rattle.nr_fill.specs.Setting.{line_row, extra_of, shift, left_over, behind}
+use Rattle.nr_fill.specs.declared.setting.Setting.{Setting}
+use Rattle.nr_settings.specs.declared.indents.Margins.{Margins}
+use Rattle.nr_fill.specs.declared.setting.Extra.{Extra}
+use Rattle.nr_laws.proofs.PlainPages.{ink, ink-append, ink-blanks}
+
+-- ---- ink
+
+abbrev pub pieces_ink : List Piece → List ℕ
+pieces_ink ps = flat_map (λ (p : Piece). ink p.cells) ps
+
+abbrev pub word_ink : Option Word → List ℕ
+word_ink None = []
+word_ink (Some w) = pieces_ink w.parts ++ ink w.last.cells
+
+-- of all that is collected
+abbrev pub collected_ink : Collected → List ℕ
+collected_ink c = pieces_ink c.pieces ++ word_ink c.word
+
+pub pieces_ink-append : (ps qs : List Piece) → pieces_ink (ps ++ qs) ≡ pieces_ink ps ++ pieces_ink qs
+pieces_ink-append ps qs = flat_map-append (λ (p : Piece). ink p.cells) ps qs
+
+-- ---- plain text makes no soft break points, and no text for a stop
+
+abbrev pub is_soft : Join → Bool
+is_soft (joins.Gap k) = false
+is_soft joins.Soft = true
+is_soft joins.Hard = false
+
+abbrev pub NoSoft : List Piece → Type 0
+NoSoft [] = Unit {0}
+NoSoft (p ∷ ps) = (is_soft p.join ≡ false) × NoSoft ps
+
+abbrev pub IsPlainPending : Pending → Type 0
+IsPlainPending pendings.Nothing = Unit {0}
+IsPlainPending (pendings.AtPoint points.Hard) = Unit {0}
+IsPlainPending (pendings.AtPoint points.Soft) = ⊥
+IsPlainPending (pendings.ForStop f) = ⊥
+
+pub record CleanWord (w : Word) : Type 0 where
+  pub parts : NoSoft w.parts
+  pub last : is_soft w.last.join ≡ false
+  pub pending : IsPlainPending w.pending
+
+abbrev pub CleanWords : Option Word → Type 0
+CleanWords None = Unit {0}
+CleanWords (Some w) = CleanWord w
+
+pub record Clean (c : Collected) : Type 0 where
+  pub pieces : NoSoft c.pieces
+  pub word : CleanWords c.word
+
+pub no_soft-append : (ps qs : List Piece) → NoSoft ps → NoSoft qs → NoSoft (ps ++ qs)
+no_soft-append [] qs a b = b
+no_soft-append (p ∷ ps) qs a b = (a.0, no_soft-append ps qs a.1 b)
+
+pub no_soft-drop : (n : ℕ) (ps : List Piece) → NoSoft ps → NoSoft (drop n ps)
+no_soft-drop zero ps a = a
+no_soft-drop (suc n) [] a = tt
+no_soft-drop (suc n) (p ∷ ps) a = no_soft-drop n ps a.1
+
+-- ---- words
+
+-- the word at whose end no break point waits
+record Going (w v : Word) : Type 0 where
+  same_ink : word_ink (Some v) ≡ word_ink (Some w)
+  parts : NoSoft v.parts
+  last : is_soft v.last.join ≡ false
+  none : v.pending ≡ pendings.Nothing
+
+going_by : (p : Pending) (w : Word) → w.pending ≡ p → CleanWord w → Going w (ended_at p w)
+going_by pendings.Nothing w is clean = record { same_ink = refl; parts = clean.parts; last = clean.last; none = is }
+going_by (pendings.AtPoint points.Hard) w is clean = record {
+  same_ink = append-nil (pieces_ink (w.parts ++ w.last ∷ [])) ∙ pieces_ink-append w.parts (w.last ∷ []) ∙ ap (λ z. pieces_ink w.parts ++ z) (append-nil (ink w.last.cells));
+  parts = no_soft-append w.parts (w.last ∷ []) clean.parts (clean.last, tt);
+  last = refl;
+  none = refl;
+}
+going_by (pendings.AtPoint points.Soft) w is clean = absurd (subst IsPlainPending is clean.pending)
+going_by (pendings.ForStop f) w is clean = absurd (subst IsPlainPending is clean.pending)
+
+going : (w : Word) → CleanWord w → Going w (ended w)
+going w clean = going_by w.pending w refl clean
+
+-- the word that cells go to
+word_clean : (gap : ℕ) (w : Option Word) → CleanWords w → CleanWord (word_or_new gap w)
+word_clean gap None clean = record { parts = tt; last = refl; pending = tt }
+word_clean gap (Some w) clean = clean
+
+word_same : (gap : ℕ) (w : Option Word) → word_ink (Some (word_or_new gap w)) ≡ word_ink w
+word_same gap None = refl
+word_same gap (Some w) = refl
+
+-- ---- a cell
+
+pending_if : (b : Bool) → IsPlainPending (if b then pendings.AtPoint points.Hard else pendings.Nothing)
+pending_if true = tt
+pending_if false = tt
+
+pending_plain : (mark : Behind) (n : ℕ) → IsPlainPending (pending_behind mark n pendings.Nothing)
+pending_plain behinds.Letter n = tt
+pending_plain behinds.Hyphen n = pending_if (nat_lt 1 n)
+pending_plain behinds.Dash n = pending_if (nat_lt 2 n)
+
+pub add_cell-ink : (m : Margins) (mark : Behind) (x : Cell) (c : Collected) → Clean c → collected_ink (add_cell m mark x c) ≡ collected_ink c ++ ink (x ∷ [])
+add_cell-ink m mark x c clean =
+    let w = word_or_new c.gap c.word in
+    let g = going w (word_clean c.gap c.word clean.word) in
+    let longer : word_ink (Some (add_cell_behind mark x (ended w))) ≡ word_ink c.word ++ ink (x ∷ []) =
+    ap (λ z. pieces_ink (ended w).parts ++ z) (ink-append (ended w).last.cells (x ∷ [])) ∙ sym (append_assoc (pieces_ink (ended w).parts) (ink (ended w).last.cells) (ink (x ∷ [])))
+    ∙ ap (λ z. z ++ ink (x ∷ [])) (g.same_ink ∙ word_same c.gap c.word) in
+    ap (λ z. pieces_ink c.pieces ++ z) longer ∙ sym (append_assoc (pieces_ink c.pieces) (word_ink c.word) (ink (x ∷ [])))
+
+pub add_cell-clean : (m : Margins) (mark : Behind) (x : Cell) (c : Collected) → Clean c → Clean (add_cell m mark x c)
+add_cell-clean m mark x c clean =
+    let w = word_or_new c.gap c.word in
+    let g = going w (word_clean c.gap c.word clean.word) in
+    record {
+      pieces = clean.pieces;
+      word = record { parts = g.parts; last = g.last; pending = subst (λ p. IsPlainPending (pending_behind mark (word_length (add_cell_behind mark x (ended w))) p)) (sym g.none) (pending_plain mark (word_length (add_cell_behind mark x (ended w)))) };
+    }
+
+pub add_blank-ink : (m : Margins) (c : Collected) → Clean c → collected_ink (add_blank m c) ≡ collected_ink c
+add_blank-ink m c clean =
+    let w = word_or_new c.gap c.word in
+    let g = going w (word_clean c.gap c.word clean.word) in
+    ap (λ z. pieces_ink c.pieces ++ (pieces_ink (ended w).parts ++ z)) (ink-append (ended w).last.cells (blank ∷ []) ∙ append-nil (ink (ended w).last.cells))
+    ∙ ap (λ z. pieces_ink c.pieces ++ z) (g.same_ink ∙ word_same c.gap c.word)
+
+pub add_blank-clean : (m : Margins) (c : Collected) → Clean c → Clean (add_blank m c)
+add_blank-clean m c clean =
+    let w = word_or_new c.gap c.word in
+    let g = going w (word_clean c.gap c.word clean.word) in
+    record { pieces = clean.pieces; word = record { parts = g.parts; last = g.last; pending = subst IsPlainPending (sym g.none) tt } }
+
+-- ---- a word's end
+
+word_pieces-ink : (w : Option Word) → pieces_ink (word_pieces w) ≡ word_ink w
+word_pieces-ink None = refl
+word_pieces-ink (Some w) = pieces_ink-append w.parts (w.last ∷ []) ∙ ap (λ z. pieces_ink w.parts ++ z) (append-nil (ink w.last.cells))
+
+word_pieces-clean : (w : Option Word) → CleanWords w → NoSoft (word_pieces w)
+word_pieces-clean None clean = tt
+word_pieces-clean (Some w) clean = no_soft-append w.parts (w.last ∷ []) clean.parts (clean.last, tt)
+
+pub end_word-ink : (c : Collected) → collected_ink (end_word c) ≡ collected_ink c
+end_word-ink c =
+    append-nil (pieces_ink (c.pieces ++ word_pieces c.word)) ∙ pieces_ink-append c.pieces (word_pieces c.word) ∙ ap (λ z. pieces_ink c.pieces ++ z) (word_pieces-ink c.word)
+
+pub end_word-clean : (c : Collected) → Clean c → Clean (end_word c)
+end_word-clean c clean = record { pieces = no_soft-append c.pieces (word_pieces c.word) clean.pieces (word_pieces-clean c.word clean.word); word = tt }
+
+-- ---- a line goes out
+
+behind-ink : (x : Extra) (i : ℕ) (ps : List Piece) → ink (cells_behind x i ps) ≡ pieces_ink ps
+behind-ink x i [] = refl
+behind-ink x i (p ∷ ps) =
+    ink-append (replicate (blanks_before x i p.join) blank ++ p.cells) (cells_behind x (next_gap i p.join) ps)
+    ∙ ap₂ (λ a b. a ++ b) (ink-append (replicate (blanks_before x i p.join) blank) p.cells ∙ ap (λ z. z ++ ink p.cells) (ink-blanks (blanks_before x i p.join))) (behind-ink x (next_gap i p.join) ps)
+
+line-ink : (x : Extra) (ps : List Piece) → ink (cells_in_line x ps) ≡ pieces_ink ps
+line-ink x [] = refl
+line-ink x (p ∷ ps) = ink-append p.cells (cells_behind x 1 ps) ∙ ap (λ z. ink p.cells ++ z) (behind-ink x 1 ps)
+
+no_width : (j : Join) → is_soft j ≡ false → hyphen_width j ≡ 0
+no_width (joins.Gap k) is = refl
+no_width joins.Soft is = absurd (let e : true ≡ false = is in cc)
+no_width joins.Hard is = refl
+
+pub no_hyphen : (ps : List Piece) → NoSoft ps → hyphen_before ps ≡ 0
+no_hyphen [] a = refl
+no_hyphen (p ∷ ps) a = no_width p.join a.0
+
+-- the row of the first n pieces
+pub row-ink : (s : Setting) (c : Collected) (n : ℕ) → NoSoft c.pieces → ink (line_row s c n) ≡ pieces_ink (take n c.pieces)
+row-ink s c n clean =
+    let before = s.offset + c.margins.indent + shift s.align (left_over c n) in
+    let x = extra_of s.align c n in
+    ap (λ h. ink (replicate before blank ++ (cells_in_line x (take n c.pieces) ++ replicate h (record { byte = 45; under = false })))) (no_hyphen (drop n c.pieces) (no_soft-drop n c.pieces clean))
+    ∙ ink-append (replicate before blank) (cells_in_line x (take n c.pieces) ++ []) ∙ ap₂ (λ a b. a ++ b) (ink-blanks before) (ap ink (append-nil (cells_in_line x (take n c.pieces))) ∙ line-ink x (take n c.pieces))
+
+-- and of what is left behind it
+pub cut-ink : (s : Setting) (m : Margins) (c : Collected) (n : ℕ) → NoSoft c.pieces → ink (line_row s c n) ++ collected_ink (behind m s.align c n) ≡ collected_ink c
+cut-ink s m c n clean =
+    ap (λ z. z ++ (pieces_ink (drop n c.pieces) ++ word_ink c.word)) (row-ink s c n clean)
+    ∙ sym (append_assoc (pieces_ink (take n c.pieces)) (pieces_ink (drop n c.pieces)) (word_ink c.word))
+    ∙ ap (λ z. z ++ word_ink c.word) (sym (pieces_ink-append (take n c.pieces) (drop n c.pieces)) ∙ ap pieces_ink (take-append-drop n c.pieces))
+
+pub behind-clean : (m : Margins) (s : Setting) (c : Collected) (n : ℕ) → Clean c → Clean (behind m s.align c n)
+behind-clean m s c n clean = record { pieces = no_soft-drop n c.pieces clean.pieces; word = clean.word }

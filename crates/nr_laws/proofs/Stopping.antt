@@ -1,0 +1,151 @@
+-- A run stops in one way, but for faults.
+use Rattle.std.proofs.Common.{◌≡◌, Bool, true, false, None, Some, Result, Ok, Err, IsOk, refl, sym, subst, ◌∙◌}
+use Rattle.nr_store.specs.Stored.{shown}
+use Rattle.nr_store.specs.declared.shown.Shown.{Shown}
+use Rattle.nr_store.specs.declared.shown.Shown.TheVariants as shows
+use Rattle.nr_reading.specs.declared.event.Event.{Event}
+use Rattle.nr_input.specs.Coming.{Coming, MayLook, RefusesLook}
+use Rattle.nr_input.specs.Moving.{Situation, looks, acting}
+use Rattle.nr_input.specs.Moving as input
+use Rattle.nr_input.specs.declared.refusal.Refusal.{Refusal}
+use Rattle.nr_input.specs.declared.refusal.Refusal.TheVariants as refusals
+use Rattle.nr_formatter.specs.declared.tasks.Resume.{Resume}
+use Rattle.nr_engine.specs.State.{State}
+use Rattle.nr_engine.specs.Machine.{situation_of}
+use Rattle.nr_engine.specs.declared.outcome.Measure.{Measure}
+use Rattle.nr_engine.specs.declared.outcome.Measure.TheVariants as measures
+use Rattle.nr_engine.specs.declared.outcome.Outcome.{Outcome}
+use Rattle.nr_engine.specs.declared.outcome.Outcome.TheVariants.{Done, Limit, ReadFault, TooLong, WriteFault}
+use Rattle.nr_engine.specs.Answer.{Kind, Reads, Works, Over, kind, Goes, GoesBy, IsRefusal, PassesBy, Stops}
+use Rattle.nr_laws.specs.Laws.{is_unfaulted}
+
+-- ---- a look refuses nothing for a limit
+
+-- a refusal for a limit
+data ForLimit : Refusal → Type 0 where
+  ForStored : ForLimit refusals.Stored
+  ForDepth : ForLimit refusals.Depth
+  ForExpansions : ForLimit refusals.Expansions
+
+for_limit : (m : Measure) (r : Refusal) → IsRefusal m r → ForLimit r
+for_limit measures.Stored r is = subst ForLimit (sym is) ForStored
+for_limit measures.Depth r is = subst ForLimit (sym is) ForDepth
+for_limit measures.LineCells r is = absurd is
+for_limit measures.PageCells r is = absurd is
+for_limit measures.Expansions r is = subst ForLimit (sym is) ForExpansions
+
+no_sight : (s : Shown Resume) (c : Coming) (r : Refusal) → ForLimit r → RefusesLook s c r → ⊥
+no_sight shows.Nothing c refusals.Stored ForStored h = h
+no_sight shows.Nothing c refusals.Depth ForDepth h = h
+no_sight shows.Nothing c refusals.Expansions ForExpansions h = h
+no_sight shows.Nothing c refusals.ReadFault l h = elim l [ ]
+no_sight shows.Nothing c refusals.TooLong l h = elim l [ ]
+no_sight shows.End c r l h = h
+no_sight (shows.Item x) c r l h = h
+no_sight (shows.Resume k) c r l h = h
+
+not_long : (r : Refusal) → ForLimit r → r ≡ refusals.TooLong → ⊥
+not_long refusals.Stored ForStored e = cc
+not_long refusals.Depth ForDepth e = cc
+not_long refusals.Expansions ForExpansions e = cc
+not_long refusals.ReadFault l e = elim l [ ]
+not_long refusals.TooLong l e = elim l [ ]
+
+same_limit : (m m' : Measure) (r : Refusal) → IsRefusal m r → IsRefusal m' r → m ≡ m'
+same_limit measures.Stored measures.Stored r a b = refl
+same_limit measures.Stored measures.Depth r a b = cc
+same_limit measures.Stored measures.Expansions r a b = cc
+same_limit measures.Depth measures.Stored r a b = cc
+same_limit measures.Depth measures.Depth r a b = refl
+same_limit measures.Depth measures.Expansions r a b = cc
+same_limit measures.Expansions measures.Stored r a b = cc
+same_limit measures.Expansions measures.Depth r a b = cc
+same_limit measures.Expansions measures.Expansions r a b = refl
+same_limit measures.LineCells m' r a b = absurd a
+same_limit measures.PageCells m' r a b = absurd a
+same_limit m measures.LineCells r a b = absurd b
+same_limit m measures.PageCells r a b = absurd b
+
+-- ---- a move that reads is made, or refused
+
+one_refusal : (a : Result Event Refusal) (r r' : Refusal) → a ≡ Err r → a ≡ Err r' → r ≡ r'
+one_refusal a r r' x y = cc
+
+ok_or : (a : Result Event Refusal) (r : Refusal) → IsOk a → a ≡ Err r → ⊥
+ok_or (Ok e) r ok is = cc
+ok_or (Err x) r ok is = absurd (let y : false ≡ true = ok in cc)
+
+limit_goes : (c : Bool) (q : Situation Resume) (r : Refusal) → ForLimit r → input.GoesBy c q → input.RefusesBy c q r → ⊥
+limit_goes true q r l goes h = no_sight (shown q.stored.levels) q.coming r l h
+limit_goes false q r l goes h = ok_or (acting q).answer r goes h
+
+long_look : (s : Shown Resume) (c : Coming) → MayLook s c → RefusesLook s c refusals.TooLong → ⊥
+long_look shows.Nothing c goes h = goes.1 h.1
+long_look shows.End c goes h = h
+long_look (shows.Item x) c goes h = h
+long_look (shows.Resume k) c goes h = h
+
+long_goes : (c : Bool) (q : Situation Resume) → input.GoesBy c q → input.RefusesBy c q refusals.TooLong → ⊥
+long_goes true q goes h = long_look (shown q.stored.levels) q.coming goes h
+long_goes false q goes h = ok_or (acting q).answer refusals.TooLong goes h
+
+limit_long : (c : Bool) (q : Situation Resume) (r : Refusal) → ForLimit r → input.RefusesBy c q r → input.RefusesBy c q refusals.TooLong → ⊥
+limit_long true q r l a b = no_sight (shown q.stored.levels) q.coming r l a
+limit_long false q r l a b = not_long r l (one_refusal (acting q).answer r refusals.TooLong a b)
+
+limit_limit : (c : Bool) (q : Situation Resume) (m m' : Measure) (r r' : Refusal) → IsRefusal m r → IsRefusal m' r' → input.RefusesBy c q r → input.RefusesBy c q r' → m ≡ m'
+limit_limit true q m m' r r' is is' a b = absurd (no_sight (shown q.stored.levels) q.coming r (for_limit m r is) a)
+limit_limit false q m m' r r' is is' a b =
+    same_limit m m' r' (subst (IsRefusal m) (one_refusal (acting q).answer r r' a b) is) is'
+
+-- ---- a move is made, or the run stops
+
+goes_by : (k : Kind) (s : State) (o : Outcome) → kind s ≡ k → is_unfaulted o ≡ true → GoesBy k s → Stops s o → ⊥
+goes_by Reads s Done is told goes stops = (let e : Reads ≡ Over = sym is ∙ stops in cc)
+goes_by Reads s (Limit which at) is told goes stops =
+    let p : PassesBy Reads s which = subst (λ k. PassesBy k s which) is stops.0 in
+    limit_goes (looks (situation_of s)) (situation_of s) p.0 (for_limit which p.0 p.2) goes p.1
+goes_by Reads s TooLong is told goes stops = long_goes (looks (situation_of s)) (situation_of s) goes stops.1
+goes_by Works s Done is told goes stops = (let e : Works ≡ Over = sym is ∙ stops in cc)
+goes_by Works s (Limit which at) is told goes stops =
+    let p : PassesBy Works s which = subst (λ k. PassesBy k s which) is stops.0 in (let e : None ≡ Some which = sym goes ∙ p in cc)
+goes_by Works s TooLong is told goes stops = (let e : Works ≡ Reads = sym is ∙ stops.0 in cc)
+goes_by Over s o is told goes stops = goes
+goes_by k s (ReadFault at) is told goes stops = (let e : false ≡ true = told in cc)
+goes_by k s WriteFault is told goes stops = (let e : false ≡ true = told in cc)
+
+pub goes-stops : (s : State) (o : Outcome) → is_unfaulted o ≡ true → Goes s → Stops s o → ⊥
+goes-stops s o told goes stops = goes_by (kind s) s o refl told goes stops
+
+-- ---- the run stops in one way
+
+limits_by : (k : Kind) (s : State) (m m' : Measure) → PassesBy k s m → PassesBy k s m' → m ≡ m'
+limits_by Reads s m m' p q = limit_limit (looks (situation_of s)) (situation_of s) m m' p.0 q.0 p.2 q.2 p.1 q.1
+limits_by Works s m m' p q = (let e : Some m ≡ Some m' = sym p ∙ q in cc)
+limits_by Over s m m' p q = absurd p
+
+over_limits : (k : Kind) (s : State) (m : Measure) → k ≡ Over → PassesBy k s m → ⊥
+over_limits Reads s m is p = cc
+over_limits Works s m is p = cc
+over_limits Over s m is p = p
+
+long_limits : (k : Kind) (s : State) (m : Measure) → k ≡ Reads → PassesBy k s m → input.Refuses (situation_of s) refusals.TooLong → ⊥
+long_limits Reads s m is p h = limit_long (looks (situation_of s)) (situation_of s) p.0 (for_limit m p.0 p.2) p.1 h
+long_limits Works s m is p h = cc
+long_limits Over s m is p h = p
+
+pub stops-one : (s : State) (o o' : Outcome) → is_unfaulted o ≡ true → is_unfaulted o' ≡ true → Stops s o → Stops s o' → o ≡ o'
+stops-one s (ReadFault at) o' told told' a b = (let e : false ≡ true = told in cc)
+stops-one s WriteFault o' told told' a b = (let e : false ≡ true = told in cc)
+stops-one s o (ReadFault at) told told' a b = (let e : false ≡ true = told' in cc)
+stops-one s o WriteFault told told' a b = (let e : false ≡ true = told' in cc)
+stops-one s Done Done told told' a b = refl
+stops-one s Done (Limit w at) told told' a b = absurd (over_limits (kind s) s w a b.0)
+stops-one s Done TooLong told told' a b = (let e : Over ≡ Reads = sym a ∙ b.0 in cc)
+stops-one s (Limit w at) Done told told' a b = absurd (over_limits (kind s) s w b a.0)
+stops-one s (Limit w at) (Limit w' at') told told' a b =
+    let e = limits_by (kind s) s w w' a.0 b.0 in let f : at ≡ at' = a.1 ∙ sym b.1 in cc
+stops-one s (Limit w at) TooLong told told' a b = absurd (long_limits (kind s) s w b.0 a.0 b.1)
+stops-one s TooLong Done told told' a b = (let e : Over ≡ Reads = sym b ∙ a.0 in cc)
+stops-one s TooLong (Limit w at) told told' a b = absurd (long_limits (kind s) s w a.0 b.0 a.1)
+stops-one s TooLong TooLong told told' a b = refl

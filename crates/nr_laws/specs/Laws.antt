@@ -1,0 +1,113 @@
+-- Laws of the output: what limits do to it, and that there is one.
+use Rattle.std.specs.Prelude.{◌≡◌, ℕ, ◌+◌, ◌≤◌, Bool, true, false, List, [], ◌++◌, Some}
+use Rattle.nr_units.specs.Supply.{Supply}
+use Rattle.nr_options.specs.Limits.{Bounds}
+use Rattle.nr_options.specs.declared.options.Options.{Options}
+use Rattle.nr_engine.specs.State.{State, start}
+use Rattle.nr_engine.specs.Machine.{state_after}
+use Rattle.nr_engine.specs.Printing.{text}
+use Rattle.nr_engine.specs.Answer.{Runs, Answers, kind, Over}
+use Rattle.nr_engine.specs.declared.outcome.Outcome.{Outcome}
+use Rattle.nr_engine.specs.declared.outcome.Outcome.TheVariants.{Done, ReadFault, WriteFault}
+use Rattle.nr_laws.specs.Limited.{state_under}
+use Rattle.nr_laws.specs.Unlimited.{freely_after}
+
+-- ---- the words of the laws
+
+-- the whole begins with this front
+pub record IsFrontOf (front whole : List ℕ) : Type 0 where
+  pub rest : List ℕ
+  pub whole_is : whole ≡ front ++ rest
+
+-- each limit of the second is at least that of the first
+pub record AtLeast (b b' : Bounds) : Type 0 where
+  pub stored : b.stored ≤ b'.stored
+  pub depth : b.depth ≤ b'.depth
+  pub cells : b.cells ≤ b'.cells
+  pub expansions : b.expansions ≤ b'.expansions
+
+-- neither the source nor the sink ended the run
+abbrev pub is_unfaulted : Outcome → Bool
+is_unfaulted (ReadFault at) = false
+is_unfaulted WriteFault = false
+is_unfaulted o = true
+
+-- A run under limits answers so after n moves, over a sink that is empty at first and holds these bytes then.
+abbrev pub AnswersWith : Bounds → Options → Supply → ℕ → Outcome → List ℕ → Type 0
+AnswersWith b options supply n outcome out = Answers b (start b options supply) n outcome (Some []) (Some out)
+
+-- ---- the run without limits
+
+-- what the state of the run without limits has where limits stand: it is never asked
+abbrev pub nothing_allowed : Bounds
+nothing_allowed = record { stored = 0; depth = 0; cells = 0; expansions = 0 }
+
+-- after n moves without limits
+abbrev pub unlimited : Options → Supply → ℕ → State
+unlimited options supply n = freely_after n (start nothing_allowed options supply)
+
+-- what has gone out then
+abbrev pub unlimited_text : Options → Supply → ℕ → List ℕ
+unlimited_text options supply n = text (unlimited options supply n).pages
+
+-- the run without limits comes to an end, and this has gone out then
+pub record UnlimitedOutput (options : Options) (supply : Supply) (whole : List ℕ) : Type 0 where
+  pub moves : ℕ
+  pub over : kind (unlimited options supply moves) ≡ Over
+  pub whole_is : whole ≡ unlimited_text options supply moves
+
+-- ---- limits only stop a run
+
+-- As long as a run under limits goes on, its states are those of the run without.
+abbrev pub LimitsOnlyStop : Type 0
+LimitsOnlyStop =
+    (b : Bounds) (options : Options) (supply : Supply) (n : ℕ)
+    → Runs n (start b options supply) → state_after n (start b options supply) ≡ state_under b (unlimited options supply n)
+
+-- Without limits a run is the same, whatever stands where limits stand.
+abbrev pub NoLimitAsked : Type 0
+NoLimitAsked =
+    (b : Bounds) (options : Options) (supply : Supply) (n : ℕ)
+    → freely_after n (start b options supply) ≡ state_under b (unlimited options supply n)
+
+-- ---- a prefix
+
+-- What goes out under limits is a front of what goes out without, one move later and from then on.
+abbrev pub LimitsCut : Type 0
+LimitsCut =
+    (b : Bounds) (options : Options) (supply : Supply) (n : ℕ) (outcome : Outcome) (out : List ℕ)
+    → AnswersWith b options supply n outcome out → (m : ℕ) → n + 1 ≤ m → IsFrontOf out (unlimited_text options supply m)
+
+-- Where the run without limits ends, it is a front of all that goes out there.
+abbrev pub LimitsCutOutput : Type 0
+LimitsCutOutput =
+    (b : Bounds) (options : Options) (supply : Supply) (n : ℕ) (outcome : Outcome) (out whole : List ℕ)
+    → AnswersWith b options supply n outcome out → UnlimitedOutput options supply whole → IsFrontOf out whole
+
+-- Where no limit and no fault stops the run, it is all of it.
+abbrev pub DoneIsWhole : Type 0
+DoneIsWhole =
+    (b : Bounds) (options : Options) (supply : Supply) (n : ℕ) (out : List ℕ)
+    → AnswersWith b options supply n Done out → UnlimitedOutput options supply out
+
+-- There is one output without limits.
+abbrev pub OneWhole : Type 0
+OneWhole = (options : Options) (supply : Supply) (a b : List ℕ) → UnlimitedOutput options supply a → UnlimitedOutput options supply b → a ≡ b
+
+-- ---- wider limits
+
+-- Under wider limits no less goes out, unless a fault ends that run.
+abbrev pub WiderLimits : Type 0
+WiderLimits =
+    (b b' : Bounds) (options : Options) (supply : Supply) (n n' : ℕ) (outcome outcome' : Outcome) (out out' : List ℕ)
+    → AtLeast b b' → AnswersWith b options supply n outcome out → AnswersWith b' options supply n' outcome' out'
+    → is_unfaulted outcome' ≡ true → IsFrontOf out out'
+
+-- ---- one answer
+
+-- Without a fault there is one number of moves, one outcome and one output.
+abbrev pub OneAnswer : Type 0
+OneAnswer =
+    (b : Bounds) (options : Options) (supply : Supply) (n n' : ℕ) (outcome outcome' : Outcome) (out out' : List ℕ)
+    → AnswersWith b options supply n outcome out → AnswersWith b options supply n' outcome' out'
+    → is_unfaulted outcome ≡ true → is_unfaulted outcome' ≡ true → (n ≡ n') × (outcome ≡ outcome') × (out ≡ out')

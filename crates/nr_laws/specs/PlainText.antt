@@ -1,0 +1,39 @@
+-- Plain text, and what of it and of the output is neither a blank nor a newline.
+use Rattle.std.specs.Prelude.{◌≡◌, ℕ, nat_le, Bool, true, not, ◌&&◌, ◌||◌, ◌==◌, List, [], ◌∷◌, None}
+use Rattle.std.specs.List.{filter}
+use Rattle.nr_units.specs.Supply.{Supply}
+use Rattle.nr_options.specs.Limits.{Bounds}
+use Rattle.nr_options.specs.declared.options.Options.{Options}
+use Rattle.nr_engine.specs.declared.outcome.Outcome.TheVariants.{Done}
+use Rattle.nr_laws.specs.Laws.{AnswersWith}
+
+-- a byte that is no blank and no newline
+abbrev pub is_ink : ℕ → Bool
+is_ink b = not (b == 32) && not (b == 10)
+
+-- the text less blanks and newlines
+abbrev pub squeezed : List ℕ → List ℕ
+squeezed bs = filter is_ink bs
+
+-- a newline, or of 32 to 126 but no `\`
+abbrev pub is_plain_byte : ℕ → Bool
+is_plain_byte b = b == 10 || (nat_le 32 b && nat_le b 126 && not (b == 92))
+
+-- `.` or `'`
+abbrev pub is_sign : ℕ → Bool
+is_sign b = b == 46 || b == 39
+
+-- only such bytes, and no line that begins with `.` or `'`; whether it begins at a line's beginning
+abbrev pub is_plain_from : Bool → List ℕ → Bool
+is_plain_from begins [] = true
+is_plain_from begins (b ∷ bs) = is_plain_byte b && (not (begins && is_sign b) && is_plain_from (b == 10) bs)
+
+abbrev pub is_plain : List ℕ → Bool
+is_plain bs = is_plain_from true bs
+
+-- Of plain text all goes out, in order, with other blanks and newlines among it.
+abbrev pub PlainTextStays : Type 0
+PlainTextStays =
+    (b : Bounds) (options : Options) (supply : Supply) (n : ℕ) (out : List ℕ)
+    → is_plain supply.bytes ≡ true → options.select ≡ None → AnswersWith b options supply n Done out
+    → squeezed out ≡ squeezed supply.bytes

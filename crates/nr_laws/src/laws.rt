@@ -1,0 +1,46 @@
+//! Laws of the output, each the contract of a function that does nothing: they speak of the definitions alone, over an empty sink.
+ghost use Rattle.nr_laws.specs.Laws.{LimitsOnlyStop, NoLimitAsked, LimitsCut, LimitsCutOutput, DoneIsWhole, OneWhole, WiderLimits, OneAnswer};
+ghost use Rattle.nr_laws.specs.PlainText.{PlainTextStays};
+ghost use Rattle.nr_laws.specs.FilledText.{FilledTextIsRows, CutIsLongest, CutFits};
+
+/// Limits only stop a run: as long as it goes on, its states are those of the run without limits.
+pub fn limits_only_stop()
+    ensures states { LimitsOnlyStop }
+    ensures unasked { NoLimitAsked }
+{}
+
+/// What goes out under limits is a front of what goes out without; for a run that never ends, of what has gone out after some
+/// number of moves.
+pub fn limits_cut()
+    ensures after { LimitsCut }
+    ensures output { LimitsCutOutput }
+{}
+
+/// Where no limit and no fault stops the run, all goes out that does without limits, and that is one text.
+pub fn done_is_whole()
+    ensures whole { DoneIsWhole }
+    ensures one { OneWhole }
+{}
+
+/// Where each limit is at least as wide, what goes out is at least as much: the one is a front of the other.
+pub fn wider_limits()
+    ensures { WiderLimits }
+{}
+
+/// For one input, options and limits there is, without faults, one number of moves, one outcome and one output.
+pub fn one_answer()
+    ensures { OneAnswer }
+{}
+
+/// Of an input of plain text alone all goes out, in order: it is the output, but for blanks and newlines.
+pub fn plain_text_stays()
+    ensures { PlainTextStays }
+{}
+
+/// Where besides no line of it is empty or begins with a blank, the output is the rows that are cut from the pieces of all of it,
+/// each as long as fits, the last page filled up with empty rows.
+pub fn filled_text_is_rows()
+    ensures rows { FilledTextIsRows }
+    ensures longest { CutIsLongest }
+    ensures fits { CutFits }
+{}
