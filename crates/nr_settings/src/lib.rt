@@ -19,8 +19,6 @@ mod spacing;
 mod specials;
 mod stops;
 mod tabs;
-#[cfg(test)]
-mod tests;
 mod traps;
 mod widths;
 
