@@ -20,10 +20,6 @@ mod slice_queue;
 pub mod stops;
 mod tabs;
 mod taking;
-#[cfg(test)]
-mod tests;
 pub mod title;
 mod titling;
-#[cfg(test)]
-mod word_tests;
 mod words;

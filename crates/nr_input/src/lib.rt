@@ -17,8 +17,6 @@ mod runs;
 mod setting;
 mod splicing;
 mod target;
-#[cfg(test)]
-mod tests;
 mod told;
 
 pub use at_hand::{take_window, window};

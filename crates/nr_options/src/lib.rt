@@ -6,8 +6,6 @@
 
 mod limits;
 mod options;
-#[cfg(test)]
-mod tests;
 
 pub use limits::{Limit, Limits};
 pub use options::{MOST_REGISTERS, Options};

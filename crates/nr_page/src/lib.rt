@@ -11,8 +11,6 @@ pub mod page;
 mod placing;
 pub mod row;
 mod selection;
-#[cfg(test)]
-mod tests;
 mod writing;
 
 pub use selection::{BadList, PageRange, Select};

@@ -197,6 +197,3 @@ fn after_byte(text: &[u8], byte: u8) -> Option<&[u8]>
     let (first, rest) = text.split_first()?;
     if *first == byte { Some(rest) } else { None }
 }
-
-#[cfg(test)]
-mod tests;

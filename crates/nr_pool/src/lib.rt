@@ -12,8 +12,6 @@ use crate::slot::{bring_last, spare_all};
 use std::marker::Model;
 
 mod slot;
-#[cfg(test)]
-mod tests;
 
 /// There is no room for what was to be added.
 #[derive(Clone, Copy, Debug, PartialEq, Eq, Drop)]

@@ -23,8 +23,6 @@ mod spacing;
 mod specials;
 mod stops;
 mod tabs;
-#[cfg(test)]
-mod tests;
 mod traps;
 mod widths;
 

@@ -15,8 +15,6 @@ pub mod register;
 pub mod request;
 pub mod shown;
 pub mod store;
-#[cfg(test)]
-mod tests;
 
 pub use element::{Diversion, Draft, Element};
 pub use height::Height;

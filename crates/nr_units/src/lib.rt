@@ -19,8 +19,6 @@ pub mod sink;
 pub mod slice_vec;
 pub mod source;
 mod symbols;
-#[cfg(test)]
-mod tests;
 mod units;
 
 pub use expression::{Ctx, Read, read_expr};

@@ -169,32 +169,3 @@ impl Ord for Name {
         self.compare(other)
     }
 }
-
-#[cfg(test)]
-mod tests {
-    use super::*;
-
-    #[test]
-    fn compares_by_bytes(rt: HostRuntime) {
-        assert_eq!(rt; Name::of(b"ab").as_bytes(), b"ab".as_slice());
-        assert!(rt; Name::of(b"a") < Name::of(b"ab"));
-        assert!(rt; Name::of(b"ab") < Name::of(b"b"));
-        assert!(rt; Name::of(b"a") < Name::of(b"a\0"));
-        assert_eq!(rt; Name::of(b"ab").compare(&Name::of(b"ab")), Ordering::Equal);
-        assert!(rt; Name::new() == Name::default());
-        assert!(rt; Name::new().is_empty());
-        assert!(rt; !Name::of(b"ab").is_empty());
-    }
-
-    #[test]
-    fn grows_to_32_bytes(rt: HostRuntime) {
-        let mut name = Name::new();
-        for _ in 0..33 {
-            if !name.is_full() {
-                name.push(b'x');
-            }
-        }
-        assert!(rt; name.is_full());
-        assert_eq!(rt; name.len(), 32);
-    }
-}

@@ -280,31 +280,3 @@ fn set_bytes(bytes: &mut [u8], cells: &[Cell])
         bytes[i] = cells[i].byte;
     }
 }
-
-#[cfg(test)]
-mod tests {
-    use super::*;
-
-    #[test]
-    fn keeps_its_items_in_order(rt: HostRuntime) {
-        let mut slots = [0; 12];
-        let mut letters = SliceVec::over(&mut slots);
-        assert!(rt; letters.is_empty() && letters.room() == 12);
-        letters.extend(b"acd");
-        letters.insert(1, b'b');
-        letters.push(b'x');
-        letters.set(4, b'e');
-        assert_eq!(rt; letters.as_slice(), b"abcde".as_slice());
-        letters.remove(2);
-        letters.extend_front(b"fghijklm", 2);
-        assert_eq!(rt; letters.as_slice(), b"abdefg".as_slice());
-        assert_eq!(rt; letters.get(2), b'd');
-        letters.remove_front(1);
-        letters.truncate(3);
-        assert_eq!(rt; letters.pop(), Some(b'e'));
-        assert_eq!(rt; letters.last(), Some(b'd'));
-        assert!(rt; letters.len() == 2 && !letters.is_full());
-        letters.clear();
-        assert_eq!(rt; letters.pop(), None);
-    }
-}

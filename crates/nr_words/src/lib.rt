@@ -9,8 +9,6 @@ mod files;
 mod inputs;
 mod job;
 mod settings;
-#[cfg(test)]
-mod tests;
 mod texts;
 mod usage;
 mod words;

@@ -1,0 +1,28 @@
+//! Nothing for other crates: the tests of the layers below the store. They have what no clause says: numbers of the
+//! manuals, worked pages, command lines with their answers, and readers and writers that fail.
+#![tactic(auto)]
+
+#[cfg(test)]
+mod bad_words;
+#[cfg(test)]
+mod expressions;
+#[cfg(test)]
+mod files_in_order;
+#[cfg(test)]
+mod good_words;
+#[cfg(test)]
+mod numbers;
+#[cfg(test)]
+mod page_lists;
+#[cfg(test)]
+mod readers;
+#[cfg(test)]
+mod texts;
+#[cfg(test)]
+mod turns;
+#[cfg(test)]
+mod widths;
+#[cfg(test)]
+mod worked_pages;
+#[cfg(test)]
+mod writers;
