@@ -1,5 +1,5 @@
 -- The bytes of pages whose lines stand on their first rows, one on each.
-use Rattle.std.specs.Prelude.{◌%◌, max, map, replicate}
+use Rattle.std.specs.Prelude.{max, map, replicate}
 use Rattle.std.specs.List.{flat_map, range_with_len, fold}
 use Rattle.std.proofs.lemmas.Bool.{ne_eqb}
 use Rattle.std.proofs.lemmas.Grind.{flat_map-append}
@@ -8,7 +8,7 @@ use Rattle.std.proofs.Common.{◌≡◌, ℕ, zero, suc, ◌+◌, ◌-◌, ◌�
 use Rattle.nr_units.specs.Cells.{trimmed}
 use Rattle.nr_units.specs.declared.cell.Cell.{Cell}
 use Rattle.nr_page.specs.Grid.{Placed, on_row}
-use Rattle.nr_page.specs.PageBytes.{cell_bytes, row_count, row_bytes, page_bytes}
+use Rattle.nr_page.specs.PageBytes.{row_count, row_bytes, page_bytes}
 use Rattle.nr_laws.specs.FilledText.{missing, text_of}
 use Rattle.nr_laws.proofs.PlainPages.{Ascends, row_shown, row_line, row_shown-one, other_row, one_on}
 

@@ -1,15 +1,15 @@
 -- The moves of the formatter do not depend on the limits.
 use Rattle.std.specs.Prelude.{nat_lt, int_lt, is_some, is_none, not, length, ◌==◌, ◌&&◌, ◌||◌}
-use Rattle.std.proofs.Common.{◌≡◌, ℕ, zero, suc, ◌+◌, ◌-◌, Bool, true, false, if◌then◌else◌, List, [], ◌∷◌, Option, None, Some, ℤ, pos, negsuc, refl, ap, ◌∙◌}
+use Rattle.std.proofs.Common.{◌≡◌, ℕ, suc, ◌+◌, ◌-◌, Bool, true, false, if◌then◌else◌, List, Option, None, Some, ℤ, pos, negsuc, refl, ap, ◌∙◌}
 use Rattle.nr_units.specs.declared.number_text.Format.{Format}
-use Rattle.nr_tables.specs.Named.{find, is_same}
+use Rattle.nr_tables.specs.Named.{find}
 use Rattle.nr_tables.specs.declared.trap.Trap.{Trap}
 use Rattle.nr_store.specs.declared.element.Diversion.{Diversion}
 use Rattle.nr_store.specs.declared.element.Element.{Element}
 use Rattle.nr_store.specs.declared.request.Request.{Request}
 use Rattle.nr_store.specs.declared.request.Request.TheVariants as requests
-use Rattle.nr_store.specs.Stored.{Stored, Built, Means, words, named_newest, newest_diversion, ended_by, diversion_ended, moved, renamed, written, worded, set_to, register_of, is_held, unregistered}
-use Rattle.nr_settings.specs.Arguments.{name_in, word_in, behind_word}
+use Rattle.nr_store.specs.Stored.{Stored, words, newest_diversion, diversion_ended, renamed, written, set_to, register_of, is_held, unregistered}
+use Rattle.nr_settings.specs.Arguments.{name_in}
 use Rattle.nr_settings.specs.Characters.{prints}
 use Rattle.nr_settings.specs.Numbers.{applied}
 use Rattle.nr_settings.specs.Pages as page_lines
@@ -68,7 +68,7 @@ use Rattle.nr_formatter.specs.Springing as springing
 use Rattle.nr_formatter.specs.Text as texts
 use Rattle.nr_formatter.specs.Titles as titles
 use Rattle.nr_formatter.specs.Trapping as traps
-use Rattle.nr_laws.specs.Limited.{stored_under, reader_under, under}
+use Rattle.nr_laws.specs.Limited.{stored_under, under}
 use Rattle.nr_laws.proofs.InputLimits.{written_under}
 use Rattle.nr_laws.proofs.StoreLimits.{ended-under, renamed-under, with_words-under}
 

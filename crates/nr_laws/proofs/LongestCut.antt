@@ -1,7 +1,6 @@
 -- What is cut of the pieces is the longest front that fits.
-use Rattle.std.specs.Prelude.{max}
 use Rattle.std.proofs.lemmas.Bool.{cases_lt}
-use Rattle.std.proofs.Common.{◌≡◌, ℕ, zero, suc, ◌<◌, ◌≤◌, Bool, true, false, if◌then◌else◌, List, length, refl, ap, sym, subst, ◌∙◌, inl, inr, arith}
+use Rattle.std.proofs.Common.{◌≡◌, ℕ, zero, suc, ◌<◌, ◌≤◌, Bool, true, false, if◌then◌else◌, List, length, refl, subst, inl, inr, arith}
 use Rattle.nr_fill.specs.Pieces.{Piece}
 use Rattle.nr_fill.specs.Cut.{fits, most_that_fit, cut}
 use Rattle.nr_laws.specs.FilledText.{CutIsLongest, CutFits}

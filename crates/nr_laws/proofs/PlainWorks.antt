@@ -39,7 +39,7 @@ use Rattle.nr_laws.specs.FilledText.{first_margins, text_of}
 use Rattle.nr_laws.proofs.FilledLines.{rows_at, rows-next, rows-front}
 use Rattle.nr_laws.proofs.FilledPages.{rows_shown}
 use Rattle.nr_laws.proofs.FilledPieces.{core, pieces_after, rows_after, pieces-after, pieces_after-clean, still_begun, some_behind}
-use Rattle.nr_laws.proofs.FilledStates.{ReadsFilled, PrintsFilled, is_last_break, never_here}
+use Rattle.nr_laws.proofs.FilledStates.{ReadsFilled, is_last_break, never_here}
 use Rattle.nr_laws.proofs.PlainStates.{calm, Phase, Drained, Closed, OrderlyIn, Keeps, keeps}
 
 pub by_bool : (b : Bool) → (P : Type 0) → (b ≡ true → P) → (b ≡ false → P) → P

@@ -47,6 +47,7 @@ rows_from (suc most) c =
     if is_nil c.pieces then []
     else set_line (record { align = align_of c; offset = 0 }) c (cut_of c) ∷ rows_from most (behind first_margins (align_of c) c (cut_of c))
 
+-- all of them
 abbrev pub rows_of : List Piece → List (List Cell)
 rows_of ps = rows_from (length ps) (record nothing_collected { pieces = ps; margins = first_margins })
 
@@ -54,6 +55,7 @@ rows_of ps = rows_from (length ps) (record nothing_collected { pieces = ps; marg
 abbrev pub missing : ℕ → ℕ
 missing rows = (66 - rows % 66) % 66
 
+-- the bytes of the rows, on pages of 66
 abbrev pub text_of : List (List Cell) → List ℕ
 text_of rows = flat_map (λ (row : List Cell). flat_map cell_bytes row ++ 10 ∷ []) rows ++ replicate (missing (length rows)) 10
 

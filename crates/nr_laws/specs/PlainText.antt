@@ -28,6 +28,7 @@ abbrev pub is_plain_from : Bool → List ℕ → Bool
 is_plain_from begins [] = true
 is_plain_from begins (b ∷ bs) = is_plain_byte b && (not (begins && is_sign b) && is_plain_from (b == 10) bs)
 
+-- of a whole input
 abbrev pub is_plain : List ℕ → Bool
 is_plain bs = is_plain_from true bs
 

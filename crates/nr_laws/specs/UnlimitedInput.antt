@@ -1,4 +1,4 @@
--- The moves of the input without limits.
+-- The moves of the input without limits: nr_input's, but that nothing that is due is refused.
 use Rattle.std.specs.Prelude.{ℕ, ◌+◌, Bool, if◌then◌else◌, List, [], ◌∷◌, is_some, slice_index, None}
 use Rattle.nr_levels.specs.Levels.{argument}
 use Rattle.nr_tables.specs.Named.{find}
@@ -17,12 +17,15 @@ use Rattle.nr_input.specs.Moving.{Situation, Move, situation, looks, look, told_
 abbrev pub expands : {K : Type 0} → Stored K → Reader → Acted K
 expands new r = done events.Nothing new (record (idle r) { burst = r.burst + 1 })
 
+-- one, where the name has a text
 abbrev pub expands_text : {K : Type 0} → Bool → Stored K → Reader → Acted K
 expands_text b new r = if b then expands new r else done events.Nothing new (idle r)
 
+-- a byte is added to the text that is built, and then this is due
 abbrev pub adds : {K : Type 0} → ℕ → Due → Stored K → Reader → Acted K
 adds b d v r = done events.Nothing (added (elements.Byte b ∷ []) v) (then_due d r)
 
+-- the text of a name, with no arguments in force
 abbrev pub splices_name : {K : Type 0} → List ℕ → Stored K → Reader → Acted K
 splices_name name v r = expands_text (is_some (words (find name v.names))) (entered (words (find name v.names)) None v) r
 
@@ -40,9 +43,11 @@ act_freely dues.Call v r =
     expands_text (is_some (words (find (name_in r) v.names))) (called (words (find (name_in r) v.names)) v) r
 act_freely d v r = act d v r
 
+-- what is due in a situation
 abbrev pub acting_freely : {K : Type 0} → Situation K → Acted K
 acting_freely s = act_freely s.reader.half.reading.due s.stored s.reader
 
+-- where it leads
 abbrev pub acted_freely_at : {K : Type 0} → Situation K → Move K
 acted_freely_at s = record { situation = situation (acting_freely s).stored s.coming (acting_freely s).reader; told = told_by (acting_freely s).answer }
 

@@ -22,7 +22,8 @@ pub fn done_is_whole()
     ensures one { OneWhole }
 {}
 
-/// Where each limit is at least as wide, what goes out is at least as much: the one is a front of the other.
+/// Where each limit is at least as wide, what goes out under the narrower ones is a front of what goes out under the wider ones,
+/// unless a fault ends the second run.
 pub fn wider_limits()
     ensures { WiderLimits }
 {}
@@ -37,8 +38,8 @@ pub fn plain_text_stays()
     ensures { PlainTextStays }
 {}
 
-/// Where besides no line of it is empty or begins with a blank, the output is the rows that are cut from the pieces of all of it,
-/// each as long as fits, the last page filled up with empty rows.
+/// Where no line of such an input is empty or begins with a blank, the output is the rows that are cut one after the other from
+/// the pieces of all of it, each as long as fits and all but the last spread in turn, and then empty rows up to the page's end.
 pub fn filled_text_is_rows()
     ensures rows { FilledTextIsRows }
     ensures longest { CutIsLongest }
