@@ -176,8 +176,8 @@ module _ {K : Type 0} (n near : ℕ) (v new w : Stored K) (r : Reader) (bs : Lis
       elim (cases_lt n near) [
         | inl less ↦ record { target = Argument; reads = reads; stops = full_there b less (omega (arith, few)) there }
         | inr all ↦
-          let ends : n ≡ near = omega (arith, within, all) in
-          absurd (stops (omega (arith, few, ends)) b (subst (λ k. slice_get (rest_of v.levels) k ≡ Some (elements.Byte b)) ends there))
+            let ends : n ≡ near = omega (arith, within, all) in
+            absurd (stops (omega (arith, few, ends)) b (subst (λ k. slice_get (rest_of v.levels) k ≡ Some (elements.Byte b)) ends there))
       ]
 
   pub level_added_longest : IsLongestInLevel (2 * n) v r events.Nothing w r
