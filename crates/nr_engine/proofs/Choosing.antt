@@ -19,7 +19,7 @@ use Rattle.nr_formatter.specs.declared.given.GivenRegister.TheVariants as given
 use Rattle.nr_engine.specs.State.{State, Choice, First, Register}
 use Rattle.nr_engine.specs.Machine.{step, state_after, choose, choose_or}
 use Rattle.nr_engine.specs.Measures.{IsWithin, passed}
-use Rattle.nr_engine.specs.Answer.{Works as WorksKind, kind, kind_of, Goes, GoesBy, PassesBy, Stops}
+use Rattle.nr_engine.specs.Answer.{Works as WorksKind, kind, kind_of, Goes, GoesBy, PassesBy, Stops, place_by}
 use Rattle.nr_engine.specs.Holding.{Shape, Holds, Made, Halts}
 use Rattle.nr_engine.specs.Running.{Chooses, StaysLight}
 use Rattle.nr_engine.specs.declared.outcome.Measure.TheVariants.{Stored}
@@ -140,8 +140,11 @@ module _ (c : Choice) (cs : List Choice) (supply : Option Supply) (held : Option
       let over : (next c cs t).formatter.store.limit < charge_of (next c cs t).formatter.store =
       subst (λ (x : Formatter). x.store.limit < charge_of x.store) of_formatter
       (subst (λ k. k < charge_of (choose c e.formatter).store) (sym (ap (λ x. x.store.limit) (chosen c e.formatter).is)) (does.1 h.stands.within.formatter)) in
-      let stops : Stops t (Limit Stored e.place.taken) =
-      (subst (λ k. PassesBy k t Stored) (sym (works t c cs h.stands.chosen_is)) (ap passed same ∙ passed_stored (next c cs t) over), h.stands.coming.taken) in
+      let stops : Stops t (Limit Stored e.place.taken) = (
+        subst (λ k. PassesBy k t Stored) (sym (works t c cs h.stands.chosen_is)) (ap passed same ∙ passed_stored (next c cs t) over),
+        subst (λ k. e.place.taken ≡ place_by k t) (sym (works t c cs h.stands.chosen_is)) h.stands.coming.taken,
+      )
+      in
       subst (λ o. Halts t 0 o held held) (sym does.0) (halts_here t (Limit Stored e.place.taken) held held stops (Keeps-refl held))
 
 -- ---- the registers, one after another

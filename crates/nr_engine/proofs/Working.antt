@@ -9,18 +9,24 @@ use Rattle.nr_fill.specs.Rows.{IsRow}
 use Rattle.nr_page.specs.Grid.{Placed, page_charge}
 use Rattle.nr_page.specs.Sheet.{Holds as HoldsPage}
 use Rattle.nr_input.specs.Coming.{HoldsComing}
+use Rattle.nr_input.specs.Laws.{all_counted}
+use Rattle.nr_input.specs.Moving as input
+use Rattle.nr_input.specs.Refusals.{place_told}
+use Rattle.nr_input.specs.declared.refusal.Refusal.{Refusal}
+use Rattle.nr_input.specs.declared.refusal.Refusal.TheVariants as refusals
 use Rattle.nr_formatter.specs.Limits as formatter
 use Rattle.nr_formatter.specs.Limits.{judged}
 use Rattle.nr_formatter.specs.Weights.{Falls}
 use Rattle.nr_formatter.specs.declared.formatter.Formatter.{Formatter}
 use Rattle.nr_formatter.specs.declared.passed.Passed.{Passed}
 use Rattle.nr_engine.specs.State.{State, Ended, plainly}
-use Rattle.nr_engine.specs.Machine.{step}
+use Rattle.nr_engine.specs.Machine.{step, situation_of}
 use Rattle.nr_engine.specs.Printing.{bytes_of, text}
 use Rattle.nr_engine.specs.Measures.{IsWithin, passed}
-use Rattle.nr_engine.specs.Answer.{Works as WorksKind, kind, GoesBy, PassesBy, Passes, measured, limited, stopped}
-use Rattle.nr_engine.specs.Holding.{Shape, at, Stands, Holds, Wrote, Moved, IsLighter, AfterWork, AfterQuietWork, AfterMove, Works, WorksQuietly}
+use Rattle.nr_engine.specs.Answer.{Reads as ReadsKind, Works as WorksKind, kind, GoesBy, PassesBy, Passes, Stops, place_by, refusal_outcome, measured, limited, stopped}
+use Rattle.nr_engine.specs.Holding.{Shape, at, Stands, Holds, Wrote, Moved, Left, IsLighter, AfterWork, AfterQuietWork, AfterMove, Works, WorksQuietly}
 use Rattle.nr_engine.specs.declared.outcome.Measure.{Measure}
+use Rattle.nr_engine.specs.declared.outcome.Measure.TheVariants as measures
 use Rattle.nr_engine.specs.declared.outcome.Stop.{Stop}
 use Rattle.nr_engine.specs.declared.outcome.Stop.TheVariants as stops
 use Rattle.nr_engine.proofs.Standing.{wrote_nothing}
@@ -107,10 +113,14 @@ module _ (supply : Option Supply) (s t : State) (e : Shape) (works : kind s ≡ 
   passes : (which : Measure) → passed t ≡ Some which → Passes s which
   passes which over = subst (λ k. PassesBy k s which) (sym works) (ap passed is ∙ over)
 
+  -- it is told behind all bytes that were taken
+  told_at : (n : ℕ) → n ≡ s.coming.taken → n ≡ place_by (kind s) s
+  told_at n taken = subst (λ k. n ≡ place_by k s) (sym works) taken
+
   -- a work that is all of a move, at this place of the input
   pub worked : (old new : Option (List ℕ)) (r : Result (Unit {0}) Stop) (n : ℕ) → n ≡ s.coming.taken → AfterWork supply s t e old new r → AfterMove s e supply old new (stopped n r)
   worked old new (Ok x) n taken w = moved old new w.0 w.1
-  worked old new (Err (stops.Limit which)) n taken w = ((passes which w.0, taken), w.1)
+  worked old new (Err (stops.Limit which)) n taken w = ((passes which w.0, told_at n taken), w.1)
   worked old new (Err stops.WriteFault) n taken w = (
     (subst (λ k. GoesBy k s) (sym works) (ap passed is ∙ passed_none t w.0), (w.1.page, ap (λ x. x.pages) is ∙ w.1.ends)),
     record { page = w.1.page; ends = ap (λ x. x.pages) is ∙ w.1.ends; front = w.1.front },
@@ -118,7 +128,28 @@ module _ (supply : Option Supply) (s t : State) (e : Shape) (works : kind s ≡ 
 
   pub worked_quietly : (held : Option (List ℕ)) (r : Result (Unit {0}) Measure) (n : ℕ) → n ≡ s.coming.taken → AfterQuietWork supply s t e r → AfterMove s e supply held held (limited n r)
   worked_quietly held (Ok x) n taken w = moved held held w.0 (wrote_nothing s t held w.1)
-  worked_quietly held (Err which) n taken w = ((passes which w, taken), Keeps-refl held)
+  worked_quietly held (Err which) n taken w = ((passes which w, told_at n taken), Keeps-refl held)
+
+-- ---- a move that reads is refused
+
+module _ (s : State) (reads : kind s ≡ ReadsKind) (n : ℕ) (told : n ≡ place_told s.coming.taken s.formatter.reader) where
+  at_place : n ≡ place_by (kind s) s
+  at_place = subst (λ k. n ≡ place_by k s) (sym reads) told
+
+  pub refused_stops : (x : Refusal) → input.Refuses (situation_of s) x → Stops s (refusal_outcome n x)
+  refused_stops refusals.Stored h = (subst (λ k. PassesBy k s measures.Stored) (sym reads) (refusals.Stored, h, refl), at_place)
+  refused_stops refusals.Depth h = (subst (λ k. PassesBy k s measures.Depth) (sym reads) (refusals.Depth, h, refl), at_place)
+  refused_stops refusals.Expansions h = (subst (λ k. PassesBy k s measures.Expansions) (sym reads) (refusals.Expansions, h, refl), at_place)
+  refused_stops refusals.ReadFault h = (reads, h, told ∙ all_counted (situation_of s) h)
+  refused_stops refusals.TooLong h = (reads, h)
+
+-- nothing goes out then
+pub refused_left : (s : State) (n : ℕ) (held : Option (List ℕ)) (x : Refusal) → Left s (refusal_outcome n x) held held
+refused_left s n held refusals.Stored = Keeps-refl held
+refused_left s n held refusals.Depth = Keeps-refl held
+refused_left s n held refusals.Expansions = Keeps-refl held
+refused_left s n held refusals.ReadFault = Keeps-refl held
+refused_left s n held refusals.TooLong = Keeps-refl held
 
 -- ---- pages
 

@@ -4,6 +4,7 @@ use Rattle.std.specs.Io.KnownBytes.{Appends}
 use Rattle.nr_units.specs.Failures.{SinkFailures, counted_if, put_counted_if}
 use Rattle.nr_units.specs.Held.{AppendsFront}
 use Rattle.nr_input.specs.Moving as input
+use Rattle.nr_input.specs.Refusals.{place_told}
 use Rattle.nr_input.specs.declared.refusal.Refusal.{Refusal}
 use Rattle.nr_input.specs.declared.refusal.Refusal.TheVariants as refusals
 use Rattle.nr_reading.specs.declared.event.Event.{Event}
@@ -85,10 +86,15 @@ Passes s which = PassesBy (kind s) s which
 abbrev pub EndsPage : State → Type 0
 EndsPage s = (page : Ended) × ((step s).pages ≡ s.pages ++ page ∷ [])
 
+-- behind how many bytes of the input the run stops at a limit
+abbrev pub place_by : Kind → State → ℕ
+place_by Reads s = place_told s.coming.taken s.formatter.reader
+place_by k s = s.coming.taken
+
 -- the run stops here, as the outcome says
 abbrev pub Stops : State → Outcome → Type 0
 Stops s Done = kind s ≡ Over
-Stops s (Limit which at) = Passes s which × (at ≡ s.coming.taken)
+Stops s (Limit which at) = Passes s which × (at ≡ place_by (kind s) s)
 -- the next byte is needed, and the source may fail
 Stops s (ReadFault at) = (kind s ≡ Reads) × input.Refuses (situation_of s) refusals.ReadFault × (at ≡ s.coming.taken)
 -- it is there, and is the 2^40th

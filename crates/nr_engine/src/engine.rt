@@ -38,6 +38,7 @@ impl<'a> Engine<'a> {
     ghost use Rattle.nr_formatter.specs.declared.tasks.Resume.{Resume as ResumeValue};
     ghost use Rattle.nr_input.specs.declared.told.Told.TheVariants as tells;
     ghost use Rattle.nr_input.specs.Hearing.{told_as};
+    ghost use Rattle.nr_input.specs.Refusals.{place_told};
     ghost use Rattle.nr_formatter.specs.Moves.{works, worked};
     ghost use Rattle.nr_formatter.specs.Springing.{sprung};
     ghost use Rattle.nr_reading.specs.declared.event.Event.TheVariants as events;
@@ -75,7 +76,7 @@ impl<'a> Engine<'a> {
     #[inline(always)]
     fn read<R: Source>(&mut self, input: &mut R) -> Result<(), Refusal>
         requires { ReadsNext self.old.formatter }
-        ensures moves { (held : Option (List ℕ)) → Moves (shape self.old) (shape self.new) (R.supply input.old) (R.supply input.new) held held (refused self.old.place.taken result) }
+        ensures moves { (held : Option (List ℕ)) → Moves (shape self.old) (shape self.new) (R.supply input.old) (R.supply input.new) held held (refused (place_told self.old.place.taken self.old.formatter.reader) result) }
         ensures tells { TellsRead (shape self.old) (shape self.new) result (R.failures input.old) (R.failures input.new) }
     {
         let formatter = &mut self.formatter;
@@ -187,7 +188,10 @@ impl<'a> Engine<'a> {
         }
         match self.formatter.event {
             Event::Nothing => match self.formatter.task {
-                Task::Read => Outcome::refused(self.read(input), at),
+                Task::Read => {
+                    let told = self.formatter.reader.place_told(at);
+                    Outcome::refused(self.read(input), told)
+                }
                 Task::Halted => Err(Outcome::Done),
                 task => Outcome::stopped(self.work(task, output), at),
             },

@@ -30,7 +30,7 @@ pub enum Stop {
     WriteFault,
 }
 
-/// How a run ends. `at` is the number of bytes of the input that were taken.
+/// How a run ends. `at` is the number of bytes of the input that were taken; the first byte of an element counts with it.
 #[derive(Clone, Copy, Debug, PartialEq, Eq)]
 pub enum Outcome {
     /// All pages were written.

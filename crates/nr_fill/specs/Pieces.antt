@@ -200,15 +200,19 @@ add_blank_to w = record w { last = record w.last { cells = w.last.cells ++ blank
 abbrev pub add_blank : Margins → Collected → Collected
 add_blank margins c = record (in_word add_blank_to (in_word ended (with_word margins c))) { sentence = false }
 
--- n cells more, all the same
+-- the blanks at the word's end stand before something, and are kept
+abbrev pub with_blanks_kept : Word → Word
+with_blanks_kept w = record w { blanks = 0 }
+
+-- n cells more, all the same; where there are none a part of the word was read all the same
 abbrev pub add_cells : Margins → Cell → ℕ → Collected → Collected
 add_cells margins x n c =
-    if n == 0 then with_word margins c
+    if n == 0 then in_word with_blanks_kept (with_word margins c)
     else record (in_word (append (replicate n x)) (in_word ended (with_word margins c))) { sentence = ends_sentence x }
 
 -- `\&` is no cell: no sentence ends before it
 abbrev pub marked : Margins → Collected → Collected
-marked margins c = record (in_word (λ w. record w { blanks = 0 }) (with_word margins c)) { sentence = false }
+marked margins c = record (in_word with_blanks_kept (with_word margins c)) { sentence = false }
 
 -- how the first of these pieces hangs on what is before it, or where there are none the one behind them
 abbrev pub join_before : List Piece → Join → Join

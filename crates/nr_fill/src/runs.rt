@@ -50,11 +50,6 @@ pub struct WordRun {
 }
 
 impl<'a> Line<'a> {
-    #[inline]
-    pub fn is_full(&self) -> bool {
-        self.text_measure() == self.limit
-    }
-
     /// Reads a front of these bytes as cells of a word, underlined or not, as many calls of `put` would: up to the first
     /// that is not plain or whose cell would pass the limit. Tells how many it read. It takes the time of one pass
     /// over those bytes.

@@ -1,7 +1,7 @@
 // What is read: cells, break points, the ends of words, and gaps. (CSTR 54, sections 4 and 13.)
 ghost use Rattle.std.specs.Prelude.{◌≡◌, ◌+◌, ◌<◌, ◌≤◌, ◌++◌, ◌∷◌, [], None, OnOk, OnErr, false, replicate};
 ghost use Rattle.nr_fill.specs.Lined.{afforded};
-ghost use Rattle.nr_fill.specs.Pieces.{Word, add_blank, add_blank_to, add_cell, add_cell_behind, add_cells, after_newline, append, barred_here, end_word, ended, ends_sentence, hyphenated, in_word, is_inside, joined, line_cells, marked, one_blank_more, pending_behind, pending_soft, pending_without_point, text_cells, with_word, without_blanks};
+ghost use Rattle.nr_fill.specs.Pieces.{Word, add_blank, add_blank_to, add_cell, add_cell_behind, add_cells, after_newline, append, barred_here, end_word, ended, ends_sentence, hyphenated, in_word, is_inside, joined, line_cells, marked, one_blank_more, pending_behind, pending_soft, pending_without_point, text_cells, with_blanks_kept, with_word, without_blanks};
 
 use crate::line::{Line, LineCells, WIDEST_GAP, WordState};
 use crate::margins::Margins;
@@ -189,7 +189,8 @@ impl<'a> Line<'a> {
         }
     }
 
-    /// Reads n equal cells of a word, none or more, as one addition. It fails where they would pass the limit.
+    /// Reads n equal cells of a word, none or more, as one addition; where there are none, blanks before them are kept all
+    /// the same. It fails where they would pass the limit.
     pub fn put_cells(&mut self, margins: Margins, cell: Cell, n: usize) -> Result<(), LineCells>
         ensures result { result ≡ afforded (record self.old { collected = add_cells margins cell n self.old.collected }) }
         ensures ok { OnOk result (self.new ≡ record self.old { collected = add_cells margins cell n self.old.collected }) }
@@ -200,6 +201,7 @@ impl<'a> Line<'a> {
         }
         self.open_word(margins);
         if n == 0 {
+            self.keep_blanks();
             return Ok(());
         }
         self.end_piece();
@@ -221,16 +223,25 @@ impl<'a> Line<'a> {
         }
     }
 
+    /// The blanks of the text at the word's end are kept.
+    #[inline]
+    fn keep_blanks(&mut self)
+        requires { self.old.collected.title ≡ None }
+        ensures { self.new ≡ record self.old { collected = in_word with_blanks_kept self.old.collected } }
+    {
+        let Some(word) = &mut self.word else {
+            return;
+        };
+        word.blanks = 0;
+    }
+
     /// Reads `\&`: a word exists, and what was read before it ends no sentence.
     pub fn mark(&mut self, margins: Margins)
         ensures { self.new ≡ record self.old { collected = marked margins self.old.collected } }
     {
         self.open_word(margins);
         self.sentence = false;
-        let Some(word) = &mut self.word else {
-            return;
-        };
-        word.blanks = 0;
+        self.keep_blanks();
     }
 
     /// Reads `\%`: a soft break point behind a cell, and no point of `.hw` in this word.

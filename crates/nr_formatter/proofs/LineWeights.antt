@@ -76,7 +76,7 @@ pub weight-add_blank : (m : Margins) (c : Collected) → weight_of_line (add_bla
 weight-add_blank m c = omega (arith, weight_of_begun c)
 
 pub weight-add_cells : (m : Margins) (x : Cell) (n : ℕ) (c : Collected) → weight_of_line (add_cells m x n c) ≤ weight_of_line c + 175
-weight-add_cells m x n c = cond_both (n == 0) _ _ (λ d. weight_of_line d ≤ weight_of_line c + 175) (λ _. omega (arith, weight-with_word m c)) (λ _. omega (arith, weight_of_begun c))
+weight-add_cells m x n c = cond_both (n == 0) _ _ (λ d. weight_of_line d ≤ weight_of_line c + 175) (λ _. omega (arith, weight-word_or_new c.gap c.word)) (λ _. omega (arith, weight_of_begun c))
 
 pub weight-marked : (m : Margins) (c : Collected) → weight_of_line (marked m c) ≤ weight_of_line c + 170
 weight-marked m c = omega (arith, weight-word_or_new c.gap c.word)

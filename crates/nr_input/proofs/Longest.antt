@@ -1,10 +1,14 @@
--- How many of the bytes that the source has at hand are read.
+-- How many of the bytes are read that the source has at hand, or that a level has left.
 use Rattle.std.specs.Prelude.{slice_get, slice_index, map}
 use Rattle.std.specs.Option.{option_map}
-use Rattle.std.proofs.Common.{◌≡◌, ℕ, zero, suc, ◌+◌, ◌-◌, ◌*◌, ◌^◌, ◌<◌, true, List, [], ◌∷◌, ◌++◌, length, take, Some, refl, ap, sym, ◌∙◌, subst, arith}
-use Rattle.std.proofs.lemmas.List.{append-nil, length-take, get_or-take}
+use Rattle.std.proofs.Common.{◌≡◌, ℕ, zero, suc, ◌+◌, ◌-◌, ◌*◌, ◌^◌, ◌<◌, ◌≤◌, true, List, [], ◌∷◌, ◌++◌, length, take, drop, Some, refl, ap, sym, ◌∙◌, subst, arith}
+use Rattle.std.proofs.lemmas.List.{append-nil, length-map, length-take, get_or-take}
 use Rattle.std.proofs.lemmas.Option.{slice_get-map, slice_get-get_or}
-use Rattle.nr_store.specs.Stored.{Stored, charge_of}
+use Rattle.nr_store.specs.Stored.{Stored, Level, Read, Mark, charge_of}
+use Rattle.nr_store.specs.Windows.{rest_of, left_times, levels_behind, run_left}
+use Rattle.nr_store.specs.Laws.{left_times-run}
+use Rattle.nr_store.specs.declared.element.Element.{Element}
+use Rattle.nr_store.specs.declared.element.Element.TheVariants as elements
 use Rattle.nr_reading.specs.declared.event.Event.TheVariants as events
 use Rattle.nr_reading.specs.declared.front.Front.TheVariants as fronts
 use Rattle.nr_reading.specs.declared.half.Half.{Half}
@@ -13,9 +17,10 @@ use Rattle.nr_reading.specs.InArgument.{ending_of, IsPlain}
 use Rattle.nr_reading.specs.Runs.{Spot, HasMet}
 use Rattle.nr_input.specs.declared.reader.Reader.{Reader}
 use Rattle.nr_input.specs.declared.target.Target.{Target}
-use Rattle.nr_input.specs.Coming.{Reached}
-use Rattle.nr_input.specs.Runs.{IsLongest}
+use Rattle.nr_input.specs.Coming.{Reached, element_front}
+use Rattle.nr_input.specs.Runs.{IsLongest, IsLongestInLevel}
 use Rattle.nr_input.specs.Targets.{is_read_for, with_more}
+use Rattle.nr_input.specs.declared.target.Target.TheVariants.{Argument}
 
 -- no byte of the row stands there
 abbrev pub NoByteAt : List ℕ → ℕ → Type 0
@@ -69,3 +74,46 @@ added_longest t all bs n p p' r r' v near reads some stops taken = record {
         stops = subst (λ b. IsPlain (ending_of r.half.reading.mode) b → v.limit < charge_of (with_more t (b ∷ []) v)) same (stops (omega (arith, few)) within);
       };
 }
+
+-- ---- what is left of a level
+
+-- what comes first behind n elements
+slice_get-drop : {X : Type 0} (n : ℕ) (xs : List X) → slice_get (drop n xs) 0 ≡ slice_get xs n
+slice_get-drop zero xs = refl
+slice_get-drop (suc n) [] = refl
+slice_get-drop (suc n) (x ∷ xs) = slice_get-drop n xs
+
+pub rest_of-behind : {K : Type 0} (n : ℕ) (levels : List (Level K)) → slice_get (rest_of (levels_behind n levels)) 0 ≡ slice_get (rest_of levels) n
+rest_of-behind n [] = refl
+rest_of-behind n (Mark mode ∷ ls) = refl
+rest_of-behind n (Read l ∷ ls) = slice_get-drop n l.rest
+
+-- no byte of the level stands there
+abbrev pub NoByteIn : List Element → ℕ → Type 0
+NoByteIn xs k = (byte : ℕ) → slice_get (map element_front xs) k ≡ Some (fronts.Byte byte) → ⊥
+
+no_byte_in : (xs : List Element) (k : ℕ) → NoByteIn xs k → (b : ℕ) → slice_get xs k ≡ Some (elements.Byte b) → ⊥
+no_byte_in xs k none b is = none b (slice_get-map element_front xs k ∙ ap (option_map element_front) is)
+
+module _ {K : Type 0} (n : ℕ) (v w : Stored K) (r r' : Reader) (q : Spot) (met : HasMet n (map element_front (rest_of v.levels)) r.half q)
+    (stops : q.event ≡ events.Nothing → q.half.reading.due ≡ dues.Look → n < 65536 → NoByteIn (rest_of v.levels) q.taken) (half : r'.half ≡ q.half) (is : w ≡ left_times q.taken v) where
+  -- where no move was made it stops at the first byte
+  moved_in : (m : ℕ) → n ≡ m → (b : ℕ) → slice_get (rest_of v.levels) 0 ≡ Some (elements.Byte b) → r.half.reading.due ≡ dues.Look → 0 < m
+  moved_in zero none b first due =
+      let leads = subst (λ m. HasMet m (map element_front (rest_of v.levels)) r.half q) none met in
+      let taken = ap (λ (x : Spot). x.taken) leads.leads in
+      let quiet = ap (λ (x : Spot). x.event) (sym leads.leads) in
+      let waits = ap (λ (x : Spot). x.half.reading.due) (sym leads.leads) ∙ due in
+      absurd (no_byte_in (rest_of v.levels) q.taken (stops quiet waits (omega (arith, none))) b (subst (λ k. slice_get (rest_of v.levels) k ≡ Some (elements.Byte b)) taken first))
+  moved_in (suc m) more b first due = omega arith
+
+  pub level_longest : IsLongestInLevel n v r q.event w r'
+  level_longest = record {
+    some = moved_in n refl;
+    all = λ few quiet due b next.
+        let waits = ap (λ (h : Half). h.reading.due) (sym half) ∙ due in
+        let within : q.taken ≤ length (rest_of v.levels) = omega (arith, met.within, length-map (rest_of v.levels) element_front) in
+        let behind : slice_get (rest_of w.levels) 0 ≡ slice_get (rest_of v.levels) q.taken =
+        ap (λ (x : Stored K). slice_get (rest_of x.levels) 0) (is ∙ left_times-run q.taken v within) ∙ rest_of-behind q.taken v.levels in
+        absurd (no_byte_in (rest_of v.levels) q.taken (stops quiet waits (omega (arith, few))) b (sym behind ∙ next));
+  }

@@ -1,10 +1,11 @@
 -- Bytes of an argument that the newest level has in front, as those who read them say it.
-use Rattle.std.specs.Prelude.{map, slice_index}
+use Rattle.std.specs.Prelude.{map, slice_get, slice_index}
 use Rattle.std.specs.Option.{option_map}
-use Rattle.std.proofs.Common.{◌≡◌, ℕ, zero, suc, ◌*◌, ◌<◌, ◌≤◌, true, List, [], ◌∷◌, ◌++◌, length, take, drop, get_or, All, Option, Some, sum_by, refl, ap, sym, ◌∙◌, subst, arith}
+use Rattle.std.proofs.Common.{inl, inr, ◌≡◌, ℕ, zero, suc, ◌*◌, ◌<◌, ◌≤◌, true, List, [], ◌∷◌, ◌++◌, length, take, drop, get_or, All, Option, Some, sum_by, refl, ap, sym, ◌∙◌, subst, arith}
 use Rattle.std.proofs.lemmas.List.{length-map, length-take, length-take-le, get_or-take, get_or-map, take-append-le, take_all, take-map}
 use Rattle.std.proofs.lemmas.List.Sums.{sum_by-cons}
-use Rattle.std.proofs.lemmas.Option.{slice_get-map, slice_get-get_or}
+use Rattle.std.proofs.lemmas.Bool.{cases_lt}
+use Rattle.std.proofs.lemmas.Option.{slice_get-map, slice_get-get_or, get_or_from_slice_get}
 use Rattle.nr_units.specs.Supply.{Supply}
 use Rattle.nr_store.specs.Stored.{Stored, Level, Read, Mark, Reading, level_charge, charge_of}
 use Rattle.nr_store.specs.Windows.{rest_of, left_times, levels_behind, run_left}
@@ -19,11 +20,12 @@ use Rattle.nr_input.specs.declared.reader.Reader.{Reader}
 use Rattle.nr_input.specs.declared.target.Target.TheVariants.{Argument}
 use Rattle.nr_input.specs.Coming.{Coming, Reached, HoldsComing, element_front}
 use Rattle.nr_input.specs.Moving.{Situation, Stands, situation}
-use Rattle.nr_input.specs.Runs.{HasRead, PaysAll}
+use Rattle.nr_input.specs.Runs.{HasRead, PaysAll, IsLeft, IsLongestInLevel}
 use Rattle.nr_input.specs.Targets.{is_read_for, due_for, with_more}
 use Rattle.nr_input.specs.Weights.{items_left, expansions_worth, diversions_in}
 use Rattle.nr_input.proofs.Rows.{at_level, with_rest, level_goings}
 use Rattle.nr_input.proofs.RowsRead.{items_behind}
+use Rattle.nr_input.proofs.Longest.{rest_of-behind}
 use Rattle.nr_input.proofs.Putting.{quiet, has_read_quietly, Adds, goes_put, move-put, twice, twice-is, spot_at, Puttings, all_put}
 use Rattle.nr_input.proofs.Targets.{due-is_read_for, meet-plain, adds_byte, with_more-next, charge_of-some}
 use Rattle.nr_input.proofs.PuttingRead.{plain_at}
@@ -129,3 +131,57 @@ level_added_pays n bytes v w q r few is =
       pays = λ worth enough. omega (arith, items, left, worths);
       tells = refl;
     }
+
+-- ---- how many of them are added
+
+charge-behind : {K : Type 0} (n : ℕ) (levels : List (Level K)) → sum_by level_charge (levels_behind n levels) ≡ sum_by level_charge levels
+charge-behind n [] = refl
+charge-behind n (Mark mode ∷ ls) = refl
+charge-behind n (Read l ∷ ls) = charge-rest l ls l.rest (drop n l.rest)
+
+module _ {K : Type 0} (n near : ℕ) (v new w : Stored K) (r : Reader) (bs : List ℕ) (reads : is_read_for Argument r.half ≡ true) (some : 0 < n) (long : length bs ≡ near) (within : n ≤ near) (front : AreFront bs (rest_of v.levels))
+    (stops : near < 256 → (byte : ℕ) → slice_get (rest_of v.levels) near ≡ Some (elements.Byte byte) → ⊥)
+    (full : n < 32768 → n < length bs → IsPlain (ending_of r.half.reading.mode) (slice_index bs n) → new.limit < charge_of (with_more Argument (slice_index bs n ∷ []) new))
+    (added : new ≡ with_more Argument (take n bs) v) (is : w ≡ left_times n new) where
+  levels_stay : new.levels ≡ v.levels
+  levels_stay = ap (λ (x : Stored K). x.levels) added
+
+  skipped_is : w ≡ run_left n new
+  skipped_is = let few : n ≤ length (rest_of new.levels) = omega (arith, within, long, front_within bs (rest_of v.levels) front, ap (λ y. length (rest_of y)) levels_stay) in is ∙ left_times-run n new few
+
+  -- the byte that is in front now
+  comes : (b : ℕ) → slice_get (rest_of w.levels) 0 ≡ Some (elements.Byte b) → slice_get (rest_of v.levels) n ≡ Some (elements.Byte b)
+  comes b next = sym (ap (λ (x : Stored K). slice_get (rest_of x.levels) 0) skipped_is ∙ rest_of-behind n new.levels ∙ ap (λ y. slice_get (rest_of y) n) levels_stay) ∙ next
+
+  comes_of : (b : ℕ) → n < near → slice_get (rest_of v.levels) n ≡ Some (elements.Byte b) → slice_index bs n ≡ b
+  comes_of b less there =
+      let xs = rest_of v.levels in
+      let inside : n < length bs = omega (arith, less, long) in
+      let own : get_or xs n (elements.Byte 0) ≡ elements.Byte (slice_index bs n) =
+      sym (get_or-take (length bs) xs n (elements.Byte 0) inside) ∙ ap (λ ys. get_or ys n (elements.Byte 0)) (sym front) ∙ get_or-map elements.Byte bs n 0 (elements.Byte 0) inside in
+      let same : elements.Byte (slice_index bs n) ≡ elements.Byte b = sym own ∙ get_or_from_slice_get xs n (elements.Byte b) (elements.Byte 0) there in
+      cc
+
+  full_there : (b : ℕ) → n < near → n < 32768 → slice_get (rest_of v.levels) n ≡ Some (elements.Byte b) → IsPlain (ending_of r.half.reading.mode) b → w.limit < charge_of (with_more Argument (b ∷ []) w)
+  full_there b less few there plain =
+      let inside : n < length bs = omega (arith, less, long) in
+      let at_first : IsPlain (ending_of r.half.reading.mode) b → new.limit < charge_of (with_more Argument (b ∷ []) new) =
+      subst (λ x. IsPlain (ending_of r.half.reading.mode) x → new.limit < charge_of (with_more Argument (x ∷ []) new)) (comes_of b less there) (full few inside) in
+      let over = at_first plain in
+      let same = charge-behind n new.levels in
+      subst (λ (x : Stored K). x.limit < charge_of (with_more Argument (b ∷ []) x)) (sym skipped_is) (omega (arith, over, same))
+
+  left_there : (b : ℕ) → 2 * n < 512 → slice_get (rest_of v.levels) n ≡ Some (elements.Byte b) → IsLeft b r.half w
+  left_there b few there =
+      elim (cases_lt n near) [
+        | inl less ↦ record { target = Argument; reads = reads; stops = full_there b less (omega (arith, few)) there }
+        | inr all ↦
+            let ends : n ≡ near = omega (arith, within, all) in
+            absurd (stops (omega (arith, few, ends)) b (subst (λ k. slice_get (rest_of v.levels) k ≡ Some (elements.Byte b)) ends there))
+      ]
+
+  pub level_added_longest : IsLongestInLevel (2 * n) v r events.Nothing w r
+  level_added_longest = record {
+    some = λ b first due. omega (arith, some);
+    all = λ few quiet due b next. left_there b few (comes b next);
+  }

@@ -1,7 +1,9 @@
 -- Many moves of the machine that reads, of which only the last may tell something.
-use Rattle.std.specs.Prelude.{◌≡◌, ℕ, zero, suc, ◌+◌, ◌-◌, ◌*◌, ◌^◌, ◌<◌, ◌≤◌, ◌==◌, Bool, true, false, not, List, [], ◌∷◌, length, slice_index, Option}
+use Rattle.std.specs.Prelude.{◌≡◌, ℕ, zero, suc, ◌+◌, ◌-◌, ◌*◌, ◌^◌, ◌<◌, ◌≤◌, ◌==◌, Bool, true, false, not, List, [], ◌∷◌, length, slice_get, slice_index, Option, Some}
 use Rattle.nr_units.specs.Supply.{Supply, skipped}
 use Rattle.nr_store.specs.Stored.{Stored, charge_of}
+use Rattle.nr_store.specs.Windows.{rest_of}
+use Rattle.nr_store.specs.declared.element.Element.TheVariants as elements
 use Rattle.nr_reading.specs.declared.event.Event.{Event}
 use Rattle.nr_reading.specs.declared.event.Event.TheVariants as events
 use Rattle.nr_reading.specs.declared.half.Half.{Half}
@@ -60,6 +62,14 @@ pub record IsLongest {K : Type 0} (bs : List ℕ) (n : ℕ) (p : Reached) (r : R
   pub some : 0 < length bs → p.taken + 1 < 2 ^ 40 → r.half.reading.due ≡ dues.Look → 0 < n
   pub all : n < 65536 → e ≡ events.Nothing → r'.half.reading.due ≡ dues.Look → p'.taken + 1 < 2 ^ 40 → p'.taken < p.taken + length bs
       → IsLeft (slice_index bs (p'.taken - p.taken)) r.half v'
+
+-- Of what is left of the newest level as many bytes were read in n moves as can be: one move at least where a byte was in front and
+-- nothing was due. Fewer than 512 moves of which none told anything and behind which nothing is due left no byte in front but one
+-- that is left.
+pub record IsLongestInLevel {K : Type 0} (n : ℕ) (v : Stored K) (r : Reader) (e : Event) (v' : Stored K) (r' : Reader) : Type 0 where
+  pub some : (b : ℕ) → slice_get (rest_of v.levels) 0 ≡ Some (elements.Byte b) → r.half.reading.due ≡ dues.Look → 0 < n
+  pub all : n < 512 → e ≡ events.Nothing → r'.half.reading.due ≡ dues.Look → (b : ℕ) → slice_get (rest_of v'.levels) 0 ≡ Some (elements.Byte b)
+      → IsLeft b r.half v'
 
 -- ---- bytes that the source has at hand
 

@@ -9,7 +9,7 @@ ghost use Rattle.nr_input.specs.declared.target.Target.TheVariants.{Argument};
 ghost use Rattle.nr_input.specs.AtHand.{is_unseen};
 ghost use Rattle.nr_input.specs.Coming.{Coming, Reached, HoldsComing, has_failed};
 ghost use Rattle.nr_input.specs.Moving.{situation};
-ghost use Rattle.nr_input.specs.Runs.{HasRead, PaysAll, IsLongest};
+ghost use Rattle.nr_input.specs.Runs.{HasRead, PaysAll, IsLongest, IsLongestInLevel};
 ghost use Rattle.nr_input.specs.Targets.{is_read_for, with_more};
 
 use super::at_hand::window;
@@ -70,6 +70,7 @@ fn copy_level<K: Copy>(store: &Store<'_, K>, chunk: &mut [u8]) -> usize
     ensures holds { result ≤ length chunk.old }
     ensures front { result ≤ length (rest_of store.now.levels) }
     ensures bytes { map variants.Byte (take result chunk.new) ≡ take result (rest_of store.now.levels) }
+    ensures longest { result < length chunk.old → (byte : ℕ) → ¬ (slice_get (rest_of store.now.levels) result ≡ Some (variants.Byte byte)) }
 {
     match store.rest() {
         Rest::Text(elements) => copy_bytes(elements, chunk),
@@ -88,6 +89,7 @@ pub(crate) fn add_from_level<K: Copy>(reader: &mut Reader, store: &mut Store<'_,
     ensures read { (c : Coming) (p : Reached) (supply : Option Supply) → HoldsComing c p supply → HasRead result.moves (situation store.old c reader.old) result.event store.new reader.new p supply }
     ensures pays { (p : Reached) → PaysAll result.moves store.old p reader.old result.event store.new p reader.new }
     ensures few { result.moves ≤ 65536 }
+    ensures longest { IsLongestInLevel result.moves store.old reader.old result.event store.new reader.new }
 {
     let mut chunk = [0; CHUNK];
     let near = copy_level(store, &mut chunk);

@@ -1,6 +1,8 @@
-//! Why a move is not made.
+//! Why a move is not made, and where that is told.
 ghost use Rattle.std.specs.Prelude.{◌≡◌};
 
+use super::reader::Reader;
+use nr_reading::{Due, Escape};
 use nr_store::StoredBytes;
 
 /// Why a move is not made. The same answer comes again from then on.
@@ -40,5 +42,27 @@ impl From<StoredBytes> for Refusal {
 
     fn from(_: StoredBytes) -> Refusal {
         Refusal::Stored
+    }
+}
+
+impl Reader {
+    ghost use Rattle.nr_input.specs.Refusals.{uncounted, place_told};
+
+    // How many of the bytes that were read do not count yet: the `\` that begins the first element of a string's text,
+    // before that text is charged.
+    fn uncounted(&self) -> u64
+        ensures { result ≡ uncounted self.now }
+    {
+        match (self.half.reading.due, self.half.reading.escape) {
+            (Due::Begin, Escape::Begun) => u64::from(self.burst == 0),
+            _ => 0,
+        }
+    }
+
+    /// Where the input stands for a limit that the next move would pass, so many bytes of it having been taken.
+    pub fn place_told(&self, taken: u64) -> u64
+        ensures { result ≡ place_told taken self.now }
+    {
+        taken.saturating_sub(self.uncounted())
     }
 }

@@ -1,12 +1,12 @@
 //! Many moves over items that lie in a row.
-ghost use Rattle.std.specs.Prelude.{◌≡◌, ◌≤◌, ◌++◌, [], map, true, false, Option};
+ghost use Rattle.std.specs.Prelude.{◌≡◌, ◌≤◌, ◌++◌, [], length, map, nat_lt, true, false, Option};
 ghost use Rattle.nr_units.specs.Supply.{Supply};
 ghost use Rattle.nr_reading.specs.declared.front.Front.TheVariants as variants;
 ghost use Rattle.nr_store.specs.Windows.{elements_in};
 ghost use Rattle.nr_input.specs.AtHand.{is_unseen};
 ghost use Rattle.nr_input.specs.Coming.{Coming, Reached, HoldsComing, element_front, has_failed};
 ghost use Rattle.nr_input.specs.Moving.{situation};
-ghost use Rattle.nr_input.specs.Runs.{HasRead, PaysAll, IsLongest};
+ghost use Rattle.nr_input.specs.Runs.{HasRead, PaysAll, IsLongest, IsLongestInLevel};
 
 use super::adding::{add_from_level, add_from_source};
 use super::at_hand::window;
@@ -69,6 +69,7 @@ pub(crate) fn read_level<K: Copy>(reader: &mut Reader, store: &mut Store<'_, K>)
     ensures read { (c : Coming) (p : Reached) (supply : Option Supply) → HoldsComing c p supply → HasRead result.moves (situation store.old c reader.old) result.event store.new reader.new p supply }
     ensures pays { (p : Reached) → PaysAll result.moves store.old p reader.old result.event store.new p reader.new }
     ensures few { result.moves ≤ 65536 }
+    ensures longest { IsLongestInLevel result.moves store.old reader.old result.event store.new reader.new }
 {
     let row = Row::of(store.rest());
     let run = reader.half.meet_run(&row);
@@ -118,6 +119,7 @@ pub fn read_run<K: Copy, R: Source>(
     ensures pays { PaysAll result.moves store.old place.old reader.old result.event store.new place.new reader.new }
     ensures few { result.moves ≤ 65536 }
     ensures longest { store.old.levels ≡ [] → is_unseen place.old.ahead ≡ true → IsLongest (R.at_hand source.old) result.moves place.old reader.old result.event store.new place.new reader.new }
+    ensures longest_in_level { nat_lt 0 (length store.old.levels) ≡ true → IsLongestInLevel result.moves store.old reader.old result.event store.new reader.new }
     ensures failures { R.failures source.new ≡ R.failures source.old }
     ensures unfailed { has_failed place.old.ahead ≡ false → has_failed place.new.ahead ≡ false }
 {

@@ -3,7 +3,7 @@
 use super::formatted;
 use super::row::{Four, desk_under};
 use super::whole::{HEADER_AND_FOOTER, Text, WHOLE};
-use nr_engine::{Desk, Measure, Outcome, Sink, Source};
+use nr_engine::{Desk, Measure, Outcome, Sink, Source, ToWriter};
 use nr_units::buffered::Buffered;
 use nr_units::fakes::{Script, Shut, Slate};
 use std::process::Abort;
@@ -127,6 +127,25 @@ fn writer_at_every_byte(rt: HostRuntime) -> Result<(), Fail> {
         let mut input = Script::new(text.input);
         let outcome = formatted(&mut desk, &mut input, &mut Shut::new());
         assert_eq!(rt; outcome, Outcome::WriteFault);
+    }
+    Ok(())
+}
+
+// A writer of std that is full takes no byte of the next write, and answers no error: the first bytes went out, and the
+// output has failed.
+#[test]
+fn writer_that_takes_no_byte(rt: HostRuntime) -> Result<(), Fail> {
+    let mut desk = desk_under(rt.alloc(), SMALL)?;
+    for text in [&HEADER_AND_FOOTER, &WHOLE] {
+        for taken in 0..text.pages.len() {
+            let mut bytes = [0u8; ROOM];
+            assert!(rt; taken <= bytes.len());
+            let mut output = ToWriter::over(&mut bytes[..taken]);
+            let mut input = Script::new(text.input);
+            let outcome = formatted(&mut desk, &mut input, &mut output);
+            assert_eq!(rt; outcome, Outcome::WriteFault, "behind {taken} bytes");
+            assert!(rt; bytes[..taken] == text.pages[..taken], "{taken} bytes");
+        }
     }
     Ok(())
 }

@@ -6,10 +6,10 @@ use Rattle.nr_store.specs.declared.element.Element.TheVariants as elements
 use Rattle.nr_reading.specs.declared.event.Event.TheVariants as events
 use Rattle.nr_input.specs.declared.target.Target.TheVariants.{Argument}
 use Rattle.nr_input.specs.Moving.{situation}
-use Rattle.nr_input.specs.Runs.{HasRead, PaysAll}
+use Rattle.nr_input.specs.Runs.{HasRead, PaysAll, IsLongestInLevel}
 use Rattle.nr_input.specs.Targets.{with_more}
 use Rattle.nr_input.proofs.RowsRead.{some_taken}
-use Rattle.nr_input.proofs.PuttingLevel.{AreFront, level_added, level_added_pays}
+use Rattle.nr_input.proofs.PuttingLevel.{AreFront, level_added, level_added_pays, level_added_longest}
 use Rattle.nr_input.proofs.Targets.{nothing_added}
 use Rattle.nr_input.proofs.adding.add_from_level.Goals as goal
 
@@ -49,3 +49,24 @@ returns-clause-pays g c = λ p.
     let few : taken ≤ length (rest_of c.args.store.now.levels) =
     omega (arith, c.add_front-taken.ensures.front, length-take c.copy_level-near.result c.copy_level-near.new.chunk, c.copy_level-near.ensures.front) in
     level_added_pays taken (take taken bs) c.args.store.now c.skip.new.self p c.args.reader.now few (c.skip.ensures ∙ ap (λ (w : Stored _). left_times taken w) c.add_front-taken.ensures.added)
+
+pub returns-then-taken-eq0-clause-longest : goal.returns-then-taken-eq0-clause-longest
+returns-then-taken-eq0-clause-longest g c =
+    let run = c.read_level.result in
+    let bs = take c.copy_level-near.result c.copy_level-near.new.chunk in
+    let same = nothing_added Argument c.add_front-taken.result bs c.args.store.now c.add_front-taken.new.store c.if-taken-eq0.true c.add_front-taken.ensures.added in
+    subst (λ (v : Stored _). IsLongestInLevel run.moves v c.args.reader.now run.event c.read_level.new.store c.read_level.new.reader) same c.read_level.ensures.longest
+
+pub returns-clause-longest : goal.returns-clause-longest
+returns-clause-longest g c =
+    let near = c.copy_level-near.result in
+    let bs = take near c.copy_level-near.new.chunk in
+    let taken = c.add_front-taken.result in
+    let v = c.args.store.now in
+    let r = c.args.reader.now in
+    let bytes = ap length c.copy_level-near.ensures.bytes in
+    let long : length bs ≡ near = omega (arith, bytes, length-map bs elements.Byte, length-take near (rest_of v.levels), c.copy_level-near.ensures.front) in
+    let front : AreFront bs (rest_of v.levels) = c.copy_level-near.ensures.bytes ∙ ap (λ n. take n (rest_of v.levels)) (sym long) in
+    let within : taken ≤ near = omega (arith, c.add_front-taken.ensures.front, long) in
+    level_added_longest taken near v c.add_front-taken.new.store c.skip.new.self r bs c.requires (omega (arith, c.if-taken-eq0.false)) long within front
+    c.copy_level-near.ensures.longest c.add_front-taken.ensures.longest c.add_front-taken.ensures.added c.skip.ensures

@@ -1,8 +1,10 @@
-use Rattle.std.proofs.Common.{map, subst, ap, ◌∙◌, arith}
+use Rattle.std.specs.Prelude.{slice_get}
+use Rattle.std.proofs.Common.{map, subst, ap, ◌∙◌, arith, refl}
 use Rattle.nr_store.specs.Windows.{rest_of}
 use Rattle.nr_reading.specs.Runs.{HasMet, spot}
 use Rattle.nr_input.specs.Coming.{element_front}
 use Rattle.nr_input.proofs.RowsRead.{level_read, level_pays, taken-le}
+use Rattle.nr_input.proofs.Longest.{level_longest}
 use Rattle.nr_input.proofs.runs.read_level.Goals as goal
 
 pub overflow_cast-run : goal.overflow_cast-run
@@ -25,3 +27,13 @@ returns-clause-pays g c = λ q.
     let p = spot run c.meet_run-run.new.self in
     let met : HasMet run.moves (map element_front (rest_of c.args.store.now.levels)) r.half p = subst (λ fs. HasMet run.moves fs r.half p) (c.of-row.ensures ∙ ap (map element_front) c.rest.ensures) c.meet_run-run.ensures.met in
     level_pays run.moves c.args.store.now c.skip.new.self q r p met c.skip.ensures
+
+pub returns-clause-longest : goal.returns-clause-longest
+returns-clause-longest g c =
+    let run = c.meet_run-run.result in
+    let r = c.args.reader.now in
+    let p = spot run c.meet_run-run.new.self in
+    let row = c.of-row.ensures ∙ ap (map element_front) c.rest.ensures in
+    let met : HasMet run.moves (map element_front (rest_of c.args.store.now.levels)) r.half p = subst (λ fs. HasMet run.moves fs r.half p) row c.meet_run-run.ensures.met in
+    level_longest run.moves c.args.store.now c.skip.new.self r (record r { half = p.half }) p met
+    (λ quiet due few byte is. c.meet_run-run.ensures.longest quiet due few byte (ap (λ fs. slice_get fs run.taken) row ∙ is)) refl c.skip.ensures

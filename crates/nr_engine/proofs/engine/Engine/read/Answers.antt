@@ -16,12 +16,13 @@ use Rattle.nr_engine.specs.State.{State}
 use Rattle.nr_engine.specs.Machine.{read, situation_of, told}
 use Rattle.nr_engine.specs.Measures.{IsWithin}
 use Rattle.nr_engine.specs.Answer.{GoesBy}
+use Rattle.nr_input.specs.Refusals.{place_told}
 use Rattle.nr_engine.specs.Holding.{Shape, shape, at, Holds, Spends}
 use Rattle.nr_engine.proofs.Bursts.{move-short}
 use Rattle.nr_engine.proofs.NextMoves.{step-read, kind-read}
 use Rattle.nr_engine.proofs.Spending.{told_spends, resumed_spends}
 use Rattle.nr_engine.proofs.Standing.{wrote_nothing}
-use Rattle.nr_engine.proofs.Working.{holds_of}
+use Rattle.nr_engine.proofs.Working.{holds_of, refused_stops, refused_left}
 use Rattle.nr_engine.proofs.engine.Engine.read.Goals as goal
 
 -- what is told leaves the splices as they were
@@ -77,4 +78,15 @@ returns-in-Ok-clause-moves g c = λ held. record {
       told_read (shape c.args.self.now) after (told_as c.advance.new.mode c.in-Ok.heard) c.advance.new.store c.advance.new.reader c.requires.event c.requires.task
       (rw (ap (λ e. e.place) c.tell.ensures.is) c.in-Ok.ensures.pays) c.in-Ok.ensures.diversions (ap (λ e. e.formatter) c.tell.ensures.is)
       (λ k is. c.tell.ensures.falls k is c.requires.event c.requires.task);
+}
+
+pub returns-in-Err-clause-moves : goal.returns-in-Err-clause-moves
+returns-in-Err-clause-moves g c = λ held. record {
+  advances = λ s h.
+      let now : State = at (shape c.args.self.now) s in
+      let kinds = kind-read now h.chosen_is c.requires.springs c.requires.event c.requires.task in
+      let m = c.in-Err.ensures.moved s.coming h.coming in
+      let told = ap (λ n. place_told n c.args.self.now.formatter.reader) h.coming.taken in
+      (refused_stops now kinds _ told c.in-Err.refusal m.0, refused_left now _ held c.in-Err.refusal);
+  spends = tt;
 }

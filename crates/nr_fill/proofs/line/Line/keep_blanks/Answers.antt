@@ -1,6 +1,6 @@
 use Rattle.std.proofs.Common.{length}
 use Rattle.nr_fill.proofs.Pendings.{is_line_pending, are_small, needed_none}
-use Rattle.nr_fill.proofs.line.Line.mark.Goals as goal
+use Rattle.nr_fill.proofs.line.Line.keep_blanks.Goals as goal
 
 pub invariant_of-self-2 : goal.invariant_of-self-2
 invariant_of-self-2 c =
