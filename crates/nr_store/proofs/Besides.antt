@@ -17,12 +17,8 @@ use Rattle.nr_store.specs.declared.named.Sense.{Sense}
 use Rattle.nr_store.specs.declared.element.Element.{Element}
 use Rattle.nr_store.specs.declared.element.Draft.{Draft}
 use Rattle.nr_store.specs.Stored.{Stored, charge_of, charge_beside, gathering}
-use Rattle.nr_store.specs.Holders.{Beside, Suffice, beside_of, stored_of, IsStore}
+use Rattle.nr_store.specs.Holders.{Beside, Suffice, beside_of, stored_of, beside_cost, IsStore}
 use Rattle.nr_store.proofs.Naming.{sum_of, put_sum, put_sum_new, without_sum}
-
--- what is charged beside texts and levels
-abbrev pub beside_cost : Beside → ℕ
-beside_cost b = charge_beside b.gathering.gathered b.registers.entries b.traps.items (map word_in b.words.items)
 
 module _ {K : Type 0} (p : Texts Element) (names : Table Sense) (drafts : Items Draft) (levels : Levels K) (beside : Beside) (charge limit : ℕ) (h : IsStore p names drafts levels beside charge limit) where
   pub beside_paid : beside_cost beside ≤ charge
@@ -37,8 +33,10 @@ module _ {K : Type 0} (p : Texts Element) (names : Table Sense) (drafts : Items 
       held = h.held;
       alone = h.alone;
       pays = h.pays;
+      named = h.named;
       few_acts = h.few_acts;
       charged = beside_charge;
+      once = let once = h.once in omega arith;
       within = within;
       deep = h.deep;
       small = h.small;

@@ -40,7 +40,7 @@ fn reads_what_it_began(rt: &impl Abort, store: &mut Store<'_, u8>) {
     define(rt, store, m, b'a', b'b');
     assert_eq!(rt; store.charge(), 50);
     assert_eq!(rt; store.spring(m, 3), Ok(true));
-    assert_eq!(rt; store.charge(), 68);
+    assert_eq!(rt; store.charge(), 66);
     assert_byte(rt, store, b'a');
     define(rt, store, m, b'x', b'y');
     assert_eq!(rt; store.enter(m), Ok(true));
@@ -58,6 +58,58 @@ fn reads_what_it_began(rt: &impl Abort, store: &mut Store<'_, u8>) {
     assert!(rt; matches!(&next, Sight::Resume));
     assert_eq!(rt; mode, 3);
     assert_eq!(rt; store.depth(), 0);
+}
+
+// A text that two levels read is charged with its name alone, then once.
+fn shares_a_charge(rt: &impl Abort, store: &mut Store<'_, u8>) {
+    let m = name(b'm', b'm');
+    assert!(rt; store.begin().is_ok());
+    assert_eq!(rt; store.add_bytes(b"0123456789"), 10);
+    store.define(m);
+    assert_eq!(rt; store.charge(), 58);
+    assert_eq!(rt; store.call(m), Ok(true));
+    assert_eq!(rt; store.charge(), 74);
+    assert_eq!(rt; store.call(m), Ok(true));
+    assert_eq!(rt; store.charge(), 90);
+    store.remove(m);
+    assert_eq!(rt; store.charge(), 58);
+    store.skip(10);
+    assert_end(rt, store);
+    assert_eq!(rt; store.charge(), 42);
+    store.skip(10);
+    assert_end(rt, store);
+    assert_eq!(rt; store.charge(), 0);
+}
+
+// Only the last name of a text counts: one that is renamed takes its charge along, and what it hides is charged once.
+fn shares_under_other_names(rt: &impl Abort, store: &mut Store<'_, u8>) {
+    let m = name(b'm', b'm');
+    let n = name(b'n', b'n');
+    define(rt, store, m, b'a', b'b');
+    define(rt, store, n, b'c', b'd');
+    assert_eq!(rt; store.enter(m), Ok(true));
+    assert_eq!(rt; store.enter(n), Ok(true));
+    assert_eq!(rt; store.charge(), 50 + 50 + 32);
+    store.rename(m, n);
+    assert_eq!(rt; store.charge(), 50 + 18 + 32);
+    assert_eq!(rt; store.enter(n), Ok(true));
+    assert_eq!(rt; store.charge(), 50 + 18 + 48);
+    define(rt, store, n, b'e', b'f');
+    assert_eq!(rt; store.charge(), 50 + 18 + 18 + 48);
+    store.skip(2);
+    assert_end(rt, store);
+    assert_eq!(rt; store.charge(), 50 + 18 + 18 + 32);
+    store.skip(2);
+    assert_end(rt, store);
+    assert_eq!(rt; store.charge(), 50 + 18 + 16);
+    store.skip(2);
+    assert_end(rt, store);
+    assert_eq!(rt; store.charge(), 50);
+    assert_eq!(rt; store.enter_bytes(b"123"), Ok(()));
+    assert_eq!(rt; store.charge(), 50 + 35);
+    store.clear_levels();
+    store.remove(n);
+    assert_eq!(rt; store.charge(), 0);
 }
 
 // How much is left of the newest level.
@@ -101,7 +153,7 @@ fn calls_with_arguments(rt: &impl Abort, store: &mut Store<'_, u8>) {
     store.end_argument();
     assert_eq!(rt; store.charge(), 59);
     assert_eq!(rt; store.call(m), Ok(true));
-    assert_eq!(rt; store.charge(), 77);
+    assert_eq!(rt; store.charge(), 75);
     assert_eq!(rt; store.argument_count(), 9);
     assert_eq!(rt; store.enter_argument(1), Ok(()));
     assert_byte(rt, store, b'2');
@@ -271,6 +323,8 @@ fn works(rt: HostRuntime) {
         LIMIT,
     );
     reads_what_it_began(&rt, &mut store);
+    shares_a_charge(&rt, &mut store);
+    shares_under_other_names(&rt, &mut store);
     shows_a_run(&rt, &mut store);
     calls_with_arguments(&rt, &mut store);
     keeps_registers(&rt, &mut store);
