@@ -14,7 +14,7 @@ use Rattle.nr_store.specs.declared.element.Draft.{Draft}
 use Rattle.nr_store.specs.declared.request.TheConstants.{REQUESTS}
 use Rattle.nr_store.specs.Senses.{act}
 use Rattle.nr_store.specs.Stored.{Means, weight_of, Built, charge_of, weight, without_name, defined}
-use Rattle.nr_store.specs.Holders.{Beside, acts, means_of, named_means, built_of, stored_of, one, count, ids_of, values, draft_ids, held_ids, texts_in, AreNamed, IsHeld, IsStore, lone}
+use Rattle.nr_store.specs.Holders.{Beside, acts, means_of, named_means, built_of, stored_of, one, count, ids_of, values, draft_ids, held_ids, AreNamed, IsHeld, IsStore}
 use Rattle.nr_store.proofs.Counting.{AddsOne, one_same, one_other, count-cons, count-append, held_less, open_of_adds, text_kept, released_capacity, released_slots}
 use Rattle.nr_store.proofs.Keeping.{Keeps, same_view, charged_once}
 use Rattle.nr_store.proofs.Naming.{ones, sum_of, put_sum, put_sum_new, without_sum, put-map, count-values}

@@ -1,11 +1,10 @@
 -- Lemmas on what the pool's texts are charged, each once.
-use Rattle.std.proofs.Common.{◌≡◌, ◌≢◌, ℕ, zero, suc, ◌+◌, ◌*◌, ◌<◌, ◌≤◌, min, List, [], ◌∷◌, ◌++◌, length, map, get_or, sum_by, refl, ap, sym, ◌∙◌, inl, inr, append_assoc, arith}
+use Rattle.std.proofs.Common.{◌≡◌, ◌≢◌, ℕ, zero, suc, ◌+◌, ◌<◌, ◌≤◌, List, [], ◌∷◌, ◌++◌, length, map, get_or, sum_by, refl, ap, sym, ◌∙◌, inl, inr, arith}
 use Rattle.std.specs.Prelude.{nat_lt, if◌then◌else◌}
 use Rattle.std.specs.List.{range_with_len}
 use Rattle.std.proofs.lemmas.Bool.{cases_lt, cases_eq, cond-true, cond-false, lt-ltb, le-ltb}
 use Rattle.std.proofs.lemmas.List.Sums.{sum_by-cons, sum_by-append}
-use Rattle.nr_units.specs.Items.{Items}
-use Rattle.nr_pool.specs.Texts.{Held, Texts, no_text, text, holders, IsOpen}
+use Rattle.nr_pool.specs.Texts.{Texts, no_text, text, holders}
 use Rattle.nr_pool.specs.Laws.{within_of_open}
 use Rattle.nr_tables.specs.Named.{Named}
 use Rattle.nr_levels.specs.Levels.{Source, Text, Own, Mark as Marked, Open, Levels, total}
@@ -15,7 +14,7 @@ use Rattle.nr_store.specs.declared.named.Sense.{Sense}
 use Rattle.nr_store.specs.declared.named.Sense.TheVariants as senses
 use Rattle.nr_store.specs.Senses.{ids_of_sense}
 use Rattle.nr_store.specs.Stored.{Means, Built, weight, weight_of, share, level_charge, charge_of}
-use Rattle.nr_store.specs.Holders.{Beside, means_of, named_means, built_of, level_of, stored_of, count, ids_of_source, ids_of, values, draft_ids, held_ids, IsHeld, AllPay, charge_of_text, charge_of_texts, beside_cost}
+use Rattle.nr_store.specs.Holders.{Beside, means_of, named_means, built_of, level_of, stored_of, count, ids_of_source, ids_of, values, draft_ids, held_ids, IsHeld, charge_of_text, charge_of_texts, beside_cost}
 use Rattle.nr_store.proofs.Counting.{one_same, one_other, count-cons, count-append, cost, costs}
 use Rattle.nr_store.proofs.Sharing.{texts_charge, source_charge, charged_level, named_free, unnamed_pays, again_free, first_pays}
 

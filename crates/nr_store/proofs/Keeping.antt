@@ -1,6 +1,6 @@
 -- Lemmas on what stays where the pool's texts change.
-use Rattle.std.proofs.Common.{◌≡◌, ℕ, suc, ◌+◌, ◌*◌, ◌^◌, ◌<◌, ◌≤◌, List, [], ◌∷◌, ◌++◌, length, map, drop, sum_by, All, refl, ap, ap₂, sym, ◌∙◌, inl, inr, append_assoc, arith}
-use Rattle.std.proofs.lemmas.List.Sums.{sum_by-cons, sum_by-append}
+use Rattle.std.proofs.Common.{◌≡◌, ℕ, suc, ◌+◌, ◌*◌, ◌^◌, ◌<◌, ◌≤◌, List, [], ◌∷◌, ◌++◌, length, map, drop, sum_by, All, refl, ap, ap₂, sym, ◌∙◌, inl, inr, arith}
+use Rattle.std.proofs.lemmas.List.Sums.{sum_by-cons}
 use Rattle.nr_units.specs.Items.{Items}
 use Rattle.std.proofs.lemmas.Bool.{cases_lt, cases_eq}
 use Rattle.std.specs.Prelude.{nat_lt, if◌then◌else◌}
@@ -13,10 +13,9 @@ use Rattle.nr_store.specs.declared.named.Sense.TheVariants as senses
 use Rattle.nr_store.specs.declared.element.Draft.{Draft}
 use Rattle.nr_store.specs.declared.element.Element.{Element}
 use Rattle.nr_store.specs.Senses.{ids_of_sense}
-use Rattle.nr_store.specs.Stored.{Means, Words, weight_of, Built, Read, Shared, level_charge, text_charge, charge_of, weight, share}
+use Rattle.nr_store.specs.Stored.{Means, Words, weight_of, Built, Read, Shared, level_charge, charge_of, weight, share}
 use Rattle.nr_store.specs.Holders.{Beside, means_of, named_means, built_of, level_in, level_of, stored_of, count, ids_of_source, ids_of, values, draft_ids, held_ids, name_for, text_in, texts_in, IsHeld, Pays, AllPay, AreNamed, charge_of_texts, beside_cost, IsStore}
 use Rattle.nr_store.proofs.Counting.{one_same, one_other, count-cons, count-append, cost, costs, cost_in, used-le}
-use Rattle.nr_store.proofs.Sharing.{texts_charge, source_charge, charged_level, unnamed_pays, first_pays}
 use Rattle.nr_store.proofs.EachOnce.{costs-le, each_once}
 
 -- these texts are in q as they are in p

@@ -16,7 +16,7 @@ use Rattle.nr_store.specs.declared.named.Sense.{Sense}
 use Rattle.nr_store.specs.declared.element.Element.{Element}
 use Rattle.nr_store.specs.declared.element.Draft.{Draft}
 use Rattle.nr_store.specs.declared.shown.Shown.TheVariants as shows
-use Rattle.nr_store.specs.Stored.{Level, Read, Mark, level_charge, Shared, Stored, charge_of, share, shown, shown_in, shown_of, mark_of, left, left_in, left_of, dropped, dropped_in, emptied}
+use Rattle.nr_store.specs.Stored.{Level, Read, Mark, level_charge, Stored, charge_of, share, shown, shown_in, shown_of, mark_of, left, left_in, left_of, dropped, dropped_in, emptied}
 use Rattle.nr_store.specs.Holders.{Beside, level_in, level_of, stored_of, count, ids_of, ids_of_source, values, draft_ids, held_ids, text_in, texts_in, IsHeld, AllPay, IsStore, lone}
 use Rattle.nr_store.proofs.Counting.{AddsOne, one_same, count-cons, count-append, held_less, open_of_adds, text_kept, released_capacity, released_slots}
 use Rattle.nr_store.proofs.Keeping.{Keeps, same_view, charged_once}

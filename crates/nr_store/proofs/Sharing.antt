@@ -1,5 +1,5 @@
 -- Lemmas on the texts that levels read, and the names that hold them.
-use Rattle.std.proofs.Common.{◌≡◌, ◌≢◌, ℕ, ◌+◌, ◌<◌, ◌≤◌, Bool, true, false, List, [], ◌∷◌, ◌++◌, sum_by, Option, Some, None, is_some, refl, ap, ap₂, sym, ◌∙◌, inl, inr, eqb, ◌⊎◌, arith}
+use Rattle.std.proofs.Common.{◌≡◌, ◌≢◌, ℕ, ◌+◌, ◌<◌, ◌≤◌, true, false, List, [], ◌∷◌, ◌++◌, sum_by, Option, Some, None, refl, ap, ap₂, sym, ◌∙◌, inl, inr, eqb, ◌⊎◌, arith}
 use Rattle.std.specs.Prelude.{nat_lt, if◌then◌else◌}
 use Rattle.std.specs.declared.cmp.Ordering.{Ordering}
 use Rattle.std.specs.declared.cmp.Ordering.TheVariants.{Less, Equal, Greater}
@@ -20,7 +20,7 @@ use Rattle.nr_store.specs.Senses.{text_id, ids_of_sense}
 use Rattle.nr_store.specs.Stored.{Shared, loose, text_charge, share, is_named, without_name, with_name, renamed_by, is_read, shared_by, own_text}
 use Rattle.nr_store.specs.Holders.{one, count, ids_of_source, ids_of, values, name_by, name_for, text_in, texts_in, AreNamed, lone}
 use Rattle.nr_store.proofs.Counting.{one_same, one_other, count-cons, count-append}
-use Rattle.nr_store.proofs.Naming.{ones, sum_of, put_sum, put_sum_new, without_sum, without_none, count-values, find_counts}
+use Rattle.nr_store.proofs.Naming.{ones, put_sum, put_sum_new, without_sum, without_none, count-values, find_counts}
 
 -- ---- names that are one
 

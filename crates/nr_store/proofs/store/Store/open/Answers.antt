@@ -1,4 +1,4 @@
-use Rattle.std.proofs.Common.{◌+◌, [], length, Some, is_some, true, refl, ap, sym, ◌∙◌, arith}
+use Rattle.std.proofs.Common.{[], length, Some, is_some, true, refl, ap, sym, ◌∙◌, arith}
 use Rattle.std.specs.Option.{option_map}
 use Rattle.std.proofs.lemmas.Bool.{leb-true, leb-false}
 use Rattle.nr_store.specs.Holders.{beside_of}
