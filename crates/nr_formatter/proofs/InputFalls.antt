@@ -39,16 +39,16 @@ agenda_read-le events.Over t s = omega arith
 agenda_read-le e t s = omega arith
 
 -- a text is sprung; where there is none nothing is paid
-falls-sprung_text : (f : Formatter) (text : Option (List Element)) → Splices f.store f.reader (sprung_text text f).store (sprung_text text f).reader → Falls 4 0 f (sprung_text text f)
+falls-sprung_text : (f : Formatter) (name : List ℕ) (text : Option (List Element)) → Splices f.store f.reader (sprung_text name text f).store (sprung_text name text f).reader → Falls 4 0 f (sprung_text name text f)
 unfolding steps_left owed weight
-falls-sprung_text f None splices = record { limit = refl; most = refl; falls = λ p. let pays = splices.pays p in omega arith }
-falls-sprung_text f (Some text) splices =
-    falls-spliced 4 f (sprung_text (Some text) f) splices (omega arith) (omega (arith, agenda_read-le f.event f.task f.step))
+falls-sprung_text f name None splices = record { limit = refl; most = refl; falls = λ p. let pays = splices.pays p in omega arith }
+falls-sprung_text f name (Some text) splices =
+    falls-spliced 4 f (sprung_text name (Some text) f) splices (omega arith) (omega (arith, agenda_read-le f.event f.task f.step))
 
 pub falls-sprung : (name : List ℕ) (f g : Formatter) → g ≡ sprung name f → Splices f.store f.reader g.store g.reader → Falls 4 0 f g
 falls-sprung name f g same splices =
     let paid : Splices f.store f.reader (sprung name f).store (sprung name f).reader = rw (← same) splices in
-    falls-is 4 0 f g (sprung name f) same (falls-sprung_text f (words (find name f.store.names)) paid)
+    falls-is 4 0 f g (sprung name f) same (falls-sprung_text f name (words (find name f.store.names)) paid)
 
 -- what has no text is no text's name
 pub not_text : {A : Type 0} (text : Option A) → text ≡ None → is_some text ≡ true → ⊥

@@ -21,13 +21,13 @@ use Rattle.nr_formatter.specs.Registers.{splice_checked}
 use Rattle.nr_formatter.specs.Springing.{sprung, sprung_text}
 use Rattle.nr_formatter.proofs.Judging.{judged_splice}
 
-text_within : (f : Formatter) (text : Option (List Element)) → line_cells (collected f) ≤ f.line.limit → line_cells (collected (sprung_text text f)) ≤ (sprung_text text f).line.limit
-text_within f None h = h
-text_within f (Some text) h = h
+text_within : (f : Formatter) (name : List ℕ) (text : Option (List Element)) → line_cells (collected f) ≤ f.line.limit → line_cells (collected (sprung_text name text f)) ≤ (sprung_text name text f).line.limit
+text_within f name None h = h
+text_within f name (Some text) h = h
 
 -- a spring
 pub judged-sprung : (f : Formatter) (name : List ℕ) → IsWithin f → judged (sprung name f) ≡ splice_answer (splice_checked (sprung name f))
-judged-sprung f name w = judged_splice (sprung name f) (text_within f (words (find name f.store.names)) w.line)
+judged-sprung f name w = judged_splice (sprung name f) (text_within f name (words (find name f.store.names)) w.line)
 
 -- ---- a name without text
 
@@ -45,23 +45,23 @@ unsprung_answer (Ok true) new v r other q = not_unsprung (expanded_answer r) q
 unsprung_answer (Ok false) new v r other q = other refl
 unsprung_answer (Err e) new v r other q = cc
 
-unsprung_by : {K : Type 0} (text : Option (List Element)) (mode : K) (v w : Stored K) (r s : Reader)
-    → called w s (Ok false) ≡ springing_by (checked (entered text (Some mode) v) (is_some text)) (entered text (Some mode) v) v r → text ≡ None
-unsprung_by None mode v w r s q = refl
-unsprung_by {K} (Some text) mode v w r s q =
-    let x = checked (entered (Some text) (Some mode) v) true in
-    absurd (unsprung_answer x (entered (Some text) (Some mode) v) v r (not_checked _ _) (ap (λ (c : Called K (Result Bool Refusal)). c.answer) q))
+unsprung_by : {K : Type 0} (name : List ℕ) (text : Option (List Element)) (mode : K) (v w : Stored K) (r s : Reader)
+    → called w s (Ok false) ≡ springing_by (checked (entered name text (Some mode) v) (is_some text)) (entered name text (Some mode) v) v r → text ≡ None
+unsprung_by name None mode v w r s q = refl
+unsprung_by {K} name (Some text) mode v w r s q =
+    let x = checked (entered name (Some text) (Some mode) v) true in
+    absurd (unsprung_answer x (entered name (Some text) (Some mode) v) v r (not_checked _ _) (ap (λ (c : Called K (Result Bool Refusal)). c.answer) q))
 
 pub unsprung : {K : Type 0} (name : List ℕ) (mode : K) (v w : Stored K) (r s : Reader)
     → called w s (Ok false) ≡ springing name mode v r → words (find name v.names) ≡ None
-unsprung name mode v w r s q = unsprung_by (words (find name v.names)) mode v w r s q
+unsprung name mode v w r s q = unsprung_by name (words (find name v.names)) mode v w r s q
 
 -- where nothing springs, nothing is passed
-pub springs_nothing : (f : Formatter) (text : Option (List Element)) → text ≡ None → IsWithin f → Ok tt ≡ splice_checked (sprung_text text f)
-springs_nothing f None e w =
+pub springs_nothing : (f : Formatter) (name : List ℕ) (text : Option (List Element)) → text ≡ None → IsWithin f → Ok tt ≡ splice_checked (sprung_text name text f)
+springs_nothing f name None e w =
     rw (le-ltb f.store.limit (charge_of f.store) w.stored, le-ltb f.store.deepest (length f.store.levels) w.depth, le-ltb f.reader.most f.reader.burst w.burst) refl
-springs_nothing f (Some text) e w = cc
+springs_nothing f name (Some text) e w = cc
 
-pub sprung_none : (f : Formatter) (text : Option (List Element)) → text ≡ None → record f { springs = None } ≡ sprung_text text f
-sprung_none f None e = refl
-sprung_none f (Some text) e = cc
+pub sprung_none : (f : Formatter) (name : List ℕ) (text : Option (List Element)) → text ≡ None → record f { springs = None } ≡ sprung_text name text f
+sprung_none f name None e = refl
+sprung_none f name (Some text) e = cc

@@ -18,17 +18,17 @@ interrupted f = record { task = f.task; standing = standing_of f.reader.half.rea
 
 -- The macro of this name springs: its text is spliced, without arguments, and read from a line's beginning on. A name
 -- without text springs nothing.
-abbrev pub sprung_text : Option (List Element) → Formatter → Formatter
-sprung_text None f = record f { springs = None }
-sprung_text (Some text) f = record f {
-  store = entered (Some text) (Some (interrupted f)) f.store;
+abbrev pub sprung_text : List ℕ → Option (List Element) → Formatter → Formatter
+sprung_text name None f = record f { springs = None }
+sprung_text name (Some text) f = record f {
+  store = entered name (Some text) (Some (interrupted f)) f.store;
   reader = record f.reader { half = setting.sprung f.reader.half; burst = f.reader.burst + 1 };
   springs = None;
   task = tasks.Read;
 }
 
 abbrev pub sprung : List ℕ → Formatter → Formatter
-sprung name f = sprung_text (words (find name f.store.names)) f
+sprung name f = sprung_text name (words (find name f.store.names)) f
 
 -- the page goes to a trap, whose macro springs
 abbrev pub ejected_to : Trap → Formatter → Formatter

@@ -4,7 +4,8 @@ use Rattle.std.proofs.Common.{◌≡◌, ℕ, ◌+◌, ◌-◌, ◌*◌, ◌<◌
 use Rattle.std.proofs.lemmas.Bool.{ltb-false, leb-false}
 use Rattle.std.proofs.lemmas.List.{length-map}
 use Rattle.nr_tables.specs.Named.{find}
-use Rattle.nr_store.specs.Stored.{Stored, checked, charge_of, begun, words, reading, share, entered, reading_bytes}
+use Rattle.nr_store.specs.Stored.{Stored, checked, charge_of, begun, words, reading, shared_by, own_text, entered, reading_bytes}
+use Rattle.nr_store.specs.Laws.{named_weighs}
 use Rattle.nr_store.specs.declared.element.Element.{Element}
 use Rattle.nr_store.specs.declared.element.Element.TheVariants as elements
 use Rattle.nr_store.specs.declared.refusal.Refusal.TheVariants as stores
@@ -151,7 +152,7 @@ bytes_splice bytes v w r s e is =
     let n = reading_bytes bytes v in
     given_by (nat_lt n.limit (charge_of n)) (nat_lt n.deepest (length n.levels)) (nat_le r.most r.burst) v n w r s e
     (λ few. record {
-      items = opened (map elements.Byte bytes) v.arguments (16 + length bytes) None v (omega (arith, length-map bytes elements.Byte)) (ltb-false n.limit (charge_of n) few);
+      items = opened (map elements.Byte bytes) v.arguments (32 + length bytes) None own_text v (omega (arith, length-map bytes elements.Byte)) (ltb-false n.limit (charge_of n) few);
       limit = refl;
     }) (leb-false r.most r.burst) (is ∙ given_same (nat_lt n.limit (charge_of n)) (nat_lt n.deepest (length n.levels)) v n r)
 
@@ -178,14 +179,15 @@ none_springs {K} false false v w r s x is =
     let read : s ≡ r = ap (λ (y : Called K (Result Bool Refusal)). y.reader) is in
     rw same (stored, read)
 
-text_springs : {K : Type 0} (text : Option (List Element)) (mode : K) (v w : Stored K) (r s : Reader) (x : Result Bool Refusal)
-    → called w s x ≡ springing_by (checked (entered text (Some mode) v) (is_some text)) (entered text (Some mode) v) v r → Springs v r x w s
-text_springs None mode v w r s x is = none_springs (nat_lt v.limit (charge_of v)) (nat_lt v.deepest (length v.levels)) v w r s x is
-text_springs (Some text) mode v w r s x is =
-    let n = reading text [] (share text) (Some mode) v in
+text_springs : {K : Type 0} (name : List ℕ) (text : Option (List Element)) (mode : K) (v w : Stored K) (r s : Reader) (x : Result Bool Refusal) → words (find name v.names) ≡ text
+    → called w s x ≡ springing_by (checked (entered name text (Some mode) v) (is_some text)) (entered name text (Some mode) v) v r → Springs v r x w s
+text_springs name None mode v w r s x found is = none_springs (nat_lt v.limit (charge_of v)) (nat_lt v.deepest (length v.levels)) v w r s x is
+text_springs name (Some text) mode v w r s x found is =
+    let n = reading text [] 16 (Some mode) (shared_by name text v.texts) v in
+    let held = named_weighs name text v.names found in
     spring_by (nat_lt n.limit (charge_of n)) (nat_lt n.deepest (length n.levels)) (nat_le r.most r.burst) v n w r s x
-    (λ few. record { items = opened text [] (share text) (Some mode) v (omega arith) (ltb-false n.limit (charge_of n) few); limit = refl }) (leb-false r.most r.burst) (is ∙ spring_same (nat_lt n.limit (charge_of n)) (nat_lt n.deepest (length n.levels)) v n r)
+    (λ few. record { items = opened text [] 16 (Some mode) (shared_by name text v.texts) v (omega (arith, held)) (ltb-false n.limit (charge_of n) few); limit = refl }) (leb-false r.most r.burst) (is ∙ spring_same (nat_lt n.limit (charge_of n)) (nat_lt n.deepest (length n.levels)) v n r)
 
 pub springing_springs : {K : Type 0} (name : List ℕ) (mode : K) (v w : Stored K) (r s : Reader) (x : Result Bool Refusal)
     → called w s x ≡ springing name mode v r → Springs v r x w s
-springing_springs name mode v w r s x is = text_springs (words (find name v.names)) mode v w r s x is
+springing_springs name mode v w r s x is = text_springs name (words (find name v.names)) mode v w r s x refl is

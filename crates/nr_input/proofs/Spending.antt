@@ -1,14 +1,15 @@
 -- What is due is paid when it is done.
-use Rattle.std.specs.Prelude.{nat_le, nat_lt, is_some, map, drop, slice_get, slice_index}
+use Rattle.std.specs.Prelude.{nat_le, nat_lt, is_some, map, drop, slice_get, slice_index, sum_by}
 use Rattle.std.specs.Option.{option_and_then}
 use Rattle.std.proofs.Common.{◌≡◌, ℕ, ◌+◌, ◌-◌, ◌*◌, ◌<◌, ◌≤◌, Bool, true, false, if◌then◌else◌, List, [], ◌∷◌, length, Option, None, Some, Result, Ok, Err, refl, ap, sym, subst, arith}
 use Rattle.std.proofs.lemmas.Bool.{ltb-false, ltb-true, leb-false, leb-true}
 use Rattle.std.proofs.lemmas.List.{length-map}
 use Rattle.std.proofs.lemmas.List.Sums.{sum_by-cons}
-use Rattle.nr_tables.specs.Named.{find}
+use Rattle.nr_tables.specs.Named.{Named, find}
+use Rattle.nr_store.specs.Laws.{named_weighs}
 use Rattle.nr_levels.specs.Gathered.{bytes_in}
 use Rattle.nr_levels.specs.Levels.{argument}
-use Rattle.nr_store.specs.Stored.{Stored, Level, Read, Built, afforded, checked, charge_of, level_charge, begun, text_of, added, defined, named_newest, words, reading, share, entered, called, reading_bytes, gathering, gathered_whole, ungathered, register_of, stepped, written, gone_on}
+use Rattle.nr_store.specs.Stored.{Stored, Level, Read, Built, Shared, Means, weight, weight_of, own_text, shared_by, afforded, checked, charge_of, level_charge, begun, text_of, added, defined, named_newest, words, reading, entered, called, reading_bytes, gathering, gathered_whole, ungathered, register_of, stepped, written, gone_on}
 use Rattle.nr_store.specs.declared.element.Element.{Element}
 use Rattle.nr_store.specs.declared.element.Element.TheVariants as elements
 use Rattle.nr_store.specs.declared.named.Meaning.{Meaning}
@@ -114,13 +115,13 @@ expanding_by {K} false v w p d r opens few = record {
 expanding_spends : {K : Type 0} (v w : Stored K) (p : Reached) (d : Due) (r : Reader) → Opens v w → Spends v p (then_due d r) (expanding w (then_due d r))
 expanding_spends v w p d r opens = expanding_by (nat_le r.most r.burst) v w p d r opens (leb-false r.most r.burst)
 
--- a text that may be stored is shorter than all that may be
-pub opened : {K : Type 0} (text : List Element) (arguments : List (List ℕ)) (charge : ℕ) (resume : Option K) (v : Stored K) → length text + 16 ≤ charge
-    → let w = reading text arguments charge resume v in charge_of w ≤ w.limit → items_left w.levels + 13 ≤ items_left v.levels + v.limit
-opened {K} text arguments charge None v long afforded =
+-- a text that is charged, with its level or under a name, is shorter than all that may be stored
+pub opened : {K : Type 0} (text : List Element) (arguments : List (List ℕ)) (charge : ℕ) (resume : Option K) (t : Shared) (v : Stored K) → length text + 16 ≤ charge + sum_by (λ (n : Named Means). weight_of n.value) v.names
+    → let w = reading text arguments charge resume t v in charge_of w ≤ w.limit → items_left w.levels + 13 ≤ items_left v.levels + v.limit
+opened {K} text arguments charge None t v long afforded =
     let level : Level K = Read (record { rest = text; old = v.arguments; charge = charge; resume = None }) in
     omega (arith, sum_by-cons items_in level v.levels, sum_by-cons level_charge level v.levels)
-opened {K} text arguments charge (Some mode) v long afforded =
+opened {K} text arguments charge (Some mode) t v long afforded =
     let level : Level K = Read (record { rest = text; old = v.arguments; charge = charge; resume = Some mode }) in
     omega (arith, sum_by-cons items_in level v.levels, sum_by-cons level_charge level v.levels)
 
@@ -146,38 +147,39 @@ unspliced_by false true v w p d r keeps less = none_made v p (then_due d r) refu
 unspliced_by false false v w p d r keeps less = kept v w p (then_due d r) (idle (then_due d r)).half r.request events.Nothing keeps (omega arith) tt
 
 -- the text of a name, or none
-name_spends : {K : Type 0} (text : Option (List Element)) (v : Stored K) (p : Reached) (d : Due) (r : Reader)
+name_spends : {K : Type 0} (name : List ℕ) (text : Option (List Element)) (v : Stored K) (p : Reached) (d : Due) (r : Reader) → words (find name v.names) ≡ text
     → weight_by dues.Look r.half.reading.mode r.half.reading.escape + 1 ≤ weight_by d r.half.reading.mode r.half.reading.escape
-    → Spends v p (then_due d r) (splicing_text (checked (entered text None v) (is_some text)) (entered text None v) v (then_due d r))
-name_spends None v p d r less =
+    → Spends v p (then_due d r) (splicing_text (checked (entered name text None v) (is_some text)) (entered name text None v) v (then_due d r))
+name_spends name None v p d r is less =
     unspliced_by (nat_lt v.limit (charge_of v)) (nat_lt v.deepest (length v.levels)) v v p d r (record { levels = refl; limit = refl }) less
-name_spends (Some text) v p d r less =
-    let w = reading text [] (share text) None v in
+name_spends name (Some text) v p d r is less =
+    let w = reading text [] 16 None (shared_by name text v.texts) v in
+    let held = named_weighs name text v.names is in
     splicing_text_by (nat_lt w.limit (charge_of w)) (nat_lt w.deepest (length w.levels)) v w p d r
-    (λ few. record { items = opened text [] (share text) None v (omega arith) (ltb-false w.limit (charge_of w) few); limit = refl })
+    (λ few. record { items = opened text [] 16 None (shared_by name text v.texts) v (omega (arith, held)) (ltb-false w.limit (charge_of w) few); limit = refl })
 
-call_spends : {K : Type 0} (text : Option (List Element)) (v : Stored K) (p : Reached) (d : Due) (r : Reader)
+call_spends : {K : Type 0} (name : List ℕ) (text : Option (List Element)) (v : Stored K) (p : Reached) (d : Due) (r : Reader) → words (find name v.names) ≡ text
     → weight_by dues.Look r.half.reading.mode r.half.reading.escape + 1 ≤ weight_by d r.half.reading.mode r.half.reading.escape
-    → Spends v p (then_due d r) (splicing_text (checked (called text v) (is_some text)) (called text v) v (then_due d r))
-call_spends None v p d r less =
+    → Spends v p (then_due d r) (splicing_text (checked (called name text v) (is_some text)) (called name text v) v (then_due d r))
+call_spends name None v p d r is less =
     let w = ungathered v in
     unspliced_by (nat_lt w.limit (charge_of w)) (nat_lt w.deepest (length w.levels)) v w p d r (record { levels = refl; limit = refl }) less
-call_spends {K} (Some text) v p d r less =
-    let w = called (Some text) v in
+call_spends {K} name (Some text) v p d r is less =
+    let w = called name (Some text) v in
     splicing_text_by (nat_lt w.limit (charge_of w)) (nat_lt w.deepest (length w.levels)) v w p d r
-    (λ few. record { items = called_items text v (ltb-false w.limit (charge_of w) few); limit = refl })
+    (λ few. record { items = called_items text v (named_weighs name text v.names is) (ltb-false w.limit (charge_of w) few); limit = refl })
   where
-    called_items : (text : List Element) (v : Stored K) → let w = called (Some text) v in charge_of w ≤ w.limit → items_left w.levels + 13 ≤ items_left v.levels + v.limit
-    called_items text v afforded =
-        let level : Level K = Read (record { rest = text; old = v.arguments; charge = share text + bytes_in v.gathered.kept; resume = None }) in
-        omega (arith, sum_by-cons items_in level v.levels, sum_by-cons level_charge level v.levels)
+    called_items : (text : List Element) (v : Stored K) → weight text ≤ sum_by (λ (n : Named Means). weight_of n.value) v.names → let w = called name (Some text) v in charge_of w ≤ w.limit → items_left w.levels + 13 ≤ items_left v.levels + v.limit
+    called_items text v held afforded =
+        let level : Level K = Read (record { rest = text; old = v.arguments; charge = 16 + bytes_in v.gathered.kept; resume = None }) in
+        omega (arith, held, sum_by-cons items_in level v.levels, sum_by-cons level_charge level v.levels)
 
 bytes_spend : {K : Type 0} (bytes : List ℕ) (v : Stored K) (p : Reached) (d : Due) (r : Reader) → Spends v p (then_due d r) (splicing_bytes bytes v (then_due d r))
 bytes_spend bytes v p d r =
     let w = reading_bytes bytes v in
     splicing_by (nat_lt w.limit (charge_of w)) (nat_lt w.deepest (length w.levels)) v w p d r
     (λ few. record {
-      items = opened (map elements.Byte bytes) v.arguments (16 + length bytes) None v (omega (arith, length-map bytes elements.Byte)) (ltb-false w.limit (charge_of w) few);
+      items = opened (map elements.Byte bytes) v.arguments (32 + length bytes) None own_text v (omega (arith, length-map bytes elements.Byte)) (ltb-false w.limit (charge_of w) few);
       limit = refl;
     })
 
@@ -294,8 +296,8 @@ due_spends dues.Define v p r some =
     kept v (naming r v) p (then_due dues.Define r) (idle r).half r.request events.Nothing (naming_keeps r.half.notes.defining.keeps (name_in r) v) (omega arith) tt
 due_spends dues.DefineAndCall v p r some =
     definition_spends (is_empty r.half.notes.defining.ending) v (naming r v) p r (naming_keeps r.half.notes.defining.keeps (name_in r) v)
-due_spends dues.CallEnding v p r some = name_spends (words (find r.half.notes.defining.ending v.names)) v p dues.CallEnding r (omega arith)
-due_spends dues.Splice v p r some = name_spends (words (find r.half.notes.asked v.names)) v p dues.Splice r (omega arith)
+due_spends dues.CallEnding v p r some = name_spends r.half.notes.defining.ending (words (find r.half.notes.defining.ending v.names)) v p dues.CallEnding r refl (omega arith)
+due_spends dues.Splice v p r some = name_spends r.half.notes.asked (words (find r.half.notes.asked v.names)) v p dues.Splice r refl (omega arith)
 due_spends (dues.Register signs.None) v p r some = bytes_spend (register_text (register_of (find r.half.notes.asked v.registers))) v p (dues.Register signs.None) r
 due_spends (dues.Register signs.Plus) v p r some =
     kept v (stepped r.half.notes.asked true v) p (then_due (dues.Register signs.Plus) r) (then_due (dues.Register signs.None) r).half r.request events.Nothing
@@ -308,7 +310,7 @@ due_spends (dues.Put b) v p r some =
     storing_by (afforded (gathering b v) tt) v (gathering b v) p (dues.Put b) dues.Look r (record { levels = refl; limit = refl }) (omega arith)
 due_spends dues.EndArgument v p r some =
     kept v (gathered_whole v) p (then_due dues.EndArgument r) (idle r).half r.request events.Nothing (record { levels = refl; limit = refl }) (omega arith) tt
-due_spends dues.Call v p r some = call_spends (words (find (name_in r) v.names)) v p dues.Call r (omega arith)
+due_spends dues.Call v p r some = call_spends (name_in r) (words (find (name_in r) v.names)) v p dues.Call r refl (omega arith)
 due_spends dues.Seek v p r some =
     let m = meaning_in v r in seeking_spends (calls_of m) v (behind_meaning m v) p r (request_of m r.request) (meaning_keeps m v)
 due_spends (dues.Judge b) v p r some =

@@ -71,21 +71,21 @@ naming_more false name v = same v v refl
 
 -- ---- what is only read, or counted
 
-entered_more : {K : Type 0} (text : Option (List Element)) (v : Stored K) → NoMore v (entered text None v)
-entered_more None v = same v v refl
-entered_more (Some text) v = same v (entered (Some text) None v) refl
+entered_more : {K : Type 0} (name : List ℕ) (text : Option (List Element)) (v : Stored K) → NoMore v (entered name text None v)
+entered_more name None v = same v v refl
+entered_more name (Some text) v = same v (entered name (Some text) None v) refl
 
-called_more : {K : Type 0} (text : Option (List Element)) (v : Stored K) → NoMore v (called text v)
-called_more None v = same v (called None v) refl
-called_more (Some text) v = same v (called (Some text) v) refl
+called_more : {K : Type 0} (name : List ℕ) (text : Option (List Element)) (v : Stored K) → NoMore v (called name text v)
+called_more name None v = same v (called name None v) refl
+called_more name (Some text) v = same v (called name (Some text) v) refl
 
-name_more : {K : Type 0} (text : Option (List Element)) (v : Stored K) (r : Reader)
-    → NoMore v (splicing_text (checked (entered text None v) (is_some text)) (entered text None v) v r).stored
-name_more text v r = splicing_text_more (checked (entered text None v) (is_some text)) v (entered text None v) r (entered_more text v)
+name_more : {K : Type 0} (name : List ℕ) (text : Option (List Element)) (v : Stored K) (r : Reader)
+    → NoMore v (splicing_text (checked (entered name text None v) (is_some text)) (entered name text None v) v r).stored
+name_more name text v r = splicing_text_more (checked (entered name text None v) (is_some text)) v (entered name text None v) r (entered_more name text v)
 
-call_more : {K : Type 0} (text : Option (List Element)) (v : Stored K) (r : Reader)
-    → NoMore v (splicing_text (checked (called text v) (is_some text)) (called text v) v r).stored
-call_more text v r = splicing_text_more (checked (called text v) (is_some text)) v (called text v) r (called_more text v)
+call_more : {K : Type 0} (name : List ℕ) (text : Option (List Element)) (v : Stored K) (r : Reader)
+    → NoMore v (splicing_text (checked (called name text v) (is_some text)) (called name text v) v r).stored
+call_more name text v r = splicing_text_more (checked (called name text v) (is_some text)) v (called name text v) r (called_more name text v)
 
 bytes_more : {K : Type 0} (bytes : List ℕ) (v : Stored K) (r : Reader) → NoMore v (splicing_bytes bytes v r).stored
 bytes_more bytes v r = splicing_more (checked (reading_bytes bytes v) tt) v (reading_bytes bytes v) r (same v (reading_bytes bytes v) refl)
@@ -110,15 +110,15 @@ due_more (dues.Release held n b) v r =
     storing_more (afforded (added xs v) tt) v (added xs v) r (then_due (behind_held held n b) r) (added_more xs v)
 due_more dues.Define v r = naming_more r.half.notes.defining.keeps (name_in r) v
 due_more dues.DefineAndCall v r = naming_more r.half.notes.defining.keeps (name_in r) v
-due_more dues.CallEnding v r = name_more (words (find r.half.notes.defining.ending v.names)) v r
-due_more dues.Splice v r = name_more (words (find r.half.notes.asked v.names)) v r
+due_more dues.CallEnding v r = name_more r.half.notes.defining.ending (words (find r.half.notes.defining.ending v.names)) v r
+due_more dues.Splice v r = name_more r.half.notes.asked (words (find r.half.notes.asked v.names)) v r
 due_more (dues.Register signs.None) v r = bytes_more (register_text (register_of (find r.half.notes.asked v.registers))) v r
 due_more (dues.Register signs.Plus) v r = written_more (option_and_then (gone_on true) (find r.half.notes.asked v.registers)) r.half.notes.asked v
 due_more (dues.Register signs.Minus) v r = written_more (option_and_then (gone_on false) (find r.half.notes.asked v.registers)) r.half.notes.asked v
 due_more (dues.Argument n) v r = bytes_more (argument v.arguments n) v r
 due_more (dues.Put b) v r = storing_more (afforded (gathering b v) tt) v (gathering b v) r (idle r) (same v (gathering b v) refl)
 due_more dues.EndArgument v r = same v (gathered_whole v) refl
-due_more dues.Call v r = call_more (words (find (name_in r) v.names)) v r
+due_more dues.Call v r = call_more (name_in r) (words (find (name_in r) v.names)) v r
 due_more dues.Seek v r = meaning_more (meaning_in v r) v
 due_more (dues.Judge b) v r = same v v refl
 due_more (dues.Lead n) v r = same v v refl

@@ -123,14 +123,14 @@ behind_definition r = if is_empty r.half.notes.defining.ending then dues.Look el
 -- the text of a name, with no arguments in force
 abbrev pub splicing_name : {K : Type 0} → List ℕ → Stored K → Reader → Acted K
 splicing_name name v r =
-    splicing_text (checked (entered (words (find name v.names)) None v) (is_some (words (find name v.names))))
-    (entered (words (find name v.names)) None v) v r
+    splicing_text (checked (entered name (words (find name v.names)) None v) (is_some (words (find name v.names))))
+    (entered name (words (find name v.names)) None v) v r
 
 -- a macro with the arguments that were read
 abbrev pub act_call : {K : Type 0} → Stored K → Reader → Acted K
 act_call v r =
-    splicing_text (checked (called (words (find (name_in r) v.names)) v) (is_some (words (find (name_in r) v.names))))
-    (called (words (find (name_in r) v.names)) v) v r
+    splicing_text (checked (called (name_in r) (words (find (name_in r) v.names)) v) (is_some (words (find (name_in r) v.names))))
+    (called (name_in r) (words (find (name_in r) v.names)) v) v r
 
 -- bytes, the arguments staying in force
 abbrev pub splicing_bytes : {K : Type 0} → List ℕ → Stored K → Reader → Acted K

@@ -51,8 +51,8 @@ springing_by (Err e) new v r = called v r (Err (refusal_of e))
 
 abbrev pub springing : {K : Type 0} → List ℕ → K → Stored K → Reader → Called K (Result Bool Refusal)
 springing name mode v r =
-    springing_by (checked (entered (words (find name v.names)) (Some mode) v) (is_some (words (find name v.names))))
-    (entered (words (find name v.names)) (Some mode) v) v r
+    springing_by (checked (entered name (words (find name v.names)) (Some mode) v) (is_some (words (find name v.names))))
+    (entered name (words (find name v.names)) (Some mode) v) v r
 
 -- ---- definitions whose lines follow (CSTR 54, 7.1)
 

@@ -13,7 +13,7 @@ use Rattle.nr_store.specs.declared.element.Element.{Element}
 use Rattle.nr_store.specs.declared.element.Draft.{Draft}
 use Rattle.nr_store.specs.declared.refusal.Refusal.TheVariants as refusals
 use Rattle.nr_store.specs.Senses.{text_id}
-use Rattle.nr_store.specs.Stored.{words, text_of, Stored, charge_of, checked, reading}
+use Rattle.nr_store.specs.Stored.{words, text_of, Shared, text_charge, Stored, charge_of, checked, reading}
 use Rattle.nr_store.specs.Holders.{Beside, means_of, level_of, stored_of, count, values, ids_of, draft_ids, IsStore}
 use Rattle.nr_store.proofs.Counting.{count-append}
 use Rattle.nr_store.proofs.Naming.{find-map, find_counts}
@@ -40,23 +40,29 @@ answer_none v charge limit f o h same none =
     ap (λ q. checked (f q) (is_some q)) none ∙ ap (λ w. checked w false) same ∙ admitted v false (omega arith) h.deep
 
 -- where there is one
-module _ {K X : Type 0} (charge limit cost : ℕ) (resume : Option K) (arguments : List (List ℕ)) (v : Stored K) (xs : List Element) (x : X) (h : Within v charge limit) where
-  more : charge_of (reading xs arguments cost resume v) ≡ charge_of v + cost
-  more = charge_of-reading xs arguments cost resume v
+module _ {K X : Type 0} (charge limit cost : ℕ) (resume : Option K) (arguments : List (List ℕ)) (v : Stored K) (xs : List Element) (t : Shared) (free : text_charge t ≡ 0) (x : X) (h : Within v charge limit) where
+  more : charge_of (reading xs arguments cost resume t v) ≡ charge_of v + cost
+  more = charge_of-reading xs arguments cost resume t v free
 
-  pub answer_refused : limit < charge + cost → checked (reading xs arguments cost resume v) x ≡ Err refusals.Stored
-  answer_refused above = let all = more in let charged = h.charged in let same = h.same_limit in refused (reading xs arguments cost resume v) x (omega arith)
+  pub answer_refused : limit < charge + cost → checked (reading xs arguments cost resume t v) x ≡ Err refusals.Stored
+  answer_refused above = let all = more in let charged = h.charged in let same = h.same_limit in refused (reading xs arguments cost resume t v) x (omega arith)
 
-  pub answer_deep : charge + cost ≤ limit → v.deepest ≤ length v.levels → checked (reading xs arguments cost resume v) x ≡ Err refusals.Depth
-  answer_deep room full = let all = more in let charged = h.charged in let same = h.same_limit in too_deep (reading xs arguments cost resume v) x (omega arith) (omega arith)
+  pub answer_deep : charge + cost ≤ limit → v.deepest ≤ length v.levels → checked (reading xs arguments cost resume t v) x ≡ Err refusals.Depth
+  answer_deep room full = let all = more in let charged = h.charged in let same = h.same_limit in too_deep (reading xs arguments cost resume t v) x (omega arith) (omega arith)
 
-  pub answer_admitted : charge + cost ≤ limit → length v.levels < v.deepest → checked (reading xs arguments cost resume v) x ≡ Ok x
-  answer_admitted room deeper = let all = more in let charged = h.charged in let same = h.same_limit in admitted (reading xs arguments cost resume v) x (omega arith) (omega arith)
+  pub answer_admitted : charge + cost ≤ limit → length v.levels < v.deepest → checked (reading xs arguments cost resume t v) x ≡ Ok x
+  answer_admitted room deeper = let all = more in let charged = h.charged in let same = h.same_limit in admitted (reading xs arguments cost resume t v) x (omega arith) (omega arith)
 
 -- a text that has a name
 pub record IsNamed (p : Texts Element) (names : Table Sense) (charge id : ℕ) : Type 0 where
   pub counted : 0 < count id (values names.entries)
   pub there : IsThere p charge id
+
+-- where its number is found under a name
+pub text_found : (o : Option Sense) (id : ℕ) → text_id o ≡ Some id → o ≡ Some (senses.Text id)
+text_found None id is = let no : ⊥ = cc in absurd no
+text_found (Some (senses.Request r)) id is = let no : ⊥ = cc in absurd no
+text_found (Some (senses.Text k)) id is = let same : k ≡ id = cc in ap (λ j. Some (senses.Text j)) same
 
 pub is_named : {K : Type 0} (p : Texts Element) (names : Table Sense) (drafts : Items Draft) (levels : Levels K) (beside : Beside) (charge limit : ℕ) (name : List ℕ) (id : ℕ) (o : Option ℕ) → IsStore p names drafts levels beside charge limit
     → o ≡ text_id (find name names.entries) → o ≡ Some id → IsNamed p names charge id

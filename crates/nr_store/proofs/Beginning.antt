@@ -16,11 +16,13 @@ use Rattle.nr_store.specs.declared.element.Draft.{Draft}
 use Rattle.nr_store.specs.declared.request.Request.{Request}
 use Rattle.nr_store.specs.declared.request.TheConstants.{REQUESTS}
 use Rattle.nr_store.specs.Senses.{act}
-use Rattle.nr_store.specs.Stored.{Built, weight, level_charge, charge_of, charge_beside}
+use Rattle.nr_store.specs.Stored.{Built, weight, level_charge, text_charge, charge_of, charge_beside}
 use Rattle.nr_store.specs.Requests.{name_of, with_acts, with_senses}
-use Rattle.nr_store.specs.Holders.{Beside, Suffice, acts, means_of, named_means, built_of, level_of, stored_of, count, values, draft_ids, held_ids, AllPay, IsStore}
+use Rattle.nr_store.specs.Holders.{Beside, Suffice, acts, means_of, named_means, built_of, level_of, stored_of, count, values, draft_ids, held_ids, texts_in, IsHeld, AllPay, AreNamed, IsStore}
 use Rattle.nr_store.proofs.Counting.{count-append}
 use Rattle.nr_store.proofs.Naming.{ones, sum_of, put_sum, put_sum_new, put-map, count-values}
+use Rattle.nr_store.proofs.Keeping.{charged_once}
+use Rattle.nr_store.proofs.Sharing.{no_name}
 use Rattle.nr_store.proofs.Defining.{cost_of, names_charge}
 
 known : {X : Type 0} → (o : Option X) → (o ≡ None) ⊎ ((x : X) × (o ≡ Some x))
@@ -69,36 +71,52 @@ module _ {K : Type 0} (p : Texts Element) (names : Table Sense) (drafts : Items 
       let of_names = names_charge p names.entries in
       let of_drafts : sum_by (λ (b : Built). weight b.text) (map (built_of p) drafts.items) ≡ 0 = ap (λ ds. sum_by (λ (b : Built). weight b.text) (map (built_of p) ds)) no_drafts in
       let of_levels : sum_by level_charge (map (level_of p) levels.levels) ≡ 0 = ap (λ ls. sum_by level_charge (map (level_of p) ls)) no_levels in
+      let of_texts : sum_by text_charge (texts_in p names.entries levels.levels) ≡ 0 = ap (λ ls. sum_by text_charge (texts_in p names.entries ls)) no_levels in
       omega arith
 
   pub begins_empty : limit < 2 ^ 32 → limit ≤ p.capacity → limit < 16 * length p.texts + 16 → limit + 48 * length REQUESTS < 48 * names.room + 48 → limit < 48 * drafts.room + 48 → limit ≤ levels.room → Suffice beside limit
       → IsStore p names drafts levels beside 0 limit
-  begins_empty small elements slots room drafts_room bytes suffice = record {
-    held = record {
-      held = λ k.
-          let none : holders p k ≡ 0 = ap (λ (t : Held Element). t.holders) (bare_entry p n k empty) in
-          let named_none = nothing_of (ones k) (λ r. omega arith) in
-          let values_none = count-values k names.entries in
-          let ids : held_ids names.entries (draft_ids drafts.items) levels.levels ≡ values names.entries ++ [] = ap₂ (λ (ds : List Draft) ls. held_ids names.entries (draft_ids ds) ls) no_drafts no_levels in
-          let counted : count k (held_ids names.entries (draft_ids drafts.items) levels.levels) ≡ count k (values names.entries ++ []) = ap (count k) ids in
-          let split = count-append k (values names.entries) [] in
-          omega arith;
-      bare = λ k _. ap (λ (t : Held Element). t.elements) (bare_entry p n k empty);
-    };
-    alone = λ k some. let is : count k (draft_ids drafts.items) ≡ 0 = ap (λ ds. count k (draft_ids ds)) no_drafts in absurd (omega arith);
-    pays = subst (AllPay p) (sym no_levels) tt;
-    few_acts = few;
-    charged = free;
-    within = omega arith;
-    deep = let is : length levels.levels ≡ 0 = ap length no_levels in omega arith;
-    small = small;
-    elements_suffice = elements;
-    slots_suffice = slots;
-    names_suffice = room;
-    drafts_suffice = drafts_room;
-    bytes_suffice = bytes;
-    beside_suffices = suffice;
-  }
+  begins_empty small elements slots room drafts_room bytes suffice =
+      let held : IsHeld p (held_ids names.entries (draft_ids drafts.items) levels.levels) = record {
+        held = λ k.
+            let none : holders p k ≡ 0 = ap (λ (t : Held Element). t.holders) (bare_entry p n k empty) in
+            let named_none = nothing_of (ones k) (λ r. omega arith) in
+            let values_none = count-values k names.entries in
+            let ids : held_ids names.entries (draft_ids drafts.items) levels.levels ≡ values names.entries ++ [] = ap₂ (λ (ds : List Draft) ls. held_ids names.entries (draft_ids ds) ls) no_drafts no_levels in
+            let counted : count k (held_ids names.entries (draft_ids drafts.items) levels.levels) ≡ count k (values names.entries ++ []) = ap (count k) ids in
+            let split = count-append k (values names.entries) [] in
+            omega arith;
+        bare = λ k _. ap (λ (t : Held Element). t.elements) (bare_entry p n k empty);
+      } in
+      let alone : (k : ℕ) → 0 < count k (draft_ids drafts.items) → holders p k ≡ 1 = λ k some. let is : count k (draft_ids drafts.items) ≡ 0 = ap (λ ds. count k (draft_ids ds)) no_drafts in absurd (omega arith) in
+      let pays = subst AllPay (sym no_levels) tt in
+      let single_name : AreNamed names.entries = record {
+        single = λ k. let named_none = nothing_of (ones k) (λ r. omega arith) in let values_none = count-values k names.entries in omega arith;
+        found = λ k name is.
+            let named_none = nothing_of (ones k) (λ r. omega arith) in
+            let values_none = count-values k names.entries in
+            let none : None ≡ Some name = sym (no_name k names.entries (omega (arith, named_none, values_none))) ∙ is in
+            let no : ⊥ = cc in
+            absurd no;
+      } in
+      record {
+        held = held;
+        alone = alone;
+        pays = pays;
+        named = single_name;
+        few_acts = few;
+        charged = free;
+        once = charged_once p names.entries drafts.items levels beside 0 limit held alone pays single_name free;
+        within = omega arith;
+        deep = let is : length levels.levels ≡ 0 = ap length no_levels in omega arith;
+        small = small;
+        elements_suffice = elements;
+        slots_suffice = slots;
+        names_suffice = room;
+        drafts_suffice = drafts_room;
+        bytes_suffice = bytes;
+        beside_suffices = suffice;
+      }
 
 -- ---- the names are given one after another
 

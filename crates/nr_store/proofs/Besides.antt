@@ -1,12 +1,11 @@
 -- Lemmas on what is stored beside texts and levels.
-use Rattle.std.proofs.Common.{◌≡◌, ℕ, ◌+◌, ◌≤◌, List, [], ◌∷◌, ◌++◌, length, map, eqb, true, false, Some, None, refl, ap, ◌∙◌, inl, inr, arith, length-append}
+use Rattle.std.proofs.Common.{◌≡◌, ℕ, ◌+◌, ◌≤◌, List, [], ◌∷◌, ◌++◌, length, eqb, true, false, Some, None, refl, ap, ◌∙◌, inl, inr, arith, length-append}
 use Rattle.std.proofs.lemmas.List.Sums.{sum_by-cons, sum_by-append}
 use Rattle.std.proofs.lemmas.Bool.{cases_Bool, cond-true, cond-false}
 use Rattle.nr_units.specs.Items.{Items}
 use Rattle.nr_pool.specs.Texts.{Texts}
 use Rattle.nr_tables.specs.Named.{Named, find, put, without}
 use Rattle.nr_tables.specs.Rows.{Table}
-use Rattle.nr_tables.specs.Given.{word_in}
 use Rattle.nr_levels.specs.Levels.{Levels}
 use Rattle.nr_levels.specs.Gathered.{Gathered, Gathering, bytes_in, gathered_len, with_byte, with_bytes, with_end}
 use Rattle.nr_levels.specs.Laws.{with_bytes-more, with_bytes-append}
@@ -16,13 +15,9 @@ use Rattle.nr_store.specs.declared.register.Register.{Register}
 use Rattle.nr_store.specs.declared.named.Sense.{Sense}
 use Rattle.nr_store.specs.declared.element.Element.{Element}
 use Rattle.nr_store.specs.declared.element.Draft.{Draft}
-use Rattle.nr_store.specs.Stored.{Stored, charge_of, charge_beside, gathering}
-use Rattle.nr_store.specs.Holders.{Beside, Suffice, beside_of, stored_of, IsStore}
+use Rattle.nr_store.specs.Stored.{Stored, charge_of, gathering}
+use Rattle.nr_store.specs.Holders.{Beside, Suffice, beside_of, stored_of, beside_cost, IsStore}
 use Rattle.nr_store.proofs.Naming.{sum_of, put_sum, put_sum_new, without_sum}
-
--- what is charged beside texts and levels
-abbrev pub beside_cost : Beside → ℕ
-beside_cost b = charge_beside b.gathering.gathered b.registers.entries b.traps.items (map word_in b.words.items)
 
 module _ {K : Type 0} (p : Texts Element) (names : Table Sense) (drafts : Items Draft) (levels : Levels K) (beside : Beside) (charge limit : ℕ) (h : IsStore p names drafts levels beside charge limit) where
   pub beside_paid : beside_cost beside ≤ charge
@@ -37,8 +32,10 @@ module _ {K : Type 0} (p : Texts Element) (names : Table Sense) (drafts : Items 
       held = h.held;
       alone = h.alone;
       pays = h.pays;
+      named = h.named;
       few_acts = h.few_acts;
       charged = beside_charge;
+      once = let once = h.once in omega arith;
       within = within;
       deep = h.deep;
       small = h.small;

@@ -19,7 +19,7 @@ use Rattle.nr_store.specs.declared.refusal.Refusal.TheVariants as refusals
 use Rattle.nr_store.specs.Stored.{Stored, Built, charge_of, weight, afforded, checked, begun, longer, on_newest, added}
 use Rattle.nr_store.specs.Holders.{Beside, built_of, level_of, stored_of, count, ids_of, values, draft_ids, held_ids, IsHeld, IsStore}
 use Rattle.nr_store.proofs.Counting.{AddsOne, one_same, one_other, count-cons, count-append, held_opened, held_text}
-use Rattle.nr_store.proofs.Keeping.{Keeps, keeps_right, same_view, all_pay}
+use Rattle.nr_store.proofs.Keeping.{Keeps, same_view, charged_once}
 
 -- a list whose first item is known
 pub cons_of : {X : Type 0} (xs : List X) (x : X) → slice_get xs 0 ≡ Some x → xs ≡ x ∷ drop 1 xs
@@ -124,34 +124,39 @@ module _ {K : Type 0} (p : Texts Element) (names : Table Sense) (drafts : Items 
       view_building p (opened p id) names.entries drafts.items levels beside limit new [] kept_begun (ap (λ (u : Held _). u.elements) (entry-with_entry_same p id fresh_text within))
 
   pub begun_stands : charge + 48 ≤ limit → IsStore (opened p id) names (record drafts { items = new ∷ drafts.items }) levels beside (charge + 48) limit
-  begun_stands room = record {
-    held = held_opened p id (held_ids names.entries (draft_ids drafts.items) levels.levels) (held_ids names.entries (id ∷ draft_ids drafts.items) levels.levels) h.held free
-        (adds_building id names.entries (draft_ids drafts.items) levels.levels);
-    alone = λ k some. elim (cases_eq k id) [
-      | inl same ↦ ap (holders (opened p id)) same ∙ ap (λ (u : Held _). u.holders) (entry-with_entry_same p id fresh_text within)
-      | inr apart ↦
-          let other = one_other k id (λ e. apart (sym e)) in
-          let count_is = count-cons k id (draft_ids drafts.items) in
-          ap (λ (u : Held _). u.holders) (entry-with_entry_other p id k fresh_text apart) ∙ h.alone k (omega arith)
-    ];
-    pays = all_pay p (opened p id) levels.levels
-        (keeps_right p (opened p id) (draft_ids drafts.items) (ids_of levels.levels) (keeps_right p (opened p id) (values names.entries) (draft_ids drafts.items ++ ids_of levels.levels) kept_begun)) h.pays;
-    few_acts = h.few_acts;
-    charged =
-        let was = h.charged in
-        let more = charge_of-begun [] dv (stored_of p names.entries drafts.items levels beside limit) in
-        let is = ap charge_of begun_is in
-        omega arith;
-    within = room;
-    deep = h.deep;
-    small = h.small;
-    elements_suffice = h.elements_suffice;
-    slots_suffice = let slots = h.slots_suffice in let same = length-set p.texts id fresh_text in omega arith;
-    names_suffice = h.names_suffice;
-    drafts_suffice = h.drafts_suffice;
-    bytes_suffice = h.bytes_suffice;
-    beside_suffices = h.beside_suffices;
-  }
+  begun_stands room =
+      let held = held_opened p id (held_ids names.entries (draft_ids drafts.items) levels.levels) (held_ids names.entries (id ∷ draft_ids drafts.items) levels.levels) h.held free
+      (adds_building id names.entries (draft_ids drafts.items) levels.levels) in
+      let alone : (k : ℕ) → 0 < count k (draft_ids (new ∷ drafts.items)) → holders (opened p id) k ≡ 1 = λ k some. elim (cases_eq k id) [
+        | inl same ↦ ap (holders (opened p id)) same ∙ ap (λ (u : Held _). u.holders) (entry-with_entry_same p id fresh_text within)
+        | inr apart ↦
+            let other = one_other k id (λ e. apart (sym e)) in
+            let count_is = count-cons k id (draft_ids drafts.items) in
+            ap (λ (u : Held _). u.holders) (entry-with_entry_other p id k fresh_text apart) ∙ h.alone k (omega arith)
+      ] in
+      let charged : charge + 48 ≡ charge_of (stored_of (opened p id) names.entries (new ∷ drafts.items) levels beside limit) =
+      let was = h.charged in
+      let more = charge_of-begun [] dv (stored_of p names.entries drafts.items levels beside limit) in
+      let is = ap charge_of begun_is in
+      omega arith in
+      record {
+        held = held;
+        alone = alone;
+        pays = h.pays;
+        named = h.named;
+        few_acts = h.few_acts;
+        charged = charged;
+        once = charged_once (opened p id) names.entries (new ∷ drafts.items) levels beside (charge + 48) limit held alone h.pays h.named charged;
+        within = room;
+        deep = h.deep;
+        small = h.small;
+        elements_suffice = h.elements_suffice;
+        slots_suffice = let slots = h.slots_suffice in let same = length-set p.texts id fresh_text in omega arith;
+        names_suffice = h.names_suffice;
+        drafts_suffice = h.drafts_suffice;
+        bytes_suffice = h.bytes_suffice;
+        beside_suffices = h.beside_suffices;
+      }
 
 -- what texts being built are charged
 building_length : (bs : List Built) → 48 * length bs ≤ sum_by (λ (b : Built). weight b.text) bs
@@ -216,19 +221,23 @@ module _ {K : Type 0} (p : Texts Element) (names : Table Sense) (drafts : Items 
     pub grown_stands : charge + length xs ≤ limit → IsStore (with_text p d.id (text p d.id ++ xs)) names (record drafts { items = after ∷ ds }) levels beside (charge + length xs) limit
     unfolding grown
     grown_stands room =
-        let behind = keeps_right p grown (values names.entries) (draft_ids ds ++ ids_of levels.levels) kept_grown in
         let same_ids : draft_ids drafts.items ≡ d.id ∷ draft_ids ds = ap draft_ids first in
+        let held = subst (λ b. IsHeld grown (held_ids names.entries b levels.levels)) same_ids
+        (held_text p d.id (text p d.id ++ xs) (held_ids names.entries (draft_ids drafts.items) levels.levels) h.held (let some = one_holder in omega arith)) in
+        let alone : (k : ℕ) → 0 < count k (draft_ids (after ∷ ds)) → holders grown k ≡ 1 = λ k some. holders-with_text p d.id k (text p d.id ++ xs) ∙ h.alone k (let is = ap (count k) same_ids in omega arith) in
+        let charged : charge + length xs ≡ charge_of (stored_of grown names.entries (after ∷ ds) levels beside limit) =
+        let was = h.charged in
+        let more = charge_of-grown xs (built_of p d) (map (built_of p) ds) dv (stored_of p names.entries drafts.items levels beside limit) (ap (map (built_of p)) first) in
+        let is = ap charge_of grown_is in
+        omega arith in
         record {
-          held = subst (λ b. IsHeld grown (held_ids names.entries b levels.levels)) same_ids
-              (held_text p d.id (text p d.id ++ xs) (held_ids names.entries (draft_ids drafts.items) levels.levels) h.held (let some = one_holder in omega arith));
-          alone = λ k some. holders-with_text p d.id k (text p d.id ++ xs) ∙ h.alone k (let is = ap (count k) same_ids in omega arith);
-          pays = all_pay p grown levels.levels (keeps_right p grown (draft_ids ds) (ids_of levels.levels) behind) h.pays;
+          held = held;
+          alone = alone;
+          pays = h.pays;
+          named = h.named;
           few_acts = h.few_acts;
-          charged =
-              let was = h.charged in
-              let more = charge_of-grown xs (built_of p d) (map (built_of p) ds) dv (stored_of p names.entries drafts.items levels beside limit) (ap (map (built_of p)) first) in
-              let is = ap charge_of grown_is in
-              omega arith;
+          charged = charged;
+          once = charged_once grown names.entries (after ∷ ds) levels beside (charge + length xs) limit held alone h.pays h.named charged;
           within = room;
           deep = h.deep;
           small = h.small;

@@ -1,8 +1,8 @@
 -- Lemmas on how often a text is held.
-use Rattle.std.proofs.Common.{◌≡◌, ◌≢◌, ℕ, ◌+◌, ◌*◌, ◌-◌, ◌<◌, ◌≤◌, min, List, [], ◌∷◌, ◌++◌, length, get_or, set, sum_by, Some, refl, ap, sym, ◌∙◌, inl, inr, eqb, arith}
+use Rattle.std.proofs.Common.{◌≡◌, ◌≢◌, ℕ, ◌+◌, ◌*◌, ◌-◌, ◌<◌, ◌≤◌, min, List, [], ◌∷◌, ◌++◌, length, sum_by, Some, refl, ap, sym, ◌∙◌, inl, inr, eqb, arith}
 use Rattle.std.specs.List.{slice_get}
-use Rattle.std.proofs.lemmas.List.{get_or_default, length-set}
-use Rattle.std.proofs.lemmas.List.Sums.{sum_by-cons, sum_by-append, sum_by-set, sum_by-le, sum_by-le-sum_by}
+use Rattle.std.proofs.lemmas.List.{length-set}
+use Rattle.std.proofs.lemmas.List.Sums.{sum_by-cons, sum_by-append, sum_by-le-sum_by, get_or-le-sum_by}
 use Rattle.std.proofs.lemmas.Bool.{cases_lt, cases_eq, eq-eqb, ne_eqb, cond-true, cond-false}
 use Rattle.std.proofs.lemmas.Option.{slice_get_within, get_or_from_slice_get}
 use Rattle.nr_pool.specs.Texts.{Held, Texts, no_text, entry, text, holders, used, IsOpen, opened, with_text, with_holders, released}
@@ -28,9 +28,6 @@ count-append id js ks = sum_by-append (one id) js ks
 -- `more` has one text once more than `less`
 pub record AddsOne (id : ℕ) (less more : List ℕ) : Type 0 where
   pub counts : (k : ℕ) → count k more ≡ one k id + count k less
-
-pub adds_front : (id : ℕ) (ks : List ℕ) → AddsOne id ks (id ∷ ks)
-adds_front id ks = record { counts = λ k. count-cons k id ks }
 
 -- ---- what becomes of the holders
 
@@ -180,63 +177,18 @@ text_kept p id k is_open held = elim (cases_eq k id) [
   | inr apart ↦ ap (λ (u : Held _). u.elements) (entry-released_other p id k apart)
 ]
 
--- ---- the double count
+-- ---- what the pool's texts take
 
--- what a number of the pool costs
+-- what a number of the pool takes of its slots and elements
 abbrev pub cost : Held Element → ℕ
 cost t = 16 * min t.holders 1 + length t.elements
 
 abbrev pub costs : Texts Element → ℕ
 costs p = sum_by cost p.texts
 
--- what is owed for these, each as often as it is here
-abbrev pub owed : Texts Element → List ℕ → ℕ
-owed p ids = sum_by (λ id. share (text p id)) ids
-
-cost_released : (p : Texts Element) (id : ℕ) → IsOpen p id → costs p ≤ costs (released p id) + share (text p id)
-cost_released p id is_open =
-    let within = within_of_open p id is_open in
-    elim (cases_lt 1 (holders p id)) [
-      | inl more ↦
-          let t : Held Element = record { elements = text p id; holders = holders p id - 1 } in
-          let now : costs (released p id) ≡ sum_by cost (set p.texts id t) = ap costs (released-held p id more) in
-          let sum = sum_by-set cost p.texts id t no_text within in
-          omega arith
-      | inr last ↦
-          let now : costs (released p id) ≡ sum_by cost (set p.texts id no_text) = ap costs (released-last p id last) in
-          let sum = sum_by-set cost p.texts id no_text no_text within in
-          omega arith
-    ]
-
-owed_released : (p : Texts Element) (id : ℕ) (ids : List ℕ) → IsOpen p id → owed (released p id) ids ≤ owed p ids
-owed_released p id ids is_open = sum_by-le-sum_by (λ k. share (text (released p id) k)) (λ k. share (text p k)) ids (λ k. elim (cases_eq k id) [
-  | inl same ↦ elim (cases_lt 1 (holders p id)) [
-    | inl more ↦ let is : text (released p id) k ≡ text p k = ap (text (released p id)) same ∙ (let_go p id is_open).text_here more ∙ ap (text p) (sym same) in
-        let long : length (text (released p id) k) ≡ length (text p k) = ap length is in omega arith
-    | inr last ↦ let is : text (released p id) k ≡ [] = ap (text (released p id)) same ∙ (let_go p id is_open).text_gone last in
-        let long : length (text (released p id) k) ≡ 0 = ap length is in omega arith
-  ]
-  | inr apart ↦ let long : length (text (released p id) k) ≡ length (text p k) = ap (λ (u : Held _). length u.elements) (entry-released_other p id k apart) in omega arith
-])
-
--- the pool's texts cost no more than is owed for all that hold them
-pub costs-le : (ids : List ℕ) (p : Texts Element) → IsHeld p ids → costs p ≤ owed p ids
-costs-le [] p h =
-    let most = sum_by-le cost 0 p.texts (λ k d below.
-    let none : holders p k ≡ 0 = h.held k in
-    let bare : length (text p k) ≡ 0 = ap length (h.bare k none) in
-    let same = get_or_default p.texts k d no_text below in
-    let is : cost (get_or p.texts k d) ≡ cost (entry p k) = ap cost same in
-    omega arith) in
-    omega arith
-costs-le (id ∷ ids) p h =
-    let adds = adds_front id ids in
-    let is_open = open_of_adds p id ids (id ∷ ids) h adds in
-    let rest = costs-le ids (released p id) (held_less p id ids (id ∷ ids) h adds) in
-    let one_more = cost_released p id is_open in
-    let less = owed_released p id ids is_open in
-    let sum = sum_by-cons (λ k. share (text p k)) id ids in
-    omega arith
+-- a text that is held costs this much
+pub cost_in : (p : Texts Element) (id : ℕ) → IsOpen p id → share (text p id) ≤ costs p
+cost_in p id is_open = let most = get_or-le-sum_by cost p.texts id no_text (within_of_open p id is_open) in omega arith
 
 pub used-le : (p : Texts Element) → used p ≤ costs p
 used-le p = sum_by-le-sum_by (λ (t : Held Element). length t.elements) cost p.texts (λ t. omega arith)

@@ -1,8 +1,9 @@
 -- Lemmas on names that are given, taken and changed.
-use Rattle.std.proofs.Common.{◌≡◌, ℕ, ◌+◌, ◌*◌, ◌<◌, ◌≤◌, List, [], ◌∷◌, ◌++◌, length, map, sum_by, Some, None, refl, ap, ap₂, sym, ◌∙◌, arith}
+use Rattle.std.proofs.Common.{◌≡◌, ℕ, ◌+◌, ◌*◌, ◌<◌, ◌≤◌, List, [], ◌∷◌, ◌++◌, length, map, sum_by, Some, None, refl, ap, ap₂, sym, ◌∙◌, inl, inr, arith}
+use Rattle.std.proofs.lemmas.Bool.{cases_lt, cases_eq}
 use Rattle.std.proofs.lemmas.List.Sums.{sum_by-cons}
 use Rattle.nr_units.specs.Items.{Items}
-use Rattle.nr_pool.specs.Texts.{Texts, text, IsOpen, released}
+use Rattle.nr_pool.specs.Texts.{Texts, text, holders, IsOpen, released}
 use Rattle.nr_tables.specs.Named.{Named, find, put}
 use Rattle.nr_tables.specs.Rows.{Table}
 use Rattle.nr_levels.specs.Levels.{Open, Levels}
@@ -12,11 +13,12 @@ use Rattle.nr_store.specs.declared.element.Element.{Element}
 use Rattle.nr_store.specs.declared.element.Draft.{Draft}
 use Rattle.nr_store.specs.declared.request.TheConstants.{REQUESTS}
 use Rattle.nr_store.specs.Senses.{act}
-use Rattle.nr_store.specs.Stored.{Means, weight_of, Built, charge_of, weight, defined}
-use Rattle.nr_store.specs.Holders.{Beside, acts, means_of, named_means, built_of, stored_of, one, count, ids_of, values, draft_ids, held_ids, IsHeld, IsStore}
-use Rattle.nr_store.proofs.Counting.{AddsOne, count-cons, count-append, held_less, open_of_adds, text_kept, released_capacity, released_slots}
-use Rattle.nr_store.proofs.Keeping.{Keeps, keeps_right, same_view, all_pay}
-use Rattle.nr_store.proofs.Naming.{ones, sum_of, put_sum, put_sum_new, put-map, count-values}
+use Rattle.nr_store.specs.Stored.{Means, weight_of, Built, charge_of, weight, without_name, defined}
+use Rattle.nr_store.specs.Holders.{Beside, acts, means_of, named_means, built_of, stored_of, one, count, ids_of, values, draft_ids, held_ids, AreNamed, IsHeld, IsStore}
+use Rattle.nr_store.proofs.Counting.{AddsOne, one_same, one_other, count-cons, count-append, held_less, open_of_adds, text_kept, released_capacity, released_slots}
+use Rattle.nr_store.proofs.Keeping.{Keeps, same_view, charged_once}
+use Rattle.nr_store.proofs.Naming.{ones, sum_of, put_sum, put_sum_new, without_sum, put-map, count-values}
+use Rattle.nr_store.proofs.Sharing.{texts_charge, charge_same, texts_named, name_for-put_other, put_named}
 
 -- what a name's meaning is charged
 abbrev pub cost_of : Texts Element → Sense → ℕ
@@ -68,26 +70,60 @@ module _ {K : Type 0} (p : Texts Element) (names : Table Sense) (drafts : Items 
       let room = h.names_suffice in
       omega arith
 
-  module _ (ns : List (Named Sense)) (ds : List Draft) (fewer : (k : ℕ) → 0 < count k (draft_ids ds) → 0 < count k (draft_ids drafts.items)) (few : acts ns ≤ length REQUESTS) where
+  -- a text that a level reads is not being built
+  pub unbuilt : (k : ℕ) → 0 < count k (ids_of levels.levels) → count k (draft_ids drafts.items) ≡ 0
+  unbuilt k some =
+      let held = h.held.held k in
+      let all = count-held k names.entries (draft_ids drafts.items) levels.levels in
+      elim (cases_lt 0 (count k (draft_ids drafts.items))) [
+        | inl built ↦ let one_holder = h.alone k built in absurd (omega (arith, held, all, one_holder, some, built))
+        | inr none ↦ omega (arith, none)
+      ]
+
+  -- what names hold of the texts that levels read
+  pub values_of : (ns : List (Named Sense)) (ds : List Draft) → ((k : ℕ) → 0 < count k (draft_ids ds) → 0 < count k (draft_ids drafts.items)) → (k n : ℕ)
+      → count k (held_ids names.entries (draft_ids drafts.items) levels.levels) ≡ n + count k (held_ids ns (draft_ids ds) levels.levels) → 0 < count k (ids_of levels.levels)
+      → count k (values names.entries) ≡ n + count k (values ns)
+  values_of ns ds fewer k n counts some =
+      let before = count-held k names.entries (draft_ids drafts.items) levels.levels in
+      let after = count-held k ns (draft_ids ds) levels.levels in
+      let values_before = count-values k names.entries in
+      let values_after = count-values k ns in
+      let none = unbuilt k some in
+      elim (cases_lt 0 (count k (draft_ids ds))) [
+        | inl built ↦ let was = fewer k built in absurd (omega (arith, was, none))
+        | inr no_more ↦ omega (arith, counts, before, after, values_before, values_after, none, no_more)
+      ]
+
+  pub texts_same : (ns : List (Named Sense)) (ds : List Draft) → ((k : ℕ) → 0 < count k (draft_ids ds) → 0 < count k (draft_ids drafts.items))
+      → ((k : ℕ) → count k (held_ids names.entries (draft_ids drafts.items) levels.levels) ≡ count k (held_ids ns (draft_ids ds) levels.levels)) → texts_charge p ns levels.levels ≡ texts_charge p names.entries levels.levels
+  texts_same ns ds fewer counts = charge_same p names.entries ns levels.levels (λ k some. let is = values_of ns ds fewer k 0 (let same = counts k in omega arith) some in omega arith)
+
+  module _ (ns : List (Named Sense)) (ds : List Draft) (fewer : (k : ℕ) → 0 < count k (draft_ids ds) → 0 < count k (draft_ids drafts.items)) (few : acts ns ≤ length REQUESTS) (named : AreNamed ns) where
     -- the same texts are held as often
     pub moved_stands : ((k : ℕ) → count k (held_ids names.entries (draft_ids drafts.items) levels.levels) ≡ count k (held_ids ns (draft_ids ds) levels.levels)) → (now : ℕ) → now ≡ charge_of (stored_of p ns ds levels beside limit) → now ≤ limit
         → IsStore p (record names { entries = ns }) (record drafts { items = ds }) levels beside now limit
-    moved_stands counts now charged fits = record {
-      held = record { held = λ k. h.held.held k ∙ counts k; bare = h.held.bare };
-      alone = λ k some. h.alone k (fewer k some);
-      pays = h.pays;
-      few_acts = few;
-      charged = charged;
-      within = fits;
-      deep = h.deep;
-      small = h.small;
-      elements_suffice = h.elements_suffice;
-      slots_suffice = h.slots_suffice;
-      names_suffice = h.names_suffice;
-      drafts_suffice = h.drafts_suffice;
-      bytes_suffice = h.bytes_suffice;
-      beside_suffices = h.beside_suffices;
-    }
+    moved_stands counts now charged fits =
+        let held : IsHeld p (held_ids ns (draft_ids ds) levels.levels) = record { held = λ k. h.held.held k ∙ counts k; bare = h.held.bare } in
+        let alone : (k : ℕ) → 0 < count k (draft_ids ds) → holders p k ≡ 1 = λ k some. h.alone k (fewer k some) in
+        record {
+          held = held;
+          alone = alone;
+          pays = h.pays;
+          named = named;
+          few_acts = few;
+          charged = charged;
+          once = charged_once p ns ds levels beside now limit held alone h.pays named charged;
+          within = fits;
+          deep = h.deep;
+          small = h.small;
+          elements_suffice = h.elements_suffice;
+          slots_suffice = h.slots_suffice;
+          names_suffice = h.names_suffice;
+          drafts_suffice = h.drafts_suffice;
+          bytes_suffice = h.bytes_suffice;
+          beside_suffices = h.beside_suffices;
+        }
 
     -- one text is held once less
     module _ (old : ℕ) (counts : AddsOne old (held_ids ns (draft_ids ds) levels.levels) (held_ids names.entries (draft_ids drafts.items) levels.levels)) where
@@ -106,19 +142,22 @@ module _ {K : Type 0} (p : Texts Element) (names : Table Sense) (drafts : Items 
       pub released_stands : (now : ℕ) → now ≡ charge_of (stored_of p ns ds levels beside limit) → now ≤ charge → IsStore (released p old) (record names { entries = ns }) (record drafts { items = ds }) levels beside now limit
       released_stands now charged less =
           let within = h.within in
-          let behind = keeps_right p (released p old) (values ns) (draft_ids ds ++ ids_of levels.levels) keeps_now in
+          let alone : (k : ℕ) → 0 < count k (draft_ids ds) → holders (released p old) k ≡ 1 = λ k some.
+          let one_before = h.alone k (fewer k some) in
+          let before = h.held.held k in
+          let now_held = held_now.held k in
+          let add = counts.counts k in
+          let all = count-held k ns (draft_ids ds) levels.levels in
+          omega arith in
+          let charged_now = charged ∙ ap charge_of (sym released_view) in
           record {
             held = held_now;
-            alone = λ k some.
-                let one_before = h.alone k (fewer k some) in
-                let before = h.held.held k in
-                let now_held = held_now.held k in
-                let add = counts.counts k in
-                let all = count-held k ns (draft_ids ds) levels.levels in
-                omega arith;
-            pays = all_pay p (released p old) levels.levels (keeps_right p (released p old) (draft_ids ds) (ids_of levels.levels) behind) h.pays;
+            alone = alone;
+            pays = h.pays;
+            named = named;
             few_acts = few;
-            charged = charged ∙ ap charge_of (sym released_view);
+            charged = charged_now;
+            once = charged_once (released p old) ns ds levels beside now limit held_now alone h.pays named charged_now;
             within = omega arith;
             deep = h.deep;
             small = h.small;
@@ -138,9 +177,40 @@ module _ {K : Type 0} (p : Texts Element) (names : Table Sense) (drafts : Items 
         let all = count-cons k d.id (draft_ids ds) in
         omega arith
 
+    drafted : 0 < count d.id (draft_ids drafts.items)
+    drafted =
+        let is : count d.id (draft_ids drafts.items) ≡ count d.id (d.id ∷ draft_ids ds) = ap (λ b. count d.id (draft_ids b)) first in
+        omega (arith, is, count-cons d.id d.id (draft_ids ds), one_same d.id d.id refl)
+
+    unnamed : count d.id (values names.entries) ≡ 0
+    unnamed =
+        let one_holder = h.alone d.id drafted in
+        let held = h.held.held d.id in
+        let all = count-held d.id names.entries (draft_ids drafts.items) levels.levels in
+        let of_names = count-values d.id names.entries in
+        omega (arith, one_holder, held, all, of_names, drafted)
+
+    free : (k : ℕ) → 0 < ones k (senses.Text d.id) → count k (values names.entries) ≡ 0
+    free k some = elim (cases_eq d.id k) [
+      | inl same ↦ ap (λ j. count j (values names.entries)) (sym same) ∙ unnamed
+      | inr apart ↦ absurd (omega (arith, some, count-cons k d.id [], one_other k d.id apart))
+    ]
+
+    other : (k : ℕ) → 0 < count k (ids_of levels.levels) → ones k (senses.Text d.id) ≡ 0
+    other k some =
+        let none = unbuilt k some in
+        elim (cases_eq d.id k) [
+          | inl same ↦ let is : count k (draft_ids drafts.items) ≡ count d.id (draft_ids drafts.items) = ap (λ j. count j (draft_ids drafts.items)) (sym same) in absurd (omega (arith, none, is, drafted))
+          | inr apart ↦ omega (arith, count-cons k d.id [], one_other k d.id apart)
+        ]
+
+    pub new_named : AreNamed (put name (senses.Text d.id) names.entries)
+    new_named = put_named name (senses.Text d.id) names.entries h.named free
+
     pub defined_is : stored_of p (put name (senses.Text d.id) names.entries) ds levels beside limit ≡ defined name (stored_of p names.entries drafts.items levels beside limit)
     defined_is =
-        ap (λ ns. record (stored_of p names.entries ds levels beside limit) { names = ns }) (put-map (means_of p) name (senses.Text d.id) names.entries)
+        ap₂ (λ ns ts. record (stored_of p names.entries ds levels beside limit) { names = ns; texts = ts }) (put-map (means_of p) name (senses.Text d.id) names.entries)
+        (texts_named (without_name name) refl p names.entries (put name (senses.Text d.id) names.entries) levels.levels (λ k some. name_for-put_other name (senses.Text d.id) names.entries h.named free k (other k some)))
         ∙ ap (λ b. defined name (stored_of p names.entries b levels beside limit)) (sym first)
 
     before : (k : ℕ) → count k (held_ids names.entries (draft_ids drafts.items) levels.levels) ≡ sum_of (ones k) names.entries + ((one k d.id + count k (draft_ids ds)) + count k (ids_of levels.levels))
@@ -165,6 +235,7 @@ module _ {K : Type 0} (p : Texts Element) (names : Table Sense) (drafts : Items 
         let of_names = names_charge p names.entries in
         let of_new = names_charge p (put name (senses.Text d.id) names.entries) in
         let sums = put_sum_new (cost_of p) name (senses.Text d.id) names.entries none in
+        let texts = texts_same (put name (senses.Text d.id) names.entries) ds fewer_built (new_counts none) in
         let of_built = built in
         omega arith
 
@@ -183,7 +254,8 @@ module _ {K : Type 0} (p : Texts Element) (names : Table Sense) (drafts : Items 
         let sums = put_sum (ones k) name (senses.Text d.id) old names.entries some in
         omega arith
 
-    pub again_charge : (old : Sense) → find name names.entries ≡ Some old → charge ≡ charge_of (stored_of p (put name (senses.Text d.id) names.entries) ds levels beside limit) + cost_of p old
+    pub again_charge : (old : Sense) → find name names.entries ≡ Some old → charge + texts_charge p (put name (senses.Text d.id) names.entries) levels.levels
+        ≡ charge_of (stored_of p (put name (senses.Text d.id) names.entries) ds levels beside limit) + texts_charge p names.entries levels.levels + cost_of p old
     again_charge old some =
         let was = h.charged in
         let of_names = names_charge p names.entries in
@@ -191,6 +263,9 @@ module _ {K : Type 0} (p : Texts Element) (names : Table Sense) (drafts : Items 
         let sums = put_sum (cost_of p) name (senses.Text d.id) old names.entries some in
         let of_built = built in
         omega arith
+
+    pub again_held : (old : Sense) → find name names.entries ≡ Some old → (k : ℕ) → ones k old ≤ count k (values names.entries)
+    again_held old some k = let is = count-values k names.entries in let sums = without_sum (ones k) name old names.entries some in omega arith
 
     pub again_acts : (old : Sense) → find name names.entries ≡ Some old → acts (put name (senses.Text d.id) names.entries) ≤ length REQUESTS
     again_acts old some =

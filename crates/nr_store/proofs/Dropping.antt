@@ -1,5 +1,6 @@
 -- Lemmas on calls that take a text's name away.
-use Rattle.std.proofs.Common.{◌≡◌, ℕ, ◌+◌, ◌-◌, ◌<◌, ◌≤◌, List, [], ◌∷◌, length, drop, Option, Some, None, ap, sym, ◌∙◌, arith}
+use Rattle.std.proofs.Common.{◌≡◌, ℕ, ◌+◌, ◌-◌, ◌<◌, ◌≤◌, List, [], ◌∷◌, length, drop, Option, Some, None, refl, ap, ap₂, sym, ◌∙◌, inl, inr, arith}
+use Rattle.std.proofs.lemmas.Bool.{cases_lt}
 use Rattle.std.specs.List.{slice_get}
 use Rattle.std.specs.Option.{option_map}
 use Rattle.nr_units.specs.Items.{Items}
@@ -14,30 +15,37 @@ use Rattle.nr_store.specs.declared.element.Draft.{Draft}
 use Rattle.nr_store.specs.declared.request.Request.{Request}
 use Rattle.nr_store.specs.declared.request.TheConstants.{REQUESTS}
 use Rattle.nr_store.specs.Senses.{act}
-use Rattle.nr_store.specs.Stored.{Stored, charge_of, weight, defined, removed, moved}
-use Rattle.nr_store.specs.Holders.{Beside, acts, means_of, stored_of, count, draft_ids, held_ids, IsStore}
-use Rattle.nr_store.proofs.Counting.{AddsOne, count-cons}
+use Rattle.nr_store.specs.Stored.{Stored, charge_of, weight, share, without_name, with_name, defined, removed, moved}
+use Rattle.nr_store.specs.Holders.{Beside, acts, means_of, stored_of, one, count, ids_of, values, draft_ids, held_ids, AreNamed, IsStore, lone}
+use Rattle.nr_store.proofs.Counting.{AddsOne, one_same, count-cons}
+use Rattle.nr_store.proofs.Keeping.{share_paid}
+use Rattle.nr_store.proofs.Sharing.{texts_charge, charge_lost, lone_is, texts_named, name_for-without, without_named, name_for-moved, moved_named}
 use Rattle.nr_store.proofs.Building.{cons_of}
-use Rattle.nr_store.proofs.Naming.{ones, sum_of, put_sum, put_sum_new, put-map, without_sum, without_none, without-map, find-map}
-use Rattle.nr_store.proofs.Defining.{cost_of, cost_acts, names_charge, names_length, count-held, moved_stands, old_open, released_view, released_stands, fewer_built, defined_is, new_counts, new_charge, new_acts, again_counts, again_charge, again_acts}
+use Rattle.nr_store.proofs.Naming.{ones, sum_of, put_sum, put_sum_new, put-map, without_sum, without_none, without-map, find-map, count-values}
+use Rattle.nr_store.proofs.Defining.{cost_of, cost_acts, names_charge, names_length, count-held, moved_stands, old_open, released_view, released_stands, values_of, texts_same, fewer_built, defined_is, new_counts, new_charge, new_acts, new_named, again_counts, again_charge, again_held, again_acts}
 
 -- where a text is let go
 pub record Dropped {K : Type 0} (p : Texts Element) (names : Table Sense) (drafts : Items Draft) (levels : Levels K) (beside : Beside) (charge limit : ℕ) (ns : List (Named Sense)) (ds : List Draft) (old : ℕ) (v : Stored K) : Type 0 where
   pub is_open : IsOpen p old
-  pub weighs : weight (text p old) ≤ charge
-  pub stands : IsStore (released p old) (record names { entries = ns }) (record drafts { items = ds }) levels beside (charge - weight (text p old)) limit
+  pub short : share (text p old) ≤ charge
+  pub weighs : 32 + lone p old ≤ charge
+  pub stands : IsStore (released p old) (record names { entries = ns }) (record drafts { items = ds }) levels beside (charge - (32 + lone p old)) limit
   pub is : stored_of (released p old) ns ds levels beside limit ≡ v
+  pub no_more : charge_of (stored_of (released p old) ns ds levels beside limit) ≤ charge_of (stored_of p names.entries drafts.items levels beside limit)
 
 -- where none is
 pub record Moved {K : Type 0} (p : Texts Element) (names : Table Sense) (drafts : Items Draft) (levels : Levels K) (beside : Beside) (charge limit : ℕ) (ns : List (Named Sense)) (ds : List Draft) (v : Stored K) : Type 0 where
   pub stands : IsStore p (record names { entries = ns }) (record drafts { items = ds }) levels beside charge limit
   pub is : stored_of p ns ds levels beside limit ≡ v
+  pub no_more : charge_of (stored_of p ns ds levels beside limit) ≤ charge_of (stored_of p names.entries drafts.items levels beside limit)
 
 -- where what a name stood for is given up
 pub record Changed {K : Type 0} (p : Texts Element) (names : Table Sense) (drafts : Items Draft) (levels : Levels K) (beside : Beside) (charge limit : ℕ) (ns : List (Named Sense)) (ds : List Draft) (old : Sense) (v : Stored K) : Type 0 where
   pub fewer : (k : ℕ) → 0 < count k (draft_ids ds) → 0 < count k (draft_ids drafts.items)
   pub counts : (k : ℕ) → count k (held_ids names.entries (draft_ids drafts.items) levels.levels) ≡ ones k old + count k (held_ids ns (draft_ids ds) levels.levels)
-  pub cost : charge ≡ charge_of (stored_of p ns ds levels beside limit) + cost_of p old
+  pub held : (k : ℕ) → ones k old ≤ count k (values names.entries)
+  pub cost : charge + texts_charge p ns levels.levels ≡ charge_of (stored_of p ns ds levels beside limit) + texts_charge p names.entries levels.levels + cost_of p old
+  pub named : AreNamed ns
   pub few : acts ns ≤ length REQUESTS
   pub is : stored_of p ns ds levels beside limit ≡ v
 
@@ -49,11 +57,31 @@ module _ {K : Type 0} (p : Texts Element) (names : Table Sense) (drafts : Items 
       record { counts = λ k. let all = c.counts k in let this : ones k old ≡ count k (id ∷ []) = ap (ones k) is in let one_id = count-cons k id [] in omega arith } in
       let cost = c.cost in
       let this : cost_of p old ≡ weight (text p id) = ap (cost_of p) is in
+      let is_open = old_open p names drafts levels beside charge limit h ns ds c.fewer c.few c.named id counts in
+      let lost = charge_lost p names.entries ns id (h.named.single id) levels.levels (λ k some.
+      values_of p names drafts levels beside charge limit h ns ds c.fewer k (one k id) (counts.counts k) some) in
+      let here : ones id old ≡ 1 = ap (ones id) is ∙ (let e : count id (id ∷ []) ≡ 1 = omega (arith, count-cons id id [], one_same id id refl) in e) in
+      let was_held = c.held id in
+      let holders_are = h.held.held id in
+      let all = count-held id names.entries (draft_ids drafts.items) levels.levels in
+      let of_names = count-values id names.entries in
+      let single = h.named.single id in
+      let unbuilt_now : count id (draft_ids drafts.items) ≡ 0 = elim (cases_lt 0 (count id (draft_ids drafts.items))) [
+        | inl built ↦ let one_holder = h.alone id built in
+            let after = count-held id ns (draft_ids ds) levels.levels in
+            absurd (omega (arith, one_holder, built, holders_are, all, of_names, was_held, here))
+        | inr none ↦ omega (arith, none)
+      ] in
+      let pays = lone_is p id (ids_of levels.levels) (omega (arith, holders_are, all, of_names, single, was_held, here, unbuilt_now)) in
+      let kept = share_paid p names drafts levels beside charge limit id h is_open in
+      let stands = released_stands p names drafts levels beside charge limit h ns ds c.fewer c.few c.named id counts (charge - (32 + lone p id)) (omega arith) (omega arith) in
       record {
-        is_open = old_open p names drafts levels beside charge limit h ns ds c.fewer c.few id counts;
+        short = kept;
+        is_open = is_open;
         weighs = omega arith;
-        stands = released_stands p names drafts levels beside charge limit h ns ds c.fewer c.few id counts (charge - weight (text p id)) (omega arith) (omega arith);
-        is = released_view p names drafts levels beside charge limit h ns ds c.fewer c.few id counts ∙ c.is;
+        stands = stands;
+        is = released_view p names drafts levels beside charge limit h ns ds c.fewer c.few c.named id counts ∙ c.is;
+        no_more = omega (arith, h.charged, stands.charged);
       }
 
   pub request_given_up : (r : Request) → old ≡ senses.Request r → Moved p names drafts levels beside charge limit ns ds v
@@ -61,9 +89,13 @@ module _ {K : Type 0} (p : Texts Element) (names : Table Sense) (drafts : Items 
       let cost = c.cost in
       let within = h.within in
       let this : cost_of p old ≡ 0 = ap (cost_of p) is in
+      let counts : (k : ℕ) → count k (held_ids names.entries (draft_ids drafts.items) levels.levels) ≡ count k (held_ids ns (draft_ids ds) levels.levels) = λ k. let all = c.counts k in let none : ones k old ≡ 0 = ap (ones k) is in omega arith in
+      let texts = texts_same p names drafts levels beside charge limit h ns ds c.fewer counts in
+      let stands = moved_stands p names drafts levels beside charge limit h ns ds c.fewer c.few c.named counts charge (omega arith) within in
       record {
-        stands = moved_stands p names drafts levels beside charge limit h ns ds c.fewer c.few (λ k. let all = c.counts k in let none : ones k old ≡ 0 = ap (ones k) is in omega arith) charge (omega arith) within;
+        stands = stands;
         is = c.is;
+        no_more = omega (arith, h.charged, stands.charged);
       }
 
 -- ---- the newest text being built gets a name
@@ -79,11 +111,14 @@ module _ {K : Type 0} (p : Texts Element) (names : Table Sense) (drafts : Items 
   pub defined_new : o ≡ None → Moved p names drafts levels beside charge limit (put name (senses.Text d.id) names.entries) (drop 1 drafts.items) (defined name v)
   defined_new none =
       let missed = sym was ∙ none in
+      let stands = moved_stands p names drafts levels beside charge limit h (put name (senses.Text d.id) names.entries) (drop 1 drafts.items) (fewer_built p names drafts levels beside charge limit h name d (drop 1 drafts.items) first)
+      (new_acts p names drafts levels beside charge limit h name d (drop 1 drafts.items) first missed)
+      (new_named p names drafts levels beside charge limit h name d (drop 1 drafts.items) first)
+      (new_counts p names drafts levels beside charge limit h name d (drop 1 drafts.items) first missed) charge
+      (new_charge p names drafts levels beside charge limit h name d (drop 1 drafts.items) first missed) h.within in
       record {
-        stands = moved_stands p names drafts levels beside charge limit h (put name (senses.Text d.id) names.entries) (drop 1 drafts.items) (fewer_built p names drafts levels beside charge limit h name d (drop 1 drafts.items) first)
-            (new_acts p names drafts levels beside charge limit h name d (drop 1 drafts.items) first missed)
-            (new_counts p names drafts levels beside charge limit h name d (drop 1 drafts.items) first missed) charge
-            (new_charge p names drafts levels beside charge limit h name d (drop 1 drafts.items) first missed) h.within;
+        stands = stands;
+        no_more = omega (arith, h.charged, stands.charged);
         is = defined_is p names drafts levels beside charge limit h name d (drop 1 drafts.items) first ∙ ap (defined name) view;
       }
 
@@ -93,24 +128,32 @@ module _ {K : Type 0} (p : Texts Element) (names : Table Sense) (drafts : Items 
       record {
         fewer = fewer_built p names drafts levels beside charge limit h name d (drop 1 drafts.items) first;
         counts = again_counts p names drafts levels beside charge limit h name d (drop 1 drafts.items) first old found;
+        held = again_held p names drafts levels beside charge limit h name d (drop 1 drafts.items) first old found;
         cost = again_charge p names drafts levels beside charge limit h name d (drop 1 drafts.items) first old found;
+        named = new_named p names drafts levels beside charge limit h name d (drop 1 drafts.items) first;
         few = again_acts p names drafts levels beside charge limit h name d (drop 1 drafts.items) first old found;
         is = defined_is p names drafts levels beside charge limit h name d (drop 1 drafts.items) first ∙ ap (defined name) view;
       }
 
 -- ---- a name is taken away
 
-pub taken_is : {K : Type 0} (p : Texts Element) (names : List (Named Sense)) (drafts : List Draft) (levels : Levels K) (beside : Beside) (limit : ℕ) (name : List ℕ) (v : Stored K) → stored_of p names drafts levels beside limit ≡ v
+pub taken_is : {K : Type 0} (p : Texts Element) (names : List (Named Sense)) (drafts : List Draft) (levels : Levels K) (beside : Beside) (limit : ℕ) (name : List ℕ) (v : Stored K) → AreNamed names → stored_of p names drafts levels beside limit ≡ v
     → stored_of p (without name names) drafts levels beside limit ≡ removed name v
-taken_is p names drafts levels beside limit name v view =
-    ap (λ ns. record (stored_of p names drafts levels beside limit) { names = ns }) (without-map (means_of p) name names) ∙ ap (removed name) view
+taken_is p names drafts levels beside limit name v named view =
+    ap₂ (λ ns ts. record (stored_of p names drafts levels beside limit) { names = ns; texts = ts }) (without-map (means_of p) name names)
+    (texts_named (without_name name) refl p names (without name names) levels.levels (λ k some. name_for-without name names named k))
+    ∙ ap (removed name) view
 
 module _ {K : Type 0} (p : Texts Element) (names : Table Sense) (drafts : Items Draft) (levels : Levels K) (beside : Beside) (charge limit : ℕ) (name : List ℕ) (o : Option Sense) (v : Stored K)
     (h : IsStore p names drafts levels beside charge limit) (view : stored_of p names.entries drafts.items levels beside limit ≡ v) (was : o ≡ find name names.entries) where
   pub taken_none : o ≡ None → Moved p names drafts levels beside charge limit (without name names.entries) drafts.items (removed name v)
   taken_none none =
       let same = without_none name names.entries (sym was ∙ none) in
-      record { stands = rw same h; is = taken_is p names.entries drafts.items levels beside limit name v view }
+      record {
+        stands = rw same h;
+        is = taken_is p names.entries drafts.items levels beside limit name v h.named view;
+        no_more = rw same (omega arith);
+      }
 
   pub taken_some : (old : Sense) → o ≡ Some old → Changed p names drafts levels beside charge limit (without name names.entries) drafts.items old (removed name v)
   taken_some old some =
@@ -128,8 +171,10 @@ module _ {K : Type 0} (p : Texts Element) (names : Table Sense) (drafts : Items 
             let of_rest = names_charge p (without name names.entries) in
             let sum = sums (cost_of p) in
             omega arith;
+        held = λ k. let is = count-values k names.entries in let sum = sums (ones k) in omega arith;
+        named = without_named name names.entries h.named;
         few = let few = h.few_acts in let sum = sums act in omega arith;
-        is = taken_is p names.entries drafts.items levels beside limit name v view;
+        is = taken_is p names.entries drafts.items levels beside limit name v h.named view;
       }
 
 -- ---- a name is changed
@@ -140,12 +185,16 @@ module _ {K : Type 0} (p : Texts Element) (names : Table Sense) (drafts : Items 
   changed_is : stored_of p (put to m (without from names.entries)) drafts.items levels beside limit ≡ moved (find from v.names) from to v
   changed_is =
       let there : find from v.names ≡ Some (means_of p m) = ap (λ (w : Stored _). find from w.names) (sym view) ∙ find-map (means_of p) from names.entries ∙ ap (option_map (means_of p)) (sym was ∙ some) in
-      ap (λ ns. record (stored_of p names.entries drafts.items levels beside limit) { names = ns }) (put-map (means_of p) to m (without from names.entries))
-      ∙ ap (λ ns. record (stored_of p names.entries drafts.items levels beside limit) { names = put to (means_of p m) ns }) (without-map (means_of p) from names.entries)
+      ap₂ (λ ns ts. record (stored_of p names.entries drafts.items levels beside limit) { names = ns; texts = ts })
+      (put-map (means_of p) to m (without from names.entries) ∙ ap (put to (means_of p m)) (without-map (means_of p) from names.entries))
+      (texts_named (with_name from to) refl p names.entries (put to m (without from names.entries)) levels.levels (λ k _. name_for-moved from to m names.entries h.named (sym was ∙ some) k))
       ∙ ap (moved (Some (means_of p m)) from to) view ∙ sym (ap (λ t. moved t from to v) there)
 
   left_sum : (f : Sense → ℕ) → sum_of f (without from names.entries) + f m ≡ sum_of f names.entries
   left_sum f = without_sum f from m names.entries (sym was ∙ some)
+
+  again_named : AreNamed (put to m (without from names.entries))
+  again_named = moved_named from to m names.entries h.named (sym was ∙ some)
 
   pub room_again : length (without from names.entries) < names.room
   room_again =
@@ -163,21 +212,26 @@ module _ {K : Type 0} (p : Texts Element) (names : Table Sense) (drafts : Items 
   pub changed_new : q ≡ None → Moved p names drafts levels beside charge limit (put to m (without from names.entries)) drafts.items (moved (find from v.names) from to v)
   changed_new none =
       let new_sum : (f : Sense → ℕ) → sum_of f (put to m (without from names.entries)) ≡ sum_of f names.entries = λ f. let sum = left_sum f in let again = put_sum_new f to m (without from names.entries) (sym next ∙ none) in omega arith in
+      let counts : (k : ℕ) → count k (held_ids names.entries (draft_ids drafts.items) levels.levels) ≡ count k (held_ids (put to m (without from names.entries)) (draft_ids drafts.items) levels.levels) = λ k.
+      let before = count-held k names.entries (draft_ids drafts.items) levels.levels in
+      let after = count-held k (put to m (without from names.entries)) (draft_ids drafts.items) levels.levels in
+      let sum = new_sum (ones k) in
+      omega arith in
+      let texts = texts_same p names drafts levels beside charge limit h (put to m (without from names.entries)) drafts.items (λ k counted. counted) counts in
+      let stands = moved_stands p names drafts levels beside charge limit h (put to m (without from names.entries)) drafts.items (λ k counted. counted)
+      (let few = h.few_acts in let sum = new_sum act in omega arith)
+      again_named
+      counts
+      charge
+      (let charged = h.charged in
+      let of_names = names_charge p names.entries in
+      let of_rest = names_charge p (put to m (without from names.entries)) in
+      let sum = new_sum (cost_of p) in
+      omega arith)
+      h.within in
       record {
-        stands = moved_stands p names drafts levels beside charge limit h (put to m (without from names.entries)) drafts.items (λ k counted. counted)
-            (let few = h.few_acts in let sum = new_sum act in omega arith)
-            (λ k.
-            let before = count-held k names.entries (draft_ids drafts.items) levels.levels in
-            let after = count-held k (put to m (without from names.entries)) (draft_ids drafts.items) levels.levels in
-            let sum = new_sum (ones k) in
-            omega arith)
-            charge
-            (let charged = h.charged in
-            let of_names = names_charge p names.entries in
-            let of_rest = names_charge p (put to m (without from names.entries)) in
-            let sum = new_sum (cost_of p) in
-            omega arith)
-            h.within;
+        stands = stands;
+        no_more = omega (arith, h.charged, stands.charged);
         is = changed_is;
       }
 
@@ -197,6 +251,12 @@ module _ {K : Type 0} (p : Texts Element) (names : Table Sense) (drafts : Items 
             let of_rest = names_charge p (put to m (without from names.entries)) in
             let sum = new_sum (cost_of p) in
             omega arith;
+        held = λ k.
+            let is = count-values k names.entries in
+            let sum = left_sum (ones k) in
+            let again = without_sum (ones k) to old (without from names.entries) (sym next ∙ taken) in
+            omega arith;
+        named = again_named;
         few = let few = h.few_acts in let sum = new_sum act in omega arith;
         is = changed_is;
       }

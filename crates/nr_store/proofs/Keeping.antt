@@ -1,8 +1,10 @@
 -- Lemmas on what stays where the pool's texts change.
-use Rattle.std.proofs.Common.{◌≡◌, ℕ, suc, ◌+◌, ◌*◌, ◌<◌, ◌≤◌, List, [], ◌∷◌, ◌++◌, length, map, drop, sum_by, All, refl, ap, ap₂, sym, ◌∙◌, arith}
-use Rattle.std.proofs.lemmas.List.Sums.{sum_by-cons, sum_by-append}
+use Rattle.std.proofs.Common.{◌≡◌, ℕ, suc, ◌+◌, ◌*◌, ◌^◌, ◌<◌, ◌≤◌, List, [], ◌∷◌, ◌++◌, length, map, drop, sum_by, All, refl, ap, ap₂, sym, ◌∙◌, inl, inr, arith}
+use Rattle.std.proofs.lemmas.List.Sums.{sum_by-cons}
 use Rattle.nr_units.specs.Items.{Items}
-use Rattle.nr_pool.specs.Texts.{Held, Texts, text, used}
+use Rattle.std.proofs.lemmas.Bool.{cases_lt, cases_eq}
+use Rattle.std.specs.Prelude.{nat_lt, if◌then◌else◌}
+use Rattle.nr_pool.specs.Texts.{Held, Texts, text, holders, IsOpen, used}
 use Rattle.nr_tables.specs.Named.{Named}
 use Rattle.nr_tables.specs.Rows.{Table}
 use Rattle.nr_levels.specs.Levels.{Source, Text, Own, Mark as Marked, Open, Levels, total}
@@ -11,9 +13,10 @@ use Rattle.nr_store.specs.declared.named.Sense.TheVariants as senses
 use Rattle.nr_store.specs.declared.element.Draft.{Draft}
 use Rattle.nr_store.specs.declared.element.Element.{Element}
 use Rattle.nr_store.specs.Senses.{ids_of_sense}
-use Rattle.nr_store.specs.Stored.{Means, Words, weight_of, Built, Read, level_charge, charge_of, weight, share}
-use Rattle.nr_store.specs.Holders.{Beside, means_of, named_means, built_of, level_in, level_of, stored_of, count, ids_of_source, ids_of, values, draft_ids, held_ids, IsHeld, Pays, AllPay, IsStore}
-use Rattle.nr_store.proofs.Counting.{one_same, count-cons, count-append, cost, costs, owed, costs-le, used-le}
+use Rattle.nr_store.specs.Stored.{Means, Words, weight_of, Built, Read, Shared, level_charge, charge_of, weight, share}
+use Rattle.nr_store.specs.Holders.{Beside, means_of, named_means, built_of, level_in, level_of, stored_of, count, ids_of_source, ids_of, values, draft_ids, held_ids, name_for, text_in, texts_in, IsHeld, Pays, AllPay, AreNamed, charge_of_texts, beside_cost, IsStore}
+use Rattle.nr_store.proofs.Counting.{one_same, one_other, count-cons, count-append, cost, costs, cost_in, used-le}
+use Rattle.nr_store.proofs.EachOnce.{costs-le, each_once}
 
 -- these texts are in q as they are in p
 pub record Keeps (p q : Texts Element) (ids : List ℕ) : Type 0 where
@@ -57,17 +60,16 @@ same_levels p q (l ∷ ls) h =
     ap₂ (λ k ks. k ∷ ks) (same_level p q l.source l (keeps_left p q (ids_of_source l.source) (ids_of ls) h))
     (same_levels p q ls (keeps_right p q (ids_of_source l.source) (ids_of ls) h))
 
-same_pays : {K : Type 0} (p q : Texts Element) (s : Source K) (charge : ℕ) → Keeps p q (ids_of_source s) → Pays p s charge → Pays q s charge
-same_pays p q (Text id place) charge h pays = let long = ap length (keeps_first p q id [] h) in omega arith
-same_pays p q (Own bytes) charge h pays = tt
-same_pays p q (Marked mode) charge h pays = pays
+same_text : {K : Type 0} (p q : Texts Element) (names : List (Named Sense)) (older : List ℕ) (s : Source K) → Keeps p q (ids_of_source s) → text_in q names older s ≡ text_in p names older s
+same_text p q names older (Text id place) h = ap (λ t. record { name = name_for id names; share = if nat_lt 0 (count id older) then 0 else share t } ∷ []) (keeps_first p q id [] h)
+same_text p q names older (Own bytes) h = refl
+same_text p q names older (Marked mode) h = refl
 
-pub all_pay : {K : Type 0} (p q : Texts Element) (levels : List (Open K)) → Keeps p q (ids_of levels) → AllPay p levels → AllPay q levels
-all_pay p q [] h pays = tt
-all_pay p q (l ∷ ls) h pays = (
-  same_pays p q l.source l.charge (keeps_left p q (ids_of_source l.source) (ids_of ls) h) pays.0,
-  all_pay p q ls (keeps_right p q (ids_of_source l.source) (ids_of ls) h) pays.1,
-)
+pub same_texts : {K : Type 0} (p q : Texts Element) (names : List (Named Sense)) (levels : List (Open K)) → Keeps p q (ids_of levels) → texts_in q names levels ≡ texts_in p names levels
+same_texts p q names [] h = refl
+same_texts p q names (l ∷ ls) h =
+    ap₂ (λ (ts us : List Shared). ts ++ us) (same_text p q names (ids_of ls) l.source (keeps_left p q (ids_of_source l.source) (ids_of ls) h))
+    (same_texts p q names ls (keeps_right p q (ids_of_source l.source) (ids_of ls) h))
 
 -- all that is seen stays
 pub same_view : {K : Type 0} (p q : Texts Element) (names : List (Named Sense)) (drafts : List Draft) (levels : Levels K) (beside : Beside) (limit : ℕ)
@@ -77,63 +79,22 @@ same_view p q names drafts levels beside limit h =
     ap₂ (λ ns bs. record (stored_of q names drafts levels beside limit) { names = ns; building = bs })
     (same_names p q names (keeps_left p q (values names) (draft_ids drafts ++ ids_of levels.levels) h))
     (same_building p q drafts (keeps_left p q (draft_ids drafts) (ids_of levels.levels) behind))
-    ∙ ap (λ ls. record (stored_of p names drafts levels beside limit) { levels = ls }) (same_levels p q levels.levels (keeps_right p q (draft_ids drafts) (ids_of levels.levels) behind))
+    ∙ ap₂ (λ ls ts. record (stored_of p names drafts levels beside limit) { levels = ls; texts = ts }) (same_levels p q levels.levels (keeps_right p q (draft_ids drafts) (ids_of levels.levels) behind))
+    (same_texts p q names levels.levels (keeps_right p q (draft_ids drafts) (ids_of levels.levels) behind))
 
--- ---- what is owed is within the charge
+-- ---- what the pool's texts take is within the charge
 
-owed-sense : (p : Texts Element) (m : Sense) → owed p (ids_of_sense m) ≤ weight_of (means_of p m)
-owed-sense p (senses.Request r) = omega arith
-owed-sense p (senses.Text id) = let one = sum_by-cons (λ k. share (text p k)) id [] in omega arith
-
-owed-names : (p : Texts Element) (names : List (Named Sense)) → owed p (values names) ≤ sum_by (λ (n : Named Means). weight_of n.value) (map (named_means p) names)
-owed-names p [] = omega arith
-owed-names p (n ∷ ns) =
-    let rest = owed-names p ns in
-    let this = owed-sense p n.value in
-    let owes = sum_by-append (λ k. share (text p k)) (ids_of_sense n.value) (values ns) in
-    let all = sum_by-cons (λ (m : Named Means). weight_of m.value) (named_means p n) (map (named_means p) ns) in
-    omega arith
-
-owed-building : (p : Texts Element) (drafts : List Draft) → owed p (draft_ids drafts) ≤ sum_by (λ (b : Built). weight b.text) (map (built_of p) drafts)
-owed-building p [] = omega arith
-owed-building p (d ∷ ds) =
-    let rest = owed-building p ds in
-    let owes = sum_by-cons (λ j. share (text p j)) d.id (draft_ids ds) in
-    let all = sum_by-cons (λ (b : Built). weight b.text) (built_of p d) (map (built_of p) ds) in
-    omega arith
-
-owed-source : {K : Type 0} (p : Texts Element) (s : Source K) (l : Open K) → Pays p s l.charge → owed p (ids_of_source s) ≤ level_charge (level_in p s l)
-owed-source p (Text id place) l pays = let one = sum_by-cons (λ k. share (text p k)) id [] in omega arith
-owed-source p (Own bytes) l pays = omega arith
-owed-source p (Marked mode) l pays = omega arith
-
-owed-levels : {K : Type 0} (p : Texts Element) (levels : List (Open K)) → AllPay p levels → owed p (ids_of levels) ≤ sum_by level_charge (map (level_of p) levels)
-owed-levels p [] pays = omega arith
-owed-levels p (l ∷ ls) pays =
-    let rest = owed-levels p ls pays.1 in
-    let this = owed-source p l.source l pays.0 in
-    let owes = sum_by-append (λ k. share (text p k)) (ids_of_source l.source) (ids_of ls) in
-    let all = sum_by-cons level_charge (level_of p l) (map (level_of p) ls) in
-    omega arith
-
--- what is owed for all that is held is within what all is charged
-pub owed_paid : {K : Type 0} (p : Texts Element) (names : List (Named Sense)) (drafts : List Draft) (levels : Levels K) (beside : Beside) (limit : ℕ) → AllPay p levels.levels
-    → owed p (held_ids names (draft_ids drafts) levels.levels) ≤ charge_of (stored_of p names drafts levels beside limit)
-owed_paid p names drafts levels beside limit pays =
-    let first = sum_by-append (λ k. share (text p k)) (values names) (draft_ids drafts ++ ids_of levels.levels) in
-    let second = sum_by-append (λ k. share (text p k)) (draft_ids drafts) (ids_of levels.levels) in
-    let of_names = owed-names p names in
-    let of_building = owed-building p drafts in
-    let of_levels = owed-levels p levels.levels pays in
-    omega arith
-
--- and so is what the pool's texts cost
-pub costs_paid : {K : Type 0} (p : Texts Element) (names : List (Named Sense)) (drafts : List Draft) (levels : Levels K) (beside : Beside) (limit : ℕ) → IsHeld p (held_ids names (draft_ids drafts) levels.levels)
-    → AllPay p levels.levels → costs p ≤ charge_of (stored_of p names drafts levels beside limit)
-costs_paid p names drafts levels beside limit held pays =
-    let all = costs-le (held_ids names (draft_ids drafts) levels.levels) p held in
-    let paid = owed_paid p names drafts levels beside limit pays in
-    omega arith
+module _ {K : Type 0} (p : Texts Element) (names : Table Sense) (drafts : Items Draft) (levels : Levels K) (beside : Beside) (charge limit : ℕ) (h : IsStore p names drafts levels beside charge limit) where
+  pub costs_paid : costs p ≤ charge
+  costs_paid =
+      let most = costs-le p (values names.entries ++ draft_ids drafts.items) (ids_of levels.levels) (λ k. omega (
+        arith,
+        h.held.held k,
+        count-append k (values names.entries) (draft_ids drafts.items ++ ids_of levels.levels),
+        count-append k (draft_ids drafts.items) (ids_of levels.levels),
+        count-append k (values names.entries) (draft_ids drafts.items),
+      )) h.held.bare in
+      omega (arith, most, h.once)
 
 all_cost : (ts : List (Held Element)) → All (λ (t : Held Element). 0 < t.holders) ts → 16 * length ts ≤ sum_by cost ts
 all_cost [] h = omega arith
@@ -148,8 +109,7 @@ pub room_for_a_text : {K : Type 0} (p : Texts Element) (names : Table Sense) (dr
     → All (λ (t : Held Element). 0 < t.holders) p.texts → ⊥
 room_for_a_text p names drafts levels beside charge limit h room all =
     let most = all_cost p.texts all in
-    let paid = costs_paid p names.entries drafts.items levels beside limit h.held h.pays in
-    let charged = h.charged in
+    let paid = costs_paid p names drafts levels beside charge limit h in
     let slots = h.slots_suffice in
     omega arith
 
@@ -157,23 +117,29 @@ room_for_a_text p names drafts levels beside charge limit h room all =
 pub room_for_elements : {K : Type 0} (p : Texts Element) (names : Table Sense) (drafts : Items Draft) (levels : Levels K) (beside : Beside) (charge limit n : ℕ) → IsStore p names drafts levels beside charge limit → charge + n ≤ limit → used p + n ≤ p.capacity
 room_for_elements p names drafts levels beside charge limit n h room =
     let most = used-le p in
-    let paid = costs_paid p names.entries drafts.items levels beside limit h.held h.pays in
-    let charged = h.charged in
+    let paid = costs_paid p names drafts levels beside charge limit h in
     let elements = h.elements_suffice in
     omega arith
 
 -- ---- what stays of the view
 
 -- what the levels are charged, by their own count
-level_total : {K : Type 0} (p : Texts Element) (s : Source K) (l : Open K) → Pays p s l.charge → level_charge (level_in p s l) ≡ l.charge
+level_total : {K : Type 0} (p : Texts Element) (s : Source K) (l : Open K) → Pays s l.charge → level_charge (level_in p s l) ≡ l.charge
 level_total p (Text id place) l pays = refl
 level_total p (Own bytes) l pays = refl
 level_total p (Marked mode) l pays = sym pays
 
-pub levels_total : {K : Type 0} (p : Texts Element) (levels : List (Open K)) → AllPay p levels → sum_by level_charge (map (level_of p) levels) ≡ sum_by (λ (l : Open K). l.charge) levels
+pub levels_total : {K : Type 0} (p : Texts Element) (levels : List (Open K)) → AllPay levels → sum_by level_charge (map (level_of p) levels) ≡ sum_by (λ (l : Open K). l.charge) levels
 levels_total p [] pays = refl
 levels_total {K = K} p (l ∷ ls) pays =
     sum_by-cons level_charge (level_of p l) (map (level_of p) ls) ∙ ap₂ (λ a b. a + b) (level_total p l.source l pays.0) (levels_total p ls pays.1) ∙ sym (sum_by-cons (λ (k : Open K). k.charge) l ls)
+
+-- what is charged is a sum over the pool, where it is one over the record
+pub charged_once : {K : Type 0} (p : Texts Element) (names : List (Named Sense)) (drafts : List Draft) (levels : Levels K) (beside : Beside) (charge limit : ℕ)
+    → IsHeld p (held_ids names (draft_ids drafts) levels.levels) → ((k : ℕ) → 0 < count k (draft_ids drafts) → holders p k ≡ 1) → AllPay levels.levels → AreNamed names → charge ≡ charge_of (stored_of p names drafts levels beside limit)
+    → charge ≡ charge_of_texts p (values names ++ draft_ids drafts) (ids_of levels.levels) + total levels.levels + beside_cost beside
+charged_once p names drafts levels beside charge limit held alone pays named charged =
+    charged ∙ each_once p names drafts levels beside limit held alone named.single (levels_total p levels.levels pays)
 
 -- the levels' own charges are within what all is charged
 pub levels_within : {K : Type 0} (p : Texts Element) (names : Table Sense) (drafts : Items Draft) (levels : Levels K) (beside : Beside) (charge limit : ℕ) → IsStore p names drafts levels beside charge limit → total levels.levels ≤ charge
@@ -181,3 +147,80 @@ levels_within p names drafts levels beside charge limit h =
     let all = levels_total p levels.levels h.pays in
     let charged = h.charged in
     omega arith
+
+-- ---- how much is held
+
+values_many : (id : ℕ) (p : Texts Element) (m : Sense) → 16 * count id (ids_of_sense m) ≤ weight_of (means_of p m)
+values_many id p (senses.Request r) = omega arith
+values_many id p (senses.Text k) = elim (cases_eq k id) [
+  | inl same ↦ omega (arith, count-cons id k [], one_same id k same)
+  | inr apart ↦ omega (arith, count-cons id k [], one_other id k apart)
+]
+
+names_many : (id : ℕ) (p : Texts Element) (names : List (Named Sense)) → 16 * count id (values names) ≤ sum_by (λ (n : Named Means). weight_of n.value) (map (named_means p) names)
+names_many id p [] = omega arith
+names_many id p (n ∷ ns) =
+    let rest = names_many id p ns in
+    let this = values_many id p n.value in
+    let counted = count-append id (ids_of_sense n.value) (values ns) in
+    let all = sum_by-cons (λ (m : Named Means). weight_of m.value) (named_means p n) (map (named_means p) ns) in
+    omega arith
+
+drafts_many : (id : ℕ) (p : Texts Element) (drafts : List Draft) → 16 * count id (draft_ids drafts) ≤ sum_by (λ (b : Built). weight b.text) (map (built_of p) drafts)
+drafts_many id p [] = omega arith
+drafts_many id p (d ∷ ds) =
+    let rest = drafts_many id p ds in
+    let counted = count-cons id d.id (draft_ids ds) in
+    let all = sum_by-cons (λ (b : Built). weight b.text) (built_of p d) (map (built_of p) ds) in
+    elim (cases_eq d.id id) [
+      | inl same ↦ omega (arith, rest, counted, all, one_same id d.id same)
+      | inr apart ↦ omega (arith, rest, counted, all, one_other id d.id apart)
+    ]
+
+source_many : {K : Type 0} (id : ℕ) (s : Source K) (charge : ℕ) → Pays s charge → 16 * count id (ids_of_source s) ≤ charge
+source_many id (Text k place) charge pays = elim (cases_eq k id) [
+  | inl same ↦ omega (arith, count-cons id k [], one_same id k same, pays)
+  | inr apart ↦ omega (arith, count-cons id k [], one_other id k apart)
+]
+source_many id (Own bytes) charge pays = omega arith
+source_many id (Marked mode) charge pays = omega arith
+
+levels_many : {K : Type 0} (id : ℕ) (levels : List (Open K)) → AllPay levels → 16 * count id (ids_of levels) ≤ sum_by (λ (l : Open K). l.charge) levels
+levels_many id [] pays = omega arith
+levels_many {K = K} id (l ∷ ls) pays =
+    let rest = levels_many id ls pays.1 in
+    let this = source_many id l.source l.charge pays.0 in
+    let counted = count-append id (ids_of_source l.source) (ids_of ls) in
+    let all = sum_by-cons (λ (k : Open K). k.charge) l ls in
+    omega arith
+
+module _ {K : Type 0} (p : Texts Element) (names : Table Sense) (drafts : Items Draft) (levels : Levels K) (beside : Beside) (charge limit id : ℕ) (h : IsStore p names drafts levels beside charge limit) where
+  -- each holder of a text pays 16
+  pub many_paid : 16 * holders p id ≤ charge
+  many_paid =
+      let held = h.held.held id in
+      let all = count-append id (values names.entries) (draft_ids drafts.items ++ ids_of levels.levels) in
+      let behind = count-append id (draft_ids drafts.items) (ids_of levels.levels) in
+      let of_names = names_many id p names.entries in
+      let of_drafts = drafts_many id p drafts.items in
+      let of_levels = levels_many id levels.levels h.pays in
+      let total = levels_total p levels.levels h.pays in
+      let charged = h.charged in
+      omega arith
+
+  -- a text that is held is charged
+  pub share_paid : IsOpen p id → share (text p id) ≤ charge
+  share_paid is_open =
+      let most = cost_in p id is_open in
+      let paid = costs_paid p names drafts levels beside charge limit h in
+      omega arith
+
+  -- any text is short
+  pub text_small : length (text p id) < 2 ^ 32
+  text_small =
+      let within = h.within in
+      let small = h.small in
+      elim (cases_lt 0 (holders p id)) [
+        | inl some ↦ let paid = share_paid some in omega arith
+        | inr none ↦ let bare : length (text p id) ≡ 0 = ap length (h.held.bare id (omega (arith, none))) in omega arith
+      ]

@@ -3,6 +3,8 @@ pub mod Keeping
 pub mod Building
 pub mod Copying
 pub mod Naming
+pub mod Sharing
+pub mod EachOnce
 pub mod Reading
 pub mod Entering
 pub mod Admitting

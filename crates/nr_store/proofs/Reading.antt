@@ -1,8 +1,10 @@
 -- Lemmas on the newest level.
-use Rattle.std.proofs.Common.{◌≡◌, ℕ, ◌+◌, ◌-◌, ◌<◌, ◌≤◌, List, [], ◌∷◌, ◌++◌, length, map, drop, sum_by, Option, Some, None, refl, ap, ap₂, sym, ◌∙◌, subst, arith}
+use Rattle.std.proofs.Common.{◌≡◌, ℕ, ◌+◌, ◌-◌, ◌<◌, ◌≤◌, List, [], ◌∷◌, ◌++◌, length, map, drop, sum_by, Option, Some, None, refl, ap, ap₂, sym, ◌∙◌, subst, inl, inr, arith}
 use Rattle.std.specs.List.{slice_get}
 use Rattle.std.proofs.lemmas.List.{drop_more, drop_all}
 use Rattle.std.proofs.lemmas.List.Sums.{sum_by-cons}
+use Rattle.std.specs.Prelude.{nat_lt, if◌then◌else◌}
+use Rattle.std.proofs.lemmas.Bool.{cases_lt, ne_eqb, eq-eqb, cond-true, cond-false}
 use Rattle.std.proofs.lemmas.Option.{slice_get_within, get_or_from_slice_get}
 use Rattle.nr_units.specs.Items.{Items}
 use Rattle.nr_pool.specs.Texts.{Texts, text, holders, IsOpen, released}
@@ -14,10 +16,11 @@ use Rattle.nr_store.specs.declared.named.Sense.{Sense}
 use Rattle.nr_store.specs.declared.element.Element.{Element}
 use Rattle.nr_store.specs.declared.element.Draft.{Draft}
 use Rattle.nr_store.specs.declared.shown.Shown.TheVariants as shows
-use Rattle.nr_store.specs.Stored.{Level, Read, Mark, level_charge, Stored, charge_of, shown, shown_in, shown_of, mark_of, left, left_in, left_of, dropped, dropped_in, emptied}
-use Rattle.nr_store.specs.Holders.{Beside, level_in, level_of, stored_of, count, ids_of, ids_of_source, values, draft_ids, held_ids, IsHeld, AllPay, IsStore}
-use Rattle.nr_store.proofs.Counting.{AddsOne, count-cons, count-append, held_less, open_of_adds, text_kept, released_capacity, released_slots}
-use Rattle.nr_store.proofs.Keeping.{Keeps, keeps_right, same_view, all_pay}
+use Rattle.nr_store.specs.Stored.{Level, Read, Mark, level_charge, Stored, charge_of, share, shown, shown_in, shown_of, mark_of, left, left_in, left_of, dropped, dropped_in, emptied}
+use Rattle.nr_store.specs.Holders.{Beside, level_in, level_of, stored_of, count, ids_of, ids_of_source, values, draft_ids, held_ids, text_in, texts_in, IsHeld, AllPay, IsStore, lone}
+use Rattle.nr_store.proofs.Counting.{AddsOne, one_same, count-cons, count-append, held_less, open_of_adds, text_kept, released_capacity, released_slots}
+use Rattle.nr_store.proofs.Keeping.{Keeps, same_view, charged_once}
+use Rattle.nr_store.proofs.Sharing.{texts_charge, source_charge, charged_level, named_free, unnamed_pays, again_free, first_pays}
 
 -- the newest level reads this
 pub record Newest {K : Type 0} (levels : List (Open K)) (s : Source K) : Type 0 where
@@ -83,6 +86,11 @@ rest_more xs place x is = drop_more xs place x (slice_get_within xs place x is) 
 
 -- ---- an element is taken
 
+behind_text : {K : Type 0} (p : Texts Element) (names : List (Named Sense)) (older : List ℕ) (s : Source K) → text_in p names older (behind s) ≡ text_in p names older s
+behind_text p names older (Text id place) = refl
+behind_text p names older (Own bytes) = refl
+behind_text p names older (Marked mode) = refl
+
 module _ {K : Type 0} (p : Texts Element) (names : List (Named Sense)) (drafts : List Draft) (levels : Levels K) (beside : Beside) (limit : ℕ) (s : Source K) (n : Newest levels.levels s) where
   abbrev with : List (Open K) → Stored K
   with ls = stored_of p names drafts (record levels { levels = ls }) beside limit
@@ -93,9 +101,11 @@ module _ {K : Type 0} (p : Texts Element) (names : List (Named Sense)) (drafts :
   pub shown_is : shown (map (level_of p) levels.levels) ≡ shown_in (level_in p s n.level)
   shown_is = ap (λ ls. shown (map (level_of p) ls)) n.first ∙ ap (λ t. shown_in (level_in p t n.level)) n.reads
 
-  pub advanced_is : with (advanced levels.levels) ≡ record (with levels.levels) { levels = level_in p (behind s) (record n.level { source = behind s }) ∷ map (level_of p) (drop 1 levels.levels) }
+  pub advanced_is : with (advanced levels.levels) ≡ record (with (n.level ∷ drop 1 levels.levels)) { levels = level_in p (behind s) (record n.level { source = behind s }) ∷ map (level_of p) (drop 1 levels.levels) }
   advanced_is =
-      ap (λ ks. with (advanced ks)) n.first ∙ ap (λ t. record (with levels.levels) { levels = level_in p (behind t) (record n.level { source = behind t }) ∷ map (level_of p) (drop 1 levels.levels) }) n.reads
+      ap (λ ks. with (advanced ks)) n.first
+      ∙ ap₂ (λ k ts. record (with (n.level ∷ drop 1 levels.levels)) { levels = k ∷ map (level_of p) (drop 1 levels.levels); texts = ts ++ texts_in p names (drop 1 levels.levels) }) (ap (λ t. level_in p (behind t) (record n.level { source = behind t })) n.reads)
+      (behind_text p names (ids_of (drop 1 levels.levels)) n.level.source)
 
   pub after_is : after levels.levels ≡ left_in (level_in p s n.level) (map (level_of p) (drop 1 levels.levels)) (with (n.level ∷ drop 1 levels.levels))
   after_is = ap after n.first ∙ ap (λ t. left_in (level_in p t n.level) (map (level_of p) (drop 1 levels.levels)) (with (n.level ∷ drop 1 levels.levels))) n.reads
@@ -123,13 +133,14 @@ module _ {K : Type 0} (p : Texts Element) (names : List (Named Sense)) (drafts :
     end_shown = shown_is p names drafts levels beside limit (Text id place) n ∙ ap shown_of (drop_all place (text p id) none)
 
     pub end_left : left (map (level_of p) levels.levels) (stored_of p names drafts levels beside limit)
-        ≡ record (stored_of p names drafts levels beside limit) { levels = mark_of n.level.resume ++ map (level_of p) (drop 1 levels.levels); arguments = n.level.old }
+        ≡ record (stored_of p names drafts levels beside limit) { levels = mark_of n.level.resume ++ map (level_of p) (drop 1 levels.levels); texts = texts_in p names (drop 1 levels.levels); arguments = n.level.old }
     end_left =
         let l = n.level in
         let ls = map (level_of p) (drop 1 levels.levels) in
         let v = stored_of p names drafts (record levels { levels = l ∷ drop 1 levels.levels }) beside limit in
         after_is p names drafts levels beside limit (Text id place) n
         ∙ ap (λ r. left_of r (record { rest = drop place (text p id); old = l.old; charge = l.charge; resume = l.resume }) ls v) (drop_all place (text p id) none)
+        ∙ ap (λ s. record v { levels = mark_of l.resume ++ ls; texts = drop 1 (text_in p names (ids_of (drop 1 levels.levels)) s ++ texts_in p names (drop 1 levels.levels)); arguments = l.old }) n.reads
 
 pub adds_level : {K : Type 0} (id : ℕ) (names : List (Named Sense)) (building : List ℕ) (l : Open K) (levels : List (Open K)) → ids_of_source l.source ≡ id ∷ [] → AddsOne id (held_ids names building levels) (held_ids names building (l ∷ levels))
 adds_level id names building l levels is = record {
@@ -154,9 +165,13 @@ marks_ids : {K : Type 0} (o : Option K) (old : List (List ℕ)) (ls : List (Open
 marks_ids None old ls = refl
 marks_ids (Some mode) old ls = refl
 
-marks_pay : {K : Type 0} (p : Texts Element) (o : Option K) (old : List (List ℕ)) (ls : List (Open K)) → AllPay p ls → AllPay p (marks o old ++ ls)
-marks_pay p None old ls pays = pays
-marks_pay p (Some mode) old ls pays = (refl, pays)
+marks_texts : {K : Type 0} (p : Texts Element) (names : List (Named Sense)) (o : Option K) (old : List (List ℕ)) (ls : List (Open K)) → texts_in p names (marks o old ++ ls) ≡ texts_in p names ls
+marks_texts p names None old ls = refl
+marks_texts p names (Some mode) old ls = refl
+
+marks_pay : {K : Type 0} (o : Option K) (old : List (List ℕ)) (ls : List (Open K)) → AllPay ls → AllPay (marks o old ++ ls)
+marks_pay None old ls pays = pays
+marks_pay (Some mode) old ls pays = (refl, pays)
 
 marks_length : {K : Type 0} (o : Option K) (old : List (List ℕ)) (ls : List (Open K)) → length (marks o old ++ ls) ≤ length ls + 1
 marks_length None old ls = omega arith
@@ -174,34 +189,44 @@ module _ {K : Type 0} (p q : Texts Element) (names : Table Sense) (drafts : Item
   abbrev ls : List (Open K)
   ls = drop 1 levels.levels
 
-  rest_pays : AllPay p ls
-  rest_pays = let all : AllPay p (n.level ∷ ls) = subst (AllPay p) n.first h.pays in all.1
+  rest_pays : AllPay ls
+  rest_pays = let all : AllPay (n.level ∷ ls) = subst AllPay n.first h.pays in all.1
 
-  keeps_levels : Keeps p q (ids_of ls)
-  keeps_levels = keeps_right p q (draft_ids drafts.items) (ids_of ls) (keeps_right p q (values names.entries) (draft_ids drafts.items ++ ids_of ls) keeps)
+  -- what the levels and their texts are charged
+  levels_charge : sum_by level_charge (map (level_of p) levels.levels) + texts_charge p names.entries levels.levels
+      ≡ (level_charge (level_of p n.level) + source_charge p names.entries (ids_of ls) n.level.source) + (sum_by level_charge (map (level_of p) ls) + texts_charge p names.entries ls)
+  levels_charge =
+      let all : sum_by level_charge (map (level_of p) levels.levels) ≡ level_charge (level_of p n.level) + sum_by level_charge (map (level_of p) ls) =
+      ap (λ ks. sum_by level_charge (map (level_of p) ks)) n.first ∙ sum_by-cons level_charge (level_of p n.level) (map (level_of p) ls) in
+      let texts : texts_charge p names.entries levels.levels ≡ source_charge p names.entries (ids_of ls) n.level.source + texts_charge p names.entries ls =
+      ap (texts_charge p names.entries) n.first ∙ charged_level p names.entries n.level ls in
+      omega arith
 
   -- with the levels that are left, one way or the other
-  module _ (now : List (Open K)) (seen : List (Level K)) (arguments : List (List ℕ)) (views : (r : Texts Element) → map (level_of r) now ≡ seen ++ map (level_of r) ls) (ids : ids_of now ≡ ids_of ls) (pays : AllPay q ls → AllPay q now)
+  module _ (now : List (Open K)) (seen : List (Level K)) (arguments : List (List ℕ)) (views : (r : Texts Element) → map (level_of r) now ≡ seen ++ map (level_of r) ls) (ids : ids_of now ≡ ids_of ls) (texts : (r : Texts Element) → texts_in r names.entries now ≡ texts_in r names.entries ls) (pays : AllPay ls → AllPay now)
       (short : length now ≤ length ls + 1) (bare : sum_by level_charge (seen ++ map (level_of p) ls) ≡ sum_by level_charge (map (level_of p) ls)) where
     pub now_is : stored_of q names.entries drafts.items (record levels { levels = now; arguments = arguments }) beside limit
-        ≡ record (stored_of p names.entries drafts.items levels beside limit) { levels = seen ++ map (level_of p) ls; arguments = arguments }
+        ≡ record (stored_of p names.entries drafts.items levels beside limit) { levels = seen ++ map (level_of p) ls; texts = texts_in p names.entries ls; arguments = arguments }
     now_is =
-        ap (λ ks. record (stored_of q names.entries drafts.items levels beside limit) { levels = ks; arguments = arguments }) (views q)
+        ap₂ (λ ks ts. record (stored_of q names.entries drafts.items levels beside limit) { levels = ks; texts = ts; arguments = arguments }) (views q) (texts q)
         ∙ ap (λ (v : Stored K). record v { levels = seen ++ v.levels; arguments = arguments }) (same_view p q names.entries drafts.items (record levels { levels = ls }) beside limit keeps)
 
-    pub now_stands : level_charge (level_of p n.level) ≤ charge → IsStore q names drafts (record levels { levels = now; arguments = arguments }) beside (charge - level_charge (level_of p n.level)) limit
-    now_stands paid =
+    pub now_stands : (m : ℕ) → level_charge (level_of p n.level) + source_charge p names.entries (ids_of ls) n.level.source ≡ m → IsStore q names drafts (record levels { levels = now; arguments = arguments }) beside (charge - m) limit
+    now_stands m gone =
         let was = h.charged in
         let within = h.within in
-        let all : sum_by level_charge (map (level_of p) levels.levels) ≡ level_charge (level_of p n.level) + sum_by level_charge (map (level_of p) ls) =
-        ap (λ ks. sum_by level_charge (map (level_of p) ks)) n.first ∙ sum_by-cons level_charge (level_of p n.level) (map (level_of p) ls) in
+        let all = levels_charge in
         let view = ap charge_of now_is in
+        let held_now = subst (λ ks. IsHeld q (values names.entries ++ (draft_ids drafts.items ++ ks))) (sym ids) held in
+        let charged : charge - m ≡ charge_of (stored_of q names.entries drafts.items (record levels { levels = now; arguments = arguments }) beside limit) = omega arith in
         record {
-          held = subst (λ ks. IsHeld q (values names.entries ++ (draft_ids drafts.items ++ ks))) (sym ids) held;
+          held = held_now;
           alone = alone;
-          pays = pays (all_pay p q ls keeps_levels rest_pays);
+          pays = pays rest_pays;
+          named = h.named;
           few_acts = h.few_acts;
-          charged = omega arith;
+          charged = charged;
+          once = charged_once q names.entries drafts.items (record levels { levels = now; arguments = arguments }) beside (charge - m) limit held_now alone (pays rest_pays) h.named charged;
           within = omega arith;
           deep = let deep = h.deep in let long = ap length n.first in omega arith;
           small = h.small;
@@ -215,27 +240,23 @@ module _ {K : Type 0} (p q : Texts Element) (names : Table Sense) (drafts : Item
 
   -- its end is taken
   pub closed_view : stored_of q names.entries drafts.items (closed levels.levels levels) beside limit
-      ≡ record (stored_of p names.entries drafts.items levels beside limit) { levels = mark_of n.level.resume ++ map (level_of p) ls; arguments = n.level.old }
+      ≡ record (stored_of p names.entries drafts.items levels beside limit) { levels = mark_of n.level.resume ++ map (level_of p) ls; texts = texts_in p names.entries ls; arguments = n.level.old }
   closed_view =
       ap (λ ks. stored_of q names.entries drafts.items (closed ks levels) beside limit) n.first
-      ∙ now_is (marks n.level.resume n.level.old ++ ls) (mark_of n.level.resume) n.level.old (λ r. marks_levels r n.level.resume n.level.old ls) (marks_ids n.level.resume n.level.old ls) (marks_pay q n.level.resume n.level.old ls)
+      ∙ now_is (marks n.level.resume n.level.old ++ ls) (mark_of n.level.resume) n.level.old (λ r. marks_levels r n.level.resume n.level.old ls) (marks_ids n.level.resume n.level.old ls) (λ r. marks_texts r names.entries n.level.resume n.level.old ls) (marks_pay n.level.resume n.level.old ls)
       (marks_length n.level.resume n.level.old ls) (marks_charge n.level.resume (map (level_of p) ls))
 
-  pub closed_stands : level_charge (level_of p n.level) ≡ n.level.charge → IsStore q names drafts (closed levels.levels levels) beside (charge - charge_of_newest levels.levels) limit
-  closed_stands paid =
-      let was = h.charged in
-      let all : sum_by level_charge (map (level_of p) levels.levels) ≡ level_charge (level_of p n.level) + sum_by level_charge (map (level_of p) ls) =
-      ap (λ ks. sum_by level_charge (map (level_of p) ks)) n.first ∙ sum_by-cons level_charge (level_of p n.level) (map (level_of p) ls) in
-      subst (λ ks. IsStore q names drafts (closed ks levels) beside (charge - charge_of_newest ks) limit) (sym n.first)
-      (subst (λ m. IsStore q names drafts (record levels { levels = marks n.level.resume n.level.old ++ ls; arguments = n.level.old }) beside (charge - m) limit) paid
-      (now_stands (marks n.level.resume n.level.old ++ ls) (mark_of n.level.resume) n.level.old (λ r. marks_levels r n.level.resume n.level.old ls) (marks_ids n.level.resume n.level.old ls) (marks_pay q n.level.resume n.level.old ls)
-      (marks_length n.level.resume n.level.old ls) (marks_charge n.level.resume (map (level_of p) ls)) (omega arith)))
+  pub closed_stands : (own : ℕ) → level_charge (level_of p n.level) ≡ n.level.charge → source_charge p names.entries (ids_of ls) n.level.source ≡ own
+      → IsStore q names drafts (closed levels.levels levels) beside (charge - (own + charge_of_newest levels.levels)) limit
+  closed_stands own paid texts =
+      subst (λ ks. IsStore q names drafts (closed ks levels) beside (charge - (own + charge_of_newest ks)) limit) (sym n.first)
+      (now_stands (marks n.level.resume n.level.old ++ ls) (mark_of n.level.resume) n.level.old (λ r. marks_levels r n.level.resume n.level.old ls) (marks_ids n.level.resume n.level.old ls) (λ r. marks_texts r names.entries n.level.resume n.level.old ls) (marks_pay n.level.resume n.level.old ls)
+      (marks_length n.level.resume n.level.old ls) (marks_charge n.level.resume (map (level_of p) ls)) (own + n.level.charge) (omega (arith, paid, texts)))
 
-  pub newest_paid : level_charge (level_of p n.level) ≡ n.level.charge → charge_of_newest levels.levels ≤ charge
-  newest_paid paid =
+  pub newest_paid : (own : ℕ) → level_charge (level_of p n.level) ≡ n.level.charge → source_charge p names.entries (ids_of ls) n.level.source ≡ own → own + charge_of_newest levels.levels ≤ charge
+  newest_paid own paid texts =
       let was = h.charged in
-      let all : sum_by level_charge (map (level_of p) levels.levels) ≡ level_charge (level_of p n.level) + sum_by level_charge (map (level_of p) ls) =
-      ap (λ ks. sum_by level_charge (map (level_of p) ks)) n.first ∙ sum_by-cons level_charge (level_of p n.level) (map (level_of p) ls) in
+      let all = levels_charge in
       let is : charge_of_newest levels.levels ≡ n.level.charge = ap charge_of_newest n.first in
       omega arith
 
@@ -268,15 +289,37 @@ module _ {K : Type 0} (p : Texts Element) (names : Table Sense) (drafts : Items 
   charged : level_charge (level_of p n.level) ≡ n.level.charge
   charged = ap (λ s. level_charge (level_in p s n.level)) n.reads
 
+  -- its text is charged where neither a name nor another level holds it
+  own_is : source_charge p names.entries (ids_of (drop 1 levels.levels)) n.level.source ≡ lone p id
+  own_is =
+      let older = ids_of (drop 1 levels.levels) in
+      let once = if nat_lt 0 (count id older) then 0 else share (text p id) in
+      let here = h.held.held id in
+      let more = adds.counts id in
+      let this = one_same id id refl in
+      let split = count-append id (values names.entries) (draft_ids drafts.items ++ older) in
+      let split_behind = count-append id (draft_ids drafts.items) older in
+      let unbuilt : count id (draft_ids drafts.items) ≡ 0 = elim (cases_lt 0 (count id (draft_ids drafts.items))) [
+        | inl some ↦ let one = h.alone id some in absurd (omega (arith, one, here, more, this, split, split_behind, some))
+        | inr none ↦ omega (arith, none)
+      ] in
+      ap (source_charge p names.entries older) n.reads ∙ elim (cases_lt 0 (count id (values names.entries))) [
+        | inl some ↦ named_free id once names.entries some ∙ sym (cond-false _ _ _ (ne_eqb (holders p id) 1 (λ one. absurd (omega (arith, one, here, more, this, split, split_behind, some)))))
+        | inr unnamed ↦ unnamed_pays id once names.entries (omega (arith, unnamed)) ∙ elim (cases_lt 0 (count id older)) [
+          | inl again ↦ again_free (share (text p id)) id older again ∙ sym (cond-false _ _ _ (ne_eqb (holders p id) 1 (λ one. absurd (omega (arith, one, here, more, this, split, split_behind, again)))))
+          | inr first ↦ first_pays (share (text p id)) id older (omega (arith, first)) ∙ sym (cond-true _ _ _ (eq-eqb (holders p id) 1 (omega (arith, here, more, this, split, split_behind, unbuilt, unnamed, first))))
+        ]
+      ]
+
   pub text_ended : stored_of (released p id) names.entries drafts.items (closed levels.levels levels) beside limit
-      ≡ record (stored_of p names.entries drafts.items levels beside limit) { levels = mark_of n.level.resume ++ map (level_of p) (drop 1 levels.levels); arguments = n.level.old }
+      ≡ record (stored_of p names.entries drafts.items levels beside limit) { levels = mark_of n.level.resume ++ map (level_of p) (drop 1 levels.levels); texts = texts_in p names.entries (drop 1 levels.levels); arguments = n.level.old }
   text_ended = closed_view p (released p id) names drafts levels beside charge limit (Text id place) n h held_after keeps_after alone_after (released_capacity p id) (released_slots p id)
 
-  pub text_ended_stands : IsStore (released p id) names drafts (closed levels.levels levels) beside (charge - charge_of_newest levels.levels) limit
-  text_ended_stands = closed_stands p (released p id) names drafts levels beside charge limit (Text id place) n h held_after keeps_after alone_after (released_capacity p id) (released_slots p id) charged
+  pub text_ended_stands : IsStore (released p id) names drafts (closed levels.levels levels) beside (charge - (lone p id + charge_of_newest levels.levels)) limit
+  text_ended_stands = closed_stands p (released p id) names drafts levels beside charge limit (Text id place) n h held_after keeps_after alone_after (released_capacity p id) (released_slots p id) (lone p id) charged own_is
 
-  pub text_paid : charge_of_newest levels.levels ≤ charge
-  text_paid = newest_paid p (released p id) names drafts levels beside charge limit (Text id place) n h held_after keeps_after alone_after (released_capacity p id) (released_slots p id) charged
+  pub text_paid : lone p id + charge_of_newest levels.levels ≤ charge
+  text_paid = newest_paid p (released p id) names drafts levels beside charge limit (Text id place) n h held_after keeps_after alone_after (released_capacity p id) (released_slots p id) (lone p id) charged own_is
 
 -- ---- the end of a level that reads bytes, and a mode that is resumed
 
@@ -290,26 +333,35 @@ module _ {K : Type 0} (p : Texts Element) (names : Table Sense) (drafts : Items 
   keeps_still : Keeps p p (held_ids names.entries (draft_ids drafts.items) (drop 1 levels.levels))
   keeps_still = record { kept = λ k some. refl }
 
+  free : source_charge p names.entries (ids_of (drop 1 levels.levels)) s ≡ 0 → source_charge p names.entries (ids_of (drop 1 levels.levels)) n.level.source ≡ 0
+  free none_charged = ap (source_charge p names.entries (ids_of (drop 1 levels.levels))) n.reads ∙ none_charged
+
   pub bytes_ended : stored_of p names.entries drafts.items (closed levels.levels levels) beside limit
-      ≡ record (stored_of p names.entries drafts.items levels beside limit) { levels = mark_of n.level.resume ++ map (level_of p) (drop 1 levels.levels); arguments = n.level.old }
+      ≡ record (stored_of p names.entries drafts.items levels beside limit) { levels = mark_of n.level.resume ++ map (level_of p) (drop 1 levels.levels); texts = texts_in p names.entries (drop 1 levels.levels); arguments = n.level.old }
   bytes_ended = closed_view p p names drafts levels beside charge limit s n h held_still keeps_still h.alone refl refl
 
-  pub bytes_ended_stands : level_charge (level_in p s n.level) ≡ n.level.charge → IsStore p names drafts (closed levels.levels levels) beside (charge - charge_of_newest levels.levels) limit
-  bytes_ended_stands paid = closed_stands p p names drafts levels beside charge limit s n h held_still keeps_still h.alone refl refl (ap (λ t. level_charge (level_in p t n.level)) n.reads ∙ paid)
+  pub bytes_ended_stands : level_charge (level_in p s n.level) ≡ n.level.charge → source_charge p names.entries (ids_of (drop 1 levels.levels)) s ≡ 0 → IsStore p names drafts (closed levels.levels levels) beside (charge - charge_of_newest levels.levels) limit
+  bytes_ended_stands paid none_charged =
+      subst (λ m. IsStore p names drafts (closed levels.levels levels) beside (charge - m) limit) (let e : 0 + charge_of_newest levels.levels ≡ charge_of_newest levels.levels = omega arith in e)
+      (closed_stands p p names drafts levels beside charge limit s n h held_still keeps_still h.alone refl refl 0 (ap (λ t. level_charge (level_in p t n.level)) n.reads ∙ paid) (free none_charged))
 
-  pub bytes_paid : level_charge (level_in p s n.level) ≡ n.level.charge → charge_of_newest levels.levels ≤ charge
-  bytes_paid paid = newest_paid p p names drafts levels beside charge limit s n h held_still keeps_still h.alone refl refl (ap (λ t. level_charge (level_in p t n.level)) n.reads ∙ paid)
+  pub bytes_paid : level_charge (level_in p s n.level) ≡ n.level.charge → source_charge p names.entries (ids_of (drop 1 levels.levels)) s ≡ 0 → charge_of_newest levels.levels ≤ charge
+  bytes_paid paid none_charged = let all = newest_paid p p names drafts levels beside charge limit s n h held_still keeps_still h.alone refl refl 0 (ap (λ t. level_charge (level_in p t n.level)) n.reads ∙ paid) (free none_charged) in omega arith
 
-  pub mark_gone : stored_of p names.entries drafts.items (resumed levels.levels levels) beside limit
+  pub mark_gone : text_in p names.entries (ids_of (drop 1 levels.levels)) s ≡ [] → stored_of p names.entries drafts.items (resumed levels.levels levels) beside limit
       ≡ record (stored_of p names.entries drafts.items levels beside limit) { levels = map (level_of p) (drop 1 levels.levels) }
-  mark_gone = ap (λ ks. stored_of p names.entries drafts.items (resumed ks levels) beside limit) n.first
+  mark_gone no_text =
+      ap (λ ks. stored_of p names.entries drafts.items (resumed ks levels) beside limit) n.first
+      ∙ ap (λ ts. record (stored_of p names.entries drafts.items levels beside limit) { levels = map (level_of p) (drop 1 levels.levels); texts = ts })
+      (ap (λ ts. ts ++ texts_in p names.entries (drop 1 levels.levels)) (sym no_text) ∙ ap (λ t. text_in p names.entries (ids_of (drop 1 levels.levels)) t ++ texts_in p names.entries (drop 1 levels.levels)) (sym n.reads) ∙ ap (texts_in p names.entries) (sym n.first))
 
-  pub mark_gone_stands : level_charge (level_in p s n.level) ≡ 0 → IsStore p names drafts (resumed levels.levels levels) beside charge limit
-  mark_gone_stands free =
-      let nothing : level_charge (level_of p n.level) ≡ 0 = ap (λ t. level_charge (level_in p t n.level)) n.reads ∙ free in
+  pub mark_gone_stands : level_charge (level_in p s n.level) ≡ 0 → source_charge p names.entries (ids_of (drop 1 levels.levels)) s ≡ 0 → IsStore p names drafts (resumed levels.levels levels) beside charge limit
+  mark_gone_stands unpaid none_charged =
+      let nothing : level_charge (level_of p n.level) ≡ 0 = ap (λ t. level_charge (level_in p t n.level)) n.reads ∙ unpaid in
+      let no_texts = free none_charged in
       subst (λ ks. IsStore p names drafts (resumed ks levels) beside charge limit) (sym n.first)
-      (subst (λ m. IsStore p names drafts (record levels { levels = drop 1 levels.levels }) beside m limit) (let e : charge - level_charge (level_of p n.level) ≡ charge = omega arith in e)
-      (now_stands p p names drafts levels beside charge limit s n h held_still keeps_still h.alone refl refl (drop 1 levels.levels) [] levels.arguments (λ r. refl) refl (λ pays. pays) (omega arith) refl (omega arith)))
+      (subst (λ m. IsStore p names drafts (record levels { levels = drop 1 levels.levels }) beside m limit) (let e : charge - 0 ≡ charge = omega arith in e)
+      (now_stands p p names drafts levels beside charge limit s n h held_still keeps_still h.alone refl refl (drop 1 levels.levels) [] levels.arguments (λ r. refl) refl (λ r. refl) (λ pays. pays) (omega arith) refl 0 (omega (arith, nothing, no_texts))))
 
 -- ---- levels that go, their texts unread
 
@@ -319,6 +371,16 @@ pub dropped_is : {K : Type 0} (p : Texts Element) (names : List (Named Sense)) (
 dropped_is p names drafts levels beside limit s n =
     let v = stored_of p names drafts levels beside limit in
     ap (λ ls. dropped (map (level_of p) ls) v) n.first ∙ ap (λ t. dropped_in (level_in p t n.level) (map (level_of p) (drop 1 levels.levels)) v) n.reads
+
+-- a level that reads a text goes
+pub text_gone : {K : Type 0} (p : Texts Element) (names : List (Named Sense)) (drafts : List Draft) (levels : Levels K) (beside : Beside) (limit id place : ℕ) (n : Newest levels.levels (Text id place))
+    → dropped (map (level_of p) levels.levels) (stored_of p names drafts levels beside limit)
+    ≡ record (stored_of p names drafts levels beside limit) { levels = mark_of n.level.resume ++ map (level_of p) (drop 1 levels.levels); texts = texts_in p names (drop 1 levels.levels); arguments = n.level.old }
+text_gone p names drafts levels beside limit id place n =
+    let rest = drop 1 levels.levels in
+    dropped_is p names drafts levels beside limit (Text id place) n
+    ∙ ap (λ ts. record (stored_of p names drafts levels beside limit) { levels = mark_of n.level.resume ++ map (level_of p) rest; texts = ts; arguments = n.level.old })
+    (ap (λ ks. drop 1 (texts_in p names ks)) n.first ∙ ap (λ s. drop 1 (text_in p names (ids_of rest) s ++ texts_in p names rest)) n.reads)
 
 -- how many times a level can go: once more where a mode is behind its end
 abbrev pub times : {K : Type 0} → Level K → ℕ

@@ -1,9 +1,10 @@
 -- Lemmas on a run of elements that is taken at once.
-use Rattle.std.proofs.Common.{◌≡◌, ℕ, ◌+◌, ◌^◌, ◌<◌, ◌≤◌, List, [], ◌∷◌, ◌++◌, length, map, sum_by, refl, ap, sym, ◌∙◌, subst, arith}
+use Rattle.std.proofs.Common.{◌≡◌, ℕ, ◌+◌, ◌^◌, ◌<◌, ◌≤◌, List, [], ◌∷◌, ◌++◌, length, map, sum_by, refl, ap, ap₂, sym, ◌∙◌, subst, arith}
 use Rattle.std.proofs.lemmas.List.{drop-drop, drop-map, length-drop, length-map}
 use Rattle.std.proofs.lemmas.List.Sums.{sum_by-cons}
 use Rattle.nr_units.specs.Items.{Items}
 use Rattle.nr_pool.specs.Texts.{Texts, text}
+use Rattle.nr_tables.specs.Named.{Named}
 use Rattle.nr_tables.specs.Rows.{Table}
 use Rattle.nr_levels.specs.Levels.{Source, Text, Own, Mark as Marked, Open, Levels}
 use Rattle.nr_levels.specs.Further.{further, further_on, Reaches, NewestReaches}
@@ -11,10 +12,10 @@ use Rattle.nr_store.specs.declared.named.Sense.{Sense}
 use Rattle.nr_store.specs.declared.element.Element.{Element}
 use Rattle.nr_store.specs.declared.element.Element.TheVariants.{Byte}
 use Rattle.nr_store.specs.declared.element.Draft.{Draft}
-use Rattle.nr_store.specs.Stored.{Read, level_charge}
+use Rattle.nr_store.specs.Stored.{Read, level_charge, text_charge, charge_of}
 use Rattle.nr_store.specs.Windows.{rest_in, rest_of, level_behind, levels_behind, run_left}
-use Rattle.nr_store.proofs.Keeping.{levels_within}
-use Rattle.nr_store.specs.Holders.{Beside, level_in, level_of, stored_of, ids_of_source, ids_of, values, draft_ids, IsHeld, Pays, AllPay, IsStore}
+use Rattle.nr_store.proofs.Keeping.{text_small, charged_once}
+use Rattle.nr_store.specs.Holders.{Beside, level_in, level_of, stored_of, ids_of_source, ids_of, values, draft_ids, text_in, texts_in, IsHeld, Pays, AllPay, IsStore}
 
 -- ---- the level further on
 
@@ -27,20 +28,16 @@ newest_behind : {K : Type 0} (p : Texts Element) (n : ℕ) (ls : List (Open K)) 
 newest_behind p n [] = refl
 newest_behind p n (l ∷ ls) = ap (λ k. k ∷ map (level_of p) ls) (source_behind p n l.source l)
 
-pub run_is : {K : Type 0} (p : Texts Element) (names : Table Sense) (drafts : Items Draft) (levels : Levels K) (beside : Beside) (limit n : ℕ)
-    → stored_of p names.entries drafts.items (record levels { levels = further_on n levels.levels }) beside limit ≡ run_left n (stored_of p names.entries drafts.items levels beside limit)
-run_is p names drafts levels beside limit n = ap (λ ks. record (stored_of p names.entries drafts.items levels beside limit) { levels = ks }) (newest_behind p n levels.levels)
-
 -- ---- it has so many elements
 
-source_reaches : {K : Type 0} (p : Texts Element) (n charge : ℕ) (s : Source K) (l : Open K) → Pays p s charge → charge < 2 ^ 32 → n ≤ length (rest_in (level_in p s l)) → Reaches n s
-source_reaches p n charge (Text id place) l pays small within = λ some. let long = length-drop place (text p id) in omega arith
-source_reaches p n charge (Own bytes) l pays small within = let long = length-map bytes Byte in omega arith
-source_reaches p n charge (Marked mode) l pays small within = omega arith
+source_reaches : {K : Type 0} (p : Texts Element) (n : ℕ) (s : Source K) (l : Open K) → ((k : ℕ) → length (text p k) < 2 ^ 32) → n ≤ length (rest_in (level_in p s l)) → Reaches n s
+source_reaches p n (Text id place) l small within = λ some. let long = length-drop place (text p id) in omega (arith, long, small id, some, within)
+source_reaches p n (Own bytes) l small within = let long = length-map bytes Byte in omega arith
+source_reaches p n (Marked mode) l small within = omega arith
 
-levels_reach : {K : Type 0} (p : Texts Element) (n : ℕ) (ls : List (Open K)) → AllPay p ls → sum_by (λ (l : Open K). l.charge) ls < 2 ^ 32 → n ≤ length (rest_of (map (level_of p) ls)) → NewestReaches n ls
-levels_reach p n [] pays small within = omega arith
-levels_reach {K = K} p n (l ∷ ls) pays small within = let all = sum_by-cons (λ (k : Open K). k.charge) l ls in source_reaches p n l.charge l.source l pays.0 (omega arith) within
+levels_reach : {K : Type 0} (p : Texts Element) (n : ℕ) (ls : List (Open K)) → ((k : ℕ) → length (text p k) < 2 ^ 32) → n ≤ length (rest_of (map (level_of p) ls)) → NewestReaches n ls
+levels_reach p n [] small within = omega arith
+levels_reach p n (l ∷ ls) small within = source_reaches p n l.source l small within
 
 -- ---- what stays
 
@@ -49,10 +46,19 @@ further_ids n (Text id place) = refl
 further_ids n (Own bytes) = refl
 further_ids n (Marked mode) = refl
 
-further_pays : {K : Type 0} (p : Texts Element) (n charge : ℕ) (s : Source K) → Pays p s charge → Pays p (further n s) charge
-further_pays p n charge (Text id place) pays = pays
-further_pays p n charge (Own bytes) pays = pays
-further_pays p n charge (Marked mode) pays = pays
+further_pays : {K : Type 0} (n charge : ℕ) (s : Source K) → Pays s charge → Pays (further n s) charge
+further_pays n charge (Text id place) pays = pays
+further_pays n charge (Own bytes) pays = pays
+further_pays n charge (Marked mode) pays = pays
+
+further_text : {K : Type 0} (p : Texts Element) (names : List (Named Sense)) (n : ℕ) (older : List ℕ) (s : Source K) → text_in p names older (further n s) ≡ text_in p names older s
+further_text p names n older (Text id place) = refl
+further_text p names n older (Own bytes) = refl
+further_text p names n older (Marked mode) = refl
+
+on_texts : {K : Type 0} (p : Texts Element) (names : List (Named Sense)) (n : ℕ) (ls : List (Open K)) → texts_in p names (further_on n ls) ≡ texts_in p names ls
+on_texts p names n [] = refl
+on_texts p names n (l ∷ ls) = ap (λ ts. ts ++ texts_in p names ls) (further_text p names n (ids_of ls) l.source)
 
 further_charge : {K : Type 0} (p : Texts Element) (n : ℕ) (s : Source K) (l : Open K) → level_charge (level_in p (further n s) (record l { source = further n s })) ≡ level_charge (level_in p s l)
 further_charge p n (Text id place) l = refl
@@ -63,9 +69,14 @@ on_ids : {K : Type 0} (n : ℕ) (ls : List (Open K)) → ids_of (further_on n ls
 on_ids n [] = refl
 on_ids n (l ∷ ls) = ap (λ ks. ks ++ ids_of ls) (further_ids n l.source)
 
-on_pays : {K : Type 0} (p : Texts Element) (n : ℕ) (ls : List (Open K)) → AllPay p ls → AllPay p (further_on n ls)
-on_pays p n [] pays = pays
-on_pays p n (l ∷ ls) pays = (further_pays p n l.charge l.source pays.0, pays.1)
+pub run_is : {K : Type 0} (p : Texts Element) (names : Table Sense) (drafts : Items Draft) (levels : Levels K) (beside : Beside) (limit n : ℕ)
+    → stored_of p names.entries drafts.items (record levels { levels = further_on n levels.levels }) beside limit ≡ run_left n (stored_of p names.entries drafts.items levels beside limit)
+run_is p names drafts levels beside limit n =
+    ap₂ (λ ks ts. record (stored_of p names.entries drafts.items levels beside limit) { levels = ks; texts = ts }) (newest_behind p n levels.levels) (on_texts p names.entries n levels.levels)
+
+on_pays : {K : Type 0} (n : ℕ) (ls : List (Open K)) → AllPay ls → AllPay (further_on n ls)
+on_pays n [] pays = pays
+on_pays n (l ∷ ls) pays = (further_pays n l.charge l.source pays.0, pays.1)
 
 on_charge : {K : Type 0} (p : Texts Element) (n : ℕ) (ls : List (Open K)) → sum_by level_charge (map (level_of p) (further_on n ls)) ≡ sum_by level_charge (map (level_of p) ls)
 on_charge p n [] = refl
@@ -80,25 +91,29 @@ on_length n (l ∷ ls) = refl
 module _ {K : Type 0} (p : Texts Element) (names : Table Sense) (drafts : Items Draft) (levels : Levels K) (beside : Beside) (charge limit n : ℕ) (h : IsStore p names drafts levels beside charge limit) where
   pub run_reaches : n ≤ length (rest_of (map (level_of p) levels.levels)) → NewestReaches n levels.levels
   run_reaches within =
-      let total = levels_within p names drafts levels beside charge limit h in
-      let below = h.within in
-      let small = h.small in
-      levels_reach p n levels.levels h.pays (omega arith) within
+      levels_reach p n levels.levels (λ k. text_small p names drafts levels beside charge limit k h) within
 
   pub run_stands : IsStore p names drafts (record levels { levels = further_on n levels.levels }) beside charge limit
-  run_stands = record {
-    held = subst (λ ks. IsHeld p (values names.entries ++ (draft_ids drafts.items ++ ks))) (sym (on_ids n levels.levels)) h.held;
-    alone = h.alone;
-    pays = on_pays p n levels.levels h.pays;
-    few_acts = h.few_acts;
-    charged = let was = h.charged in let same = on_charge p n levels.levels in omega arith;
-    within = h.within;
-    deep = let deep = h.deep in let same = on_length n levels.levels in omega arith;
-    small = h.small;
-    elements_suffice = h.elements_suffice;
-    slots_suffice = h.slots_suffice;
-    names_suffice = h.names_suffice;
-    drafts_suffice = h.drafts_suffice;
-    bytes_suffice = h.bytes_suffice;
-    beside_suffices = h.beside_suffices;
-  }
+  run_stands =
+      let held = subst (λ ks. IsHeld p (values names.entries ++ (draft_ids drafts.items ++ ks))) (sym (on_ids n levels.levels)) h.held in
+      let pays = on_pays n levels.levels h.pays in
+      let charged : charge ≡ charge_of (stored_of p names.entries drafts.items (record levels { levels = further_on n levels.levels }) beside limit) =
+      let was = h.charged in let same = on_charge p n levels.levels in let texts = ap (λ ts. sum_by text_charge ts) (on_texts p names.entries n levels.levels) in omega arith in
+      record {
+        held = held;
+        alone = h.alone;
+        pays = pays;
+        named = h.named;
+        few_acts = h.few_acts;
+        charged = charged;
+        once = charged_once p names.entries drafts.items (record levels { levels = further_on n levels.levels }) beside charge limit held h.alone pays h.named charged;
+        within = h.within;
+        deep = let deep = h.deep in let same = on_length n levels.levels in omega arith;
+        small = h.small;
+        elements_suffice = h.elements_suffice;
+        slots_suffice = h.slots_suffice;
+        names_suffice = h.names_suffice;
+        drafts_suffice = h.drafts_suffice;
+        bytes_suffice = h.bytes_suffice;
+        beside_suffices = h.beside_suffices;
+      }

@@ -1,14 +1,15 @@
 -- Who holds which text of the pool.
-use Rattle.std.specs.Prelude.{◌≡◌, ℕ, ◌+◌, ◌*◌, ◌^◌, ◌<◌, ◌≤◌, ◌==◌, if◌then◌else◌, List, [], ◌∷◌, ◌++◌, map, length, drop, sum_by}
+use Rattle.std.specs.Prelude.{◌≡◌, ℕ, ◌+◌, ◌*◌, ◌^◌, ◌<◌, ◌≤◌, ◌==◌, nat_lt, if◌then◌else◌, List, [], ◌∷◌, ◌++◌, map, length, drop, sum_by, Option, Some, None}
+use Rattle.std.specs.List.{range_with_len}
 use Rattle.nr_units.specs.Items.{Items}
 use Rattle.nr_pool.specs.Texts.{Texts, text, holders}
-use Rattle.nr_tables.specs.Named.{Named}
+use Rattle.nr_tables.specs.Named.{Named, find}
 use Rattle.nr_tables.specs.Rows.{Table}
 use Rattle.nr_levels.specs.Gathered.{Gathering}
 use Rattle.nr_tables.specs.Given.{word_in}
 use Rattle.nr_tables.specs.declared.word.HyphenationWord.{HyphenationWord}
 use Rattle.nr_tables.specs.declared.trap.Trap.{Trap}
-use Rattle.nr_levels.specs.Levels.{Source, Text, Own, Mark as Marked, Open, Levels}
+use Rattle.nr_levels.specs.Levels.{Source, Text, Own, Mark as Marked, Open, Levels, total}
 use Rattle.nr_store.specs.declared.named.Sense.{Sense}
 use Rattle.nr_store.specs.declared.named.Sense.TheVariants as senses
 use Rattle.nr_store.specs.declared.element.Element.{Element}
@@ -17,7 +18,7 @@ use Rattle.nr_store.specs.declared.element.Draft.{Draft}
 use Rattle.nr_store.specs.declared.register.Register.{Register}
 use Rattle.nr_store.specs.declared.request.TheConstants.{REQUESTS}
 use Rattle.nr_store.specs.Senses.{ids_of_sense, act}
-use Rattle.nr_store.specs.Stored.{Means, Act, Words, Built, Level, Read, Mark, Stored, charge_of, share}
+use Rattle.nr_store.specs.Stored.{Means, Act, Words, Built, Level, Read, Mark, Shared, Stored, charge_beside, charge_of, weight, share, own_text}
 
 -- ---- what the fields stand for
 
@@ -62,23 +63,6 @@ level_in p (Marked mode) l = Mark mode
 abbrev pub level_of : {K : Type 0} → Texts Element → Open K → Level K
 level_of p l = level_in p l.source l
 
--- what all fields stand for
-abbrev pub stored_of : {K : Type 0} → Texts Element → List (Named Sense) → List Draft → Levels K → Beside → ℕ → Stored K
-stored_of p names drafts levels beside limit = record {
-  names = map (named_means p) names;
-  building = map (built_of p) drafts;
-  levels = map (level_of p) levels.levels;
-  arguments = levels.arguments;
-  gathered = beside.gathering.gathered;
-  registers = beside.registers.entries;
-  traps = beside.traps.items;
-  words = map word_in beside.words.items;
-  limit = limit;
-  deepest = levels.most;
-}
-
--- ---- holders
-
 -- 1 for this text, else 0
 abbrev pub one : ℕ → ℕ → ℕ
 one id k = if k == id then 1 else 0
@@ -111,21 +95,85 @@ draft_ids drafts = map (λ (d : Draft). d.id) drafts
 abbrev pub held_ids : {K : Type 0} → List (Named Sense) → List ℕ → List (Open K) → List ℕ
 held_ids names building levels = values names ++ (building ++ ids_of levels)
 
+-- the name that holds a text
+abbrev pub name_by : Sense → List ℕ → ℕ → Option (List ℕ) → Option (List ℕ)
+name_by (senses.Request r) name k rest = rest
+name_by (senses.Text id) name k rest = if id == k then Some name else rest
+
+abbrev pub name_for : ℕ → List (Named Sense) → Option (List ℕ)
+name_for k [] = None
+name_for k (n ∷ ns) = name_by n.value n.name k (name_for k ns)
+
+-- the text that a source reads: it is charged where none of these reads it too
+abbrev pub text_in : {K : Type 0} → Texts Element → List (Named Sense) → List ℕ → Source K → List Shared
+text_in p names older (Text id place) = record { name = name_for id names; share = if nat_lt 0 (count id older) then 0 else share (text p id) } ∷ []
+text_in p names older (Own bytes) = own_text ∷ []
+text_in p names older (Marked mode) = []
+
+-- the texts of levels
+abbrev pub texts_in : {K : Type 0} → Texts Element → List (Named Sense) → List (Open K) → List Shared
+texts_in p names [] = []
+texts_in p names (l ∷ ls) = text_in p names (ids_of ls) l.source ++ texts_in p names ls
+
+-- what all fields stand for
+abbrev pub stored_of : {K : Type 0} → Texts Element → List (Named Sense) → List Draft → Levels K → Beside → ℕ → Stored K
+stored_of p names drafts levels beside limit = record {
+  names = map (named_means p) names;
+  building = map (built_of p) drafts;
+  levels = map (level_of p) levels.levels;
+  texts = texts_in p names levels.levels;
+  arguments = levels.arguments;
+  gathered = beside.gathering.gathered;
+  registers = beside.registers.entries;
+  traps = beside.traps.items;
+  words = map word_in beside.words.items;
+  limit = limit;
+  deepest = levels.most;
+}
+
+-- ---- holders
+
 -- these are the holders of the pool's texts
 pub record IsHeld (p : Texts Element) (ids : List ℕ) : Type 0 where
   pub held : (k : ℕ) → holders p k ≡ count k ids
   pub bare : (k : ℕ) → holders p k ≡ 0 → text p k ≡ []
 
--- a level is charged its text, and nothing once its end was taken
-abbrev pub Pays : {K : Type 0} → Texts Element → Source K → ℕ → Type 0
-Pays p (Text id place) charge = share (text p id) ≤ charge
-Pays p (Own bytes) charge = Unit {0}
-Pays p (Marked mode) charge = charge ≡ 0
+-- a level is charged 16, and nothing once its end was taken
+abbrev pub Pays : {K : Type 0} → Source K → ℕ → Type 0
+Pays (Text id place) charge = 16 ≤ charge
+Pays (Own bytes) charge = Unit {0}
+Pays (Marked mode) charge = charge ≡ 0
 
 -- each level is
-abbrev pub AllPay : {K : Type 0} → Texts Element → List (Open K) → Type 0
-AllPay p [] = Unit {0}
-AllPay p (l ∷ ls) = Pays p l.source l.charge × AllPay p ls
+abbrev pub AllPay : {K : Type 0} → List (Open K) → Type 0
+AllPay [] = Unit {0}
+AllPay (l ∷ ls) = Pays l.source l.charge × AllPay ls
+
+-- a text is held by one name at most, and the name that holds it is found
+pub record AreNamed (names : List (Named Sense)) : Type 0 where
+  pub single : (k : ℕ) → count k (values names) ≤ 1
+  pub found : (k : ℕ) (name : List ℕ) → name_for k names ≡ Some name → find name names ≡ Some (senses.Text k)
+
+-- what is no longer charged for a text where one of those who hold it lets it go: nothing where another holds it too
+abbrev pub lone : Texts Element → ℕ → ℕ
+lone p id = if holders p id == 1 then share (text p id) else 0
+
+-- ---- what is charged
+
+-- what a text is charged: where a name or a text being built has it, with that alone; else where levels read it, however
+-- many
+abbrev pub charge_of_text : Texts Element → List ℕ → List ℕ → ℕ → ℕ
+charge_of_text p kept read id =
+    if nat_lt 0 (count id kept) then weight (text p id) else if nat_lt 0 (count id read) then share (text p id) else 0
+
+-- what all texts of the pool are charged, each once
+abbrev pub charge_of_texts : Texts Element → List ℕ → List ℕ → ℕ
+charge_of_texts p kept read = sum_by (charge_of_text p kept read) (range_with_len 0 (length p.texts))
+
+-- what is charged beside texts, names and levels
+abbrev pub beside_cost : Beside → ℕ
+beside_cost beside =
+    charge_beside beside.gathering.gathered beside.registers.entries beside.traps.items (map word_in beside.words.items)
 
 -- how many names are those of requests
 abbrev pub acts : List (Named Sense) → ℕ
@@ -136,9 +184,12 @@ pub record IsStore {K : Type 0} (p : Texts Element) (names : Table Sense) (draft
   pub held : IsHeld p (held_ids names.entries (draft_ids drafts.items) levels.levels)
   -- a text that is being built has no other holder
   pub alone : (k : ℕ) → 0 < count k (draft_ids drafts.items) → holders p k ≡ 1
-  pub pays : AllPay p levels.levels
+  pub pays : AllPay levels.levels
+  pub named : AreNamed names.entries
   pub few_acts : acts names.entries ≤ length REQUESTS
   pub charged : charge ≡ charge_of (stored_of p names.entries drafts.items levels beside limit)
+  -- what is charged is a sum over the pool, in which each text stands once, however many levels read it
+  pub once : charge ≡ charge_of_texts p (values names.entries ++ draft_ids drafts.items) (ids_of levels.levels) + total levels.levels + beside_cost beside
   pub within : charge ≤ limit
   pub deep : length levels.levels ≤ levels.most
   pub small : limit < 2 ^ 32

@@ -1,8 +1,25 @@
 -- What a run of elements comes to that is taken one by one.
-use Rattle.std.proofs.Common.{◌≡◌, ℕ, zero, suc, ◌≤◌, List, [], ◌∷◌, length, drop, refl, arith}
+use Rattle.std.proofs.Common.{◌≡◌, ℕ, zero, suc, ◌≤◌, List, [], ◌∷◌, length, drop, sum_by, Some, refl, ap, sym, ◌∙◌, inl, inr, arith}
+use Rattle.std.proofs.lemmas.List.Sums.{sum_by-cons}
+use Rattle.std.proofs.lemmas.Bool.{cases_Bool, cond-true, cond-false}
+use Rattle.nr_tables.specs.Named.{is_same, Named, find}
 use Rattle.nr_store.specs.declared.element.Element.{Element}
-use Rattle.nr_store.specs.Stored.{Level, Read, Mark, Reading, Stored}
+use Rattle.nr_store.specs.Stored.{Level, Read, Mark, Reading, Stored, Means, Act, Words, words, weight, weight_of}
 use Rattle.nr_store.specs.Windows.{rest_in, rest_of, left_times, run_left}
+
+-- a text is charged under its name
+pub named_weighs : (name : List ℕ) (text : List Element) (ns : List (Named Means)) → words (find name ns) ≡ Some text → weight text ≤ sum_by (λ (n : Named Means). weight_of n.value) ns
+named_weighs name text [] is = let no : ⊥ = cc in absurd no
+named_weighs name text (n ∷ ns) is =
+    let all = sum_by-cons (λ (m : Named Means). weight_of m.value) n ns in
+    elim (cases_Bool (is_same n.name name)) [
+      | inl hit ↦ omega (arith, all, words_weigh n.value text (ap words (sym (cond-true (is_same n.name name) (Some n.value) (find name ns) hit)) ∙ is))
+      | inr missed ↦ omega (arith, all, named_weighs name text ns (ap words (sym (cond-false (is_same n.name name) (Some n.value) (find name ns) missed)) ∙ is))
+    ]
+  where
+    words_weigh : (m : Means) (text : List Element) → words (Some m) ≡ Some text → weight text ≤ weight_of m
+    words_weigh (Act request) text is = let no : ⊥ = cc in absurd no
+    words_weigh (Words xs) text is = let same : xs ≡ text = cc in let long : length xs ≡ length text = ap length same in omega (arith, long)
 
 -- of a level with this left of its text
 reading_left : {K : Type 0} (n : ℕ) (xs : List Element) (l : Reading K) (ls : List (Level K)) (v : Stored K) → n ≤ length xs

@@ -1,5 +1,5 @@
 -- What a store holds, as its callers see it, and what each call makes of it.
-use Rattle.std.specs.Prelude.{ℕ, ◌+◌, ◌*◌, nat_lt, nat_le, min, max, Bool, false, if◌then◌else◌, List, [], ◌∷◌, ◌++◌, map, length, replicate, sum_by, ℤ, pos, ◌+ℤ◌, ◌-ℤ◌, unsigned_abs, Option, Some, None, Result, Ok, Err}
+use Rattle.std.specs.Prelude.{ℕ, ◌+◌, ◌*◌, nat_lt, nat_le, min, max, Bool, true, false, if◌then◌else◌, List, [], ◌∷◌, ◌++◌, map, length, drop, replicate, sum_by, ℤ, pos, ◌+ℤ◌, ◌-ℤ◌, unsigned_abs, Option, Some, None, Result, Ok, Err}
 use Rattle.std.specs.Option.{option_map, option_and_then, unwrap_or}
 use Rattle.std.specs.List.{flat_map}
 use Rattle.nr_units.specs.declared.cell.Cell.{Cell}
@@ -46,13 +46,21 @@ pub data Level (K : Type 0) : Type 0 where
   Read : Reading K → Level K
   Mark : K → Level K
 
+-- the text of a level: the name that holds it, if one does, and what it is charged where none does. A text is charged
+-- once, however many levels read it: with the oldest of them, and nothing with the others
+pub record Shared : Type 0 where
+  pub name : Option (List ℕ)
+  pub share : ℕ
+
 -- all that is stored: what names stand for, in the order of the names; texts being built and levels, the newest first;
+-- the text of each level whose end was not taken, the newest first;
 -- the arguments in force, and those that are being read; registers, in the order of their names; traps in planting order;
 -- hyphenation words, the latest first; what all may be charged, and how many levels there may be
 pub record Stored (K : Type 0) : Type 0 where
   pub names : List (Named Means)
   pub building : List Built
   pub levels : List (Level K)
+  pub texts : List Shared
   pub arguments : List (List ℕ)
   pub gathered : Gathered
   pub registers : List (Named Register)
@@ -77,6 +85,14 @@ abbrev pub level_charge : {K : Type 0} → Level K → ℕ
 level_charge (Read l) = l.charge
 level_charge (Mark mode) = 0
 
+-- what a text that is read is charged beside its names: nothing where a name holds it
+abbrev pub loose : Option (List ℕ) → ℕ → ℕ
+loose None share = share
+loose (Some name) share = 0
+
+abbrev pub text_charge : Shared → ℕ
+text_charge t = loose t.name t.share
+
 -- what is charged beside texts and levels
 abbrev pub charge_beside : Gathered → List (Named Register) → List Trap → List Word → ℕ
 charge_beside gathered registers traps words =
@@ -86,7 +102,7 @@ charge_beside gathered registers traps words =
 abbrev pub charge_of : {K : Type 0} → Stored K → ℕ
 charge_of v =
     sum_by (λ (n : Named Means). weight_of n.value) v.names + sum_by (λ (b : Built). weight b.text) v.building
-    + sum_by level_charge v.levels + charge_beside v.gathered v.registers v.traps v.words
+    + (sum_by level_charge v.levels + sum_by text_charge v.texts) + charge_beside v.gathered v.registers v.traps v.words
 
 -- x, where v may be stored; else that it may not
 abbrev pub afforded : {K X : Type 0} → Stored K → X → Result X StoredBytes
@@ -104,6 +120,7 @@ nothing names limit deepest = record {
   names = names;
   building = [];
   levels = [];
+  texts = [];
   arguments = [];
   gathered = none_gathered;
   registers = [];
@@ -127,14 +144,31 @@ meaning_of None = meanings.Unknown
 meaning_of (Some (Act request)) = meanings.Request request
 meaning_of (Some (Words text)) = meanings.Text
 
--- where nothing has this name
+-- whether this is the name
+abbrev pub is_named : List ℕ → Option (List ℕ) → Bool
+is_named name None = false
+is_named name (Some n) = is_same n name
+
+-- a text that is no longer held by this name
+abbrev pub without_name : List ℕ → Option (List ℕ) → Option (List ℕ)
+without_name name o = if is_named name o then None else o
+
+-- a text that is held by the second name where it was by the first, and no longer by the second where it was
+abbrev pub with_name : List ℕ → List ℕ → Option (List ℕ) → Option (List ℕ)
+with_name from to o = if is_named from o then Some to else without_name to o
+
+-- the texts of levels where their names change so
+abbrev pub renamed_by : (Option (List ℕ) → Option (List ℕ)) → List Shared → List Shared
+renamed_by f texts = map (λ (t : Shared). record t { name = f t.name }) texts
+
+-- where nothing has this name; levels go on reading its text
 abbrev pub removed : {K : Type 0} → List ℕ → Stored K → Stored K
-removed name v = record v { names = without name v.names }
+removed name v = record v { names = without name v.names; texts = renamed_by (without_name name) v.texts }
 
 -- where one name has what another had
 abbrev pub moved : {K : Type 0} → Option Means → List ℕ → List ℕ → Stored K → Stored K
 moved None from to v = v
-moved (Some m) from to v = record v { names = put to m (without from v.names) }
+moved (Some m) from to v = record v { names = put to m (without from v.names); texts = renamed_by (with_name from to) v.texts }
 
 -- where one name has what another had, if that had anything and is another
 abbrev pub renamed : {K : Type 0} → List ℕ → List ℕ → Stored K → Stored K
@@ -198,7 +232,7 @@ diverted_end cells height v = record v {
 -- where the newest text being built has this name
 abbrev pub named_newest : {K : Type 0} → List Built → List ℕ → Stored K → Stored K
 named_newest [] name v = v
-named_newest (b ∷ bs) name v = record v { names = put name (Words b.text) v.names; building = bs }
+named_newest (b ∷ bs) name v = record v { names = put name (Words b.text) v.names; building = bs; texts = renamed_by (without_name name) v.texts }
 
 abbrev pub defined : {K : Type 0} → List ℕ → Stored K → Stored K
 defined name v = named_newest v.building name v
@@ -233,24 +267,39 @@ diversion_ended v = ended_by (newest_diversion v.building) v
 -- ---- levels
 
 -- with a level that reads this
-abbrev pub reading : {K : Type 0} → List Element → List (List ℕ) → ℕ → Option K → Stored K → Stored K
-reading text arguments charge resume v = record v {
+abbrev pub reading : {K : Type 0} → List Element → List (List ℕ) → ℕ → Option K → Shared → Stored K → Stored K
+reading text arguments charge resume shared v = record v {
   levels = Read (record { rest = text; old = v.arguments; charge = charge; resume = resume }) ∷ v.levels;
+  texts = shared ∷ v.texts;
   arguments = arguments;
 }
 
--- what a level is charged for its text
+-- what a text is charged that levels read and no name holds
 abbrev pub share : List Element → ℕ
 share text = 16 + length text
 
--- with a level that reads a text, where there is one, with no arguments
-abbrev pub entered : {K : Type 0} → Option (List Element) → Option K → Stored K → Stored K
-entered None resume v = v
-entered (Some text) resume v = reading text [] (share text) resume v
+-- whether a level reads the text of this name
+abbrev pub is_read : List ℕ → List Shared → Bool
+is_read name [] = false
+is_read name (t ∷ ts) = if is_named name t.name then true else is_read name ts
 
--- with a level that reads bytes; the arguments stay in force
+-- the text of a name, for one level more
+abbrev pub shared_by : List ℕ → List Element → List Shared → Shared
+shared_by name text texts = record { name = Some name; share = if is_read name texts then 0 else share text }
+
+-- a text that one level reads, which is charged for it
+abbrev pub own_text : Shared
+own_text = record { name = None; share = 0 }
+
+-- with a level that reads the text of a name, where it has one, with no arguments
+abbrev pub entered : {K : Type 0} → List ℕ → Option (List Element) → Option K → Stored K → Stored K
+entered name None resume v = v
+entered name (Some text) resume v = reading text [] 16 resume (shared_by name text v.texts) v
+
+-- with a level that reads bytes, a text of its own: 16 for the level, and 16 and its length for the text; the arguments
+-- stay in force
 abbrev pub reading_bytes : {K : Type 0} → List ℕ → Stored K → Stored K
-reading_bytes bytes v = reading (map elements.Byte bytes) v.arguments (16 + length bytes) None v
+reading_bytes bytes v = reading (map elements.Byte bytes) v.arguments (32 + length bytes) None own_text v
 
 -- with no arguments being read
 abbrev pub ungathered : {K : Type 0} → Stored K → Stored K
@@ -268,11 +317,11 @@ gathering_all bytes v = record v { gathered = with_bytes bytes v.gathered }
 abbrev pub gathered_whole : {K : Type 0} → Stored K → Stored K
 gathered_whole v = record v { gathered = with_end v.gathered }
 
--- with a level that reads a text, where there is one, with the arguments that were read
-abbrev pub called : {K : Type 0} → Option (List Element) → Stored K → Stored K
-called None v = ungathered v
-called (Some text) v =
-    ungathered (reading text v.gathered.kept (share text + bytes_in v.gathered.kept) None v)
+-- with a level that reads the text of a name, where it has one, with the arguments that were read
+abbrev pub called : {K : Type 0} → List ℕ → Option (List Element) → Stored K → Stored K
+called name None v = ungathered v
+called name (Some text) v =
+    ungathered (reading text v.gathered.kept (16 + bytes_in v.gathered.kept) None (shared_by name text v.texts) v)
 
 -- what a look at a text shows
 abbrev pub shown_of : {K : Type 0} → List Element → Shown K
@@ -296,7 +345,7 @@ mark_of (Some mode) = Mark mode ∷ []
 
 -- behind what a text gives
 abbrev pub left_of : {K : Type 0} → List Element → Reading K → List (Level K) → Stored K → Stored K
-left_of [] l ls v = record v { levels = mark_of l.resume ++ ls; arguments = l.old }
+left_of [] l ls v = record v { levels = mark_of l.resume ++ ls; texts = drop 1 v.texts; arguments = l.old }
 left_of (x ∷ xs) l ls v = record v { levels = Read (record l { rest = xs }) ∷ ls }
 
 -- behind what a level gives
@@ -311,7 +360,7 @@ left (l ∷ ls) v = left_in l ls v
 
 -- where the newest level goes, its text unread
 abbrev pub dropped_in : {K : Type 0} → Level K → List (Level K) → Stored K → Stored K
-dropped_in (Read l) ls v = record v { levels = mark_of l.resume ++ ls; arguments = l.old }
+dropped_in (Read l) ls v = record v { levels = mark_of l.resume ++ ls; texts = drop 1 v.texts; arguments = l.old }
 dropped_in (Mark mode) ls v = record v { levels = ls }
 
 abbrev pub dropped : {K : Type 0} → List (Level K) → Stored K → Stored K
@@ -320,7 +369,7 @@ dropped (l ∷ ls) v = dropped_in l ls v
 
 -- with no levels, and no arguments
 abbrev pub emptied : {K : Type 0} → Stored K → Stored K
-emptied v = record v { levels = []; arguments = []; gathered = none_gathered }
+emptied v = record v { levels = []; texts = []; arguments = []; gathered = none_gathered }
 
 -- ---- the spliced input
 

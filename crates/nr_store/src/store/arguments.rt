@@ -67,21 +67,20 @@ impl<'a, K: Copy> Store<'a, K> {
     /// there is such a text. No arguments are being read then.
     pub fn call(&mut self, name: Name) -> Result<bool, Refusal>
         ensures answer { let text = words (find name self.old.names) in
-            result ≡ checked (called text self.old) (is_some text) }
-        ensures ok { OnOk result (self.new ≡ called (words (find name self.old.names)) self.old) }
+            result ≡ checked (called name text self.old) (is_some text) }
+        ensures ok { OnOk result (self.new ≡ called name (words (find name self.old.names)) self.old) }
         ensures err { OnErr result (self.new ≡ self.old) }
     {
         let Some(id) = text_in(&self.names, name) else {
             self.begin_arguments();
             return Ok(false);
         };
-        let text = 16 + self.pool.len(id) as u32;
         let kept = self.gathering.kept_len() as u32;
         let before = self.charge - self.gathering.len() as u32;
-        if self.stored - before < text {
+        if self.stored - before < 16 {
             return Err(Refusal::Stored);
         }
-        if self.stored - before - text < kept {
+        if self.stored - before - 16 < kept {
             return Err(Refusal::Stored);
         }
         if self.levels.is_full() {
@@ -90,9 +89,9 @@ impl<'a, K: Copy> Store<'a, K> {
         self.pool.hold(id);
         let bytes = self.gathering.kept_bytes();
         let lens = self.gathering.kept_lens();
-        self.levels.open_call(id, bytes, lens, text + kept);
+        self.levels.open_call(id, bytes, lens, 16 + kept);
         self.gathering.clear();
-        self.charge = before + text + kept;
+        self.charge = before + 16 + kept;
         Ok(true)
     }
 }

@@ -9,7 +9,7 @@ use crate::named::Sense;
 use crate::refusal::StoredBytes;
 use crate::store::Store;
 use crate::store::lines::append_all;
-use crate::store::names::text_in;
+use crate::store::names::{lone_share, text_in};
 use nr_tables::Trap;
 use nr_units::Name;
 use nr_units::cell::Cell;
@@ -138,7 +138,8 @@ impl<'a, K: Copy> Store<'a, K> {
     /// Gives the newest text being built a name. Levels go on reading the text that had it. Nothing happens where no text
     /// is being built.
     pub fn define(&mut self, name: Name)
-        ensures { self.new ≡ defined name self.old }
+        ensures is { self.new ≡ defined name self.old }
+        ensures no_more { charge_of self.new ≤ charge_of self.old }
     {
         let Some(draft) = self.drafts.top() else {
             return;
@@ -150,7 +151,7 @@ impl<'a, K: Copy> Store<'a, K> {
         let Sense::Text(old) = old else {
             return;
         };
-        self.charge -= 48 + self.pool.len(old) as u32;
+        self.charge -= 32 + lone_share(&self.pool, old);
         self.pool.release(old);
     }
 

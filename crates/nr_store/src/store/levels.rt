@@ -10,7 +10,7 @@ use crate::element::Element;
 use crate::refusal::Refusal;
 use crate::shown::{Rest, Sight};
 use crate::store::Store;
-use crate::store::names::text_in;
+use crate::store::names::{lone_share, text_in};
 use nr_levels::Next;
 use nr_units::Name;
 
@@ -18,8 +18,8 @@ impl<'a, K: Copy> Store<'a, K> {
     /// Opens a level that reads the text of a name, with no arguments in force. Answers whether there is one.
     pub fn enter(&mut self, name: Name) -> Result<bool, Refusal>
         ensures answer { let text = words (find name self.old.names) in
-            result ≡ checked (entered text None self.old) (is_some text) }
-        ensures ok { OnOk result (self.new ≡ entered (words (find name self.old.names)) None self.old) }
+            result ≡ checked (entered name text None self.old) (is_some text) }
+        ensures ok { OnOk result (self.new ≡ entered name (words (find name self.old.names)) None self.old) }
         ensures err { OnErr result (self.new ≡ self.old) }
     {
         self.open(name, None)
@@ -28,8 +28,8 @@ impl<'a, K: Copy> Store<'a, K> {
     /// As `enter`, with a mode that is resumed behind the level's end.
     pub fn spring(&mut self, name: Name, mode: K) -> Result<bool, Refusal>
         ensures answer { let text = words (find name self.old.names) in
-            result ≡ checked (entered text (Some mode) self.old) (is_some text) }
-        ensures ok { OnOk result (self.new ≡ entered (words (find name self.old.names)) (Some mode) self.old) }
+            result ≡ checked (entered name text (Some mode) self.old) (is_some text) }
+        ensures ok { OnOk result (self.new ≡ entered name (words (find name self.old.names)) (Some mode) self.old) }
         ensures err { OnErr result (self.new ≡ self.old) }
     {
         self.open(name, Some(mode))
@@ -38,23 +38,22 @@ impl<'a, K: Copy> Store<'a, K> {
     // Opens a level that reads the text of a name, with no arguments in force.
     fn open(&mut self, name: Name, resume: Option<K>) -> Result<bool, Refusal>
         ensures answer { let text = words (find name self.old.names) in
-            result ≡ checked (entered text resume self.old) (is_some text) }
-        ensures ok { OnOk result (self.new ≡ entered (words (find name self.old.names)) resume self.old) }
+            result ≡ checked (entered name text resume self.old) (is_some text) }
+        ensures ok { OnOk result (self.new ≡ entered name (words (find name self.old.names)) resume self.old) }
         ensures err { OnErr result (self.new ≡ self.old) }
     {
         let Some(id) = text_in(&self.names, name) else {
             return Ok(false);
         };
-        let charge = 16 + self.pool.len(id) as u32;
-        if self.stored - self.charge < charge {
+        if self.stored - self.charge < 16 {
             return Err(Refusal::Stored);
         }
         if self.levels.is_full() {
             return Err(Refusal::Depth);
         }
         self.pool.hold(id);
-        self.levels.open_text(id, charge, resume);
-        self.charge += charge;
+        self.levels.open_text(id, 16, resume);
+        self.charge += 16;
         Ok(true)
     }
 
@@ -64,7 +63,7 @@ impl<'a, K: Copy> Store<'a, K> {
         ensures ok { OnOk result (self.new ≡ reading_bytes bytes.now self.old) }
         ensures err { OnErr result (self.new ≡ self.old) }
     {
-        let charge = 16 + bytes.len();
+        let charge = 32 + bytes.len();
         if ((self.stored - self.charge) as usize) < charge {
             return Err(Refusal::Stored);
         }
@@ -83,7 +82,7 @@ impl<'a, K: Copy> Store<'a, K> {
         ensures ok { OnOk result (self.new ≡ reading_bytes (argument self.old.arguments n) self.old) }
         ensures err { OnErr result (self.new ≡ self.old) }
     {
-        let charge = 16 + self.levels.argument_len(n);
+        let charge = 32 + self.levels.argument_len(n);
         if ((self.stored - self.charge) as usize) < charge {
             return Err(Refusal::Stored);
         }
@@ -123,8 +122,9 @@ impl<'a, K: Copy> Store<'a, K> {
         }
     }
 
-    /// Takes what comes next of the levels. Taking an end gives back the level's charge, and puts the arguments before it
-    /// in force again; the mode that is resumed behind it, if there is one, comes next, and taking it puts it into `mode`.
+    /// Takes what comes next of the levels. Taking an end gives back the level's charge, with that of its text where
+    /// neither a name nor another level has it, and puts the arguments before it in force again; the mode that is resumed
+    /// behind it, if there is one, comes next, and taking it puts it into `mode`.
     #[inline]
     pub fn take(&mut self, mode: &mut K) -> Sight
         ensures was { shown_with result mode.new ≡ shown self.old.levels }
@@ -151,8 +151,9 @@ impl<'a, K: Copy> Store<'a, K> {
                     self.levels.advance();
                     return Sight::Item(element);
                 }
+                let own = lone_share(&self.pool, id);
                 self.pool.release(id);
-                self.charge -= self.levels.close();
+                self.charge -= own + self.levels.close();
                 Sight::End
             }
         }
@@ -202,8 +203,9 @@ impl<'a, K: Copy> Store<'a, K> {
             Next::End => self.charge -= self.levels.close(),
             Next::Resume => self.levels.drop_mode(),
             Next::Text(id, _) => {
+                let text = lone_share(&self.pool, id);
                 self.pool.release(id);
-                self.charge -= self.levels.close();
+                self.charge -= text + self.levels.close();
             }
         }
     }

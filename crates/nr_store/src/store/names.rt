@@ -1,12 +1,15 @@
 // The name list: what names stand for, removed and renamed.
-ghost use Rattle.std.specs.Prelude.{◌≡◌, None};
+ghost use Rattle.std.specs.Prelude.{◌≡◌, ◌^◌, ◌<◌, ◌≤◌, None};
+ghost use Rattle.nr_pool.specs.Texts.{IsOpen, text};
 ghost use Rattle.nr_tables.specs.Named.{find, is_same};
 ghost use Rattle.nr_store.specs.Senses.{text_id};
-ghost use Rattle.nr_store.specs.Stored.{meaning_of, removed, renamed, moved};
+ghost use Rattle.nr_store.specs.Stored.{charge_of, meaning_of, share, removed, renamed, moved};
+ghost use Rattle.nr_store.specs.Holders.{lone};
 
+use crate::element::Element;
 use crate::named::{Meaning, Sense};
 use crate::store::Store;
-use nr_pool::Id;
+use nr_pool::{Id, Pool};
 use nr_tables::Table;
 use nr_units::Name;
 
@@ -21,6 +24,19 @@ pub(crate) fn text_in(names: &Table<'_, Sense>, name: Name) -> Option<Id>
         Sense::Request(_) => None,
         Sense::Text(id) => Some(id),
     }
+}
+
+// What is no longer charged for a text where one of those who hold it lets it go: 16 and its length where no other holds
+// it, else nothing. (A name gives back 32 beside it, a level what it is charged itself.)
+pub(crate) fn lone_share(pool: &Pool<'_, Element>, id: Id) -> u32
+    requires is_open { IsOpen pool.now id }
+    requires small { share (text pool.now id) < 2 ^ 32 }
+    ensures { result ≡ lone pool.now id }
+{
+    if pool.holders(id) == 1 {
+        return 16 + pool.len(id) as u32;
+    }
+    0
 }
 
 impl<'a, K: Copy> Store<'a, K> {
@@ -41,6 +57,7 @@ impl<'a, K: Copy> Store<'a, K> {
     pub fn remove(&mut self, name: Name)
         ensures is { self.new ≡ removed name self.old }
         ensures gone { find name self.new.names ≡ None }
+        ensures no_more { charge_of self.new ≤ charge_of self.old }
     {
         let Some(old) = self.names.remove(name) else {
             return;
@@ -48,14 +65,15 @@ impl<'a, K: Copy> Store<'a, K> {
         let Sense::Text(old) = old else {
             return;
         };
-        self.charge -= 48 + self.pool.len(old) as u32;
+        self.charge -= 32 + lone_share(&self.pool, old);
         self.pool.release(old);
     }
 
     /// Gives what has the one name the other name, whose meaning goes (CSTR 54, `.rn`). Nothing changes where nothing has
     /// the one name, or the other is the same.
     pub fn rename(&mut self, from: Name, to: Name)
-        ensures { self.new ≡ renamed from to self.old }
+        ensures is { self.new ≡ renamed from to self.old }
+        ensures no_more { charge_of self.new ≤ charge_of self.old }
     {
         if from.compare(&to).is_eq() {
             return;
@@ -65,7 +83,8 @@ impl<'a, K: Copy> Store<'a, K> {
 
     // Gives what has the one name the other name.
     fn move_name(&mut self, from: Name, to: Name)
-        ensures { self.new ≡ moved (find from self.old.names) from to self.old }
+        ensures is { self.new ≡ moved (find from self.old.names) from to self.old }
+        ensures no_more { charge_of self.new ≤ charge_of self.old }
     {
         let Some(sense) = self.names.remove(from) else {
             return;
@@ -76,7 +95,7 @@ impl<'a, K: Copy> Store<'a, K> {
         let Sense::Text(old) = old else {
             return;
         };
-        self.charge -= 48 + self.pool.len(old) as u32;
+        self.charge -= 32 + lone_share(&self.pool, old);
         self.pool.release(old);
     }
 }

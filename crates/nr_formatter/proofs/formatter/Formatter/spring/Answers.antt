@@ -11,7 +11,7 @@ returns-else-sprung-clause-result c = λ w.
     let f = c.args.self.now in
     let springs = rw c.if-sprung.false at c.in-Ok.ensures.springs in
     let none : words (find c.args.name f.store.names) ≡ None = unsprung c.args.name _ f.store _ f.reader _ springs in
-    springs_nothing f (words (find c.args.name f.store.names)) none w
+    springs_nothing f c.args.name (words (find c.args.name f.store.names)) none w
 
 pub returns-else-sprung-clause-ok : goal.returns-else-sprung-clause-ok
 returns-else-sprung-clause-ok c =
@@ -19,7 +19,7 @@ returns-else-sprung-clause-ok c =
     let springs = rw c.if-sprung.false at c.in-Ok.ensures.springs in
     let same = rw c.if-sprung.false at c.in-Ok.ensures.pays in
     let none : words (find c.args.name f.store.names) ≡ None = unsprung c.args.name _ f.store _ f.reader _ springs in
-    rw (same.0, same.1) (sprung_none f (words (find c.args.name f.store.names)) none)
+    rw (same.0, same.1) (sprung_none f c.args.name (words (find c.args.name f.store.names)) none)
 
 pub returns-then-sprung-clause-text : goal.returns-then-sprung-clause-text
 returns-then-sprung-clause-text c = λ names.

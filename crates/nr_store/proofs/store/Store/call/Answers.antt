@@ -1,17 +1,17 @@
-use Rattle.std.proofs.Common.{◌≡◌, ◌+◌, ◌-◌, length, Some, None, is_some, true, false, ap₂, ap, sym, ◌∙◌, subst, arith}
+use Rattle.std.proofs.Common.{◌≡◌, ◌+◌, ◌-◌, length, Some, None, is_some, true, false, refl, ap₂, ap, sym, ◌∙◌, subst, arith}
 use Rattle.std.specs.Option.{option_map}
 use Rattle.std.proofs.lemmas.Bool.{leb-true, leb-false}
 use Rattle.nr_pool.specs.Texts.{text, holders, with_holders}
 use Rattle.nr_levels.specs.Levels.{Text, deeper, cut}
 use Rattle.nr_levels.specs.Gathered.{gathered_len, bytes_in}
 use Rattle.nr_levels.specs.Laws.{cut_joined, length-joined, sum-lengths}
-use Rattle.nr_store.specs.Stored.{Stored, checked, share, called, ungathered}
+use Rattle.nr_store.specs.Stored.{Stored, checked, shared_by, called, ungathered}
 use Rattle.nr_store.specs.Holders.{beside_of, IsStore}
 use Rattle.nr_store.proofs.Keeping.{levels_within}
 use Rattle.nr_store.proofs.Besides.{beside_paid}
 use Rattle.nr_store.proofs.Calling.{cleared, clear_stands, clear_within}
 use Rattle.nr_store.proofs.Entering.{entered_is, entered_stands}
-use Rattle.nr_store.proofs.Admitting.{named_text, is_named, depths, answer_refused, answer_deep, answer_admitted}
+use Rattle.nr_store.proofs.Admitting.{named_text, is_named, text_found, depths, answer_refused, answer_deep, answer_admitted}
 use Rattle.nr_store.proofs.Building.{admitted}
 use Rattle.nr_store.proofs.store.Store.call.Goals as goal
 
@@ -25,35 +25,13 @@ returns-in_default-clause-answer g c =
     let charged = within.charged in
     let limits = within.same_limit in
     let fits = within.within in
-    sym (ap (λ o. checked (called o c.args.self.now) (is_some o)) none ∙ admitted (ungathered c.args.self.now) false (omega arith) within.deep)
+    sym (ap (λ o. checked (called c.args.name o c.args.self.now) (is_some o)) none ∙ admitted (ungathered c.args.self.now) false (omega arith) within.deep)
 
 pub returns-in_default-clause-ok : goal.returns-in_default-clause-ok
 returns-in_default-clause-ok g c =
     let s = c.self.inside in
     let none = named_text s.pool s.names.entries s.drafts.items s.levels (beside_of s.gathering s.registers s.traps s.words) s.stored c.args.name c.text_in.result c.args.self.now c.self.view_is c.text_in.ensures ∙ ap (option_map (text s.pool)) c.in_default.is in
-    rw c.begin_arguments.ensures (sym (ap (λ o. called o c.args.self.now) none))
-
-pub len-requires : goal.len-requires
-len-requires g c =
-    let s = c.self.inside in
-    (is_named s.pool s.names s.drafts s.levels (beside_of s.gathering s.registers s.traps s.words) s.charge s.stored c.args.name c.in-Some.id c.text_in.result c.self.invariant c.text_in.ensures c.in-Some.is).there.is_open
-
-pub overflow_cast-text : goal.overflow_cast-text
-overflow_cast-text g c =
-    let s = c.self.inside in
-    let weighs = (is_named s.pool s.names s.drafts s.levels (beside_of s.gathering s.registers s.traps s.words) s.charge s.stored c.args.name c.in-Some.id c.text_in.result c.self.invariant c.text_in.ensures c.in-Some.is).there.weighs in
-    let below = c.self.invariant.within in
-    let small = c.self.invariant.small in
-    omega arith
-
-pub overflow_add-text : goal.overflow_add-text
-overflow_add-text g c =
-    let s = c.self.inside in
-    let weighs = (is_named s.pool s.names s.drafts s.levels (beside_of s.gathering s.registers s.traps s.words) s.charge s.stored c.args.name c.in-Some.id c.text_in.result c.self.invariant c.text_in.ensures c.in-Some.is).there.weighs in
-    let below = c.self.invariant.within in
-    let small = c.self.invariant.small in
-    let long = c.len.ensures in
-    omega arith
+    rw c.begin_arguments.ensures (sym (ap (λ o. called c.args.name o c.args.self.now) none))
 
 pub overflow_cast-kept : goal.overflow_cast-kept
 overflow_cast-kept g c =
@@ -71,28 +49,26 @@ returns-then-self-before-clause-answer g c =
     let paid = beside_paid s.pool s.names s.drafts s.levels (beside_of s.gathering s.registers s.traps s.words) s.charge s.stored c.self.invariant in
     let within = clear_within s.pool s.names s.drafts s.levels s.gathering s.registers s.traps s.words s.charge s.stored c.self.invariant c.args.self.now c.self.view_is in
     let found = named_text s.pool s.names.entries s.drafts.items s.levels (beside_of s.gathering s.registers s.traps s.words) s.stored c.args.name c.text_in.result c.args.self.now c.self.view_is c.text_in.ensures ∙ ap (option_map (text s.pool)) c.in-Some.is in
-    let long = c.len.ensures in
     let kept_is = c.kept_len-kept.ensures in
-    let all_is = c.len-2.ensures in
+    let all_is = c.len.ensures in
     let bytes_are = length-joined s.gathering.gathered.kept in
     let same_kept : s.gathering.gathered.kept ≡ c.args.self.now.gathered.kept = ap (λ (v : Stored _). v.gathered.kept) c.self.view_is in
     let same_len = ap bytes_in same_kept in
-    sym (ap (λ o. checked (called o c.args.self.now) (is_some o)) found ∙ answer_refused (s.charge - gathered_len s.gathering.gathered) s.stored (share (text s.pool c.in-Some.id) + bytes_in c.args.self.now.gathered.kept) None c.args.self.now.gathered.kept (ungathered c.args.self.now) (text s.pool c.in-Some.id) true within (omega arith))
+    sym (ap (λ o. checked (called c.args.name o c.args.self.now) (is_some o)) found ∙ answer_refused (s.charge - gathered_len s.gathering.gathered) s.stored (16 + bytes_in c.args.self.now.gathered.kept) None c.args.self.now.gathered.kept (ungathered c.args.self.now) (text s.pool c.in-Some.id) (shared_by c.args.name (text s.pool c.in-Some.id) c.args.self.now.texts) refl true within (omega arith))
 
-pub returns-then-self-before-2-clause-answer : goal.returns-then-self-before-2-clause-answer
-returns-then-self-before-2-clause-answer g c =
+pub returns-then-self-before-lt16-clause-answer : goal.returns-then-self-before-lt16-clause-answer
+returns-then-self-before-lt16-clause-answer g c =
     let s = c.self.inside in
     let below = c.self.invariant.within in
     let paid = beside_paid s.pool s.names s.drafts s.levels (beside_of s.gathering s.registers s.traps s.words) s.charge s.stored c.self.invariant in
     let within = clear_within s.pool s.names s.drafts s.levels s.gathering s.registers s.traps s.words s.charge s.stored c.self.invariant c.args.self.now c.self.view_is in
     let found = named_text s.pool s.names.entries s.drafts.items s.levels (beside_of s.gathering s.registers s.traps s.words) s.stored c.args.name c.text_in.result c.args.self.now c.self.view_is c.text_in.ensures ∙ ap (option_map (text s.pool)) c.in-Some.is in
-    let long = c.len.ensures in
     let kept_is = c.kept_len-kept.ensures in
-    let all_is = c.len-2.ensures in
+    let all_is = c.len.ensures in
     let bytes_are = length-joined s.gathering.gathered.kept in
     let same_kept : s.gathering.gathered.kept ≡ c.args.self.now.gathered.kept = ap (λ (v : Stored _). v.gathered.kept) c.self.view_is in
     let same_len = ap bytes_in same_kept in
-    sym (ap (λ o. checked (called o c.args.self.now) (is_some o)) found ∙ answer_refused (s.charge - gathered_len s.gathering.gathered) s.stored (share (text s.pool c.in-Some.id) + bytes_in c.args.self.now.gathered.kept) None c.args.self.now.gathered.kept (ungathered c.args.self.now) (text s.pool c.in-Some.id) true within (omega arith))
+    sym (ap (λ o. checked (called c.args.name o c.args.self.now) (is_some o)) found ∙ answer_refused (s.charge - gathered_len s.gathering.gathered) s.stored (16 + bytes_in c.args.self.now.gathered.kept) None c.args.self.now.gathered.kept (ungathered c.args.self.now) (text s.pool c.in-Some.id) (shared_by c.args.name (text s.pool c.in-Some.id) c.args.self.now.texts) refl true within (omega arith))
 
 pub returns-then-is_full-clause-answer : goal.returns-then-is_full-clause-answer
 returns-then-is_full-clause-answer g c =
@@ -104,14 +80,13 @@ returns-then-is_full-clause-answer g c =
     let same = depths s.pool s.names.entries s.drafts.items s.levels (beside_of s.gathering s.registers s.traps s.words) s.stored c.args.self.now c.self.view_is in
     let same_most = same.same_most in
     let same_depth = same.same_depth in
-    let long = c.len.ensures in
     let kept_is = c.kept_len-kept.ensures in
-    let all_is = c.len-2.ensures in
+    let all_is = c.len.ensures in
     let bytes_are = length-joined s.gathering.gathered.kept in
     let same_kept : s.gathering.gathered.kept ≡ c.args.self.now.gathered.kept = ap (λ (v : Stored _). v.gathered.kept) c.self.view_is in
     let same_len = ap bytes_in same_kept in
     let full = leb-true s.levels.most (length s.levels.levels) (sym c.is_full.ensures ∙ c.if-is_full.true) in
-    sym (ap (λ o. checked (called o c.args.self.now) (is_some o)) found ∙ answer_deep (s.charge - gathered_len s.gathering.gathered) s.stored (share (text s.pool c.in-Some.id) + bytes_in c.args.self.now.gathered.kept) None c.args.self.now.gathered.kept (ungathered c.args.self.now) (text s.pool c.in-Some.id) true within (omega arith) (omega arith))
+    sym (ap (λ o. checked (called c.args.name o c.args.self.now) (is_some o)) found ∙ answer_deep (s.charge - gathered_len s.gathering.gathered) s.stored (16 + bytes_in c.args.self.now.gathered.kept) None c.args.self.now.gathered.kept (ungathered c.args.self.now) (text s.pool c.in-Some.id) (shared_by c.args.name (text s.pool c.in-Some.id) c.args.self.now.texts) refl true within (omega arith) (omega arith))
 
 pub hold-requires-clause-is_open : goal.hold-requires-clause-is_open
 hold-requires-clause-is_open g c =
@@ -134,9 +109,8 @@ open_call-requires-clause-bytes g c =
     let clear = clear_stands s.pool s.names s.drafts s.levels s.gathering s.registers s.traps s.words s.charge s.stored c.self.invariant in
     let fit = levels_within s.pool s.names s.drafts s.levels (cleared s.gathering s.registers s.traps s.words) (s.charge - gathered_len s.gathering.gathered) s.stored clear in
     let rooms = c.self.invariant.bytes_suffice in
-    let long = c.len.ensures in
     let kept_is = c.kept_len-kept.ensures in
-    let all_is = c.len-2.ensures in
+    let all_is = c.len.ensures in
     let bytes_are = length-joined s.gathering.gathered.kept in
     omega arith
 
@@ -151,20 +125,19 @@ invariant_of-self g c =
     let below = c.self.invariant.within in
     let paid = beside_paid s.pool s.names s.drafts s.levels (beside_of s.gathering s.registers s.traps s.words) s.charge s.stored c.self.invariant in
     let clear = clear_stands s.pool s.names s.drafts s.levels s.gathering s.registers s.traps s.words s.charge s.stored c.self.invariant in
-    let long = c.len.ensures in
     let kept_is = c.kept_len-kept.ensures in
-    let all_is = c.len-2.ensures in
+    let all_is = c.len.ensures in
     let bytes_are = length-joined s.gathering.gathered.kept in
-    let counted = (is_named s.pool s.names s.drafts s.levels (beside_of s.gathering s.registers s.traps s.words) s.charge s.stored c.args.name c.in-Some.id c.text_in.result c.self.invariant c.text_in.ensures c.in-Some.is).counted in
+    let there = text_found _ c.in-Some.id (sym c.text_in.ensures ∙ c.in-Some.is) in
     let deep = leb-false s.levels.most (length s.levels.levels) (sym c.is_full.ensures ∙ c.if-is_full.false) in
     let args_are = ap₂ cut c.kept_lens-lens.ensures.lens c.kept_bytes-bytes.ensures ∙ cut_joined s.gathering.gathered.kept in
-    let cost_is : 16 + c.len.result + c.kept_len-kept.result ≡ (share (text s.pool c.in-Some.id) + bytes_in s.gathering.gathered.kept) = omega arith in
-    let levels_are : c.open_call.new.self ≡ deeper (Text c.in-Some.id 0) s.gathering.gathered.kept (share (text s.pool c.in-Some.id) + bytes_in s.gathering.gathered.kept) None s.levels =
+    let cost_is : 16 + c.kept_len-kept.result ≡ (16 + bytes_in s.gathering.gathered.kept) = omega arith in
+    let levels_are : c.open_call.new.self ≡ deeper (Text c.in-Some.id 0) s.gathering.gathered.kept (16 + bytes_in s.gathering.gathered.kept) None s.levels =
     c.open_call.ensures ∙ ap₂ (λ args n. deeper (Text c.in-Some.id 0) args n None s.levels) args_are cost_is in
-    let charge_is : (s.charge - gathered_len s.gathering.gathered) + (share (text s.pool c.in-Some.id) + bytes_in s.gathering.gathered.kept) ≡ s.charge - c.len-2.result + (16 + c.len.result) + c.kept_len-kept.result = omega arith in
+    let charge_is : (s.charge - gathered_len s.gathering.gathered) + (16 + bytes_in s.gathering.gathered.kept) ≡ s.charge - c.len.result + 16 + c.kept_len-kept.result = omega arith in
     rw (c.hold.ensures.held, levels_are, c.clear.ensures)
-    (subst (λ n. IsStore (with_holders s.pool c.in-Some.id (holders s.pool c.in-Some.id + 1)) s.names s.drafts (deeper (Text c.in-Some.id 0) s.gathering.gathered.kept (share (text s.pool c.in-Some.id) + bytes_in s.gathering.gathered.kept) None s.levels) (cleared s.gathering s.registers s.traps s.words) n s.stored) charge_is
-    (entered_stands s.pool s.names s.drafts s.levels (cleared s.gathering s.registers s.traps s.words) (s.charge - gathered_len s.gathering.gathered) s.stored c.in-Some.id clear counted s.gathering.gathered.kept (share (text s.pool c.in-Some.id) + bytes_in s.gathering.gathered.kept) None (omega arith) (omega arith) deep))
+    (subst (λ n. IsStore (with_holders s.pool c.in-Some.id (holders s.pool c.in-Some.id + 1)) s.names s.drafts (deeper (Text c.in-Some.id 0) s.gathering.gathered.kept (16 + bytes_in s.gathering.gathered.kept) None s.levels) (cleared s.gathering s.registers s.traps s.words) n s.stored) charge_is
+    (entered_stands s.pool s.names s.drafts s.levels (cleared s.gathering s.registers s.traps s.words) (s.charge - gathered_len s.gathering.gathered) s.stored c.in-Some.id clear c.args.name there s.gathering.gathered.kept (16 + bytes_in s.gathering.gathered.kept) None (omega arith) (omega arith) deep))
 
 pub returns-clause-answer : goal.returns-clause-answer
 returns-clause-answer g c =
@@ -176,14 +149,13 @@ returns-clause-answer g c =
     let same = depths s.pool s.names.entries s.drafts.items s.levels (beside_of s.gathering s.registers s.traps s.words) s.stored c.args.self.now c.self.view_is in
     let same_most = same.same_most in
     let same_depth = same.same_depth in
-    let long = c.len.ensures in
     let kept_is = c.kept_len-kept.ensures in
-    let all_is = c.len-2.ensures in
+    let all_is = c.len.ensures in
     let bytes_are = length-joined s.gathering.gathered.kept in
     let same_kept : s.gathering.gathered.kept ≡ c.args.self.now.gathered.kept = ap (λ (v : Stored _). v.gathered.kept) c.self.view_is in
     let same_len = ap bytes_in same_kept in
     let deep = leb-false s.levels.most (length s.levels.levels) (sym c.is_full.ensures ∙ c.if-is_full.false) in
-    sym (ap (λ o. checked (called o c.args.self.now) (is_some o)) found ∙ answer_admitted (s.charge - gathered_len s.gathering.gathered) s.stored (share (text s.pool c.in-Some.id) + bytes_in c.args.self.now.gathered.kept) None c.args.self.now.gathered.kept (ungathered c.args.self.now) (text s.pool c.in-Some.id) true within (omega arith) (omega arith))
+    sym (ap (λ o. checked (called c.args.name o c.args.self.now) (is_some o)) found ∙ answer_admitted (s.charge - gathered_len s.gathering.gathered) s.stored (16 + bytes_in c.args.self.now.gathered.kept) None c.args.self.now.gathered.kept (ungathered c.args.self.now) (text s.pool c.in-Some.id) (shared_by c.args.name (text s.pool c.in-Some.id) c.args.self.now.texts) refl true within (omega arith) (omega arith))
 
 pub returns-clause-ok : goal.returns-clause-ok
 returns-clause-ok g c =
@@ -191,15 +163,14 @@ returns-clause-ok g c =
     let below = c.self.invariant.within in
     let paid = beside_paid s.pool s.names s.drafts s.levels (beside_of s.gathering s.registers s.traps s.words) s.charge s.stored c.self.invariant in
     let clear = clear_stands s.pool s.names s.drafts s.levels s.gathering s.registers s.traps s.words s.charge s.stored c.self.invariant in
-    let long = c.len.ensures in
     let kept_is = c.kept_len-kept.ensures in
-    let all_is = c.len-2.ensures in
+    let all_is = c.len.ensures in
     let bytes_are = length-joined s.gathering.gathered.kept in
-    let counted = (is_named s.pool s.names s.drafts s.levels (beside_of s.gathering s.registers s.traps s.words) s.charge s.stored c.args.name c.in-Some.id c.text_in.result c.self.invariant c.text_in.ensures c.in-Some.is).counted in
+    let there = text_found _ c.in-Some.id (sym c.text_in.ensures ∙ c.in-Some.is) in
     let args_are = ap₂ cut c.kept_lens-lens.ensures.lens c.kept_bytes-bytes.ensures ∙ cut_joined s.gathering.gathered.kept in
-    let cost_is : 16 + c.len.result + c.kept_len-kept.result ≡ (share (text s.pool c.in-Some.id) + bytes_in s.gathering.gathered.kept) = omega arith in
-    let levels_are : c.open_call.new.self ≡ deeper (Text c.in-Some.id 0) s.gathering.gathered.kept (share (text s.pool c.in-Some.id) + bytes_in s.gathering.gathered.kept) None s.levels =
+    let cost_is : 16 + c.kept_len-kept.result ≡ (16 + bytes_in s.gathering.gathered.kept) = omega arith in
+    let levels_are : c.open_call.new.self ≡ deeper (Text c.in-Some.id 0) s.gathering.gathered.kept (16 + bytes_in s.gathering.gathered.kept) None s.levels =
     c.open_call.ensures ∙ ap₂ (λ args n. deeper (Text c.in-Some.id 0) args n None s.levels) args_are cost_is in
     let found = named_text s.pool s.names.entries s.drafts.items s.levels (beside_of s.gathering s.registers s.traps s.words) s.stored c.args.name c.text_in.result c.args.self.now c.self.view_is c.text_in.ensures ∙ ap (option_map (text s.pool)) c.in-Some.is in
     rw (c.hold.ensures.held, levels_are, c.clear.ensures, found)
-    (entered_is s.pool s.names s.drafts s.levels (cleared s.gathering s.registers s.traps s.words) (s.charge - gathered_len s.gathering.gathered) s.stored c.in-Some.id clear counted s.gathering.gathered.kept (share (text s.pool c.in-Some.id) + bytes_in s.gathering.gathered.kept) None (omega arith) ∙ ap (λ (v : Stored _). called (Some (text s.pool c.in-Some.id)) v) c.self.view_is)
+    (entered_is s.pool s.names s.drafts s.levels (cleared s.gathering s.registers s.traps s.words) (s.charge - gathered_len s.gathering.gathered) s.stored c.in-Some.id clear c.args.name there s.gathering.gathered.kept (16 + bytes_in s.gathering.gathered.kept) None (omega arith) ∙ ap (λ (v : Stored _). called c.args.name (Some (text s.pool c.in-Some.id)) v) c.self.view_is)

@@ -21,4 +21,4 @@ returns-clause-was g c =
 pub returns-clause-is : goal.returns-clause-is
 returns-clause-is g c =
     let s = c.self.inside in
-    c.define.ensures ∙ sym (ended_is s.pool s.names.entries s.drafts.items s.levels (beside_of s.gathering s.registers s.traps s.words) s.stored c.in-Some.draft c.args.self.now c.self.view_is (sym c.top.ensures ∙ c.in-Some.is) c.in-Some-diversion.diversion c.in-Some-diversion.is)
+    c.define.ensures.is ∙ sym (ended_is s.pool s.names.entries s.drafts.items s.levels (beside_of s.gathering s.registers s.traps s.words) s.stored c.in-Some.draft c.args.self.now c.self.view_is (sym c.top.ensures ∙ c.in-Some.is) c.in-Some-diversion.diversion c.in-Some-diversion.is)

@@ -10,10 +10,15 @@ invariant_of-self g c =
     let s = c.self.inside in
     rw c.remove.ensures.is (taken_none s.pool s.names s.drafts s.levels (beside_of s.gathering s.registers s.traps s.words) s.charge s.stored c.args.from c.remove.result c.args.self.now c.self.invariant c.self.view_is c.remove.ensures.was c.in_default.is).stands
 
-pub returns-in_default : goal.returns-in_default
-returns-in_default g c =
+pub returns-in_default-clause-is : goal.returns-in_default-clause-is
+returns-in_default-clause-is g c =
     let s = c.self.inside in
     rw c.remove.ensures.is (unmoved s.pool s.names.entries s.drafts.items s.levels (beside_of s.gathering s.registers s.traps s.words) s.stored c.args.from c.args.to c.remove.result c.args.self.now c.self.view_is c.remove.ensures.was c.in_default.is)
+
+pub returns-in_default-clause-no_more : goal.returns-in_default-clause-no_more
+returns-in_default-clause-no_more g c =
+    let s = c.self.inside in
+    rw (c.remove.ensures.is, ← c.self.view_is) (taken_none s.pool s.names s.drafts s.levels (beside_of s.gathering s.registers s.traps s.words) s.charge s.stored c.args.from c.remove.result c.args.self.now c.self.invariant c.self.view_is c.remove.ensures.was c.in_default.is).no_more
 
 pub put-requires : goal.put-requires
 put-requires g c =
@@ -25,30 +30,40 @@ invariant_of-self-in_default-put g c =
     let s = c.self.inside in
     rw (c.put.ensures.is, c.remove.ensures.is) (changed_new s.pool s.names s.drafts s.levels (beside_of s.gathering s.registers s.traps s.words) s.charge s.stored c.args.from c.args.to c.remove.result c.put.result c.args.self.now c.self.invariant c.self.view_is c.remove.ensures.was c.in-Some.sense c.in-Some.is (c.put.ensures.was ∙ ap (λ (t : Table _). find c.args.to t.entries) c.remove.ensures.is) c.in_default-put.is).stands
 
-pub returns-in_default-put : goal.returns-in_default-put
-returns-in_default-put g c =
+pub returns-in_default-put-clause-is : goal.returns-in_default-put-clause-is
+returns-in_default-put-clause-is g c =
     let s = c.self.inside in
     rw (c.put.ensures.is, c.remove.ensures.is) (changed_new s.pool s.names s.drafts s.levels (beside_of s.gathering s.registers s.traps s.words) s.charge s.stored c.args.from c.args.to c.remove.result c.put.result c.args.self.now c.self.invariant c.self.view_is c.remove.ensures.was c.in-Some.sense c.in-Some.is (c.put.ensures.was ∙ ap (λ (t : Table _). find c.args.to t.entries) c.remove.ensures.is) c.in_default-put.is).is
+
+pub returns-in_default-put-clause-no_more : goal.returns-in_default-put-clause-no_more
+returns-in_default-put-clause-no_more g c =
+    let s = c.self.inside in
+    rw (c.put.ensures.is, c.remove.ensures.is, ← c.self.view_is) (changed_new s.pool s.names s.drafts s.levels (beside_of s.gathering s.registers s.traps s.words) s.charge s.stored c.args.from c.args.to c.remove.result c.put.result c.args.self.now c.self.invariant c.self.view_is c.remove.ensures.was c.in-Some.sense c.in-Some.is (c.put.ensures.was ∙ ap (λ (t : Table _). find c.args.to t.entries) c.remove.ensures.is) c.in_default-put.is).no_more
 
 pub invariant_of-self-in_default-old : goal.invariant_of-self-in_default-old
 invariant_of-self-in_default-old g c =
     let s = c.self.inside in
     rw (c.put.ensures.is, c.remove.ensures.is) (request_given_up s.pool s.names s.drafts s.levels (beside_of s.gathering s.registers s.traps s.words) s.charge s.stored _ _ _ _ c.self.invariant (changed_again s.pool s.names s.drafts s.levels (beside_of s.gathering s.registers s.traps s.words) s.charge s.stored c.args.from c.args.to c.remove.result c.put.result c.args.self.now c.self.invariant c.self.view_is c.remove.ensures.was c.in-Some.sense c.in-Some.is (c.put.ensures.was ∙ ap (λ (t : Table _). find c.args.to t.entries) c.remove.ensures.is) c.in-Some-put.old c.in-Some-put.is) _ c.in_default-old.is).stands
 
-pub returns-in_default-old : goal.returns-in_default-old
-returns-in_default-old g c =
+pub returns-in_default-old-clause-is : goal.returns-in_default-old-clause-is
+returns-in_default-old-clause-is g c =
     let s = c.self.inside in
     rw (c.put.ensures.is, c.remove.ensures.is) (request_given_up s.pool s.names s.drafts s.levels (beside_of s.gathering s.registers s.traps s.words) s.charge s.stored _ _ _ _ c.self.invariant (changed_again s.pool s.names s.drafts s.levels (beside_of s.gathering s.registers s.traps s.words) s.charge s.stored c.args.from c.args.to c.remove.result c.put.result c.args.self.now c.self.invariant c.self.view_is c.remove.ensures.was c.in-Some.sense c.in-Some.is (c.put.ensures.was ∙ ap (λ (t : Table _). find c.args.to t.entries) c.remove.ensures.is) c.in-Some-put.old c.in-Some-put.is) _ c.in_default-old.is).is
 
-pub len-requires : goal.len-requires
-len-requires g c =
+pub returns-in_default-old-clause-no_more : goal.returns-in_default-old-clause-no_more
+returns-in_default-old-clause-no_more g c =
+    let s = c.self.inside in
+    rw (c.put.ensures.is, c.remove.ensures.is, ← c.self.view_is) (request_given_up s.pool s.names s.drafts s.levels (beside_of s.gathering s.registers s.traps s.words) s.charge s.stored _ _ _ _ c.self.invariant (changed_again s.pool s.names s.drafts s.levels (beside_of s.gathering s.registers s.traps s.words) s.charge s.stored c.args.from c.args.to c.remove.result c.put.result c.args.self.now c.self.invariant c.self.view_is c.remove.ensures.was c.in-Some.sense c.in-Some.is (c.put.ensures.was ∙ ap (λ (t : Table _). find c.args.to t.entries) c.remove.ensures.is) c.in-Some-put.old c.in-Some-put.is) _ c.in_default-old.is).no_more
+
+pub lone_share-requires-clause-is_open : goal.lone_share-requires-clause-is_open
+lone_share-requires-clause-is_open g c =
     let s = c.self.inside in
     (text_dropped s.pool s.names s.drafts s.levels (beside_of s.gathering s.registers s.traps s.words) s.charge s.stored _ _ _ _ c.self.invariant (changed_again s.pool s.names s.drafts s.levels (beside_of s.gathering s.registers s.traps s.words) s.charge s.stored c.args.from c.args.to c.remove.result c.put.result c.args.self.now c.self.invariant c.self.view_is c.remove.ensures.was c.in-Some.sense c.in-Some.is (c.put.ensures.was ∙ ap (λ (t : Table _). find c.args.to t.entries) c.remove.ensures.is) c.in-Some-put.old c.in-Some-put.is) c.in-Text.old c.in-Text.is).is_open
 
-pub overflow_cast-self : goal.overflow_cast-self
-overflow_cast-self g c =
+pub lone_share-requires-clause-small : goal.lone_share-requires-clause-small
+lone_share-requires-clause-small g c =
     let s = c.self.inside in
-    let weighs = (text_dropped s.pool s.names s.drafts s.levels (beside_of s.gathering s.registers s.traps s.words) s.charge s.stored _ _ _ _ c.self.invariant (changed_again s.pool s.names s.drafts s.levels (beside_of s.gathering s.registers s.traps s.words) s.charge s.stored c.args.from c.args.to c.remove.result c.put.result c.args.self.now c.self.invariant c.self.view_is c.remove.ensures.was c.in-Some.sense c.in-Some.is (c.put.ensures.was ∙ ap (λ (t : Table _). find c.args.to t.entries) c.remove.ensures.is) c.in-Some-put.old c.in-Some-put.is) c.in-Text.old c.in-Text.is).weighs in
+    let short = (text_dropped s.pool s.names s.drafts s.levels (beside_of s.gathering s.registers s.traps s.words) s.charge s.stored _ _ _ _ c.self.invariant (changed_again s.pool s.names s.drafts s.levels (beside_of s.gathering s.registers s.traps s.words) s.charge s.stored c.args.from c.args.to c.remove.result c.put.result c.args.self.now c.self.invariant c.self.view_is c.remove.ensures.was c.in-Some.sense c.in-Some.is (c.put.ensures.was ∙ ap (λ (t : Table _). find c.args.to t.entries) c.remove.ensures.is) c.in-Some-put.old c.in-Some-put.is) c.in-Text.old c.in-Text.is).short in
     let below = c.self.invariant.within in
     let small = c.self.invariant.small in
     omega arith
@@ -59,14 +74,14 @@ overflow_add-self g c =
     let weighs = (text_dropped s.pool s.names s.drafts s.levels (beside_of s.gathering s.registers s.traps s.words) s.charge s.stored _ _ _ _ c.self.invariant (changed_again s.pool s.names s.drafts s.levels (beside_of s.gathering s.registers s.traps s.words) s.charge s.stored c.args.from c.args.to c.remove.result c.put.result c.args.self.now c.self.invariant c.self.view_is c.remove.ensures.was c.in-Some.sense c.in-Some.is (c.put.ensures.was ∙ ap (λ (t : Table _). find c.args.to t.entries) c.remove.ensures.is) c.in-Some-put.old c.in-Some-put.is) c.in-Text.old c.in-Text.is).weighs in
     let below = c.self.invariant.within in
     let small = c.self.invariant.small in
-    let long = c.len.ensures in
+    let own = c.lone_share.ensures in
     omega arith
 
 pub overflow_sub-self : goal.overflow_sub-self
 overflow_sub-self g c =
     let s = c.self.inside in
     let weighs = (text_dropped s.pool s.names s.drafts s.levels (beside_of s.gathering s.registers s.traps s.words) s.charge s.stored _ _ _ _ c.self.invariant (changed_again s.pool s.names s.drafts s.levels (beside_of s.gathering s.registers s.traps s.words) s.charge s.stored c.args.from c.args.to c.remove.result c.put.result c.args.self.now c.self.invariant c.self.view_is c.remove.ensures.was c.in-Some.sense c.in-Some.is (c.put.ensures.was ∙ ap (λ (t : Table _). find c.args.to t.entries) c.remove.ensures.is) c.in-Some-put.old c.in-Some-put.is) c.in-Text.old c.in-Text.is).weighs in
-    let long = c.len.ensures in
+    let own = c.lone_share.ensures in
     omega arith
 
 pub release-requires : goal.release-requires
@@ -77,9 +92,14 @@ release-requires g c =
 pub invariant_of-self-2 : goal.invariant_of-self-2
 invariant_of-self-2 g c =
     let s = c.self.inside in
-    rw (c.put.ensures.is, c.remove.ensures.is, c.release.ensures.released, c.len.ensures) (text_dropped s.pool s.names s.drafts s.levels (beside_of s.gathering s.registers s.traps s.words) s.charge s.stored _ _ _ _ c.self.invariant (changed_again s.pool s.names s.drafts s.levels (beside_of s.gathering s.registers s.traps s.words) s.charge s.stored c.args.from c.args.to c.remove.result c.put.result c.args.self.now c.self.invariant c.self.view_is c.remove.ensures.was c.in-Some.sense c.in-Some.is (c.put.ensures.was ∙ ap (λ (t : Table _). find c.args.to t.entries) c.remove.ensures.is) c.in-Some-put.old c.in-Some-put.is) c.in-Text.old c.in-Text.is).stands
+    rw (c.put.ensures.is, c.remove.ensures.is, c.release.ensures.released, c.lone_share.ensures) (text_dropped s.pool s.names s.drafts s.levels (beside_of s.gathering s.registers s.traps s.words) s.charge s.stored _ _ _ _ c.self.invariant (changed_again s.pool s.names s.drafts s.levels (beside_of s.gathering s.registers s.traps s.words) s.charge s.stored c.args.from c.args.to c.remove.result c.put.result c.args.self.now c.self.invariant c.self.view_is c.remove.ensures.was c.in-Some.sense c.in-Some.is (c.put.ensures.was ∙ ap (λ (t : Table _). find c.args.to t.entries) c.remove.ensures.is) c.in-Some-put.old c.in-Some-put.is) c.in-Text.old c.in-Text.is).stands
 
-pub returns : goal.returns
-returns g c =
+pub returns-clause-is : goal.returns-clause-is
+returns-clause-is g c =
     let s = c.self.inside in
     rw (c.put.ensures.is, c.remove.ensures.is, c.release.ensures.released) (text_dropped s.pool s.names s.drafts s.levels (beside_of s.gathering s.registers s.traps s.words) s.charge s.stored _ _ _ _ c.self.invariant (changed_again s.pool s.names s.drafts s.levels (beside_of s.gathering s.registers s.traps s.words) s.charge s.stored c.args.from c.args.to c.remove.result c.put.result c.args.self.now c.self.invariant c.self.view_is c.remove.ensures.was c.in-Some.sense c.in-Some.is (c.put.ensures.was ∙ ap (λ (t : Table _). find c.args.to t.entries) c.remove.ensures.is) c.in-Some-put.old c.in-Some-put.is) c.in-Text.old c.in-Text.is).is
+
+pub returns-clause-no_more : goal.returns-clause-no_more
+returns-clause-no_more g c =
+    let s = c.self.inside in
+    rw (c.put.ensures.is, c.remove.ensures.is, c.release.ensures.released, ← c.self.view_is) (text_dropped s.pool s.names s.drafts s.levels (beside_of s.gathering s.registers s.traps s.words) s.charge s.stored _ _ _ _ c.self.invariant (changed_again s.pool s.names s.drafts s.levels (beside_of s.gathering s.registers s.traps s.words) s.charge s.stored c.args.from c.args.to c.remove.result c.put.result c.args.self.now c.self.invariant c.self.view_is c.remove.ensures.was c.in-Some.sense c.in-Some.is (c.put.ensures.was ∙ ap (λ (t : Table _). find c.args.to t.entries) c.remove.ensures.is) c.in-Some-put.old c.in-Some-put.is) c.in-Text.old c.in-Text.is).no_more

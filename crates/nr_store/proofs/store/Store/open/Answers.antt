@@ -1,13 +1,13 @@
-use Rattle.std.proofs.Common.{◌+◌, [], length, Some, is_some, true, refl, ap, sym, ◌∙◌, arith}
+use Rattle.std.proofs.Common.{[], length, Some, is_some, true, refl, ap, sym, ◌∙◌, arith}
 use Rattle.std.specs.Option.{option_map}
 use Rattle.std.proofs.lemmas.Bool.{leb-true, leb-false}
 use Rattle.nr_store.specs.Holders.{beside_of}
 use Rattle.nr_pool.specs.Texts.{text}
-use Rattle.nr_store.specs.Stored.{Stored, checked, share, entered}
+use Rattle.nr_store.specs.Stored.{Stored, checked, shared_by, entered}
 use Rattle.nr_store.proofs.Keeping.{levels_within}
 use Rattle.nr_store.proofs.Building.{is_within}
 use Rattle.nr_store.proofs.Entering.{entered_is, entered_stands}
-use Rattle.nr_store.proofs.Admitting.{named_text, is_named, depths, answer_none, answer_refused, answer_deep, answer_admitted}
+use Rattle.nr_store.proofs.Admitting.{named_text, is_named, text_found, depths, answer_none, answer_refused, answer_deep, answer_admitted}
 use Rattle.nr_store.proofs.store.Store.open.Goals as goal
 
 pub returns-in_default-clause-answer : goal.returns-in_default-clause-answer
@@ -15,44 +15,21 @@ returns-in_default-clause-answer g c =
     let s = c.self.inside in
     let within = is_within s.pool s.names s.drafts s.levels (beside_of s.gathering s.registers s.traps s.words) s.charge s.stored c.args.self.now c.self.invariant c.self.view_is in
     let none = named_text s.pool s.names.entries s.drafts.items s.levels (beside_of s.gathering s.registers s.traps s.words) s.stored c.args.name c.text_in.result c.args.self.now c.self.view_is c.text_in.ensures ∙ ap (option_map (text s.pool)) c.in_default.is in
-    sym (answer_none c.args.self.now s.charge s.stored (λ o. entered o c.args.resume c.args.self.now) _ within refl none)
+    sym (answer_none c.args.self.now s.charge s.stored (λ o. entered c.args.name o c.args.resume c.args.self.now) _ within refl none)
 
 pub returns-in_default-clause-ok : goal.returns-in_default-clause-ok
 returns-in_default-clause-ok g c =
     let s = c.self.inside in
     let none = named_text s.pool s.names.entries s.drafts.items s.levels (beside_of s.gathering s.registers s.traps s.words) s.stored c.args.name c.text_in.result c.args.self.now c.self.view_is c.text_in.ensures ∙ ap (option_map (text s.pool)) c.in_default.is in
-    sym (ap (λ o. entered o c.args.resume c.args.self.now) none)
+    sym (ap (λ o. entered c.args.name o c.args.resume c.args.self.now) none)
 
-pub len-requires : goal.len-requires
-len-requires g c =
-    let s = c.self.inside in
-    (is_named s.pool s.names s.drafts s.levels (beside_of s.gathering s.registers s.traps s.words) s.charge s.stored c.args.name c.in-Some.id c.text_in.result c.self.invariant c.text_in.ensures c.in-Some.is).there.is_open
-
-pub overflow_cast-charge : goal.overflow_cast-charge
-overflow_cast-charge g c =
-    let s = c.self.inside in
-    let weighs = (is_named s.pool s.names s.drafts s.levels (beside_of s.gathering s.registers s.traps s.words) s.charge s.stored c.args.name c.in-Some.id c.text_in.result c.self.invariant c.text_in.ensures c.in-Some.is).there.weighs in
-    let below = c.self.invariant.within in
-    let small = c.self.invariant.small in
-    omega arith
-
-pub overflow_add-charge : goal.overflow_add-charge
-overflow_add-charge g c =
-    let s = c.self.inside in
-    let weighs = (is_named s.pool s.names s.drafts s.levels (beside_of s.gathering s.registers s.traps s.words) s.charge s.stored c.args.name c.in-Some.id c.text_in.result c.self.invariant c.text_in.ensures c.in-Some.is).there.weighs in
-    let below = c.self.invariant.within in
-    let small = c.self.invariant.small in
-    let long = c.len.ensures in
-    omega arith
-
-pub returns-then-self-charge-clause-answer : goal.returns-then-self-charge-clause-answer
-returns-then-self-charge-clause-answer g c =
+pub returns-then-self-lt16-clause-answer : goal.returns-then-self-lt16-clause-answer
+returns-then-self-lt16-clause-answer g c =
     let s = c.self.inside in
     let within = is_within s.pool s.names s.drafts s.levels (beside_of s.gathering s.registers s.traps s.words) s.charge s.stored c.args.self.now c.self.invariant c.self.view_is in
     let found = named_text s.pool s.names.entries s.drafts.items s.levels (beside_of s.gathering s.registers s.traps s.words) s.stored c.args.name c.text_in.result c.args.self.now c.self.view_is c.text_in.ensures ∙ ap (option_map (text s.pool)) c.in-Some.is in
     let below = c.self.invariant.within in
-    let long = c.len.ensures in
-    sym (ap (λ o. checked (entered o c.args.resume c.args.self.now) (is_some o)) found ∙ answer_refused s.charge s.stored (share (text s.pool c.in-Some.id)) c.args.resume [] c.args.self.now (text s.pool c.in-Some.id) true within (omega arith))
+    sym (ap (λ o. checked (entered c.args.name o c.args.resume c.args.self.now) (is_some o)) found ∙ answer_refused s.charge s.stored 16 c.args.resume [] c.args.self.now (text s.pool c.in-Some.id) (shared_by c.args.name (text s.pool c.in-Some.id) c.args.self.now.texts) refl true within (omega arith))
 
 pub returns-then-is_full-clause-answer : goal.returns-then-is_full-clause-answer
 returns-then-is_full-clause-answer g c =
@@ -63,9 +40,8 @@ returns-then-is_full-clause-answer g c =
     let same_most = same.same_most in
     let same_depth = same.same_depth in
     let below = c.self.invariant.within in
-    let long = c.len.ensures in
     let full = leb-true s.levels.most (length s.levels.levels) (sym c.is_full.ensures ∙ c.if-is_full.true) in
-    sym (ap (λ o. checked (entered o c.args.resume c.args.self.now) (is_some o)) found ∙ answer_deep s.charge s.stored (share (text s.pool c.in-Some.id)) c.args.resume [] c.args.self.now (text s.pool c.in-Some.id) true within (omega arith) (omega arith))
+    sym (ap (λ o. checked (entered c.args.name o c.args.resume c.args.self.now) (is_some o)) found ∙ answer_deep s.charge s.stored 16 c.args.resume [] c.args.self.now (text s.pool c.in-Some.id) (shared_by c.args.name (text s.pool c.in-Some.id) c.args.self.now.texts) refl true within (omega arith) (omega arith))
 
 pub hold-requires-clause-is_open : goal.hold-requires-clause-is_open
 hold-requires-clause-is_open g c =
@@ -86,17 +62,15 @@ open_text-requires-clause-bytes g c =
     let below = c.self.invariant.within in
     let fit = levels_within s.pool s.names s.drafts s.levels (beside_of s.gathering s.registers s.traps s.words) s.charge s.stored c.self.invariant in
     let suffice = c.self.invariant.bytes_suffice in
-    let long = c.len.ensures in
     omega arith
 
 pub invariant_of-self : goal.invariant_of-self
 invariant_of-self g c =
     let s = c.self.inside in
-    let counted = (is_named s.pool s.names s.drafts s.levels (beside_of s.gathering s.registers s.traps s.words) s.charge s.stored c.args.name c.in-Some.id c.text_in.result c.self.invariant c.text_in.ensures c.in-Some.is).counted in
+    let there = text_found _ c.in-Some.id (sym c.text_in.ensures ∙ c.in-Some.is) in
     let deep = leb-false s.levels.most (length s.levels.levels) (sym c.is_full.ensures ∙ c.if-is_full.false) in
     let below = c.self.invariant.within in
-    let long = c.len.ensures in
-    rw (c.hold.ensures.held, c.open_text.ensures) (entered_stands s.pool s.names s.drafts s.levels (beside_of s.gathering s.registers s.traps s.words) s.charge s.stored c.in-Some.id c.self.invariant counted [] (16 + c.len.result) c.args.resume (omega arith) (omega arith) deep)
+    rw (c.hold.ensures.held, c.open_text.ensures) (entered_stands s.pool s.names s.drafts s.levels (beside_of s.gathering s.registers s.traps s.words) s.charge s.stored c.in-Some.id c.self.invariant c.args.name there [] 16 c.args.resume (omega arith) (omega arith) deep)
 
 pub returns-clause-answer : goal.returns-clause-answer
 returns-clause-answer g c =
@@ -107,13 +81,12 @@ returns-clause-answer g c =
     let same_most = same.same_most in
     let same_depth = same.same_depth in
     let below = c.self.invariant.within in
-    let long = c.len.ensures in
     let deep = leb-false s.levels.most (length s.levels.levels) (sym c.is_full.ensures ∙ c.if-is_full.false) in
-    sym (ap (λ o. checked (entered o c.args.resume c.args.self.now) (is_some o)) found ∙ answer_admitted s.charge s.stored (share (text s.pool c.in-Some.id)) c.args.resume [] c.args.self.now (text s.pool c.in-Some.id) true within (omega arith) (omega arith))
+    sym (ap (λ o. checked (entered c.args.name o c.args.resume c.args.self.now) (is_some o)) found ∙ answer_admitted s.charge s.stored 16 c.args.resume [] c.args.self.now (text s.pool c.in-Some.id) (shared_by c.args.name (text s.pool c.in-Some.id) c.args.self.now.texts) refl true within (omega arith) (omega arith))
 
 pub returns-clause-ok : goal.returns-clause-ok
 returns-clause-ok g c =
     let s = c.self.inside in
-    let counted = (is_named s.pool s.names s.drafts s.levels (beside_of s.gathering s.registers s.traps s.words) s.charge s.stored c.args.name c.in-Some.id c.text_in.result c.self.invariant c.text_in.ensures c.in-Some.is).counted in
+    let there = text_found _ c.in-Some.id (sym c.text_in.ensures ∙ c.in-Some.is) in
     let found = named_text s.pool s.names.entries s.drafts.items s.levels (beside_of s.gathering s.registers s.traps s.words) s.stored c.args.name c.text_in.result c.args.self.now c.self.view_is c.text_in.ensures ∙ ap (option_map (text s.pool)) c.in-Some.is in
-    rw (c.hold.ensures.held, c.open_text.ensures, c.len.ensures, found) (entered_is s.pool s.names s.drafts s.levels (beside_of s.gathering s.registers s.traps s.words) s.charge s.stored c.in-Some.id c.self.invariant counted [] (share (text s.pool c.in-Some.id)) c.args.resume (omega arith) ∙ ap (λ (v : Stored _). entered (Some (text s.pool c.in-Some.id)) c.args.resume v) c.self.view_is)
+    rw (c.hold.ensures.held, c.open_text.ensures, found) (entered_is s.pool s.names s.drafts s.levels (beside_of s.gathering s.registers s.traps s.words) s.charge s.stored c.in-Some.id c.self.invariant c.args.name there [] 16 c.args.resume (omega arith) ∙ ap (λ (v : Stored _). entered c.args.name (Some (text s.pool c.in-Some.id)) c.args.resume v) c.self.view_is)

@@ -15,6 +15,11 @@ returns-in_default-clause-is g c =
     let s = c.self.inside in
     rw c.remove.ensures.is (taken_none s.pool s.names s.drafts s.levels (beside_of s.gathering s.registers s.traps s.words) s.charge s.stored c.args.name c.remove.result c.args.self.now c.self.invariant c.self.view_is c.remove.ensures.was c.in_default.is).is
 
+pub returns-in_default-clause-no_more : goal.returns-in_default-clause-no_more
+returns-in_default-clause-no_more g c =
+    let s = c.self.inside in
+    rw (c.remove.ensures.is, ← c.self.view_is) (taken_none s.pool s.names s.drafts s.levels (beside_of s.gathering s.registers s.traps s.words) s.charge s.stored c.args.name c.remove.result c.args.self.now c.self.invariant c.self.view_is c.remove.ensures.was c.in_default.is).no_more
+
 pub invariant_of-self-in_default-old : goal.invariant_of-self-in_default-old
 invariant_of-self-in_default-old g c =
     let s = c.self.inside in
@@ -25,15 +30,20 @@ returns-in_default-old-clause-is g c =
     let s = c.self.inside in
     rw c.remove.ensures.is (request_given_up s.pool s.names s.drafts s.levels (beside_of s.gathering s.registers s.traps s.words) s.charge s.stored _ _ _ _ c.self.invariant (taken_some s.pool s.names s.drafts s.levels (beside_of s.gathering s.registers s.traps s.words) s.charge s.stored c.args.name c.remove.result c.args.self.now c.self.invariant c.self.view_is c.remove.ensures.was c.in-Some.old c.in-Some.is) _ c.in_default-old.is).is
 
-pub len-requires : goal.len-requires
-len-requires g c =
+pub returns-in_default-old-clause-no_more : goal.returns-in_default-old-clause-no_more
+returns-in_default-old-clause-no_more g c =
+    let s = c.self.inside in
+    rw (c.remove.ensures.is, ← c.self.view_is) (request_given_up s.pool s.names s.drafts s.levels (beside_of s.gathering s.registers s.traps s.words) s.charge s.stored _ _ _ _ c.self.invariant (taken_some s.pool s.names s.drafts s.levels (beside_of s.gathering s.registers s.traps s.words) s.charge s.stored c.args.name c.remove.result c.args.self.now c.self.invariant c.self.view_is c.remove.ensures.was c.in-Some.old c.in-Some.is) _ c.in_default-old.is).no_more
+
+pub lone_share-requires-clause-is_open : goal.lone_share-requires-clause-is_open
+lone_share-requires-clause-is_open g c =
     let s = c.self.inside in
     (text_dropped s.pool s.names s.drafts s.levels (beside_of s.gathering s.registers s.traps s.words) s.charge s.stored _ _ _ _ c.self.invariant (taken_some s.pool s.names s.drafts s.levels (beside_of s.gathering s.registers s.traps s.words) s.charge s.stored c.args.name c.remove.result c.args.self.now c.self.invariant c.self.view_is c.remove.ensures.was c.in-Some.old c.in-Some.is) c.in-Text.old c.in-Text.is).is_open
 
-pub overflow_cast-self : goal.overflow_cast-self
-overflow_cast-self g c =
+pub lone_share-requires-clause-small : goal.lone_share-requires-clause-small
+lone_share-requires-clause-small g c =
     let s = c.self.inside in
-    let weighs = (text_dropped s.pool s.names s.drafts s.levels (beside_of s.gathering s.registers s.traps s.words) s.charge s.stored _ _ _ _ c.self.invariant (taken_some s.pool s.names s.drafts s.levels (beside_of s.gathering s.registers s.traps s.words) s.charge s.stored c.args.name c.remove.result c.args.self.now c.self.invariant c.self.view_is c.remove.ensures.was c.in-Some.old c.in-Some.is) c.in-Text.old c.in-Text.is).weighs in
+    let short = (text_dropped s.pool s.names s.drafts s.levels (beside_of s.gathering s.registers s.traps s.words) s.charge s.stored _ _ _ _ c.self.invariant (taken_some s.pool s.names s.drafts s.levels (beside_of s.gathering s.registers s.traps s.words) s.charge s.stored c.args.name c.remove.result c.args.self.now c.self.invariant c.self.view_is c.remove.ensures.was c.in-Some.old c.in-Some.is) c.in-Text.old c.in-Text.is).short in
     let below = c.self.invariant.within in
     let small = c.self.invariant.small in
     omega arith
@@ -44,14 +54,14 @@ overflow_add-self g c =
     let weighs = (text_dropped s.pool s.names s.drafts s.levels (beside_of s.gathering s.registers s.traps s.words) s.charge s.stored _ _ _ _ c.self.invariant (taken_some s.pool s.names s.drafts s.levels (beside_of s.gathering s.registers s.traps s.words) s.charge s.stored c.args.name c.remove.result c.args.self.now c.self.invariant c.self.view_is c.remove.ensures.was c.in-Some.old c.in-Some.is) c.in-Text.old c.in-Text.is).weighs in
     let below = c.self.invariant.within in
     let small = c.self.invariant.small in
-    let long = c.len.ensures in
+    let own = c.lone_share.ensures in
     omega arith
 
 pub overflow_sub-self : goal.overflow_sub-self
 overflow_sub-self g c =
     let s = c.self.inside in
     let weighs = (text_dropped s.pool s.names s.drafts s.levels (beside_of s.gathering s.registers s.traps s.words) s.charge s.stored _ _ _ _ c.self.invariant (taken_some s.pool s.names s.drafts s.levels (beside_of s.gathering s.registers s.traps s.words) s.charge s.stored c.args.name c.remove.result c.args.self.now c.self.invariant c.self.view_is c.remove.ensures.was c.in-Some.old c.in-Some.is) c.in-Text.old c.in-Text.is).weighs in
-    let long = c.len.ensures in
+    let own = c.lone_share.ensures in
     omega arith
 
 pub release-requires : goal.release-requires
@@ -62,12 +72,17 @@ release-requires g c =
 pub invariant_of-self-2 : goal.invariant_of-self-2
 invariant_of-self-2 g c =
     let s = c.self.inside in
-    rw (c.remove.ensures.is, c.release.ensures.released, c.len.ensures) (text_dropped s.pool s.names s.drafts s.levels (beside_of s.gathering s.registers s.traps s.words) s.charge s.stored _ _ _ _ c.self.invariant (taken_some s.pool s.names s.drafts s.levels (beside_of s.gathering s.registers s.traps s.words) s.charge s.stored c.args.name c.remove.result c.args.self.now c.self.invariant c.self.view_is c.remove.ensures.was c.in-Some.old c.in-Some.is) c.in-Text.old c.in-Text.is).stands
+    rw (c.remove.ensures.is, c.release.ensures.released, c.lone_share.ensures) (text_dropped s.pool s.names s.drafts s.levels (beside_of s.gathering s.registers s.traps s.words) s.charge s.stored _ _ _ _ c.self.invariant (taken_some s.pool s.names s.drafts s.levels (beside_of s.gathering s.registers s.traps s.words) s.charge s.stored c.args.name c.remove.result c.args.self.now c.self.invariant c.self.view_is c.remove.ensures.was c.in-Some.old c.in-Some.is) c.in-Text.old c.in-Text.is).stands
 
 pub returns-clause-is : goal.returns-clause-is
 returns-clause-is g c =
     let s = c.self.inside in
     rw (c.remove.ensures.is, c.release.ensures.released) (text_dropped s.pool s.names s.drafts s.levels (beside_of s.gathering s.registers s.traps s.words) s.charge s.stored _ _ _ _ c.self.invariant (taken_some s.pool s.names s.drafts s.levels (beside_of s.gathering s.registers s.traps s.words) s.charge s.stored c.args.name c.remove.result c.args.self.now c.self.invariant c.self.view_is c.remove.ensures.was c.in-Some.old c.in-Some.is) c.in-Text.old c.in-Text.is).is
+
+pub returns-clause-no_more : goal.returns-clause-no_more
+returns-clause-no_more g c =
+    let s = c.self.inside in
+    rw (c.remove.ensures.is, c.release.ensures.released, ← c.self.view_is) (text_dropped s.pool s.names s.drafts s.levels (beside_of s.gathering s.registers s.traps s.words) s.charge s.stored _ _ _ _ c.self.invariant (taken_some s.pool s.names s.drafts s.levels (beside_of s.gathering s.registers s.traps s.words) s.charge s.stored c.args.name c.remove.result c.args.self.now c.self.invariant c.self.view_is c.remove.ensures.was c.in-Some.old c.in-Some.is) c.in-Text.old c.in-Text.is).no_more
 
 pub returns-in_default-clause-gone : goal.returns-in_default-clause-gone
 returns-in_default-clause-gone g c =
