@@ -233,15 +233,15 @@ module _ (b : Bounds) where
 
   -- ---- springing
 
-  sprung_text-under : (text : Option (List Element)) (f : Formatter) → springing.sprung_text text (under b f) ≡ under b (springing.sprung_text text f)
-  sprung_text-under None f = refl
-  sprung_text-under (Some text) f = refl
+  sprung_text-under : (name : List ℕ) (text : Option (List Element)) (f : Formatter) → springing.sprung_text name text (under b f) ≡ under b (springing.sprung_text name text f)
+  sprung_text-under name None f = refl
+  sprung_text-under name (Some text) f = refl
 
   pub sprung-under : (name : List ℕ) (f : Formatter) → springing.sprung name (under b f) ≡ under b (springing.sprung name f)
-  sprung-under name f = sprung_text-under (words (find name f.store.names)) f
+  sprung-under name f = sprung_text-under name (words (find name f.store.names)) f
 
   pub ejected_to-under : (t : Trap) (f : Formatter) → springing.ejected_to t (under b f) ≡ under b (springing.ejected_to t f)
-  ejected_to-under t f = sprung_text-under (words (find t.name f.store.names)) _
+  ejected_to-under t f = sprung_text-under t.name (words (find t.name f.store.names)) _
 
   -- ---- space and pages
 

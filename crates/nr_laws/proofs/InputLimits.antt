@@ -59,10 +59,10 @@ act-free (dues.Add b) v r ok = let w = added (elements.Byte b ∷ []) v in stori
 act-free (dues.Release held n b) v r ok =
     let w = added (elements.Byte (slice_index (last_line r.half.notes.defining) n) ∷ []) v in storing_free (afforded w tt) w (then_due (behind_held held n b) r) v r ok
 act-free dues.CallEnding v r ok =
-    let w = entered (words (find r.half.notes.defining.ending v.names)) None v in
+    let w = entered r.half.notes.defining.ending (words (find r.half.notes.defining.ending v.names)) None v in
     text_free (nat_lt w.limit (charge_of w)) (nat_lt w.deepest (length w.levels)) (is_some (words (find r.half.notes.defining.ending v.names))) w v r ok
 act-free dues.Splice v r ok =
-    let w = entered (words (find r.half.notes.asked v.names)) None v in
+    let w = entered r.half.notes.asked (words (find r.half.notes.asked v.names)) None v in
     text_free (nat_lt w.limit (charge_of w)) (nat_lt w.deepest (length w.levels)) (is_some (words (find r.half.notes.asked v.names))) w v r ok
 act-free (dues.Register signs.None) v r ok =
     let w = reading_bytes (register_text (register_of (find r.half.notes.asked v.registers))) v in splicing_free (checked w tt) w v r ok
@@ -71,7 +71,7 @@ act-free (dues.Register signs.Minus) v r ok = refl
 act-free (dues.Argument n) v r ok = let w = reading_bytes (argument v.arguments n) v in splicing_free (checked w tt) w v r ok
 act-free (dues.Put b) v r ok = let w = gathering b v in storing_free (afforded w tt) w (idle r) v r ok
 act-free dues.Call v r ok =
-    let w = called (words (find (name_in r) v.names)) v in
+    let w = called (name_in r) (words (find (name_in r) v.names)) v in
     text_free (nat_lt w.limit (charge_of w)) (nat_lt w.deepest (length w.levels)) (is_some (words (find (name_in r) v.names))) w v r ok
 act-free d v r ok = refl
 
@@ -97,14 +97,14 @@ naming_under : {K : Type 0} (l d : ℕ) (keeps : Bool) (name : List ℕ) (v : St
 naming_under l d true name v = named_under l d v.building name v
 naming_under l d false name v = refl
 
-pub entered_under : {K : Type 0} (l d : ℕ) (text : Option (List Element)) (k : Option K) (v : Stored K)
-    → entered text k (stored_under l d v) ≡ stored_under l d (entered text k v)
-entered_under l d None k v = refl
-entered_under l d (Some text) k v = refl
+pub entered_under : {K : Type 0} (l d : ℕ) (name : List ℕ) (text : Option (List Element)) (k : Option K) (v : Stored K)
+    → entered name text k (stored_under l d v) ≡ stored_under l d (entered name text k v)
+entered_under l d name None k v = refl
+entered_under l d name (Some text) k v = refl
 
-called_under : {K : Type 0} (l d : ℕ) (text : Option (List Element)) (v : Stored K) → called text (stored_under l d v) ≡ stored_under l d (called text v)
-called_under l d None v = refl
-called_under l d (Some text) v = refl
+called_under : {K : Type 0} (l d : ℕ) (name : List ℕ) (text : Option (List Element)) (v : Stored K) → called name text (stored_under l d v) ≡ stored_under l d (called name text v)
+called_under l d name None v = refl
+called_under l d name (Some text) v = refl
 
 pub written_under : {K : Type 0} (l d : ℕ) (x : Option Register) (name : List ℕ) (v : Stored K)
     → written x name (stored_under l d v) ≡ stored_under l d (written x name v)
@@ -120,10 +120,10 @@ expands_text_under : {K : Type 0} (l d m : ℕ) (b : Bool) (w : Stored K) (r : R
 expands_text_under l d m true w r = refl
 expands_text_under l d m false w r = refl
 
-name_under : {K : Type 0} (l d m : ℕ) (text : Option (List Element)) (v : Stored K) (r : Reader)
-    → expands_text (is_some text) (entered text None (stored_under l d v)) (reader_under m r) ≡ acted_under l d m (expands_text (is_some text) (entered text None v) r)
-name_under l d m text v r =
-    ap (λ w. expands_text (is_some text) w (reader_under m r)) (entered_under l d text None v) ∙ expands_text_under l d m (is_some text) (entered text None v) r
+name_under : {K : Type 0} (l d m : ℕ) (name : List ℕ) (text : Option (List Element)) (v : Stored K) (r : Reader)
+    → expands_text (is_some text) (entered name text None (stored_under l d v)) (reader_under m r) ≡ acted_under l d m (expands_text (is_some text) (entered name text None v) r)
+name_under l d m name text v r =
+    ap (λ w. expands_text (is_some text) w (reader_under m r)) (entered_under l d name text None v) ∙ expands_text_under l d m (is_some text) (entered name text None v) r
 
 pub act_freely-under : {K : Type 0} (l d m : ℕ) (due : Due) (v : Stored K) (r : Reader)
     → act_freely due (stored_under l d v) (reader_under m r) ≡ acted_under l d m (act_freely due v r)
@@ -136,8 +136,8 @@ act_freely-under l d m dues.Define v r =
     ap (λ w. done events.Nothing w (reader_under m (idle r))) (naming_under l d r.half.notes.defining.keeps (name_in r) v)
 act_freely-under l d m dues.DefineAndCall v r =
     ap (λ w. done events.Nothing w (reader_under m (then_due (behind_definition r) r))) (naming_under l d r.half.notes.defining.keeps (name_in r) v)
-act_freely-under l d m dues.CallEnding v r = name_under l d m (words (find r.half.notes.defining.ending v.names)) v r
-act_freely-under l d m dues.Splice v r = name_under l d m (words (find r.half.notes.asked v.names)) v r
+act_freely-under l d m dues.CallEnding v r = name_under l d m r.half.notes.defining.ending (words (find r.half.notes.defining.ending v.names)) v r
+act_freely-under l d m dues.Splice v r = name_under l d m r.half.notes.asked (words (find r.half.notes.asked v.names)) v r
 act_freely-under l d m (dues.Register signs.None) v r = refl
 act_freely-under l d m (dues.Register signs.Plus) v r =
     ap (λ w. done events.Nothing w (reader_under m (then_due (dues.Register signs.None) r))) (written_under l d (option_and_then (gone_on true) (find r.half.notes.asked v.registers)) r.half.notes.asked v)
@@ -148,7 +148,7 @@ act_freely-under l d m (dues.Put b) v r = refl
 act_freely-under l d m dues.EndArgument v r = refl
 act_freely-under l d m dues.Call v r =
     let text = words (find (name_in r) v.names) in
-    ap (λ w. expands_text (is_some text) w (reader_under m r)) (called_under l d text v) ∙ expands_text_under l d m (is_some text) (called text v) r
+    ap (λ w. expands_text (is_some text) w (reader_under m r)) (called_under l d (name_in r) text v) ∙ expands_text_under l d m (is_some text) (called (name_in r) text v) r
 act_freely-under l d m dues.Seek v r =
     let q = meaning_in v r in
     ap (λ w. done (sought_event (calls_of q)) w (record (reader_under m r) { half = sought (calls_of q) (next dues.Look r.half); request = request_of q r.request })) (meaning_under l d q v)
@@ -225,17 +225,17 @@ spliced_wider l d m is w v v' r few shallow rare ok =
     text_by (nat_lt w.limit (charge_of w)) (nat_lt w.deepest (length w.levels)) (nat_lt l (charge_of w)) (nat_lt d (length w.levels)) is m w (stored_under l d w) v v' r
     (lt-wider w.limit l (charge_of w) few) (lt-wider w.deepest d (length w.levels) shallow) rare ok
 
-name_wider : {K : Type 0} (l d m : ℕ) (text : Option (List Element)) (v : Stored K) (r : Reader) → v.limit ≤ l → v.deepest ≤ d → r.most ≤ m
-    → IsOk (splicing_text (checked (entered text None v) (is_some text)) (entered text None v) v r).answer
-    → IsOk (splicing_text (checked (entered text None (stored_under l d v)) (is_some text)) (entered text None (stored_under l d v)) (stored_under l d v) (reader_under m r)).answer
-name_wider l d m None v r few shallow rare ok = spliced_wider l d m false v v (stored_under l d v) r few shallow rare ok
-name_wider l d m (Some text) v r few shallow rare ok = spliced_wider l d m true (entered (Some text) None v) v (stored_under l d v) r few shallow rare ok
+name_wider : {K : Type 0} (l d m : ℕ) (name : List ℕ) (text : Option (List Element)) (v : Stored K) (r : Reader) → v.limit ≤ l → v.deepest ≤ d → r.most ≤ m
+    → IsOk (splicing_text (checked (entered name text None v) (is_some text)) (entered name text None v) v r).answer
+    → IsOk (splicing_text (checked (entered name text None (stored_under l d v)) (is_some text)) (entered name text None (stored_under l d v)) (stored_under l d v) (reader_under m r)).answer
+name_wider l d m name None v r few shallow rare ok = spliced_wider l d m false v v (stored_under l d v) r few shallow rare ok
+name_wider l d m name (Some text) v r few shallow rare ok = spliced_wider l d m true (entered name (Some text) None v) v (stored_under l d v) r few shallow rare ok
 
-call_wider : {K : Type 0} (l d m : ℕ) (text : Option (List Element)) (v : Stored K) (r : Reader) → v.limit ≤ l → v.deepest ≤ d → r.most ≤ m
-    → IsOk (splicing_text (checked (called text v) (is_some text)) (called text v) v r).answer
-    → IsOk (splicing_text (checked (called text (stored_under l d v)) (is_some text)) (called text (stored_under l d v)) (stored_under l d v) (reader_under m r)).answer
-call_wider l d m None v r few shallow rare ok = spliced_wider l d m false (called None v) v (stored_under l d v) r few shallow rare ok
-call_wider l d m (Some text) v r few shallow rare ok = spliced_wider l d m true (called (Some text) v) v (stored_under l d v) r few shallow rare ok
+call_wider : {K : Type 0} (l d m : ℕ) (name : List ℕ) (text : Option (List Element)) (v : Stored K) (r : Reader) → v.limit ≤ l → v.deepest ≤ d → r.most ≤ m
+    → IsOk (splicing_text (checked (called name text v) (is_some text)) (called name text v) v r).answer
+    → IsOk (splicing_text (checked (called name text (stored_under l d v)) (is_some text)) (called name text (stored_under l d v)) (stored_under l d v) (reader_under m r)).answer
+call_wider l d m name None v r few shallow rare ok = spliced_wider l d m false (called name None v) v (stored_under l d v) r few shallow rare ok
+call_wider l d m name (Some text) v r few shallow rare ok = spliced_wider l d m true (called name (Some text) v) v (stored_under l d v) r few shallow rare ok
 
 begin_by : {K : Type 0} (l d m : ℕ) (b : Bool) (name : List ℕ) (s : Reader) (v : Stored K) (r : Reader) → v.limit ≤ l
     → IsOk (storing (afforded (if b then begun (text_of name v) None v else begun [] None v) tt) (if b then begun (text_of name v) None v else begun [] None v) s v r).answer
@@ -251,14 +251,14 @@ act-wider l d m (dues.Add b) v r few shallow rare ok =
 act-wider l d m (dues.Release held n b) v r few shallow rare ok =
     let w = added (elements.Byte (slice_index (last_line r.half.notes.defining) n) ∷ []) v in
     stores_wider l d w (then_due (behind_held held n b) r) (reader_under m (then_due (behind_held held n b) r)) v (stored_under l d v) r (reader_under m r) few ok
-act-wider l d m dues.CallEnding v r few shallow rare ok = name_wider l d m (words (find r.half.notes.defining.ending v.names)) v r few shallow rare ok
-act-wider l d m dues.Splice v r few shallow rare ok = name_wider l d m (words (find r.half.notes.asked v.names)) v r few shallow rare ok
+act-wider l d m dues.CallEnding v r few shallow rare ok = name_wider l d m r.half.notes.defining.ending (words (find r.half.notes.defining.ending v.names)) v r few shallow rare ok
+act-wider l d m dues.Splice v r few shallow rare ok = name_wider l d m r.half.notes.asked (words (find r.half.notes.asked v.names)) v r few shallow rare ok
 act-wider l d m (dues.Register signs.None) v r few shallow rare ok =
     bytes_wider l d m (register_text (register_of (find r.half.notes.asked v.registers))) v r few shallow rare ok
 act-wider l d m (dues.Register signs.Plus) v r few shallow rare ok = refl
 act-wider l d m (dues.Register signs.Minus) v r few shallow rare ok = refl
 act-wider l d m (dues.Argument n) v r few shallow rare ok = bytes_wider l d m (argument v.arguments n) v r few shallow rare ok
 act-wider l d m (dues.Put b) v r few shallow rare ok = stores_wider l d (gathering b v) (idle r) (reader_under m (idle r)) v (stored_under l d v) r (reader_under m r) few ok
-act-wider l d m dues.Call v r few shallow rare ok = call_wider l d m (words (find (name_in r) v.names)) v r few shallow rare ok
+act-wider l d m dues.Call v r few shallow rare ok = call_wider l d m (name_in r) (words (find (name_in r) v.names)) v r few shallow rare ok
 act-wider l d m dues.Expanded v r few shallow rare ok = never ok
 act-wider l d m due v r few shallow rare ok = refl

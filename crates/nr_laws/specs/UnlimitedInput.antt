@@ -27,7 +27,7 @@ adds b d v r = done events.Nothing (added (elements.Byte b ∷ []) v) (then_due 
 
 -- the text of a name, with no arguments in force
 abbrev pub splices_name : {K : Type 0} → List ℕ → Stored K → Reader → Acted K
-splices_name name v r = expands_text (is_some (words (find name v.names))) (entered (words (find name v.names)) None v) r
+splices_name name v r = expands_text (is_some (words (find name v.names))) (entered name (words (find name v.names)) None v) r
 
 -- what is due, done whatever is stored
 abbrev pub act_freely : {K : Type 0} → Due → Stored K → Reader → Acted K
@@ -40,7 +40,7 @@ act_freely (dues.Register signs.None) v r = expands (reading_bytes (register_tex
 act_freely (dues.Argument n) v r = expands (reading_bytes (argument v.arguments n) v) r
 act_freely (dues.Put b) v r = done events.Nothing (gathering b v) (idle r)
 act_freely dues.Call v r =
-    expands_text (is_some (words (find (name_in r) v.names))) (called (words (find (name_in r) v.names)) v) r
+    expands_text (is_some (words (find (name_in r) v.names))) (called (name_in r) (words (find (name_in r) v.names)) v) r
 act_freely d v r = act d v r
 
 -- what is due in a situation
