@@ -1,9 +1,29 @@
--- The bytes of a text of the system.
-use Rattle.std.specs.Prelude.{ℕ, List, Option}
+-- The texts of the system.
+use Rattle.std.specs.Prelude.{◌≡◌, ℕ, List, Option, Result, Ok, IfOk, ⊤}
+use Rattle.nr_units.specs.Supply.{reader_supply}
+use Rattle.nr_words.specs.Inputs.{Reading, ReadsMacros, ReadsFile, ReadsStandard}
+use Rattle.nr_command.specs.Opening.{Opening, Opens}
 use Rattle.nr_command.specs.declared.disk.Text.{Text}
 use Rattle.nr_command.specs.declared.disk.Text.TheVariants.{File, Standard}
 
--- the bytes that are left of it, where they are known
+-- the bytes that are left of a text, where they are known
 abbrev pub left_of : {F I : Type 0} → (F → Option (List ℕ)) → (I → Option (List ℕ)) → Text F I → Option (List ℕ)
 left_of file standard (File f) = file f
 left_of file standard (Standard i) = standard i
+
+-- it is a file
+abbrev pub IsFile : {F I : Type 0} → Text F I → Type 0
+IsFile (File f) = ⊤
+IsFile (Standard i) = ⊥
+
+-- A text was opened: standard input always is, and anything else is a file.
+abbrev pub IsText : {F I E : Type 0} → I → Reading → Result (Text F I) E → Type 0
+IsText standard ReadsStandard result = result ≡ Ok (Standard standard)
+IsText standard (ReadsFile name) result = IfOk result IsFile
+IsText standard (ReadsMacros folder name) result = IfOk result IsFile
+
+-- What may come of opening a text: standard input is always open, and of a file nothing is known.
+abbrev pub MayCome : Option (List ℕ) → Reading → Opening → Type 0
+MayCome standard ReadsStandard opening = opening ≡ Opens (reader_supply standard)
+MayCome standard (ReadsFile name) opening = ⊤
+MayCome standard (ReadsMacros folder name) opening = ⊤

@@ -1,4 +1,6 @@
 pub mod Disk
 pub mod Faults
+pub mod Jobs
+pub mod Opening
 pub mod Running
-pub mod Unopened
+pub mod Words

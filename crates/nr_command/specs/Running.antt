@@ -9,7 +9,6 @@ use Rattle.nr_options.specs.declared.options.Options.{Options}
 use Rattle.nr_engine.specs.Answer.{Answers, is_read_fault, is_write_fault}
 use Rattle.nr_engine.specs.declared.outcome.Outcome.{Outcome}
 use Rattle.nr_engine.specs.declared.outcome.Outcome.TheVariants.{Done, Limit, ReadFault, TooLong, WriteFault}
-use Rattle.nr_command.specs.Faults.{Tells, line_of}
 
 -- the status of the program
 abbrev pub status_of : Outcome → ℕ
@@ -35,12 +34,3 @@ pub record Ran (b : Bounds) (options : Options) (supply : Option Supply) (reads 
   -- each failed call was counted
   pub read_failures : reads' ≡ counted_if (is_read_fault formatted) reads
   pub write_failures : writes' ≡ flush_counted_if flush_failed (put_counted_if (is_write_fault formatted) writes)
-
--- A run over sources of which no call had failed came to an outcome, and the status and the line tell it.
-pub record Comes (b : Bounds) (options : Options) (supply : Option Supply) (old new : Option (List ℕ)) (writes writes' : SinkFailures)
-    (old_line new_line : Option (List ℕ)) (failures failures' : SinkFailures) (status : ℕ) : Type 0 where
-  pub outcome : Outcome
-  pub reads : ℕ
-  pub ran : Ran b options supply 0 reads old new writes writes' outcome
-  pub status_is : status ≡ status_of outcome
-  pub told : Tells old_line new_line failures failures' (line_of outcome)

@@ -1,11 +1,16 @@
 // The files of the system, and its standard input.
 
-use super::opening::{Opener, Refusal};
+use super::opening::Opener;
+use arrayvec::ArrayString;
+use nr_engine::Buffered;
 use nr_words::Input;
-use std::alloc::Global;
-use std::io::Read;
+use std::fmt::Write;
+use std::io::{ErrorKind, Read};
 use std::rt::Files;
 use std::{fs, io};
+
+/// The bytes of the longest path that Linux opens.
+const LONGEST_PATH: usize = 4_095;
 
 /// A text of the system.
 #[derive(Drop)]
@@ -34,39 +39,46 @@ impl<F: Read, I: Read> Read for Text<F, I> {
 pub struct Disk<'r, R, I> {
     files: &'r R,
     standard: I,
-    alloc: Global,
 }
 
 impl<'r, R: Files, I: Read + Copy + Drop> Disk<'r, R, I> {
+    ghost use Rattle.nr_words.specs.Inputs.{reading_of};
+    ghost use Rattle.nr_command.specs.Disk.{IsText};
+
     /// These files, and this for each time that standard input is read.
-    pub fn new(files: &'r R, standard: I, alloc: Global) -> Self {
-        Disk {
-            files,
-            standard,
-            alloc,
-        }
+    pub fn new(files: &'r R, standard: I) -> Self {
+        Disk { files, standard }
     }
 
-    /// A file by its path.
-    fn open_file(&self, path: &str) -> Result<Text<R::File, I>, Refusal> {
-        match fs::open(self.files, path) {
-            Ok(file) => Ok(Text::File(file)),
-            Err(_) => Err(Refusal::CannotOpen),
+    /// The text of that name.
+    fn text(&self, input: Input<'_>) -> io::Result<Text<R::File, I>>
+        ensures { IsText self.now.standard (reading_of input.entry) result }
+    {
+        match input {
+            Input::Macros(file) => {
+                let mut path = ArrayString::<LONGEST_PATH>::new();
+                if write!(path, "{file}").is_err() {
+                    return Err(io::Error::from(ErrorKind::InvalidFilename));
+                }
+                Ok(Text::File(fs::open(self.files, path.as_str())?))
+            }
+            Input::File(name) => Ok(Text::File(fs::open(self.files, name)?)),
+            Input::Standard => Ok(Text::Standard(self.standard)),
         }
     }
 }
 
-impl<R: Files, I: Read + Copy + Drop> Opener for Disk<'_, R, I> {
-    type Text = Text<R::File, I>;
+impl<'b, R: Files, I: Read + Copy + Drop> Opener<'b> for Disk<'_, R, I> {
+    ghost use Rattle.nr_command.specs.Disk.{MayCome};
 
-    fn open(&self, input: Input<'_>) -> Result<Self::Text, Refusal> {
-        match input {
-            Input::Macros(file) => match format!(in self.alloc; "{file}") {
-                Ok(path) => self.open_file(&path),
-                Err(_) => Err(Refusal::OutOfMemory),
-            },
-            Input::File(name) => self.open_file(name),
-            Input::Standard => Ok(Text::Standard(self.standard)),
+    type Text = Buffered<'b, Text<R::File, I>>;
+
+    ghost may_come = { λ disk. MayCome (I.remaining disk.standard) };
+
+    fn open(&self, input: Input<'_>, buffer: &'b mut [u8]) -> io::Result<Self::Text> {
+        match self.text(input) {
+            Ok(text) => Ok(Buffered::over(text, buffer)),
+            Err(error) => Err(error),
         }
     }
 }

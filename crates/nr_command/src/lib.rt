@@ -7,6 +7,7 @@
 
 mod disk;
 mod faults;
+mod memory;
 mod opening;
 mod program;
 mod running;
@@ -14,7 +15,8 @@ mod words;
 
 pub use disk::{Disk, Text};
 pub use faults::fault_line;
-pub use opening::{Opener, Refusal, Unopened, open_texts, unopened_line};
+pub use memory::{Heap, Memory};
+pub use opening::{BUFFER_SIZE, NotRun, Opener, open_texts, text_count, unopened_line};
 pub use program::{run_program, run_words};
-pub use running::{out_of_memory, run_files, run_over};
-pub use words::words_of;
+pub use running::{out_of_memory, run_over};
+pub use words::{CommandLine, SystemWords, words_of};

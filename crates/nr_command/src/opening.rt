@@ -1,67 +1,104 @@
 // The texts that a job reads, opened before any of them is read.
-ghost use Rattle.std.specs.Prelude.{◌≡◌, length, IfOk, IfErr, OnOk, OnErr, vec_len};
+ghost use Rattle.std.specs.Prelude.{◌≡◌, ℕ, map, length, IfOk, IfErr, OnOk, OnErr};
 ghost use Rattle.std.specs.Io.KnownBytes.{Appends};
-ghost use Rattle.nr_units.specs.Failures.{put_counted};
+ghost use Rattle.nr_units.specs.Failures.{counted_if, put_counted};
 ghost use Rattle.nr_units.specs.Held.{AppendsFront};
-ghost use Rattle.nr_words.specs.Inputs.{macro_path, readings, reading_of};
+ghost use Rattle.nr_words.specs.Inputs.{Reading, macro_path, readings, reading_of};
 ghost use Rattle.nr_words.specs.Taking.{asked_of};
-ghost use Rattle.nr_command.specs.Unopened.{IsOneOf, name_of, unopened_text};
+ghost use Rattle.nr_command.specs.Opening.{AreOpen, Opening, name_of, opening_of, unopened_text};
+ghost use Rattle.nr_command.specs.Jobs.{IsRefused, lacks_memory};
 
-use nr_engine::{Fault, Sink, WriteFault};
+use super::memory::Memory;
+use nr_engine::{Fault, Sink, Source, WriteFault};
 use nr_words::{Input, Job};
-use std::alloc::{AllocError, Global};
-use std::io::Read;
+use std::alloc::AllocError;
+use std::{fmt, io};
+use thiserror::Error;
 
 #[cfg(test)]
 mod tests;
 
-/// Where texts are opened.
-pub trait Opener {
+/// The bytes of the buffer of each text that is read.
+pub const BUFFER_SIZE: usize = 65_536;
+
+/// Where texts are opened, each over a buffer that is lent to it.
+pub trait Opener<'b> {
     /// A text that is open.
-    type Text: Read + Drop;
+    type Text: Source + Drop;
+
+    /// What may come of opening a text.
+    ghost may_come: { Self → Reading → Opening → Type 0 };
 
     /// Opens a text. Nothing of it is read yet.
-    fn open(&self, input: Input<'_>) -> Result<Self::Text, Refusal>;
+    fn open(&self, input: Input<'_>, buffer: &'b mut [u8]) -> io::Result<Self::Text>
+        ensures { may_come self.now (reading_of input.entry) (opening_of Self.Text.supply result) };
 }
 
-/// Why a text is not opened.
-#[derive(Clone, Copy, Debug, PartialEq, Eq)]
-pub enum Refusal {
-    /// It can't be.
-    CannotOpen,
-    /// There was no memory for its name.
-    OutOfMemory,
-}
-
-/// Why the texts of a job are not all open.
-#[derive(Clone, Copy, Debug)]
-pub enum Unopened<'a> {
-    /// This one can't be opened. Those before it were, and none behind it.
+/// Why a job is not run.
+#[derive(Clone, Copy, Debug, Error)]
+pub enum NotRun<'a> {
+    /// This text can't be opened. Those before it were, and none behind it.
+    #[error("cannot open {}", Name(.0))]
     CannotOpen(Input<'a>),
-    /// There was not enough memory to hold them.
+    /// There was not enough memory.
+    #[error("out of memory")]
     OutOfMemory,
+}
+
+impl From<AllocError> for NotRun<'_> {
+    ghost use Rattle.std.specs.Prelude.{◌≡◌};
+    ghost use Rattle.nr_command.specs.declared.opening.NotRun.TheVariants.{OutOfMemory};
+
+    ghost from_gives = { λ _ why. why ≡ OutOfMemory };
+
+    fn from(_error: AllocError) -> Self {
+        NotRun::OutOfMemory
+    }
+}
+
+/// What a text is called, to be displayed.
+#[derive(Clone, Copy)]
+struct Name<'r, 'a>(&'r Input<'a>);
+
+impl fmt::Display for Name<'_, '_> {
+    fn fmt<W: fmt::Write>(&self, f: &mut fmt::Formatter<W>) -> fmt::Result {
+        match self.0 {
+            Input::Macros(file) => write!(f, "{file}"),
+            Input::File(name) => write!(f, "{name}"),
+            Input::Standard => write!(f, "-"),
+        }
+    }
+}
+
+/// How many texts a job reads.
+pub fn text_count(job: &Job<'_>) -> usize
+    ensures { result ≡ length (readings (asked_of job.now)) }
+{
+    let named = job.macros.len() + job.files.len();
+    if job.reads_input { named + 1 } else { named }
 }
 
 /// Opens the texts that a job reads, one after the other in the order in which they are read, up to the
-/// first that can't be.
-pub fn open_texts<'a, O: Opener>(
+/// first that can't be, each over the next 64 KiB of the buffers as far as there are so many.
+pub fn open_texts<'a, 'b, O: Opener<'b>, M: Memory>(
+    memory: &mut M,
     opener: &O,
     job: &Job<'a>,
-    alloc: Global,
-) -> Result<Vec<O::Text>, Unopened<'a>>
-    ensures all { IfOk result (λ texts. vec_len texts ≡ length (readings (asked_of job.now))) }
-    ensures one { IfErr result (λ unopened. IsOneOf (readings (asked_of job.now)) unopened) }
+    buffers: &'b mut [u8],
+) -> Result<Vec<O::Text>, NotRun<'a>>
+    ensures all { IfOk result (λ texts. AreOpen (O.may_come opener.now) (readings (asked_of job.now)) (map O.Text.supply texts.items)) }
+    ensures refused { IfErr result (λ why. IsRefused (O.may_come opener.now) (readings (asked_of job.now)) why) }
+    ensures memory { M.refusals memory.new ≡ counted_if (lacks_memory result) (M.refusals memory.old) }
 {
-    let mut texts = Vec::new(alloc);
+    let mut texts = memory.room(text_count(job))?;
+    let mut left = buffers;
     while let Some(input) = job.input(texts.len()) {
-        match opener.open(input) {
-            Ok(text) => {
-                if texts.push(text).is_err() {
-                    return Err(Unopened::OutOfMemory);
-                }
-            }
-            Err(Refusal::CannotOpen) => return Err(Unopened::CannotOpen(input)),
-            Err(Refusal::OutOfMemory) => return Err(Unopened::OutOfMemory),
+        let len = BUFFER_SIZE.min(left.len());
+        let (buffer, rest) = left.split_at_mut(len);
+        left = rest;
+        match opener.open(input, buffer) {
+            Ok(text) => texts.push(text).unwrap(),
+            Err(_) => return Err(NotRun::CannotOpen(input)),
         }
     }
     Ok(texts)

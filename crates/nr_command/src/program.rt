@@ -1,30 +1,27 @@
 // The program over its words.
-ghost use Rattle.std.specs.Prelude.{◌≡◌, ◌≢◌, Err, IfOk, map, length};
-ghost use Rattle.nr_units.specs.Supply.{reader_supply};
+ghost use Rattle.std.specs.Prelude.{◌≡◌, ◌≢◌, ◌==◌, Ok, Err, IfOk, IfErr, OnErr, IsTrue, List, ℕ, map, string_bytes};
+ghost use Rattle.nr_units.specs.Failures.{counted_if};
 ghost use Rattle.nr_engine.specs.declared.outcome.Outcome.{Outcome};
-ghost use Rattle.nr_words.specs.Files.{files_supply};
-ghost use Rattle.nr_words.specs.Taking.{texts};
+ghost use Rattle.nr_words.specs.declared.job.Job.{Job};
+ghost use Rattle.nr_words.specs.Taking.{asked_of, texts};
 ghost use Rattle.nr_words.specs.UsageLine.{usage_text};
 ghost use Rattle.nr_words.specs.Words.{Complaint, IsAnswer};
 ghost use Rattle.nr_command.specs.Faults.{Tells};
-ghost use Rattle.nr_command.specs.Running.{Comes};
-ghost use Rattle.nr_command.specs.Unopened.{status_of_unopened, line_of_unopened};
+ghost use Rattle.nr_command.specs.Jobs.{Comes, Ends, lacks_memory, line_of_end, status_of_end};
 
 use super::disk::Disk;
-use super::opening::{Opener, Unopened, open_texts, unopened_line};
-use super::running::{out_of_memory, run_files};
-use super::words::words_of;
-use nr_engine::{Buffered, Desk, Sink, Source, ToWriter};
-use nr_words::{Job, Usage, read_words, usage_line};
+use super::memory::{Heap, Memory};
+use super::opening::{BUFFER_SIZE, NotRun, Opener, open_texts, text_count, unopened_line};
+use super::running::{out_of_memory, run_desk, tell};
+use super::words::{SystemWords, words_of};
+use nr_engine::{Outcome, Sink, ToWriter};
+use nr_words::{Job, Usage, chain, read_words, usage_line};
 use std::alloc::{AllocError, Global};
 use std::io::{BufWriter, Read, Write};
 use std::rt::{Env, Files};
 
 #[cfg(test)]
 mod tests;
-
-/// The bytes of the buffer of each text that is read, and of that of the output.
-const BUFFER_SIZE: usize = 65_536;
 
 /// Runs the program in a system: over its words, its files and these streams. Gives its status.
 pub fn run_program<R: Env + Files, I: Read + Copy + Drop, W: Write + Drop, E: Write + Drop>(
@@ -35,18 +32,33 @@ pub fn run_program<R: Env + Files, I: Read + Copy + Drop, W: Write + Drop, E: Wr
     errors: E,
 ) -> u8 {
     let mut errors = ToWriter::over(errors);
-    let Ok(owned) = words_of(system, alloc) else {
+    let Ok(owned) = words_of(&SystemWords::new(system, alloc), alloc) else {
         return out_of_memory(&mut errors);
     };
     let Ok(words) = borrowed(&owned, alloc) else {
         return out_of_memory(&mut errors);
     };
-    let disk = Disk::new(system, input, alloc);
-    run_words(alloc, &words, &disk, output, &mut errors)
+    let Ok(output) = BufWriter::with_capacity(alloc, BUFFER_SIZE, output) else {
+        return out_of_memory(&mut errors);
+    };
+    let mut output = ToWriter::over(output);
+    let mut memory = Heap::new(alloc);
+    let mut buffers = Vec::new(alloc);
+    let disk = Disk::new(system, input);
+    run_words(
+        &mut memory,
+        &words,
+        &disk,
+        &mut buffers,
+        &mut output,
+        &mut errors,
+    )
 }
 
 /// The words as they are borrowed.
-fn borrowed(words: &[String], alloc: Global) -> Result<Vec<&str>, AllocError> {
+fn borrowed(words: &[String], alloc: Global) -> Result<Vec<&str>, AllocError>
+    ensures { IfOk result (λ borrowed. texts borrowed.items ≡ map string_bytes words.now) }
+{
     let mut borrowed = Vec::new(alloc);
     for word in words {
         borrowed.push(word.as_str())?;
@@ -56,23 +68,36 @@ fn borrowed(words: &[String], alloc: Global) -> Result<Vec<&str>, AllocError> {
 
 /// Runs the program over the words behind its name, and gives its status: 2 where a word is bad, and
 /// then nothing is opened, read or written but the line that tells the first bad one; 3 where a text
-/// can't be opened, the first of which is told; and else that of `run_over`. The words are read before a
-/// text is opened, all texts are opened in the order in which they are read before memory is taken for
-/// the run, and that is taken before the first byte is read.
-pub fn run_words<O: Opener, W: Write + Drop, E: Sink>(
-    alloc: Global,
+/// can't be opened, the first of which is told; 5 where memory was refused, which is told; and else that
+/// of `run_over`.
+///
+/// The words are read before any memory is taken or a text is opened. The buffers of the texts, which
+/// come to stand in `buffers`, are taken before a text is opened; all texts are opened in the order in
+/// which they are read, before the desk is taken; and that is taken before the first byte is read.
+pub fn run_words<'b, M: Memory, O: Opener<'b>, W: Sink, E: Sink>(
+    memory: &mut M,
     words: &[&str],
     opener: &O,
-    output: W,
+    buffers: &'b mut Vec<u8>,
+    output: &mut W,
     errors: &mut E,
 ) -> u8
     ensures bad_word { (complaint : Complaint) → IsAnswer (texts words.now) (Err complaint) → (result ≡ 2)
         × Tells (E.held errors.old) (E.held errors.new) (E.failures errors.old) (E.failures errors.new) (usage_text complaint.case complaint.word) }
     ensures usage { result ≡ 2 → (complaint : Complaint) × IsAnswer (texts words.now) (Err complaint) }
+    ensures unwritten { result ≡ 2 → output.new ≡ output.old }
+
+    // Else the words ask for a job, and it comes to its end.
+    ensures ran { result ≢ 2 → (job : Job) × IsAnswer (texts words.now) (Ok (asked_of job))
+        × Comes (O.may_come opener.now) job (W.held output.old) (W.held output.new) (W.failures output.old) (W.failures output.new) (W.passed_on output.new)
+        (E.held errors.old) (E.held errors.new) (E.failures errors.old) (E.failures errors.new) result }
     ensures quiet { result ≡ 0 → errors.new ≡ errors.old }
+
+    // Want of memory is told where memory was refused, and nowhere else.
+    ensures memory { M.refusals memory.new ≡ counted_if (result == 5) (M.refusals memory.old) }
 {
     match read_words(words) {
-        Ok(job) => run_job(alloc, &job, opener, output, errors),
+        Ok(job) => run_job(memory, &job, opener, buffers, output, errors),
         Err(usage) => refuse_word(&usage, errors),
     }
 }
@@ -86,90 +111,57 @@ fn refuse_word<E: Sink>(usage: &Usage<'_>, errors: &mut E) -> u8
     usage.status()
 }
 
-/// Runs a job.
-fn run_job<O: Opener, W: Write + Drop, E: Sink>(
-    alloc: Global,
+/// Runs a job, tells how it ended, as far as `errors` takes the line, and gives the status of the
+/// program.
+fn run_job<'b, M: Memory, O: Opener<'b>, W: Sink, E: Sink>(
+    memory: &mut M,
     job: &Job<'_>,
     opener: &O,
-    output: W,
-    errors: &mut E,
-) -> u8
-    ensures runs { result ≢ 2 }
-    ensures quiet { result ≡ 0 → errors.new ≡ errors.old }
-{
-    let opened = match open_texts(opener, job, alloc) {
-        Ok(opened) => opened,
-        Err(unopened) => return refuse_text(&unopened, errors),
-    };
-    let Ok(output) = BufWriter::with_capacity(alloc, BUFFER_SIZE, output) else {
-        return out_of_memory(errors);
-    };
-    let mut output = ToWriter::over(output);
-    run_texts(alloc, job, opened, &mut output, errors)
-}
-
-/// Tells why texts are not all open, as far as `errors` takes the line, and gives the status of the
-/// program.
-fn refuse_text<E: Sink>(unopened: &Unopened<'_>, errors: &mut E) -> u8
-    ensures status { result ≡ status_of_unopened unopened.now }
-    ensures told { Tells (E.held errors.old) (E.held errors.new) (E.failures errors.old) (E.failures errors.new) (line_of_unopened unopened.now) }
-{
-    match unopened {
-        Unopened::CannotOpen(input) => {
-            let _ = unopened_line(input, errors);
-            3
-        }
-        Unopened::OutOfMemory => out_of_memory(errors),
-    }
-}
-
-/// Runs a job over its texts, which are open. All memory that the run takes is taken here, before it
-/// begins.
-fn run_texts<T: Read + Drop, W: Sink, E: Sink>(
-    alloc: Global,
-    job: &Job<'_>,
-    opened: Vec<T>,
+    buffers: &'b mut Vec<u8>,
     output: &mut W,
     errors: &mut E,
 ) -> u8
-    ensures ran { result ≢ 5 → Comes job.now.limits job.now.options (files_supply (map (λ text. reader_supply (T.remaining text)) opened.items))
-        (W.held output.old) (W.held output.new) (W.failures output.old) (W.failures output.new)
+    ensures ran { Comes (O.may_come opener.now) job.now (W.held output.old) (W.held output.new) (W.failures output.old) (W.failures output.new) (W.passed_on output.new)
         (E.held errors.old) (E.held errors.new) (E.failures errors.old) (E.failures errors.new) result }
+    ensures not_bad { result ≢ 2 }
     ensures quiet { result ≡ 0 → errors.new ≡ errors.old }
+    ensures memory { M.refusals memory.new ≡ counted_if (result == 5) (M.refusals memory.old) }
 {
-    let desk = Desk::new(alloc, job.limits);
-    let Ok(mut buffers) = buffers(alloc, opened.len()) else {
-        return out_of_memory(errors);
-    };
-    let Ok(mut sources) = sources(alloc, opened, &mut buffers) else {
-        return out_of_memory(errors);
-    };
-    run_files(desk, &job.options, &mut sources, output, errors)
-}
-
-/// A buffer for each of so many texts.
-fn buffers(alloc: Global, count: usize) -> Result<Vec<u8>, AllocError> {
-    match count.checked_mul(BUFFER_SIZE) {
-        Some(len) => vec![in alloc; 0u8; len],
-        None => Err(AllocError),
+    match outcome_of(memory, job, opener, buffers, output) {
+        Ok(outcome) => tell(outcome, errors),
+        Err(why) => tell_not_run(&why, errors),
     }
 }
 
-/// The texts as sources, each over a buffer of its own as far as there are buffers.
-fn sources<'b, T: Read + Drop>(
-    alloc: Global,
-    opened: Vec<T>,
-    buffers: &'b mut [u8],
-) -> Result<Vec<Buffered<'b, T>>, AllocError>
-    ensures { IfOk result (λ sources. map ⟦<Buffered<'b, T> as Source>⟧.supply sources.items ≡ map (λ text. reader_supply (T.remaining text)) opened.items) }
+/// Runs a job. All memory that it takes is taken here, before its first byte is read.
+fn outcome_of<'a, 'b, M: Memory, O: Opener<'b>, W: Sink>(
+    memory: &mut M,
+    job: &Job<'a>,
+    opener: &O,
+    buffers: &'b mut Vec<u8>,
+    output: &mut W,
+) -> Result<Outcome, NotRun<'a>>
+    ensures ends { Ends (O.may_come opener.now) job.now (W.held output.old) (W.held output.new) (W.failures output.old) (W.failures output.new) (W.passed_on output.new) result }
+    ensures memory { M.refusals memory.new ≡ counted_if (lacks_memory result) (M.refusals memory.old) }
 {
-    let mut sources = Vec::new(alloc);
-    let mut left = buffers;
-    for text in opened {
-        let len = BUFFER_SIZE.min(left.len());
-        let (buffer, rest) = left.split_at_mut(len);
-        left = rest;
-        sources.push(Buffered::over(text, buffer))?;
+    let len = text_count(job).saturating_mul(BUFFER_SIZE);
+    *buffers = memory.bytes(len)?;
+    let mut texts = open_texts(memory, opener, job, buffers.as_mut_slice())?;
+    let mut desk = memory.desk(job.limits)?;
+    let mut input = chain(&mut texts);
+    Ok(run_desk(&mut desk, &job.options, &mut input, output))
+}
+
+/// Tells why a job is not run, as far as `errors` takes the line, and gives the status of the program.
+fn tell_not_run<E: Sink>(why: &NotRun<'_>, errors: &mut E) -> u8
+    ensures status { result ≡ status_of_end (Err why.now) }
+    ensures told { Tells (E.held errors.old) (E.held errors.new) (E.failures errors.old) (E.failures errors.new) (line_of_end (Err why.now)) }
+{
+    match why {
+        NotRun::CannotOpen(input) => {
+            let _ = unopened_line(input, errors);
+            3
+        }
+        NotRun::OutOfMemory => out_of_memory(errors),
     }
-    Ok(sources)
 }

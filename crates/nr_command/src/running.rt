@@ -1,13 +1,11 @@
 // A run of the program over given streams.
-ghost use Rattle.std.specs.Prelude.{◌≡◌, ◌≢◌, ◌↔◌, IsTrue, IsErr, IfOk, OnErr, map};
+ghost use Rattle.std.specs.Prelude.{◌≡◌, ◌≢◌, ◌↔◌, IsTrue, IsErr, IfOk, OnErr};
 ghost use Rattle.nr_engine.specs.declared.outcome.Outcome.{Outcome};
 ghost use Rattle.nr_command.specs.Faults.{Tells, line_of};
-ghost use Rattle.nr_words.specs.Files.{files_supply};
-ghost use Rattle.nr_command.specs.Running.{Comes, Ran, status_of, memory_line};
+ghost use Rattle.nr_command.specs.Running.{Ran, status_of, memory_line};
 
 use super::faults::fault_line;
 use nr_engine::{Desk, Fault, Options, Outcome, Sink, Source, format};
-use nr_words::chain;
 use std::alloc::AllocError;
 
 #[cfg(test)]
@@ -52,29 +50,8 @@ pub fn run_over<R: Source, W: Sink, E: Sink>(
     }
 }
 
-/// Formats files within the desk, one after the other, each with a newline behind it where it is not empty
-/// and has none at its end. All else is as with `run_over`.
-pub fn run_files<F: Source, W: Sink, E: Sink>(
-    desk: Result<Desk, AllocError>,
-    options: &Options,
-    files: &mut [F],
-    output: &mut W,
-    errors: &mut E,
-) -> u8
-    ensures ran { IfOk desk (λ limits. Comes limits options.now (files_supply (map F.supply files.old))
-        (W.held output.old) (W.held output.new) (W.failures output.old) (W.failures output.new)
-        (E.held errors.old) (E.held errors.new) (E.failures errors.old) (E.failures errors.new) result) }
-    ensures quiet { result ≡ 0 → errors.new ≡ errors.old }
-    ensures passed_on { result ≢ 4 → result ≢ 5 → IsTrue (W.passed_on output.new) }
-    ensures refused { (result ≡ 5) ↔ IsErr desk }
-    ensures told { OnErr desk (Tells (E.held errors.old) (E.held errors.new) (E.failures errors.old) (E.failures errors.new) memory_line) }
-{
-    let mut input = chain(files);
-    run_over(desk, options, &mut input, output, errors)
-}
-
 /// Formats the input within the desk, and flushes the output.
-fn run_desk<R: Source, W: Sink>(
+pub(crate) fn run_desk<R: Source, W: Sink>(
     desk: &mut Desk,
     options: &Options,
     input: &mut R,
@@ -93,7 +70,7 @@ fn run_desk<R: Source, W: Sink>(
 }
 
 /// Tells an outcome, as far as `errors` takes its line, and gives its status.
-fn tell<E: Sink>(outcome: Outcome, errors: &mut E) -> u8
+pub(crate) fn tell<E: Sink>(outcome: Outcome, errors: &mut E) -> u8
     ensures status { result ≡ status_of outcome }
     ensures told { Tells (E.held errors.old) (E.held errors.new) (E.failures errors.old) (E.failures errors.new) (line_of outcome) }
     ensures quiet { outcome ≡ Outcome.Done → errors.new ≡ errors.old }

@@ -1,7 +1,9 @@
 // The line of a text that can't be opened, and where its sink fails.
-use super::unopened_line;
+use super::{NotRun, unopened_line};
 use nr_units::fakes::Slate;
 use nr_words::{Input, MacroFile};
+use std::alloc::AllocError;
+use std::test::Fail;
 
 static LINES: [(Input<'static>, &[u8]); 4] = [
     (Input::File("a b"), b"nroff: cannot open a b\n"),
@@ -37,4 +39,18 @@ fn tells_a_front_where_the_sink_fails(rt: HostRuntime) {
             assert!(rt; errors.bytes() == &line[..place], "{input:?} at {place}");
         }
     }
+}
+
+// An error's text is its line, less the program's name and the newline.
+#[test]
+fn displays_errors(rt: HostRuntime) -> Result<(), Fail> {
+    for (input, line) in &LINES {
+        let error = NotRun::CannotOpen(*input);
+        let shown = format!(in rt.alloc(); "nroff: {error}\n")?;
+        assert!(rt; shown.as_bytes() == *line, "{input:?}");
+    }
+    let error = NotRun::from(AllocError);
+    let shown = format!(in rt.alloc(); "{error}")?;
+    assert_eq!(rt; shown.as_str(), "out of memory");
+    Ok(())
 }

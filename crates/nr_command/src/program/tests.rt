@@ -1,16 +1,21 @@
 // Whole runs over words, and over texts in memory.
-use super::run_words;
-use crate::opening::{Opener, Refusal};
-use nr_engine::ToWriter;
+use super::{run_program, run_words};
+use crate::memory::{Heap, Memory, counted};
+use crate::opening::Opener;
+use nr_engine::{Buffered, Desk, Limits, ToWriter};
 use nr_words::{Input, MacroFile};
 use std::alloc::{AllocError, Global};
 use std::cell::Cell;
 use std::io;
 use std::io::{ErrorKind, Read, Write};
 
+mod system;
+
+use system::System;
+
 /// A text in memory, or one that fails at each call.
 #[derive(Clone, Copy, Drop)]
-enum Page<'a> {
+pub enum Page<'a> {
     Bytes(&'a [u8]),
     Broken,
 }
@@ -53,10 +58,14 @@ fn is_path(path: &str, file: MacroFile<'_>) -> bool {
     rest.strip_prefix("/tmac.") == Some(file.name)
 }
 
-impl<'a> Opener for Shelf<'a> {
-    type Text = Page<'a>;
+impl<'b, 'a> Opener<'b> for Shelf<'a> {
+    ghost use Rattle.std.specs.Prelude.{⊤};
 
-    fn open(&self, input: Input<'_>) -> Result<Page<'a>, Refusal> {
+    type Text = Buffered<'b, Page<'a>>;
+
+    ghost may_come = { λ shelf reading opening. ⊤ };
+
+    fn open(&self, input: Input<'_>, buffer: &'b mut [u8]) -> io::Result<Self::Text> {
         for (path, page) in self.texts {
             let found = match input {
                 Input::Macros(file) => is_path(path, file),
@@ -65,14 +74,59 @@ impl<'a> Opener for Shelf<'a> {
             };
             if found {
                 self.opened.set(self.opened.get().wrapping_add(1));
-                return Ok(*page);
+                return Ok(Buffered::over(*page, buffer));
             }
         }
         if matches!(input, Input::Standard) {
             self.opened.set(self.opened.get().wrapping_add(1));
-            return Ok(self.standard);
+            return Ok(Buffered::over(self.standard, buffer));
         }
-        Err(Refusal::CannotOpen)
+        Err(io::Error::from(ErrorKind::NotFound))
+    }
+}
+
+/// The memory of the system, of which one call is refused.
+#[derive(Drop)]
+struct Scarce {
+    alloc: Global,
+    /// How many calls come before that one.
+    before: usize,
+    refusals: u64,
+}
+
+impl Scarce {
+    fn refuses(&mut self) -> bool {
+        let refused = self.before == 0;
+        self.before = self.before.wrapping_sub(1);
+        refused
+    }
+}
+
+impl Memory for Scarce {
+    ghost refusals = { λ memory. memory.refusals };
+
+    fn bytes(&mut self, len: usize) -> Result<Vec<u8>, AllocError> {
+        if self.refuses() {
+            return counted(&mut self.refusals, Err(AllocError));
+        }
+        let taken = vec![in self.alloc; 0u8; len];
+        counted(&mut self.refusals, taken)
+    }
+
+    fn room<T>(&mut self, count: usize) -> Result<Vec<T>, AllocError> {
+        if self.refuses() {
+            return counted(&mut self.refusals, Err(AllocError));
+        }
+        let taken = Vec::with_capacity(self.alloc, count);
+        counted(&mut self.refusals, taken)
+    }
+
+    fn desk(&mut self, limits: Limits) -> Result<Desk, AllocError> {
+        if self.refuses() {
+            return counted(&mut self.refusals, Err(AllocError));
+        }
+        let taken = Desk::new(self.alloc, limits);
+        counted(&mut self.refusals, taken)
     }
 }
 
@@ -243,16 +297,25 @@ struct Ran {
     opened: usize,
 }
 
-fn run(alloc: Global, words: &[&str]) -> Ran {
+fn run<M: Memory>(alloc: Global, memory: &mut M, words: &[&str]) -> Ran {
     let shelf = Shelf {
         texts: &TEXTS,
         standard: Page::Bytes(b".pl 1v\nin\n"),
         opened: Cell::new(0),
     };
+    let mut buffers = Vec::new(alloc);
     let mut output = Vec::new(alloc);
     let mut line = Vec::new(alloc);
+    let mut to_output = ToWriter::over(&mut output);
     let mut errors = ToWriter::over(&mut line);
-    let status = run_words(alloc, words, &shelf, &mut output, &mut errors);
+    let status = run_words(
+        memory,
+        words,
+        &shelf,
+        &mut buffers,
+        &mut to_output,
+        &mut errors,
+    );
     Ran {
         status,
         output,
@@ -265,7 +328,7 @@ fn run(alloc: Global, words: &[&str]) -> Ran {
 fn rows(rt: HostRuntime) {
     for row in &ROWS {
         let words = row.words;
-        let ran = run(rt.alloc(), words);
+        let ran = run(rt.alloc(), &mut Heap::new(rt.alloc()), words);
         assert!(rt; ran.output.as_slice() == row.output, "{words:?}");
         assert!(rt; ran.line.as_slice() == row.line, "{words:?}");
         assert_eq!(rt; ran.status, row.status, "{words:?}");
@@ -273,19 +336,158 @@ fn rows(rt: HostRuntime) {
     }
 }
 
+// The first two calls are for the buffers and the list of the texts, the third for the desk.
 #[test]
-fn tells_an_output_that_fails(rt: HostRuntime) -> Result<(), AllocError> {
-    let shelf = Shelf {
-        texts: &TEXTS,
-        standard: Page::Broken,
-        opened: Cell::new(0),
+fn tells_memory_that_is_refused(rt: HostRuntime) {
+    for (before, opened) in [(0, 0), (1, 0), (2, 2)] {
+        let mut memory = Scarce {
+            alloc: rt.alloc(),
+            before,
+            refusals: 0,
+        };
+        let ran = run(rt.alloc(), &mut memory, &["one", "two"]);
+        assert_eq!(rt; ran.status, 5, "behind {before}");
+        assert!(rt; ran.output.is_empty(), "behind {before}");
+        assert!(rt; ran.line.as_slice() == b"nroff: out of memory\n".as_slice());
+        assert_eq!(rt; ran.opened, opened, "behind {before}");
+        assert_eq!(rt; memory.refusals, 1, "behind {before}");
+    }
+    let mut memory = Scarce {
+        alloc: rt.alloc(),
+        before: 3,
+        refusals: 0,
+    };
+    let ran = run(rt.alloc(), &mut memory, &["one", "two"]);
+    assert_eq!(rt; ran.status, 0);
+    assert!(rt; ran.output.as_slice() == b"one two\n".as_slice());
+}
+
+/// Standard input: bytes that come once, however often it is opened.
+#[derive(Clone, Copy)]
+struct Typed<'r, 'a> {
+    left: &'r Cell<&'a [u8]>,
+}
+
+impl Read for Typed<'_, '_> {
+    fn read(&mut self, buffer: &mut [u8]) -> io::Result<usize> {
+        let mut bytes = self.left.get();
+        let count = bytes.read(buffer)?;
+        self.left.set(bytes);
+        Ok(count)
+    }
+}
+
+/// A run in a system: its words, standard input, what it prints, its status and its line.
+struct SystemRow {
+    words: &'static [&'static [u8]],
+    input: &'static [u8],
+    output: &'static [u8],
+    status: u8,
+    line: &'static [u8],
+}
+
+static SYSTEM_ROWS: [SystemRow; 7] = [
+    SystemRow {
+        words: &[b"nroff"],
+        input: b".pl 2\n.ll 8\na bb ccc dddd\n",
+        output: b"a bb ccc\ndddd\n",
+        status: 0,
+        line: b"",
+    },
+    // Macro files come first, in the folder that was given last, then the files, and then standard input,
+    // which was read before. No text ends with a newline.
+    SystemRow {
+        words: &[
+            b"nroff",
+            b"-mpage",
+            b"-Mnowhere",
+            b"-Mlib",
+            b"-mline",
+            b"-i",
+            b"-Ld4",
+            b"first",
+            b"-",
+            b"-i",
+        ],
+        input: b"from the input",
+        output: b"one\ntwo from the input\nthree\n",
+        status: 0,
+        line: b"",
+    },
+    SystemRow {
+        words: &[b"nroff", b"-Lp100", b"-s", b"-x"],
+        input: b".pl 1\na\n",
+        output: b"",
+        status: 2,
+        line: b"nroff: option -s is not in this profile\n",
+    },
+    SystemRow {
+        words: &[b"nroff", b"there", b"nowhere"],
+        input: b"",
+        output: b"",
+        status: 3,
+        line: b"nroff: cannot open nowhere\n",
+    },
+    SystemRow {
+        words: &[b"nroff", b"-mnot", b"there"],
+        input: b"",
+        output: b"",
+        status: 3,
+        line: b"nroff: cannot open ./tmac.not\n",
+    },
+    // What was ended before the fault is out.
+    SystemRow {
+        words: &[b"nroff", b"there", b"folder"],
+        input: b"",
+        output: b"a\n",
+        status: 3,
+        line: b"nroff: read fault at byte 18\n",
+    },
+    SystemRow {
+        words: &[b"nroff", b"-Lp4"],
+        input: b".pl 1\na\n.br\nb\n.br\nhello\n",
+        output: b"a\n",
+        status: 1,
+        line: b"nroff: line cells limit passed at byte 23\n",
+    },
+];
+
+#[test]
+fn runs_in_a_system(rt: HostRuntime) {
+    for row in &SYSTEM_ROWS {
+        let system = System {
+            words: row.words,
+            texts: &SYSTEM_TEXTS,
+        };
+        let left = Cell::new(row.input);
+        let input = Typed { left: &left };
+        let mut output = Vec::new(rt.alloc());
+        let mut line = Vec::new(rt.alloc());
+        let status = run_program(&system, rt.alloc(), input, &mut output, &mut line);
+        let words = row.words;
+        assert!(rt; output.as_slice() == row.output, "{words:?}");
+        assert!(rt; line.as_slice() == row.line, "{words:?}");
+        assert_eq!(rt; status, row.status, "{words:?}");
+    }
+}
+
+static SYSTEM_TEXTS: [(&str, Page<'static>); 6] = [
+    ("first", Page::Bytes(b"one\n.br\ntwo")),
+    ("-i", Page::Bytes(b".br\nthree")),
+    ("lib/tmac.line", Page::Bytes(b".ll 20")),
+    ("lib/tmac.page", Page::Bytes(b".pl 1")),
+    ("there", Page::Bytes(b".pl 1\na\n.br\nb\n.br")),
+    ("folder", Page::Broken),
+];
+
+#[test]
+fn tells_an_output_that_fails(rt: HostRuntime) {
+    let system = System {
+        words: &[b"nroff", b"first"],
+        texts: &SYSTEM_TEXTS,
     };
     let mut line = Vec::new(rt.alloc());
-    let mut errors = ToWriter::over(&mut line);
-    assert_eq!(rt;
-        run_words(rt.alloc(), &["one"], &shelf, Shut, &mut errors),
-        4
-    );
+    let input = b"".as_slice();
+    assert_eq!(rt; run_program(&system, rt.alloc(), input, Shut, &mut line), 4);
     assert!(rt; line.as_slice() == b"nroff: write fault\n".as_slice());
-    Ok(())
 }

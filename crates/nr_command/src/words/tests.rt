@@ -1,5 +1,5 @@
 // Words of every length, words that are no UTF-8, and none.
-use super::words_of;
+use super::{SystemWords, words_of};
 use std::alloc::AllocError;
 use std::env::FillError;
 use std::rt::Env;
@@ -35,7 +35,10 @@ impl Env for Words<'_> {
 fn reads_each_word_behind_the_name(rt: HostRuntime) -> Result<(), AllocError> {
     let long = [b'x'; 1000];
     let words: [&[u8]; 5] = [b"nroff", b"-i", b"", &long, b"a\xffb"];
-    let read = words_of(&Words { words: &words }, rt.alloc())?;
+    let read = words_of(
+        &SystemWords::new(&Words { words: &words }, rt.alloc()),
+        rt.alloc(),
+    )?;
     assert_eq!(rt; read.len(), 4);
     assert_eq!(rt; read[0].as_str(), "-i");
     assert_eq!(rt; read[1].as_str(), "");
@@ -47,8 +50,20 @@ fn reads_each_word_behind_the_name(rt: HostRuntime) -> Result<(), AllocError> {
 #[test]
 fn there_may_be_none(rt: HostRuntime) -> Result<(), AllocError> {
     let words: [&[u8]; 1] = [b"nroff"];
-    assert!(rt; words_of(&Words { words: &words }, rt.alloc())?.is_empty());
+    assert!(rt;
+        words_of(
+            &SystemWords::new(&Words { words: &words }, rt.alloc()),
+            rt.alloc()
+        )?
+        .is_empty()
+    );
     let words: [&[u8]; 0] = [];
-    assert!(rt; words_of(&Words { words: &words }, rt.alloc())?.is_empty());
+    assert!(rt;
+        words_of(
+            &SystemWords::new(&Words { words: &words }, rt.alloc()),
+            rt.alloc()
+        )?
+        .is_empty()
+    );
     Ok(())
 }

@@ -13,6 +13,9 @@ same complaint other x is too = cc
 pub returns-in-Ok-clause-bad_word : goal.returns-in-Ok-clause-bad_word
 returns-in-Ok-clause-bad_word g c = λ complaint bad. absurd (no_job complaint (asked_of c.in-Ok.job) (Err complaint) refl (c.in-Ok.ensures.only (Err complaint) bad))
 
+pub returns-in-Ok-clause-ran : goal.returns-in-Ok-clause-ran
+returns-in-Ok-clause-ran g c = λ good. (c.in-Ok.job, c.in-Ok.ensures.answer, c.run_job.ensures.ran)
+
 pub returns-in-Err-clause-bad_word : goal.returns-in-Err-clause-bad_word
 returns-in-Err-clause-bad_word g c = λ complaint bad.
     let is : complaint ≡ complaint_of c.in-Err.usage = same complaint (complaint_of c.in-Err.usage) (Err complaint) refl (c.in-Err.ensures.only (Err complaint) bad) in

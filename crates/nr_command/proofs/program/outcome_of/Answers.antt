@@ -1,0 +1,28 @@
+use Rattle.std.proofs.Common.{◌≡◌, ℕ, List, Option, map, subst, ap, ◌∙◌}
+use Rattle.nr_units.specs.Failures.{SinkFailures}
+use Rattle.nr_units.specs.Supply.{Supply}
+use Rattle.nr_options.specs.Limits.{Bounds}
+use Rattle.nr_options.specs.declared.options.Options.{Options}
+use Rattle.nr_engine.specs.declared.outcome.Outcome.{Outcome}
+use Rattle.nr_words.specs.Files.{files_supply}
+use Rattle.nr_command.specs.Running.{Ran}
+use Rattle.nr_command.proofs.program.outcome_of.Goals as goal
+
+-- a run under equal limits over an equal supply, with as many failed reads before
+Ran-same : (b b' : Bounds) (options : Options) (supply supply' : Option Supply) (reads reads' after : ℕ) (old new : Option (List ℕ)) (writes writes' : SinkFailures) (outcome : Outcome)
+    → b ≡ b' → supply ≡ supply' → reads ≡ reads' → Ran b options supply reads after old new writes writes' outcome → Ran b' options supply' reads' after old new writes writes' outcome
+Ran-same b b' options supply supply' reads reads' after old new writes writes' outcome same_b same_supply same_reads ran =
+    subst (λ n. Ran b' options supply' n after old new writes writes' outcome) same_reads
+    (subst (λ s. Ran b' options s reads after old new writes writes' outcome) same_supply
+    (subst (λ l. Ran l options supply reads after old new writes writes' outcome) same_b ran))
+
+pub returns-clause-ends : goal.returns-clause-ends
+returns-clause-ends g c =
+    let supply = g.O.Text.Source.supply in
+    record {
+      given = map supply c.in_ok-texts.texts.items;
+      opened = c.in_ok-texts.ensures.all;
+      reads = c.run_desk.new.input.failures;
+      ran = Ran-same _ _ _ _ _ _ _ _ _ _ _ _ _ c.in_ok-desk.ensures.limits (c.chain-input.ensures.supply ∙ ap (λ texts. files_supply (map supply texts)) c.deref_mut.ensures.value) c.chain-input.ensures.failures c.run_desk.ensures.ran;
+      passed = c.run_desk.ensures.passed_on;
+    }

@@ -1,0 +1,10 @@
+use Rattle.std.proofs.Common.{Ok, Err}
+use Rattle.nr_command.proofs.program.run_job.Goals as goal
+
+pub returns-in-Ok-clause-ran : goal.returns-in-Ok-clause-ran
+returns-in-Ok-clause-ran g c =
+    record { end = Ok c.in-Ok.outcome; ended = c.in-Ok.ensures.ends; status_is = c.tell.ensures.status; told = c.tell.ensures.told }
+
+pub returns-in-Err-clause-ran : goal.returns-in-Err-clause-ran
+returns-in-Err-clause-ran g c =
+    record { end = Err c.in-Err.why; ended = c.in-Err.ensures.ends; status_is = c.tell_not_run.ensures.status; told = c.tell_not_run.ensures.told }
