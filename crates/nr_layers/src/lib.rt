@@ -1,4 +1,4 @@
-//! Nothing for other crates: the tests of the layers below the store. They have what no clause says: numbers of the
+//! Nothing for other crates: the tests of the store and the layers below it. They have what no clause says: numbers of the
 //! manuals, worked pages, command lines with their answers, and readers and writers that fail.
 #![tactic(auto)]
 
@@ -16,6 +16,8 @@ mod numbers;
 mod page_lists;
 #[cfg(test)]
 mod readers;
+#[cfg(test)]
+mod shared_charges;
 #[cfg(test)]
 mod texts;
 #[cfg(test)]
