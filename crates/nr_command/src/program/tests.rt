@@ -95,7 +95,12 @@ struct Scarce {
 }
 
 impl Scarce {
-    fn refuses(&mut self) -> bool {
+    ghost use Rattle.std.specs.Prelude.{◌≡◌};
+
+    // Whether this is that call.
+    fn refuses(&mut self) -> bool
+        ensures { self.new.refusals ≡ self.old.refusals }
+    {
         let refused = self.before == 0;
         self.before = self.before.wrapping_sub(1);
         refused
