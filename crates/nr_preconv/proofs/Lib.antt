@@ -1,0 +1,6 @@
+pub mod Hearing
+pub mod Plain
+pub mod Reading
+pub mod Tables
+pub mod Turning
+pub mod Unchanged

@@ -1,0 +1,101 @@
+-- Plain text is what comes of it.
+use Rattle.std.proofs.Common.{◌≡◌, ℕ, ◌≤◌, List, [], ◌∷◌, ◌++◌, length, drop, Bool, true, false, not, ◌==◌, ◌&&◌, nat_lt, if◌then◌else◌, refl, sym, ◌∙◌, ap, append-nil}
+use Rattle.std.proofs.lemmas.List.{drop_all}
+use Rattle.nr_preconv.specs.declared.half.Half.{Half}
+use Rattle.nr_preconv.specs.declared.half.Line.TheVariants as lines
+use Rattle.nr_preconv.specs.declared.half.Coming.TheVariants as comings
+use Rattle.nr_preconv.specs.declared.said.Said.TheVariants as says
+use Rattle.nr_preconv.specs.declared.reader.Reader.{Reader}
+use Rattle.nr_preconv.specs.declared.reader.Pending.TheVariants as pendings
+use Rattle.nr_preconv.specs.Half.{taken, first_half}
+use Rattle.nr_preconv.specs.Conditions.{saying}
+use Rattle.nr_preconv.specs.Lines.{in_line, is_control, control}
+use Rattle.nr_preconv.specs.Meeting.{meet, beginning}
+use Rattle.nr_preconv.specs.PlainText.{goes_on, is_plain_from, is_plain_text}
+use Rattle.nr_preconv.specs.Reading.{Told, told, behind, then_told, heard, read, fed, fresh, stray, is_lead, pending_with, finished, first_reader, converted}
+use Rattle.nr_preconv.proofs.Plain.{and-first, and-second, heard_byte_taken}
+
+-- what is half read of such text: at the beginning of a line, or in its midst
+half_at : Bool → Half
+half_at starts = record first_half { line = if starts then lines.Start else lines.Text }
+
+reader_at : Bool → Bool → Reader
+reader_at e starts = record { half = half_at starts; pending = pendings.Nothing; eight_bit = e }
+
+is_not : (x : Bool) → not x ≡ true → x ≡ false
+is_not false h = refl
+is_not true h = absurd (let no : false ≡ true = h in cc)
+
+by_newline : (x : Bool) (b : ℕ) → (if x then saying b lines.Start (half_at true) else saying b lines.Text (half_at true)) ≡ taken (says.Byte b) (half_at x)
+unfolding half_at
+by_newline true b = refl
+by_newline false b = refl
+
+-- a byte that goes on it
+start_meets : (b : ℕ) → (b == 92) ≡ false → is_control b ≡ false → meet (comings.Byte b) (half_at true) ≡ taken (says.Byte b) (half_at (b == 10))
+unfolding half_at
+start_meets b back control_no =
+    ap (λ (x : Bool). if x && true then beginning (half_at true) else in_line b (half_at true)) back
+    ∙ ap (λ (x : Bool). if x then control false b (half_at true) else
+    (if b == 10 then saying b lines.Start (half_at true) else saying b lines.Text (half_at true))) control_no
+    ∙ by_newline (b == 10) b
+
+text_meets : (b : ℕ) → (b == 92) ≡ false → meet (comings.Byte b) (half_at false) ≡ taken (says.Byte b) (half_at (b == 10))
+unfolding half_at
+text_meets b back =
+    ap (λ (x : Bool). if x && true then beginning (half_at false) else in_line b (half_at false)) back
+
+goes_meets : (starts : Bool) (b : ℕ) → goes_on starts b ≡ true → meet (comings.Byte b) (half_at starts) ≡ taken (says.Byte b) (half_at (b == 10))
+goes_meets true b g =
+    start_meets b (is_not (b == 92) (and-second (nat_lt b 128) (not (b == 92)) (and-first _ (not (is_control b)) g)))
+    (is_not (is_control b) (and-second (nat_lt b 128 && not (b == 92)) (not (is_control b)) g))
+goes_meets false b g =
+    text_meets b (is_not (b == 92) (and-second (nat_lt b 128) (not (b == 92)) (and-first (nat_lt b 128 && not (b == 92)) true g)))
+
+read_going : (e starts : Bool) (b : ℕ) → goes_on starts b ≡ true → fresh b (reader_at e starts) ≡ told (reader_at e (b == 10)) (b ∷ [])
+unfolding reader_at
+read_going e starts b g =
+    let ascii : nat_lt b 128 ≡ true = and-first (nat_lt b 128) (not (b == 92)) (and-first (nat_lt b 128 && not (b == 92)) (not (starts && is_control b)) g) in
+    let r = reader_at e starts in
+    ap (λ (x : Bool). if x then heard (comings.Byte b) r else (if is_lead b then told (pending_with (pendings.One b) r) [] else stray b r)) ascii
+    ∙ heard_byte_taken b r (half_at (b == 10)) (goes_meets starts b g)
+
+read_on : (e starts : Bool) (b : ℕ) → goes_on starts b ≡ true → read b (reader_at e starts) ≡ told (reader_at e (b == 10)) (b ∷ [])
+unfolding reader_at half_at
+read_on e true b g = ap (behind []) (read_going e true b g)
+read_on e false b g = ap (behind []) (read_going e false b g)
+
+-- where the last line stands
+ends : Bool → List ℕ → Bool
+ends starts [] = starts
+ends starts (b ∷ bs) = ends (b == 10) bs
+
+fed_on : (e starts : Bool) (bs : List ℕ) → is_plain_from starts bs ≡ true → fed (reader_at e starts) bs ≡ told (reader_at e (ends starts bs)) bs
+unfolding ends
+fed_on e starts [] p = refl
+fed_on e starts (b ∷ bs) p =
+    let g : goes_on starts b ≡ true = and-first (goes_on starts b) (is_plain_from (b == 10) bs) p in
+    let rest : is_plain_from (b == 10) bs ≡ true = and-second (goes_on starts b) (is_plain_from (b == 10) bs) p in
+    ap (λ (t : Told). then_told t (λ s. fed s bs)) (read_on e starts b g)
+    ∙ ap (behind (b ∷ [])) (fed_on e (b == 10) bs rest)
+
+nothing_left : (e starts : Bool) → finished (reader_at e starts) ≡ []
+unfolding reader_at half_at
+nothing_left e true = refl
+nothing_left e false = refl
+
+first_is : (e : Bool) → first_reader e ≡ reader_at e true
+unfolding reader_at half_at
+first_is e = refl
+
+pub plain_unchanged : (e : Bool) (text : List ℕ) → is_plain_text text ≡ true → converted e text ≡ text
+plain_unchanged e text p =
+    ap (λ (r : Reader). (fed r text).bytes ++ finished (fed r text).reader) (first_is e)
+    ∙ ap (λ (t : Told). t.bytes ++ finished t.reader) (fed_on e true text p)
+    ∙ ap (λ (xs : List ℕ). text ++ xs) (nothing_left e (ends true text))
+    ∙ append-nil text
+
+-- at the end of the text
+pub plain_at_end : (text : List ℕ) (i : ℕ) (starts : Bool) → length text ≤ i → is_plain_from starts (drop i text) ≡ is_plain_from true text
+    → is_plain_text text ≡ true
+plain_at_end text i starts l e = sym e ∙ ap (is_plain_from starts) (drop_all i text l)

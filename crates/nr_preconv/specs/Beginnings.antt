@@ -1,0 +1,52 @@
+-- What the name of a control line makes of the rest of it.
+use Rattle.std.specs.Prelude.{ℕ, List, [], ◌∷◌, ◌++◌, length, take, Bool, not, ◌==◌, ◌&&◌, if◌then◌else◌, Option, None, Some, is_some, slice_index}
+use Rattle.nr_preconv.specs.declared.said.Said.{Said}
+use Rattle.nr_preconv.specs.declared.said.Said.TheVariants.{Kept}
+use Rattle.nr_preconv.specs.declared.beginnings.Opens.{Opens}
+use Rattle.nr_preconv.specs.declared.beginnings.Opens.TheVariants.{Rest, Definition, Condition, Else}
+use Rattle.nr_preconv.specs.declared.beginnings.TheConstants.{OPENING, KNOWN}
+use Rattle.nr_preconv.specs.Glyphs.{looked_up}
+
+-- what a table has for a name of one byte or two
+abbrev pub entry : {T : Type 0} → List (ℕ × ℕ × T) → List ℕ → Option T
+entry table [] = None
+entry table (a ∷ []) = looked_up table a 32
+entry table (a ∷ b ∷ []) = looked_up table a b
+entry table (a ∷ b ∷ c ∷ rest) = None
+
+unfoldable pub known_entry : List ℕ → Option Bool
+known_entry name = entry KNOWN name
+
+unfoldable pub opening_entry : List ℕ → Option Opens
+opening_entry name = entry OPENING name
+
+-- a request of the language, or a name of the macro file for manual pages
+abbrev pub is_known : List ℕ → Bool
+is_known name = is_some (known_entry name)
+
+abbrev pub opens_or_rest : Option Opens → Opens
+opens_or_rest None = Rest
+opens_or_rest (Some opens) = opens
+
+abbrev pub opened_by : List ℕ → Opens
+opened_by name = opens_or_rest (opening_entry name)
+
+abbrev pub definition_alone : Opens → Opens
+definition_alone Definition = Definition
+definition_alone opens = Rest
+
+-- `de1` and `am1` are as `de` and `am`
+abbrev pub opened : List ℕ → Opens
+opened name =
+    if (length name == 3) && (slice_index name 2 == 49) then definition_alone (opened_by (take 2 name)) else opened_by name
+
+-- How a name goes out before this byte: that of a definition without its third byte, and that of a condition with a blank
+-- before an escape.
+abbrev pub apart : List ℕ → ℕ → List ℕ
+apart name b = if (b == 92) && not (length name == 32) then name ++ 32 ∷ [] else name
+
+abbrev pub said_name : Opens → List ℕ → ℕ → Said
+said_name Definition name b = Kept (if length name == 3 then take 2 name else name)
+said_name Condition name b = Kept (apart name b)
+said_name Else name b = Kept (apart name b)
+said_name opens name b = Kept name

@@ -1,0 +1,68 @@
+-- Conditions (the groff manual, Operators in Conditionals): those on names become 1 or 0, as what holds here.
+use Rattle.std.specs.Prelude.{ℕ, List, [], length, Bool, true, false, ◌==◌, ◌||◌, if◌then◌else◌}
+use Rattle.nr_preconv.specs.declared.said.Said.TheVariants.{Nothing, Byte}
+use Rattle.nr_preconv.specs.declared.half.Half.{Half}
+use Rattle.nr_preconv.specs.declared.half.Line.{Line}
+use Rattle.nr_preconv.specs.declared.half.Line.TheVariants as lines
+use Rattle.nr_preconv.specs.declared.half.Asked.{Asked}
+use Rattle.nr_preconv.specs.declared.half.Asked.TheVariants.{Defined, Always, Never}
+use Rattle.nr_preconv.specs.Numbers.{is_within}
+use Rattle.nr_preconv.specs.Beginnings.{is_known}
+use Rattle.nr_preconv.specs.Half.{Met, taken, left}
+use Rattle.nr_preconv.specs.Escapes.{with_byte}
+
+-- a byte goes out as it is, and the line goes on so
+abbrev pub saying : ℕ → Line → Half → Met
+saying b line h = taken (Byte b) (record h { line = line })
+
+abbrev pub is_gap : ℕ → Bool
+is_gap b = (b == 32) || (b == 9)
+
+-- ---- the first byte tells the condition: n t o e, v, d, c F, r m S, a number, or strings between delimiters
+
+abbrev pub asking : Asked → Half → Met
+asking asked h = taken Nothing (record h { line = lines.Asked asked; name = [] })
+
+abbrev pub begins_number : ℕ → Bool
+begins_number b = is_within 48 57 b || (b == 40) || (b == 43) || (b == 45) || (b == 46) || (b == 124)
+
+abbrev pub before_condition : ℕ → Half → Met
+before_condition b h =
+    if b == 10 then saying b lines.Start h else
+    if is_gap b || (b == 33) then saying b lines.Condition h else
+    if (b == 110) || (b == 116) || (b == 111) || (b == 101) then saying b lines.Part h else
+    if b == 118 then saying 48 lines.Part h else
+    if b == 100 then asking Defined h else
+    if (b == 99) || (b == 70) then asking Always h else
+    if (b == 114) || (b == 109) || (b == 83) then asking Never h else
+    if begins_number b then saying b lines.Number h else saying b (lines.Strings b false) h
+
+abbrev pub in_number : ℕ → Half → Met
+in_number b h =
+    if b == 10 then saying b lines.Start h else
+    if is_gap b then saying b lines.Part h else saying b lines.Number h
+
+abbrev pub in_strings : ℕ → Bool → ℕ → Half → Met
+in_strings delimiter ended b h =
+    if b == 10 then saying b lines.Start h else
+    if b == delimiter then (if ended then saying b lines.Part h else saying b (lines.Strings delimiter true) h)
+    else saying b (lines.Strings delimiter ended) h
+
+-- ---- names
+
+abbrev pub holds : Asked → List ℕ → Bool
+holds Defined name = is_known name
+holds Always name = true
+holds Never name = false
+
+abbrev pub answer : Asked → Half → ℕ
+answer asked h = if holds asked h.name then 49 else 48
+
+abbrev pub answering : Asked → Line → Half → Met
+answering asked line h = left (Byte (answer asked h)) (record h { line = line })
+
+abbrev pub in_asked : Asked → ℕ → Half → Met
+in_asked asked b h =
+    if b == 10 then answering asked lines.Request h else
+    if is_gap b then (if length h.name == 0 then taken Nothing h else answering asked lines.Part h)
+    else taken Nothing (record h { name = with_byte b h.name })

@@ -1,0 +1,231 @@
+-- Escapes (the groff manual, Escapes; groff(7)): which go out as they are, which become others, and which are dropped.
+use Rattle.std.specs.Prelude.{ℕ, List, [], ◌∷◌, ◌++◌, length, Bool, true, false, ◌==◌, ◌&&◌, ◌||◌, nat_lt, if◌then◌else◌, Option, None, Some}
+use Rattle.nr_preconv.specs.declared.said.Said.{Said}
+use Rattle.nr_preconv.specs.declared.said.Said.TheVariants as says
+use Rattle.nr_preconv.specs.declared.half.Half.{Half}
+use Rattle.nr_preconv.specs.declared.half.Line.{Line}
+use Rattle.nr_preconv.specs.declared.half.Line.TheVariants as lines
+use Rattle.nr_preconv.specs.declared.half.Escape.{Escape}
+use Rattle.nr_preconv.specs.declared.half.Escape.TheVariants as escapes
+use Rattle.nr_preconv.specs.declared.half.Kind.{Kind}
+use Rattle.nr_preconv.specs.declared.half.Kind.TheVariants as kinds
+use Rattle.nr_preconv.specs.declared.words.Class.TheVariants.{Other}
+use Rattle.nr_preconv.specs.declared.words.Told.{Told}
+use Rattle.nr_preconv.specs.Half.{Met, taken, left, is_beginning, is_text, takes_brace}
+use Rattle.nr_preconv.specs.Glyphs.{is_pair, is_native, glyph_code, code_of, font_of}
+use Rattle.nr_preconv.specs.Words.{met_words, begins_word}
+
+-- ---- how an escape goes on and ends
+
+-- one byte more of at most 32
+abbrev pub with_byte : ℕ → List ℕ → List ℕ
+with_byte b bs = if length bs == 32 then bs else bs ++ b ∷ []
+
+abbrev pub keeping : ℕ → Half → Half
+keeping b h = record h { kept = with_byte b h.kept }
+
+abbrev pub spelling : ℕ → Half → Half
+spelling b h = record h { spelled = with_byte b h.spelled }
+
+abbrev pub without_escape : Half → Half
+without_escape h = record h { escape = escapes.Plain; kept = []; spelled = [] }
+
+abbrev pub going_on : ℕ → Escape → Half → Met
+going_on b escape h = taken says.Nothing (record (keeping b h) { escape = escape })
+
+-- the text of a line has begun
+abbrev pub in_text : Half → Half
+in_text h = if is_beginning h.line then record h { line = lines.Text } else h
+
+-- it has ended, and this is said for it
+abbrev pub ended : Said → Half → Met
+ended said h = taken said (in_text (without_escape h))
+
+-- it goes out as it was kept
+abbrev pub ended_kept : Half → Met
+ended_kept h = ended (says.Kept h.kept) h
+
+abbrev pub ends_with : ℕ → Half → Met
+ends_with b h = ended_kept (keeping b h)
+
+-- Nothing is said for it; but a line that begins with it is a text line, whatever comes next.
+abbrev pub dropped : Half → Met
+dropped h = ended (if is_beginning h.line then says.Escape 38 else says.Nothing) h
+
+-- it is none: what was kept goes out, and the character that comes is read anew
+abbrev pub abandoned : Half → Met
+abandoned h = left (says.Kept h.kept) (in_text (without_escape h))
+
+-- ---- behind the backslash
+
+abbrev pub comment : Said → Half → Met
+comment said h = taken said (record (without_escape h) { line = lines.Comment })
+
+-- where nothing has begun behind a condition, a newline behind a backslash is dropped
+abbrev pub hidden_by : Line → Said → Said
+hidden_by lines.Part said = says.Nothing
+hidden_by lines.Condition said = says.Nothing
+hidden_by line said = said
+
+abbrev pub newline_hidden : Half → Met
+newline_hidden h = taken (hidden_by h.line (says.Kept (with_byte 10 h.kept))) (without_escape h)
+
+-- behind a condition a part begins
+abbrev pub brace : Half → Met
+brace h =
+    let m = ends_with 123 h in
+    if takes_brace h.line then record m { half = record m.half { line = lines.Braced } } else m
+
+-- a blank that is no gap: in a control line it must not end a word
+abbrev pub blank : Half → Met
+blank h = ended (says.Escape (if is_text h.line then 32 else 48)) h
+
+abbrev pub skip : Half → Met
+skip h = taken says.Nothing (record h { kept = []; escape = escapes.Skip })
+
+-- by the byte behind the backslash: ( [ f m M F n s N C Z , / ) : ~ $ {
+abbrev pub letter : ℕ → Half → Met
+letter b h =
+    if b == 40 then going_on b (escapes.Pair kinds.Glyph) h else
+    if b == 91 then going_on b (escapes.Bracket kinds.Glyph) h else
+    if b == 102 then going_on b (escapes.Target kinds.Font) h else
+    if (b == 109) || (b == 77) || (b == 70) then going_on b (escapes.Target kinds.Dropped) h else
+    if b == 110 then going_on b (escapes.Target kinds.Register) h else
+    if b == 115 then going_on b (escapes.Target kinds.Size) h else
+    if b == 78 then going_on b (escapes.Delimiter kinds.Code) h else
+    if b == 67 then going_on b (escapes.Delimiter kinds.Glyph) h else
+    if b == 90 then skip h else
+    if (b == 44) || (b == 47) || (b == 41) || (b == 58) then dropped h else
+    if (b == 32) || (b == 126) then blank h else
+    if b == 36 then going_on b escapes.Argument h else
+    if b == 123 then brace h else ends_with b h
+
+-- the line goes on before the escape is read: a word begins, or a condition is a number
+abbrev pub waits : Line → Bool
+waits (lines.Words words) = begins_word words
+waits lines.Condition = true
+waits line = false
+
+abbrev pub word_made : Told → Half → Met
+word_made told h = left told.said (record h { line = lines.Words told.words })
+
+abbrev pub made_way : Line → Half → Met
+made_way (lines.Words words) h = word_made (met_words Other says.Nothing words) h
+made_way lines.Condition h = left says.Nothing (record h { line = lines.Number })
+made_way line h = left says.Nothing h
+
+abbrev pub is_start : Line → Bool
+is_start lines.Start = true
+is_start line = false
+
+-- in a definition an escape may have several backslashes
+abbrev pub behind_backslash : ℕ → Half → Met
+behind_backslash b h =
+    if b == 10 then newline_hidden h else
+    if (b == 92) && h.defining then going_on b escapes.Begun h else
+    if b == 34 then comment (says.Kept (with_byte b h.kept)) h else
+    if b == 35 then comment (says.Comment (is_start h.line)) h else
+    if waits h.line then made_way h.line h else letter b h
+
+-- ---- arguments
+
+abbrev pub argument : ℕ → Half → Met
+argument b h =
+    if b == 42 then ended (says.Arguments (nat_lt 2 (length h.kept))) h else
+    if b == 64 then ended (says.QuotedArguments (nat_lt 2 (length h.kept))) h else
+    if b == 10 then abandoned h else ends_with b h
+
+-- ---- names
+
+abbrev pub character : Option ℕ → Half → Met
+character None h = ended_kept h
+character (Some code) h = ended (says.Character code) h
+
+abbrev pub is_translation : Line → Bool
+is_translation lines.Translation = true
+is_translation line = false
+
+-- A character by its name. `.tr \(*W-` makes \(*W a dash.
+abbrev pub glyph : Half → Met
+glyph h =
+    if is_native h.spelled then ended_kept h else
+    if is_pair 42 87 h.spelled && is_translation h.line then ended_kept (record h { dashes = true }) else
+    if is_pair 42 87 h.spelled && h.dashes then ended (says.Escape 45) h else
+    character (glyph_code h.spelled) h
+
+abbrev pub code : Half → Met
+code h = character (code_of h.spelled) h
+
+-- The register `.g` is 1. Sizes and colours are dropped.
+abbrev pub named : Kind → Half → Met
+named kinds.Glyph h = glyph h
+named kinds.Code h = code h
+named kinds.Font h = ended (says.Font (font_of h.spelled)) h
+named kinds.Register h = if is_pair 46 103 h.spelled then ended (says.Byte 49) h else ended_kept h
+named kinds.Size h = dropped h
+named kinds.Dropped h = dropped h
+
+-- a name of one byte; the language has sizes of one digit
+abbrev pub named_once : Kind → Half → Met
+named_once kinds.Size h = ended_kept h
+named_once kind h = named kind h
+
+abbrev pub named_by : Kind → ℕ → Half → Met
+named_by kind b h = named_once kind (spelling b (keeping b h))
+
+abbrev pub has_sign : Kind → Bool
+has_sign kinds.Register = true
+has_sign kinds.Size = true
+has_sign kind = false
+
+abbrev pub is_size : Kind → Bool
+is_size kinds.Size = true
+is_size kind = false
+
+abbrev pub target : Kind → ℕ → Half → Met
+target kind b h =
+    if b == 10 then abandoned h else
+    if b == 40 then going_on b (escapes.Pair kind) h else
+    if b == 91 then going_on b (escapes.Bracket kind) h else
+    if ((b == 43) || (b == 45)) && has_sign kind then going_on b (escapes.Target kind) h else
+    if (b == 39) && is_size kind then going_on b (escapes.Delimited kind b) h else named_by kind b h
+
+abbrev pub paired : Kind → Half → Met
+paired kind h = if length h.spelled == 2 then named kind h else taken says.Nothing h
+
+abbrev pub pair : Kind → ℕ → Half → Met
+pair kind b h = if b == 10 then abandoned h else paired kind (spelling b (keeping b h))
+
+abbrev pub spelled_up_to : ℕ → Kind → ℕ → Half → Met
+spelled_up_to end kind b h =
+    if b == 10 then abandoned h else
+    if b == end then named kind (keeping b h) else taken says.Nothing (spelling b (keeping b h))
+
+abbrev pub delimiter : Kind → ℕ → Half → Met
+delimiter kind b h = if b == 10 then abandoned h else going_on b (escapes.Delimited kind b) h
+
+-- ---- what \Z has between its delimiters is dropped
+
+abbrev pub skipped : ℕ → ℕ → Half → Met
+skipped end b h = if b == 10 then abandoned h else if b == end then dropped h else taken says.Nothing h
+
+abbrev pub skip_from : ℕ → Half → Met
+skip_from b h = if b == 10 then abandoned h else taken says.Nothing (record h { escape = escapes.Skipped b })
+
+-- ---- by the part that was read
+
+abbrev pub in_part : Escape → ℕ → Half → Met
+in_part escapes.Plain b h = abandoned h
+in_part escapes.Begun b h = behind_backslash b h
+in_part escapes.Argument b h = argument b h
+in_part (escapes.Target kind) b h = target kind b h
+in_part (escapes.Pair kind) b h = pair kind b h
+in_part (escapes.Bracket kind) b h = spelled_up_to 93 kind b h
+in_part (escapes.Delimiter kind) b h = delimiter kind b h
+in_part (escapes.Delimited kind end) b h = spelled_up_to end kind b h
+in_part escapes.Skip b h = skip_from b h
+in_part (escapes.Skipped end) b h = skipped end b h
+
+-- an escape that is longer than what is kept goes out
+abbrev pub in_escape : ℕ → Half → Met
+in_escape b h = if length h.kept == 32 then abandoned h else in_part h.escape b h

@@ -1,0 +1,58 @@
+-- The names of characters and fonts (groff_char(7)).
+use Rattle.std.specs.Prelude.{ℕ, ◌-◌, List, [], ◌∷◌, length, drop, Bool, false, ◌==◌, ◌&&◌, ◌||◌, nat_lt, if◌then◌else◌, Option, None, Some, slice_get, slice_index}
+use Rattle.nr_preconv.specs.Numbers.{number_from}
+use Rattle.nr_preconv.specs.declared.pairs.TheConstants.{PAIRS}
+
+-- a name of these two bytes
+abbrev pub is_pair : ℕ → ℕ → List ℕ → Bool
+is_pair a b [] = false
+is_pair a b (x ∷ []) = false
+is_pair a b (x ∷ y ∷ []) = (x == a) && (y == b)
+is_pair a b (x ∷ y ∷ z ∷ rest) = false
+
+-- what a table has behind a name of two bytes
+abbrev pub looked_up : {T : Type 0} → List (ℕ × ℕ × T) → ℕ → ℕ → Option T
+looked_up [] a b = None
+looked_up (entry ∷ entries) a b = if (entry.0 == a) && (entry.1 == b) then Some entry.2 else looked_up entries a b
+
+abbrev pub below_codes : Option ℕ → Option ℕ
+below_codes None = None
+below_codes (Some code) = if nat_lt code 1114112 then Some code else None
+
+-- the character with this number
+abbrev pub code_of : List ℕ → Option ℕ
+code_of digits = below_codes (number_from 10 0 digits)
+
+-- the character of two bytes
+unfoldable pub pair_code : ℕ → ℕ → Option ℕ
+pair_code a b = looked_up PAIRS a b
+
+-- the character of a name: of two bytes, `uXXXX` or `charN`
+abbrev pub glyph_code : List ℕ → Option ℕ
+glyph_code name =
+    if length name == 2 then pair_code (slice_index name 0) (slice_index name 1) else
+    if nat_lt 4 (length name) && (slice_index name 0 == 117) then below_codes (number_from 16 0 (drop 1 name)) else
+    if nat_lt 4 (length name) && (slice_index name 0 == 99) && (slice_index name 1 == 104) && (slice_index name 2 == 97) && (slice_index name 3 == 114)
+    then code_of (drop 4 name) else None
+
+-- the language has it: `hy`, `em`, `bu`, `aq`, `dq`, `rs`
+abbrev pub is_native : List ℕ → Bool
+is_native name =
+    is_pair 104 121 name || is_pair 101 109 name || is_pair 98 117 name
+    || is_pair 97 113 name || is_pair 100 113 name || is_pair 114 115 name
+
+-- ---- fonts
+
+-- by the last byte of a name: bold, italic, the previous one, or roman
+abbrev pub letter_of : ℕ → ℕ
+letter_of last =
+    if (last == 66) || (last == 51) then 66 else
+    if (last == 73) || (last == 50) || (last == 52) then 73 else
+    if last == 80 then 80 else 82
+
+abbrev pub font_by : Option ℕ → ℕ
+font_by None = 80
+font_by (Some last) = letter_of last
+
+abbrev pub font_of : List ℕ → ℕ
+font_of name = font_by (slice_get name (length name - 1))

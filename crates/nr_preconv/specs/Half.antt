@@ -1,0 +1,67 @@
+-- What is half read, and what a character does to it.
+use Rattle.std.specs.Prelude.{[], Bool, true, false, ◌&&◌}
+use Rattle.nr_preconv.specs.declared.said.Said.{Said}
+use Rattle.nr_preconv.specs.declared.half.Half.{Half}
+use Rattle.nr_preconv.specs.declared.half.Seen.{Seen}
+use Rattle.nr_preconv.specs.declared.half.Line.{Line}
+use Rattle.nr_preconv.specs.declared.half.Line.TheVariants as lines
+use Rattle.nr_preconv.specs.declared.half.Escape.{Escape}
+use Rattle.nr_preconv.specs.declared.half.Escape.TheVariants as escapes
+
+-- what is half read then, what goes out, and whether the character is taken: one that is left is met again
+pub record Met : Type 0 where
+  pub half : Half
+  pub said : Said
+  pub takes : Bool
+
+-- the same, as the program has it
+abbrev pub met : Half → Seen → Met
+met h seen = record { half = h; said = seen.said; takes = seen.takes }
+
+abbrev pub taken : Said → Half → Met
+taken said h = record { half = h; said = said; takes = true }
+
+abbrev pub left : Said → Half → Met
+left said h = record { half = h; said = said; takes = false }
+
+-- a page begins
+abbrev pub first_half : Half
+first_half = record { line = lines.Start; escape = escapes.Plain; kept = []; spelled = []; name = []; conditional = false; defining = false; dashes = false }
+
+-- ---- where a line is read
+
+-- nothing of a text line was read yet
+abbrev pub is_beginning : Line → Bool
+is_beginning lines.Start = true
+is_beginning lines.Part = true
+is_beginning lines.Braced = true
+is_beginning line = false
+
+-- what is read next is text
+abbrev pub is_text : Line → Bool
+is_text lines.Start = true
+is_text lines.Part = true
+is_text lines.Braced = true
+is_text lines.Text = true
+is_text line = false
+
+-- behind a condition, where `\{` begins a part
+abbrev pub takes_brace : Line → Bool
+takes_brace lines.Part = true
+takes_brace lines.Braced = true
+takes_brace lines.Number = true
+takes_brace (lines.Strings delimiter ended) = true
+takes_brace line = false
+
+-- a plain character goes out as it is and changes nothing
+abbrev pub is_rest : Line → Bool
+is_rest lines.Text = true
+is_rest lines.Request = true
+is_rest line = false
+
+abbrev pub is_plain : Escape → Bool
+is_plain escapes.Plain = true
+is_plain escape = false
+
+abbrev pub is_running : Half → Bool
+is_running h = is_plain h.escape && is_rest h.line

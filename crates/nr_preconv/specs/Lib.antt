@@ -1,0 +1,14 @@
+pub mod Beginnings
+pub mod Conditions
+pub mod Escapes
+pub mod Glyphs
+pub mod Half
+pub mod Likeness
+pub mod Lines
+pub mod Meeting
+pub mod Numbers
+pub mod PlainText
+pub mod Reading
+pub mod Running
+pub mod Saying
+pub mod Words

@@ -1,0 +1,179 @@
+-- Lines: control lines and their names, text lines, lines that pass as they are.
+use Rattle.std.specs.Prelude.{ℕ, List, [], ◌∷◌, ◌++◌, length, Bool, true, false, not, ◌==◌, ◌&&◌, ◌||◌, nat_le, if◌then◌else◌}
+use Rattle.nr_preconv.specs.declared.said.Said.{Said}
+use Rattle.nr_preconv.specs.declared.said.Said.TheVariants.{Nothing, Byte, Kept, Character}
+use Rattle.nr_preconv.specs.declared.half.Half.{Half}
+use Rattle.nr_preconv.specs.declared.half.Line.{Line}
+use Rattle.nr_preconv.specs.declared.half.Line.TheVariants as lines
+use Rattle.nr_preconv.specs.declared.half.Dots.{Dots}
+use Rattle.nr_preconv.specs.declared.half.Dots.TheVariants as dots
+use Rattle.nr_preconv.specs.declared.beginnings.Opens.{Opens}
+use Rattle.nr_preconv.specs.declared.beginnings.Opens.TheVariants as opens
+use Rattle.nr_preconv.specs.declared.words.Words.{Words}
+use Rattle.nr_preconv.specs.declared.words.Told.{Told}
+use Rattle.nr_preconv.specs.declared.words.Class.{Class}
+use Rattle.nr_preconv.specs.declared.words.Class.TheVariants.{Other}
+use Rattle.nr_preconv.specs.Half.{Met, taken, left}
+use Rattle.nr_preconv.specs.Beginnings.{opened, said_name}
+use Rattle.nr_preconv.specs.Conditions.{saying, is_gap, before_condition, in_number, in_strings, in_asked}
+use Rattle.nr_preconv.specs.Words.{first_words, is_ninth, met_words, class_of}
+
+-- a blank, a control byte or a backslash ends a name
+abbrev pub ends_name : ℕ → Bool
+ends_name b = nat_le b 32 || (b == 92) || (b == 127)
+
+-- ---- a line begins
+
+abbrev pub is_control : ℕ → Bool
+is_control b = (b == 46) || (b == 39)
+
+abbrev pub control : Bool → ℕ → Half → Met
+control conditional b h = saying b lines.Control (record h { name = []; conditional = conditional })
+
+abbrev pub at_start : ℕ → Half → Met
+at_start b h =
+    if is_control b then control false b h else
+    if b == 10 then saying b lines.Start h else saying b lines.Text h
+
+-- behind a condition, where blanks are skipped
+abbrev pub at_part : ℕ → Half → Met
+at_part b h =
+    if is_control b then control true b h else
+    if b == 10 then saying b lines.Start h else
+    if is_gap b then saying b h.line h else saying b lines.Text h
+
+-- ---- the name of a control line
+
+abbrev pub naming : List ℕ → Line → Half → Met
+naming name line h = taken Nothing (record h { name = name; line = line })
+
+abbrev pub blanks_said : Line → Half → Met
+blanks_said line h = left (Kept h.name) (record h { name = []; line = line })
+
+-- Blanks behind the control character are kept. In a definition they are dropped before a second one, which ends it.
+abbrev pub behind_control : ℕ → Half → Met
+behind_control b h =
+    if (b == 46) && h.defining then naming (46 ∷ []) lines.Name h else
+    if is_gap b && not (length h.name == 32) then naming (h.name ++ b ∷ []) lines.Control h else
+    if not (length h.name == 0) then blanks_said lines.Control h else
+    if ends_name b then blanks_said lines.Request h else naming (b ∷ []) lines.Name h
+
+-- Lines are ignored up to one that begins with two dots. Behind a condition that isn't known, nor where a name ends them.
+abbrev pub line_of : Opens → Bool → Line
+line_of opens.Rest ignores = lines.Request
+line_of opens.Definition ignores = lines.Request
+line_of opens.End ignores = lines.Request
+line_of opens.Ignored ignores = if ignores then lines.Ignored dots.Other else lines.Request
+line_of opens.Condition ignores = lines.Condition
+line_of opens.Else ignores = lines.Part
+line_of opens.Translation ignores = lines.Translation
+line_of (opens.Words fonts) ignores = lines.Words (first_words fonts)
+
+abbrev pub defining_by : Opens → Bool → Bool
+defining_by opens.Definition before = true
+defining_by opens.End before = false
+defining_by o before = before
+
+abbrev pub opening : Opens → ℕ → Half → Half
+opening o b h = record h { line = line_of o ((b == 10) && not h.conditional); defining = defining_by o h.defining }
+
+-- the name goes out before the byte that ended it
+abbrev pub named_line : ℕ → Half → Met
+named_line b h = left (said_name (opened h.name) h.name b) (record (opening (opened h.name) b h) { name = [] })
+
+abbrev pub in_name : ℕ → Half → Met
+in_name b h =
+    if ends_name b || (length h.name == 32) then named_line b h
+    else taken Nothing (record h { name = h.name ++ b ∷ [] })
+
+-- ---- the rest of a line
+
+abbrev pub in_rest : ℕ → Half → Met
+in_rest b h = saying b (if b == 10 then lines.Start else h.line) h
+
+abbrev pub as_met : Told → Half → Met
+as_met told h = record { half = record h { line = lines.Words told.words }; said = told.said; takes = told.takes }
+
+abbrev pub among_words : Words → Class → Said → Half → Met
+among_words words class said h = as_met (met_words class said words) h
+
+-- the ninth word has its last quote before the newline
+abbrev pub in_words : Words → ℕ → Half → Met
+in_words words b h =
+    if not (b == 10) then among_words words (class_of b) (Byte b) h else
+    if is_ninth words then left (Byte 34) (record h { line = lines.Request }) else saying b lines.Start h
+
+-- ---- comments and ignored lines: bytes pass as they are
+
+-- the last of the ignored lines begins with two dots
+abbrev pub behind_ignored : Dots → Line
+behind_ignored dots.Two = lines.Start
+behind_ignored d = lines.Ignored dots.Start
+
+abbrev pub one_dot_more : Dots → Dots
+one_dot_more dots.Start = dots.One
+one_dot_more dots.One = dots.Two
+one_dot_more d = d
+
+abbrev pub no_dot : Dots → Dots
+no_dot dots.Two = dots.Two
+no_dot d = dots.Other
+
+abbrev pub line_passed : Line → ℕ → Line
+line_passed lines.Comment b = if b == 10 then lines.Start else lines.Comment
+line_passed (lines.Ignored d) b =
+    if b == 10 then behind_ignored d else
+    if b == 46 then lines.Ignored (one_dot_more d) else lines.Ignored (no_dot d)
+line_passed line b = line
+
+abbrev pub passing : ℕ → Half → Half
+passing b h = record h { line = line_passed h.line b }
+
+-- ---- by where the line is read
+
+abbrev pub in_line_at : Line → ℕ → Half → Met
+in_line_at lines.Start b h = at_start b h
+in_line_at lines.Control b h = behind_control b h
+in_line_at lines.Name b h = in_name b h
+in_line_at (lines.Words words) b h = in_words words b h
+in_line_at lines.Condition b h = before_condition b h
+in_line_at lines.Number b h = in_number b h
+in_line_at (lines.Strings delimiter ended) b h = in_strings delimiter ended b h
+in_line_at (lines.Asked asked) b h = in_asked asked b h
+in_line_at lines.Part b h = at_part b h
+in_line_at lines.Braced b h = at_part b h
+in_line_at lines.Comment b h = taken (Byte b) (passing b h)
+in_line_at (lines.Ignored d) b h = taken (Byte b) (passing b h)
+in_line_at line b h = in_rest b h
+
+abbrev pub in_line : ℕ → Half → Met
+in_line b h = in_line_at h.line b h
+
+-- ---- characters beyond ASCII
+
+abbrev pub showing : ℕ → Line → Half → Met
+showing code line h = taken (Character code) (record h { line = line })
+
+abbrev pub wide_at : Line → ℕ → Half → Met
+wide_at lines.Start code h = showing code lines.Text h
+wide_at lines.Part code h = showing code lines.Text h
+wide_at lines.Braced code h = showing code lines.Text h
+wide_at lines.Condition code h = showing code lines.Text h
+wide_at lines.Control code h = blanks_said lines.Request h
+wide_at lines.Name code h = named_line 32 h
+wide_at (lines.Words words) code h = among_words words Other (Character code) h
+wide_at (lines.Asked asked) code h = in_asked asked 63 h
+wide_at line code h = showing code line h
+
+abbrev pub wide_in_line : ℕ → Half → Met
+wide_in_line code h = wide_at h.line code h
+
+-- ---- a backslash begins an escape
+
+abbrev pub takes_escape : Line → Bool
+takes_escape lines.Control = false
+takes_escape lines.Name = false
+takes_escape (lines.Asked asked) = false
+takes_escape lines.Comment = false
+takes_escape (lines.Ignored dots) = false
+takes_escape line = true

@@ -1,0 +1,164 @@
+-- Bytes become characters (RFC 3629; ISO 8859-1), and these are heard.
+use Rattle.std.specs.Prelude.{◌≡◌, ℕ, zero, suc, ◌+◌, ◌*◌, ◌%◌, List, [], ◌∷◌, ◌++◌, take, Bool, true, false, ◌==◌, ◌&&◌, ◌||◌, nat_lt, if◌then◌else◌}
+use Rattle.nr_preconv.specs.declared.half.Half.{Half}
+use Rattle.nr_preconv.specs.declared.half.Coming.{Coming}
+use Rattle.nr_preconv.specs.declared.half.Coming.TheVariants.{Byte, Wide}
+use Rattle.nr_preconv.specs.declared.half.Line.{Line}
+use Rattle.nr_preconv.specs.declared.half.Line.TheVariants as lines
+use Rattle.nr_preconv.specs.declared.reader.Reader.{Reader}
+use Rattle.nr_preconv.specs.declared.reader.Pending.{Pending}
+use Rattle.nr_preconv.specs.declared.reader.Pending.TheVariants.{Nothing, One, Two, Three}
+use Rattle.nr_preconv.specs.Numbers.{is_within}
+use Rattle.nr_preconv.specs.Saying.{bytes_of}
+use Rattle.nr_preconv.specs.Half.{first_half, is_running}
+use Rattle.nr_preconv.specs.Lines.{passing}
+use Rattle.nr_preconv.specs.Meeting.{meet, is_raw}
+
+-- what is half read then, and what goes out
+pub record Told : Type 0 where
+  pub reader : Reader
+  pub bytes : List ℕ
+
+abbrev pub told : Reader → List ℕ → Told
+told r bytes = record { reader = r; bytes = bytes }
+
+-- these bytes, and then what comes
+abbrev pub behind : List ℕ → Told → Told
+behind bytes t = record { reader = t.reader; bytes = bytes ++ t.bytes }
+
+-- first the one, then the other
+abbrev pub then_told : Told → (Reader → Told) → Told
+then_told t next = behind t.bytes (next t.reader)
+
+-- a page begins
+abbrev pub first_reader : Bool → Reader
+first_reader eight_bit = record { half = first_half; pending = Nothing; eight_bit = eight_bit }
+
+-- ---- a character is heard: it is met again until it is taken
+
+abbrev pub with_half : Half → Reader → Reader
+with_half h r = record r { half = h }
+
+abbrev pub heard_in : ℕ → Coming → Reader → Told
+heard_in zero coming r = told r []
+heard_in (suc n) coming r =
+    let m = meet coming r.half in
+    behind (bytes_of r.eight_bit m.said) (if m.takes then told (with_half m.half r) [] else heard_in n coming (with_half m.half r))
+
+-- six times are enough: an escape that is none, and words that end and begin
+unfoldable pub heard : Coming → Reader → Told
+heard coming r = heard_in 6 coming r
+
+-- ---- characters of several bytes
+
+abbrev pub is_lead : ℕ → Bool
+is_lead b = is_within 194 244 b
+
+abbrev pub is_tail : ℕ → Bool
+is_tail b = is_within 128 191 b
+
+-- no longer form than is needed, no surrogate, nothing above U+10FFFF
+abbrev pub is_second : ℕ → ℕ → Bool
+is_second first b =
+    if first == 224 then is_within 160 191 b else
+    if first == 237 then is_within 128 159 b else
+    if first == 240 then is_within 144 191 b else
+    if first == 244 then is_within 128 143 b else is_tail b
+
+abbrev pub low_six : ℕ → ℕ
+low_six b = b % 64
+
+-- a byte that is no part of one comes as Latin-1
+abbrev pub stray : ℕ → Reader → Told
+stray b r = heard (Wide b) r
+
+abbrev pub pending_with : Pending → Reader → Reader
+pending_with pending r = record r { pending = pending }
+
+abbrev pub strays : Pending → Reader → Told
+strays Nothing r = told r []
+strays (One a) r = stray a r
+strays (Two a b) r = then_told (stray a r) (λ s. stray b s)
+strays (Three a b c) r = then_told (then_told (stray a r) (λ s. stray b s)) (λ s. stray c s)
+
+-- what was read of a character was none
+abbrev pub pending_heard : Reader → Told
+pending_heard r = strays r.pending (pending_with Nothing r)
+
+abbrev pub fresh : ℕ → Reader → Told
+fresh b r =
+    if nat_lt b 128 then heard (Byte b) r else
+    if is_lead b then told (pending_with (One b) r) [] else stray b r
+
+abbrev pub apart : ℕ → Reader → Told
+apart b r = then_told (pending_heard r) (λ s. fresh b s)
+
+abbrev pub whole : ℕ → Reader → Told
+whole code r = heard (Wide code) (pending_with Nothing r)
+
+-- by what is pending
+abbrev pub heard_behind : Pending → ℕ → Reader → Told
+heard_behind Nothing b r = apart b r
+heard_behind (One a) b r =
+    if is_second a b
+    then (if nat_lt a 224 then whole ((a % 32) * 64 + low_six b) r else told (pending_with (Two a b) r) [])
+    else apart b r
+heard_behind (Two a b) c r =
+    if is_tail c
+    then (if nat_lt a 240 then whole ((a % 16) * 4096 + low_six b * 64 + low_six c) r else told (pending_with (Three a b c) r) [])
+    else apart c r
+heard_behind (Three a b c) d r =
+    if is_tail d then whole ((a % 8) * 262144 + low_six b * 4096 + low_six c * 64 + low_six d) r else apart d r
+
+abbrev pub heard_byte : ℕ → Reader → Told
+heard_byte b r = heard_behind r.pending b r
+
+-- ---- a byte, and the end
+
+abbrev pub read : ℕ → Reader → Told
+read b r = if is_raw r.half.line then told (with_half (passing b r.half) r) (b ∷ []) else heard_byte b r
+
+-- a name that is half read
+abbrev pub name_left : Line → List ℕ → List ℕ
+name_left lines.Control name = name
+name_left lines.Name name = name
+name_left (lines.Asked asked) name = name
+name_left line name = []
+
+-- what is half read at the end goes out as it is
+abbrev pub ended : Half → List ℕ
+ended h = h.kept ++ name_left h.line h.name
+
+abbrev pub finished : Reader → List ℕ
+finished r = (pending_heard r).bytes ++ ended (pending_heard r).reader.half
+
+-- ---- many bytes
+
+abbrev pub fed : Reader → List ℕ → Told
+fed r [] = told r []
+fed r (b ∷ bs) = then_told (read b r) (λ s. fed s bs)
+
+-- ---- plain bytes
+
+-- ASCII text that is no backslash
+abbrev pub is_plain_byte : ℕ → Bool
+is_plain_byte b = is_within 32 91 b || is_within 93 126 b
+
+abbrev pub is_nothing : Pending → Bool
+is_nothing Nothing = true
+is_nothing pending = false
+
+-- plain bytes go out as they are and change nothing
+abbrev pub is_ready : Reader → Bool
+is_ready r = is_running r.half && is_nothing r.pending
+
+-- the first n of these go out as they are and change nothing
+abbrev pub IsPlainFront : ℕ → List ℕ → Reader → Type 0
+IsPlainFront n bytes r = fed r (take n bytes) ≡ told r (take n bytes)
+
+-- ---- the definition: what comes of all bytes of an input
+
+abbrev pub converted : Bool → List ℕ → List ℕ
+converted eight_bit input =
+    let t = fed (first_reader eight_bit) input in
+    t.bytes ++ finished t.reader

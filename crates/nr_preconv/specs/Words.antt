@@ -1,0 +1,90 @@
+-- The words of a font macro's line. No more than nine are taken, so the ninth and all behind it are one word in quotes;
+-- where two fonts take turns, the words behind the ninth follow one another with their fonts.
+use Rattle.std.specs.Prelude.{ℕ, ◌+◌, Bool, true, false, not, ◌==◌, nat_le, if◌then◌else◌}
+use Rattle.nr_preconv.specs.declared.said.Said.{Said}
+use Rattle.nr_preconv.specs.declared.said.Said.TheVariants.{Nothing, Byte, Quotes, Font}
+use Rattle.nr_preconv.specs.declared.words.Words.{Words}
+use Rattle.nr_preconv.specs.declared.words.Told.{Told}
+use Rattle.nr_preconv.specs.declared.words.Fonts.{Fonts}
+use Rattle.nr_preconv.specs.declared.words.Fonts.TheVariants.{One, Turn}
+use Rattle.nr_preconv.specs.declared.words.Place.{Place}
+use Rattle.nr_preconv.specs.declared.words.Place.TheVariants.{Between, Begun, Inside, Quoted, Closing}
+use Rattle.nr_preconv.specs.declared.words.Class.{Class}
+use Rattle.nr_preconv.specs.declared.words.Class.TheVariants.{Space, Quote, Other}
+
+abbrev pub class_of : ℕ → Class
+class_of b = if b == 32 then Space else if b == 34 then Quote else Other
+
+-- no word has begun
+abbrev pub first_words : Fonts → Words
+first_words fonts = record { fonts = fonts; count = 0; second = true; place = Between }
+
+abbrev pub is_ninth : Words → Bool
+is_ninth w = nat_le 9 w.count
+
+abbrev pub begins_at : Place → Bool
+begins_at Between = true
+begins_at Begun = true
+begins_at Closing = true
+begins_at place = false
+
+-- an escape that comes begins a word
+abbrev pub begins_word : Words → Bool
+begins_word w = begins_at w.place
+
+abbrev pub words_at : Place → Words → Words
+words_at place w = record { fonts = w.fonts; count = w.count; second = w.second; place = place }
+
+abbrev pub told : Place → Said → Bool → Words → Told
+told place said takes w = record { words = words_at place w; said = said; takes = takes }
+
+-- ---- a word begins
+
+abbrev pub turned : Fonts → Bool → Said
+turned One second = Nothing
+turned (Turn a b) second = Font (if second then a else b)
+
+-- behind the ninth word the font changes
+abbrev pub font_said : Words → Said
+font_said w = turned w.fonts w.second
+
+-- before the ninth a quote goes out
+abbrev pub begun : Words → Told
+begun w =
+    if nat_le 9 w.count
+    then record { words = record { fonts = w.fonts; count = 9; second = not w.second; place = Begun }; said = font_said w; takes = false }
+    else record {
+      words = record { fonts = w.fonts; count = w.count + 1; second = not w.second; place = Begun };
+      said = if w.count == 8 then Byte 34 else Nothing;
+      takes = false;
+    }
+
+-- ---- what a character says
+
+abbrev pub blank_by : Fonts → Bool → Said → Said
+blank_by (Turn a b) true said = Nothing
+blank_by fonts ninth said = said
+
+abbrev pub blank_said : Said → Words → Said
+blank_said said w = blank_by w.fonts (is_ninth w) said
+
+abbrev pub quoted_said : Said → Said → Words → Said
+quoted_said said ninth w = if is_ninth w then ninth else said
+
+-- By where it comes, and what it is. What stands right behind a last quote is a word of its own.
+abbrev pub met_at : Place → Class → Said → Words → Told
+met_at Between Space said w = told Between (blank_said said w) true w
+met_at Between class said w = begun w
+met_at Begun Quote said w = told Quoted (quoted_said said Nothing w) true w
+met_at Begun class said w = told Inside Nothing false w
+met_at Inside Space said w = told Between (blank_said said w) true w
+met_at Inside Quote said w = told Inside (quoted_said said Quotes w) true w
+met_at Inside Other said w = told Inside said true w
+met_at Quoted Quote said w = told Closing (quoted_said said Nothing w) true w
+met_at Quoted class said w = told Quoted said true w
+met_at Closing Quote said w = told Quoted (quoted_said said Quotes w) true w
+met_at Closing Space said w = told Between (blank_said said w) true w
+met_at Closing Other said w = told Between (blank_said (Byte 32) w) false w
+
+abbrev pub met_words : Class → Said → Words → Told
+met_words class said w = met_at w.place class said w

@@ -1,0 +1,390 @@
+//! Escapes.
+ghost use Rattle.std.specs.Prelude.{◌≡◌};
+ghost use Rattle.nr_preconv.specs.Half.{met};
+ghost use Rattle.nr_preconv.specs.Escapes as specs;
+
+use super::glyphs::{code_of, font_of, glyph_code, is_native, is_pair};
+use super::half::{Escape, Half, Kind, Line, Seen};
+use super::said::Said;
+use nr_units::Name;
+
+impl Half {
+    /// One more byte of an escape, or of a name in it, is kept where there is room.
+    fn keep(&mut self, byte: u8)
+        ensures { self.new ≡ specs.keeping byte self.old }
+    {
+        if !self.kept.is_full() {
+            self.kept.push(byte);
+        }
+    }
+
+    fn spell(&mut self, byte: u8)
+        ensures { self.new ≡ specs.spelling byte self.old }
+    {
+        if !self.spelled.is_full() {
+            self.spelled.push(byte);
+        }
+    }
+
+    /// No escape is half read any more.
+    fn forget(&mut self)
+        ensures { self.new ≡ specs.without_escape self.old }
+    {
+        self.escape = Escape::Plain;
+        self.kept = Name::new();
+        self.spelled = Name::new();
+    }
+
+    /// The escape goes on behind a byte.
+    fn goes_on(&mut self, byte: u8, escape: Escape) -> Seen
+        ensures { met self.new result ≡ specs.going_on byte escape self.old }
+    {
+        self.keep(byte);
+        self.escape = escape;
+        Seen::taken(Said::Nothing)
+    }
+
+    /// The escape has ended, and this is said for it.
+    fn ended(&mut self, said: Said) -> Seen
+        ensures { met self.new result ≡ specs.ended said self.old }
+    {
+        self.forget();
+        if self.line.is_beginning() {
+            self.line = Line::Text;
+        }
+        Seen::taken(said)
+    }
+
+    /// It has ended, and goes out as it was kept.
+    fn ended_kept(&mut self) -> Seen
+        ensures { met self.new result ≡ specs.ended_kept self.old }
+    {
+        let kept = self.kept;
+        self.ended(Said::Kept(kept))
+    }
+
+    /// It ends with this byte, and goes out as it is.
+    fn ends_with(&mut self, byte: u8) -> Seen
+        ensures { met self.new result ≡ specs.ends_with byte self.old }
+    {
+        self.keep(byte);
+        self.ended_kept()
+    }
+
+    /// It has ended, and nothing is said for it, but what keeps a text line from being taken for another.
+    fn dropped(&mut self) -> Seen
+        ensures { met self.new result ≡ specs.dropped self.old }
+    {
+        let said = if self.line.is_beginning() {
+            Said::Escape(b'&')
+        } else {
+            Said::Nothing
+        };
+        self.ended(said)
+    }
+
+    /// It is none: what was kept goes out, and the character that comes is read anew.
+    pub(crate) fn abandoned(&mut self) -> Seen
+        ensures { met self.new result ≡ specs.abandoned self.old }
+    {
+        let kept = self.kept;
+        let ended = self.ended(Said::Kept(kept));
+        Seen::left(ended.said)
+    }
+
+    /// A comment begins.
+    fn comment(&mut self, said: Said) -> Seen
+        ensures { met self.new result ≡ specs.comment said self.old }
+    {
+        self.forget();
+        self.line = Line::Comment;
+        Seen::taken(said)
+    }
+
+    /// A newline behind a backslash. Where nothing of a line has begun behind a condition, it is dropped.
+    fn newline_hidden(&mut self) -> Seen
+        ensures { met self.new result ≡ specs.newline_hidden self.old }
+    {
+        self.keep(b'\n');
+        let kept = self.kept;
+        self.forget();
+        match self.line {
+            Line::Part | Line::Condition => Seen::taken(Said::Nothing),
+            _ => Seen::taken(Said::Kept(kept)),
+        }
+    }
+
+    /// `\{` or the like, with one backslash or more.
+    fn brace(&mut self) -> Seen
+        ensures { met self.new result ≡ specs.brace self.old }
+    {
+        let braced = self.line.takes_brace();
+        let seen = self.ends_with(b'{');
+        if braced {
+            self.line = Line::Braced;
+        }
+        seen
+    }
+
+    /// `\` and a blank, or a blank that can't break: in a control line it must not end a word.
+    fn blank(&mut self) -> Seen
+        ensures { met self.new result ≡ specs.blank self.old }
+    {
+        let byte = if self.line.is_text() { b' ' } else { b'0' };
+        self.ended(Said::Escape(byte))
+    }
+
+    /// `\Z` begins.
+    fn skip(&mut self) -> Seen
+        ensures { met self.new result ≡ specs.skip self.old }
+    {
+        self.kept = Name::new();
+        self.escape = Escape::Skip;
+        Seen::taken(Said::Nothing)
+    }
+
+    /// A byte behind a backslash.
+    fn letter(&mut self, byte: u8) -> Seen
+        ensures { met self.new result ≡ specs.letter byte self.old }
+    {
+        match byte {
+            b'(' => self.goes_on(byte, Escape::Pair(Kind::Glyph)),
+            b'[' => self.goes_on(byte, Escape::Bracket(Kind::Glyph)),
+            b'f' => self.goes_on(byte, Escape::Target(Kind::Font)),
+            b'm' | b'M' | b'F' => self.goes_on(byte, Escape::Target(Kind::Dropped)),
+            b'n' => self.goes_on(byte, Escape::Target(Kind::Register)),
+            b's' => self.goes_on(byte, Escape::Target(Kind::Size)),
+            b'N' => self.goes_on(byte, Escape::Delimiter(Kind::Code)),
+            b'C' => self.goes_on(byte, Escape::Delimiter(Kind::Glyph)),
+            b'Z' => self.skip(),
+            b',' | b'/' | b')' | b':' => self.dropped(),
+            b' ' | b'~' => self.blank(),
+            b'$' => self.goes_on(byte, Escape::Argument),
+            b'{' => self.brace(),
+            _ => self.ends_with(byte),
+        }
+    }
+
+    /// Whether the line must go on before an escape is read.
+    fn waits(&self) -> bool
+        ensures { result ≡ specs.waits self.now.line }
+    {
+        match self.line {
+            Line::Words(words) => words.begins_word(),
+            Line::Condition => true,
+            _ => false,
+        }
+    }
+
+    /// The line goes on before an escape is read.
+    fn makes_way(&mut self) -> Seen
+        ensures { met self.new result ≡ specs.made_way self.old.line self.old }
+    {
+        match self.line {
+            Line::Words(words) => {
+                let told = words.met(super::words::Class::Other, Said::Nothing);
+                self.line = Line::Words(told.words);
+                Seen::left(told.said)
+            }
+            Line::Condition => {
+                self.line = Line::Number;
+                Seen::left(Said::Nothing)
+            }
+            _ => Seen::left(Said::Nothing),
+        }
+    }
+
+    /// A byte behind one backslash or more.
+    fn behind_backslash(&mut self, byte: u8) -> Seen
+        ensures { met self.new result ≡ specs.behind_backslash byte self.old }
+    {
+        match byte {
+            b'\n' => self.newline_hidden(),
+            b'\\' if self.defining => self.goes_on(byte, Escape::Begun),
+            b'"' => {
+                self.keep(byte);
+                let kept = self.kept;
+                self.comment(Said::Kept(kept))
+            }
+            b'#' => {
+                let alone = matches!(self.line, Line::Start);
+                self.comment(Said::Comment(alone))
+            }
+            _ if self.waits() => self.makes_way(),
+            _ => self.letter(byte),
+        }
+    }
+
+    /// A byte behind `\$`.
+    fn argument(&mut self, byte: u8) -> Seen
+        ensures { met self.new result ≡ specs.argument byte self.old }
+    {
+        let doubled = self.kept.len() > 2;
+        match byte {
+            b'*' => self.ended(Said::Arguments(doubled)),
+            b'@' => self.ended(Said::QuotedArguments(doubled)),
+            b'\n' => self.abandoned(),
+            _ => self.ends_with(byte),
+        }
+    }
+
+    /// A character by its name.
+    fn glyph(&mut self) -> Seen
+        ensures { met self.new result ≡ specs.glyph self.old }
+    {
+        let name = self.spelled;
+        if is_native(name.as_bytes()) {
+            return self.ended_kept();
+        }
+        if is_pair(name.as_bytes(), b'*', b'W') {
+            if matches!(self.line, Line::Translation) {
+                self.dashes = true;
+                return self.ended_kept();
+            }
+            if self.dashes {
+                return self.ended(Said::Escape(b'-'));
+            }
+        }
+        match glyph_code(name.as_bytes()) {
+            Some(code) => self.ended(Said::Character(code)),
+            None => self.ended_kept(),
+        }
+    }
+
+    /// A character by its number.
+    fn code(&mut self) -> Seen
+        ensures { met self.new result ≡ specs.code self.old }
+    {
+        let name = self.spelled;
+        match code_of(name.as_bytes()) {
+            Some(code) => self.ended(Said::Character(code)),
+            None => self.ended_kept(),
+        }
+    }
+
+    /// The name of an escape has ended.
+    fn named(&mut self, kind: Kind) -> Seen
+        ensures { met self.new result ≡ specs.named kind self.old }
+    {
+        let name = self.spelled;
+        match kind {
+            Kind::Glyph => self.glyph(),
+            Kind::Code => self.code(),
+            Kind::Font => self.ended(Said::Font(font_of(name.as_bytes()))),
+            Kind::Register if is_pair(name.as_bytes(), b'.', b'g') => self.ended(Said::Byte(b'1')),
+            Kind::Register => self.ended_kept(),
+            Kind::Size | Kind::Dropped => self.dropped(),
+        }
+    }
+
+    /// A name of one byte.
+    fn named_by(&mut self, kind: Kind, byte: u8) -> Seen
+        ensures { met self.new result ≡ specs.named_by kind byte self.old }
+    {
+        self.keep(byte);
+        self.spell(byte);
+        match kind {
+            Kind::Size => self.ended_kept(),
+            _ => self.named(kind),
+        }
+    }
+
+    /// A byte behind the letter of an escape with a name.
+    fn target(&mut self, kind: Kind, byte: u8) -> Seen
+        ensures { met self.new result ≡ specs.target kind byte self.old }
+    {
+        match (byte, kind) {
+            (b'\n', _) => self.abandoned(),
+            (b'(', _) => self.goes_on(byte, Escape::Pair(kind)),
+            (b'[', _) => self.goes_on(byte, Escape::Bracket(kind)),
+            (b'+' | b'-', Kind::Register | Kind::Size) => self.goes_on(byte, Escape::Target(kind)),
+            (b'\'', Kind::Size) => self.goes_on(byte, Escape::Delimited(kind, byte)),
+            _ => self.named_by(kind, byte),
+        }
+    }
+
+    /// A byte of a name of two bytes.
+    fn pair(&mut self, kind: Kind, byte: u8) -> Seen
+        ensures { met self.new result ≡ specs.pair kind byte self.old }
+    {
+        if byte == b'\n' {
+            return self.abandoned();
+        }
+        self.keep(byte);
+        self.spell(byte);
+        if self.spelled.len() == 2 {
+            return self.named(kind);
+        }
+        Seen::taken(Said::Nothing)
+    }
+
+    /// A byte of a name that `end` ends.
+    fn spelled_up_to(&mut self, end: u8, kind: Kind, byte: u8) -> Seen
+        ensures { met self.new result ≡ specs.spelled_up_to end kind byte self.old }
+    {
+        if byte == b'\n' {
+            return self.abandoned();
+        }
+        self.keep(byte);
+        if byte == end {
+            return self.named(kind);
+        }
+        self.spell(byte);
+        Seen::taken(Said::Nothing)
+    }
+
+    /// The delimiter of a name.
+    fn delimiter(&mut self, kind: Kind, byte: u8) -> Seen
+        ensures { met self.new result ≡ specs.delimiter kind byte self.old }
+    {
+        if byte == b'\n' {
+            return self.abandoned();
+        }
+        self.goes_on(byte, Escape::Delimited(kind, byte))
+    }
+
+    /// A byte in `\Z`.
+    fn skipped(&mut self, end: u8, byte: u8) -> Seen
+        ensures { met self.new result ≡ specs.skipped end byte self.old }
+    {
+        if byte == b'\n' {
+            return self.abandoned();
+        }
+        if byte == end {
+            return self.dropped();
+        }
+        Seen::taken(Said::Nothing)
+    }
+
+    /// The delimiter of `\Z`.
+    fn skip_from(&mut self, byte: u8) -> Seen
+        ensures { met self.new result ≡ specs.skip_from byte self.old }
+    {
+        if byte == b'\n' {
+            return self.abandoned();
+        }
+        self.escape = Escape::Skipped(byte);
+        Seen::taken(Said::Nothing)
+    }
+
+    /// A byte that comes while an escape is half read. One that is longer than what is kept goes out.
+    pub(crate) fn in_escape(&mut self, byte: u8) -> Seen
+        ensures { met self.new result ≡ specs.in_escape byte self.old }
+    {
+        if self.kept.is_full() {
+            return self.abandoned();
+        }
+        match self.escape {
+            Escape::Plain => self.abandoned(),
+            Escape::Begun => self.behind_backslash(byte),
+            Escape::Argument => self.argument(byte),
+            Escape::Target(kind) => self.target(kind, byte),
+            Escape::Pair(kind) => self.pair(kind, byte),
+            Escape::Bracket(kind) => self.spelled_up_to(b']', kind, byte),
+            Escape::Delimiter(kind) => self.delimiter(kind, byte),
+            Escape::Delimited(kind, end) => self.spelled_up_to(end, kind, byte),
+            Escape::Skip => self.skip_from(byte),
+            Escape::Skipped(end) => self.skipped(end, byte),
+        }
+    }
+}

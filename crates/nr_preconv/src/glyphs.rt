@@ -1,0 +1,105 @@
+//! The names of characters (groff_char(7)).
+ghost use Rattle.std.specs.Prelude.{◌≡◌};
+ghost use Rattle.nr_preconv.specs.Glyphs.{code_of, glyph_code, is_native, is_pair, looked_up, below_codes, font_of, letter_of, pair_code};
+
+use super::numbers::number_from;
+use super::pairs::PAIRS;
+
+/// The greatest code of a character, and one.
+const CODES: u32 = 0x0011_0000;
+
+/// Whether a name is made of these two bytes.
+pub(crate) fn is_pair(name: &[u8], first: u8, second: u8) -> bool
+    ensures { result ≡ is_pair first second name.now }
+{
+    match name {
+        [a, b] => *a == first && *b == second,
+        _ => false,
+    }
+}
+
+/// What a table says of a name of two bytes.
+pub(crate) fn looked_up<T: Copy>(table: &[(u8, u8, T)], first: u8, second: u8) -> Option<T>
+    ensures { result ≡ looked_up table.now first second }
+{
+    for entry in table {
+        if entry.0 == first && entry.1 == second {
+            return Some(entry.2);
+        }
+    }
+    None
+}
+
+/// A code, if it is that of a character.
+fn below_codes(code: Option<u32>) -> Option<u32>
+    ensures { result ≡ below_codes code }
+{
+    match code {
+        Some(code) if code < CODES => Some(code),
+        _ => None,
+    }
+}
+
+/// The character with this number.
+pub(crate) fn code_of(digits: &[u8]) -> Option<u32>
+    ensures { result ≡ code_of digits.now }
+{
+    below_codes(number_from(10, 0, digits))
+}
+
+/// The character of two bytes.
+fn pair_code(first: u8, second: u8) -> Option<u32>
+    ensures { result ≡ pair_code first second }
+{
+    looked_up(&PAIRS, first, second)
+}
+
+/// The character of a name.
+pub(crate) fn glyph_code(name: &[u8]) -> Option<u32>
+    ensures { result ≡ glyph_code name.now }
+{
+    if name.len() == 2 {
+        return pair_code(name[0], name[1]);
+    }
+    if name.len() > 4 && name[0] == b'u' {
+        return below_codes(number_from(16, 0, &name[1..]));
+    }
+    if name.len() > 4 && name[0] == b'c' && name[1] == b'h' && name[2] == b'a' && name[3] == b'r' {
+        return code_of(&name[4..]);
+    }
+    None
+}
+
+/// A name that the language has itself.
+pub(crate) fn is_native(name: &[u8]) -> bool
+    ensures { result ≡ is_native name.now }
+{
+    is_pair(name, b'h', b'y')
+        || is_pair(name, b'e', b'm')
+        || is_pair(name, b'b', b'u')
+        || is_pair(name, b'a', b'q')
+        || is_pair(name, b'd', b'q')
+        || is_pair(name, b'r', b's')
+}
+
+/// The letter of a font by the last byte of its name.
+fn letter_of(last: u8) -> u8
+    ensures { result ≡ letter_of last }
+{
+    match last {
+        b'B' | b'3' => b'B',
+        b'I' | b'2' | b'4' => b'I',
+        b'P' => b'P',
+        _ => b'R',
+    }
+}
+
+/// The letter of a font: roman, italic, bold or the previous one.
+pub(crate) fn font_of(name: &[u8]) -> u8
+    ensures { result ≡ font_of name.now }
+{
+    match name.last() {
+        Some(last) => letter_of(*last),
+        None => b'P',
+    }
+}

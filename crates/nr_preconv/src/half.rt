@@ -1,0 +1,214 @@
+//! What is half read of a page.
+ghost use Rattle.std.specs.Prelude.{◌≡◌, true, false};
+ghost use Rattle.nr_preconv.specs.Half.{first_half, is_beginning, is_running, is_text, takes_brace};
+
+use super::said::Said;
+use super::words::Words;
+use nr_units::Name;
+
+/// Where a line is read.
+#[derive(Clone, Copy)]
+pub(crate) enum Line {
+    /// At its beginning.
+    Start,
+    /// Behind its control character and blanks, which are kept as the name.
+    Control,
+    /// In its name.
+    Name,
+    /// In a text line.
+    Text,
+    /// In the rest of a control line.
+    Request,
+    /// In a line of `.tr`.
+    Translation,
+    /// Among the words of a font macro's line.
+    Words(Words),
+    /// Before a condition.
+    Condition,
+    /// In a number that is a condition.
+    Number,
+    /// In strings that are compared: their delimiter, and whether the first has ended.
+    Strings(u8, bool),
+    /// In the name that a condition asks for.
+    Asked(Asked),
+    /// Behind a condition.
+    Part,
+    /// Behind a condition and `\\{`.
+    Braced,
+    /// In a comment.
+    Comment,
+    /// In lines that are ignored.
+    Ignored(Dots),
+}
+
+/// What a condition asks of a name.
+#[derive(Clone, Copy)]
+pub(crate) enum Asked {
+    /// Whether it stands for something.
+    Defined,
+    /// Whether there is a character or a font of that name: there is.
+    Always,
+    /// Whether there is a register, a colour or a style: there is none.
+    Never,
+}
+
+/// How many dots a line that is ignored begins with.
+#[derive(Clone, Copy)]
+pub(crate) enum Dots {
+    /// None yet.
+    Start,
+    /// One.
+    One,
+    /// Two: it is the last of these lines.
+    Two,
+    /// It begins otherwise.
+    Other,
+}
+
+/// What part of an escape is half read.
+#[derive(Clone, Copy)]
+pub(crate) enum Escape {
+    /// None.
+    Plain,
+    /// A backslash, in a definition one or more.
+    Begun,
+    /// `\\$`.
+    Argument,
+    /// The letter of an escape with a name.
+    Target(Kind),
+    /// `(` and a part of a name of two bytes.
+    Pair(Kind),
+    /// `[` and a part of a name.
+    Bracket(Kind),
+    /// The letter of an escape with a delimited name.
+    Delimiter(Kind),
+    /// Its delimiter and a part of the name.
+    Delimited(Kind, u8),
+    /// `\\Z`.
+    Skip,
+    /// `\\Z` and its delimiter.
+    Skipped(u8),
+}
+
+/// What an escape names.
+#[derive(Clone, Copy)]
+pub(crate) enum Kind {
+    /// A character.
+    Glyph,
+    /// A character by its number.
+    Code,
+    /// A font.
+    Font,
+    /// A register.
+    Register,
+    /// A type size.
+    Size,
+    /// A colour or a family, which is dropped.
+    Dropped,
+}
+
+/// A character that comes.
+#[derive(Clone, Copy)]
+pub(crate) enum Coming {
+    /// An ASCII character.
+    Byte(u8),
+    /// Another one, by its code.
+    Wide(u32),
+}
+
+/// What a character says, and whether it is taken: one that is left is met again.
+#[derive(Clone, Copy)]
+pub(crate) struct Seen {
+    /// What goes out.
+    pub said: Said,
+    /// The character is taken.
+    pub takes: bool,
+}
+
+/// What is half read.
+#[derive(Clone, Copy)]
+pub(crate) struct Half {
+    /// Where the line is read.
+    pub line: Line,
+    /// Which part of an escape was read.
+    pub escape: Escape,
+    /// The bytes of the escape, none of which went out.
+    pub kept: Name,
+    /// The name in it.
+    pub spelled: Name,
+    /// The name of the control line, or that a condition asks for.
+    pub name: Name,
+    /// A condition stands before the control line.
+    pub conditional: bool,
+    /// A macro is being defined.
+    pub defining: bool,
+    /// `\\(*W` is a dash.
+    pub dashes: bool,
+}
+
+impl Seen {
+    /// The character is taken.
+    pub(crate) fn taken(said: Said) -> Seen
+        ensures { result ≡ record { said = said; takes = true } }
+    {
+        Seen { said, takes: true }
+    }
+
+    /// The character is left.
+    pub(crate) fn left(said: Said) -> Seen
+        ensures { result ≡ record { said = said; takes = false } }
+    {
+        Seen { said, takes: false }
+    }
+}
+
+impl Line {
+    /// Nothing of a text line was read yet.
+    pub(crate) fn is_beginning(self) -> bool
+        ensures { result ≡ is_beginning self }
+    {
+        matches!(self, Line::Start | Line::Part | Line::Braced)
+    }
+
+    /// What is read next is text.
+    pub(crate) fn is_text(self) -> bool
+        ensures { result ≡ is_text self }
+    {
+        matches!(self, Line::Start | Line::Part | Line::Braced | Line::Text)
+    }
+
+    /// Behind a condition, where `\\{` begins a part.
+    pub(crate) fn takes_brace(self) -> bool
+        ensures { result ≡ takes_brace self }
+    {
+        matches!(
+            self,
+            Line::Part | Line::Braced | Line::Number | Line::Strings(_, _)
+        )
+    }
+}
+
+impl Half {
+    /// A page begins.
+    pub(crate) fn new() -> Half
+        ensures { result ≡ first_half }
+    {
+        Half {
+            line: Line::Start,
+            escape: Escape::Plain,
+            kept: Name::new(),
+            spelled: Name::new(),
+            name: Name::new(),
+            conditional: false,
+            defining: false,
+            dashes: false,
+        }
+    }
+
+    /// Whether a plain character goes out as it is and changes nothing.
+    pub(crate) fn is_running(&self) -> bool
+        ensures { result ≡ is_running self.now }
+    {
+        matches!(self.escape, Escape::Plain) && matches!(self.line, Line::Text | Line::Request)
+    }
+}

@@ -1,0 +1,22 @@
+//! What manual pages use, turned into the language of the formatter.
+#![tactic(auto)]
+
+mod beginnings;
+mod conditions;
+mod escapes;
+mod glyphs;
+mod half;
+mod likeness;
+mod lines;
+mod meeting;
+mod numbers;
+mod pairs;
+mod plain_text;
+mod reader;
+mod running;
+mod said;
+mod signs;
+mod words;
+
+pub use plain_text::passes_unchanged;
+pub use running::{Outcome, convert};

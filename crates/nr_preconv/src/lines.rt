@@ -1,0 +1,249 @@
+//! Lines: control lines and their names, text lines, lines that pass as they are.
+ghost use Rattle.std.specs.Prelude.{◌≡◌};
+ghost use Rattle.nr_preconv.specs.Half.{met};
+ghost use Rattle.nr_preconv.specs.Lines as specs;
+
+use super::beginnings::{Opens, opened, said_name};
+use super::half::{Dots, Half, Line, Seen};
+use super::said::Said;
+use super::words::{Class, Words};
+use nr_units::Name;
+
+/// A blank, a control byte or a backslash, which end a name.
+fn ends_name(byte: u8) -> bool
+    ensures { result ≡ specs.ends_name byte }
+{
+    byte <= b' ' || byte == b'\\' || byte == 127
+}
+
+impl Half {
+    /// A control character begins a control line, behind a condition or not.
+    fn control(&mut self, conditional: bool, byte: u8) -> Seen
+        ensures { met self.new result ≡ specs.control conditional byte self.old }
+    {
+        self.name = Name::new();
+        self.conditional = conditional;
+        self.says(byte, Line::Control)
+    }
+
+    /// A byte at the beginning of a line.
+    fn at_start(&mut self, byte: u8) -> Seen
+        ensures { met self.new result ≡ specs.at_start byte self.old }
+    {
+        match byte {
+            b'.' | b'\'' => self.control(false, byte),
+            b'\n' => self.says(byte, Line::Start),
+            _ => self.says(byte, Line::Text),
+        }
+    }
+
+    /// A byte behind a condition.
+    fn at_part(&mut self, byte: u8) -> Seen
+        ensures { met self.new result ≡ specs.at_part byte self.old }
+    {
+        match byte {
+            b'.' | b'\'' => self.control(true, byte),
+            b'\n' => self.says(byte, Line::Start),
+            b' ' | b'\t' => {
+                let line = self.line;
+                self.says(byte, line)
+            }
+            _ => self.says(byte, Line::Text),
+        }
+    }
+
+    /// The name becomes this, and the line goes on so.
+    fn names(&mut self, name: Name, line: Line) -> Seen
+        ensures { met self.new result ≡ specs.naming name line self.old }
+    {
+        self.name = name;
+        self.line = line;
+        Seen::taken(Said::Nothing)
+    }
+
+    /// The blanks that were kept go out, and the line goes on so.
+    fn blanks_said(&mut self, line: Line) -> Seen
+        ensures { met self.new result ≡ specs.blanks_said line self.old }
+    {
+        let blanks = self.name;
+        self.name = Name::new();
+        self.line = line;
+        Seen::left(Said::Kept(blanks))
+    }
+
+    /// A byte behind a control character and blanks. In a definition these are dropped before another
+    /// control character, which ends it.
+    fn behind_control(&mut self, byte: u8) -> Seen
+        ensures { met self.new result ≡ specs.behind_control byte self.old }
+    {
+        if byte == b'.' && self.defining {
+            return self.names(Name::of(b"."), Line::Name);
+        }
+        if (byte == b' ' || byte == b'\t') && !self.name.is_full() {
+            let mut blanks = self.name;
+            blanks.push(byte);
+            return self.names(blanks, Line::Control);
+        }
+        if !self.name.is_empty() {
+            return self.blanks_said(Line::Control);
+        }
+        if ends_name(byte) {
+            return self.blanks_said(Line::Request);
+        }
+        self.names(Name::of(&[byte]), Line::Name)
+    }
+
+    /// Where a line goes on whose name has ended before this byte. Whether lines are ignored behind a
+    /// condition is not known, nor where they end that have a name of their own.
+    fn opens(&mut self, opens: Opens, byte: u8)
+        ensures { self.new ≡ specs.opening opens byte self.old }
+    {
+        self.line = match opens {
+            Opens::Rest | Opens::Definition | Opens::End => Line::Request,
+            Opens::Ignored if byte == b'\n' && !self.conditional => Line::Ignored(Dots::Other),
+            Opens::Ignored => Line::Request,
+            Opens::Condition => Line::Condition,
+            Opens::Else => Line::Part,
+            Opens::Translation => Line::Translation,
+            Opens::Words(fonts) => Line::Words(Words::new(fonts)),
+        };
+        self.defining = match opens {
+            Opens::Definition => true,
+            Opens::End => false,
+            _ => self.defining,
+        };
+    }
+
+    /// The name has ended before this byte.
+    fn named_line(&mut self, byte: u8) -> Seen
+        ensures { met self.new result ≡ specs.named_line byte self.old }
+    {
+        let name = self.name;
+        let opens = opened(name.as_bytes());
+        self.opens(opens, byte);
+        self.name = Name::new();
+        Seen::left(said_name(opens, name, byte))
+    }
+
+    /// A byte of a name, or behind it.
+    fn in_name(&mut self, byte: u8) -> Seen
+        ensures { met self.new result ≡ specs.in_name byte self.old }
+    {
+        if ends_name(byte) || self.name.is_full() {
+            return self.named_line(byte);
+        }
+        self.name.push(byte);
+        Seen::taken(Said::Nothing)
+    }
+
+    /// A byte of the rest of a line.
+    fn in_rest(&mut self, byte: u8) -> Seen
+        ensures { met self.new result ≡ specs.in_rest byte self.old }
+    {
+        let line = if byte == b'\n' {
+            Line::Start
+        } else {
+            self.line
+        };
+        self.says(byte, line)
+    }
+
+    /// A character among words that goes out as `said` elsewhere.
+    fn among_words(&mut self, words: Words, class: Class, said: Said) -> Seen
+        ensures { met self.new result ≡ specs.among_words words class said self.old }
+    {
+        let told = words.met(class, said);
+        self.line = Line::Words(told.words);
+        Seen {
+            said: told.said,
+            takes: told.takes,
+        }
+    }
+
+    /// A byte among words. The ninth has its last quote before the newline.
+    fn in_words(&mut self, words: Words, byte: u8) -> Seen
+        ensures { met self.new result ≡ specs.in_words words byte self.old }
+    {
+        if byte != b'\n' {
+            return self.among_words(words, Class::of(byte), Said::Byte(byte));
+        }
+        if words.is_ninth() {
+            self.line = Line::Request;
+            return Seen::left(Said::Byte(b'"'));
+        }
+        self.says(byte, Line::Start)
+    }
+
+    /// A byte passes as it is. Comments end with their line, and ignored lines with one that begins with
+    /// two dots.
+    pub(crate) fn passes(&mut self, byte: u8)
+        ensures { self.new ≡ specs.passing byte self.old }
+    {
+        self.line = match (self.line, byte) {
+            (Line::Comment, b'\n') => Line::Start,
+            (Line::Ignored(Dots::Two), b'\n') => Line::Start,
+            (Line::Ignored(_), b'\n') => Line::Ignored(Dots::Start),
+            (Line::Ignored(Dots::Start), b'.') => Line::Ignored(Dots::One),
+            (Line::Ignored(Dots::One), b'.') => Line::Ignored(Dots::Two),
+            (Line::Ignored(Dots::Start | Dots::One), _) => Line::Ignored(Dots::Other),
+            (line, _) => line,
+        };
+    }
+
+    /// A byte of a line, in no escape.
+    pub(crate) fn in_line(&mut self, byte: u8) -> Seen
+        ensures { met self.new result ≡ specs.in_line byte self.old }
+    {
+        match self.line {
+            Line::Start => self.at_start(byte),
+            Line::Control => self.behind_control(byte),
+            Line::Name => self.in_name(byte),
+            Line::Words(words) => self.in_words(words, byte),
+            Line::Condition => self.before_condition(byte),
+            Line::Number => self.in_number(byte),
+            Line::Strings(delimiter, ended) => self.in_strings(delimiter, ended, byte),
+            Line::Asked(asked) => self.in_asked(asked, byte),
+            Line::Part | Line::Braced => self.at_part(byte),
+            Line::Text | Line::Request | Line::Translation => self.in_rest(byte),
+            Line::Comment | Line::Ignored(_) => {
+                self.passes(byte);
+                Seen::taken(Said::Byte(byte))
+            }
+        }
+    }
+
+    /// A character beyond ASCII goes out, and the line goes on so.
+    fn shows(&mut self, code: u32, line: Line) -> Seen
+        ensures { met self.new result ≡ specs.showing code line self.old }
+    {
+        self.line = line;
+        Seen::taken(Said::Character(code))
+    }
+
+    /// A character beyond ASCII in a line, in no escape.
+    pub(crate) fn wide_in_line(&mut self, code: u32) -> Seen
+        ensures { met self.new result ≡ specs.wide_in_line code self.old }
+    {
+        match self.line {
+            Line::Start | Line::Part | Line::Braced | Line::Condition => self.shows(
+                code,
+                Line::Text,
+            ),
+            Line::Control => self.blanks_said(Line::Request),
+            Line::Name => self.named_line(b' '),
+            Line::Words(words) => self.among_words(words, Class::Other, Said::Character(code)),
+            Line::Asked(asked) => self.in_asked(asked, b'?'),
+            line => self.shows(code, line),
+        }
+    }
+
+    /// Whether a backslash begins an escape.
+    pub(crate) fn takes_escape(&self) -> bool
+        ensures { result ≡ specs.takes_escape self.now.line }
+    {
+        !matches!(
+            self.line,
+            Line::Control | Line::Name | Line::Asked(_) | Line::Comment | Line::Ignored(_)
+        )
+    }
+}

@@ -1,0 +1,61 @@
+//! A character meets what is half read.
+ghost use Rattle.std.specs.Prelude.{◌≡◌};
+ghost use Rattle.nr_preconv.specs.Half.{met};
+ghost use Rattle.nr_preconv.specs.Meeting as specs;
+
+use super::half::{Coming, Escape, Half, Line, Seen};
+use super::said::Said;
+use nr_units::Name;
+
+impl Half {
+    /// An escape begins.
+    fn begins(&mut self) -> Seen
+        ensures { met self.new result ≡ specs.beginning self.old }
+    {
+        self.escape = Escape::Begun;
+        self.kept = Name::of(b"\\");
+        self.spelled = Name::new();
+        Seen::taken(Said::Nothing)
+    }
+
+    /// An ASCII character comes.
+    fn meet_byte(&mut self, byte: u8) -> Seen
+        ensures { met self.new result ≡ specs.meet_byte byte self.old }
+    {
+        if !matches!(self.escape, Escape::Plain) {
+            return self.in_escape(byte);
+        }
+        if byte == b'\\' && self.takes_escape() {
+            return self.begins();
+        }
+        self.in_line(byte)
+    }
+
+    /// Another character comes. It is in the name of no escape.
+    fn meet_wide(&mut self, code: u32) -> Seen
+        ensures { met self.new result ≡ specs.meet_wide code self.old }
+    {
+        match self.escape {
+            Escape::Plain => self.wide_in_line(code),
+            Escape::Skip | Escape::Skipped(_) => Seen::taken(Said::Nothing),
+            _ => self.abandoned(),
+        }
+    }
+
+    /// What a character does.
+    pub(crate) fn meet(&mut self, coming: Coming) -> Seen
+        ensures { met self.new result ≡ specs.meet coming self.old }
+    {
+        match coming {
+            Coming::Byte(byte) => self.meet_byte(byte),
+            Coming::Wide(code) => self.meet_wide(code),
+        }
+    }
+
+    /// Whether bytes pass as they are, up to a newline.
+    pub(crate) fn is_raw(&self) -> bool
+        ensures { result ≡ specs.is_raw self.now.line }
+    {
+        matches!(self.line, Line::Comment | Line::Ignored(_))
+    }
+}

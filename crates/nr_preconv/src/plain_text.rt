@@ -1,0 +1,27 @@
+//! Text that goes out as it is.
+ghost use Rattle.std.specs.Prelude.{◌≡◌, Bool, IsTrue};
+ghost use Rattle.nr_preconv.specs.PlainText.{goes_on, is_plain_text};
+ghost use Rattle.nr_preconv.specs.Reading.{converted};
+
+/// Whether a byte goes on such text, at the beginning of a line or not.
+fn goes_on(starts: bool, byte: u8) -> bool
+    ensures { result ≡ goes_on starts byte }
+{
+    byte < 128 && byte != b'\\' && !(starts && (byte == b'.' || byte == b'\''))
+}
+
+/// Whether a text is of ASCII, without backslashes, and none of its lines begins with a control character. Such a
+/// text is what `convert` makes of it.
+pub fn passes_unchanged(text: &[u8]) -> bool
+    ensures value { result ≡ is_plain_text text.now }
+    ensures law { IsTrue result → (eight_bit : Bool) → converted eight_bit text.now ≡ text.now }
+{
+    let mut starts = true;
+    for byte in text {
+        if !goes_on(starts, *byte) {
+            return false;
+        }
+        starts = *byte == b'\n';
+    }
+    true
+}

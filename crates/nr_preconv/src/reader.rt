@@ -1,0 +1,285 @@
+//! Bytes become characters: UTF-8, and Latin-1 where they are none.
+ghost use Rattle.std.specs.Prelude.{◌≡◌, ◌+◌, ◌*◌, ◌<◌, ◌≤◌, ◌++◌, length};
+ghost use Rattle.nr_preconv.specs.Reading as specs;
+
+use super::half::{Coming, Half, Line};
+use super::said::say;
+use nr_units::slice_vec::SliceVec;
+
+/// What was read of a character of several bytes.
+#[derive(Clone, Copy)]
+pub(crate) enum Pending {
+    /// Nothing.
+    Nothing,
+    /// Its first byte.
+    One(u8),
+    /// Two bytes.
+    Two(u8, u8),
+    /// Three bytes.
+    Three(u8, u8, u8),
+}
+
+/// What is half read of a page.
+#[derive(Clone, Copy)]
+pub(crate) struct Reader {
+    /// Of a line.
+    pub half: Half,
+    /// Of a character.
+    pub pending: Pending,
+    /// Letters of Latin-1 stay single bytes.
+    pub eight_bit: bool,
+}
+
+/// How often a character is met at most.
+const MEETINGS: u8 = 6;
+
+/// Whether a byte begins a character of several bytes.
+fn is_lead(byte: u8) -> bool
+    ensures { result ≡ specs.is_lead byte }
+{
+    matches!(byte, 0xC2..=0xF4)
+}
+
+/// Whether a byte goes on a character.
+fn is_tail(byte: u8) -> bool
+    ensures { result ≡ specs.is_tail byte }
+{
+    matches!(byte, 0x80..=0xBF)
+}
+
+/// Whether a byte may be the second of a character.
+fn is_second(first: u8, byte: u8) -> bool
+    ensures { result ≡ specs.is_second first byte }
+{
+    match first {
+        0xE0 => matches!(byte, 0xA0..=0xBF),
+        0xED => matches!(byte, 0x80..=0x9F),
+        0xF0 => matches!(byte, 0x90..=0xBF),
+        0xF4 => matches!(byte, 0x80..=0x8F),
+        _ => is_tail(byte),
+    }
+}
+
+/// The low six bits of a byte.
+fn low_six(byte: u8) -> u32
+    ensures value { result ≡ specs.low_six byte }
+    ensures small { result < 64 }
+{
+    u32::from(byte % 64)
+}
+
+impl Reader {
+    /// A page begins.
+    pub(crate) fn new(eight_bit: bool) -> Reader
+        ensures { result ≡ specs.first_reader eight_bit }
+    {
+        Reader {
+            half: Half::new(),
+            pending: Pending::Nothing,
+            eight_bit,
+        }
+    }
+
+    /// A character comes, and is met so many times at most.
+    fn hear_in(&mut self, coming: Coming, most: u8, out: &mut SliceVec<'_, u8>)
+        requires { length out.old.items + 64 * most ≤ out.old.room }
+        ensures reader { self.new ≡ (specs.heard_in most coming self.old).reader }
+        ensures items { out.new.items ≡ out.old.items ++ (specs.heard_in most coming self.old).bytes }
+        ensures few { length out.new.items ≤ length out.old.items + 64 * most }
+        ensures room { out.new.room ≡ out.old.room }
+    {
+        if most == 0 {
+            return;
+        }
+        let seen = self.half.meet(coming);
+        say(seen.said, self.eight_bit, out);
+        if !seen.takes {
+            self.hear_in(coming, most - 1, out);
+        }
+    }
+
+    /// A character comes.
+    #[tactic(auto, unfolding(crate::specs::Reading::heard))]
+    fn hear(&mut self, coming: Coming, out: &mut SliceVec<'_, u8>)
+        requires { length out.old.items + 384 ≤ out.old.room }
+        ensures reader { self.new ≡ (specs.heard coming self.old).reader }
+        ensures items { out.new.items ≡ out.old.items ++ (specs.heard coming self.old).bytes }
+        ensures few { length out.new.items ≤ length out.old.items + 384 }
+        ensures room { out.new.room ≡ out.old.room }
+    {
+        self.hear_in(coming, MEETINGS, out);
+    }
+
+    /// A byte that is no part of a character of several bytes comes as Latin-1.
+    fn hear_stray(&mut self, byte: u8, out: &mut SliceVec<'_, u8>)
+        requires { length out.old.items + 384 ≤ out.old.room }
+        ensures reader { self.new ≡ (specs.stray byte self.old).reader }
+        ensures items { out.new.items ≡ out.old.items ++ (specs.stray byte self.old).bytes }
+        ensures few { length out.new.items ≤ length out.old.items + 384 }
+        ensures room { out.new.room ≡ out.old.room }
+    {
+        self.hear(Coming::Wide(u32::from(byte)), out);
+    }
+
+    /// What was read of a character was none: its bytes come one by one.
+    fn hear_pending(&mut self, out: &mut SliceVec<'_, u8>)
+        requires { length out.old.items + 1152 ≤ out.old.room }
+        ensures reader { self.new ≡ (specs.pending_heard self.old).reader }
+        ensures items { out.new.items ≡ out.old.items ++ (specs.pending_heard self.old).bytes }
+        ensures few { length out.new.items ≤ length out.old.items + 1152 }
+        ensures room { out.new.room ≡ out.old.room }
+    {
+        let pending = self.pending;
+        self.pending = Pending::Nothing;
+        match pending {
+            Pending::Nothing => {}
+            Pending::One(a) => self.hear_stray(a, out),
+            Pending::Two(a, b) => {
+                self.hear_stray(a, out);
+                self.hear_stray(b, out);
+            }
+            Pending::Three(a, b, c) => {
+                self.hear_stray(a, out);
+                self.hear_stray(b, out);
+                self.hear_stray(c, out);
+            }
+        }
+    }
+
+    /// A byte comes, and no part of a character is pending.
+    fn hear_fresh(&mut self, byte: u8, out: &mut SliceVec<'_, u8>)
+        requires { length out.old.items + 384 ≤ out.old.room }
+        ensures reader { self.new ≡ (specs.fresh byte self.old).reader }
+        ensures items { out.new.items ≡ out.old.items ++ (specs.fresh byte self.old).bytes }
+        ensures few { length out.new.items ≤ length out.old.items + 384 }
+        ensures room { out.new.room ≡ out.old.room }
+    {
+        if byte < 128 {
+            self.hear(Coming::Byte(byte), out);
+        } else if is_lead(byte) {
+            self.pending = Pending::One(byte);
+        } else {
+            self.hear_stray(byte, out);
+        }
+    }
+
+    /// What is pending and then this byte come one by one.
+    fn hear_apart(&mut self, byte: u8, out: &mut SliceVec<'_, u8>)
+        requires { length out.old.items + 1536 ≤ out.old.room }
+        ensures reader { self.new ≡ (specs.apart byte self.old).reader }
+        ensures items { out.new.items ≡ out.old.items ++ (specs.apart byte self.old).bytes }
+        ensures few { length out.new.items ≤ length out.old.items + 1536 }
+        ensures room { out.new.room ≡ out.old.room }
+    {
+        self.hear_pending(out);
+        self.hear_fresh(byte, out);
+    }
+
+    /// A character of several bytes is whole.
+    fn hear_whole(&mut self, code: u32, out: &mut SliceVec<'_, u8>)
+        requires { length out.old.items + 384 ≤ out.old.room }
+        ensures reader { self.new ≡ (specs.whole code self.old).reader }
+        ensures items { out.new.items ≡ out.old.items ++ (specs.whole code self.old).bytes }
+        ensures few { length out.new.items ≤ length out.old.items + 384 }
+        ensures room { out.new.room ≡ out.old.room }
+    {
+        self.pending = Pending::Nothing;
+        self.hear(Coming::Wide(code), out);
+    }
+
+    /// A byte comes that is read.
+    fn hear_byte(&mut self, byte: u8, out: &mut SliceVec<'_, u8>)
+        requires { length out.old.items + 1536 ≤ out.old.room }
+        ensures reader { self.new ≡ (specs.heard_byte byte self.old).reader }
+        ensures items { out.new.items ≡ out.old.items ++ (specs.heard_byte byte self.old).bytes }
+        ensures few { length out.new.items ≤ length out.old.items + 1536 }
+        ensures room { out.new.room ≡ out.old.room }
+    {
+        match self.pending {
+            Pending::One(a) if is_second(a, byte) => {
+                if a < 0xE0 {
+                    let code = u32::from(a % 32) * 64 + low_six(byte);
+                    self.hear_whole(code, out);
+                } else {
+                    self.pending = Pending::Two(a, byte);
+                }
+            }
+            Pending::Two(a, b) if is_tail(byte) => {
+                if a < 0xF0 {
+                    let code = u32::from(a % 16) * 4096 + low_six(b) * 64 + low_six(byte);
+                    self.hear_whole(code, out);
+                } else {
+                    self.pending = Pending::Three(a, b, byte);
+                }
+            }
+            Pending::Three(a, b, c) if is_tail(byte) => {
+                let code = u32::from(a % 8) * 262_144
+                    + low_six(b) * 4096
+                    + low_six(c) * 64
+                    + low_six(byte);
+                self.hear_whole(code, out);
+            }
+            _ => self.hear_apart(byte, out),
+        }
+    }
+
+    /// A byte comes. At most 1536 bytes go out.
+    pub(crate) fn read(&mut self, byte: u8, out: &mut SliceVec<'_, u8>)
+        requires { length out.old.items + 1536 ≤ out.old.room }
+        ensures reader { self.new ≡ (specs.read byte self.old).reader }
+        ensures items { out.new.items ≡ out.old.items ++ (specs.read byte self.old).bytes }
+        ensures few { length out.new.items ≤ length out.old.items + 1536 }
+        ensures room { out.new.room ≡ out.old.room }
+    {
+        if self.half.is_raw() {
+            self.half.passes(byte);
+            out.push(byte);
+            return;
+        }
+        self.hear_byte(byte, out);
+    }
+
+    /// The end comes: what is half read goes out as it is. At most 1536 bytes go out.
+    pub(crate) fn finish(&mut self, out: &mut SliceVec<'_, u8>)
+        requires { length out.old.items + 1536 ≤ out.old.room }
+        ensures items { out.new.items ≡ out.old.items ++ specs.finished self.old }
+        ensures few { length out.new.items ≤ length out.old.items + 1536 }
+        ensures room { out.new.room ≡ out.old.room }
+    {
+        self.hear_pending(out);
+        out.extend(self.half.kept.as_bytes());
+        if matches!(self.half.line, Line::Control | Line::Name | Line::Asked(_)) {
+            out.extend(self.half.name.as_bytes());
+        }
+    }
+
+    /// Whether plain bytes go out as they are and change nothing.
+    fn is_ready(&self) -> bool
+        ensures { result ≡ specs.is_ready self.now }
+    {
+        self.half.is_running() && matches!(self.pending, Pending::Nothing)
+    }
+
+    /// How many of these bytes come first that go out as they are and change nothing.
+    pub(crate) fn plain_front(&self, bytes: &[u8]) -> usize
+        ensures within { result ≤ length bytes.now }
+        ensures plain { specs.IsPlainFront result bytes.now self.now }
+    {
+        if !self.is_ready() {
+            return 0;
+        }
+        for (i, byte) in bytes.iter().enumerate() {
+            if !is_plain_byte(*byte) {
+                return i;
+            }
+        }
+        bytes.len()
+    }
+}
+
+/// A byte of ASCII text that is no backslash.
+fn is_plain_byte(byte: u8) -> bool
+    ensures { result ≡ specs.is_plain_byte byte }
+{
+    matches!(byte, b' '..=b'[' | b']'..=b'~')
+}

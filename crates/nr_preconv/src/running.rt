@@ -1,0 +1,189 @@
+//! A whole page is turned.
+ghost use Rattle.std.specs.Prelude.{◌≡◌, ◌+◌, ◌<◌, ◌≤◌, [], length, false, OnOk};
+ghost use Rattle.std.specs.Io.KnownBytes.{Appends};
+ghost use Rattle.nr_units.specs.Failures.{counted_if, put_counted, put_counted_if};
+ghost use Rattle.nr_preconv.specs.Reading.{first_reader};
+ghost use Rattle.nr_preconv.specs.Running as specs;
+
+use super::reader::Reader;
+use nr_units::sink::Sink;
+use nr_units::slice_vec::SliceVec;
+use nr_units::source::{Fault, Source};
+
+/// The number of bytes that are too many.
+const TOO_MANY: u64 = 1_099_511_627_776;
+
+/// How many bytes go out for one that comes, at most, and how many plain ones are taken at once.
+const MOST: usize = 1536;
+
+/// How a run ended.
+#[derive(Clone, Copy, Debug, PartialEq, Eq)]
+pub enum Outcome {
+    /// All was turned and went out.
+    Done,
+    /// The input failed behind so many bytes.
+    ReadFault {
+        /// How many.
+        at: u64,
+    },
+    /// The input has 2^40 bytes or more.
+    TooLong,
+    /// The output failed.
+    WriteFault,
+}
+
+/// What one turn came to.
+#[derive(Clone, Copy)]
+enum Turn {
+    /// So many bytes were taken, and more may come.
+    Took(u64),
+    /// The input has ended.
+    End,
+    /// The input failed.
+    ReadFault,
+}
+
+/// All that is pending goes out.
+fn put_pending<W: Sink>(out: &mut SliceVec<'_, u8>, output: &mut W) -> Result<(), Fault>
+    ensures ok { OnOk result (Appends (W.held output.old) (W.held output.new) out.old.items) }
+    ensures err { specs.FrontAtErr result (W.held output.old) (W.held output.new) out.old.items }
+    ensures empty { OnOk result (out.new.items ≡ []) }
+    ensures failures { W.failures output.new ≡ put_counted (W.failures output.old) result }
+    ensures room { out.new.room ≡ out.old.room }
+{
+    output.put(out.as_slice())?;
+    out.clear();
+    Ok(())
+}
+
+/// Room is made for what one turn says: where there is none, all that is pending goes out.
+fn make_room<W: Sink>(out: &mut SliceVec<'_, u8>, output: &mut W) -> Result<(), Fault>
+    requires { 1536 ≤ out.old.room }
+    ensures ok { OnOk result (specs.Flushes (W.held output.old) (W.held output.new) out.old.items out.new.items) }
+    ensures err { specs.FrontAtErr result (W.held output.old) (W.held output.new) out.old.items }
+    ensures fits { OnOk result (length out.new.items + 1536 ≤ out.new.room) }
+    ensures failures { W.failures output.new ≡ put_counted (W.failures output.old) result }
+    ensures room { out.new.room ≡ out.old.room }
+{
+    if out.room() - out.len() >= MOST {
+        return Ok(());
+    }
+    put_pending(out, output)
+}
+
+/// Plain bytes at hand are taken, and tells how many.
+fn take_plain<R: Source>(
+    reader: &Reader,
+    input: &mut R,
+    out: &mut SliceVec<'_, u8>,
+    most: u64,
+) -> u64
+    requires { length out.old.items + 1536 ≤ out.old.room }
+    ensures took { specs.Took (R.supply input.old) (R.supply input.new) reader.now reader.now out.old.items out.new.items result }
+    ensures few { (result ≤ 1536) × (result ≤ most) }
+    ensures grown { length out.new.items ≤ length out.old.items + result }
+    ensures failures { R.failures input.new ≡ R.failures input.old }
+    ensures room { out.new.room ≡ out.old.room }
+{
+    let window = input.window();
+    let len = window.len().min(MOST).min(most as usize);
+    let count = reader.plain_front(&window[..len]);
+    out.extend(&window[..count]);
+    input.skip(count);
+    count as u64
+}
+
+/// One turn: plain bytes at hand are taken, or one byte.
+fn make_turn<R: Source>(
+    reader: &mut Reader,
+    input: &mut R,
+    out: &mut SliceVec<'_, u8>,
+    most: u64,
+) -> Turn
+    requires room { length out.old.items + 1536 ≤ out.old.room }
+    requires some { 0 < most }
+    ensures turns { specs.Turns (R.supply input.old) (R.supply input.new) reader.old reader.new out.old.items out.new.items result }
+    ensures measured { specs.IsMeasured most (length out.old.items) (length out.new.items) result }
+    ensures failures { R.failures input.new ≡ counted_if (specs.is_fault result) (R.failures input.old) }
+    ensures room { out.new.room ≡ out.old.room }
+{
+    let count = take_plain(reader, input, out, most);
+    if count > 0 {
+        return Turn::Took(count);
+    }
+    match input.next() {
+        Ok(Some(byte)) => {
+            reader.read(byte, out);
+            Turn::Took(1)
+        }
+        Ok(None) => {
+            reader.finish(out);
+            Turn::End
+        }
+        Err(Fault) => Turn::ReadFault,
+    }
+}
+
+/// The rest goes out, and the run has ended so.
+fn ended<W: Sink>(out: &mut SliceVec<'_, u8>, output: &mut W, outcome: Outcome) -> Outcome
+    ensures ends { specs.EndsAs outcome result (W.held output.old) (W.held output.new) out.old.items }
+    ensures failures { specs.is_write_fault outcome ≡ false → W.failures output.new ≡ put_counted_if (specs.is_write_fault result) (W.failures output.old) }
+{
+    match put_pending(out, output) {
+        Ok(()) => outcome,
+        Err(Fault) => Outcome::WriteFault,
+    }
+}
+
+/// All bytes are turned.
+fn run<R: Source, W: Sink>(
+    reader: &mut Reader,
+    input: &mut R,
+    output: &mut W,
+    out: &mut SliceVec<'_, u8>,
+) -> Outcome
+    requires first { reader.old ≡ first_reader reader.old.eight_bit }
+    requires room { 1536 ≤ out.old.room }
+    requires empty { out.old.items ≡ [] }
+    ensures ran { specs.Ran reader.old.eight_bit (R.supply input.old) (R.supply input.new) (W.held output.old) (W.held output.new) result }
+    ensures read_faults { specs.TellsReads result (R.failures input.old) (R.failures input.new) }
+    ensures write_faults { W.failures output.new ≡ put_counted_if (specs.is_write_fault result) (W.failures output.old) }
+{
+    let mut taken = 0;
+    while taken < TOO_MANY {
+        match make_room(out, output) {
+            Ok(()) => {}
+            Err(Fault) => return Outcome::WriteFault,
+        }
+        match make_turn(reader, input, out, TOO_MANY - taken) {
+            Turn::Took(count) => taken += count,
+            Turn::End => return ended(out, output, Outcome::Done),
+            Turn::ReadFault => return ended(out, output, Outcome::ReadFault { at: taken }),
+        }
+    }
+    ended(out, output, Outcome::TooLong)
+}
+
+/// Turns what the input gives into the language of the formatter, and puts it to the output, which is not
+/// flushed. With `eight_bit` letters of Latin-1 stay single bytes. The buffer, of 1536 bytes at least,
+/// holds what goes out; what it held is of no account. Nothing is allocated.
+///
+/// What goes out is one function of the bytes that came, however they came. At a read fault, and where the
+/// input is too long, it is that of the bytes before, but for a character, an escape or a name that is
+/// half read; at a write fault a front of it.
+pub fn convert<R: Source, W: Sink>(
+    input: &mut R,
+    output: &mut W,
+    eight_bit: bool,
+    buffer: &mut [u8],
+) -> Outcome
+    requires { 1536 ≤ length buffer.old }
+    ensures ran { specs.Ran eight_bit (R.supply input.old) (R.supply input.new) (W.held output.old) (W.held output.new) result }
+    // A read fault is told only where the source failed once, and then always, but where the output fails too.
+    ensures read_faults { specs.TellsReads result (R.failures input.old) (R.failures input.new) }
+    ensures write_faults { W.failures output.new ≡ put_counted_if (specs.is_write_fault result) (W.failures output.old) }
+{
+    let mut reader = Reader::new(eight_bit);
+    let mut out = SliceVec::over(buffer);
+    run(&mut reader, input, output, &mut out)
+}

@@ -1,0 +1,70 @@
+//! What goes out.
+ghost use Rattle.std.specs.Prelude.{◌≡◌, ◌+◌, ◌≤◌, ◌++◌, length};
+ghost use Rattle.nr_preconv.specs.Saying.{arguments, bytes_of};
+
+use super::likeness::put_likeness;
+use nr_units::Name;
+use nr_units::slice_vec::SliceVec;
+
+/// What one move says.
+#[derive(Clone, Copy)]
+pub(crate) enum Said {
+    /// Nothing.
+    Nothing,
+    /// This byte.
+    Byte(u8),
+    /// What was kept.
+    Kept(Name),
+    /// `\` and this byte.
+    Escape(u8),
+    /// `\f` and this letter.
+    Font(u8),
+    /// A quote between quotes.
+    Quotes,
+    /// The beginning of a comment, as a line of its own or not.
+    Comment(bool),
+    /// The likeness of a character.
+    Character(u32),
+    /// The nine arguments of a macro, with two backslashes each or one.
+    Arguments(bool),
+    /// The same between quotes.
+    QuotedArguments(bool),
+}
+
+/// The nine arguments.
+fn arguments(doubled: bool, quoted: bool) -> &'static [u8]
+    ensures value { result.now ≡ arguments doubled quoted }
+    ensures few { length result.now ≤ 64 }
+{
+    match (doubled, quoted) {
+        (false, false) => b"\\$1 \\$2 \\$3 \\$4 \\$5 \\$6 \\$7 \\$8 \\$9",
+        (true, false) => b"\\\\$1 \\\\$2 \\\\$3 \\\\$4 \\\\$5 \\\\$6 \\\\$7 \\\\$8 \\\\$9",
+        (false, true) =>
+            b"\"\\$1\" \"\\$2\" \"\\$3\" \"\\$4\" \"\\$5\" \"\\$6\" \"\\$7\" \"\\$8\" \"\\$9\"",
+        (true, true) => {
+            b"\"\\\\$1\" \"\\\\$2\" \"\\\\$3\" \"\\\\$4\" \"\\\\$5\" \"\\\\$6\" \"\\\\$7\" \"\\\\$8\" \"\\\\$9\""
+        }
+    }
+}
+
+/// Puts what is said behind what goes out: at most 64 bytes.
+pub(crate) fn say(said: Said, eight_bit: bool, out: &mut SliceVec<'_, u8>)
+    requires { length out.old.items + 64 ≤ out.old.room }
+    ensures items { out.new.items ≡ out.old.items ++ bytes_of eight_bit said }
+    ensures few { length out.new.items ≤ length out.old.items + 64 }
+    ensures room { out.new.room ≡ out.old.room }
+{
+    match said {
+        Said::Nothing => {}
+        Said::Byte(byte) => out.push(byte),
+        Said::Kept(name) => out.extend(name.as_bytes()),
+        Said::Escape(byte) => out.extend(&[b'\\', byte]),
+        Said::Font(letter) => out.extend(&[b'\\', b'f', letter]),
+        Said::Quotes => out.extend(b"\"\""),
+        Said::Comment(true) => out.extend(b".\\\""),
+        Said::Comment(false) => out.extend(b"\\\""),
+        Said::Character(code) => put_likeness(code, eight_bit, out),
+        Said::Arguments(doubled) => out.extend(arguments(doubled, false)),
+        Said::QuotedArguments(doubled) => out.extend(arguments(doubled, true)),
+    }
+}

@@ -1,0 +1,228 @@
+//! The words of a font macro's line. Behind the eighth all that follows is one word in quotes, since no
+//! more than nine are taken.
+ghost use Rattle.std.specs.Prelude.{◌≡◌};
+ghost use Rattle.nr_preconv.specs.Words.{begun, begins_word, blank_said, class_of, first_words, font_said, is_ninth, met_words, quoted_said, told, words_at};
+
+use super::said::Said;
+
+/// The fonts of a macro's words.
+#[derive(Clone, Copy)]
+pub(crate) enum Fonts {
+    /// One font.
+    One,
+    /// Two fonts in turn, by their letters.
+    Turn(u8, u8),
+}
+
+/// Where among words.
+#[derive(Clone, Copy)]
+pub(crate) enum Place {
+    /// Between two of them.
+    Between,
+    /// A word begins with what comes.
+    Begun,
+    /// In a word.
+    Inside,
+    /// In a word between quotes.
+    Quoted,
+    /// Behind a quote that may be its last.
+    Closing,
+}
+
+/// What a character is among words.
+#[derive(Clone, Copy)]
+pub(crate) enum Class {
+    /// A space.
+    Space,
+    /// A quote.
+    Quote,
+    /// Anything else.
+    Other,
+}
+
+/// The words of a line as far as they were read.
+#[derive(Clone, Copy)]
+pub(crate) struct Words {
+    /// Their fonts.
+    pub fonts: Fonts,
+    /// How many have begun: nine stand for more.
+    pub count: u8,
+    /// The last that began has the second font.
+    pub second: bool,
+    /// Where.
+    pub place: Place,
+}
+
+/// What a character does among words.
+#[derive(Clone, Copy)]
+pub(crate) struct Told {
+    /// The words then.
+    pub words: Words,
+    /// What goes out.
+    pub said: Said,
+    /// The character is taken.
+    pub takes: bool,
+}
+
+impl Class {
+    /// That of an ASCII character.
+    pub(crate) fn of(byte: u8) -> Class
+        ensures { result ≡ class_of byte }
+    {
+        match byte {
+            b' ' => Class::Space,
+            b'"' => Class::Quote,
+            _ => Class::Other,
+        }
+    }
+}
+
+impl Words {
+    /// No word has begun.
+    pub(crate) fn new(fonts: Fonts) -> Words
+        ensures { result ≡ first_words fonts }
+    {
+        Words {
+            fonts,
+            count: 0,
+            second: true,
+            place: Place::Between,
+        }
+    }
+
+    /// Whether the ninth word has begun.
+    pub(crate) fn is_ninth(self) -> bool
+        ensures { result ≡ is_ninth self }
+    {
+        self.count >= 9
+    }
+
+    /// Whether an escape that comes begins a word, or ends one before.
+    pub(crate) fn begins_word(self) -> bool
+        ensures { result ≡ begins_word self }
+    {
+        matches!(self.place, Place::Between | Place::Begun | Place::Closing)
+    }
+
+    fn told(self, place: Place, said: Said, takes: bool) -> Told
+        ensures { result ≡ told place said takes self }
+    {
+        let words = Words {
+            fonts: self.fonts,
+            count: self.count,
+            second: self.second,
+            place,
+        };
+        Told { words, said, takes }
+    }
+
+    /// How the font changes for a word behind the ninth.
+    fn font_said(self) -> Said
+        ensures { result ≡ font_said self }
+    {
+        match self.fonts {
+            Fonts::One => Said::Nothing,
+            Fonts::Turn(first, second) => Said::Font(if self.second { first } else { second }),
+        }
+    }
+
+    /// A word begins with what comes.
+    fn begun(self) -> Told
+        ensures { result ≡ begun self }
+    {
+        if self.count >= 9 {
+            let words = Words {
+                fonts: self.fonts,
+                count: 9,
+                second: !self.second,
+                place: Place::Begun,
+            };
+            return Told {
+                words,
+                said: self.font_said(),
+                takes: false,
+            };
+        }
+        let words = Words {
+            fonts: self.fonts,
+            count: self.count + 1,
+            second: !self.second,
+            place: Place::Begun,
+        };
+        let said = if self.count == 8 {
+            Said::Byte(b'"')
+        } else {
+            Said::Nothing
+        };
+        Told {
+            words,
+            said,
+            takes: false,
+        }
+    }
+
+    /// A blank between words: those behind the ninth stand without blanks where fonts change.
+    fn blank_said(self, said: Said) -> Said
+        ensures { result ≡ blank_said said self }
+    {
+        match self.fonts {
+            Fonts::Turn(_, _) if self.is_ninth() => Said::Nothing,
+            _ => said,
+        }
+    }
+
+    /// A quote that goes out as `said`, and as `ninth` from the ninth word on.
+    fn quoted_said(self, said: Said, ninth: Said) -> Said
+        ensures { result ≡ quoted_said said ninth self }
+    {
+        if self.is_ninth() { ninth } else { said }
+    }
+
+    /// What a character does that goes out as `said` elsewhere.
+    pub(crate) fn met(self, class: Class, said: Said) -> Told
+        ensures { result ≡ met_words class said self }
+    {
+        match (self.place, class) {
+            (Place::Between, Class::Space) => self.told(
+                Place::Between,
+                self.blank_said(said),
+                true,
+            ),
+            (Place::Between, _) => self.begun(),
+            (Place::Begun, Class::Quote) => self.told(
+                Place::Quoted,
+                self.quoted_said(said, Said::Nothing),
+                true,
+            ),
+            (Place::Begun, _) => self.told(Place::Inside, Said::Nothing, false),
+            (Place::Inside, Class::Space) => self.told(Place::Between, self.blank_said(said), true),
+            (Place::Inside, Class::Quote) => self.told(
+                Place::Inside,
+                self.quoted_said(said, Said::Quotes),
+                true,
+            ),
+            (Place::Inside, Class::Other) => self.told(Place::Inside, said, true),
+            (Place::Quoted, Class::Quote) => self.told(
+                Place::Closing,
+                self.quoted_said(said, Said::Nothing),
+                true,
+            ),
+            (Place::Quoted, _) => self.told(Place::Quoted, said, true),
+            (Place::Closing, Class::Quote) => self.told(
+                Place::Quoted,
+                self.quoted_said(said, Said::Quotes),
+                true,
+            ),
+            (Place::Closing, Class::Space) => self.told(
+                Place::Between,
+                self.blank_said(said),
+                true,
+            ),
+            (Place::Closing, Class::Other) => self.told(
+                Place::Between,
+                self.blank_said(Said::Byte(b' ')),
+                false,
+            ),
+        }
+    }
+}

@@ -1,0 +1,15 @@
+// preconv: turns what manual pages use into the language of nroff, to standard output.
+#![tactic(auto)]
+
+mod endings;
+mod program;
+mod words;
+
+use program::run_program;
+use std::process::ExitCode;
+
+/// Turns the files that its words name, or standard input.
+fn main(rt: HostRuntime) -> ExitCode {
+    let status = run_program(&rt, rt.alloc(), rt.stdin(), rt.stdout(), rt.stderr());
+    ExitCode::from(status)
+}
