@@ -1,16 +1,13 @@
 -- What a spring answers is what judges the move.
-use Rattle.std.specs.Prelude.{if◌then◌else◌, is_some, length}
+use Rattle.std.specs.Prelude.{is_some, length}
 use Rattle.std.proofs.lemmas.Bool.{le-ltb}
 use Rattle.std.proofs.Common.{◌≡◌, ℕ, ◌≤◌, Bool, true, false, List, Option, None, Some, Result, Ok, Err, refl, ap}
 use Rattle.nr_tables.specs.Named.{find}
 use Rattle.nr_fill.specs.Pieces.{line_cells}
 use Rattle.nr_store.specs.declared.element.Element.{Element}
-use Rattle.nr_store.specs.Stored.{Stored, charge_of, checked, entered, words}
-use Rattle.nr_store.specs.declared.refusal.Refusal.{Refusal as Kept}
-use Rattle.nr_store.specs.declared.refusal.Refusal.TheVariants as kept
-use Rattle.nr_reading.specs.declared.event.Event.{Event}
-use Rattle.nr_input.specs.Acting.{expanded_answer}
-use Rattle.nr_input.specs.Splicing.{Called, called, springing, springing_by, sprung_answer}
+use Rattle.nr_store.specs.Stored.{Stored, charge_of, entered, words}
+use Rattle.nr_input.specs.Refusals.{Called, called, answered, splicing_answer}
+use Rattle.nr_input.specs.Splicing.{springing, springing_text}
 use Rattle.nr_input.specs.declared.reader.Reader.{Reader}
 use Rattle.nr_input.specs.declared.refusal.Refusal.{Refusal}
 use Rattle.nr_formatter.specs.declared.formatter.Formatter.{Formatter}
@@ -31,26 +28,15 @@ judged-sprung f name w = judged_splice (sprung name f) (text_within f name (word
 
 -- ---- a name without text
 
-not_unsprung : (a : Result Event Refusal) → Ok false ≡ sprung_answer a → ⊥
-not_unsprung (Ok e) q = cc
-not_unsprung (Err x) q = cc
-
-not_checked : (stored deep : Bool) → (if stored then Err kept.Stored else (if deep then Err kept.Depth else Ok true)) ≡ Ok false → ⊥
-not_checked true deep q = cc
-not_checked false true q = cc
-not_checked false false q = cc
-
-unsprung_answer : {K : Type 0} (x : Result Bool Kept) (new v : Stored K) (r : Reader) → (x ≡ Ok false → ⊥) → Ok false ≡ (springing_by x new v r).answer → ⊥
-unsprung_answer (Ok true) new v r other q = not_unsprung (expanded_answer r) q
-unsprung_answer (Ok false) new v r other q = other refl
-unsprung_answer (Err e) new v r other q = cc
+not_unsprung : (x : Result (Unit {0}) Refusal) → Ok false ≡ answered x true → ⊥
+not_unsprung (Ok x) q = cc
+not_unsprung (Err e) q = cc
 
 unsprung_by : {K : Type 0} (name : List ℕ) (text : Option (List Element)) (mode : K) (v w : Stored K) (r s : Reader)
-    → called w s (Ok false) ≡ springing_by (checked (entered name text (Some mode) v) (is_some text)) (entered name text (Some mode) v) v r → text ≡ None
+    → called w s (Ok false) ≡ springing_text (is_some text) (entered name text (Some mode) v) v r → text ≡ None
 unsprung_by name None mode v w r s q = refl
 unsprung_by {K} name (Some text) mode v w r s q =
-    let x = checked (entered name (Some text) (Some mode) v) true in
-    absurd (unsprung_answer x (entered name (Some text) (Some mode) v) v r (not_checked _ _) (ap (λ (c : Called K (Result Bool Refusal)). c.answer) q))
+    absurd (not_unsprung (splicing_answer true (entered name (Some text) (Some mode) v) r) (ap (λ (c : Called K (Result Bool Refusal)). c.answer) q))
 
 pub unsprung : {K : Type 0} (name : List ℕ) (mode : K) (v w : Stored K) (r s : Reader)
     → called w s (Ok false) ≡ springing name mode v r → words (find name v.names) ≡ None

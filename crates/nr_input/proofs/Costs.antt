@@ -1,17 +1,11 @@
 -- What those who read events set, splice and spring is paid, or costs little.
-use Rattle.std.specs.Prelude.{nat_le, nat_lt, is_some, map}
+use Rattle.std.specs.Prelude.{is_some}
 use Rattle.std.proofs.Common.{◌≡◌, ℕ, ◌+◌, ◌-◌, ◌*◌, ◌<◌, ◌≤◌, Bool, true, false, if◌then◌else◌, List, [], length, Option, None, Some, Result, Ok, Err, refl, ap, ◌∙◌, arith}
-use Rattle.std.proofs.lemmas.Bool.{ltb-false, leb-false}
-use Rattle.std.proofs.lemmas.List.{length-map}
 use Rattle.nr_tables.specs.Named.{find}
-use Rattle.nr_store.specs.Stored.{Stored, checked, charge_of, begun, words, reading, shared_by, own_text, entered, reading_bytes}
+use Rattle.nr_store.specs.Stored.{Stored, begun, words, reading, shared_by, entered, reading_bytes}
 use Rattle.nr_store.specs.Laws.{named_weighs}
 use Rattle.nr_store.specs.declared.element.Element.{Element}
-use Rattle.nr_store.specs.declared.element.Element.TheVariants as elements
-use Rattle.nr_store.specs.declared.refusal.Refusal.TheVariants as stores
 use Rattle.nr_store.specs.declared.refusal.StoredBytes.{StoredBytes}
-use Rattle.nr_reading.specs.declared.event.Event.{Event}
-use Rattle.nr_reading.specs.declared.event.Event.TheVariants as events
 use Rattle.nr_reading.specs.declared.half.Half.{Half}
 use Rattle.nr_reading.specs.declared.mode.Due.{Due}
 use Rattle.nr_reading.specs.declared.mode.Due.TheVariants as dues
@@ -27,14 +21,15 @@ use Rattle.nr_reading.specs.Setting.{sprung, resumed, defining}
 use Rattle.nr_reading.specs.Weights.{weight_by, weight_of_mode, weight_of_backslash, weight_of_half, held_by_mode, blanks_owed}
 use Rattle.nr_input.specs.declared.reader.Reader.{Reader}
 use Rattle.nr_input.specs.declared.refusal.Refusal.{Refusal}
-use Rattle.nr_input.specs.declared.refusal.Refusal.TheVariants as refusals
 use Rattle.nr_input.specs.declared.splicing.Definition.{Definition}
 use Rattle.nr_input.specs.declared.splicing.Definition.TheVariants as definitions
-use Rattle.nr_input.specs.Acting.{Acted, acted, on_half, idle, then_due, splicing, splicing_bytes}
-use Rattle.nr_input.specs.Splicing.{Called, called, springing, springing_by, sprung_by, sprung_answer, base, base_answer, keeps, beginning, defining_lines}
+use Rattle.nr_input.specs.Acting.{on_half, idle, expanded}
+use Rattle.nr_input.specs.Refusals.{Called, called, splicing_answer}
+use Rattle.nr_input.specs.Splicing.{giving, springing, springing_text, base, base_answer, keeps, beginning, defining_lines}
 use Rattle.nr_input.specs.Weights.{CostsAtMost, Defines, Splices, Springs, expansions_worth}
 use Rattle.nr_input.proofs.Items.{expansions_worth-spent}
-use Rattle.nr_input.proofs.Spending.{Opens, opened, idle-le}
+use Rattle.nr_input.proofs.Refusals.{called-ok}
+use Rattle.nr_input.proofs.Spending.{Opens, opened, bytes_open, splicing-fits, idle-le}
 
 -- ---- modes that are set
 
@@ -107,87 +102,29 @@ splices v w r k opens few weighs =
     let worths = ap (λ n. expansions_worth r.most (r.burst + 1) n) opens.limit in
     record { limit = opens.limit; most = refl; pays = λ p. omega (arith, expansions_worth-spent r.most r.burst v.limit few) }
 
--- what comes of giving bytes, and of springing a text, by the tests that they meet
-abbrev reader_by : Bool → Reader → Reader
-reader_by full r = if full then then_due dues.Expanded r else record (idle r) { burst = r.burst + 1 }
-
-abbrev answer_by : Bool → Result Event Refusal
-answer_by full = if full then Err refusals.Expansions else Ok events.Nothing
-
-abbrev given_acted : {K : Type 0} → Bool → Bool → Bool → Stored K → Stored K → Reader → Acted K
-given_acted true deep full v n r = acted v r (Err refusals.Stored)
-given_acted false true full v n r = acted v r (Err refusals.Depth)
-given_acted false false full v n r = acted n (reader_by full r) (answer_by full)
-
-given_same : {K : Type 0} (charged deep : Bool) (v n : Stored K) (r : Reader)
-    → splicing (if charged then Err stores.Stored else (if deep then Err stores.Depth else Ok tt)) n v r ≡ given_acted charged deep (nat_le r.most r.burst) v n r
-given_same true deep v n r = refl
-given_same false true v n r = refl
-given_same false false v n r = refl
-
-abbrev spring_called : {K : Type 0} → Bool → Bool → Bool → Stored K → Stored K → Reader → Called K (Result Bool Refusal)
-spring_called true deep full v n r = called v r (Err refusals.Stored)
-spring_called false true full v n r = called v r (Err refusals.Depth)
-spring_called false false full v n r = called n (sprung_by (answer_by full) (reader_by full r)) (sprung_answer (answer_by full))
-
-spring_same : {K : Type 0} (charged deep : Bool) (v n : Stored K) (r : Reader)
-    → springing_by (if charged then Err stores.Stored else (if deep then Err stores.Depth else Ok true)) n v r ≡ spring_called charged deep (nat_le r.most r.burst) v n r
-spring_same true deep v n r = refl
-spring_same false true v n r = refl
-spring_same false false v n r = refl
-
 -- bytes that are given
-given_by : {K : Type 0} (charged deep full : Bool) (v n w : Stored K) (r s : Reader) (e : Event) → (charged ≡ false → Opens v n) → (full ≡ false → r.burst < r.most)
-    → acted w s (Ok e) ≡ given_acted charged deep full v n r → Splices v r w s
-given_by {K} true deep full v n w r s e opens few is = let answers = ap (λ (y : Acted K). y.answer) is in let wrong : ⊥ = cc in absurd wrong
-given_by {K} false true full v n w r s e opens few is = let answers = ap (λ (y : Acted K). y.answer) is in let wrong : ⊥ = cc in absurd wrong
-given_by {K} false false true v n w r s e opens few is = let answers = ap (λ (y : Acted K). y.answer) is in let wrong : ⊥ = cc in absurd wrong
-given_by {K} false false false v n w r s e opens few is =
-    let stored : w ≡ n = ap (λ (y : Acted K). y.stored) is in
-    let read : s ≡ record (idle r) { burst = r.burst + 1 } = ap (λ (y : Acted K). y.reader) is in
-    rw (stored, read) (splices v n r (idle r).half (opens refl) (few refl) (omega (arith, idle-le r.half.reading.due r.half.reading.mode r.half.reading.escape)))
-
-pub bytes_splice : {K : Type 0} (bytes : List ℕ) (v w : Stored K) (r s : Reader) (e : Event) → acted w s (Ok e) ≡ splicing_bytes bytes v r → Splices v r w s
-bytes_splice bytes v w r s e is =
+pub bytes_splice : {K : Type 0} (bytes : List ℕ) (v w : Stored K) (r s : Reader) → called w s (Ok tt) ≡ giving bytes v r → Splices v r w s
+bytes_splice bytes v w r s is =
     let n = reading_bytes bytes v in
-    given_by (nat_lt n.limit (charge_of n)) (nat_lt n.deepest (length n.levels)) (nat_le r.most r.burst) v n w r s e
-    (λ few. record {
-      items = opened (map elements.Byte bytes) v.arguments (32 + length bytes) None own_text v (omega (arith, length-map bytes elements.Byte)) (ltb-false n.limit (charge_of n) few);
-      limit = refl;
-    }) (leb-false r.most r.burst) (is ∙ given_same (nat_lt n.limit (charge_of n)) (nat_lt n.deepest (length n.levels)) v n r)
+    let leads = called-ok (splicing_answer true n r) n (expanded r) tt v w r s tt is in
+    let fits = splicing-fits n r leads.allowed in
+    rw (leads.stored, leads.reader) (splices v n r (idle r).half (bytes_open bytes v fits.charge) fits.burst (omega (arith, idle-le r.half.reading.due r.half.reading.mode r.half.reading.escape)))
 
 -- ---- springs
 
-spring_by : {K : Type 0} (charged deep full : Bool) (v n w : Stored K) (r s : Reader) (x : Result Bool Refusal) → (charged ≡ false → Opens v n) → (full ≡ false → r.burst < r.most)
-    → called w s x ≡ spring_called charged deep full v n r → Springs v r x w s
-spring_by {K} true deep full v n w r s x opens few is = let same : x ≡ Err refusals.Stored = ap (λ (y : Called K (Result Bool Refusal)). y.answer) is in rw same tt
-spring_by {K} false true full v n w r s x opens few is = let same : x ≡ Err refusals.Depth = ap (λ (y : Called K (Result Bool Refusal)). y.answer) is in rw same tt
-spring_by {K} false false true v n w r s x opens few is = let same : x ≡ Err refusals.Expansions = ap (λ (y : Called K (Result Bool Refusal)). y.answer) is in rw same tt
-spring_by {K} false false false v n w r s x opens few is =
-    let same : x ≡ Ok true = ap (λ (y : Called K (Result Bool Refusal)). y.answer) is in
-    let stored : w ≡ n = ap (λ (y : Called K (Result Bool Refusal)). y.stored) is in
-    let read : s ≡ on_half sprung (record (idle r) { burst = r.burst + 1 }) = ap (λ (y : Called K (Result Bool Refusal)). y.reader) is in
-    rw (same, stored, read) (splices v n r (sprung r.half) (opens refl) (few refl) (omega arith))
-
-none_springs : {K : Type 0} (charged deep : Bool) (v w : Stored K) (r s : Reader) (x : Result Bool Refusal)
-    → called w s x ≡ springing_by (if charged then Err stores.Stored else (if deep then Err stores.Depth else Ok false)) v v r → Springs v r x w s
-none_springs {K} true deep v w r s x is = let same : x ≡ Err refusals.Stored = ap (λ (y : Called K (Result Bool Refusal)). y.answer) is in rw same tt
-none_springs {K} false true v w r s x is = let same : x ≡ Err refusals.Depth = ap (λ (y : Called K (Result Bool Refusal)). y.answer) is in rw same tt
-none_springs {K} false false v w r s x is =
-    let same : x ≡ Ok false = ap (λ (y : Called K (Result Bool Refusal)). y.answer) is in
-    let stored : w ≡ v = ap (λ (y : Called K (Result Bool Refusal)). y.stored) is in
-    let read : s ≡ r = ap (λ (y : Called K (Result Bool Refusal)). y.reader) is in
-    rw same (stored, read)
-
-text_springs : {K : Type 0} (name : List ℕ) (text : Option (List Element)) (mode : K) (v w : Stored K) (r s : Reader) (x : Result Bool Refusal) → words (find name v.names) ≡ text
-    → called w s x ≡ springing_by (checked (entered name text (Some mode) v) (is_some text)) (entered name text (Some mode) v) v r → Springs v r x w s
-text_springs name None mode v w r s x found is = none_springs (nat_lt v.limit (charge_of v)) (nat_lt v.deepest (length v.levels)) v w r s x is
-text_springs name (Some text) mode v w r s x found is =
+text_springs : {K : Type 0} (name : List ℕ) (text : Option (List Element)) (mode : K) (v w : Stored K) (r s : Reader) (b : Bool) → words (find name v.names) ≡ text
+    → called w s (Ok b) ≡ springing_text (is_some text) (entered name text (Some mode) v) v r → Springs v r (Ok b) w s
+text_springs name None mode v w r s b found is =
+    let leads = called-ok (splicing_answer false v r) v r false v w r s b is in rw leads.answer (leads.stored, leads.reader)
+text_springs name (Some text) mode v w r s b found is =
     let n = reading text [] 16 (Some mode) (shared_by name text v.texts) v in
+    let leads = called-ok (splicing_answer true n r) n (on_half sprung (expanded r)) true v w r s b is in
+    let fits = splicing-fits n r leads.allowed in
     let held = named_weighs name text v.names found in
-    spring_by (nat_lt n.limit (charge_of n)) (nat_lt n.deepest (length n.levels)) (nat_le r.most r.burst) v n w r s x
-    (λ few. record { items = opened text [] 16 (Some mode) (shared_by name text v.texts) v (omega (arith, held)) (ltb-false n.limit (charge_of n) few); limit = refl }) (leb-false r.most r.burst) (is ∙ spring_same (nat_lt n.limit (charge_of n)) (nat_lt n.deepest (length n.levels)) v n r)
+    let opens : Opens v n = record { items = opened text [] 16 (Some mode) (shared_by name text v.texts) v (omega (arith, held)) fits.charge; limit = refl } in
+    rw (leads.answer, leads.stored, leads.reader) (splices v n r (sprung r.half) opens fits.burst (omega arith))
 
 pub springing_springs : {K : Type 0} (name : List ℕ) (mode : K) (v w : Stored K) (r s : Reader) (x : Result Bool Refusal)
     → called w s x ≡ springing name mode v r → Springs v r x w s
-springing_springs name mode v w r s x is = text_springs name (words (find name v.names)) mode v w r s x refl is
+springing_springs name mode v w r s (Ok b) is = text_springs name (words (find name v.names)) mode v w r s b refl is
+springing_springs name mode v w r s (Err e) is = tt

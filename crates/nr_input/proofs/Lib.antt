@@ -1,4 +1,6 @@
+mod Due
 mod Hearing
+mod Refusals
 pub mod Costs
 pub mod Items
 pub mod Longest

@@ -1,10 +1,9 @@
 -- Bytes that are added one by one to what is stored, as moves of the machine that reads.
 use Rattle.std.specs.Prelude.{slice_get}
-use Rattle.std.proofs.Common.{◌≡◌, ℕ, zero, suc, ◌+◌, ◌*◌, ◌<◌, ◌≤◌, true, false, List, length, Option, Some, Ok, IsOk, Result, inl, inr, refl, ap, sym, ◌∙◌, subst, arith}
+use Rattle.std.proofs.Common.{◌≡◌, ℕ, zero, suc, ◌+◌, ◌*◌, ◌<◌, ◌≤◌, true, false, List, length, Option, Some, inl, inr, refl, ap, sym, ◌∙◌, subst, arith}
 use Rattle.std.proofs.lemmas.Bool.{cases_lt, cond-false, le-ltb}
 use Rattle.nr_units.specs.Supply.{Supply}
-use Rattle.nr_store.specs.Stored.{Stored, charge_of, afforded}
-use Rattle.nr_store.specs.declared.refusal.StoredBytes.{StoredBytes}
+use Rattle.nr_store.specs.Stored.{Stored, charge_of}
 use Rattle.nr_reading.specs.declared.event.Event.TheVariants as events
 use Rattle.nr_reading.specs.declared.front.Front.{Front}
 use Rattle.nr_reading.specs.declared.front.Front.TheVariants as fronts
@@ -15,9 +14,10 @@ use Rattle.nr_reading.specs.Meeting.{Met, meet}
 use Rattle.nr_reading.specs.Runs.{Spot, MayGoOn, behind, behind_met}
 use Rattle.nr_input.specs.declared.reader.Reader.{Reader}
 use Rattle.nr_input.specs.declared.told.Told.TheVariants as tells
-use Rattle.nr_input.specs.Acting.{Acted, act, storing, is_look, next, then_due, idle}
+use Rattle.nr_input.specs.Acting.{Acted, act, done, is_look, next, then_due, idle}
+use Rattle.nr_input.specs.Refusals.{answer, storing_by, storing_answer}
 use Rattle.nr_input.specs.Coming.{Coming, Reached}
-use Rattle.nr_input.specs.Moving.{Situation, Move, Stands, situation, move, told_by, acting, Goes, GoesBy}
+use Rattle.nr_input.specs.Moving.{Situation, Move, Stands, situation, move, Goes, GoesBy}
 use Rattle.nr_input.specs.Runs.{HasRead, moves, told_last}
 use Rattle.nr_input.proofs.Rows.{Goings}
 
@@ -65,13 +65,11 @@ has_read_quietly n s t v r q supply all stands = record {
 
 -- ---- a byte that is to be added
 
-storing_ok : {K : Type 0} (a : Result (Unit {0}) StoredBytes) (w : Stored K) (r : Reader) (v : Stored K) (q : Reader) → a ≡ Ok tt → storing a w r v q ≡ storing (Ok tt) w r v q
-storing_ok a w r v q is = ap (λ x. storing x w r v q) is
-
 -- what is due adds to what is stored, and that is within the limit
 pub record Adds {K : Type 0} (d : Due) (w w' : Stored K) : Type 0 where
   pub waits : is_look d ≡ false
-  pub acts : (r : Reader) → act d w (then_due d r) ≡ storing (afforded w' tt) w' (idle (then_due d r)) w (then_due d r)
+  pub acts : (r : Reader) → act d w (then_due d r) ≡ done events.Nothing w' (idle (then_due d r))
+  pub answers : (r : Reader) → answer d w (then_due d r) ≡ storing_answer w'
   pub fits : charge_of w' ≤ w'.limit
 
 module _ {K : Type 0} (d : Due) (w w' : Stored K) (c : Coming) (r : Reader) (adds : Adds d w w') where
@@ -79,16 +77,15 @@ module _ {K : Type 0} (d : Due) (w w' : Stored K) (c : Coming) (r : Reader) (add
   abbrev pub before_put : Situation K
   before_put = situation w c (then_due d r)
 
-  acts : acting before_put ≡ storing (Ok tt) w' (idle (then_due d r)) w (then_due d r)
-  acts = adds.acts r ∙ storing_ok (afforded w' tt) w' (idle (then_due d r)) w (then_due d r) (cond-false _ _ _ (le-ltb w'.limit (charge_of w') adds.fits))
-
   pub goes_put : Goes before_put
-  goes_put = subst (λ l. GoesBy l before_put) (sym adds.waits) (subst (λ (a : Acted K). IsOk a.answer) (sym acts) refl)
+  goes_put =
+      subst (λ l. GoesBy l before_put) (sym adds.waits)
+      (adds.answers r ∙ ap storing_by (cond-false _ _ _ (le-ltb w'.limit (charge_of w') adds.fits)))
 
   pub move-put : r.half.reading.due ≡ dues.Look → move before_put ≡ quiet (situation w' c r)
   move-put due =
       cond-false (is_look d) _ _ adds.waits
-      ∙ ap (λ (a : Acted K). record { situation = situation a.stored c a.reader; told = told_by a.answer }) acts
+      ∙ ap (λ (a : Acted K). record { situation = situation a.stored c a.reader; told = tells.Event a.event }) (adds.acts r)
       ∙ ap (λ (x : Due). quiet (situation w' c (then_due x r))) (sym due)
 
 -- ---- each byte is taken and added

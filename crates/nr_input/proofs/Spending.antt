@@ -1,7 +1,7 @@
 -- What is due is paid when it is done.
 use Rattle.std.specs.Prelude.{nat_le, nat_lt, is_some, map, drop, slice_get, slice_index, sum_by}
 use Rattle.std.specs.Option.{option_and_then}
-use Rattle.std.proofs.Common.{◌≡◌, ℕ, ◌+◌, ◌-◌, ◌*◌, ◌<◌, ◌≤◌, Bool, true, false, if◌then◌else◌, List, [], ◌∷◌, length, Option, None, Some, Result, Ok, Err, refl, ap, sym, subst, arith}
+use Rattle.std.proofs.Common.{◌≡◌, ℕ, ◌+◌, ◌-◌, ◌*◌, ◌<◌, ◌≤◌, Bool, true, false, if◌then◌else◌, List, [], ◌∷◌, length, Option, None, Some, Result, Ok, Err, refl, ap, sym, ◌∙◌, subst, arith}
 use Rattle.std.proofs.lemmas.Bool.{ltb-false, ltb-true, leb-false, leb-true}
 use Rattle.std.proofs.lemmas.List.{length-map}
 use Rattle.std.proofs.lemmas.List.Sums.{sum_by-cons}
@@ -9,7 +9,7 @@ use Rattle.nr_tables.specs.Named.{Named, find}
 use Rattle.nr_store.specs.Laws.{named_weighs}
 use Rattle.nr_levels.specs.Gathered.{bytes_in}
 use Rattle.nr_levels.specs.Levels.{argument}
-use Rattle.nr_store.specs.Stored.{Stored, Level, Read, Built, Shared, Means, weight, weight_of, own_text, shared_by, afforded, checked, charge_of, level_charge, begun, text_of, added, defined, named_newest, words, reading, entered, called, reading_bytes, gathering, gathered_whole, ungathered, register_of, stepped, written, gone_on}
+use Rattle.nr_store.specs.Stored.{Stored, Level, Read, Built, Shared, Means, weight, weight_of, own_text, shared_by, afforded, checked, charge_of, level_charge, begun, text_of, added, defined, named_newest, words, reading, entered, called as called_text, reading_bytes, gathering, gathered_whole, ungathered, register_of, stepped, written, gone_on}
 use Rattle.nr_store.specs.declared.element.Element.{Element}
 use Rattle.nr_store.specs.declared.element.Element.TheVariants as elements
 use Rattle.nr_store.specs.declared.named.Meaning.{Meaning}
@@ -40,11 +40,13 @@ use Rattle.nr_input.specs.declared.reader.Reader.{Reader}
 use Rattle.nr_input.specs.declared.refusal.Refusal.{Refusal}
 use Rattle.nr_input.specs.declared.refusal.Refusal.TheVariants as refusals
 use Rattle.nr_input.specs.declared.told.Told.TheVariants as tells
-use Rattle.nr_input.specs.Acting.{Acted, acted, done, then_due, idle, storing, expanding, splicing, splicing_text, name_in, base_of, behind_held, naming, splicing_bytes, register_text, calls_of, request_of, meaning_in, behind_meaning, act}
+use Rattle.nr_input.specs.Acting.{Acted, done, then_due, idle, splicing, name_in, base_of, behind_held, naming, splicing_bytes, register_text, calls_of, request_of, meaning_in, behind_meaning, act}
+use Rattle.nr_input.specs.Refusals.{answer, splicing_by, splicing_answer, called, acted}
 use Rattle.nr_input.specs.Coming.{Reached}
 use Rattle.nr_input.specs.Laws.{weight_of_mode-le, weight_of_backslash-le}
 use Rattle.nr_input.specs.Weights.{IfLead, Pays, risen, items_in, items_left, expansions_worth}
 use Rattle.nr_input.proofs.Items.{expansions_worth-spent}
+use Rattle.nr_input.proofs.Refusals.{acted-ok}
 
 -- ---- what is half read, with nothing due
 
@@ -65,30 +67,18 @@ record Keeps {K : Type 0} (v w : Stored K) : Type 0 where
   pub levels : w.levels ≡ v.levels
   pub limit : w.limit ≡ v.limit
 
--- what is due was done, or not
-record Spends {K : Type 0} (v : Stored K) (p : Reached) (r : Reader) (a : Acted K) : Type 0 where
-  pub pays : (e : Event) → a.answer ≡ Ok e → Pays v p r (tells.Event e) a.stored p a.reader
-
-none_made : {K : Type 0} (v : Stored K) (p : Reached) (r : Reader) (x : Refusal) (w : Stored K) (s : Reader) → Spends v p r (acted w s (Err x))
-none_made v p r x w s = record { pays = λ e is. let wrong : ⊥ = cc in absurd wrong }
+-- what is due is paid
+abbrev Spends : {K : Type 0} → Stored K → Reached → Reader → Acted K → Type 0
+Spends v p r a = Pays v p r (tells.Event a.event) a.stored p a.reader
 
 -- another half is read, and what is stored keeps its levels
-kept_pays : {K : Type 0} (v w : Stored K) (p : Reached) (r : Reader) (k : Half) (q : Request) (e : Event) → Keeps v w
-    → weight_of_half k + cost_of_event e + 178 * risen r.half k ≤ weight_of_half r.half → IfLead {K = K} (tells.Event e) (blanks_owed k + 1 ≡ blanks_owed r.half)
-    → Pays v p r (tells.Event e) w p (record { half = k; request = q; burst = r.burst; most = r.most })
-kept_pays v w p r k q e keeps weighs lead =
-    let items = ap items_left keeps.levels in
-    let worths = ap (λ n. expansions_worth r.most r.burst n) keeps.limit in
-    record { limit = keeps.limit; most = refl; pays = λ worth enough. omega arith; lead = lead }
-
 kept : {K : Type 0} (v w : Stored K) (p : Reached) (r : Reader) (k : Half) (q : Request) (e : Event) → Keeps v w
     → weight_of_half k + cost_of_event e + 178 * risen r.half k ≤ weight_of_half r.half → IfLead {K = K} (tells.Event e) (blanks_owed k + 1 ≡ blanks_owed r.half)
     → Spends v p r (done e w (record { half = k; request = q; burst = r.burst; most = r.most }))
-kept {K} v w p r k q e keeps weighs lead = record {
-  pays = λ x is.
-      let same : e ≡ x = cc in
-      subst (λ (y : Event). Pays v p r (tells.Event y) w p (record { half = k; request = q; burst = r.burst; most = r.most })) same (kept_pays v w p r k q e keeps weighs lead);
-}
+kept v w p r k q e keeps weighs lead =
+    let items = ap items_left keeps.levels in
+    let worths = ap (λ n. expansions_worth r.most r.burst n) keeps.limit in
+    record { limit = keeps.limit; most = refl; pays = λ worth enough. omega arith; lead = lead }
 
 -- ---- splices
 
@@ -97,23 +87,13 @@ pub record Opens {K : Type 0} (v w : Stored K) : Type 0 where
   pub items : items_left w.levels + 13 ≤ items_left v.levels + v.limit
   pub limit : w.limit ≡ v.limit
 
--- the next one is counted, if it may come
-expanding_by : {K : Type 0} (full : Bool) (v w : Stored K) (p : Reached) (d : Due) (r : Reader) → Opens v w → (full ≡ false → r.burst < r.most)
-    → Spends v p (then_due d r) (acted w (if full then then_due dues.Expanded (then_due d r) else record (idle (then_due d r)) { burst = r.burst + 1 }) (if full then Err refusals.Expansions else Ok events.Nothing))
-expanding_by true v w p d r opens few = none_made v p (then_due d r) refusals.Expansions w (then_due dues.Expanded (then_due d r))
-expanding_by {K} false v w p d r opens few = record {
-  pays = λ e is.
-      let same : events.Nothing ≡ e = cc in
-      let items = opens.items in
-      let spent = expansions_worth-spent r.most r.burst v.limit (few refl) in
-      let worths = ap (λ n. expansions_worth r.most (r.burst + 1) n) opens.limit in
-      let one : Pays {K = K} v p (then_due d r) (tells.Event events.Nothing) w p (record (idle (then_due d r)) { burst = r.burst + 1 }) =
-      record { limit = opens.limit; most = refl; pays = λ worth enough. omega (arith, idle-le d r.half.reading.mode r.half.reading.escape); lead = tt } in
-      subst (λ (y : Event). Pays {K = K} v p (then_due d r) (tells.Event y) w p (record (idle (then_due d r)) { burst = r.burst + 1 })) same one;
-}
-
-expanding_spends : {K : Type 0} (v w : Stored K) (p : Reached) (d : Due) (r : Reader) → Opens v w → Spends v p (then_due d r) (expanding w (then_due d r))
-expanding_spends v w p d r opens = expanding_by (nat_le r.most r.burst) v w p d r opens (leb-false r.most r.burst)
+-- it is counted
+splice_spends : {K : Type 0} (v w : Stored K) (p : Reached) (d : Due) (r : Reader) → Opens v w → r.burst < r.most → Spends v p (then_due d r) (splicing true w (then_due d r))
+splice_spends v w p d r opens few =
+    let items = opens.items in
+    let spent = expansions_worth-spent r.most r.burst v.limit few in
+    let worths = ap (λ n. expansions_worth r.most (r.burst + 1) n) opens.limit in
+    record { limit = opens.limit; most = refl; pays = λ worth enough. omega (arith, idle-le d r.half.reading.mode r.half.reading.escape); lead = tt }
 
 -- a text that is charged, with its level or under a name, is shorter than all that may be stored
 pub opened : {K : Type 0} (text : List Element) (arguments : List (List ℕ)) (charge : ℕ) (resume : Option K) (t : Shared) (v : Stored K) → length text + 16 ≤ charge + sum_by (λ (n : Named Means). weight_of n.value) v.names
@@ -125,71 +105,85 @@ opened {K} text arguments charge (Some mode) t v long afforded =
     let level : Level K = Read (record { rest = text; old = v.arguments; charge = charge; resume = Some mode }) in
     omega (arith, sum_by-cons items_in level v.levels, sum_by-cons level_charge level v.levels)
 
--- a splice that is checked
-splicing_by : {K : Type 0} (charged deep : Bool) (v w : Stored K) (p : Reached) (d : Due) (r : Reader) → (charged ≡ false → Opens v w)
-    → Spends v p (then_due d r) (splicing (if charged then Err stores.Stored else (if deep then Err stores.Depth else Ok tt)) w v (then_due d r))
-splicing_by true deep v w p d r opens = none_made v p (then_due d r) refusals.Stored v (then_due d r)
-splicing_by false true v w p d r opens = none_made v p (then_due d r) refusals.Depth v (then_due d r)
-splicing_by false false v w p d r opens = expanding_spends v w p d r (opens refl)
+pub bytes_open : {K : Type 0} (bytes : List ℕ) (v : Stored K) → let w = reading_bytes bytes v in charge_of w ≤ w.limit → Opens v w
+bytes_open bytes v afforded = record {
+  items = opened (map elements.Byte bytes) v.arguments (32 + length bytes) None own_text v (omega (arith, length-map bytes elements.Byte)) afforded;
+  limit = refl;
+}
 
-splicing_text_by : {K : Type 0} (charged deep : Bool) (v w : Stored K) (p : Reached) (d : Due) (r : Reader) → (charged ≡ false → Opens v w)
-    → Spends v p (then_due d r) (splicing_text (if charged then Err stores.Stored else (if deep then Err stores.Depth else Ok true)) w v (then_due d r))
-splicing_text_by true deep v w p d r opens = none_made v p (then_due d r) refusals.Stored v (then_due d r)
-splicing_text_by false true v w p d r opens = none_made v p (then_due d r) refusals.Depth v (then_due d r)
-splicing_text_by false false v w p d r opens = expanding_spends v w p d r (opens refl)
+-- what a splice that is allowed keeps within
+pub record Fits {K : Type 0} (w : Stored K) (r : Reader) : Type 0 where
+  pub charge : charge_of w ≤ w.limit
+  pub burst : r.burst < r.most
+
+-- whether it is allowed, by the tests that it meets
+abbrev allowed_by : Bool → Bool → Bool → Result (Unit {0}) Refusal
+allowed_by charged deep full = if charged then Err refusals.Stored else (if deep then Err refusals.Depth else (if full then Err refusals.Expansions else Ok tt))
+
+fits_by : {K : Type 0} (charged deep full : Bool) (w : Stored K) (r : Reader) → (charged ≡ false → charge_of w ≤ w.limit) → (full ≡ false → r.burst < r.most)
+    → allowed_by charged deep full ≡ Ok tt → Fits w r
+fits_by true deep full w r charge burst ok = cc
+fits_by false true full w r charge burst ok = cc
+fits_by false false true w r charge burst ok = cc
+fits_by false false false w r charge burst ok = record { charge = charge refl; burst = burst refl }
+
+splicing_same : (charged deep : Bool) (r : Reader)
+    → splicing_by (if charged then Err stores.Stored else (if deep then Err stores.Depth else Ok true)) r ≡ allowed_by charged deep (nat_le r.most r.burst)
+splicing_same true deep r = refl
+splicing_same false true r = refl
+splicing_same false false r = refl
+
+pub splicing-fits : {K : Type 0} (w : Stored K) (r : Reader) → splicing_answer true w r ≡ Ok tt → Fits w r
+splicing-fits w r ok =
+    let charged = nat_lt w.limit (charge_of w) in
+    let deep = nat_lt w.deepest (length w.levels) in
+    fits_by charged deep (nat_le r.most r.burst) w r (ltb-false w.limit (charge_of w)) (leb-false r.most r.burst) (sym (splicing_same charged deep r) ∙ ok)
 
 -- nothing is spliced
-unspliced_by : {K : Type 0} (charged deep : Bool) (v w : Stored K) (p : Reached) (d : Due) (r : Reader) → Keeps v w
+unspliced : {K : Type 0} (v w : Stored K) (p : Reached) (d : Due) (r : Reader) → Keeps v w
     → weight_by dues.Look r.half.reading.mode r.half.reading.escape + 1 ≤ weight_by d r.half.reading.mode r.half.reading.escape
-    → Spends v p (then_due d r) (splicing_text (if charged then Err stores.Stored else (if deep then Err stores.Depth else Ok false)) w v (then_due d r))
-unspliced_by true deep v w p d r keeps less = none_made v p (then_due d r) refusals.Stored v (then_due d r)
-unspliced_by false true v w p d r keeps less = none_made v p (then_due d r) refusals.Depth v (then_due d r)
-unspliced_by false false v w p d r keeps less = kept v w p (then_due d r) (idle (then_due d r)).half r.request events.Nothing keeps (omega arith) tt
+    → Spends v p (then_due d r) (splicing false w (then_due d r))
+unspliced v w p d r keeps less = kept v w p (then_due d r) (idle (then_due d r)).half r.request events.Nothing keeps (omega arith) tt
 
 -- the text of a name, or none
 name_spends : {K : Type 0} (name : List ℕ) (text : Option (List Element)) (v : Stored K) (p : Reached) (d : Due) (r : Reader) → words (find name v.names) ≡ text
     → weight_by dues.Look r.half.reading.mode r.half.reading.escape + 1 ≤ weight_by d r.half.reading.mode r.half.reading.escape
-    → Spends v p (then_due d r) (splicing_text (checked (entered name text None v) (is_some text)) (entered name text None v) v (then_due d r))
-name_spends name None v p d r is less =
-    unspliced_by (nat_lt v.limit (charge_of v)) (nat_lt v.deepest (length v.levels)) v v p d r (record { levels = refl; limit = refl }) less
-name_spends name (Some text) v p d r is less =
+    → let w = entered name text None v in splicing_answer (is_some text) w (then_due d r) ≡ Ok tt → Spends v p (then_due d r) (splicing (is_some text) w (then_due d r))
+name_spends name None v p d r is less ok = unspliced v v p d r (record { levels = refl; limit = refl }) less
+name_spends name (Some text) v p d r is less ok =
     let w = reading text [] 16 None (shared_by name text v.texts) v in
     let held = named_weighs name text v.names is in
-    splicing_text_by (nat_lt w.limit (charge_of w)) (nat_lt w.deepest (length w.levels)) v w p d r
-    (λ few. record { items = opened text [] 16 None (shared_by name text v.texts) v (omega (arith, held)) (ltb-false w.limit (charge_of w) few); limit = refl })
+    let fits = splicing-fits w (then_due d r) ok in
+    splice_spends v w p d r (record { items = opened text [] 16 None (shared_by name text v.texts) v (omega (arith, held)) fits.charge; limit = refl }) fits.burst
+
+called_items : {K : Type 0} (name : List ℕ) (text : List Element) (v : Stored K) → weight text ≤ sum_by (λ (n : Named Means). weight_of n.value) v.names
+    → let w = called_text name (Some text) v in charge_of w ≤ w.limit → items_left w.levels + 13 ≤ items_left v.levels + v.limit
+called_items {K} name text v held afforded =
+    let level : Level K = Read (record { rest = text; old = v.arguments; charge = 16 + bytes_in v.gathered.kept; resume = None }) in
+    omega (arith, held, sum_by-cons items_in level v.levels, sum_by-cons level_charge level v.levels)
 
 call_spends : {K : Type 0} (name : List ℕ) (text : Option (List Element)) (v : Stored K) (p : Reached) (d : Due) (r : Reader) → words (find name v.names) ≡ text
     → weight_by dues.Look r.half.reading.mode r.half.reading.escape + 1 ≤ weight_by d r.half.reading.mode r.half.reading.escape
-    → Spends v p (then_due d r) (splicing_text (checked (called name text v) (is_some text)) (called name text v) v (then_due d r))
-call_spends name None v p d r is less =
-    let w = ungathered v in
-    unspliced_by (nat_lt w.limit (charge_of w)) (nat_lt w.deepest (length w.levels)) v w p d r (record { levels = refl; limit = refl }) less
-call_spends {K} name (Some text) v p d r is less =
-    let w = called name (Some text) v in
-    splicing_text_by (nat_lt w.limit (charge_of w)) (nat_lt w.deepest (length w.levels)) v w p d r
-    (λ few. record { items = called_items text v (named_weighs name text v.names is) (ltb-false w.limit (charge_of w) few); limit = refl })
-  where
-    called_items : (text : List Element) (v : Stored K) → weight text ≤ sum_by (λ (n : Named Means). weight_of n.value) v.names → let w = called name (Some text) v in charge_of w ≤ w.limit → items_left w.levels + 13 ≤ items_left v.levels + v.limit
-    called_items text v held afforded =
-        let level : Level K = Read (record { rest = text; old = v.arguments; charge = 16 + bytes_in v.gathered.kept; resume = None }) in
-        omega (arith, held, sum_by-cons items_in level v.levels, sum_by-cons level_charge level v.levels)
+    → let w = called_text name text v in splicing_answer (is_some text) w (then_due d r) ≡ Ok tt → Spends v p (then_due d r) (splicing (is_some text) w (then_due d r))
+call_spends name None v p d r is less ok = unspliced v (ungathered v) p d r (record { levels = refl; limit = refl }) less
+call_spends name (Some text) v p d r is less ok =
+    let w = called_text name (Some text) v in
+    let fits = splicing-fits w (then_due d r) ok in
+    splice_spends v w p d r (record { items = called_items name text v (named_weighs name text v.names is) fits.charge; limit = refl }) fits.burst
 
-bytes_spend : {K : Type 0} (bytes : List ℕ) (v : Stored K) (p : Reached) (d : Due) (r : Reader) → Spends v p (then_due d r) (splicing_bytes bytes v (then_due d r))
-bytes_spend bytes v p d r =
+bytes_spend : {K : Type 0} (bytes : List ℕ) (v : Stored K) (p : Reached) (d : Due) (r : Reader)
+    → splicing_answer true (reading_bytes bytes v) (then_due d r) ≡ Ok tt → Spends v p (then_due d r) (splicing_bytes bytes v (then_due d r))
+bytes_spend bytes v p d r ok =
     let w = reading_bytes bytes v in
-    splicing_by (nat_lt w.limit (charge_of w)) (nat_lt w.deepest (length w.levels)) v w p d r
-    (λ few. record {
-      items = opened (map elements.Byte bytes) v.arguments (32 + length bytes) None own_text v (omega (arith, length-map bytes elements.Byte)) (ltb-false w.limit (charge_of w) few);
-      limit = refl;
-    })
+    let fits = splicing-fits w (then_due d r) ok in
+    splice_spends v w p d r (bytes_open bytes v fits.charge) fits.burst
 
 -- ---- what is added to what is stored
 
-storing_by : {K : Type 0} (x : Result (Unit {0}) StoredBytes) (v w : Stored K) (p : Reached) (d t : Due) (r : Reader) → Keeps v w
+stored_spends : {K : Type 0} (v w : Stored K) (p : Reached) (d t : Due) (r : Reader) → Keeps v w
     → weight_by t r.half.reading.mode r.half.reading.escape + 1 + 178 * blanks_of_due t ≤ weight_by d r.half.reading.mode r.half.reading.escape
-    → Spends v p (then_due d r) (storing x w (then_due t (then_due d r)) v (then_due d r))
-storing_by (Ok x) v w p d t r keeps less = kept v w p (then_due d r) (then_due t (then_due d r)).half r.request events.Nothing keeps (omega arith) tt
-storing_by (Err e) v w p d t r keeps less = none_made v p (then_due d r) refusals.Stored v (then_due d r)
+    → Spends v p (then_due d r) (done events.Nothing w (then_due t (then_due d r)))
+stored_spends v w p d t r keeps less = kept v w p (then_due d r) (then_due t (then_due d r)).half r.request events.Nothing keeps (omega arith) tt
 
 base_keeps : {K : Type 0} (appends : Bool) (name : List ℕ) (v : Stored K) → Keeps v (if appends then begun (text_of name v) None v else begun [] None v)
 base_keeps true name v = record { levels = refl; limit = refl }
@@ -283,42 +277,42 @@ lead_spends false n v p r one more =
 
 -- ---- all of it
 
-due_spends : {K : Type 0} (d : Due) (v : Stored K) (p : Reached) (r : Reader) → (d ≡ dues.Look → ⊥) → Spends v p (then_due d r) (act d v (then_due d r))
-due_spends dues.Look v p r some = absurd (some refl)
-due_spends dues.Begin v p r some =
-    storing_by (afforded (base_of r v) tt) v (base_of r v) p dues.Begin dues.Look r (base_keeps r.half.notes.defining.appends (name_in r) v) (omega arith)
-due_spends (dues.Add b) v p r some =
-    let w = added (elements.Byte b ∷ []) v in storing_by (afforded w tt) v w p (dues.Add b) dues.Look r (record { levels = refl; limit = refl }) (omega arith)
-due_spends (dues.Release held n b) v p r some =
+due_spends : {K : Type 0} (d : Due) (v : Stored K) (p : Reached) (r : Reader) → (d ≡ dues.Look → ⊥) → answer d v (then_due d r) ≡ Ok tt → Spends v p (then_due d r) (act d v (then_due d r))
+due_spends dues.Look v p r some ok = absurd (some refl)
+due_spends dues.Begin v p r some ok = stored_spends v (base_of r v) p dues.Begin dues.Look r (base_keeps r.half.notes.defining.appends (name_in r) v) (omega arith)
+due_spends (dues.Add b) v p r some ok = stored_spends v (added (elements.Byte b ∷ []) v) p (dues.Add b) dues.Look r (record { levels = refl; limit = refl }) (omega arith)
+due_spends (dues.Release held n b) v p r some ok =
     let w = added (elements.Byte (slice_index (last_line r.half.notes.defining) n) ∷ []) v in
-    storing_by (afforded w tt) v w p (dues.Release held n b) (behind_held held n b) r (record { levels = refl; limit = refl }) (release_weighs held n b r.half.reading.mode r.half.reading.escape)
-due_spends dues.Define v p r some =
+    stored_spends v w p (dues.Release held n b) (behind_held held n b) r (record { levels = refl; limit = refl }) (release_weighs held n b r.half.reading.mode r.half.reading.escape)
+due_spends dues.Define v p r some ok =
     kept v (naming r v) p (then_due dues.Define r) (idle r).half r.request events.Nothing (naming_keeps r.half.notes.defining.keeps (name_in r) v) (omega arith) tt
-due_spends dues.DefineAndCall v p r some =
+due_spends dues.DefineAndCall v p r some ok =
     definition_spends (is_empty r.half.notes.defining.ending) v (naming r v) p r (naming_keeps r.half.notes.defining.keeps (name_in r) v)
-due_spends dues.CallEnding v p r some = name_spends r.half.notes.defining.ending (words (find r.half.notes.defining.ending v.names)) v p dues.CallEnding r refl (omega arith)
-due_spends dues.Splice v p r some = name_spends r.half.notes.asked (words (find r.half.notes.asked v.names)) v p dues.Splice r refl (omega arith)
-due_spends (dues.Register signs.None) v p r some = bytes_spend (register_text (register_of (find r.half.notes.asked v.registers))) v p (dues.Register signs.None) r
-due_spends (dues.Register signs.Plus) v p r some =
+due_spends dues.CallEnding v p r some ok =
+    let name = r.half.notes.defining.ending in name_spends name (words (find name v.names)) v p dues.CallEnding r refl (omega arith) ok
+due_spends dues.Splice v p r some ok = let name = r.half.notes.asked in name_spends name (words (find name v.names)) v p dues.Splice r refl (omega arith) ok
+due_spends (dues.Register signs.None) v p r some ok = bytes_spend (register_text (register_of (find r.half.notes.asked v.registers))) v p (dues.Register signs.None) r ok
+due_spends (dues.Register signs.Plus) v p r some ok =
     kept v (stepped r.half.notes.asked true v) p (then_due (dues.Register signs.Plus) r) (then_due (dues.Register signs.None) r).half r.request events.Nothing
     (written_keeps (option_and_then (gone_on true) (find r.half.notes.asked v.registers)) r.half.notes.asked v) (omega arith) tt
-due_spends (dues.Register signs.Minus) v p r some =
+due_spends (dues.Register signs.Minus) v p r some ok =
     kept v (stepped r.half.notes.asked false v) p (then_due (dues.Register signs.Minus) r) (then_due (dues.Register signs.None) r).half r.request events.Nothing
     (written_keeps (option_and_then (gone_on false) (find r.half.notes.asked v.registers)) r.half.notes.asked v) (omega arith) tt
-due_spends (dues.Argument n) v p r some = bytes_spend (argument v.arguments n) v p (dues.Argument n) r
-due_spends (dues.Put b) v p r some =
-    storing_by (afforded (gathering b v) tt) v (gathering b v) p (dues.Put b) dues.Look r (record { levels = refl; limit = refl }) (omega arith)
-due_spends dues.EndArgument v p r some =
+due_spends (dues.Argument n) v p r some ok = bytes_spend (argument v.arguments n) v p (dues.Argument n) r ok
+due_spends (dues.Put b) v p r some ok = stored_spends v (gathering b v) p (dues.Put b) dues.Look r (record { levels = refl; limit = refl }) (omega arith)
+due_spends dues.EndArgument v p r some ok =
     kept v (gathered_whole v) p (then_due dues.EndArgument r) (idle r).half r.request events.Nothing (record { levels = refl; limit = refl }) (omega arith) tt
-due_spends dues.Call v p r some = call_spends (name_in r) (words (find (name_in r) v.names)) v p dues.Call r refl (omega arith)
-due_spends dues.Seek v p r some =
+due_spends dues.Call v p r some ok = let name = name_in r in call_spends name (words (find name v.names)) v p dues.Call r refl (omega arith) ok
+due_spends dues.Seek v p r some ok =
     let m = meaning_in v r in seeking_spends (calls_of m) v (behind_meaning m v) p r (request_of m r.request) (meaning_keeps m v)
-due_spends (dues.Judge b) v p r some =
+due_spends (dues.Judge b) v p r some ok =
     let h = (idle r).half in judged_by (answer_of b h.notes) b (remembering b h).notes b v p r
-due_spends (dues.Lead n) v p r some = lead_spends (nat_le n 1) n v p r (leb-true n 1) (leb-false n 1)
-due_spends dues.Expanded v p r some = none_made v p (then_due dues.Expanded r) refusals.Expansions v (then_due dues.Expanded r)
+due_spends (dues.Lead n) v p r some ok = lead_spends (nat_le n 1) n v p r (leb-true n 1) (leb-false n 1)
+due_spends dues.Expanded v p r some ok = cc
 
 pub act_pays : {K : Type 0} (v w : Stored K) (p : Reached) (r s : Reader) (e : Event) → (r.half.reading.due ≡ dues.Look → ⊥)
-    → acted w s (Ok e) ≡ act r.half.reading.due v r → Pays v p r (tells.Event e) w p s
+    → called w s (Ok e) ≡ acted r.half.reading.due v r → Pays v p r (tells.Event e) w p s
 act_pays {K} v w p r s e some is =
-    let q : Spends v p r (acted w s (Ok e)) = subst (λ (a : Acted K). Spends v p r a) (sym is) (due_spends r.half.reading.due v p r some) in q.pays e refl
+    let d = r.half.reading.due in
+    let done = acted-ok (answer d v r) (act d v r) v w r s e is in
+    subst (λ (a : Acted K). Pays v p r (tells.Event a.event) a.stored p a.reader) (sym done.1) (due_spends d v p r some done.0)

@@ -40,8 +40,8 @@ meet-plain Text b h is plain = meet-add b h is plain
 
 -- it is added where that is within the limit
 pub adds_byte : {K : Type 0} (t : Target) (b : ℕ) (w : Stored K) → charge_of (with_more t (b ∷ []) w) ≤ w.limit → Adds (due_for t b) w (with_more t (b ∷ []) w)
-adds_byte Argument b w fits = record { waits = refl; acts = λ r. refl; fits = fits }
-adds_byte Text b w fits = record { waits = refl; acts = λ r. refl; fits = fits }
+adds_byte Argument b w fits = record { waits = refl; acts = λ r. refl; answers = λ r. refl; fits = fits }
+adds_byte Text b w fits = record { waits = refl; acts = λ r. refl; answers = λ r. refl; fits = fits }
 
 -- ---- what stays as it was
 

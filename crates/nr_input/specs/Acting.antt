@@ -1,14 +1,12 @@
--- What a move does that is due.
-use Rattle.std.specs.Prelude.{ℕ, ◌+◌, ◌-◌, nat_le, nat_lt, Bool, true, false, if◌then◌else◌, List, [], ◌∷◌, slice_index, Option, None, Some, is_some, Result, Ok, Err}
+-- What a move does that is due, whatever limits it passes. Where it is refused is told in Refusals.
+use Rattle.std.specs.Prelude.{ℕ, ◌+◌, ◌-◌, nat_le, nat_lt, Bool, true, false, if◌then◌else◌, List, [], ◌∷◌, slice_index, Option, None, Some, is_some}
 use Rattle.nr_units.specs.NumberText.{number_text}
 use Rattle.nr_levels.specs.Levels.{argument}
 use Rattle.nr_tables.specs.Named.{find}
-use Rattle.nr_store.specs.Stored.{Stored, afforded, checked, begun, text_of, added, defined, words, entered, called, reading_bytes, gathering, gathered_whole, ungathered, register_of, stepped, meaning_of}
+use Rattle.nr_store.specs.Stored.{Stored, begun, text_of, added, defined, words, entered, called, reading_bytes, gathering, gathered_whole, ungathered, register_of, stepped, meaning_of}
 use Rattle.nr_store.specs.declared.element.Element.TheVariants as elements
 use Rattle.nr_store.specs.declared.named.Meaning.{Meaning}
 use Rattle.nr_store.specs.declared.named.Meaning.TheVariants as meanings
-use Rattle.nr_store.specs.declared.refusal.Refusal as stored
-use Rattle.nr_store.specs.declared.refusal.StoredBytes.{StoredBytes}
 use Rattle.nr_store.specs.declared.request.Request.{Request}
 use Rattle.nr_store.specs.declared.request.Request.TheVariants as requests
 use Rattle.nr_store.specs.declared.register.Register.{Register}
@@ -25,25 +23,15 @@ use Rattle.nr_reading.specs.Definitions.{last_line}
 use Rattle.nr_reading.specs.Seeking.{sought, sought_event}
 use Rattle.nr_reading.specs.Spelling.{name_of, is_empty}
 use Rattle.nr_input.specs.declared.reader.Reader.{Reader}
-use Rattle.nr_input.specs.declared.refusal.Refusal.{Refusal}
-use Rattle.nr_input.specs.declared.refusal.Refusal.TheVariants as refusals
-use Rattle.nr_input.specs.Refusals.{refusal_of}
 
--- what is stored and half read behind it, and what it tells, or why it isn't done
+-- what is stored and half read behind it, and what it tells
 pub record Acted (K : Type 0) : Type 0 where
   pub stored : Stored K
   pub reader : Reader
-  pub answer : Result Event Refusal
-
--- the same, as the program has it
-abbrev pub acted : {K : Type 0} → Stored K → Reader → Result Event Refusal → Acted K
-acted v r a = record { stored = v; reader = r; answer = a }
+  pub event : Event
 
 abbrev pub done : {K : Type 0} → Event → Stored K → Reader → Acted K
-done e v r = acted v r (Ok e)
-
-abbrev pub refused : {K : Type 0} → Refusal → Stored K → Reader → Acted K
-refused x v r = acted v r (Err x)
+done e v r = record { stored = v; reader = r; event = e }
 
 -- with this due next
 abbrev pub next : Due → Half → Half
@@ -58,34 +46,6 @@ then_due d r = on_half (next d) r
 abbrev pub idle : Reader → Reader
 idle r = then_due dues.Look r
 
--- ---- limits
-
--- what adds to what is stored; `new` and `behind` are what it leads to, v and r stay where it is refused
-abbrev pub storing : {K : Type 0} → Result (Unit {0}) StoredBytes → Stored K → Reader → Stored K → Reader → Acted K
-storing (Ok x) new behind v r = done events.Nothing new behind
-storing (Err e) new behind v r = refused refusals.Stored v r
-
--- a splice more since the last byte of the input was taken; above the limit the same is refused from then on
-abbrev pub expanded_answer : Reader → Result Event Refusal
-expanded_answer r = if nat_le r.most r.burst then Err refusals.Expansions else Ok events.Nothing
-
-abbrev pub expanded_reader : Reader → Reader
-expanded_reader r = if nat_le r.most r.burst then then_due dues.Expanded r else record (idle r) { burst = r.burst + 1 }
-
-abbrev pub expanding : {K : Type 0} → Stored K → Reader → Acted K
-expanding new r = acted new (expanded_reader r) (expanded_answer r)
-
--- what opens a level
-abbrev pub splicing : {K : Type 0} → Result (Unit {0}) stored.Refusal → Stored K → Stored K → Reader → Acted K
-splicing (Ok x) new v r = expanding new r
-splicing (Err e) new v r = refused (refusal_of e) v r
-
--- what opens a level if a name has a text: a name that is undefined or a request's splices nothing, and counts nothing
-abbrev pub splicing_text : {K : Type 0} → Result Bool stored.Refusal → Stored K → Stored K → Reader → Acted K
-splicing_text (Ok true) new v r = expanding new r
-splicing_text (Ok false) new v r = done events.Nothing new (idle r)
-splicing_text (Err e) new v r = refused (refusal_of e) v r
-
 -- ---- definitions
 
 -- the name that is read, or that a text is defined under
@@ -96,12 +56,8 @@ name_in r = name_of r.half.notes.name
 abbrev pub base_of : {K : Type 0} → Reader → Stored K → Stored K
 base_of r v = if r.half.notes.defining.appends then begun (text_of (name_in r) v) None v else begun [] None v
 
-abbrev pub act_begin : {K : Type 0} → Stored K → Reader → Acted K
-act_begin v r = storing (afforded (base_of r v) tt) (base_of r v) (idle r) v r
-
 abbrev pub adding_byte : {K : Type 0} → ℕ → Due → Stored K → Reader → Acted K
-adding_byte b d v r =
-    storing (afforded (added (elements.Byte b ∷ []) v) tt) (added (elements.Byte b ∷ []) v) (then_due d r) v r
+adding_byte b d v r = done events.Nothing (added (elements.Byte b ∷ []) v) (then_due d r)
 
 -- what is due behind a byte that was held back
 abbrev pub behind_held : ℕ → ℕ → Option ℕ → Due
@@ -120,21 +76,29 @@ behind_definition r = if is_empty r.half.notes.defining.ending then dues.Look el
 
 -- ---- splices
 
+-- whether a name has a text
+abbrev pub has_text : {K : Type 0} → List ℕ → Stored K → Bool
+has_text name v = is_some (words (find name v.names))
+
+-- a splice more since the last byte of the input was taken
+abbrev pub expanded : Reader → Reader
+expanded r = record (idle r) { burst = r.burst + 1 }
+
+-- A level is opened, or none: a name that is undefined or a request's splices nothing, and counts nothing.
+abbrev pub splicing : {K : Type 0} → Bool → Stored K → Reader → Acted K
+splicing is_text new r = done events.Nothing new (if is_text then expanded r else idle r)
+
 -- the text of a name, with no arguments in force
 abbrev pub splicing_name : {K : Type 0} → List ℕ → Stored K → Reader → Acted K
-splicing_name name v r =
-    splicing_text (checked (entered name (words (find name v.names)) None v) (is_some (words (find name v.names))))
-    (entered name (words (find name v.names)) None v) v r
+splicing_name name v r = splicing (has_text name v) (entered name (words (find name v.names)) None v) r
 
 -- a macro with the arguments that were read
 abbrev pub act_call : {K : Type 0} → Stored K → Reader → Acted K
-act_call v r =
-    splicing_text (checked (called (name_in r) (words (find (name_in r) v.names)) v) (is_some (words (find (name_in r) v.names))))
-    (called (name_in r) (words (find (name_in r) v.names)) v) v r
+act_call v r = splicing (has_text (name_in r) v) (called (name_in r) (words (find (name_in r) v.names)) v) r
 
 -- bytes, the arguments staying in force
 abbrev pub splicing_bytes : {K : Type 0} → List ℕ → Stored K → Reader → Acted K
-splicing_bytes bytes v r = splicing (checked (reading_bytes bytes v) tt) (reading_bytes bytes v) v r
+splicing_bytes bytes v r = splicing true (reading_bytes bytes v) r
 
 -- a register's value in its format; an undefined one has 0
 abbrev pub register_text : Register → List ℕ
@@ -184,7 +148,7 @@ behind_lead n = if nat_le n 1 then dues.Look else dues.Lead (n - 1)
 
 abbrev pub act : {K : Type 0} → Due → Stored K → Reader → Acted K
 act dues.Look v r = done events.Nothing v r
-act dues.Begin v r = act_begin v r
+act dues.Begin v r = done events.Nothing (base_of r v) (idle r)
 act (dues.Add b) v r = adding_byte b dues.Look v r
 act (dues.Release held n b) v r = act_release held n b v r
 act dues.Define v r = done events.Nothing (naming r v) (idle r)
@@ -197,13 +161,14 @@ act (dues.Register signs.Plus) v r = done events.Nothing (stepped r.half.notes.a
 act (dues.Register signs.Minus) v r = done events.Nothing (stepped r.half.notes.asked false v) (then_due (dues.Register signs.None) r)
 -- a missing argument is empty
 act (dues.Argument n) v r = splicing_bytes (argument v.arguments n) v r
-act (dues.Put b) v r = storing (afforded (gathering b v) tt) (gathering b v) (idle r) v r
+act (dues.Put b) v r = done events.Nothing (gathering b v) (idle r)
 act dues.EndArgument v r = done events.Nothing (gathered_whole v) (idle r)
 act dues.Call v r = act_call v r
 act dues.Seek v r = seeking (meaning_in v r) v r
 act (dues.Judge b) v r = done events.Nothing v (on_half (λ h. judged b (next dues.Look h)) r)
 act (dues.Lead n) v r = done events.Lead v (then_due (behind_lead n) r)
-act dues.Expanded v r = refused refusals.Expansions v r
+-- a splice was refused, and is from then on
+act dues.Expanded v r = done events.Nothing v r
 
 abbrev pub is_look : Due → Bool
 is_look dues.Look = true

@@ -14,15 +14,15 @@ use Rattle.nr_reading.specs.declared.mode.Escape.TheVariants as escapes
 use Rattle.nr_reading.specs.declared.mode.Mode.{Mode}
 use Rattle.nr_reading.specs.declared.mode.Mode.TheVariants as modes
 use Rattle.nr_input.specs.declared.place.Ahead.{Ahead}
-use Rattle.nr_store.specs.Stored.{Stored, afforded}
+use Rattle.nr_store.specs.Stored.{afforded}
 use Rattle.nr_store.specs.declared.refusal.StoredBytes.{StoredBytes}
 use Rattle.nr_input.specs.declared.reader.Reader.{Reader}
 use Rattle.nr_input.specs.declared.refusal.Refusal.{Refusal}
 use Rattle.nr_input.specs.declared.refusal.Refusal.TheVariants as refusals
-use Rattle.nr_input.specs.Acting.{act, storing, base_of, idle, is_look}
+use Rattle.nr_input.specs.Acting.{base_of, is_look}
 use Rattle.nr_input.specs.Coming.{is_read_fault, has_failed, fails_now}
 use Rattle.nr_input.specs.Moving.{Situation, RefusesBy, Refuses}
-use Rattle.nr_input.specs.Refusals.{uncounted_by, place_told}
+use Rattle.nr_input.specs.Refusals.{answer, storing_by, uncounted_by, place_told}
 use Rattle.nr_reading.specs.Weights.{weight_by, weight_of_escape, weight_of_backslash, weight_of_mode, weight_of_due, held_by_mode, weight_of_stage, weight_of_ask, weight_of_half}
 
 -- how many bytes of a definition's line are held back, or are still to be added
@@ -88,15 +88,15 @@ fails_now-going ahead r going = and_not (is_read_fault r) (has_failed ahead) goi
 -- ---- the place that is told
 
 -- a text that can't be stored is no read fault
-storing_told : {K : Type 0} (x : Result (Unit {0}) StoredBytes) (new : Stored K) (behind : Reader) (v : Stored K) (r : Reader) → (storing x new behind v r).answer ≡ Err refusals.ReadFault → ⊥
-storing_told (Ok x) new behind v r is = cc
-storing_told (Err e) new behind v r is = cc
+storing_told : (x : Result (Unit {0}) StoredBytes) → storing_by x ≡ Err refusals.ReadFault → ⊥
+storing_told (Ok x) is = cc
+storing_told (Err e) is = cc
 
 nothing_uncounted : {K : Type 0} (d : Due) (e : Escape) (burst : ℕ) (s : Situation K) → s.reader.half.reading.due ≡ d → Refuses s refusals.ReadFault → uncounted_by d e burst ≡ 0
 nothing_uncounted dues.Begin e burst s is h =
     let refused = subst (λ d. RefusesBy (is_look d) s refusals.ReadFault) is h in
-    let answered = sym (ap (λ d. (act d s.stored s.reader).answer) is) ∙ refused in
-    absurd (storing_told (afforded (base_of s.reader s.stored) tt) (base_of s.reader s.stored) (idle s.reader) s.stored s.reader answered)
+    let answered = sym (ap (λ d. answer d s.stored s.reader) is) ∙ refused in
+    absurd (storing_told (afforded (base_of s.reader s.stored) tt) answered)
 nothing_uncounted d e burst s is h = refl
 
 -- where the source fails, all bytes that were there count

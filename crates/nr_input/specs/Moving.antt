@@ -1,18 +1,18 @@
 -- The machine that reads: one small move after the other.
-use Rattle.std.specs.Prelude.{◌≡◌, ℕ, ◌==◌, Bool, true, false, if◌then◌else◌, Option, Result, Ok, Err, IsOk}
+use Rattle.std.specs.Prelude.{◌≡◌, ℕ, ◌==◌, Bool, true, false, if◌then◌else◌, Option, Result, Ok, Err}
 use Rattle.nr_units.specs.Supply.{Supply}
 use Rattle.nr_store.specs.Stored.{Stored, shown, left}
 use Rattle.nr_store.specs.declared.request.Request.TheVariants as requests
 use Rattle.nr_store.specs.declared.shown.Shown.{Shown}
 use Rattle.nr_store.specs.declared.shown.Shown.TheVariants as shows
 use Rattle.nr_reading.specs.declared.event.Event.{Event}
-use Rattle.nr_reading.specs.declared.event.Event.TheVariants as events
 use Rattle.nr_reading.specs.Meeting.{Met, meet, nothing_half}
 use Rattle.nr_input.specs.declared.reader.Reader.{Reader}
 use Rattle.nr_input.specs.declared.refusal.Refusal.{Refusal}
 use Rattle.nr_input.specs.declared.told.Told.{Told}
 use Rattle.nr_input.specs.declared.told.Told.TheVariants as tells
 use Rattle.nr_input.specs.Acting.{Acted, act, is_look}
+use Rattle.nr_input.specs.Refusals.{answer, stored_by, reader_by}
 use Rattle.nr_input.specs.Coming.{Coming, Reached, HoldsComing, front, behind, MayLook, RefusesLook}
 
 -- nothing was read, under a limit of so many splices
@@ -70,42 +70,42 @@ look s = met_at (meet (front (shown s.stored.levels) s.coming) s.reader.half) s
 abbrev pub acting : {K : Type 0} → Situation K → Acted K
 acting s = act s.reader.half.reading.due s.stored s.reader
 
-abbrev pub told_by : {K : Type 0} → Result Event Refusal → Told K
-told_by (Ok e) = tells.Event e
-told_by (Err r) = tells.Event events.Nothing
-
--- what is due was done
+-- it is done
 abbrev pub acted_at : {K : Type 0} → Situation K → Move K
-acted_at s = record { situation = situation (acting s).stored s.coming (acting s).reader; told = told_by (acting s).answer }
+acted_at s = record { situation = situation (acting s).stored s.coming (acting s).reader; told = tells.Event (acting s).event }
 
 -- ---- a move
 
 abbrev pub looks : {K : Type 0} → Situation K → Bool
 looks s = is_look s.reader.half.reading.due
 
--- one move
+-- one move, whatever limits it passes
 abbrev pub move : {K : Type 0} → Situation K → Move K
 move s = if looks s then look s else acted_at s
 
--- where it stays once a move was refused: the same is refused from then on
-abbrev pub stuck : {K : Type 0} → Situation K → Situation K
-stuck s = if looks s then s else (acted_at s).situation
-
 -- ---- which moves are made
+
+-- whether what is due is done, or why not
+abbrev pub answer_at : {K : Type 0} → Situation K → Result (Unit {0}) Refusal
+answer_at s = answer s.reader.half.reading.due s.stored s.reader
 
 abbrev pub GoesBy : {K : Type 0} → Bool → Situation K → Type 0
 GoesBy true s = MayLook (shown s.stored.levels) s.coming
-GoesBy false s = IsOk (acting s).answer
+GoesBy false s = answer_at s ≡ Ok tt
 
 abbrev pub Goes : {K : Type 0} → Situation K → Type 0
 Goes s = GoesBy (looks s) s
 
 abbrev pub RefusesBy : {K : Type 0} → Bool → Situation K → Refusal → Type 0
 RefusesBy true s r = RefusesLook (shown s.stored.levels) s.coming r
-RefusesBy false s r = (acting s).answer ≡ Err r
+RefusesBy false s r = answer_at s ≡ Err r
 
 abbrev pub Refuses : {K : Type 0} → Situation K → Refusal → Type 0
 Refuses s r = RefusesBy (looks s) s r
+
+-- where it stays once a move was refused so: the same is refused from then on
+abbrev pub stuck : {K : Type 0} → Refusal → Situation K → Situation K
+stuck r s = situation (stored_by (Err r) (acting s).stored s.stored) s.coming (reader_by (Err r) (acting s).reader s.reader)
 
 -- the program stands where the machine does
 pub record Stands {K : Type 0} (s : Situation K) (v : Stored K) (r : Reader) (p : Reached) (supply : Option Supply) : Type 0 where
@@ -116,4 +116,4 @@ pub record Stands {K : Type 0} (s : Situation K) (v : Stored K) (r : Reader) (p 
 -- a move was made, or why not
 abbrev pub AfterMove : {K : Type 0} → Situation K → Result (Told K) Refusal → Stored K → Reader → Reached → Option Supply → Type 0
 AfterMove s (Ok t) v r p supply = (t ≡ (move s).told) × Stands (move s).situation v r p supply × Goes s
-AfterMove s (Err e) v r p supply = Refuses s e × Stands (stuck s) v r p supply
+AfterMove s (Err e) v r p supply = Refuses s e × Stands (stuck e s) v r p supply

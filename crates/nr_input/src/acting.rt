@@ -72,17 +72,15 @@ fn behind_lead(count: u32) -> Due
 }
 
 impl Reader {
-    ghost use Rattle.std.specs.Prelude.{List, Result, Bool, None, is_some, true, false, Ok, Err};
-    ghost use Rattle.nr_levels.specs.Levels.{argument};
-    ghost use Rattle.nr_tables.specs.Named.{find};
-    ghost use Rattle.nr_store.specs.Stored.{Stored, words, entered, reading_bytes, checked, register_of, stepped};
-    ghost use Rattle.nr_reading.specs.Spelling.{name_of};
-    ghost use Rattle.nr_input.specs.Acting.{acted, done, expanded_reader, expanded_answer, splicing_name, splicing_bytes, register_text, name_in, base_of, naming, behind_definition, act_begin, adding_byte, act_release, act_call, meaning_in, behind_meaning, seeking, act, is_look, then_due, idle};
+    ghost use Rattle.std.specs.Prelude.{true, Ok};
+    ghost use Rattle.nr_store.specs.Stored.{stepped};
+    ghost use Rattle.nr_input.specs.Acting.{name_in, adding_byte, naming, behind_definition, has_text, expanded, splicing_name, splicing_bytes, meaning_in, is_look, then_due};
+    ghost use Rattle.nr_input.specs.Refusals.{expanding_answer, storing_answer, splicing_answer, called, reader_by, answered, acted_by, acted};
 
     /// The limit of splices is asked.
     pub(crate) fn expand(&mut self) -> Result<Event, Refusal>
-        ensures reader { self.new ≡ expanded_reader self.old }
-        ensures answer { result ≡ expanded_answer self.old }
+        ensures reader { self.new ≡ reader_by (expanding_answer self.old) (expanded self.old) self.old }
+        ensures answer { result ≡ answered (expanding_answer self.old) Event.Nothing }
     {
         if self.burst >= self.most {
             self.half.reading.due = Due::Expanded;
@@ -102,7 +100,7 @@ impl Reader {
 
     // A string's text begins.
     fn begin<K: Copy>(&mut self, store: &mut Store<'_, K>) -> Result<Event, Refusal>
-        ensures { acted store.new self.new result ≡ act_begin store.old self.old }
+        ensures { called store.new self.new result ≡ acted Due.Begin store.old self.old }
     {
         let begun = if self.half.notes.defining.appends {
             store.begin_from(self.name())
@@ -125,7 +123,8 @@ impl Reader {
         due: Due,
         store: &mut Store<'_, K>,
     ) -> Result<Event, Refusal>
-        ensures { acted store.new self.new result ≡ adding_byte byte due store.old self.old }
+        ensures { let a = adding_byte byte due store.old self.old in
+            called store.new self.new result ≡ acted_by (storing_answer a.stored) a store.old self.old }
     {
         match store.add(Element::Byte(byte)) {
             Ok(()) => {
@@ -144,7 +143,7 @@ impl Reader {
         then: Option<u8>,
         store: &mut Store<'_, K>,
     ) -> Result<Event, Refusal>
-        ensures { acted store.new self.new result ≡ act_release held next then store.old self.old }
+        ensures { called store.new self.new result ≡ acted (Due.Release held next then) store.old self.old }
     {
         let byte = self.half.notes.defining.last_line_byte(next);
         self.add(byte, behind_held(held, next, then), store)
@@ -171,7 +170,8 @@ impl Reader {
 
     // The text of a name is spliced, with no arguments in force.
     fn splice<K: Copy>(&mut self, name: Name, store: &mut Store<'_, K>) -> Result<Event, Refusal>
-        ensures { acted store.new self.new result ≡ splicing_name name store.old self.old }
+        ensures { let a = splicing_name name store.old self.old in
+            called store.new self.new result ≡ acted_by (splicing_answer (has_text name store.old) a.stored self.old) a store.old self.old }
     {
         match store.enter(name) {
             Err(refusal) => Err(Refusal::from(refusal)),
@@ -187,7 +187,7 @@ impl Reader {
 
     // A macro is called with the arguments that were read.
     fn call<K: Copy>(&mut self, store: &mut Store<'_, K>) -> Result<Event, Refusal>
-        ensures { acted store.new self.new result ≡ act_call store.old self.old }
+        ensures { called store.new self.new result ≡ acted Due.Call store.old self.old }
     {
         match store.call(self.name()) {
             Err(refusal) => Err(Refusal::from(refusal)),
@@ -207,7 +207,8 @@ impl Reader {
         bytes: &[u8],
         store: &mut Store<'_, K>,
     ) -> Result<Event, Refusal>
-        ensures { acted store.new self.new result ≡ splicing_bytes bytes.now store.old self.old }
+        ensures { let a = splicing_bytes bytes.now store.old self.old in
+            called store.new self.new result ≡ acted_by (splicing_answer true a.stored self.old) a store.old self.old }
     {
         match store.enter_bytes(bytes) {
             Err(refusal) => Err(Refusal::from(refusal)),
@@ -217,8 +218,7 @@ impl Reader {
 
     // A register is spliced.
     fn splice_register<K: Copy>(&mut self, store: &mut Store<'_, K>) -> Result<Event, Refusal>
-        ensures { acted store.new self.new result
-            ≡ splicing_bytes (register_text (register_of (find self.old.half.notes.asked store.old.registers))) store.old self.old }
+        ensures { called store.new self.new result ≡ acted (Due.Register Sign.None) store.old self.old }
     {
         let register = store.register(self.half.notes.asked);
         let text = format_number(i64::from(register.value), register.format);
@@ -231,7 +231,7 @@ impl Reader {
         n: u8,
         store: &mut Store<'_, K>,
     ) -> Result<Event, Refusal>
-        ensures { acted store.new self.new result ≡ splicing_bytes (argument store.old.arguments n) store.old self.old }
+        ensures { called store.new self.new result ≡ acted (Due.Argument n) store.old self.old }
     {
         match store.enter_argument(usize::from(n)) {
             Err(refusal) => Err(Refusal::from(refusal)),
@@ -241,8 +241,8 @@ impl Reader {
 
     // A register's step is added or taken away; then it is spliced.
     fn step<K: Copy>(&mut self, up: bool, store: &mut Store<'_, K>) -> Result<Event, Refusal>
-        ensures { acted store.new self.new result
-            ≡ done Event.Nothing (stepped self.old.half.notes.asked up store.old) (then_due (Due.Register Sign.None) self.old) }
+        ensures { called store.new self.new result
+            ≡ called (stepped self.old.half.notes.asked up store.old) (then_due (Due.Register Sign.None) self.old) (Ok Event.Nothing) }
     {
         store.step_register(self.half.notes.asked, up);
         self.half.reading.due = Due::Register(Sign::None);
@@ -251,7 +251,7 @@ impl Reader {
 
     // A byte is added to the argument that is read.
     fn put<K: Copy>(&mut self, byte: u8, store: &mut Store<'_, K>) -> Result<Event, Refusal>
-        ensures { acted store.new self.new result ≡ act (Due.Put byte) store.old self.old }
+        ensures { called store.new self.new result ≡ acted (Due.Put byte) store.old self.old }
     {
         match store.add_argument_byte(byte) {
             Ok(()) => {
@@ -275,7 +275,7 @@ impl Reader {
 
     // The name of a control line is looked up.
     fn seek<K: Copy>(&mut self, store: &mut Store<'_, K>) -> Result<Event, Refusal>
-        ensures { acted store.new self.new result ≡ seeking (meaning_in store.old self.old) store.old self.old }
+        ensures { called store.new self.new result ≡ acted Due.Seek store.old self.old }
     {
         let meaning = self.meaning(store);
         let calls = calls_of(meaning);
@@ -297,7 +297,7 @@ impl Reader {
 
     /// Does what is due.
     pub(crate) fn act<K: Copy>(&mut self, store: &mut Store<'_, K>) -> Result<Event, Refusal>
-        ensures { acted store.new self.new result ≡ act self.old.half.reading.due store.old self.old }
+        ensures { called store.new self.new result ≡ acted self.old.half.reading.due store.old self.old }
     {
         match self.half.reading.due {
             Due::Look => Ok(Event::Nothing),

@@ -44,7 +44,8 @@ impl Definition {
 
 impl Reader {
     ghost use Rattle.std.specs.Prelude.{OnOk};
-    ghost use Rattle.nr_input.specs.Splicing.{called, giving, springing, defining_lines};
+    ghost use Rattle.nr_input.specs.Refusals.{called};
+    ghost use Rattle.nr_input.specs.Splicing.{giving, springing, defining_lines};
     ghost use Rattle.nr_input.specs.Weights.{Splices, Springs, Defines};
 
     /// Splices the text of a given register, or of a width.

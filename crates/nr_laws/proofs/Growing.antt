@@ -1,4 +1,4 @@
--- Pages that have ended stay, with and without limits.
+-- Pages that have ended stay.
 use Rattle.std.specs.Prelude.{is_none, not}
 use Rattle.std.proofs.lemmas.Grind.{flat_map-append}
 use Rattle.std.proofs.Common.{◌≡◌, ℕ, zero, suc, ◌+◌, ◌-◌, ◌≤◌, Bool, true, false, if◌then◌else◌, List, [], ◌∷◌, ◌++◌, Option, None, Some, refl, ap, sym, subst, ◌∙◌, append-nil, append_assoc, arith}
@@ -23,11 +23,9 @@ use Rattle.nr_formatter.specs.Pages.{begins_first_page, is_ejecting, next_spring
 use Rattle.nr_formatter.specs.Places.{outlet, to_read}
 use Rattle.nr_formatter.specs.Spacing.{is_spaceless}
 use Rattle.nr_engine.specs.State.{State, Ended, Choice, plainly}
-use Rattle.nr_engine.specs.Machine.{page_of, begin_page, end_page, turn_page, put_line_to, put_or, break_out, room_in, title_to, cell_to, line_to, space_to, put_space, eject_to, eject, act, work, hear, spring_or, choose_or, step}
+use Rattle.nr_engine.specs.Machine.{page_of, begin_page, end_page, turn_page, put_line_to, put_or, break_out, room_in, title_to, cell_to, line_to, space_to, put_space, eject_to, eject, act, work, hear, spring_or, choose_or, step, state_after}
 use Rattle.nr_engine.specs.Printing.{bytes_of, text}
-use Rattle.nr_engine.specs.Answer.{Kind, Reads, Works, Over, kind}
 use Rattle.nr_laws.specs.Laws.{IsFrontOf}
-use Rattle.nr_laws.specs.Unlimited.{step_by, step_freely, freely_after}
 
 -- more pages have ended
 pub record Ends (s t : State) : Type 0 where
@@ -131,28 +129,23 @@ step-ends : (s : State) → Ends s (step s)
 unfolding step
 step-ends s = choose-ends s.chosen s
 
-step_by-ends : (k : Kind) (s : State) → Ends s (step_by k s)
-step_by-ends Reads s = stays s _ refl
-step_by-ends Works s = step-ends s
-step_by-ends Over s = stays s s refl
-
 ends-trans : (s t u : State) → Ends s t → Ends t u → Ends s u
 ends-trans s t u a b = record { more = a.more ++ b.more; grows = b.grows ∙ ap (λ ps. ps ++ b.more) a.grows ∙ append_assoc s.pages a.more b.more }
 
-pub freely_after-add : (s : State) (n m : ℕ) → freely_after (n + m) s ≡ freely_after m (freely_after n s)
-freely_after-add s n zero = ap (λ k. freely_after k s) (let e : n + 0 ≡ n = omega arith in e)
-freely_after-add s n (suc m) = ap (λ k. freely_after k s) (let e : n + suc m ≡ suc (n + m) = omega arith in e) ∙ ap step_freely (freely_after-add s n m)
+pub state_after-add : (s : State) (n m : ℕ) → state_after (n + m) s ≡ state_after m (state_after n s)
+state_after-add s n zero = ap (λ k. state_after k s) (let e : n + 0 ≡ n = omega arith in e)
+state_after-add s n (suc m) = ap (λ k. state_after k s) (let e : n + suc m ≡ suc (n + m) = omega arith in e) ∙ ap step (state_after-add s n m)
 
-pub after-ends : (n : ℕ) (s : State) → Ends s (freely_after n s)
+pub after-ends : (n : ℕ) (s : State) → Ends s (state_after n s)
 after-ends zero s = stays s s refl
-after-ends (suc n) s = ends-trans s (freely_after n s) (freely_after (suc n) s) (after-ends n s) (step_by-ends (kind (freely_after n s)) (freely_after n s))
+after-ends (suc n) s = ends-trans s (state_after n s) (state_after (suc n) s) (after-ends n s) (step-ends (state_after n s))
 
 ends-text : (s t : State) → Ends s t → IsFrontOf (text s.pages) (text t.pages)
 ends-text s t e = record { rest = text e.more; whole_is = ap text e.grows ∙ flat_map-append bytes_of s.pages e.more }
 
-pub text-grows : (n m : ℕ) (s : State) → n ≤ m → IsFrontOf (text (freely_after n s).pages) (text (freely_after m s).pages)
+pub text-grows : (n m : ℕ) (s : State) → n ≤ m → IsFrontOf (text (state_after n s).pages) (text (state_after m s).pages)
 text-grows n m s h =
     let e : n + (m - n) ≡ m = omega arith in
-    subst (λ k. IsFrontOf (text (freely_after n s).pages) (text (freely_after k s).pages)) e
-    (subst (λ t. IsFrontOf (text (freely_after n s).pages) (text t.pages)) (sym (freely_after-add s n (m - n)))
-    (ends-text (freely_after n s) (freely_after (m - n) (freely_after n s)) (after-ends (m - n) (freely_after n s))))
+    subst (λ k. IsFrontOf (text (state_after n s).pages) (text (state_after k s).pages)) e
+    (subst (λ t. IsFrontOf (text (state_after n s).pages) (text t.pages)) (sym (state_after-add s n (m - n)))
+    (ends-text (state_after n s) (state_after (m - n) (state_after n s)) (after-ends (m - n) (state_after n s))))

@@ -3,11 +3,11 @@ pub mod FilledPages
 pub mod FilledPieces
 pub mod FilledStates
 pub mod FormatterLimits
-pub mod Freely
 pub mod Growing
 pub mod InputLimits
 pub mod LongestCut
 pub mod OutputLaws
+pub mod Over
 pub mod PlainFlows
 pub mod PlainHears
 pub mod PlainLaw
@@ -20,3 +20,4 @@ pub mod PlainWorks
 pub mod StepLimits
 pub mod Stopping
 pub mod StoreLimits
+pub mod Wider

@@ -14,12 +14,12 @@ use Rattle.nr_engine.specs.Answer.{Kind, Over, kind, Goes, Runs, Stops, Writes, 
 use Rattle.nr_engine.specs.declared.outcome.Outcome.{Outcome}
 use Rattle.nr_engine.specs.declared.outcome.Outcome.TheVariants.{Done, Limit, ReadFault, TooLong, WriteFault}
 use Rattle.nr_laws.specs.Limited.{state_under}
-use Rattle.nr_laws.specs.Unlimited.{step_by, step_freely, freely_after}
 use Rattle.nr_laws.specs.Laws.{IsFrontOf, AtLeast, is_unfaulted, nothing_allowed, unlimited, unlimited_text, AnswersWith, LimitsOnlyStop, NoLimitAsked, LimitsCut, LimitsCutOutput, DoneIsWhole, OneWhole, WiderLimits, OneAnswer}
-use Rattle.nr_laws.proofs.StepLimits.{step_freely-under, freely_after-under}
-use Rattle.nr_laws.proofs.Freely.{goes-free, goes-wider, reaches}
-use Rattle.nr_laws.proofs.Growing.{text-grows, freely_after-add}
+use Rattle.nr_laws.proofs.Growing.{text-grows, state_after-add}
+use Rattle.nr_laws.proofs.Over.{over-step}
+use Rattle.nr_laws.proofs.StepLimits.{step-under, state_after-under}
 use Rattle.nr_laws.proofs.Stopping.{goes-stops, stops-one}
+use Rattle.nr_laws.proofs.Wider.{goes-wider}
 
 front-trans : (a b c : List ℕ) → IsFrontOf a b → IsFrontOf b c → IsFrontOf a c
 front-trans a b c x y = record { rest = x.rest ++ y.rest; whole_is = y.whole_is ∙ ap (λ z. z ++ y.rest) x.whole_is ∙ append_assoc a x.rest y.rest }
@@ -51,52 +51,41 @@ broken s out b (Some xs) ended front =
     }
 
 -- a front of what the next move brings
-wrote_front : (s : State) (o : Outcome) (out : List ℕ) → Stops s o → Writes s o (Some []) (Some out) → IsFrontOf (text s.pages) (text (step_freely s).pages) → IsFrontOf out (text (step_freely s).pages)
-wrote_front s Done out stops w grows = subst (λ z. IsFrontOf z (text (step_freely s).pages)) (sym w) grows
-wrote_front s (Limit which at) out stops w grows = subst (λ z. IsFrontOf z (text (step_freely s).pages)) (sym w) grows
-wrote_front s (ReadFault at) out stops w grows = subst (λ z. IsFrontOf z (text (step_freely s).pages)) (sym w) grows
-wrote_front s TooLong out stops w grows = subst (λ z. IsFrontOf z (text (step_freely s).pages)) (sym w) grows
-wrote_front s WriteFault out stops w grows =
-    subst (λ (t : State). IsFrontOf out (text t.pages)) (goes-free s stops.0) (broken s out w w.between w.ended w.front)
+wrote_front : (s : State) (o : Outcome) (out : List ℕ) → Stops s o → Writes s o (Some []) (Some out) → IsFrontOf (text s.pages) (text (step s).pages) → IsFrontOf out (text (step s).pages)
+wrote_front s Done out stops w grows = subst (λ z. IsFrontOf z (text (step s).pages)) (sym w) grows
+wrote_front s (Limit which at) out stops w grows = subst (λ z. IsFrontOf z (text (step s).pages)) (sym w) grows
+wrote_front s (ReadFault at) out stops w grows = subst (λ z. IsFrontOf z (text (step s).pages)) (sym w) grows
+wrote_front s TooLong out stops w grows = subst (λ z. IsFrontOf z (text (step s).pages)) (sym w) grows
+wrote_front s WriteFault out stops w grows = broken s out w w.between w.ended w.front
 
 -- ---- states of a run, and of that without limits
 
 module _ (b : Bounds) (options : Options) (supply : Supply) where
-  -- without limits
-  abbrev free : ℕ → State
-  free n = unlimited options supply n
+  at : (n : ℕ) → state_after n (start b options supply) ≡ state_under b (unlimited options supply n)
+  at n = state_after-under b n (start nothing_allowed options supply)
 
-  at : (n : ℕ) → Runs n (start b options supply) → state_after n (start b options supply) ≡ state_under b (free n)
-  at n runs = reaches b nothing_allowed options supply n runs
-
-  -- a run of n moves is one of fewer
-  fewer : (n m : ℕ) → m ≤ n → Runs n (start b options supply) → Runs m (start b options supply)
-  fewer n m h runs = λ k i. runs k (omega arith)
+  text_of : (n : ℕ) → text (state_after n (start b options supply)).pages ≡ unlimited_text options supply n
+  text_of n = ap (λ (s : State). text s.pages) (at n)
 
   pub text_at : (n : ℕ) (o : Outcome) (out : List ℕ) → AnswersWith b options supply n o out → is_write_fault o ≡ false → out ≡ unlimited_text options supply n
-  text_at n o out a told = wrote (state_after n (start b options supply)) o out told a.writes ∙ ap (λ (s : State). text s.pages) (at n a.runs)
+  text_at n o out a told = wrote (state_after n (start b options supply)) o out told a.writes ∙ text_of n
 
   pub cut_at : (n : ℕ) (o : Outcome) (out : List ℕ) → AnswersWith b options supply n o out → IsFrontOf out (unlimited_text options supply (suc n))
   cut_at n o out a =
       let s = state_after n (start b options supply) in
-      let e : text (step_freely s).pages ≡ unlimited_text options supply (suc n) =
-      ap (λ (t : State). text (step_freely t).pages) (at n a.runs) ∙ ap (λ (t : State). text t.pages) (step_freely-under b (free n)) in
-      subst (IsFrontOf out) e (wrote_front s o out a.stops a.writes (text-grows zero (suc zero) s (omega arith)))
+      subst (IsFrontOf out) (text_of (suc n)) (wrote_front s o out a.stops a.writes (text-grows zero (suc zero) s (omega arith)))
 
-stays : (k : Kind) (s : State) → kind s ≡ Over → k ≡ kind s → step_by k s ≡ s
-stays k s over is = subst (λ (j : Kind). step_by j s ≡ s) (sym (is ∙ over)) refl
-
-over_stays : (n : ℕ) (s : State) → kind s ≡ Over → freely_after n s ≡ s
+over_stays : (n : ℕ) (s : State) → kind s ≡ Over → state_after n s ≡ s
 over_stays zero s over = refl
-over_stays (suc n) s over = ap step_freely (over_stays n s over) ∙ stays (kind s) s over refl
+over_stays (suc n) s over = ap step (over_stays n s over) ∙ over-step s over
 
 -- ---- the laws
 
-pub limits_only_stop : LimitsOnlyStop
-limits_only_stop b options supply n runs = reaches b nothing_allowed options supply n runs
-
 pub no_limit_asked : NoLimitAsked
-no_limit_asked b options supply n = freely_after-under b n (start nothing_allowed options supply)
+no_limit_asked b s = step-under b s
+
+pub limits_only_stop : LimitsOnlyStop
+limits_only_stop b options supply n = at b options supply n
 
 pub limits_cut : LimitsCut
 limits_cut b options supply n o out a m h =
@@ -107,7 +96,7 @@ limits_cut b options supply n o out a m h =
 after_over : (options : Options) (supply : Supply) (n m : ℕ) → kind (unlimited options supply n) ≡ Over → unlimited_text options supply (n + m) ≡ unlimited_text options supply n
 after_over options supply n m over =
     let s = start nothing_allowed options supply in
-    ap (λ (t : State). text t.pages) (freely_after-add s n m ∙ over_stays m (freely_after n s) over)
+    ap (λ (t : State). text t.pages) (state_after-add s n m ∙ over_stays m (state_after n s) over)
 
 pub limits_cut_output : LimitsCutOutput
 limits_cut_output b options supply n o out whole a w =
@@ -115,7 +104,7 @@ limits_cut_output b options supply n o out whole a w =
 
 -- the run without limits is over then too
 pub over_at : (b : Bounds) (options : Options) (supply : Supply) (n : ℕ) (out : List ℕ) → AnswersWith b options supply n Done out → kind (unlimited options supply n) ≡ Over
-over_at b options supply n out a = ap kind (sym (at b options supply n a.runs)) ∙ a.stops
+over_at b options supply n out a = ap kind (sym (at b options supply n)) ∙ a.stops
 
 pub done_is_whole : DoneIsWhole
 done_is_whole b options supply n out a = record {
@@ -135,8 +124,8 @@ no_earlier : (b b' : Bounds) (options : Options) (supply : Supply) (n n' : ℕ) 
     → Stops (state_after n' (start b' options supply)) o' → n' < n → ⊥
 no_earlier b b' options supply n n' o' h told runs runs' stops less =
     let t = unlimited options supply n' in
-    let e = at b options supply n' (fewer b options supply n n' (omega arith) runs) in
-    let e' = at b' options supply n' runs' in
+    let e = at b options supply n' in
+    let e' = at b' options supply n' in
     goes-stops (state_under b' t) o' told (goes-wider b b' t h (subst Goes e (runs n' less))) (subst (λ (s : State). Stops s o') e' stops)
 
 -- what went out, a page of which a fault broke off among it, is a front of what goes out without limits where the run goes as far

@@ -30,7 +30,6 @@ use Rattle.nr_engine.specs.State.{State}
 use Rattle.nr_engine.specs.Machine.{step}
 use Rattle.nr_engine.specs.Printing.{text}
 use Rattle.nr_laws.specs.PlainText.{squeezed, is_plain_from}
-use Rattle.nr_laws.specs.Unlimited.{step_freely}
 use Rattle.nr_laws.proofs.PlainPages.{if-true, if-false, same_if, lines_ink}
 use Rattle.nr_laws.proofs.PlainLines.{Clean, CleanWords, IsPlainPending, collected_ink, add_cell-ink, add_cell-clean, add_blank-ink, add_blank-clean, end_word-ink, end_word-clean}
 use Rattle.nr_units.specs.declared.cell.Cell.{Cell}
@@ -84,23 +83,23 @@ module _ (s : State) (o : OrderlyIn tasks.Read steps.NotYet s) where
 
   -- ---- what ends no word
 
-  pub leading_hears : (bs : List ℕ) (i : Bool) → is_plain_from false bs ≡ true → Keeps (told (modes.Leading 1) dues.Look events.Leading bs i) (step_freely (told (modes.Leading 1) dues.Look events.Leading bs i))
+  pub leading_hears : (bs : List ℕ) (i : Bool) → is_plain_from false bs ≡ true → Keeps (told (modes.Leading 1) dues.Look events.Leading bs i) (step (told (modes.Leading 1) dues.Look events.Leading bs i))
   unfolding step
   leading_hears bs i plain =
       let x = told (modes.Leading 1) dues.Look events.Leading bs i in
-      keeps x (step_freely x) (step_freely x) (modes.Leading 1) dues.Look events.Nothing (tasks.Break thens.Leading) steps.NotYet bs i refl refl (BreaksLeading plain) (changed (tasks.Break thens.Leading) c tt o.clean) refl (λ r p. never_here r.goes)
+      keeps x (step x) (step x) (modes.Leading 1) dues.Look events.Nothing (tasks.Break thens.Leading) steps.NotYet bs i refl refl (BreaksLeading plain) (changed (tasks.Break thens.Leading) c tt o.clean) refl (λ r p. never_here r.goes)
 
-  pub empty_hears : (bs : List ℕ) (i : Bool) → is_plain_from true bs ≡ true → Keeps (told modes.Start dues.Look events.Empty bs i) (step_freely (told modes.Start dues.Look events.Empty bs i))
+  pub empty_hears : (bs : List ℕ) (i : Bool) → is_plain_from true bs ≡ true → Keeps (told modes.Start dues.Look events.Empty bs i) (step (told modes.Start dues.Look events.Empty bs i))
   unfolding step
   empty_hears bs i plain =
       let x = told modes.Start dues.Look events.Empty bs i in
-      keeps x (step_freely x) (step_freely x) modes.Start dues.Look events.Nothing (tasks.Break thens.Space) steps.NotYet bs i refl refl (BreaksEmpty plain) (changed (tasks.Break thens.Space) c tt o.clean) refl (λ r p. never_here r.goes)
+      keeps x (step x) (step x) modes.Start dues.Look events.Nothing (tasks.Break thens.Space) steps.NotYet bs i refl refl (BreaksEmpty plain) (changed (tasks.Break thens.Space) c tt o.clean) refl (λ r p. never_here r.goes)
 
-  pub over_hears : Keeps (told modes.Start dues.Look events.Over [] false) (step_freely (told modes.Start dues.Look events.Over [] false))
+  pub over_hears : Keeps (told modes.Start dues.Look events.Over [] false) (step (told modes.Start dues.Look events.Over [] false))
   unfolding step
   over_hears =
       let x = told modes.Start dues.Look events.Over [] false in
-      keeps x (step_freely x) (step_freely x) modes.Start dues.Look events.Nothing tasks.Finish steps.NotYet [] false refl refl (Finishes steps.NotYet refl) (changed tasks.Finish c tt o.clean) refl
+      keeps x (step x) (step x) modes.Start dues.Look events.Nothing tasks.Finish steps.NotYet [] false refl refl (Finishes steps.NotYet refl) (changed tasks.Finish c tt o.clean) refl
       (λ r p. record { reads = record { goes = refl; bytes = refl; inside = λ begins. refl }; prints = p; same = refl })
 
   -- ---- a blank at the line's beginning
@@ -113,12 +112,12 @@ module _ (s : State) (o : OrderlyIn tasks.Read steps.NotYet s) where
       by true goes = goes
       by false goes = goes
 
-  pub lead_hears : (d : Due) (bs : List ℕ) (i : Bool) → Owes d → is_plain_from false bs ≡ true → Keeps (told modes.Text d events.Lead bs i) (step_freely (told modes.Text d events.Lead bs i))
+  pub lead_hears : (d : Due) (bs : List ℕ) (i : Bool) → Owes d → is_plain_from false bs ≡ true → Keeps (told modes.Text d events.Lead bs i) (step (told modes.Text d events.Lead bs i))
   unfolding step
   lead_hears d bs i owes plain =
       let x = told modes.Text d events.Lead bs i in
       let e = add_blank (margins_of first_indents) c in
-      keeps x (step_freely x) (with_line e tasks.Read x) modes.Text d events.Nothing tasks.Read steps.NotYet bs i (ap (indented e x) (same_if (begins_line c) first_indents)) refl (InText owes plain)
+      keeps x (step x) (with_line e tasks.Read x) modes.Text d events.Nothing tasks.Read steps.NotYet bs i (ap (indented e x) (same_if (begins_line c) first_indents)) refl (InText owes plain)
       (changed tasks.Read e tt (add_blank-clean (margins_of first_indents) c o.clean))
       (ap (λ z. around s (z ++ ([] ++ squeezed bs))) (add_blank-ink (margins_of first_indents) c o.clean))
       (λ r p. never_here (lead_never d r.goes))
@@ -126,7 +125,7 @@ module _ (s : State) (o : OrderlyIn tasks.Read steps.NotYet s) where
   -- ---- a character
 
   character_hears : (b : ℕ) (bs : List ℕ) (i : Bool) → 32 ≤ b → b ≤ 126 → (b == 32) ≡ false → is_plain_from false bs ≡ true
-      → Keeps (told modes.Text dues.Look (events.Byte b) bs i) (step_freely (told modes.Text dues.Look (events.Byte b) bs i))
+      → Keeps (told modes.Text dues.Look (events.Byte b) bs i) (step (told modes.Text dues.Look (events.Byte b) bs i))
   unfolding step texts.text_byte
   character_hears b bs i least most other plain =
       let x = told modes.Text dues.Look (events.Byte b) bs i in
@@ -135,14 +134,14 @@ module _ (s : State) (o : OrderlyIn tasks.Read steps.NotYet s) where
       let no_leader : (b == 1) ≡ false = ne_eqb b 1 (omega arith) in
       let is : prints b ≡ true = grind (arith, nat_tests) in
       let e = add_cell (margins_of first_indents) (texts.behind_of b) (record { byte = b; under = false }) c in
-      let leads : step_freely x ≡ with_line e tasks.Read x =
+      let leads : step x ≡ with_line e tasks.Read x =
       ap (λ (g : Formatter). record x { formatter = g })
       (if-false (b == 32) (texts.blank f) (if b == 9 then texts.tab f.settings.tabs.tab f else (if b == 1 then texts.tab f.settings.tabs.leader f else (if prints b then texts.character b f else record f { event = events.Nothing }))) other
       ∙ if-false (b == 9) (texts.tab f.settings.tabs.tab f) (if b == 1 then texts.tab f.settings.tabs.leader f else (if prints b then texts.character b f else record f { event = events.Nothing })) no_tab
       ∙ if-false (b == 1) (texts.tab f.settings.tabs.leader f) (if prints b then texts.character b f else record f { event = events.Nothing }) no_leader
       ∙ if-true (prints b) (texts.character b f) (record f { event = events.Nothing }) is)
       ∙ ap (indented e x) (same_if (begins_line c) first_indents) in
-      keeps x (step_freely x) (with_line e tasks.Read x) modes.Text dues.Look events.Nothing tasks.Read steps.NotYet bs i leads refl (InText Nothing plain)
+      keeps x (step x) (with_line e tasks.Read x) modes.Text dues.Look events.Nothing tasks.Read steps.NotYet bs i leads refl (InText Nothing plain)
       (changed tasks.Read e tt (add_cell-clean (margins_of first_indents) (texts.behind_of b) (record { byte = b; under = false }) c o.clean))
       (ap (λ z. around s (z ++ ([] ++ squeezed bs))) (add_cell-ink (margins_of first_indents) (texts.behind_of b) (record { byte = b; under = false }) c o.clean)
       ∙ ap (around s) (append_assoc (collected_ink c) (squeezed (b ∷ [])) (squeezed bs)))
@@ -188,36 +187,36 @@ module _ (s : State) (o : OrderlyIn tasks.Read steps.NotYet s) where
     measure = λ begun. p.measure (still_begun c.pieces c.word begun);
   }
 
-  blank_hears : (bs : List ℕ) (i : Bool) → is_plain_from false bs ≡ true → Keeps (told modes.Text dues.Look (events.Byte 32) bs i) (step_freely (told modes.Text dues.Look (events.Byte 32) bs i))
+  blank_hears : (bs : List ℕ) (i : Bool) → is_plain_from false bs ≡ true → Keeps (told modes.Text dues.Look (events.Byte 32) bs i) (step (told modes.Text dues.Look (events.Byte 32) bs i))
   unfolding step texts.text_byte texts.blank
   blank_hears bs i plain =
       let x = told modes.Text dues.Look (events.Byte 32) bs i in
       let f = x.formatter in
       let some = not (is_none c.word) in
       let task = if some then tasks.Flow afters.Text false else tasks.Read in
-      let leads : step_freely x ≡ with_line (one_blank_more (end_word c)) task x =
+      let leads : step x ≡ with_line (one_blank_more (end_word c)) task x =
       ap (λ (g : Formatter). record x { formatter = g }) (if-false (lines.reads_a_field f) (lines.field_ended f) (texts.gap_blank f) (no_field c.word o.clean.word))
       ∙ ap (λ k. with_line (one_blank_more (end_word k)) task x) (pointed_is modes.Text dues.Look (events.Byte 32) bs i) in
-      keeps x (step_freely x) (with_line (one_blank_more (end_word c)) task x) modes.Text dues.Look events.Nothing task steps.NotYet bs i leads refl (phase_by some bs i plain)
+      keeps x (step x) (with_line (one_blank_more (end_word c)) task x) modes.Text dues.Look events.Nothing task steps.NotYet bs i leads refl (phase_by some bs i plain)
       (orderly_by some (one_blank_more (end_word c)) ended_clean) (ap (λ z. around s (z ++ ([] ++ squeezed bs))) (end_word-ink c))
       (λ r p. record { reads = record { goes = goes_by some; bytes = r.bytes; inside = λ begins. never_here begins }; prints = let w = word_printed p in record { rows = w.rows; down = w.down; few = w.few; begun = w.begun; measure = w.measure }; same = refl })
 
-  pub end_hears : (bs : List ℕ) (i : Bool) → is_plain_from true bs ≡ true → Keeps (told modes.Start dues.Look events.EndLine bs i) (step_freely (told modes.Start dues.Look events.EndLine bs i))
+  pub end_hears : (bs : List ℕ) (i : Bool) → is_plain_from true bs ≡ true → Keeps (told modes.Start dues.Look events.EndLine bs i) (step (told modes.Start dues.Look events.EndLine bs i))
   unfolding step texts.line_end
   end_hears bs i plain =
       let x = told modes.Start dues.Look events.EndLine bs i in
       let f = x.formatter in
       let task = tasks.Flow afters.Line false in
-      let leads : step_freely x ≡ with_line (after_newline (end_word c)) task x =
+      let leads : step x ≡ with_line (after_newline (end_word c)) task x =
       ap (λ (g : Formatter). record x { formatter = g }) (if-false (lines.reads_a_field f) (lines.field_ended f) (texts.word_line_ended afters.Line f) (no_field c.word o.clean.word))
       ∙ ap (λ k. with_line (after_newline (end_word k)) task x) (pointed_is modes.Start dues.Look events.EndLine bs i) in
-      keeps x (step_freely x) (with_line (after_newline (end_word c)) task x) modes.Start dues.Look events.Nothing task steps.NotYet bs i leads refl (FlowsLine plain)
+      keeps x (step x) (with_line (after_newline (end_word c)) task x) modes.Start dues.Look events.Nothing task steps.NotYet bs i leads refl (FlowsLine plain)
       (record { clean = newline_clean; ascends = o.ascends; above = o.above; shut = o.shut; drained = tt; closed = tt }) (ap (λ z. around s (z ++ ([] ++ squeezed bs))) (end_word-ink c))
       (λ r p. record { reads = record { goes = refl; bytes = r.bytes; inside = r.inside }; prints = let w = word_printed p in record { rows = w.rows; down = w.down; few = w.few; begun = w.begun; measure = w.measure }; same = refl })
 
-  pub byte_hears : (b : ℕ) (bs : List ℕ) (i : Bool) → 32 ≤ b → b ≤ 126 → is_plain_from false bs ≡ true → Keeps (told modes.Text dues.Look (events.Byte b) bs i) (step_freely (told modes.Text dues.Look (events.Byte b) bs i))
+  pub byte_hears : (b : ℕ) (bs : List ℕ) (i : Bool) → 32 ≤ b → b ≤ 126 → is_plain_from false bs ≡ true → Keeps (told modes.Text dues.Look (events.Byte b) bs i) (step (told modes.Text dues.Look (events.Byte b) bs i))
   byte_hears b bs i least most plain = by (b == 32) refl
     where
-      by : (blank : Bool) → (b == 32) ≡ blank → Keeps (told modes.Text dues.Look (events.Byte b) bs i) (step_freely (told modes.Text dues.Look (events.Byte b) bs i))
-      by true is = subst (λ n. Keeps (told modes.Text dues.Look (events.Byte n) bs i) (step_freely (told modes.Text dues.Look (events.Byte n) bs i))) (sym (eqb-true b 32 is)) (blank_hears bs i plain)
+      by : (blank : Bool) → (b == 32) ≡ blank → Keeps (told modes.Text dues.Look (events.Byte b) bs i) (step (told modes.Text dues.Look (events.Byte b) bs i))
+      by true is = subst (λ n. Keeps (told modes.Text dues.Look (events.Byte n) bs i) (step (told modes.Text dues.Look (events.Byte n) bs i))) (sym (eqb-true b 32 is)) (blank_hears bs i plain)
       by false is = character_hears b bs i least most is plain

@@ -23,14 +23,13 @@ use Rattle.nr_formatter.specs.Registers.{given_set, register_set_by}
 use Rattle.nr_options.specs.declared.options.Options.{Options}
 use Rattle.nr_page.specs.declared.selection.PageRange.{PageRange}
 use Rattle.nr_engine.specs.State.{State, Choice, First, Register as SetsRegister, choices, start}
-use Rattle.nr_engine.specs.Machine.{step, choose}
+use Rattle.nr_engine.specs.Machine.{step, state_after, choose}
 use Rattle.nr_engine.specs.Printing.{text}
 use Rattle.nr_engine.specs.Answer.{Reads, Works, Over, kind}
 use Rattle.nr_engine.specs.declared.outcome.Outcome.TheVariants.{Done}
 use Rattle.nr_laws.specs.Laws.{nothing_allowed}
 use Rattle.nr_laws.specs.FilledText.{text_of, FilledTextIsRows}
 use Rattle.nr_laws.specs.PlainText.{squeezed, is_plain, is_plain_from, PlainTextStays}
-use Rattle.nr_laws.specs.Unlimited.{step_freely, freely_after}
 use Rattle.nr_laws.proofs.OutputLaws.{text_at, over_at}
 use Rattle.nr_fill.specs.Pieces.{word_pieces}
 use Rattle.nr_laws.proofs.FilledLines.{rows_at}
@@ -104,21 +103,21 @@ module _ (cs : List Choice) (bs : List ℕ) (i : Bool) (s : State) (plain : is_p
   choice_leads (First n) = leads_if (is_held n) (record at.formatter { paper = record at.formatter.paper { number = n } }) at.formatter (numbered n) unchanged
   choice_leads (SetsRegister name n) = register_leads (given_named (name ∷ [])) (name ∷ []) n
 
-  chooses : Leads at (step_freely at)
+  chooses : Leads at (step at)
   unfolding step
   chooses = choice_leads c
 
 -- ---- runs
 
-good_moves : (s : State) → Good s → Leads s (step_freely s)
+good_moves : (s : State) → Good s → Leads s (step s)
 good_moves s (IsFine f) = let k = fine-moves s f in record { good = IsFine k.fine; same = k.same; fills = k.fills }
-good_moves s (IsChoosing c cs bs i is plain o) = subst (λ (t : State). Leads t (step_freely t)) (sym is) (chooses cs bs i s plain o c)
+good_moves s (IsChoosing c cs bs i is plain o) = subst (λ (t : State). Leads t (step t)) (sym is) (chooses cs bs i s plain o c)
 
-good_after : (n : ℕ) (s : State) → Good s → Leads s (freely_after n s)
+good_after : (n : ℕ) (s : State) → Good s → Leads s (state_after n s)
 good_after zero s g = record { good = g; same = refl; fills = λ r p. record { reads = r; prints = p; same = refl } }
 good_after (suc n) s g =
     let before = good_after n s g in
-    let last = good_moves (freely_after n s) before.good in
+    let last = good_moves (state_after n s) before.good in
     record {
       good = last.good;
       same = last.same ∙ before.same;
@@ -165,7 +164,7 @@ plain_text_stays b options supply n out plain all a =
     let s = start nothing_allowed options supply in
     let g = good_after n s (begins_good options supply plain all) in
     let over = over_at b options supply n out a in
-    ap squeezed (text_at b options supply n Done out a refl) ∙ sym (over_good (freely_after n s) g.good over) ∙ g.same
+    ap squeezed (text_at b options supply n Done out a refl) ∙ sym (over_good (state_after n s) g.good over) ∙ g.same
 
 -- ---- filled text
 
@@ -192,4 +191,4 @@ filled_text_is_rows b options supply n out plain filled all a =
     let over = over_at b options supply n out a in
     let fills = g.fills (record { goes = refl; bytes = filled; inside = λ begins. refl })
     (record { rows = tt; down = λ is_so. refl; few = omega arith; begun = λ is_so. never_here is_so; measure = λ begun. never_here (sym begun) }) in
-    text_at b options supply n Done out a refl ∙ sym (output_over (freely_after n s) g.good over) ∙ fills.same
+    text_at b options supply n Done out a refl ∙ sym (output_over (state_after n s) g.good over) ∙ fills.same

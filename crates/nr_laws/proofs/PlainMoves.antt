@@ -29,7 +29,6 @@ use Rattle.nr_engine.specs.Machine.{step, end_page, page_of, space_to}
 use Rattle.nr_engine.specs.Printing.{bytes_of, text}
 use Rattle.nr_laws.specs.FilledText.{text_of}
 use Rattle.nr_laws.specs.PlainText.{squeezed, is_plain_from}
-use Rattle.nr_laws.specs.Unlimited.{step_freely}
 use Rattle.nr_laws.proofs.PlainPages.{above-more, lines_ink, if-true, if-false, squeezed-append, page-ink}
 use Rattle.nr_laws.proofs.PlainLines.{collected_ink}
 use Rattle.nr_laws.proofs.PlainReads.{text_reads, start_reads, lead_reads}
@@ -57,7 +56,7 @@ module _ (s : State) where
   -- ---- full lines go out
 
   flows_text : (bs : List ℕ) (i : Bool) → is_plain_from false bs ≡ true → (o : OrderlyIn (tasks.Flow afters.Text false) steps.NotYet s)
-      → Keeps (calm modes.Text dues.Look events.Nothing (tasks.Flow afters.Text false) steps.NotYet bs i s) (step_freely (calm modes.Text dues.Look events.Nothing (tasks.Flow afters.Text false) steps.NotYet bs i s))
+      → Keeps (calm modes.Text dues.Look events.Nothing (tasks.Flow afters.Text false) steps.NotYet bs i s) (step (calm modes.Text dues.Look events.Nothing (tasks.Flow afters.Text false) steps.NotYet bs i s))
   unfolding step
   flows_text bs i plain o =
       let k = tasks.Flow afters.Text false in
@@ -67,7 +66,7 @@ module _ (s : State) where
       (λ r f. record { reads = record { goes = refl; bytes = r.bytes; inside = r.inside }; prints = f; same = refl }))
 
   flows_line : (bs : List ℕ) (i : Bool) → is_plain_from true bs ≡ true → (o : OrderlyIn (tasks.Flow afters.Line false) steps.NotYet s)
-      → Keeps (calm modes.Start dues.Look events.Nothing (tasks.Flow afters.Line false) steps.NotYet bs i s) (step_freely (calm modes.Start dues.Look events.Nothing (tasks.Flow afters.Line false) steps.NotYet bs i s))
+      → Keeps (calm modes.Start dues.Look events.Nothing (tasks.Flow afters.Line false) steps.NotYet bs i s) (step (calm modes.Start dues.Look events.Nothing (tasks.Flow afters.Line false) steps.NotYet bs i s))
   unfolding step
   flows_line bs i plain o =
       let k = tasks.Flow afters.Line false in
@@ -77,25 +76,25 @@ module _ (s : State) where
       (λ r f. record { reads = record { goes = refl; bytes = r.bytes; inside = r.inside }; prints = f; same = refl }))
 
   counts : (bs : List ℕ) (i : Bool) → is_plain_from true bs ≡ true → (o : OrderlyIn tasks.Count steps.NotYet s)
-      → Keeps (calm modes.Start dues.Look events.Nothing tasks.Count steps.NotYet bs i s) (step_freely (calm modes.Start dues.Look events.Nothing tasks.Count steps.NotYet bs i s))
+      → Keeps (calm modes.Start dues.Look events.Nothing tasks.Count steps.NotYet bs i s) (step (calm modes.Start dues.Look events.Nothing tasks.Count steps.NotYet bs i s))
   unfolding step
   counts bs i plain o =
       let x = calm modes.Start dues.Look events.Nothing tasks.Count steps.NotYet bs i s in
-      keeps x (step_freely x) (step_freely x) modes.Start dues.Look events.Nothing tasks.InputTrap steps.NotYet bs i refl refl (CountsInput plain) (retasked tasks.Count tasks.InputTrap steps.NotYet steps.NotYet o tt tt) refl
+      keeps x (step x) (step x) modes.Start dues.Look events.Nothing tasks.InputTrap steps.NotYet bs i refl refl (CountsInput plain) (retasked tasks.Count tasks.InputTrap steps.NotYet steps.NotYet o tt tt) refl
       (λ r f. record { reads = record { goes = refl; bytes = r.bytes; inside = r.inside }; prints = f; same = refl })
 
   counts_input : (bs : List ℕ) (i : Bool) → is_plain_from true bs ≡ true → (o : OrderlyIn tasks.InputTrap steps.NotYet s)
-      → Keeps (calm modes.Start dues.Look events.Nothing tasks.InputTrap steps.NotYet bs i s) (step_freely (calm modes.Start dues.Look events.Nothing tasks.InputTrap steps.NotYet bs i s))
+      → Keeps (calm modes.Start dues.Look events.Nothing tasks.InputTrap steps.NotYet bs i s) (step (calm modes.Start dues.Look events.Nothing tasks.InputTrap steps.NotYet bs i s))
   unfolding step
   counts_input bs i plain o =
       let x = calm modes.Start dues.Look events.Nothing tasks.InputTrap steps.NotYet bs i s in
-      keeps x (step_freely x) (step_freely x) modes.Start dues.Look events.Nothing tasks.Read steps.NotYet bs i refl refl (AtStart plain) (retasked tasks.InputTrap tasks.Read steps.NotYet steps.NotYet o tt tt) refl
+      keeps x (step x) (step x) modes.Start dues.Look events.Nothing tasks.Read steps.NotYet bs i refl refl (AtStart plain) (retasked tasks.InputTrap tasks.Read steps.NotYet steps.NotYet o tt tt) refl
       (λ r f. record { reads = record { goes = refl; bytes = r.bytes; inside = r.inside }; prints = f; same = refl })
 
   -- ---- breaks
 
   breaks_empty : (bs : List ℕ) (i : Bool) → is_plain_from true bs ≡ true → (o : OrderlyIn (tasks.Break thens.Space) steps.NotYet s)
-      → Keeps (calm modes.Start dues.Look events.Nothing (tasks.Break thens.Space) steps.NotYet bs i s) (step_freely (calm modes.Start dues.Look events.Nothing (tasks.Break thens.Space) steps.NotYet bs i s))
+      → Keeps (calm modes.Start dues.Look events.Nothing (tasks.Break thens.Space) steps.NotYet bs i s) (step (calm modes.Start dues.Look events.Nothing (tasks.Break thens.Space) steps.NotYet bs i s))
   unfolding step
   breaks_empty bs i plain o =
       let k = tasks.Break thens.Space in
@@ -104,7 +103,7 @@ module _ (s : State) where
       (λ none nil. keeps x (plainly (lines.break_done thens.Space) x) (plainly (lines.break_done thens.Space) x) modes.Start dues.Look events.Nothing (tasks.Space 40) steps.NotYet bs i refl refl (Spaces 40 plain) (retasked k (tasks.Space 40) steps.NotYet steps.NotYet o tt tt) refl (λ r f. never_here r.goes))
 
   breaks_leading : (bs : List ℕ) (i : Bool) → is_plain_from false bs ≡ true → (o : OrderlyIn (tasks.Break thens.Leading) steps.NotYet s)
-      → Keeps (calm (modes.Leading 1) dues.Look events.Nothing (tasks.Break thens.Leading) steps.NotYet bs i s) (step_freely (calm (modes.Leading 1) dues.Look events.Nothing (tasks.Break thens.Leading) steps.NotYet bs i s))
+      → Keeps (calm (modes.Leading 1) dues.Look events.Nothing (tasks.Break thens.Leading) steps.NotYet bs i s) (step (calm (modes.Leading 1) dues.Look events.Nothing (tasks.Break thens.Leading) steps.NotYet bs i s))
   unfolding step
   breaks_leading bs i plain o =
       let k = tasks.Break thens.Leading in
@@ -113,7 +112,7 @@ module _ (s : State) where
       (λ none nil. keeps x (plainly (lines.break_done thens.Leading) x) (plainly (lines.break_done thens.Leading) x) (modes.Leading 1) dues.Look events.Nothing tasks.Read steps.NotYet bs i refl refl (InLead 1 plain) (retasked k tasks.Read steps.NotYet steps.NotYet o tt tt) refl (λ r f. never_here r.goes))
 
   breaks_last : (p : Step) → is_break p ≡ true → (o : OrderlyIn (tasks.Break thens.Finish) p s)
-      → Keeps (calm modes.Start dues.Look events.Nothing (tasks.Break thens.Finish) p [] false s) (step_freely (calm modes.Start dues.Look events.Nothing (tasks.Break thens.Finish) p [] false s))
+      → Keeps (calm modes.Start dues.Look events.Nothing (tasks.Break thens.Finish) p [] false s) (step (calm modes.Start dues.Look events.Nothing (tasks.Break thens.Finish) p [] false s))
   unfolding step
   breaks_last steps.FirstBreak is o =
       let k = tasks.Break thens.Finish in
@@ -149,7 +148,7 @@ module _ (s : State) where
       (ends_page modes.Start dues.Look (tasks.Space n) steps.NotYet bs i s o refl tt (Spaces n plain) (ap is_open is) (ltb-false s.formatter.paper.place 2640 other)))
 
   spaces : (n : ℕ) (bs : List ℕ) (i : Bool) → is_plain_from true bs ≡ true → (o : OrderlyIn (tasks.Space n) steps.NotYet s)
-      → Keeps (calm modes.Start dues.Look events.Nothing (tasks.Space n) steps.NotYet bs i s) (step_freely (calm modes.Start dues.Look events.Nothing (tasks.Space n) steps.NotYet bs i s))
+      → Keeps (calm modes.Start dues.Look events.Nothing (tasks.Space n) steps.NotYet bs i s) (step (calm modes.Start dues.Look events.Nothing (tasks.Space n) steps.NotYet bs i s))
   unfolding step
   spaces n bs i plain o =
       let x = calm modes.Start dues.Look events.Nothing (tasks.Space n) steps.NotYet bs i s in
@@ -162,33 +161,33 @@ module _ (s : State) where
   -- ---- the end
 
   finishes : (p : Step) → is_before_last p ≡ true → (o : OrderlyIn tasks.Finish p s)
-      → Keeps (calm modes.Start dues.Look events.Nothing tasks.Finish p [] false s) (step_freely (calm modes.Start dues.Look events.Nothing tasks.Finish p [] false s))
+      → Keeps (calm modes.Start dues.Look events.Nothing tasks.Finish p [] false s) (step (calm modes.Start dues.Look events.Nothing tasks.Finish p [] false s))
   unfolding step
   finishes steps.NotYet is o =
       let x = calm modes.Start dues.Look events.Nothing tasks.Finish steps.NotYet [] false s in
-      keeps x (step_freely x) (step_freely x) modes.Start dues.Look events.Nothing (tasks.Break thens.Finish) steps.FirstBreak [] false refl refl (BreaksLast steps.FirstBreak refl) (retasked tasks.Finish (tasks.Break thens.Finish) steps.NotYet steps.FirstBreak o tt tt) refl
+      keeps x (step x) (step x) modes.Start dues.Look events.Nothing (tasks.Break thens.Finish) steps.FirstBreak [] false refl refl (BreaksLast steps.FirstBreak refl) (retasked tasks.Finish (tasks.Break thens.Finish) steps.NotYet steps.FirstBreak o tt tt) refl
       (λ r f. record { reads = record { goes = refl; bytes = r.bytes; inside = r.inside }; prints = f; same = refl })
   finishes steps.FirstBreak is o =
       let x = calm modes.Start dues.Look events.Nothing tasks.Finish steps.FirstBreak [] false s in
-      keeps x (step_freely x) (step_freely x) modes.Start dues.Look events.Nothing (tasks.Break thens.Finish) steps.FirstBreak [] false refl refl (BreaksLast steps.FirstBreak refl) (retasked tasks.Finish (tasks.Break thens.Finish) steps.FirstBreak steps.FirstBreak o tt tt) refl
+      keeps x (step x) (step x) modes.Start dues.Look events.Nothing (tasks.Break thens.Finish) steps.FirstBreak [] false refl refl (BreaksLast steps.FirstBreak refl) (retasked tasks.Finish (tasks.Break thens.Finish) steps.FirstBreak steps.FirstBreak o tt tt) refl
       (λ r f. record { reads = record { goes = refl; bytes = r.bytes; inside = r.inside }; prints = f; same = refl })
   finishes steps.Macro is o =
       let x = calm modes.Start dues.Look events.Nothing tasks.Finish steps.Macro [] false s in
-      keeps x (step_freely x) (step_freely x) modes.Start dues.Look events.Nothing tasks.Finish steps.SecondBreak [] false refl refl (Finishes steps.SecondBreak refl) (retasked tasks.Finish tasks.Finish steps.Macro steps.SecondBreak o o.drained tt) refl
+      keeps x (step x) (step x) modes.Start dues.Look events.Nothing tasks.Finish steps.SecondBreak [] false refl refl (Finishes steps.SecondBreak refl) (retasked tasks.Finish tasks.Finish steps.Macro steps.SecondBreak o o.drained tt) refl
       (λ r f. record { reads = record { goes = refl; bytes = r.bytes; inside = r.inside }; prints = f; same = refl })
   finishes steps.SecondBreak is o =
       let x = calm modes.Start dues.Look events.Nothing tasks.Finish steps.SecondBreak [] false s in
-      keeps x (step_freely x) (step_freely x) modes.Start dues.Look events.Nothing (tasks.Break thens.Finish) steps.SecondBreak [] false refl refl (BreaksLast steps.SecondBreak refl) (retasked tasks.Finish (tasks.Break thens.Finish) steps.SecondBreak steps.SecondBreak o o.drained tt) refl
+      keeps x (step x) (step x) modes.Start dues.Look events.Nothing (tasks.Break thens.Finish) steps.SecondBreak [] false refl refl (BreaksLast steps.SecondBreak refl) (retasked tasks.Finish (tasks.Break thens.Finish) steps.SecondBreak steps.SecondBreak o o.drained tt) refl
       (λ r f. record { reads = record { goes = refl; bytes = r.bytes; inside = r.inside }; prints = f; same = refl })
   finishes steps.Diversions is o =
       let x = calm modes.Start dues.Look events.Nothing tasks.Finish steps.Diversions [] false s in
-      keeps x (step_freely x) (step_freely x) modes.Start dues.Look events.Nothing (tasks.Eject ejecteds.Finish) steps.LastPage [] false refl refl Ejects
+      keeps x (step x) (step x) modes.Start dues.Look events.Nothing (tasks.Eject ejecteds.Finish) steps.LastPage [] false refl refl Ejects
       (record { clean = o.clean; ascends = o.ascends; above = o.above; shut = o.shut; drained = o.drained; closed = refl }) refl
       (λ r f. record { reads = record { goes = refl; bytes = r.bytes; inside = r.inside }; prints = f; same = refl })
   finishes steps.LastPage is o = (let e : false ≡ true = is in cc)
 
   ejects : (o : OrderlyIn (tasks.Eject ejecteds.Finish) steps.LastPage s)
-      → Keeps (calm modes.Start dues.Look events.Nothing (tasks.Eject ejecteds.Finish) steps.LastPage [] false s) (step_freely (calm modes.Start dues.Look events.Nothing (tasks.Eject ejecteds.Finish) steps.LastPage [] false s))
+      → Keeps (calm modes.Start dues.Look events.Nothing (tasks.Eject ejecteds.Finish) steps.LastPage [] false s) (step (calm modes.Start dues.Look events.Nothing (tasks.Eject ejecteds.Finish) steps.LastPage [] false s))
   unfolding step
   ejects o =
       let k = tasks.Eject ejecteds.Finish in
@@ -196,8 +195,8 @@ module _ (s : State) where
       let open_page = is_open s.formatter.paper.state in
       let over = plainly (λ f. record f { task = tasks.Halted }) x in
       let held = collected_ink c ++ [] in
-      by_bool open_page (Keeps x (step_freely x))
-      (λ is_so. keeps x (step_freely x) (end_page x) modes.Start dues.Look events.Nothing tasks.Halted steps.LastPage [] false
+      by_bool open_page (Keeps x (step x))
+      (λ is_so. keeps x (step x) (end_page x) modes.Start dues.Look events.Nothing tasks.Halted steps.LastPage [] false
       (if-true (open_page && s.formatter.paper.ejecting) (end_page x) over (ap₂ (λ a b. a && b) is_so o.closed)) refl Halts
       (record { clean = o.clean; ascends = tt; above = tt; shut = λ never. refl; drained = o.drained; closed = refl })
       (ap (λ z. squeezed z ++ ([] ++ held)) (text-one s.pages (page_of x))
@@ -213,14 +212,15 @@ module _ (s : State) where
             ap (λ rows. all ++ text_of rows) none ∙ append-nil all ∙ text-one s.pages (page_of x) ∙ ap (λ z. text s.pages ++ z) (last-page s.lines f.rows some f.few)
             ∙ ap (λ rows. text s.pages ++ text_of rows) (sym (ap (λ rows. rows_shown s.lines ++ rows) none ∙ append-nil (rows_shown s.lines)));
       }))
-      (λ other. keeps x (step_freely x) over modes.Start dues.Look events.Nothing tasks.Halted steps.LastPage [] false
+      (λ other. keeps x (step x) over modes.Start dues.Look events.Nothing tasks.Halted steps.LastPage [] false
       (if-false (open_page && s.formatter.paper.ejecting) (end_page x) over (ap (λ a. a && s.formatter.paper.ejecting) other)) refl Halts
       (retasked k tasks.Halted steps.LastPage steps.LastPage o o.drained (o.shut other)) refl
       (λ r f. record { reads = record { goes = refl; bytes = r.bytes; inside = r.inside }; prints = f; same = refl }))
 
   -- ---- all of it
 
-  moves : {m : Mode} {d : Due} {e : Event} {k : Task} {p : Step} {bs : List ℕ} {i : Bool} → Phase m d e k p bs i → OrderlyIn k p s → Keeps (calm m d e k p bs i s) (step_freely (calm m d e k p bs i s))
+  moves : {m : Mode} {d : Due} {e : Event} {k : Task} {p : Step} {bs : List ℕ} {i : Bool} → Phase m d e k p bs i → OrderlyIn k p s → Keeps (calm m d e k p bs i s) (step (calm m d e k p bs i s))
+  unfolding step
   moves {bs = bs} {i = i} (AtStart plain) o = start_reads s o bs i plain
   moves {bs = bs} {i = i} (InLead n plain) o = lead_reads s o n bs i plain
   moves {bs = bs} {i = i} (InText owes plain) o = text_reads s o bs i owes plain
@@ -246,5 +246,5 @@ module _ (s : State) where
       (λ r f. record { reads = r; prints = f; same = refl })
 
 -- a state that plain text leads to leads to another, and no ink is lost
-pub fine-moves : (s : State) → Fine s → Keeps s (step_freely s)
-fine-moves s f = subst (λ (t : State). Keeps t (step_freely t)) (sym f.is) (moves s f.phase f.orderly)
+pub fine-moves : (s : State) → Fine s → Keeps s (step s)
+fine-moves s f = subst (λ (t : State). Keeps t (step t)) (sym f.is) (moves s f.phase f.orderly)

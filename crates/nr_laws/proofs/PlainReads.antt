@@ -18,9 +18,8 @@ use Rattle.nr_input.specs.Moving.{met_at}
 use Rattle.nr_formatter.specs.declared.tasks.Task.TheVariants as tasks
 use Rattle.nr_formatter.specs.declared.tasks.Step.TheVariants as steps
 use Rattle.nr_engine.specs.State.{State}
-use Rattle.nr_engine.specs.Machine.{situation_of, with_situation}
+use Rattle.nr_engine.specs.Machine.{step, situation_of, with_situation}
 use Rattle.nr_laws.specs.PlainText.{is_ink, squeezed, is_plain_byte, is_sign, is_plain_from}
-use Rattle.nr_laws.specs.Unlimited.{step_freely}
 use Rattle.nr_laws.proofs.PlainPages.{squeezed-append, if-true, if-false, lines_ink}
 use Rattle.nr_laws.proofs.PlainStates.{calm, Owes, Nothing, Blanks, InLead, InText, HearsByte, HearsLead, HearsLeading, HearsEmpty, HearsEnd, HearsOver, OrderlyIn, Keeps, keeps}
 use Rattle.nr_laws.proofs.PlainLines.{collected_ink}
@@ -143,13 +142,14 @@ module _ (s : State) (o : OrderlyIn tasks.Read steps.NotYet s) where
   -- ---- in the midst of a text line
 
   text_byte_by : (b : ℕ) (bs : List ℕ) (i newline : Bool) → is_plain_from false (b ∷ bs) ≡ true → (b == 10) ≡ newline
-      → Keeps (reading modes.Text dues.Look (b ∷ bs) i s) (step_freely (reading modes.Text dues.Look (b ∷ bs) i s))
+      → Keeps (reading modes.Text dues.Look (b ∷ bs) i s) (step (reading modes.Text dues.Look (b ∷ bs) i s))
+  unfolding step
   text_byte_by b bs i true plain is =
       let c = reading modes.Text dues.Look (b ∷ bs) i s in
       let r = c.formatter.reader.half.reading in
-      let leads : step_freely c ≡ reads (tell events.EndLine (record r { mode = modes.Start; continued = false })) c =
+      let leads : step c ≡ reads (tell events.EndLine (record r { mode = modes.Start; continued = false })) c =
       ap (λ st. reads st c) (if-true (b == 10) (tell events.EndLine (record r { mode = modes.Start; continued = false })) (if b == 92 then go (record r { escape = escapes.Begun }) else tell (events.Byte b) r) is) in
-      keeps c (step_freely c) (reads (tell events.EndLine (record r { mode = modes.Start; continued = false })) c) modes.Start dues.Look events.EndLine tasks.Read steps.NotYet bs (not (b == 10))
+      keeps c (step c) (reads (tell events.EndLine (record r { mode = modes.Start; continued = false })) c) modes.Start dues.Look events.EndLine tasks.Read steps.NotYet bs (not (b == 10))
       leads refl (HearsEnd (after_byte false b bs true is plain)) o (ap (rest s) (not_ink b bs (newline_ink b is)))
       (λ r p. record {
         reads = record { goes = refl; bytes = subst (λ x. is_filled_from x bs ≡ true) is r.bytes; inside = λ begins. ap not is };
@@ -160,26 +160,27 @@ module _ (s : State) (o : OrderlyIn tasks.Read steps.NotYet s) where
       let c = reading modes.Text dues.Look (b ∷ bs) i s in
       let r = c.formatter.reader.half.reading in
       let p = prints b is (byte_of false b bs plain) in
-      let leads : step_freely c ≡ reads (tell (events.Byte b) r) c =
+      let leads : step c ≡ reads (tell (events.Byte b) r) c =
       ap (λ st. reads st c) (if-false (b == 10) (tell events.EndLine (record r { mode = modes.Start; continued = false })) (if b == 92 then go (record r { escape = escapes.Begun }) else tell (events.Byte b) r) is
       ∙ if-false (b == 92) (go (record r { escape = escapes.Begun })) (tell (events.Byte b) r) p.no_escape) in
-      keeps c (step_freely c) (reads (tell (events.Byte b) r) c) modes.Text dues.Look (events.Byte b) tasks.Read steps.NotYet bs (not (b == 10))
+      keeps c (step c) (reads (tell (events.Byte b) r) c) modes.Text dues.Look (events.Byte b) tasks.Read steps.NotYet bs (not (b == 10))
       leads refl (HearsByte b p.least p.most (after_byte false b bs false is plain)) o (ap (rest s) (sym (squeezed-append (b ∷ []) bs)))
       (λ r f. record { reads = record { goes = refl; bytes = subst (λ x. is_filled_from x bs ≡ true) is r.bytes; inside = λ begins. never_here begins }; prints = f; same = refl })
 
-  pub text_reads : {d : Due} (bs : List ℕ) (i : Bool) → Owes d → is_plain_from false bs ≡ true → Keeps (reading modes.Text d bs i s) (step_freely (reading modes.Text d bs i s))
+  pub text_reads : {d : Due} (bs : List ℕ) (i : Bool) → Owes d → is_plain_from false bs ≡ true → Keeps (reading modes.Text d bs i s) (step (reading modes.Text d bs i s))
+  unfolding step
   text_reads (b ∷ bs) i Nothing plain = text_byte_by b bs i (b == 10) plain refl
   text_reads [] true Nothing plain =
       let c = reading modes.Text dues.Look [] true s in
-      keeps c (step_freely c) (step_freely c) modes.Start dues.Look events.EndLine tasks.Read steps.NotYet [] false refl refl (HearsEnd refl) o refl
+      keeps c (step c) (step c) modes.Start dues.Look events.EndLine tasks.Read steps.NotYet [] false refl refl (HearsEnd refl) o refl
       (λ r p. record { reads = record { goes = refl; bytes = refl; inside = λ begins. refl }; prints = p; same = ap (λ rows. text s.pages ++ text_of (rows_shown s.lines ++ rows)) (added-newline (collected s.formatter)) })
   text_reads [] false Nothing plain =
       let c = reading modes.Text dues.Look [] false s in
-      keeps c (step_freely c) (step_freely c) modes.Start dues.Look events.EndLine tasks.Read steps.NotYet [] false refl refl (HearsEnd refl) o refl
+      keeps c (step c) (step c) modes.Start dues.Look events.EndLine tasks.Read steps.NotYet [] false refl refl (HearsEnd refl) o refl
       (λ r p. record { reads = record { goes = refl; bytes = refl; inside = λ begins. refl }; prints = p; same = ap (λ rows. text s.pages ++ text_of (rows_shown s.lines ++ rows)) (added-newline (collected s.formatter)) })
   text_reads bs i (Blanks n) plain =
       let c = reading modes.Text (dues.Lead n) bs i s in
-      keeps c (step_freely c) (step_freely c) modes.Text (behind_lead n) events.Lead tasks.Read steps.NotYet bs i refl refl (HearsLead (owes_by (nat_le n 1) (n - 1)) plain) o refl
+      keeps c (step c) (step c) modes.Text (behind_lead n) events.Lead tasks.Read steps.NotYet bs i refl refl (HearsLead (owes_by (nat_le n 1) (n - 1)) plain) o refl
       (λ r p. never_here r.goes)
     where
       owes_by : (x : Bool) (k : ℕ) → Owes (if x then dues.Look else dues.Lead k)
@@ -189,12 +190,13 @@ module _ (s : State) (o : OrderlyIn tasks.Read steps.NotYet s) where
   -- ---- at the beginning of a line
 
   start_byte_by : (b : ℕ) (bs : List ℕ) (i newline x : Bool) → is_plain_from true (b ∷ bs) ≡ true → (b == 10) ≡ newline → (b == 32) ≡ x
-      → Keeps (reading modes.Start dues.Look (b ∷ bs) i s) (step_freely (reading modes.Start dues.Look (b ∷ bs) i s))
+      → Keeps (reading modes.Start dues.Look (b ∷ bs) i s) (step (reading modes.Start dues.Look (b ∷ bs) i s))
+  unfolding step
   start_byte_by b bs i true x plain is is_x =
       let c = reading modes.Start dues.Look (b ∷ bs) i s in
       let r = c.formatter.reader.half.reading in
-      let leads : step_freely c ≡ reads (tell events.Empty r) c = ap (λ st. reads st c) (unsigned b bs r plain ∙ if-true (b == 10) (tell events.Empty r) (start_text b r) is) in
-      keeps c (step_freely c) (reads (tell events.Empty r) c) modes.Start dues.Look events.Empty tasks.Read steps.NotYet bs (not (b == 10))
+      let leads : step c ≡ reads (tell events.Empty r) c = ap (λ st. reads st c) (unsigned b bs r plain ∙ if-true (b == 10) (tell events.Empty r) (start_text b r) is) in
+      keeps c (step c) (reads (tell events.Empty r) c) modes.Start dues.Look events.Empty tasks.Read steps.NotYet bs (not (b == 10))
       leads refl (HearsEmpty (after_byte true b bs true is plain)) o (ap (rest s) (not_ink b bs (newline_ink b is)))
       (λ f p. never_here (sym (neither-left (b == 10) (b == 32) (first_of_line b bs f.bytes)) ∙ is))
   start_byte_by b bs i false true plain is is_x =
@@ -202,11 +204,11 @@ module _ (s : State) (o : OrderlyIn tasks.Read steps.NotYet s) where
       let r = c.formatter.reader.half.reading in
       let p = prints b is (byte_of true b bs plain) in
       let blanks = tell events.Leading (record r { mode = modes.Leading 1 }) in
-      let leads : step_freely c ≡ reads blanks c =
+      let leads : step c ≡ reads blanks c =
       ap (λ st. reads st c) (unsigned b bs r plain ∙ if-false (b == 10) (tell events.Empty r) (start_text b r) is
       ∙ if-false (b == 92) (go (record r { escape = escapes.Begun })) (if b == 32 then blanks else tell (events.Byte b) (record r { mode = modes.Text; continued = false })) p.no_escape
       ∙ if-true (b == 32) blanks (tell (events.Byte b) (record r { mode = modes.Text; continued = false })) is_x) in
-      keeps c (step_freely c) (reads blanks c) (modes.Leading 1) dues.Look events.Leading tasks.Read steps.NotYet bs (not (b == 10))
+      keeps c (step c) (reads blanks c) (modes.Leading 1) dues.Look events.Leading tasks.Read steps.NotYet bs (not (b == 10))
       leads refl (HearsLeading (after_byte true b bs false is plain)) o (ap (rest s) (not_ink b bs (blank_ink b is_x)))
       (λ f p. never_here (sym (neither-right (b == 10) (b == 32) (first_of_line b bs f.bytes)) ∙ is_x))
   start_byte_by b bs i false false plain is is_x =
@@ -215,33 +217,35 @@ module _ (s : State) (o : OrderlyIn tasks.Read steps.NotYet s) where
       let p = prints b is (byte_of true b bs plain) in
       let blanks = tell events.Leading (record r { mode = modes.Leading 1 }) in
       let said = tell (events.Byte b) (record r { mode = modes.Text; continued = false }) in
-      let leads : step_freely c ≡ reads said c =
+      let leads : step c ≡ reads said c =
       ap (λ st. reads st c) (unsigned b bs r plain ∙ if-false (b == 10) (tell events.Empty r) (start_text b r) is
       ∙ if-false (b == 92) (go (record r { escape = escapes.Begun })) (if b == 32 then blanks else said) p.no_escape ∙ if-false (b == 32) blanks said is_x) in
-      keeps c (step_freely c) (reads said c) modes.Text dues.Look (events.Byte b) tasks.Read steps.NotYet bs (not (b == 10))
+      keeps c (step c) (reads said c) modes.Text dues.Look (events.Byte b) tasks.Read steps.NotYet bs (not (b == 10))
       leads refl (HearsByte b p.least p.most (after_byte true b bs false is plain)) o (ap (rest s) (sym (squeezed-append (b ∷ []) bs)))
       (λ q f. record { reads = record { goes = refl; bytes = subst (λ x. is_filled_from x bs ≡ true) is (behind_first b bs q.bytes); inside = λ begins. never_here begins }; prints = f; same = refl })
 
-  pub start_reads : (bs : List ℕ) (i : Bool) → is_plain_from true bs ≡ true → Keeps (reading modes.Start dues.Look bs i s) (step_freely (reading modes.Start dues.Look bs i s))
+  pub start_reads : (bs : List ℕ) (i : Bool) → is_plain_from true bs ≡ true → Keeps (reading modes.Start dues.Look bs i s) (step (reading modes.Start dues.Look bs i s))
+  unfolding step
   start_reads (b ∷ bs) i plain = start_byte_by b bs i (b == 10) (b == 32) plain refl refl
   start_reads [] true plain =
       let c = reading modes.Start dues.Look [] true s in
-      keeps c (step_freely c) (step_freely c) modes.Start dues.Look events.Empty tasks.Read steps.NotYet [] false refl refl (HearsEmpty refl) o refl (λ r p. never_here (sym (r.inside refl)))
+      keeps c (step c) (step c) modes.Start dues.Look events.Empty tasks.Read steps.NotYet [] false refl refl (HearsEmpty refl) o refl (λ r p. never_here (sym (r.inside refl)))
   start_reads [] false plain =
       let c = reading modes.Start dues.Look [] false s in
-      keeps c (step_freely c) (step_freely c) modes.Start dues.Look events.Over tasks.Read steps.NotYet [] false refl refl HearsOver o refl
+      keeps c (step c) (step c) modes.Start dues.Look events.Over tasks.Read steps.NotYet [] false refl refl HearsOver o refl
       (λ r p. record { reads = record { goes = refl; bytes = refl; inside = λ begins. refl }; prints = p; same = refl })
 
   -- ---- behind blanks at a line's beginning
 
   lead_byte_by : (n b : ℕ) (bs : List ℕ) (i newline x : Bool) → is_plain_from false (b ∷ bs) ≡ true → (b == 10) ≡ newline → (b == 32) ≡ x
-      → Keeps (reading (modes.Leading n) dues.Look (b ∷ bs) i s) (step_freely (reading (modes.Leading n) dues.Look (b ∷ bs) i s))
+      → Keeps (reading (modes.Leading n) dues.Look (b ∷ bs) i s) (step (reading (modes.Leading n) dues.Look (b ∷ bs) i s))
+  unfolding step
   lead_byte_by n b bs i true x plain is is_x =
       let c = reading (modes.Leading n) dues.Look (b ∷ bs) i s in
       let r = c.formatter.reader.half.reading in
       let empty = tell events.Empty (record r { mode = modes.Start }) in
-      let leads : step_freely c ≡ reads empty c = ap (λ st. reads st c) (if-true (b == 10) empty (lead_text b n r) is) in
-      keeps c (step_freely c) (reads empty c) modes.Start dues.Look events.Empty tasks.Read steps.NotYet bs (not (b == 10))
+      let leads : step c ≡ reads empty c = ap (λ st. reads st c) (if-true (b == 10) empty (lead_text b n r) is) in
+      keeps c (step c) (reads empty c) modes.Start dues.Look events.Empty tasks.Read steps.NotYet bs (not (b == 10))
       leads refl (HearsEmpty (after_byte false b bs true is plain)) o (ap (rest s) (not_ink b bs (newline_ink b is))) (λ f p. never_here f.goes)
   lead_byte_by n b bs i false true plain is is_x =
       let c = reading (modes.Leading n) dues.Look (b ∷ bs) i s in
@@ -249,9 +253,9 @@ module _ (s : State) (o : OrderlyIn tasks.Read steps.NotYet s) where
       let empty = tell events.Empty (record r { mode = modes.Start }) in
       let more = go (record r { mode = modes.Leading (one_blank_more n) }) in
       let behind = leave (record r { mode = modes.Text; due = dues.Lead n }) in
-      let leads : step_freely c ≡ reads more c =
+      let leads : step c ≡ reads more c =
       ap (λ st. reads st c) (if-false (b == 10) empty (lead_text b n r) is ∙ if-true (b == 32) more (if b == 92 then go (record r { escape = escapes.Begun }) else behind) is_x) in
-      keeps c (step_freely c) (reads more c) (modes.Leading (one_blank_more n)) dues.Look events.Nothing tasks.Read steps.NotYet bs (not (b == 10))
+      keeps c (step c) (reads more c) (modes.Leading (one_blank_more n)) dues.Look events.Nothing tasks.Read steps.NotYet bs (not (b == 10))
       leads refl (InLead (one_blank_more n) (after_byte false b bs false is plain)) o (ap (rest s) (not_ink b bs (blank_ink b is_x))) (λ f p. never_here f.goes)
   lead_byte_by n b bs i false false plain is is_x =
       let c = reading (modes.Leading n) dues.Look (b ∷ bs) i s in
@@ -260,17 +264,18 @@ module _ (s : State) (o : OrderlyIn tasks.Read steps.NotYet s) where
       let empty = tell events.Empty (record r { mode = modes.Start }) in
       let more = go (record r { mode = modes.Leading (one_blank_more n) }) in
       let behind = leave (record r { mode = modes.Text; due = dues.Lead n }) in
-      let leads : step_freely c ≡ reads behind c =
+      let leads : step c ≡ reads behind c =
       ap (λ st. reads st c) (if-false (b == 10) empty (lead_text b n r) is ∙ if-false (b == 32) more (if b == 92 then go (record r { escape = escapes.Begun }) else behind) is_x
       ∙ if-false (b == 92) (go (record r { escape = escapes.Begun })) behind p.no_escape) in
-      keeps c (step_freely c) (reads behind c) modes.Text (dues.Lead n) events.Nothing tasks.Read steps.NotYet (b ∷ bs) i
+      keeps c (step c) (reads behind c) modes.Text (dues.Lead n) events.Nothing tasks.Read steps.NotYet (b ∷ bs) i
       leads refl (InText (Blanks n) plain) o refl (λ f q. never_here f.goes)
 
-  pub lead_reads : (n : ℕ) (bs : List ℕ) (i : Bool) → is_plain_from false bs ≡ true → Keeps (reading (modes.Leading n) dues.Look bs i s) (step_freely (reading (modes.Leading n) dues.Look bs i s))
+  pub lead_reads : (n : ℕ) (bs : List ℕ) (i : Bool) → is_plain_from false bs ≡ true → Keeps (reading (modes.Leading n) dues.Look bs i s) (step (reading (modes.Leading n) dues.Look bs i s))
+  unfolding step
   lead_reads n (b ∷ bs) i plain = lead_byte_by n b bs i (b == 10) (b == 32) plain refl refl
   lead_reads n [] true plain =
       let c = reading (modes.Leading n) dues.Look [] true s in
-      keeps c (step_freely c) (step_freely c) modes.Start dues.Look events.Empty tasks.Read steps.NotYet [] false refl refl (HearsEmpty refl) o refl (λ f p. never_here f.goes)
+      keeps c (step c) (step c) modes.Start dues.Look events.Empty tasks.Read steps.NotYet [] false refl refl (HearsEmpty refl) o refl (λ f p. never_here f.goes)
   lead_reads n [] false plain =
       let c = reading (modes.Leading n) dues.Look [] false s in
-      keeps c (step_freely c) (step_freely c) modes.Start dues.Look events.Empty tasks.Read steps.NotYet [] false refl refl (HearsEmpty refl) o refl (λ f p. never_here f.goes)
+      keeps c (step c) (step c) modes.Start dues.Look events.Empty tasks.Read steps.NotYet [] false refl refl (HearsEmpty refl) o refl (λ f p. never_here f.goes)

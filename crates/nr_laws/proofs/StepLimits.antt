@@ -1,7 +1,7 @@
--- A move does not depend on the limits.
+-- A move does not depend on the limits, and leaves them as they are.
 use Rattle.std.specs.Prelude.{is_none, not}
 use Rattle.std.proofs.Math.Path.{fun_ext}
-use Rattle.std.proofs.Common.{◌≡◌, ◌≢◌, ℕ, zero, suc, Bool, true, false, if◌then◌else◌, List, [], ◌∷◌, Option, None, Some, ℤ, pos, refl, ap, sym, ◌∙◌}
+use Rattle.std.proofs.Common.{◌≡◌, ℕ, zero, suc, Bool, true, false, if◌then◌else◌, List, [], ◌∷◌, Option, None, Some, ℤ, pos, refl, ap, ◌∙◌}
 use Rattle.nr_units.specs.declared.cell.Cell.{Cell}
 use Rattle.nr_tables.specs.declared.trap.Trap.{Trap}
 use Rattle.nr_store.specs.Stored.{is_held, shown}
@@ -29,10 +29,8 @@ use Rattle.nr_formatter.specs.Places.{outlet, to_read}
 use Rattle.nr_formatter.specs.Spacing.{is_spaceless}
 use Rattle.nr_formatter.specs.Springing.{sprung, ejected_to}
 use Rattle.nr_engine.specs.State.{State, Choice, First, Register, plainly}
-use Rattle.nr_engine.specs.Machine.{choose, begin_page, turn_page, put_line_to, put_line, put_or, break_out, room_in, title_to, cell_to, line_to, space_to, put_space, eject_to, eject, told, with_situation, act, work, hear, spring_or, choose_or, step, situation_of}
-use Rattle.nr_engine.specs.Answer.{Kind, Reads, Works, Over, kind, kind_of_task, kind_of_event, kind_of_springs, kind_of}
+use Rattle.nr_engine.specs.Machine.{choose, begin_page, turn_page, put_line_to, put_line, put_or, break_out, room_in, title_to, cell_to, line_to, space_to, put_space, eject_to, eject, told, with_situation, read, act, work, hear, spring_or, choose_or, step, state_after, situation_of}
 use Rattle.nr_laws.specs.Limited.{stored_under, reader_under, under, state_under}
-use Rattle.nr_laws.specs.UnlimitedInput.{acted_freely_at, move_freely}
 use Rattle.std.specs.List.{filter}
 use Rattle.nr_tables.specs.Traps.{nearest, on_page}
 use Rattle.nr_store.specs.declared.element.Element.{Element}
@@ -40,13 +38,12 @@ use Rattle.nr_store.specs.Stored.{Stored, Reading, Level, Read, Mark, left, left
 use Rattle.nr_reading.specs.Meeting.{Met, meet}
 use Rattle.nr_input.specs.Acting.{Acted}
 use Rattle.nr_input.specs.Coming.{front, behind}
-use Rattle.nr_input.specs.Moving.{Situation, Move, situation, looks, look, taken_at, stays_at, burst_behind, told_of, told_by}
+use Rattle.nr_input.specs.Moving.{Situation, Move, situation, looks, look, taken_at, stays_at, burst_behind, told_of, acted_at, move as input_move}
 use Rattle.nr_input.specs.declared.told.Told.{Told}
 use Rattle.nr_input.specs.declared.told.Told.TheVariants as tells
 use Rattle.nr_formatter.specs.declared.tasks.Resume.{Resume}
-use Rattle.nr_laws.specs.Unlimited.{read_freely, step_by, step_freely, freely_after}
 use Rattle.nr_laws.proofs.FormatterLimits.{outlet-under, heard-under, worked-under, sprung-under, ejected_to-under, register_set-under, break_word_end-under, either as formatter_either}
-use Rattle.nr_laws.proofs.InputLimits.{act_freely-under}
+use Rattle.nr_laws.proofs.InputLimits.{act-under as act_due-under}
 
 module _ (b : Bounds) where
   either : (c : Bool) (s t s' t' : State) → s' ≡ state_under b s → t' ≡ state_under b t → (if c then s' else t') ≡ state_under b (if c then s else t)
@@ -156,45 +153,7 @@ module _ (b : Bounds) where
   act-under requests.Ex s = refl
   act-under r s = plainly-under (worked (tasks.Act r)) s (worked-under b (tasks.Act r) s.formatter)
 
-  -- ---- a move that does not read
-
-  work-under : (t : Task) (s : State) → kind_of_task t ≢ Reads → work t (state_under b s) ≡ state_under b (work t s)
-  work-under tasks.Read s other = absurd (other refl)
-  work-under (tasks.Flow after breaks) s other = put_or-under (flow_line after breaks s.formatter) (flow_done after) s refl
-  work-under (tasks.Break t) s other = break_out-under t s
-  work-under (tasks.Act r) s other = act-under r s
-  work-under (tasks.Room r) s other = ap (λ o. room_in o r (state_under b s)) (outlet-under b s.formatter) ∙ room_in-under (outlet s.formatter) r s
-  work-under tasks.Title s other = ap (λ o. title_to o (state_under b s)) (outlet-under b s.formatter) ∙ title_to-under (outlet s.formatter) s
-  work-under (tasks.Line n) s other = ap (λ o. line_to o n (state_under b s)) (outlet-under b s.formatter) ∙ line_to-under (outlet s.formatter) n s
-  work-under (tasks.Space n) s other = put_space-under n s
-  work-under (tasks.Begin given) s other = refl
-  work-under (tasks.Eject e) s other = eject-under e s
-  work-under tasks.Halted s other = refl
-  work-under t s other = plainly-under (worked t) s (worked-under b t s.formatter)
-
-  hear-under : (e : Event) (s : State) → kind_of_event e s.formatter.task ≢ Reads → hear e (state_under b s) ≡ state_under b (hear e s)
-  hear-under events.Nothing s other = work-under s.formatter.task s other
-  hear-under (events.DivertedCell x) s other = ap (λ o. cell_to o x (state_under b s)) (outlet-under b s.formatter) ∙ cell_to-under (outlet s.formatter) x s
-  hear-under e s other = plainly-under (heard e) s (heard-under b e s.formatter)
-
-  spring_or-under : (n : Option (List ℕ)) (s : State) → kind_of_springs n s.formatter.event s.formatter.task ≢ Reads → spring_or n (state_under b s) ≡ state_under b (spring_or n s)
-  spring_or-under None s other = hear-under s.formatter.event s other
-  spring_or-under (Some n) s other = plainly-under (sprung n) s (sprung-under b n s.formatter)
-
-  choose-under : (c : Choice) (f : Formatter) → choose c (under b f) ≡ under b (choose c f)
-  choose-under (First n) f = formatter_either b (is_held n) (record f { paper = record f.paper { number = n } }) f _ (under b f) refl refl
-  choose-under (Register name n) f = register_set-under b (name ∷ []) n None f
-
-  choose_or-under : (cs : List Choice) (s : State) → kind_of cs s.formatter.springs s.formatter.event s.formatter.task ≢ Reads
-      → choose_or cs (state_under b s) ≡ state_under b (choose_or cs s)
-  choose_or-under [] s other = spring_or-under s.formatter.springs s other
-  choose_or-under (c ∷ cs) s other = ap (λ (f : Formatter). record (state_under b s) { chosen = cs; formatter = f }) (choose-under c s.formatter)
-
-  pub step-under : (s : State) → kind s ≢ Reads → step (state_under b s) ≡ state_under b (step s)
-  unfolding step
-  step-under s other = choose_or-under s.chosen s other
-
-  -- ---- a move that reads
+  -- ---- reading
 
   abbrev situation_under : Situation Resume → Situation Resume
   situation_under q = record q { stored = stored_under b.stored b.depth q.stored; reader = reader_under b.expansions q.reader }
@@ -222,16 +181,16 @@ module _ (b : Bounds) where
       }) (left-under q.stored.levels q.stored)
   met_at-under false m q = refl
 
-  acted_at-under : (q : Situation Resume) → acted_freely_at (situation_under q) ≡ move_under (acted_freely_at q)
+  acted_at-under : (q : Situation Resume) → acted_at (situation_under q) ≡ move_under (acted_at q)
   acted_at-under q =
-      ap (λ (a : Acted Resume). record { situation = situation a.stored q.coming a.reader; told = told_by a.answer })
-      (act_freely-under b.stored b.depth b.expansions q.reader.half.reading.due q.stored q.reader)
+      ap (λ (a : Acted Resume). record { situation = situation a.stored q.coming a.reader; told = tells.Event a.event })
+      (act_due-under b.stored b.depth b.expansions q.reader.half.reading.due q.stored q.reader)
 
   look-under : (q : Situation Resume) → look (situation_under q) ≡ move_under (look q)
   look-under q = let m = meet (front (shown q.stored.levels) q.coming) q.reader.half in met_at-under m.takes m q
 
   move_if-under : (c : Bool) (q : Situation Resume)
-      → (if c then look (situation_under q) else acted_freely_at (situation_under q)) ≡ move_under (if c then look q else acted_freely_at q)
+      → (if c then look (situation_under q) else acted_at (situation_under q)) ≡ move_under (if c then look q else acted_at q)
   move_if-under true q = look-under q
   move_if-under false q = acted_at-under q
 
@@ -244,18 +203,47 @@ module _ (b : Bounds) where
       ap (λ (f : Formatter). record (state_under b s) { coming = m.situation.coming; formatter = f })
       (told-under m.told (record s.formatter { store = m.situation.stored; reader = m.situation.reader }))
 
-  read_freely-under : (s : State) → read_freely (state_under b s) ≡ state_under b (read_freely s)
-  read_freely-under s =
-      ap (λ (m : Move Resume). with_situation m (state_under b s)) (move_if-under (looks (situation_of s)) (situation_of s)) ∙ with_situation-under (move_freely (situation_of s)) s
+  read-under : (s : State) → read (state_under b s) ≡ state_under b (read s)
+  read-under s =
+      ap (λ (m : Move Resume). with_situation m (state_under b s)) (move_if-under (looks (situation_of s)) (situation_of s)) ∙ with_situation-under (input_move (situation_of s)) s
 
-  step_by-under : (k : Kind) (s : State) → kind s ≡ k → step_by k (state_under b s) ≡ state_under b (step_by k s)
-  step_by-under Reads s is = read_freely-under s
-  step_by-under Works s is = step-under s (λ e. absurd (let x : Works ≡ Reads = sym is ∙ e in cc))
-  step_by-under Over s is = refl
+  -- ---- a move
 
-  pub step_freely-under : (s : State) → step_freely (state_under b s) ≡ state_under b (step_freely s)
-  step_freely-under s = step_by-under (kind s) s refl
+  work-under : (t : Task) (s : State) → work t (state_under b s) ≡ state_under b (work t s)
+  work-under tasks.Read s = read-under s
+  work-under (tasks.Flow after breaks) s = put_or-under (flow_line after breaks s.formatter) (flow_done after) s refl
+  work-under (tasks.Break t) s = break_out-under t s
+  work-under (tasks.Act r) s = act-under r s
+  work-under (tasks.Room r) s = ap (λ o. room_in o r (state_under b s)) (outlet-under b s.formatter) ∙ room_in-under (outlet s.formatter) r s
+  work-under tasks.Title s = ap (λ o. title_to o (state_under b s)) (outlet-under b s.formatter) ∙ title_to-under (outlet s.formatter) s
+  work-under (tasks.Line n) s = ap (λ o. line_to o n (state_under b s)) (outlet-under b s.formatter) ∙ line_to-under (outlet s.formatter) n s
+  work-under (tasks.Space n) s = put_space-under n s
+  work-under (tasks.Begin given) s = refl
+  work-under (tasks.Eject e) s = eject-under e s
+  work-under tasks.Halted s = refl
+  work-under t s = plainly-under (worked t) s (worked-under b t s.formatter)
 
-  pub freely_after-under : (n : ℕ) (s : State) → freely_after n (state_under b s) ≡ state_under b (freely_after n s)
-  freely_after-under zero s = refl
-  freely_after-under (suc n) s = ap step_freely (freely_after-under n s) ∙ step_freely-under (freely_after n s)
+  hear-under : (e : Event) (s : State) → hear e (state_under b s) ≡ state_under b (hear e s)
+  hear-under events.Nothing s = work-under s.formatter.task s
+  hear-under (events.DivertedCell x) s = ap (λ o. cell_to o x (state_under b s)) (outlet-under b s.formatter) ∙ cell_to-under (outlet s.formatter) x s
+  hear-under e s = plainly-under (heard e) s (heard-under b e s.formatter)
+
+  spring_or-under : (n : Option (List ℕ)) (s : State) → spring_or n (state_under b s) ≡ state_under b (spring_or n s)
+  spring_or-under None s = hear-under s.formatter.event s
+  spring_or-under (Some n) s = plainly-under (sprung n) s (sprung-under b n s.formatter)
+
+  choose-under : (c : Choice) (f : Formatter) → choose c (under b f) ≡ under b (choose c f)
+  choose-under (First n) f = formatter_either b (is_held n) (record f { paper = record f.paper { number = n } }) f _ (under b f) refl refl
+  choose-under (Register name n) f = register_set-under b (name ∷ []) n None f
+
+  choose_or-under : (cs : List Choice) (s : State) → choose_or cs (state_under b s) ≡ state_under b (choose_or cs s)
+  choose_or-under [] s = spring_or-under s.formatter.springs s
+  choose_or-under (c ∷ cs) s = ap (λ (f : Formatter). record (state_under b s) { chosen = cs; formatter = f }) (choose-under c s.formatter)
+
+  pub step-under : (s : State) → step (state_under b s) ≡ state_under b (step s)
+  unfolding step
+  step-under s = choose_or-under s.chosen s
+
+  pub state_after-under : (n : ℕ) (s : State) → state_after n (state_under b s) ≡ state_under b (state_after n s)
+  state_after-under zero s = refl
+  state_after-under (suc n) s = ap step (state_after-under n s) ∙ step-under (state_after n s)

@@ -1,11 +1,10 @@
 -- A run stops in one way, but for faults.
-use Rattle.std.proofs.Common.{◌≡◌, Bool, true, false, None, Some, Result, Ok, Err, IsOk, refl, sym, subst, ◌∙◌}
+use Rattle.std.proofs.Common.{◌≡◌, Bool, true, false, None, Some, Result, Ok, Err, refl, sym, subst, ◌∙◌}
 use Rattle.nr_store.specs.Stored.{shown}
 use Rattle.nr_store.specs.declared.shown.Shown.{Shown}
 use Rattle.nr_store.specs.declared.shown.Shown.TheVariants as shows
-use Rattle.nr_reading.specs.declared.event.Event.{Event}
 use Rattle.nr_input.specs.Coming.{Coming, MayLook, RefusesLook}
-use Rattle.nr_input.specs.Moving.{Situation, looks, acting}
+use Rattle.nr_input.specs.Moving.{Situation, looks, answer_at}
 use Rattle.nr_input.specs.Moving as input
 use Rattle.nr_input.specs.declared.refusal.Refusal.{Refusal}
 use Rattle.nr_input.specs.declared.refusal.Refusal.TheVariants as refusals
@@ -68,16 +67,15 @@ same_limit m measures.PageCells r a b = absurd b
 
 -- ---- a move that reads is made, or refused
 
-one_refusal : (a : Result Event Refusal) (r r' : Refusal) → a ≡ Err r → a ≡ Err r' → r ≡ r'
+one_refusal : (a : Result (Unit {0}) Refusal) (r r' : Refusal) → a ≡ Err r → a ≡ Err r' → r ≡ r'
 one_refusal a r r' x y = cc
 
-ok_or : (a : Result Event Refusal) (r : Refusal) → IsOk a → a ≡ Err r → ⊥
-ok_or (Ok e) r ok is = cc
-ok_or (Err x) r ok is = absurd (let y : false ≡ true = ok in cc)
+ok_or : (a : Result (Unit {0}) Refusal) (r : Refusal) → a ≡ Ok tt → a ≡ Err r → ⊥
+ok_or a r ok is = cc
 
 limit_goes : (c : Bool) (q : Situation Resume) (r : Refusal) → ForLimit r → input.GoesBy c q → input.RefusesBy c q r → ⊥
 limit_goes true q r l goes h = no_sight (shown q.stored.levels) q.coming r l h
-limit_goes false q r l goes h = ok_or (acting q).answer r goes h
+limit_goes false q r l goes h = ok_or (answer_at q) r goes h
 
 long_look : (s : Shown Resume) (c : Coming) → MayLook s c → RefusesLook s c refusals.TooLong → ⊥
 long_look shows.Nothing c goes h = goes.1 h.1
@@ -87,16 +85,16 @@ long_look (shows.Resume k) c goes h = h
 
 long_goes : (c : Bool) (q : Situation Resume) → input.GoesBy c q → input.RefusesBy c q refusals.TooLong → ⊥
 long_goes true q goes h = long_look (shown q.stored.levels) q.coming goes h
-long_goes false q goes h = ok_or (acting q).answer refusals.TooLong goes h
+long_goes false q goes h = ok_or (answer_at q) refusals.TooLong goes h
 
 limit_long : (c : Bool) (q : Situation Resume) (r : Refusal) → ForLimit r → input.RefusesBy c q r → input.RefusesBy c q refusals.TooLong → ⊥
 limit_long true q r l a b = no_sight (shown q.stored.levels) q.coming r l a
-limit_long false q r l a b = not_long r l (one_refusal (acting q).answer r refusals.TooLong a b)
+limit_long false q r l a b = not_long r l (one_refusal (answer_at q) r refusals.TooLong a b)
 
 limit_limit : (c : Bool) (q : Situation Resume) (m m' : Measure) (r r' : Refusal) → IsRefusal m r → IsRefusal m' r' → input.RefusesBy c q r → input.RefusesBy c q r' → m ≡ m'
 limit_limit true q m m' r r' is is' a b = absurd (no_sight (shown q.stored.levels) q.coming r (for_limit m r is) a)
 limit_limit false q m m' r r' is is' a b =
-    same_limit m m' r' (subst (IsRefusal m) (one_refusal (acting q).answer r r' a b) is) is'
+    same_limit m m' r' (subst (IsRefusal m) (one_refusal (answer_at q) r r' a b) is) is'
 
 -- ---- a move is made, or the run stops
 

@@ -4,13 +4,12 @@ use Rattle.nr_units.specs.Supply.{Supply}
 use Rattle.nr_options.specs.Limits.{Bounds}
 use Rattle.nr_options.specs.declared.options.Options.{Options}
 use Rattle.nr_engine.specs.State.{State, start}
-use Rattle.nr_engine.specs.Machine.{state_after}
+use Rattle.nr_engine.specs.Machine.{step, state_after}
 use Rattle.nr_engine.specs.Printing.{text}
-use Rattle.nr_engine.specs.Answer.{Runs, Answers, kind, Over}
+use Rattle.nr_engine.specs.Answer.{Answers, kind, Over}
 use Rattle.nr_engine.specs.declared.outcome.Outcome.{Outcome}
 use Rattle.nr_engine.specs.declared.outcome.Outcome.TheVariants.{Done, ReadFault, WriteFault}
 use Rattle.nr_laws.specs.Limited.{state_under}
-use Rattle.nr_laws.specs.Unlimited.{freely_after}
 
 -- ---- the words of the laws
 
@@ -38,13 +37,13 @@ AnswersWith b options supply n outcome out = Answers b (start b options supply) 
 
 -- ---- the run without limits
 
--- what the state of the run without limits has where limits stand: it is never asked
+-- what its states have where limits stand: no move asks
 abbrev pub nothing_allowed : Bounds
 nothing_allowed = record { stored = 0; depth = 0; cells = 0; expansions = 0 }
 
--- after n moves without limits
+-- after n moves, whatever limits they pass
 abbrev pub unlimited : Options → Supply → ℕ → State
-unlimited options supply n = freely_after n (start nothing_allowed options supply)
+unlimited options supply n = state_after n (start nothing_allowed options supply)
 
 -- what has gone out then
 abbrev pub unlimited_text : Options → Supply → ℕ → List ℕ
@@ -58,17 +57,14 @@ pub record UnlimitedOutput (options : Options) (supply : Supply) (whole : List �
 
 -- ---- limits only stop a run
 
--- As long as a run under limits goes on, its states are those of the run without.
+-- No move asks for a limit: it is the same under any, and leaves them as they are.
+abbrev pub NoLimitAsked : Type 0
+NoLimitAsked = (b : Bounds) (s : State) → step (state_under b s) ≡ state_under b (step s)
+
+-- So the states of a run under limits, as far as it goes, are those of the run without.
 abbrev pub LimitsOnlyStop : Type 0
 LimitsOnlyStop =
-    (b : Bounds) (options : Options) (supply : Supply) (n : ℕ)
-    → Runs n (start b options supply) → state_after n (start b options supply) ≡ state_under b (unlimited options supply n)
-
--- Without limits a run is the same, whatever stands where limits stand.
-abbrev pub NoLimitAsked : Type 0
-NoLimitAsked =
-    (b : Bounds) (options : Options) (supply : Supply) (n : ℕ)
-    → freely_after n (start b options supply) ≡ state_under b (unlimited options supply n)
+    (b : Bounds) (options : Options) (supply : Supply) (n : ℕ) → state_after n (start b options supply) ≡ state_under b (unlimited options supply n)
 
 -- ---- a prefix
 

@@ -2,5 +2,3 @@ pub mod FilledText
 pub mod Laws
 pub mod Limited
 pub mod PlainText
-pub mod Unlimited
-pub mod UnlimitedInput

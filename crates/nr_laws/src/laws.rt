@@ -3,7 +3,7 @@ ghost use Rattle.nr_laws.specs.Laws.{LimitsOnlyStop, NoLimitAsked, LimitsCut, Li
 ghost use Rattle.nr_laws.specs.PlainText.{PlainTextStays};
 ghost use Rattle.nr_laws.specs.FilledText.{FilledTextIsRows, CutIsLongest, CutFits};
 
-/// Limits only stop a run: as long as it goes on, its states are those of the run without limits.
+/// Limits only stop a run: no move asks for one, so the states are those of the run without limits, as far as the run goes.
 pub fn limits_only_stop()
     ensures states { LimitsOnlyStop }
     ensures unasked { NoLimitAsked }

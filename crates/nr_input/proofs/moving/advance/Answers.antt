@@ -1,9 +1,18 @@
-use Rattle.std.proofs.Common.{◌≡◌, Ok, ap, true}
+use Rattle.std.proofs.Common.{◌≡◌, Ok, ap, sym, true}
 use Rattle.nr_reading.specs.declared.mode.Due.TheVariants as dues
 use Rattle.nr_input.specs.Acting.{is_look}
+use Rattle.nr_input.proofs.Due.{acted_moves, acted_refuses}
 use Rattle.nr_input.proofs.Spending.{act_pays}
 use Rattle.nr_input.proofs.Staying.{act_begins_none}
 use Rattle.nr_input.proofs.moving.advance.Goals as goal
+
+pub returns-in-Ok-clause-moved : goal.returns-in-Ok-clause-moved
+returns-in-Ok-clause-moved g c = λ coming holds.
+    acted_moves c.args.store.now c.act.new.store c.args.reader.now c.act.new.self coming c.args.place.now _ (sym c.if-looks.ensures) holds c.in-Ok.event c.in-Ok.ensures
+
+pub returns-in-Err-clause-moved : goal.returns-in-Err-clause-moved
+returns-in-Err-clause-moved g c = λ coming holds.
+    acted_refuses c.args.store.now c.act.new.store c.args.reader.now c.act.new.self coming c.args.place.now _ (sym c.if-looks.ensures) holds c.in-Err.refusal c.in-Err.ensures
 
 pub returns-in-Ok-clause-pays : goal.returns-in-Ok-clause-pays
 returns-in-Ok-clause-pays g c =

@@ -1,6 +1,26 @@
+use Rattle.std.proofs.Common.{true}
+use Rattle.nr_reading.specs.declared.event.Event.TheVariants as events
+use Rattle.nr_store.specs.Stored.{reading_bytes}
+use Rattle.nr_input.specs.Acting.{expanded}
+use Rattle.nr_input.specs.Refusals.{splicing_answer}
 use Rattle.nr_input.proofs.Costs.{bytes_splice}
+use Rattle.nr_input.proofs.Refusals.{called-as, refused-as}
 use Rattle.nr_input.proofs.reader.Reader.give.Goals as goal
+
+pub returns-in-Ok-clause-gives : goal.returns-in-Ok-clause-gives
+returns-in-Ok-clause-gives g c =
+    let v = c.args.store.now in
+    let r = c.args.self.now in
+    let n = reading_bytes c.args.bytes.now v in
+    called-as (splicing_answer true n r) n (expanded r) events.Nothing tt v _ r _ _ c.in-Ok.ensures
 
 pub returns-in-Ok-clause-pays : goal.returns-in-Ok-clause-pays
 returns-in-Ok-clause-pays g c =
-    bytes_splice c.args.bytes.now c.args.store.now c.splice_bytes.new.store c.args.self.now c.splice_bytes.new.self c.in-Ok.field-0 c.in-Ok.ensures
+    bytes_splice c.args.bytes.now c.args.store.now c.splice_bytes.new.store c.args.self.now c.splice_bytes.new.self (returns-in-Ok-clause-gives g c)
+
+pub returns-in-Err-clause-gives : goal.returns-in-Err-clause-gives
+returns-in-Err-clause-gives g c =
+    let v = c.args.store.now in
+    let r = c.args.self.now in
+    let n = reading_bytes c.args.bytes.now v in
+    refused-as (splicing_answer true n r) n (expanded r) events.Nothing tt v _ r _ _ c.in-Err.ensures

@@ -1,0 +1,42 @@
+-- What is due as a move of the machine, and where a refused move leaves it.
+use Rattle.std.proofs.Common.{◌≡◌, true, false, Option, Result, Ok, Err, refl, ap, sym, subst, ◌∙◌}
+use Rattle.std.proofs.lemmas.Bool.{cond-false}
+use Rattle.nr_units.specs.Supply.{Supply}
+use Rattle.nr_store.specs.Stored.{Stored, shown}
+use Rattle.nr_store.specs.declared.shown.Shown.{Shown}
+use Rattle.nr_store.specs.declared.shown.Shown.TheVariants as shows
+use Rattle.nr_reading.specs.declared.event.Event.{Event}
+use Rattle.nr_input.specs.declared.reader.Reader.{Reader}
+use Rattle.nr_input.specs.declared.refusal.Refusal.{Refusal}
+use Rattle.nr_input.specs.declared.refusal.Refusal.TheVariants as refusals
+use Rattle.nr_input.specs.declared.told.Told.TheVariants as tells
+use Rattle.nr_input.specs.Acting.{Acted, act, is_look}
+use Rattle.nr_input.specs.Coming.{Coming, Reached, HoldsComing, RefusesLook}
+use Rattle.nr_input.specs.Moving.{Situation, Move, situation, look, acted_at, move, Stands, GoesBy, RefusesBy, stuck, AfterMove}
+use Rattle.nr_input.specs.Refusals.{answer, called, stored_by, reader_by, acted}
+use Rattle.nr_input.proofs.Refusals.{acted-ok, called-err}
+
+module _ {K : Type 0} (v w : Stored K) (r s : Reader) (c : Coming) (p : Reached) (supply : Option Supply) (due : is_look r.half.reading.due ≡ false) (holds : HoldsComing c p supply) where
+  abbrev at : Situation K
+  at = situation v c r
+
+  -- what is due is done
+  pub acted_moves : (e : Event) → called w s (Ok e) ≡ acted r.half.reading.due v r → AfterMove at (Ok (tells.Event e)) w s p supply
+  acted_moves e is =
+      let d = r.half.reading.due in
+      let done = acted-ok (answer d v r) (act d v r) v w r s e is in
+      let there : move at ≡ record { situation = situation w c s; told = tells.Event e } =
+      cond-false (is_look d) (look at) (acted_at at) due ∙ ap (λ (a : Acted K). record { situation = situation a.stored c a.reader; told = tells.Event a.event }) (sym done.1) in
+      let stands : Stands (situation w c s) w s p supply = record { stored = refl; reader = refl; coming = holds } in (
+        ap (λ (m : Move K). m.told) (sym there),
+        subst (λ (m : Move K). Stands m.situation w s p supply) (sym there) stands,
+        subst (λ l. GoesBy l at) (sym due) done.0,
+      )
+
+  -- or is refused
+  pub acted_refuses : (e : Refusal) → called w s (Err e) ≡ acted r.half.reading.due v r → AfterMove at (Err e) w s p supply
+  acted_refuses e is =
+      let d = r.half.reading.due in
+      let a = act d v r in
+      let stays = called-err (answer d v r) a.stored a.reader a.event v w r s e is in
+      (subst (λ l. RefusesBy l at e) (sym due) stays.refused, record { stored = stays.stored; reader = stays.reader; coming = holds })
