@@ -7,7 +7,7 @@ ghost use Rattle.nr_formatter.specs.Places.{page_outlet, is_on_page, is_open, pa
 use nr_units::Format;
 
 /// Whether a page is open.
-#[derive(Clone, Copy, Debug, PartialEq, Eq)]
+#[derive(Clone, Copy)]
 pub enum PageState {
     /// The first page has not begun.
     Unbegun,
@@ -17,7 +17,7 @@ pub enum PageState {
 }
 
 /// Where output goes.
-#[derive(Clone, Copy, Debug, PartialEq, Eq)]
+#[derive(Clone, Copy)]
 pub enum Outlet {
     /// To the innermost diversion.
     Diversion,
@@ -43,7 +43,7 @@ impl Outlet {
 }
 
 /// The page under way.
-#[derive(Clone, Copy, Debug)]
+#[derive(Clone, Copy)]
 pub struct Paper {
     pub state: PageState,
     /// The number of the open page, or the one that the next will have.
@@ -57,7 +57,7 @@ pub struct Paper {
 }
 
 /// The registers `dn` and `dl`, and the formats of the given registers that have one.
-#[derive(Clone, Copy, Debug)]
+#[derive(Clone, Copy)]
 pub struct Given {
     /// `dn`, in u.
     pub height: i32,

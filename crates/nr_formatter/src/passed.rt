@@ -7,7 +7,7 @@ use nr_input::Refusal;
 use nr_store::StoredBytes;
 
 /// The measure that a move would bring above its limit.
-#[derive(Clone, Copy, Debug, PartialEq, Eq)]
+#[derive(Clone, Copy)]
 pub enum Passed {
     /// The bytes that are stored.
     Stored,

@@ -5,7 +5,7 @@ ghost use Rattle.nr_settings.specs.Escapes.{escape_of, len_before, escape_name_l
 use crate::registers::is_digit;
 
 /// What an escape is, by the byte behind the `\`.
-#[derive(Clone, Copy, PartialEq, Eq, Debug)]
+#[derive(Clone, Copy)]
 pub enum Escape {
     /// One cell.
     OneCell,

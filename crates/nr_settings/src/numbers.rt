@@ -8,7 +8,7 @@ use crate::lengths::Height;
 use nr_units::{Ctx, Scale, read_expr};
 
 /// What the argument of a signed request says.
-#[derive(Clone, Copy, PartialEq, Eq, Debug)]
+#[derive(Clone, Copy)]
 pub enum Change {
     /// The new value.
     To(i32),

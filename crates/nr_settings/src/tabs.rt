@@ -17,7 +17,7 @@ pub struct Ruler {
 }
 
 /// The tab stops, and the bytes that a tab and a leader repeat; with None they make blanks.
-#[derive(Drop, Debug)]
+#[derive(Drop)]
 pub struct Tabs {
     pub stops: Stops,
     pub tab: Option<u8>,

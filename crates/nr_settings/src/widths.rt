@@ -15,7 +15,7 @@ use crate::motions::motion;
 use crate::specials::Special;
 
 /// An element of a text: the number of its bytes behind the first, and its width in units.
-#[derive(Clone, Copy, PartialEq, Eq, Debug)]
+#[derive(Clone, Copy)]
 pub struct Element {
     pub more: usize,
     pub width: u32,

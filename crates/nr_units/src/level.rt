@@ -11,7 +11,7 @@ use crate::units::{Scale, in_range};
 ///
 /// `least` and `greatest` are those of 0 and the shifts at each bar: a result farther than 2147483647 from one of
 /// them had a value out of range on the way.
-#[derive(Clone, Copy, PartialEq, Eq, Debug, Default)]
+#[derive(Clone, Copy, Default)]
 pub struct Prefix {
     pub negated: bool,
     pub shift: i64,
@@ -20,21 +20,21 @@ pub struct Prefix {
 }
 
 /// What stands on the left of an operand in its level.
-#[derive(Clone, Copy, PartialEq, Eq, Debug)]
+#[derive(Clone, Copy)]
 pub struct Left {
     pub value: Option<i32>,
     pub operator: Operator,
 }
 
 /// What waits for an operand.
-#[derive(Clone, Copy, PartialEq, Eq, Debug, Default)]
+#[derive(Clone, Copy, Default)]
 pub struct Waiting {
     pub left: Option<Left>,
     pub prefix: Prefix,
 }
 
 /// What stands right in front of the place where an operand is wanted.
-#[derive(Clone, Copy, PartialEq, Eq, Debug)]
+#[derive(Clone, Copy)]
 pub enum Behind {
     /// The beginning, a blank, a bar, or an operator that no `=` can make longer.
     Nothing,
@@ -45,7 +45,7 @@ pub enum Behind {
 }
 
 /// How far the operand is read.
-#[derive(Clone, Copy, PartialEq, Eq, Debug)]
+#[derive(Clone, Copy)]
 pub enum Mode {
     Before(Behind),
     /// A point without digits in front.
@@ -63,7 +63,7 @@ pub enum Mode {
 }
 
 /// A level of an expression.
-#[derive(Clone, Copy, PartialEq, Eq, Debug)]
+#[derive(Clone, Copy)]
 pub struct Level {
     pub mode: Mode,
     pub waiting: Waiting,

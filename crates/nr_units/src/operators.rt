@@ -5,7 +5,7 @@ ghost use Rattle.nr_units.specs.Expression.{applied, quotient, remainder};
 use crate::units::in_range;
 
 /// An operator between two operands (CSTR 54, numerical input).
-#[derive(Clone, Copy, PartialEq, Eq, Debug)]
+#[derive(Clone, Copy)]
 pub enum Operator {
     /// `+`
     Add,

@@ -8,7 +8,7 @@ use crate::symbols::Symbol;
 use arrayvec::ArrayVec;
 
 /// What a symbol did.
-#[derive(Clone, Copy, PartialEq, Eq, Debug)]
+#[derive(Clone, Copy)]
 pub enum Step {
     /// An expression may go on so.
     Taken,

@@ -6,7 +6,7 @@ use crate::operators::Operator;
 use crate::units::Scale;
 
 /// What a byte is in an expression.
-#[derive(Clone, Copy, PartialEq, Eq, Debug)]
+#[derive(Clone, Copy)]
 pub enum Symbol {
     /// A digit, 0 to 9.
     Digit(u8),
