@@ -32,7 +32,7 @@ pub enum Outlet {
 impl Outlet {
     /// Whether it is a page.
     #[inline]
-    pub fn is_on_page(self) -> bool
+    pub(crate) fn is_on_page(self) -> bool
         ensures { result ≡ is_on_page self }
     {
         match self {
@@ -70,7 +70,7 @@ pub struct Given {
 }
 
 /// The lowest place on a page, in u.
-pub const LOWEST: u32 = 2_147_483_647;
+pub(crate) const LOWEST: u32 = 2_147_483_647;
 
 impl Paper {
     /// The first page has not begun.
@@ -110,14 +110,14 @@ impl Paper {
     }
 
     /// The place on the open page, or 0 while none is open.
-    pub fn page_place(self) -> u32
+    pub(crate) fn page_place(self) -> u32
         ensures { result ≡ page_place self }
     {
         if self.is_open() { self.place } else { 0 }
     }
 
     /// The number of the page behind this one. Behind 2147483647 it is that again.
-    pub fn following(self) -> i32
+    pub(crate) fn following(self) -> i32
         ensures { result ≡ following self }
     {
         match self.next {

@@ -6,7 +6,7 @@ use crate::registers::is_digit;
 
 /// What an escape is, by the byte behind the `\`.
 #[derive(Clone, Copy)]
-pub enum Escape {
+pub(crate) enum Escape {
     /// One cell.
     OneCell,
     /// No cell.

@@ -11,7 +11,7 @@ use nr_units::{Ctx, Scale, read_expr, round_h};
 
 /// The stops of `.ta` that have been read, and the place of the last in units.
 #[derive(Drop)]
-pub struct Ruler {
+pub(crate) struct Ruler {
     pub stops: Stops,
     pub place: i64,
 }

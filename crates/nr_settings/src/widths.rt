@@ -16,7 +16,7 @@ use crate::specials::Special;
 
 /// An element of a text: the number of its bytes behind the first, and its width in units.
 #[derive(Clone, Copy)]
-pub struct Element {
+pub(crate) struct Element {
     pub more: usize,
     pub width: u32,
 }

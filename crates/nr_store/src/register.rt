@@ -32,7 +32,7 @@ pub struct Register {
 
 impl Register {
     /// An undefined register.
-    pub fn unset() -> Register
+    pub(crate) fn unset() -> Register
         ensures { result ≡ unset }
     {
         Register {

@@ -6,7 +6,7 @@ use crate::units::in_range;
 
 /// An operator between two operands (CSTR 54, numerical input).
 #[derive(Clone, Copy)]
-pub enum Operator {
+pub(crate) enum Operator {
     /// `+`
     Add,
     /// `-`
