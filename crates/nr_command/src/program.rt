@@ -21,7 +21,7 @@ use std::io::{BufWriter, Read, Write};
 use std::rt::{Env, Files};
 
 #[cfg(test)]
-mod tests;
+pub(crate) mod tests;
 
 /// Runs the program in a system: over its words, its files and these streams. Gives its status.
 pub fn run_program<R: Env + Files, I: Read + Copy + Drop, W: Write + Drop, E: Write + Drop>(

@@ -74,9 +74,6 @@ choice_stays c e f is =
 pub stays-trans : (e f g : Shape) → StaysLight e f → StaysLight f g → StaysLight e g
 stays-trans e f g a b = record { place = b.place ∙ a.place; limit = b.limit ∙ a.limit; most = b.most ∙ a.most; weighs = b.weighs ∙ a.weighs }
 
-pub stays-refl : (e : Shape) → StaysLight e e
-stays-refl e = record { place = refl; limit = refl; most = refl; weighs = refl }
-
 -- the first page's number stores nothing
 first_charge : (b : Bool) (n : ℤ) (f : Formatter) → charge_of (if b then record f { paper = record f.paper { number = n } } else f).store ≡ charge_of f.store
 first_charge true n f = refl

@@ -1,15 +1,11 @@
 -- What goes out, and where it does.
-use Rattle.std.proofs.Common.{◌≡◌, ℕ, ◌<◌, Bool, List, [], ◌∷◌, ◌++◌, replicate, length, Option, None, Some, is_some, refl, ap, arith}
+use Rattle.std.proofs.Common.{◌≡◌, ℕ, ◌<◌, List, [], ◌∷◌, ◌++◌, replicate, length, Option, None, Some, is_some, refl, ap, arith}
 use Rattle.std.specs.Prelude.{if◌then◌else◌}
 use Rattle.std.proofs.lemmas.Bool.{false≢true}
 use Rattle.nr_units.specs.Cells.{blank}
 use Rattle.nr_units.specs.declared.cell.Cell.{Cell}
 use Rattle.nr_fill.specs.Pieces.{is_nil, Piece}
-use Rattle.nr_formatter.specs.Access.{collected}
-use Rattle.nr_formatter.specs.Lines.{flow_line, break_line}
-use Rattle.nr_formatter.specs.declared.formatter.Formatter.{Formatter}
 use Rattle.nr_formatter.specs.declared.lines.Going.{Going}
-use Rattle.nr_formatter.specs.declared.tasks.After.{After}
 use Rattle.nr_formatter.specs.declared.paper.Outlet.{Outlet}
 use Rattle.nr_formatter.specs.declared.paper.Outlet.TheVariants as outlets
 use Rattle.nr_engine.specs.State.{State}
@@ -20,12 +16,6 @@ some_pieces [] o g is = absurd (false≢true (ap is_some is))
 some_pieces (p ∷ ps) o g is = omega arith
 
 -- what goes out has pieces
-
-pub pieces_flow : (after : After) (breaks : Bool) (f : Formatter) (g : Going) → flow_line after breaks f ≡ Some g → 0 < length (collected f).pieces
-pieces_flow after breaks f g is = some_pieces (collected f).pieces _ g is
-
-pub pieces_break : (f : Formatter) (g : Going) → break_line f ≡ Some g → 0 < length (collected f).pieces
-pieces_break f g is = some_pieces (collected f).pieces _ g is
 
 -- where no page is full one begins
 pub begins : (o : Outlet) (s : State) → (o ≡ outlets.Full → ⊥) → turn_page o s ≡ begin_page s

@@ -31,23 +31,6 @@ passed_none s w = rw (
 pub passed_stored : (s : State) → s.formatter.store.limit < charge_of s.formatter.store → passed s ≡ Some Stored
 passed_stored s over = rw (lt-ltb s.formatter.store.limit (charge_of s.formatter.store) over) refl
 
-pub passed_line : (s : State) → charge_of s.formatter.store ≤ s.formatter.store.limit → length s.formatter.store.levels ≤ s.formatter.store.deepest
-    → s.formatter.line.limit < line_cells (collected s.formatter) → passed s ≡ Some LineCells
-passed_line s stored depth over = rw (
-  le-ltb s.formatter.store.limit (charge_of s.formatter.store) stored,
-  le-ltb s.formatter.store.deepest (length s.formatter.store.levels) depth,
-  lt-ltb s.formatter.line.limit (line_cells (collected s.formatter)) over,
-) refl
-
-pub passed_page : (s : State) → charge_of s.formatter.store ≤ s.formatter.store.limit → length s.formatter.store.levels ≤ s.formatter.store.deepest
-    → line_cells (collected s.formatter) ≤ s.formatter.line.limit → s.page_limit < page_charge s.lines → passed s ≡ Some PageCells
-passed_page s stored depth line over = rw (
-  le-ltb s.formatter.store.limit (charge_of s.formatter.store) stored,
-  le-ltb s.formatter.store.deepest (length s.formatter.store.levels) depth,
-  le-ltb s.formatter.line.limit (line_cells (collected s.formatter)) line,
-  lt-ltb s.page_limit (page_charge s.lines) over,
-) refl
-
 -- ---- a move of the formatter
 
 pub not_over : (m n : ℕ) → nat_lt m n ≡ false → n ≤ m

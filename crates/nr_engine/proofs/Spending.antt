@@ -8,7 +8,7 @@ use Rattle.nr_reading.specs.Weights.{cost_of_event, blanks_owed, is_lead}
 use Rattle.nr_store.specs.Stored.{Stored, Built}
 use Rattle.nr_input.specs.Coming.{Reached, ended}
 use Rattle.nr_input.specs.Runs.{PaysAll}
-use Rattle.nr_input.specs.Weights.{byte_worth, Pays, IfLead, diversions_in, diversions_of, count_of_diversion}
+use Rattle.nr_input.specs.Weights.{byte_worth, weight_before_byte, risen, Pays, IfLead, diversions_in, diversions_of, count_of_diversion}
 use Rattle.nr_input.specs.declared.reader.Reader.{Reader}
 use Rattle.nr_input.specs.declared.told.Told.TheVariants as tells
 use Rattle.nr_formatter.specs.Weights.{Falls, weight, steps_left, owed, owed_by_event, owed_by_task, weight_of_agenda, weight_of_diversion, weight_of_built, weight_of_diversions}
@@ -70,31 +70,30 @@ same_count : (bs : List Built) → weight_of_diversions bs ≡ diversions_in bs
 same_count [] = refl
 same_count (b ∷ bs) = omega (arith, sum_by-cons weight_of_built b bs, sum_by-cons diversions_of b bs, same_diversion b.diversion, same_count bs)
 
+-- so many moves read, and the last of them told this
+told_paid : (n : ℕ) (p q : Reached) (f : Formatter) (v : Stored Resume) (r : Reader) (e : Event) → f.event ≡ events.Nothing → f.task ≡ tasks.Read
+    → weight_before_byte v q r + cost_of_event e + n + 178 * risen f.reader.half r.half + byte_worth f.reader.most f.store.limit * p.taken
+    ≤ weight_before_byte f.store p f.reader + 1 + byte_worth f.reader.most f.store.limit * q.taken
+    → 178 * blanks_owed r.half + lead_of e ≤ 178 * (blanks_owed r.half - blanks_owed f.reader.half) + 178 * blanks_owed f.reader.half
+    → diversions_in v.building ≤ diversions_in f.store.building
+    → weight q (record f { store = v; reader = r; event = e }) + n + byte_worth f.reader.most f.store.limit * p.taken
+    ≤ weight p f + byte_worth f.reader.most f.store.limit * q.taken
+unfolding weight steps_left owed
+told_paid n p q f v r e idle task paid blanks fewer =
+    let before : weight_of_agenda f.event f.task f.step ≡ 4 = rw (idle, task) refl in
+    let owed_before : owed_by_event f.event + owed_by_task f.task f.reader.half ≡ 0 = rw (idle, task) refl in
+    let behind : weight_of_agenda e f.task f.step ≡ weight_of_agenda e tasks.Read f.step = rw task refl in
+    let owed_behind : owed_by_task f.task r.half ≡ 0 = rw task refl in
+    omega (arith, before, owed_before, behind, owed_behind, paid, event_paid e f.step, blanks, same_count v.building, same_count f.store.building, fewer)
+
 -- an event is told
 pub told_spends : (p q : Reached) (f : Formatter) (v : Stored Resume) (r : Reader) (e : Event) → f.event ≡ events.Nothing → f.task ≡ tasks.Read
     → Pays f.store p f.reader (tells.Event e) v q r → diversions_in v.building ≤ diversions_in f.store.building
     → weight q (record f { store = v; reader = r; event = e }) + 1 + byte_worth f.reader.most f.store.limit * p.taken
     ≤ weight p f + byte_worth f.reader.most f.store.limit * q.taken
-unfolding weight steps_left owed
 told_spends p q f v r e idle task pays fewer =
-    let w = byte_worth f.reader.most f.store.limit in
-    let before : weight_of_agenda f.event f.task f.step ≡ 4 = rw (idle, task) refl in
-    let owed_before : owed_by_event f.event + owed_by_task f.task f.reader.half ≡ 0 = rw (idle, task) refl in
-    let behind : weight_of_agenda e f.task f.step ≡ weight_of_agenda e tasks.Read f.step = rw task refl in
-    let owed_behind : owed_by_task f.task r.half ≡ 0 = rw task refl in
-    omega (
-      arith,
-      before,
-      owed_before,
-      behind,
-      owed_behind,
-      pays.pays w (omega arith),
-      event_paid e f.step,
-      blanks_paid e (blanks_owed f.reader.half) (blanks_owed r.half) pays.lead,
-      same_count v.building,
-      same_count f.store.building,
-      fewer,
-    )
+    told_paid 1 p q f v r e idle task (let paid = pays.pays (byte_worth f.reader.most f.store.limit) (omega arith) in omega arith)
+    (blanks_paid e (blanks_owed f.reader.half) (blanks_owed r.half) pays.lead) fewer
 
 -- what was under way is gone on with
 pub resumed_spends : (p q : Reached) (f g : Formatter) (v : Stored Resume) (r : Reader) (k : Resume) → f.event ≡ events.Nothing → f.task ≡ tasks.Read
@@ -117,10 +116,6 @@ exit_spends w p f g falls = let a = falls.falls (ended p) in omega arith
 pub work_spends : (w : ℕ) (p : Reached) (f g : Formatter) → Falls 1 0 f g → weight p g + 1 + w * p.taken ≤ weight p f + w * p.taken
 work_spends w p f g falls = let a = falls.falls p in omega arith
 
--- the blanks that are owed, where none is told
-blanks_kept : (old new : ℕ) → 178 * new ≤ 178 * (new - old) + 178 * old
-blanks_kept old new = omega arith
-
 no_lead : (e : Event) → is_lead e ≡ false → lead_of e ≡ 0
 no_lead events.Lead is = absurd (let wrong : true ≡ false = is in cc)
 no_lead e is = refl
@@ -130,24 +125,6 @@ pub told_all : (n : ℕ) (p q : Reached) (f : Formatter) (v : Stored Resume) (r 
     → PaysAll n f.store p f.reader e v q r
     → weight q (record f { store = v; reader = r; event = e }) + n + byte_worth f.reader.most f.store.limit * p.taken
     ≤ weight p f + byte_worth f.reader.most f.store.limit * q.taken
-unfolding weight steps_left owed
 told_all n p q f v r e idle task pays =
-    let w = byte_worth f.reader.most f.store.limit in
-    let before : weight_of_agenda f.event f.task f.step ≡ 4 = rw (idle, task) refl in
-    let owed_before : owed_by_event f.event + owed_by_task f.task f.reader.half ≡ 0 = rw (idle, task) refl in
-    let behind : weight_of_agenda e f.task f.step ≡ weight_of_agenda e tasks.Read f.step = rw task refl in
-    let owed_behind : owed_by_task f.task r.half ≡ 0 = rw task refl in
-    omega (
-      arith,
-      before,
-      owed_before,
-      behind,
-      owed_behind,
-      pays.pays w (omega arith),
-      event_paid e f.step,
-      no_lead e pays.tells,
-      blanks_kept (blanks_owed f.reader.half) (blanks_owed r.half),
-      same_count v.building,
-      same_count f.store.building,
-      pays.diversions,
-    )
+    told_paid n p q f v r e idle task (pays.pays (byte_worth f.reader.most f.store.limit) (omega arith))
+    (let none = no_lead e pays.tells in omega arith) (omega (arith, pays.diversions))

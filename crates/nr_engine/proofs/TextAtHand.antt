@@ -168,10 +168,6 @@ line_gap f is gap =
 
 -- ---- text that is put
 
--- nothing yet
-pub puts_none : (bs : List ℕ) (f : Formatter) → PutsText bs 0 0 f f
-puts_none bs f = record { front = omega arith; least = omega arith; most = omega arith; none = λ same. refl; store = refl; makes = λ e supply is has some. absurd (omega (arith, some)); saves = λ e supply is has some. absurd (omega (arith, some)) }
-
 -- what the later of two runs of moves saves, both save
 pub saves_on : (saved m k : ℕ) (e f g : Shape) → f.formatter.store.limit ≡ e.formatter.store.limit → f.formatter.reader.most ≡ e.formatter.reader.most
     → Saves saved m e f → Saves saved k f g → Saves saved (m + k) e g

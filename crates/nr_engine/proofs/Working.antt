@@ -1,5 +1,5 @@
 -- Parts of a move.
-use Rattle.std.proofs.Common.{◌≡◌, ℕ, ◌+◌, Bool, true, false, List, [], ◌∷◌, ◌++◌, length, Option, Some, Result, Ok, Err, refl, sym, ap, ◌∙◌, subst, append-nil, arith}
+use Rattle.std.proofs.Common.{◌≡◌, ℕ, ◌+◌, List, [], ◌∷◌, ◌++◌, length, Option, Some, Result, Ok, Err, refl, sym, ap, ◌∙◌, subst, append-nil, arith}
 use Rattle.std.specs.Prelude.{OnOk, if◌then◌else◌}
 use Rattle.std.proofs.KnownBytes.{Keeps-refl}
 use Rattle.std.proofs.lemmas.Grind.{flat_map-append}
@@ -62,11 +62,6 @@ formatter_worked g supply s e f (Ok x) h is new =
     (holds_plainly g supply s e f h new (record { formatter = judged_within (g e.formatter) (sym is); page = h.within.page }), refl)
 formatter_worked g supply s e f (Err p) h is new = judged_passed (plainly g (at e s)) p h.within.page (sym is)
 
--- a work of the formatter alone that nothing refuses
-pub plainly_worked : (g : Formatter → Formatter) (supply : Option Supply) (s : State) (e : Shape) (f : Formatter)
-    → Stands [] supply s e → f ≡ g e.formatter → IsWithin (plainly g (at e s)) → AfterQuietWork supply (at e s) (plainly g (at e s)) (record e { formatter = f }) (Ok tt)
-plainly_worked g supply s e f h new within = (holds_plainly g supply s e f h new within, refl)
-
 -- what the formatter alone does, as a part of a move
 pub formatter_works : (g : Formatter → Formatter) (e : Shape) (f : Formatter) (r : Result (Unit {0}) Passed) → (formatter.IsWithin e.formatter → r ≡ judged (g e.formatter))
     → OnOk r (f ≡ g e.formatter) → OnOk r (Falls 1 0 e.formatter f) → WorksQuietly (plainly g) e (record e { formatter = f }) (measured r)
@@ -87,14 +82,6 @@ works_loudly f e e' held w = record {
 }
 
 -- ---- a test that refuses
-
-pub refused_is : {X E : Type 0} (b : Bool) (x : X) (e f : E) → Err f ≡ (if b then Err e else Ok x) → b ≡ true
-refused_is true x e f is = refl
-refused_is false x e f is = cc
-
-pub made_is : {X E : Type 0} (b : Bool) (x y : X) (e : E) → Ok y ≡ (if b then Err e else Ok x) → b ≡ false
-made_is true x y e is = cc
-made_is false x y e is = refl
 
 -- ---- a whole move
 

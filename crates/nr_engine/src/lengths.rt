@@ -1,7 +1,7 @@
 //! The lengths of the slices of a working space.
 
 /// The lengths of the slices of a working space, in elements.
-#[derive(Clone, Copy, Debug, PartialEq, Eq)]
+#[derive(Clone, Copy)]
 pub struct Sizes {
     pub elements: usize,
     pub slots: usize,

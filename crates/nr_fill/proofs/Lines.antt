@@ -18,7 +18,7 @@ use Rattle.nr_fill.specs.Laid.{Laid, read_cells}
 use Rattle.nr_fill.specs.Lying.{word_of, collected_of, cells_needed, IsWord, IsLine}
 use Rattle.nr_fill.specs.Pieces.{Piece, cells_in, text_cells, line_cells, is_nil, join_before, word_pieces, word_or_new, new_word}
 use Rattle.nr_fill.specs.TitleStates.{title_of, parted_title, next_state}
-use Rattle.nr_fill.specs.Titles.{Title, title_cells, title_or_empty, next_part, with_cell}
+use Rattle.nr_fill.specs.Titles.{Title, title_cells, title_or_empty, with_cell}
 use Rattle.nr_fill.proofs.PiecesOf.{length-flat_map}
 use Rattle.std.specs.List.{flat_map}
 use Rattle.std.specs.Option.{option_map}
@@ -392,17 +392,6 @@ no_title_of (Some (states.Right left centre)) cells h = (cc)
 pub no_title_cells : {row : Laid} {limit pieces wide : ℕ} {word : Option WordState} {gap : ℕ} {title : Option TitleState} → IsLine row limit pieces wide word gap title
     → title_of title row.title ≡ None → length row.title ≡ 0
 no_title_cells {row} {title = title} h none = h.no_title (none_from_title_of title row.title none)
-
--- the title once its part that is being read ends
-pub title_of-next_state : (t : TitleState) (cells : List Cell) → parted_title t ≤ length cells
-    → title_of (Some (next_state (length cells) t)) cells ≡ option_map (λ (u : Title). record u { part = next_part u.part }) (title_of (Some t) cells)
-title_of-next_state states.Left cells h = rw (take_all (length cells) cells (omega arith), drop_all (length cells) cells (omega arith)) refl
-title_of-next_state (states.Centre left) cells h =
-    let long = length-drop left cells in
-    let all : take (length cells - left) (drop left cells) ≡ drop left cells = take_all (length cells - left) (drop left cells) (omega arith) in
-    let none : drop (length cells - left) (drop left cells) ≡ [] = drop_all (length cells - left) (drop left cells) (omega arith) in
-    rw (all, none) refl
-title_of-next_state (states.Right left centre) cells h = refl
 
 pub parted-next_state : (t : TitleState) (n : ℕ) → parted_title t ≤ n → parted_title (next_state n t) ≤ n
 parted-next_state states.Left n h = omega arith

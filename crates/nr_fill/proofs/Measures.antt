@@ -1,6 +1,6 @@
 -- What is added to a line's measure.
-use Rattle.std.proofs.Common.{◌≡◌, ℕ, ◌+◌, ◌-◌, ◌≤◌, ◌<◌, List, [], ◌∷◌, ◌++◌, length, take, drop, replicate, map, sum_by, Bool, Option, None, Some, Result, Ok, Err, false, refl, ap, arith, inl, inr, length-append, eqb}
-use Rattle.std.proofs.lemmas.Bool.{lt-ltb, le-ltb, ne_eqb, cases_lt}
+use Rattle.std.proofs.Common.{◌≡◌, ℕ, ◌+◌, ◌-◌, ◌≤◌, ◌<◌, List, [], ◌∷◌, ◌++◌, length, take, drop, replicate, map, sum_by, Bool, Option, None, Some, Result, Ok, Err, refl, ap, arith, inl, inr, length-append}
+use Rattle.std.proofs.lemmas.Bool.{lt-ltb, le-ltb, cases_lt}
 use Rattle.std.proofs.lemmas.List.{length-map, length-replicate, take-append-drop}
 use Rattle.std.proofs.lemmas.List.Sums.{sum_by_push, sum_by-append, sum_by-cons}
 use Rattle.nr_units.specs.Cells.{blank}
@@ -13,11 +13,9 @@ use Rattle.nr_fill.specs.declared.stops.Pending.TheVariants.{Nothing, AtPoint, F
 use Rattle.nr_settings.specs.declared.stops.StopKind.{StopKind}
 use Rattle.std.specs.Option.{option_map}
 use Rattle.nr_fill.specs.Lined.{Lined, afforded}
-use Rattle.nr_fill.specs.Pieces.{Piece, Word, Collected, cells_in, word_or_new, with_word, in_word, word_length, word_cells, word_pieces, text_cells, line_cells, ended, ended_at, add_cell, add_blank, add_cells, joined, joined_at, end_word}
+use Rattle.nr_fill.specs.Pieces.{Piece, Word, Collected, cells_in, word_or_new, with_word, in_word, word_length, word_cells, word_pieces, text_cells, line_cells, ended, ended_at, add_cell, add_blank, end_word}
 use Rattle.nr_fill.specs.Runs.{add_run, run_cell}
-use Rattle.nr_fill.proofs.PiecesOf.{length-flat_map}
 use Rattle.nr_fill.proofs.RunLemmas.{add_run-run}
-use Rattle.std.specs.List.{flat_map}
 use Rattle.nr_fill.specs.Tabs.{with_field, field_fill, pending_fill, fill_count, filled_by, with_field_filled}
 
 -- what fits is afforded
@@ -76,33 +74,6 @@ line_cells-add_blank m c =
     let same = word_length-ended_at w.pending w in
     let longer = length-append (ended w).last.cells (blank ∷ []) in
     omega arith
-
-pub line_cells-with_word : (m : Margins) (c : Collected) → line_cells (with_word m c) ≡ text_cells c
-line_cells-with_word m c = let same = text_cells-with_word m c in omega arith
-
--- n cells more are n more
-pub line_cells-add_cells : (m : Margins) (x : Cell) (n : ℕ) (c : Collected) → 0 < n → line_cells (add_cells m x n c) ≡ text_cells c + n
-line_cells-add_cells m x n c some =
-    let w = word_or_new c.gap c.word in
-    let new = word_length-new c.gap c.word in
-    let same = word_length-ended_at w.pending w in
-    let longer = length-append (ended w).last.cells (replicate n x) in
-    let many = length-replicate n x in
-    let other : eqb n 0 ≡ false = ne_eqb n 0 (omega arith) in
-    rw other (omega arith)
-
-word_length-joined_at : (p : Pending) (w : Word) → word_length (joined_at p w) ≡ word_length w
-word_length-joined_at (ForStop f) w = refl
-word_length-joined_at Nothing w = let parts = length-flat_map w.parts in omega (arith, length-append (flat_map (λ (p : Piece). p.cells) w.parts) w.last.cells)
-word_length-joined_at (AtPoint p) w = let parts = length-flat_map w.parts in omega (arith, length-append (flat_map (λ (p : Piece). p.cells) w.parts) w.last.cells)
-
-word_cells-joined : (w : Option Word) (c : Collected) → c.word ≡ w → word_cells (joined c).word ≡ word_cells w
-word_cells-joined None c e = rw e refl
-word_cells-joined (Some w) c e = rw e (word_length-joined_at w.pending w)
-
--- a word of one piece has the cells that it had
-pub line_cells-joined : (c : Collected) → line_cells (joined c) ≡ text_cells c
-line_cells-joined c = let same = word_cells-joined c.word c refl in omega arith
 
 word_length-filled_by : (p : Pending) (w : Word) → word_length (filled_by p w) ≡ word_length w + pending_fill p (length w.last.cells)
 word_length-filled_by Nothing w = omega arith

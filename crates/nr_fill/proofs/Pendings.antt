@@ -5,15 +5,13 @@ use Rattle.std.proofs.lemmas.List.Sums.{sum_by-take-drop}
 use Rattle.nr_fill.specs.declared.line.WordState.{WordState}
 use Rattle.nr_fill.specs.declared.piece.Behind.{Behind}
 use Rattle.nr_fill.specs.declared.piece.Behind.TheVariants.{Letter, Hyphen, Dash}
-use Rattle.nr_fill.specs.declared.piece.Point.{Point}
-use Rattle.nr_fill.specs.declared.piece.Point.TheVariants as points
 use Rattle.nr_fill.specs.declared.stops.Pending.{Pending}
 use Rattle.nr_fill.specs.declared.stops.Pending.TheVariants.{Nothing, AtPoint, ForStop}
 use Rattle.nr_fill.specs.declared.title.TitleState.{TitleState}
 use Rattle.nr_fill.specs.Cut.{join_width, piece_width}
 use Rattle.nr_fill.specs.Laid.{Laid, read_cells}
 use Rattle.nr_fill.specs.Lying.{cells_needed, IsLine}
-use Rattle.nr_fill.specs.Pieces.{Piece, pending_behind, pending_soft, pending_without_point, is_for_stop, join_at, is_inside}
+use Rattle.nr_fill.specs.Pieces.{Piece, pending_behind, pending_soft, pending_without_point, is_for_stop, is_inside}
 use Rattle.nr_fill.proofs.Lines.{the_word, is_line_word, widths_small}
 
 pub needed_blanks : (p : Pending) (b k n : ℕ) → cells_needed p b k ≤ n → b ≤ k + n
@@ -113,11 +111,6 @@ are_small {row} {pieces = pieces} h =
       join = iw.join_within;
       needed = iw.needed;
     }
-
--- a break point has no width
-pub join_width-at : (p : Point) → join_width (join_at p) ≡ 0
-join_width-at points.Soft = refl
-join_width-at points.Hard = refl
 
 -- what it says of a place to be inside a piece
 pub inside_at : (at b n : ℕ) (p : Pending) → is_inside at b n p ≡ true → (0 < at) × (at + b < n) × (is_for_stop p ≡ false)

@@ -83,12 +83,6 @@ add_run-at_word m under b (x ∷ bs) c w sentence none =
 
 -- ---- a run at once
 
--- no break point waits behind an ended piece
-no_point_ended : (p : Pending) (w : Word) → p ≡ w.pending → HasNoPoint (ended_at p w).pending
-no_point_ended Nothing w is = ap pending_without_point (sym is) ∙ is
-no_point_ended (AtPoint point) w is = refl
-no_point_ended (ForStop f) w is = ap pending_without_point (sym is) ∙ is
-
 -- the first letter takes the word from where it stands
 add_cell-ended : (m : Margins) (under : Bool) (b : ℕ) (c : Collected)
     → add_cell m Letter (run_cell under b) c

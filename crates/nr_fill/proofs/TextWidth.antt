@@ -5,8 +5,7 @@ use Rattle.std.proofs.Math.Nat.{div-mul-le_self}
 use Rattle.std.proofs.lemmas.Bool.{cases_Bool}
 use Rattle.std.proofs.lemmas.List.{length-replicate}
 use Rattle.std.proofs.lemmas.List.Sums.{sum_by-cons, count_by-le-length}
-use Rattle.nr_units.specs.Cells.{blank, trimmed}
-use Rattle.nr_units.specs.declared.cell.Cell.{Cell}
+use Rattle.nr_units.specs.Cells.{blank}
 use Rattle.nr_fill.specs.declared.margins.Turn.{Turn}
 use Rattle.nr_fill.specs.declared.margins.Turn.TheVariants as turns
 use Rattle.nr_fill.specs.declared.piece.Join.{Join}
@@ -14,9 +13,7 @@ use Rattle.nr_fill.specs.declared.piece.Join.TheVariants.{Gap, Soft, Hard}
 use Rattle.nr_fill.specs.declared.setting.Extra.{Extra}
 use Rattle.nr_fill.specs.Cut.{join_width, piece_width, pieces_width}
 use Rattle.nr_fill.specs.Pieces.{Piece}
-use Rattle.nr_fill.specs.Rows.{counted}
 use Rattle.nr_fill.specs.Spreading.{is_gap, gaps, shared, extra_at, blanks_before, next_gap, cells_behind, cells_in_line}
-use Rattle.nr_fill.proofs.Trimming.{length-trimmed}
 
 extra_at-le : (x : Extra) (i : ℕ) → extra_at x i ≤ x.each + 1
 extra_at-le x i = elim (cases_Bool (nat_lt x.above i && nat_le i x.up_to)) [ inl wider ↦ rw wider (omega arith) | inr same ↦ rw same (omega arith) ]
@@ -52,10 +49,6 @@ length-cells_in_line x (p ∷ ps) =
     let more = length-cells_behind x 1 ps in
     let wide = sum_by-cons piece_width p ps in
     omega (arith, length-append p.cells (cells_behind x 1 ps))
-
--- the width of a text that can be counted
-pub counted-trimmed : (text : List Cell) → length text < 2 ^ 63 → counted (length (trimmed text)) ≡ length (trimmed text)
-counted-trimmed text small = let part = length-trimmed text in omega arith
 
 -- fewer gaps than pieces
 pub gaps-le : (ps : List Piece) → gaps ps ≤ length ps

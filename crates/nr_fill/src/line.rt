@@ -19,11 +19,11 @@ pub(crate) const WIDEST_GAP: u16 = 1365;
 const MARGIN_ROOM: usize = 4096;
 
 /// What is added would bring the line's measure above its limit. Nothing has changed.
-#[derive(Clone, Copy, Debug, PartialEq, Eq)]
+#[derive(Clone, Copy)]
 pub struct LineCells;
 
 /// The least lengths of the slices of a line and of the row that it is set in, in elements.
-#[derive(Clone, Copy, Debug, PartialEq, Eq)]
+#[derive(Clone, Copy)]
 pub struct LineRoom {
     pub cells: usize,
     pub pieces: usize,

@@ -5,7 +5,7 @@ ghost use Rattle.nr_fill.specs.Spreading.{other_turn};
 pub use nr_settings::Margins;
 
 /// Where a line that is spread has its wider gaps.
-#[derive(Clone, Copy, Debug, PartialEq, Eq)]
+#[derive(Clone, Copy)]
 pub enum Turn {
     Left,
     Right,

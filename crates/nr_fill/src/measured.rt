@@ -7,7 +7,7 @@ use crate::out::{written_behind, written_len};
 use nr_units::cell::Cell;
 
 /// How many cells there are, and how many up to the last that is no blank.
-#[derive(Clone, Copy, Debug, PartialEq, Eq)]
+#[derive(Clone, Copy)]
 pub struct Extent {
     pub(crate) count: usize,
     pub(crate) written: usize,

@@ -5,7 +5,7 @@ ghost use Rattle.nr_fill.specs.Pieces.{join_at, mark_cells};
 ghost use Rattle.nr_fill.specs.Slots.{blank_slot};
 
 /// How a piece hangs on the one before it.
-#[derive(Clone, Copy, Debug, PartialEq, Eq)]
+#[derive(Clone, Copy)]
 pub enum Join {
     /// So many blanks stand between two words.
     Gap(u16),
@@ -16,7 +16,7 @@ pub enum Join {
 }
 
 /// A place inside a word where a line may be cut.
-#[derive(Clone, Copy, Debug, PartialEq, Eq)]
+#[derive(Clone, Copy)]
 pub enum Point {
     /// A cut prints a hyphen here.
     Soft,
@@ -25,7 +25,7 @@ pub enum Point {
 }
 
 /// What kind of cell is read: whether a line may be cut behind it.
-#[derive(Clone, Copy, Debug, PartialEq, Eq)]
+#[derive(Clone, Copy)]
 pub enum Behind {
     /// No break point stands behind it.
     Letter,
@@ -36,7 +36,7 @@ pub enum Behind {
 }
 
 /// A piece's place in a line's second slice: how it hangs on the one before it, and how many cells it has.
-#[derive(Clone, Copy, Debug, PartialEq, Eq)]
+#[derive(Clone, Copy)]
 pub struct PieceSlot {
     pub(crate) join: Join,
     pub(crate) len: u32,

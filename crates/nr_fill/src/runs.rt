@@ -41,7 +41,7 @@ pub(crate) fn set_plain(slots: &mut [Cell], under: bool, bytes: &[u8]) -> usize
 }
 
 /// How much of some bytes was read.
-#[derive(Clone, Copy, Debug, PartialEq, Eq)]
+#[derive(Clone, Copy)]
 pub struct WordRun {
     /// How many of them are cells of a word.
     pub count: usize,

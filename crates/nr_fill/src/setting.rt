@@ -7,7 +7,7 @@ use crate::margins::Turn;
 pub use nr_settings::Align;
 
 /// How a line is set.
-#[derive(Clone, Copy, Debug, PartialEq, Eq)]
+#[derive(Clone, Copy)]
 pub struct Setting {
     pub align: Align,
     /// How many blanks stand before the indent.
@@ -15,7 +15,7 @@ pub struct Setting {
 }
 
 /// By how many blanks the gaps of a line are widened.
-#[derive(Clone, Copy, Debug, PartialEq, Eq)]
+#[derive(Clone, Copy)]
 pub struct Extra {
     /// Each gap.
     pub(crate) each: usize,

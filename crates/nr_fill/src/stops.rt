@@ -4,7 +4,7 @@ pub use nr_settings::{Stop, StopKind};
 use nr_units::cell::Cell;
 
 /// The text for a right or centring stop, while it is read.
-#[derive(Clone, Copy, Debug, PartialEq, Eq)]
+#[derive(Clone, Copy)]
 pub struct Field {
     /// How many cells of the piece stand before the text.
     pub(crate) before: usize,
@@ -16,7 +16,7 @@ pub struct Field {
 }
 
 /// What waits behind the piece that is being read.
-#[derive(Clone, Copy, Debug, PartialEq, Eq)]
+#[derive(Clone, Copy)]
 pub enum Pending {
     Nothing,
     /// A break point stands there where one more cell comes.

@@ -8,7 +8,7 @@ use crate::cells::CellSink;
 use nr_units::cell::Cell;
 
 /// The part of a title that is being read.
-#[derive(Clone, Copy, Debug, PartialEq, Eq)]
+#[derive(Clone, Copy)]
 pub enum TitlePart {
     Left,
     Centre,
@@ -16,7 +16,7 @@ pub enum TitlePart {
 }
 
 /// Where the parts of a title end that is being read.
-#[derive(Clone, Copy, Debug, PartialEq, Eq)]
+#[derive(Clone, Copy)]
 pub(crate) enum TitleState {
     /// All cells are the left part's.
     Left,

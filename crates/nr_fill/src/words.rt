@@ -87,7 +87,7 @@ impl<'a> Line<'a> {
     /// There is a word from now on: a new one takes the gap that waits, and the margins where it begins the line.
     /// A title that is being read is given up.
     #[inline(always)]
-    pub fn open_word(&mut self, margins: Margins)
+    pub(crate) fn open_word(&mut self, margins: Margins)
         ensures opened { self.new ≡ record self.old { collected = with_word margins self.old.collected } }
         ensures within { line_cells self.new.collected ≤ self.new.limit }
     {

@@ -21,10 +21,6 @@ pub share-le : (bs : List Built) (m n : ℕ) → m ≤ n → share bs m ≤ shar
 share-le [] m n h = omega arith
 share-le (b ∷ bs) m n h = h
 
-pub share-add : (bs : List Built) (m n : ℕ) → share bs (m + n) ≡ share bs m + share bs n
-share-add [] m n = omega arith
-share-add (b ∷ bs) m n = refl
-
 -- ---- cells more
 
 more_in : (xs ys : List Element) (bs : List Built) → on_newest (longer ys) (on_newest (longer xs) bs) ≡ on_newest (longer (xs ++ ys)) bs
@@ -57,13 +53,6 @@ charge_in cells v (b ∷ bs) is =
 -- what cells are charged
 pub charge_of-with_cells : (cells : List Cell) (v : Stored Resume) → charge_of (with_cells cells v) ≡ charge_of v + share v.building (length cells)
 charge_of-with_cells cells v = charge_in cells v v.building refl
-
-building_in : (xs : List Element) (bs : List Built) (n : ℕ) → share (on_newest (longer xs) bs) n ≡ share bs n
-building_in xs [] n = refl
-building_in xs (b ∷ bs) n = refl
-
-pub share-with_cells : (cells : List Cell) (v : Stored Resume) (n : ℕ) → share (with_cells cells v).building n ≡ share v.building n
-share-with_cells cells v n = building_in (map elements.Cell cells) v.building n
 
 -- ---- a line's end
 

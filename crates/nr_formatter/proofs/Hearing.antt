@@ -1,31 +1,28 @@
 -- What is read and what goes on, under limits.
-use Rattle.std.proofs.Common.{◌≡◌, ◌≢◌, ◌≤◌, true, false, Result, Ok, Err, Option, Some, None, if◌then◌else◌, refl, ap, sym, subst, ◌∙◌}
+use Rattle.std.proofs.Common.{◌≡◌, ◌≢◌, ◌≤◌, true, false, Result, Ok, Err, Option, Some, None, if◌then◌else◌, ap, sym, subst, ◌∙◌}
 use Rattle.std.specs.Prelude.{OnOk}
-use Rattle.std.proofs.lemmas.Bool.{cond-true, cond-false}
+use Rattle.std.proofs.lemmas.Bool.{cond-true}
 use Rattle.nr_fill.specs.declared.line.LineCells.{LineCells}
 use Rattle.nr_fill.specs.Pieces.{line_cells}
 use Rattle.nr_fill.specs.Lined as lined
 use Rattle.nr_store.specs.declared.request.Request.{Request}
 use Rattle.nr_input.specs.declared.refusal.Refusal.{Refusal}
 use Rattle.nr_reading.specs.declared.event.Event.{Event}
-use Rattle.nr_reading.specs.declared.event.Event.TheVariants as events
 use Rattle.nr_formatter.specs.declared.formatter.Formatter.{Formatter}
 use Rattle.nr_formatter.specs.declared.given.GivenRegister.{GivenRegister}
 use Rattle.nr_formatter.specs.declared.passed.Passed.{Passed}
-use Rattle.nr_formatter.specs.declared.tasks.Task.{Task}
-use Rattle.nr_formatter.specs.declared.tasks.Task.TheVariants as tasks
 use Rattle.nr_formatter.specs.Access.{collected, asked}
 use Rattle.nr_formatter.specs.Given.{given_named}
 use Rattle.nr_formatter.specs.Limits.{IsWithin, FitsMemory, judged}
-use Rattle.nr_formatter.specs.Moves.{is_text, text_heard, width_given, control, heard_beside, heard, gone_on, worked}
+use Rattle.nr_formatter.specs.Moves.{is_text, text_heard, heard_beside, heard}
 use Rattle.nr_formatter.specs.Passed.{line_answer, splice_answer}
 use Rattle.nr_formatter.specs.Registers.{given_by, given_register, splice_checked}
 use Rattle.nr_formatter.specs.Requests.{act}
-use Rattle.nr_formatter.specs.Text.{text, finish_dash}
+use Rattle.nr_formatter.specs.Text.{text}
 use Rattle.nr_formatter.specs.Titles.{reads_title, title}
 use Rattle.nr_formatter.proofs.Judging.{judged_none, judged_splice}
-use Rattle.nr_formatter.proofs.Calm.{IsCalm, calm-act, calm-control, calm-gone_on}
-use Rattle.nr_formatter.proofs.TextKeeps.{Keeps, keeps-text, keeps-title, keeps-finish_dash, judged-keeps}
+use Rattle.nr_formatter.proofs.Calm.{IsCalm, calm-act}
+use Rattle.nr_formatter.proofs.TextKeeps.{Keeps, keeps-text, keeps-title, judged-keeps}
 
 -- an answer of another type says of the same calls that they were made
 pub ok_line : (r : Result (Unit {0}) LineCells) (answer : Result (Unit {0}) Passed) (f g h : Formatter) → answer ≡ line_answer r → g ≡ h → OnOk r (f ≡ g) → OnOk answer (f ≡ h)
@@ -44,14 +41,8 @@ keeps-text_heard e f = elim (reads_title f) as (λ b. Keeps f (if b then title e
 pub heard-text : (e : Event) (f : Formatter) → is_text e ≡ true → text_heard e f ≡ heard e f
 heard-text e f is = sym (cond-true (is_text e) (text_heard e f) (heard_beside e f) is)
 
-pub heard-beside : (e : Event) (f : Formatter) → is_text e ≡ false → heard_beside e f ≡ heard e f
-heard-beside e f is = sym (cond-false (is_text e) (text_heard e f) (heard_beside e f) is)
-
 pub judged-text_heard : (e : Event) (f : Formatter) → is_text e ≡ true → IsWithin f → line_answer (lined.afforded (text_heard e f).line) ≡ judged (heard e f)
 judged-text_heard e f is within = sym (judged-keeps f (text_heard e f) (keeps-text_heard e f) within) ∙ ap judged (heard-text e f is)
-
-pub judged-finish_dash : (f : Formatter) → IsWithin f → line_answer (lined.afforded (finish_dash f).line) ≡ judged (finish_dash f)
-judged-finish_dash f within = sym (judged-keeps f (finish_dash f) (keeps-finish_dash f) within)
 
 -- ---- what is read beside text
 
@@ -62,30 +53,11 @@ line-given_by (Some r) f h = h
 pub judged-given_register : (f : Formatter) → IsWithin f → splice_answer (splice_checked (given_register f)) ≡ judged (given_register f)
 judged-given_register f within = sym (judged_splice (given_register f) (line-given_by (given_named (asked f)) f within.line))
 
-pub judged-width_given : (f : Formatter) → IsWithin f → splice_answer (splice_checked (width_given f)) ≡ judged (width_given f)
-judged-width_given f within = sym (judged_splice (width_given f) within.line)
-
 -- what adds to nothing that has a limit is made
 made : (f g : Formatter) → f ≡ g → FitsMemory f → IsCalm g → Ok tt ≡ judged g
 made f g is fits calm = sym (judged_none g (subst FitsMemory is fits) calm)
-
-pub beside-control : (e : Event) (f : Formatter) → e ≢ events.Given → e ≢ events.Width → control e f ≡ heard_beside e f
-beside-control events.Given f not_given not_width = absurd (not_given refl)
-beside-control events.Width f not_given not_width = absurd (not_width refl)
-beside-control e f not_given not_width = refl
-
-pub made-control : (e : Event) (old new : Formatter) → e ≢ events.Given → e ≢ events.Width → new ≡ control e old → FitsMemory new → IsWithin old → Ok tt ≡ judged (heard_beside e old)
-made-control e old new not_given not_width is fits within = made new (control e old) is fits (calm-control e old within.burst) ∙ ap judged (beside-control e old not_given not_width)
 
 -- ---- what is under way
 
 pub made-act : (r : Request) (old new : Formatter) → new ≡ act r old → FitsMemory new → IsWithin old → Ok tt ≡ judged (act r old)
 made-act r old new is fits within = made new (act r old) is fits (calm-act r old within.burst)
-
-pub worked-gone_on : (t : Task) (f : Formatter) → t ≢ tasks.Dash → ((r : Request) → t ≢ tasks.Act r) → gone_on t f ≡ worked t f
-worked-gone_on tasks.Dash f not_dash not_act = absurd (not_dash refl)
-worked-gone_on (tasks.Act r) f not_dash not_act = absurd (not_act r refl)
-worked-gone_on t f not_dash not_act = refl
-
-pub made-gone_on : (t : Task) (old new : Formatter) → new ≡ gone_on t old → FitsMemory new → IsWithin old → Ok tt ≡ judged (gone_on t old)
-made-gone_on t old new is fits within = made new (gone_on t old) is fits (calm-gone_on t old within.burst)

@@ -1,6 +1,5 @@
 -- Whether a move is made, by what it adds to.
 use Rattle.std.proofs.Common.{◌≡◌, ◌≤◌, length, Bool, true, false, Result, Ok, Err, Some, None, if◌then◌else◌, refl}
-use Rattle.std.specs.Prelude.{nat_lt}
 use Rattle.std.proofs.lemmas.Bool.{le-ltb}
 use Rattle.nr_fill.specs.Pieces.{line_cells}
 use Rattle.nr_fill.specs.Lined as lined
@@ -13,7 +12,7 @@ use Rattle.nr_formatter.specs.declared.passed.Passed.{Passed}
 use Rattle.nr_formatter.specs.declared.passed.Passed.TheVariants as measures
 use Rattle.nr_formatter.specs.Access.{collected}
 use Rattle.nr_formatter.specs.Limits.{FitsMemory, judged, judged_by}
-use Rattle.nr_formatter.specs.Passed.{line_answer, stored_answer, splice_answer}
+use Rattle.nr_formatter.specs.Passed.{line_answer, splice_answer}
 use Rattle.nr_formatter.specs.Registers.{splice_checked}
 
 -- what four tests answer, in their order
@@ -36,13 +35,6 @@ line_by false false false false _ _ _ = refl
 line_by true d l b h _ _ = cc
 line_by false true l b _ h _ = cc
 line_by false false false true _ _ h = cc
-
-stored_by : (s d l b : Bool) → d ≡ false → l ≡ false → b ≡ false → tested s d l b ≡ stored_answer (if s then Err (record {}) else Ok tt)
-stored_by true d l b _ _ _ = refl
-stored_by false false false false _ _ _ = refl
-stored_by false true l b h _ _ = cc
-stored_by false false true b _ h _ = cc
-stored_by false false false true _ _ h = cc
 
 splice_by : (s d l b : Bool) → l ≡ false → tested s d l b ≡ splice_answer (spliced s d b)
 splice_by true d l b _ = refl
@@ -74,6 +66,3 @@ stored_result s = if s then Err (record {}) else Ok tt
 refused_by : (s d l b : Bool) (e : StoredBytes) → stored_result s ≡ Err e → tested s d l b ≡ Err measures.Stored
 refused_by true d l b e _ = refl
 refused_by false d l b e h = cc
-
-pub judged_refused : (g : Formatter) (e : StoredBytes) → stored_result (nat_lt g.store.limit (stored.charge_of g.store)) ≡ Err e → judged g ≡ Err measures.Stored
-judged_refused g e above = refused_by (nat_lt g.store.limit (stored.charge_of g.store)) _ _ _ e above

@@ -54,11 +54,6 @@ begun-cell m x c = and_false (is_nil c.pieces)
 text_cells-cell : (m : Margins) (x : Cell) (c : Collected) → text_cells (add_cell m Letter x c) ≡ text_cells c + 1
 text_cells-cell m x c = let one = line_cells-add_cell m Letter x c in omega (arith, one)
 
-text_cells-run : (m : Margins) (under : Bool) (bs : List ℕ) (c : Collected) → text_cells (add_run m under bs c) ≡ text_cells c + length bs
-text_cells-run m under [] c = omega arith
-text_cells-run m under (b ∷ bs) c =
-    omega (arith, text_cells-run m under bs (add_cell m Letter (run_cell under b) c), text_cells-cell m (run_cell under b) c)
-
 -- a run is as many cells as it has bytes
 line_cells-cells : (m : Margins) (under : Bool) (x : Cell) (bs : List ℕ) (c : Collected)
     → line_cells (add_run m under bs (add_cell m Letter x c)) ≡ text_cells c + 1 + length bs

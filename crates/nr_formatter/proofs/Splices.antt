@@ -12,19 +12,13 @@ use Rattle.nr_input.specs.declared.reader.Reader.{Reader}
 use Rattle.nr_input.specs.declared.refusal.Refusal.{Refusal}
 use Rattle.nr_formatter.specs.declared.formatter.Formatter.{Formatter}
 use Rattle.nr_formatter.specs.Access.{collected}
-use Rattle.nr_formatter.specs.Limits.{IsWithin, judged}
-use Rattle.nr_formatter.specs.Passed.{splice_answer}
+use Rattle.nr_formatter.specs.Limits.{IsWithin}
 use Rattle.nr_formatter.specs.Registers.{splice_checked}
-use Rattle.nr_formatter.specs.Springing.{sprung, sprung_text}
-use Rattle.nr_formatter.proofs.Judging.{judged_splice}
+use Rattle.nr_formatter.specs.Springing.{sprung_text}
 
 text_within : (f : Formatter) (name : List ℕ) (text : Option (List Element)) → line_cells (collected f) ≤ f.line.limit → line_cells (collected (sprung_text name text f)) ≤ (sprung_text name text f).line.limit
 text_within f name None h = h
 text_within f name (Some text) h = h
-
--- a spring
-pub judged-sprung : (f : Formatter) (name : List ℕ) → IsWithin f → judged (sprung name f) ≡ splice_answer (splice_checked (sprung name f))
-judged-sprung f name w = judged_splice (sprung name f) (text_within f name (words (find name f.store.names)) w.line)
 
 -- ---- a name without text
 

@@ -15,7 +15,7 @@ use Rattle.nr_formatter.specs.declared.tasks.After.TheVariants as afters
 use Rattle.nr_formatter.specs.declared.tasks.Resume.{Resume}
 use Rattle.nr_input.specs.declared.reader.Reader.{Reader}
 use Rattle.nr_formatter.specs.Access.{is_filling, asked}
-use Rattle.nr_formatter.specs.Lines.{reads_a_field, break_word_end}
+use Rattle.nr_formatter.specs.Lines.{reads_a_field}
 use Rattle.nr_formatter.specs.Text.{blank, tab, text_byte, special_at, special, blanks_dropped, line_end, finish_dash, text}
 use Rattle.nr_formatter.specs.Limits.{IsWithin, judged}
 use Rattle.nr_formatter.specs.Passed.{line_answer}
@@ -85,9 +85,6 @@ keeps-title e f = record { store = refl; reader = refl; limit = refl }
 
 pub keeps-finish_dash : (f : Formatter) → Keeps f (finish_dash f)
 keeps-finish_dash f = keeps-if (reads_title f) f _ _ (record { store = refl; reader = refl; limit = refl }) (record { store = refl; reader = refl; limit = refl })
-
-pub keeps-break_word_end : (f : Formatter) → Keeps f (break_word_end f)
-keeps-break_word_end f = keeps-if (reads_a_field f) f _ _ (record { store = refl; reader = refl; limit = refl }) (record { store = refl; reader = refl; limit = refl })
 
 -- such a move is refused by the line alone
 pub judged-keeps : (f g : Formatter) → Keeps f g → IsWithin f → judged g ≡ line_answer (afforded g.line)

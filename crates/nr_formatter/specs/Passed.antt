@@ -1,7 +1,6 @@
 -- The limit that a move would pass, by what refused it.
 use Rattle.std.specs.Prelude.{Result, Ok, Err}
 use Rattle.nr_fill.specs.declared.line.LineCells as cells
-use Rattle.nr_store.specs.declared.refusal.StoredBytes as bytes
 use Rattle.nr_input.specs.declared.refusal.Refusal.{Refusal}
 use Rattle.nr_input.specs.declared.refusal.Refusal.TheVariants as refusals
 use Rattle.nr_formatter.specs.declared.passed.Passed.{Passed}
@@ -17,11 +16,6 @@ passed_of r = measures.Stored
 abbrev pub line_answer : Result (Unit {0}) cells.LineCells → Result (Unit {0}) Passed
 line_answer (Ok x) = Ok x
 line_answer (Err e) = Err measures.LineCells
-
--- the answer of a call that adds to what is stored
-abbrev pub stored_answer : Result (Unit {0}) bytes.StoredBytes → Result (Unit {0}) Passed
-stored_answer (Ok x) = Ok x
-stored_answer (Err e) = Err measures.Stored
 
 -- the answer of a splice
 abbrev pub splice_answer : Result (Unit {0}) Refusal → Result (Unit {0}) Passed

@@ -1,7 +1,7 @@
 //! Diversions. (CSTR 54, section 7.4.)
 ghost use Rattle.std.specs.Prelude.{◌≡◌, ◌<◌, ◌≤◌, length, replicate, OnOk};
 ghost use Rattle.nr_formatter.specs.Access.{collected};
-ghost use Rattle.nr_formatter.specs.Diversions.{trap_between, trap_reached, with_diverted, with_diverted_row, divert_line, divert_title, with_diverted_space, with_diverted_cell, with_diverted_end, end_diversion, di, da, dt};
+ghost use Rattle.nr_formatter.specs.Diversions.{trap_between, trap_reached, with_diverted, divert_line, divert_title, with_diverted_space, with_diverted_cell, with_diverted_end, end_diversion, di, da, dt};
 ghost use Rattle.nr_formatter.specs.Limits.{IsWithin};
 ghost use Rattle.nr_formatter.specs.Places.{diversion_room, is_diverting, room_above};
 ghost use Rattle.nr_formatter.specs.Weights.{Falls};
@@ -95,16 +95,6 @@ impl<'a> Formatter<'a> {
                 Ok(())
             }
         }
-    }
-
-    /// A row goes into the diversion as a line as high as lines are, and ends no-space mode.
-    pub fn divert_row(&mut self, cells: &[Cell]) -> Result<(), StoredBytes>
-        ensures result { result ≡ afforded (with_diverted_row cells.now self.old).store tt }
-        ensures ok { OnOk result (self.new ≡ with_diverted_row cells.now self.old) }
-    {
-        self.settings.pages.no_space = false;
-        let height = self.settings.pages.spacing.units();
-        self.divert(0, cells, height)
     }
 
     /// The line that goes out next goes into the diversion, as high as lines are and without the page offset, and

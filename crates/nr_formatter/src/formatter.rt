@@ -12,7 +12,7 @@ use nr_store::Store;
 use nr_units::Name;
 
 /// An input line trap. (CSTR 54, section 7.5)
-#[derive(Clone, Copy, Debug)]
+#[derive(Clone, Copy)]
 pub struct InputTrap {
     /// How many text lines are still to come before it springs, 1 or more.
     pub lines: u32,

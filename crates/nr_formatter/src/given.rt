@@ -1,7 +1,7 @@
 //! Which registers are given. (CSTR 54, section 8; groff manual, built-in registers.)
 
 /// A register that is given: no request makes or removes it.
-#[derive(Clone, Copy, Debug, PartialEq, Eq)]
+#[derive(Clone, Copy)]
 pub enum GivenRegister {
     /// `%`
     Page,

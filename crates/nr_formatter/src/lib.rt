@@ -7,30 +7,30 @@
 //! `ending`; `requests` and `moves`, the tables of them; `runs` and `empty_lines`, many moves at once.
 #![tactic(auto)]
 
-pub mod conditions;
+mod conditions;
 mod diversion_row;
-pub mod diversions;
-pub mod empty_lines;
-pub mod ending;
+mod diversions;
+mod empty_lines;
+mod ending;
 pub mod formatter;
 pub mod given;
-pub mod limits;
+mod limits;
 pub mod lines;
 mod motions;
-pub mod moves;
-pub mod names;
-pub mod numbering;
-pub mod pages;
+mod moves;
+mod names;
+mod numbering;
+mod pages;
 pub mod paper;
 pub mod passed;
-pub mod registers;
+mod registers;
 pub mod request_line;
-pub mod requests;
+mod requests;
 pub mod runs;
-pub mod settings;
-pub mod spacing;
-pub mod springing;
+mod settings;
+mod spacing;
+mod springing;
 pub mod tasks;
 mod text;
 mod titles;
-pub mod traps;
+mod traps;

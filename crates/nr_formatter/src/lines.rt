@@ -17,7 +17,7 @@ use nr_settings::Settings;
 const GREATEST: u64 = 2_147_483_647;
 
 /// Which line goes out next.
-#[derive(Clone, Copy, Debug, PartialEq, Eq)]
+#[derive(Clone, Copy)]
 pub struct Going {
     /// All that is collected, however wide; else as much as fits.
     pub whole: bool,

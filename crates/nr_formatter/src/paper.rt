@@ -7,7 +7,7 @@ ghost use Rattle.nr_formatter.specs.Places.{page_outlet, is_on_page, is_open, pa
 use nr_units::Format;
 
 /// Whether a page is open.
-#[derive(Clone, Copy, Debug, PartialEq, Eq)]
+#[derive(Clone, Copy)]
 pub enum PageState {
     /// The first page has not begun.
     Unbegun,
@@ -17,7 +17,7 @@ pub enum PageState {
 }
 
 /// Where output goes.
-#[derive(Clone, Copy, Debug, PartialEq, Eq)]
+#[derive(Clone, Copy)]
 pub enum Outlet {
     /// To the innermost diversion.
     Diversion,
@@ -32,7 +32,7 @@ pub enum Outlet {
 impl Outlet {
     /// Whether it is a page.
     #[inline]
-    pub fn is_on_page(self) -> bool
+    pub(crate) fn is_on_page(self) -> bool
         ensures { result ≡ is_on_page self }
     {
         match self {
@@ -43,7 +43,7 @@ impl Outlet {
 }
 
 /// The page under way.
-#[derive(Clone, Copy, Debug)]
+#[derive(Clone, Copy)]
 pub struct Paper {
     pub state: PageState,
     /// The number of the open page, or the one that the next will have.
@@ -57,7 +57,7 @@ pub struct Paper {
 }
 
 /// The registers `dn` and `dl`, and the formats of the given registers that have one.
-#[derive(Clone, Copy, Debug)]
+#[derive(Clone, Copy)]
 pub struct Given {
     /// `dn`, in u.
     pub height: i32,
@@ -70,7 +70,7 @@ pub struct Given {
 }
 
 /// The lowest place on a page, in u.
-pub const LOWEST: u32 = 2_147_483_647;
+pub(crate) const LOWEST: u32 = 2_147_483_647;
 
 impl Paper {
     /// The first page has not begun.
@@ -110,14 +110,14 @@ impl Paper {
     }
 
     /// The place on the open page, or 0 while none is open.
-    pub fn page_place(self) -> u32
+    pub(crate) fn page_place(self) -> u32
         ensures { result ≡ page_place self }
     {
         if self.is_open() { self.place } else { 0 }
     }
 
     /// The number of the page behind this one. Behind 2147483647 it is that again.
-    pub fn following(self) -> i32
+    pub(crate) fn following(self) -> i32
         ensures { result ≡ following self }
     {
         match self.next {

@@ -1,13 +1,13 @@
 //! Why a move is not made.
 ghost use Rattle.std.specs.Prelude.{◌≡◌};
-ghost use Rattle.nr_formatter.specs.Passed.{line_answer, stored_answer, splice_answer};
+ghost use Rattle.nr_formatter.specs.Passed.{line_answer, splice_answer};
 
 use nr_fill::line::LineCells;
 use nr_input::Refusal;
 use nr_store::StoredBytes;
 
 /// The measure that a move would bring above its limit.
-#[derive(Clone, Copy, Debug, PartialEq, Eq)]
+#[derive(Clone, Copy)]
 pub enum Passed {
     /// The bytes that are stored.
     Stored,
@@ -61,17 +61,6 @@ impl Passed {
     #[inline]
     pub(crate) fn of_line(answer: Result<(), LineCells>) -> Result<(), Passed>
         ensures { result ≡ line_answer answer }
-    {
-        match answer {
-            Ok(()) => Ok(()),
-            Err(refused) => Err(Passed::from(refused)),
-        }
-    }
-
-    /// The answer of a call that adds to what is stored.
-    #[inline]
-    pub(crate) fn of_stored(answer: Result<(), StoredBytes>) -> Result<(), Passed>
-        ensures { result ≡ stored_answer answer }
     {
         match answer {
             Ok(()) => Ok(()),

@@ -7,7 +7,7 @@ use std::marker::Model;
 const LONGEST: usize = 256;
 
 /// The line of a request, at most 256 bytes. Clauses see its bytes as a list.
-#[derive(Clone, Copy, Debug)]
+#[derive(Clone, Copy)]
 pub struct RequestLine {
     bytes: [u8; LONGEST],
     len: u16,

@@ -1,8 +1,8 @@
 //! What each request does, one under each name. (CSTR 54, request reference and index; groff manual, `.cp`)
-ghost use Rattle.std.specs.Prelude.{◌≡◌, true, false, OnOk};
+ghost use Rattle.std.specs.Prelude.{◌≡◌, OnOk};
 ghost use Rattle.nr_store.specs.Stored.{afforded};
 ghost use Rattle.nr_formatter.specs.Limits.{IsWithin};
-ghost use Rattle.nr_formatter.specs.Requests.{breaks, act, stores, sets};
+ghost use Rattle.nr_formatter.specs.Requests.{breaks, act};
 
 use crate::formatter::Formatter;
 use crate::tasks::Task;
@@ -26,83 +26,85 @@ pub(crate) fn breaks(request: Request) -> bool
 }
 
 impl<'a> Formatter<'a> {
-    /// A request that only sets. Those that the reader acts on do nothing more.
-    fn set(&mut self, request: Request)
-        requires { sets request ≡ true }
-        ensures { self.new ≡ act request self.old }
-    {
-        match request {
-            Request::Ad => self.ad(),
-            Request::Ce => self.ce(),
-            Request::Fi => self.fi(),
-            Request::Ft => self.ft(),
-            Request::Hy => self.hy(),
-            Request::In => self.in_(),
-            Request::Lc => self.lc(),
-            Request::Ll => self.ll(),
-            Request::Lt => self.lt(),
-            Request::Na => self.na(),
-            Request::Nf => self.nf(),
-            Request::Nh => self.nh(),
-            Request::Ns => self.ns(),
-            Request::Pc => self.pc(),
-            Request::Pl => self.pl(),
-            Request::Po => self.po(),
-            Request::Rs => self.rs(),
-            Request::Ta => self.ta(),
-            Request::Tc => self.tc(),
-            Request::Ti => self.ti(),
-            Request::Ul => self.ul(),
-            Request::Vs => self.vs(),
-            _ => self.task = Task::Read,
-        }
-    }
-
-    /// A request that stores nothing.
-    fn change(&mut self, request: Request)
-        requires { stores request ≡ false }
-        ensures { self.new ≡ act request self.old }
-    {
-        match request {
-            Request::Bp => self.bp(),
-            Request::C2 => self.c2(),
-            Request::Cc => self.cc(),
-            Request::Ch => self.ch(),
-            Request::Cp => self.cp(),
-            Request::Dt => self.dt(),
-            Request::Em => self.em(),
-            Request::Ex => self.ex(),
-            Request::It => self.it(),
-            Request::Ne => self.ne(),
-            Request::Pn => self.pn(),
-            Request::Rm => self.rm(),
-            Request::Rn => self.rn(),
-            Request::Rr => self.rr(),
-            Request::Rt => self.rt(),
-            Request::Sp => self.sp(),
-            _ => self.set(request),
-        }
-    }
-
-    /// A request takes effect.
+    /// A request takes effect. The reader acts on those that only have the input read on.
     pub(crate) fn act(&mut self, request: Request) -> Result<(), StoredBytes>
         ensures result { IsWithin self.old → result ≡ afforded (act request self.old).store tt }
         ensures ok { OnOk result (self.new ≡ act request self.old) }
     {
         match request {
+            Request::Ad => Ok(self.ad()),
             Request::Af => self.af(),
             Request::Am => self.am(),
+            Request::Bp => Ok(self.bp()),
+            Request::C2 => Ok(self.c2()),
+            Request::Cc => Ok(self.cc()),
+            Request::Ce => Ok(self.ce()),
+            Request::Ch => {
+                self.ch();
+                self.fit_memory();
+                Ok(())
+            }
+            Request::Cp => Ok(self.cp()),
             Request::Da => self.da(),
             Request::De => self.de(),
             Request::Di => self.di(),
+            Request::Dt => Ok(self.dt()),
+            Request::Em => Ok(self.em()),
+            Request::Ex => Ok(self.ex()),
+            Request::Fi => Ok(self.fi()),
+            Request::Ft => Ok(self.ft()),
             Request::Hw => self.hw(),
+            Request::Hy => Ok(self.hy()),
             Request::Ig => self.ig(),
+            Request::In => Ok(self.in_()),
+            Request::It => Ok(self.it()),
+            Request::Lc => Ok(self.lc()),
+            Request::Ll => Ok(self.ll()),
+            Request::Lt => Ok(self.lt()),
             Request::Mk => self.mk(),
+            Request::Na => Ok(self.na()),
+            Request::Ne => Ok(self.ne()),
+            Request::Nf => Ok(self.nf()),
+            Request::Nh => Ok(self.nh()),
             Request::Nr => self.nr(),
-            Request::Wh => self.wh(),
-            _ => {
-                self.change(request);
+            Request::Ns => Ok(self.ns()),
+            Request::Pc => Ok(self.pc()),
+            Request::Pl => Ok(self.pl()),
+            Request::Pn => Ok(self.pn()),
+            Request::Po => Ok(self.po()),
+            Request::Rm => {
+                self.rm();
                 self.fit_memory();
+                Ok(())
+            }
+            Request::Rn => {
+                self.rn();
+                self.fit_memory();
+                Ok(())
+            }
+            Request::Rr => {
+                self.rr();
+                self.fit_memory();
+                Ok(())
+            }
+            Request::Rs => Ok(self.rs()),
+            Request::Rt => Ok(self.rt()),
+            Request::Sp => Ok(self.sp()),
+            Request::Ta => Ok(self.ta()),
+            Request::Tc => Ok(self.tc()),
+            Request::Ti => Ok(self.ti()),
+            Request::Ul => Ok(self.ul()),
+            Request::Vs => Ok(self.vs()),
+            Request::Wh => self.wh(),
+            Request::As
+            | Request::Br
+            | Request::Ds
+            | Request::El
+            | Request::Ie
+            | Request::If
+            | Request::Ps
+            | Request::Tl => {
+                self.task = Task::Read;
                 Ok(())
             }
         }

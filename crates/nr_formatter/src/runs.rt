@@ -19,7 +19,7 @@ use nr_store::{Element, Rest};
 const LONGEST_RUN: usize = 64;
 
 /// What became of a blank or a newline behind a word.
-#[derive(Clone, Copy, Debug, PartialEq, Eq)]
+#[derive(Clone, Copy)]
 pub enum Gap {
     /// It was left, and nothing changed.
     Left,
@@ -30,7 +30,7 @@ pub enum Gap {
 }
 
 /// How words and the blanks behind them are read.
-#[derive(Clone, Copy, Debug, PartialEq, Eq)]
+#[derive(Clone, Copy)]
 pub struct Manner {
     /// Those of a line that begins now.
     pub margins: Margins,
@@ -41,7 +41,7 @@ pub struct Manner {
 }
 
 /// What was read of some bytes.
-#[derive(Clone, Copy, Debug, PartialEq, Eq)]
+#[derive(Clone, Copy)]
 pub struct WordPut {
     /// How many of them are cells of a word.
     pub count: usize,

@@ -4,7 +4,7 @@ use nr_input::Standing;
 use nr_store::Request;
 
 /// What goes on once full lines went out.
-#[derive(Clone, Copy, Debug, PartialEq, Eq)]
+#[derive(Clone, Copy)]
 pub enum After {
     /// The text line in which a word ended.
     Text,
@@ -17,7 +17,7 @@ pub enum After {
 }
 
 /// What a break is for.
-#[derive(Clone, Copy, Debug, PartialEq, Eq)]
+#[derive(Clone, Copy)]
 pub enum Then {
     /// A request, whose line was read.
     Act(Request),
@@ -32,7 +32,7 @@ pub enum Then {
 }
 
 /// What room is made for.
-#[derive(Clone, Copy, Debug, PartialEq, Eq)]
+#[derive(Clone, Copy)]
 pub enum Room {
     /// A title, which is read then.
     Title,
@@ -41,7 +41,7 @@ pub enum Room {
 }
 
 /// What a page is ejected for.
-#[derive(Clone, Copy, Debug, PartialEq, Eq)]
+#[derive(Clone, Copy)]
 pub enum Ejected {
     /// A request.
     Request,
@@ -50,7 +50,7 @@ pub enum Ejected {
 }
 
 /// What the next moves do. It is what a sprung macro interrupts and what is gone on with behind it.
-#[derive(Clone, Copy, Debug, PartialEq, Eq)]
+#[derive(Clone, Copy)]
 pub enum Task {
     /// The input is read.
     Read,
@@ -87,7 +87,7 @@ pub enum Task {
 }
 
 /// What is gone on with behind the text of a sprung macro.
-#[derive(Clone, Copy, Debug)]
+#[derive(Clone, Copy)]
 pub struct Resume {
     pub task: Task,
     /// Where the reader stood.
@@ -108,7 +108,7 @@ impl Resume {
 }
 
 /// The steps of the end.
-#[derive(Clone, Copy, Debug, PartialEq, Eq)]
+#[derive(Clone, Copy)]
 pub enum Step {
     /// The input goes on.
     NotYet,

@@ -11,7 +11,7 @@ use std::marker::Model;
 const TOO_MANY: u64 = 1_099_511_627_776;
 
 /// What was read ahead of the source.
-#[derive(Clone, Copy, Debug, PartialEq, Eq)]
+#[derive(Clone, Copy)]
 pub enum Ahead {
     /// Nothing.
     Unseen,

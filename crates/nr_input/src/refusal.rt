@@ -6,7 +6,7 @@ use nr_reading::{Due, Escape};
 use nr_store::StoredBytes;
 
 /// Why a move is not made. The same answer comes again from then on.
-#[derive(Clone, Copy, Debug, PartialEq, Eq, Drop)]
+#[derive(Clone, Copy, Drop)]
 pub enum Refusal {
     /// What is stored would be charged more than the limit.
     Stored,

@@ -7,7 +7,7 @@ use nr_store::{Store, StoredBytes};
 use nr_units::Name;
 
 /// What is done to the text of a name by the lines that follow (CSTR 54, 7.1).
-#[derive(Clone, Copy, Debug, PartialEq, Eq)]
+#[derive(Clone, Copy)]
 pub enum Definition {
     /// `.de`: they replace it.
     De,

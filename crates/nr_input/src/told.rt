@@ -2,7 +2,7 @@
 use nr_reading::Event;
 
 /// What a move tells, a mode left where it was put.
-#[derive(Clone, Copy, Debug)]
+#[derive(Clone, Copy)]
 pub enum Heard {
     /// What was read, if anything was.
     Event(Event),
@@ -11,7 +11,7 @@ pub enum Heard {
 }
 
 /// What a move tells. `K` is what was under way where a text was sprung.
-#[derive(Clone, Copy, Debug)]
+#[derive(Clone, Copy)]
 pub enum Told<K> {
     /// What was read, if anything was.
     Event(Event),

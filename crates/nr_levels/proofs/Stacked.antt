@@ -161,9 +161,6 @@ has_next_own xs s o is next = elim (cases_lt s.first s.last) [
   | inr none ↦ let h = rw (is, front_none xs s none) at next in absurd h
 ]
 
-pub has_next_text : {K : Type 0} → (id place : ℕ) (o : Option (Front K)) → o ≡ Some (front (Text id place)) → HasNext o → place + 1 < 2 ^ 32
-has_next_text id place o is next = rw is at next
-
 -- ---- the newest level's end
 
 -- the levels below the newest, over the bytes and places below it

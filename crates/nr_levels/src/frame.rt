@@ -4,7 +4,7 @@ ghost use Rattle.std.specs.Prelude.{◌≡◌, ◌+◌, ◌-◌, ◌≤◌};
 use nr_pool::Id;
 
 /// A part of a row, from `first` up to `last`.
-#[derive(Clone, Copy, Debug, Drop)]
+#[derive(Clone, Copy, Drop)]
 pub struct Span {
     pub(crate) first: u32,
     pub(crate) last: u32,
@@ -29,7 +29,7 @@ impl Span {
 }
 
 // What a level reads, and how far it has come.
-#[derive(Clone, Copy, Debug, Drop)]
+#[derive(Clone, Copy, Drop)]
 pub(crate) enum Reads<K> {
     // A text of a pool, from this place on.
     Text(Id, u32),
@@ -70,7 +70,7 @@ impl<K: Copy> Reads<K> {
 //
 // The arguments in force before it are a part of the row of places, and below `height` lie the bytes that were kept
 // before it.
-#[derive(Clone, Copy, Debug, Drop)]
+#[derive(Clone, Copy, Drop)]
 pub struct Frame<K> {
     pub(crate) reads: Reads<K>,
     pub(crate) old: Span,
@@ -106,7 +106,7 @@ impl<K: Copy> Frame<K> {
 }
 
 /// What the newest level gives next, a mode left where it lies.
-#[derive(Clone, Copy, Debug, Drop)]
+#[derive(Clone, Copy, Drop)]
 pub enum Next {
     /// There is no level.
     Nothing,
@@ -121,7 +121,7 @@ pub enum Next {
 }
 
 /// What the newest level gives next.
-#[derive(Clone, Copy, Debug, Drop)]
+#[derive(Clone, Copy, Drop)]
 pub enum Front<K> {
     /// What a text has at a place, or the end where it has no more.
     Text(Id, u32),
@@ -134,7 +134,7 @@ pub enum Front<K> {
 }
 
 /// What is left of a level.
-#[derive(Clone, Copy, Debug)]
+#[derive(Clone, Copy)]
 pub enum Rest<'s> {
     /// What a text has from a place on.
     Text(Id, u32),

@@ -5,7 +5,7 @@ ghost use Rattle.nr_options.specs.Limits.{AreLimits, IsInRange, with_bound};
 use std::marker::Model;
 
 /// One of the four limits.
-#[derive(Clone, Copy, Debug, PartialEq, Eq)]
+#[derive(Clone, Copy)]
 pub enum Limit {
     /// The bytes stored: texts under names, registers, traps, open levels. 64 to 2^24.
     Stored,
@@ -33,7 +33,7 @@ impl Limit {
 
 /// How much a text may cost: the bytes stored, the depth of the input, the cells of a line and of a
 /// page, and the expansions between two bytes of the input.
-#[derive(Clone, Copy, Debug)]
+#[derive(Clone, Copy)]
 pub struct Limits {
     stored: u64,
     depth: u64,

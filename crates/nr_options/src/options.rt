@@ -9,7 +9,7 @@ pub const MOST_REGISTERS: usize = 32;
 
 /// The first page's number, registers, and the pages to print (CSTR 54, "Usage": the options `-n`, `-r`
 /// and `-o`).
-#[derive(Clone, Debug, Drop, PartialEq, Eq)]
+#[derive(Drop)]
 pub struct Options {
     /// The number of the first page. One that no register can hold, outside -2147483647 to 2147483647,
     /// sets nothing.

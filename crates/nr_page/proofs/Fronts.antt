@@ -5,12 +5,9 @@ use Rattle.std.proofs.lemmas.List.{take-append-drop, replicate_more, replicate-a
 use Rattle.std.proofs.lemmas.List.Concat.{flat_map-append}
 use Rattle.std.specs.List.{flat_map}
 use Rattle.nr_units.proofs.Fronts.{AppendsFront-append}
-use Rattle.std.proofs.KnownBytes.{Appends-nil, Appends-trans}
+use Rattle.std.proofs.KnownBytes.{Appends-trans}
 use Rattle.nr_units.specs.Held.{AppendsFront}
 use Rattle.nr_page.specs.Gathered.{Gathers, GathersOrFails}
-
-pub Gathers-nil : (held : Option (List ℕ)) (pending : List ℕ) → Gathers held held pending pending []
-Gathers-nil held pending = record { out = []; went_out = Appends-nil held; all = append-nil pending }
 
 pub Gathers-push : {a b : Option (List ℕ)} {p q xs : List ℕ} → Gathers a b p q xs → (ys : List ℕ) → Gathers a b p (q ++ ys) (xs ++ ys)
 Gathers-push {a} {b} {p} {q} {xs} h ys = record {
@@ -65,9 +62,6 @@ replicate-front i n y h =
 -- what failed before bytes were all there took a front of what was to follow too
 pub front_of_more : (a b : Option (List ℕ)) (p xs ys : List ℕ) → AppendsFront a b (p ++ xs) → AppendsFront a b (p ++ (xs ++ ys))
 front_of_more a b p xs ys h = rw (← append_assoc p xs ys) (AppendsFront-append a b (p ++ xs) ys h)
-
-pub with_newline : (xs : List ℕ) → xs ++ 10 ∷ [] ≡ (xs ++ []) ++ 10 ∷ []
-with_newline xs = rw (append-nil xs)
 
 -- bytes were gathered, and then a call ended the work
 pub GathersOrFails-last : {E : Type 0} (a b c : Option (List ℕ)) (p q r xs ys all : List ℕ) (result : Result (Unit {0}) E) → Gathers a b p q xs → GathersOrFails b c q r ys result

@@ -54,13 +54,6 @@ ShowsSame-push xs ys line same = λ row column. elim (cases_eq line.row row) [
 pub ShowsSame-trans : (xs ys zs : List Placed) → ShowsSame xs ys → ShowsSame ys zs → ShowsSame xs zs
 ShowsSame-trans xs ys zs first second = λ row column. first row column ∙ second row column
 
--- a line without cells shows nothing
-pub ShowsSame-empty : (lines : List Placed) (line : Placed) → line.cells ≡ [] → ShowsSame lines (lines ++ line ∷ [])
-ShowsSame-empty lines line none = λ row column. elim (cases_eq line.row row) [
-  | inl is ↦ sym (cell_at-push lines line row column is ∙ ap (λ cells. covered (cell_at lines row column) (cell_or_blank cells column)) none)
-  | inr other ↦ sym (cell_at-push_other lines line row column other)
-]
-
 pub row_count-push : (lines : List Placed) (line : Placed) → row_count (lines ++ line ∷ []) ≡ max (row_count lines) (line.row + 1)
 row_count-push lines line = fold_push (λ (most : ℕ) (l : Placed). max most (l.row + 1)) 0 lines line
 
@@ -85,9 +78,6 @@ covered_by_blank below above h = rw h
 
 pub covered_by_other : (below above : Cell) → is_blank above ≡ false → covered below above ≡ above
 covered_by_other below above h = rw h
-
-pub covered-blank : (cell : Cell) → covered cell blank ≡ cell
-covered-blank cell = refl
 
 pub covered-covered : (a b c : Cell) → covered a (covered b c) ≡ covered (covered a b) c
 covered-covered a b c = elim (cases_Bool (is_blank c)) [

@@ -18,7 +18,7 @@ use nr_units::source::Fault;
 use std::marker::Model;
 
 /// Placing the line would pass the limit of the page's charge.
-#[derive(Clone, Copy, Debug, PartialEq, Eq)]
+#[derive(Clone, Copy)]
 pub struct PageCells;
 
 /// The sink failed: a front of the page's bytes went out.
@@ -26,7 +26,7 @@ pub struct PageCells;
 pub struct WriteFault;
 
 /// The least lengths of the slices that a page is lent, in elements.
-#[derive(Clone, Copy, Debug, PartialEq, Eq)]
+#[derive(Clone, Copy)]
 pub struct PageRoom {
     pub cells: usize,
     pub texts: usize,

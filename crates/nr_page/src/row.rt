@@ -10,7 +10,7 @@ pub(crate) const BLANK: u8 = b' ';
 
 /// A row on which cells were placed, with its text in the page's pool: an element of the slice of rows that a `Page`
 /// is lent.
-#[derive(Clone, Copy, Debug, PartialEq, Eq)]
+#[derive(Clone, Copy)]
 pub struct RowSlot {
     // counted from 0 at the top of the page
     pub(crate) number: u32,

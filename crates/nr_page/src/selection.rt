@@ -20,7 +20,7 @@ const COMMA: u8 = b',';
 const HYPHEN: u8 = b'-';
 
 /// The pages that one item of a page list names. N and M are at most 2147483647.
-#[derive(Clone, Copy, Debug, PartialEq, Eq)]
+#[derive(Clone, Copy)]
 pub enum PageRange {
     /// `N`: page N alone.
     One(u32),
@@ -58,7 +58,7 @@ impl Default for PageRange {
 }
 
 /// The error of a text that is no page list.
-#[derive(Clone, Copy, Debug, PartialEq, Eq)]
+#[derive(Clone, Copy, Debug)]
 pub struct BadList;
 
 impl fmt::Display for BadList {
@@ -72,7 +72,7 @@ impl fmt::Display for BadList {
 impl Error for BadList {}
 
 /// The pages to print: all of them, or those that a page list names.
-#[derive(Clone, Debug, Drop, PartialEq, Eq)]
+#[derive(Drop)]
 pub struct Select {
     list: Option<ArrayVec<PageRange, MOST_ITEMS>>,
 }

@@ -1,6 +1,6 @@
 -- Lemmas on two texts of the same length that change places.
-use Rattle.std.proofs.Common.{◌≡◌, ◌≢◌, ℕ, ◌+◌, ◌<◌, ◌≤◌, ◌⊎◌, List, length, set, get_or, refl, sym, ap, ap₂, ◌∙◌, inl, inr, arith}
-use Rattle.std.proofs.lemmas.List.{length-set, get_or-set_same, get_or-set_other, get_or_default}
+use Rattle.std.proofs.Common.{◌≡◌, ◌≢◌, ℕ, ◌+◌, ◌<◌, ◌≤◌, ◌⊎◌, List, length, set, refl, sym, ap, ap₂, ◌∙◌, inl, inr, arith}
+use Rattle.std.proofs.lemmas.List.{length-set, get_or-set_same, get_or-set_other}
 use Rattle.std.proofs.lemmas.List.Sums.{sum_by-set}
 use Rattle.std.proofs.lemmas.Bool.{cases_lt}
 use Rattle.nr_pool.specs.Texts.{Held}
@@ -9,48 +9,6 @@ use Rattle.nr_pool.specs.Exchange.{LiesAt, IsSwapped, IsExchanged}
 use Rattle.nr_pool.specs.declared.slot.Slot.{Slot}
 use Rattle.nr_pool.proofs.Places.{written_at, same_map, same_part, same_slot}
 use Rattle.nr_pool.proofs.Spares.{spares_set, reached_set}
-
-pub swapped_none : {T : Type 0} (E : List T) (a b : ℕ) → IsSwapped E E a b 0
-swapped_none E a b = record {
-  same_length = refl;
-  first = λ k d below. absurd (omega arith);
-  second = λ k d below. absurd (omega arith);
-  others = λ m d out_a out_b. refl;
-}
-
--- one element more of each part
-pub swapped_more : {T : Type 0} (E F : List T) (a b k : ℕ) (x y : T) → a + k < b → b + k < length E → x ≡ get_or F (a + k) x → y ≡ get_or F (b + k) y → IsSwapped E F a b k → IsSwapped E (set (set F (a + k) y) (b + k) x) a b (k + 1)
-swapped_more E F a b k x y apart within x_is y_is h =
-    let G = set F (a + k) y in
-    let long = h.same_length in
-    let long_G = length-set F (a + k) y in
-    let x_was : (d : _) → x ≡ get_or E (a + k) d = λ d. x_is ∙ h.others (a + k) x (inr (omega arith)) (inl apart) ∙ get_or_default E (a + k) x d (omega arith) in
-    let y_was : (d : _) → y ≡ get_or E (b + k) d = λ d. y_is ∙ h.others (b + k) y (inr (omega arith)) (inr (omega arith)) ∙ get_or_default E (b + k) y d (omega arith) in
-    let stays : (m : ℕ) (d : _) → m ≢ a + k → m ≢ b + k → get_or (set G (b + k) x) m d ≡ get_or F m d = λ m d not_a not_b. get_or-set_other G (b + k) m x d not_b ∙ get_or-set_other F (a + k) m y d not_a in
-    record {
-      same_length = length-set G (b + k) x ∙ long_G ∙ long;
-      first = λ j d below. elim (cases_lt j k) [
-        | inl less ↦ stays (a + j) d (λ e. absurd (omega arith)) (λ e. absurd (omega arith)) ∙ h.first j d less
-        | inr more ↦
-            let same : j ≡ k = omega arith in
-            ap (λ i. get_or (set G (b + k) x) (a + i) d) same ∙ get_or-set_other G (b + k) (a + k) x d (λ e. absurd (omega arith)) ∙ get_or-set_same F (a + k) y d (omega arith) ∙ y_was d ∙ ap (λ i. get_or E (b + i) d) (sym same)
-      ];
-      second = λ j d below. elim (cases_lt j k) [
-        | inl less ↦ stays (b + j) d (λ e. absurd (omega arith)) (λ e. absurd (omega arith)) ∙ h.second j d less
-        | inr more ↦
-            let same : j ≡ k = omega arith in
-            ap (λ i. get_or (set G (b + k) x) (b + i) d) same ∙ get_or-set_same G (b + k) x d (omega arith) ∙ x_was d ∙ ap (λ i. get_or E (a + i) d) (sym same)
-      ];
-      others = λ m d out_a out_b. stays m d (λ e. out_of m a k out_a e) (λ e. out_of m b k out_b e) ∙ h.others m d (wider m a k out_a) (wider m b k out_b);
-    }
-  where
-    out_of : (m a k : ℕ) → (m < a) ⊎ (a + (k + 1) ≤ m) → m ≡ a + k → ⊥
-    out_of m a k (inl before) same = omega arith
-    out_of m a k (inr behind) same = omega arith
-
-    wider : (m a k : ℕ) → (m < a) ⊎ (a + (k + 1) ≤ m) → (m < a) ⊎ (a + k ≤ m)
-    wider m a k (inl before) = inl before
-    wider m a k (inr behind) = inr (omega arith)
 
 module _ {T : Type 0} (E F : List T) (slots : List Slot) (used a b n i j : ℕ) (new_i new_j : Slot) (packed : IsPacked (length E) slots used) (within : i < length slots) (lies : LiesAt slots j b n) (last : b + n ≡ used)
     (a_is : (slot_at slots i).start ≡ a) (n_is : (slot_at slots i).len ≡ n) (some : 0 < n) (before : a + n ≢ used)

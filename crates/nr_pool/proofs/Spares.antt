@@ -2,7 +2,7 @@
 use Rattle.std.proofs.Common.{◌≡◌, ◌≢◌, ℕ, zero, suc, ◌+◌, ◌^◌, ◌<◌, ◌⊎◌, max, List, length, map, set, sum, sum_by, replicate, refl, sym, ap, ◌∙◌, inl, inr, arith}
 use Rattle.std.proofs.lemmas.List.{length-map, length-set, length-replicate, get_or-set_same, get_or-map, get_or-replicate, get_or_past, same_lists}
 use Rattle.std.proofs.lemmas.List.Folds.{sum_by-replicate}
-use Rattle.std.proofs.lemmas.List.Sums.{sum-map, sum_by-set, sum_by-le, get_or-le-sum_by}
+use Rattle.std.proofs.lemmas.List.Sums.{sum-map, sum_by-set, sum_by-le}
 use Rattle.std.proofs.lemmas.Bool.{cases_lt}
 use Rattle.nr_pool.specs.Texts.{Texts, no_text}
 use Rattle.nr_pool.specs.Places.{blank_slot, slot_at, held_of, texts_of}
@@ -61,13 +61,6 @@ none_spare slots count first spares none k below = elim (cases_lt 0 (slot_at slo
       let counted = spares.counted in
       absurd (omega arith)
 ]
-
--- while one has a text, not all are spare
-pub spare_room : (slots : List Slot) (count first i : ℕ) → HasSpares slots count first → 0 < (slot_at slots i).holders → i < length slots → count < length slots
-spare_room slots count first i spares held within =
-    let one = get_or-le-sum_by taken slots i blank_slot within in
-    let counted = spares.counted in
-    omega arith
 
 spare_at-next : (slots : List Slot) (first k : ℕ) → spare_at slots (slot_at slots first).start k ≡ spare_at slots first (suc k)
 spare_at-next slots first zero = refl

@@ -14,11 +14,11 @@ use std::marker::Model;
 mod slot;
 
 /// There is no room for what was to be added.
-#[derive(Clone, Copy, Debug, PartialEq, Eq, Drop)]
+#[derive(Clone, Copy, Debug, Drop)]
 pub struct Full;
 
 /// The number of a text of a `Pool`. It says nothing of which pool that is.
-#[derive(Clone, Copy, Debug, PartialEq, Eq, Drop)]
+#[derive(Clone, Copy, Drop)]
 pub struct Id {
     index: u32,
 }

@@ -5,7 +5,7 @@ ghost use Rattle.nr_pool.specs.Spares.{HasSpares, IsReached};
 ghost use Rattle.nr_pool.specs.Exchange.{LiesAt, IsSwapped, IsExchanged};
 
 /// What a `Pool` keeps for one text: 12 bytes.
-#[derive(Clone, Copy, Debug, Drop)]
+#[derive(Clone, Copy, Drop)]
 pub struct Slot {
     // The place of the text's first element; of no account while it has none.
     // In a slot with no text, the next spare slot.

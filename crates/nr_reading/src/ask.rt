@@ -8,7 +8,7 @@ use super::mode::Due;
 use super::spelled::{Spelled, is_blank};
 
 /// What is done to a register before it is read.
-#[derive(Clone, Copy, Debug, PartialEq, Eq)]
+#[derive(Clone, Copy)]
 pub enum Sign {
     /// Nothing.
     None,
@@ -19,7 +19,7 @@ pub enum Sign {
 }
 
 /// What an escape asks for.
-#[derive(Clone, Copy, Debug, PartialEq, Eq)]
+#[derive(Clone, Copy)]
 pub enum Kind {
     /// `\*`: a string's name.
     String,
@@ -46,7 +46,7 @@ pub enum Kind {
 }
 
 /// What is read next of it.
-#[derive(Clone, Copy, Debug, PartialEq, Eq)]
+#[derive(Clone, Copy)]
 pub enum Stage {
     /// The first byte of a name.
     First,
@@ -67,7 +67,7 @@ pub enum Stage {
 }
 
 /// An escape whose argument is half read.
-#[derive(Clone, Copy, Debug)]
+#[derive(Clone, Copy)]
 pub struct Ask {
     /// What it asks for.
     pub kind: Kind,
@@ -78,7 +78,7 @@ pub struct Ask {
 }
 
 /// How an escape begins whose argument is still to be read.
-#[derive(Clone, Copy, Debug)]
+#[derive(Clone, Copy)]
 pub(crate) enum Begun {
     /// It asks for this.
     Of(Kind),
@@ -101,7 +101,7 @@ impl Begun {
 }
 
 /// What an ask does with a byte.
-#[derive(Clone, Copy, Debug)]
+#[derive(Clone, Copy)]
 pub(crate) enum Answer {
     /// It takes the byte, and goes on as this.
     Goes(Ask),

@@ -7,7 +7,7 @@ use super::front::Front;
 use super::mode::Escape;
 
 /// What the item in front is in copy mode.
-#[derive(Clone, Copy, Debug, PartialEq, Eq)]
+#[derive(Clone, Copy)]
 pub(crate) enum Offer {
     /// It is taken, and gives no element.
     Skip(Escape),

@@ -2,7 +2,7 @@
 use nr_units::cell::Cell;
 
 /// What a condition asks of those who know the page and the units (CSTR 54, 16).
-#[derive(Clone, Copy, Debug, PartialEq, Eq)]
+#[derive(Clone, Copy)]
 pub enum Question {
     /// `o`: the page number is odd.
     Odd,
@@ -13,7 +13,7 @@ pub enum Question {
 }
 
 /// What an item tells that was read, if it tells anything.
-#[derive(Clone, Copy, Debug, PartialEq, Eq)]
+#[derive(Clone, Copy)]
 pub enum Event {
     /// Nothing.
     Nothing,

@@ -3,7 +3,7 @@
 use nr_units::cell::Cell;
 
 /// The item in front of the list.
-#[derive(Clone, Copy, Debug, PartialEq, Eq)]
+#[derive(Clone, Copy)]
 pub enum Front {
     /// The end of a level: its end mark.
     Mark,

@@ -15,7 +15,7 @@ use super::step::Jot;
 use nr_units::Name;
 
 /// What an item tells, and whether it is taken.
-#[derive(Clone, Copy, Debug, PartialEq, Eq)]
+#[derive(Clone, Copy)]
 pub struct Seen {
     /// What was read.
     pub event: Event,

@@ -6,7 +6,7 @@ ghost use Rattle.nr_reading.specs.LineBeginnings.{begins_control};
 use super::ask::Sign;
 
 /// Where in a line the reader is.
-#[derive(Clone, Copy, Debug, PartialEq, Eq)]
+#[derive(Clone, Copy)]
 pub enum Mode {
     // ---- beginnings of lines, and text: items as they are
     /// At the beginning of a line.
@@ -82,7 +82,7 @@ pub enum Mode {
 }
 
 /// What of an escape was read.
-#[derive(Clone, Copy, Debug, PartialEq, Eq)]
+#[derive(Clone, Copy)]
 pub enum Escape {
     /// Nothing.
     Plain,
@@ -93,7 +93,7 @@ pub enum Escape {
 }
 
 /// What the next move does.
-#[derive(Clone, Copy, Debug, PartialEq, Eq)]
+#[derive(Clone, Copy)]
 pub enum Due {
     /// It looks at the item in front.
     Look,
@@ -139,7 +139,7 @@ pub enum Due {
 }
 
 /// What the name of a control line calls.
-#[derive(Clone, Copy, Debug, PartialEq, Eq)]
+#[derive(Clone, Copy)]
 pub enum Calls {
     /// Nothing: the line is dropped.
     Nothing,
@@ -162,7 +162,7 @@ pub enum Calls {
 }
 
 /// Where a line stands in whose middle a macro was sprung.
-#[derive(Clone, Copy, Debug, PartialEq, Eq)]
+#[derive(Clone, Copy)]
 pub enum Standing {
     /// At its beginning.
     Start,
@@ -175,7 +175,7 @@ pub enum Standing {
 }
 
 /// Where the reader and the copier are.
-#[derive(Clone, Copy, Debug, PartialEq, Eq)]
+#[derive(Clone, Copy)]
 pub struct Reading {
     /// Where in a line the reader is.
     pub mode: Mode,
@@ -190,7 +190,7 @@ pub struct Reading {
 }
 
 /// How lines are read, as requests set it.
-#[derive(Clone, Copy, Debug, PartialEq, Eq)]
+#[derive(Clone, Copy)]
 pub struct Signs {
     /// The control character.
     pub control: u8,

@@ -10,7 +10,7 @@ use super::step::Jot;
 use nr_units::Name;
 
 /// What was read of a condition (CSTR 54, 16).
-#[derive(Clone, Copy, Debug, PartialEq, Eq)]
+#[derive(Clone, Copy)]
 pub struct Condition {
     /// `!` came before it.
     pub negated: bool,
@@ -25,7 +25,7 @@ pub struct Condition {
 }
 
 /// What is defined.
-#[derive(Clone, Copy, Debug)]
+#[derive(Clone, Copy)]
 pub struct Defining {
     /// The name that ends the definition and is called then; the empty one where two dots end it.
     pub ending: Name,

@@ -30,7 +30,7 @@ pub trait Items {
 }
 
 /// What came of a row of items.
-#[derive(Clone, Copy, Debug)]
+#[derive(Clone, Copy)]
 pub struct Run {
     /// How many items were taken.
     pub taken: usize,

@@ -19,7 +19,7 @@ pub(crate) fn ends_name(byte: u8) -> bool
 }
 
 /// A name as far as it was read.
-#[derive(Clone, Copy, Debug)]
+#[derive(Clone, Copy)]
 pub struct Spelled {
     /// Its first 32 bytes.
     pub bytes: Name,

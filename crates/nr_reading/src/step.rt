@@ -8,7 +8,7 @@ use super::ask::Begun;
 use super::event::Event;
 
 /// What is noted beside an item.
-#[derive(Clone, Copy, Debug)]
+#[derive(Clone, Copy)]
 pub(crate) enum Jot {
     /// Nothing.
     Nothing,
@@ -33,7 +33,7 @@ pub(crate) enum Jot {
 }
 
 /// What comes of an item, beside where the reader is then.
-#[derive(Clone, Copy, Debug)]
+#[derive(Clone, Copy)]
 pub(crate) struct Said {
     /// What is noted beside.
     pub(crate) note: Jot,

@@ -79,7 +79,7 @@ fn name_len(text: &[u8], long: bool) -> usize
 }
 
 /// What is still to be read of a request's line.
-#[derive(Clone, Copy, Debug)]
+#[derive(Clone, Copy)]
 pub struct Arguments<'a> {
     pub rest: &'a [u8],
 }

@@ -5,8 +5,8 @@ ghost use Rattle.nr_settings.specs.Escapes.{escape_of, len_before, escape_name_l
 use crate::registers::is_digit;
 
 /// What an escape is, by the byte behind the `\`.
-#[derive(Clone, Copy, PartialEq, Eq, Debug)]
-pub enum Escape {
+#[derive(Clone, Copy)]
+pub(crate) enum Escape {
     /// One cell.
     OneCell,
     /// No cell.

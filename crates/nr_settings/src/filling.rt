@@ -4,7 +4,7 @@ use crate::lengths::Height;
 use crate::numbers::counted_lines;
 
 /// Which side of filled lines is adjusted.
-#[derive(Clone, Copy, PartialEq, Eq, Debug)]
+#[derive(Clone, Copy)]
 pub enum Way {
     Left,
     Right,
@@ -15,7 +15,7 @@ pub enum Way {
 }
 
 /// How one line is set.
-#[derive(Clone, Copy, PartialEq, Eq, Debug)]
+#[derive(Clone, Copy)]
 pub enum Align {
     Left,
     /// From side to side.
@@ -26,7 +26,7 @@ pub enum Align {
 
 /// The settings of filling: whether lines are filled, whether and which way they are adjusted, and the number of text
 /// lines that are still to be centred.
-#[derive(Clone, Copy, PartialEq, Eq, Debug)]
+#[derive(Clone, Copy)]
 pub struct Filling {
     pub fill: bool,
     pub adjust: bool,

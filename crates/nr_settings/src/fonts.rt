@@ -6,7 +6,7 @@ use nr_units::Name;
 use nr_units::cell::Cell;
 
 /// A font. A terminal prints bold as roman.
-#[derive(Clone, Copy, PartialEq, Eq, Debug)]
+#[derive(Clone, Copy)]
 pub enum Font {
     Roman,
     /// Printed by underlining.
@@ -15,7 +15,7 @@ pub enum Font {
 }
 
 /// The font, the one before it, and the number of text lines that are still to be underlined.
-#[derive(Clone, Copy, PartialEq, Eq, Debug)]
+#[derive(Clone, Copy)]
 pub struct Fonts {
     pub font: Font,
     pub previous: Font,

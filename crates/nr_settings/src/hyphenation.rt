@@ -3,7 +3,7 @@ use crate::lengths::Height;
 use crate::numbers::is_zero;
 
 /// Whether words are hyphenated at the points that `.hw` gave.
-#[derive(Clone, Copy, PartialEq, Eq, Debug)]
+#[derive(Clone, Copy)]
 pub struct Hyphenation {
     pub on: bool,
 }

@@ -4,21 +4,21 @@ use crate::numbers::first_change;
 use nr_units::Scale;
 
 /// A width, and the one before the last change.
-#[derive(Clone, Copy, Debug)]
+#[derive(Clone, Copy)]
 pub struct Kept {
     pub value: Width,
     pub previous: Width,
 }
 
 /// The margins of a line, in characters: its indent, and the length that is left behind it.
-#[derive(Clone, Copy, PartialEq, Eq, Debug)]
+#[derive(Clone, Copy)]
 pub struct Margins {
     pub indent: u32,
     pub length: u32,
 }
 
 /// The indent, that of the next line alone, the page offset, and the lengths of lines and titles.
-#[derive(Clone, Copy, Debug)]
+#[derive(Clone, Copy)]
 pub struct Indents {
     pub indent: Kept,
     pub next_indent: Option<Width>,

@@ -9,7 +9,7 @@ use std::marker::Model;
 const LONGEST: u32 = 32760;
 
 /// A width of 0 to 1365 characters. Clauses see it in units, 24 to a character.
-#[derive(Clone, Copy, Debug)]
+#[derive(Clone, Copy)]
 pub struct Width {
     units: u32,
 }
@@ -79,7 +79,7 @@ impl Width {
 }
 
 /// A height of 1 to 819 lines. Clauses see it in units, 40 to a line.
-#[derive(Clone, Copy, Debug)]
+#[derive(Clone, Copy)]
 pub struct Height {
     units: u32,
 }

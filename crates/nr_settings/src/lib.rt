@@ -34,7 +34,7 @@ pub use hyphenation::Hyphenation;
 pub use indents::{Indents, Kept, Margins};
 pub use lengths::{Height, Width};
 pub use motions::{Repeated, motion, rule};
-pub use numbers::{Change, change_of, is_true_number, value_of};
+pub use numbers::{Change, is_true_number};
 pub use pages::{Pages, page_number};
 pub use registers::{FormatChange, RegisterChange, af, nr};
 pub use settings::Settings;

@@ -9,7 +9,7 @@ use crate::lengths::{Height, Width};
 use nr_units::{Ctx, Scale, read_expr, round_h};
 
 /// So many cells of one byte.
-#[derive(Clone, Copy, PartialEq, Eq, Debug)]
+#[derive(Clone, Copy)]
 pub struct Repeated {
     pub cells: u32,
     pub byte: u8,

@@ -8,7 +8,7 @@ use crate::lengths::Height;
 use nr_units::{Ctx, Scale, read_expr};
 
 /// What the argument of a signed request says.
-#[derive(Clone, Copy, PartialEq, Eq, Debug)]
+#[derive(Clone, Copy)]
 pub enum Change {
     /// The new value.
     To(i32),
@@ -31,7 +31,7 @@ impl Change {
 
 /// The value of a number argument under a default scale, `v` being the vertical space and `here` the present place in
 /// units. None for one that is absent or invalid.
-pub fn value_of(argument: &[u8], scale: Scale, v: Height, here: i64) -> Option<i32>
+pub(crate) fn value_of(argument: &[u8], scale: Scale, v: Height, here: i64) -> Option<i32>
     ensures value { result ≡ value_of scale v here argument.now }
     ensures range { IfSome result (λ n. unsigned_abs n ≤ 2147483647) }
 {
@@ -47,7 +47,7 @@ pub fn value_of(argument: &[u8], scale: Scale, v: Height, here: i64) -> Option<i
 }
 
 /// What the argument of a signed request says; None for one that is absent or invalid.
-pub fn change_of(argument: &[u8], scale: Scale, v: Height, here: i64) -> Option<Change>
+pub(crate) fn change_of(argument: &[u8], scale: Scale, v: Height, here: i64) -> Option<Change>
     ensures { result ≡ change_of scale v here argument.now }
 {
     let Some((first, rest)) = argument.split_first() else {

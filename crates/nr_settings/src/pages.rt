@@ -9,7 +9,7 @@ use nr_units::Scale;
 
 /// The page length, the vertical space V and the one before the last change, whether no-space mode is on, the place in
 /// units that `.mk` marked, and the page number character of titles.
-#[derive(Clone, Copy, Debug)]
+#[derive(Clone, Copy)]
 pub struct Pages {
     pub page_length: Height,
     pub spacing: Height,

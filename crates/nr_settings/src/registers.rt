@@ -9,7 +9,7 @@ use crate::numbers::{Change, change_of, value_of};
 use nr_units::{Format, Name, Scale};
 
 /// A register's new value, and its step where that is given.
-#[derive(Clone, Copy, Debug)]
+#[derive(Clone, Copy)]
 pub struct RegisterChange {
     pub name: Name,
     pub change: Change,
@@ -17,7 +17,7 @@ pub struct RegisterChange {
 }
 
 /// A register's new format.
-#[derive(Clone, Copy, Debug)]
+#[derive(Clone, Copy)]
 pub struct FormatChange {
     pub name: Name,
     pub format: Format,

@@ -7,7 +7,7 @@ use crate::pages::Pages;
 use crate::tabs::Tabs;
 
 /// The settings of the formatter, by matter, and the width in units of the text of the last line that went out.
-#[derive(Drop, Debug)]
+#[derive(Drop)]
 pub struct Settings {
     pub filling: Filling,
     pub indents: Indents,

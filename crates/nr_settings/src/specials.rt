@@ -1,7 +1,7 @@
 //! Special characters (groff, special characters).
 
 /// A special character.
-#[derive(Clone, Copy, PartialEq, Eq, Debug)]
+#[derive(Clone, Copy)]
 pub enum Special {
     /// `hy`: `-`, a hyphen of a word.
     Hyphen,

@@ -5,7 +5,7 @@ use std::marker::Model;
 const MOST: usize = 32;
 
 /// Where text stands at a stop.
-#[derive(Clone, Copy, PartialEq, Eq, Debug)]
+#[derive(Clone, Copy)]
 pub enum StopKind {
     /// Behind it.
     Left,
@@ -16,14 +16,14 @@ pub enum StopKind {
 }
 
 /// A tab stop at a column, in characters from the line's indent.
-#[derive(Clone, Copy, PartialEq, Eq, Debug)]
+#[derive(Clone, Copy)]
 pub struct Stop {
     pub column: u32,
     pub kind: StopKind,
 }
 
 /// At most 32 tab stops. Clauses see them as a list.
-#[derive(Drop, Debug)]
+#[derive(Drop)]
 pub struct Stops {
     places: [Stop; MOST],
     count: usize,

@@ -11,13 +11,13 @@ use nr_units::{Ctx, Scale, read_expr, round_h};
 
 /// The stops of `.ta` that have been read, and the place of the last in units.
 #[derive(Drop)]
-pub struct Ruler {
+pub(crate) struct Ruler {
     pub stops: Stops,
     pub place: i64,
 }
 
 /// The tab stops, and the bytes that a tab and a leader repeat; with None they make blanks.
-#[derive(Drop, Debug)]
+#[derive(Drop)]
 pub struct Tabs {
     pub stops: Stops,
     pub tab: Option<u8>,

@@ -12,7 +12,7 @@ use crate::numbers::value_of;
 use nr_units::{Name, Scale, round_v};
 
 /// What `.wh` says. Places are in units, multiples of 40.
-#[derive(Clone, Copy, Debug)]
+#[derive(Clone, Copy)]
 pub enum PageTrap {
     /// A trap at this place for this name.
     Plant(i32, Name),
@@ -22,14 +22,14 @@ pub enum PageTrap {
 }
 
 /// What `.ch` says: where the trap for a name goes. None: it goes away.
-#[derive(Clone, Copy, Debug)]
+#[derive(Clone, Copy)]
 pub struct TrapMove {
     pub name: Name,
     pub place: Option<i32>,
 }
 
 /// What `.dt` says.
-#[derive(Clone, Copy, Debug)]
+#[derive(Clone, Copy)]
 pub enum DiversionTrap {
     /// The diversion's trap is at this place for this name.
     Set(i32, Name),
@@ -38,7 +38,7 @@ pub enum DiversionTrap {
 }
 
 /// What `.it` says.
-#[derive(Clone, Copy, Debug)]
+#[derive(Clone, Copy)]
 pub enum LineTrap {
     /// This name after so many text lines, which are at least one.
     After(u32, Name),

@@ -15,8 +15,8 @@ use crate::motions::motion;
 use crate::specials::Special;
 
 /// An element of a text: the number of its bytes behind the first, and its width in units.
-#[derive(Clone, Copy, PartialEq, Eq, Debug)]
-pub struct Element {
+#[derive(Clone, Copy)]
+pub(crate) struct Element {
     pub more: usize,
     pub width: u32,
 }

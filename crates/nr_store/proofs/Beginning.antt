@@ -17,10 +17,10 @@ use Rattle.nr_store.specs.declared.request.Request.{Request}
 use Rattle.nr_store.specs.declared.request.TheConstants.{REQUESTS}
 use Rattle.nr_store.specs.Senses.{act}
 use Rattle.nr_store.specs.Stored.{Built, weight, level_charge, text_charge, charge_of, charge_beside}
-use Rattle.nr_store.specs.Requests.{name_of, with_acts, with_senses}
-use Rattle.nr_store.specs.Holders.{Beside, Suffice, acts, means_of, named_means, built_of, level_of, stored_of, count, values, draft_ids, held_ids, texts_in, IsHeld, AllPay, AreNamed, IsStore}
+use Rattle.nr_store.specs.Requests.{name_of, with_senses}
+use Rattle.nr_store.specs.Holders.{Beside, Suffice, acts, built_of, level_of, stored_of, count, values, draft_ids, held_ids, texts_in, IsHeld, AllPay, AreNamed, IsStore}
 use Rattle.nr_store.proofs.Counting.{count-append}
-use Rattle.nr_store.proofs.Naming.{ones, sum_of, put_sum, put_sum_new, put-map, count-values}
+use Rattle.nr_store.proofs.Naming.{ones, sum_of, put_sum, put_sum_new, count-values}
 use Rattle.nr_store.proofs.Keeping.{charged_once}
 use Rattle.nr_store.proofs.Sharing.{no_name}
 use Rattle.nr_store.proofs.Defining.{cost_of, names_charge}
@@ -45,10 +45,6 @@ senses_sum-le f n each (e ∷ es) ns =
     let one = each e.2 in
     let long : n * length (e ∷ es) ≡ n * length es + n = grind arith in
     omega arith
-
-pub senses_means : (p : Texts Element) (es : List (ℕ × ℕ × Request)) (ns : List (Named Sense)) → map (named_means p) (with_senses es ns) ≡ with_acts es (map (named_means p) ns)
-senses_means p [] ns = refl
-senses_means p (e ∷ es) ns = senses_means p es (put (name_of e) (senses.Request e.2) ns) ∙ ap (with_acts es) (put-map (means_of p) (name_of e) (senses.Request e.2) ns)
 
 -- a pool with no texts
 bare_entry : (p : Texts Element) (n k : ℕ) → p.texts ≡ replicate n no_text → entry p k ≡ no_text

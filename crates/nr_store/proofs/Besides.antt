@@ -1,13 +1,12 @@
 -- Lemmas on what is stored beside texts and levels.
-use Rattle.std.proofs.Common.{◌≡◌, ℕ, ◌+◌, ◌≤◌, List, [], ◌∷◌, ◌++◌, length, eqb, true, false, Some, None, refl, ap, ◌∙◌, inl, inr, arith, length-append}
-use Rattle.std.proofs.lemmas.List.Sums.{sum_by-cons, sum_by-append}
-use Rattle.std.proofs.lemmas.Bool.{cases_Bool, cond-true, cond-false}
+use Rattle.std.proofs.Common.{◌≡◌, ℕ, ◌+◌, ◌≤◌, List, [], ◌∷◌, ◌++◌, length, eqb, false, Some, None, refl, ap, ◌∙◌, arith, length-append}
+use Rattle.std.proofs.lemmas.List.Sums.{sum_by-cons}
 use Rattle.nr_units.specs.Items.{Items}
 use Rattle.nr_pool.specs.Texts.{Texts}
 use Rattle.nr_tables.specs.Named.{Named, find, put, without}
 use Rattle.nr_tables.specs.Rows.{Table}
 use Rattle.nr_levels.specs.Levels.{Levels}
-use Rattle.nr_levels.specs.Gathered.{Gathered, Gathering, bytes_in, gathered_len, with_byte, with_bytes, with_end}
+use Rattle.nr_levels.specs.Gathered.{Gathered, Gathering, bytes_in, gathered_len, with_byte, with_bytes}
 use Rattle.nr_levels.specs.Laws.{with_bytes-more, with_bytes-append}
 use Rattle.nr_tables.specs.declared.trap.Trap.{Trap}
 use Rattle.nr_tables.specs.declared.word.HyphenationWord.{HyphenationWord}
@@ -48,22 +47,6 @@ module _ {K : Type 0} (p : Texts Element) (names : Table Sense) (drafts : Items 
     }
 
 -- ---- arguments that are being read
-
-pub byte_full : (byte : ℕ) (g : Gathered) → eqb (length g.kept) 9 ≡ true → with_byte byte g ≡ g
-byte_full byte g full = cond-true (eqb (length g.kept) 9) g _ full
-
-pub byte_more : (byte : ℕ) (g : Gathered) → eqb (length g.kept) 9 ≡ false → gathered_len (with_byte byte g) ≡ gathered_len g + 1
-byte_more byte g more = ap gathered_len (cond-false (eqb (length g.kept) 9) g _ more) ∙ (let all = length-append g.last (byte ∷ []) in let e : bytes_in g.kept + length (g.last ++ byte ∷ []) ≡ gathered_len g + 1 = omega arith in e)
-
-pub end_same : (g : Gathered) → gathered_len (with_end g) ≡ gathered_len g
-end_same g = elim (cases_Bool (eqb (length g.kept) 9)) [
-  | inl full ↦ ap gathered_len (cond-true (eqb (length g.kept) 9) g _ full)
-  | inr more ↦
-      ap gathered_len (cond-false (eqb (length g.kept) 9) g _ more)
-      ∙ (let all = sum_by-append (λ (b : List ℕ). length b) g.kept (g.last ∷ []) in
-      let one = sum_by-cons (λ (b : List ℕ). length b) g.last [] in
-      let e : bytes_in (g.kept ++ g.last ∷ []) + 0 ≡ gathered_len g = omega arith in e)
-]
 
 pub bytes_more : (bytes : List ℕ) (g : Gathered) → eqb (length g.kept) 9 ≡ false → gathered_len (with_bytes bytes g) ≡ gathered_len g + length bytes
 bytes_more bytes g more = ap gathered_len (with_bytes-more bytes g more) ∙ (let all = length-append g.last bytes in let e : bytes_in g.kept + length (g.last ++ bytes) ≡ gathered_len g + length bytes = omega arith in e)

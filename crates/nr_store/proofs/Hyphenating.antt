@@ -2,12 +2,11 @@
 use Rattle.std.proofs.Common.{◌≡◌, ℕ, ◌+◌, ◌*◌, ◌<◌, ◌≤◌, true, false, List, [], ◌∷◌, length, map, drop, Some, sum_by, ap, ◌∙◌, arith}
 use Rattle.std.specs.Prelude.{find}
 use Rattle.std.specs.List.{slice_get}
-use Rattle.std.proofs.lemmas.Bool.{cond-true, cond-false, lt-ltb, le-ltb}
+use Rattle.std.proofs.lemmas.Bool.{cond-true, cond-false}
 use Rattle.std.proofs.lemmas.List.Sums.{sum_by-cons}
-use Rattle.nr_tables.specs.Words.{word_weight, word_of, is_given}
+use Rattle.nr_tables.specs.Words.{word_weight, is_given}
 use Rattle.nr_tables.specs.Given.{word_in}
 use Rattle.nr_tables.specs.declared.word.HyphenationWord.{HyphenationWord}
-use Rattle.nr_store.specs.Stored.{Stored, charge_of, worded}
 use Rattle.nr_store.proofs.Diverting.{rest_at}
 
 -- each word is charged 16 at least
@@ -16,19 +15,6 @@ words_length [] = omega arith
 words_length (w ∷ ws) =
     let rest = words_length ws in
     let all = sum_by-cons word_weight (word_in w) (map word_in ws) in
-    omega arith
-
--- one that is too long is not taken
-pub unworded : {K : Type 0} (given : List ℕ) (v : Stored K) → 64 < length given → worded given v ≡ v
-unworded given v long = cond-true _ _ _ (lt-ltb 64 (length given) long)
-
-pub worded_is : {K : Type 0} (given : List ℕ) (v : Stored K) → length given ≤ 64 → worded given v ≡ record v { words = word_of given ∷ v.words }
-worded_is given v short = cond-false _ _ _ (le-ltb 64 (length given) short)
-
-pub charge_of-worded : {K : Type 0} (given : List ℕ) (v : Stored K) → length given ≤ 64 → charge_of (worded given v) ≡ charge_of v + word_weight (word_of given)
-charge_of-worded given v short =
-    let is = ap charge_of (worded_is given v short) in
-    let all = sum_by-cons word_weight (word_of given) v.words in
     omega arith
 
 -- ---- the latest word that bytes are

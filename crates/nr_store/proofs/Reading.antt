@@ -16,7 +16,7 @@ use Rattle.nr_store.specs.declared.named.Sense.{Sense}
 use Rattle.nr_store.specs.declared.element.Element.{Element}
 use Rattle.nr_store.specs.declared.element.Draft.{Draft}
 use Rattle.nr_store.specs.declared.shown.Shown.TheVariants as shows
-use Rattle.nr_store.specs.Stored.{Level, Read, Mark, level_charge, Stored, charge_of, share, shown, shown_in, shown_of, mark_of, left, left_in, left_of, dropped, dropped_in, emptied}
+use Rattle.nr_store.specs.Stored.{Level, Read, Mark, level_charge, Stored, charge_of, share, shown, shown_in, shown_of, mark_of, left, left_in, left_of, dropped, dropped_in}
 use Rattle.nr_store.specs.Holders.{Beside, level_in, level_of, stored_of, count, ids_of, ids_of_source, values, draft_ids, held_ids, text_in, texts_in, IsHeld, AllPay, IsStore, lone}
 use Rattle.nr_store.proofs.Counting.{AddsOne, one_same, count-cons, count-append, held_less, open_of_adds, text_kept, released_capacity, released_slots}
 use Rattle.nr_store.proofs.Keeping.{Keeps, same_view, charged_once}
@@ -34,51 +34,13 @@ source_text (Own []) id place is = cc
 source_text (Own (b ∷ bs)) id place is = cc
 source_text (Marked mode) id place is = cc
 
-source_end : {K : Type 0} (s : Source K) → front s ≡ fronts.End → s ≡ Own []
-source_end (Text i j) is = cc
-source_end (Own []) is = refl
-source_end (Own (b ∷ bs)) is = cc
-source_end (Marked mode) is = cc
-
 pub record Bytes {K : Type 0} (s : Source K) (b : ℕ) : Type 0 where
   pub rest : List ℕ
   pub is : s ≡ Own (b ∷ rest)
 
-source_byte : {K : Type 0} (s : Source K) (b : ℕ) → front s ≡ fronts.Byte b → Bytes s b
-source_byte (Text i j) b is = let no : ⊥ = cc in absurd no
-source_byte (Own []) b is = let no : ⊥ = cc in absurd no
-source_byte (Own (c ∷ cs)) b is = let same : c ≡ b = cc in record { rest = cs; is = ap (λ d. Own (d ∷ cs)) same }
-source_byte (Marked mode) b is = let no : ⊥ = cc in absurd no
-
-source_mark : {K : Type 0} (s : Source K) (mode : K) → front s ≡ fronts.Resume mode → s ≡ Marked mode
-source_mark (Text i j) mode is = cc
-source_mark (Own []) mode is = cc
-source_mark (Own (b ∷ bs)) mode is = cc
-source_mark (Marked m) mode is = let same : m ≡ mode = cc in ap Marked same
-
 pub newest_text : {K : Type 0} (levels : List (Open K)) (id place : ℕ) → front_of levels ≡ Some (fronts.Text id place) → Newest levels (Text id place)
 newest_text [] id place is = let no : ⊥ = cc in absurd no
 newest_text (l ∷ ls) id place is = record { level = l; first = refl; reads = source_text l.source id place cc }
-
-pub newest_end : {K : Type 0} (levels : List (Open K)) → front_of levels ≡ Some fronts.End → Newest levels (Own [])
-newest_end [] is = let no : ⊥ = cc in absurd no
-newest_end (l ∷ ls) is = record { level = l; first = refl; reads = source_end l.source cc }
-
-pub newest_mark : {K : Type 0} (levels : List (Open K)) (mode : K) → front_of levels ≡ Some (fronts.Resume mode) → Newest levels (Marked mode)
-newest_mark [] mode is = let no : ⊥ = cc in absurd no
-newest_mark (l ∷ ls) mode is = record { level = l; first = refl; reads = source_mark l.source mode cc }
-
-pub record NewestByte {K : Type 0} (levels : List (Open K)) (b : ℕ) : Type 0 where
-  pub rest : List ℕ
-  pub newest : Newest levels (Own (b ∷ rest))
-
-pub newest_byte : {K : Type 0} (levels : List (Open K)) (b : ℕ) → front_of levels ≡ Some (fronts.Byte b) → NewestByte levels b
-newest_byte [] b is = let no : ⊥ = cc in absurd no
-newest_byte (l ∷ ls) b is = let bytes = source_byte l.source b cc in record { rest = bytes.rest; newest = record { level = l; first = refl; reads = bytes.is } }
-
-pub no_newest : {K : Type 0} (levels : List (Open K)) → front_of levels ≡ None → levels ≡ []
-no_newest [] is = refl
-no_newest (l ∷ ls) is = cc
 
 -- what a text has from a place on
 pub rest_more : (xs : List Element) (place : ℕ) (x : Element) → slice_get xs place ≡ Some x → drop place xs ≡ x ∷ drop (place + 1) xs
@@ -389,23 +351,3 @@ times (Mark mode) = 1
 
 abbrev pub all_times : {K : Type 0} → List (Level K) → ℕ
 all_times levels = sum_by times levels
-
-marks_times : {K : Type 0} (o : Option K) (ls : List (Level K)) → all_times (mark_of o ++ ls) ≤ all_times ls + 1
-marks_times None ls = omega arith
-marks_times (Some mode) ls = let all = sum_by-cons times (Mark mode) ls in omega arith
-
-one_fewer : {K : Type 0} (l : Level K) (ls : List (Level K)) (v : Stored K) → all_times (dropped_in l ls v).levels < all_times (l ∷ ls)
-one_fewer (Read l) ls v = let all = sum_by-cons times (Read l) ls in let some = marks_times l.resume ls in omega arith
-one_fewer (Mark mode) ls v = let all = sum_by-cons times (Mark mode) ls in omega arith
-
-pub fewer_times : {K : Type 0} (levels : List (Level K)) (v : Stored K) → 0 < length levels → all_times (dropped levels v).levels < all_times levels
-fewer_times [] v some = absurd (omega arith)
-fewer_times (l ∷ ls) v some = one_fewer l ls v
-
-emptied_in : {K : Type 0} (l : Level K) (ls : List (Level K)) (v : Stored K) → emptied (dropped_in l ls v) ≡ emptied v
-emptied_in (Read l) ls v = refl
-emptied_in (Mark mode) ls v = refl
-
-pub emptied_dropped : {K : Type 0} (levels : List (Level K)) (v : Stored K) → emptied (dropped levels v) ≡ emptied v
-emptied_dropped [] v = refl
-emptied_dropped (l ∷ ls) v = emptied_in l ls v

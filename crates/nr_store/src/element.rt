@@ -12,7 +12,7 @@ use nr_units::cell::Cell;
 const GREATEST: u64 = 2147483647;
 
 /// One element of a text.
-#[derive(Clone, Copy, Debug)]
+#[derive(Clone, Copy)]
 pub enum Element {
     /// A byte, to be read as input.
     Byte(u8),
@@ -23,7 +23,7 @@ pub enum Element {
 }
 
 /// An open diversion (CSTR 54, diversions).
-#[derive(Clone, Copy, Debug)]
+#[derive(Clone, Copy)]
 pub struct Diversion {
     /// The name that its text takes when it ends.
     pub name: Name,
@@ -77,7 +77,7 @@ impl Diversion {
 }
 
 /// What is kept of a text that is being built.
-#[derive(Clone, Copy, Debug)]
+#[derive(Clone, Copy)]
 pub struct Draft {
     pub(crate) id: Id,
     pub(crate) diversion: Option<Diversion>,

@@ -4,7 +4,7 @@ ghost use Rattle.std.specs.Prelude.{◌≡◌};
 use std::marker::Model;
 
 /// A height in u. It lies in four bytes at any address, so that an element of a text takes five. Clauses see the number.
-#[derive(Clone, Copy, Debug)]
+#[derive(Clone, Copy)]
 pub struct Height {
     bytes: [u8; 4],
 }

@@ -36,7 +36,7 @@ pub struct Memory<'a, K: Copy> {
 }
 
 /// The least lengths of a store's slices.
-#[derive(Clone, Copy, Debug, PartialEq, Eq)]
+#[derive(Clone, Copy)]
 pub struct Room {
     pub elements: usize,
     pub slots: usize,

@@ -4,7 +4,7 @@ use nr_pool::Id;
 use nr_tables::Entry;
 
 /// What a name of the one name list stands for.
-#[derive(Clone, Copy, Debug, PartialEq, Eq)]
+#[derive(Clone, Copy)]
 pub enum Meaning {
     /// Nothing.
     Unknown,
@@ -15,7 +15,7 @@ pub enum Meaning {
 }
 
 /// What a name of the name list stands for, with the number of a text.
-#[derive(Clone, Copy, Debug)]
+#[derive(Clone, Copy)]
 pub enum Sense {
     /// A request.
     Request(Request),

@@ -20,7 +20,7 @@ fn difference(a: i32, b: i32) -> i64
 }
 
 /// A number register (CSTR 54, number registers).
-#[derive(Clone, Copy, Debug, PartialEq, Eq)]
+#[derive(Clone, Copy)]
 pub struct Register {
     /// Its value.
     pub value: i32,
@@ -32,7 +32,7 @@ pub struct Register {
 
 impl Register {
     /// An undefined register.
-    pub fn unset() -> Register
+    pub(crate) fn unset() -> Register
         ensures { result ≡ unset }
     {
         Register {

@@ -1,7 +1,7 @@
 //! The requests of the language.
 
 /// A request (CSTR 54, request summary; `.cp` of the groff manual), under its own name.
-#[derive(Clone, Copy, Debug, PartialEq, Eq)]
+#[derive(Clone, Copy)]
 pub enum Request {
     /// `.ad`: adjusting on, and how.
     Ad,

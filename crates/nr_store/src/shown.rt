@@ -2,7 +2,7 @@
 use crate::element::Element;
 
 /// What comes next of the levels, a mode left where it lies.
-#[derive(Clone, Copy, Debug)]
+#[derive(Clone, Copy)]
 pub enum Sight {
     /// An element of the newest level.
     Item(Element),
@@ -16,7 +16,7 @@ pub enum Sight {
 
 /// What comes next of the levels, with the modes `K` that sprung texts resume. A level gives its text, then its end;
 /// behind the end of a sprung one comes its mode.
-#[derive(Clone, Copy, Debug)]
+#[derive(Clone, Copy)]
 pub enum Shown<K> {
     /// An element of the newest level.
     Item(Element),
@@ -29,7 +29,7 @@ pub enum Shown<K> {
 }
 
 /// What is left of a level's text.
-#[derive(Clone, Copy, Debug)]
+#[derive(Clone, Copy)]
 pub enum Rest<'s> {
     /// Elements of a text.
     Text(&'s [Element]),

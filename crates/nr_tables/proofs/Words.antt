@@ -5,7 +5,7 @@ use Rattle.std.specs.List.{prefix_len, suffix_len}
 use Rattle.std.specs.Str.{bytes_eq}
 use Rattle.std.proofs.lemmas.Bool.{cases_Bool, cond-true, cond-false, ne_eqb}
 use Rattle.std.proofs.Math.Bool.{and_assoc, and-true}
-use Rattle.std.proofs.lemmas.List.{append-nil, drop_more, get_or-map, length-map, length-take, length-take-le, map-append, reverse-append, take_all, take_more, take-append-drop, take-map}
+use Rattle.std.proofs.lemmas.List.{append-nil, get_or-map, length-map, length-take, length-take-le, map-append, reverse-append, take_all, take_more, take-append-drop, take-map}
 use Rattle.std.proofs.lemmas.Slice.Eq.{bytes_eq-Decides}
 use Rattle.nr_units.specs.declared.cell.Cell.{Cell}
 use Rattle.nr_tables.specs.Words.{Word, bytes_of, closes, letters_of, points_from, is_given, stem}
@@ -142,13 +142,6 @@ stem-bytes_of cells =
     ap (λ n. take (n - suffix_len closes (bytes_of cells)) (bytes_of cells)) (length-map cells byte)
     ∙ ap (λ n. take (length cells - n) (bytes_of cells)) (suffix_len-map byte closes cells)
     ∙ take-map byte (length cells - suffix_len (λ (x : Cell). closes x.byte) cells) cells
-
--- one byte of each
-pub bytes_eq-drop : (cells : List Cell) (bytes : List ℕ) (i : ℕ) (x : Cell) (b : ℕ) → i < length cells → i < length bytes →
-    bytes_eq (bytes_of (drop i cells)) (drop i bytes) ≡ (eqb (get_or cells i x).byte (get_or bytes i b) && bytes_eq (bytes_of (drop (i + 1) cells)) (drop (i + 1) bytes))
-bytes_eq-drop cells bytes i x b below inside =
-    ap (λ l. bytes_eq (bytes_of l) (drop i bytes)) (drop_more cells i x below)
-    ∙ ap (λ l. bytes_eq (bytes_of (get_or cells i x ∷ drop (i + 1) cells)) l) (drop_more bytes i b inside)
 
 -- ---- whether bytes are a word
 

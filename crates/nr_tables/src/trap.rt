@@ -5,7 +5,7 @@ ghost use Rattle.nr_tables.specs.Traps.{is_at, is_for, on_page, is_ahead, lower,
 use nr_units::Name;
 
 /// A trap: the macro of this name is sprung at this place (CSTR 54, page traps; diversions).
-#[derive(Clone, Copy, Debug)]
+#[derive(Clone, Copy)]
 pub struct Trap {
     /// In u from the top; on a page a negative one counts from the bottom.
     pub place: i32,

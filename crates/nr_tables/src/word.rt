@@ -11,7 +11,7 @@ pub const LONGEST: usize = 64;
 /// A word of `.hw` and the places in it where it may be cut (CSTR 54, hyphenation).
 //
 // The letters stand first in `bytes`, and the places behind them.
-#[derive(Clone, Copy, Debug)]
+#[derive(Clone, Copy)]
 pub struct HyphenationWord {
     pub(crate) bytes: [u8; LONGEST],
     pub(crate) letters: u8,

@@ -1,7 +1,7 @@
 -- What several writes to known bytes come to.
-use Rattle.std.proofs.Common.{◌≡◌, ℕ, ◌+◌, ◌-◌, ◌<◌, ◌≤◌, Bool, false, List, [], ◌∷◌, ◌++◌, Option, None, Some, length, append-nil, append_assoc, ap, ◌∙◌, take, drop, arith, sym, refl, subst, length-drop, take-append-drop}
+use Rattle.std.proofs.Common.{◌≡◌, ℕ, ◌+◌, ◌-◌, ◌<◌, ◌≤◌, Bool, false, List, [], ◌∷◌, ◌++◌, Option, length, append_assoc, ap, ◌∙◌, take, drop, arith, sym, refl, subst, length-drop, take-append-drop}
 use Rattle.std.specs.Io.KnownBytes.{Appends, Keeps}
-use Rattle.std.proofs.KnownBytes.{Appends-trans, Appends-kept, Appends-nil}
+use Rattle.std.proofs.KnownBytes.{Appends-trans, Appends-kept}
 use Rattle.std.proofs.Math.Seq.{take-add}
 use Rattle.std.proofs.lemmas.List.{take_rest}
 use Rattle.nr_units.specs.Held.{AppendsFront, passed_on_with}
@@ -20,12 +20,6 @@ front_grows a b c bs done n h k p q =
 pub front_stays : (a b c : Option (List ℕ)) (bs : List ℕ) (done : ℕ) → Appends a b (take done bs) → Keeps b c → AppendsFront a c bs
 front_stays a b c bs done p q = (take done bs, drop done bs, sym (take-append-drop done bs), Appends-kept a b c _ p q)
 
--- nothing was appended
-pub Appends_nothing : (b c : Option (List ℕ)) → Appends b c [] → Keeps b c
-Appends_nothing None c p = tt
-Appends_nothing (Some x) None p = p
-Appends_nothing (Some x) (Some y) p = p ∙ append-nil x
-
 -- a front of some bytes is a front of these and more
 pub AppendsFront-append : (a b : Option (List ℕ)) (bs cs : List ℕ) → AppendsFront a b bs → AppendsFront a b (bs ++ cs)
 AppendsFront-append a b bs cs p = (p.0, p.1 ++ cs, ap (λ l. l ++ cs) p.2 ∙ append_assoc p.0 p.1 cs, p.3)
@@ -34,14 +28,6 @@ AppendsFront-append a b bs cs p = (p.0, p.1 ++ cs, ap (λ l. l ++ cs) p.2 ∙ ap
 pub AppendsFront-after : (a b c : Option (List ℕ)) (bs cs : List ℕ) → Appends a b bs → AppendsFront b c cs → AppendsFront a c (bs ++ cs)
 AppendsFront-after a b c bs cs p q =
     (bs ++ q.0, q.1, ap (λ l. bs ++ l) q.2 ∙ sym (append_assoc bs q.0 q.1), Appends-trans a b c bs q.0 p q.3)
-
--- whole writes are a front
-pub AppendsFront-whole : (a b : Option (List ℕ)) (bs : List ℕ) → Appends a b bs → AppendsFront a b bs
-AppendsFront-whole a b bs p = (bs, [], sym (append-nil bs), p)
-
--- no write is a front
-pub AppendsFront-none : (a : Option (List ℕ)) (bs : List ℕ) → AppendsFront a a bs
-AppendsFront-none a bs = ([], bs, refl, Appends-nil a)
 
 -- where a byte came, it is not known to be passed on
 pub passed_on_with-some : (before : Bool) (bs : List ℕ) → 0 < length bs → passed_on_with before bs ≡ false

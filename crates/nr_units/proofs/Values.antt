@@ -94,10 +94,6 @@ pub near_bounds : (z : ℤ) → unsigned_abs z ≤ 2147483647 → (neg_ℤ (pos 
 near_bounds (pos n) h = (omega (arith, ints), omega (arith, ints))
 near_bounds (negsuc n) h = (omega (arith, ints), omega (arith, ints))
 
-pub near_within : (z : ℤ) → neg_ℤ (pos 2147483647) ≤ℤ z → z ≤ℤ pos 2147483647 → unsigned_abs z ≤ 2147483647
-near_within (pos n) low high = omega (arith, ints)
-near_within (negsuc n) low high = omega (arith, ints)
-
 -- in range, above or below
 pub by_range : {P : Type 0} (z : ℤ) → ((neg_ℤ (pos 2147483647) ≤ℤ z) → (z ≤ℤ pos 2147483647) → in_range z ≡ Some z → P) → (z <ℤ neg_ℤ (pos 2147483647) → in_range z ≡ None → P) → (pos 2147483647 <ℤ z → in_range z ≡ None → P) → P
 by_range (pos n) near below above =

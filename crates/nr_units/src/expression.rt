@@ -12,7 +12,7 @@ use crate::units::Scale;
 
 /// What an expression is read against: the vertical space `v` and the present place `here` in units, and the scale of
 /// numbers without a letter.
-#[derive(Clone, Copy, PartialEq, Eq, Debug)]
+#[derive(Clone, Copy)]
 pub struct Ctx {
     pub v: i64,
     pub here: i64,
@@ -20,7 +20,7 @@ pub struct Ctx {
 }
 
 /// What was read: the value, where there is one, and the number of bytes.
-#[derive(Clone, Copy, PartialEq, Eq, Debug)]
+#[derive(Clone, Copy)]
 pub struct Read {
     pub value: Option<i64>,
     pub used: usize,

@@ -11,8 +11,8 @@ use crate::units::{Scale, in_range};
 ///
 /// `least` and `greatest` are those of 0 and the shifts at each bar: a result farther than 2147483647 from one of
 /// them had a value out of range on the way.
-#[derive(Clone, Copy, PartialEq, Eq, Debug, Default)]
-pub struct Prefix {
+#[derive(Clone, Copy, Default)]
+pub(crate) struct Prefix {
     pub negated: bool,
     pub shift: i64,
     pub least: i64,
@@ -20,22 +20,22 @@ pub struct Prefix {
 }
 
 /// What stands on the left of an operand in its level.
-#[derive(Clone, Copy, PartialEq, Eq, Debug)]
-pub struct Left {
+#[derive(Clone, Copy)]
+pub(crate) struct Left {
     pub value: Option<i32>,
     pub operator: Operator,
 }
 
 /// What waits for an operand.
-#[derive(Clone, Copy, PartialEq, Eq, Debug, Default)]
-pub struct Waiting {
+#[derive(Clone, Copy, Default)]
+pub(crate) struct Waiting {
     pub left: Option<Left>,
     pub prefix: Prefix,
 }
 
 /// What stands right in front of the place where an operand is wanted.
-#[derive(Clone, Copy, PartialEq, Eq, Debug)]
-pub enum Behind {
+#[derive(Clone, Copy)]
+pub(crate) enum Behind {
     /// The beginning, a blank, a bar, or an operator that no `=` can make longer.
     Nothing,
     /// An operator of one byte.
@@ -45,8 +45,8 @@ pub enum Behind {
 }
 
 /// How far the operand is read.
-#[derive(Clone, Copy, PartialEq, Eq, Debug)]
-pub enum Mode {
+#[derive(Clone, Copy)]
+pub(crate) enum Mode {
     Before(Behind),
     /// A point without digits in front.
     LonePoint,
@@ -63,8 +63,8 @@ pub enum Mode {
 }
 
 /// A level of an expression.
-#[derive(Clone, Copy, PartialEq, Eq, Debug)]
-pub struct Level {
+#[derive(Clone, Copy)]
+pub(crate) struct Level {
     pub mode: Mode,
     pub waiting: Waiting,
 }

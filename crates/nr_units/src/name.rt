@@ -9,12 +9,12 @@ use std::cmp::Ordering;
 use std::marker::Model;
 
 /// The greatest number of bytes of a name.
-pub const LONGEST: usize = 32;
+pub(crate) const LONGEST: usize = 32;
 
 /// A name of at most 32 bytes. The empty name names nothing.
 ///
 /// Clauses see its bytes as a list. Names compare by their bytes.
-#[derive(Clone, Copy, Debug)]
+#[derive(Clone, Copy)]
 pub struct Name {
     bytes: [u8; LONGEST],
     len: u8,

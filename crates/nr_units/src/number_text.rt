@@ -10,7 +10,7 @@ use itoa::Buffer;
 type Text = ArrayVec<u8, 32>;
 
 /// How a number is written (CSTR 54, register formats).
-#[derive(Clone, Copy, PartialEq, Eq, Debug)]
+#[derive(Clone, Copy)]
 pub enum Format {
     /// Decimal digits, with zeros in front for at least so many places. More than nine places count as nine.
     Arabic { places: u8 },

@@ -5,8 +5,8 @@ ghost use Rattle.nr_units.specs.Expression.{applied, quotient, remainder};
 use crate::units::in_range;
 
 /// An operator between two operands (CSTR 54, numerical input).
-#[derive(Clone, Copy, PartialEq, Eq, Debug)]
-pub enum Operator {
+#[derive(Clone, Copy)]
+pub(crate) enum Operator {
     /// `+`
     Add,
     /// `-`

@@ -8,8 +8,8 @@ use crate::symbols::Symbol;
 use arrayvec::ArrayVec;
 
 /// What a symbol did.
-#[derive(Clone, Copy, PartialEq, Eq, Debug)]
-pub enum Step {
+#[derive(Clone, Copy)]
+pub(crate) enum Step {
     /// An expression may go on so.
     Taken,
     /// No expression goes on so; the scan is unchanged.
@@ -20,7 +20,7 @@ pub enum Step {
 
 /// What is kept of the bytes so far: the innermost level, and what waits at each open parenthesis.
 #[derive(Drop)]
-pub struct Scanner {
+pub(crate) struct Scanner {
     pub level: Level,
     pub outer: ArrayVec<Waiting, 64>,
 }

@@ -6,8 +6,8 @@ use crate::operators::Operator;
 use crate::units::Scale;
 
 /// What a byte is in an expression.
-#[derive(Clone, Copy, PartialEq, Eq, Debug)]
-pub enum Symbol {
+#[derive(Clone, Copy)]
+pub(crate) enum Symbol {
     /// A digit, 0 to 9.
     Digit(u8),
     /// `.`
@@ -27,7 +27,7 @@ pub enum Symbol {
 }
 
 /// What a byte is in an expression; None for one that stands in none.
-pub fn symbol_of(byte: u8) -> Option<Symbol>
+pub(crate) fn symbol_of(byte: u8) -> Option<Symbol>
     ensures { result ≡ symbol_of byte }
 {
     Some(match byte {

@@ -14,10 +14,6 @@ abbrev pub Stays : Option Supply → Option Supply → Type 0
 Stays None new = ⊤
 Stays (Some q) new = new ≡ Some q
 
-pub Stays-same : (old : Option Supply) → Stays old old
-Stays-same None = tt
-Stays-same (Some q) = refl
-
 pub Stays-trans : (a b c : Option Supply) → Stays a b → Stays b c → Stays a c
 Stays-trans None b c p q = tt
 Stays-trans (Some x) None c p q = cc

@@ -4,20 +4,9 @@ use Rattle.std.proofs.lemmas.Bool.Decides.{nat_tests}
 use Rattle.std.specs.Option.{ok_or}
 use Rattle.nr_words.specs.declared.usage.Case.TheVariants.{Unknown, BadValue}
 use Rattle.nr_words.specs.declared.settings.Setting.{Setting}
-use Rattle.nr_words.specs.Meanings.{Meaning, PrintOnly, BeginAt, SetRegister, ReadMacros, MacrosIn, ReadInput, SetLimit, hyphen, letter_of, IsValue, Means, WritesInteger, known_letters, left_out_letters, is_among, IsIllFormed}
+use Rattle.nr_words.specs.Meanings.{Meaning, SetRegister, hyphen, letter_of, IsValue, Means, WritesInteger, known_letters, left_out_letters, is_among, IsIllFormed}
 use Rattle.nr_words.specs.Words.{is_option}
 use Rattle.nr_words.specs.Taking.{HasValue, Reads, ReadsOption}
-
--- no option has a letter but these seven
-pub no_letter : (letter : ℕ) → letter ≢ 111 → letter ≢ 110 → letter ≢ 114 → letter ≢ 109 → letter ≢ 77 → letter ≢ 105 → letter ≢ 76
-    → (value : List ℕ) (other : Meaning) → HasValue letter value other → ⊥
-no_letter letter o n r m f i l value (PrintOnly pages) has = o (sym has.letter_is)
-no_letter letter o n r m f i l value (BeginAt number) has = n (sym has.letter_is)
-no_letter letter o n r m f i l value (SetRegister name number) has = r (sym has.letter_is)
-no_letter letter o n r m f i l value (ReadMacros name) has = m (sym has.letter_is)
-no_letter letter o n r m f i l value (MacrosIn folder) has = f (sym has.letter_is)
-no_letter letter o n r m f i l value ReadInput has = i (sym has.letter_is)
-no_letter letter o n r m f i l value (SetLimit limit number) has = l (sym has.letter_is)
 
 -- the letters are ASCII bytes
 pub known_below : (letter : ℕ) → IsTrue (is_among known_letters letter) → letter < 128

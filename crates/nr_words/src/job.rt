@@ -12,7 +12,7 @@ use nr_options::{Limits, Options};
 pub const MOST_MACROS: usize = 32;
 
 /// What the command line asks the program to do.
-#[derive(Debug, Drop)]
+#[derive(Drop)]
 pub struct Job<'a> {
     /// The first page's number, registers in the order of `-r`, and the pages to print.
     pub options: Options,
@@ -84,5 +84,5 @@ impl<'a> Job<'a> {
 }
 
 /// There are 32 of its kind.
-#[derive(Clone, Copy, Debug)]
+#[derive(Clone, Copy)]
 struct Full;

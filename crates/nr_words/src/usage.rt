@@ -10,7 +10,7 @@ use nr_units::sink::Sink;
 use nr_units::source::Fault;
 
 /// How a word is bad.
-#[derive(Clone, Copy, Debug, PartialEq, Eq)]
+#[derive(Clone, Copy)]
 pub enum Case {
     /// The option's letter is one of `T`, `s`, `q`, `e`, `h` and `z`: other programs of this name have it.
     LeftOut,
@@ -23,7 +23,7 @@ pub enum Case {
 }
 
 /// A word that is bad, and how.
-#[derive(Clone, Copy, Debug, PartialEq, Eq)]
+#[derive(Clone, Copy)]
 pub struct Usage<'a> {
     /// How it is bad.
     pub case: Case,

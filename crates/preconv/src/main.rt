@@ -1,4 +1,6 @@
-// preconv: turns what manual pages use into the language of nroff, to standard output.
+//! The program preconv: it turns what manual pages use into the language of nroff, to standard output.
+//!
+//! It stands on nr_preconv and nr_units. To read: `words`, `endings`, `program`.
 #![tactic(auto)]
 
 mod endings;

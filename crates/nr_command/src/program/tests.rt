@@ -9,7 +9,7 @@ use std::cell::Cell;
 use std::io;
 use std::io::{ErrorKind, Read, Write};
 
-mod system;
+pub(crate) mod system;
 
 use system::System;
 

@@ -1,44 +1,17 @@
 // Words of every length, words that are no UTF-8, and none.
 use super::{SystemWords, words_of};
+use crate::program::tests::system::System;
 use std::alloc::AllocError;
-use std::env::FillError;
-use std::rt::Env;
-
-/// These words behind the program's name.
-#[derive(Drop)]
-struct Words<'a> {
-    words: &'a [&'a [u8]],
-}
-
-impl Env for Words<'_> {
-    fn arg(&self, place: usize, buffer: &mut [u8]) -> Result<usize, FillError> {
-        let Some(word) = self.words.get(place) else {
-            return Err(FillError::NotPresent);
-        };
-        if word.len() > buffer.len() {
-            return Err(FillError::TooLong);
-        }
-        buffer[..word.len()].copy_from_slice(word);
-        Ok(word.len())
-    }
-
-    fn var(&self, _name: &str, _buffer: &mut [u8]) -> Result<usize, FillError> {
-        Err(FillError::NotPresent)
-    }
-
-    fn var_at(&self, _place: usize, _buffer: &mut [u8]) -> Result<usize, FillError> {
-        Err(FillError::NotPresent)
-    }
-}
 
 #[test]
 fn reads_each_word_behind_the_name(rt: HostRuntime) -> Result<(), AllocError> {
     let long = [b'x'; 1000];
     let words: [&[u8]; 5] = [b"nroff", b"-i", b"", &long, b"a\xffb"];
-    let read = words_of(
-        &SystemWords::new(&Words { words: &words }, rt.alloc()),
-        rt.alloc(),
-    )?;
+    let system = System {
+        words: &words,
+        texts: &[],
+    };
+    let read = words_of(&SystemWords::new(&system, rt.alloc()), rt.alloc())?;
     assert_eq!(rt; read.len(), 4);
     assert_eq!(rt; read[0].as_str(), "-i");
     assert_eq!(rt; read[1].as_str(), "");
@@ -49,21 +22,10 @@ fn reads_each_word_behind_the_name(rt: HostRuntime) -> Result<(), AllocError> {
 
 #[test]
 fn there_may_be_none(rt: HostRuntime) -> Result<(), AllocError> {
-    let words: [&[u8]; 1] = [b"nroff"];
-    assert!(rt;
-        words_of(
-            &SystemWords::new(&Words { words: &words }, rt.alloc()),
-            rt.alloc()
-        )?
-        .is_empty()
-    );
-    let words: [&[u8]; 0] = [];
-    assert!(rt;
-        words_of(
-            &SystemWords::new(&Words { words: &words }, rt.alloc()),
-            rt.alloc()
-        )?
-        .is_empty()
-    );
+    let name: &[u8] = b"nroff";
+    for words in [&[name][..], &[]] {
+        let system = System { words, texts: &[] };
+        assert!(rt; words_of(&SystemWords::new(&system, rt.alloc()), rt.alloc())?.is_empty());
+    }
     Ok(())
 }

@@ -31,7 +31,4 @@ returns-clause-ok g c =
     extended _ _ _ _ _ _ _ _ last.packed (last.same ∙ c.self.view_is) c.id.view_is c.requires last.last (omega arith) (one_more _ _ _ room) _ refl refl refl
 
 pub returns-clause-keeps : goal.returns-clause-keeps
-returns-clause-keeps g c =
-    let last = c.bring_last.ensures in
-    let room : c.self.inside.used < length c.bring_last.new.elements = let lengths = c.bring_last.auto.elements in let within = c.self.invariant.packed.room in let not_full = c.if-self.false in omega arith in
-    open_after_text c.args.self.now _ _ _ (extended _ _ _ _ _ _ _ _ last.packed (last.same ∙ c.self.view_is) c.id.view_is c.requires last.last (omega arith) (one_more _ _ _ room) _ refl refl refl)
+returns-clause-keeps g c = open_after_text c.args.self.now _ _ _ (returns-clause-ok g c)

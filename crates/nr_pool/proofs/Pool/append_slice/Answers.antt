@@ -36,10 +36,4 @@ returns-clause-ok g c =
     (part_more _ _ _ _ _ c.copy_from_slice.ensures.after (omega arith) (omega arith)) _ refl refl refl
 
 pub returns-clause-keeps : goal.returns-clause-keeps
-returns-clause-keeps g c =
-    let last = c.bring_last.ensures in
-    let lengths = c.bring_last.auto.elements in
-    let within = c.self.invariant.packed.room in
-    let fits = c.if-count-self.false in
-    open_after_text c.args.self.now _ _ _ (extended _ _ _ _ _ _ _ _ last.packed (last.same ∙ c.self.view_is) c.id.view_is c.requires last.last (omega arith)
-    (part_more _ _ _ _ _ c.copy_from_slice.ensures.after (omega arith) (omega arith)) _ refl refl refl)
+returns-clause-keeps g c = open_after_text c.args.self.now _ _ _ (returns-clause-ok g c)

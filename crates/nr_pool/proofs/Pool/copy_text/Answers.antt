@@ -44,14 +44,4 @@ returns-clause-ok g c =
     (copy_more _ _ _ _ _ _ f.text_is f.len_is c.copy_within.ensures.len copied.1 (λ k d behind below. copied.0 k d behind (omega arith))) _ refl (omega arith) refl
 
 pub returns-clause-keeps : goal.returns-clause-keeps
-returns-clause-keeps g c =
-    let last = c.bring_last.ensures in
-    let lengths = c.bring_last.auto.elements in
-    let within = c.self.invariant.packed.room in
-    let fits = c.if-len-self.false in
-    let size = c.len-len.ensures in
-    let f = found _ _ _ _ _ _ last.packed (last.same ∙ c.self.view_is) c.from.view_is c.requires.from_open in
-    let copied = c.copy_within.ensures.by_index in
-    let len_is = f.len_is in
-    open_after_text c.args.self.now _ _ _ (extended _ _ _ _ _ _ _ _ last.packed (last.same ∙ c.self.view_is) c.to.view_is c.requires.to_open last.last (omega arith)
-    (copy_more _ _ _ _ _ _ f.text_is f.len_is c.copy_within.ensures.len copied.1 (λ k d behind below. copied.0 k d behind (omega arith))) _ refl (omega arith) refl)
+returns-clause-keeps g c = open_after_text c.args.self.now _ _ _ (returns-clause-ok g c)
