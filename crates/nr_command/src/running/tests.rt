@@ -1,6 +1,6 @@
 // Statuses and lines, faults at every byte, a flush that fails, and a desk that was refused.
 use super::{out_of_memory, run_over, tell};
-use nr_engine::{Buffered, Desk, Limits, Measure, Options, Outcome, Source};
+use nr_engine::{Buffered, Desk, Limits, Measure, Options, Outcome, Source, ToWriter};
 use nr_units::fakes::{Script, Shut, Slate};
 use std::alloc::{AllocError, Global};
 use std::process::Abort;
@@ -213,20 +213,22 @@ fn refused_desk_is_want_of_memory(rt: HostRuntime) {
     }
 }
 
-// A writer that takes no byte is as one that fails at the first.
+// A writer of std that is full takes no byte, and answers no error: it is as one that fails at the first.
 #[test]
 fn writer_that_takes_no_byte(rt: HostRuntime) {
     let limits = Limits::new(1024, 4, 100, 10).unwrap();
     let desk = Desk::new(rt.alloc(), limits);
     assert!(rt; desk.is_ok());
     let mut input = Script::new(HEADER_AND_FOOTER);
+    let mut room = [0u8; 1];
+    let mut output = ToWriter::over(&mut room[..0]);
     let mut out = [0; 80];
     let mut errors = Slate::over(&mut out);
     let status = run_over(
         desk,
         &Options::plain(),
         &mut input,
-        &mut Shut::new(),
+        &mut output,
         &mut errors,
     );
     assert_eq!(rt; status, 4);
