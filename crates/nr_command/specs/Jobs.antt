@@ -1,9 +1,10 @@
 -- What a job comes to: a run over its texts, or why it is not run.
-use Rattle.std.specs.Prelude.{◌≡◌, ◌≢◌, ℕ, List, Bool, true, false, IsTrue, Option, Result, Ok, Err, ⊤}
+use Rattle.std.specs.Prelude.{◌≡◌, ◌≢◌, ℕ, List, map, Bool, true, false, IsTrue, Option, Result, Ok, Err, ⊤}
 use Rattle.nr_units.specs.Failures.{SinkFailures, counted_if}
 use Rattle.nr_units.specs.Supply.{Supply}
 use Rattle.nr_engine.specs.declared.outcome.Outcome.{Outcome}
 use Rattle.nr_engine.specs.declared.outcome.Outcome.TheVariants.{WriteFault}
+use Rattle.nr_words.specs.Chained.{failures_in}
 use Rattle.nr_words.specs.Files.{files_supply}
 use Rattle.nr_words.specs.Inputs.{Reading, readings, reading_of}
 use Rattle.nr_words.specs.Taking.{asked_of}
@@ -25,20 +26,21 @@ lacks_memory (Ok x) = false
 lacks_memory (Err (CannotOpen input)) = false
 lacks_memory (Err OutOfMemory) = true
 
--- The texts of a job were opened, and a run over them, one after the other, came to this outcome.
-pub record RanOver (may_come : Reading → Opening → Type 0) (job : Job) (old new : Option (List ℕ)) (writes writes' : SinkFailures) (passed_on : Bool) (outcome : Outcome) : Type 0 where
-  -- what each of them was about to give
-  pub given : List (Option Supply)
-  pub opened : AreOpen may_come (readings (asked_of job)) given
-  -- how many reads failed
-  pub reads : ℕ
-  pub ran : Ran job.limits job.options (files_supply given) 0 reads old new writes writes' outcome
+-- The texts of a job were opened, and a run over them, one after the other, came to this outcome. The texts live no longer
+-- than the run.
+pub record RanOver {T : Type 0} (supply : T → Option Supply) (failures : T → ℕ) (may_come : Reading → Opening → Type 0) (job : Job) (old new : Option (List ℕ)) (writes writes' : SinkFailures) (passed_on : Bool) (outcome : Outcome) : Type 0 where
+  -- as they were opened, and as the run left them
+  pub texts : List T
+  pub left : List T
+  pub opened : AreOpen may_come (readings (asked_of job)) (map supply texts)
+  -- a read fault is told where a call of one of them failed, and nowhere else
+  pub ran : Ran job.limits job.options (files_supply (map supply texts)) (failures_in failures texts) (failures_in failures left) old new writes writes' outcome
   pub passed : outcome ≢ WriteFault → IsTrue passed_on
 
 -- a job came to this end; where it is not run, nothing was put out
-abbrev pub Ends : (Reading → Opening → Type 0) → Job → Option (List ℕ) → Option (List ℕ) → SinkFailures → SinkFailures → Bool → Result Outcome NotRun → Type 0
-Ends may_come job old new writes writes' passed_on (Ok outcome) = RanOver may_come job old new writes writes' passed_on outcome
-Ends may_come job old new writes writes' passed_on (Err why) =
+abbrev pub Ends : {T : Type 0} → (T → Option Supply) → (T → ℕ) → (Reading → Opening → Type 0) → Job → Option (List ℕ) → Option (List ℕ) → SinkFailures → SinkFailures → Bool → Result Outcome NotRun → Type 0
+Ends supply failures may_come job old new writes writes' passed_on (Ok outcome) = RanOver supply failures may_come job old new writes writes' passed_on outcome
+Ends supply failures may_come job old new writes writes' passed_on (Err why) =
     IsRefused may_come (readings (asked_of job)) why × (new ≡ old) × (writes' ≡ writes)
 
 -- the status of the program
@@ -54,9 +56,9 @@ line_of_end (Err (CannotOpen input)) = unopened_text (reading_of input)
 line_of_end (Err OutOfMemory) = memory_line
 
 -- The program ran a job: it came to an end, and the status and the line tell which.
-pub record Comes (may_come : Reading → Opening → Type 0) (job : Job) (old new : Option (List ℕ)) (writes writes' : SinkFailures) (passed_on : Bool)
-    (old_line new_line : Option (List ℕ)) (failures failures' : SinkFailures) (status : ℕ) : Type 0 where
+pub record Comes {T : Type 0} (supply : T → Option Supply) (failures : T → ℕ) (may_come : Reading → Opening → Type 0) (job : Job) (old new : Option (List ℕ)) (writes writes' : SinkFailures) (passed_on : Bool)
+    (old_line new_line : Option (List ℕ)) (untold untold' : SinkFailures) (status : ℕ) : Type 0 where
   pub end : Result Outcome NotRun
-  pub ended : Ends may_come job old new writes writes' passed_on end
+  pub ended : Ends supply failures may_come job old new writes writes' passed_on end
   pub status_is : status ≡ status_of_end end
-  pub told : Tells old_line new_line failures failures' (line_of_end end)
+  pub told : Tells old_line new_line untold untold' (line_of_end end)

@@ -89,7 +89,7 @@ pub fn run_words<'b, M: Memory, O: Opener<'b>, W: Sink, E: Sink>(
 
     // Else the words ask for a job, and it comes to its end.
     ensures ran { result ≢ 2 → (job : Job) × IsAnswer (texts words.now) (Ok (asked_of job))
-        × Comes (O.may_come opener.now) job (W.held output.old) (W.held output.new) (W.failures output.old) (W.failures output.new) (W.passed_on output.new)
+        × Comes O.Text.supply O.Text.failures (O.may_come opener.now) job (W.held output.old) (W.held output.new) (W.failures output.old) (W.failures output.new) (W.passed_on output.new)
         (E.held errors.old) (E.held errors.new) (E.failures errors.old) (E.failures errors.new) result }
     ensures quiet { result ≡ 0 → errors.new ≡ errors.old }
 
@@ -121,7 +121,7 @@ fn run_job<'b, M: Memory, O: Opener<'b>, W: Sink, E: Sink>(
     output: &mut W,
     errors: &mut E,
 ) -> u8
-    ensures ran { Comes (O.may_come opener.now) job.now (W.held output.old) (W.held output.new) (W.failures output.old) (W.failures output.new) (W.passed_on output.new)
+    ensures ran { Comes O.Text.supply O.Text.failures (O.may_come opener.now) job.now (W.held output.old) (W.held output.new) (W.failures output.old) (W.failures output.new) (W.passed_on output.new)
         (E.held errors.old) (E.held errors.new) (E.failures errors.old) (E.failures errors.new) result }
     ensures not_bad { result ≢ 2 }
     ensures quiet { result ≡ 0 → errors.new ≡ errors.old }
@@ -141,7 +141,7 @@ fn outcome_of<'a, 'b, M: Memory, O: Opener<'b>, W: Sink>(
     buffers: &'b mut Vec<u8>,
     output: &mut W,
 ) -> Result<Outcome, NotRun<'a>>
-    ensures ends { Ends (O.may_come opener.now) job.now (W.held output.old) (W.held output.new) (W.failures output.old) (W.failures output.new) (W.passed_on output.new) result }
+    ensures ends { Ends O.Text.supply O.Text.failures (O.may_come opener.now) job.now (W.held output.old) (W.held output.new) (W.failures output.old) (W.failures output.new) (W.passed_on output.new) result }
     ensures memory { M.refusals memory.new ≡ counted_if (lacks_memory result) (M.refusals memory.old) }
 {
     let len = text_count(job).saturating_mul(BUFFER_SIZE);

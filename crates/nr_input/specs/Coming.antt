@@ -1,5 +1,5 @@
 -- The bytes of the source that are to come, item by item, and how the program stands before them.
-use Rattle.std.specs.Prelude.{◌≡◌, ℕ, ◌+◌, ◌≤◌, ◌^◌, Bool, true, false, not, ◌==◌, ◌&&◌, if◌then◌else◌, List, [], ◌∷◌, Option, Some, Result, Ok, Err}
+use Rattle.std.specs.Prelude.{◌≡◌, ℕ, ◌+◌, ◌≤◌, ◌^◌, Bool, true, false, not, ◌==◌, ◌&&◌, if◌then◌else◌, List, [], ◌∷◌, Option, Some, Result, Ok, Err, ⊤}
 use Rattle.nr_units.specs.Supply.{Supply, Never, MayFail, MayGive, one_later}
 use Rattle.nr_store.specs.declared.element.Element.{Element}
 use Rattle.nr_store.specs.declared.element.Element.TheVariants as elements
@@ -175,6 +175,18 @@ is_read_fault r = false
 abbrev pub has_failed : Ahead → Bool
 has_failed Failed = true
 has_failed a = false
+
+-- what the source refused is kept
+abbrev pub KeepsRefusal : {X : Type 0} → Result X Refusal → Ahead → Type 0
+KeepsRefusal (Err refusals.ReadFault) ahead = ahead ≡ Failed
+KeepsRefusal (Err refusals.TooLong) ahead = ahead ≡ TooMany
+KeepsRefusal r ahead = ⊤
+
+-- and refused again wherever the source would be looked at
+abbrev pub RefusesAgain : {X : Type 0} → Ahead → Result X Refusal → Type 0
+RefusesAgain Failed r = r ≡ Err refusals.ReadFault
+RefusesAgain TooMany r = r ≡ Err refusals.TooLong
+RefusesAgain ahead r = ⊤
 
 -- the source fails in this very call
 abbrev pub fails_now : {X : Type 0} → Ahead → Result X Refusal → Bool

@@ -1,5 +1,5 @@
 -- What bytes are added to that stand for themselves in copy mode.
-use Rattle.std.specs.Prelude.{ℕ, Bool, List, map}
+use Rattle.std.specs.Prelude.{ℕ, Bool, List, map, Option, None, Some, if◌then◌else◌}
 use Rattle.nr_store.specs.Stored.{Stored, added, gathering_all}
 use Rattle.nr_store.specs.declared.element.Element.TheVariants as elements
 use Rattle.nr_reading.specs.declared.half.Half.{Half}
@@ -14,6 +14,10 @@ use Rattle.nr_input.specs.declared.target.Target.TheVariants.{Argument, Text}
 abbrev pub is_read_for : Target → Half → Bool
 is_read_for Argument h = is_in_argument h
 is_read_for Text h = is_in_definition h
+
+-- what the next item is read for
+abbrev pub target_of : Half → Option Target
+target_of h = if is_in_argument h then Some Argument else (if is_in_definition h then Some Text else None)
 
 -- what is due where a byte is to be added to it
 abbrev pub due_for : Target → ℕ → Due

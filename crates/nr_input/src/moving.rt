@@ -2,7 +2,9 @@
 ghost use Rattle.std.specs.Prelude.{◌≡◌, ◌≤◌, true, OnOk};
 ghost use Rattle.nr_units.specs.Failures.{counted_if};
 ghost use Rattle.nr_input.specs.Acting.{is_look};
-ghost use Rattle.nr_input.specs.Coming.{Coming, HoldsComing, fails_now, has_failed};
+ghost use Rattle.nr_store.specs.declared.shown.Shown.TheVariants as shows;
+ghost use Rattle.nr_store.specs.Stored.{shown};
+ghost use Rattle.nr_input.specs.Coming.{Coming, HoldsComing, fails_now, has_failed, KeepsRefusal, RefusesAgain};
 ghost use Rattle.nr_input.specs.Moving.{burst_past, situation, AfterMove};
 ghost use Rattle.nr_input.specs.Hearing.{heard_of, told_with};
 ghost use Rattle.nr_input.specs.Weights.{PaysIfMade, diversions_in};
@@ -51,6 +53,8 @@ fn look<K: Copy, R: Source>(
     ensures pays { PaysIfMade store.old place.old reader.old (told_with mode.new result) store.new place.new reader.new }
     ensures diversions { diversions_in store.new.building ≤ diversions_in store.old.building }
     ensures unfailed { OnOk result (has_failed place.new.ahead ≡ has_failed place.old.ahead) }
+    ensures keeps { KeepsRefusal result place.new.ahead }
+    ensures again { shown store.old.levels ≡ shows.Nothing → RefusesAgain place.old.ahead result }
 {
     let front = place.look(store, source)?;
     let seen = reader.half.meet(front);
@@ -78,6 +82,9 @@ pub fn advance<K: Copy, R: Source>(
     ensures pays { PaysIfMade store.old place.old reader.old (told_with mode.new result) store.new place.new reader.new }
     ensures diversions { diversions_in store.new.building ≤ diversions_in store.old.building }
     ensures unfailed { OnOk result (has_failed place.new.ahead ≡ has_failed place.old.ahead) }
+    // What the source refused is refused from then on.
+    ensures keeps { KeepsRefusal result place.new.ahead }
+    ensures again { is_look reader.old.half.reading.due ≡ true → shown store.old.levels ≡ shows.Nothing → RefusesAgain place.old.ahead result }
 {
     if reader.looks() {
         return look(place, reader, store, source, mode);

@@ -48,9 +48,10 @@ impl Place {
     ghost use Rattle.std.specs.Prelude.{◌<◌, ◌+◌, ◌^◌, OnOk, IfOk, Option, true};
     ghost use Rattle.nr_units.specs.Supply.{Supply};
     ghost use Rattle.nr_units.specs.Failures.{counted_if};
+    ghost use Rattle.nr_store.specs.declared.shown.Shown.TheVariants as shows;
     ghost use Rattle.nr_store.specs.Stored.{shown, left};
     ghost use Rattle.nr_store.specs.Sights.{shown_with};
-    ghost use Rattle.nr_input.specs.Coming.{Coming, Reached, HoldsComing, AfterSee, AfterLook, is_seen, is_ready, seen_front, passed, ended, front_seen, passed_in, StaysThere, nothing_reached, behind, emptied, fails_now, has_failed};
+    ghost use Rattle.nr_input.specs.Coming.{Coming, Reached, HoldsComing, AfterSee, AfterLook, is_seen, is_ready, seen_front, passed, ended, front_seen, passed_in, StaysThere, nothing_reached, behind, emptied, fails_now, has_failed, KeepsRefusal, RefusesAgain};
     ghost use Rattle.nr_input.specs.AtHand.{is_unseen};
     ghost use Rattle.nr_input.specs.Runs.{passed_run};
 
@@ -108,6 +109,8 @@ impl Place {
         ensures stays { StaysThere self.old self.new }
         ensures failures { R.failures source.new ≡ counted_if (fails_now self.old.ahead result) (R.failures source.old) }
         ensures unfailed { OnOk result (has_failed self.new.ahead ≡ has_failed self.old.ahead) }
+        ensures keeps { KeepsRefusal result self.new.ahead }
+        ensures again { RefusesAgain self.old.ahead result }
     {
         match self.ahead {
             Ahead::Byte(_) | Ahead::End => Ok(()),
@@ -178,6 +181,8 @@ impl Place {
         ensures stays { StaysThere self.old self.new }
         ensures failures { R.failures source.new ≡ counted_if (fails_now self.old.ahead result) (R.failures source.old) }
         ensures unfailed { OnOk result (has_failed self.new.ahead ≡ has_failed self.old.ahead) }
+        ensures keeps { KeepsRefusal result self.new.ahead }
+        ensures again { shown store.now.levels ≡ shows.Nothing → RefusesAgain self.old.ahead result }
     {
         match store.look() {
             Sight::Item(element) => match element {

@@ -14,12 +14,13 @@ pub(crate) enum Target {
 
 impl Target {
     ghost use Rattle.std.specs.Prelude.{true, IfSome};
-    ghost use Rattle.nr_input.specs.Targets.{is_read_for};
+    ghost use Rattle.nr_input.specs.Targets.{is_read_for, target_of};
 
     /// What the next item is read for, if for one of these, and in its midst.
     #[inline(always)]
     pub(crate) fn of(half: &Half) -> Option<Target>
-        ensures { IfSome result (λ target. is_read_for target half.now ≡ true) }
+        ensures value { result ≡ target_of half.now }
+        ensures reads { IfSome result (λ target. is_read_for target half.now ≡ true) }
     {
         if half.is_in_argument() {
             return Some(Target::Argument);

@@ -4,10 +4,12 @@ use Rattle.std.specs.Prelude.{⊤}
 use Rattle.std.specs.Option.{option_map}
 use Rattle.std.proofs.lemmas.Bool.Decides.{nat_tests}
 use Rattle.std.proofs.lemmas.List.{drop-set, map-set, get_or-map, drop-append-le, take-append-le, get_or-take, drop_all, length-map}
+use Rattle.std.proofs.lemmas.List.Sums.{sum_by-set}
 use Rattle.std.proofs.Math.Seq.{drop-cons}
+use Rattle.nr_units.specs.Failures.{next_count}
 use Rattle.nr_units.specs.Supply.{Supply, Faults, Never, After, Anytime, Gave, Gives, MayFail, MayGive, MayGiveAll, one_later, later, Offers, Skips, skipped}
 use Rattle.nr_units.specs.declared.source.Fault.{Fault}
-use Rattle.nr_words.specs.Chained.{hand_at, ended, chained_bytes, delayed, faults_before, chained_faults, is_anytime, chained, some_anytime, chain_from, all_known, chain_supply}
+use Rattle.nr_words.specs.Chained.{hand_at, ended, chained_bytes, delayed, faults_before, chained_faults, is_anytime, chained, some_anytime, chain_from, all_known, chain_supply, failures_in}
 
 -- what was known is as it was
 abbrev pub Stays : Option Supply → Option Supply → Type 0
@@ -457,3 +459,15 @@ hand_within H (file ∷ files) (suc at) some = omega (arith, hand_within H files
 
 pub hand_is : {X : Type 0} (H : X → List ℕ) (files : List X) (at : ℕ) (d : X) → at < length files → hand_at at (map H files) ≡ H (get_or files at d)
 hand_is H files at d within = get_or-map H files at d [] within
+
+-- ---- failed calls
+
+-- a file that failed no more
+pub failures_in-same : {X : Type 0} (N : X → ℕ) (files : List X) (at : ℕ) (d x : X) → at < length files → N x ≡ N (get_or files at d) → failures_in N (set files at x) ≡ failures_in N files
+unfolding failures_in
+failures_in-same N files at d x within is = omega (arith, sum_by-set N files at x d within)
+
+-- a file that failed once more
+pub failures_in-next : {X : Type 0} (N : X → ℕ) (files : List X) (at : ℕ) (d x : X) → at < length files → N x ≡ next_count (N (get_or files at d)) → failures_in N (set files at x) ≡ next_count (failures_in N files)
+unfolding failures_in next_count
+failures_in-next N files at d x within is = omega (arith, sum_by-set N files at x d within)

@@ -1,5 +1,5 @@
 -- Files read one after the other, and a newline behind each that is not empty and lacks it.
-use Rattle.std.specs.Prelude.{ℕ, ◌+◌, List, [], ◌∷◌, ◌++◌, length, drop, slice_index_or, Bool, true, false, not, ◌==◌, nat_le, if◌then◌else◌, Option, None, Some}
+use Rattle.std.specs.Prelude.{ℕ, ◌+◌, ◌%◌, ◌^◌, sum_by, List, [], ◌∷◌, ◌++◌, length, drop, slice_index_or, Bool, true, false, not, ◌==◌, nat_le, if◌then◌else◌, Option, None, Some}
 use Rattle.std.specs.Option.{option_map}
 use Rattle.std.specs.List.{list_any}
 use Rattle.nr_units.specs.Supply.{Supply, Faults, Never, After, Anytime}
@@ -63,3 +63,7 @@ chain_supply at line_open files = option_map (chain_from at line_open) (all_know
 -- the bytes at hand of the file at a place
 abbrev pub hand_at : ℕ → List (List ℕ) → List ℕ
 hand_at at hands = slice_index_or hands at []
+
+-- how many calls of these files failed, by how many of each did: modulo 2^64, as each is counted
+unfoldable pub failures_in : {F : Type 0} → (F → ℕ) → List F → ℕ
+failures_in failures files = sum_by failures files % 2 ^ 64

@@ -1,7 +1,7 @@
 //! Files read one after the other.
 ghost use Rattle.std.specs.Prelude.{◌≡◌, map, false};
 
-use nr_units::source::{Fault, Source, next_count};
+use nr_units::source::{Fault, Source};
 
 /// Files read one after the other, each to its end, with a newline added behind each that is not empty
 /// and doesn't end with one. A fault of a file is told as it comes, and that file is read again at the
@@ -12,7 +12,6 @@ pub struct Chain<'a, F> {
     at: usize,
     /// The last byte of that file was no newline.
     line_open: bool,
-    failures: u64,
 }
 
 impl<F> Drop for Chain<'_, F> {
@@ -21,44 +20,35 @@ impl<F> Drop for Chain<'_, F> {
             files: _,
             at: _,
             line_open: _,
-            failures: _,
         } = self;
     }
 }
 
 impl<'a, F: Source> Chain<'a, F> {
-    ghost use Rattle.nr_words.specs.Chained.{chain_supply};
+    ghost use Rattle.nr_words.specs.Chained.{chain_supply, failures_in};
 
     /// These files from where they stand, none of them begun.
     pub(crate) fn over(files: &'a mut [F]) -> Self
         ensures supply { ⟦<Chain<'a, F> as Source>⟧.supply result ≡ chain_supply 0 false (map F.supply files.entry.now) }
-        ensures failures { ⟦<Chain<'a, F> as Source>⟧.failures result ≡ 0 }
+        ensures failures { ⟦<Chain<'a, F> as Source>⟧.failures result ≡ failures_in F.failures files.entry.now }
     {
         Chain {
             files,
             at: 0,
             line_open: false,
-            failures: 0,
         }
-    }
-
-    /// How many calls answered an error, modulo 2^64.
-    pub fn failed_calls(&self) -> u64
-        ensures { result ≡ ⟦<Chain<'a, F> as Source>⟧.failures self.now }
-    {
-        self.failures
     }
 }
 
 impl<'a, F: Source> Source for Chain<'a, F> {
     ghost use Rattle.std.specs.Prelude.{map};
-    ghost use Rattle.nr_words.specs.Chained.{chain_supply, hand_at};
+    ghost use Rattle.nr_words.specs.Chained.{chain_supply, hand_at, failures_in};
 
     ghost supply = { λ s. chain_supply s.at s.line_open (map F.supply s.files.now) };
 
     ghost at_hand = { λ s. hand_at s.at (map F.at_hand s.files.now) };
 
-    ghost failures = { λ s. s.failures };
+    ghost failures = { λ s. failures_in F.failures s.files.now };
 
     #[inline]
     fn next(&mut self) -> Result<Option<u8>, Fault> {
@@ -75,10 +65,7 @@ impl<'a, F: Source> Source for Chain<'a, F> {
                         return Ok(Some(b'\n'));
                     }
                 }
-                Err(fault) => {
-                    self.failures = next_count(self.failures);
-                    return Err(fault);
-                }
+                Err(fault) => return Err(fault),
             }
         }
         Ok(None)

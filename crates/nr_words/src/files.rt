@@ -1,5 +1,6 @@
 //! Files as one source.
 ghost use Rattle.std.specs.Prelude.{◌≡◌, map};
+ghost use Rattle.nr_words.specs.Chained.{failures_in};
 ghost use Rattle.nr_words.specs.Files.{files_supply};
 
 use crate::chained::Chain;
@@ -9,7 +10,7 @@ use nr_units::source::Source;
 /// empty and doesn't end with one.
 pub fn chain<'a, F: Source>(files: &'a mut [F]) -> Chain<'a, F>
     ensures supply { ⟦<Chain<'a, F> as Source>⟧.supply result ≡ files_supply (map F.supply files.entry.now) }
-    ensures failures { ⟦<Chain<'a, F> as Source>⟧.failures result ≡ 0 }
+    ensures failures { ⟦<Chain<'a, F> as Source>⟧.failures result ≡ failures_in F.failures files.entry.now }
 {
     Chain::over(files)
 }

@@ -1,6 +1,6 @@
 // Statuses and lines, faults at every byte, a flush that fails, and a desk that was refused.
 use super::{out_of_memory, run_over, tell};
-use nr_engine::{Desk, Limits, Measure, Options, Outcome};
+use nr_engine::{Buffered, Desk, Limits, Measure, Options, Outcome, Source, ToWriter};
 use nr_units::fakes::{Script, Shut, Slate};
 use std::alloc::{AllocError, Global};
 use std::process::Abort;
@@ -211,4 +211,62 @@ fn refused_desk_is_want_of_memory(rt: HostRuntime) {
         assert_eq!(rt; output.failed_flushes(), 0, "at {place}");
         assert!(rt; errors.bytes() == &line[..place], "at {place}");
     }
+}
+
+// A writer of std that is full takes no byte, and answers no error: it is as one that fails at the first.
+#[test]
+fn writer_that_takes_no_byte(rt: HostRuntime) {
+    let limits = Limits::new(1024, 4, 100, 10).unwrap();
+    let desk = Desk::new(rt.alloc(), limits);
+    assert!(rt; desk.is_ok());
+    let mut input = Script::new(HEADER_AND_FOOTER);
+    let mut room = [0u8; 1];
+    let mut output = ToWriter::over(&mut room[..0]);
+    let mut out = [0; 80];
+    let mut errors = Slate::over(&mut out);
+    let status = run_over(
+        desk,
+        &Options::plain(),
+        &mut input,
+        &mut output,
+        &mut errors,
+    );
+    assert_eq!(rt; status, 4);
+    assert!(rt; errors.bytes() == b"nroff: write fault\n".as_slice());
+}
+
+// Each front of a text is a text, in one piece and byte by byte.
+#[test]
+fn every_front_as_input(rt: HostRuntime) {
+    for len in 0..=HEADER_AND_FOOTER.len() {
+        let front = &HEADER_AND_FOOTER[..len];
+        let mut room = [0; 80];
+        let mut output = Slate::over(&mut room);
+        let mut whole = Script::new(front);
+        let status = plain_run(&rt, rt.alloc(), &mut whole, &mut output);
+        assert_eq!(rt; status, 0, "{len} bytes");
+        let mut other = [0; 80];
+        let mut again = Slate::over(&mut other);
+        let mut one = [0; 1];
+        let mut bytewise = Buffered::over(front, &mut one);
+        let status = plain_run(&rt, rt.alloc(), &mut bytewise, &mut again);
+        assert_eq!(rt; status, 0, "{len} bytes, one by one");
+        assert!(rt; output.bytes() == again.bytes(), "{len} bytes");
+    }
+}
+
+/// The status of a run that tells nothing.
+fn plain_run<R: Source>(
+    rt: &impl Abort,
+    alloc: Global,
+    input: &mut R,
+    output: &mut Slate<'_>,
+) -> u8 {
+    let limits = Limits::new(1024, 4, 100, 10).unwrap();
+    let desk = Desk::new(alloc, limits);
+    assert!(rt; desk.is_ok());
+    let mut errors = Shut::new();
+    let status = run_over(desk, &Options::plain(), input, output, &mut errors);
+    assert_eq!(rt; errors.failed_puts(), 0);
+    status
 }

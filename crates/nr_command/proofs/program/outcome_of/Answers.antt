@@ -4,6 +4,7 @@ use Rattle.nr_units.specs.Supply.{Supply}
 use Rattle.nr_options.specs.Limits.{Bounds}
 use Rattle.nr_options.specs.declared.options.Options.{Options}
 use Rattle.nr_engine.specs.declared.outcome.Outcome.{Outcome}
+use Rattle.nr_words.specs.Chained.{failures_in}
 use Rattle.nr_words.specs.Files.{files_supply}
 use Rattle.nr_command.specs.Running.{Ran}
 use Rattle.nr_command.proofs.program.outcome_of.Goals as goal
@@ -20,9 +21,9 @@ pub returns-clause-ends : goal.returns-clause-ends
 returns-clause-ends g c =
     let supply = g.O.Text.Source.supply in
     record {
-      given = map supply c.in_ok-texts.texts.items;
+      texts = c.in_ok-texts.texts.items;
+      left = c.run_desk.new.input.files.now;
       opened = c.in_ok-texts.ensures.all;
-      reads = c.run_desk.new.input.failures;
-      ran = Ran-same _ _ _ _ _ _ _ _ _ _ _ _ _ c.in_ok-desk.ensures.limits (c.chain-input.ensures.supply ∙ ap (λ texts. files_supply (map supply texts)) c.deref_mut.ensures.value) c.chain-input.ensures.failures c.run_desk.ensures.ran;
+      ran = Ran-same _ _ _ _ _ _ _ _ _ _ _ _ _ c.in_ok-desk.ensures.limits (c.chain-input.ensures.supply ∙ ap (λ texts. files_supply (map supply texts)) c.deref_mut.ensures.value) (c.chain-input.ensures.failures ∙ ap (failures_in g.O.Text.Source.failures) c.deref_mut.ensures.value) c.run_desk.ensures.ran;
       passed = c.run_desk.ensures.passed_on;
     }

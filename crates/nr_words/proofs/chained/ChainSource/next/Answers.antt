@@ -1,4 +1,6 @@
-use Rattle.nr_words.proofs.Chaining.{chain_byte, chain_newline, chain_past, chain_fault, chain_end}
+use Rattle.std.proofs.Common.{ap, ◌∙◌}
+use Rattle.nr_units.specs.Failures.{next_count}
+use Rattle.nr_words.proofs.Chaining.{chain_byte, chain_newline, chain_past, chain_fault, chain_end, failures_in-same, failures_in-next}
 use Rattle.nr_words.proofs.chained.ChainSource.next.Goals as goal
 
 pub returns-in-Ok-Some-clause-gives : goal.returns-in-Ok-Some-clause-gives
@@ -18,7 +20,7 @@ loop-self-preserved g c =
     let stays = rw c.if-self.false at c.loop-self.invariant.stays in
     rw c.if-self.false (record {
       stays = chain_past g.F.Source.supply c.loop-self.self.files.now c.loop-self.self.at _ c.index-self-self.result c.next.new.self stays c.loop-self-test.true gives;
-      failures = c.loop-self.invariant.failures;
+      failures = failures_in-same g.F.Source.failures c.loop-self.self.files.now c.loop-self.self.at c.index-self-self.result c.next.new.self c.loop-self-test.true c.in-Ok-None.ensures.failures ∙ c.loop-self.invariant.failures;
     })
 
 pub returns-in-Err-clause-gives : goal.returns-in-Err-clause-gives
@@ -28,3 +30,15 @@ returns-in-Err-clause-gives g c =
 pub returns-clause-gives : goal.returns-clause-gives
 returns-clause-gives g c =
     chain_end g.F.Source.supply c.loop-self.self.files.now c.loop-self.self.at c.loop-self.self.line_open _ c.loop-self.invariant.stays c.loop-self-test.false
+
+pub returns-in-Ok-Some-clause-failures : goal.returns-in-Ok-Some-clause-failures
+returns-in-Ok-Some-clause-failures g c =
+    failures_in-same g.F.Source.failures c.loop-self.self.files.now c.loop-self.self.at c.index-self-self.result c.next.new.self c.loop-self-test.true c.in-Ok-Some.ensures.failures ∙ c.loop-self.invariant.failures
+
+pub returns-then-self-clause-failures : goal.returns-then-self-clause-failures
+returns-then-self-clause-failures g c =
+    failures_in-same g.F.Source.failures c.loop-self.self.files.now c.loop-self.self.at c.index-self-self.result c.next.new.self c.loop-self-test.true c.in-Ok-None.ensures.failures ∙ c.loop-self.invariant.failures
+
+pub returns-in-Err-clause-failures : goal.returns-in-Err-clause-failures
+returns-in-Err-clause-failures g c =
+    failures_in-next g.F.Source.failures c.loop-self.self.files.now c.loop-self.self.at c.index-self-self.result c.next.new.self c.loop-self-test.true c.in-Err.ensures.failures ∙ ap next_count c.loop-self.invariant.failures
