@@ -3,4 +3,3 @@ pub mod Faults
 pub mod Jobs
 pub mod Opening
 pub mod Running
-pub mod Words

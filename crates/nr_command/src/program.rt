@@ -13,7 +13,7 @@ use super::disk::Disk;
 use super::memory::{Heap, Memory};
 use super::opening::{BUFFER_SIZE, NotRun, Opener, open_texts, text_count, unopened_line};
 use super::running::{out_of_memory, run_desk, tell};
-use super::words::{SystemWords, words_of};
+use nr_command_line::{SystemWords, words_of};
 use nr_engine::{Outcome, Sink, ToWriter};
 use nr_words::{Job, Usage, chain, read_words, usage_line};
 use std::alloc::{AllocError, Global};

@@ -1,6 +1,5 @@
 pub mod Hearing
 pub mod Plain
 pub mod Reading
-pub mod Tables
 pub mod Turning
 pub mod Unchanged

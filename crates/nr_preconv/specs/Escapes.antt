@@ -1,5 +1,5 @@
 -- Escapes (the groff manual, Escapes; groff(7)): which go out as they are, which become others, and which are dropped.
-use Rattle.std.specs.Prelude.{ℕ, List, [], ◌∷◌, ◌++◌, length, Bool, true, false, ◌==◌, ◌&&◌, ◌||◌, nat_lt, if◌then◌else◌, Option, None, Some}
+use Rattle.std.specs.Prelude.{ℕ, List, [], ◌∷◌, ◌++◌, length, Bool, true, false, not, ◌==◌, ◌&&◌, ◌||◌, nat_lt, if◌then◌else◌, Option, None, Some}
 use Rattle.nr_preconv.specs.declared.said.Said.{Said}
 use Rattle.nr_preconv.specs.declared.said.Said.TheVariants as says
 use Rattle.nr_preconv.specs.declared.half.Half.{Half}
@@ -11,7 +11,7 @@ use Rattle.nr_preconv.specs.declared.half.Kind.{Kind}
 use Rattle.nr_preconv.specs.declared.half.Kind.TheVariants as kinds
 use Rattle.nr_preconv.specs.declared.words.Class.TheVariants.{Other}
 use Rattle.nr_preconv.specs.declared.words.Told.{Told}
-use Rattle.nr_preconv.specs.Half.{Met, taken, left, is_beginning, is_text, takes_brace}
+use Rattle.nr_preconv.specs.Half.{Met, taken, left, character_said, is_beginning, is_text, takes_brace}
 use Rattle.nr_preconv.specs.Glyphs.{is_pair, is_native, glyph_code, code_of, font_of}
 use Rattle.nr_preconv.specs.Words.{met_words, begins_word}
 
@@ -137,9 +137,14 @@ argument b h =
 
 -- ---- names
 
+-- between delimiters, which the language has for no name of a character
+abbrev pub is_delimited : Escape → Bool
+is_delimited (escapes.Delimited kind end) = true
+is_delimited escape = false
+
 abbrev pub character : Option ℕ → Half → Met
-character None h = ended_kept h
-character (Some code) h = ended (says.Character code) h
+character None h = if is_delimited h.escape then dropped h else ended_kept h
+character (Some code) h = ended (character_said h.line code) h
 
 abbrev pub is_translation : Line → Bool
 is_translation lines.Translation = true
@@ -148,7 +153,7 @@ is_translation line = false
 -- A character by its name. `.tr \(*W-` makes \(*W a dash.
 abbrev pub glyph : Half → Met
 glyph h =
-    if is_native h.spelled then ended_kept h else
+    if is_native h.spelled && not (is_delimited h.escape) then ended_kept h else
     if is_pair 42 87 h.spelled && is_translation h.line then ended_kept (record h { dashes = true }) else
     if is_pair 42 87 h.spelled && h.dashes then ended (says.Escape 45) h else
     character (glyph_code h.spelled) h

@@ -1,7 +1,9 @@
 -- The names of characters and fonts (groff_char(7)).
 use Rattle.std.specs.Prelude.{ℕ, ◌-◌, List, [], ◌∷◌, length, drop, Bool, false, ◌==◌, ◌&&◌, ◌||◌, nat_lt, if◌then◌else◌, Option, None, Some, slice_get, slice_index}
 use Rattle.nr_preconv.specs.Numbers.{number_from}
-use Rattle.nr_preconv.specs.declared.pairs.TheConstants.{PAIRS}
+use Rattle.std.specs.Str.{bytes_eq}
+use Rattle.nr_preconv.specs.Likeness.{before_nul}
+use Rattle.nr_preconv.specs.declared.pairs.TheConstants.{PAIRS, NAMES}
 
 -- a name of these two bytes
 abbrev pub is_pair : ℕ → ℕ → List ℕ → Bool
@@ -27,13 +29,22 @@ code_of digits = below_codes (number_from 10 0 digits)
 unfoldable pub pair_code : ℕ → ℕ → Option ℕ
 pair_code a b = looked_up PAIRS a b
 
--- the character of a name: of two bytes, `uXXXX` or `charN`
+-- what a table has behind a longer name
+abbrev pub named_in : List (List ℕ × ℕ) → List ℕ → Option ℕ
+named_in [] name = None
+named_in (entry ∷ entries) name = if bytes_eq (before_nul entry.0) name then Some entry.1 else named_in entries name
+
+unfoldable pub long_code : List ℕ → Option ℕ
+long_code name = named_in NAMES name
+
+-- the character of a name: of two bytes, `uXXXX`, `charN`, a letter and its marks (`e aa`), or longer
 abbrev pub glyph_code : List ℕ → Option ℕ
 glyph_code name =
     if length name == 2 then pair_code (slice_index name 0) (slice_index name 1) else
     if nat_lt 4 (length name) && (slice_index name 0 == 117) then below_codes (number_from 16 0 (drop 1 name)) else
     if nat_lt 4 (length name) && (slice_index name 0 == 99) && (slice_index name 1 == 104) && (slice_index name 2 == 97) && (slice_index name 3 == 114)
-    then code_of (drop 4 name) else None
+    then code_of (drop 4 name) else
+    if nat_lt 2 (length name) && (slice_index name 1 == 32) then Some (slice_index name 0) else long_code name
 
 -- the language has it: `hy`, `em`, `bu`, `aq`, `dq`, `rs`
 abbrev pub is_native : List ℕ → Bool

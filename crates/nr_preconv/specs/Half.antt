@@ -1,12 +1,14 @@
 -- What is half read, and what a character does to it.
-use Rattle.std.specs.Prelude.{[], Bool, true, false, ◌&&◌}
+use Rattle.std.specs.Prelude.{ℕ, [], Bool, true, false, not, ◌==◌, ◌&&◌, ◌||◌, if◌then◌else◌}
 use Rattle.nr_preconv.specs.declared.said.Said.{Said}
+use Rattle.nr_preconv.specs.declared.said.Said.TheVariants as says
 use Rattle.nr_preconv.specs.declared.half.Half.{Half}
 use Rattle.nr_preconv.specs.declared.half.Seen.{Seen}
 use Rattle.nr_preconv.specs.declared.half.Line.{Line}
 use Rattle.nr_preconv.specs.declared.half.Line.TheVariants as lines
 use Rattle.nr_preconv.specs.declared.half.Escape.{Escape}
 use Rattle.nr_preconv.specs.declared.half.Escape.TheVariants as escapes
+use Rattle.nr_preconv.specs.Likeness.{is_blank}
 
 -- what is half read then, what goes out, and whether the character is taken: one that is left is met again
 pub record Met : Type 0 where
@@ -44,6 +46,14 @@ is_text lines.Part = true
 is_text lines.Braced = true
 is_text lines.Text = true
 is_text line = false
+
+-- a blank that isn't what separates words
+abbrev pub is_space : ℕ → Bool
+is_space code = (code == 32) || (code == 160) || is_blank code
+
+-- what is said for a character: a blank must not end a word of a control line
+abbrev pub character_said : Line → ℕ → Said
+character_said line code = if is_space code && not (is_text line) then says.Escape 48 else says.Character code
 
 -- behind a condition, where `\{` begins a part
 abbrev pub takes_brace : Line → Bool

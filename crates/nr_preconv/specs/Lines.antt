@@ -1,7 +1,7 @@
 -- Lines: control lines and their names, text lines, lines that pass as they are.
 use Rattle.std.specs.Prelude.{ℕ, List, [], ◌∷◌, ◌++◌, length, Bool, true, false, not, ◌==◌, ◌&&◌, ◌||◌, nat_le, if◌then◌else◌}
 use Rattle.nr_preconv.specs.declared.said.Said.{Said}
-use Rattle.nr_preconv.specs.declared.said.Said.TheVariants.{Nothing, Byte, Kept, Character}
+use Rattle.nr_preconv.specs.declared.said.Said.TheVariants.{Nothing, Byte, Kept}
 use Rattle.nr_preconv.specs.declared.half.Half.{Half}
 use Rattle.nr_preconv.specs.declared.half.Line.{Line}
 use Rattle.nr_preconv.specs.declared.half.Line.TheVariants as lines
@@ -13,7 +13,7 @@ use Rattle.nr_preconv.specs.declared.words.Words.{Words}
 use Rattle.nr_preconv.specs.declared.words.Told.{Told}
 use Rattle.nr_preconv.specs.declared.words.Class.{Class}
 use Rattle.nr_preconv.specs.declared.words.Class.TheVariants.{Other}
-use Rattle.nr_preconv.specs.Half.{Met, taken, left}
+use Rattle.nr_preconv.specs.Half.{Met, taken, left, character_said}
 use Rattle.nr_preconv.specs.Beginnings.{opened, said_name}
 use Rattle.nr_preconv.specs.Conditions.{saying, is_gap, before_condition, in_number, in_strings, in_asked}
 use Rattle.nr_preconv.specs.Words.{first_words, is_ninth, met_words, class_of}
@@ -152,7 +152,7 @@ in_line b h = in_line_at h.line b h
 -- ---- characters beyond ASCII
 
 abbrev pub showing : ℕ → Line → Half → Met
-showing code line h = taken (Character code) (record h { line = line })
+showing code line h = taken (character_said h.line code) (record h { line = line })
 
 abbrev pub wide_at : Line → ℕ → Half → Met
 wide_at lines.Start code h = showing code lines.Text h
@@ -161,7 +161,7 @@ wide_at lines.Braced code h = showing code lines.Text h
 wide_at lines.Condition code h = showing code lines.Text h
 wide_at lines.Control code h = blanks_said lines.Request h
 wide_at lines.Name code h = named_line 32 h
-wide_at (lines.Words words) code h = among_words words Other (Character code) h
+wide_at (lines.Words words) code h = among_words words Other (character_said (lines.Words words) code) h
 wide_at (lines.Asked asked) code h = in_asked asked 63 h
 wide_at line code h = showing code line h
 

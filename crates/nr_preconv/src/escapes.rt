@@ -228,12 +228,27 @@ impl Half {
         }
     }
 
+    /// This character, if there is one. A name that means nothing goes out as it is, but between
+    /// delimiters, which the language doesn't have.
+    fn character(&mut self, code: Option<u32>) -> Seen
+        ensures { met self.new result ≡ specs.character code self.old }
+    {
+        match code {
+            Some(code) => {
+                let said = self.line.character(code);
+                self.ended(said)
+            }
+            None if self.escape.is_delimited() => self.dropped(),
+            None => self.ended_kept(),
+        }
+    }
+
     /// A character by its name.
     fn glyph(&mut self) -> Seen
         ensures { met self.new result ≡ specs.glyph self.old }
     {
         let name = self.spelled;
-        if is_native(name.as_bytes()) {
+        if is_native(name.as_bytes()) && !self.escape.is_delimited() {
             return self.ended_kept();
         }
         if is_pair(name.as_bytes(), b'*', b'W') {
@@ -245,10 +260,7 @@ impl Half {
                 return self.ended(Said::Escape(b'-'));
             }
         }
-        match glyph_code(name.as_bytes()) {
-            Some(code) => self.ended(Said::Character(code)),
-            None => self.ended_kept(),
-        }
+        self.character(glyph_code(name.as_bytes()))
     }
 
     /// A character by its number.
@@ -256,10 +268,7 @@ impl Half {
         ensures { met self.new result ≡ specs.code self.old }
     {
         let name = self.spelled;
-        match code_of(name.as_bytes()) {
-            Some(code) => self.ended(Said::Character(code)),
-            None => self.ended_kept(),
-        }
+        self.character(code_of(name.as_bytes()))
     }
 
     /// The name of an escape has ended.

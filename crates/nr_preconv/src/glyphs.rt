@@ -1,9 +1,10 @@
 //! The names of characters (groff_char(7)).
 ghost use Rattle.std.specs.Prelude.{◌≡◌};
-ghost use Rattle.nr_preconv.specs.Glyphs.{code_of, glyph_code, is_native, is_pair, looked_up, below_codes, font_of, letter_of, pair_code};
+ghost use Rattle.nr_preconv.specs.Glyphs.{code_of, glyph_code, is_native, is_pair, long_code, looked_up, below_codes, font_of, letter_of, named_in, pair_code};
+ghost use Rattle.nr_preconv.specs.Likeness.{before_nul};
 
 use super::numbers::number_from;
-use super::pairs::PAIRS;
+use super::pairs::{NAMES, PAIRS};
 
 /// The greatest code of a character, and one.
 const CODES: u32 = 0x0011_0000;
@@ -54,6 +55,37 @@ fn pair_code(first: u8, second: u8) -> Option<u32>
     looked_up(&PAIRS, first, second)
 }
 
+/// What stands before the first NUL.
+fn before_nul(text: &[u8]) -> &[u8]
+    ensures { result.now ≡ before_nul text.now }
+{
+    for (i, byte) in text.iter().enumerate() {
+        if *byte == 0 {
+            return &text[..i];
+        }
+    }
+    text
+}
+
+/// What a table says of a longer name.
+fn named_in(table: &[([u8; 14], u32)], name: &[u8]) -> Option<u32>
+    ensures { result ≡ named_in table.now name.now }
+{
+    for entry in table {
+        if before_nul(&entry.0) == name {
+            return Some(entry.1);
+        }
+    }
+    None
+}
+
+/// The character of a longer name.
+fn long_code(name: &[u8]) -> Option<u32>
+    ensures { result ≡ long_code name.now }
+{
+    named_in(&NAMES, name)
+}
+
 /// The character of a name.
 pub(crate) fn glyph_code(name: &[u8]) -> Option<u32>
     ensures { result ≡ glyph_code name.now }
@@ -67,7 +99,10 @@ pub(crate) fn glyph_code(name: &[u8]) -> Option<u32>
     if name.len() > 4 && name[0] == b'c' && name[1] == b'h' && name[2] == b'a' && name[3] == b'r' {
         return code_of(&name[4..]);
     }
-    None
+    if name.len() > 2 && name[1] == b' ' {
+        return Some(u32::from(name[0]));
+    }
+    long_code(name)
 }
 
 /// A name that the language has itself.

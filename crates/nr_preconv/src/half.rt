@@ -1,7 +1,9 @@
 //! What is half read of a page.
 ghost use Rattle.std.specs.Prelude.{◌≡◌, true, false};
-ghost use Rattle.nr_preconv.specs.Half.{first_half, is_beginning, is_running, is_text, takes_brace};
+ghost use Rattle.nr_preconv.specs.Escapes.{is_delimited};
+ghost use Rattle.nr_preconv.specs.Half.{character_said, first_half, is_beginning, is_space, is_running, is_text, takes_brace};
 
+use super::likeness::is_blank;
 use super::said::Said;
 use super::words::Words;
 use nr_units::Name;
@@ -125,6 +127,13 @@ pub(crate) struct Seen {
     pub takes: bool,
 }
 
+/// A blank that isn't what separates words.
+fn is_space(code: u32) -> bool
+    ensures { result ≡ is_space code }
+{
+    code == 0x20 || code == 0xA0 || is_blank(code)
+}
+
 /// What is half read.
 #[derive(Clone, Copy)]
 pub(crate) struct Half {
@@ -177,6 +186,17 @@ impl Line {
         matches!(self, Line::Start | Line::Part | Line::Braced | Line::Text)
     }
 
+    /// What is said for a character: a blank must not end a word of a control line.
+    pub(crate) fn character(self, code: u32) -> Said
+        ensures { result ≡ character_said self code }
+    {
+        if is_space(code) && !self.is_text() {
+            Said::Escape(b'0')
+        } else {
+            Said::Character(code)
+        }
+    }
+
     /// Behind a condition, where `\\{` begins a part.
     pub(crate) fn takes_brace(self) -> bool
         ensures { result ≡ takes_brace self }
@@ -185,6 +205,15 @@ impl Line {
             self,
             Line::Part | Line::Braced | Line::Number | Line::Strings(_, _)
         )
+    }
+}
+
+impl Escape {
+    /// A name between delimiters is read.
+    pub(crate) fn is_delimited(self) -> bool
+        ensures { result ≡ is_delimited self }
+    {
+        matches!(self, Escape::Delimited(_, _))
     }
 }
 

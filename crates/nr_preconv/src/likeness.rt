@@ -138,7 +138,7 @@ fn is_mark(code: u32) -> bool
 }
 
 /// A blank that isn't U+0020.
-fn is_blank(code: u32) -> bool
+pub(crate) fn is_blank(code: u32) -> bool
     ensures { result ≡ is_blank code }
 {
     matches!(code, 0x2000..=0x200A | 0x202F)

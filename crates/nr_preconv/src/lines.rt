@@ -216,8 +216,9 @@ impl Half {
     fn shows(&mut self, code: u32, line: Line) -> Seen
         ensures { met self.new result ≡ specs.showing code line self.old }
     {
+        let said = self.line.character(code);
         self.line = line;
-        Seen::taken(Said::Character(code))
+        Seen::taken(said)
     }
 
     /// A character beyond ASCII in a line, in no escape.
@@ -231,7 +232,7 @@ impl Half {
             ),
             Line::Control => self.blanks_said(Line::Request),
             Line::Name => self.named_line(b' '),
-            Line::Words(words) => self.among_words(words, Class::Other, Said::Character(code)),
+            Line::Words(words) => self.among_words(words, Class::Other, self.line.character(code)),
             Line::Asked(asked) => self.in_asked(asked, b'?'),
             line => self.shows(code, line),
         }

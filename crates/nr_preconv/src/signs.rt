@@ -9,7 +9,7 @@ pub(crate) static LATIN_ADDITIONAL: [u8; 256] =
     *b"AaBbBbBbCcDdDdDdDdDdEeEeEeEeEeFfGgHhHhHhHhHhIiIiKkKkKkLlLlLlLlMmMmMmNnNnNnNnOoOoOoOoPpPpRrRrRrRrSsSsSsSsSsTtTtTtTtUuUuUuUuUuVvVvWwWwWwWwWwXxXxYyZzZzZzhtwy      AaAaAaAaAaAaAaAaAaAaAaAaEeEeEeEeEeEeEeEeIiIiOoOoOoOoOoOoOoOoOoOoOoOoUuUuUuUuUuUuUuYyYyYyYy      ";
 
 /// Characters and what they look like, up to the first NUL.
-pub(crate) static SIGNS: [(u32, [u8; 6]); 255] = [
+pub(crate) static SIGNS: [(u32, [u8; 6]); 256] = [
     (0x00A0, *b"\\ \0\0\0\0"),
     (0x00A1, *b"!\0\0\0\0\0"),
     (0x00A2, *b"c\0\0\0\0\0"),
@@ -210,6 +210,7 @@ pub(crate) static SIGNS: [(u32, [u8; 6]); 255] = [
     (0x223C, *b"~\0\0\0\0\0"),
     (0x2243, *b"-~\0\0\0\0"),
     (0x2245, *b"=~\0\0\0\0"),
+    (0x2246, *b"~=\0\0\0\0"),
     (0x2248, *b"~~\0\0\0\0"),
     (0x2260, *b"!=\0\0\0\0"),
     (0x2261, *b"==\0\0\0\0"),

@@ -2,7 +2,8 @@
 ghost use Rattle.std.specs.Prelude.{◌≤◌, length};
 
 use super::endings::{Ending, tell};
-use super::words::{read_words, words_of};
+use super::words::read_words;
+use nr_command_line::{SystemWords, words_of};
 use nr_preconv::{Outcome, convert};
 use nr_units::buffered::Buffered;
 use nr_units::over_std::ToWriter;
@@ -11,6 +12,9 @@ use std::alloc::{AllocError, Global};
 use std::fs;
 use std::io::{Read, Write};
 use std::rt::{Env, Files};
+
+#[cfg(test)]
+mod tests;
 
 /// The bytes of each of the two buffers.
 const BUFFER_SIZE: usize = 65_536;
@@ -24,7 +28,7 @@ pub fn run_program<R: Env + Files, I: Read + Copy + Drop, W: Write + Drop, E: Wr
     errors: E,
 ) -> u8 {
     let mut errors = ToWriter::over(errors);
-    let Ok(owned) = words_of(system, alloc) else {
+    let Ok(owned) = words_of(&SystemWords::new(system, alloc), alloc) else {
         return tell(Ending::OutOfMemory, &mut errors);
     };
     let Ok(words) = borrowed(&owned, alloc) else {

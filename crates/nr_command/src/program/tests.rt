@@ -2,32 +2,13 @@
 use super::{run_program, run_words};
 use crate::memory::{Heap, Memory, counted};
 use crate::opening::Opener;
+use nr_command_line::fakes::{Page, System};
 use nr_engine::{Buffered, Desk, Limits, ToWriter};
 use nr_words::{Input, MacroFile};
 use std::alloc::{AllocError, Global};
 use std::cell::Cell;
 use std::io;
 use std::io::{ErrorKind, Read, Write};
-
-pub(crate) mod system;
-
-use system::System;
-
-/// A text in memory, or one that fails at each call.
-#[derive(Clone, Copy, Drop)]
-pub enum Page<'a> {
-    Bytes(&'a [u8]),
-    Broken,
-}
-
-impl Read for Page<'_> {
-    fn read(&mut self, buffer: &mut [u8]) -> io::Result<usize> {
-        match self {
-            Page::Bytes(bytes) => bytes.read(buffer),
-            Page::Broken => Err(io::Error::from(ErrorKind::IsADirectory)),
-        }
-    }
-}
 
 /// Takes nothing.
 #[derive(Drop)]
@@ -148,7 +129,7 @@ static TEXTS: [(&str, Page<'static>); 6] = [
     ("one", Page::Bytes(b".pl 1v\none")),
     ("two", Page::Bytes(b"two")),
     ("empty", Page::Bytes(b"")),
-    ("folder", Page::Broken),
+    ("folder", Page::Cut(b"")),
     ("./tmac.short", Page::Bytes(b".pl 1v\n")),
     ("lib/tmac.short", Page::Bytes(b".pl 2v\n")),
 ];
@@ -482,7 +463,7 @@ static SYSTEM_TEXTS: [(&str, Page<'static>); 6] = [
     ("lib/tmac.line", Page::Bytes(b".ll 20")),
     ("lib/tmac.page", Page::Bytes(b".pl 1")),
     ("there", Page::Bytes(b".pl 1\na\n.br\nb\n.br")),
-    ("folder", Page::Broken),
+    ("folder", Page::Cut(b"")),
 ];
 
 #[test]

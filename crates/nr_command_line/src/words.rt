@@ -1,7 +1,7 @@
 // The words of the command line.
 ghost use Rattle.std.specs.Prelude.{ℕ, List, Option, IfOk, map, string_bytes};
 ghost use Rattle.std.specs.Option.{option_map};
-ghost use Rattle.nr_command.specs.Words.{AreWords};
+ghost use Rattle.nr_command_line.specs.Words.{AreWords};
 
 use std::alloc::{AllocError, Global};
 use std::env::FillError;

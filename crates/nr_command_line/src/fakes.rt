@@ -1,16 +1,36 @@
-// A system of words and texts in memory.
-use super::Page;
+//! A system of words and texts in memory, for tests.
+
 use std::env::FillError;
 use std::fs::{Metadata, OpenFile, OpenOptions};
 use std::io;
 use std::io::{ErrorKind, Read, Seek, SeekFrom, Write};
 use std::rt::{Env, Files};
 
+/// A text in memory.
+#[derive(Clone, Copy, Drop)]
+pub enum Page<'a> {
+    /// These bytes.
+    Bytes(&'a [u8]),
+    /// These bytes, behind which each call fails.
+    Cut(&'a [u8]),
+}
+
+impl Read for Page<'_> {
+    fn read(&mut self, buffer: &mut [u8]) -> io::Result<usize> {
+        match self {
+            Page::Cut([]) => Err(io::Error::from(ErrorKind::IsADirectory)),
+            Page::Bytes(bytes) | Page::Cut(bytes) => bytes.read(buffer),
+        }
+    }
+}
+
 /// Words, the first of which is the program's name, and texts by their paths.
 #[derive(Drop)]
-pub(crate) struct System<'a> {
-    pub(crate) words: &'a [&'a [u8]],
-    pub(crate) texts: &'a [(&'a str, Page<'a>)],
+pub struct System<'a> {
+    /// The words.
+    pub words: &'a [&'a [u8]],
+    /// The paths and their texts.
+    pub texts: &'a [(&'a str, Page<'a>)],
 }
 
 impl Env for System<'_> {

@@ -1,5 +1,5 @@
 use Rattle.std.proofs.Common.{◌≡◌, ℕ, ◌+◌, ◌-◌, ◌^◌, ◌<◌, length, map, slice_get, string_bytes, vec_len}
-use Rattle.nr_command.proofs.words.words_of.Given as goal
+use Rattle.nr_command_line.proofs.words.words_of.Given as goal
 
 -- each word so far stands at its place
 abbrev pub invariant-loop-words : goal.invariant-loop-words

@@ -1,0 +1,214 @@
+// Whole runs over words, and over texts in memory.
+use super::run_program;
+use nr_command_line::fakes::{Page, System};
+use std::cell::Cell;
+use std::io;
+use std::io::{ErrorKind, Read, Write};
+
+/// Standard input: bytes that come once, however often it is read.
+#[derive(Clone, Copy)]
+struct Typed<'r, 'a> {
+    left: &'r Cell<&'a [u8]>,
+}
+
+impl Read for Typed<'_, '_> {
+    fn read(&mut self, buffer: &mut [u8]) -> io::Result<usize> {
+        let mut bytes = self.left.get();
+        let count = bytes.read(buffer)?;
+        self.left.set(bytes);
+        Ok(count)
+    }
+}
+
+/// Takes bytes, or fails at each write; fails at each flush.
+#[derive(Drop)]
+struct Closing {
+    takes: bool,
+}
+
+impl Write for Closing {
+    fn write(&mut self, bytes: &[u8]) -> io::Result<usize> {
+        if self.takes {
+            Ok(bytes.len())
+        } else {
+            Err(io::Error::from(ErrorKind::BrokenPipe))
+        }
+    }
+
+    fn flush(&mut self) -> io::Result<()> {
+        Err(io::Error::from(ErrorKind::BrokenPipe))
+    }
+}
+
+/// A run: its words, what it writes, its status and its line. Standard input is `café` in UTF-8.
+struct Row {
+    words: &'static [&'static [u8]],
+    output: &'static [u8],
+    status: u8,
+    line: &'static [u8],
+}
+
+static TEXTS: [(&str, Page<'static>); 6] = [
+    (
+        "quotes",
+        Page::Bytes(b"\xe2\x80\x9ca\xe2\x80\x9d \\(em \\fIb\\fP\n"),
+    ),
+    ("latin", Page::Bytes(b"na\xefve \xc3\xa9\n")),
+    ("half", Page::Bytes(b"\\(l")),
+    ("other", Page::Bytes(b"q\n.tr x")),
+    ("folder", Page::Cut(b"")),
+    ("cut", Page::Cut(b"a\\~b\n.BR c\\(l")),
+];
+
+static ROWS: [Row; 14] = [
+    Row {
+        words: &[b"preconv"],
+        output: b"cafe",
+        status: 0,
+        line: b"",
+    },
+    Row {
+        words: &[b"preconv", b"-8"],
+        output: b"caf\xe9",
+        status: 0,
+        line: b"",
+    },
+    Row {
+        words: &[b"preconv", b"-8", b"-8", b"latin"],
+        output: b"na\xefve \xe9\n",
+        status: 0,
+        line: b"",
+    },
+    // Standard input stands where it is named, and ends once.
+    Row {
+        words: &[b"preconv", b"quotes", b"-", b"latin", b"-"],
+        output: b"\\(dqa\\(dq \\(em \\fIb\\fP\ncafenaive e\n",
+        status: 0,
+        line: b"",
+    },
+    // Each file is turned by itself.
+    Row {
+        words: &[b"preconv", b"half", b"other", b"half"],
+        output: b"\\(lq\n.tr x\\(l",
+        status: 0,
+        line: b"",
+    },
+    // What stands behind a file is a file.
+    Row {
+        words: &[b"preconv", b"latin", b"-8"],
+        output: b"",
+        status: 3,
+        line: b"preconv: cannot open -8\n",
+    },
+    Row {
+        words: &[b"preconv", b"-", b"-x"],
+        output: b"",
+        status: 3,
+        line: b"preconv: cannot open -x\n",
+    },
+    // The first that can't be opened is told, before anything is read.
+    Row {
+        words: &[b"preconv", b"folder", b"none", b"nor"],
+        output: b"",
+        status: 3,
+        line: b"preconv: cannot open none\n",
+    },
+    Row {
+        words: &[b"preconv", b""],
+        output: b"",
+        status: 3,
+        line: b"preconv: cannot open \n",
+    },
+    // The first word that is no option is told, before anything is opened.
+    Row {
+        words: &[b"preconv", b"-8", b"-88", b"-x", b"none"],
+        output: b"",
+        status: 2,
+        line: b"preconv: unknown option -88\n",
+    },
+    Row {
+        words: &[b"preconv", b"--"],
+        output: b"",
+        status: 2,
+        line: b"preconv: unknown option --\n",
+    },
+    Row {
+        words: &[b"preconv", b"folder", b"latin"],
+        output: b"",
+        status: 3,
+        line: b"preconv: read fault at byte 0\n",
+    },
+    // What came before the fault is out, but for what is half read; bytes are those of the file.
+    Row {
+        words: &[b"preconv", b"latin", b"cut", b"latin"],
+        output: b"naive e\na\\ b\n.BR c",
+        status: 3,
+        line: b"preconv: read fault at byte 13\n",
+    },
+    Row {
+        words: &[b"preconv", b"-8", b"cut"],
+        output: b"a\\ b\n.BR c",
+        status: 3,
+        line: b"preconv: read fault at byte 13\n",
+    },
+];
+
+#[test]
+fn runs_in_a_system(rt: HostRuntime) {
+    for row in &ROWS {
+        let system = System {
+            words: row.words,
+            texts: &TEXTS,
+        };
+        let left = Cell::new(b"caf\xc3\xa9".as_slice());
+        let input = Typed { left: &left };
+        let mut output = Vec::new(rt.alloc());
+        let mut line = Vec::new(rt.alloc());
+        let status = run_program(&system, rt.alloc(), input, &mut output, &mut line);
+        let words = row.words;
+        assert!(rt; output.as_slice() == row.output, "{words:?}");
+        assert!(rt; line.as_slice() == row.line, "{words:?}");
+        assert_eq!(rt; status, row.status, "{words:?}");
+    }
+}
+
+// A write that fails, and a flush; a read fault is not told then.
+#[test]
+fn tells_an_output_that_fails(rt: HostRuntime) {
+    for (takes, text) in [
+        (false, b"quotes".as_slice()),
+        (true, b"quotes"),
+        (true, b"cut"),
+    ] {
+        let system = System {
+            words: &[b"preconv", text],
+            texts: &TEXTS,
+        };
+        let mut line = Vec::new(rt.alloc());
+        let input = b"".as_slice();
+        let status = run_program(&system, rt.alloc(), input, Closing { takes }, &mut line);
+        assert_eq!(rt; status, 4);
+        assert!(rt; line.as_slice() == b"preconv: write fault\n".as_slice());
+    }
+}
+
+// A text of several buffers, in which no line ends.
+#[test]
+fn turns_a_long_line(rt: HostRuntime) -> Result<(), std::alloc::AllocError> {
+    let mut page = Vec::new(rt.alloc());
+    let mut turned = Vec::new(rt.alloc());
+    for _ in 0..40_000 {
+        page.extend_from_slice(b"ab \xe2\x86\x92 ")?;
+        turned.extend_from_slice(b"ab -> ")?;
+    }
+    let mut output = Vec::new(rt.alloc());
+    let mut line = Vec::new(rt.alloc());
+    let system = System {
+        words: &[b"preconv"],
+        texts: &[],
+    };
+    let status = run_program(&system, rt.alloc(), page.as_slice(), &mut output, &mut line);
+    assert_eq!(rt; status, 0);
+    assert!(rt; output == turned);
+    Ok(())
+}
