@@ -1,4 +1,5 @@
 mod Hearing
+pub mod ControlLines
 pub mod Costs
 pub mod Items
 pub mod Longest
