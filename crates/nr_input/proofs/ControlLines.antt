@@ -1,9 +1,9 @@
 -- A control line of the source: its name, what it calls, and the line of a request, as moves of the machine that reads.
-use Rattle.std.specs.Prelude.{slice_index, slice_get, map, drop, not, ◌⊎◌}
-use Rattle.std.proofs.Common.{◌≡◌, ℕ, zero, suc, ◌+◌, ◌-◌, ◌*◌, ◌<◌, ◌≤◌, ◌==◌, Bool, true, false, List, [], ◌∷◌, ◌++◌, length, take, get_or, Option, Some, Ok, IsOk, Result, inl, inr, refl, ap, ap₂, sym, ◌∙◌, subst, length-drop, arith}
+use Rattle.std.specs.Prelude.{map, drop, not, ◌⊎◌}
+use Rattle.std.proofs.Common.{◌≡◌, ℕ, zero, suc, ◌+◌, ◌-◌, ◌<◌, ◌≤◌, ◌==◌, Bool, false, List, [], length, take, Option, Ok, IsOk, Result, inl, inr, refl, ap, ap₂, sym, ◌∙◌, subst, length-drop, arith}
 use Rattle.std.proofs.lemmas.Bool.{cases_lt}
-use Rattle.std.proofs.lemmas.List.{get_or-drop, get_or-take, length-map, length-take, drop-drop, drop-take}
-use Rattle.nr_units.specs.Supply.{Supply, Faults, Never, After, Anytime, MayGiveAll, later, skipped}
+use Rattle.std.proofs.lemmas.List.{get_or-drop, drop-drop, drop-take}
+use Rattle.nr_units.specs.Supply.{Supply, Faults, Never, After, Anytime, MayGiveAll, later}
 use Rattle.nr_store.specs.Stored.{Stored}
 use Rattle.nr_store.specs.declared.named.Meaning.{Meaning}
 use Rattle.nr_store.specs.declared.named.Meaning.TheVariants as meanings
@@ -14,7 +14,6 @@ use Rattle.nr_reading.specs.declared.front.Front.TheVariants as fronts
 use Rattle.nr_reading.specs.declared.half.Half.{Half}
 use Rattle.nr_reading.specs.declared.mode.Calls.{Calls}
 use Rattle.nr_reading.specs.declared.mode.Calls.TheVariants as calls
-use Rattle.nr_reading.specs.declared.mode.Due.{Due}
 use Rattle.nr_reading.specs.declared.mode.Due.TheVariants as dues
 use Rattle.nr_reading.specs.Passing.{quiet}
 use Rattle.nr_reading.specs.declared.runs.Run.{Run}
@@ -25,13 +24,13 @@ use Rattle.nr_input.specs.declared.reader.Reader.{Reader}
 use Rattle.nr_input.specs.declared.refusal.Refusal.{Refusal}
 use Rattle.nr_input.specs.declared.told.Told.TheVariants as tells
 use Rattle.nr_input.specs.Acting.{Acted, acted, act, seeking, meaning_in, behind_meaning, calls_of, is_look}
-use Rattle.nr_input.specs.AtHand.{ComeNext, is_unseen}
+use Rattle.nr_input.specs.AtHand.{ComeNext}
 use Rattle.nr_input.specs.Coming.{Coming, Reached, HoldsComing}
-use Rattle.nr_input.specs.Moving.{Situation, Move, Stands, situation, move, acting, told_by, Goes, GoesBy, burst_past}
+use Rattle.nr_input.specs.Moving.{Situation, Stands, situation, move, told_by, Goes, GoesBy}
 use Rattle.nr_input.specs.Runs.{HasRead, PaysAll, moves, told_last, behind_run, inside_behind, passed_run}
 use Rattle.nr_input.specs.Weights.{Pays, byte_worth, diversions_in}
 use Rattle.nr_input.proofs.Putting.{Quietly}
-use Rattle.nr_input.proofs.Rows.{Goings, at_source, source_goings, moves-row, goes-row, told-row, quiet-row, reads_nothing}
+use Rattle.nr_input.proofs.Rows.{Goings, at_source, source_goings, moves-row, goes-row, told-row, quiet-row}
 use Rattle.nr_input.proofs.RowsRead.{begins_there, source_looked, source_read, source_pays, looked_pays, burst_some}
 use Rattle.nr_input.proofs.Spending.{act_pays}
 

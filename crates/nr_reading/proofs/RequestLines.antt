@@ -1,9 +1,9 @@
 -- The line of a request, met at once.
-use Rattle.std.specs.Prelude.{slice_get, slice_index, map, drop, All, ◌==◌, ◌||◌, nat_lt}
+use Rattle.std.specs.Prelude.{slice_get, map, drop, All, ◌==◌, nat_lt}
 use Rattle.std.specs.Int.{from_bool}
 use Rattle.std.specs.Option.{option_map}
-use Rattle.std.proofs.Common.{◌≡◌, ℕ, zero, suc, ◌+◌, ◌-◌, ◌<◌, ◌≤◌, Bool, true, false, if◌then◌else◌, List, [], ◌∷◌, ◌++◌, length, take, get_or, Some, refl, sym, subst, ap, ◌∙◌, inl, inr, add-one, length-drop, arith}
-use Rattle.std.proofs.lemmas.Bool.{ne_eqb, eq-eqb, cases_lt, lt-ltb, le-ltb}
+use Rattle.std.proofs.Common.{◌≡◌, ℕ, zero, suc, ◌+◌, ◌<◌, ◌≤◌, Bool, true, false, if◌then◌else◌, List, [], ◌∷◌, ◌++◌, length, take, get_or, Some, refl, sym, subst, ap, ◌∙◌, inl, inr, add-one, length-drop, arith}
+use Rattle.std.proofs.lemmas.Bool.{ne_eqb, cases_lt, lt-ltb, le-ltb}
 use Rattle.std.proofs.lemmas.List.{get_or-take, length-map, length-take, take_all, take-take, take_more, get_or-drop}
 use Rattle.std.proofs.lemmas.List.Elements.{All-get_or}
 use Rattle.std.proofs.lemmas.Option.{slice_get-map, slice_get-get_or}
@@ -13,7 +13,6 @@ use Rattle.nr_reading.specs.declared.event.Event.TheVariants as events
 use Rattle.nr_reading.specs.declared.front.Front.{Front}
 use Rattle.nr_reading.specs.declared.front.Front.TheVariants as fronts
 use Rattle.nr_reading.specs.declared.half.Half.{Half}
-use Rattle.nr_reading.specs.declared.half.Seen.{Seen}
 use Rattle.nr_reading.specs.declared.mode.Due.{Due}
 use Rattle.nr_reading.specs.declared.mode.Due.TheVariants as dues
 use Rattle.nr_reading.specs.declared.mode.Escape.{Escape}
@@ -28,7 +27,7 @@ use Rattle.nr_reading.specs.Keeping.{kept}
 use Rattle.nr_reading.specs.Meeting.{meet, reads_next, reads_next_at}
 use Rattle.nr_reading.specs.Passing.{quiet}
 use Rattle.nr_reading.specs.RequestLines.{behind_request_line}
-use Rattle.nr_reading.specs.Runs.{Spot, HasMet}
+use Rattle.nr_reading.specs.Runs.{HasMet}
 use Rattle.nr_reading.specs.Spelling.{is_blank}
 use Rattle.nr_reading.proofs.Asked.{half_at}
 use Rattle.nr_reading.proofs.Moving.{met_counted}
@@ -209,8 +208,8 @@ line-at-hand bs rest m k count h is blanks next front all stops plain inside new
     subst (λ n. HasMet (k + n + 2) (map fronts.Byte bs) h (record { taken = k + n + 1; half = behind_request_line line h; event = events.Request })) long
     (request-line-met bs k line h blanks next (omega (arith, long, inside, rest_length, near_length))
     (λ i less.
-        subst (λ b. is_blank b ≡ true) (get_or-take k near i 0 less ∙ in_near i (omega (arith, less, below)))
-        (All-get_or (λ b. is_blank b ≡ true) (take k near) i 0 (omega (arith, less, below, length-take k near)) all))
+    subst (λ b. is_blank b ≡ true) (get_or-take k near i 0 less ∙ in_near i (omega (arith, less, below)))
+    (All-get_or (λ b. is_blank b ≡ true) (take k near) i 0 (omega (arith, less, below, length-take k near)) all))
     (ap is_blank (sym (in_near k below)) ∙ stops below)
     (λ i less. sym (in_rest i (omega (arith, less, long, inside))) ∙ sym (get_or-take count rest i 0 (omega (arith, less, long))))
     (λ i less. All-get_or (IsPlain 10) line i 0 less plain)
