@@ -1,6 +1,7 @@
 mod Due
 mod Hearing
 mod Refusals
+pub mod ControlLines
 pub mod Costs
 pub mod Items
 pub mod Longest

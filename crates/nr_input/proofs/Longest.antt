@@ -5,7 +5,7 @@ use Rattle.std.proofs.Common.{◌≡◌, ℕ, zero, suc, ◌+◌, ◌-◌, ◌*�
 use Rattle.std.proofs.lemmas.List.{append-nil, length-map, length-take, get_or-take}
 use Rattle.std.proofs.lemmas.Option.{slice_get-map, slice_get-get_or}
 use Rattle.nr_store.specs.Stored.{Stored, Level, Read, Mark, charge_of}
-use Rattle.nr_store.specs.Windows.{rest_of, left_times, levels_behind, run_left}
+use Rattle.nr_store.specs.Windows.{rest_of, left_times, levels_behind}
 use Rattle.nr_store.specs.Laws.{left_times-run}
 use Rattle.nr_store.specs.declared.element.Element.{Element}
 use Rattle.nr_store.specs.declared.element.Element.TheVariants as elements
@@ -20,7 +20,6 @@ use Rattle.nr_input.specs.declared.target.Target.{Target}
 use Rattle.nr_input.specs.Coming.{Reached, element_front}
 use Rattle.nr_input.specs.Runs.{IsLongest, IsLongestInLevel}
 use Rattle.nr_input.specs.Targets.{is_read_for, with_more}
-use Rattle.nr_input.specs.declared.target.Target.TheVariants.{Argument}
 
 -- no byte of the row stands there
 abbrev pub NoByteAt : List ℕ → ℕ → Type 0

@@ -273,9 +273,10 @@ impl Reader {
         store.lookup(name)
     }
 
-    // The name of a control line is looked up.
-    fn seek<K: Copy>(&mut self, store: &mut Store<'_, K>) -> Result<Event, Refusal>
-        ensures { called store.new self.new result ≡ acted Due.Seek store.old self.old }
+    /// The name of a control line is looked up. Answers what is told of it.
+    #[inline(always)]
+    pub(crate) fn seek<K: Copy>(&mut self, store: &mut Store<'_, K>) -> Event
+        ensures { called store.new self.new (Ok result) ≡ acted Due.Seek store.old self.old }
     {
         let meaning = self.meaning(store);
         let calls = calls_of(meaning);
@@ -285,7 +286,7 @@ impl Reader {
         self.half.reading.due = Due::Look;
         self.half.seek(calls);
         self.request = request_of(meaning, self.request);
-        Ok(calls.event())
+        calls.event()
     }
 
     /// Nothing is due: the item in front is looked at.
@@ -329,7 +330,7 @@ impl Reader {
                 Ok(Event::Nothing)
             }
             Due::Call => self.call(store),
-            Due::Seek => self.seek(store),
+            Due::Seek => Ok(self.seek(store)),
             Due::Judge(found) => {
                 self.half.reading.due = Due::Look;
                 self.half.judge(found);

@@ -3,12 +3,13 @@
 //!
 //! It stands on nr_units, nr_pool, nr_levels, nr_tables, nr_store and nr_reading. To read: `refusal`, `told`;
 //! `place`, `reader`; `acting`, `moving`; `splicing`, `setting`; then many moves at once: `at_hand`, `target`,
-//! `adding`, `runs`.
+//! `adding`, `runs`, `control_lines`.
 #![tactic(auto)]
 
 mod acting;
 mod adding;
 mod at_hand;
+mod control_lines;
 mod moving;
 mod place;
 mod reader;
@@ -20,6 +21,7 @@ mod target;
 mod told;
 
 pub use at_hand::{take_window, window};
+pub use control_lines::read_next;
 pub use moving::advance;
 pub use nr_reading::{Event, Question, Standing};
 pub use place::{Ahead, Place};

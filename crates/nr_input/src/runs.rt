@@ -19,9 +19,9 @@ use nr_units::source::Source;
 
 /// Bytes, and elements behind them, as items in a row.
 #[derive(Clone, Copy)]
-struct Row<'a> {
-    bytes: &'a [u8],
-    elements: &'a [Element],
+pub(crate) struct Row<'a> {
+    pub(crate) bytes: &'a [u8],
+    pub(crate) elements: &'a [Element],
 }
 
 impl<'a> Items for Row<'a> {

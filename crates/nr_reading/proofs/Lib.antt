@@ -16,3 +16,4 @@ pub mod Stacked
 pub mod Moving
 pub mod PlainBytes
 pub mod ControlNames
+pub mod RequestLines

@@ -20,6 +20,7 @@ pub mod Noting
 pub mod Reading
 pub mod Runs
 pub mod Rereading
+pub mod RequestLines
 pub mod Seeking
 pub mod Setting
 pub mod Skipping

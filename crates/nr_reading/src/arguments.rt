@@ -15,7 +15,7 @@ fn is_plain(ending: u8, byte: u8) -> bool
 
 // How many bytes there are before the first that is not plain.
 #[inline]
-fn plain_count(ending: u8, bytes: &[u8]) -> usize
+pub(crate) fn plain_count(ending: u8, bytes: &[u8]) -> usize
     ensures front { result ≤ length bytes.now }
     ensures plain { All (IsPlain ending) (take result bytes.now) }
     ensures stops { result < length bytes.now → ¬ IsPlain ending (slice_index bytes.now result) }

@@ -35,7 +35,7 @@ impl Half {
     /// A control character at a line's beginning and the two bytes of a name behind it are met, where they come first in a
     /// row and names aren't long: four moves. Tells whether they came.
     #[inline(always)]
-    pub(crate) fn meet_name<I: Items>(&mut self, items: &I) -> bool
+    pub fn meet_name<I: Items>(&mut self, items: &I) -> bool
         requires due { self.old.reading.due ≡ dues.Look }
         ensures met { result ≡ true → HasMet 4 (I.fronts items.now) self.old (quiet 3 self.new) }
         ensures due { result ≡ true → self.new.reading.due ≡ dues.Seek }

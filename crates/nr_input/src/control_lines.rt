@@ -1,0 +1,92 @@
+//! Control lines of the source: many moves at once.
+ghost use Rattle.std.specs.Prelude.{◌≡◌, ◌≢◌, ◌≤◌, length, map, true, false};
+ghost use Rattle.nr_reading.specs.declared.event.Event.TheVariants as events;
+ghost use Rattle.nr_reading.specs.declared.front.Front.TheVariants as variants;
+ghost use Rattle.nr_reading.specs.Runs.{HasMet, spot};
+ghost use Rattle.nr_input.specs.Coming.{Coming, HoldsComing, has_failed};
+ghost use Rattle.nr_input.specs.Moving.{situation};
+ghost use Rattle.nr_input.specs.Runs.{HasRead, PaysAll};
+
+use super::at_hand::window;
+use super::place::Place;
+use super::reader::Reader;
+use super::runs::{Row, read_run, read_source};
+use nr_reading::{Due, Event, Half, Mode, Run};
+use nr_store::Store;
+use nr_units::source::Source;
+
+// What comes behind the name of a control line, where nothing was told of it: the line of a request, or nothing.
+#[inline(always)]
+fn meet_behind_name(half: &mut Half, told: Event, bytes: &[u8]) -> Run
+    ensures met { told ≡ events.Nothing → HasMet result.moves (map variants.Byte bytes.now) half.old (spot result half.new) }
+    ensures few { result.moves ≤ 32769 }
+    ensures within { result.taken ≤ length bytes.now }
+    ensures left { told ≢ events.Nothing → half.new ≡ half.old }
+    ensures none { told ≢ events.Nothing → result ≡ record { taken = 0; moves = 0; event = told } }
+{
+    if !matches!(told, Event::Nothing) {
+        return Run {
+            taken: 0,
+            moves: 0,
+            event: told,
+        };
+    }
+    half.meet_request_line(bytes)
+}
+
+// The bytes that the source has at hand at the beginning of a line are read, where nothing else comes first: a control line whose
+// name is there is looked up, and if it calls a request whose line is there too, with no escape in it, all of it is read.
+#[inline(never)]
+fn read_beginning<K: Copy, R: Source>(
+    place: &mut Place,
+    reader: &mut Reader,
+    store: &mut Store<'_, K>,
+    source: &mut R,
+) -> Run
+    ensures read { (c : Coming) → HoldsComing c place.old (R.supply source.old) → HasRead result.moves (situation store.old c reader.old) result.event store.new reader.new place.new (R.supply source.new) }
+    ensures pays { PaysAll result.moves store.old place.old reader.old result.event store.new place.new reader.new }
+    ensures few { result.moves ≤ 65536 }
+    ensures failures { R.failures source.new ≡ R.failures source.old }
+    ensures unfailed { has_failed place.old.ahead ≡ false → has_failed place.new.ahead ≡ false }
+{
+    let bytes = window(place, store, source);
+    let row = Row {
+        bytes,
+        elements: &[],
+    };
+    if !matches!(reader.half.reading.due, Due::Look) || !reader.half.meet_name(&row) {
+        return read_source(place, reader, store, source);
+    }
+    reader.burst = 0;
+    let told = reader.seek(store);
+    let line = meet_behind_name(&mut reader.half, told, &bytes[3..]);
+    let taken = 3 + line.taken;
+    place.pass_run(bytes[taken - 1], taken);
+    source.skip(taken);
+    Run {
+        taken,
+        moves: 5 + line.moves,
+        event: line.event,
+    }
+}
+
+/// As `read_run`; but the name of a control line of the source is looked up at once, and the line of a request that it calls is
+/// read, where the source has it at hand and no escape stands in it.
+#[inline(always)]
+pub fn read_next<K: Copy, R: Source>(
+    place: &mut Place,
+    reader: &mut Reader,
+    store: &mut Store<'_, K>,
+    source: &mut R,
+) -> Run
+    ensures read { (c : Coming) → HoldsComing c place.old (R.supply source.old) → HasRead result.moves (situation store.old c reader.old) result.event store.new reader.new place.new (R.supply source.new) }
+    ensures pays { PaysAll result.moves store.old place.old reader.old result.event store.new place.new reader.new }
+    ensures few { result.moves ≤ 65536 }
+    ensures failures { R.failures source.new ≡ R.failures source.old }
+    ensures unfailed { has_failed place.old.ahead ≡ false → has_failed place.new.ahead ≡ false }
+{
+    if store.is_reading() || !matches!(reader.half.reading.mode, Mode::Start) {
+        return read_run(place, reader, store, source);
+    }
+    read_beginning(place, reader, store, source)
+}
