@@ -19,7 +19,7 @@ use thiserror::Error;
 mod tests;
 
 /// The bytes of the buffer of each text that is read.
-pub const BUFFER_SIZE: usize = 65_536;
+pub const BUFFER_SIZE: usize = 16_384;
 
 /// Where texts are opened, each over a buffer that is lent to it.
 pub trait Opener<'b> {
@@ -79,7 +79,7 @@ pub fn text_count(job: &Job<'_>) -> usize
 }
 
 /// Opens the texts that a job reads, one after the other in the order in which they are read, up to the
-/// first that can't be, each over the next 64 KiB of the buffers as far as there are so many.
+/// first that can't be, each over the next 16 KiB of the buffers as far as there are so many.
 pub fn open_texts<'a, 'b, O: Opener<'b>, M: Memory>(
     memory: &mut M,
     opener: &O,

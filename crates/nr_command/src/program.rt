@@ -23,6 +23,9 @@ use std::rt::{Env, Files};
 #[cfg(test)]
 pub(crate) mod tests;
 
+/// The bytes of the buffer of the output.
+const OUTPUT_SIZE: usize = 65_536;
+
 /// Runs the program in a system: over its words, its files and these streams. Gives its status.
 pub fn run_program<R: Env + Files, I: Read + Copy + Drop, W: Write + Drop, E: Write + Drop>(
     system: &R,
@@ -38,7 +41,7 @@ pub fn run_program<R: Env + Files, I: Read + Copy + Drop, W: Write + Drop, E: Wr
     let Ok(words) = borrowed(&owned, alloc) else {
         return out_of_memory(&mut errors);
     };
-    let Ok(output) = BufWriter::with_capacity(alloc, BUFFER_SIZE, output) else {
+    let Ok(output) = BufWriter::with_capacity(alloc, OUTPUT_SIZE, output) else {
         return out_of_memory(&mut errors);
     };
     let mut output = ToWriter::over(output);
