@@ -1,8 +1,8 @@
 //! The program nroff but for its `main`: the texts that it reads, a run over streams, the lines that
 //! tell how it ended, and its status.
 //!
-//! It stands on nr_units, nr_options, nr_engine, nr_words and nr_command_line. To read: `faults`, `running`; `opening`,
-//! `disk`; `program`.
+//! It stands on nr_units, nr_options, nr_engine, nr_words and nr_command_line. To read: `faults`, `running`; `memory`,
+//! `opening`, `disk`; `program`.
 #![tactic(auto)]
 
 mod disk;
