@@ -81,7 +81,7 @@ impl Reader {
     }
 
     /// A character comes, and is met so many times at most. Tells how many steps that took.
-    fn hear_in(&mut self, coming: Coming, most: u8, out: &mut SliceVec<'_, u8>) -> u8
+    fn hear_in(&mut self, coming: Coming, most: u8, out: &mut SliceVec<'_, u8>) -> u64
         requires { length out.old.items + 64 * most ≤ out.old.room }
         ensures reader { self.new ≡ (specs.heard_in most coming self.old).reader }
         ensures items { out.new.items ≡ out.old.items ++ (specs.heard_in most coming self.old).bytes }
@@ -103,7 +103,7 @@ impl Reader {
 
     /// A character comes. Tells how many steps that took, as all below do.
     #[tactic(auto, unfolding(crate::specs::Reading::heard))]
-    fn hear(&mut self, coming: Coming, out: &mut SliceVec<'_, u8>) -> u8
+    fn hear(&mut self, coming: Coming, out: &mut SliceVec<'_, u8>) -> u64
         requires { length out.old.items + 384 ≤ out.old.room }
         ensures reader { self.new ≡ (specs.heard coming self.old).reader }
         ensures items { out.new.items ≡ out.old.items ++ (specs.heard coming self.old).bytes }
@@ -116,7 +116,7 @@ impl Reader {
     }
 
     /// A byte that is no part of a character of several bytes comes as Latin-1.
-    fn hear_stray(&mut self, byte: u8, out: &mut SliceVec<'_, u8>) -> u8
+    fn hear_stray(&mut self, byte: u8, out: &mut SliceVec<'_, u8>) -> u64
         requires { length out.old.items + 384 ≤ out.old.room }
         ensures reader { self.new ≡ (specs.stray byte self.old).reader }
         ensures items { out.new.items ≡ out.old.items ++ (specs.stray byte self.old).bytes }
@@ -129,7 +129,7 @@ impl Reader {
     }
 
     /// What was read of a character was none: its bytes come one by one.
-    fn hear_pending(&mut self, out: &mut SliceVec<'_, u8>) -> u8
+    fn hear_pending(&mut self, out: &mut SliceVec<'_, u8>) -> u64
         requires { length out.old.items + 1152 ≤ out.old.room }
         ensures reader { self.new ≡ (specs.pending_heard self.old).reader }
         ensures items { out.new.items ≡ out.old.items ++ (specs.pending_heard self.old).bytes }
@@ -151,7 +151,7 @@ impl Reader {
     }
 
     /// A byte comes, and no part of a character is pending.
-    fn hear_fresh(&mut self, byte: u8, out: &mut SliceVec<'_, u8>) -> u8
+    fn hear_fresh(&mut self, byte: u8, out: &mut SliceVec<'_, u8>) -> u64
         requires { length out.old.items + 384 ≤ out.old.room }
         ensures reader { self.new ≡ (specs.fresh byte self.old).reader }
         ensures items { out.new.items ≡ out.old.items ++ (specs.fresh byte self.old).bytes }
@@ -171,7 +171,7 @@ impl Reader {
     }
 
     /// What is pending and then this byte come one by one.
-    fn hear_apart(&mut self, byte: u8, out: &mut SliceVec<'_, u8>) -> u8
+    fn hear_apart(&mut self, byte: u8, out: &mut SliceVec<'_, u8>) -> u64
         requires { length out.old.items + 1536 ≤ out.old.room }
         ensures reader { self.new ≡ (specs.apart byte self.old).reader }
         ensures items { out.new.items ≡ out.old.items ++ (specs.apart byte self.old).bytes }
@@ -184,7 +184,7 @@ impl Reader {
     }
 
     /// A character of several bytes is whole.
-    fn hear_whole(&mut self, code: u32, out: &mut SliceVec<'_, u8>) -> u8
+    fn hear_whole(&mut self, code: u32, out: &mut SliceVec<'_, u8>) -> u64
         requires { length out.old.items + 384 ≤ out.old.room }
         ensures reader { self.new ≡ (specs.whole code self.old).reader }
         ensures items { out.new.items ≡ out.old.items ++ (specs.whole code self.old).bytes }
@@ -198,7 +198,7 @@ impl Reader {
     }
 
     /// A byte comes that is read.
-    fn hear_byte(&mut self, byte: u8, out: &mut SliceVec<'_, u8>) -> u8
+    fn hear_byte(&mut self, byte: u8, out: &mut SliceVec<'_, u8>) -> u64
         requires { length out.old.items + 1536 ≤ out.old.room }
         ensures reader { self.new ≡ (specs.heard_byte byte self.old).reader }
         ensures items { out.new.items ≡ out.old.items ++ (specs.heard_byte byte self.old).bytes }
@@ -238,7 +238,7 @@ impl Reader {
     }
 
     /// A byte comes. At most 1536 bytes go out, in 24 steps at most.
-    pub(crate) fn read(&mut self, byte: u8, out: &mut SliceVec<'_, u8>) -> u8
+    pub(crate) fn read(&mut self, byte: u8, out: &mut SliceVec<'_, u8>) -> u64
         requires { length out.old.items + 1536 ≤ out.old.room }
         ensures reader { self.new ≡ (specs.read byte self.old).reader }
         ensures items { out.new.items ≡ out.old.items ++ (specs.read byte self.old).bytes }
@@ -256,7 +256,7 @@ impl Reader {
     }
 
     /// The end comes: what is half read goes out as it is. At most 1536 bytes go out, in 18 steps at most.
-    pub(crate) fn finish(&mut self, out: &mut SliceVec<'_, u8>) -> u8
+    pub(crate) fn finish(&mut self, out: &mut SliceVec<'_, u8>) -> u64
         requires { length out.old.items + 1536 ≤ out.old.room }
         ensures items { out.new.items ≡ out.old.items ++ specs.finished self.old }
         ensures steps { result ≡ (specs.pending_heard self.old).steps }

@@ -116,11 +116,11 @@ fn make_turn<R: Source>(
     }
     match input.next() {
         Ok(Some(byte)) => {
-            let steps = u64::from(reader.read(byte, out));
+            let steps = reader.read(byte, out);
             Turn::Took { bytes: 1, steps }
         }
         Ok(None) => {
-            let steps = u64::from(reader.finish(out));
+            let steps = reader.finish(out);
             Turn::End { steps }
         }
         Err(Fault) => Turn::ReadFault,
