@@ -17,7 +17,7 @@ use Rattle.nr_preconv.specs.Escapes.{in_escape}
 use Rattle.nr_preconv.specs.Lines.{in_line_at, in_line, takes_escape, passing}
 use Rattle.nr_preconv.specs.Meeting.{meet, plain_byte, beginning, is_raw}
 use Rattle.nr_preconv.specs.Reading.{Told, told, behind, then_told, heard, heard_in, with_half, pending_with, strays, fresh, heard_behind, heard_byte, read, fed, is_plain_byte, is_nothing, is_ready, is_lead, stray}
-use Rattle.nr_preconv.proofs.Reading.{fed-append}
+use Rattle.nr_preconv.proofs.Reading.{behind-none, fed-append}
 
 pub and-first : (x y : Bool) → (x && y) ≡ true → x ≡ true
 and-first true y h = refl
@@ -72,6 +72,7 @@ nothing_pending b r e =
     ap (λ (p : Pending). heard_behind p b r) e
     ∙ ap (λ (p : Pending). then_told (strays p (pending_with pendings.Nothing r)) (λ s. fresh b s)) e
     ∙ ap (λ (s : Reader). behind [] 0 (fresh b s)) same
+    ∙ behind-none (fresh b r)
 
 pub read_plain : (b : ℕ) (r : Reader) → is_running r.half ≡ true → r.pending ≡ pendings.Nothing → is_plain_byte b ≡ true → read b r ≡ told r (b ∷ []) 1
 read_plain b r running none plain =

@@ -6,12 +6,19 @@ use Rattle.nr_preconv.specs.Reading.{Told, told, behind, then_told, read, fed}
 add_assoc : (a b c : ℕ) → a + (b + c) ≡ a + b + c
 add_assoc a b c = omega arith
 
+none_before : (n : ℕ) → 0 + n ≡ n
+none_before n = omega arith
+
 pub told-eq : (r s : Reader) (xs ys : List ℕ) (m n : ℕ) → r ≡ s → xs ≡ ys → m ≡ n → told r xs m ≡ told s ys n
 told-eq r s xs ys m n p q e = cc
 
+-- behind nothing
+pub behind-none : (t : Told) → behind [] 0 t ≡ t
+behind-none t = told-eq _ _ _ _ _ _ refl refl (none_before t.steps)
+
 -- what comes of bytes in two parts
 pub fed-append : (r : Reader) (xs ys : List ℕ) → fed r (xs ++ ys) ≡ then_told (fed r xs) (λ s. fed s ys)
-fed-append r [] ys = refl
+fed-append r [] ys = sym (behind-none (fed r ys))
 fed-append r (x ∷ xs) ys =
     let t = read x r in
     let u = fed t.reader xs in

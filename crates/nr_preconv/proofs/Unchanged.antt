@@ -1,5 +1,5 @@
 -- Plain text is what comes of it.
-use Rattle.std.proofs.Common.{◌≡◌, ℕ, ◌+◌, ◌≤◌, List, [], ◌∷◌, ◌++◌, length, drop, Bool, true, false, not, ◌==◌, ◌&&◌, nat_lt, if◌then◌else◌, refl, sym, ◌∙◌, ap, append-nil, arith}
+use Rattle.std.proofs.Common.{◌≡◌, ℕ, suc, ◌+◌, ◌≤◌, List, [], ◌∷◌, ◌++◌, length, drop, Bool, true, false, not, ◌==◌, ◌&&◌, nat_lt, if◌then◌else◌, refl, sym, ◌∙◌, ap, append-nil, arith}
 use Rattle.std.proofs.lemmas.List.{drop_all}
 use Rattle.nr_preconv.specs.declared.half.Half.{Half}
 use Rattle.nr_preconv.specs.declared.half.Line.TheVariants as lines
@@ -13,6 +13,7 @@ use Rattle.nr_preconv.specs.Lines.{in_line, is_control, control}
 use Rattle.nr_preconv.specs.Meeting.{meet, beginning}
 use Rattle.nr_preconv.specs.PlainText.{goes_on, is_plain_from, is_plain_text}
 use Rattle.nr_preconv.specs.Reading.{Told, told, behind, then_told, heard, read, fed, fresh, stray, is_lead, pending_with, pending_heard, finished, first_reader, converted, steps_of}
+use Rattle.nr_preconv.proofs.Reading.{told-eq}
 use Rattle.nr_preconv.proofs.Plain.{and-first, and-second, heard_byte_taken}
 
 -- what is half read of such text: at the beginning of a line, or in its midst
@@ -70,6 +71,9 @@ ends : Bool → List ℕ → Bool
 ends starts [] = starts
 ends starts (b ∷ bs) = ends (b == 10) bs
 
+one_before : (n : ℕ) → 1 + n ≡ suc n
+one_before n = omega arith
+
 fed_on : (e starts : Bool) (bs : List ℕ) → is_plain_from starts bs ≡ true → fed (reader_at e starts) bs ≡ told (reader_at e (ends starts bs)) bs (length bs)
 unfolding ends
 fed_on e starts [] p = refl
@@ -78,6 +82,7 @@ fed_on e starts (b ∷ bs) p =
     let rest : is_plain_from (b == 10) bs ≡ true = and-second (goes_on starts b) (is_plain_from (b == 10) bs) p in
     ap (λ (t : Told). then_told t (λ s. fed s bs)) (read_on e starts b g)
     ∙ ap (behind (b ∷ []) 1) (fed_on e (b == 10) bs rest)
+    ∙ told-eq _ _ _ _ _ _ refl refl (one_before (length bs))
 
 nothing_left : (e starts : Bool) → finished (reader_at e starts) ≡ []
 unfolding reader_at half_at
