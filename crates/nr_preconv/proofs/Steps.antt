@@ -57,16 +57,11 @@ strays-quick (Three a b c) r =
 
 -- ---- six steps are paid for each byte that comes, and kept for one that is pending
 
-Pays : ℕ → Told → Type 0
-Pays n t = t.steps + 6 * count t.reader.pending ≤ n
+record Pays (n : ℕ) (t : Told) : Type 0 where
+  enough : t.steps + 6 * count t.reader.pending ≤ n
 
 pays : (n : ℕ) (t : Told) → t.steps + 6 * count t.reader.pending ≤ n → Pays n t
-unfolding Pays
-pays n t l = l
-
-paid : (n : ℕ) (t : Told) → Pays n t → t.steps + 6 * count t.reader.pending ≤ n
-unfolding Pays
-paid n t h = h
+pays n t l = record { enough = l }
 
 Pays-split : {n : ℕ} (x : Bool) {t u : Told} → Pays n t → Pays n u → Pays n (if x then t else u)
 Pays-split true p q = p
@@ -92,7 +87,7 @@ apart-pays b r =
     let before = pending_heard r in
     let h = strays-quick r.pending (pending_with Nothing r) in
     let first : before.steps ≤ 6 * count r.pending = h.quick in
-    let second = paid 6 (fresh b before.reader) (fresh-pays b before.reader h.stays) in
+    let second = (fresh-pays b before.reader h.stays).enough in
     pays (6 * count r.pending + 6) (apart b r) (omega (arith, first, second))
 
 whole-pays : (code : ℕ) (r : Reader) → Paid r (whole code r)
@@ -125,7 +120,7 @@ fed-paid : (bs : List ℕ) (r : Reader) → (fed r bs).steps + 6 * count (fed r 
 fed-paid [] r = omega arith
 fed-paid (b ∷ bs) r =
     let t = read b r in
-    let one = paid (6 * count r.pending + 6) t (read-pays b r) in
+    let one = (read-pays b r).enough in
     let more = fed-paid bs t.reader in omega (arith, one, more)
 
 pub fed_quick : (e : Bool) (bs : List ℕ) → (fed (first_reader e) bs).steps ≤ 6 * length bs

@@ -1,4 +1,4 @@
-use Rattle.std.proofs.Common.{◌≡◌, ◌≤◌, ◌-◌}
+use Rattle.std.proofs.Common.{◌≡◌, ◌*◌, ◌≤◌, ◌-◌}
 use Rattle.nr_preconv.specs.Running.{Stands}
 use Rattle.nr_preconv.proofs.running.run.Given as goal
 
