@@ -76,7 +76,7 @@ fresh-pays b r nothing =
     let none : count r.pending ≡ 0 = ap count nothing in
     Pays-split (nat_lt b 128) (Pays-heard 6 r.pending (heard (Byte b) r) none (heard-quick (Byte b) r))
     (Pays-split (is_lead b) (pays 6 (told (pending_with (One b) r) [] 0) (omega arith))
-        (Pays-heard 6 r.pending (stray b r) none (heard-quick (Wide b) r)))
+    (Pays-heard 6 r.pending (stray b r) none (heard-quick (Wide b) r)))
 
 -- a byte is paid for, and so is what was pending
 abbrev Paid : Reader → Told → Type 0

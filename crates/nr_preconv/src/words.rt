@@ -183,11 +183,7 @@ impl Words {
         ensures { result ≡ met_closing class said self }
     {
         match class {
-            Class::Quote => self.told(
-                Place::Quoted,
-                self.quoted_said(said, Said::Quotes),
-                true,
-            ),
+            Class::Quote => self.told(Place::Quoted, self.quoted_said(said, Said::Quotes), true),
             Class::Space => self.told(Place::Between, self.blank_said(said), true),
             Class::Other => {
                 let blank = self.blank_said(Said::Byte(b' '));

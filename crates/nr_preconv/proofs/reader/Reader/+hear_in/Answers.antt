@@ -33,4 +33,4 @@ pub returns-clause-steps : goal.returns-clause-steps
 returns-clause-steps t c =
     ap (λ (n : ℕ). 1 + n) c.hear_in.ensures.steps
     ∙ ap (λ (x : Told). x.steps)
-      (sym (heard_left c.args.most c.args.coming c.args.self.now c.meet-seen.new.self c.meet-seen.result c.meet-seen.ensures (omega arith) c.if-seen.false))
+    (sym (heard_left c.args.most c.args.coming c.args.self.now c.meet-seen.new.self c.meet-seen.result c.meet-seen.ensures (omega arith) c.if-seen.false))
