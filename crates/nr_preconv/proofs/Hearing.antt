@@ -1,5 +1,5 @@
 -- A character is met until it is taken.
-use Rattle.std.proofs.Common.{◌≡◌, ℕ, suc, ◌-◌, ◌<◌, [], ◌++◌, Bool, true, false, if◌then◌else◌, refl, sym, ◌∙◌, ap, arith}
+use Rattle.std.proofs.Common.{◌≡◌, ℕ, suc, ◌-◌, ◌<◌, [], ◌++◌, Bool, true, false, if◌then◌else◌, sym, ◌∙◌, ap, arith}
 use Rattle.nr_preconv.specs.declared.half.Half.{Half}
 use Rattle.nr_preconv.specs.declared.half.Seen.{Seen}
 use Rattle.nr_preconv.specs.declared.half.Coming.{Coming}

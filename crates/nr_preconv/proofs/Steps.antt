@@ -1,5 +1,5 @@
 -- How many steps bytes take.
-use Rattle.std.proofs.Common.{◌≡◌, ℕ, zero, suc, ◌+◌, ◌*◌, ◌≤◌, List, [], ◌∷◌, length, Bool, true, false, nat_lt, if◌then◌else◌, refl, sym, ◌∙◌, ap, arith}
+use Rattle.std.proofs.Common.{◌≡◌, ℕ, zero, suc, ◌+◌, ◌*◌, ◌≤◌, List, [], ◌∷◌, length, Bool, true, false, nat_lt, if◌then◌else◌, refl, ◌∙◌, ap, arith}
 use Rattle.nr_preconv.specs.declared.half.Coming.{Coming}
 use Rattle.nr_preconv.specs.declared.half.Coming.TheVariants.{Byte, Wide}
 use Rattle.nr_preconv.specs.declared.reader.Reader.{Reader}
@@ -7,7 +7,7 @@ use Rattle.nr_preconv.specs.declared.reader.Pending.{Pending}
 use Rattle.nr_preconv.specs.declared.reader.Pending.TheVariants.{Nothing, One, Two, Three}
 use Rattle.nr_preconv.specs.Saying.{bytes_of}
 use Rattle.nr_preconv.specs.Meeting.{meet, is_raw}
-use Rattle.nr_preconv.specs.Reading.{Told, is_lead, is_tail, is_second, told, behind, then_told, with_half, pending_with, heard_in, heard, stray, strays, pending_heard, fresh, apart, whole, heard_behind, heard_byte, read, fed, first_reader, steps_of}
+use Rattle.nr_preconv.specs.Reading.{Told, is_lead, is_tail, is_second, told, behind, then_told, with_half, pending_with, heard_in, heard, stray, strays, pending_heard, fresh, apart, whole, heard_behind, read, fed, first_reader, steps_of}
 
 -- ---- a character is heard in so many steps at most, and what is pending stays
 
