@@ -1,5 +1,5 @@
 -- A character is met until it is taken.
-use Rattle.std.proofs.Common.{◌≡◌, ℕ, suc, ◌-◌, ◌<◌, [], ◌++◌, Bool, true, false, not, if◌then◌else◌, refl, sym, ◌∙◌, ap, arith}
+use Rattle.std.proofs.Common.{◌≡◌, ℕ, suc, ◌-◌, ◌<◌, [], ◌++◌, Bool, true, false, if◌then◌else◌, sym, ◌∙◌, ap, arith}
 use Rattle.nr_preconv.specs.declared.half.Half.{Half}
 use Rattle.nr_preconv.specs.declared.half.Seen.{Seen}
 use Rattle.nr_preconv.specs.declared.half.Coming.{Coming}
@@ -9,17 +9,9 @@ use Rattle.nr_preconv.specs.Saying.{bytes_of}
 use Rattle.nr_preconv.specs.Meeting.{meet}
 use Rattle.nr_preconv.specs.Reading.{Told, told, behind, with_half, heard_in}
 
-pub not_true : (x : Bool) → not x ≡ true → x ≡ false
-not_true false h = refl
-not_true true h = absurd (let wrong : false ≡ true = h in cc)
-
-pub not_false : (x : Bool) → not x ≡ false → x ≡ true
-not_false true h = refl
-not_false false h = absurd (let wrong : true ≡ false = h in cc)
-
 -- what comes of one meeting
 behind_met : ℕ → Coming → Reader → Met → Told
-behind_met k c r m = behind (bytes_of r.eight_bit m.said) (if m.takes then told (with_half m.half r) [] else heard_in k c (with_half m.half r))
+behind_met k c r m = behind (bytes_of r.eight_bit m.said) 1 (if m.takes then told (with_half m.half r) [] 0 else heard_in k c (with_half m.half r))
 
 met_once : (n : ℕ) (c : Coming) (r : Reader) (h : Half) (seen : Seen) → met h seen ≡ meet c r.half → 0 < n
     → heard_in n c r ≡ behind_met (n - 1) c r (met h seen)
@@ -29,15 +21,15 @@ met_once n c r h seen p l =
     ap (λ (k : ℕ). heard_in k c r) e ∙ ap (behind_met (n - 1) c r) (sym p)
 
 pub heard_taken : (n : ℕ) (c : Coming) (r : Reader) (h : Half) (seen : Seen) → met h seen ≡ meet c r.half → 0 < n → seen.takes ≡ true
-    → heard_in n c r ≡ told (with_half h r) (bytes_of r.eight_bit seen.said ++ [])
+    → heard_in n c r ≡ told (with_half h r) (bytes_of r.eight_bit seen.said ++ []) 1
 unfolding behind_met
 heard_taken n c r h seen p l takes =
     met_once n c r h seen p l
-    ∙ ap (λ (b : Bool). behind (bytes_of r.eight_bit seen.said) (if b then told (with_half h r) [] else heard_in (n - 1) c (with_half h r))) takes
+    ∙ ap (λ (b : Bool). behind (bytes_of r.eight_bit seen.said) 1 (if b then told (with_half h r) [] 0 else heard_in (n - 1) c (with_half h r))) takes
 
 pub heard_left : (n : ℕ) (c : Coming) (r : Reader) (h : Half) (seen : Seen) → met h seen ≡ meet c r.half → 0 < n → seen.takes ≡ false
-    → heard_in n c r ≡ behind (bytes_of r.eight_bit seen.said) (heard_in (n - 1) c (with_half h r))
+    → heard_in n c r ≡ behind (bytes_of r.eight_bit seen.said) 1 (heard_in (n - 1) c (with_half h r))
 unfolding behind_met
 heard_left n c r h seen p l takes =
     met_once n c r h seen p l
-    ∙ ap (λ (b : Bool). behind (bytes_of r.eight_bit seen.said) (if b then told (with_half h r) [] else heard_in (n - 1) c (with_half h r))) takes
+    ∙ ap (λ (b : Bool). behind (bytes_of r.eight_bit seen.said) 1 (if b then told (with_half h r) [] 0 else heard_in (n - 1) c (with_half h r))) takes

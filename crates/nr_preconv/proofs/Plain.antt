@@ -17,7 +17,7 @@ use Rattle.nr_preconv.specs.Escapes.{in_escape}
 use Rattle.nr_preconv.specs.Lines.{in_line_at, in_line, takes_escape, passing}
 use Rattle.nr_preconv.specs.Meeting.{meet, plain_byte, beginning, is_raw}
 use Rattle.nr_preconv.specs.Reading.{Told, told, behind, then_told, heard, heard_in, with_half, pending_with, strays, fresh, heard_behind, heard_byte, read, fed, is_plain_byte, is_nothing, is_ready, is_lead, stray}
-use Rattle.nr_preconv.proofs.Reading.{fed-append}
+use Rattle.nr_preconv.proofs.Reading.{behind-none, fed-append}
 
 pub and-first : (x y : Bool) → (x && y) ≡ true → x ≡ true
 and-first true y h = refl
@@ -57,10 +57,10 @@ plain_meets b h running plain =
     ∙ rest_says h.line b h r (plain_no_newline b plain)
 
 pub heard_byte_taken : (b : ℕ) (r : Reader) (h : Half) → meet (comings.Byte b) r.half ≡ taken (says.Byte b) h
-    → heard (comings.Byte b) r ≡ told (with_half h r) (b ∷ [])
+    → heard (comings.Byte b) r ≡ told (with_half h r) (b ∷ []) 1
 unfolding heard
 heard_byte_taken b r h e =
-    ap (λ (m : Met). behind (bytes_of r.eight_bit m.said) (if m.takes then told (with_half m.half r) [] else heard_in 5 (comings.Byte b) (with_half m.half r))) e
+    ap (λ (m : Met). behind (bytes_of r.eight_bit m.said) 1 (if m.takes then told (with_half m.half r) [] 0 else heard_in 5 (comings.Byte b) (with_half m.half r))) e
 
 -- where nothing is pending, nothing is heard of it
 none_heard : (p : Pending) (r : Reader) → p ≡ pendings.Nothing → r.pending ≡ p → pending_with pendings.Nothing r ≡ r
@@ -71,34 +71,35 @@ nothing_pending b r e =
     let same : pending_with pendings.Nothing r ≡ r = none_heard r.pending r e refl in
     ap (λ (p : Pending). heard_behind p b r) e
     ∙ ap (λ (p : Pending). then_told (strays p (pending_with pendings.Nothing r)) (λ s. fresh b s)) e
-    ∙ ap (λ (s : Reader). behind [] (fresh b s)) same
+    ∙ ap (λ (s : Reader). behind [] 0 (fresh b s)) same
+    ∙ behind-none (fresh b r)
 
-pub read_plain : (b : ℕ) (r : Reader) → is_running r.half ≡ true → r.pending ≡ pendings.Nothing → is_plain_byte b ≡ true → read b r ≡ told r (b ∷ [])
+pub read_plain : (b : ℕ) (r : Reader) → is_running r.half ≡ true → r.pending ≡ pendings.Nothing → is_plain_byte b ≡ true → read b r ≡ told r (b ∷ []) 1
 read_plain b r running none plain =
     let rest : is_rest r.half.line ≡ true = and-second (is_plain r.half.escape) (is_rest r.half.line) running in
-    ap (λ (x : Bool). if x then told (with_half (passing b r.half) r) (b ∷ []) else heard_byte b r) (rest_is_read r.half.line rest)
+    ap (λ (x : Bool). if x then told (with_half (passing b r.half) r) (b ∷ []) 1 else heard_byte b r) (rest_is_read r.half.line rest)
     ∙ nothing_pending b r none
-    ∙ ap (λ (x : Bool). if x then heard (comings.Byte b) r else (if is_lead b then told (pending_with (pendings.One b) r) [] else stray b r)) (plain_is_ascii b plain)
+    ∙ ap (λ (x : Bool). if x then heard (comings.Byte b) r else (if is_lead b then told (pending_with (pendings.One b) r) [] 0 else stray b r)) (plain_is_ascii b plain)
     ∙ heard_byte_taken b r r.half (plain_meets b r.half running plain)
 
 is_nothing-is : (p : Pending) → is_nothing p ≡ true → p ≡ pendings.Nothing
 is_nothing-is pendings.Nothing h = refl
 is_nothing-is p h = absurd (let no : false ≡ true = h in cc)
 
-pub read_ready : (b : ℕ) (r : Reader) → is_ready r ≡ true → is_plain_byte b ≡ true → read b r ≡ told r (b ∷ [])
+pub read_ready : (b : ℕ) (r : Reader) → is_ready r ≡ true → is_plain_byte b ≡ true → read b r ≡ told r (b ∷ []) 1
 read_ready b r ready plain =
     read_plain b r (and-first (is_running r.half) (is_nothing r.pending) ready)
     (is_nothing-is r.pending (and-second (is_running r.half) (is_nothing r.pending) ready)) plain
 
-pub fed-more : (r : Reader) (bs : List ℕ) (i : ℕ) → fed r (take i bs) ≡ told r (take i bs) → i < length bs
+pub fed-more : (r : Reader) (bs : List ℕ) (i : ℕ) → fed r (take i bs) ≡ told r (take i bs) i → i < length bs
     → is_ready r ≡ true → is_plain_byte (get_or bs i 0) ≡ true
-    → fed r (take (i + 1) bs) ≡ told r (take (i + 1) bs)
+    → fed r (take (i + 1) bs) ≡ told r (take (i + 1) bs) (i + 1)
 fed-more r bs i before l ready plain =
     let xs = take i bs in
     let b = get_or bs i 0 in
     let front : take (i + 1) bs ≡ xs ++ b ∷ [] = rw add-one (take-suc bs i 0 l) in
-    let one : fed r (b ∷ []) ≡ told r (b ∷ []) =
-    ap (λ (t : Told). then_told t (λ s. told s [])) (read_ready b r ready plain) in
-    let both : fed r (xs ++ b ∷ []) ≡ told r (xs ++ b ∷ []) =
-    fed-append r xs (b ∷ []) ∙ ap (λ (t : Told). then_told t (λ s. fed s (b ∷ []))) before ∙ ap (behind xs) one in
+    let one : fed r (b ∷ []) ≡ told r (b ∷ []) 1 =
+    ap (λ (t : Told). then_told t (λ s. told s [] 0)) (read_ready b r ready plain) in
+    let both : fed r (xs ++ b ∷ []) ≡ told r (xs ++ b ∷ []) (i + 1) =
+    fed-append r xs (b ∷ []) ∙ ap (λ (t : Told). then_told t (λ s. fed s (b ∷ []))) before ∙ ap (behind xs i) one in
     rw front both

@@ -10,9 +10,10 @@ use Rattle.nr_units.proofs.Fronts.{AppendsFront-append, AppendsFront-after}
 use Rattle.nr_preconv.specs.declared.reader.Reader.{Reader}
 use Rattle.nr_preconv.specs.declared.running.Outcome.{Outcome}
 use Rattle.nr_preconv.specs.declared.running.Outcome.TheVariants.{Done, ReadFault, TooLong, WriteFault}
-use Rattle.nr_preconv.specs.Reading.{Told, first_reader, read, fed, finished, converted, told, IsPlainFront}
+use Rattle.nr_preconv.specs.Reading.{Told, first_reader, read, fed, pending_heard, finished, converted, steps_of, told, IsPlainFront}
 use Rattle.nr_preconv.specs.Running.{Comes, Ends, Flushes, Took, Stands, IsCut, IsBroken, Ran, EndsAs}
-use Rattle.nr_preconv.proofs.Reading.{fed-append_reader, fed-append_bytes}
+use Rattle.nr_preconv.proofs.Reading.{fed-append_reader, fed-append_bytes, fed-append_steps}
+use Rattle.nr_preconv.proofs.Steps.{fed_quick, steps_of_quick}
 
 -- ---- what comes of a source
 
@@ -72,22 +73,26 @@ Comes-skip (Some q) (Some t) window n l o s =
 
 pub Took-plain : (a b : Option Supply) (window : List ℕ) (most n : ℕ) (r : Reader) (pending left : List ℕ)
     → n ≤ length (take most window) → n ≤ most → n ≤ length window → Offers a window → Skips a n b
-    → IsPlainFront n (take most window) r → left ≡ pending ++ take n window → Took a b r r pending left n
+    → IsPlainFront n (take most window) r → left ≡ pending ++ take n window → Took a b r r pending left n n
 Took-plain a b window most n r pending left l m k o s plain out =
     let front : take n (take most window) ≡ take n window = take-take n most window m in
-    let told_so : fed r (take n window) ≡ told r (take n window) =
-    (let P : List ℕ → Type 0 = λ xs. fed r xs ≡ told r xs in subst P front plain) in
+    let told_so : fed r (take n window) ≡ told r (take n window) n =
+    (let P : List ℕ → Type 0 = λ xs. fed r xs ≡ told r xs n in subst P front plain) in
     record {
       bytes = take n window;
       came = Comes-skip a b window n k o s;
       count = omega (arith, length-take n window);
       reader = sym (ap (λ (t : Told). t.reader) told_so);
       out = out ∙ ap (λ (xs : List ℕ). pending ++ xs) (sym (ap (λ (t : Told). t.bytes) told_so));
+      made = sym (ap (λ (t : Told). t.steps) told_so);
     }
 
-pub Took-trans : (a b c : Option Supply) (r s u : Reader) (p q left : List ℕ) (n m : ℕ)
-    → Took a b r s p q n → Took b c s u q left m → Took a c r u p left (n + m)
-Took-trans a b c r s u p q left n m f g =
+both_made : {a b c d : ℕ} → a ≡ c → b ≡ d → a + b ≡ c + d
+both_made p q = cc
+
+pub Took-trans : (a b c : Option Supply) (r s u : Reader) (p q left : List ℕ) (n m i j : ℕ)
+    → Took a b r s p q n i → Took b c s u q left m j → Took a c r u p left (n + m) (i + j)
+Took-trans a b c r s u p q left n m i j f g =
     let here : fed (fed r f.bytes).reader g.bytes ≡ fed s g.bytes = ap (λ (x : Reader). fed x g.bytes) (sym f.reader) in
     let more : (fed r (f.bytes ++ g.bytes)).bytes ≡ (fed r f.bytes).bytes ++ (fed s g.bytes).bytes =
     fed-append_bytes r f.bytes g.bytes ∙ ap (λ (x : Told). (fed r f.bytes).bytes ++ x.bytes) here in
@@ -99,12 +104,13 @@ Took-trans a b c r s u p q left n m f g =
       reader = g.reader ∙ ap (λ (x : Told). x.reader) (sym here) ∙ sym (fed-append_reader r f.bytes g.bytes);
       out = g.out ∙ ap (λ (xs : List ℕ). xs ++ (fed s g.bytes).bytes) f.out
           ∙ append_assoc p (fed r f.bytes).bytes (fed s g.bytes).bytes ∙ ap (λ (xs : List ℕ). p ++ xs) (sym more);
+      made = both_made f.made (g.made ∙ ap (λ (x : Told). x.steps) (sym here)) ∙ sym (fed-append_steps r f.bytes g.bytes);
     }
 
 -- ---- a run goes on
 
 pub Stands-first : (e : Bool) (a : Option Supply) (h : Option (List ℕ)) (p : List ℕ) (r : Reader)
-    → r ≡ first_reader e → p ≡ [] → Stands e a a h h p r 0
+    → r ≡ first_reader e → p ≡ [] → Stands e a a h h p r 0 0
 Stands-first e a h p r is none = record {
   bytes = [];
   came = Comes-nil a;
@@ -114,15 +120,16 @@ Stands-first e a h p r is none = record {
   went_out = Appends-nil h;
   all = none;
   few = omega arith;
+  made = refl;
 }
 
 grown : (xs ys zs : List ℕ) (n : ℕ) → zs ≡ xs ++ ys → length zs ≤ length xs + 1536 * n → length ys ≤ 1536 * n
 grown xs ys zs n e l =
     let lengths : length zs ≡ length xs + length ys = ap length e ∙ length-append xs ys in omega arith
 
-pub Stands-took : (e : Bool) (a b c : Option Supply) (h k : Option (List ℕ)) (p left : List ℕ) (r s : Reader) (t n : ℕ)
-    → Stands e a b h k p r t → Took b c r s p left n → length left ≤ length p + 1536 * n → Stands e a c h k left s (t + n)
-Stands-took e a b c h k p left r s t n st w l =
+pub Stands-took : (e : Bool) (a b c : Option Supply) (h k : Option (List ℕ)) (p left : List ℕ) (r s : Reader) (t n i j : ℕ)
+    → Stands e a b h k p r t i → Took b c r s p left n j → length left ≤ length p + 1536 * n → Stands e a c h k left s (t + n) (i + j)
+Stands-took e a b c h k p left r s t n i j st w l =
     let before = fed (first_reader e) st.bytes in
     let here : fed before.reader w.bytes ≡ fed r w.bytes = ap (λ (x : Reader). fed x w.bytes) (sym st.reader) in
     let more : (fed (first_reader e) (st.bytes ++ w.bytes)).bytes ≡ before.bytes ++ (fed r w.bytes).bytes =
@@ -142,11 +149,12 @@ Stands-took e a b c h k p left r s t n st w l =
       few = (let lengths : length (fed (first_reader e) (st.bytes ++ w.bytes)).bytes ≡ length before.bytes + length (fed r w.bytes).bytes =
           ap length more ∙ length-append before.bytes (fed r w.bytes).bytes in
           let first : length before.bytes ≤ 1536 * t = st.few in omega arith);
+      made = both_made st.made (w.made ∙ ap (λ (x : Told). x.steps) (sym here)) ∙ sym (fed-append_steps (first_reader e) st.bytes w.bytes);
     }
 
-pub Stands-flushed : (e : Bool) (a b : Option Supply) (h k m : Option (List ℕ)) (p left : List ℕ) (r : Reader) (t : ℕ)
-    → Stands e a b h k p r t → Flushes k m p left → Stands e a b h m left r t
-Stands-flushed e a b h k m p left r t st f = record {
+pub Stands-flushed : (e : Bool) (a b : Option Supply) (h k m : Option (List ℕ)) (p left : List ℕ) (r : Reader) (t i : ℕ)
+    → Stands e a b h k p r t i → Flushes k m p left → Stands e a b h m left r t i
+Stands-flushed e a b h k m p left r t i st f = record {
   bytes = st.bytes;
   came = st.came;
   count = st.count;
@@ -155,6 +163,7 @@ Stands-flushed e a b h k m p left r t st f = record {
   went_out = Appends-trans h k m st.sent f.out st.went_out f.went_out;
   all = append_assoc st.sent f.out left ∙ ap (λ (xs : List ℕ). st.sent ++ xs) (sym f.all) ∙ st.all;
   few = st.few;
+  made = st.made;
 }
 
 pub Flushes-none : (k : Option (List ℕ)) (p : List ℕ) → Flushes k k p p
@@ -168,14 +177,19 @@ pub Flushes-on : (x : Result (Unit {0}) Fault) (k m : Option (List ℕ)) (p left
 Flushes-on (Ok x) k m p left went none = Flushes-all k m p left went none
 Flushes-on (Err e) k m p left went none = tt
 
-pub Took-byte : (a b : Option Supply) (byte : ℕ) (r s : Reader) (pending left : List ℕ)
-    → Gives {E = Fault} a (Ok (Some byte)) b → s ≡ (read byte r).reader → left ≡ pending ++ (read byte r).bytes → Took a b r s pending left 1
-Took-byte a b byte r s pending left gives reader out = record {
+none_added : (n : ℕ) → n + 0 ≡ n
+none_added n = omega arith
+
+pub Took-byte : (a b : Option Supply) (byte : ℕ) (r s : Reader) (pending left : List ℕ) (steps : ℕ)
+    → Gives {E = Fault} a (Ok (Some byte)) b → s ≡ (read byte r).reader → left ≡ pending ++ (read byte r).bytes
+    → steps ≡ (read byte r).steps → Took a b r s pending left 1 steps
+Took-byte a b byte r s pending left steps gives reader out made = record {
   bytes = byte ∷ [];
   came = Comes-next a b byte gives;
   count = refl;
   reader = reader;
   out = out ∙ ap (λ (xs : List ℕ). pending ++ xs) (sym (append-nil (read byte r).bytes));
+  made = made ∙ sym (none_added (read byte r).steps);
 }
 
 -- ---- a run ends
@@ -197,11 +211,17 @@ converted-few e bytes p left rest r t count few reader out l =
     let same : length (finished after.reader) ≡ length (finished r) = ap (λ (x : Reader). length (finished x)) (sym reader) in
     let split : length left ≡ length p + length (finished r) = ap length out ∙ length-append p (finished r) in omega arith
 
-pub Ran-done : (e : Bool) (a b c : Option Supply) (h k m : Option (List ℕ)) (p left : List ℕ) (r : Reader) (t : ℕ)
-    → Stands e a b h k p r t → Comes b [] c × Ends b c × (left ≡ p ++ finished r) → length left ≤ length p + 1536
-    → (outcome : Outcome) → EndsAs Done outcome k m left → Ran e a c h m outcome
-Ran-done e a b c h k m p left r t st turn l Done ends =
+ended-made : (e : Bool) (bytes : List ℕ) (r : Reader) (i j : ℕ) → i ≡ (fed (first_reader e) bytes).steps
+    → r ≡ (fed (first_reader e) bytes).reader → j ≡ (pending_heard r).steps → i + j ≡ steps_of e bytes
+ended-made e bytes r i j made reader last =
+    both_made made (last ∙ ap (λ (x : Reader). (pending_heard x).steps) reader)
+
+pub Ran-done : (e : Bool) (a b c : Option Supply) (h k m : Option (List ℕ)) (p left : List ℕ) (r : Reader) (t i j : ℕ)
+    → Stands e a b h k p r t i → Comes b [] c × Ends b c × (left ≡ p ++ finished r) × (j ≡ (pending_heard r).steps)
+    → length left ≤ length p + 1536 → (outcome : Outcome) → EndsAs Done outcome k m left → Ran e a c h m (i + j) outcome
+Ran-done e a b c h k m p left r t i j st turn l Done ends =
     let all = ended-all e st.sent p left st.bytes r st.all st.reader turn.2 in
+    let made = ended-made e st.bytes r i j st.made st.reader turn.3 in
     let P : List ℕ → Type 0 = λ xs. Appends h m xs in
     record {
       bytes = st.bytes;
@@ -209,22 +229,26 @@ Ran-done e a b c h k m p left r t st turn l Done ends =
       ends = Ends-after a b c st.bytes st.came turn.1;
       went_out = subst P all (Appends-trans h k m st.sent left st.went_out ends.1);
       few = converted-few e st.bytes p left [] r t st.count st.few st.reader turn.2 l;
+      made = made;
+      quick = rw made (steps_of_quick e st.bytes);
     }
-Ran-done e a b c h k m p left r t st turn l (ReadFault at) ends = absurd (let no : Done ≡ ReadFault at = ends.0 in cc)
-Ran-done e a b c h k m p left r t st turn l TooLong ends = absurd (let no : Done ≡ TooLong = ends.0 in cc)
-Ran-done e a b c h k m p left r t st turn l WriteFault ends =
+Ran-done e a b c h k m p left r t i j st turn l (ReadFault at) ends = absurd (let no : Done ≡ ReadFault at = ends.0 in cc)
+Ran-done e a b c h k m p left r t i j st turn l TooLong ends = absurd (let no : Done ≡ TooLong = ends.0 in cc)
+Ran-done e a b c h k m p left r t i j st turn l WriteFault ends =
     let all = ended-all e st.sent p left st.bytes r st.all st.reader turn.2 in
+    let made = ended-made e st.bytes r i j st.made st.reader turn.3 in
     let P : List ℕ → Type 0 = λ xs. AppendsFront h m xs in
     record {
       bytes = st.bytes;
       came = Comes-then_nothing a b c st.bytes st.came turn.0;
       went_out = subst P all (AppendsFront-after h k m st.sent left st.went_out ends);
+      quick = rw made (steps_of_quick e st.bytes);
     }
 
 -- what went out and what is pending, cut by a write fault
-Stands-broken : (e : Bool) (a b c : Option Supply) (h k m : Option (List ℕ)) (p : List ℕ) (r : Reader) (t : ℕ)
-    → Stands e a b h k p r t → Comes b [] c → AppendsFront k m p → IsBroken e a c h m
-Stands-broken e a b c h k m p r t st came front =
+Stands-broken : (e : Bool) (a b c : Option Supply) (h k m : Option (List ℕ)) (p : List ℕ) (r : Reader) (t i : ℕ)
+    → Stands e a b h k p r t i → Comes b [] c → AppendsFront k m p → IsBroken e a c h m i
+Stands-broken e a b c h k m p r t i st came front =
     let after = fed (first_reader e) st.bytes in
     let P : List ℕ → Type 0 = λ xs. AppendsFront h m xs in
     record {
@@ -232,48 +256,51 @@ Stands-broken e a b c h k m p r t st came front =
       came = Comes-then_nothing a b c st.bytes st.came came;
       went_out = AppendsFront-append h m after.bytes (finished after.reader)
           (subst P st.all (AppendsFront-after h k m st.sent p st.went_out front));
+      quick = rw st.made (fed_quick e st.bytes);
     }
 
-Stands-cut : (e : Bool) (a b c : Option Supply) (h k m : Option (List ℕ)) (p : List ℕ) (r : Reader) (t : ℕ)
-    → Stands e a b h k p r t → Comes b [] c → Appends k m p → IsCut e a c h m t
-Stands-cut e a b c h k m p r t st came went =
+Stands-cut : (e : Bool) (a b c : Option Supply) (h k m : Option (List ℕ)) (p : List ℕ) (r : Reader) (t i : ℕ)
+    → Stands e a b h k p r t i → Comes b [] c → Appends k m p → IsCut e a c h m t i
+Stands-cut e a b c h k m p r t i st came went =
     let P : List ℕ → Type 0 = λ xs. Appends h m xs in
     record {
       bytes = st.bytes;
       came = Comes-then_nothing a b c st.bytes st.came came;
       count = st.count;
       went_out = subst P st.all (Appends-trans h k m st.sent p st.went_out went);
+      made = st.made;
+      quick = rw st.made (fed_quick e st.bytes);
     }
 
-pub Ran-broken : (e : Bool) (a b : Option Supply) (h k m : Option (List ℕ)) (p : List ℕ) (r : Reader) (t : ℕ)
-    → Stands e a b h k p r t → AppendsFront k m p → Ran e a b h m WriteFault
-Ran-broken e a b h k m p r t st front = Stands-broken e a b b h k m p r t st (Comes-nil b) front
+pub Ran-broken : (e : Bool) (a b : Option Supply) (h k m : Option (List ℕ)) (p : List ℕ) (r : Reader) (t i : ℕ)
+    → Stands e a b h k p r t i → AppendsFront k m p → Ran e a b h m i WriteFault
+Ran-broken e a b h k m p r t i st front = Stands-broken e a b b h k m p r t i st (Comes-nil b) front
 
-ran-fault : (e : Bool) (a b c : Option Supply) (h k m : Option (List ℕ)) (p : List ℕ) (r : Reader) (t : ℕ)
-    → Stands e a b h k p r t → Comes b [] c
-    → (outcome : Outcome) → EndsAs (ReadFault t) outcome k m p → Ran e a c h m outcome
-ran-fault e a b c h k m p r t st came Done ends = absurd (let no : ReadFault t ≡ Done = ends.0 in cc)
-ran-fault e a b c h k m p r t st came (ReadFault at) ends =
-    let P : ℕ → Type 0 = λ n. IsCut e a c h m n in
+ran-fault : (e : Bool) (a b c : Option Supply) (h k m : Option (List ℕ)) (p : List ℕ) (r : Reader) (t i : ℕ)
+    → Stands e a b h k p r t i → Comes b [] c
+    → (outcome : Outcome) → EndsAs (ReadFault t) outcome k m p → Ran e a c h m i outcome
+ran-fault e a b c h k m p r t i st came Done ends = absurd (let no : ReadFault t ≡ Done = ends.0 in cc)
+ran-fault e a b c h k m p r t i st came (ReadFault at) ends =
+    let P : ℕ → Type 0 = λ n. IsCut e a c h m n i in
     let same : ReadFault t ≡ ReadFault at = ends.0 in
     let n : t ≡ at = cc in
-    subst P n (Stands-cut e a b c h k m p r t st came ends.1)
-ran-fault e a b c h k m p r t st came TooLong ends = absurd (let no : ReadFault t ≡ TooLong = ends.0 in cc)
-ran-fault e a b c h k m p r t st came WriteFault ends = Stands-broken e a b c h k m p r t st came ends
+    subst P n (Stands-cut e a b c h k m p r t i st came ends.1)
+ran-fault e a b c h k m p r t i st came TooLong ends = absurd (let no : ReadFault t ≡ TooLong = ends.0 in cc)
+ran-fault e a b c h k m p r t i st came WriteFault ends = Stands-broken e a b c h k m p r t i st came ends
 
-pub Ran-fault : (e : Bool) (a b c : Option Supply) (h k m : Option (List ℕ)) (p left : List ℕ) (r : Reader) (t : ℕ)
-    → Stands e a b h k p r t → Comes b [] c × (left ≡ p)
-    → (outcome : Outcome) → EndsAs (ReadFault t) outcome k m left → Ran e a c h m outcome
-Ran-fault e a b c h k m p left r t st turn outcome ends =
+pub Ran-fault : (e : Bool) (a b c : Option Supply) (h k m : Option (List ℕ)) (p left : List ℕ) (r : Reader) (t i : ℕ)
+    → Stands e a b h k p r t i → Comes b [] c × (left ≡ p)
+    → (outcome : Outcome) → EndsAs (ReadFault t) outcome k m left → Ran e a c h m i outcome
+Ran-fault e a b c h k m p left r t i st turn outcome ends =
     let P : List ℕ → Type 0 = λ xs. EndsAs (ReadFault t) outcome k m xs in
-    ran-fault e a b c h k m p r t st turn.0 outcome (subst P turn.1 ends)
+    ran-fault e a b c h k m p r t i st turn.0 outcome (subst P turn.1 ends)
 
-pub Ran-long : (e : Bool) (a b : Option Supply) (h k m : Option (List ℕ)) (p : List ℕ) (r : Reader) (t : ℕ)
-    → t ≡ 1099511627776 → Stands e a b h k p r t
-    → (outcome : Outcome) → EndsAs TooLong outcome k m p → Ran e a b h m outcome
-Ran-long e a b h k m p r t n st Done ends = absurd (let no : TooLong ≡ Done = ends.0 in cc)
-Ran-long e a b h k m p r t n st (ReadFault at) ends = absurd (let no : TooLong ≡ ReadFault at = ends.0 in cc)
-Ran-long e a b h k m p r t n st TooLong ends =
-    let P : ℕ → Type 0 = λ i. IsCut e a b h m i in
-    subst P n (Stands-cut e a b b h k m p r t st (Comes-nil b) ends.1)
-Ran-long e a b h k m p r t n st WriteFault ends = Ran-broken e a b h k m p r t st ends
+pub Ran-long : (e : Bool) (a b : Option Supply) (h k m : Option (List ℕ)) (p : List ℕ) (r : Reader) (t i : ℕ)
+    → t ≡ 1099511627776 → Stands e a b h k p r t i
+    → (outcome : Outcome) → EndsAs TooLong outcome k m p → Ran e a b h m i outcome
+Ran-long e a b h k m p r t i n st Done ends = absurd (let no : TooLong ≡ Done = ends.0 in cc)
+Ran-long e a b h k m p r t i n st (ReadFault at) ends = absurd (let no : TooLong ≡ ReadFault at = ends.0 in cc)
+Ran-long e a b h k m p r t i n st TooLong ends =
+    let P : ℕ → Type 0 = λ j. IsCut e a b h m j i in
+    subst P n (Stands-cut e a b b h k m p r t i st (Comes-nil b) ends.1)
+Ran-long e a b h k m p r t i n st WriteFault ends = Ran-broken e a b h k m p r t i st ends

@@ -1,5 +1,5 @@
 -- Plain text is what comes of it.
-use Rattle.std.proofs.Common.{◌≡◌, ℕ, ◌≤◌, List, [], ◌∷◌, ◌++◌, length, drop, Bool, true, false, not, ◌==◌, ◌&&◌, nat_lt, if◌then◌else◌, refl, sym, ◌∙◌, ap, append-nil}
+use Rattle.std.proofs.Common.{◌≡◌, ℕ, suc, ◌+◌, ◌≤◌, List, [], ◌∷◌, ◌++◌, length, drop, Bool, true, false, not, ◌==◌, ◌&&◌, nat_lt, if◌then◌else◌, refl, sym, ◌∙◌, ap, append-nil, arith}
 use Rattle.std.proofs.lemmas.List.{drop_all}
 use Rattle.nr_preconv.specs.declared.half.Half.{Half}
 use Rattle.nr_preconv.specs.declared.half.Line.TheVariants as lines
@@ -12,7 +12,8 @@ use Rattle.nr_preconv.specs.Conditions.{saying}
 use Rattle.nr_preconv.specs.Lines.{in_line, is_control, control}
 use Rattle.nr_preconv.specs.Meeting.{meet, beginning}
 use Rattle.nr_preconv.specs.PlainText.{goes_on, is_plain_from, is_plain_text}
-use Rattle.nr_preconv.specs.Reading.{Told, told, behind, then_told, heard, read, fed, fresh, stray, is_lead, pending_with, finished, first_reader, converted}
+use Rattle.nr_preconv.specs.Reading.{Told, told, behind, then_told, heard, read, fed, fresh, stray, is_lead, pending_with, pending_heard, finished, first_reader, converted, steps_of}
+use Rattle.nr_preconv.proofs.Reading.{told-eq}
 use Rattle.nr_preconv.proofs.Plain.{and-first, and-second, heard_byte_taken}
 
 -- what is half read of such text: at the beginning of a line, or in its midst
@@ -52,32 +53,36 @@ goes_meets true b g =
 goes_meets false b g =
     text_meets b (is_not (b == 92) (and-second (nat_lt b 128) (not (b == 92)) (and-first (nat_lt b 128 && not (b == 92)) true g)))
 
-read_going : (e starts : Bool) (b : ℕ) → goes_on starts b ≡ true → fresh b (reader_at e starts) ≡ told (reader_at e (b == 10)) (b ∷ [])
+read_going : (e starts : Bool) (b : ℕ) → goes_on starts b ≡ true → fresh b (reader_at e starts) ≡ told (reader_at e (b == 10)) (b ∷ []) 1
 unfolding reader_at
 read_going e starts b g =
     let ascii : nat_lt b 128 ≡ true = and-first (nat_lt b 128) (not (b == 92)) (and-first (nat_lt b 128 && not (b == 92)) (not (starts && is_control b)) g) in
     let r = reader_at e starts in
-    ap (λ (x : Bool). if x then heard (comings.Byte b) r else (if is_lead b then told (pending_with (pendings.One b) r) [] else stray b r)) ascii
+    ap (λ (x : Bool). if x then heard (comings.Byte b) r else (if is_lead b then told (pending_with (pendings.One b) r) [] 0 else stray b r)) ascii
     ∙ heard_byte_taken b r (half_at (b == 10)) (goes_meets starts b g)
 
-read_on : (e starts : Bool) (b : ℕ) → goes_on starts b ≡ true → read b (reader_at e starts) ≡ told (reader_at e (b == 10)) (b ∷ [])
+read_on : (e starts : Bool) (b : ℕ) → goes_on starts b ≡ true → read b (reader_at e starts) ≡ told (reader_at e (b == 10)) (b ∷ []) 1
 unfolding reader_at half_at
-read_on e true b g = ap (behind []) (read_going e true b g)
-read_on e false b g = ap (behind []) (read_going e false b g)
+read_on e true b g = ap (behind [] 0) (read_going e true b g)
+read_on e false b g = ap (behind [] 0) (read_going e false b g)
 
 -- where the last line stands
 ends : Bool → List ℕ → Bool
 ends starts [] = starts
 ends starts (b ∷ bs) = ends (b == 10) bs
 
-fed_on : (e starts : Bool) (bs : List ℕ) → is_plain_from starts bs ≡ true → fed (reader_at e starts) bs ≡ told (reader_at e (ends starts bs)) bs
+one_before : (n : ℕ) → 1 + n ≡ suc n
+one_before n = omega arith
+
+fed_on : (e starts : Bool) (bs : List ℕ) → is_plain_from starts bs ≡ true → fed (reader_at e starts) bs ≡ told (reader_at e (ends starts bs)) bs (length bs)
 unfolding ends
 fed_on e starts [] p = refl
 fed_on e starts (b ∷ bs) p =
     let g : goes_on starts b ≡ true = and-first (goes_on starts b) (is_plain_from (b == 10) bs) p in
     let rest : is_plain_from (b == 10) bs ≡ true = and-second (goes_on starts b) (is_plain_from (b == 10) bs) p in
     ap (λ (t : Told). then_told t (λ s. fed s bs)) (read_on e starts b g)
-    ∙ ap (behind (b ∷ [])) (fed_on e (b == 10) bs rest)
+    ∙ ap (behind (b ∷ []) 1) (fed_on e (b == 10) bs rest)
+    ∙ told-eq _ _ _ _ _ _ refl refl (one_before (length bs))
 
 nothing_left : (e starts : Bool) → finished (reader_at e starts) ≡ []
 unfolding reader_at half_at
@@ -94,6 +99,22 @@ plain_unchanged e text p =
     ∙ ap (λ (t : Told). t.bytes ++ finished t.reader) (fed_on e true text p)
     ∙ ap (λ (xs : List ℕ). text ++ xs) (nothing_left e (ends true text))
     ∙ append-nil text
+
+no_steps_left : (e starts : Bool) → (pending_heard (reader_at e starts)).steps ≡ 0
+unfolding reader_at half_at
+no_steps_left e true = refl
+no_steps_left e false = refl
+
+none_added : (n : ℕ) → n + 0 ≡ n
+none_added n = omega arith
+
+-- one step for each byte
+pub plain_steps : (e : Bool) (text : List ℕ) → is_plain_text text ≡ true → steps_of e text ≡ length text
+plain_steps e text p =
+    ap (λ (r : Reader). (fed r text).steps + (pending_heard (fed r text).reader).steps) (first_is e)
+    ∙ ap (λ (t : Told). t.steps + (pending_heard t.reader).steps) (fed_on e true text p)
+    ∙ ap (λ (n : ℕ). length text + n) (no_steps_left e (ends true text))
+    ∙ none_added (length text)
 
 -- at the end of the text
 pub plain_at_end : (text : List ℕ) (i : ℕ) (starts : Bool) → length text ≤ i → is_plain_from starts (drop i text) ≡ is_plain_from true text

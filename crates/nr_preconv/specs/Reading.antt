@@ -14,21 +14,22 @@ use Rattle.nr_preconv.specs.Half.{first_half, is_running}
 use Rattle.nr_preconv.specs.Lines.{passing}
 use Rattle.nr_preconv.specs.Meeting.{meet, is_raw}
 
--- what is half read then, and what goes out
+-- What is half read then, what goes out, and in how many steps: a character meets what is half read, or a byte passes as it is.
 pub record Told : Type 0 where
   pub reader : Reader
   pub bytes : List ℕ
+  pub steps : ℕ
 
-abbrev pub told : Reader → List ℕ → Told
-told r bytes = record { reader = r; bytes = bytes }
+abbrev pub told : Reader → List ℕ → ℕ → Told
+told r bytes steps = record { reader = r; bytes = bytes; steps = steps }
 
--- these bytes, and then what comes
-abbrev pub behind : List ℕ → Told → Told
-behind bytes t = record { reader = t.reader; bytes = bytes ++ t.bytes }
+-- these bytes, in so many steps, and then what comes
+abbrev pub behind : List ℕ → ℕ → Told → Told
+behind bytes steps t = record { reader = t.reader; bytes = bytes ++ t.bytes; steps = steps + t.steps }
 
 -- first the one, then the other
 abbrev pub then_told : Told → (Reader → Told) → Told
-then_told t next = behind t.bytes (next t.reader)
+then_told t next = behind t.bytes t.steps (next t.reader)
 
 -- a page begins
 abbrev pub first_reader : Bool → Reader
@@ -40,10 +41,10 @@ abbrev pub with_half : Half → Reader → Reader
 with_half h r = record r { half = h }
 
 abbrev pub heard_in : ℕ → Coming → Reader → Told
-heard_in zero coming r = told r []
+heard_in zero coming r = told r [] 0
 heard_in (suc n) coming r =
     let m = meet coming r.half in
-    behind (bytes_of r.eight_bit m.said) (if m.takes then told (with_half m.half r) [] else heard_in n coming (with_half m.half r))
+    behind (bytes_of r.eight_bit m.said) 1 (if m.takes then told (with_half m.half r) [] 0 else heard_in n coming (with_half m.half r))
 
 -- six times are enough: an escape that is none, and words that end and begin
 unfoldable pub heard : Coming → Reader → Told
@@ -76,7 +77,7 @@ abbrev pub pending_with : Pending → Reader → Reader
 pending_with pending r = record r { pending = pending }
 
 abbrev pub strays : Pending → Reader → Told
-strays Nothing r = told r []
+strays Nothing r = told r [] 0
 strays (One a) r = stray a r
 strays (Two a b) r = then_told (stray a r) (λ s. stray b s)
 strays (Three a b c) r = then_told (then_told (stray a r) (λ s. stray b s)) (λ s. stray c s)
@@ -88,7 +89,7 @@ pending_heard r = strays r.pending (pending_with Nothing r)
 abbrev pub fresh : ℕ → Reader → Told
 fresh b r =
     if nat_lt b 128 then heard (Byte b) r else
-    if is_lead b then told (pending_with (One b) r) [] else stray b r
+    if is_lead b then told (pending_with (One b) r) [] 0 else stray b r
 
 abbrev pub apart : ℕ → Reader → Told
 apart b r = then_told (pending_heard r) (λ s. fresh b s)
@@ -101,11 +102,11 @@ abbrev pub heard_behind : Pending → ℕ → Reader → Told
 heard_behind Nothing b r = apart b r
 heard_behind (One a) b r =
     if is_second a b
-    then (if nat_lt a 224 then whole ((a % 32) * 64 + low_six b) r else told (pending_with (Two a b) r) [])
+    then (if nat_lt a 224 then whole ((a % 32) * 64 + low_six b) r else told (pending_with (Two a b) r) [] 0)
     else apart b r
 heard_behind (Two a b) c r =
     if is_tail c
-    then (if nat_lt a 240 then whole ((a % 16) * 4096 + low_six b * 64 + low_six c) r else told (pending_with (Three a b c) r) [])
+    then (if nat_lt a 240 then whole ((a % 16) * 4096 + low_six b * 64 + low_six c) r else told (pending_with (Three a b c) r) [] 0)
     else apart c r
 heard_behind (Three a b c) d r =
     if is_tail d then whole ((a % 8) * 262144 + low_six b * 4096 + low_six c * 64 + low_six d) r else apart d r
@@ -116,7 +117,7 @@ heard_byte b r = heard_behind r.pending b r
 -- ---- a byte, and the end
 
 abbrev pub read : ℕ → Reader → Told
-read b r = if is_raw r.half.line then told (with_half (passing b r.half) r) (b ∷ []) else heard_byte b r
+read b r = if is_raw r.half.line then told (with_half (passing b r.half) r) (b ∷ []) 1 else heard_byte b r
 
 -- a name that is half read
 abbrev pub name_left : Line → List ℕ → List ℕ
@@ -135,7 +136,7 @@ finished r = (pending_heard r).bytes ++ ended (pending_heard r).reader.half
 -- ---- many bytes
 
 abbrev pub fed : Reader → List ℕ → Told
-fed r [] = told r []
+fed r [] = told r [] 0
 fed r (b ∷ bs) = then_told (read b r) (λ s. fed s bs)
 
 -- ---- plain bytes
@@ -152,9 +153,9 @@ is_nothing pending = false
 abbrev pub is_ready : Reader → Bool
 is_ready r = is_running r.half && is_nothing r.pending
 
--- the first n of these go out as they are and change nothing
+-- the first n of these go out as they are and change nothing, each in one step
 abbrev pub IsPlainFront : ℕ → List ℕ → Reader → Type 0
-IsPlainFront n bytes r = fed r (take n bytes) ≡ told r (take n bytes)
+IsPlainFront n bytes r = fed r (take n bytes) ≡ told r (take n bytes) n
 
 -- ---- the definition: what comes of all bytes of an input
 
@@ -162,3 +163,9 @@ abbrev pub converted : Bool → List ℕ → List ℕ
 converted eight_bit input =
     let t = fed (first_reader eight_bit) input in
     t.bytes ++ finished t.reader
+
+-- in how many steps that comes
+abbrev pub steps_of : Bool → List ℕ → ℕ
+steps_of eight_bit input =
+    let t = fed (first_reader eight_bit) input in
+    t.steps + (pending_heard t.reader).steps

@@ -9,7 +9,7 @@ use Rattle.nr_preconv.specs.declared.running.Outcome.{Outcome}
 use Rattle.nr_preconv.specs.declared.running.Outcome.TheVariants.{Done, ReadFault, TooLong, WriteFault}
 use Rattle.nr_preconv.specs.declared.running.Turn.{Turn}
 use Rattle.nr_preconv.specs.declared.running.Turn.TheVariants as turns
-use Rattle.nr_preconv.specs.Reading.{first_reader, fed, finished, converted}
+use Rattle.nr_preconv.specs.Reading.{first_reader, fed, pending_heard, finished, converted, steps_of}
 
 -- these bytes came
 abbrev pub Comes : Option Supply → List ℕ → Option Supply → Type 0
@@ -36,23 +36,25 @@ pub record Flushes (held new : Option (List ℕ)) (pending left : List ℕ) : Ty
 
 -- ---- one turn
 
--- so many bytes came and were read
-pub record Took (old new : Option Supply) (r s : Reader) (pending left : List ℕ) (n : ℕ) : Type 0 where
+-- so many bytes came and were read, in so many steps
+pub record Took (old new : Option Supply) (r s : Reader) (pending left : List ℕ) (n steps : ℕ) : Type 0 where
   pub bytes : List ℕ
   pub came : Comes old bytes new
   pub count : length bytes ≡ n
   pub reader : s ≡ (fed r bytes).reader
   pub out : left ≡ pending ++ (fed r bytes).bytes
+  pub made : steps ≡ (fed r bytes).steps
 
 abbrev pub Turns : Option Supply → Option Supply → Reader → Reader → List ℕ → List ℕ → Turn → Type 0
-Turns old new r s pending left (turns.Took n) = Took old new r s pending left n
-Turns old new r s pending left turns.End = Comes old [] new × Ends old new × (left ≡ pending ++ finished r)
+Turns old new r s pending left (turns.Took n steps) = Took old new r s pending left n steps
+Turns old new r s pending left (turns.End steps) =
+    Comes old [] new × Ends old new × (left ≡ pending ++ finished r) × (steps ≡ (pending_heard r).steps)
 Turns old new r s pending left turns.ReadFault = Comes old [] new × (left ≡ pending)
 
--- at least one byte and not too many were taken; at most 1536 went out for each, and as many at the end
+-- At least one byte and not too many were taken. At most 1536 went out for each, in 24 steps at most, and as many at the end.
 abbrev pub IsMeasured : ℕ → ℕ → ℕ → Turn → Type 0
-IsMeasured most before after (turns.Took n) = (0 < n) × (n ≤ most) × (after ≤ before + 1536 * n)
-IsMeasured most before after turns.End = after ≤ before + 1536
+IsMeasured most before after (turns.Took n steps) = (0 < n) × (n ≤ most) × (after ≤ before + 1536 * n) × (steps ≤ 24 * n)
+IsMeasured most before after (turns.End steps) = (after ≤ before + 1536) × (steps ≤ 24)
 IsMeasured most before after turns.ReadFault = after ≤ before
 
 abbrev pub is_fault : Turn → Bool
@@ -61,8 +63,8 @@ is_fault turn = false
 
 -- ---- a run
 
--- where a run stands that took these bytes: what they come to went out, or is pending
-pub record Stands (eight_bit : Bool) (first supply : Option Supply) (held new : Option (List ℕ)) (pending : List ℕ) (r : Reader) (taken : ℕ) : Type 0 where
+-- where a run stands that took these bytes, in so many steps: what they come to went out, or is pending
+pub record Stands (eight_bit : Bool) (first supply : Option Supply) (held new : Option (List ℕ)) (pending : List ℕ) (r : Reader) (taken steps : ℕ) : Type 0 where
   pub bytes : List ℕ
   pub came : Comes first bytes supply
   pub count : length bytes ≡ taken
@@ -71,33 +73,40 @@ pub record Stands (eight_bit : Bool) (first supply : Option Supply) (held new : 
   pub went_out : Appends held new sent
   pub all : sent ++ pending ≡ (fed (first_reader eight_bit) bytes).bytes
   pub few : length (fed (first_reader eight_bit) bytes).bytes ≤ 1536 * taken
+  pub made : steps ≡ (fed (first_reader eight_bit) bytes).steps
 
--- all bytes came, and what they come to went out, at most 1536 bytes for each and as many more
-pub record IsDone (eight_bit : Bool) (first last : Option Supply) (held new : Option (List ℕ)) : Type 0 where
+-- All bytes came, and what they come to went out, at most 1536 bytes for each and as many more. That took so many steps, at most
+-- six for each byte.
+pub record IsDone (eight_bit : Bool) (first last : Option Supply) (held new : Option (List ℕ)) (steps : ℕ) : Type 0 where
   pub bytes : List ℕ
   pub came : Comes first bytes last
   pub ends : Ends first last
   pub went_out : Appends held new (converted eight_bit bytes)
   pub few : length (converted eight_bit bytes) ≤ 1536 * (length bytes + 1)
+  pub made : steps ≡ steps_of eight_bit bytes
+  pub quick : steps ≤ 6 * length bytes
 
--- so many bytes came, and what they come to went out but for what is half read
-pub record IsCut (eight_bit : Bool) (first last : Option Supply) (held new : Option (List ℕ)) (at : ℕ) : Type 0 where
+-- so many bytes came, and what they come to went out but for what is half read; that took so many steps
+pub record IsCut (eight_bit : Bool) (first last : Option Supply) (held new : Option (List ℕ)) (at steps : ℕ) : Type 0 where
   pub bytes : List ℕ
   pub came : Comes first bytes last
   pub count : length bytes ≡ at
   pub went_out : Appends held new (fed (first_reader eight_bit) bytes).bytes
+  pub made : steps ≡ (fed (first_reader eight_bit) bytes).steps
+  pub quick : steps ≤ 6 * length bytes
 
--- some bytes came, and a front of what they come to went out
-pub record IsBroken (eight_bit : Bool) (first last : Option Supply) (held new : Option (List ℕ)) : Type 0 where
+-- some bytes came, and a front of what they come to went out; that took so many steps
+pub record IsBroken (eight_bit : Bool) (first last : Option Supply) (held new : Option (List ℕ)) (steps : ℕ) : Type 0 where
   pub bytes : List ℕ
   pub came : Comes first bytes last
   pub went_out : AppendsFront held new (converted eight_bit bytes)
+  pub quick : steps ≤ 6 * length bytes
 
-abbrev pub Ran : Bool → Option Supply → Option Supply → Option (List ℕ) → Option (List ℕ) → Outcome → Type 0
-Ran eight_bit first last held new Done = IsDone eight_bit first last held new
-Ran eight_bit first last held new (ReadFault at) = IsCut eight_bit first last held new at
-Ran eight_bit first last held new TooLong = IsCut eight_bit first last held new 1099511627776
-Ran eight_bit first last held new WriteFault = IsBroken eight_bit first last held new
+abbrev pub Ran : Bool → Option Supply → Option Supply → Option (List ℕ) → Option (List ℕ) → ℕ → Outcome → Type 0
+Ran eight_bit first last held new steps Done = IsDone eight_bit first last held new steps
+Ran eight_bit first last held new steps (ReadFault at) = IsCut eight_bit first last held new at steps
+Ran eight_bit first last held new steps TooLong = IsCut eight_bit first last held new 1099511627776 steps
+Ran eight_bit first last held new steps WriteFault = IsBroken eight_bit first last held new steps
 
 abbrev pub is_read_fault : Outcome → Bool
 is_read_fault (ReadFault at) = true

@@ -71,7 +71,13 @@ blank_said said w = blank_by w.fonts (is_ninth w) said
 abbrev pub quoted_said : Said → Said → Words → Said
 quoted_said said ninth w = if is_ninth w then ninth else said
 
--- By where it comes, and what it is. What stands right behind a last quote is a word of its own.
+-- what stands right behind a last quote is a word of its own
+abbrev pub met_closing : Class → Said → Words → Told
+met_closing Quote said w = told Quoted (quoted_said said Quotes w) true w
+met_closing Space said w = told Between (blank_said said w) true w
+met_closing Other said w = told Between (blank_said (Byte 32) w) false w
+
+-- by where it comes, and what it is
 abbrev pub met_at : Place → Class → Said → Words → Told
 met_at Between Space said w = told Between (blank_said said w) true w
 met_at Between class said w = begun w
@@ -82,9 +88,7 @@ met_at Inside Quote said w = told Inside (quoted_said said Quotes w) true w
 met_at Inside Other said w = told Inside said true w
 met_at Quoted Quote said w = told Closing (quoted_said said Nothing w) true w
 met_at Quoted class said w = told Quoted said true w
-met_at Closing Quote said w = told Quoted (quoted_said said Quotes w) true w
-met_at Closing Space said w = told Between (blank_said said w) true w
-met_at Closing Other said w = told Between (blank_said (Byte 32) w) false w
+met_at Closing class said w = met_closing class said w
 
 abbrev pub met_words : Class → Said → Words → Told
 met_words class said w = met_at w.place class said w

@@ -1,7 +1,7 @@
 //! Text that goes out as it is.
-ghost use Rattle.std.specs.Prelude.{◌≡◌, Bool, IsTrue};
+ghost use Rattle.std.specs.Prelude.{◌≡◌, Bool, IsTrue, length};
 ghost use Rattle.nr_preconv.specs.PlainText.{goes_on, is_plain_text};
-ghost use Rattle.nr_preconv.specs.Reading.{converted};
+ghost use Rattle.nr_preconv.specs.Reading.{converted, steps_of};
 
 /// Whether a byte goes on such text, at the beginning of a line or not.
 fn goes_on(starts: bool, byte: u8) -> bool
@@ -11,10 +11,11 @@ fn goes_on(starts: bool, byte: u8) -> bool
 }
 
 /// Whether a text is of ASCII, without backslashes, and none of its lines begins with a control character. Such a
-/// text is what `convert` makes of it.
+/// text is what `convert` makes of it, in one step for each byte.
 pub fn passes_unchanged(text: &[u8]) -> bool
     ensures value { result ≡ is_plain_text text.now }
     ensures law { IsTrue result → (eight_bit : Bool) → converted eight_bit text.now ≡ text.now }
+    ensures steps { IsTrue result → (eight_bit : Bool) → steps_of eight_bit text.now ≡ length text.now }
 {
     let mut starts = true;
     for byte in text {

@@ -80,136 +80,150 @@ impl Reader {
         }
     }
 
-    /// A character comes, and is met so many times at most.
-    fn hear_in(&mut self, coming: Coming, most: u8, out: &mut SliceVec<'_, u8>)
+    /// A character comes, and is met so many times at most. Tells how many steps that took.
+    fn hear_in(&mut self, coming: Coming, most: u8, out: &mut SliceVec<'_, u8>) -> u64
         requires { length out.old.items + 64 * most ≤ out.old.room }
         ensures reader { self.new ≡ (specs.heard_in most coming self.old).reader }
         ensures items { out.new.items ≡ out.old.items ++ (specs.heard_in most coming self.old).bytes }
+        ensures steps { result ≡ (specs.heard_in most coming self.old).steps }
         ensures few { length out.new.items ≤ length out.old.items + 64 * most }
+        ensures quick { result ≤ most }
         ensures room { out.new.room ≡ out.old.room }
     {
         if most == 0 {
-            return;
+            return 0;
         }
         let seen = self.half.meet(coming);
         say(seen.said, self.eight_bit, out);
-        if !seen.takes {
-            self.hear_in(coming, most - 1, out);
+        if seen.takes {
+            return 1;
         }
+        1 + self.hear_in(coming, most - 1, out)
     }
 
-    /// A character comes.
+    /// A character comes. Tells how many steps that took, as all below do.
     #[tactic(auto, unfolding(crate::specs::Reading::heard))]
-    fn hear(&mut self, coming: Coming, out: &mut SliceVec<'_, u8>)
+    fn hear(&mut self, coming: Coming, out: &mut SliceVec<'_, u8>) -> u64
         requires { length out.old.items + 384 ≤ out.old.room }
         ensures reader { self.new ≡ (specs.heard coming self.old).reader }
         ensures items { out.new.items ≡ out.old.items ++ (specs.heard coming self.old).bytes }
+        ensures steps { result ≡ (specs.heard coming self.old).steps }
         ensures few { length out.new.items ≤ length out.old.items + 384 }
+        ensures quick { result ≤ 6 }
         ensures room { out.new.room ≡ out.old.room }
     {
-        self.hear_in(coming, MEETINGS, out);
+        self.hear_in(coming, MEETINGS, out)
     }
 
     /// A byte that is no part of a character of several bytes comes as Latin-1.
-    fn hear_stray(&mut self, byte: u8, out: &mut SliceVec<'_, u8>)
+    fn hear_stray(&mut self, byte: u8, out: &mut SliceVec<'_, u8>) -> u64
         requires { length out.old.items + 384 ≤ out.old.room }
         ensures reader { self.new ≡ (specs.stray byte self.old).reader }
         ensures items { out.new.items ≡ out.old.items ++ (specs.stray byte self.old).bytes }
+        ensures steps { result ≡ (specs.stray byte self.old).steps }
         ensures few { length out.new.items ≤ length out.old.items + 384 }
+        ensures quick { result ≤ 6 }
         ensures room { out.new.room ≡ out.old.room }
     {
-        self.hear(Coming::Wide(u32::from(byte)), out);
+        self.hear(Coming::Wide(u32::from(byte)), out)
     }
 
     /// What was read of a character was none: its bytes come one by one.
-    fn hear_pending(&mut self, out: &mut SliceVec<'_, u8>)
+    fn hear_pending(&mut self, out: &mut SliceVec<'_, u8>) -> u64
         requires { length out.old.items + 1152 ≤ out.old.room }
         ensures reader { self.new ≡ (specs.pending_heard self.old).reader }
         ensures items { out.new.items ≡ out.old.items ++ (specs.pending_heard self.old).bytes }
+        ensures steps { result ≡ (specs.pending_heard self.old).steps }
         ensures few { length out.new.items ≤ length out.old.items + 1152 }
+        ensures quick { result ≤ 18 }
         ensures room { out.new.room ≡ out.old.room }
     {
         let pending = self.pending;
         self.pending = Pending::Nothing;
         match pending {
-            Pending::Nothing => {}
+            Pending::Nothing => 0,
             Pending::One(a) => self.hear_stray(a, out),
-            Pending::Two(a, b) => {
-                self.hear_stray(a, out);
-                self.hear_stray(b, out);
-            }
+            Pending::Two(a, b) => self.hear_stray(a, out) + self.hear_stray(b, out),
             Pending::Three(a, b, c) => {
-                self.hear_stray(a, out);
-                self.hear_stray(b, out);
-                self.hear_stray(c, out);
+                self.hear_stray(a, out) + self.hear_stray(b, out) + self.hear_stray(c, out)
             }
         }
     }
 
     /// A byte comes, and no part of a character is pending.
-    fn hear_fresh(&mut self, byte: u8, out: &mut SliceVec<'_, u8>)
+    fn hear_fresh(&mut self, byte: u8, out: &mut SliceVec<'_, u8>) -> u64
         requires { length out.old.items + 384 ≤ out.old.room }
         ensures reader { self.new ≡ (specs.fresh byte self.old).reader }
         ensures items { out.new.items ≡ out.old.items ++ (specs.fresh byte self.old).bytes }
+        ensures steps { result ≡ (specs.fresh byte self.old).steps }
         ensures few { length out.new.items ≤ length out.old.items + 384 }
+        ensures quick { result ≤ 6 }
         ensures room { out.new.room ≡ out.old.room }
     {
         if byte < 128 {
-            self.hear(Coming::Byte(byte), out);
-        } else if is_lead(byte) {
-            self.pending = Pending::One(byte);
-        } else {
-            self.hear_stray(byte, out);
+            return self.hear(Coming::Byte(byte), out);
         }
+        if is_lead(byte) {
+            self.pending = Pending::One(byte);
+            return 0;
+        }
+        self.hear_stray(byte, out)
     }
 
     /// What is pending and then this byte come one by one.
-    fn hear_apart(&mut self, byte: u8, out: &mut SliceVec<'_, u8>)
+    fn hear_apart(&mut self, byte: u8, out: &mut SliceVec<'_, u8>) -> u64
         requires { length out.old.items + 1536 ≤ out.old.room }
         ensures reader { self.new ≡ (specs.apart byte self.old).reader }
         ensures items { out.new.items ≡ out.old.items ++ (specs.apart byte self.old).bytes }
+        ensures steps { result ≡ (specs.apart byte self.old).steps }
         ensures few { length out.new.items ≤ length out.old.items + 1536 }
+        ensures quick { result ≤ 24 }
         ensures room { out.new.room ≡ out.old.room }
     {
-        self.hear_pending(out);
-        self.hear_fresh(byte, out);
+        self.hear_pending(out) + self.hear_fresh(byte, out)
     }
 
     /// A character of several bytes is whole.
-    fn hear_whole(&mut self, code: u32, out: &mut SliceVec<'_, u8>)
+    fn hear_whole(&mut self, code: u32, out: &mut SliceVec<'_, u8>) -> u64
         requires { length out.old.items + 384 ≤ out.old.room }
         ensures reader { self.new ≡ (specs.whole code self.old).reader }
         ensures items { out.new.items ≡ out.old.items ++ (specs.whole code self.old).bytes }
+        ensures steps { result ≡ (specs.whole code self.old).steps }
         ensures few { length out.new.items ≤ length out.old.items + 384 }
+        ensures quick { result ≤ 6 }
         ensures room { out.new.room ≡ out.old.room }
     {
         self.pending = Pending::Nothing;
-        self.hear(Coming::Wide(code), out);
+        self.hear(Coming::Wide(code), out)
     }
 
     /// A byte comes that is read.
-    fn hear_byte(&mut self, byte: u8, out: &mut SliceVec<'_, u8>)
+    fn hear_byte(&mut self, byte: u8, out: &mut SliceVec<'_, u8>) -> u64
         requires { length out.old.items + 1536 ≤ out.old.room }
         ensures reader { self.new ≡ (specs.heard_byte byte self.old).reader }
         ensures items { out.new.items ≡ out.old.items ++ (specs.heard_byte byte self.old).bytes }
+        ensures steps { result ≡ (specs.heard_byte byte self.old).steps }
         ensures few { length out.new.items ≤ length out.old.items + 1536 }
+        ensures quick { result ≤ 24 }
         ensures room { out.new.room ≡ out.old.room }
     {
         match self.pending {
             Pending::One(a) if is_second(a, byte) => {
                 if a < 0xE0 {
                     let code = u32::from(a % 32) * 64 + low_six(byte);
-                    self.hear_whole(code, out);
+                    self.hear_whole(code, out)
                 } else {
                     self.pending = Pending::Two(a, byte);
+                    0
                 }
             }
             Pending::Two(a, b) if is_tail(byte) => {
                 if a < 0xF0 {
                     let code = u32::from(a % 16) * 4096 + low_six(b) * 64 + low_six(byte);
-                    self.hear_whole(code, out);
+                    self.hear_whole(code, out)
                 } else {
                     self.pending = Pending::Three(a, b, byte);
+                    0
                 }
             }
             Pending::Three(a, b, c) if is_tail(byte) => {
@@ -217,40 +231,45 @@ impl Reader {
                     + low_six(b) * 4096
                     + low_six(c) * 64
                     + low_six(byte);
-                self.hear_whole(code, out);
+                self.hear_whole(code, out)
             }
             _ => self.hear_apart(byte, out),
         }
     }
 
-    /// A byte comes. At most 1536 bytes go out.
-    pub(crate) fn read(&mut self, byte: u8, out: &mut SliceVec<'_, u8>)
+    /// A byte comes. At most 1536 bytes go out, in 24 steps at most.
+    pub(crate) fn read(&mut self, byte: u8, out: &mut SliceVec<'_, u8>) -> u64
         requires { length out.old.items + 1536 ≤ out.old.room }
         ensures reader { self.new ≡ (specs.read byte self.old).reader }
         ensures items { out.new.items ≡ out.old.items ++ (specs.read byte self.old).bytes }
+        ensures steps { result ≡ (specs.read byte self.old).steps }
         ensures few { length out.new.items ≤ length out.old.items + 1536 }
+        ensures quick { result ≤ 24 }
         ensures room { out.new.room ≡ out.old.room }
     {
         if self.half.is_raw() {
             self.half.passes(byte);
             out.push(byte);
-            return;
+            return 1;
         }
-        self.hear_byte(byte, out);
+        self.hear_byte(byte, out)
     }
 
-    /// The end comes: what is half read goes out as it is. At most 1536 bytes go out.
-    pub(crate) fn finish(&mut self, out: &mut SliceVec<'_, u8>)
+    /// The end comes: what is half read goes out as it is. At most 1536 bytes go out, in 18 steps at most.
+    pub(crate) fn finish(&mut self, out: &mut SliceVec<'_, u8>) -> u64
         requires { length out.old.items + 1536 ≤ out.old.room }
         ensures items { out.new.items ≡ out.old.items ++ specs.finished self.old }
+        ensures steps { result ≡ (specs.pending_heard self.old).steps }
         ensures few { length out.new.items ≤ length out.old.items + 1536 }
+        ensures quick { result ≤ 18 }
         ensures room { out.new.room ≡ out.old.room }
     {
-        self.hear_pending(out);
+        let steps = self.hear_pending(out);
         out.extend(self.half.kept.as_bytes());
         if matches!(self.half.line, Line::Control | Line::Name | Line::Asked(_)) {
             out.extend(self.half.name.as_bytes());
         }
+        steps
     }
 
     /// Whether plain bytes go out as they are and change nothing.
@@ -260,7 +279,7 @@ impl Reader {
         self.half.is_running() && matches!(self.pending, Pending::Nothing)
     }
 
-    /// How many of these bytes come first that go out as they are and change nothing.
+    /// How many of these bytes come first that go out as they are and change nothing, each in one step.
     pub(crate) fn plain_front(&self, bytes: &[u8]) -> usize
         ensures within { result ≤ length bytes.now }
         ensures plain { specs.IsPlainFront result bytes.now self.now }

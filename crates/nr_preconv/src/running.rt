@@ -35,10 +35,10 @@ pub enum Outcome {
 /// What one turn came to.
 #[derive(Clone, Copy)]
 enum Turn {
-    /// So many bytes were taken, and more may come.
-    Took(u64),
-    /// The input has ended.
-    End,
+    /// So many bytes were taken, in so many steps, and more may come.
+    Took { bytes: u64, steps: u64 },
+    /// The input has ended, with so many steps.
+    End { steps: u64 },
     /// The input failed.
     ReadFault,
 }
@@ -71,7 +71,7 @@ fn make_room<W: Sink>(out: &mut SliceVec<'_, u8>, output: &mut W) -> Result<(), 
     put_pending(out, output)
 }
 
-/// Plain bytes at hand are taken, and tells how many.
+/// Plain bytes at hand are taken, each in one step, and tells how many.
 fn take_plain<R: Source>(
     reader: &Reader,
     input: &mut R,
@@ -79,7 +79,7 @@ fn take_plain<R: Source>(
     most: u64,
 ) -> u64
     requires { length out.old.items + 1536 ≤ out.old.room }
-    ensures took { specs.Took (R.supply input.old) (R.supply input.new) reader.now reader.now out.old.items out.new.items result }
+    ensures took { specs.Took (R.supply input.old) (R.supply input.new) reader.now reader.now out.old.items out.new.items result result }
     ensures few { (result ≤ 1536) × (result ≤ most) }
     ensures grown { length out.new.items ≤ length out.old.items + result }
     ensures failures { R.failures input.new ≡ R.failures input.old }
@@ -109,16 +109,19 @@ fn make_turn<R: Source>(
 {
     let count = take_plain(reader, input, out, most);
     if count > 0 {
-        return Turn::Took(count);
+        return Turn::Took {
+            bytes: count,
+            steps: count,
+        };
     }
     match input.next() {
         Ok(Some(byte)) => {
-            reader.read(byte, out);
-            Turn::Took(1)
+            let steps = reader.read(byte, out);
+            Turn::Took { bytes: 1, steps }
         }
         Ok(None) => {
-            reader.finish(out);
-            Turn::End
+            let steps = reader.finish(out);
+            Turn::End { steps }
         }
         Err(Fault) => Turn::ReadFault,
     }
@@ -135,29 +138,37 @@ fn ended<W: Sink>(out: &mut SliceVec<'_, u8>, output: &mut W, outcome: Outcome) 
     }
 }
 
-/// All bytes are turned.
+/// All bytes are turned, and the steps are counted.
 fn run<R: Source, W: Sink>(
     reader: &mut Reader,
     input: &mut R,
     output: &mut W,
     out: &mut SliceVec<'_, u8>,
+    steps: &mut u64,
 ) -> Outcome
     requires first { reader.old ≡ first_reader reader.old.eight_bit }
     requires room { 1536 ≤ out.old.room }
     requires empty { out.old.items ≡ [] }
-    ensures ran { specs.Ran reader.old.eight_bit (R.supply input.old) (R.supply input.new) (W.held output.old) (W.held output.new) result }
+    ensures ran { specs.Ran reader.old.eight_bit (R.supply input.old) (R.supply input.new) (W.held output.old) (W.held output.new) steps.new result }
     ensures read_faults { specs.TellsReads result (R.failures input.old) (R.failures input.new) }
     ensures write_faults { W.failures output.new ≡ put_counted_if (specs.is_write_fault result) (W.failures output.old) }
 {
     let mut taken = 0;
+    *steps = 0;
     while taken < TOO_MANY {
         match make_room(out, output) {
             Ok(()) => {}
             Err(Fault) => return Outcome::WriteFault,
         }
         match make_turn(reader, input, out, TOO_MANY - taken) {
-            Turn::Took(count) => taken += count,
-            Turn::End => return ended(out, output, Outcome::Done),
+            Turn::Took { bytes, steps: more } => {
+                taken += bytes;
+                *steps += more;
+            }
+            Turn::End { steps: more } => {
+                *steps += more;
+                return ended(out, output, Outcome::Done);
+            }
             Turn::ReadFault => return ended(out, output, Outcome::ReadFault { at: taken }),
         }
     }
@@ -171,19 +182,23 @@ fn run<R: Source, W: Sink>(
 /// What goes out is one function of the bytes that came, however they came. At a read fault, and where the
 /// input is too long, it is that of the bytes before, but for a character, an escape or a name that is
 /// half read; at a write fault a front of it.
+///
+/// `steps` is set to the number of steps that this took: in each a character meets what is half read, or a byte
+/// passes as it is. There are at most six for each byte that came.
 pub fn convert<R: Source, W: Sink>(
     input: &mut R,
     output: &mut W,
     eight_bit: bool,
     buffer: &mut [u8],
+    steps: &mut u64,
 ) -> Outcome
     requires { 1536 ≤ length buffer.old }
-    ensures ran { specs.Ran eight_bit (R.supply input.old) (R.supply input.new) (W.held output.old) (W.held output.new) result }
+    ensures ran { specs.Ran eight_bit (R.supply input.old) (R.supply input.new) (W.held output.old) (W.held output.new) steps.new result }
     // A read fault is told only where the source failed once, and then always, but where the output fails too.
     ensures read_faults { specs.TellsReads result (R.failures input.old) (R.failures input.new) }
     ensures write_faults { W.failures output.new ≡ put_counted_if (specs.is_write_fault result) (W.failures output.old) }
 {
     let mut reader = Reader::new(eight_bit);
     let mut out = SliceVec::over(buffer);
-    run(&mut reader, input, output, &mut out)
+    run(&mut reader, input, output, &mut out, steps)
 }

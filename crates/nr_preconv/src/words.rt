@@ -1,7 +1,7 @@
 //! The words of a font macro's line. Behind the eighth all that follows is one word in quotes, since no
 //! more than nine are taken.
 ghost use Rattle.std.specs.Prelude.{◌≡◌};
-ghost use Rattle.nr_preconv.specs.Words.{begun, begins_word, blank_said, class_of, first_words, font_said, is_ninth, met_words, quoted_said, told, words_at};
+ghost use Rattle.nr_preconv.specs.Words.{begun, begins_word, blank_said, class_of, first_words, font_said, is_ninth, met_closing, met_words, quoted_said, told, words_at};
 
 use super::said::Said;
 
@@ -178,6 +178,20 @@ impl Words {
         if self.is_ninth() { ninth } else { said }
     }
 
+    /// What a character does right behind a quote that may be the last of its word.
+    fn met_closing(self, class: Class, said: Said) -> Told
+        ensures { result ≡ met_closing class said self }
+    {
+        match class {
+            Class::Quote => self.told(Place::Quoted, self.quoted_said(said, Said::Quotes), true),
+            Class::Space => self.told(Place::Between, self.blank_said(said), true),
+            Class::Other => {
+                let blank = self.blank_said(Said::Byte(b' '));
+                self.told(Place::Between, blank, false)
+            }
+        }
+    }
+
     /// What a character does that goes out as `said` elsewhere.
     pub(crate) fn met(self, class: Class, said: Said) -> Told
         ensures { result ≡ met_words class said self }
@@ -208,21 +222,7 @@ impl Words {
                 true,
             ),
             (Place::Quoted, _) => self.told(Place::Quoted, said, true),
-            (Place::Closing, Class::Quote) => self.told(
-                Place::Quoted,
-                self.quoted_said(said, Said::Quotes),
-                true,
-            ),
-            (Place::Closing, Class::Space) => self.told(
-                Place::Between,
-                self.blank_said(said),
-                true,
-            ),
-            (Place::Closing, Class::Other) => self.told(
-                Place::Between,
-                self.blank_said(Said::Byte(b' ')),
-                false,
-            ),
+            (Place::Closing, _) => self.met_closing(class, said),
         }
     }
 }

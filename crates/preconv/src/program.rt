@@ -123,7 +123,8 @@ fn run_text<T: Read + Drop, W: Sink>(
     requires { 1536 ≤ length pending.old }
 {
     let mut source = Buffered::over(text, input);
-    convert(&mut source, output, eight_bit, pending)
+    let mut steps = 0;
+    convert(&mut source, output, eight_bit, pending, &mut steps)
 }
 
 /// Turns the texts one after the other, each by itself, up to the first fault.

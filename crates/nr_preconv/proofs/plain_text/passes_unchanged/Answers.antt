@@ -1,7 +1,11 @@
 use Rattle.std.proofs.Common.{arith}
-use Rattle.nr_preconv.proofs.Unchanged.{plain_at_end, plain_unchanged}
+use Rattle.nr_preconv.proofs.Unchanged.{plain_at_end, plain_steps, plain_unchanged}
 use Rattle.nr_preconv.proofs.plain_text.passes_unchanged.Goals as goal
 
 pub returns-clause-law : goal.returns-clause-law
 returns-clause-law c = λ _ e. plain_unchanged e c.args.text.now
+    (plain_at_end c.args.text.now c.loop-byte.byte-index c.loop-byte.starts (omega arith) c.loop-byte.invariant)
+
+pub returns-clause-steps : goal.returns-clause-steps
+returns-clause-steps c = λ _ e. plain_steps e c.args.text.now
     (plain_at_end c.args.text.now c.loop-byte.byte-index c.loop-byte.starts (omega arith) c.loop-byte.invariant)

@@ -10,10 +10,14 @@ returns-in-Ok-Some-clause-turns g c =
     let d = g.R.Source.supply c.next.new.self in
     let r = c.args.reader.now in
     let p = c.args.out.now.items in
+    let n = c.take_plain-count.result in
     let q = c.take_plain-count.new.out.items in
     let gives = rw c.in-Ok-Some.field-0-is at c.in-Ok-Some.ensures.gives in
-    let byte = Took-byte b d c.in-Ok-Some.byte r c.read.new.self q c.read.new.out.items gives c.read.ensures.reader c.read.ensures.items in
-    let both = Took-trans a b d r r c.read.new.self p q c.read.new.out.items c.take_plain-count.result 1 c.take_plain-count.ensures.took byte in
-    let P : ℕ → Type 0 = λ k. Took a d r c.read.new.self p c.read.new.out.items k in
-    let one : c.take_plain-count.result + 1 ≡ 1 = omega arith in
-    subst P one both
+    let byte = Took-byte b d c.in-Ok-Some.byte r c.read-steps.new.self q c.read-steps.new.out.items c.read-steps.result gives
+    c.read-steps.ensures.reader c.read-steps.ensures.items c.read-steps.ensures.steps in
+    let both = Took-trans a b d r r c.read-steps.new.self p q c.read-steps.new.out.items n 1 n c.read-steps.result c.take_plain-count.ensures.took byte in
+    let one : n + 1 ≡ 1 = omega arith in
+    let all : n + c.read-steps.result ≡ c.read-steps.result = omega arith in
+    let P : ℕ → Type 0 = λ k. Took a d r c.read-steps.new.self p c.read-steps.new.out.items k c.read-steps.result in
+    let Q : ℕ → Type 0 = λ k. Took a d r c.read-steps.new.self p c.read-steps.new.out.items (n + 1) k in
+    subst P one (subst Q all both)

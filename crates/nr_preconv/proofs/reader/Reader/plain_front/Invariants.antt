@@ -3,4 +3,4 @@ use Rattle.nr_preconv.specs.Reading.{fed, told}
 use Rattle.nr_preconv.proofs.reader.Reader.plain_front.Given as goal
 
 abbrev pub invariant-loop-i : goal.invariant-loop-i
-invariant-loop-i l = fed l.self (take l.i l.bytes) ≡ told l.self (take l.i l.bytes)
+invariant-loop-i l = fed l.self (take l.i l.bytes) ≡ told l.self (take l.i l.bytes) l.i
