@@ -75,9 +75,12 @@ impl<'a, K: Copy> Store<'a, K> {
             self.begin_arguments();
             return Ok(false);
         };
-        let cost = 16 + self.gathering.kept_len() as u32;
+        let kept = self.gathering.kept_len() as u32;
         let before = self.charge - self.gathering.len() as u32;
-        if self.stored - before < cost {
+        if self.stored - before < 16 {
+            return Err(Refusal::Stored);
+        }
+        if self.stored - before - 16 < kept {
             return Err(Refusal::Stored);
         }
         if self.levels.is_full() {
@@ -86,9 +89,9 @@ impl<'a, K: Copy> Store<'a, K> {
         self.pool.hold(id);
         let bytes = self.gathering.kept_bytes();
         let lens = self.gathering.kept_lens();
-        self.levels.open_call(id, bytes, lens, cost);
+        self.levels.open_call(id, bytes, lens, 16 + kept);
         self.gathering.clear();
-        self.charge = before + cost;
+        self.charge = before + 16 + kept;
         Ok(true)
     }
 }

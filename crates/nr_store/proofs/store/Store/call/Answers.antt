@@ -5,13 +5,13 @@ use Rattle.nr_pool.specs.Texts.{text, holders, with_holders}
 use Rattle.nr_levels.specs.Levels.{Text, deeper, cut}
 use Rattle.nr_levels.specs.Gathered.{gathered_len, bytes_in}
 use Rattle.nr_levels.specs.Laws.{cut_joined, length-joined, sum-lengths}
-use Rattle.nr_store.specs.Stored.{Stored, checked, shared_by, called, ungathered}
+use Rattle.nr_store.specs.Stored.{Stored, checked, called, ungathered}
 use Rattle.nr_store.specs.Holders.{beside_of, IsStore}
 use Rattle.nr_store.proofs.Keeping.{levels_within}
 use Rattle.nr_store.proofs.Besides.{beside_paid}
-use Rattle.nr_store.proofs.Calling.{cleared, clear_stands, clear_within}
+use Rattle.nr_store.proofs.Calling.{call_admitted, call_deep, call_refused, cleared, clear_stands, clear_within}
 use Rattle.nr_store.proofs.Entering.{entered_is, entered_stands}
-use Rattle.nr_store.proofs.Admitting.{named_text, is_named, text_found, depths, answer_refused, answer_deep, answer_admitted}
+use Rattle.nr_store.proofs.Admitting.{named_text, is_named, text_found}
 use Rattle.nr_store.proofs.Building.{admitted}
 use Rattle.nr_store.proofs.store.Store.call.Goals as goal
 
@@ -47,7 +47,14 @@ returns-then-self-before-clause-answer g c =
     let s = c.self.inside in
     let paid = beside_paid s.pool s.names s.drafts s.levels (beside_of s.gathering s.registers s.traps s.words) s.charge s.stored c.self.invariant in
     let bytes_are = length-joined s.gathering.gathered.kept in
-    sym (call_refused s.pool s.names s.drafts s.levels s.gathering s.registers s.traps s.words s.charge s.stored c.self.invariant c.args.self.now c.self.view_is c.args.name c.in-Some.id c.text_in.result c.text_in.ensures c.in-Some.is (omega (arith, paid, bytes_are, c.self.invariant.within, c.kept_len.ensures, c.len.ensures)))
+    sym (call_refused s.pool s.names s.drafts s.levels s.gathering s.registers s.traps s.words s.charge s.stored c.self.invariant c.args.self.now c.self.view_is c.args.name c.in-Some.id c.text_in.result c.text_in.ensures c.in-Some.is (omega (arith, paid, bytes_are, c.self.invariant.within, c.kept_len-kept.ensures, c.len.ensures)))
+
+pub returns-then-self-before-lt16-clause-answer : goal.returns-then-self-before-lt16-clause-answer
+returns-then-self-before-lt16-clause-answer g c =
+    let s = c.self.inside in
+    let paid = beside_paid s.pool s.names s.drafts s.levels (beside_of s.gathering s.registers s.traps s.words) s.charge s.stored c.self.invariant in
+    let bytes_are = length-joined s.gathering.gathered.kept in
+    sym (call_refused s.pool s.names s.drafts s.levels s.gathering s.registers s.traps s.words s.charge s.stored c.self.invariant c.args.self.now c.self.view_is c.args.name c.in-Some.id c.text_in.result c.text_in.ensures c.in-Some.is (omega (arith, paid, bytes_are, c.self.invariant.within, c.kept_len-kept.ensures, c.len.ensures)))
 
 pub returns-then-is_full-clause-answer : goal.returns-then-is_full-clause-answer
 returns-then-is_full-clause-answer g c =
@@ -55,7 +62,7 @@ returns-then-is_full-clause-answer g c =
     let paid = beside_paid s.pool s.names s.drafts s.levels (beside_of s.gathering s.registers s.traps s.words) s.charge s.stored c.self.invariant in
     let bytes_are = length-joined s.gathering.gathered.kept in
     let full = leb-true s.levels.most (length s.levels.levels) (sym c.is_full.ensures ∙ c.if-is_full.true) in
-    sym (call_deep s.pool s.names s.drafts s.levels s.gathering s.registers s.traps s.words s.charge s.stored c.self.invariant c.args.self.now c.self.view_is c.args.name c.in-Some.id c.text_in.result c.text_in.ensures c.in-Some.is (omega (arith, paid, bytes_are, c.self.invariant.within, c.kept_len.ensures, c.len.ensures)) full)
+    sym (call_deep s.pool s.names s.drafts s.levels s.gathering s.registers s.traps s.words s.charge s.stored c.self.invariant c.args.self.now c.self.view_is c.args.name c.in-Some.id c.text_in.result c.text_in.ensures c.in-Some.is (omega (arith, paid, bytes_are, c.self.invariant.within, c.kept_len-kept.ensures, c.len.ensures)) full)
 
 pub hold-requires-clause-is_open : goal.hold-requires-clause-is_open
 hold-requires-clause-is_open g c =
@@ -114,7 +121,7 @@ returns-clause-answer g c =
     let paid = beside_paid s.pool s.names s.drafts s.levels (beside_of s.gathering s.registers s.traps s.words) s.charge s.stored c.self.invariant in
     let bytes_are = length-joined s.gathering.gathered.kept in
     let deep = leb-false s.levels.most (length s.levels.levels) (sym c.is_full.ensures ∙ c.if-is_full.false) in
-    sym (call_admitted s.pool s.names s.drafts s.levels s.gathering s.registers s.traps s.words s.charge s.stored c.self.invariant c.args.self.now c.self.view_is c.args.name c.in-Some.id c.text_in.result c.text_in.ensures c.in-Some.is (omega (arith, paid, bytes_are, c.self.invariant.within, c.kept_len.ensures, c.len.ensures)) deep)
+    sym (call_admitted s.pool s.names s.drafts s.levels s.gathering s.registers s.traps s.words s.charge s.stored c.self.invariant c.args.self.now c.self.view_is c.args.name c.in-Some.id c.text_in.result c.text_in.ensures c.in-Some.is (omega (arith, paid, bytes_are, c.self.invariant.within, c.kept_len-kept.ensures, c.len.ensures)) deep)
 
 pub returns-clause-ok : goal.returns-clause-ok
 returns-clause-ok g c =
