@@ -61,7 +61,7 @@ invariant_of-self-2 c =
     let room : s.pieces + read_cells s.row + c.min.result ≤ s.limit = omega (arith, c.text_measure.ensures.value, c.text_measure.ensures.within) in
     rw (c.close.ensures, c.push_plain-count.ensures.cells, c.from.ensures) (run_worded c.push_plain-count.result c.min.result c.args.bytes.now c.push_plain-count.ensures.front c.args.under c.self.invariant
     (none_from_word_of s.word (drop s.pieces s.row.pieces) s.row.last (ap (λ (v : Lined). v.collected.word) c.self.view_is ∙ c.requires.word))
-    (no_title_of s.title s.row.title (ap (λ (v : Lined). v.collected.title) c.self.view_is ∙ c.requires.title)) room (omega arith))
+    (no_title_of s.title s.row.title (ap (λ (v : Lined). v.collected.title) c.self.view_is ∙ c.requires.title)) room (omega (arith, length-take c.min.result c.args.bytes.now)))
 
 pub returns-clause-word : goal.returns-clause-word
 returns-clause-word c = λ some.
