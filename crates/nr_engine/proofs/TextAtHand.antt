@@ -254,8 +254,8 @@ pub puts_byte : (b m : ℕ) (bs : List ℕ) (f : Formatter) (put : Formatter →
     → PutsText bs 1 m f (put f)
 puts_byte b m bs f put some first least most same store makes saves =
     let there : (e : Shape) → unburst e.formatter ≡ unburst f → record e { formatter = put (unburst e.formatter); place = passed_run b 1 e.place } ≡ taken_shape bs 1 (put f) e = λ e is.
-        ap (λ (x : Formatter). record e { formatter = x; place = passed_run b 1 e.place }) (ap put is ∙ same)
-        ∙ ap (λ c. record e { formatter = unburst (put f); place = passed_run c 1 e.place }) (sym first) in
+    ap (λ (x : Formatter). record e { formatter = x; place = passed_run b 1 e.place }) (ap put is ∙ same)
+    ∙ ap (λ c. record e { formatter = unburst (put f); place = passed_run c 1 e.place }) (sym first) in
     record {
       front = omega (arith, some);
       least = omega (arith, least);

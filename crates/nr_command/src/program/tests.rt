@@ -446,6 +446,9 @@ fn tells_an_output_that_fails(rt: HostRuntime) {
     let mut line = Vec::new(rt.alloc());
     let input = b"".as_slice();
     let output = Closing { takes: false };
-    assert_eq!(rt; run_program(&system, rt.alloc(), input, output, &mut line), 4);
+    assert_eq!(rt;
+        run_program(&system, rt.alloc(), input, output, &mut line),
+        4
+    );
     assert!(rt; line.as_slice() == b"nroff: write fault\n".as_slice());
 }
