@@ -9,8 +9,6 @@ use nr_engine::{Desk, Fault, Options, Outcome, Sink, Source, format};
 use std::alloc::AllocError;
 
 #[cfg(test)]
-mod rows;
-#[cfg(test)]
 mod tests;
 
 /// Formats the input within the desk, flushes the output, writes the one line that tells a fault to

@@ -1,5 +1,6 @@
-//! A system of words and texts in memory, for tests.
+//! A system of words and texts in memory, its standard input, and an output that fails: for tests.
 
+use std::cell::Cell;
 use std::env::FillError;
 use std::fs::{Metadata, OpenFile, OpenOptions};
 use std::io;
@@ -21,6 +22,43 @@ impl Read for Page<'_> {
             Page::Cut([]) => Err(io::Error::from(ErrorKind::IsADirectory)),
             Page::Bytes(bytes) | Page::Cut(bytes) => bytes.read(buffer),
         }
+    }
+}
+
+/// Standard input: bytes that come once, however often it is opened.
+#[derive(Clone, Copy)]
+pub struct Typed<'r, 'a> {
+    /// Those that are left.
+    pub left: &'r Cell<&'a [u8]>,
+}
+
+impl Read for Typed<'_, '_> {
+    fn read(&mut self, buffer: &mut [u8]) -> io::Result<usize> {
+        let mut bytes = self.left.get();
+        let count = bytes.read(buffer)?;
+        self.left.set(bytes);
+        Ok(count)
+    }
+}
+
+/// Takes bytes, or fails at each write; fails at each flush.
+#[derive(Drop)]
+pub struct Closing {
+    /// Whether it takes bytes.
+    pub takes: bool,
+}
+
+impl Write for Closing {
+    fn write(&mut self, bytes: &[u8]) -> io::Result<usize> {
+        if self.takes {
+            Ok(bytes.len())
+        } else {
+            Err(io::Error::from(ErrorKind::BrokenPipe))
+        }
+    }
+
+    fn flush(&mut self) -> io::Result<()> {
+        Err(io::Error::from(ErrorKind::BrokenPipe))
     }
 }
 

@@ -1,4 +1,6 @@
-//! The words of a command line, and a system of words and texts in memory for tests. It stands on std alone.
+//! The words of a command line, and a system of words and texts in memory for tests.
+//!
+//! It stands on std alone. To read: `words`; then `fakes`, for tests.
 #![tactic(auto)]
 
 pub mod fakes;

@@ -31,7 +31,7 @@ use Rattle.nr_engine.specs.Running.{HasNext, Longest, LongestWords, Makes, PutsT
 use Rattle.nr_engine.proofs.LineBeginnings.{makes_begun}
 use Rattle.nr_engine.proofs.PlainGaps.{first_of}
 use Rattle.nr_engine.proofs.PlainNewlines.{makes_newline, makes_newline_flows, saves_newline, saves_newline_flows}
-use Rattle.nr_engine.proofs.TextAtHand.{begun-gap, holds_behind, next_behind, passed_on, puts_on, skipped_on}
+use Rattle.nr_engine.proofs.TextAtHand.{begun-gap, first_left, holds_behind, next_behind, passed_on, puts_byte, puts_on, skipped_on, some_left}
 use Rattle.nr_engine.proofs.Travelling.{makes-add, worth_same}
 
 -- ---- the newline
@@ -50,64 +50,31 @@ module _ (bs : List ℕ) (f : Formatter) (some : 0 < length bs) (is_newline : sl
 
   -- the line that is collected is full then
   puts_newline_flows : PutsText bs 1 2 f (newline_flows f)
-  puts_newline_flows = record {
-    front = omega (arith, some);
-    least = omega arith;
-    most = omega arith;
-    none = λ none. absurd (omega (arith, none));
-    store = refl;
-    makes = λ e supply is has any.
-        let rest = option_map (skipped 1) supply in
-        subst (λ b. Makes 2 e (record e { formatter = newline_flows (unburst f); place = passed_run b 1 e.place }) supply rest) (sym is_newline)
-        (subst (λ (x : Formatter). Makes 2 e (record e { formatter = newline_flows x; place = passed_run 10 1 e.place }) supply rest) is
-        (makes_newline_flows (first_of bs 10 some is_newline).0 e supply rest has.levels (newline_there e is) (newline_next e supply has)
-        (λ c h. holds_behind 10 1 c e.place supply has.unseen h)));
-    saves = λ e supply is has any.
-        subst (λ b. Saves 20 2 e (record e { formatter = newline_flows (unburst f); place = passed_run b 1 e.place })) (sym is_newline)
-        (subst (λ (x : Formatter). Saves 20 2 e (record e { formatter = newline_flows x; place = passed_run 10 1 e.place })) is
-        (saves_newline_flows e (in_line e.formatter (newline_there e is).line)));
-  }
+  puts_newline_flows =
+      puts_byte 10 2 bs f newline_flows some is_newline (omega arith) (omega arith) refl refl
+      (λ e supply is has. makes_newline_flows (first_of bs 10 some is_newline).0 e supply (option_map (skipped 1) supply) has.levels (newline_there e is) (newline_next e supply has)
+      (λ c h. holds_behind 10 1 c e.place supply has.unseen h))
+      (λ e is. saves_newline_flows e (in_line e.formatter (newline_there e is).line))
 
   -- or it is not
   puts_newline : fits_line (line_gapped (collected f)) ≡ true → PutsText bs 1 5 f (newline_put f)
-  puts_newline fits = record {
-    front = omega (arith, some);
-    least = omega arith;
-    most = omega arith;
-    none = λ none. absurd (omega (arith, none));
-    store = refl;
-    makes = λ e supply is has any.
-        let rest = option_map (skipped 1) supply in
-        let fits_there : fits_line (line_gapped (collected e.formatter)) ≡ true = ap (λ (x : Formatter). fits_line (line_gapped (collected x))) is ∙ fits in
-        subst (λ b. Makes 5 e (record e { formatter = newline_put (unburst f); place = passed_run b 1 e.place }) supply rest) (sym is_newline)
-        (subst (λ (x : Formatter). Makes 5 e (record e { formatter = newline_put x; place = passed_run 10 1 e.place }) supply rest) is
-        (makes_newline (first_of bs 10 some is_newline).0 e supply rest has.levels (newline_there e is) (newline_next e supply has)
-        (λ c h. holds_behind 10 1 c e.place supply has.unseen h) fits_there));
-    saves = λ e supply is has any.
-        subst (λ b. Saves 20 5 e (record e { formatter = newline_put (unburst f); place = passed_run b 1 e.place })) (sym is_newline)
-        (subst (λ (x : Formatter). Saves 20 5 e (record e { formatter = newline_put x; place = passed_run 10 1 e.place })) is
-        (saves_newline e (in_line e.formatter (newline_there e is).line)));
-  }
+  puts_newline fits =
+      puts_byte 10 5 bs f newline_put some is_newline (omega arith) (omega arith) refl refl
+      (λ e supply is has. makes_newline (first_of bs 10 some is_newline).0 e supply (option_map (skipped 1) supply) has.levels (newline_there e is) (newline_next e supply has)
+      (λ c h. holds_behind 10 1 c e.place supply has.unseen h) (ap (λ (x : Formatter). fits_line (line_gapped (collected x))) is ∙ fits))
+      (λ e is. saves_newline e (in_line e.formatter (newline_there e is).line))
 
 -- behind some text comes such a newline
 module _ (t m : ℕ) (bs : List ℕ) (f g : Formatter) (puts : PutsText bs t m f g) (below : t < length bs) (is_newline : slice_index bs t ≡ 10) (newline : IsNewline g) where
-  -- it is one of the other bytes
-  some_left : 0 < length (drop t bs)
-  some_left = let left : length (drop t bs) ≡ length bs - t = length-drop t bs in omega (arith, left, below)
-
-  -- the first of them
-  newline_left : slice_index (drop t bs) 0 ≡ 10
-  newline_left = let same : t + 0 ≡ t = omega arith in get_or-drop t bs 0 0 ∙ ap (slice_index bs) same ∙ is_newline
-
   -- the line that is collected is full then
   pub line_flows : (h : Formatter) → h ≡ newline_flows g → PutsText bs (t + 1) (m + 2) f h
   line_flows h is =
-      puts_on t m 1 2 bs f g h puts (subst (λ (x : Formatter). PutsText (drop t bs) 1 2 g x) (sym is) (puts_newline_flows (drop t bs) g some_left newline_left newline))
+      puts_on t m 1 2 bs f g h puts (subst (λ (x : Formatter). PutsText (drop t bs) 1 2 g x) (sym is) (puts_newline_flows (drop t bs) g (some_left t bs below) (first_left t 10 bs is_newline) newline))
 
   -- or it is not
   pub line_ends : (h : Formatter) → fits_line (line_gapped (collected g)) ≡ true → h ≡ newline_put g → PutsText bs (t + 1) (m + 5) f h
   line_ends h fits is =
-      puts_on t m 1 5 bs f g h puts (subst (λ (x : Formatter). PutsText (drop t bs) 1 5 g x) (sym is) (puts_newline (drop t bs) g some_left newline_left newline fits))
+      puts_on t m 1 5 bs f g h puts (subst (λ (x : Formatter). PutsText (drop t bs) 1 5 g x) (sym is) (puts_newline (drop t bs) g (some_left t bs below) (first_left t 10 bs is_newline) newline fits))
 
 -- behind it a line begins
 pub line_before : (g h : Formatter) → IsNewline g → h ≡ newline_put g → IsBeforeLine h.reader.half

@@ -246,6 +246,26 @@ puts_run n bs f line front plain fits =
           (run_saves (take n bs) e (omega (arith, count, some)))));
     }
 
+-- a byte that is put in one way wherever the engine stands
+pub puts_byte : (b m : ℕ) (bs : List ℕ) (f : Formatter) (put : Formatter → Formatter) → 0 < length bs → slice_index bs 0 ≡ b → 2 ≤ m → m ≤ 5 → put (unburst f) ≡ unburst (put f) → (put f).store ≡ f.store
+    → ((e : Shape) (supply : Option Supply) → unburst e.formatter ≡ unburst f → HasNext bs e supply
+    → Makes m e (record e { formatter = put (unburst e.formatter); place = passed_run b 1 e.place }) supply (option_map (skipped 1) supply))
+    → ((e : Shape) → unburst e.formatter ≡ unburst f → Saves 20 m e (record e { formatter = put (unburst e.formatter); place = passed_run b 1 e.place }))
+    → PutsText bs 1 m f (put f)
+puts_byte b m bs f put some first least most same store makes saves =
+    let there : (e : Shape) → unburst e.formatter ≡ unburst f → record e { formatter = put (unburst e.formatter); place = passed_run b 1 e.place } ≡ taken_shape bs 1 (put f) e = λ e is.
+    ap (λ (x : Formatter). record e { formatter = x; place = passed_run b 1 e.place }) (ap put is ∙ same)
+    ∙ ap (λ c. record e { formatter = unburst (put f); place = passed_run c 1 e.place }) (sym first) in
+    record {
+      front = omega (arith, some);
+      least = omega (arith, least);
+      most = omega (arith, most);
+      none = λ none. absurd (omega (arith, none));
+      store = store;
+      makes = λ e supply is has any. subst (λ x. Makes m e x supply (option_map (skipped 1) supply)) (there e is) (makes e supply is has);
+      saves = λ e supply is has any. subst (λ x. Saves 20 m e x) (there e is) (saves e is);
+    }
+
 -- a blank that does nothing but end its word
 module _ (bs : List ℕ) (f : Formatter) (line : is_in_line f ≡ true) (some : 0 < length bs) (blank : slice_index bs 0 ≡ 32) (gap : IsGap f) where
   -- it is so whatever was spliced before it
@@ -259,51 +279,31 @@ module _ (bs : List ℕ) (f : Formatter) (line : is_in_line f ≡ true) (some : 
   blank_next : (e : Shape) (supply : Option Supply) → HasNext bs e supply → (c : Coming) → HoldsComing c e.place supply → ComeNext (32 ∷ (first_of bs 32 some blank).0) c
   blank_next e supply has c h = subst (λ xs. ComeNext xs c) (first_of bs 32 some blank).1 (has.next c h)
 
-  -- it is no newline
-  passed_blank : (p : Reached) → passed_many 1 p ≡ passed_run (slice_index bs 0) 1 p
-  passed_blank p = ap (λ b. passed_run b 1 p) (sym blank)
-
   -- the line is full then
   puts_flows : PutsText bs 1 2 f (gap_flows f)
-  puts_flows = record {
-    front = omega (arith, some);
-    least = omega arith;
-    most = omega arith;
-    none = λ none. absurd (omega (arith, none));
-    store = refl;
-    makes = λ e supply is has any.
-        let rest = option_map (skipped 1) supply in
-        subst (λ p. Makes 2 e (record e { formatter = gap_flows (unburst f); place = p }) supply rest) (passed_blank e.place)
-        (subst (λ (x : Formatter). Makes 2 e (record e { formatter = gap_flows x; place = passed_many 1 e.place }) supply rest) is
-        (makes_flows (first_of bs 32 some blank).0 e supply rest (ap is_in_line is ∙ line) has.levels (gap_there e is) (blank_next e supply has)
-        (λ c h. holds_inside 1 c e.place supply has.unseen h)));
-    saves = λ e supply is has any.
-        let there = in_line e.formatter (ap is_in_line is ∙ line) in
-        subst (λ p. Saves 20 2 e (record e { formatter = gap_flows (unburst f); place = p })) (passed_blank e.place)
-        (subst (λ (x : Formatter). Saves 20 2 e (record e { formatter = gap_flows x; place = passed_many 1 e.place })) is (saves_flows e there.event there.task));
-  }
+  puts_flows =
+      puts_byte 32 2 bs f gap_flows some blank (omega arith) (omega arith) refl refl
+      (λ e supply is has. makes_flows (first_of bs 32 some blank).0 e supply (option_map (skipped 1) supply) (ap is_in_line is ∙ line) has.levels (gap_there e is) (blank_next e supply has)
+      (λ c h. holds_inside 1 c e.place supply has.unseen h))
+      (λ e is. let there = in_line e.formatter (ap is_in_line is ∙ line) in saves_flows e there.event there.task)
 
   -- or it is not
   puts_gap : fits_line (gapped (collected f)) ≡ true → PutsText bs 1 3 f (gap_put f)
-  puts_gap fits = record {
-    front = omega (arith, some);
-    least = omega arith;
-    most = omega arith;
-    none = λ none. absurd (omega (arith, none));
-    store = refl;
-    makes = λ e supply is has any.
-        let rest = option_map (skipped 1) supply in
-        let fits_there : fits_line (gapped (collected e.formatter)) ≡ true = ap (λ (x : Formatter). fits_line (gapped (collected x))) is ∙ fits in
-        subst (λ p. Makes 3 e (record e { formatter = gap_put (unburst f); place = p }) supply rest) (passed_blank e.place)
-        (subst (λ (x : Formatter). Makes 3 e (record e { formatter = gap_put x; place = passed_many 1 e.place }) supply rest) is
-        (makes_put (first_of bs 32 some blank).0 e supply rest (ap is_in_line is ∙ line) has.levels (gap_there e is) (blank_next e supply has)
-        (λ c h. holds_inside 1 c e.place supply has.unseen h) fits_there));
-    saves = λ e supply is has any.
-        subst (λ p. Saves 20 3 e (record e { formatter = gap_put (unburst f); place = p })) (passed_blank e.place)
-        (subst (λ (x : Formatter). Saves 20 3 e (record e { formatter = gap_put x; place = passed_many 1 e.place })) is (saves_put e));
-  }
+  puts_gap fits =
+      puts_byte 32 3 bs f gap_put some blank (omega arith) (omega arith) refl refl
+      (λ e supply is has. makes_put (first_of bs 32 some blank).0 e supply (option_map (skipped 1) supply) (ap is_in_line is ∙ line) has.levels (gap_there e is) (blank_next e supply has)
+      (λ c h. holds_inside 1 c e.place supply has.unseen h) (ap (λ (x : Formatter). fits_line (gapped (collected x))) is ∙ fits))
+      (λ e is. saves_put e)
 
 -- ---- one turn
+
+-- a byte behind the first t is one of the others
+pub some_left : (t : ℕ) (bs : List ℕ) → t < length bs → 0 < length (drop t bs)
+some_left t bs below = let left : length (drop t bs) ≡ length bs - t = length-drop t bs in omega (arith, left, below)
+
+-- and the first of them
+pub first_left : (t b : ℕ) (bs : List ℕ) → slice_index bs t ≡ b → slice_index (drop t bs) 0 ≡ b
+first_left t b bs is = let same : t + 0 ≡ t = omega arith in get_or-drop t bs 0 0 ∙ ap (slice_index bs) same ∙ is
 
 -- the bytes behind the first t, as they are lent
 abbrev pub rest_of : ℕ → List ℕ → List ℕ
@@ -332,23 +332,15 @@ turn_line bs g h line is = ap is_in_line is ∙ line_run bs g line
 -- and behind it comes a blank
 module _ (t m : ℕ) (bs : List ℕ) (f g : Formatter) (puts : PutsText bs t m f g) (line : is_in_line g ≡ true) (below : t < length bs) (blank : slice_index bs t ≡ 32)
     (gap : IsGap g) where
-  -- it is one of the other bytes
-  some_left : 0 < length (drop t bs)
-  some_left = let left : length (drop t bs) ≡ length bs - t = length-drop t bs in omega (arith, left, below)
-
-  -- the first of them
-  blank_left : slice_index (drop t bs) 0 ≡ 32
-  blank_left = let same : t + 0 ≡ t = omega arith in get_or-drop t bs 0 0 ∙ ap (slice_index bs) same ∙ blank
-
   -- the line is full then
   pub turn_flows : (h : Formatter) → h ≡ gap_flows g → PutsText bs (t + 1) (m + 2) f h
   turn_flows h is =
-      puts_on t m 1 2 bs f g h puts (subst (λ (x : Formatter). PutsText (drop t bs) 1 2 g x) (sym is) (puts_flows (drop t bs) g line some_left blank_left gap))
+      puts_on t m 1 2 bs f g h puts (subst (λ (x : Formatter). PutsText (drop t bs) 1 2 g x) (sym is) (puts_flows (drop t bs) g line (some_left t bs below) (first_left t 32 bs blank) gap))
 
   -- or it is not
   pub turn_gap : (h : Formatter) → fits_line (gapped (collected g)) ≡ true → h ≡ gap_put g → PutsText bs (t + 1) (m + 3) f h
   turn_gap h fits is =
-      puts_on t m 1 3 bs f g h puts (subst (λ (x : Formatter). PutsText (drop t bs) 1 3 g x) (sym is) (puts_gap (drop t bs) g line some_left blank_left gap fits))
+      puts_on t m 1 3 bs f g h puts (subst (λ (x : Formatter). PutsText (drop t bs) 1 3 g x) (sym is) (puts_gap (drop t bs) g line (some_left t bs below) (first_left t 32 bs blank) gap fits))
 
   -- and the next item is read in a line that has begun
   pub turn_on : (h : Formatter) → h ≡ gap_put g → is_in_line h ≡ true

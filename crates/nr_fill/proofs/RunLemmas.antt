@@ -1,5 +1,6 @@
 -- A run of bytes, read byte by byte and at once.
-use Rattle.std.proofs.Common.{◌≡◌, ℕ, suc, ◌-◌, ◌<◌, List, [], ◌∷◌, ◌++◌, length, map, get_or, None, Some, Bool, true, false, ◌&&◌, if◌then◌else◌, refl, ap, sym, ◌∙◌, append_assoc, arith}
+use Rattle.std.proofs.Common.{◌≡◌, ℕ, suc, ◌+◌, ◌-◌, ◌<◌, ◌≤◌, List, [], ◌∷◌, ◌++◌, length, map, take, drop, get_or, Option, None, Some, Bool, true, false, ◌&&◌, if◌then◌else◌, refl, ap, sym, ◌∙◌, append_assoc, arith}
+use Rattle.std.proofs.lemmas.List.{get_or-take, length-map, length-take, length-take-le, nil_from_length, take-take, take_all, drop_all}
 use Rattle.nr_units.specs.declared.cell.Cell.{Cell}
 use Rattle.nr_settings.specs.declared.indents.Margins.{Margins}
 use Rattle.nr_fill.specs.declared.piece.Behind.TheVariants.{Letter}
@@ -8,6 +9,11 @@ use Rattle.nr_fill.specs.declared.stops.Pending.TheVariants.{Nothing, AtPoint, F
 use Rattle.nr_fill.specs.Pieces.{Collected, Word, add_cell, add_cell_behind, append, begins_line, end_word, ended, ended_at, ends_sentence, in_word, is_nil, one_blank_more, pending_behind, pending_without_point, with_word, word_length, word_or_new}
 use Rattle.nr_fill.specs.Runs.{add_run, add_word, run_behind, run_cell}
 use Rattle.nr_fill.specs.declared.piece.Join.TheVariants.{Gap}
+use Rattle.nr_fill.specs.declared.line.WordState.{WordState}
+use Rattle.nr_fill.specs.declared.title.TitleState.{TitleState}
+use Rattle.nr_fill.specs.Laid.{Laid, read_cells}
+use Rattle.nr_fill.specs.Lying.{IsLine}
+use Rattle.nr_fill.proofs.Lines.{is_line_begun, is_line_worded}
 
 -- whether a sentence ends behind a run, where one ended before it or not
 run_sentence : Bool → Bool → List ℕ → Bool
@@ -135,3 +141,52 @@ pub add_word-none : (m : Margins) (under : Bool) (bs : List ℕ) (c : Collected)
       title = None;
     }
 add_word-none m under bs c none some = ap (λ (k : Collected). one_blank_more (end_word k)) (add_run-none m under bs c none some)
+
+-- ---- a run of the bytes that there is room for
+
+module _ (count most : ℕ) (bytes : List ℕ) (front : count ≤ length (take most bytes)) where
+  -- it begins all bytes
+  pub taken_front : take count (take most bytes) ≡ take count bytes
+  taken_front = take-take count most bytes (omega (arith, front, length-take most bytes))
+
+  pub length_front : length (take count bytes) ≡ count
+  length_front = length-take-le count bytes (omega (arith, front, length-take most bytes))
+
+  -- its last byte
+  pub last_front : 0 < count → get_or (take most bytes) (count - 1) 0 ≡ get_or (take count bytes) (length (take count bytes) - 1) 0
+  last_front some =
+      let within : count - 1 < most = omega (arith, some, front, length-take most bytes) in
+      let below : count - 1 < count = omega (arith, some) in
+      get_or-take most bytes (count - 1) 0 within ∙ sym (get_or-take count bytes (count - 1) 0 below) ∙ ap (λ k. get_or (take count bytes) (k - 1) 0) (sym length_front)
+
+  -- what it makes of a line in which neither a word nor a title is read
+  module _ {row : Laid} {limit pieces wide : ℕ} {word : Option WordState} {gap : ℕ} {title : Option TitleState} (under : Bool) (h : IsLine row limit pieces wide word gap title)
+      (no_word : word ≡ None) (no_title : title ≡ None) (room : pieces + read_cells row + most ≤ limit) where
+    untitled : IsLine row limit pieces wide None gap None
+    untitled = rw (no_word, no_title) at h
+
+    nothing_read : row.last ≡ []
+    nothing_read = nil_from_length row.last (untitled.no_word refl).1
+
+    length_run : length (map (run_cell under) (take count (take most bytes))) ≡ count
+    length_run = length-map (take count (take most bytes)) (run_cell under) ∙ length-take-le count (take most bytes) front
+
+    -- a word that goes on
+    pub run_begun : (w : WordState) → w ≡ record { join = Gap gap; pending = Nothing; blanks = 0; parted = 0; wide = 0 }
+        → IsLine (record row { last = row.last ++ map (run_cell under) (take count (take most bytes)) }) limit pieces wide (Some w) 0 title
+    run_begun w is =
+        let titled = untitled.no_title refl in
+        let read = untitled.no_word refl in
+        rw (nothing_read, no_title) (is_line_begun w (map (run_cell under) (take count (take most bytes))) untitled is (omega (arith, titled, read, length_run, room, front, length-take most bytes)))
+
+    -- a word that a blank ends
+    pub run_worded : count < most → IsLine (record row {
+      pieces = row.pieces ++ record { join = Gap gap; cells = take count (row.last ++ map (run_cell under) (take count (take most bytes))) } ∷ [];
+      last = drop count (row.last ++ map (run_cell under) (take count (take most bytes)));
+    }) limit (pieces + 1) (wide + (gap + count)) word 1 title
+    run_worded below =
+        let run = map (run_cell under) (take count (take most bytes)) in
+        let titled = untitled.no_title refl in
+        let whole : take count run ≡ run = take_all count run (omega (arith, length_run)) in
+        let nothing : drop count run ≡ [] = drop_all count run (omega (arith, length_run)) in
+        rw (nothing_read, whole, nothing, no_word, no_title) (is_line_worded run count untitled length_run (omega (arith, titled, room, below)))

@@ -239,7 +239,7 @@ impl Reader {
         }
     }
 
-    // A register's step is added or taken away; then it is spliced.
+    // A register's step is added or taken away; it is spliced next.
     fn step<K: Copy>(&mut self, up: bool, store: &mut Store<'_, K>) -> Result<Event, Refusal>
         ensures { called store.new self.new result
             ≡ called (stepped self.old.half.notes.asked up store.old) (then_due (Due.Register Sign.None) self.old) (Ok Event.Nothing) }
@@ -247,6 +247,21 @@ impl Reader {
         store.step_register(self.half.notes.asked, up);
         self.half.reading.due = Due::Register(Sign::None);
         Ok(Event::Nothing)
+    }
+
+    // A register is spliced; where it has a sign, its step is made first.
+    fn interpolate<K: Copy>(
+        &mut self,
+        sign: Sign,
+        store: &mut Store<'_, K>,
+    ) -> Result<Event, Refusal>
+        ensures { called store.new self.new result ≡ acted (Due.Register sign) store.old self.old }
+    {
+        match sign {
+            Sign::None => self.splice_register(store),
+            Sign::Plus => self.step(true, store),
+            Sign::Minus => self.step(false, store),
+        }
     }
 
     // A byte is added to the argument that is read.
@@ -317,11 +332,7 @@ impl Reader {
             }
             Due::CallEnding => self.splice(self.half.notes.defining.ending, store),
             Due::Splice => self.splice(self.half.notes.asked, store),
-            Due::Register(sign) => match sign {
-                Sign::None => self.splice_register(store),
-                Sign::Plus => self.step(true, store),
-                Sign::Minus => self.step(false, store),
-            },
+            Due::Register(sign) => self.interpolate(sign, store),
             Due::Argument(n) => self.splice_argument(n, store),
             Due::Put(byte) => self.put(byte, store),
             Due::EndArgument => {

@@ -1,7 +1,7 @@
 //! Laws of the output: what a reader may say of nroff's definition in its own words, proved over the definition alone.
 //!
-//! It stands on nr_engine and the crates below it. To read: `laws`, and in specs/ `Laws`, over `Unlimited`,
-//! `UnlimitedInput` and `Limited`; `PlainText`; `FilledText`.
+//! It stands on nr_engine and the crates below it. To read: `laws`, and in specs/ `Limited`, `Laws`; `PlainText`;
+//! `FilledText`.
 #![tactic(auto)]
 
 pub mod laws;

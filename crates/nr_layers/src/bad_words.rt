@@ -1,6 +1,6 @@
-// The line of each bad word, byte for byte, and sinks that fail within it.
-use nr_units::fakes::{Shut, Slate};
-use nr_words::{Case, Usage, read_words, usage_line};
+// The line of each bad word, byte for byte.
+use nr_units::fakes::Slate;
+use nr_words::{read_words, usage_line};
 
 /// Words of which one is bad, and the line that tells it.
 static LINES: [(&[&str], &[u8]); 56] = [
@@ -104,25 +104,4 @@ fn tells_one_too_many(rt: HostRuntime) {
         words[32] = "-rb";
         assert!(rt; tells(&words, b"nroff: bad value in -rb\n"), "{word}");
     }
-}
-
-// The sink has the bytes before the place at which it fails, and no call follows the one that failed.
-#[test]
-fn fails_at_each_place(rt: HostRuntime) {
-    let usage = Usage {
-        case: Case::Unknown,
-        word: "-\u{e9}t\u{e9}",
-    };
-    let line = b"nroff: unknown option -\xc3\xa9\n";
-    for place in 0..line.len() {
-        let mut out = [0; 80];
-        assert!(rt; place <= out.len());
-        let mut errors = Slate::over(&mut out[..place]);
-        assert!(rt; usage_line(&usage, &mut errors).is_err(), "at {place}");
-        assert!(rt; errors.bytes() == &line[..place], "at {place}");
-        assert_eq!(rt; errors.failed_puts(), 1, "at {place}");
-    }
-    let mut shut = Shut::new();
-    assert!(rt; usage_line(&usage, &mut shut).is_err());
-    assert_eq!(rt; shut.failed_puts(), 1);
 }

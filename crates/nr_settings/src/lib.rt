@@ -2,8 +2,8 @@
 //! widths of `\w`, `\h` and `\l`. Plain data and plain functions.
 //!
 //! It stands on nr_units. To read: `lengths`, `arguments`, `numbers`; then a file for each matter, in any
-//! order, from `filling`, `indents` and `fonts` to `traps`; `stops` before `tabs`; `settings`; `specials`,
-//! `motions`, `escapes`, `widths`.
+//! order: `filling`, `indents`, `fonts`, `pages`, `hyphenation`, `characters`, `registers`, `traps`, `spacing`,
+//! and `stops` before `tabs`; `settings`; `specials`, `motions`, `escapes`, `widths`.
 #![tactic(auto)]
 
 mod arguments;

@@ -1,5 +1,6 @@
-//! The program nroff: it formats text for a terminal, to standard output. It stands on nr_command, which has all but
-//! `main`.
+//! The program nroff: it formats text for a terminal, to standard output.
+//!
+//! It stands on nr_command, which has all but `main`. To read: this file, and nr_command.
 #![tactic(auto)]
 
 use nr_command::run_program;

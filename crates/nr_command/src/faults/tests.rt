@@ -1,7 +1,7 @@
-// The lines, byte for byte, and sinks that fail within them.
+// The lines, byte for byte.
 use super::fault_line;
-use nr_engine::{Measure, Outcome, WriteFault};
-use nr_units::fakes::{Shut, Slate};
+use nr_engine::{Measure, Outcome};
+use nr_units::fakes::Slate;
 
 /// Each outcome that has a line.
 static LINES: [(Outcome, &[u8]); 10] = [
@@ -66,39 +66,5 @@ fn writes_each_line(rt: HostRuntime) {
         let mut errors = Slate::over(&mut out);
         assert!(rt; fault_line(outcome, &mut errors) == Ok(()), "{outcome:?}");
         assert!(rt; errors.bytes() == *line, "{outcome:?}");
-        assert_eq!(rt; errors.failed_puts(), 0, "{outcome:?}");
-    }
-}
-
-#[test]
-fn writes_nothing_where_done(rt: HostRuntime) {
-    let mut out = [0; 0];
-    let mut errors = Slate::over(&mut out);
-    assert!(rt; fault_line(&Outcome::Done, &mut errors) == Ok(()));
-    assert!(rt; errors.bytes().is_empty());
-    assert_eq!(rt; errors.failed_puts(), 0);
-}
-
-// The sink has the bytes before the place at which it fails, and no call follows the one that failed.
-#[test]
-fn fails_at_each_place(rt: HostRuntime) {
-    for (outcome, line) in &LINES {
-        for place in 0..line.len() {
-            let mut out = [0; 80];
-            assert!(rt; place <= out.len());
-            let mut errors = Slate::over(&mut out[..place]);
-            assert!(rt;
-                fault_line(outcome, &mut errors) == Err(WriteFault),
-                "{outcome:?} at {place}"
-            );
-            assert!(rt; errors.bytes() == &line[..place], "{outcome:?} at {place}");
-            assert_eq!(rt; errors.failed_puts(), 1, "{outcome:?} at {place}");
-        }
-        let mut shut = Shut::new();
-        assert!(rt;
-            fault_line(outcome, &mut shut) == Err(WriteFault),
-            "{outcome:?}"
-        );
-        assert_eq!(rt; shut.failed_puts(), 1, "{outcome:?}");
     }
 }

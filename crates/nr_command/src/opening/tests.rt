@@ -1,4 +1,4 @@
-// The line of a text that can't be opened, and where its sink fails.
+// The line of a text that can't be opened, and the error that tells it.
 use super::{NotRun, unopened_line};
 use nr_units::fakes::Slate;
 use nr_words::{Input, MacroFile};
@@ -25,19 +25,6 @@ fn tells_the_name(rt: HostRuntime) {
         let mut errors = Slate::over(&mut room);
         assert!(rt; unopened_line(input, &mut errors).is_ok());
         assert!(rt; errors.bytes() == *line, "{input:?}");
-    }
-}
-
-#[test]
-fn tells_a_front_where_the_sink_fails(rt: HostRuntime) {
-    for (input, line) in &LINES {
-        for place in 0..line.len() {
-            let mut room = [0; 80];
-            assert!(rt; place <= room.len());
-            let mut errors = Slate::over(&mut room[..place]);
-            assert!(rt; unopened_line(input, &mut errors).is_err());
-            assert!(rt; errors.bytes() == &line[..place], "{input:?} at {place}");
-        }
     }
 }
 

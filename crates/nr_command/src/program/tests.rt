@@ -2,27 +2,13 @@
 use super::{run_program, run_words};
 use crate::memory::{Heap, Memory, counted};
 use crate::opening::Opener;
-use nr_command_line::fakes::{Page, System};
+use nr_command_line::fakes::{Closing, Page, System, Typed};
 use nr_engine::{Buffered, Desk, Limits, ToWriter};
 use nr_words::{Input, MacroFile};
 use std::alloc::{AllocError, Global};
 use std::cell::Cell;
 use std::io;
-use std::io::{ErrorKind, Read, Write};
-
-/// Takes nothing.
-#[derive(Drop)]
-struct Shut;
-
-impl Write for Shut {
-    fn write(&mut self, _bytes: &[u8]) -> io::Result<usize> {
-        Err(io::Error::from(ErrorKind::BrokenPipe))
-    }
-
-    fn flush(&mut self) -> io::Result<()> {
-        Err(io::Error::from(ErrorKind::BrokenPipe))
-    }
-}
+use std::io::ErrorKind;
 
 /// Texts by their paths, and standard input; how many were opened.
 #[derive(Drop)]
@@ -348,21 +334,6 @@ fn tells_memory_that_is_refused(rt: HostRuntime) {
     assert!(rt; ran.output.as_slice() == b"one two\n".as_slice());
 }
 
-/// Standard input: bytes that come once, however often it is opened.
-#[derive(Clone, Copy)]
-struct Typed<'r, 'a> {
-    left: &'r Cell<&'a [u8]>,
-}
-
-impl Read for Typed<'_, '_> {
-    fn read(&mut self, buffer: &mut [u8]) -> io::Result<usize> {
-        let mut bytes = self.left.get();
-        let count = bytes.read(buffer)?;
-        self.left.set(bytes);
-        Ok(count)
-    }
-}
-
 /// A run in a system: its words, standard input, what it prints, its status and its line.
 struct SystemRow {
     words: &'static [&'static [u8]],
@@ -474,6 +445,10 @@ fn tells_an_output_that_fails(rt: HostRuntime) {
     };
     let mut line = Vec::new(rt.alloc());
     let input = b"".as_slice();
-    assert_eq!(rt; run_program(&system, rt.alloc(), input, Shut, &mut line), 4);
+    let output = Closing { takes: false };
+    assert_eq!(rt;
+        run_program(&system, rt.alloc(), input, output, &mut line),
+        4
+    );
     assert!(rt; line.as_slice() == b"nroff: write fault\n".as_slice());
 }

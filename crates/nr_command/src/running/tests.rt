@@ -1,88 +1,10 @@
-// Statuses and lines, faults at every byte, a flush that fails, and a desk that was refused.
-use super::{out_of_memory, run_over, tell};
-use nr_engine::{Buffered, Desk, Limits, Measure, Options, Outcome, Source, ToWriter};
+// Faults at every byte, a flush that fails, fronts of a text, and allocations that are refused.
+use super::run_over;
+use nr_engine::{Buffered, Desk, Limits, Options, Source, ToWriter};
 use nr_units::fakes::{Script, Shut, Slate};
-use std::alloc::{AllocError, Global};
+use std::alloc::Global;
 use std::process::Abort;
 use std::test::Fail;
-
-/// Each outcome with its status and its line.
-static OUTCOMES: [(Outcome, u8, &[u8]); 5] = [
-    (Outcome::Done, 0, b""),
-    (
-        Outcome::Limit {
-            which: Measure::Expansions,
-            at: 9,
-        },
-        1,
-        b"nroff: expansions limit passed at byte 9\n",
-    ),
-    (Outcome::TooLong, 1, b"nroff: input too long\n"),
-    (
-        Outcome::ReadFault { at: 3 },
-        3,
-        b"nroff: read fault at byte 3\n",
-    ),
-    (Outcome::WriteFault, 4, b"nroff: write fault\n"),
-];
-
-fn small_desk(alloc: Global) -> Result<Desk, AllocError> {
-    let limits = Limits::new(64, 1, 100, 1).unwrap();
-    Desk::new(alloc, limits)
-}
-
-#[test]
-fn tells_each_outcome(rt: HostRuntime) {
-    for (outcome, status, line) in &OUTCOMES {
-        let mut out = [0; 80];
-        let mut errors = Slate::over(&mut out);
-        assert_eq!(rt; tell(*outcome, &mut errors), *status, "{outcome:?}");
-        assert!(rt; errors.bytes() == *line, "{outcome:?}");
-    }
-}
-
-// Where the line can't be written, the status is the same.
-#[test]
-fn ignores_a_fault_of_the_line(rt: HostRuntime) {
-    for (outcome, status, line) in &OUTCOMES {
-        for place in 0..line.len() {
-            let mut out = [0; 80];
-            assert!(rt; place <= out.len());
-            let mut errors = Slate::over(&mut out[..place]);
-            assert_eq!(rt;
-                tell(*outcome, &mut errors),
-                *status,
-                "{outcome:?} at {place}"
-            );
-            assert!(rt; errors.bytes() == &line[..place], "{outcome:?} at {place}");
-            assert_eq!(rt; errors.failed_puts(), 1, "{outcome:?} at {place}");
-        }
-    }
-    let mut shut = Shut::new();
-    assert_eq!(rt; out_of_memory(&mut shut), 5);
-    assert_eq!(rt; shut.failed_puts(), 1);
-}
-
-#[test]
-fn empty_input_is_done(rt: HostRuntime) {
-    let desk = small_desk(rt.alloc());
-    assert!(rt; desk.is_ok());
-    let mut input = Script::new(b"");
-    let mut room = [0; 10];
-    let mut output = Slate::over(&mut room);
-    let mut errors = Shut::new();
-    let status = run_over(
-        desk,
-        &Options::plain(),
-        &mut input,
-        &mut output,
-        &mut errors,
-    );
-    assert_eq!(rt; status, 0);
-    assert!(rt; output.bytes().is_empty());
-    assert_eq!(rt; (output.failed_puts(), output.failed_flushes()), (0, 0));
-    assert_eq!(rt; errors.failed_puts(), 0);
-}
 
 /// Two pages with a title on top and a trap at the bottom.
 static HEADER_AND_FOOTER: &[u8] =
@@ -126,6 +48,15 @@ fn writer_at_every_byte(rt: HostRuntime) {
     let mut output = Slate::over(&mut room);
     let mut input = Script::new(HEADER_AND_FOOTER);
     expect(&rt, rt.alloc(), &mut input, &mut output, 0, ITS_PAGES, b"");
+}
+
+#[test]
+fn writer_in_the_second_page(rt: HostRuntime) {
+    let line = b"nroff: write fault\n";
+    let mut room = [0; 3];
+    let mut output = Slate::over(&mut room);
+    let mut input = Script::new(b".pl 1\na\n.br\nb\n.br\n");
+    expect(&rt, rt.alloc(), &mut input, &mut output, 4, b"a\nb", line);
 }
 
 // The first page is out where the line behind it was read.
@@ -183,34 +114,6 @@ fn every_allocation_refused(rt: HostRuntime) {
     assert_eq!(rt; status, 0);
     assert!(rt; output.bytes() == b"hello\n\n".as_slice());
     assert!(rt; errors.bytes().is_empty());
-}
-
-// Without a desk nothing is read, written or flushed but the line.
-#[test]
-fn refused_desk_is_want_of_memory(rt: HostRuntime) {
-    let text = b".pl 2v\nhello\n";
-    let line = b"nroff: out of memory\n";
-    for place in 0..=line.len() {
-        let mut input = Script::failing_after(text, 0);
-        let mut room = [0; 10];
-        let mut output = Slate::failing_flush(&mut room);
-        let mut out = [0; 80];
-        assert!(rt; place <= out.len());
-        let mut errors = Slate::over(&mut out[..place]);
-        let status = run_over(
-            Err(AllocError),
-            &Options::plain(),
-            &mut input,
-            &mut output,
-            &mut errors,
-        );
-        assert_eq!(rt; status, 5, "at {place}");
-        assert!(rt; input.rest() == text.as_slice(), "at {place}");
-        assert_eq!(rt; input.failed_calls(), 0, "at {place}");
-        assert!(rt; output.bytes().is_empty(), "at {place}");
-        assert_eq!(rt; output.failed_flushes(), 0, "at {place}");
-        assert!(rt; errors.bytes() == &line[..place], "at {place}");
-    }
 }
 
 // A writer of std that is full takes no byte, and answers no error: it is as one that fails at the first.

@@ -1,22 +1,18 @@
 // Words of every length, words that are no UTF-8, and none.
 use super::{SystemWords, words_of};
 use crate::fakes::System;
-use std::alloc::AllocError;
+use std::alloc::{AllocError, Global};
+
+/// The words of a system behind its program's name.
+fn words_in(words: &[&[u8]], alloc: Global) -> Result<Vec<String>, AllocError> {
+    let system = System { words, texts: &[] };
+    words_of(&SystemWords::new(&system, alloc), alloc)
+}
 
 #[test]
 fn reads_each_word_behind_the_name(rt: HostRuntime) -> Result<(), AllocError> {
     let long = [b'x'; 1000];
-    let words: [&[u8]; 5] = [b"nroff", b"-i", b"", &long, b"a\xffb"];
-    let read = words_of(
-        &SystemWords::new(
-            &System {
-                words: &words,
-                texts: &[],
-            },
-            rt.alloc(),
-        ),
-        rt.alloc(),
-    )?;
+    let read = words_in(&[b"nroff", b"-i", b"", &long, b"a\xffb"], rt.alloc())?;
     assert_eq!(rt; read.len(), 4);
     assert_eq!(rt; read[0].as_str(), "-i");
     assert_eq!(rt; read[1].as_str(), "");
@@ -27,33 +23,7 @@ fn reads_each_word_behind_the_name(rt: HostRuntime) -> Result<(), AllocError> {
 
 #[test]
 fn there_may_be_none(rt: HostRuntime) -> Result<(), AllocError> {
-    let words: [&[u8]; 1] = [b"nroff"];
-    assert!(rt;
-        words_of(
-            &SystemWords::new(
-                &System {
-                    words: &words,
-                    texts: &[]
-                },
-                rt.alloc()
-            ),
-            rt.alloc()
-        )?
-        .is_empty()
-    );
-    let words: [&[u8]; 0] = [];
-    assert!(rt;
-        words_of(
-            &SystemWords::new(
-                &System {
-                    words: &words,
-                    texts: &[]
-                },
-                rt.alloc()
-            ),
-            rt.alloc()
-        )?
-        .is_empty()
-    );
+    assert!(rt; words_in(&[b"nroff"], rt.alloc())?.is_empty());
+    assert!(rt; words_in(&[], rt.alloc())?.is_empty());
     Ok(())
 }

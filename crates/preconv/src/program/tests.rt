@@ -1,44 +1,7 @@
 // Whole runs over words, and over texts in memory.
 use super::run_program;
-use nr_command_line::fakes::{Page, System};
+use nr_command_line::fakes::{Closing, Page, System, Typed};
 use std::cell::Cell;
-use std::io;
-use std::io::{ErrorKind, Read, Write};
-
-/// Standard input: bytes that come once, however often it is read.
-#[derive(Clone, Copy)]
-struct Typed<'r, 'a> {
-    left: &'r Cell<&'a [u8]>,
-}
-
-impl Read for Typed<'_, '_> {
-    fn read(&mut self, buffer: &mut [u8]) -> io::Result<usize> {
-        let mut bytes = self.left.get();
-        let count = bytes.read(buffer)?;
-        self.left.set(bytes);
-        Ok(count)
-    }
-}
-
-/// Takes bytes, or fails at each write; fails at each flush.
-#[derive(Drop)]
-struct Closing {
-    takes: bool,
-}
-
-impl Write for Closing {
-    fn write(&mut self, bytes: &[u8]) -> io::Result<usize> {
-        if self.takes {
-            Ok(bytes.len())
-        } else {
-            Err(io::Error::from(ErrorKind::BrokenPipe))
-        }
-    }
-
-    fn flush(&mut self) -> io::Result<()> {
-        Err(io::Error::from(ErrorKind::BrokenPipe))
-    }
-}
 
 /// A run: its words, what it writes, its status and its line. Standard input is `café` in UTF-8.
 struct Row {

@@ -1,12 +1,13 @@
 use Rattle.std.proofs.Common.{◌≡◌, ◌+◌, ◌-◌, ◌<◌, ◌≤◌, List, [], ◌∷◌, ◌++◌, length, map, take, drop, get_or, None, true, false, ◌&&◌, if◌then◌else◌, All, ap, sym, subst, ◌∙◌, refl, arith, length-append}
-use Rattle.std.proofs.lemmas.List.{get_or-take, length-map, length-take, length-take-le, nil_from_length, take-take, take_all, drop_all}
+use Rattle.std.proofs.lemmas.List.{length-map, length-take, nil_from_length, take_all, drop_all}
 use Rattle.nr_fill.specs.Cut.{pieces_width}
 use Rattle.nr_fill.specs.Lined.{Lined}
 use Rattle.nr_fill.specs.Pieces.{Collected, Piece, begins_line, ends_sentence, is_nil, text_cells}
 use Rattle.nr_fill.specs.Runs.{IsPlain, run_cell}
 use Rattle.nr_fill.specs.declared.piece.Join.TheVariants.{Gap}
-use Rattle.nr_fill.proofs.Lines.{is_line_begun, is_line_worded, no_title_of, none_from_word_of, text_cells-collected_of, widths_small}
-use Rattle.nr_fill.proofs.RunLemmas.{add_run-none, add_word-none}
+use Rattle.nr_fill.specs.Laid.{read_cells}
+use Rattle.nr_fill.proofs.Lines.{no_title_of, none_from_word_of, text_cells-collected_of, widths_small}
+use Rattle.nr_fill.proofs.RunLemmas.{add_run-none, add_word-none, last_front, length_front, run_begun, run_worded, taken_front}
 use Rattle.nr_fill.proofs.line.Line.put_new_word.Goals.{then-self-eq0, else-self-eq0}
 use Rattle.nr_fill.proofs.line.Line.put_new_word.Goals as goal
 
@@ -25,10 +26,7 @@ push_plain-count-requires-clause-room c =
 
 pub returns-clause-plain : goal.returns-clause-plain
 returns-clause-plain c =
-    let bytes = c.args.bytes.now in
-    let count = c.push_plain-count.result in
-    let short : count ≤ c.min.result = omega (arith, c.push_plain-count.ensures.front, length-take c.min.result bytes) in
-    subst (λ xs. All IsPlain xs) (take-take count c.min.result bytes short) c.push_plain-count.ensures.plain
+    subst (λ xs. All IsPlain xs) (taken_front c.push_plain-count.result c.min.result c.args.bytes.now c.push_plain-count.ensures.front) c.push_plain-count.ensures.plain
 
 pub close-requires-clause-room : goal.close-requires-clause-room
 close-requires-clause-room c =
@@ -57,24 +55,13 @@ overflow_add-self-2 c =
 pub invariant_of-self-2 : goal.invariant_of-self-2
 invariant_of-self-2 c =
     let s = c.self.inside in
-    let none = none_from_word_of s.word (drop s.pieces s.row.pieces) s.row.last (ap (λ (v : Lined). v.collected.word) c.self.view_is ∙ c.requires.word) in
-    let untitled = no_title_of s.title s.row.title (ap (λ (v : Lined). v.collected.title) c.self.view_is ∙ c.requires.title) in
-    let h = rw (none, untitled) at c.self.invariant in
-    let all = h.no_word refl in
-    let last : s.row.last ≡ [] = nil_from_length s.row.last all.1 in
-    let count = c.push_plain-count.result in
-    let front = take count (take c.min.result c.args.bytes.now) in
-    let run = map (run_cell c.args.under) front in
     let text = text_cells-collected_of s.barred s.sentence s.margins s.turn c.self.invariant in
     let same = ap (λ (v : Lined). text_cells v.collected) c.self.view_is in
     let limit = ap (λ (v : Lined). v.limit) c.self.view_is in
-    let taken = length-take c.min.result c.args.bytes.now in
-    let many : length run ≡ count = length-map front (run_cell c.args.under) ∙ length-take-le count (take c.min.result c.args.bytes.now) c.push_plain-count.ensures.front in
-    let titled = h.no_title refl in
-    let worded = is_line_worded run count h many (omega (arith, c.push_plain-count.ensures.front, c.text_measure.ensures.value, c.text_measure.ensures.within)) in
-    let whole : take count run ≡ run = take_all count run (omega arith) in
-    let nothing : drop count run ≡ [] = drop_all count run (omega arith) in
-    rw (c.close.ensures, c.push_plain-count.ensures.cells, last, whole, nothing, none, untitled, c.from.ensures) worded
+    let room : s.pieces + read_cells s.row + c.min.result ≤ s.limit = omega (arith, c.text_measure.ensures.value, c.text_measure.ensures.within) in
+    rw (c.close.ensures, c.push_plain-count.ensures.cells, c.from.ensures) (run_worded c.push_plain-count.result c.min.result c.args.bytes.now c.push_plain-count.ensures.front c.args.under c.self.invariant
+    (none_from_word_of s.word (drop s.pieces s.row.pieces) s.row.last (ap (λ (v : Lined). v.collected.word) c.self.view_is ∙ c.requires.word))
+    (no_title_of s.title s.row.title (ap (λ (v : Lined). v.collected.title) c.self.view_is ∙ c.requires.title)) room (omega (arith, length-take c.min.result c.args.bytes.now)))
 
 pub returns-clause-word : goal.returns-clause-word
 returns-clause-word c = λ some.
@@ -86,17 +73,15 @@ returns-clause-word c = λ some.
     let bytes = c.args.bytes.now in
     let count = c.push_plain-count.result in
     let m = c.min.result in
-    let short : count ≤ m = omega (arith, c.push_plain-count.ensures.front, length-take m bytes) in
-    let front_is : take count (take m bytes) ≡ take count bytes = take-take count m bytes short in
+    let front_is = taken_front count m bytes c.push_plain-count.ensures.front in
     let run = map (run_cell c.args.under) (take count bytes) in
-    let long : length (take count bytes) ≡ count = length-take-le count bytes (omega (arith, c.push_plain-count.ensures.front, length-take m bytes)) in
+    let long = length_front count m bytes c.push_plain-count.ensures.front in
     let many : length run ≡ count = length-map (take count bytes) (run_cell c.args.under) ∙ long in
     let whole : take count run ≡ run = take_all count run (omega arith) in
     let p : Piece = record { join = Gap s.gap; cells = run } in
     let behind : take (s.pieces + 1) (s.row.pieces ++ p ∷ []) ≡ s.row.pieces ++ p ∷ [] = take_all (s.pieces + 1) (s.row.pieces ++ p ∷ []) (omega (arith, length-append s.row.pieces (p ∷ []))) in
     let before : take s.pieces s.row.pieces ≡ s.row.pieces = take_all s.pieces s.row.pieces (omega arith) in
-    let last_at : get_or (take m bytes) (count - 1) 0 ≡ get_or (take count bytes) (length (take count bytes) - 1) 0 =
-    get_or-take m bytes (count - 1) 0 (omega arith) ∙ sym (get_or-take count bytes (count - 1) 0 (omega arith)) ∙ ap (λ k. get_or (take count bytes) (k - 1) 0) (sym long) in
+    let last_at = last_front count m bytes c.push_plain-count.ensures.front (omega arith) in
     let now = c.args.self.now.collected in
     let word : now.word ≡ None = ap (λ (v : Lined). v.collected.word) (sym c.self.view_is) ∙ rw none refl in
     let begins : begins_line now ≡ (is_nil s.row.pieces && true) = ap (λ (v : Lined). begins_line v.collected) (sym c.self.view_is) ∙ rw (none, before) refl in
@@ -111,29 +96,18 @@ returns-clause-word c = λ some.
 
 pub returns-then-count-near-clause-plain : goal.returns-then-count-near-clause-plain
 returns-then-count-near-clause-plain c =
-    let bytes = c.args.bytes.now in
-    let count = c.push_plain-count.result in
-    let short : count ≤ c.min.result = omega (arith, c.push_plain-count.ensures.front, length-take c.min.result bytes) in
-    subst (λ xs. All IsPlain xs) (take-take count c.min.result bytes short) c.push_plain-count.ensures.plain
+    subst (λ xs. All IsPlain xs) (taken_front c.push_plain-count.result c.min.result c.args.bytes.now c.push_plain-count.ensures.front) c.push_plain-count.ensures.plain
 
 pub invariant_of-self-then-count-near : goal.invariant_of-self-then-count-near
 invariant_of-self-then-count-near c =
     let s = c.self.inside in
-    let none = none_from_word_of s.word (drop s.pieces s.row.pieces) s.row.last (ap (λ (v : Lined). v.collected.word) c.self.view_is ∙ c.requires.word) in
-    let untitled = no_title_of s.title s.row.title (ap (λ (v : Lined). v.collected.title) c.self.view_is ∙ c.requires.title) in
-    let h = rw (none, untitled) at c.self.invariant in
-    let all = h.no_word refl in
-    let last : s.row.last ≡ [] = nil_from_length s.row.last all.1 in
-    let count = c.push_plain-count.result in
-    let front = take count (take c.min.result c.args.bytes.now) in
-    let run = map (run_cell c.args.under) front in
     let text = text_cells-collected_of s.barred s.sentence s.margins s.turn c.self.invariant in
     let same = ap (λ (v : Lined). text_cells v.collected) c.self.view_is in
     let limit = ap (λ (v : Lined). v.limit) c.self.view_is in
-    let taken = length-take c.min.result c.args.bytes.now in
-    let many : length run ≡ count = length-map front (run_cell c.args.under) ∙ length-take-le count (take c.min.result c.args.bytes.now) c.push_plain-count.ensures.front in
-    let titled = h.no_title refl in
-    rw (c.push_plain-count.ensures.cells, last, untitled) (is_line_begun c.new.result run h c.new.ensures (omega (arith, c.push_plain-count.ensures.front, c.text_measure.ensures.value, c.text_measure.ensures.within)))
+    let room : s.pieces + read_cells s.row + c.min.result ≤ s.limit = omega (arith, c.text_measure.ensures.value, c.text_measure.ensures.within) in
+    rw c.push_plain-count.ensures.cells (run_begun c.push_plain-count.result c.min.result c.args.bytes.now c.push_plain-count.ensures.front c.args.under c.self.invariant
+    (none_from_word_of s.word (drop s.pieces s.row.pieces) s.row.last (ap (λ (v : Lined). v.collected.word) c.self.view_is ∙ c.requires.word))
+    (no_title_of s.title s.row.title (ap (λ (v : Lined). v.collected.title) c.self.view_is ∙ c.requires.title)) room c.new.result c.new.ensures)
 
 pub returns-then-count-near-clause-run : goal.returns-then-count-near-clause-run
 returns-then-count-near-clause-run c = λ goes_on.
@@ -146,13 +120,11 @@ returns-then-count-near-clause-run c = λ goes_on.
     let count = c.push_plain-count.result in
     let m = c.min.result in
     let some : 0 < count = omega (arith, c.if-count-eq0.false) in
-    let short : count ≤ m = omega (arith, c.push_plain-count.ensures.front, length-take m bytes) in
-    let front_is : take count (take m bytes) ≡ take count bytes = take-take count m bytes short in
-    let long : length (take count bytes) ≡ count = length-take-le count bytes (omega (arith, c.push_plain-count.ensures.front, length-take m bytes)) in
+    let front_is = taken_front count m bytes c.push_plain-count.ensures.front in
+    let long = length_front count m bytes c.push_plain-count.ensures.front in
     let before : take s.pieces s.row.pieces ≡ s.row.pieces = take_all s.pieces s.row.pieces (omega arith) in
     let behind : drop s.pieces s.row.pieces ≡ [] = drop_all s.pieces s.row.pieces (omega arith) in
-    let last_at : get_or (take m bytes) (count - 1) 0 ≡ get_or (take count bytes) (length (take count bytes) - 1) 0 =
-    get_or-take m bytes (count - 1) 0 (omega arith) ∙ sym (get_or-take count bytes (count - 1) 0 (omega arith)) ∙ ap (λ k. get_or (take count bytes) (k - 1) 0) (sym long) in
+    let last_at = last_front count m bytes c.push_plain-count.ensures.front some in
     let now = c.args.self.now.collected in
     let begins : begins_line now ≡ (is_nil s.row.pieces && true) = ap (λ (v : Lined). begins_line v.collected) (sym c.self.view_is) ∙ rw (none, before) refl in
     let margins : c.if-self-eq0.self ≡ (if begins_line now then c.args.margins else now.margins) = rw begins (elim c.if-self-eq0.branch [

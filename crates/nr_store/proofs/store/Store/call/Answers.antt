@@ -5,13 +5,13 @@ use Rattle.nr_pool.specs.Texts.{text, holders, with_holders}
 use Rattle.nr_levels.specs.Levels.{Text, deeper, cut}
 use Rattle.nr_levels.specs.Gathered.{gathered_len, bytes_in}
 use Rattle.nr_levels.specs.Laws.{cut_joined, length-joined, sum-lengths}
-use Rattle.nr_store.specs.Stored.{Stored, checked, shared_by, called, ungathered}
+use Rattle.nr_store.specs.Stored.{Stored, checked, called, ungathered}
 use Rattle.nr_store.specs.Holders.{beside_of, IsStore}
 use Rattle.nr_store.proofs.Keeping.{levels_within}
 use Rattle.nr_store.proofs.Besides.{beside_paid}
-use Rattle.nr_store.proofs.Calling.{cleared, clear_stands, clear_within}
+use Rattle.nr_store.proofs.Calling.{call_admitted, call_deep, call_refused, cleared, clear_stands, clear_within}
 use Rattle.nr_store.proofs.Entering.{entered_is, entered_stands}
-use Rattle.nr_store.proofs.Admitting.{named_text, is_named, text_found, depths, answer_refused, answer_deep, answer_admitted}
+use Rattle.nr_store.proofs.Admitting.{named_text, is_named, text_found}
 use Rattle.nr_store.proofs.Building.{admitted}
 use Rattle.nr_store.proofs.store.Store.call.Goals as goal
 
@@ -45,48 +45,24 @@ overflow_cast-kept g c =
 pub returns-then-self-before-clause-answer : goal.returns-then-self-before-clause-answer
 returns-then-self-before-clause-answer g c =
     let s = c.self.inside in
-    let below = c.self.invariant.within in
     let paid = beside_paid s.pool s.names s.drafts s.levels (beside_of s.gathering s.registers s.traps s.words) s.charge s.stored c.self.invariant in
-    let within = clear_within s.pool s.names s.drafts s.levels s.gathering s.registers s.traps s.words s.charge s.stored c.self.invariant c.args.self.now c.self.view_is in
-    let found = named_text s.pool s.names.entries s.drafts.items s.levels (beside_of s.gathering s.registers s.traps s.words) s.stored c.args.name c.text_in.result c.args.self.now c.self.view_is c.text_in.ensures ∙ ap (option_map (text s.pool)) c.in-Some.is in
-    let kept_is = c.kept_len-kept.ensures in
-    let all_is = c.len.ensures in
     let bytes_are = length-joined s.gathering.gathered.kept in
-    let same_kept : s.gathering.gathered.kept ≡ c.args.self.now.gathered.kept = ap (λ (v : Stored _). v.gathered.kept) c.self.view_is in
-    let same_len = ap bytes_in same_kept in
-    sym (ap (λ o. checked (called c.args.name o c.args.self.now) (is_some o)) found ∙ answer_refused (s.charge - gathered_len s.gathering.gathered) s.stored (16 + bytes_in c.args.self.now.gathered.kept) None c.args.self.now.gathered.kept (ungathered c.args.self.now) (text s.pool c.in-Some.id) (shared_by c.args.name (text s.pool c.in-Some.id) c.args.self.now.texts) refl true within (omega arith))
+    sym (call_refused s.pool s.names s.drafts s.levels s.gathering s.registers s.traps s.words s.charge s.stored c.self.invariant c.args.self.now c.self.view_is c.args.name c.in-Some.id c.text_in.result c.text_in.ensures c.in-Some.is (omega (arith, paid, bytes_are, c.self.invariant.within, c.kept_len-kept.ensures, c.len.ensures)))
 
 pub returns-then-self-before-lt16-clause-answer : goal.returns-then-self-before-lt16-clause-answer
 returns-then-self-before-lt16-clause-answer g c =
     let s = c.self.inside in
-    let below = c.self.invariant.within in
     let paid = beside_paid s.pool s.names s.drafts s.levels (beside_of s.gathering s.registers s.traps s.words) s.charge s.stored c.self.invariant in
-    let within = clear_within s.pool s.names s.drafts s.levels s.gathering s.registers s.traps s.words s.charge s.stored c.self.invariant c.args.self.now c.self.view_is in
-    let found = named_text s.pool s.names.entries s.drafts.items s.levels (beside_of s.gathering s.registers s.traps s.words) s.stored c.args.name c.text_in.result c.args.self.now c.self.view_is c.text_in.ensures ∙ ap (option_map (text s.pool)) c.in-Some.is in
-    let kept_is = c.kept_len-kept.ensures in
-    let all_is = c.len.ensures in
     let bytes_are = length-joined s.gathering.gathered.kept in
-    let same_kept : s.gathering.gathered.kept ≡ c.args.self.now.gathered.kept = ap (λ (v : Stored _). v.gathered.kept) c.self.view_is in
-    let same_len = ap bytes_in same_kept in
-    sym (ap (λ o. checked (called c.args.name o c.args.self.now) (is_some o)) found ∙ answer_refused (s.charge - gathered_len s.gathering.gathered) s.stored (16 + bytes_in c.args.self.now.gathered.kept) None c.args.self.now.gathered.kept (ungathered c.args.self.now) (text s.pool c.in-Some.id) (shared_by c.args.name (text s.pool c.in-Some.id) c.args.self.now.texts) refl true within (omega arith))
+    sym (call_refused s.pool s.names s.drafts s.levels s.gathering s.registers s.traps s.words s.charge s.stored c.self.invariant c.args.self.now c.self.view_is c.args.name c.in-Some.id c.text_in.result c.text_in.ensures c.in-Some.is (omega (arith, paid, bytes_are, c.self.invariant.within, c.kept_len-kept.ensures, c.len.ensures)))
 
 pub returns-then-is_full-clause-answer : goal.returns-then-is_full-clause-answer
 returns-then-is_full-clause-answer g c =
     let s = c.self.inside in
-    let below = c.self.invariant.within in
     let paid = beside_paid s.pool s.names s.drafts s.levels (beside_of s.gathering s.registers s.traps s.words) s.charge s.stored c.self.invariant in
-    let within = clear_within s.pool s.names s.drafts s.levels s.gathering s.registers s.traps s.words s.charge s.stored c.self.invariant c.args.self.now c.self.view_is in
-    let found = named_text s.pool s.names.entries s.drafts.items s.levels (beside_of s.gathering s.registers s.traps s.words) s.stored c.args.name c.text_in.result c.args.self.now c.self.view_is c.text_in.ensures ∙ ap (option_map (text s.pool)) c.in-Some.is in
-    let same = depths s.pool s.names.entries s.drafts.items s.levels (beside_of s.gathering s.registers s.traps s.words) s.stored c.args.self.now c.self.view_is in
-    let same_most = same.same_most in
-    let same_depth = same.same_depth in
-    let kept_is = c.kept_len-kept.ensures in
-    let all_is = c.len.ensures in
     let bytes_are = length-joined s.gathering.gathered.kept in
-    let same_kept : s.gathering.gathered.kept ≡ c.args.self.now.gathered.kept = ap (λ (v : Stored _). v.gathered.kept) c.self.view_is in
-    let same_len = ap bytes_in same_kept in
     let full = leb-true s.levels.most (length s.levels.levels) (sym c.is_full.ensures ∙ c.if-is_full.true) in
-    sym (ap (λ o. checked (called c.args.name o c.args.self.now) (is_some o)) found ∙ answer_deep (s.charge - gathered_len s.gathering.gathered) s.stored (16 + bytes_in c.args.self.now.gathered.kept) None c.args.self.now.gathered.kept (ungathered c.args.self.now) (text s.pool c.in-Some.id) (shared_by c.args.name (text s.pool c.in-Some.id) c.args.self.now.texts) refl true within (omega arith) (omega arith))
+    sym (call_deep s.pool s.names s.drafts s.levels s.gathering s.registers s.traps s.words s.charge s.stored c.self.invariant c.args.self.now c.self.view_is c.args.name c.in-Some.id c.text_in.result c.text_in.ensures c.in-Some.is (omega (arith, paid, bytes_are, c.self.invariant.within, c.kept_len-kept.ensures, c.len.ensures)) full)
 
 pub hold-requires-clause-is_open : goal.hold-requires-clause-is_open
 hold-requires-clause-is_open g c =
@@ -142,20 +118,10 @@ invariant_of-self g c =
 pub returns-clause-answer : goal.returns-clause-answer
 returns-clause-answer g c =
     let s = c.self.inside in
-    let below = c.self.invariant.within in
     let paid = beside_paid s.pool s.names s.drafts s.levels (beside_of s.gathering s.registers s.traps s.words) s.charge s.stored c.self.invariant in
-    let within = clear_within s.pool s.names s.drafts s.levels s.gathering s.registers s.traps s.words s.charge s.stored c.self.invariant c.args.self.now c.self.view_is in
-    let found = named_text s.pool s.names.entries s.drafts.items s.levels (beside_of s.gathering s.registers s.traps s.words) s.stored c.args.name c.text_in.result c.args.self.now c.self.view_is c.text_in.ensures ∙ ap (option_map (text s.pool)) c.in-Some.is in
-    let same = depths s.pool s.names.entries s.drafts.items s.levels (beside_of s.gathering s.registers s.traps s.words) s.stored c.args.self.now c.self.view_is in
-    let same_most = same.same_most in
-    let same_depth = same.same_depth in
-    let kept_is = c.kept_len-kept.ensures in
-    let all_is = c.len.ensures in
     let bytes_are = length-joined s.gathering.gathered.kept in
-    let same_kept : s.gathering.gathered.kept ≡ c.args.self.now.gathered.kept = ap (λ (v : Stored _). v.gathered.kept) c.self.view_is in
-    let same_len = ap bytes_in same_kept in
     let deep = leb-false s.levels.most (length s.levels.levels) (sym c.is_full.ensures ∙ c.if-is_full.false) in
-    sym (ap (λ o. checked (called c.args.name o c.args.self.now) (is_some o)) found ∙ answer_admitted (s.charge - gathered_len s.gathering.gathered) s.stored (16 + bytes_in c.args.self.now.gathered.kept) None c.args.self.now.gathered.kept (ungathered c.args.self.now) (text s.pool c.in-Some.id) (shared_by c.args.name (text s.pool c.in-Some.id) c.args.self.now.texts) refl true within (omega arith) (omega arith))
+    sym (call_admitted s.pool s.names s.drafts s.levels s.gathering s.registers s.traps s.words s.charge s.stored c.self.invariant c.args.self.now c.self.view_is c.args.name c.in-Some.id c.text_in.result c.text_in.ensures c.in-Some.is (omega (arith, paid, bytes_are, c.self.invariant.within, c.kept_len-kept.ensures, c.len.ensures)) deep)
 
 pub returns-clause-ok : goal.returns-clause-ok
 returns-clause-ok g c =
