@@ -1,0 +1,66 @@
+//! Where a number is aligned: at `\&`, else at its last point before a digit, else behind its last digit.
+ghost use Rattle.std.specs.Prelude.{◌≡◌, ◌≤◌, ◌<◌, Some, None};
+ghost use Rattle.nr_tbl.specs.Numbers as specs;
+
+/// The places in a field that count for that, and its last byte.
+#[derive(Clone, Copy)]
+pub(crate) struct Marks {
+    /// Where its first `\&` stands.
+    pub mark: Option<usize>,
+    /// Where the last point stands that has a digit behind it.
+    pub point: Option<usize>,
+    /// The place behind its last digit.
+    pub digit: Option<usize>,
+    /// Its last byte, or 0.
+    pub last: u8,
+    /// How long it is without the blanks at its end.
+    pub solid: usize,
+}
+
+impl Marks {
+    /// Nothing was read.
+    pub(crate) fn new() -> Marks
+        ensures { result ≡ specs.first_marks }
+    {
+        Marks {
+            mark: None,
+            point: None,
+            digit: None,
+            last: 0,
+            solid: 0,
+        }
+    }
+
+    /// With one byte more, which stands at this place.
+    pub(crate) fn with(self, byte: u8, place: usize, point: u8) -> Marks
+        requires { place < 2 ^ 63 }
+        ensures { result ≡ specs.marks_with byte place point self }
+    {
+        let digit = byte.is_ascii_digit();
+        Marks {
+            mark: match self.mark {
+                None if self.last == b'\\' && byte == b'&' => place.checked_sub(1),
+                mark => mark,
+            },
+            point: if digit && self.last == point {
+                place.checked_sub(1)
+            } else {
+                self.point
+            },
+            digit: if digit { Some(place + 1) } else { self.digit },
+            last: byte,
+            solid: if byte == b' ' { self.solid } else { place + 1 },
+        }
+    }
+
+    /// How many bytes stand before the place.
+    pub(crate) fn front(self) -> Option<usize>
+        ensures { result ≡ specs.front self }
+    {
+        match (self.mark, self.point, self.digit) {
+            (Some(place), _, _) => Some(place),
+            (None, Some(place), _) => Some(place),
+            (None, None, place) => place,
+        }
+    }
+}
