@@ -11,7 +11,7 @@ use Rattle.nr_tbl.specs.declared.said.Said.TheVariants as says
 use Rattle.nr_tbl.specs.declared.said.Mark.TheVariants as marks
 use Rattle.nr_tbl.specs.declared.field.Shape.{Shape}
 use Rattle.nr_tbl.specs.declared.field.Shape.TheVariants as shapes
-use Rattle.nr_tbl.specs.Numbers.{is_digit, first_marks}
+use Rattle.nr_tbl.specs.Numbers.{is_digit, first_marks, front}
 use Rattle.nr_tbl.specs.Field.{is_empty}
 use Rattle.nr_tbl.specs.Formats.{first_formats}
 use Rattle.nr_tbl.specs.Held.{ends_name, held_with}
@@ -71,17 +71,21 @@ giving_up_row h = leaving modes.PlainLine GiveUpRow (complaining RowLimit h)
 abbrev pub counted : Half → Half
 counted h = record h { fields = nat_min (h.fields + 1) 65; shape = shapes.Empty; marks = first_marks }
 
+-- numbers are aligned, and blanks at the end may not count
+abbrev pub text_act : Half → Act
+text_act h = Field (if h.formats.numeric then front h.marks else None) (if h.options.nospaces then Some h.marks.solid else None)
+
 -- one beyond the columns is text
-abbrev pub act_of : Shape → Bool → Act
-act_of shapes.Empty beyond = Replace says.Skip
-act_of shapes.Rule beyond = if beyond then Field else Replace (says.Mark marks.Rule)
-act_of shapes.Inner beyond = if beyond then Field else Replace (says.Mark marks.Inner)
-act_of shapes.Above beyond = if beyond then Field else Replace (says.Mark marks.Above)
-act_of (shapes.Repeat b) beyond = if beyond then Field else Replace (says.Repeat b)
-act_of shape beyond = Field
+abbrev pub act_of : Shape → Half → Act
+act_of shapes.Empty h = Replace says.Skip
+act_of shapes.Rule h = if is_beyond h then text_act h else Replace (says.Mark marks.Rule)
+act_of shapes.Inner h = if is_beyond h then text_act h else Replace (says.Mark marks.Inner)
+act_of shapes.Above h = if is_beyond h then text_act h else Replace (says.Mark marks.Above)
+act_of (shapes.Repeat b) h = if is_beyond h then text_act h else Replace (says.Repeat b)
+act_of shape h = text_act h
 
 abbrev pub field_act : Half → Act
-field_act h = act_of h.shape (is_beyond h)
+field_act h = act_of h.shape h
 
 abbrev pub ending_field : Half → Met
 ending_field h = taking modes.Field (field_act h) (counted h)

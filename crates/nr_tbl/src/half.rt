@@ -72,8 +72,9 @@ pub(crate) enum Act {
     GiveUp,
     /// A byte of a field is kept.
     KeepField(u8),
-    /// The field goes out as text.
-    Field,
+    /// The field goes out as text: the length of what stands before the place where it is aligned, and that
+    /// without the blanks at its end, where these count.
+    Field(Option<usize>, Option<usize>),
     /// This goes out in place of the field.
     Replace(Said),
     /// The table isn't set further: what was kept of the field goes out as it stands.

@@ -93,18 +93,35 @@ impl Half {
         self.marks = Marks::new();
     }
 
+    /// A field goes out as text.
+    fn text_act(&self) -> Act
+        ensures { result ≡ specs.text_act self.now }
+    {
+        let front = if self.formats.numeric {
+            self.marks.front()
+        } else {
+            None
+        };
+        let solid = if self.options.nospaces {
+            Some(self.marks.solid)
+        } else {
+            None
+        };
+        Act::Field(front, solid)
+    }
+
     /// What is done for a field: one beyond the columns is text.
     fn field_act(&self) -> Act
         ensures { result ≡ specs.field_act self.now }
     {
         match self.shape {
             Shape::Empty => Act::Replace(Said::Skip),
-            _ if self.is_beyond() => Act::Field,
+            _ if self.is_beyond() => self.text_act(),
             Shape::Rule => Act::Replace(Said::Mark(Mark::Rule)),
             Shape::Inner => Act::Replace(Said::Mark(Mark::Inner)),
             Shape::Above => Act::Replace(Said::Mark(Mark::Above)),
             Shape::Repeat(byte) => Act::Replace(Said::Repeat(byte)),
-            Shape::T | Shape::Block | Shape::Backslash | Shape::R | Shape::Text => Act::Field,
+            Shape::T | Shape::Block | Shape::Backslash | Shape::R | Shape::Text => self.text_act(),
         }
     }
 
