@@ -1,0 +1,243 @@
+//! A whole page is turned.
+ghost use Rattle.std.specs.Prelude.{◌≡◌, ◌+◌, ◌*◌, ◌^◌, ◌<◌, ◌≤◌, [], length, false, None, OnOk};
+ghost use Rattle.std.specs.Io.KnownBytes.{Appends};
+ghost use Rattle.nr_units.specs.Failures.{counted_if, put_counted, put_counted_if};
+ghost use Rattle.nr_tbl.specs.Reading.{first_page, most, passes};
+ghost use Rattle.nr_tbl.specs.Running as specs;
+
+use super::complaint::{Complaint, Kind};
+use super::reader::Reader;
+use nr_units::sink::Sink;
+use nr_units::slice_vec::SliceVec;
+use nr_units::source::{Fault, Source};
+
+/// The number of bytes that are too many.
+const TOO_MANY: u64 = 1_099_511_627_776;
+
+/// How a run ended.
+#[derive(Clone, Copy, Debug, PartialEq, Eq)]
+pub enum Outcome {
+    /// All was turned and went out.
+    Done,
+    /// The input failed behind so many bytes.
+    ReadFault {
+        /// How many.
+        at: u64,
+    },
+    /// The input has 2^40 bytes or more.
+    TooLong,
+    /// The output failed.
+    WriteFault,
+}
+
+/// How a run ended, and what it complains of.
+#[derive(Clone, Copy, Debug, PartialEq, Eq)]
+pub struct Report {
+    /// How it ended.
+    pub outcome: Outcome,
+    /// How many complaints lie in the slice.
+    pub complaints: usize,
+    /// There were more, for which it had no room.
+    pub missed: bool,
+}
+
+/// What one turn came to.
+#[derive(Clone, Copy)]
+enum Turn {
+    /// So many bytes were taken, and more may come.
+    Took(u64),
+    /// The input has ended.
+    End,
+    /// The input failed.
+    ReadFault,
+}
+
+/// The complaints of a run.
+#[derive(Drop)]
+struct Notes<'a> {
+    list: SliceVec<'a, Complaint>,
+    missed: bool,
+}
+
+impl<'a> Notes<'a> {
+    /// None yet.
+    fn over(complaints: &'a mut [Complaint]) -> Notes<'a> {
+        Notes {
+            list: SliceVec::over(complaints),
+            missed: false,
+        }
+    }
+
+    /// What was found wrong behind so many bytes, if anything was.
+    fn note(&mut self, kind: Option<Kind>, at: u64) {
+        let Some(kind) = kind else {
+            return;
+        };
+        if self.list.is_full() {
+            self.missed = true;
+            return;
+        }
+        self.list.push(Complaint { kind, at });
+    }
+}
+
+/// The least length of the slice for what goes out, where so many bytes of options and formats and of a field are
+/// kept.
+pub fn pending_size(formats: usize, row: usize) -> usize
+    requires formats { formats ≤ 2 ^ 30 }
+    requires row { row ≤ 2 ^ 30 }
+    ensures { result ≡ specs.pending_size formats row }
+{
+    10 * (4 * row + 32 * formats + 16384)
+}
+
+/// All that is pending goes out.
+fn put_pending<W: Sink>(out: &mut SliceVec<'_, u8>, output: &mut W) -> Result<(), Fault>
+    ensures ok { OnOk result (Appends (W.held output.old) (W.held output.new) out.old.items) }
+    ensures err { specs.FrontAtErr result (W.held output.old) (W.held output.new) out.old.items }
+    ensures empty { OnOk result (out.new.items ≡ []) }
+    ensures failures { W.failures output.new ≡ put_counted (W.failures output.old) result }
+    ensures room { out.new.room ≡ out.old.room }
+{
+    output.put(out.as_slice())?;
+    out.clear();
+    Ok(())
+}
+
+/// Room is made for what one turn says, so many bytes at most: where there is none, all that is pending goes out.
+fn make_room<W: Sink>(most: usize, out: &mut SliceVec<'_, u8>, output: &mut W) -> Result<(), Fault>
+    requires { most ≤ out.old.room }
+    ensures ok { OnOk result (specs.Flushes (W.held output.old) (W.held output.new) out.old.items out.new.items) }
+    ensures err { specs.FrontAtErr result (W.held output.old) (W.held output.new) out.old.items }
+    ensures fits { OnOk result (length out.new.items + most ≤ out.new.room) }
+    ensures failures { W.failures output.new ≡ put_counted (W.failures output.old) result }
+    ensures room { out.new.room ≡ out.old.room }
+{
+    if out.room() - out.len() >= most {
+        return Ok(());
+    }
+    put_pending(out, output)
+}
+
+/// How many bytes come before the first newline.
+fn before_newline(bytes: &[u8]) -> usize
+    ensures { result ≡ specs.before_newline bytes.now }
+{
+    let mut count = 0;
+    for byte in bytes {
+        if *byte == b'\n' {
+            return count;
+        }
+        count += 1;
+    }
+    count
+}
+
+/// Bytes at hand that pass are taken, and tells how many.
+fn take_passing<R: Source>(
+    reader: &Reader<'_>,
+    input: &mut R,
+    out: &mut SliceVec<'_, u8>,
+    most: u64,
+) -> u64 {
+    if !reader.passes() {
+        return 0;
+    }
+    let window = input.window();
+    let len = window.len().min(out.room() - out.len()).min(most as usize);
+    let count = before_newline(&window[..len]);
+    out.extend(&window[..count]);
+    input.skip(count);
+    count as u64
+}
+
+/// One turn: bytes at hand that pass are taken, or one byte.
+fn make_turn<R: Source>(
+    reader: &mut Reader<'_>,
+    input: &mut R,
+    out: &mut SliceVec<'_, u8>,
+    most: u64,
+) -> Turn {
+    let count = take_passing(reader, input, out, most);
+    if count > 0 {
+        return Turn::Took(count);
+    }
+    match input.next() {
+        Ok(Some(byte)) => {
+            reader.read(byte, out);
+            Turn::Took(1)
+        }
+        Ok(None) => {
+            reader.finish(out);
+            Turn::End
+        }
+        Err(Fault) => Turn::ReadFault,
+    }
+}
+
+/// The rest goes out, and the run has ended so.
+fn ended<W: Sink>(out: &mut SliceVec<'_, u8>, output: &mut W, outcome: Outcome) -> Outcome {
+    match put_pending(out, output) {
+        Ok(()) => outcome,
+        Err(Fault) => Outcome::WriteFault,
+    }
+}
+
+/// All bytes are turned, each turn saying so many at most.
+fn run<R: Source, W: Sink>(
+    most: usize,
+    reader: &mut Reader<'_>,
+    input: &mut R,
+    output: &mut W,
+    out: &mut SliceVec<'_, u8>,
+    notes: &mut Notes<'_>,
+) -> Outcome {
+    let mut taken = 0;
+    while taken < TOO_MANY {
+        match make_room(most, out, output) {
+            Ok(()) => {}
+            Err(Fault) => return Outcome::WriteFault,
+        }
+        match make_turn(reader, input, out, TOO_MANY - taken) {
+            Turn::Took(count) => {
+                taken += count;
+                notes.note(reader.complaint(), taken);
+            }
+            Turn::End => {
+                notes.note(reader.complaint(), taken);
+                return ended(out, output, Outcome::Done);
+            }
+            Turn::ReadFault => return ended(out, output, Outcome::ReadFault { at: taken }),
+        }
+    }
+    ended(out, output, Outcome::TooLong)
+}
+
+/// Turns the tables of what the input gives into the language of the formatter, and puts it to the output, which is
+/// not flushed. Nothing is allocated.
+///
+/// The lengths of `formats` and `row` are the limits on the bytes of a table's options and formats, and of a
+/// field. What the slices held is of no account. The complaints come first in theirs, in the order of the input.
+pub fn convert<R: Source, W: Sink>(
+    input: &mut R,
+    output: &mut W,
+    formats: &mut [u8],
+    row: &mut [u8],
+    complaints: &mut [Complaint],
+    pending: &mut [u8],
+) -> Report
+    requires formats { length formats.old ≤ 2 ^ 30 }
+    requires row { length row.old ≤ 2 ^ 30 }
+    requires pending { specs.pending_size (length formats.old) (length row.old) ≤ length pending.old }
+{
+    let most = pending_size(formats.len(), row.len());
+    let mut reader = Reader::over(formats, row);
+    let mut out = SliceVec::over(pending);
+    let mut notes = Notes::over(complaints);
+    let outcome = run(most, &mut reader, input, output, &mut out, &mut notes);
+    Report {
+        outcome,
+        complaints: notes.list.len(),
+        missed: notes.missed,
+    }
+}
