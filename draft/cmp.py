@@ -3,8 +3,8 @@
 import sys, re, gzip, glob, subprocess, difflib, os, collections
 HERE = os.path.dirname(os.path.abspath(__file__))
 TBL = os.environ.get('TBL', 'python3 ' + HERE + '/proto.py').split()
-PRE = os.environ.get('PRE', 'preconv').split()
-FMT = os.environ.get('FMT', 'nice groff -Tascii -man -rLL=78n').split()
+PRE = os.environ.get('PRE', '/tmp/pc').split()
+FMT = os.environ.get('FMT', '/tmp/nr -M/work/w/tables/tmac -rC1 -man').split()
 def text_of(f):
     with (gzip.open if f.endswith('.gz') else open)(f, 'rb') as x: return x.read()
 def plain(s):

@@ -1,12 +1,12 @@
 -- The formats of a table (Tbl, "Format"; tbl(1), "Column descriptors"): lines of columns, each with what modifies it.
-use Rattle.std.specs.Prelude.{ℕ, ◌+◌, List, [], ◌∷◌, ◌++◌, codes, Bool, true, false, not, ◌==◌, ◌&&◌, ◌||◌, nat_le, nat_max, nat_min, if◌then◌else◌, Option, None, Some}
+use Rattle.std.specs.Prelude.{ℕ, List, [], ◌∷◌, ◌++◌, codes, Bool, true, false, not, ◌==◌, ◌&&◌, ◌||◌, nat_le, nat_lt, if◌then◌else◌, Option, None, Some}
 use Rattle.nr_tbl.specs.declared.formats.Formats.{Formats}
 use Rattle.nr_tbl.specs.declared.formats.Part.{Part}
 use Rattle.nr_tbl.specs.declared.formats.Part.TheVariants as parts
 use Rattle.nr_tbl.specs.declared.formats.Call.{Call}
 use Rattle.nr_tbl.specs.declared.formats.Call.TheVariants.{Nothing, Cell, Bars, Font, Width, Gap, Byte, Equal, Wide, Zero}
 use Rattle.nr_tbl.specs.declared.formats.Called.{Called}
-use Rattle.nr_tbl.specs.Numbers.{is_digit}
+use Rattle.nr_tbl.specs.Numbers.{is_digit, one_more}
 use Rattle.nr_tbl.specs.Options.{small}
 
 -- ---- what is called
@@ -56,14 +56,14 @@ kind_of b =
 
 -- a line begins
 abbrev pub line_begun : Formats → Formats
-line_begun f = if f.begun then f else record f { cells = 0; many = f.many || nat_le 256 f.lines; lines = nat_min (f.lines + 1) 256 }
+line_begun f = if f.begun then f else record f { cells = 0; many = f.many || nat_le 256 f.lines; lines = one_more f.lines 256 }
 
 -- one column more, of at most 64
 abbrev pub with_cell : ℕ → Formats → Formats
 with_cell kind f =
-    let cells = nat_min (f.cells + 1) 64 in
+    let cells = one_more f.cells 64 in
     record f {
-      many = f.many || nat_le 64 f.cells; cells = cells; columns = nat_max f.columns cells; numeric = f.numeric || (kind == 110); begun = true; bars = 0;
+      many = f.many || nat_le 64 f.cells; cells = cells; columns = if nat_lt f.columns cells then cells else f.columns; numeric = f.numeric || (kind == 110); begun = true; bars = 0;
     }
 
 abbrev pub cell : ℕ → Formats → Told
@@ -73,7 +73,7 @@ abbrev pub line_ends : Formats → Told
 line_ends f = if f.begun then told (record f { begun = false; bars = 0 }) (only (Bars f.bars)) else told f (only Nothing)
 
 abbrev pub bar : Formats → Told
-bar f = told (record f { bars = nat_min (f.bars + 1) 2 }) (only Nothing)
+bar f = told (record f { bars = one_more f.bars 2 }) (only Nothing)
 
 abbrev pub bad_byte : Formats → Told
 bad_byte f = told (record f { bad = true }) (only Nothing)

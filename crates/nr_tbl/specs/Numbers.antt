@@ -1,5 +1,5 @@
 -- Where a number is aligned (tbl(1), "n"): at its first \&, else at its last point before a digit, else behind its last digit.
-use Rattle.std.specs.Prelude.{ℕ, ◌+◌, ◌-◌, Bool, ◌==◌, ◌&&◌, nat_le, if◌then◌else◌, Option, None, Some}
+use Rattle.std.specs.Prelude.{ℕ, ◌+◌, ◌-◌, Bool, ◌==◌, ◌&&◌, nat_le, nat_lt, if◌then◌else◌, Option, None, Some}
 use Rattle.nr_tbl.specs.declared.numbers.Marks.{Marks}
 
 abbrev pub is_digit : ℕ → Bool
@@ -11,6 +11,10 @@ first_marks = record { mark = None; point = None; digit = None; last = 0; solid 
 -- the place of the byte before
 abbrev pub before : ℕ → Option ℕ
 before place = if place == 0 then None else Some (place - 1)
+
+-- one more, of so many at most
+abbrev pub one_more : ℕ → ℕ → ℕ
+one_more n most = if nat_lt n most then n + 1 else most
 
 -- the first counts
 abbrev pub mark_with : Option ℕ → Bool → ℕ → Option ℕ

@@ -1,5 +1,5 @@
 -- Rows and their fields (Tbl, "Data"; tbl(1), "Table data"): lines of fields, with lines of requests between them.
-use Rattle.std.specs.Prelude.{ℕ, ◌+◌, Bool, true, false, not, ◌==◌, ◌&&◌, nat_le, nat_min, if◌then◌else◌, Option, None, Some}
+use Rattle.std.specs.Prelude.{ℕ, Bool, not, ◌==◌, ◌&&◌, nat_le, if◌then◌else◌, Option, None, Some}
 use Rattle.nr_tbl.specs.declared.complaint.Kind.TheVariants.{TooManyFields, RowLimit}
 use Rattle.nr_tbl.specs.declared.half.Half.{Half}
 use Rattle.nr_tbl.specs.declared.half.Mode.TheVariants as modes
@@ -11,7 +11,7 @@ use Rattle.nr_tbl.specs.declared.said.Said.TheVariants as says
 use Rattle.nr_tbl.specs.declared.said.Mark.TheVariants as marks
 use Rattle.nr_tbl.specs.declared.field.Shape.{Shape}
 use Rattle.nr_tbl.specs.declared.field.Shape.TheVariants as shapes
-use Rattle.nr_tbl.specs.Numbers.{is_digit, first_marks, front}
+use Rattle.nr_tbl.specs.Numbers.{is_digit, one_more, first_marks, front}
 use Rattle.nr_tbl.specs.Field.{is_empty}
 use Rattle.nr_tbl.specs.Formats.{first_formats}
 use Rattle.nr_tbl.specs.Held.{ends_name, held_with}
@@ -69,7 +69,7 @@ giving_up_row h = leaving modes.PlainLine GiveUpRow (complaining RowLimit h)
 -- ---- the end of a field
 
 abbrev pub counted : Half → Half
-counted h = record h { fields = nat_min (h.fields + 1) 65; shape = shapes.Empty; marks = first_marks }
+counted h = record h { fields = one_more h.fields 65; shape = shapes.Empty; marks = first_marks }
 
 -- numbers are aligned, and blanks at the end may not count
 abbrev pub text_act : Half → Act

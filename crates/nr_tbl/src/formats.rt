@@ -2,6 +2,7 @@
 ghost use Rattle.std.specs.Prelude.{◌≡◌, ◌+◌, ◌≤◌, ◌++◌, length};
 ghost use Rattle.nr_tbl.specs.Formats as specs;
 
+use super::numbers::one_more;
 use super::options::small;
 use nr_units::slice_vec::SliceVec;
 
@@ -217,11 +218,13 @@ impl Formats {
         if begins {
             self.cells = 0;
             self.many = self.many || self.lines >= LINES;
-            self.lines = (self.lines + 1).min(LINES);
+            self.lines = one_more(self.lines, LINES);
         }
         self.many = self.many || self.cells >= COLUMNS;
-        self.cells = (self.cells + 1).min(COLUMNS);
-        self.columns = self.columns.max(self.cells);
+        self.cells = one_more(self.cells, COLUMNS);
+        if self.columns < self.cells {
+            self.columns = self.cells;
+        }
         self.numeric = self.numeric || kind == b'n';
         self.begun = true;
         self.bars = 0;
@@ -257,7 +260,7 @@ impl Formats {
     fn bar(&mut self) -> Called
         ensures { specs.told self.new result ≡ specs.bar self.old }
     {
-        self.bars = (self.bars + 1).min(2);
+        self.bars = one_more(self.bars, 2);
         Called::only(Call::Nothing)
     }
 

@@ -6,7 +6,7 @@ ghost use Rattle.nr_tbl.specs.Macros.{macros};
 use nr_units::slice_vec::SliceVec;
 
 /// The macros.
-static MACROS: [u8; 9151] = *b"\
+static MACROS: [u8; 9593] = *b"\
 .de *.\n\
 ..\n\
 .de *begin\n\
@@ -29,6 +29,7 @@ static MACROS: [u8; 9151] = *b"\
 .rm *rows\n\
 .rm *blocks\n\
 .rm *spans\n\
+.nr *J 0\n\
 ..\n\
 .de *line\n\
 .nr *K +1\n\
@@ -63,6 +64,7 @@ static MACROS: [u8; 9151] = *b"\
 .de *bars\n\
 .nr *t \\\\n(*c+1\n\
 .nr *v\\\\n(*K,\\\\n(*t \\\\$1\n\
+.if \\\\$1 .if \\\\n(*t>\\\\n[*right] .nr *right \\\\n(*t\n\
 ..\n\
 .de *font\n\
 .ds *f\\\\n(*K,\\\\n(*c \\\\$1\n\
@@ -108,6 +110,7 @@ static MACROS: [u8; 9151] = *b"\
 .if \\\\n(*y=5 .*later \\\\n(*r \\\\n(*k \\\\n(*f \\\\$1 \\\\$2\n\
 ..\n\
 .de *later\n\
+.nr *J 1\n\
 .am *blocks *.\n\
 .*mblock \\\\$1 \\\\$2 \\\\$3 \\\\$4 \\\\$5\n\
 .*.\n\
@@ -174,6 +177,29 @@ static MACROS: [u8; 9151] = *b"\
 .*total \\\\$4 \\\\$5\n\
 .if \\\\n(*Q=\\\\n(*G .*block \\\\$1 \\\\$2 \\\\$3 \\\\$4 \\\\$5\n\
 ..\n\
+.de *spread3\n\
+.di *z\n\
+.in 0\n\
+.ll 5n\n\
+.fi\n\
+a b ccc\n\
+.br\n\
+.di\n\
+.ll \\\\n(*Lu\n\
+.in \\\\n(*Iu\n\
+.rm *z\n\
+..\n\
+.de *adjusted\n\
+.*spread3\n\
+.if !\\\\n(dl=\\\\n(*J .ad\n\
+.if !\\\\n(dl=\\\\n(*J .*spread3\n\
+.if !\\\\n(dl=\\\\n(*J .*adjust\n\
+..\n\
+.de *adjust\n\
+.if \\\\n(*J=5n .ad b\n\
+.if \\\\n(*J=4n .ad c\n\
+.if \\\\n(*J=3n .na\n\
+..\n\
 .de *block\n\
 .nr *t 1\n\
 .ds *h *mins\n\
@@ -189,12 +215,13 @@ static MACROS: [u8; 9151] = *b"\
 .br\n\
 .ft R\n\
 .di\n\
+.nr *h\\\\$1,\\\\$3 \\\\n(dn\n\
+.nr *d\\\\$1,\\\\$3 \\\\n(dl\n\
 .ll \\\\n(*Lu\n\
 .in \\\\n(*Iu\n\
 .rm *b\\\\$1,\\\\$3\n\
-.nr *h\\\\$1,\\\\$3 \\\\n(dn\n\
-.nr *d\\\\$1,\\\\$3 \\\\n(dl\n\
-.nr *t \\\\n(dl\n\
+.*adjusted\n\
+.nr *t \\\\n[*d\\\\$1,\\\\$3]\n\
 .if '\\\\*[*k\\\\$2,\\\\$4]'a' .nr *t +2n\n\
 .if \\\\$4=\\\\$5 .*mmax *w\\\\$4 \\\\n(*t\n\
 .if \\\\$4<\\\\$5 .*mspan \\\\$4 \\\\$5 \\\\n(*t\n\
@@ -253,8 +280,9 @@ static MACROS: [u8; 9151] = *b"\
 .if \\\\n[*edge] .nr *S 1n*\\\\n[*edge]\n\
 .ds *h *place\n\
 .*all\n\
-.if \\\\n[*box] .nr *right 1\n\
-.if \\\\n[*right] .nr *W +1n\n\
+.nr *g 0\\\\n[*box]\n\
+.if \\\\n[*right]>\\\\n(*N .nr *g 1\n\
+.if \\\\n(*g .nr *W +1n\n\
 ..\n\
 .de *end\n\
 .br\n\
@@ -263,6 +291,8 @@ static MACROS: [u8; 9151] = *b"\
 .*spans\n\
 .rm *spans\n\
 .nr *Q 0\n\
+.if \\\\n(*J .*spread3\n\
+.if \\\\n(*J .nr *J \\\\n(dl\n\
 .*blocks\n\
 .*spans\n\
 .nr *S 0\n\
@@ -323,7 +353,7 @@ static MACROS: [u8; 9151] = *b"\
 ..\n\
 .de *dash\n\
 .nr *7 \\\\$1-\\\\n(*p\n\
-.if \\\\n(*7>0 .as *o \"\\\\l'\\\\n(*7u\\\\-'\n\
+.if \\\\n(*7>0 .as *o \"\\\\l'\\\\n(*7u-'\n\
 .if \\\\n(*7>0 .nr *p +\\\\n(*7\n\
 ..\n\
 .de *barsof\n\
@@ -340,7 +370,6 @@ static MACROS: [u8; 9151] = *b"\
 .nr *4 \\\\$2\n\
 .ds *o\n\
 .nr *p 0\n\
-.if \\\\n[*box] .nr *3 0\\\\$1\n\
 .ds *h *drawcell\n\
 .*all\n\
 .nr *c \\\\n(*N+1\n\
@@ -385,6 +414,8 @@ static MACROS: [u8; 9151] = *b"\
 .nr *f 0 1\n\
 .if \\\\n(*P .*draw \\\\n(*R \\\\n(*k\n\
 .nr *R \\\\n(*k\n\
+.if \\\\n(.u .nf\n\
+.if !\\\\n(.i=\\\\n(*O .in \\\\n(*Ou\n\
 .nr *H 0\n\
 .nr *B 0\n\
 .nr *V 0\n\
@@ -399,7 +430,7 @@ static MACROS: [u8; 9151] = *b"\
 .ie \\\\n(*H .*tall\n\
 .el \\&\\\\*(*o\n\
 .if \\\\n(*E .*extra\n\
-.*forget \\\\$3\n\
+.*forget\n\
 .if \\\\n[*box]=2 .nr *P 1\n\
 ..\n\
 .de *pbar\n\
@@ -487,8 +518,7 @@ static MACROS: [u8; 9151] = *b"\
 .de *tall\n\
 .ne \\\\n(*Hu\n\
 .mk *M\n\
-.ds *V \"\\&\\\\*(*o\n\
-\\\\*(*V\n\
+\\&\\\\*(*o\n\
 .if \\\\n(*V .*barlines\n\
 .*put\n\
 .rm *put\n\
@@ -516,30 +546,35 @@ static MACROS: [u8; 9151] = *b"\
 ..\n\
 .de *left\n\
 .nr *E 1\n\
+.nr *g \\\\n(*f\n\
 .ds *e\n\
-.*more\n\
+.ds *h *more\n\
+.*all\n\
+.nr *c \\\\n(*N+1\n\
+.*more \\\\n(*c\n\
 ..\n\
 .de *more\n\
-.nr *f +1\n\
-.as *e \"\\\\\\\\*[*t\\\\n(*r,\\\\n(*f]\\0\n\
-.if \\\\n(*f<\\\\n(*F .*more\n\
+.if \\\\$1>\\\\n(*g .if \\\\$1<=\\\\n(*F .as *e \"\\\\\\\\*[*t\\\\n(*r,\\\\$1]\\0\n\
 ..\n\
 .de *extra\n\
 \\&\\\\*(*e\n\
 ..\n\
 .de *forget\n\
-.nr *f 0\n\
-.if \\\\$1 .*forget1 \\\\$1\n\
+.ds *h *drop\n\
+.*all\n\
+.nr *c \\\\n(*N+1\n\
+.*drop \\\\n(*c\n\
 ..\n\
-.de *forget1\n\
-.nr *f +1\n\
-.rm *t\\\\n(*r,\\\\n(*f\n\
-.rm *u\\\\n(*r,\\\\n(*f\n\
-.rm *d\\\\n(*r,\\\\n(*f\n\
-.rr *y\\\\n(*r,\\\\n(*f\n\
-.rr *h\\\\n(*r,\\\\n(*f\n\
-.rr *d\\\\n(*r,\\\\n(*f\n\
-.if \\\\n(*f<\\\\$1 .*forget1 \\\\$1\n\
+.de *drop\n\
+.if \\\\$1<=\\\\n(*F .*dropped \\\\n(*r,\\\\$1\n\
+..\n\
+.de *dropped\n\
+.rm *t\\\\$1\n\
+.rm *u\\\\$1\n\
+.rm *d\\\\$1\n\
+.rr *y\\\\$1\n\
+.rr *h\\\\$1\n\
+.rr *d\\\\$1\n\
 ..\n\
 ";
 

@@ -1,5 +1,5 @@
 //! Where a number is aligned: at `\&`, else at its last point before a digit, else behind its last digit.
-ghost use Rattle.std.specs.Prelude.{◌≡◌, ◌≤◌, ◌<◌, Some, None};
+ghost use Rattle.std.specs.Prelude.{◌≡◌, ◌+◌, ◌^◌, ◌<◌};
 ghost use Rattle.nr_tbl.specs.Numbers as specs;
 
 /// The places in a field that count for that, and its last byte.
@@ -15,6 +15,38 @@ pub(crate) struct Marks {
     pub last: u8,
     /// How long it is without the blanks at its end.
     pub solid: usize,
+}
+
+/// Whether a byte is a digit.
+pub(crate) fn is_digit(byte: u8) -> bool
+    ensures { result ≡ specs.is_digit byte }
+{
+    matches!(byte, b'0'..=b'9')
+}
+
+/// The place before another.
+fn before(place: usize) -> Option<usize>
+    ensures { result ≡ specs.before place }
+{
+    if place == 0 { None } else { Some(place - 1) }
+}
+
+/// One more, of so many at most.
+pub(crate) fn one_more(count: usize, most: usize) -> usize
+    ensures { result ≡ specs.one_more count most }
+{
+    if count < most { count + 1 } else { most }
+}
+
+/// The first `\\&`, of which this may be one.
+fn first_mark(mark: Option<usize>, is_mark: bool, place: usize) -> Option<usize>
+    ensures { result ≡ specs.mark_with mark is_mark place }
+{
+    match mark {
+        Some(first) => Some(first),
+        None if is_mark => before(place),
+        None => None,
+    }
 }
 
 impl Marks {
@@ -33,17 +65,14 @@ impl Marks {
 
     /// With one byte more, which stands at this place.
     pub(crate) fn with(self, byte: u8, place: usize, point: u8) -> Marks
-        requires { place < 2 ^ 63 }
+        requires { place + 1 < 2 ^ 64 }
         ensures { result ≡ specs.marks_with byte place point self }
     {
-        let digit = byte.is_ascii_digit();
+        let digit = is_digit(byte);
         Marks {
-            mark: match self.mark {
-                None if self.last == b'\\' && byte == b'&' => place.checked_sub(1),
-                mark => mark,
-            },
+            mark: first_mark(self.mark, self.last == b'\\' && byte == b'&', place),
             point: if digit && self.last == point {
-                place.checked_sub(1)
+                before(place)
             } else {
                 self.point
             },

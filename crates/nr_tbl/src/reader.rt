@@ -98,8 +98,8 @@ fn front_of(text: &[u8], len: Option<usize>) -> &[u8]
     ensures few { length result.now ≤ length text.now }
 {
     match len {
-        Some(len) => &text[..len.min(text.len())],
-        None => text,
+        Some(len) if len < text.len() => &text[..len],
+        _ => text,
     }
 }
 
@@ -111,8 +111,9 @@ fn put_field(text: &[u8], front: Option<usize>, out: &mut SliceVec<'_, u8>)
     ensures room { out.new.room ≡ out.old.room }
 {
     put_text(text, out);
-    if front.is_some() {
-        put_front(front_of(text, front), out);
+    match front {
+        Some(place) => put_front(front_of(text, Some(place)), out),
+        None => {}
     }
 }
 
@@ -141,11 +142,12 @@ impl<'a> Reader<'a> {
     fn keep_field(&mut self, byte: u8)
         ensures { self.new ≡ specs.field_kept byte self.old }
     {
-        if self.row.is_full() {
+        let place = self.row.len();
+        if place >= self.row.room() {
             return;
         }
         let point = self.half.options.point;
-        self.half.marks = self.half.marks.with(byte, self.row.len(), point);
+        self.half.marks = self.half.marks.with(byte, place, point);
         self.half.shape = self.half.shape.with(byte);
         self.row.push(byte);
     }

@@ -1,5 +1,5 @@
 //! Rows and their fields.
-ghost use Rattle.std.specs.Prelude.{◌≡◌, Bool};
+ghost use Rattle.std.specs.Prelude.{◌≡◌};
 ghost use Rattle.nr_tbl.specs.Half.{met};
 ghost use Rattle.nr_tbl.specs.Rows as specs;
 
@@ -8,7 +8,7 @@ use super::field::Shape;
 use super::formats::Formats;
 use super::half::{Act, Half, Mode, Seen};
 use super::held::{Held, ends_name};
-use super::numbers::Marks;
+use super::numbers::{Marks, is_digit, one_more};
 use super::said::{Mark, Said};
 
 /// One more than the greatest number of columns.
@@ -24,7 +24,7 @@ impl Half {
         }
         match held {
             Held::Nothing => self.leaves(Mode::Field, Act::Say(Said::Nothing)),
-            Held::Dot if byte.is_ascii_digit() => self.leaves(Mode::Field, Act::KeepField(b'.')),
+            Held::Dot if is_digit(byte) => self.leaves(Mode::Field, Act::KeepField(b'.')),
             Held::End if ends_name(byte) => self.leaves(Mode::Passing, Act::Say(Said::End)),
             Held::More if ends_name(byte) => self.leaves(Mode::Command, Act::Say(Said::More)),
             _ => self.leaves(Mode::Request, Act::Say(Said::Request(held))),
@@ -88,7 +88,7 @@ impl Half {
     pub(crate) fn counts_field(&mut self)
         ensures { self.new ≡ specs.counted self.old }
     {
-        self.fields = (self.fields + 1).min(MOST_FIELDS);
+        self.fields = one_more(self.fields, MOST_FIELDS);
         self.shape = Shape::Empty;
         self.marks = Marks::new();
     }
