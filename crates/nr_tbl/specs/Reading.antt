@@ -1,5 +1,5 @@
 -- A page is read byte by byte.
-use Rattle.std.specs.Prelude.{◌≡◌, ℕ, zero, suc, ◌+◌, ◌*◌, List, [], ◌∷◌, ◌++◌, length, take, Bool, true, false, ◌==◌, ◌&&◌, ◌||◌, if◌then◌else◌, Option, None, Some}
+use Rattle.std.specs.Prelude.{◌≡◌, ℕ, zero, suc, ◌+◌, ◌*◌, List, [], ◌∷◌, ◌++◌, length, take, Bool, true, false, ◌==◌, ◌&&◌, if◌then◌else◌, Option, None, Some}
 use Rattle.nr_units.specs.Items.{Items}
 use Rattle.nr_tbl.specs.declared.complaint.Kind.{Kind}
 use Rattle.nr_tbl.specs.declared.half.Half.{Half}
@@ -174,8 +174,17 @@ abbrev pub is_passing : Mode → Bool
 is_passing modes.Passing = true
 is_passing mode = false
 
+-- nothing was found wrong
+abbrev pub is_well : Option Kind → Bool
+is_well None = true
+is_well (Some kind) = false
+
+-- bytes go out as they are and change nothing, up to a newline
 abbrev pub passes : Page → Bool
-passes p = is_passing p.half.mode
+passes p = is_passing p.half.mode && is_well p.half.complaint
+
+abbrev pub HasNoNewline : List ℕ → Type 0
+HasNoNewline bytes = All (λ b. (b == 10) ≡ false) bytes
 
 -- ---- the definition: what comes of all bytes of an input, where so many bytes of formats and of a field are kept
 

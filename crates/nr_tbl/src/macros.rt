@@ -6,7 +6,7 @@ ghost use Rattle.nr_tbl.specs.Macros.{macros};
 use nr_units::slice_vec::SliceVec;
 
 /// The macros.
-static MACROS: [u8; 9593] = *b"\
+static MACROS: [u8; 9773] = *b"\
 .de *.\n\
 ..\n\
 .de *begin\n\
@@ -34,6 +34,7 @@ static MACROS: [u8; 9593] = *b"\
 .de *line\n\
 .nr *K +1\n\
 .nr *c 0\n\
+.nr *g\\\\n(*K 1\n\
 ..\n\
 .de *cell\n\
 .nr *c +1\n\
@@ -42,6 +43,7 @@ static MACROS: [u8; 9593] = *b"\
 .ds *f\\\\n(*K,\\\\n(*c\n\
 .nr *z\\\\n(*K,\\\\n(*c 0\n\
 .nr *n\\\\n(*K \\\\n(*c\n\
+.if !'\\\\$1'_' .if !'\\\\$1'=' .nr *g\\\\n(*K 0\n\
 .if !'\\\\$1's' .nr *b \\\\n(*c\n\
 .nr *j\\\\n(*K,\\\\n(*b \\\\n(*c\n\
 .if \\\\n(*c=1 .if \\\\$2>\\\\n[*edge] .nr *edge \\\\$2\n\
@@ -86,8 +88,19 @@ static MACROS: [u8; 9593] = *b"\
 .if !\\\\n[*x\\\\n(*c] .nr *xs +1\n\
 .nr *x\\\\n(*c 1\n\
 ..\n\
+.de *lines1\n\
+.am *rows *.\n\
+.*hrule\n\
+.*.\n\
+.nr *k +1\n\
+.*skip\n\
+..\n\
+.de *skip\n\
+.if \\\\n(*k<\\\\n(*K .if \\\\n[*g\\\\n(*k] .*lines1\n\
+..\n\
 .de *row\n\
 .nr *F \\\\n(*f\n\
+.*skip\n\
 .nr *f 0 1\n\
 .ds *h *mcell\n\
 .*all\n\

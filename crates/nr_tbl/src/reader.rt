@@ -328,6 +328,6 @@ impl<'a> Reader<'a> {
     pub(crate) fn passes(&self) -> bool
         ensures { result ≡ specs.passes self.now }
     {
-        matches!(self.half.mode, Mode::Passing)
+        matches!(self.half.mode, Mode::Passing) && self.half.complaint.is_none()
     }
 }

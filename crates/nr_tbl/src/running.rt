@@ -1,8 +1,8 @@
 //! A whole page is turned.
-ghost use Rattle.std.specs.Prelude.{◌≡◌, ◌+◌, ◌*◌, ◌^◌, ◌<◌, ◌≤◌, [], length, false, None, OnOk};
+ghost use Rattle.std.specs.Prelude.{◌≡◌, ◌+◌, ◌*◌, ◌^◌, ◌<◌, ◌≤◌, [], length, take, false, OnOk};
 ghost use Rattle.std.specs.Io.KnownBytes.{Appends};
 ghost use Rattle.nr_units.specs.Failures.{counted_if, put_counted, put_counted_if};
-ghost use Rattle.nr_tbl.specs.Reading.{first_page, most, passes};
+ghost use Rattle.nr_tbl.specs.Reading.{first_page, most as most_of, HasNoNewline};
 ghost use Rattle.nr_tbl.specs.Running as specs;
 
 use super::complaint::{Complaint, Kind};
@@ -13,6 +13,9 @@ use nr_units::source::{Fault, Source};
 
 /// The number of bytes that are too many.
 const TOO_MANY: u64 = 1_099_511_627_776;
+
+/// How many bytes that pass are taken at once.
+const CHUNK: usize = 16384;
 
 /// How a run ended.
 #[derive(Clone, Copy, Debug, PartialEq, Eq)]
@@ -121,16 +124,15 @@ fn make_room<W: Sink>(most: usize, out: &mut SliceVec<'_, u8>, output: &mut W) -
 
 /// How many bytes come before the first newline.
 fn before_newline(bytes: &[u8]) -> usize
-    ensures { result ≡ specs.before_newline bytes.now }
+    ensures within { result ≤ length bytes.now }
+    ensures none { HasNoNewline (take result bytes.now) }
 {
-    let mut count = 0;
-    for byte in bytes {
+    for (i, byte) in bytes.iter().enumerate() {
         if *byte == b'\n' {
-            return count;
+            return i;
         }
-        count += 1;
     }
-    count
+    bytes.len()
 }
 
 /// Bytes at hand that pass are taken, and tells how many.
@@ -139,12 +141,18 @@ fn take_passing<R: Source>(
     input: &mut R,
     out: &mut SliceVec<'_, u8>,
     most: u64,
-) -> u64 {
+) -> u64
+    requires { length out.old.items + CHUNK ≤ out.old.room }
+    ensures took { specs.Took (R.supply input.old) (R.supply input.new) reader.now reader.now out.old.items out.new.items result }
+    ensures few { result ≤ most }
+    ensures failures { R.failures input.new ≡ R.failures input.old }
+    ensures room { out.new.room ≡ out.old.room }
+{
     if !reader.passes() {
         return 0;
     }
     let window = input.window();
-    let len = window.len().min(out.room() - out.len()).min(most as usize);
+    let len = window.len().min(CHUNK).min(most as usize);
     let count = before_newline(&window[..len]);
     out.extend(&window[..count]);
     input.skip(count);
@@ -157,7 +165,15 @@ fn make_turn<R: Source>(
     input: &mut R,
     out: &mut SliceVec<'_, u8>,
     most: u64,
-) -> Turn {
+) -> Turn
+    requires room { length out.old.items + 10 * most_of reader.old ≤ out.old.room }
+    requires some { 0 < most }
+    ensures turns { specs.Turns (R.supply input.old) (R.supply input.new) reader.old reader.new out.old.items out.new.items result }
+    ensures counted { specs.IsCounted most result }
+    ensures failures { R.failures input.new ≡ counted_if (specs.is_fault result) (R.failures input.old) }
+    ensures rooms { most_of reader.new ≡ most_of reader.old }
+    ensures room { out.new.room ≡ out.old.room }
+{
     let count = take_passing(reader, input, out, most);
     if count > 0 {
         return Turn::Took(count);
@@ -176,7 +192,10 @@ fn make_turn<R: Source>(
 }
 
 /// The rest goes out, and the run has ended so.
-fn ended<W: Sink>(out: &mut SliceVec<'_, u8>, output: &mut W, outcome: Outcome) -> Outcome {
+fn ended<W: Sink>(out: &mut SliceVec<'_, u8>, output: &mut W, outcome: Outcome) -> Outcome
+    ensures ends { specs.EndsAs outcome result (W.held output.old) (W.held output.new) out.old.items }
+    ensures failures { specs.is_write_fault outcome ≡ false → W.failures output.new ≡ put_counted_if (specs.is_write_fault result) (W.failures output.old) }
+{
     match put_pending(out, output) {
         Ok(()) => outcome,
         Err(Fault) => Outcome::WriteFault,
@@ -191,7 +210,15 @@ fn run<R: Source, W: Sink>(
     output: &mut W,
     out: &mut SliceVec<'_, u8>,
     notes: &mut Notes<'_>,
-) -> Outcome {
+) -> Outcome
+    requires first { reader.old ≡ first_page reader.old.formats.room reader.old.row.room }
+    requires most { most ≡ 10 * most_of reader.old }
+    requires room { most ≤ out.old.room }
+    requires empty { out.old.items ≡ [] }
+    ensures ran { specs.Ran reader.old.formats.room reader.old.row.room (R.supply input.old) (R.supply input.new) (W.held output.old) (W.held output.new) result }
+    ensures read_faults { specs.TellsReads result (R.failures input.old) (R.failures input.new) }
+    ensures write_faults { W.failures output.new ≡ put_counted_if (specs.is_write_fault result) (W.failures output.old) }
+{
     let mut taken = 0;
     while taken < TOO_MANY {
         match make_room(most, out, output) {
@@ -229,6 +256,10 @@ pub fn convert<R: Source, W: Sink>(
     requires formats { length formats.old ≤ 2 ^ 30 }
     requires row { length row.old ≤ 2 ^ 30 }
     requires pending { specs.pending_size (length formats.old) (length row.old) ≤ length pending.old }
+    ensures ran { specs.Ran (length formats.old) (length row.old) (R.supply input.old) (R.supply input.new) (W.held output.old) (W.held output.new) result.outcome }
+    // A read fault is told only where the source failed once, and then always, but where the output fails too.
+    ensures read_faults { specs.TellsReads result.outcome (R.failures input.old) (R.failures input.new) }
+    ensures write_faults { W.failures output.new ≡ put_counted_if (specs.is_write_fault result.outcome) (W.failures output.old) }
 {
     let most = pending_size(formats.len(), row.len());
     let mut reader = Reader::over(formats, row);
