@@ -96,7 +96,7 @@ def table(lines, i, out, first):
     while i < len(lines):
         l = lines[i]; i += 1
         if re.match(rb'\.TE\b', l):
-            out.append(b'.*end\n'); out.append(l + b'\n'); return i
+            out.append(b'.*end\n.*done\n'); out.append(l + b'\n'); return i
         if re.match(rb'\.T&', l):
             out.append(b'.nr *k \\n(*K+1\n')
             i, raw = formats(i)

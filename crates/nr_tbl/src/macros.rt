@@ -6,7 +6,7 @@ ghost use Rattle.nr_tbl.specs.Macros.{macros};
 use nr_units::slice_vec::SliceVec;
 
 /// The macros.
-static MACROS: [u8; 9773] = *b"\
+static MACROS: [u8; 9778] = *b"\
 .de *.\n\
 ..\n\
 .de *begin\n\
@@ -334,7 +334,6 @@ a b ccc\n\
 .if \\\\n(*P .*draw \\\\n(*R 0\n\
 .if \\\\n[*box]=3 .*draw \\\\n(*R 0\n\
 .nr *P 0\n\
-.*done\n\
 ..\n\
 .de *done\n\
 .ll \\\\n(*Lu\n\
@@ -348,6 +347,7 @@ a b ccc\n\
 .if !\\\\n(*C .cp 1\n\
 ..\n\
 .de *plain\n\
+.in \\\\n(*Iu\n\
 .nf\n\
 ..\n\
 .de *rule\n\
