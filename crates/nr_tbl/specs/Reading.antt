@@ -1,5 +1,5 @@
 -- A page is read byte by byte.
-use Rattle.std.specs.Prelude.{◌≡◌, ℕ, zero, suc, ◌+◌, ◌*◌, List, [], ◌∷◌, ◌++◌, length, take, Bool, true, false, ◌==◌, ◌&&◌, if◌then◌else◌, Option, None, Some}
+use Rattle.std.specs.Prelude.{◌≡◌, ℕ, zero, suc, ◌+◌, ◌*◌, List, [], ◌∷◌, ◌++◌, length, take, Bool, true, false, not, ◌==◌, ◌&&◌, if◌then◌else◌, Option, None, Some}
 use Rattle.nr_units.specs.Items.{Items}
 use Rattle.nr_tbl.specs.declared.complaint.Kind.{Kind}
 use Rattle.nr_tbl.specs.declared.half.Half.{Half}
@@ -183,8 +183,13 @@ is_well (Some kind) = false
 abbrev pub passes : Page → Bool
 passes p = is_passing p.half.mode && is_well p.half.complaint
 
-abbrev pub HasNoNewline : List ℕ → Type 0
-HasNoNewline bytes = All (λ b. (b == 10) ≡ false) bytes
+-- a byte that ends no line
+abbrev pub is_plain_byte : ℕ → Bool
+is_plain_byte b = not (b == 10)
+
+-- the first n of these go out as they are and change nothing
+abbrev pub IsPlainFront : ℕ → List ℕ → Page → Type 0
+IsPlainFront n bytes p = fed p (take n bytes) ≡ told p (take n bytes)
 
 -- ---- the definition: what comes of all bytes of an input, where so many bytes of formats and of a field are kept
 

@@ -325,9 +325,32 @@ impl<'a> Reader<'a> {
     }
 
     /// Whether bytes pass up to a newline.
-    pub(crate) fn passes(&self) -> bool
+    fn passes(&self) -> bool
         ensures { result ≡ specs.passes self.now }
     {
         matches!(self.half.mode, Mode::Passing) && self.half.complaint.is_none()
     }
+
+    /// How many of these bytes come first that go out as they are and change nothing.
+    pub(crate) fn plain_front(&self, bytes: &[u8]) -> usize
+        ensures within { result ≤ length bytes.now }
+        ensures plain { specs.IsPlainFront result bytes.now self.now }
+    {
+        if !self.passes() {
+            return 0;
+        }
+        for (i, byte) in bytes.iter().enumerate() {
+            if !is_plain_byte(*byte) {
+                return i;
+            }
+        }
+        bytes.len()
+    }
+}
+
+/// A byte that ends no line.
+fn is_plain_byte(byte: u8) -> bool
+    ensures { result ≡ specs.is_plain_byte byte }
+{
+    byte != b'\n'
 }

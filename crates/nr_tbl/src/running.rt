@@ -1,8 +1,8 @@
 //! A whole page is turned.
-ghost use Rattle.std.specs.Prelude.{◌≡◌, ◌+◌, ◌*◌, ◌^◌, ◌<◌, ◌≤◌, [], length, take, false, OnOk};
+ghost use Rattle.std.specs.Prelude.{◌≡◌, ◌+◌, ◌*◌, ◌^◌, ◌<◌, ◌≤◌, [], length, false, OnOk};
 ghost use Rattle.std.specs.Io.KnownBytes.{Appends};
 ghost use Rattle.nr_units.specs.Failures.{counted_if, put_counted, put_counted_if};
-ghost use Rattle.nr_tbl.specs.Reading.{first_page, most as most_of, HasNoNewline};
+ghost use Rattle.nr_tbl.specs.Reading.{first_page, most as most_of};
 ghost use Rattle.nr_tbl.specs.Running as specs;
 
 use super::complaint::{Complaint, Kind};
@@ -122,19 +122,6 @@ fn make_room<W: Sink>(most: usize, out: &mut SliceVec<'_, u8>, output: &mut W) -
     put_pending(out, output)
 }
 
-/// How many bytes come before the first newline.
-fn before_newline(bytes: &[u8]) -> usize
-    ensures within { result ≤ length bytes.now }
-    ensures none { HasNoNewline (take result bytes.now) }
-{
-    for (i, byte) in bytes.iter().enumerate() {
-        if *byte == b'\n' {
-            return i;
-        }
-    }
-    bytes.len()
-}
-
 /// Bytes at hand that pass are taken, and tells how many.
 fn take_passing<R: Source>(
     reader: &Reader<'_>,
@@ -142,18 +129,15 @@ fn take_passing<R: Source>(
     out: &mut SliceVec<'_, u8>,
     most: u64,
 ) -> u64
-    requires { length out.old.items + CHUNK ≤ out.old.room }
+    requires { length out.old.items + 16384 ≤ out.old.room }
     ensures took { specs.Took (R.supply input.old) (R.supply input.new) reader.now reader.now out.old.items out.new.items result }
     ensures few { result ≤ most }
     ensures failures { R.failures input.new ≡ R.failures input.old }
     ensures room { out.new.room ≡ out.old.room }
 {
-    if !reader.passes() {
-        return 0;
-    }
     let window = input.window();
     let len = window.len().min(CHUNK).min(most as usize);
-    let count = before_newline(&window[..len]);
+    let count = reader.plain_front(&window[..len]);
     out.extend(&window[..count]);
     input.skip(count);
     count as u64

@@ -1,0 +1,4 @@
+mod Hearing
+mod Plain
+mod Reading
+mod Turning
