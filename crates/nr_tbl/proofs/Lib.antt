@@ -1,4 +1,4 @@
-mod Hearing
-mod Plain
-mod Reading
-mod Turning
+pub mod Hearing
+pub mod Plain
+pub mod Reading
+pub mod Turning

@@ -1,5 +1,5 @@
 -- How a run goes on and ends.
-use Rattle.std.proofs.Common.{◌≡◌, ℕ, ◌+◌, ◌*◌, ◌≤◌, List, [], ◌∷◌, ◌++◌, length, take, drop, Bool, Option, None, Some, Result, Ok, Err, OnOk, refl, sym, ◌∙◌, ap, subst, append_assoc, append-nil, arith, length-append}
+use Rattle.std.proofs.Common.{◌≡◌, ℕ, ◌+◌, ◌≤◌, List, [], ◌∷◌, ◌++◌, length, take, drop, Bool, Option, None, Some, Result, Ok, Err, OnOk, refl, sym, ◌∙◌, ap, subst, append_assoc, append-nil, arith, length-append}
 use Rattle.std.specs.Io.KnownBytes.{Appends}
 use Rattle.std.proofs.KnownBytes.{Appends-trans, Appends-nil}
 use Rattle.std.proofs.lemmas.List.{take-append-drop, take-take, length-take}
@@ -9,7 +9,7 @@ use Rattle.nr_units.specs.declared.source.Fault.{Fault}
 use Rattle.nr_units.proofs.Fronts.{AppendsFront-append, AppendsFront-after}
 use Rattle.nr_tbl.specs.declared.running.Outcome.{Outcome}
 use Rattle.nr_tbl.specs.declared.running.Outcome.TheVariants.{Done, ReadFault, TooLong, WriteFault}
-use Rattle.nr_tbl.specs.Reading.{Page, Told, first_page, read, fed, finished, tables_set, told}
+use Rattle.nr_tbl.specs.Reading.{Page, Told, first_page, read, fed, finished, tables_set, told, IsPlainFront}
 use Rattle.nr_tbl.specs.Running.{Comes, Ends, Flushes, Took, Stands, IsCut, IsBroken, Ran, EndsAs}
 use Rattle.nr_tbl.proofs.Reading.{fed-append_page, fed-append_bytes}
 
@@ -104,7 +104,7 @@ Took-trans a b c r s u p q left n m f g =
 
 pub Stands-first : (fl rl : ℕ) (a : Option Supply) (h : Option (List ℕ)) (p : List ℕ) (r : Page)
     → r ≡ first_page fl rl → p ≡ [] → Stands fl rl a a h h p r 0
-Stands-first e a h p r is none = record {
+Stands-first fl rl a h p r is none = record {
   bytes = [];
   came = Comes-nil a;
   count = refl;
@@ -112,21 +112,15 @@ Stands-first e a h p r is none = record {
   sent = [];
   went_out = Appends-nil h;
   all = none;
-  few = omega arith;
 }
 
-grown : (xs ys zs : List ℕ) (n : ℕ) → zs ≡ xs ++ ys → length zs ≤ length xs + 1536 * n → length ys ≤ 1536 * n
-grown xs ys zs n e l =
-    let lengths : length zs ≡ length xs + length ys = ap length e ∙ length-append xs ys in omega arith
-
 pub Stands-took : (fl rl : ℕ) (a b c : Option Supply) (h k : Option (List ℕ)) (p left : List ℕ) (r s : Page) (t n : ℕ)
-    → Stands fl rl a b h k p r t → Took b c r s p left n → length left ≤ length p + 1536 * n → Stands fl rl a c h k left s (t + n)
-Stands-took e a b c h k p left r s t n st w l =
+    → Stands fl rl a b h k p r t → Took b c r s p left n → Stands fl rl a c h k left s (t + n)
+Stands-took fl rl a b c h k p left r s t n st w =
     let before = fed (first_page fl rl) st.bytes in
     let here : fed before.page w.bytes ≡ fed r w.bytes = ap (λ (x : Page). fed x w.bytes) (sym st.page) in
     let more : (fed (first_page fl rl) (st.bytes ++ w.bytes)).bytes ≡ before.bytes ++ (fed r w.bytes).bytes =
     fed-append_bytes (first_page fl rl) st.bytes w.bytes ∙ ap (λ (x : Told). before.bytes ++ x.bytes) here in
-    let few : length (fed r w.bytes).bytes ≤ 1536 * n = grown p (fed r w.bytes).bytes left n w.out l in
     record {
       bytes = st.bytes ++ w.bytes;
       came = Comes-trans a b c st.bytes w.bytes st.came w.came;
@@ -138,14 +132,11 @@ Stands-took e a b c h k p left r s t n st w l =
       all =
           ap (λ (xs : List ℕ). st.sent ++ xs) w.out ∙ sym (append_assoc st.sent p (fed r w.bytes).bytes)
           ∙ ap (λ (xs : List ℕ). xs ++ (fed r w.bytes).bytes) st.all ∙ sym more;
-      few = (let lengths : length (fed (first_page fl rl) (st.bytes ++ w.bytes)).bytes ≡ length before.bytes + length (fed r w.bytes).bytes =
-          ap length more ∙ length-append before.bytes (fed r w.bytes).bytes in
-          let first : length before.bytes ≤ 1536 * t = st.few in omega arith);
     }
 
 pub Stands-flushed : (fl rl : ℕ) (a b : Option Supply) (h k m : Option (List ℕ)) (p left : List ℕ) (r : Page) (t : ℕ)
     → Stands fl rl a b h k p r t → Flushes k m p left → Stands fl rl a b h m left r t
-Stands-flushed e a b h k m p left r t st f = record {
+Stands-flushed fl rl a b h k m p left r t st f = record {
   bytes = st.bytes;
   came = st.came;
   count = st.count;
@@ -153,7 +144,6 @@ Stands-flushed e a b h k m p left r t st f = record {
   sent = st.sent ++ f.out;
   went_out = Appends-trans h k m st.sent f.out st.went_out f.went_out;
   all = append_assoc st.sent f.out left ∙ ap (λ (xs : List ℕ). st.sent ++ xs) (sym f.all) ∙ st.all;
-  few = st.few;
 }
 
 pub Flushes-none : (k : Option (List ℕ)) (p : List ℕ) → Flushes k k p p
@@ -181,38 +171,27 @@ Took-byte a b byte r s pending left gives reader out = record {
 
 ended-all : (fl rl : ℕ) (sent p left bytes : List ℕ) (r : Page) → sent ++ p ≡ (fed (first_page fl rl) bytes).bytes
     → r ≡ (fed (first_page fl rl) bytes).page → left ≡ p ++ (finished r).bytes → sent ++ left ≡ tables_set fl rl bytes
-ended-all e sent p left bytes r all reader out =
+ended-all fl rl sent p left bytes r all reader out =
     ap (λ (xs : List ℕ). sent ++ xs) out ∙ sym (append_assoc sent p ((finished r).bytes))
     ∙ ap (λ (xs : List ℕ). xs ++ (finished r).bytes) all
-    ∙ ap (λ (x : Page). (fed (first_page fl rl) bytes).bytes ++ finished x) reader
-
-tables_set-few : (fl rl : ℕ) (bytes p left rest : List ℕ) (r : Page) (t : ℕ) → length bytes ≡ t
-    → length (fed (first_page fl rl) bytes).bytes ≤ 1536 * t → r ≡ (fed (first_page fl rl) bytes).page
-    → left ≡ p ++ (finished r).bytes → length left ≤ length p + 1536 → length (tables_set fl rl bytes) ≤ 1536 * (length bytes + 1)
-tables_set-few fl rl bytes p left rest r t count few reader out l =
-    let after = fed (first_page fl rl) bytes in
-    let lengths : length (tables_set fl rl bytes) ≡ length after.bytes + length (finished after.page).bytes =
-    length-append after.bytes (finished after.page).bytes in
-    let same : length (finished after.page).bytes ≡ length ((finished r).bytes) = ap (λ (x : Page). length (finished x)) (sym reader) in
-    let split : length left ≡ length p + length ((finished r).bytes) = ap length out ∙ length-append p ((finished r).bytes) in omega arith
+    ∙ ap (λ (x : Page). (fed (first_page fl rl) bytes).bytes ++ (finished x).bytes) reader
 
 pub Ran-done : (fl rl : ℕ) (a b c : Option Supply) (h k m : Option (List ℕ)) (p left : List ℕ) (r : Page) (t : ℕ)
-    → Stands fl rl a b h k p r t → Comes b [] c × Ends b c × (left ≡ p ++ (finished r).bytes) → length left ≤ length p + 1536
+    → Stands fl rl a b h k p r t → Comes b [] c × Ends b c × (left ≡ p ++ (finished r).bytes) 
     → (outcome : Outcome) → EndsAs Done outcome k m left → Ran fl rl a c h m outcome
-Ran-done e a b c h k m p left r t st turn l Done ends =
-    let all = ended-all e st.sent p left st.bytes r st.all st.page turn.2 in
+Ran-done fl rl a b c h k m p left r t st turn Done ends =
+    let all = ended-all fl rl st.sent p left st.bytes r st.all st.page turn.2 in
     let P : List ℕ → Type 0 = λ xs. Appends h m xs in
     record {
       bytes = st.bytes;
       came = Comes-then_nothing a b c st.bytes st.came turn.0;
       ends = Ends-after a b c st.bytes st.came turn.1;
       went_out = subst P all (Appends-trans h k m st.sent left st.went_out ends.1);
-      few = tables_set-few e st.bytes p left [] r t st.count st.few st.page turn.2 l;
     }
-Ran-done e a b c h k m p left r t st turn l (ReadFault at) ends = absurd (let no : Done ≡ ReadFault at = ends.0 in cc)
-Ran-done e a b c h k m p left r t st turn l TooLong ends = absurd (let no : Done ≡ TooLong = ends.0 in cc)
-Ran-done e a b c h k m p left r t st turn l WriteFault ends =
-    let all = ended-all e st.sent p left st.bytes r st.all st.page turn.2 in
+Ran-done fl rl a b c h k m p left r t st turn (ReadFault at) ends = absurd (let no : Done ≡ ReadFault at = ends.0 in cc)
+Ran-done fl rl a b c h k m p left r t st turn TooLong ends = absurd (let no : Done ≡ TooLong = ends.0 in cc)
+Ran-done fl rl a b c h k m p left r t st turn WriteFault ends =
+    let all = ended-all fl rl st.sent p left st.bytes r st.all st.page turn.2 in
     let P : List ℕ → Type 0 = λ xs. AppendsFront h m xs in
     record {
       bytes = st.bytes;
@@ -223,7 +202,7 @@ Ran-done e a b c h k m p left r t st turn l WriteFault ends =
 -- what went out and what is pending, cut by a write fault
 Stands-broken : (fl rl : ℕ) (a b c : Option Supply) (h k m : Option (List ℕ)) (p : List ℕ) (r : Page) (t : ℕ)
     → Stands fl rl a b h k p r t → Comes b [] c → AppendsFront k m p → IsBroken fl rl a c h m
-Stands-broken e a b c h k m p r t st came front =
+Stands-broken fl rl a b c h k m p r t st came front =
     let after = fed (first_page fl rl) st.bytes in
     let P : List ℕ → Type 0 = λ xs. AppendsFront h m xs in
     record {
@@ -235,7 +214,7 @@ Stands-broken e a b c h k m p r t st came front =
 
 Stands-cut : (fl rl : ℕ) (a b c : Option Supply) (h k m : Option (List ℕ)) (p : List ℕ) (r : Page) (t : ℕ)
     → Stands fl rl a b h k p r t → Comes b [] c → Appends k m p → IsCut fl rl a c h m t
-Stands-cut e a b c h k m p r t st came went =
+Stands-cut fl rl a b c h k m p r t st came went =
     let P : List ℕ → Type 0 = λ xs. Appends h m xs in
     record {
       bytes = st.bytes;
@@ -246,33 +225,33 @@ Stands-cut e a b c h k m p r t st came went =
 
 pub Ran-broken : (fl rl : ℕ) (a b : Option Supply) (h k m : Option (List ℕ)) (p : List ℕ) (r : Page) (t : ℕ)
     → Stands fl rl a b h k p r t → AppendsFront k m p → Ran fl rl a b h m WriteFault
-Ran-broken e a b h k m p r t st front = Stands-broken e a b b h k m p r t st (Comes-nil b) front
+Ran-broken fl rl a b h k m p r t st front = Stands-broken fl rl a b b h k m p r t st (Comes-nil b) front
 
 ran-fault : (fl rl : ℕ) (a b c : Option Supply) (h k m : Option (List ℕ)) (p : List ℕ) (r : Page) (t : ℕ)
     → Stands fl rl a b h k p r t → Comes b [] c
     → (outcome : Outcome) → EndsAs (ReadFault t) outcome k m p → Ran fl rl a c h m outcome
-ran-fault e a b c h k m p r t st came Done ends = absurd (let no : ReadFault t ≡ Done = ends.0 in cc)
-ran-fault e a b c h k m p r t st came (ReadFault at) ends =
+ran-fault fl rl a b c h k m p r t st came Done ends = absurd (let no : ReadFault t ≡ Done = ends.0 in cc)
+ran-fault fl rl a b c h k m p r t st came (ReadFault at) ends =
     let P : ℕ → Type 0 = λ n. IsCut fl rl a c h m n in
     let same : ReadFault t ≡ ReadFault at = ends.0 in
     let n : t ≡ at = cc in
-    subst P n (Stands-cut e a b c h k m p r t st came ends.1)
-ran-fault e a b c h k m p r t st came TooLong ends = absurd (let no : ReadFault t ≡ TooLong = ends.0 in cc)
-ran-fault e a b c h k m p r t st came WriteFault ends = Stands-broken e a b c h k m p r t st came ends
+    subst P n (Stands-cut fl rl a b c h k m p r t st came ends.1)
+ran-fault fl rl a b c h k m p r t st came TooLong ends = absurd (let no : ReadFault t ≡ TooLong = ends.0 in cc)
+ran-fault fl rl a b c h k m p r t st came WriteFault ends = Stands-broken fl rl a b c h k m p r t st came ends
 
 pub Ran-fault : (fl rl : ℕ) (a b c : Option Supply) (h k m : Option (List ℕ)) (p left : List ℕ) (r : Page) (t : ℕ)
     → Stands fl rl a b h k p r t → Comes b [] c × (left ≡ p)
     → (outcome : Outcome) → EndsAs (ReadFault t) outcome k m left → Ran fl rl a c h m outcome
-Ran-fault e a b c h k m p left r t st turn outcome ends =
+Ran-fault fl rl a b c h k m p left r t st turn outcome ends =
     let P : List ℕ → Type 0 = λ xs. EndsAs (ReadFault t) outcome k m xs in
-    ran-fault e a b c h k m p r t st turn.0 outcome (subst P turn.1 ends)
+    ran-fault fl rl a b c h k m p r t st turn.0 outcome (subst P turn.1 ends)
 
 pub Ran-long : (fl rl : ℕ) (a b : Option Supply) (h k m : Option (List ℕ)) (p : List ℕ) (r : Page) (t : ℕ)
     → t ≡ 1099511627776 → Stands fl rl a b h k p r t
     → (outcome : Outcome) → EndsAs TooLong outcome k m p → Ran fl rl a b h m outcome
-Ran-long e a b h k m p r t n st Done ends = absurd (let no : TooLong ≡ Done = ends.0 in cc)
-Ran-long e a b h k m p r t n st (ReadFault at) ends = absurd (let no : TooLong ≡ ReadFault at = ends.0 in cc)
-Ran-long e a b h k m p r t n st TooLong ends =
+Ran-long fl rl a b h k m p r t n st Done ends = absurd (let no : TooLong ≡ Done = ends.0 in cc)
+Ran-long fl rl a b h k m p r t n st (ReadFault at) ends = absurd (let no : TooLong ≡ ReadFault at = ends.0 in cc)
+Ran-long fl rl a b h k m p r t n st TooLong ends =
     let P : ℕ → Type 0 = λ i. IsCut fl rl a b h m i in
-    subst P n (Stands-cut e a b b h k m p r t st (Comes-nil b) ends.1)
-Ran-long e a b h k m p r t n st WriteFault ends = Ran-broken e a b h k m p r t st ends
+    subst P n (Stands-cut fl rl a b b h k m p r t st (Comes-nil b) ends.1)
+Ran-long fl rl a b h k m p r t n st WriteFault ends = Ran-broken fl rl a b h k m p r t st ends
