@@ -97,3 +97,51 @@ none_behind helds.Begin b bs h = or-second (begins_table (46 ∷ 84 ∷ 83 ∷ b
 none_behind helds.End b bs h = or-second (begins_table (46 ∷ 84 ∷ 69 ∷ b ∷ bs)) (has_table_from (b == 10) bs) h
 none_behind helds.More b bs h = or-second (begins_table (46 ∷ 84 ∷ 38 ∷ b ∷ bs)) (has_table_from (b == 10) bs) h
 none_behind helds.T b bs h = or-second (begins_table (84 ∷ b ∷ bs)) (has_table_from (b == 10) bs) h
+
+-- what comes of bytes outside of tables, in the midst of a line and behind what is held
+record Untouched (fl rl : ℕ) (bs : List ℕ) : Type 0 where
+  pub midst : has_table_from false bs ≡ false → all_of (outside fl rl modes.Passing) bs ≡ bs
+  pub start : (held : Held) → has_table_from true (held_bytes held ++ bs) ≡ false → all_of (outside fl rl (modes.Start held)) bs ≡ held_bytes held ++ bs
+
+none_untouched : (fl rl : ℕ) → Untouched fl rl []
+unfolding heard outside all_of
+none_untouched fl rl = record {
+  midst = λ h. refl;
+  start = λ held h. finished_held fl rl held ∙ sym (append-nil (held_bytes held));
+}
+
+behind_untouched : (fl rl : ℕ) (bs : List ℕ) → Untouched fl rl bs → (newline : Bool) → has_table_from newline bs ≡ false → all_of (outside fl rl (behind_byte newline)) bs ≡ bs
+unfolding behind_byte
+behind_untouched fl rl bs u true h = u.start helds.Nothing h
+behind_untouched fl rl bs u false h = u.midst h
+
+start_untouched : (fl rl b : ℕ) (bs : List ℕ) (held : Held) (o : Option Held) → Untouched fl rl bs → has_table_from true (held_bytes held ++ b ∷ bs) ≡ false
+    → held_with held b ≡ o → all_of (outside fl rl (modes.Start held)) (b ∷ bs) ≡ held_bytes held ++ b ∷ bs
+start_untouched fl rl b bs held (Some more) u h e =
+    let same : held_bytes more ++ bs ≡ held_bytes held ++ b ∷ bs =
+    ap (λ (xs : List ℕ). xs ++ bs) (held_grows held more b e) ∙ append_assoc (held_bytes held) (b ∷ []) bs in
+    one_more (outside fl rl (modes.Start held)) (outside fl rl (modes.Start more)) b [] bs (read_held fl rl b held more e)
+    ∙ u.start more (ap (has_table_from true) same ∙ h) ∙ same
+start_untouched fl rl b bs held None u h e =
+    one_more (outside fl rl (modes.Start held)) (outside fl rl (behind_byte (b == 10))) b (held_bytes held ++ b ∷ []) bs (read_released fl rl b held e (no_begin held b bs h))
+    ∙ ap (λ (xs : List ℕ). (held_bytes held ++ b ∷ []) ++ xs) (behind_untouched fl rl bs u (b == 10) (none_behind held b bs h))
+    ∙ append_assoc (held_bytes held) (b ∷ []) bs
+
+all_untouched : (fl rl : ℕ) (bs : List ℕ) → Untouched fl rl bs
+all_untouched fl rl [] = none_untouched fl rl
+all_untouched fl rl (b ∷ bs) =
+    let u = all_untouched fl rl bs in
+    record {
+      midst = λ h. one_more (outside fl rl modes.Passing) (outside fl rl (behind_byte (b == 10))) b (b ∷ []) bs (read_passing fl rl b)
+          ∙ ap (λ (xs : List ℕ). b ∷ xs) (behind_untouched fl rl bs u (b == 10) h);
+      start = λ held h. start_untouched fl rl b bs held (held_with held b) u h refl;
+    }
+
+pub untouched : (fl rl : ℕ) (text : List ℕ) → is_untouched text ≡ true → tables_set fl rl text ≡ text
+unfolding outside all_of
+untouched fl rl text h = (all_untouched fl rl text).start helds.Nothing (not_true (has_table text) h)
+
+-- at the end of the text
+pub untouched_at_end : (text : List ℕ) (i : ℕ) (starts : Bool) → length text ≤ i → has_table_from starts (drop i text) ≡ has_table text → is_untouched text ≡ true
+untouched_at_end text i starts l e =
+    ap not (sym e ∙ ap (has_table_from starts) (drop_all i text l))
