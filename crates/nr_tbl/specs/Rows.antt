@@ -119,8 +119,9 @@ in_escaped b h =
     if b == 10 then taking modes.Field (Say says.Nothing) h
     else (let m = keeping 92 h in leaving modes.Literal m.act m.half)
 
+-- two backslashes are kept as \e, which stays itself where it is read twice
 abbrev pub in_literal : ℕ → Bool → Half → Met
-in_literal b full h = if (b == 92) && not full then keeping b h else in_field b full h
+in_literal b full h = if (b == 92) && not full then keeping 101 h else in_field b full h
 
 abbrev pub in_row_end : Half → Met
 in_row_end h = taking (modes.RowStart helds.Nothing) (Say says.Row) (row_begun h)

@@ -6,7 +6,7 @@ ghost use Rattle.nr_tbl.specs.Macros.{macros};
 use nr_units::slice_vec::SliceVec;
 
 /// The macros.
-static MACROS: [u8; 9778] = *b"\
+static MACROS: [u8; 9767] = *b"\
 .de *.\n\
 ..\n\
 .de *begin\n\
@@ -472,7 +472,7 @@ a b ccc\n\
 .nr *t \\w\\a\\\\*[*t\\\\n(*r,\\\\n(*f]\\a\n\
 .if !\\\\n(*t .if '\\\\$3'_' .nr *y 1\n\
 .if !\\\\n(*t .if '\\\\$3'=' .nr *y 1\n\
-.if \\\\n(*y=0 .if \\\\n(*t .*ptext \\\\$1 \\\\$2 \\\\$3\n\
+.if \\\\n(*y=0 .*ptext \\\\$1 \\\\$2 \\\\$3\n\
 .if \\\\n(*y=1 .*prule \\\\$1 \\\\$2\n\
 .if \\\\n(*y=2 .*pin \\\\$1\n\
 .if \\\\n(*y=4 .*prepeat \\\\$1\n\

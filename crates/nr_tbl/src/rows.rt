@@ -185,12 +185,12 @@ impl Half {
         self.leaves(Mode::Literal, seen.act)
     }
 
-    /// A byte behind a backslash that is kept.
+    /// A byte behind a backslash that is kept. Two are kept as `\\e`, which stays itself where it is read twice.
     pub(crate) fn in_literal(&mut self, byte: u8, full: bool) -> Seen
         ensures { met self.new result ≡ specs.in_literal byte full self.old }
     {
         if byte == b'\\' && !full {
-            return self.keeps(byte);
+            return self.keeps(b'e');
         }
         self.in_field(byte, full)
     }
