@@ -1,4 +1,4 @@
 pub mod Hearing
-pub mod Plain
+pub mod Passing
 pub mod Reading
 pub mod Turning

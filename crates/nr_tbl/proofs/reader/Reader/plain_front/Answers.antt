@@ -1,5 +1,5 @@
 use Rattle.std.proofs.Common.{◌∙◌, sym, arith}
-use Rattle.nr_tbl.proofs.Plain.{fed-more}
+use Rattle.nr_tbl.proofs.Passing.{fed-more}
 use Rattle.nr_tbl.proofs.reader.Reader.plain_front.Goals as goal
 
 pub loop-i-preserved : goal.loop-i-preserved
