@@ -1,5 +1,6 @@
 -- What comes is met until it is taken.
-use Rattle.std.proofs.Common.{◌≡◌, ℕ, suc, ◌+◌, ◌*◌, ◌-◌, ◌<◌, [], ◌∷◌, ◌++◌, Bool, true, false, not, if◌then◌else◌, refl, sym, ◌∙◌, ap, arith}
+use Rattle.std.proofs.Common.{◌≡◌, ℕ, zero, suc, ◌+◌, ◌*◌, ◌-◌, ◌<◌, ◌≤◌, [], ◌∷◌, ◌++◌, Bool, true, false, not, if◌then◌else◌, refl, sym, ◌∙◌, ap, subst, arith}
+use Rattle.std.proofs.Math.Nat.{suc-mul, add_comm}
 use Rattle.nr_tbl.specs.declared.half.Half.{Half}
 use Rattle.nr_tbl.specs.declared.half.Seen.{Seen}
 use Rattle.nr_tbl.specs.declared.half.Act.{Act}
@@ -7,7 +8,7 @@ use Rattle.nr_tbl.specs.declared.half.Act.TheVariants as acts
 use Rattle.nr_tbl.specs.declared.half.Coming.{Coming}
 use Rattle.nr_tbl.specs.Half.{Met, met}
 use Rattle.nr_tbl.specs.Meeting.{meet}
-use Rattle.nr_tbl.specs.Reading.{Page, Told, told, behind, with_half, full, acted, heard_in, most, is_full, with_formats_kept, with_row, field_half}
+use Rattle.nr_tbl.specs.Reading.{Page, Told, told, behind, with_half, full, acted, heard, heard_in, most, is_full, with_formats_kept, with_row, field_half}
 
 pub not_true : (x : Bool) → not x ≡ true → x ≡ false
 not_true false h = refl
@@ -46,8 +47,27 @@ heard_left n c p h seen e l takes =
 
 -- ---- how much goes out at most
 
-pub one_less : (n m : ℕ) → 0 < n → n * m ≡ m + (n - 1) * m
-one_less n m l = let e : n ≡ suc (n - 1) = omega arith in ap (λ (k : ℕ). k * m) e
+one_less : (n m : ℕ) → 0 < n → n * m ≡ m + (n - 1) * m
+one_less n m l =
+    let e : n ≡ suc (n - 1) = omega arith in
+    ap (λ (k : ℕ). k * m) e ∙ suc-mul (n - 1) m ∙ add_comm ((n - 1) * m) m
+
+room_kept : (a b room x y m : ℕ) → x ≡ m + y → a + x ≤ room → b ≤ a + m → b + y ≤ room
+room_kept a b room x y m e p q = omega arith
+
+few_more : (a b c x y m : ℕ) → x ≡ m + y → b ≤ a + m → c ≤ b + y → c ≤ a + x
+few_more a b c x y m e p q = omega arith
+
+-- behind one of n meetings there is room for the others, and they put no more than that
+pub room_for : (a b room n m k : ℕ) → 0 < n → k ≡ m → a + n * m ≤ room → b ≤ a + m → b + (n - 1) * k ≤ room
+room_for a b room n m k l e p q =
+    let P : ℕ → Type 0 = λ i. b + (n - 1) * i ≤ room in
+    subst P (sym e) (room_kept a b room (n * m) ((n - 1) * m) m (one_less n m l) p q)
+
+pub few_for : (a b c n m k : ℕ) → 0 < n → k ≡ m → b ≤ a + m → c ≤ b + (n - 1) * k → c ≤ a + n * m
+few_for a b c n m k l e p q =
+    let P : ℕ → Type 0 = λ i. c ≤ b + (n - 1) * i in
+    few_more a b c (n * m) ((n - 1) * m) m (one_less n m l) p (subst P e q)
 
 -- the rooms stay as they are
 formats_kept-most : (full : Bool) (b : ℕ) (p : Page) → most (if full then p else with_formats_kept (p.formats.items ++ b ∷ []) p) ≡ most p
@@ -69,3 +89,19 @@ acted-most (acts.KeepField b) p = field_kept-most (is_full p.row) b p
 acted-most (acts.Field front solid) p = refl
 acted-most (acts.Replace said) p = refl
 acted-most acts.GiveUpRow p = refl
+
+-- of all meetings
+met-most : (p : Page) (rest : Told) (takes : Bool) → most rest.page ≡ most p → most (if takes then told p [] else rest).page ≡ most p
+met-most p rest true e = refl
+met-most p rest false e = e
+
+pub heard_in-most : (n : ℕ) (c : Coming) (p : Page) → most (heard_in n c p).page ≡ most p
+heard_in-most zero c p = refl
+heard_in-most (suc n) c p =
+    let m = meet c (full p) p.half in
+    let t = acted m.act (with_half m.half p) in
+    met-most t.page (heard_in n c t.page) m.takes (heard_in-most n c t.page) ∙ acted-most m.act (with_half m.half p)
+
+pub heard-most : (c : Coming) (p : Page) → most (heard c p).page ≡ most p
+unfolding heard
+heard-most c p = heard_in-most 10 c p

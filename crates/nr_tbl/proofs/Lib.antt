@@ -1,4 +1,5 @@
 pub mod Hearing
 pub mod Passing
+pub mod Putting
 pub mod Reading
 pub mod Turning

@@ -1,5 +1,5 @@
 -- Rows and their fields (Tbl, "Data"; tbl(1), "Table data"): lines of fields, with lines of requests between them.
-use Rattle.std.specs.Prelude.{ℕ, Bool, not, ◌==◌, ◌&&◌, nat_le, if◌then◌else◌, Option, None, Some}
+use Rattle.std.specs.Prelude.{ℕ, Bool, false, not, ◌==◌, ◌&&◌, nat_le, if◌then◌else◌, Option, None, Some}
 use Rattle.nr_tbl.specs.declared.complaint.Kind.TheVariants.{TooManyFields, RowLimit}
 use Rattle.nr_tbl.specs.declared.half.Half.{Half}
 use Rattle.nr_tbl.specs.declared.half.Mode.TheVariants as modes

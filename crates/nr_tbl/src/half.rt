@@ -1,5 +1,5 @@
 //! What is half read of a page.
-ghost use Rattle.std.specs.Prelude.{◌≡◌};
+ghost use Rattle.std.specs.Prelude.{◌≡◌, true, false};
 ghost use Rattle.nr_tbl.specs.Half as specs;
 
 use super::complaint::Kind;

@@ -1,6 +1,9 @@
-use Rattle.std.proofs.Common.{◌≡◌, ◌+◌, ℕ, subst, arith}
+use Rattle.std.proofs.Common.{◌≡◌, ◌+◌, ℕ, ◌∙◌, ap, subst, arith}
 use Rattle.nr_tbl.specs.Running.{Took}
 use Rattle.nr_tbl.proofs.Turning.{Took-byte, Took-trans}
+use Rattle.nr_tbl.specs.declared.half.Coming.TheVariants as comings
+use Rattle.nr_tbl.specs.Reading.{most, unblamed}
+use Rattle.nr_tbl.proofs.Hearing.{heard-most}
 use Rattle.nr_tbl.proofs.running.make_turn.Goals as goal
 
 pub returns-in-Ok-Some-clause-turns : goal.returns-in-Ok-Some-clause-turns
@@ -17,3 +20,11 @@ returns-in-Ok-Some-clause-turns g c =
     let P : ℕ → Type 0 = λ k. Took a d r c.read.new.self p c.read.new.out.items k in
     let one : c.take_passing-count.result + 1 ≡ 1 = omega arith in
     subst P one both
+
+pub returns-in-Ok-Some-clause-rooms : goal.returns-in-Ok-Some-clause-rooms
+returns-in-Ok-Some-clause-rooms g c =
+    ap most c.read.ensures.page ∙ heard-most (comings.Byte c.in-Ok-Some.byte) (unblamed c.args.reader.now)
+
+pub returns-in-Ok-None-clause-rooms : goal.returns-in-Ok-None-clause-rooms
+returns-in-Ok-None-clause-rooms g c =
+    ap most c.finish.ensures.page ∙ heard-most comings.End (unblamed c.args.reader.now)
