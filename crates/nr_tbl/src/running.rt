@@ -64,7 +64,9 @@ struct Notes<'a> {
 
 impl<'a> Notes<'a> {
     /// None yet.
-    fn over(complaints: &'a mut [Complaint]) -> Notes<'a> {
+    fn over(complaints: &'a mut [Complaint]) -> Notes<'a>
+        ensures { result.list ≡ record { items = []; room = length complaints.entry.now } }
+    {
         Notes {
             list: SliceVec::over(complaints),
             missed: false,
@@ -72,7 +74,9 @@ impl<'a> Notes<'a> {
     }
 
     /// What was found wrong behind so many bytes, if anything was.
-    fn note(&mut self, kind: Option<Kind>, at: u64) {
+    fn note(&mut self, kind: Option<Kind>, at: u64)
+        ensures { self.new.list.room ≡ self.old.list.room }
+    {
         let Some(kind) = kind else {
             return;
         };
@@ -202,6 +206,7 @@ fn run<R: Source, W: Sink>(
     ensures ran { specs.Ran reader.old.formats.room reader.old.row.room (R.supply input.old) (R.supply input.new) (W.held output.old) (W.held output.new) result }
     ensures read_faults { specs.TellsReads result (R.failures input.old) (R.failures input.new) }
     ensures write_faults { W.failures output.new ≡ put_counted_if (specs.is_write_fault result) (W.failures output.old) }
+    ensures notes { notes.new.list.room ≡ notes.old.list.room }
 {
     let mut taken = 0;
     while taken < TOO_MANY {
@@ -244,6 +249,7 @@ pub fn convert<R: Source, W: Sink>(
     // A read fault is told only where the source failed once, and then always, but where the output fails too.
     ensures read_faults { specs.TellsReads result.outcome (R.failures input.old) (R.failures input.new) }
     ensures write_faults { W.failures output.new ≡ put_counted_if (specs.is_write_fault result.outcome) (W.failures output.old) }
+    ensures complaints { result.complaints ≤ length complaints.old }
 {
     let most = pending_size(formats.len(), row.len());
     let mut reader = Reader::over(formats, row);

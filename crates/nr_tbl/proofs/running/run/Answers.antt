@@ -9,6 +9,7 @@ loop-taken-init g c = record {
   sink = refl;
   rooms = refl;
   room = refl;
+  notes = refl;
   taken = omega arith;
 }
 
@@ -35,6 +36,7 @@ loop-taken-preserved g c =
       sink = c.in-Ok.ensures.failures ∙ c.loop-taken.invariant.sink;
       rooms = c.make_turn.ensures.rooms ∙ c.loop-taken.invariant.rooms;
       room = c.make_turn.ensures.room ∙ c.make_room.ensures.room ∙ c.loop-taken.invariant.room;
+      notes = c.note.ensures ∙ c.loop-taken.invariant.notes;
       taken = (let few = c.in-Took.ensures.counted.1 in omega (arith, few));
     }
 

@@ -10,6 +10,7 @@ invariant-loop-taken g l = record {
   sink : g.W.Sink.failures l.output ≡ g.W.Sink.failures l.fn.output;
   rooms : most l.reader ≡ most l.fn.reader;
   room : l.out.room ≡ l.fn.out.room;
+  notes : l.notes.list.room ≡ l.fn.notes.list.room;
   taken : l.taken ≤ 1099511627776;
 }
 
