@@ -14,3 +14,4 @@ pub mod Reading
 pub mod Rows
 pub mod Running
 pub mod Saying
+pub mod Untouched

@@ -1,7 +1,7 @@
 //! tbl: tables become requests of the language of the formatter.
 //!
 //! It stands on nr_units. To read: `complaint`, `held`, `field`, `numbers`; `options`, `formats`; `macros`, `said`;
-//! `half`, `outside`, `head`, `rows`, `blocks`, `plain`, `meeting`; `reader`, `running`.
+//! `half`, `outside`, `head`, `rows`, `blocks`, `plain`, `meeting`; `reader`, `running`; `untouched`.
 #![tactic(auto)]
 
 mod blocks;
@@ -21,6 +21,8 @@ mod reader;
 mod rows;
 mod running;
 mod said;
+mod untouched;
 
 pub use complaint::{Complaint, Kind};
 pub use running::{Outcome, Report, convert, pending_size};
+pub use untouched::passes_unchanged;
