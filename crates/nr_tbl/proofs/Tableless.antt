@@ -36,9 +36,9 @@ read_passing : (fl rl b : ℕ) → read b (outside fl rl modes.Passing) ≡ told
 unfolding heard outside behind_byte
 read_passing fl rl b = refl
 
-read_held : (fl rl b : ℕ) (held more : Held) → held_with held b ≡ Some more → read b (outside fl rl (modes.Start held)) ≡ told (outside fl rl (modes.Start more)) []
+read_held : (fl rl b : ℕ) (held next : Held) → held_with held b ≡ Some next → read b (outside fl rl (modes.Start held)) ≡ told (outside fl rl (modes.Start next)) []
 unfolding heard outside
-read_held fl rl b held more e =
+read_held fl rl b held next e =
     let p = outside fl rl (modes.Start held) in
     ap (λ (o : Option Held). let m = start_with o held b p.half in
     behind (acted m.act (with_half m.half p)).bytes
@@ -47,14 +47,14 @@ read_held fl rl b held more e =
 read_released : (fl rl b : ℕ) (held : Held) → held_with held b ≡ None → (is_begin held && ends_name b) ≡ false
     → read b (outside fl rl (modes.Start held)) ≡ told (outside fl rl (behind_byte (b == 10))) (held_bytes held ++ b ∷ [])
 unfolding heard outside behind_byte
-read_released fl rl b held e no =
+read_released fl rl b held e other =
     let p = outside fl rl (modes.Start held) in
     ap (λ (o : Option Held). let m = start_with o held b p.half in
     behind (acted m.act (with_half m.half p)).bytes
     (if m.takes then told (acted m.act (with_half m.half p)).page [] else heard_in 9 (comings.Byte b) (acted m.act (with_half m.half p)).page)) e
     ∙ ap (λ (x : Bool). let m = if x then leaving modes.Title (acts.Say (says.Held held)) p.half else leaving modes.Passing (acts.Say (says.Held held)) p.half in
     behind (acted m.act (with_half m.half p)).bytes
-    (if m.takes then told (acted m.act (with_half m.half p)).page [] else heard_in 9 (comings.Byte b) (acted m.act (with_half m.half p)).page)) no
+    (if m.takes then told (acted m.act (with_half m.half p)).page [] else heard_in 9 (comings.Byte b) (acted m.act (with_half m.half p)).page)) other
 
 finished_held : (fl rl : ℕ) (held : Held) → (finished (outside fl rl (modes.Start held))).bytes ≡ held_bytes held
 unfolding heard outside
@@ -70,14 +70,14 @@ one_more p q b xs bs e =
     ap (λ (t : Told). (t.bytes ++ (fed t.page bs).bytes) ++ (finished (fed t.page bs).page).bytes) e
     ∙ append_assoc xs (fed q bs).bytes (finished (fed q bs).page).bytes
 
-held_grows : (held more : Held) (b : ℕ) → held_with held b ≡ Some more → held_bytes more ≡ held_bytes held ++ b ∷ []
-held_grows helds.Nothing more b e = grind (arith, common_steps)
-held_grows helds.Dot more b e = grind (arith, common_steps)
-held_grows helds.DotT more b e = grind (arith, common_steps)
-held_grows helds.Begin more b e = absurd (let no : None ≡ Some more = e in cc)
-held_grows helds.End more b e = absurd (let no : None ≡ Some more = e in cc)
-held_grows helds.More more b e = absurd (let no : None ≡ Some more = e in cc)
-held_grows helds.T more b e = absurd (let no : None ≡ Some more = e in cc)
+held_grows : (held next : Held) (b : ℕ) → held_with held b ≡ Some next → held_bytes next ≡ held_bytes held ++ b ∷ []
+held_grows helds.Nothing next b e = grind (arith, common_steps)
+held_grows helds.Dot next b e = grind (arith, common_steps)
+held_grows helds.DotT next b e = grind (arith, common_steps)
+held_grows helds.Begin next b e = absurd (let no : None ≡ Some next = e in cc)
+held_grows helds.End next b e = absurd (let no : None ≡ Some next = e in cc)
+held_grows helds.More next b e = absurd (let no : None ≡ Some next = e in cc)
+held_grows helds.T next b e = absurd (let no : None ≡ Some next = e in cc)
 
 -- where no table begins behind what is held
 no_begin : (held : Held) (b : ℕ) (bs : List ℕ) → has_table_from true (held_bytes held ++ b ∷ bs) ≡ false → (is_begin held && ends_name b) ≡ false
@@ -117,11 +117,11 @@ behind_untouched fl rl bs u false h = u.midst h
 
 start_untouched : (fl rl b : ℕ) (bs : List ℕ) (held : Held) (o : Option Held) → Untouched fl rl bs → has_table_from true (held_bytes held ++ b ∷ bs) ≡ false
     → held_with held b ≡ o → all_of (outside fl rl (modes.Start held)) (b ∷ bs) ≡ held_bytes held ++ b ∷ bs
-start_untouched fl rl b bs held (Some more) u h e =
-    let same : held_bytes more ++ bs ≡ held_bytes held ++ b ∷ bs =
-    ap (λ (xs : List ℕ). xs ++ bs) (held_grows held more b e) ∙ append_assoc (held_bytes held) (b ∷ []) bs in
-    one_more (outside fl rl (modes.Start held)) (outside fl rl (modes.Start more)) b [] bs (read_held fl rl b held more e)
-    ∙ u.start more (ap (has_table_from true) same ∙ h) ∙ same
+start_untouched fl rl b bs held (Some next) u h e =
+    let same : held_bytes next ++ bs ≡ held_bytes held ++ b ∷ bs =
+    ap (λ (xs : List ℕ). xs ++ bs) (held_grows held next b e) ∙ append_assoc (held_bytes held) (b ∷ []) bs in
+    one_more (outside fl rl (modes.Start held)) (outside fl rl (modes.Start next)) b [] bs (read_held fl rl b held next e)
+    ∙ u.start next (ap (has_table_from true) same ∙ h) ∙ same
 start_untouched fl rl b bs held None u h e =
     one_more (outside fl rl (modes.Start held)) (outside fl rl (behind_byte (b == 10))) b (held_bytes held ++ b ∷ []) bs (read_released fl rl b held e (no_begin held b bs h))
     ∙ ap (λ (xs : List ℕ). (held_bytes held ++ b ∷ []) ++ xs) (behind_untouched fl rl bs u (b == 10) (none_behind held b bs h))

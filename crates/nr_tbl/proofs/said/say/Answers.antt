@@ -8,6 +8,8 @@ use Rattle.nr_tbl.proofs.said.say.Goals as goal
 pub returns-in-Request-clause-items : goal.returns-in-Request-clause-items
 returns-in-Request-clause-items c =
     let old = c.args.out.now.items in
-    both-behind _ _ _ _ _ c.extend-in-Request.ensures.items c.extend-in-Request-2.ensures.items
-    ∙ ap (λ (xs : List ℕ). old ++ (codes ".am *rows *.\n" ++ xs)) c.bytes-in-Request.ensures.value
+    let begins = codes ".am *rows *.\n" in
+    both-behind old c.extend-in-Request.new.self.items c.extend-in-Request-2.new.self.items begins c.bytes-in-Request.result.now
+    c.extend-in-Request.ensures.items c.extend-in-Request-2.ensures.items
+    ∙ ap (λ (xs : List ℕ). old ++ (begins ++ xs)) c.bytes-in-Request.ensures.value
     ∙ ap (λ (s : Said). old ++ bytes_of s) (sym c.in-Request.is)
