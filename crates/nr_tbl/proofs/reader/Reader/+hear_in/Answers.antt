@@ -1,4 +1,4 @@
-use Rattle.std.proofs.Common.{◌≡◌, ◌+◌, ◌≤◌, ◌++◌, ◌-◌, List, ℕ, length, ◌∙◌, sym, ap, append_assoc, append-nil, arith}
+use Rattle.std.proofs.Common.{◌≡◌, ◌+◌, ◌*◌, ◌≤◌, ◌++◌, ◌-◌, List, ℕ, length, ◌∙◌, sym, ap, append_assoc, append-nil, arith}
 use Rattle.nr_tbl.specs.Half.{met}
 use Rattle.nr_tbl.specs.Meeting.{meet}
 use Rattle.nr_tbl.specs.Reading.{Page, Told, acted, heard_in, with_half, full, most}
@@ -18,7 +18,9 @@ hear_in-requires t c =
     let most_is = ap most view in
     let put_few = c.act.ensures.few in
     let few : length c.act.new.out.items ≤ length c.args.out.now.items + most p = omega (arith, put_few, most_is) in
-    room_for _ _ _ c.args.most (most p) (most c.act.new.self) (omega arith) (ap most page_is ∙ acted-most act (with_half h p)) c.requires few
+    let here : length c.act.new.out.items + (c.args.most - 1) * most c.act.new.self ≤ c.args.out.now.room =
+    room_for _ _ _ c.args.most (most p) (most c.act.new.self) (omega arith) (ap most page_is ∙ acted-most act (with_half h p)) c.requires few in
+    (omega arith, rw c.act.ensures.room here)
 
 pub returns-then-not-seen-clause-few : goal.returns-then-not-seen-clause-few
 returns-then-not-seen-clause-few t c =
