@@ -1,0 +1,205 @@
+-- The formats of a table (Tbl, "Format"; tbl(1), "Column descriptors"): lines of columns, each with what modifies it.
+use Rattle.std.specs.Prelude.{ℕ, List, [], ◌∷◌, ◌++◌, codes, Bool, true, false, not, ◌==◌, ◌&&◌, ◌||◌, nat_le, nat_lt, if◌then◌else◌, Option, None, Some}
+use Rattle.nr_tbl.specs.declared.formats.Formats.{Formats}
+use Rattle.nr_tbl.specs.declared.formats.Part.{Part}
+use Rattle.nr_tbl.specs.declared.formats.Part.TheVariants as parts
+use Rattle.nr_tbl.specs.declared.formats.Call.{Call}
+use Rattle.nr_tbl.specs.declared.formats.Call.TheVariants.{Nothing, Cell, Bars, Font, Width, Gap, Byte, Equal, Wide, Zero}
+use Rattle.nr_tbl.specs.declared.formats.Called.{Called}
+use Rattle.nr_tbl.specs.Numbers.{is_digit, one_more}
+use Rattle.nr_tbl.specs.Options.{small}
+
+-- ---- what is called
+
+abbrev pub bars_digit : ℕ → ℕ
+bars_digit n = if n == 0 then 48 else if n == 1 then 49 else 50
+
+abbrev pub call_bytes : Call → List ℕ
+call_bytes Nothing = []
+call_bytes (Cell kind bars) = codes ".*cell " ++ kind ∷ 32 ∷ bars_digit bars ∷ 10 ∷ []
+call_bytes (Bars bars) = codes ".*bars " ++ bars_digit bars ∷ 10 ∷ []
+call_bytes (Font letter) = codes ".*font " ++ letter ∷ 10 ∷ []
+call_bytes Width = codes ".*width "
+call_bytes (Gap digit) = codes ".*gap " ++ digit ∷ []
+call_bytes (Byte b) = b ∷ []
+call_bytes Equal = codes ".*equal\n"
+call_bytes Wide = codes ".*wide\n"
+call_bytes Zero = codes ".*zero\n"
+
+-- a call ends, a line begins, and this is called
+abbrev pub called_bytes : Called → List ℕ
+called_bytes c = (if c.ends then 10 ∷ [] else []) ++ (if c.begins then codes ".*line\n" else []) ++ call_bytes c.call
+
+abbrev pub only : Call → Called
+only call = record { ends = false; begins = false; call = call }
+
+-- what is half read then, and what is called
+pub record Told : Type 0 where
+  pub formats : Formats
+  pub called : Called
+
+abbrev pub told : Formats → Called → Told
+told f called = record { formats = f; called = called }
+
+abbrev pub first_formats : ℕ → ℕ → Bool → Formats
+first_formats columns lines numeric = record {
+  part = parts.Keys; begun = false; bars = 0; cells = 0; columns = columns; lines = lines; numeric = numeric; bad = false; many = false;
+}
+
+-- ---- columns and lines
+
+-- the key letter of a column: - is _
+abbrev pub kind_of : ℕ → Option ℕ
+kind_of b =
+    if (b == 108) || (b == 114) || (b == 99) || (b == 110) || (b == 97) || (b == 115) || (b == 94) || (b == 95) || (b == 61) then Some b else
+    if b == 45 then Some 95 else None
+
+-- a line begins
+abbrev pub line_begun : Formats → Formats
+line_begun f = if f.begun then f else record f { cells = 0; many = f.many || nat_le 256 f.lines; lines = one_more f.lines 256 }
+
+-- one column more, of at most 64
+abbrev pub with_cell : ℕ → Formats → Formats
+with_cell kind f =
+    let cells = one_more f.cells 64 in
+    record f {
+      many = f.many || nat_le 64 f.cells; cells = cells; columns = if nat_lt f.columns cells then cells else f.columns; numeric = f.numeric || (kind == 110); begun = true; bars = 0;
+    }
+
+abbrev pub cell : ℕ → Formats → Told
+cell kind f = told (with_cell kind (line_begun f)) (record { ends = false; begins = not f.begun; call = Cell kind f.bars })
+
+abbrev pub line_ends : Formats → Told
+line_ends f = if f.begun then told (record f { begun = false; bars = 0 }) (only (Bars f.bars)) else told f (only Nothing)
+
+abbrev pub bar : Formats → Told
+bar f = told (record f { bars = one_more f.bars 2 }) (only Nothing)
+
+abbrev pub bad_byte : Formats → Told
+bad_byte f = told (record f { bad = true }) (only Nothing)
+
+-- ---- what modifies a column
+
+abbrev pub going_on : Part → Call → Formats → Told
+going_on part call f = told (record f { part = part }) (only call)
+
+-- b i e x z, t d u without effect, f w p v m, and a number for the space behind it
+abbrev pub modifier : ℕ → Formats → Told
+modifier b f =
+    if b == 98 then told f (only (Font 66)) else
+    if b == 105 then told f (only (Font 73)) else
+    if b == 101 then told f (only Equal) else
+    if b == 120 then told f (only Wide) else
+    if b == 122 then told f (only Zero) else
+    if (b == 116) || (b == 100) || (b == 117) then told f (only Nothing) else
+    if b == 102 then going_on parts.Font Nothing f else
+    if b == 119 then going_on parts.Width Width f else
+    if (b == 112) || (b == 118) || (b == 109) then going_on parts.Size Nothing f else
+    if is_digit b then going_on parts.Digits (Gap b) f else bad_byte f
+
+abbrev pub column : ℕ → Option ℕ → Formats → Told
+column b (Some kind) f = cell kind f
+column b None f = modifier b f
+
+abbrev pub small_key : ℕ → Formats → Told
+small_key b f =
+    if (b == 10) || (b == 44) then line_ends f else
+    if (b == 32) || (b == 9) || (b == 46) then told f (only Nothing) else
+    if b == 124 then bar f else column b (kind_of b) f
+
+-- a byte where a column may come, in either case of letters
+abbrev pub key : ℕ → Formats → Told
+key b f = small_key (small b) f
+
+-- a part has ended before this byte
+abbrev pub ended : Bool → ℕ → Formats → Told
+ended ends b f =
+    let t = key b (record f { part = parts.Keys }) in
+    told t.formats (record t.called { ends = ends })
+
+-- ---- fonts
+
+-- by the last letter of its name
+abbrev pub font_of : ℕ → ℕ
+font_of b = if (b == 66) || (b == 51) then 66 else if (b == 73) || (b == 50) then 73 else 82
+
+abbrev pub font : ℕ → Formats → Told
+font b f = going_on parts.Keys (Font (font_of b)) f
+
+abbrev pub in_font : ℕ → Formats → Told
+in_font b f =
+    if b == 40 then going_on (parts.FontName 82) Nothing f else
+    if (b == 32) || (b == 9) then told f (only Nothing) else
+    if b == 10 then ended false b f else going_on parts.FontMore (Font (font_of b)) f
+
+-- a capital letter or a digit
+abbrev pub is_name_byte : ℕ → Bool
+is_name_byte b = (nat_le 65 b && nat_le b 90) || is_digit b
+
+abbrev pub in_font_more : ℕ → Formats → Told
+in_font_more b f = if is_name_byte b then font b f else ended false b f
+
+abbrev pub in_font_name : ℕ → ℕ → Formats → Told
+in_font_name last b f =
+    if b == 41 then font last f else
+    if b == 10 then ended false b f else going_on (parts.FontName b) Nothing f
+
+-- ---- numbers
+
+abbrev pub in_width : ℕ → Formats → Told
+in_width b f =
+    if b == 40 then going_on parts.WidthIn Nothing f else
+    if is_digit b then going_on parts.Digits (Byte b) f else
+    if (b == 32) || (b == 9) then told f (only Nothing) else ended true b f
+
+abbrev pub in_width_in : ℕ → Formats → Told
+in_width_in b f =
+    if b == 41 then going_on parts.Keys (Byte 10) f else
+    if b == 10 then ended true b f else told f (only (Byte b))
+
+abbrev pub in_digits : ℕ → Formats → Told
+in_digits b f = if is_digit b then told f (only (Byte b)) else ended true b f
+
+-- type sizes and the like have no effect
+abbrev pub in_size : ℕ → Formats → Told
+in_size b f =
+    if b == 40 then going_on parts.SizeIn Nothing f else
+    if (b == 43) || (b == 45) || is_digit b then going_on parts.SizeDigits Nothing f else ended false b f
+
+abbrev pub in_size_digits : ℕ → Formats → Told
+in_size_digits b f = if is_digit b then told f (only Nothing) else ended false b f
+
+abbrev pub in_size_in : ℕ → Formats → Told
+in_size_in b f =
+    if b == 41 then going_on parts.Keys Nothing f else
+    if b == 10 then ended false b f else told f (only Nothing)
+
+-- ---- a byte, by the part that is half read
+
+abbrev pub read_in : Part → ℕ → Formats → Told
+read_in parts.Keys b f = key b f
+read_in parts.Font b f = in_font b f
+read_in parts.FontMore b f = in_font_more b f
+read_in (parts.FontName last) b f = in_font_name last b f
+read_in parts.Width b f = in_width b f
+read_in parts.WidthIn b f = in_width_in b f
+read_in parts.Digits b f = in_digits b f
+read_in parts.Size b f = in_size b f
+read_in parts.SizeDigits b f = in_size_digits b f
+read_in parts.SizeIn b f = in_size_in b f
+
+abbrev pub read : ℕ → Formats → Told
+read b f = read_in f.part b f
+
+-- ---- all bytes: what was read, and what goes out
+
+pub record Said : Type 0 where
+  pub formats : Formats
+  pub bytes : List ℕ
+
+abbrev pub all_read : List ℕ → Formats → Said
+all_read [] f = record { formats = f; bytes = [] }
+all_read (b ∷ bs) f =
+    let t = read b f in
+    let more = all_read bs t.formats in
+    record { formats = more.formats; bytes = called_bytes t.called ++ more.bytes }

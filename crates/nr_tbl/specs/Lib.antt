@@ -1,0 +1,17 @@
+pub mod Blocks
+pub mod Field
+pub mod Formats
+pub mod Half
+pub mod Head
+pub mod Held
+pub mod Macros
+pub mod Meeting
+pub mod Numbers
+pub mod Options
+pub mod Outside
+pub mod Plain
+pub mod Reading
+pub mod Rows
+pub mod Running
+pub mod Saying
+pub mod Untouched

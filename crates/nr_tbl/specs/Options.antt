@@ -1,0 +1,96 @@
+-- The options of a table (Tbl, "Options"; tbl(1), "Region options"): words, some with an argument, up to the semicolon.
+use Rattle.std.specs.Prelude.{ℕ, ◌+◌, List, [], ◌∷◌, ◌++◌, length, codes, Bool, true, false, ◌==◌, ◌&&◌, ◌||◌, nat_eq, nat_le, if◌then◌else◌, Option, None, Some}
+use Rattle.std.specs.Cmp.Lexicographic.{pointwise}
+use Rattle.nr_tbl.specs.declared.options.Options.{Options}
+use Rattle.nr_tbl.specs.declared.options.OptionsRead.{OptionsRead}
+use Rattle.nr_tbl.specs.declared.options.Choice.{Choice}
+use Rattle.nr_tbl.specs.declared.options.Choice.TheVariants as choices
+use Rattle.nr_tbl.specs.declared.options.Frame.TheVariants.{Open, Single, All, Double}
+
+abbrev pub is_word : List ℕ → List ℕ → Bool
+is_word word text = pointwise nat_eq word text
+
+abbrev pub small : ℕ → ℕ
+small b = if nat_le 65 b && nat_le b 90 then b + 32 else b
+
+abbrev pub is_letter : ℕ → Bool
+is_letter b = (nat_le 65 b && nat_le b 90) || (nat_le 97 b && nat_le b 122)
+
+-- without effect here
+abbrev pub is_passed : List ℕ → Bool
+is_passed word = is_word word (codes "linesize") || is_word word (codes "delim") || is_word word (codes "nokeep") || is_word word (codes "nowarn")
+
+abbrev pub frame_of : List ℕ → Choice
+frame_of word =
+    if is_word word (codes "box") || is_word word (codes "frame") then choices.Frame Single else
+    if is_word word (codes "allbox") then choices.Frame All else
+    if is_word word (codes "doublebox") || is_word word (codes "doubleframe") then choices.Frame Double else
+    if is_passed word then choices.Passed else choices.Unknown
+
+-- the option of a word in small letters
+abbrev pub choice_of : List ℕ → Choice
+choice_of word =
+    if is_word word (codes "center") || is_word word (codes "centre") then choices.Center else
+    if is_word word (codes "expand") then choices.Expand else
+    if is_word word (codes "tab") then choices.Tab else
+    if is_word word (codes "decimalpoint") then choices.Point else
+    if is_word word (codes "nospaces") then choices.NoSpaces else frame_of word
+
+-- fields are separated by tabs, and the fraction of a number stands behind a point
+abbrev pub no_options : Options
+no_options = record { center = false; expand = false; frame = Open; tab = 9; point = 46; nospaces = false; unknown = false }
+
+abbrev pub unknown : Options → Options
+unknown o = record o { unknown = true }
+
+abbrev pub tab_with : Option ℕ → Options → Options
+tab_with (Some b) o = record o { tab = b }
+tab_with None o = unknown o
+
+abbrev pub point_with : Option ℕ → Options → Options
+point_with (Some b) o = record o { point = b }
+point_with None o = unknown o
+
+-- with an option and the first byte of its argument
+abbrev pub options_with : Choice → Option ℕ → Options → Options
+options_with choices.Center argument o = record o { center = true }
+options_with choices.Expand argument o = record o { expand = true }
+options_with (choices.Frame frame) argument o = record o { frame = frame }
+options_with choices.Tab argument o = tab_with argument o
+options_with choices.Point argument o = point_with argument o
+options_with choices.NoSpaces argument o = record o { nospaces = true }
+options_with choices.Passed argument o = o
+options_with choices.Unknown argument o = unknown o
+
+abbrev pub first_options : OptionsRead
+first_options = record { options = no_options; word = []; inside = false; argument = None }
+
+-- the word has ended, if there is one
+abbrev pub word_ended : OptionsRead → OptionsRead
+word_ended r = record first_options { options = if length r.word == 0 then r.options else options_with (choice_of r.word) r.argument r.options }
+
+abbrev pub letter : ℕ → OptionsRead → OptionsRead
+letter b r = if length r.word == 32 then r else record r { word = r.word ++ small b ∷ [] }
+
+abbrev pub first_of : Option ℕ → ℕ → Option ℕ
+first_of None b = Some b
+first_of (Some a) b = Some a
+
+abbrev pub in_argument : ℕ → OptionsRead → OptionsRead
+in_argument b r = if b == 41 then word_ended r else record r { argument = first_of r.argument b }
+
+-- with one byte more
+abbrev pub options_read : ℕ → OptionsRead → OptionsRead
+options_read b r =
+    if r.inside then in_argument b r else
+    if is_letter b then letter b r else
+    if b == 40 then record r { inside = true } else word_ended r
+
+-- with many
+abbrev pub all_options : List ℕ → OptionsRead → OptionsRead
+all_options [] r = r
+all_options (b ∷ bs) r = all_options bs (options_read b r)
+
+-- what options say
+abbrev pub options_of : List ℕ → Options
+options_of text = (word_ended (all_options text first_options)).options

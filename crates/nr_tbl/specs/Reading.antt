@@ -1,0 +1,199 @@
+-- A page is read byte by byte.
+use Rattle.std.specs.Prelude.{◌≡◌, ℕ, zero, suc, ◌+◌, ◌*◌, List, [], ◌∷◌, ◌++◌, length, take, Bool, true, false, not, ◌==◌, ◌&&◌, if◌then◌else◌, Option, None, Some}
+use Rattle.nr_units.specs.Items.{Items}
+use Rattle.nr_tbl.specs.declared.complaint.Kind.{Kind}
+use Rattle.nr_tbl.specs.declared.half.Half.{Half}
+use Rattle.nr_tbl.specs.declared.half.Act.{Act}
+use Rattle.nr_tbl.specs.declared.half.Act.TheVariants as acts
+use Rattle.nr_tbl.specs.declared.half.Full.{Full}
+use Rattle.nr_tbl.specs.declared.half.Mode.{Mode}
+use Rattle.nr_tbl.specs.declared.half.Mode.TheVariants as modes
+use Rattle.nr_tbl.specs.declared.half.Coming.{Coming}
+use Rattle.nr_tbl.specs.declared.half.Coming.TheVariants.{Byte, End}
+use Rattle.nr_tbl.specs.declared.said.Said.{Said}
+use Rattle.nr_tbl.specs.declared.said.Said.TheVariants as says
+pub use Rattle.nr_tbl.specs.Options.{options_of}
+pub use Rattle.nr_tbl.specs.Formats.{all_read}
+pub use Rattle.nr_tbl.specs.Saying.{doubled, text_bytes, front_bytes}
+use Rattle.nr_tbl.specs.Saying.{bytes_of}
+use Rattle.nr_tbl.specs.Formats.{read as format_read, called_bytes}
+use Rattle.nr_tbl.specs.Field.{shape_with}
+use Rattle.nr_tbl.specs.Numbers.{marks_with}
+use Rattle.nr_tbl.specs.Half.{first_half}
+use Rattle.nr_tbl.specs.Head.{with_options, with_formats}
+use Rattle.nr_tbl.specs.Meeting.{meet}
+
+-- what is half read of a page, what is kept of options and formats, and what of a field
+pub record Page : Type 0 where
+  pub half : Half
+  pub formats : Items ℕ
+  pub row : Items ℕ
+
+-- a page begins, and so many bytes of each are kept at most
+abbrev pub first_page : ℕ → ℕ → Page
+first_page formats row = record { half = first_half; formats = record { items = []; room = formats }; row = record { items = []; room = row } }
+
+-- what goes out at most at once
+abbrev pub most : Page → ℕ
+most p = 4 * p.row.room + 32 * p.formats.room + 16384
+
+-- what is half read then, and what goes out
+pub record Told : Type 0 where
+  pub page : Page
+  pub bytes : List ℕ
+
+abbrev pub told : Page → List ℕ → Told
+told p bytes = record { page = p; bytes = bytes }
+
+-- these bytes, and then what comes
+abbrev pub behind : List ℕ → Told → Told
+behind bytes t = record { page = t.page; bytes = bytes ++ t.bytes }
+
+-- first the one, then the other
+abbrev pub then_told : Told → (Page → Told) → Told
+then_told t next = behind t.bytes (next t.page)
+
+-- ---- what is kept
+
+abbrev pub holding : List ℕ → Items ℕ → Items ℕ
+holding items kept = record { items = items; room = kept.room }
+
+abbrev pub with_formats_kept : List ℕ → Page → Page
+with_formats_kept items p = record p { formats = holding items p.formats }
+
+abbrev pub with_row : List ℕ → Page → Page
+with_row items p = record p { row = holding items p.row }
+
+abbrev pub with_half : Half → Page → Page
+with_half h p = record p { half = h }
+
+-- there is room for no byte more
+abbrev pub is_full : Items ℕ → Bool
+is_full kept = length kept.items == kept.room
+
+abbrev pub full : Page → Full
+full p = record { formats = is_full p.formats; row = is_full p.row }
+
+abbrev pub format_kept : ℕ → Page → Page
+format_kept b p = if is_full p.formats then p else with_formats_kept (p.formats.items ++ b ∷ []) p
+
+-- with its form and its places
+abbrev pub field_half : ℕ → Page → Half
+field_half b p = record p.half {
+  marks = marks_with b (length p.row.items) p.half.options.point p.half.marks;
+  shape = shape_with p.half.shape b;
+}
+
+abbrev pub field_kept : ℕ → Page → Page
+field_kept b p = if is_full p.row then p else with_half (field_half b p) (with_row (p.row.items ++ b ∷ []) p)
+
+-- ---- what is done
+
+-- what was kept is options
+abbrev pub options_told : Page → Told
+options_told p =
+    let o = options_of p.formats.items in
+    told (with_formats_kept [] (with_half (with_options o p.half) p)) (bytes_of (says.Options o))
+
+-- what was kept is formats, up to a newline behind it
+abbrev pub formats_told : Page → Told
+formats_told p =
+    let s = all_read p.formats.items p.half.formats in
+    let t = format_read 10 s.formats in
+    told (with_half (with_formats t.formats p.half) p) (s.bytes ++ called_bytes t.called)
+
+-- what was kept goes out as it stands
+abbrev pub given_up : Page → Told
+given_up p = told (with_formats_kept [] p) (bytes_of says.GiveUp ++ p.formats.items)
+
+abbrev pub row_given_up : Page → Told
+row_given_up p = told (with_row [] p) (bytes_of says.GiveUpRow ++ p.row.items)
+
+-- the first bytes of a text
+abbrev pub front_of : List ℕ → Option ℕ → List ℕ
+front_of text None = text
+front_of text (Some n) = take n text
+
+-- a field: its text, and what stands before the place where it is aligned
+abbrev pub front_said : List ℕ → Option ℕ → List ℕ
+front_said text None = []
+front_said text (Some n) = front_bytes (take n text)
+
+abbrev pub field_bytes : List ℕ → Option ℕ → List ℕ
+field_bytes text front = text_bytes text ++ front_said text front
+
+abbrev pub field_told : Option ℕ → Option ℕ → Page → Told
+field_told front solid p = told (with_row [] p) (field_bytes (front_of p.row.items solid) front)
+
+abbrev pub field_replaced : Said → Page → Told
+field_replaced said p = told (with_row [] p) (bytes_of said)
+
+abbrev pub acted : Act → Page → Told
+acted (acts.Say said) p = told p (bytes_of said)
+acted (acts.KeepFormat b) p = told (format_kept b p) []
+acted acts.ReadOptions p = options_told p
+acted acts.ReadFormats p = formats_told p
+acted acts.Forget p = told (with_formats_kept [] p) []
+acted acts.GiveUp p = given_up p
+acted (acts.KeepField b) p = told (field_kept b p) []
+acted (acts.Field front solid) p = field_told front solid p
+acted (acts.Replace said) p = field_replaced said p
+acted acts.GiveUpRow p = row_given_up p
+
+-- ---- what comes is met again until it is taken
+
+abbrev pub heard_in : ℕ → Coming → Page → Told
+heard_in zero coming p = told p []
+heard_in (suc n) coming p =
+    let m = meet coming (full p) p.half in
+    let t = acted m.act (with_half m.half p) in
+    behind t.bytes (if m.takes then told t.page [] else heard_in n coming t.page)
+
+-- ten times are enough
+unfoldable pub heard : Coming → Page → Told
+heard coming p = heard_in 10 coming p
+
+abbrev pub unblamed : Page → Page
+unblamed p = record p { half = record p.half { complaint = None } }
+
+-- a byte comes, or the end
+abbrev pub read : ℕ → Page → Told
+read b p = heard (Byte b) (unblamed p)
+
+abbrev pub finished : Page → Told
+finished p = heard End (unblamed p)
+
+-- many bytes
+abbrev pub fed : Page → List ℕ → Told
+fed p [] = told p []
+fed p (b ∷ bs) = then_told (read b p) (λ q. fed q bs)
+
+-- ---- bytes that pass
+
+abbrev pub is_passing : Mode → Bool
+is_passing modes.Passing = true
+is_passing mode = false
+
+-- nothing was found wrong
+abbrev pub is_well : Option Kind → Bool
+is_well None = true
+is_well (Some kind) = false
+
+-- bytes go out as they are and change nothing, up to a newline
+abbrev pub passes : Page → Bool
+passes p = is_passing p.half.mode && is_well p.half.complaint
+
+-- a byte that ends no line
+abbrev pub is_plain_byte : ℕ → Bool
+is_plain_byte b = not (b == 10)
+
+-- the first n of these go out as they are and change nothing
+abbrev pub IsPlainFront : ℕ → List ℕ → Page → Type 0
+IsPlainFront n bytes p = fed p (take n bytes) ≡ told p (take n bytes)
+
+-- ---- the definition: what comes of all bytes of an input, where so many bytes of formats and of a field are kept
+
+abbrev pub tables_set : ℕ → ℕ → List ℕ → List ℕ
+tables_set formats row input =
+    let t = fed (first_page formats row) input in
+    t.bytes ++ (finished t.page).bytes

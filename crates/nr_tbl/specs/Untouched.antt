@@ -1,0 +1,22 @@
+-- Text without a table.
+use Rattle.std.specs.Prelude.{ℕ, List, [], ◌∷◌, Bool, true, false, not, ◌==◌, ◌&&◌, ◌||◌}
+use Rattle.nr_tbl.specs.Held.{ends_name}
+
+-- a line begins with `.TS` and a byte that ends a name
+abbrev pub begins_table : List ℕ → Bool
+begins_table [] = false
+begins_table (a ∷ []) = false
+begins_table (a ∷ b ∷ []) = false
+begins_table (a ∷ b ∷ c ∷ []) = false
+begins_table (a ∷ b ∷ c ∷ d ∷ rest) = (a == 46) && (b == 84) && (c == 83) && ends_name d
+
+-- a line of the text does so, from the beginning of a line or from the midst of one
+abbrev pub has_table_from : Bool → List ℕ → Bool
+has_table_from starts [] = false
+has_table_from starts (b ∷ bs) = (starts && begins_table (b ∷ bs)) || has_table_from (b == 10) bs
+
+abbrev pub has_table : List ℕ → Bool
+has_table text = has_table_from true text
+
+abbrev pub is_untouched : List ℕ → Bool
+is_untouched text = not (has_table text)

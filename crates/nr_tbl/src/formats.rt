@@ -1,0 +1,441 @@
+//! The formats of a table: bytes become calls of macros.
+ghost use Rattle.std.specs.Prelude.{◌≡◌, ◌+◌, ◌≤◌, ◌++◌, length};
+ghost use Rattle.nr_tbl.specs.Formats as specs;
+
+use super::numbers::one_more;
+use super::options::small;
+use nr_units::slice_vec::SliceVec;
+
+/// The greatest number of columns.
+const COLUMNS: usize = 64;
+
+/// The greatest number of format lines.
+const LINES: usize = 256;
+
+/// What part of a format is half read.
+#[derive(Clone, Copy)]
+pub(crate) enum Part {
+    /// None: a column or what modifies it may come.
+    Keys,
+    /// `f`
+    Font,
+    /// `f` and a letter, behind which another may stand.
+    FontMore,
+    /// `f(` and a name, by its last letter.
+    FontName(u8),
+    /// `w`
+    Width,
+    /// `w(` and a part of a width.
+    WidthIn,
+    /// Digits of a width or of the space behind a column.
+    Digits,
+    /// `p` or `v`, whose number has no effect.
+    Size,
+    /// Digits of that number.
+    SizeDigits,
+    /// It stands in parentheses.
+    SizeIn,
+}
+
+/// What is half read of formats.
+#[derive(Clone, Copy)]
+pub(crate) struct Formats {
+    /// Which part.
+    pub part: Part,
+    /// A line of formats has begun.
+    pub begun: bool,
+    /// The bars that were read before the next column.
+    pub bars: usize,
+    /// The columns of the line.
+    pub cells: usize,
+    /// The most columns of a line.
+    pub columns: usize,
+    /// The lines.
+    pub lines: usize,
+    /// A column has numbers.
+    pub numeric: bool,
+    /// A byte was no part of a format.
+    pub bad: bool,
+    /// There are too many columns or lines.
+    pub many: bool,
+}
+
+/// A call of a macro, or a part of one.
+#[derive(Clone, Copy)]
+pub(crate) enum Call {
+    /// None.
+    Nothing,
+    /// A column, with the bars before it.
+    Cell(u8, usize),
+    /// The end of a line, with the bars at it.
+    Bars(usize),
+    /// The font of a column.
+    Font(u8),
+    /// The width of a column begins.
+    Width,
+    /// The space behind a column begins with this digit.
+    Gap(u8),
+    /// A byte of that.
+    Byte(u8),
+    /// A column that is as wide as its like.
+    Equal,
+    /// A column that is widened.
+    Wide,
+    /// A column whose text doesn't count.
+    Zero,
+}
+
+/// What a byte calls: what was called has ended, a line begins, and this.
+#[derive(Clone, Copy)]
+pub(crate) struct Called {
+    /// A call ends.
+    pub ends: bool,
+    /// A line begins.
+    pub begins: bool,
+    /// What is called.
+    pub call: Call,
+}
+
+/// The digit of 0, 1, or 2 and more bars.
+fn bars_digit(bars: usize) -> u8
+    ensures { result ≡ specs.bars_digit bars }
+{
+    match bars {
+        0 => b'0',
+        1 => b'1',
+        _ => b'2',
+    }
+}
+
+/// Puts a call behind what goes out: at most 16 bytes.
+fn put_call(call: Call, out: &mut SliceVec<'_, u8>)
+    requires { length out.old.items + 16 ≤ out.old.room }
+    ensures items { out.new.items ≡ out.old.items ++ specs.call_bytes call }
+    ensures few { length out.new.items ≤ length out.old.items + 16 }
+    ensures room { out.new.room ≡ out.old.room }
+{
+    match call {
+        Call::Nothing => {}
+        Call::Cell(kind, bars) => {
+            out.extend(b".*cell ");
+            out.extend(&[kind, b' ', bars_digit(bars), b'\n']);
+        }
+        Call::Bars(bars) => {
+            out.extend(b".*bars ");
+            out.extend(&[bars_digit(bars), b'\n']);
+        }
+        Call::Font(letter) => {
+            out.extend(b".*font ");
+            out.extend(&[letter, b'\n']);
+        }
+        Call::Width => out.extend(b".*width "),
+        Call::Gap(digit) => {
+            out.extend(b".*gap ");
+            out.push(digit);
+        }
+        Call::Byte(byte) => out.push(byte),
+        Call::Equal => out.extend(b".*equal\n"),
+        Call::Wide => out.extend(b".*wide\n"),
+        Call::Zero => out.extend(b".*zero\n"),
+    }
+}
+
+/// Puts what a byte calls behind what goes out: at most 32 bytes.
+pub(crate) fn put_called(called: Called, out: &mut SliceVec<'_, u8>)
+    requires { length out.old.items + 32 ≤ out.old.room }
+    ensures items { out.new.items ≡ out.old.items ++ specs.called_bytes called }
+    ensures few { length out.new.items ≤ length out.old.items + 32 }
+    ensures room { out.new.room ≡ out.old.room }
+{
+    if called.ends {
+        out.push(b'\n');
+    }
+    if called.begins {
+        out.extend(b".*line\n");
+    }
+    put_call(called.call, out);
+}
+
+/// The font that a name's last letter stands for.
+fn font_of(letter: u8) -> u8
+    ensures { result ≡ specs.font_of letter }
+{
+    match letter {
+        b'B' | b'3' => b'B',
+        b'I' | b'2' => b'I',
+        _ => b'R',
+    }
+}
+
+/// The kind of a column, `_` for each rule of one line.
+fn kind_of(key: u8) -> Option<u8>
+    ensures { result ≡ specs.kind_of key }
+{
+    match key {
+        b'l' | b'r' | b'c' | b'n' | b'a' | b's' | b'^' | b'_' | b'=' => Some(key),
+        b'-' => Some(b'_'),
+        _ => None,
+    }
+}
+
+impl Called {
+    /// This alone.
+    fn only(call: Call) -> Called
+        ensures { result ≡ specs.only call }
+    {
+        Called {
+            ends: false,
+            begins: false,
+            call,
+        }
+    }
+}
+
+impl Formats {
+    /// Nothing was read; behind lines that have so many columns.
+    pub(crate) fn new(columns: usize, lines: usize, numeric: bool) -> Formats
+        ensures { result ≡ specs.first_formats columns lines numeric }
+    {
+        Formats {
+            part: Part::Keys,
+            begun: false,
+            bars: 0,
+            cells: 0,
+            columns,
+            lines,
+            numeric,
+            bad: false,
+            many: false,
+        }
+    }
+
+    /// A column comes.
+    fn cell(&mut self, kind: u8) -> Called
+        ensures { specs.told self.new result ≡ specs.cell kind self.old }
+    {
+        let begins = !self.begun;
+        let bars = self.bars;
+        if begins {
+            self.cells = 0;
+            self.many = self.many || self.lines >= LINES;
+            self.lines = one_more(self.lines, LINES);
+        }
+        self.many = self.many || self.cells >= COLUMNS;
+        self.cells = one_more(self.cells, COLUMNS);
+        if self.columns < self.cells {
+            self.columns = self.cells;
+        }
+        self.numeric = self.numeric || kind == b'n';
+        self.begun = true;
+        self.bars = 0;
+        Called {
+            ends: false,
+            begins,
+            call: Call::Cell(kind, bars),
+        }
+    }
+
+    /// A line ends, if one has begun.
+    fn line_ends(&mut self) -> Called
+        ensures { specs.told self.new result ≡ specs.line_ends self.old }
+    {
+        if !self.begun {
+            return Called::only(Call::Nothing);
+        }
+        let bars = self.bars;
+        self.begun = false;
+        self.bars = 0;
+        Called::only(Call::Bars(bars))
+    }
+
+    /// A part begins, and this is called.
+    fn goes_on(&mut self, part: Part, call: Call) -> Called
+        ensures { specs.told self.new result ≡ specs.going_on part call self.old }
+    {
+        self.part = part;
+        Called::only(call)
+    }
+
+    /// A bar.
+    fn bar(&mut self) -> Called
+        ensures { specs.told self.new result ≡ specs.bar self.old }
+    {
+        self.bars = one_more(self.bars, 2);
+        Called::only(Call::Nothing)
+    }
+
+    /// A byte that is no part of a format.
+    fn bad_byte(&mut self) -> Called
+        ensures { specs.told self.new result ≡ specs.bad_byte self.old }
+    {
+        self.bad = true;
+        Called::only(Call::Nothing)
+    }
+
+    /// What modifies a column: nothing is called for it where none stands before it.
+    fn modifier(&mut self, key: u8) -> Called
+        ensures { specs.told self.new result ≡ specs.modifier key self.old }
+    {
+        match key {
+            b'b' => Called::only(Call::Font(b'B')),
+            b'i' => Called::only(Call::Font(b'I')),
+            b'e' => Called::only(Call::Equal),
+            b'x' => Called::only(Call::Wide),
+            b'z' => Called::only(Call::Zero),
+            b't' | b'd' | b'u' => Called::only(Call::Nothing),
+            b'f' => self.goes_on(Part::Font, Call::Nothing),
+            b'w' => self.goes_on(Part::Width, Call::Width),
+            b'p' | b'v' | b'm' => self.goes_on(Part::Size, Call::Nothing),
+            b'0'..=b'9' => self.goes_on(Part::Digits, Call::Gap(key)),
+            _ => self.bad_byte(),
+        }
+    }
+
+    /// A byte where a column or a modifier may come. A point stands at the end.
+    fn key(&mut self, byte: u8) -> Called
+        ensures { specs.told self.new result ≡ specs.key byte self.old }
+    {
+        match small(byte) {
+            b'\n' | b',' => self.line_ends(),
+            b' ' | b'\t' | b'.' => Called::only(Call::Nothing),
+            b'|' => self.bar(),
+            key => match kind_of(key) {
+                Some(kind) => self.cell(kind),
+                None => self.modifier(key),
+            },
+        }
+    }
+
+    /// A part has ended before this byte: its call ends, if it has one that is open.
+    fn ended(&mut self, ends: bool, byte: u8) -> Called
+        ensures { specs.told self.new result ≡ specs.ended ends byte self.old }
+    {
+        self.part = Part::Keys;
+        let mut called = self.key(byte);
+        called.ends = ends;
+        called
+    }
+
+    /// The name of a font has ended with this letter.
+    fn font(&mut self, letter: u8) -> Called
+        ensures { specs.told self.new result ≡ specs.font letter self.old }
+    {
+        self.goes_on(Part::Keys, Call::Font(font_of(letter)))
+    }
+
+    /// A byte behind `f`.
+    fn in_font(&mut self, byte: u8) -> Called
+        ensures { specs.told self.new result ≡ specs.in_font byte self.old }
+    {
+        match byte {
+            b'(' => self.goes_on(Part::FontName(b'R'), Call::Nothing),
+            b' ' | b'\t' => Called::only(Call::Nothing),
+            b'\n' => self.ended(false, byte),
+            _ => self.goes_on(Part::FontMore, Call::Font(font_of(byte))),
+        }
+    }
+
+    /// A byte behind `f` and a letter: a capital letter or a digit is a part of the name.
+    fn in_font_more(&mut self, byte: u8) -> Called
+        ensures { specs.told self.new result ≡ specs.in_font_more byte self.old }
+    {
+        if matches!(byte, b'A'..=b'Z' | b'0'..=b'9') {
+            return self.font(byte);
+        }
+        self.ended(false, byte)
+    }
+
+    /// A byte of the name of a font in parentheses.
+    fn in_font_name(&mut self, last: u8, byte: u8) -> Called
+        ensures { specs.told self.new result ≡ specs.in_font_name last byte self.old }
+    {
+        match byte {
+            b')' => self.font(last),
+            b'\n' => self.ended(false, byte),
+            _ => self.goes_on(Part::FontName(byte), Call::Nothing),
+        }
+    }
+
+    /// A byte behind `w`.
+    fn in_width(&mut self, byte: u8) -> Called
+        ensures { specs.told self.new result ≡ specs.in_width byte self.old }
+    {
+        match byte {
+            b'(' => self.goes_on(Part::WidthIn, Call::Nothing),
+            b'0'..=b'9' => self.goes_on(Part::Digits, Call::Byte(byte)),
+            b' ' | b'\t' => Called::only(Call::Nothing),
+            _ => self.ended(true, byte),
+        }
+    }
+
+    /// A byte of a width in parentheses.
+    fn in_width_in(&mut self, byte: u8) -> Called
+        ensures { specs.told self.new result ≡ specs.in_width_in byte self.old }
+    {
+        match byte {
+            b')' => self.goes_on(Part::Keys, Call::Byte(b'\n')),
+            b'\n' => self.ended(true, byte),
+            _ => Called::only(Call::Byte(byte)),
+        }
+    }
+
+    /// A byte among digits.
+    fn in_digits(&mut self, byte: u8) -> Called
+        ensures { specs.told self.new result ≡ specs.in_digits byte self.old }
+    {
+        match byte {
+            b'0'..=b'9' => Called::only(Call::Byte(byte)),
+            _ => self.ended(true, byte),
+        }
+    }
+
+    /// A byte behind `p` or `v`.
+    fn in_size(&mut self, byte: u8) -> Called
+        ensures { specs.told self.new result ≡ specs.in_size byte self.old }
+    {
+        match byte {
+            b'(' => self.goes_on(Part::SizeIn, Call::Nothing),
+            b'+' | b'-' | b'0'..=b'9' => self.goes_on(Part::SizeDigits, Call::Nothing),
+            _ => self.ended(false, byte),
+        }
+    }
+
+    /// A byte among the digits behind `p` or `v`.
+    fn in_size_digits(&mut self, byte: u8) -> Called
+        ensures { specs.told self.new result ≡ specs.in_size_digits byte self.old }
+    {
+        match byte {
+            b'0'..=b'9' => Called::only(Call::Nothing),
+            _ => self.ended(false, byte),
+        }
+    }
+
+    /// A byte in parentheses behind `p` or `v`.
+    fn in_size_in(&mut self, byte: u8) -> Called
+        ensures { specs.told self.new result ≡ specs.in_size_in byte self.old }
+    {
+        match byte {
+            b')' => self.goes_on(Part::Keys, Call::Nothing),
+            b'\n' => self.ended(false, byte),
+            _ => Called::only(Call::Nothing),
+        }
+    }
+
+    /// A byte comes.
+    pub(crate) fn read(&mut self, byte: u8) -> Called
+        ensures { specs.told self.new result ≡ specs.read byte self.old }
+    {
+        match self.part {
+            Part::Keys => self.key(byte),
+            Part::Font => self.in_font(byte),
+            Part::FontMore => self.in_font_more(byte),
+            Part::FontName(last) => self.in_font_name(last, byte),
+            Part::Width => self.in_width(byte),
+            Part::WidthIn => self.in_width_in(byte),
+            Part::Digits => self.in_digits(byte),
+            Part::Size => self.in_size(byte),
+            Part::SizeDigits => self.in_size_digits(byte),
+            Part::SizeIn => self.in_size_in(byte),
+        }
+    }
+}

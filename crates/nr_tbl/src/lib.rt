@@ -1,0 +1,28 @@
+//! tbl: tables become requests of the language of the formatter.
+//!
+//! It stands on nr_units. To read: `complaint`, `held`, `field`, `numbers`; `options`, `formats`; `macros`, `said`;
+//! `half`, `outside`, `head`, `rows`, `blocks`, `plain`, `meeting`; `reader`, `running`; `untouched`.
+#![tactic(auto)]
+
+mod blocks;
+mod complaint;
+mod field;
+mod formats;
+mod half;
+mod head;
+mod held;
+mod macros;
+mod meeting;
+mod numbers;
+mod options;
+mod outside;
+mod plain;
+mod reader;
+mod rows;
+mod running;
+mod said;
+mod untouched;
+
+pub use complaint::{Complaint, Kind};
+pub use running::{Outcome, Report, convert, pending_size};
+pub use untouched::passes_unchanged;

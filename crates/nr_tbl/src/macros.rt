@@ -1,0 +1,602 @@
+//! The private macros that tables are calls of. All their names, those of their registers and those of their
+//! strings begin with `*`.
+ghost use Rattle.std.specs.Prelude.{◌≡◌, ◌+◌, ◌≤◌, ◌++◌, length};
+ghost use Rattle.nr_tbl.specs.Macros.{macros};
+
+use nr_units::slice_vec::SliceVec;
+
+/// The macros.
+static MACROS: [u8; 9767] = *b"\
+.de *.\n\
+..\n\
+.de *begin\n\
+.br\n\
+.nr *u \\\\n(.u\n\
+.nr *I \\\\n(.i\n\
+.nr *L \\\\n(.l\n\
+.nr *N 0\n\
+.nr *K 0\n\
+.nr *k 1\n\
+.nr *r 1\n\
+.nr *f 0 1\n\
+.nr *center 0\n\
+.nr *expand 0\n\
+.nr *box 0\n\
+.nr *edge 0\n\
+.nr *right 0\n\
+.nr *xs 0\n\
+.rm *all\n\
+.rm *rows\n\
+.rm *blocks\n\
+.rm *spans\n\
+.nr *J 0\n\
+..\n\
+.de *line\n\
+.nr *K +1\n\
+.nr *c 0\n\
+.nr *g\\\\n(*K 1\n\
+..\n\
+.de *cell\n\
+.nr *c +1\n\
+.ds *k\\\\n(*K,\\\\n(*c \\\\$1\n\
+.nr *v\\\\n(*K,\\\\n(*c \\\\$2\n\
+.ds *f\\\\n(*K,\\\\n(*c\n\
+.nr *z\\\\n(*K,\\\\n(*c 0\n\
+.nr *n\\\\n(*K \\\\n(*c\n\
+.if !'\\\\$1'_' .if !'\\\\$1'=' .nr *g\\\\n(*K 0\n\
+.if !'\\\\$1's' .nr *b \\\\n(*c\n\
+.nr *j\\\\n(*K,\\\\n(*b \\\\n(*c\n\
+.if \\\\n(*c=1 .if \\\\$2>\\\\n[*edge] .nr *edge \\\\$2\n\
+.if \\\\n(*c>\\\\n(*N .*column\n\
+..\n\
+.de *column\n\
+.nr *N \\\\n(*c\n\
+.nr *w\\\\n(*c 0\n\
+.nr *m\\\\n(*c 0\n\
+.nr *e\\\\n(*c 0\n\
+.nr *x\\\\n(*c 0\n\
+.nr *l\\\\n(*c 0\n\
+.nr *q\\\\n(*c 0\n\
+.nr *a\\\\n(*c 0\n\
+.nr *s\\\\n(*c 3\n\
+.am *all *.\n\
+.\\\\\\\\*(*h \\\\n(*c\n\
+.*.\n\
+..\n\
+.de *bars\n\
+.nr *t \\\\n(*c+1\n\
+.nr *v\\\\n(*K,\\\\n(*t \\\\$1\n\
+.if \\\\$1 .if \\\\n(*t>\\\\n[*right] .nr *right \\\\n(*t\n\
+..\n\
+.de *font\n\
+.ds *f\\\\n(*K,\\\\n(*c \\\\$1\n\
+..\n\
+.de *zero\n\
+.nr *z\\\\n(*K,\\\\n(*c 1\n\
+..\n\
+.de *width\n\
+.nr *m\\\\n(*c \\\\$1n\n\
+.nr *m\\\\n(*c \\\\n[*m\\\\n(*c]+12/24*24\n\
+..\n\
+.de *gap\n\
+.nr *s\\\\n(*c \\\\$1\n\
+..\n\
+.de *equal\n\
+.nr *e\\\\n(*c 1\n\
+..\n\
+.de *wide\n\
+.if !\\\\n[*x\\\\n(*c] .nr *xs +1\n\
+.nr *x\\\\n(*c 1\n\
+..\n\
+.de *lines1\n\
+.am *rows *.\n\
+.*hrule\n\
+.*.\n\
+.nr *k +1\n\
+.*skip\n\
+..\n\
+.de *skip\n\
+.if \\\\n(*k<\\\\n(*K .if \\\\n[*g\\\\n(*k] .*lines1\n\
+..\n\
+.de *row\n\
+.nr *F \\\\n(*f\n\
+.*skip\n\
+.nr *f 0 1\n\
+.ds *h *mcell\n\
+.*all\n\
+.am *rows *.\n\
+.*print \\\\n(*r \\\\n(*k \\\\n(*F\n\
+.*.\n\
+.nr *f 0 1\n\
+.nr *r +1\n\
+.if \\\\n(*k<\\\\n(*K .nr *k +1\n\
+..\n\
+.de *mcell\n\
+.nr *t 0\n\
+.if \\\\n[*n\\\\n(*k]>=\\\\$1 .if !'\\\\*[*k\\\\n(*k,\\\\$1]'s' .nr *t 1\n\
+.if \\\\n(*t .if \\\\n(*f<\\\\n(*F .*mfield \\\\$1 \\\\n[*j\\\\n(*k,\\\\$1]\n\
+..\n\
+.de *mfield\n\
+.nr *f +1\n\
+.nr *y \\\\n[*y\\\\n(*r,\\\\n(*f]\n\
+.if \\\\n(*y=0 .if !\\\\n[*z\\\\n(*k,\\\\$1] .*mtext \\\\$1 \\\\$2 \\\\*[*k\\\\n(*k,\\\\$1]\n\
+.if \\\\n(*y=5 .*later \\\\n(*r \\\\n(*k \\\\n(*f \\\\$1 \\\\$2\n\
+..\n\
+.de *later\n\
+.nr *J 1\n\
+.am *blocks *.\n\
+.*mblock \\\\$1 \\\\$2 \\\\$3 \\\\$4 \\\\$5\n\
+.*.\n\
+..\n\
+.de *mtext\n\
+.nr *t \\w\\a\\\\*[*t\\\\n(*r,\\\\n(*f]\\a\n\
+.if \\\\$1<\\\\$2 .*mspan \\\\$1 \\\\$2 \\\\n(*t\n\
+.if \\\\$1=\\\\$2 .*mcolumn \\\\$1 \\\\$3\n\
+..\n\
+.de *mcolumn\n\
+.nr *g 0\n\
+.if '\\\\$2'n' .nr *g \\w\\a\\\\*[*u\\\\n(*r,\\\\n(*f]\\a\n\
+.if '\\\\$2'a' .nr *g -1\n\
+.if \\\\n(*g=0 .*mmax *w\\\\$1 \\\\n(*t\n\
+.if \\\\n(*g<0 .*mmax *a\\\\$1 \\\\n(*t\n\
+.if \\\\n(*g>0 .*mmax *l\\\\$1 \\\\n(*g\n\
+.if \\\\n(*g>0 .*mmax *q\\\\$1 \\\\n(*t-\\\\n(*g\n\
+..\n\
+.de *mmax\n\
+.if \\\\$2>\\\\n[\\\\$1] .nr \\\\$1 \\\\$2\n\
+..\n\
+.de *mspan\n\
+.am *spans *.\n\
+.*spread \\\\$1 \\\\$2 \\\\$3\n\
+.*.\n\
+..\n\
+.de *max\n\
+.if \\\\n[*a\\\\$1] .if \\\\n[*a\\\\$1]+2n>\\\\n[*w\\\\$1] .nr *w\\\\$1 \\\\n[*a\\\\$1]+2n\n\
+.if \\\\n[*l\\\\$1]+\\\\n[*q\\\\$1]>\\\\n[*w\\\\$1] .nr *w\\\\$1 \\\\n[*l\\\\$1]+\\\\n[*q\\\\$1]\n\
+.if \\\\n[*m\\\\$1]>\\\\n[*w\\\\$1] .nr *w\\\\$1 \\\\n[*m\\\\$1]\n\
+..\n\
+.de *sum\n\
+.if \\\\$1>=\\\\n(*1 .if \\\\$1<=\\\\n(*2 .nr *S +\\\\n[*w\\\\$1]\n\
+.if \\\\$1>=\\\\n(*1 .if \\\\$1<=\\\\n(*2 .if \\\\n[*x\\\\$1] .nr *G 1\n\
+.if \\\\$1>=\\\\n(*1 .if \\\\$1<\\\\n(*2 .nr *S +(\\\\n[*s\\\\$1]n)\n\
+..\n\
+.de *total\n\
+.nr *1 \\\\$1\n\
+.nr *2 \\\\$2\n\
+.nr *S 0\n\
+.nr *G 0\n\
+.ds *h *sum\n\
+.*all\n\
+..\n\
+.de *spread\n\
+.*total \\\\$1 \\\\$2\n\
+.nr *S \\\\$3-\\\\n(*S/24\n\
+.nr *D \\\\$2-\\\\$1+1\n\
+.ds *h *share\n\
+.if \\\\n(*S>0 .*all\n\
+..\n\
+.de *share\n\
+.if \\\\$1>=\\\\n(*1 .if \\\\$1<=\\\\n(*2 \\{\\\n\
+.nr *t \\\\n(*S+\\\\n(*D-1/\\\\n(*D\n\
+.nr *w\\\\$1 +(\\\\n(*tn)\n\
+.nr *S -\\\\n(*t\n\
+.nr *D -1\n\
+.\\}\n\
+..\n\
+.de *mins\n\
+.if \\\\$1>=\\\\n(*1 .if \\\\$1<=\\\\n(*2 .if !\\\\n[*m\\\\$1] .nr *t 0\n\
+..\n\
+.de *mblock\n\
+.*total \\\\$4 \\\\$5\n\
+.if \\\\n(*Q=\\\\n(*G .*block \\\\$1 \\\\$2 \\\\$3 \\\\$4 \\\\$5\n\
+..\n\
+.de *spread3\n\
+.di *z\n\
+.in 0\n\
+.ll 5n\n\
+.fi\n\
+a b ccc\n\
+.br\n\
+.di\n\
+.ll \\\\n(*Lu\n\
+.in \\\\n(*Iu\n\
+.rm *z\n\
+..\n\
+.de *adjusted\n\
+.*spread3\n\
+.if !\\\\n(dl=\\\\n(*J .ad\n\
+.if !\\\\n(dl=\\\\n(*J .*spread3\n\
+.if !\\\\n(dl=\\\\n(*J .*adjust\n\
+..\n\
+.de *adjust\n\
+.if \\\\n(*J=5n .ad b\n\
+.if \\\\n(*J=4n .ad c\n\
+.if \\\\n(*J=3n .na\n\
+..\n\
+.de *block\n\
+.nr *t 1\n\
+.ds *h *mins\n\
+.if !\\\\n(*G .*all\n\
+.if !\\\\n(*t .if \\\\n(*L*(\\\\$5-\\\\$4+1)/(\\\\n(*N+1)>\\\\n(*S .nr *S \\\\n(*L*(\\\\$5-\\\\$4+1)/(\\\\n(*N+1)/24*24\n\
+.if '\\\\*[*k\\\\$2,\\\\$4]'a' .nr *S -2n\n\
+.di *d\\\\$1,\\\\$3\n\
+.in 0\n\
+.ll \\\\n(*Su\n\
+.fi\n\
+.if !'\\\\*[*f\\\\$2,\\\\$4]'' .ft \\\\*[*f\\\\$2,\\\\$4]\n\
+.*b\\\\$1,\\\\$3\n\
+.br\n\
+.ft R\n\
+.di\n\
+.nr *h\\\\$1,\\\\$3 \\\\n(dn\n\
+.nr *d\\\\$1,\\\\$3 \\\\n(dl\n\
+.ll \\\\n(*Lu\n\
+.in \\\\n(*Iu\n\
+.rm *b\\\\$1,\\\\$3\n\
+.*adjusted\n\
+.nr *t \\\\n[*d\\\\$1,\\\\$3]\n\
+.if '\\\\*[*k\\\\$2,\\\\$4]'a' .nr *t +2n\n\
+.if \\\\$4=\\\\$5 .*mmax *w\\\\$4 \\\\n(*t\n\
+.if \\\\$4<\\\\$5 .*mspan \\\\$4 \\\\$5 \\\\n(*t\n\
+..\n\
+.de *emax\n\
+.if \\\\n[*e\\\\$1] .if \\\\n[*w\\\\$1]>\\\\n(*S .nr *S \\\\n[*w\\\\$1]\n\
+..\n\
+.de *eset\n\
+.if \\\\n[*e\\\\$1] .nr *w\\\\$1 \\\\n(*S\n\
+..\n\
+.de *place\n\
+.nr *o\\\\$1 \\\\n(*S\n\
+.nr *S +\\\\n[*w\\\\$1]\n\
+.nr *W \\\\n(*S\n\
+.nr *S +(\\\\n[*s\\\\$1]n)\n\
+..\n\
+.de *xshare\n\
+.if \\\\n[*x\\\\$1] \\{\\\n\
+.nr *t \\\\n(*S+\\\\n(*D-1/\\\\n(*D\n\
+.nr *w\\\\$1 +(\\\\n(*tn)\n\
+.nr *S -\\\\n(*t\n\
+.nr *D -1\n\
+.\\}\n\
+..\n\
+.de *gshare\n\
+.if \\\\$1<\\\\n(*N \\{\\\n\
+.nr *t \\\\n(*S+\\\\n(*D-1/\\\\n(*D\n\
+.nr *s\\\\$1 +\\\\n(*t\n\
+.nr *S -\\\\n(*t\n\
+.nr *D -1\n\
+.\\}\n\
+..\n\
+.de *grow\n\
+.nr *S \\\\n(*L-\\\\n(*I-\\\\n(*W/24\n\
+.nr *g 0\n\
+.if \\\\n(*N>1 .nr *g 1\n\
+.if \\\\n[*xs] .nr *g 2\n\
+.if \\\\n(*S>0 .*grow\\\\n(*g\n\
+..\n\
+.de *grow0\n\
+.nr *w1 +(\\\\n(*Sn)\n\
+..\n\
+.de *grow1\n\
+.nr *D \\\\n(*N-1\n\
+.ds *h *gshare\n\
+.*all\n\
+..\n\
+.de *grow2\n\
+.nr *D \\\\n[*xs]\n\
+.ds *h *xshare\n\
+.*all\n\
+..\n\
+.de *widths\n\
+.nr *S 0\n\
+.if \\\\n[*box] .if !\\\\n[*edge] .nr *edge 1\n\
+.if \\\\n[*edge] .nr *S 1n*\\\\n[*edge]\n\
+.ds *h *place\n\
+.*all\n\
+.nr *g 0\\\\n[*box]\n\
+.if \\\\n[*right]>\\\\n(*N .nr *g 1\n\
+.if \\\\n(*g .nr *W +1n\n\
+..\n\
+.de *end\n\
+.br\n\
+.ds *h *max\n\
+.*all\n\
+.*spans\n\
+.rm *spans\n\
+.nr *Q 0\n\
+.if \\\\n(*J .*spread3\n\
+.if \\\\n(*J .nr *J \\\\n(dl\n\
+.*blocks\n\
+.*spans\n\
+.nr *S 0\n\
+.ds *h *emax\n\
+.*all\n\
+.ds *h *eset\n\
+.*all\n\
+.*widths\n\
+.if \\\\n[*xs]+\\\\n[*expand] \\{\\\n\
+.*grow\n\
+.nr *Q 1\n\
+.*blocks\n\
+.*spans\n\
+.*widths\n\
+.\\}\n\
+.nr *O \\\\n(*I\n\
+.if \\\\n[*center] .if \\\\n(*L-\\\\n(*I>\\\\n(*W .nr *O \\\\n(*L-\\\\n(*I-\\\\n(*W/2/24*24+\\\\n(*I\n\
+.in \\\\n(*Ou\n\
+.nf\n\
+.nr *P 0\n\
+.nr *R 0\n\
+.if \\\\n[*box]=3 .*draw 0 0\n\
+.if \\\\n[*box] .nr *P 1\n\
+.*rows\n\
+.if \\\\n[*box] .nr *P 1\n\
+.if \\\\n(*P .*draw \\\\n(*R 0\n\
+.if \\\\n[*box]=3 .*draw \\\\n(*R 0\n\
+.nr *P 0\n\
+..\n\
+.de *done\n\
+.ll \\\\n(*Lu\n\
+.in \\\\n(*Iu\n\
+.ie \\\\n(*u .fi\n\
+.el .nf\n\
+.rm *rows\n\
+.rm *all\n\
+.rm *blocks\n\
+.rm *spans\n\
+.if !\\\\n(*C .cp 1\n\
+..\n\
+.de *plain\n\
+.in \\\\n(*Iu\n\
+.nf\n\
+..\n\
+.de *rule\n\
+.am *rows *.\n\
+.*hrule\n\
+.*.\n\
+..\n\
+.de *hrule\n\
+.if \\\\n(*P .*draw \\\\n(*R \\\\n(*R\n\
+.nr *P 1\n\
+..\n\
+.de *to\n\
+.nr *7 \\\\$1-\\\\n(*p\n\
+.if \\\\n(*7>0 .as *o \"\\\\h'\\\\n(*7u'\n\
+.if \\\\n(*7>0 .nr *p +\\\\n(*7\n\
+..\n\
+.de *dash\n\
+.nr *7 \\\\$1-\\\\n(*p\n\
+.if \\\\n(*7>0 .as *o \"\\\\l'\\\\n(*7u-'\n\
+.if \\\\n(*7>0 .nr *p +\\\\n(*7\n\
+..\n\
+.de *barsof\n\
+.nr *v 0\n\
+.if \\\\$1 .if \\\\n[*n\\\\$1]+1>=\\\\$2 .nr *v \\\\n[*v\\\\$1,\\\\$2]\n\
+.nr *g 0\n\
+.if \\\\$1 .if \\\\n[*n\\\\$1]>=\\\\$2 .if '\\\\*[*k\\\\$1,\\\\$2]'s' .nr *g 1\n\
+.if \\\\n[*box]=2 .if \\\\$1 .if \\\\$2>1 .if \\\\$2<=\\\\n(*N .if !\\\\n(*v .nr *v 1\n\
+.if \\\\n[*box] .if \\\\$1 .if !\\\\n(*v .if \\\\$2=1:(\\\\$2>\\\\n(*N) .nr *v 1\n\
+.if \\\\n(*g .nr *v 0\n\
+..\n\
+.de *draw\n\
+.nr *3 \\\\$1\n\
+.nr *4 \\\\$2\n\
+.ds *o\n\
+.nr *p 0\n\
+.ds *h *drawcell\n\
+.*all\n\
+.nr *c \\\\n(*N+1\n\
+.*drawbar \\\\n(*c\n\
+.*dash \\\\n(*W\n\
+.if \\\\n(*v .as *o \"+\n\
+\\&\\\\*(*o\n\
+.nr *P 0\n\
+..\n\
+.de *drawcell\n\
+.*drawbar \\\\$1\n\
+.*dash \\\\n[*o\\\\$1]+\\\\n[*w\\\\$1]\n\
+..\n\
+.de *drawbar\n\
+.nr *5 0\n\
+.if \\\\n(*3 .*barsof \\\\n(*3 \\\\$1\n\
+.if \\\\n(*3 .nr *5 \\\\n(*v\n\
+.if \\\\n(*4 .*barsof \\\\n(*4 \\\\$1\n\
+.if \\\\n(*4 .if \\\\n(*v>\\\\n(*5 .nr *5 \\\\n(*v\n\
+.if \\\\n[*box] .if \\\\$1=1:(\\\\$1>\\\\n(*N) .if !\\\\n(*5 .nr *5 1\n\
+.nr *v \\\\n(*5\n\
+.if \\\\$1<=\\\\n(*N .if \\\\n(*5 .*cross \\\\$1 \\\\n(*5 +\n\
+..\n\
+.de *cross\n\
+.*barat \\\\$1\n\
+.ie '\\\\$3'+' .*dash \\\\n(*x\n\
+.el .*to \\\\n(*x\n\
+.as *o \"\\\\$3\n\
+.nr *p +1n\n\
+.if \\\\$2>1 .as *o \"\\\\$3\n\
+.if \\\\$2>1 .nr *p +1n\n\
+..\n\
+.de *barat\n\
+.nr *t \\\\$1-1\n\
+.ie \\\\n(*t .nr *x \\\\n[*s\\\\n(*t]/2*24+\\\\n[*o\\\\n(*t]+\\\\n[*w\\\\n(*t]\n\
+.el .nr *x 0\n\
+..\n\
+.de *print\n\
+.nr *r \\\\$1\n\
+.nr *k \\\\$2\n\
+.nr *F \\\\$3\n\
+.nr *f 0 1\n\
+.if \\\\n(*P .*draw \\\\n(*R \\\\n(*k\n\
+.nr *R \\\\n(*k\n\
+.if \\\\n(.u .nf\n\
+.if !\\\\n(.i=\\\\n(*O .in \\\\n(*Ou\n\
+.nr *H 0\n\
+.nr *B 0\n\
+.nr *V 0\n\
+.nr *p 0\n\
+.ds *o\n\
+.ds *h *pcell\n\
+.*all\n\
+.nr *c \\\\n(*N+1\n\
+.*pbar \\\\n(*c\n\
+.nr *E 0\n\
+.if \\\\n(*f<\\\\n(*F .*left\n\
+.ie \\\\n(*H .*tall\n\
+.el \\&\\\\*(*o\n\
+.if \\\\n(*E .*extra\n\
+.*forget\n\
+.if \\\\n[*box]=2 .nr *P 1\n\
+..\n\
+.de *pbar\n\
+.*barsof \\\\n(*k \\\\$1\n\
+.if \\\\n(*v \\{\\\n\
+.nr *V 1\n\
+.ie \\\\$1>\\\\n(*N .*edgebar\n\
+.el .*cross \\\\$1 \\\\n(*v |\n\
+.\\}\n\
+..\n\
+.de *edgebar\n\
+.*to \\\\n(*W\n\
+.as *o \"|\n\
+.if \\\\n(*v>1 .as *o \"|\n\
+..\n\
+.de *pcell\n\
+.*pbar \\\\$1\n\
+.nr *t 0\n\
+.if \\\\n[*n\\\\n(*k]>=\\\\$1 .if !'\\\\*[*k\\\\n(*k,\\\\$1]'s' .nr *t 1\n\
+.if \\\\n(*t .*pfield \\\\$1 \\\\n[*j\\\\n(*k,\\\\$1] \\\\*[*k\\\\n(*k,\\\\$1]\n\
+..\n\
+.de *pfield\n\
+.nr *f +1\n\
+.nr *y \\\\n[*y\\\\n(*r,\\\\n(*f]\n\
+.nr *A \\\\n[*o\\\\$2]+\\\\n[*w\\\\$2]-\\\\n[*o\\\\$1]\n\
+.nr *t \\w\\a\\\\*[*t\\\\n(*r,\\\\n(*f]\\a\n\
+.if !\\\\n(*t .if '\\\\$3'_' .nr *y 1\n\
+.if !\\\\n(*t .if '\\\\$3'=' .nr *y 1\n\
+.if \\\\n(*y=0 .*ptext \\\\$1 \\\\$2 \\\\$3\n\
+.if \\\\n(*y=1 .*prule \\\\$1 \\\\$2\n\
+.if \\\\n(*y=2 .*pin \\\\$1\n\
+.if \\\\n(*y=4 .*prepeat \\\\$1\n\
+.if \\\\n(*y=5 .*pblock \\\\$1 \\\\$3\n\
+..\n\
+.de *ptext\n\
+.nr *X \\\\n[*o\\\\$1]\n\
+.if '\\\\$3'r' .nr *X +\\\\n(*A-\\\\n(*t\n\
+.if '\\\\$3'c' .nr *X +(\\\\n(*A-\\\\n(*t/2/24*24)\n\
+.if '\\\\$3'a' .nr *X +(\\\\n(*A-\\\\n[*a\\\\$1]/2/24*24)\n\
+.if '\\\\$3'n' .*pnumber \\\\$1 \\\\$2\n\
+.*to \\\\n(*X\n\
+.if !'\\\\*[*f\\\\n(*k,\\\\$1]'' .as *o \"\\\\f\\\\*[*f\\\\n(*k,\\\\$1]\n\
+.as *o \"\\\\\\\\*[*t\\\\n(*r,\\\\n(*f]\n\
+.if !'\\\\*[*f\\\\n(*k,\\\\$1]'' .as *o \"\\\\fR\n\
+.nr *p +\\\\n(*t\n\
+..\n\
+.de *pnumber\n\
+.nr *6 \\w\\a\\\\*[*u\\\\n(*r,\\\\n(*f]\\a\n\
+.ie \\\\n(*6 .nr *X +(\\\\n(*A-\\\\n[*l\\\\$1]-\\\\n[*q\\\\$1]/2/24*24)+\\\\n[*l\\\\$1]-\\\\n(*6\n\
+.el .nr *X +(\\\\n(*A-\\\\n(*t/2/24*24)\n\
+..\n\
+.de *prule\n\
+.*to \\\\n[*o\\\\$1]\n\
+.*dash \\\\n[*o\\\\$1]+\\\\n(*A\n\
+..\n\
+.de *pin\n\
+.*to \\\\n[*o\\\\$1]\n\
+.*dash \\\\n[*o\\\\$1]+\\\\n(*A\n\
+..\n\
+.de *prepeat\n\
+.*to \\\\n[*o\\\\$1]\n\
+.as *o \"\\\\l'\\\\n(*Au\\\\*[*t\\\\n(*r,\\\\n(*f]'\n\
+.nr *p +\\\\n(*A\n\
+..\n\
+.de *pblock\n\
+.if \\\\n[*h\\\\n(*r,\\\\n(*f]>\\\\n(*H .nr *H \\\\n[*h\\\\n(*r,\\\\n(*f]\n\
+.if !\\\\n(*H .nr *H 1v\n\
+.nr *X \\\\n[*o\\\\$1]\n\
+.if '\\\\$2'r' .nr *X +\\\\n(*A-\\\\n[*d\\\\n(*r,\\\\n(*f]\n\
+.if '\\\\$2'c' .nr *X +(\\\\n(*A-\\\\n[*d\\\\n(*r,\\\\n(*f]/2/24*24)\n\
+.if '\\\\$2'a' .nr *X +1n\n\
+.nr *d\\\\n(*r,\\\\n(*f \\\\n(*X\n\
+.nr *B +1\n\
+.am *put *.\n\
+.*put1 \\\\n(*r \\\\n(*f \\\\n(*X\n\
+.*.\n\
+..\n\
+.de *put1\n\
+.sp |\\\\n(*Mu\n\
+.in \\\\n(*Ou+\\\\$3u\n\
+.*d\\\\$1,\\\\$2\n\
+.br\n\
+.in \\\\n(*Ou\n\
+..\n\
+.de *tall\n\
+.ne \\\\n(*Hu\n\
+.mk *M\n\
+\\&\\\\*(*o\n\
+.if \\\\n(*V .*barlines\n\
+.*put\n\
+.rm *put\n\
+.sp |\\\\n(*Mu+\\\\n(*Hu\n\
+..\n\
+.de *barlines\n\
+.ds *o\n\
+.nr *p 0\n\
+.ds *h *pbar\n\
+.*all\n\
+.nr *c \\\\n(*N+1\n\
+.*pbar \\\\n(*c\n\
+.nr *t \\\\n(*H/1v-1\n\
+.*lines \\\\n(*t\n\
+..\n\
+.de *lines\n\
+.if \\\\$1=1 \\&\\\\*(*o\n\
+.if \\\\$1>1 .*half \\\\$1\n\
+..\n\
+.de *half\n\
+.nr *t \\\\$1/2\n\
+.*lines \\\\n(*t\n\
+.nr *t \\\\$1+1/2\n\
+.*lines \\\\n(*t\n\
+..\n\
+.de *left\n\
+.nr *E 1\n\
+.nr *g \\\\n(*f\n\
+.ds *e\n\
+.ds *h *more\n\
+.*all\n\
+.nr *c \\\\n(*N+1\n\
+.*more \\\\n(*c\n\
+..\n\
+.de *more\n\
+.if \\\\$1>\\\\n(*g .if \\\\$1<=\\\\n(*F .as *e \"\\\\\\\\*[*t\\\\n(*r,\\\\$1]\\0\n\
+..\n\
+.de *extra\n\
+\\&\\\\*(*e\n\
+..\n\
+.de *forget\n\
+.ds *h *drop\n\
+.*all\n\
+.nr *c \\\\n(*N+1\n\
+.*drop \\\\n(*c\n\
+..\n\
+.de *drop\n\
+.if \\\\$1<=\\\\n(*F .*dropped \\\\n(*r,\\\\$1\n\
+..\n\
+.de *dropped\n\
+.rm *t\\\\$1\n\
+.rm *u\\\\$1\n\
+.rm *d\\\\$1\n\
+.rr *y\\\\$1\n\
+.rr *h\\\\$1\n\
+.rr *d\\\\$1\n\
+..\n\
+";
+
+/// Puts the macros behind what goes out: at most 14336 bytes.
+pub(crate) fn put_macros(out: &mut SliceVec<'_, u8>)
+    requires { length out.old.items + 14336 ≤ out.old.room }
+    ensures items { out.new.items ≡ out.old.items ++ macros }
+    ensures few { length out.new.items ≤ length out.old.items + 14336 }
+    ensures room { out.new.room ≡ out.old.room }
+{
+    out.extend(&MACROS);
+}

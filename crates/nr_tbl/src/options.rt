@@ -1,0 +1,252 @@
+//! The options of a table.
+ghost use Rattle.std.specs.Prelude.{◌≡◌};
+ghost use Rattle.nr_tbl.specs.Options as specs;
+
+use nr_units::Name;
+
+/// The frame of a table.
+#[derive(Clone, Copy)]
+pub(crate) enum Frame {
+    /// None.
+    Open,
+    /// A box around it.
+    Single,
+    /// A box around each entry.
+    All,
+    /// A box of two lines.
+    Double,
+}
+
+/// What the options say.
+#[derive(Clone, Copy)]
+pub(crate) struct Options {
+    /// The table stands in the middle of the line.
+    pub center: bool,
+    /// It is as wide as the line.
+    pub expand: bool,
+    /// Its frame.
+    pub frame: Frame,
+    /// The byte that separates fields.
+    pub tab: u8,
+    /// The byte before the fraction of a number.
+    pub point: u8,
+    /// Blanks around fields don't count.
+    pub nospaces: bool,
+    /// A word was no option.
+    pub unknown: bool,
+}
+
+/// An option.
+#[derive(Clone, Copy)]
+enum Choice {
+    /// `center`
+    Center,
+    /// `expand`
+    Expand,
+    /// `box` and its like
+    Frame(Frame),
+    /// `tab(x)`
+    Tab,
+    /// `decimalpoint(c)`
+    Point,
+    /// `nospaces`
+    NoSpaces,
+    /// One without effect.
+    Passed,
+    /// None.
+    Unknown,
+}
+
+/// What is half read of the options.
+#[derive(Clone, Copy)]
+pub(crate) struct OptionsRead {
+    /// What was read.
+    pub options: Options,
+    /// The word.
+    pub word: Name,
+    /// Its argument is read.
+    pub inside: bool,
+    /// The first byte of its argument.
+    pub argument: Option<u8>,
+}
+
+/// Whether a word is this one.
+fn is_word(word: Name, text: Name) -> bool
+    ensures { result ≡ specs.is_word word text }
+{
+    word == text
+}
+
+/// The option of a word in small letters.
+fn choice_of(word: Name) -> Choice
+    ensures { result ≡ specs.choice_of word }
+{
+    if is_word(word, Name::of(b"center")) || is_word(word, Name::of(b"centre")) {
+        return Choice::Center;
+    }
+    if is_word(word, Name::of(b"expand")) {
+        return Choice::Expand;
+    }
+    if is_word(word, Name::of(b"tab")) {
+        return Choice::Tab;
+    }
+    if is_word(word, Name::of(b"decimalpoint")) {
+        return Choice::Point;
+    }
+    if is_word(word, Name::of(b"nospaces")) {
+        return Choice::NoSpaces;
+    }
+    frame_of(word)
+}
+
+/// The option of a word that names a frame.
+fn frame_of(word: Name) -> Choice
+    ensures { result ≡ specs.frame_of word }
+{
+    if is_word(word, Name::of(b"box")) || is_word(word, Name::of(b"frame")) {
+        return Choice::Frame(Frame::Single);
+    }
+    if is_word(word, Name::of(b"allbox")) {
+        return Choice::Frame(Frame::All);
+    }
+    if is_word(word, Name::of(b"doublebox")) || is_word(word, Name::of(b"doubleframe")) {
+        return Choice::Frame(Frame::Double);
+    }
+    if is_passed(word) {
+        return Choice::Passed;
+    }
+    Choice::Unknown
+}
+
+/// Whether a word is an option without effect.
+fn is_passed(word: Name) -> bool
+    ensures { result ≡ specs.is_passed word }
+{
+    is_word(word, Name::of(b"linesize"))
+        || is_word(word, Name::of(b"delim"))
+        || is_word(word, Name::of(b"nokeep"))
+        || is_word(word, Name::of(b"nowarn"))
+}
+
+/// The small letter of a letter.
+pub(crate) fn small(byte: u8) -> u8
+    ensures { result ≡ specs.small byte }
+{
+    match byte {
+        b'A'..=b'Z' => byte + 32,
+        _ => byte,
+    }
+}
+
+/// Whether a byte is a letter.
+fn is_letter(byte: u8) -> bool
+    ensures { result ≡ specs.is_letter byte }
+{
+    matches!(byte, b'A'..=b'Z' | b'a'..=b'z')
+}
+
+impl Options {
+    /// Without any.
+    pub(crate) fn new() -> Options
+        ensures { result ≡ specs.no_options }
+    {
+        Options {
+            center: false,
+            expand: false,
+            frame: Frame::Open,
+            tab: b'\t',
+            point: b'.',
+            nospaces: false,
+            unknown: false,
+        }
+    }
+
+    /// With an option and the first byte of its argument.
+    fn with(self, choice: Choice, argument: Option<u8>) -> Options
+        ensures { result ≡ specs.options_with choice argument self }
+    {
+        let mut options = self;
+        match (choice, argument) {
+            (Choice::Center, _) => options.center = true,
+            (Choice::Expand, _) => options.expand = true,
+            (Choice::Frame(frame), _) => options.frame = frame,
+            (Choice::Tab, Some(byte)) => options.tab = byte,
+            (Choice::Point, Some(byte)) => options.point = byte,
+            (Choice::NoSpaces, _) => options.nospaces = true,
+            (Choice::Passed, _) => {}
+            (Choice::Tab | Choice::Point | Choice::Unknown, _) => options.unknown = true,
+        }
+        options
+    }
+}
+
+impl OptionsRead {
+    /// Nothing was read.
+    pub(crate) fn new() -> OptionsRead
+        ensures { result ≡ specs.first_options }
+    {
+        OptionsRead {
+            options: Options::new(),
+            word: Name::new(),
+            inside: false,
+            argument: None,
+        }
+    }
+
+    /// The word has ended, if there is one.
+    pub(crate) fn ended(self) -> OptionsRead
+        ensures { result ≡ specs.word_ended self }
+    {
+        let mut read = OptionsRead::new();
+        read.options = if self.word.is_empty() {
+            self.options
+        } else {
+            self.options.with(choice_of(self.word), self.argument)
+        };
+        read
+    }
+
+    /// A letter of a word.
+    fn letter(self, byte: u8) -> OptionsRead
+        ensures { result ≡ specs.letter byte self }
+    {
+        let mut read = self;
+        if !read.word.is_full() {
+            read.word.push(small(byte));
+        }
+        read
+    }
+
+    /// A byte in an argument.
+    fn in_argument(self, byte: u8) -> OptionsRead
+        ensures { result ≡ specs.in_argument byte self }
+    {
+        if byte == b')' {
+            return self.ended();
+        }
+        let mut read = self;
+        read.argument = match self.argument {
+            None => Some(byte),
+            argument => argument,
+        };
+        read
+    }
+
+    /// With one byte more.
+    pub(crate) fn with(self, byte: u8) -> OptionsRead
+        ensures { result ≡ specs.options_read byte self }
+    {
+        if self.inside {
+            return self.in_argument(byte);
+        }
+        if is_letter(byte) {
+            return self.letter(byte);
+        }
+        if byte == b'(' {
+            let mut read = self;
+            read.inside = true;
+            return read;
+        }
+        self.ended()
+    }
+}
