@@ -70,7 +70,7 @@ static ROWS: [Row; 20] = [
         lines: b"",
     },
     Row {
-        words: &[b"tbl", b"-Lr16777216", b"-Lr100", b"-Lt00020", b"plain"],
+        words: &[b"tbl", b"-Lr1048576", b"-Lr100", b"-Lt00020", b"plain"],
         output: b"T{ _\n.TSX\n\xc3\xa9\\fIb\\fP\n",
         status: 0,
         lines: b"",
@@ -153,10 +153,10 @@ static ROWS: [Row; 20] = [
         lines: b"tbl: bad value in -Lr63\n",
     },
     Row {
-        words: &[b"tbl", b"-Lt16777217"],
+        words: &[b"tbl", b"-Lt1048577"],
         output: b"",
         status: 2,
-        lines: b"tbl: bad value in -Lt16777217\n",
+        lines: b"tbl: bad value in -Lt1048577\n",
     },
     Row {
         words: &[b"tbl", b"-Lr+64"],
