@@ -31,7 +31,7 @@ pub struct Rooms {
 }
 
 impl Model for Rooms {
-    ghost use Rattle.std.specs.Prelude.{ℕ, ◌×◌, ◌^◌, ◌≤◌, length};
+    ghost use Rattle.std.specs.Prelude.{ℕ, ◌^◌, ◌≤◌, length};
     ghost use Rattle.nr_tbl.specs.Running.{pending_size};
 
     // The limits on the bytes of options and formats, and of a field.
