@@ -11,7 +11,7 @@ use std::rt::Files;
 /// The most bytes that tbl makes of a row.
 const MOST_BYTES: usize = 262_144;
 
-/// The limits on formats and on a field where a row sets none.
+/// The limits on formats and on a field where a row sets none, and the greatest that it may set.
 const USUAL: usize = 4096;
 
 /// The most complaints of a row.
@@ -73,9 +73,6 @@ fn limits_of(words: &str) -> anyhow::Result<Bounds> {
             .split_once('=')
             .ok_or(anyhow::anyhow!("no limit: {word}"))?;
         let number = digits.parse::<usize>()?;
-        if number > USUAL {
-            anyhow::bail!("out of range: {word}");
-        }
         match name {
             "formats" => limits.formats = number,
             "row" => limits.row = number,
@@ -95,6 +92,9 @@ fn gives<R: Files + AllocGlobal + Print>(
     end: &str,
     buffer: &mut [u8],
 ) -> anyhow::Result<bool> {
+    if limits.formats > USUAL || limits.row > USUAL {
+        anyhow::bail!("limits out of range: {name}");
+    }
     let pages = fs::read(rt, format!(in rt.alloc(); "{name}.out")?)?;
     let file = fs::open(rt, format!(in rt.alloc(); "{name}.roff")?)?;
     let mut formats = vec![in rt.alloc(); 0u8; limits.formats]?;
