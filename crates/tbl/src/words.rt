@@ -9,6 +9,7 @@ const LEAST_ROW: u64 = 64;
 
 /// The limits where no word sets them.
 const USUAL_FORMATS: usize = 8192;
+
 const USUAL_ROW: usize = 16_384;
 
 /// What the words ask for.

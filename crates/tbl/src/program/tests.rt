@@ -237,7 +237,13 @@ fn passes_a_long_line(rt: HostRuntime) -> Result<(), std::alloc::AllocError> {
         words: &[b"tbl"],
         texts: &[],
     };
-    let status = run_program(&system, rt.alloc(), page.as_slice(), &mut output, &mut lines);
+    let status = run_program(
+        &system,
+        rt.alloc(),
+        page.as_slice(),
+        &mut output,
+        &mut lines,
+    );
     assert_eq!(rt; status, 0);
     assert!(rt; output == page);
     Ok(())
