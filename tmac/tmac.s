@@ -7,6 +7,8 @@
 .\" Fonts       .B .I word behind before   .R     (without a word: from here on)
 .\" Displays    .DS kind .DE   lines as they are: L at the margin, I indented, C
 .\"             centred
+.\" Tables      .TS .TE around what tbl(1) makes of them; if it was not asked, their
+.\"             lines stand as they are
 .\" Keeps       .KS .KE   text that stays on one page, if it fits on one
 .\" Footnotes   \** a number in the text, then .FS mark .FE around the note, which
 .\"             is read in copy mode first
@@ -28,7 +30,8 @@
 .\"   )w 1 for a note that goes to the next page
 .\"   )p height of a line kept aside   )u fill mode    )i, )j, )e an indent
 .\"   )C 1 while lines are centred     )K 1 in a keep   )k height of a keep
-.\"   )g 1 while text is in italics    )d place behind a display
+.\"   )g 1 while text is in italics    )d place behind a display or a table
+.\"   )T fill mode before a table
 .\" Private names
 .\"   )N number of a heading  )M mark of a note    )r text of notes to be set
 .\"   )n notes of this page, )o of the next, )X newest notes, set
@@ -279,6 +282,20 @@
 .de DE
 .)c
 .in \\n()Iu
+.sp \\n(PDu
+.ns
+.nr )d \\n(.d
+..
+.\" table
+.de TS
+.nr )T \\n(.u
+.br
+.sp \\n(PDu
+.nf
+..
+.de TE
+.br
+.if \\n()T .fi
 .sp \\n(PDu
 .ns
 .nr )d \\n(.d

@@ -1,8 +1,9 @@
 //! Worked rows: inputs of the formatter with the pages that they must give, as files in data/, NAME.roff and NAME.out.
 //! data/rows lists those that end under the limits by default, data/rows_with_limits the others, with their limits and
-//! their ends; the program runs them. Those with faults of their own are tests.
+//! their ends; data/rows_of_tables lists inputs that go through tbl first, with their limits and what that tells. The
+//! program runs them. Those with faults of their own are tests.
 //!
-//! It stands on nr_units and nr_engine. To read: this file, `limits`; then the tests.
+//! It stands on nr_units, nr_engine and nr_tbl. To read: this file, `limits`, `tables`; then the tests.
 #![tactic(auto)]
 
 use nr_engine::{Buffered, Desk, Limits, Options, Outcome, Sink, Source, format};
@@ -18,10 +19,12 @@ mod limits_and_faults;
 mod row;
 #[cfg(test)]
 mod sweeps;
+mod tables;
 #[cfg(test)]
 mod whole;
 
 use limits::limits_of;
+use tables::Turner;
 
 /// The bytes of the buffer of a row's input.
 const BUFFER_SIZE: usize = 4096;
@@ -32,6 +35,8 @@ fn main(rt: HostRuntime) -> anyhow::Result<()> {
     println!(rt; "{plain} rows")?;
     let limited = rows_with_limits(&rt)?;
     println!(rt; "{limited} rows with limits")?;
+    let turned = rows_of_tables(&rt)?;
+    println!(rt; "{turned} rows of tables")?;
     Ok(())
 }
 
@@ -59,6 +64,20 @@ fn rows_with_limits<R: Files + AllocGlobal + Print>(rt: &R) -> anyhow::Result<u6
         let (name, words) = row.split_once(' ').unwrap_or((row, ""));
         let mut desk = Desk::new(rt.alloc(), limits_of(words)?)?;
         if passes(rt, &mut desk, name, end)? {
+            passed = passed.saturating_add(1);
+        }
+    }
+    Ok(passed)
+}
+
+/// How many of the rows of tables pass.
+fn rows_of_tables<R: Files + AllocGlobal + Print>(rt: &R) -> anyhow::Result<u64> {
+    let mut desk = Desk::new(rt.alloc(), Limits::default())?;
+    let mut turner = Turner::new(rt.alloc())?;
+    let list = fs::read_to_string(rt, "rows_of_tables")?;
+    let mut passed = 0u64;
+    for line in list.lines() {
+        if tables::passes(rt, &mut desk, &mut turner, line)? {
             passed = passed.saturating_add(1);
         }
     }

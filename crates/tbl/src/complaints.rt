@@ -1,0 +1,49 @@
+// The lines that tell what is wrong with tables.
+
+use itoa::Buffer;
+use nr_tbl::{Complaint, Kind, Report};
+use nr_units::sink::Sink;
+use nr_units::source::Fault;
+
+/// What a line says of its kind.
+fn words_of(kind: Kind) -> &'static [u8] {
+    match kind {
+        Kind::NoFormat => b"table without a format".as_slice(),
+        Kind::BadFormat => b"bad format".as_slice(),
+        Kind::UnknownOption => b"unknown option".as_slice(),
+        Kind::TooManyFields => b"more fields than columns".as_slice(),
+        Kind::OpenBlock => b"text block without an end".as_slice(),
+        Kind::OpenTable => b"table without an end".as_slice(),
+        Kind::TooManyColumns => b"more than 64 columns".as_slice(),
+        Kind::FormatsLimit => b"table formats limit passed".as_slice(),
+        Kind::RowLimit => b"table row limit passed".as_slice(),
+    }
+}
+
+/// Writes the line of a complaint.
+fn put_complaint<E: Sink>(complaint: Complaint, errors: &mut E) -> Result<(), Fault> {
+    errors.put(b"tbl: ")?;
+    errors.put(words_of(complaint.kind))?;
+    errors.put(b" at byte ")?;
+    let mut digits = Buffer::new();
+    errors.put(digits.format(complaint.at).as_bytes())?;
+    errors.put(b"\n")
+}
+
+/// Writes a line for each of the complaints, up to the first fault of a write.
+fn put_complaints<E: Sink>(complaints: &[Complaint], errors: &mut E) -> Result<(), Fault> {
+    for complaint in complaints {
+        put_complaint(*complaint, errors)?;
+    }
+    Ok(())
+}
+
+/// Tells what a text's tables came to, as far as `errors` takes it, and whether there was anything to tell.
+pub fn tell_complaints<E: Sink>(report: Report, complaints: &[Complaint], errors: &mut E) -> bool {
+    let told = complaints.get(..report.complaints).unwrap_or(complaints);
+    let written = put_complaints(told, errors);
+    if report.missed && written.is_ok() {
+        let _ = errors.put(b"tbl: and more\n");
+    }
+    report.missed || !told.is_empty()
+}

@@ -1,0 +1,250 @@
+// Whole runs over words, and over texts in memory.
+use super::run_program;
+use nr_command_line::fakes::{Page, System};
+use std::cell::Cell;
+use std::io;
+use std::io::{ErrorKind, Read, Write};
+
+/// Standard input: bytes that come once, however often it is read.
+#[derive(Clone, Copy)]
+struct Typed<'r, 'a> {
+    left: &'r Cell<&'a [u8]>,
+}
+
+impl Read for Typed<'_, '_> {
+    fn read(&mut self, buffer: &mut [u8]) -> io::Result<usize> {
+        let mut bytes = self.left.get();
+        let count = bytes.read(buffer)?;
+        self.left.set(bytes);
+        Ok(count)
+    }
+}
+
+/// Takes bytes, or fails at each write; fails at each flush.
+#[derive(Drop)]
+struct Closing {
+    takes: bool,
+}
+
+impl Write for Closing {
+    fn write(&mut self, bytes: &[u8]) -> io::Result<usize> {
+        if self.takes {
+            Ok(bytes.len())
+        } else {
+            Err(io::Error::from(ErrorKind::BrokenPipe))
+        }
+    }
+
+    fn flush(&mut self) -> io::Result<()> {
+        Err(io::Error::from(ErrorKind::BrokenPipe))
+    }
+}
+
+/// A run: its words, what it writes, its status and its lines. Standard input is `a` and a line `.br`.
+struct Row {
+    words: &'static [&'static [u8]],
+    output: &'static [u8],
+    status: u8,
+    lines: &'static [u8],
+}
+
+static TEXTS: [(&str, Page<'static>); 5] = [
+    ("plain", Page::Bytes(b"T{ _\n.TSX\n\xc3\xa9\\fIb\\fP\n")),
+    ("open", Page::Bytes(b".ds x y")),
+    ("folder", Page::Cut(b"")),
+    ("cut", Page::Cut(b"a\n.BR c d")),
+    ("empty", Page::Bytes(b"")),
+];
+
+static ROWS: [Row; 20] = [
+    Row {
+        words: &[b"tbl"],
+        output: b"a\n.br\n",
+        status: 0,
+        lines: b"",
+    },
+    Row {
+        words: &[b"tbl", b"-Lt1", b"-Lr64"],
+        output: b"a\n.br\n",
+        status: 0,
+        lines: b"",
+    },
+    Row {
+        words: &[b"tbl", b"-Lr1048576", b"-Lr100", b"-Lt00020", b"plain"],
+        output: b"T{ _\n.TSX\n\xc3\xa9\\fIb\\fP\n",
+        status: 0,
+        lines: b"",
+    },
+    // Standard input stands where it is named, and ends once.
+    Row {
+        words: &[b"tbl", b"plain", b"-", b"empty", b"-"],
+        output: b"T{ _\n.TSX\n\xc3\xa9\\fIb\\fP\na\n.br\n",
+        status: 0,
+        lines: b"",
+    },
+    // Each file is turned by itself.
+    Row {
+        words: &[b"tbl", b"open", b"open"],
+        output: b".ds x y.ds x y",
+        status: 0,
+        lines: b"",
+    },
+    // What stands behind a file is a file.
+    Row {
+        words: &[b"tbl", b"plain", b"-Lt9"],
+        output: b"",
+        status: 3,
+        lines: b"tbl: cannot open -Lt9\n",
+    },
+    Row {
+        words: &[b"tbl", b"-", b"-x"],
+        output: b"",
+        status: 3,
+        lines: b"tbl: cannot open -x\n",
+    },
+    // The first that can't be opened is told, before anything is read.
+    Row {
+        words: &[b"tbl", b"folder", b"none", b"nor"],
+        output: b"",
+        status: 3,
+        lines: b"tbl: cannot open none\n",
+    },
+    Row {
+        words: &[b"tbl", b""],
+        output: b"",
+        status: 3,
+        lines: b"tbl: cannot open \n",
+    },
+    // The first word that can't be taken is told, before anything is opened.
+    Row {
+        words: &[b"tbl", b"-Lt9", b"-C", b"-Lt0", b"none"],
+        output: b"",
+        status: 2,
+        lines: b"tbl: unknown option -C\n",
+    },
+    Row {
+        words: &[b"tbl", b"--"],
+        output: b"",
+        status: 2,
+        lines: b"tbl: unknown option --\n",
+    },
+    Row {
+        words: &[b"tbl", b"-L"],
+        output: b"",
+        status: 2,
+        lines: b"tbl: bad value in -L\n",
+    },
+    Row {
+        words: &[b"tbl", b"-Lx9"],
+        output: b"",
+        status: 2,
+        lines: b"tbl: bad value in -Lx9\n",
+    },
+    Row {
+        words: &[b"tbl", b"-Lt0"],
+        output: b"",
+        status: 2,
+        lines: b"tbl: bad value in -Lt0\n",
+    },
+    Row {
+        words: &[b"tbl", b"-Lr63", b"none"],
+        output: b"",
+        status: 2,
+        lines: b"tbl: bad value in -Lr63\n",
+    },
+    Row {
+        words: &[b"tbl", b"-Lt1048577"],
+        output: b"",
+        status: 2,
+        lines: b"tbl: bad value in -Lt1048577\n",
+    },
+    Row {
+        words: &[b"tbl", b"-Lr+64"],
+        output: b"",
+        status: 2,
+        lines: b"tbl: bad value in -Lr+64\n",
+    },
+    Row {
+        words: &[b"tbl", b"-Lr64x"],
+        output: b"",
+        status: 2,
+        lines: b"tbl: bad value in -Lr64x\n",
+    },
+    Row {
+        words: &[b"tbl", b"folder", b"plain"],
+        output: b"",
+        status: 3,
+        lines: b"tbl: read fault at byte 0\n",
+    },
+    // What came before the fault is out; bytes are those of the file.
+    Row {
+        words: &[b"tbl", b"open", b"cut", b"plain"],
+        output: b".ds x ya\n.BR c d",
+        status: 3,
+        lines: b"tbl: read fault at byte 9\n",
+    },
+];
+
+#[test]
+fn runs_in_a_system(rt: HostRuntime) {
+    for row in &ROWS {
+        let system = System {
+            words: row.words,
+            texts: &TEXTS,
+        };
+        let left = Cell::new(b"a\n.br\n".as_slice());
+        let input = Typed { left: &left };
+        let mut output = Vec::new(rt.alloc());
+        let mut lines = Vec::new(rt.alloc());
+        let status = run_program(&system, rt.alloc(), input, &mut output, &mut lines);
+        let words = row.words;
+        assert!(rt; output.as_slice() == row.output, "{words:?}");
+        assert!(rt; lines.as_slice() == row.lines, "{words:?}");
+        assert_eq!(rt; status, row.status, "{words:?}");
+    }
+}
+
+// A write that fails, and a flush; a read fault is not told then.
+#[test]
+fn tells_an_output_that_fails(rt: HostRuntime) {
+    for (takes, text) in [
+        (false, b"plain".as_slice()),
+        (true, b"plain"),
+        (true, b"cut"),
+    ] {
+        let system = System {
+            words: &[b"tbl", text],
+            texts: &TEXTS,
+        };
+        let mut line = Vec::new(rt.alloc());
+        let input = b"".as_slice();
+        let status = run_program(&system, rt.alloc(), input, Closing { takes }, &mut line);
+        assert_eq!(rt; status, 4);
+        assert!(rt; line.as_slice() == b"tbl: write fault\n".as_slice());
+    }
+}
+
+// A text of several buffers, in which no line ends.
+#[test]
+fn passes_a_long_line(rt: HostRuntime) -> Result<(), std::alloc::AllocError> {
+    let mut page = Vec::new(rt.alloc());
+    for _ in 0..40_000 {
+        page.extend_from_slice(b"ab T{ ")?;
+    }
+    let mut output = Vec::new(rt.alloc());
+    let mut lines = Vec::new(rt.alloc());
+    let system = System {
+        words: &[b"tbl"],
+        texts: &[],
+    };
+    let status = run_program(
+        &system,
+        rt.alloc(),
+        page.as_slice(),
+        &mut output,
+        &mut lines,
+    );
+    assert_eq!(rt; status, 0);
+    assert!(rt; output == page);
+    Ok(())
+}
