@@ -1,6 +1,5 @@
-use Rattle.std.proofs.Common.{arith}
-use Rattle.std.proofs.lemmas.Grind.{common_steps}
+use Rattle.std.proofs.Common.{rules}
 use Rattle.nr_tables.proofs.word.HyphenationWord.points.Goals as goal
 
 pub returns-clause-points : goal.returns-clause-points
-returns-clause-points c = grind (arith, common_steps)
+returns-clause-points c = search rules
