@@ -14,7 +14,6 @@ use Rattle.nr_reading.specs.declared.mode.Mode.TheVariants as modes
 use Rattle.nr_reading.proofs.InText.{ended_text, in_text}
 use Rattle.nr_input.specs.AtHand.{ComeNext}
 use Rattle.nr_input.specs.Coming.{Coming, HoldsComing}
-use Rattle.nr_input.specs.Runs.{passed_run}
 use Rattle.nr_formatter.specs.Access.{collected}
 use Rattle.nr_formatter.specs.LineBeginnings.{BeginsText, is_at_text, text_begun}
 use Rattle.nr_formatter.specs.LineEnds.{IsNewline, line_gapped, newline_flows, newline_put}
