@@ -10,10 +10,10 @@ use Rattle.nr_tbl.specs.declared.held.Held.{Held}
 use Rattle.nr_tbl.specs.declared.held.Held.TheVariants as helds
 use Rattle.nr_tbl.specs.declared.said.Said.TheVariants as says
 use Rattle.nr_tbl.specs.Held.{ends_name, held_with, held_bytes}
-use Rattle.nr_tbl.specs.Half.{Met, first_half, leaving}
-use Rattle.nr_tbl.specs.Outside.{is_begin, released, start_with}
+use Rattle.nr_tbl.specs.Half.{first_half, leaving}
+use Rattle.nr_tbl.specs.Outside.{is_begin, start_with}
 use Rattle.nr_tbl.specs.Untouched.{begins_table, has_table_from, has_table, is_untouched}
-use Rattle.nr_tbl.specs.Reading.{Page, Told, told, behind, acted, with_half, heard, heard_in, read, finished, fed, first_page, tables_set}
+use Rattle.nr_tbl.specs.Reading.{Page, Told, told, behind, acted, with_half, heard, heard_in, read, finished, fed, tables_set}
 use Rattle.nr_tbl.proofs.Hearing.{not_true}
 
 or-first : (x y : Bool) → (x || y) ≡ false → x ≡ false

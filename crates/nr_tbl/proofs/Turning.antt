@@ -1,5 +1,5 @@
 -- How a run goes on and ends.
-use Rattle.std.proofs.Common.{◌≡◌, ℕ, ◌+◌, ◌≤◌, List, [], ◌∷◌, ◌++◌, length, take, drop, Bool, Option, None, Some, Result, Ok, Err, OnOk, refl, sym, ◌∙◌, ap, subst, append_assoc, append-nil, arith, length-append}
+use Rattle.std.proofs.Common.{◌≡◌, ℕ, ◌+◌, ◌≤◌, List, [], ◌∷◌, ◌++◌, length, take, drop, Option, None, Some, Result, Ok, Err, OnOk, refl, sym, ◌∙◌, ap, subst, append_assoc, append-nil, arith, length-append}
 use Rattle.std.specs.Io.KnownBytes.{Appends}
 use Rattle.std.proofs.KnownBytes.{Appends-trans, Appends-nil}
 use Rattle.std.proofs.lemmas.List.{take-append-drop, take-take, length-take}
@@ -177,7 +177,7 @@ ended-all fl rl sent p left bytes r all reader out =
     ∙ ap (λ (x : Page). (fed (first_page fl rl) bytes).bytes ++ (finished x).bytes) reader
 
 pub Ran-done : (fl rl : ℕ) (a b c : Option Supply) (h k m : Option (List ℕ)) (p left : List ℕ) (r : Page) (t : ℕ)
-    → Stands fl rl a b h k p r t → Comes b [] c × Ends b c × (left ≡ p ++ (finished r).bytes) 
+    → Stands fl rl a b h k p r t → Comes b [] c × Ends b c × (left ≡ p ++ (finished r).bytes)
     → (outcome : Outcome) → EndsAs Done outcome k m left → Ran fl rl a c h m outcome
 Ran-done fl rl a b c h k m p left r t st turn Done ends =
     let all = ended-all fl rl st.sent p left st.bytes r st.all st.page turn.2 in

@@ -43,7 +43,15 @@ told f called = record { formats = f; called = called }
 
 abbrev pub first_formats : ℕ → ℕ → Bool → Formats
 first_formats columns lines numeric = record {
-  part = parts.Keys; begun = false; bars = 0; cells = 0; columns = columns; lines = lines; numeric = numeric; bad = false; many = false;
+  part = parts.Keys;
+  begun = false;
+  bars = 0;
+  cells = 0;
+  columns = columns;
+  lines = lines;
+  numeric = numeric;
+  bad = false;
+  many = false;
 }
 
 -- ---- columns and lines
@@ -63,7 +71,12 @@ abbrev pub with_cell : ℕ → Formats → Formats
 with_cell kind f =
     let cells = one_more f.cells 64 in
     record f {
-      many = f.many || nat_le 64 f.cells; cells = cells; columns = if nat_lt f.columns cells then cells else f.columns; numeric = f.numeric || (kind == 110); begun = true; bars = 0;
+      many = f.many || nat_le 64 f.cells;
+      cells = cells;
+      columns = if nat_lt f.columns cells then cells else f.columns;
+      numeric = f.numeric || (kind == 110);
+      begun = true;
+      bars = 0;
     }
 
 abbrev pub cell : ℕ → Formats → Told

@@ -44,8 +44,17 @@ complaining kind h = record h { complaint = first_kind h.complaint kind }
 -- a page begins
 abbrev pub first_half : Half
 first_half = record {
-  mode = modes.Start helds.Nothing; known = false; options = no_options; formats = first_formats 0 0 false;
-  first = false; dotted = false; opened = false; fields = 0; shape = Empty; marks = first_marks; complaint = None;
+  mode = modes.Start helds.Nothing;
+  known = false;
+  options = no_options;
+  formats = first_formats 0 0 false;
+  first = false;
+  dotted = false;
+  opened = false;
+  fields = 0;
+  shape = Empty;
+  marks = first_marks;
+  complaint = None;
 }
 
 abbrev pub is_something : Held → Bool

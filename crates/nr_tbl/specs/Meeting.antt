@@ -1,5 +1,5 @@
 -- What comes meets what is half read.
-use Rattle.std.specs.Prelude.{ℕ, Bool, true, false, if◌then◌else◌}
+use Rattle.std.specs.Prelude.{ℕ, false, if◌then◌else◌}
 use Rattle.nr_tbl.specs.declared.complaint.Kind.TheVariants.{NoFormat, OpenTable}
 use Rattle.nr_tbl.specs.declared.half.Half.{Half}
 use Rattle.nr_tbl.specs.declared.half.Full.{Full}

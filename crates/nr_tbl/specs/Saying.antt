@@ -1,5 +1,5 @@
 -- What goes out: requests of the language, and calls of the private macros (`macros`).
-use Rattle.std.specs.Prelude.{ℕ, List, [], ◌∷◌, ◌++◌, codes, Bool, true, false, ◌==◌, if◌then◌else◌}
+use Rattle.std.specs.Prelude.{ℕ, List, [], ◌∷◌, ◌++◌, codes, Bool, ◌==◌, if◌then◌else◌}
 use Rattle.nr_tbl.specs.declared.said.Said.{Said}
 use Rattle.nr_tbl.specs.declared.said.Said.TheVariants as says
 use Rattle.nr_tbl.specs.declared.said.Mark.{Mark}

@@ -4,10 +4,10 @@ ghost use Rattle.nr_tbl.specs.Half.{met};
 ghost use Rattle.nr_tbl.specs.Head as specs;
 
 use super::complaint::Kind;
+use super::formats::Formats;
 use super::half::{Act, Half, Mode, Seen};
 use super::held::{Held, ends_name};
 use super::options::Options;
-use super::formats::Formats;
 use super::said::Said;
 
 impl Half {

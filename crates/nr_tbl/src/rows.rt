@@ -143,10 +143,7 @@ impl Half {
                 self.row_begins();
                 self.takes(Mode::RowStart(Held::Nothing), Act::Replace(Said::Rule))
             }
-            Shape::Block => self.takes(
-                Mode::BlockStart(Held::Nothing),
-                Act::Replace(Said::Block),
-            ),
+            Shape::Block => self.takes(Mode::BlockStart(Held::Nothing), Act::Replace(Said::Block)),
             _ => {
                 let act = self.field_act();
                 self.counts_field();

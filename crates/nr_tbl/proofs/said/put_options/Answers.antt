@@ -1,6 +1,6 @@
 use Rattle.std.proofs.Common.{ℕ, [], ◌∷◌, ◌++◌, ◌∙◌, ap}
 use Rattle.std.specs.Prelude.{codes}
-use Rattle.nr_tbl.specs.Saying.{switch_digit, frame_digit}
+use Rattle.nr_tbl.specs.Saying.{switch_digit}
 use Rattle.nr_tbl.proofs.Putting.{both-behind}
 use Rattle.nr_tbl.proofs.said.put_options.Goals as goal
 
