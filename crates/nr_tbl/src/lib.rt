@@ -1,11 +1,12 @@
 //! tbl: tables become requests of the language of the formatter.
 //!
-//! It stands on nr_units. To read: `complaint`, `held`, `field`, `numbers`; `options`, `formats`; `macros`, `said`;
-//! `half`, `outside`, `head`, `rows`, `blocks`, `plain`, `meeting`; `reader`, `running`; `untouched`.
+//! It stands on nr_units. To read: `complaint`, `held`, `field`, `numbers`; `options`, `formats`; `macros`, `drawing`,
+//! `said`; `half`, `outside`, `head`, `rows`, `blocks`, `plain`, `meeting`; `reader`, `running`; `untouched`.
 #![tactic(auto)]
 
 mod blocks;
 mod complaint;
+mod drawing;
 mod field;
 mod formats;
 mod half;

@@ -1,0 +1,244 @@
+//! The private macros that print a table: its rules, bars, rows and fields.
+
+/// The macros by which a table is drawn.
+pub(crate) static DRAWING: [u8; 4251] = *b"\
+.de *rule\n\
+.am *rows *.\n\
+.*hrule\n\
+.*.\n\
+..\n\
+.de *hrule\n\
+.if \\\\n(*P .*draw \\\\n(*R \\\\n(*R\n\
+.nr *P 1\n\
+..\n\
+.de *to\n\
+.nr *7 \\\\$1-\\\\n(*p\n\
+.if \\\\n(*7>0 .as *o \"\\\\h'\\\\n(*7u'\n\
+.if \\\\n(*7>0 .nr *p +\\\\n(*7\n\
+..\n\
+.de *dash\n\
+.nr *7 \\\\$1-\\\\n(*p\n\
+.if \\\\n(*7>0 .as *o \"\\\\l'\\\\n(*7u-'\n\
+.if \\\\n(*7>0 .nr *p +\\\\n(*7\n\
+..\n\
+.de *barsof\n\
+.nr *v 0\n\
+.if \\\\$1 .if \\\\n[*n\\\\$1]+1>=\\\\$2 .nr *v \\\\n[*v\\\\$1,\\\\$2]\n\
+.nr *g 0\n\
+.if \\\\$1 .if \\\\n[*n\\\\$1]>=\\\\$2 .if '\\\\*[*k\\\\$1,\\\\$2]'s' .nr *g 1\n\
+.if \\\\n[*box]=2 .if \\\\$1 .if \\\\$2>1 .if \\\\$2<=\\\\n(*N .if !\\\\n(*v .nr *v 1\n\
+.if \\\\n[*box] .if \\\\$1 .if !\\\\n(*v .if \\\\$2=1:(\\\\$2>\\\\n(*N) .nr *v 1\n\
+.if \\\\n(*g .nr *v 0\n\
+..\n\
+.de *draw\n\
+.nr *3 \\\\$1\n\
+.nr *4 \\\\$2\n\
+.ds *o\n\
+.nr *p 0\n\
+.ds *h *drawcell\n\
+.*all\n\
+.nr *c \\\\n(*N+1\n\
+.*drawbar \\\\n(*c\n\
+.*dash \\\\n(*W\n\
+.if \\\\n(*v .as *o \"+\n\
+\\&\\\\*(*o\n\
+.nr *P 0\n\
+..\n\
+.de *drawcell\n\
+.*drawbar \\\\$1\n\
+.*dash \\\\n[*o\\\\$1]+\\\\n[*w\\\\$1]\n\
+..\n\
+.de *drawbar\n\
+.nr *5 0\n\
+.if \\\\n(*3 .*barsof \\\\n(*3 \\\\$1\n\
+.if \\\\n(*3 .nr *5 \\\\n(*v\n\
+.if \\\\n(*4 .*barsof \\\\n(*4 \\\\$1\n\
+.if \\\\n(*4 .if \\\\n(*v>\\\\n(*5 .nr *5 \\\\n(*v\n\
+.if \\\\n[*box] .if \\\\$1=1:(\\\\$1>\\\\n(*N) .if !\\\\n(*5 .nr *5 1\n\
+.nr *v \\\\n(*5\n\
+.if \\\\$1<=\\\\n(*N .if \\\\n(*5 .*cross \\\\$1 \\\\n(*5 +\n\
+..\n\
+.de *cross\n\
+.*barat \\\\$1\n\
+.ie '\\\\$3'+' .*dash \\\\n(*x\n\
+.el .*to \\\\n(*x\n\
+.as *o \"\\\\$3\n\
+.nr *p +1n\n\
+.if \\\\$2>1 .as *o \"\\\\$3\n\
+.if \\\\$2>1 .nr *p +1n\n\
+..\n\
+.de *barat\n\
+.nr *t \\\\$1-1\n\
+.ie \\\\n(*t .nr *x \\\\n[*s\\\\n(*t]/2*24+\\\\n[*o\\\\n(*t]+\\\\n[*w\\\\n(*t]\n\
+.el .nr *x 0\n\
+..\n\
+.de *print\n\
+.nr *r \\\\$1\n\
+.nr *k \\\\$2\n\
+.nr *F \\\\$3\n\
+.nr *f 0 1\n\
+.if \\\\n(*P .*draw \\\\n(*R \\\\n(*k\n\
+.nr *R \\\\n(*k\n\
+.if \\\\n(.u .nf\n\
+.if !\\\\n(.i=\\\\n(*O .in \\\\n(*Ou\n\
+.nr *H 0\n\
+.nr *B 0\n\
+.nr *V 0\n\
+.nr *p 0\n\
+.ds *o\n\
+.ds *h *pcell\n\
+.*all\n\
+.nr *c \\\\n(*N+1\n\
+.*pbar \\\\n(*c\n\
+.nr *E 0\n\
+.if \\\\n(*f<\\\\n(*F .*left\n\
+.ie \\\\n(*H .*tall\n\
+.el \\&\\\\*(*o\n\
+.if \\\\n(*E .*extra\n\
+.*forget\n\
+.if \\\\n[*box]=2 .nr *P 1\n\
+..\n\
+.de *pbar\n\
+.*barsof \\\\n(*k \\\\$1\n\
+.if \\\\n(*v \\{\\\n\
+.nr *V 1\n\
+.ie \\\\$1>\\\\n(*N .*edgebar\n\
+.el .*cross \\\\$1 \\\\n(*v |\n\
+.\\}\n\
+..\n\
+.de *edgebar\n\
+.*to \\\\n(*W\n\
+.as *o \"|\n\
+.if \\\\n(*v>1 .as *o \"|\n\
+..\n\
+.de *pcell\n\
+.*pbar \\\\$1\n\
+.nr *t 0\n\
+.if \\\\n[*n\\\\n(*k]>=\\\\$1 .if !'\\\\*[*k\\\\n(*k,\\\\$1]'s' .nr *t 1\n\
+.if \\\\n(*t .*pfield \\\\$1 \\\\n[*j\\\\n(*k,\\\\$1] \\\\*[*k\\\\n(*k,\\\\$1]\n\
+..\n\
+.de *pfield\n\
+.nr *f +1\n\
+.nr *y \\\\n[*y\\\\n(*r,\\\\n(*f]\n\
+.nr *A \\\\n[*o\\\\$2]+\\\\n[*w\\\\$2]-\\\\n[*o\\\\$1]\n\
+.nr *t \\w\\a\\\\*[*t\\\\n(*r,\\\\n(*f]\\a\n\
+.if !\\\\n(*t .if '\\\\$3'_' .nr *y 1\n\
+.if !\\\\n(*t .if '\\\\$3'=' .nr *y 1\n\
+.if \\\\n(*y=0 .*ptext \\\\$1 \\\\$2 \\\\$3\n\
+.if \\\\n(*y=1 .*prule \\\\$1 \\\\$2\n\
+.if \\\\n(*y=2 .*pin \\\\$1\n\
+.if \\\\n(*y=4 .*prepeat \\\\$1\n\
+.if \\\\n(*y=5 .*pblock \\\\$1 \\\\$3\n\
+..\n\
+.de *ptext\n\
+.nr *X \\\\n[*o\\\\$1]\n\
+.if '\\\\$3'r' .nr *X +\\\\n(*A-\\\\n(*t\n\
+.if '\\\\$3'c' .nr *X +(\\\\n(*A-\\\\n(*t/2/24*24)\n\
+.if '\\\\$3'a' .nr *X +(\\\\n(*A-\\\\n[*a\\\\$1]/2/24*24)\n\
+.if '\\\\$3'n' .*pnumber \\\\$1 \\\\$2\n\
+.*to \\\\n(*X\n\
+.if !'\\\\*[*f\\\\n(*k,\\\\$1]'' .as *o \"\\\\f\\\\*[*f\\\\n(*k,\\\\$1]\n\
+.as *o \"\\\\\\\\*[*t\\\\n(*r,\\\\n(*f]\n\
+.if !'\\\\*[*f\\\\n(*k,\\\\$1]'' .as *o \"\\\\fR\n\
+.nr *p +\\\\n(*t\n\
+..\n\
+.de *pnumber\n\
+.nr *6 \\w\\a\\\\*[*u\\\\n(*r,\\\\n(*f]\\a\n\
+.ie \\\\n(*6 .nr *X +(\\\\n(*A-\\\\n[*l\\\\$1]-\\\\n[*q\\\\$1]/2/24*24)+\\\\n[*l\\\\$1]-\\\\n(*6\n\
+.el .nr *X +(\\\\n(*A-\\\\n(*t/2/24*24)\n\
+..\n\
+.de *prule\n\
+.*to \\\\n[*o\\\\$1]\n\
+.*dash \\\\n[*o\\\\$1]+\\\\n(*A\n\
+..\n\
+.de *pin\n\
+.*to \\\\n[*o\\\\$1]\n\
+.*dash \\\\n[*o\\\\$1]+\\\\n(*A\n\
+..\n\
+.de *prepeat\n\
+.*to \\\\n[*o\\\\$1]\n\
+.as *o \"\\\\l'\\\\n(*Au\\\\*[*t\\\\n(*r,\\\\n(*f]'\n\
+.nr *p +\\\\n(*A\n\
+..\n\
+.de *pblock\n\
+.if \\\\n[*h\\\\n(*r,\\\\n(*f]>\\\\n(*H .nr *H \\\\n[*h\\\\n(*r,\\\\n(*f]\n\
+.if !\\\\n(*H .nr *H 1v\n\
+.nr *X \\\\n[*o\\\\$1]\n\
+.if '\\\\$2'r' .nr *X +\\\\n(*A-\\\\n[*d\\\\n(*r,\\\\n(*f]\n\
+.if '\\\\$2'c' .nr *X +(\\\\n(*A-\\\\n[*d\\\\n(*r,\\\\n(*f]/2/24*24)\n\
+.if '\\\\$2'a' .nr *X +1n\n\
+.nr *d\\\\n(*r,\\\\n(*f \\\\n(*X\n\
+.nr *B +1\n\
+.am *put *.\n\
+.*put1 \\\\n(*r \\\\n(*f \\\\n(*X\n\
+.*.\n\
+..\n\
+.de *put1\n\
+.sp |\\\\n(*Mu\n\
+.in \\\\n(*Ou+\\\\$3u\n\
+.*d\\\\$1,\\\\$2\n\
+.br\n\
+.in \\\\n(*Ou\n\
+..\n\
+.de *tall\n\
+.ne \\\\n(*Hu\n\
+.mk *M\n\
+\\&\\\\*(*o\n\
+.if \\\\n(*V .*barlines\n\
+.*put\n\
+.rm *put\n\
+.sp |\\\\n(*Mu+\\\\n(*Hu\n\
+..\n\
+.de *barlines\n\
+.ds *o\n\
+.nr *p 0\n\
+.ds *h *pbar\n\
+.*all\n\
+.nr *c \\\\n(*N+1\n\
+.*pbar \\\\n(*c\n\
+.nr *t \\\\n(*H/1v-1\n\
+.*lines \\\\n(*t\n\
+..\n\
+.de *lines\n\
+.if \\\\$1=1 \\&\\\\*(*o\n\
+.if \\\\$1>1 .*half \\\\$1\n\
+..\n\
+.de *half\n\
+.nr *t \\\\$1/2\n\
+.*lines \\\\n(*t\n\
+.nr *t \\\\$1+1/2\n\
+.*lines \\\\n(*t\n\
+..\n\
+.de *left\n\
+.nr *E 1\n\
+.nr *g \\\\n(*f\n\
+.ds *e\n\
+.ds *h *more\n\
+.*all\n\
+.nr *c \\\\n(*N+1\n\
+.*more \\\\n(*c\n\
+..\n\
+.de *more\n\
+.if \\\\$1>\\\\n(*g .if \\\\$1<=\\\\n(*F .as *e \"\\\\\\\\*[*t\\\\n(*r,\\\\$1]\\0\n\
+..\n\
+.de *extra\n\
+\\&\\\\*(*e\n\
+..\n\
+.de *forget\n\
+.ds *h *drop\n\
+.*all\n\
+.nr *c \\\\n(*N+1\n\
+.*drop \\\\n(*c\n\
+..\n\
+.de *drop\n\
+.if \\\\$1<=\\\\n(*F .*dropped \\\\n(*r,\\\\$1\n\
+..\n\
+.de *dropped\n\
+.rm *t\\\\$1\n\
+.rm *u\\\\$1\n\
+.rm *d\\\\$1\n\
+.rr *y\\\\$1\n\
+.rr *h\\\\$1\n\
+.rr *d\\\\$1\n\
+..\n\
+";
