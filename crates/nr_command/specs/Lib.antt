@@ -1,5 +1,0 @@
-pub mod Disk
-pub mod Faults
-pub mod Jobs
-pub mod Opening
-pub mod Running

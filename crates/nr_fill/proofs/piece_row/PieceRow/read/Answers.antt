@@ -1,7 +1,0 @@
-use Rattle.std.proofs.Common.{min, ap, sym, ◌∙◌}
-use Rattle.nr_fill.specs.Laid.{read_cells}
-use Rattle.nr_fill.proofs.Laying.{read_cells-laid_of}
-use Rattle.nr_fill.proofs.piece_row.PieceRow.read.Goals as goal
-
-pub returns : goal.returns
-returns c = sym (read_cells-laid_of (min c.self.inside.slots.room c.self.inside.cells.room) c.self.invariant) ∙ ap read_cells c.self.view_is

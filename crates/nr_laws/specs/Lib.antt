@@ -1,4 +1,0 @@
-pub mod FilledText
-pub mod Laws
-pub mod Limited
-pub mod PlainText

@@ -1,4 +1,0 @@
-mod Going
-pub mod Stacked
-pub mod Pushing
-pub mod Cutting

@@ -1,8 +1,0 @@
-pub mod Gathered
-pub mod Grid
-pub mod Overlay
-pub mod PageBytes
-pub mod Rows
-pub mod Selection
-pub mod SelectionReading
-pub mod Sheet

@@ -1,5 +1,0 @@
-pub mod Places
-pub mod Spares
-pub mod Rotation
-pub mod Changes
-pub mod Exchange

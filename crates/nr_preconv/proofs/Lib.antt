@@ -1,6 +1,0 @@
-pub mod Hearing
-pub mod Plain
-pub mod Reading
-pub mod Steps
-pub mod Turning
-pub mod Unchanged

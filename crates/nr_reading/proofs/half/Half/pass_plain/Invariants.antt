@@ -1,5 +1,0 @@
-use Rattle.nr_reading.specs.Passing.{GoesOn}
-use Rattle.nr_reading.proofs.half.Half.pass_plain.Given as goal
-
-abbrev pub invariant-loop-place : goal.invariant-loop-place
-invariant-loop-place g l = record { goes : GoesOn (g.I.Items.fronts l.items) l.place l.self l.self }

@@ -1,2 +1,0 @@
-pub mod PlainNumbers
-pub mod TabStops

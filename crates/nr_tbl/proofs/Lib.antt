@@ -1,6 +1,0 @@
-pub mod Hearing
-pub mod Passing
-pub mod Putting
-pub mod Reading
-pub mod Tableless
-pub mod Turning

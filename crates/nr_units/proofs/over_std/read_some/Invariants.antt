@@ -1,6 +1,0 @@
--- An interrupted read took no byte.
-use Rattle.std.specs.Io.KnownBytes.{Keeps}
-use Rattle.nr_units.proofs.over_std.read_some.Given as goal
-
-abbrev pub invariant-loop : goal.invariant-loop
-invariant-loop g l = Keeps (g.R.Read.remaining l.initial.reader) (g.R.Read.remaining l.reader)

@@ -1,6 +1,0 @@
--- An interrupted write took no byte.
-use Rattle.std.specs.Io.KnownBytes.{Keeps}
-use Rattle.nr_units.proofs.over_std.write_some.Given as goal
-
-abbrev pub invariant-loop : goal.invariant-loop
-invariant-loop g l = Keeps (g.W.Write.contents l.initial.writer) (g.W.Write.contents l.writer)
