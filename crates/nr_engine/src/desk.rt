@@ -11,6 +11,8 @@ use nr_options::Limits;
 use nr_page::page::room;
 use nr_page::row::RowSlot;
 use nr_pool::Slot;
+use nr_rooms::Segment;
+use nr_rooms::segments::segments;
 use nr_store::element::{Draft, Element};
 use nr_store::memory::Room;
 use nr_store::named::Sense;
@@ -20,7 +22,7 @@ use nr_units::cell::Cell;
 use std::alloc::{AllocError, Global};
 use std::marker::Model;
 
-/// The lengths that the limits ask for.
+/// The lengths that the limits ask for: those of texts being built and of hyphenation words are counted in segments.
 pub fn sizes(limits: Limits) -> Sizes
     ensures value { result ≡ sizes_of limits }
     ensures bound { sum_of result ≤ 4 * limits.stored + 4 * limits.depth + 6 * limits.cells + 8192 }
@@ -49,21 +51,21 @@ pub fn sizes(limits: Limits) -> Sizes
     }
 }
 
-/// The slices of a working space, under the limits that gave their lengths. Contracts see its limits.
+/// The memory of a working space, under the limits that gave its sizes. Contracts see its limits.
 #[derive(Drop)]
 pub struct Desk {
     pub(crate) limits: Limits,
     pub(crate) elements: Vec<Element>,
     pub(crate) slots: Vec<Slot>,
     pub(crate) names: Vec<Entry<Sense>>,
-    pub(crate) drafts: Vec<Draft>,
+    pub(crate) drafts: Vec<Segment<Draft>>,
     pub(crate) frames: Vec<Frame<Resume>>,
     pub(crate) bytes: Vec<u8>,
     pub(crate) places: Vec<Span>,
     pub(crate) gathering: Vec<u8>,
     pub(crate) registers: Vec<Entry<Register>>,
     pub(crate) traps: Vec<Trap>,
-    pub(crate) words: Vec<HyphenationWord>,
+    pub(crate) words: Vec<Segment<HyphenationWord>>,
     pub(crate) cells: Vec<Cell>,
     pub(crate) pieces: Vec<PieceSlot>,
     pub(crate) row: Vec<Cell>,
@@ -119,12 +121,6 @@ impl Blank for Frame<Resume> {
     }
 }
 
-impl Blank for Draft {
-    fn blank() -> Self {
-        Draft::blank()
-    }
-}
-
 /// A row of so many blank elements.
 fn row<T: Blank>(alloc: Global, n: usize) -> Result<Vec<T>, AllocError>
     ensures { IfOk result (λ made. vec_len made ≡ n) }
@@ -143,14 +139,14 @@ impl Desk {
             elements: vec![in alloc; Element::Byte(0); sizes.elements]?,
             slots: vec![in alloc; Slot::blank(); sizes.slots]?,
             names: vec![in alloc; Sense::blank(); sizes.names]?,
-            drafts: row(alloc, sizes.drafts)?,
+            drafts: segments(alloc, sizes.drafts)?,
             frames: row(alloc, sizes.frames)?,
             bytes: vec![in alloc; 0; sizes.bytes]?,
             places: vec![in alloc; Span::blank(); sizes.places]?,
             gathering: vec![in alloc; 0; sizes.gathering]?,
             registers: vec![in alloc; Register::blank(); sizes.registers]?,
             traps: vec![in alloc; Trap::blank(); sizes.traps]?,
-            words: vec![in alloc; HyphenationWord::blank(); sizes.words]?,
+            words: segments(alloc, sizes.words)?,
             cells: vec![in alloc; Cell::blank(); sizes.cells]?,
             pieces: vec![in alloc; PieceSlot::blank(); sizes.pieces]?,
             row: vec![in alloc; Cell::blank(); sizes.row]?,

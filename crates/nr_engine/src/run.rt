@@ -20,6 +20,7 @@ use nr_page::Select;
 use nr_page::page::Page;
 use nr_page::row::RowSlot;
 use nr_pool::Slot;
+use nr_rooms::Segment;
 use nr_store::element::{Draft, Element};
 use nr_store::named::Sense;
 use nr_store::{HyphenationWord, Memory, Register, Store};
@@ -205,14 +206,14 @@ fn run_in<'a, R: Source, W: Sink>(
     elements: &'a mut [Element],
     slots: &'a mut [Slot],
     names: &'a mut [Entry<Sense>],
-    drafts: &'a mut [Draft],
+    drafts: &'a mut [Segment<Draft>],
     frames: &'a mut [Frame<Resume>],
     bytes: &'a mut [u8],
     places: &'a mut [Span],
     gathering: &'a mut [u8],
     registers: &'a mut [Entry<Register>],
     traps: &'a mut [Trap],
-    words: &'a mut [HyphenationWord],
+    words: &'a mut [Segment<HyphenationWord>],
     cells: &'a mut [Cell],
     pieces: &'a mut [PieceSlot],
     row: &'a mut [Cell],

@@ -1,9 +1,10 @@
 // What a text costs while levels read it.
 use nr_levels::{Frame, Span};
 use nr_pool::Slot;
-use nr_store::element::{Draft, Element};
+use nr_rooms::segments::segments;
+use nr_store::element::Element;
 use nr_store::named::Sense;
-use nr_store::{HyphenationWord, Memory, Register, Store};
+use nr_store::{Memory, Register, Store};
 use nr_tables::Trap;
 use nr_units::Name;
 use std::test::Fail;
@@ -14,14 +15,14 @@ fn charge_of_an_unnamed_text(rt: HostRuntime) -> Result<(), Fail> {
     let mut elements = [Element::Byte(0); 100];
     let mut slots = [Slot::blank(); 7];
     let mut names = [Sense::blank(); 62];
-    let mut drafts = [Draft::blank(); 3];
+    let mut drafts = segments(rt.alloc(), 1)?;
     let mut frames = [Frame::<u8>::blank(); 3];
     let mut bytes = [0u8; 100];
     let mut places = [Span::blank(); 27];
     let mut gathering = [0u8; 100];
     let mut registers = [Register::blank(); 3];
     let mut traps = [Trap::blank(); 3];
-    let mut words = [HyphenationWord::blank(); 7];
+    let mut words = segments(rt.alloc(), 1)?;
     let mut store = Store::over(
         Memory {
             elements: &mut elements,

@@ -6,6 +6,7 @@ use crate::named::Sense;
 use crate::register::Register;
 use nr_levels::{Frame, Span};
 use nr_pool::Slot;
+use nr_rooms::{SEGMENT, Segment};
 use nr_tables::{Entry, HyphenationWord, Trap};
 
 /// The slices that a store lies over.
@@ -18,7 +19,7 @@ pub struct Memory<'a, K: Copy> {
     /// The name list.
     pub names: &'a mut [Entry<Sense>],
     /// The texts being built.
-    pub drafts: &'a mut [Draft],
+    pub drafts: &'a mut [Segment<Draft>],
     /// The levels.
     pub frames: &'a mut [Frame<K>],
     /// The bytes that levels bring.
@@ -32,10 +33,10 @@ pub struct Memory<'a, K: Copy> {
     /// The traps.
     pub traps: &'a mut [Trap],
     /// The hyphenation words.
-    pub words: &'a mut [HyphenationWord],
+    pub words: &'a mut [Segment<HyphenationWord>],
 }
 
-/// The least lengths of a store's slices.
+/// The least lengths of a store's slices: those of texts being built and of hyphenation words are counted in segments.
 #[derive(Clone, Copy)]
 pub struct Room {
     pub elements: usize,
@@ -59,14 +60,14 @@ impl Room {
           elements = limit;
           slots = limit / 16 + 1;
           names = limit / 48 + 1 + 56;
-          drafts = limit / 48 + 1;
+          drafts = limit / 48 / 1024 + 1;
           frames = deepest;
           bytes = limit;
           places = 9 * min deepest (limit / 16);
           gathering = limit;
           registers = limit / 48 + 1;
           traps = limit / 48 + 1;
-          words = limit / 16 + 1;
+          words = limit / 16 / 1024 + 1;
         } }
     {
         let limit = limit as usize;
@@ -75,14 +76,14 @@ impl Room {
             elements: limit,
             slots: limit / 16 + 1,
             names: limit / 48 + 1 + 56,
-            drafts: limit / 48 + 1,
+            drafts: limit / 48 / SEGMENT + 1,
             frames: deepest,
             bytes: limit,
             places: 9 * deepest.min(limit / 16),
             gathering: limit,
             registers: limit / 48 + 1,
             traps: limit / 48 + 1,
-            words: limit / 16 + 1,
+            words: limit / 16 / SEGMENT + 1,
         }
     }
 }

@@ -8,8 +8,9 @@ use crate::memory::Memory;
 use crate::named::Sense;
 use crate::request::{REQUESTS, Request};
 use crate::store::Store;
-use nr_levels::{Gathering, Levels, Stack};
+use nr_levels::{Gathering, Levels};
 use nr_pool::Pool;
+use nr_rooms::Stack;
 use nr_tables::Table;
 use nr_units::Name;
 use nr_units::slice_vec::SliceVec;
@@ -34,7 +35,7 @@ impl<'a, K: Copy> Store<'a, K> {
         requires slots { limit / 16 ≤ length memory.slots.now }
         requires slots_small { length memory.slots.now < 2 ^ 32 }
         requires names { limit / 48 + length REQUESTS ≤ length memory.names.now }
-        requires drafts { limit / 48 ≤ length memory.drafts.now }
+        requires drafts { limit / 48 ≤ 1024 * length memory.drafts.now }
         requires bytes { limit ≤ length memory.bytes.now }
         requires bytes_small { length memory.bytes.now < 2 ^ 32 }
         requires places { 9 * min (length memory.frames.now) (limit / 16) ≤ length memory.places.now }
@@ -43,7 +44,7 @@ impl<'a, K: Copy> Store<'a, K> {
         requires gathering_small { length memory.gathering.now < 2 ^ 32 }
         requires registers { limit / 48 ≤ length memory.registers.now }
         requires traps { limit / 48 ≤ length memory.traps.now }
-        requires words { limit / 16 ≤ length memory.words.now }
+        requires words { limit / 16 ≤ 1024 * length memory.words.now }
         ensures { result ≡ nothing request_names limit (length memory.entry.frames.now) }
     {
         let Memory {
