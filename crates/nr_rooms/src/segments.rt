@@ -1,5 +1,5 @@
 //! Items in segments that are lent, one segment behind the other.
-ghost use Rattle.std.specs.Prelude.{◌≡◌, ◌+◌, ◌*◌, ◌-◌, ◌/◌, ◌<◌, ◌≤◌, [], ◌∷◌, ◌++◌, length, take, replicate, slice_get, slice_set, Some, IfOk};
+ghost use Rattle.std.specs.Prelude.{◌≡◌, ◌+◌, ◌*◌, ◌-◌, ◌/◌, ◌<◌, ◌≤◌, [], ◌∷◌, ◌++◌, length, take, replicate, slice_get, slice_set, Some, IfOk, vec_len};
 ghost use Rattle.nr_rooms.specs.Segments.{joined};
 
 use crate::segment::{SEGMENT, Segment};
@@ -28,14 +28,12 @@ impl<'a, T: Copy> Model for Segments<'a, T> {
     ghost invariant = { λ v. Fill v.segments.now v.len };
 }
 
-/// So many segments, all empty: `AllocError` where there is not so much memory.
+/// So many segments: `AllocError` where there is not so much memory.
 pub fn segments<T: Copy>(alloc: Global, n: usize) -> Result<Vec<Segment<T>>, AllocError>
-    ensures { IfOk result (λ made. made.items ≡ replicate n []) }
+    ensures { IfOk result (λ made. vec_len made ≡ n) }
 {
-    let mut made = Vec::with_capacity(alloc, n)?;
-    for _ in 0..n {
-        made.push(Segment::new(alloc)?)?;
-    }
+    let mut made = Vec::new(alloc);
+    made.try_resize_with(n, || Segment::new(alloc))?;
     Ok(made)
 }
 
