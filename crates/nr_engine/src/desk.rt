@@ -12,7 +12,7 @@ use nr_page::page::room;
 use nr_page::row::RowSlot;
 use nr_pool::Slot;
 use nr_rooms::Segment;
-use nr_rooms::segments::segments;
+use nr_rooms::segments::empty_segments;
 use nr_store::element::{Draft, Element};
 use nr_store::memory::Room;
 use nr_store::named::Sense;
@@ -139,14 +139,14 @@ impl Desk {
             elements: vec![in alloc; Element::Byte(0); sizes.elements]?,
             slots: vec![in alloc; Slot::blank(); sizes.slots]?,
             names: vec![in alloc; Sense::blank(); sizes.names]?,
-            drafts: segments(alloc, sizes.drafts)?,
+            drafts: empty_segments(alloc, sizes.drafts)?,
             frames: row(alloc, sizes.frames)?,
             bytes: vec![in alloc; 0; sizes.bytes]?,
             places: vec![in alloc; Span::blank(); sizes.places]?,
             gathering: vec![in alloc; 0; sizes.gathering]?,
             registers: vec![in alloc; Register::blank(); sizes.registers]?,
             traps: vec![in alloc; Trap::blank(); sizes.traps]?,
-            words: segments(alloc, sizes.words)?,
+            words: empty_segments(alloc, sizes.words)?,
             cells: vec![in alloc; Cell::blank(); sizes.cells]?,
             pieces: vec![in alloc; PieceSlot::blank(); sizes.pieces]?,
             row: vec![in alloc; Cell::blank(); sizes.row]?,

@@ -1,7 +1,7 @@
 // What a text costs while levels read it.
 use nr_levels::{Frame, Span};
 use nr_pool::Slot;
-use nr_rooms::segments::segments;
+use nr_rooms::segments::empty_segments;
 use nr_store::element::Element;
 use nr_store::named::Sense;
 use nr_store::{Memory, Register, Store};
@@ -15,14 +15,14 @@ fn charge_of_an_unnamed_text(rt: HostRuntime) -> Result<(), Fail> {
     let mut elements = [Element::Byte(0); 100];
     let mut slots = [Slot::blank(); 7];
     let mut names = [Sense::blank(); 62];
-    let mut drafts = segments(rt.alloc(), 1)?;
+    let mut drafts = empty_segments(rt.alloc(), 1)?;
     let mut frames = [Frame::<u8>::blank(); 3];
     let mut bytes = [0u8; 100];
     let mut places = [Span::blank(); 27];
     let mut gathering = [0u8; 100];
     let mut registers = [Register::blank(); 3];
     let mut traps = [Trap::blank(); 3];
-    let mut words = segments(rt.alloc(), 1)?;
+    let mut words = empty_segments(rt.alloc(), 1)?;
     let mut store = Store::over(
         Memory {
             elements: &mut elements,

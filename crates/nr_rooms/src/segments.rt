@@ -29,7 +29,7 @@ impl<'a, T: Copy> Model for Segments<'a, T> {
 }
 
 /// So many segments: `AllocError` where there is not so much memory.
-pub fn segments<T: Copy>(alloc: Global, n: usize) -> Result<Vec<Segment<T>>, AllocError>
+pub fn empty_segments<T: Copy>(alloc: Global, n: usize) -> Result<Vec<Segment<T>>, AllocError>
     ensures { IfOk result (λ made. vec_len made ≡ n) }
 {
     let mut made = Vec::new(alloc);
