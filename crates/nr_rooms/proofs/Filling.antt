@@ -2,6 +2,8 @@
 use Rattle.std.proofs.Common.{◌≡◌, ℕ, zero, suc, ◌+◌, ◌*◌, ◌-◌, ◌<◌, ◌≤◌, List, [], ◌∷◌, ◌++◌, length, min, take, get_or, set, replicate, refl, ap, ap₂, sym, ◌∙◌, subst, append_assoc, append-nil, length-append, length-set, length-take-le, get_or-append-add, arith}
 use Rattle.std.proofs.lemmas.List.{nil_from_length, get_or_append_left, set-append_left, set-append_right, take-append-le}
 use Rattle.std.proofs.Math.Seq.{take-append-add}
+use Rattle.std.proofs.Common.{slice_get, Some, ◌/◌, ◌%◌}
+use Rattle.std.proofs.lemmas.Option.{slice_get_read, get_or_from_slice_get}
 use Rattle.nr_units.specs.Items.{Items}
 use Rattle.nr_rooms.specs.Segments.{joined, Fill}
 
@@ -130,3 +132,38 @@ less_fills e (s ∷ ss) n (suc j) r h low is =
     let first = h.0 in
     let same : 1024 * j + r ≡ 1024 * suc j + r - 1024 = omega arith in
     (omega arith, subst (Fill (set ss j (take r (get_or ss j e)))) same (less_fills e ss (n - 1024) j r h.1 low (omega arith)))
+
+-- ---- what is seen
+
+-- the items and the room
+abbrev pub seen : {T : Type 0} → List (List T) → Items T
+seen ss = record { items = joined ss; room = 1024 * length ss }
+
+pub item_at : {T : Type 0} (ss : List (List T)) (n k : ℕ) (v : Items T) (s : List T) (x : T) → Fill ss n → seen ss ≡ v → k < n → s ≡ get_or ss (k / 1024) s → slice_get s (k % 1024) ≡ Some x → slice_get v.items k ≡ Some x
+item_at ss n k v s x h view below is at =
+    let apart : 1024 * (k / 1024) + k % 1024 ≡ k = omega arith in
+    let here : get_or (joined ss) k x ≡ x =
+    ap (λ m. get_or (joined ss) m x) (sym apart) ∙ joined_at s ss n (k / 1024) (k % 1024) x h (omega arith) (omega arith) ∙ ap (λ xs. get_or xs (k % 1024) x) (sym is)
+    ∙ get_or_from_slice_get s (k % 1024) x x at in
+    ap (λ (w : Items _). slice_get w.items k) (sym view) ∙ slice_get_read (joined ss) n k x (sym (length_joined ss n h)) below (sym here)
+
+pub seen_set : {T : Type 0} (e : List T) (ss : List (List T)) (n k : ℕ) (x : T) (v : Items T) → Fill ss n → seen ss ≡ v → k < n
+    → seen (set ss (k / 1024) (set (get_or ss (k / 1024) e) (k % 1024) x)) ≡ record { items = set v.items k x; room = v.room }
+seen_set e ss n k x v h view below =
+    let apart : 1024 * (k / 1024) + k % 1024 ≡ k = omega arith in
+    ap₂ (λ xs m. record { items = xs; room = 1024 * m }) (joined_set e ss n (k / 1024) (k % 1024) x h (omega arith) (omega arith) ∙ ap (λ m. set (joined ss) m x) apart) (length-set ss (k / 1024) (set (get_or ss (k / 1024) e) (k % 1024) x))
+    ∙ ap (λ (w : Items _). record { items = set w.items k x; room = w.room }) view
+
+pub seen_more : {T : Type 0} (e : List T) (ss : List (List T)) (n : ℕ) (x : T) (v : Items T) → Fill ss n → seen ss ≡ v → n / 1024 < length ss
+    → seen (set ss (n / 1024) (get_or ss (n / 1024) e ++ x ∷ [])) ≡ record { items = v.items ++ x ∷ []; room = v.room }
+seen_more e ss n x v h view within =
+    ap₂ (λ xs m. record { items = xs; room = 1024 * m }) (joined_more e ss n (n / 1024) (n % 1024) x h (omega arith) (omega arith) within) (length-set ss (n / 1024) (get_or ss (n / 1024) e ++ x ∷ []))
+    ∙ ap (λ (w : Items _). record { items = w.items ++ x ∷ []; room = w.room }) view
+
+pub seen_less : {T : Type 0} (e : List T) (ss : List (List T)) (n m : ℕ) (v : Items T) → Fill ss n → seen ss ≡ v → n ≡ m + 1
+    → seen (set ss (m / 1024) (take (m % 1024) (get_or ss (m / 1024) e))) ≡ record { items = take (length v.items - 1) v.items; room = v.room }
+seen_less e ss n m v h view is =
+    let count : length v.items - 1 ≡ m = omega (arith, item_count ss n v h view) in
+    let apart : 1024 * (m / 1024) + m % 1024 ≡ m = omega arith in
+    ap₂ (λ xs l. record { items = xs; room = 1024 * l }) (joined_less e ss n (m / 1024) (m % 1024) h (omega arith) (omega arith) ∙ ap (λ l. take l (joined ss)) (apart ∙ sym count)) (length-set ss (m / 1024) (take (m % 1024) (get_or ss (m / 1024) e)))
+    ∙ ap (λ (w : Items _). record { items = take (length v.items - 1) w.items; room = w.room }) view

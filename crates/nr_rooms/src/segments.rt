@@ -1,5 +1,5 @@
 //! Items in segments that are lent, one segment behind the other.
-ghost use Rattle.std.specs.Prelude.{◌≡◌, ◌+◌, ◌*◌, ◌-◌, ◌/◌, ◌<◌, ◌≤◌, [], ◌∷◌, ◌++◌, length, take, replicate, slice_get, slice_set, Some, IfOk, vec_len};
+ghost use Rattle.std.specs.Prelude.{◌≡◌, ◌+◌, ◌*◌, ◌-◌, ◌/◌, ◌^◌, ◌<◌, ◌≤◌, [], ◌∷◌, ◌++◌, length, take, replicate, slice_get, slice_set, Some, IfOk, vec_len};
 ghost use Rattle.nr_rooms.specs.Segments.{joined};
 
 use crate::segment::{SEGMENT, Segment};
@@ -17,7 +17,7 @@ pub struct Segments<'a, T: Copy> {
 }
 
 impl<'a, T: Copy> Model for Segments<'a, T> {
-    ghost use Rattle.std.specs.Prelude.{◌*◌, length};
+    ghost use Rattle.std.specs.Prelude.{◌*◌, ◌^◌, ◌<◌, length};
     ghost use Rattle.nr_units.specs.Items.{Items};
     ghost use Rattle.nr_rooms.specs.Segments.{joined, Fill};
 
@@ -25,7 +25,7 @@ impl<'a, T: Copy> Model for Segments<'a, T> {
 
     ghost view = { λ v. record { items = joined v.segments.now; room = 1024 * length v.segments.now } };
 
-    ghost invariant = { λ v. Fill v.segments.now v.len };
+    ghost invariant = { λ v. Fill v.segments.now v.len × (length v.segments.now < 2 ^ 32) };
 }
 
 /// So many segments: `AllocError` where there is not so much memory.
@@ -47,8 +47,9 @@ fn clear_all<T: Copy>(segments: &mut [Segment<T>])
 }
 
 impl<'a, T: Copy> Segments<'a, T> {
-    /// No items yet, and room for as many as the segments have.
+    /// No items yet, and room for as many as the segments have. There are fewer than 2^32 segments.
     pub fn over(segments: &'a mut [Segment<T>]) -> Self
+        requires { length segments.old < 2 ^ 32 }
         ensures { result ≡ record { items = []; room = 1024 * length segments.entry.now } }
     {
         clear_all(segments);

@@ -1,5 +1,5 @@
 //! A stack over segments that are lent.
-ghost use Rattle.std.specs.Prelude.{◌≡◌, ◌==◌, ◌*◌, ◌<◌, ◌≤◌, [], ◌∷◌, length, drop, slice_get, Some};
+ghost use Rattle.std.specs.Prelude.{◌≡◌, ◌==◌, ◌*◌, ◌^◌, ◌<◌, ◌≤◌, [], ◌∷◌, length, drop, slice_get, Some};
 
 use crate::segment::Segment;
 use crate::segments::Segments;
@@ -22,8 +22,9 @@ impl<'a, T: Copy> Model for Stack<'a, T> {
 }
 
 impl<'a, T: Copy> Stack<'a, T> {
-    /// No items yet, and room for as many as the segments have.
+    /// No items yet, and room for as many as the segments have. There are fewer than 2^32 segments.
     pub fn over(segments: &'a mut [Segment<T>]) -> Self
+        requires { length segments.old < 2 ^ 32 }
         ensures { result ≡ record { items = []; room = 1024 * length segments.entry.now } }
     {
         Stack {

@@ -1,5 +1,5 @@
-use Rattle.std.proofs.Common.{◌≡◌, ◌-◌, ◌++◌, [], length, drop, replicate}
-use Rattle.nr_rooms.proofs.segments.clear_all.Goals as goal
+use Rattle.std.proofs.Common.{◌≡◌, [], take, replicate}
+use Rattle.nr_rooms.proofs.segments.clear_all.Given as goal
 
-pub invariant-loop-segment : goal.invariant-loop-segment
-invariant-loop-segment g l = ?
+abbrev pub invariant-loop-segment : goal.invariant-loop-segment
+invariant-loop-segment g l = take l.segment-index l.segments ≡ replicate l.segment-index []

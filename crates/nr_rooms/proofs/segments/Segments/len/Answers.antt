@@ -1,14 +1,13 @@
-use Rattle.std.proofs.Common.{◌≡◌, ℕ, ◌+◌, ◌-◌, ◌*◌, ◌/◌, ◌%◌, ◌<◌, ◌≤◌, List, [], ◌∷◌, ◌++◌, length, take, drop, reverse, get_or, set, Some, ap, ap₂, sym, ◌∙◌, subst, length-set, arith}
+use Rattle.std.proofs.Common.{◌≡◌, ℕ, ◌+◌, ◌-◌, ◌*◌, ◌/◌, ◌%◌, ◌^◌, ◌<◌, ◌≤◌, List, [], ◌∷◌, ◌++◌, length, take, drop, reverse, get_or, set, Some, ap, ap₂, sym, ◌∙◌, subst, length-set, arith}
 use Rattle.nr_units.specs.Items.{Items}
 use Rattle.nr_rooms.specs.Segments.{joined, Fill}
-use Rattle.nr_rooms.proofs.Filling.{length_joined, within_room}
+use Rattle.nr_rooms.proofs.Filling.{item_count, within_room}
 use Rattle.nr_rooms.proofs.segments.Segments.len.Goals as goal
 
 pub returns-clause-value : goal.returns-clause-value
-returns-clause-value g c =
-    sym (length_joined c.self.inside.segments.now c.self.inside.len c.self.invariant) ∙ ap (λ (v : Items _). length v.items) c.self.view_is
+returns-clause-value g c = sym (item_count c.self.inside.segments.now c.self.inside.len c.args.self.now c.self.invariant.0 c.self.view_is)
 
 pub returns-clause-within : goal.returns-clause-within
 returns-clause-within g c =
     let room : 1024 * length c.self.inside.segments.now ≡ c.args.self.now.room = ap (λ (v : Items _). v.room) c.self.view_is in
-    omega (arith, within_room c.self.inside.segments.now c.self.inside.len c.self.invariant)
+    omega (arith, within_room c.self.inside.segments.now c.self.inside.len c.self.invariant.0)
