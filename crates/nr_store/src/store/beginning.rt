@@ -10,7 +10,7 @@ use crate::request::{REQUESTS, Request};
 use crate::store::Store;
 use nr_levels::{Gathering, Levels};
 use nr_pool::Pool;
-use nr_rooms::Stack;
+use nr_rooms::{SEGMENT, Stack};
 use nr_tables::Table;
 use nr_units::Name;
 use nr_units::slice_vec::SliceVec;
@@ -35,7 +35,7 @@ impl<'a, K: Copy> Store<'a, K> {
         requires slots { limit / 16 ≤ length memory.slots.now }
         requires slots_small { length memory.slots.now < 2 ^ 32 }
         requires names { limit / 48 + length REQUESTS ≤ length memory.names.now }
-        requires drafts { limit / 48 ≤ 1024 * length memory.drafts.now }
+        requires drafts { limit / 48 / 1024 < length memory.drafts.now }
         requires bytes { limit ≤ length memory.bytes.now }
         requires bytes_small { length memory.bytes.now < 2 ^ 32 }
         requires places { 9 * min (length memory.frames.now) (limit / 16) ≤ length memory.places.now }
@@ -44,7 +44,7 @@ impl<'a, K: Copy> Store<'a, K> {
         requires gathering_small { length memory.gathering.now < 2 ^ 32 }
         requires registers { limit / 48 ≤ length memory.registers.now }
         requires traps { limit / 48 ≤ length memory.traps.now }
-        requires words { limit / 16 ≤ 1024 * length memory.words.now }
+        requires words { limit / 16 / 1024 < length memory.words.now }
         ensures { result ≡ nothing request_names limit (length memory.entry.frames.now) }
     {
         let Memory {
@@ -63,6 +63,8 @@ impl<'a, K: Copy> Store<'a, K> {
         let mut names = Table::over(names);
         name_requests(&mut names, &REQUESTS);
         let bytes = &mut bytes[..limit as usize];
+        let drafts = &mut drafts[..limit as usize / 48 / SEGMENT + 1];
+        let words = &mut words[..limit as usize / 16 / SEGMENT + 1];
         Store {
             pool: Pool::over(elements, slots),
             names,

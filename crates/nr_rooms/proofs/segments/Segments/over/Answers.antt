@@ -1,13 +1,16 @@
-use Rattle.std.proofs.Common.{◌≡◌, ℕ, ◌+◌, ◌-◌, ◌*◌, ◌/◌, ◌%◌, ◌^◌, ◌<◌, ◌≤◌, List, [], ◌∷◌, ◌++◌, length, take, drop, reverse, get_or, set, Some, ap, ap₂, sym, ◌∙◌, subst, length-set, arith}
-use Rattle.nr_units.specs.Items.{Items}
-use Rattle.nr_rooms.specs.Segments.{joined, Fill}
-use Rattle.std.proofs.Common.{replicate}
+use Rattle.std.proofs.Common.{◌≡◌, ℕ, ◌+◌, ◌-◌, ◌*◌, ◌<◌, ◌≤◌, List, [], ◌∷◌, ◌++◌, length, take, drop, reverse, get_or, set, replicate, refl, ap, ap₂, sym, ◌∙◌, length-set, arith}
 use Rattle.std.proofs.lemmas.List.{length-replicate}
+use Rattle.nr_rooms.specs.declared.segment.Segment.{Segment}
 use Rattle.nr_rooms.proofs.Filling.{empty_fills, joined_empty}
 use Rattle.nr_rooms.proofs.segments.Segments.over.Goals as goal
 
 pub invariant_of-result : goal.invariant_of-result
-invariant_of-result g c = ?
+invariant_of-result g c =
+    let n = length c.args.segments.now in
+    let few = c.requires in
+    rw c.clear_all.ensures (empty_fills g.row.T.Denot n, omega (arith, length-replicate n ([] {A = g.row.T.Denot})))
 
 pub returns : goal.returns
-returns g c = ?
+returns g c =
+    let n = length c.args.segments.now in
+    rw c.clear_all.ensures (ap₂ (λ xs m. record { items = xs; room = 1024 * m }) (joined_empty g.row.T.Denot n) (length-replicate n ([] {A = g.row.T.Denot})))

@@ -1,4 +1,4 @@
-use Rattle.std.proofs.Common.{◌≡◌, [], length, map, ap, ◌∙◌, arith}
+use Rattle.std.proofs.Common.{◌≡◌, ◌+◌, ◌/◌, [], length, map, ap, ◌∙◌, arith}
 use Rattle.std.proofs.lemmas.List.{length-replicate, length-take-le}
 use Rattle.nr_units.specs.Items.{Items}
 use Rattle.nr_pool.specs.Texts.{no_text}
@@ -33,11 +33,13 @@ invariant_of-result g c =
     let r = c.requires in
     let words = r.words in
     let bytes_long = length-take-le c.args.limit m.bytes.now r.bytes in
+    let drafts_few = r.drafts in
+    let drafts_long = length-take-le (c.args.limit / 48 / 1024 + 1) m.drafts.now (omega arith) in
+    let words_long = length-take-le (c.args.limit / 16 / 1024 + 1) m.words.now (omega arith) in
     let elements = r.elements in
     let small = r.elements_small in
     let slots = r.slots in
     let names = r.names in
-    let drafts = r.drafts in
     let bytes = r.bytes in
     let gathering = r.gathering in
     let registers = r.registers in
