@@ -1,5 +1,5 @@
 -- Lemmas on items in segments.
-use Rattle.std.proofs.Common.{◌≡◌, ℕ, zero, suc, ◌+◌, ◌*◌, ◌-◌, ◌<◌, ◌≤◌, List, [], ◌∷◌, ◌++◌, length, min, take, get_or, set, replicate, refl, ap, ap₂, sym, ◌∙◌, subst, append_assoc, append-nil, length-append, length-set, length-take-le, get_or-append-add, arith}
+use Rattle.std.proofs.Common.{◌≡◌, ℕ, zero, suc, ◌+◌, ◌*◌, ◌-◌, ◌<◌, ◌≤◌, List, [], ◌∷◌, ◌++◌, length, take, get_or, set, replicate, refl, ap, ap₂, sym, ◌∙◌, subst, append_assoc, append-nil, length-append, length-set, length-take-le, get_or-append-add, arith}
 use Rattle.std.proofs.lemmas.List.{nil_from_length, get_or_append_left, set-append_left, set-append_right, take-append-le}
 use Rattle.std.proofs.Math.Seq.{take-append-add}
 use Rattle.std.proofs.Common.{slice_get, Some, ◌/◌, ◌%◌}

@@ -1,5 +1,5 @@
 -- Lemmas on the end of a list that is seen from its end.
-use Rattle.std.proofs.Common.{◌≡◌, ℕ, ◌+◌, ◌-◌, ◌<◌, ◌≤◌, List, [], ◌∷◌, ◌++◌, length, take, drop, reverse, get_or, set, ap, sym, ◌∙◌, length-set, arith}
+use Rattle.std.proofs.Common.{◌≡◌, ℕ, ◌+◌, ◌-◌, ◌<◌, List, [], ◌∷◌, ◌++◌, length, take, drop, reverse, get_or, set, ap, sym, ◌∙◌, length-set, arith}
 use Rattle.std.proofs.lemmas.List.{take_more, take_more_set, take_all, reverse-append}
 
 pub less_reversed : {T : Type 0} (xs : List T) (n : ℕ) (d : T) → n + 1 ≡ length xs → reverse (take n xs) ≡ drop 1 (reverse xs)

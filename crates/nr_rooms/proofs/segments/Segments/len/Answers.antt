@@ -1,6 +1,5 @@
-use Rattle.std.proofs.Common.{◌≡◌, ℕ, ◌+◌, ◌-◌, ◌*◌, ◌/◌, ◌%◌, ◌^◌, ◌<◌, ◌≤◌, List, [], ◌∷◌, ◌++◌, length, take, drop, reverse, get_or, set, Some, ap, ap₂, sym, ◌∙◌, subst, length-set, arith}
+use Rattle.std.proofs.Common.{◌≡◌, ◌*◌, length, ap, sym, arith}
 use Rattle.nr_units.specs.Items.{Items}
-use Rattle.nr_rooms.specs.Segments.{joined, Fill}
 use Rattle.nr_rooms.proofs.Filling.{item_count, within_room}
 use Rattle.nr_rooms.proofs.segments.Segments.len.Goals as goal
 

@@ -1,6 +1,5 @@
-use Rattle.std.proofs.Common.{◌≡◌, ℕ, ◌+◌, ◌-◌, ◌*◌, ◌<◌, ◌≤◌, List, [], ◌∷◌, ◌++◌, length, take, drop, reverse, get_or, set, replicate, refl, ap, ap₂, sym, ◌∙◌, length-set, arith}
+use Rattle.std.proofs.Common.{◌*◌, List, [], length, ap₂, arith}
 use Rattle.std.proofs.lemmas.List.{length-replicate}
-use Rattle.nr_rooms.specs.declared.segment.Segment.{Segment}
 use Rattle.nr_rooms.proofs.Filling.{empty_fills, joined_empty}
 use Rattle.nr_rooms.proofs.segments.Segments.over.Goals as goal
 

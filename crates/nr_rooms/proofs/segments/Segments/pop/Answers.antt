@@ -1,6 +1,5 @@
-use Rattle.std.proofs.Common.{◌≡◌, ℕ, ◌+◌, ◌-◌, ◌*◌, ◌/◌, ◌%◌, ◌^◌, ◌<◌, ◌≤◌, List, [], ◌∷◌, ◌++◌, length, take, drop, reverse, get_or, set, Some, ap, ap₂, sym, ◌∙◌, subst, length-set, arith}
-use Rattle.nr_units.specs.Items.{Items}
-use Rattle.nr_rooms.specs.Segments.{joined, Fill}
+use Rattle.std.proofs.Common.{◌≡◌, ◌+◌, ◌-◌, ◌*◌, ◌/◌, ◌%◌, take, get_or, set, subst, length-set, arith}
+use Rattle.nr_rooms.specs.Segments.{Fill}
 use Rattle.nr_rooms.proofs.Filling.{item_count, within_room, less_fills, seen_less}
 use Rattle.nr_rooms.proofs.segments.Segments.pop.Goals as goal
 

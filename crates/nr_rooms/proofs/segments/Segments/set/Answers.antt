@@ -1,6 +1,4 @@
-use Rattle.std.proofs.Common.{◌≡◌, ℕ, ◌+◌, ◌-◌, ◌*◌, ◌/◌, ◌%◌, ◌^◌, ◌<◌, ◌≤◌, List, [], ◌∷◌, ◌++◌, length, take, drop, reverse, get_or, set, Some, ap, ap₂, sym, ◌∙◌, subst, length-set, arith}
-use Rattle.nr_units.specs.Items.{Items}
-use Rattle.nr_rooms.specs.Segments.{joined, Fill}
+use Rattle.std.proofs.Common.{◌/◌, ◌%◌, get_or, set, length-set, arith}
 use Rattle.nr_rooms.proofs.Filling.{item_count, within_room, reaches, set_fills, seen_set}
 use Rattle.nr_rooms.proofs.segments.Segments.set.Goals as goal
 
