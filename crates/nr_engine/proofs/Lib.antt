@@ -10,6 +10,7 @@ mod LinesAtHand
 mod Measured
 mod Moving
 mod NextMoves
+mod Obeying
 mod PlainGaps
 mod PlainNewlines
 mod PlainText

@@ -9,6 +9,7 @@ pub mod Lengths
 pub mod Motions
 pub mod Numbers
 pub mod Pages
+pub mod PlainNumbers
 pub mod Registers
 pub mod Settings
 pub mod Spacing

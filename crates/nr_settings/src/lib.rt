@@ -17,6 +17,7 @@ mod lengths;
 mod motions;
 mod numbers;
 mod pages;
+mod plain_numbers;
 mod registers;
 mod settings;
 mod spacing;

@@ -5,6 +5,7 @@ ghost use Rattle.nr_units.specs.declared.units.Scale.TheVariants.{Unit};
 
 use crate::arguments::Arguments;
 use crate::lengths::Height;
+use crate::plain_numbers::plain_value;
 use nr_units::{Ctx, Scale, read_expr};
 
 /// What the argument of a signed request says.
@@ -35,6 +36,9 @@ pub(crate) fn value_of(argument: &[u8], scale: Scale, v: Height, here: i64) -> O
     ensures value { result ≡ value_of scale v here argument.now }
     ensures range { IfSome result (λ n. unsigned_abs n ≤ 2147483647) }
 {
+    if let Some(n) = plain_value(argument, scale, v) {
+        return Some(n);
+    }
     let ctx = Ctx {
         v: i64::from(v.units()),
         here,
@@ -53,22 +57,15 @@ pub(crate) fn change_of(argument: &[u8], scale: Scale, v: Height, here: i64) -> 
     let Some((first, rest)) = argument.split_first() else {
         return None;
     };
-    if *first == b'+' {
-        return match value_of(rest, scale, v, here) {
-            Some(n) => Some(Change::By(n)),
-            None => None,
-        };
+    let signed = *first == b'+' || *first == b'-';
+    let number = if signed { rest } else { argument };
+    let Some(n) = value_of(number, scale, v, here) else {
+        return None;
+    };
+    if !signed {
+        return Some(Change::To(n));
     }
-    if *first == b'-' {
-        return match value_of(rest, scale, v, here) {
-            Some(n) => Some(Change::By(-n)),
-            None => None,
-        };
-    }
-    match value_of(argument, scale, v, here) {
-        Some(n) => Some(Change::To(n)),
-        None => None,
-    }
+    Some(Change::By(if *first == b'-' { -n } else { n }))
 }
 
 /// Whether the number of a condition is true: above 0. One that is absent or invalid is false.

@@ -1,0 +1,85 @@
+//! Numbers of few digits, with the letter of a scale or none, which are valued at once.
+ghost use Rattle.std.specs.Prelude.{◌≡◌, ◌*◌, ◌≤◌, Some, IfSome, ℤ, pos, unsigned_abs};
+ghost use Rattle.nr_units.specs.Scan.{symbol_of};
+ghost use Rattle.nr_units.specs.Units.{scaled};
+ghost use Rattle.nr_units.specs.declared.symbols.Symbol.TheVariants.{Letter};
+ghost use Rattle.nr_settings.specs.Numbers.{value_of};
+ghost use Rattle.nr_settings.specs.PlainNumbers.{IsWhole};
+
+use crate::lengths::Height;
+use nr_units::Scale;
+
+/// The greatest number behind which a digit more is read.
+const MOST: u32 = 999;
+
+/// The units of one of this scale, if they are a whole number. `v` is the vertical space.
+#[inline]
+fn whole_units(scale: Scale, v: Height) -> Option<u32>
+    ensures { IfSome result (IsWhole scale v) }
+{
+    match scale {
+        Scale::Inch => Some(240),
+        Scale::Pica => Some(40),
+        Scale::VerticalSpace => Some(v.units()),
+        Scale::Em | Scale::En => Some(24),
+        Scale::Unit => Some(1),
+        Scale::Centimetre | Scale::Point => None,
+    }
+}
+
+/// The scale of one of the letters `u`, `v`, `m`, `n` and `i`.
+#[inline]
+fn scale_of(letter: u8) -> Option<Scale>
+    ensures { IfSome result (λ scale. symbol_of letter ≡ Some (Letter scale)) }
+{
+    match letter {
+        b'u' => Some(Scale::Unit),
+        b'v' => Some(Scale::VerticalSpace),
+        b'm' => Some(Scale::Em),
+        b'n' => Some(Scale::En),
+        b'i' => Some(Scale::Inch),
+        _ => None,
+    }
+}
+
+/// So many of a scale, in units.
+#[inline]
+fn units_of(number: u32, scale: Scale, v: Height) -> Option<i32>
+    requires { number ≤ 9999 }
+    ensures value { IfSome result (λ n. scaled (pos v) scale (10000 * number) ≡ Some n) }
+    ensures range { IfSome result (λ n. unsigned_abs n ≤ 2147483647) }
+{
+    match whole_units(scale, v) {
+        Some(units) => Some((number * units) as i32),
+        None => None,
+    }
+}
+
+/// The value of an argument of digits that write no more than 9999, alone or with a letter of a scale behind them. None of most others.
+#[inline]
+pub(crate) fn plain_value(argument: &[u8], scale: Scale, v: Height) -> Option<i32>
+    ensures value { (here : ℤ) → IfSome result (λ n. value_of scale v here argument.now ≡ Some n) }
+    ensures range { IfSome result (λ n. unsigned_abs n ≤ 2147483647) }
+{
+    let mut number = 0u32;
+    for (at, byte) in argument.iter().enumerate() {
+        if byte.is_ascii_digit() {
+            if number > MOST {
+                return None;
+            }
+            number = 10 * number + u32::from(*byte - b'0');
+            continue;
+        }
+        if at == 0 || at + 1 < argument.len() {
+            return None;
+        }
+        return match scale_of(*byte) {
+            Some(scale) => units_of(number, scale, v),
+            None => None,
+        };
+    }
+    if argument.is_empty() {
+        return None;
+    }
+    units_of(number, scale, v)
+}
