@@ -55,11 +55,15 @@ pub record IsLeft {K : Type 0} (b : ℕ) (h : Half) (v : Stored K) : Type 0 wher
   pub reads : is_read_for target h ≡ true
   pub stops : IsPlain (ending_of h.reading.mode) b → v.limit < charge_of (with_more target (b ∷ []) v)
 
+-- Where the source has bytes at hand and nothing was due, one move was made at least.
+abbrev pub ReadsSome : List ℕ → ℕ → Reached → Reader → Type 0
+ReadsSome bs n p r = 0 < length bs → p.taken + 1 < 2 ^ 40 → r.half.reading.due ≡ dues.Look → 0 < n
+
 -- Of the bytes that the source has at hand as many were read in n moves as can be: one move at least where nothing was due.
 -- Fewer than 65,536 moves of which none told anything and behind which nothing is due took all, up to one that is left; no byte
 -- is the 2^40th.
 pub record IsLongest {K : Type 0} (bs : List ℕ) (n : ℕ) (p : Reached) (r : Reader) (e : Event) (v' : Stored K) (p' : Reached) (r' : Reader) : Type 0 where
-  pub some : 0 < length bs → p.taken + 1 < 2 ^ 40 → r.half.reading.due ≡ dues.Look → 0 < n
+  pub some : ReadsSome bs n p r
   pub all : n < 65536 → e ≡ events.Nothing → r'.half.reading.due ≡ dues.Look → p'.taken + 1 < 2 ^ 40 → p'.taken < p.taken + length bs
       → IsLeft (slice_index bs (p'.taken - p.taken)) r.half v'
 

@@ -7,7 +7,7 @@ use Rattle.nr_reading.specs.Runs.{HasMet, spot}
 use Rattle.nr_reading.specs.declared.half.Half.{Half}
 use Rattle.nr_input.specs.declared.reader.Reader.{Reader}
 use Rattle.nr_input.specs.Moving.{situation}
-use Rattle.nr_input.specs.Runs.{HasRead}
+use Rattle.nr_input.specs.Runs.{HasRead, ReadsSome}
 use Rattle.nr_input.proofs.ControlLines.{all_read, all_paid}
 use Rattle.nr_input.proofs.RowsRead.{bytes_met, holds_past}
 use Rattle.nr_input.proofs.control_lines.read_beginning.Goals.{then-not-matches-via-then-not-matches, then-not-matches-via-else-not-matches+then-not-meet_name}
@@ -59,3 +59,13 @@ returns-then-not-matches-clause-read g c = λ k holds.
     ] in
     subst (λ (q : Reader). HasRead run.moves (situation c.args.store.now k q) run.event c.args.store.now c.read_source.new.reader c.read_source.new.place (g.R.Source.supply c.read_source.new.source)) same
     (c.read_source.ensures.read k holds)
+
+pub returns-then-not-matches-clause-some : goal.returns-then-not-matches-clause-some
+returns-then-not-matches-clause-some g c = λ none unseen.
+    let r = c.args.reader.now in
+    let same : c.then-not-matches.reader ≡ r = elim c.then-not-matches.branch [
+      | then-not-matches-via-then-not-matches w ↦ w.reader-is
+      | then-not-matches-via-else-not-matches+then-not-meet_name w ↦ w.reader-is ∙ ap (λ (h : Half). record r { half = h }) (w.meet_name.ensures.left w.if-not-meet_name.true)
+    ] in
+    subst (λ (q : Reader). ReadsSome (g.R.Source.at_hand c.args.source.now) c.read_source.result.moves c.args.place.now q) same
+    (c.read_source.ensures.longest none unseen).some
