@@ -8,6 +8,7 @@ pub mod Longest
 pub mod Putting
 pub mod PuttingLevel
 pub mod PuttingRead
+pub mod ReadingOn
 pub mod Rows
 pub mod RowsRead
 pub mod Spending

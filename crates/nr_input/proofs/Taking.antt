@@ -58,7 +58,7 @@ left_pays {K} v p q r f k e stays paid =
 
 -- ---- it is taken
 
-burst_past-same : (t burst : ℕ) → burst_past t t burst ≡ burst
+pub burst_past-same : (t burst : ℕ) → burst_past t t burst ≡ burst
 burst_past-same t burst = let same : (t == t) ≡ true = eq-eqb t t refl in rw same refl
 
 no_items : {K : Type 0} (levels : List (Level K)) → levels ≡ [] → items_left levels ≡ 0
@@ -155,7 +155,7 @@ taken_pays v p q r k e stays paid = taken_by v.levels v p q r k e stays refl pai
 
 -- ---- a move that looks at what is in front
 
-due_look : (d : Due) → is_look d ≡ true → d ≡ dues.Look
+pub due_look : (d : Due) → is_look d ≡ true → d ≡ dues.Look
 due_look dues.Look is = refl
 due_look d is = let wrong : ⊥ = cc in absurd wrong
 

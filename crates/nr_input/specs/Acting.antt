@@ -173,3 +173,12 @@ act dues.Expanded v r = done events.Nothing v r
 abbrev pub is_look : Due → Bool
 is_look dues.Look = true
 is_look d = false
+
+-- What is due is done behind a row, in the same call; but blanks that are told and a text that takes its name are left.
+abbrev pub acts_here : Due → Bool
+acts_here dues.Look = false
+acts_here dues.Expanded = false
+acts_here (dues.Lead n) = false
+acts_here dues.Define = false
+acts_here dues.DefineAndCall = false
+acts_here d = true

@@ -3,7 +3,7 @@
 //!
 //! It stands on nr_units, nr_pool, nr_levels, nr_tables, nr_store and nr_reading. To read: `refusal`, `told`;
 //! `place`, `reader`; `acting`, `moving`; `splicing`, `setting`; then many moves at once: `at_hand`, `target`,
-//! `adding`, `runs`, `control_lines`.
+//! `adding`, `runs`, `control_lines`, `reading_on`.
 #![tactic(auto)]
 
 mod acting;
@@ -13,6 +13,7 @@ mod control_lines;
 mod moving;
 mod place;
 mod reader;
+mod reading_on;
 mod refusal;
 mod runs;
 mod setting;
@@ -21,11 +22,11 @@ mod target;
 mod told;
 
 pub use at_hand::{take_window, window};
-pub use control_lines::read_next;
 pub use moving::advance;
 pub use nr_reading::{Event, Question, Standing};
 pub use place::{Ahead, Place};
 pub use reader::Reader;
+pub use reading_on::read_on;
 pub use refusal::Refusal;
 pub use runs::read_run;
 pub use splicing::Definition;
