@@ -38,22 +38,23 @@ impl<'a> Engine<'a> {
         }
     }
 
-    /// Items that lie in a row are read, up to the first that tells something or behind which something is due. Tells how many
-    /// moves that was.
+    /// Items that lie in rows are read, and what is due behind them done, up to the first that tells something or text that is
+    /// put. Tells how many moves that was.
     #[inline(always)]
     pub(crate) fn read_run<R: Source>(&mut self, input: &mut R) -> u128
         ensures reads { MakesReading result (shape self.old) (shape self.new) (R.supply input.old) (R.supply input.new) (R.failures input.old) (R.failures input.new) }
-        ensures few { result ≤ 65536 }
+        ensures few { result ≤ 131072 }
     {
         if !self.reads_next() {
             return 0;
         }
         let formatter = &mut self.formatter;
-        let run = nr_input::read_next(
+        let run = nr_input::read_on(
             &mut self.place,
             &mut formatter.reader,
             &mut formatter.store,
             input,
+            &mut self.resumed,
         );
         self.formatter.event = run.event;
         self.formatter.fit_memory();

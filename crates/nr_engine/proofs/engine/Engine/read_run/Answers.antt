@@ -4,11 +4,11 @@ use Rattle.nr_engine.proofs.engine.Engine.read_run.Goals as goal
 
 pub returns-clause-reads : goal.returns-clause-reads
 returns-clause-reads g c =
-    let run = c.read_next-run.result in
+    let run = c.read_on-run.result in
     record {
-      makes = makes_reading run.moves run.event c.read_next-run.new.store c.read_next-run.new.reader c.read_next-run.new.place (shape c.args.self.now) _ _
+      makes = makes_reading run.moves run.event c.read_on-run.new.store c.read_on-run.new.reader c.read_on-run.new.place (shape c.args.self.now) _ _
           (record { springs = c.reads_next.ensures.springs c.if-not-reads_next.false; event = c.reads_next.ensures.event c.if-not-reads_next.false; task = c.reads_next.ensures.task c.if-not-reads_next.false })
-          c.read_next-run.ensures.read c.read_next-run.ensures.pays c.fit_memory.ensures;
-      failures = c.read_next-run.ensures.failures;
-      unfailed = c.read_next-run.ensures.unfailed;
+          c.read_on-run.ensures.read c.read_on-run.ensures.pays c.fit_memory.ensures;
+      failures = c.read_on-run.ensures.failures;
+      unfailed = c.read_on-run.ensures.unfailed;
     }
