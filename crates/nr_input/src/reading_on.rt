@@ -5,7 +5,6 @@ ghost use Rattle.nr_store.specs.Stored.{shown};
 ghost use Rattle.nr_store.specs.Windows.{rest_of};
 ghost use Rattle.nr_store.specs.declared.element.Element.TheVariants as elements;
 ghost use Rattle.nr_store.specs.declared.shown.Shown.TheVariants as shows;
-ghost use Rattle.nr_reading.specs.declared.event.Event.TheVariants as events;
 ghost use Rattle.nr_reading.specs.declared.mode.Due.TheVariants as dues;
 ghost use Rattle.nr_input.specs.Acting.{acts_here};
 ghost use Rattle.nr_input.specs.AtHand.{is_unseen};
@@ -24,16 +23,11 @@ use nr_units::source::Source;
 const MOST: usize = 65_536;
 
 // No move.
-#[inline(always)]
-fn no_move() -> Run
-    ensures { result ≡ record { taken = 0; moves = 0; event = events.Nothing } }
-{
-    Run {
-        taken: 0,
-        moves: 0,
-        event: Event::Nothing,
-    }
-}
+const NO_MOVE: Run = Run {
+    taken: 0,
+    moves: 0,
+    event: Event::Nothing,
+};
 
 // What is due is done behind a row. Blanks that are told, and a text that takes its name, are left.
 #[inline(always)]
@@ -54,7 +48,7 @@ fn act_now<K: Copy>(reader: &mut Reader, store: &mut Store<'_, K>) -> Run
     ensures few { result.moves ≤ 1 }
 {
     if !acts_here(reader.half.reading.due) || reader.burst >= reader.most {
-        return no_move();
+        return NO_MOVE;
     }
     match reader.act(store) {
         Ok(event) => Run {
@@ -62,7 +56,7 @@ fn act_now<K: Copy>(reader: &mut Reader, store: &mut Store<'_, K>) -> Run
             moves: 1,
             event,
         },
-        Err(_) => no_move(),
+        Err(_) => NO_MOVE,
     }
 }
 
@@ -113,7 +107,7 @@ fn read_more<K: Copy, R: Source>(
         return end_level(reader, store, mode);
     }
     if reader.half.is_in_text() || reader.half.is_at_text() && !store.is_reading() {
-        return no_move();
+        return NO_MOVE;
     }
     read_next(place, reader, store, source)
 }
