@@ -1,8 +1,7 @@
 //! Numbers of few digits, with the letter of a scale or none, which are valued at once.
 ghost use Rattle.std.specs.Prelude.{◌≡◌, ◌*◌, ◌≤◌, Some, IfSome, ℤ, pos, unsigned_abs};
-ghost use Rattle.nr_units.specs.Scan.{symbol_of};
+ghost use Rattle.nr_units.specs.Grammar.{letter};
 ghost use Rattle.nr_units.specs.Units.{scaled};
-ghost use Rattle.nr_units.specs.declared.symbols.Symbol.TheVariants.{Letter};
 ghost use Rattle.nr_settings.specs.Numbers.{value_of};
 ghost use Rattle.nr_settings.specs.PlainNumbers.{IsWhole};
 
@@ -29,10 +28,10 @@ fn whole_units(scale: Scale, v: Height) -> Option<u32>
 
 /// The scale of one of the letters `u`, `v`, `m`, `n` and `i`.
 #[inline]
-fn scale_of(letter: u8) -> Option<Scale>
-    ensures { IfSome result (λ scale. symbol_of letter ≡ Some (Letter scale)) }
+fn scale_of(byte: u8) -> Option<Scale>
+    ensures { IfSome result (λ scale. letter scale ≡ byte) }
 {
-    match letter {
+    match byte {
         b'u' => Some(Scale::Unit),
         b'v' => Some(Scale::VerticalSpace),
         b'm' => Some(Scale::Em),
