@@ -10,7 +10,7 @@ mod LinesAtHand
 mod Measured
 mod Moving
 mod NextMoves
-mod Obeying
+mod Obeyed
 mod PlainGaps
 mod PlainNewlines
 mod PlainText

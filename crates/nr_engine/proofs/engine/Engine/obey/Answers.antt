@@ -1,5 +1,5 @@
 use Rattle.nr_engine.specs.Holding.{shape}
-use Rattle.nr_engine.proofs.Obeying.{makes_obeyed}
+use Rattle.nr_engine.proofs.Obeyed.{makes_obeyed}
 use Rattle.nr_engine.proofs.engine.Engine.obey.Goals as goal
 
 pub returns-clause-obeys : goal.returns-clause-obeys

@@ -17,7 +17,7 @@ use Rattle.nr_formatter.specs.declared.formatter.Formatter.{Formatter}
 use Rattle.nr_formatter.specs.declared.tasks.Task.{Task}
 use Rattle.nr_formatter.specs.declared.tasks.Task.TheVariants as tasks
 use Rattle.nr_formatter.specs.declared.tasks.Then.TheVariants as thens
-use Rattle.nr_formatter.proofs.Obeying.{act-sets, falls-obeyed}
+use Rattle.nr_formatter.proofs.Obeyed.{act-sets, falls-obeyed}
 use Rattle.nr_engine.specs.State.{State, plainly}
 use Rattle.nr_engine.specs.Machine as machine
 use Rattle.nr_engine.specs.Machine.{work}
