@@ -16,5 +16,5 @@ pub mod Stacked
 pub mod Moving
 pub mod PlainBytes
 pub mod ControlNames
-pub mod Interpolations
+pub mod ShortInterpolations
 pub mod RequestLines

@@ -9,7 +9,6 @@ pub mod Delimiting
 pub mod InArgument
 pub mod InDefinition
 pub mod InText
-pub mod Interpolations
 pub mod Keeping
 pub mod LineBeginnings
 pub mod Meeting
@@ -24,6 +23,7 @@ pub mod Rereading
 pub mod RequestLines
 pub mod Seeking
 pub mod Setting
+pub mod ShortInterpolations
 pub mod Skipping
 pub mod Spelling
 pub mod Steps

@@ -4,8 +4,8 @@ use Rattle.nr_reading.specs.declared.ask.Sign.TheVariants as signs
 use Rattle.nr_reading.specs.declared.front.Front.{Front}
 use Rattle.nr_reading.specs.declared.front.Front.TheVariants as fronts
 use Rattle.nr_reading.specs.declared.half.Half.{Half}
-use Rattle.nr_reading.specs.declared.interpolations.Interpolation.{Interpolation}
-use Rattle.nr_reading.specs.declared.interpolations.Interpolation.TheVariants.{Argument, Register, Text}
+use Rattle.nr_reading.specs.declared.short_interpolations.Interpolation.{Interpolation}
+use Rattle.nr_reading.specs.declared.short_interpolations.Interpolation.TheVariants.{Argument, Register, Text}
 use Rattle.nr_reading.specs.declared.mode.Due.TheVariants as dues
 use Rattle.nr_reading.specs.Meeting.{reads_plainly}
 use Rattle.nr_reading.specs.Modes.{is_direct}

@@ -19,9 +19,9 @@ use Rattle.nr_reading.specs.declared.mode.Signs.{Signs}
 use Rattle.nr_reading.specs.declared.notes.Notes.{Notes}
 use Rattle.nr_reading.specs.Asking.{begun_ask}
 use Rattle.nr_reading.specs.Delimiting.{Texts}
-use Rattle.nr_reading.specs.declared.interpolations.Interpolation.{Interpolation}
-use Rattle.nr_reading.specs.declared.interpolations.Interpolation.TheVariants.{Argument, Register, Text}
-use Rattle.nr_reading.specs.Interpolations.{IsNumber, IsShortName, StandsAt, behind_interpolation, kind_of, name_of}
+use Rattle.nr_reading.specs.declared.short_interpolations.Interpolation.{Interpolation}
+use Rattle.nr_reading.specs.declared.short_interpolations.Interpolation.TheVariants.{Argument, Register, Text}
+use Rattle.nr_reading.specs.ShortInterpolations.{IsNumber, IsShortName, StandsAt, behind_interpolation, kind_of, name_of}
 use Rattle.nr_reading.specs.Meeting.{meet, reads_plainly, reads_plainly_at}
 use Rattle.nr_reading.specs.Modes.{is_direct}
 use Rattle.nr_reading.specs.Nesting.{may_nest}

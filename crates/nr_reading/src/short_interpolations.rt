@@ -1,7 +1,7 @@
 //! An interpolation of three bytes in copy mode, met at once.
 ghost use Rattle.std.specs.Prelude.{◌≡◌, ◌<◌, ◌≤◌, [], ◌∷◌, length, slice_get, Some, IfSome, true};
 ghost use Rattle.nr_reading.specs.declared.front.Front.TheVariants as variants;
-ghost use Rattle.nr_reading.specs.Interpolations.{IsNamed, IsNumber, IsShortName, StandsAt, behind_interpolation, kind_of, name_of};
+ghost use Rattle.nr_reading.specs.ShortInterpolations.{IsNamed, IsNumber, IsShortName, StandsAt, behind_interpolation, kind_of, name_of};
 
 use super::ask::Sign;
 use super::half::Half;
@@ -92,7 +92,10 @@ impl Half {
         let Some(name) = items.byte(place + 2) else {
             return None;
         };
-        Interpolation::of(kind, name)
+        let Some(interpolation) = Interpolation::of(kind, name) else {
+            return None;
+        };
+        Some(interpolation)
     }
 
     // The name that is asked for has this byte.
