@@ -1,13 +1,11 @@
 // The program over its words, its files and given streams.
-ghost use Rattle.std.specs.Prelude.{◌≤◌, length};
 
 use super::complaints::tell_complaints;
 use super::endings::{Ending, tell};
 use super::rooms::Rooms;
 use super::words::read_words;
 use nr_command_line::{SystemWords, words_of};
-use nr_tbl::{Outcome, Report, convert};
-use nr_units::buffered::Buffered;
+use nr_tbl::Outcome;
 use nr_units::over_std::ToWriter;
 use nr_units::sink::Sink;
 use std::alloc::{AllocError, Global};
@@ -102,19 +100,6 @@ fn open_all<'a, R: Files>(
     Ok(texts)
 }
 
-/// Turns one text.
-fn run_text<T: Read + Drop, W: Sink>(text: T, output: &mut W, rooms: &mut Rooms) -> Report {
-    let mut source = Buffered::over(text, &mut rooms.input);
-    convert(
-        &mut source,
-        output,
-        &mut rooms.formats,
-        &mut rooms.row,
-        &mut rooms.complaints,
-        &mut rooms.pending,
-    )
-}
-
 /// Turns the texts one after the other, each by itself, up to the first fault, and tells what is wrong with
 /// the tables of each behind it.
 fn run_texts<'a, F: Read + Drop, I: Read + Copy + Drop, W: Sink, E: Sink>(
@@ -127,10 +112,10 @@ fn run_texts<'a, F: Read + Drop, I: Read + Copy + Drop, W: Sink, E: Sink>(
     let mut ending = Ending::Ran(Outcome::Done);
     for text in texts {
         let report = match text {
-            Some(file) => run_text(file, output, rooms),
-            None => run_text(standard, output, rooms),
+            Some(file) => rooms.turn(file, output),
+            None => rooms.turn(standard, output),
         };
-        if tell_complaints(report, &rooms.complaints, errors) {
+        if tell_complaints(report, rooms.complaints(), errors) {
             ending = Ending::Complained;
         }
         if !matches!(report.outcome, Outcome::Done) {

@@ -1,8 +1,13 @@
 // The memory that texts are turned in.
+ghost use Rattle.std.specs.Prelude.{◌≡◌, ◌^◌, ◌≤◌, IfOk};
 
 use super::words::Job;
-use nr_tbl::{Complaint, pending_size};
+use nr_tbl::{Complaint, Report, convert, pending_size};
+use nr_units::buffered::Buffered;
+use nr_units::sink::Sink;
 use std::alloc::{AllocError, Global};
+use std::io::Read;
+use std::marker::Model;
 
 /// The bytes of the buffer of the input.
 const BUFFER_SIZE: usize = 65_536;
@@ -14,20 +19,36 @@ const MOST_COMPLAINTS: usize = 64;
 #[derive(Drop)]
 pub struct Rooms {
     /// What was read of a text and is not taken yet.
-    pub input: Vec<u8>,
+    input: Vec<u8>,
     /// The options and formats of a table.
-    pub formats: Vec<u8>,
-    /// A row of a table.
-    pub row: Vec<u8>,
+    formats: Vec<u8>,
+    /// A field of a row.
+    row: Vec<u8>,
     /// What is wrong with the tables of a text.
-    pub complaints: Vec<Complaint>,
+    complaints: Vec<Complaint>,
     /// What is to go out.
-    pub pending: Vec<u8>,
+    pending: Vec<u8>,
+}
+
+impl Model for Rooms {
+    ghost use Rattle.std.specs.Prelude.{ℕ, ◌×◌, ◌^◌, ◌≤◌, length};
+    ghost use Rattle.nr_tbl.specs.Running.{pending_size};
+
+    // The limits on the bytes of options and formats, and of a field.
+    ghost Value = { ℕ × ℕ };
+
+    ghost view = { λ r. (length r.formats.items, length r.row.items) };
+
+    ghost invariant = { λ r. (length r.formats.items ≤ 2 ^ 30) × (length r.row.items ≤ 2 ^ 30) × (pending_size (length r.formats.items) (length r.row.items) ≤ length r.pending.items) };
 }
 
 impl Rooms {
     /// Takes the memory of a job.
-    pub fn new(job: Job, alloc: Global) -> Result<Rooms, AllocError> {
+    pub fn new(job: Job, alloc: Global) -> Result<Rooms, AllocError>
+        requires formats { job.formats ≤ 2 ^ 30 }
+        requires row { job.row ≤ 2 ^ 30 }
+        ensures { IfOk result (λ rooms. rooms ≡ (job.formats, job.row)) }
+    {
         let size = pending_size(job.formats, job.row);
         Ok(Rooms {
             input: vec![in alloc; 0u8; BUFFER_SIZE]?,
@@ -36,5 +57,23 @@ impl Rooms {
             complaints: vec![in alloc; Complaint::NONE; MOST_COMPLAINTS]?,
             pending: vec![in alloc; 0u8; size]?,
         })
+    }
+
+    /// Turns one text.
+    pub fn turn<T: Read + Drop, W: Sink>(&mut self, text: T, output: &mut W) -> Report {
+        let mut source = Buffered::over(text, &mut self.input);
+        convert(
+            &mut source,
+            output,
+            &mut self.formats,
+            &mut self.row,
+            &mut self.complaints,
+            &mut self.pending,
+        )
+    }
+
+    /// What was wrong with the tables of the last text, first; and then what is of no account.
+    pub fn complaints(&self) -> &[Complaint] {
+        &self.complaints
     }
 }

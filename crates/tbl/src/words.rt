@@ -1,14 +1,15 @@
 // The words of the command line, and what they ask for.
-ghost use Rattle.std.specs.Prelude.{◌<◌, ◌≤◌, IfErr, IfOk, IfSome, length};
+ghost use Rattle.std.specs.Prelude.{◌≡◌, ◌<◌, ◌≤◌, ◌×◌, IfErr, IfOk, IfSome, length};
 
 /// The greatest limit that a word may set.
-const MOST: u64 = 16_777_216;
+const MOST: u64 = 1_048_576;
 
 /// The least limit on a row that a word may set.
 const LEAST_ROW: u64 = 64;
 
 /// The limits where no word sets them.
-const USUAL: usize = 65_536;
+const USUAL_FORMATS: usize = 8192;
+const USUAL_ROW: usize = 16_384;
 
 /// What the words ask for.
 #[derive(Clone, Copy)]
@@ -39,11 +40,20 @@ pub struct BadWord {
     pub wrong: Wrong,
 }
 
+/// Which limit a word sets.
+#[derive(Clone, Copy)]
+enum Which {
+    /// That on options and formats.
+    Formats,
+    /// That on a field.
+    Row,
+}
+
 /// A limit that a word sets.
 #[derive(Clone, Copy)]
-enum Setting {
-    Formats(usize),
-    Row(usize),
+struct Setting {
+    which: Which,
+    limit: usize,
 }
 
 /// Whether a word is an option: it begins with `-` and isn't `-` alone.
@@ -54,7 +64,7 @@ fn is_option(word: &str) -> bool {
 
 /// The number that decimal digits write, if it lies between the two. A sign isn't allowed.
 fn read_limit(digits: &str, least: u64) -> Option<usize>
-    ensures range { IfSome result (λ limit. (least ≤ limit) × (limit ≤ 16777216)) }
+    ensures range { IfSome result (λ limit. (least ≤ limit) × (limit ≤ 1048576)) }
 {
     if digits.starts_with('+') {
         return None;
@@ -68,30 +78,54 @@ fn read_limit(digits: &str, least: u64) -> Option<usize>
 }
 
 /// Reads an option: `-LtN` or `-LrN`.
-fn read_option(word: &str) -> Result<Setting, Wrong> {
+fn read_option(word: &str) -> Result<Setting, Wrong>
+    ensures range { IfOk result (λ setting. setting.limit ≤ 1048576) }
+{
     let Some(limit) = word.strip_prefix("-L") else {
         return Err(Wrong::Unknown);
     };
-    if let Some(digits) = limit.strip_prefix('t') {
-        let formats = read_limit(digits, 1).ok_or(Wrong::BadValue)?;
-        return Ok(Setting::Formats(formats));
+    let (which, digits, least) = if let Some(digits) = limit.strip_prefix('t') {
+        (Which::Formats, digits, 1)
+    } else if let Some(digits) = limit.strip_prefix('r') {
+        (Which::Row, digits, LEAST_ROW)
+    } else {
+        return Err(Wrong::BadValue);
+    };
+    let limit = read_limit(digits, least).ok_or(Wrong::BadValue)?;
+    Ok(Setting { which, limit })
+}
+
+impl Job {
+    /// With a limit set.
+    fn with(self, setting: Setting) -> Job
+        requires { setting.limit ≤ 1048576 }
+        ensures formats { self.formats ≤ 1048576 → result.formats ≤ 1048576 }
+        ensures row { self.row ≤ 1048576 → result.row ≤ 1048576 }
+        ensures files { result.files ≡ self.files }
+    {
+        match setting.which {
+            Which::Formats => Job {
+                formats: setting.limit,
+                ..self
+            },
+            Which::Row => Job {
+                row: setting.limit,
+                ..self
+            },
+        }
     }
-    if let Some(digits) = limit.strip_prefix('r') {
-        let row = read_limit(digits, LEAST_ROW).ok_or(Wrong::BadValue)?;
-        return Ok(Setting::Row(row));
-    }
-    Err(Wrong::BadValue)
 }
 
 /// Reads the words: options up to the first file, the last of each counts. The first that can't be taken is
 /// told by its place.
 pub fn read_words(words: &[&str]) -> Result<Job, BadWord>
     ensures files { IfOk result (λ job. job.files ≤ length words.now) }
+    ensures limits { IfOk result (λ job. (job.formats ≤ 1048576) × (job.row ≤ 1048576)) }
     ensures bad { IfErr result (λ bad. bad.place < length words.now) }
 {
     let mut job = Job {
-        formats: USUAL,
-        row: USUAL,
+        formats: USUAL_FORMATS,
+        row: USUAL_ROW,
         files: words.len(),
     };
     for (place, word) in words.iter().enumerate() {
@@ -100,8 +134,7 @@ pub fn read_words(words: &[&str]) -> Result<Job, BadWord>
             return Ok(job);
         }
         match read_option(word) {
-            Ok(Setting::Formats(limit)) => job.formats = limit,
-            Ok(Setting::Row(limit)) => job.row = limit,
+            Ok(setting) => job = job.with(setting),
             Err(wrong) => return Err(BadWord { place, wrong }),
         }
     }
