@@ -1,4 +1,4 @@
-use Rattle.std.proofs.Common.{◌+◌, take, sym, length-take-le, arith}
+use Rattle.std.proofs.Common.{◌+◌, take, sym, length-take-le, arith, rules}
 use Rattle.nr_units.proofs.Fronts.{front_grows, front_stays, passed_on_with-some}
 use Rattle.nr_units.proofs.over_std.ToWriterSink.put.Goals as goal
 
@@ -18,3 +18,6 @@ loop-done-preserved g c =
 
 pub returns-in-Err-clause-err : goal.returns-in-Err-clause-err
 returns-in-Err-clause-err g c = front_stays _ _ _ _ c.loop-done.done c.loop-done.invariant.appends c.in-Err.ensures.bytes
+
+pub returns-in-Err-clause-failures : goal.returns-in-Err-clause-failures
+returns-in-Err-clause-failures g c = search rules

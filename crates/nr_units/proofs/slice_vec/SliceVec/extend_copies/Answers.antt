@@ -1,4 +1,5 @@
 use Rattle.std.proofs.Common.{◌≡◌, ◌++◌, length, take, replicate, ap, ◌∙◌, arith}
+use Rattle.std.proofs.lemmas.Grind.{common_steps}
 use Rattle.std.proofs.lemmas.List.{length-replicate, take-replicate}
 use Rattle.nr_units.specs.Items.{Items}
 use Rattle.nr_units.proofs.Copying.{front_put}
@@ -15,3 +16,6 @@ returns-then-self-len-ge-CHUNK-clause-items g c =
     front_put c.self.inside.len _ n xs ys c.self.invariant (omega (arith, long, c.if-n-le-CHUNK.true))
     ∙ ap (λ zs. take c.self.inside.len xs ++ zs) (ap (take n) copied ∙ take-replicate n 8 item (omega (arith, c.if-n-le-CHUNK.true)))
     ∙ ap (λ (v : Items _). v.items ++ replicate n item) c.self.view_is
+
+pub returns-clause-items : goal.returns-clause-items
+returns-clause-items g c = grind (arith, common_steps)
