@@ -3,6 +3,9 @@ use Rattle.nr_words.specs.Meanings.{is_among, known_letters}
 use Rattle.nr_words.proofs.Letters.{unknown_beyond, ReadsOption-of_value}
 use Rattle.nr_words.proofs.settings.read_option.Goals as goal
 
+pub returns-then-contains : goal.returns-then-contains
+returns-then-contains c = search rules
+
 pub returns-in_default : goal.returns-in_default
 returns-in_default c = unknown_beyond c.args.word.now c.requires c.in_default.ensures.none
 

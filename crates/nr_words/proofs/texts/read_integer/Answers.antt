@@ -1,4 +1,4 @@
-use Rattle.std.proofs.Common.{inl, inr, lit<, arith}
+use Rattle.std.proofs.Common.{inl, inr, lit<, arith, rules}
 use Rattle.std.proofs.lemmas.Str.Pattern.{strip_prefix_char}
 use Rattle.nr_words.proofs.texts.read_integer.Goals as goal
 
@@ -11,3 +11,6 @@ returns-in_err-size-in-None-clause-none c =
       | inl plain ↦ c.in_err-size-in-None.ensures (plain.1.digits, omega (arith, plain.1.value, plain.1.in_range))
       | inr negative ↦ none negative.1 negative.2
     ])
+
+pub returns-in_ok-size-in-Some-clause-found : goal.returns-in_ok-size-in-Some-clause-found
+returns-in_ok-size-in-Some-clause-found c = search rules
