@@ -1,0 +1,5 @@
+use Rattle.std.proofs.Common.{rules}
+use Rattle.nr_engine.proofs.outcome.Outcome.refused.Goals as goal
+
+pub returns-in-Depth : goal.returns-in-Depth
+returns-in-Depth c = search rules
