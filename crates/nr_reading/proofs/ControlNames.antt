@@ -57,7 +57,7 @@ IsSign b false s = (b == s.control) ≡ true
 IsSign b true s = ((b == s.control) ≡ false) × ((b == s.no_break) ≡ true)
 
 -- the byte is met, and nothing told
-abbrev Meets : ℕ → Half → Half → Bool → Type 0
+abbrev pub Meets : ℕ → Half → Half → Bool → Type 0
 Meets b h k takes = meet (fronts.Byte b) h ≡ record { half = k; event = events.Nothing; takes = takes }
 
 module _ (c : Bool) (s : Signs) (d : Texts) (o : Notes) where
@@ -78,7 +78,7 @@ module _ (c : Bool) (s : Signs) (d : Texts) (o : Notes) where
   meets_second a b n short byte = rw (byte.escape, byte.ends, short) refl
 
 -- a byte is one move more
-more : (n taken b : ℕ) (takes : Bool) (fs : List Front) (h j k : Half) → HasMet n fs h (quiet taken j) → taken < length fs → j.reading.due ≡ dues.Look
+pub more : (n taken b : ℕ) (takes : Bool) (fs : List Front) (h j k : Half) → HasMet n fs h (quiet taken j) → taken < length fs → j.reading.due ≡ dues.Look
     → slice_get fs taken ≡ Some (fronts.Byte b) → Meets b j k takes → HasMet (n + 1) fs h (quiet (taken + from_bool takes) k)
 more n taken b takes fs h j k has within look some meets =
     met_counted n taken (from_bool takes) b fs h j k (record { event = events.Nothing; takes = takes }) has within look some (sym meets)

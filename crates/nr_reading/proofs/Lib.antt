@@ -16,4 +16,5 @@ pub mod Stacked
 pub mod Moving
 pub mod PlainBytes
 pub mod ControlNames
+pub mod ShortInterpolations
 pub mod RequestLines

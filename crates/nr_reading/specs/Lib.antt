@@ -23,6 +23,7 @@ pub mod Rereading
 pub mod RequestLines
 pub mod Seeking
 pub mod Setting
+pub mod ShortInterpolations
 pub mod Skipping
 pub mod Spelling
 pub mod Steps

@@ -88,6 +88,16 @@ impl Half {
             let Some(byte) = items.byte(taken) else {
                 break;
             };
+            if let Some(interpolation) =
+                self.interpolation(byte, items, taken, LONGEST - moves)
+            {
+                self.take_interpolation(interpolation);
+                return Run {
+                    taken: taken + 3,
+                    moves: moves + 3,
+                    event: Event::Nothing,
+                };
+            }
             let seen = self.meet_byte(byte);
             moves += 1;
             taken += usize::from(seen.takes);
