@@ -128,7 +128,7 @@ module _ (fs : List Front) (place n : ℕ) (h j : Half) (look : j.reading.due �
       let is_now : j ≡ plainly m c b j.signs j.delimited j.notes = plain_half j plain look in
       let has_now : HasMet n fs h (quiet place (plainly m c b j.signs j.delimited j.notes)) = subst (λ k. HasMet n fs h (quiet place k)) is_now has in
       let there = three fs place n 92 (kind_of x) (name_of x) h (plainly m c b j.signs j.delimited j.notes) (begun m c b j.signs j.delimited j.notes) (asking m c b j.signs j.delimited j.notes a)
-          (behind_interpolation x (plainly m c b j.signs j.delimited j.notes)) long first second third refl refl refl (meets_backslash m c b j.signs j.delimited j.notes copied) two last has_now in
+      (behind_interpolation x (plainly m c b j.signs j.delimited j.notes)) long first second third refl refl refl (meets_backslash m c b j.signs j.delimited j.notes copied) two last has_now in
       subst (λ k. HasMet (n + 3) fs h (quiet (place + 3) k)) (ap (behind_interpolation x) (sym is_now)) there
 
   pub met-interpolation : (x : Interpolation) → StandsAt place fs j x → HasMet (n + 3) fs h (quiet (place + 3) (behind_interpolation x j))

@@ -88,9 +88,7 @@ impl Half {
             let Some(byte) = items.byte(taken) else {
                 break;
             };
-            if let Some(interpolation) =
-                self.interpolation(byte, items, taken, LONGEST - moves)
-            {
+            if let Some(interpolation) = self.interpolation(byte, items, taken, LONGEST - moves) {
                 self.take_interpolation(interpolation);
                 return Run {
                     taken: taken + 3,
