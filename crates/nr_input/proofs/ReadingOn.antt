@@ -150,31 +150,28 @@ waits d here = refl
 expands : (r : Reader) → r.burst < r.most → expanding_answer r ≡ Ok tt
 expands r few = cond-false _ _ _ (lt-leb r.most r.burst few)
 
-abbrev NotExpansions : Result (Unit {0}) Refusal → Type 0
-NotExpansions x = x ≡ Err refusals.Expansions → ⊥
-
-storing_other : (x : Result (Unit {0}) StoredBytes) → NotExpansions (storing_by x)
+storing_other : (x : Result (Unit {0}) StoredBytes) → storing_by x ≡ Err refusals.Expansions → ⊥
 storing_other (Ok x) is = cc
 storing_other (Err e) is = cc
 
-splicing_other : (x : Result Bool stored.Refusal) (r : Reader) → r.burst < r.most → NotExpansions (splicing_by x r)
-splicing_other (Ok true) r few is = let ok = expands r few in let wrong : ⊥ = cc in wrong
+splicing_other : (x : Result Bool stored.Refusal) (r : Reader) → r.burst < r.most → splicing_by x r ≡ Err refusals.Expansions → ⊥
+splicing_other (Ok true) r few is = let ok = expands r few in cc
 splicing_other (Ok false) r few is = cc
 splicing_other (Err stores.Stored) r few is = cc
 splicing_other (Err stores.Depth) r few is = cc
 
-refused_other : {K : Type 0} (d : Due) (v : Stored K) (r : Reader) → acts_here d ≡ true → r.burst < r.most → NotExpansions (answer d v r)
-refused_other dues.Begin v r here few = storing_other (afforded (act dues.Begin v r).stored tt)
-refused_other (dues.Add b) v r here few = storing_other (afforded (act (dues.Add b) v r).stored tt)
-refused_other (dues.Release held n b) v r here few = storing_other (afforded (act (dues.Release held n b) v r).stored tt)
-refused_other (dues.Put b) v r here few = storing_other (afforded (act (dues.Put b) v r).stored tt)
-refused_other dues.CallEnding v r here few = splicing_other (checked (act dues.CallEnding v r).stored (has_text r.half.notes.defining.ending v)) r few
-refused_other dues.Splice v r here few = splicing_other (checked (act dues.Splice v r).stored (has_text r.half.notes.asked v)) r few
-refused_other (dues.Register signs.None) v r here few = splicing_other (checked (act (dues.Register signs.None) v r).stored true) r few
+refused_other : {K : Type 0} (d : Due) (v : Stored K) (r : Reader) → acts_here d ≡ true → r.burst < r.most → answer d v r ≡ Err refusals.Expansions → ⊥
+refused_other dues.Begin v r here few is = storing_other (afforded (act dues.Begin v r).stored tt) is
+refused_other (dues.Add b) v r here few is = storing_other (afforded (act (dues.Add b) v r).stored tt) is
+refused_other (dues.Release held n b) v r here few is = storing_other (afforded (act (dues.Release held n b) v r).stored tt) is
+refused_other (dues.Put b) v r here few is = storing_other (afforded (act (dues.Put b) v r).stored tt) is
+refused_other dues.CallEnding v r here few is = splicing_other (checked (act dues.CallEnding v r).stored (has_text r.half.notes.defining.ending v)) r few is
+refused_other dues.Splice v r here few is = splicing_other (checked (act dues.Splice v r).stored (has_text r.half.notes.asked v)) r few is
+refused_other (dues.Register signs.None) v r here few is = splicing_other (checked (act (dues.Register signs.None) v r).stored true) r few is
 refused_other (dues.Register signs.Plus) v r here few is = cc
 refused_other (dues.Register signs.Minus) v r here few is = cc
-refused_other (dues.Argument n) v r here few = splicing_other (checked (act (dues.Argument n) v r).stored true) r few
-refused_other dues.Call v r here few = splicing_other (checked (act dues.Call v r).stored (has_text (name_in r) v)) r few
+refused_other (dues.Argument n) v r here few is = splicing_other (checked (act (dues.Argument n) v r).stored true) r few is
+refused_other dues.Call v r here few is = splicing_other (checked (act dues.Call v r).stored (has_text (name_in r) v)) r few is
 refused_other dues.Expanded v r here few is = cc
 refused_other d v r here few is = cc
 
