@@ -1,8 +1,9 @@
 //! The private macros that print a table: its rules, bars, rows and fields.
 
 /// The macros by which a table is drawn.
-pub(crate) static DRAWING: [u8; 4251] = *b"\
+pub(crate) static DRAWING: [u8; 5987] = *b"\
 .de *rule\n\
+.nr *height +1v\n\
 .am *rows *.\n\
 .*hrule\n\
 .*.\n\
@@ -31,6 +32,7 @@ pub(crate) static DRAWING: [u8; 4251] = *b"\
 .if \\\\n(*g .nr *v 0\n\
 ..\n\
 .de *draw\n\
+.nr *was 1\n\
 .nr *3 \\\\$1\n\
 .nr *4 \\\\$2\n\
 .ds *o\n\
@@ -38,15 +40,20 @@ pub(crate) static DRAWING: [u8; 4251] = *b"\
 .ds *h *drawcell\n\
 .*all\n\
 .nr *c \\\\n(*N+1\n\
+.nr *is 1\n\
 .*drawbar \\\\n(*c\n\
+.if \\\\n[*was] .*to \\\\n(*W\n\
 .*dash \\\\n(*W\n\
-.if \\\\n(*v .as *o \"+\n\
+.if \\\\n(*v .as *o \"\\\\*(*j\n\
 \\&\\\\*(*o\n\
 .nr *P 0\n\
 ..\n\
 .de *drawcell\n\
+.nr *is \\\\n[*^\\\\n[*now],\\\\$1]\n\
 .*drawbar \\\\$1\n\
+.if \\\\n[*is] .*to \\\\n[*o\\\\$1]+\\\\n[*w\\\\$1]\n\
 .*dash \\\\n[*o\\\\$1]+\\\\n[*w\\\\$1]\n\
+.nr *was \\\\n[*is]\n\
 ..\n\
 .de *drawbar\n\
 .nr *5 0\n\
@@ -56,12 +63,15 @@ pub(crate) static DRAWING: [u8; 4251] = *b"\
 .if \\\\n(*4 .if \\\\n(*v>\\\\n(*5 .nr *5 \\\\n(*v\n\
 .if \\\\n[*box] .if \\\\$1=1:(\\\\$1>\\\\n(*N) .if !\\\\n(*5 .nr *5 1\n\
 .nr *v \\\\n(*5\n\
-.if \\\\$1<=\\\\n(*N .if \\\\n(*5 .*cross \\\\$1 \\\\n(*5 +\n\
+.ds *j +\n\
+.if \\\\n[*was] .if \\\\n[*is] .ds *j |\n\
+.if \\\\$1<=\\\\n(*N .if \\\\n(*5 .*cross \\\\$1 \\\\n(*5 \\\\*(*j -\n\
 ..\n\
 .de *cross\n\
 .*barat \\\\$1\n\
-.ie '\\\\$3'+' .*dash \\\\n(*x\n\
-.el .*to \\\\n(*x\n\
+.if \\\\n(.$<4 .*to \\\\n(*x\n\
+.if \\\\n(.$=4 .if \\\\n[*was] .*to \\\\n(*x\n\
+.*dash \\\\n(*x\n\
 .as *o \"\\\\$3\n\
 .nr *p +1n\n\
 .if \\\\$2>1 .as *o \"\\\\$3\n\
@@ -77,7 +87,9 @@ pub(crate) static DRAWING: [u8; 4251] = *b"\
 .nr *k \\\\$2\n\
 .nr *F \\\\$3\n\
 .nr *f 0 1\n\
+.nr *now \\\\n(*r\n\
 .if \\\\n(*P .*draw \\\\n(*R \\\\n(*k\n\
+.nr *now 0\n\
 .nr *R \\\\n(*k\n\
 .if \\\\n(.u .nf\n\
 .if !\\\\n(.i=\\\\n(*O .in \\\\n(*Ou\n\
@@ -86,36 +98,59 @@ pub(crate) static DRAWING: [u8; 4251] = *b"\
 .nr *V 0\n\
 .nr *p 0\n\
 .ds *o\n\
+.nr *was 0\n\
+.nr *waits 0\n\
 .ds *h *pcell\n\
 .*all\n\
+.nr *is 0\n\
 .nr *c \\\\n(*N+1\n\
 .*pbar \\\\n(*c\n\
 .nr *E 0\n\
 .if \\\\n(*f<\\\\n(*F .*left\n\
 .ie \\\\n(*H .*tall\n\
 .el \\&\\\\*(*o\n\
+.if \\\\n[*waits] .nr *T\\\\n(*r \\\\n(.d-1v\n\
+.if \\\\n[*waits] .if \\\\n(*H .nr *T\\\\n(*r \\\\n(*M\n\
 .if \\\\n(*E .*extra\n\
 .*forget\n\
+.if \\\\n[*^\\\\$1] .*ends \\\\$1\n\
 .if \\\\n[*box]=2 .nr *P 1\n\
 ..\n\
 .de *pbar\n\
 .*barsof \\\\n(*k \\\\$1\n\
 .if \\\\n(*v \\{\\\n\
 .nr *V 1\n\
+.ds *j |\n\
+.if \\\\n[*was]+\\\\n[*is] .ds *j +\n\
+.*barat \\\\$1\n\
+.if \\\\$1>\\\\n(*N .nr *x \\\\n(*W\n\
+.if \\\\n[*was] .*dash \\\\n(*x\n\
 .ie \\\\$1>\\\\n(*N .*edgebar\n\
-.el .*cross \\\\$1 \\\\n(*v |\n\
+.el .*cross \\\\$1 \\\\n(*v \\\\*(*j\n\
 .\\}\n\
 ..\n\
 .de *edgebar\n\
 .*to \\\\n(*W\n\
-.as *o \"|\n\
-.if \\\\n(*v>1 .as *o \"|\n\
+.as *o \"\\\\*(*j\n\
+.if \\\\n(*v>1 .as *o \"\\\\*(*j\n\
 ..\n\
 .de *pcell\n\
+.*isrule \\\\$1\n\
 .*pbar \\\\$1\n\
 .nr *t 0\n\
 .if \\\\n[*n\\\\n(*k]>=\\\\$1 .if !'\\\\*[*k\\\\n(*k,\\\\$1]'s' .nr *t 1\n\
 .if \\\\n(*t .*pfield \\\\$1 \\\\n[*j\\\\n(*k,\\\\$1] \\\\*[*k\\\\n(*k,\\\\$1]\n\
+.nr *was \\\\n[*is]\n\
+..\n\
+.de *isrule\n\
+.nr *is 0\n\
+.nr *t \\\\n(*f+1\n\
+.ds *j \\\\*[*k\\\\n(*k,\\\\$1]\n\
+.if '\\\\*(*j's' .nr *is \\\\n[*was]\n\
+.if !'\\\\*(*j's' .if \\\\n[*y\\\\n(*r,\\\\n(*t]=1 .nr *is 1\n\
+.if '\\\\*(*j'_' .nr *is 1\n\
+.if '\\\\*(*j'=' .nr *is 1\n\
+.if \\\\n[*is] .if !'\\\\*(*j's' .if \\\\w\\a\\\\*[*t\\\\n(*r,\\\\n(*t]\\a .nr *is 0\n\
 ..\n\
 .de *pfield\n\
 .nr *f +1\n\
@@ -124,17 +159,57 @@ pub(crate) static DRAWING: [u8; 4251] = *b"\
 .nr *t \\w\\a\\\\*[*t\\\\n(*r,\\\\n(*f]\\a\n\
 .if !\\\\n(*t .if '\\\\$3'_' .nr *y 1\n\
 .if !\\\\n(*t .if '\\\\$3'=' .nr *y 1\n\
+.if '\\\\$3'^' .nr *y 9\n\
+.if \\\\n[*&\\\\n(*r,\\\\n(*f] .*wait \\\\$1 \\\\$2 \\\\$3\n\
 .if \\\\n(*y=0 .*ptext \\\\$1 \\\\$2 \\\\$3\n\
 .if \\\\n(*y=1 .*prule \\\\$1 \\\\$2\n\
 .if \\\\n(*y=2 .*pin \\\\$1\n\
 .if \\\\n(*y=4 .*prepeat \\\\$1\n\
 .if \\\\n(*y=5 .*pblock \\\\$1 \\\\$3\n\
 ..\n\
+.de *wait\n\
+.nr *waits 1\n\
+.am *at\\\\n[*&\\\\n(*r,\\\\n(*f] *.\n\
+.*fall \\\\n(*r \\\\n(*f \\\\n(*k \\\\$1 \\\\$2 \\\\$3 \\\\n(*y \\\\n(*A\n\
+.*.\n\
+.nr *y 9\n\
+..\n\
+.de *ends\n\
+.nr *U \\\\n(.d\n\
+.*at\\\\$1\n\
+.rm *at\\\\$1\n\
+.sp |\\\\n(*Uu\n\
+..\n\
+.de *fall\n\
+.nr *r \\\\$1\n\
+.nr *f \\\\$2\n\
+.nr *k \\\\$3\n\
+.nr *A \\\\$8\n\
+.nr *H 1v\n\
+.if \\\\$7=5 .nr *H \\\\n[*h\\\\$1,\\\\$2]\n\
+.nr *M \\\\n[*T\\\\$1]\n\
+.if \\\\n(*M>\\\\n(*U .nr *M 0\n\
+.if !\\\\n[*-\\\\n(*k,\\\\$4] .nr *M \\\\n(*U-\\\\n(*M-\\\\n(*H/2/1v*1v+\\\\n(*M\n\
+.if \\\\n[*-\\\\n(*k,\\\\$4]=2 .nr *M \\\\n(*U-\\\\n(*H\n\
+.ds *o\n\
+.nr *p 0\n\
+.nr *t \\w\\a\\\\*[*t\\\\n(*r,\\\\n(*f]\\a\n\
+.if \\\\$7=0 .*ptext \\\\$4 \\\\$5 \\\\$6\n\
+.if \\\\$7=4 .*prepeat \\\\$4\n\
+.if \\\\$7=5 .*pblock \\\\$4 \\\\$6\n\
+.sp |\\\\n(*Mu\n\
+.if \\\\$7<5 \\&\\\\*(*o\n\
+.*put\n\
+.rm *put\n\
+.*dropped \\\\$1,\\\\$2\n\
+.rr *&\\\\$1,\\\\$2\n\
+..\n\
 .de *ptext\n\
 .nr *X \\\\n[*o\\\\$1]\n\
 .if '\\\\$3'r' .nr *X +\\\\n(*A-\\\\n(*t\n\
 .if '\\\\$3'c' .nr *X +(\\\\n(*A-\\\\n(*t/2/24*24)\n\
-.if '\\\\$3'a' .nr *X +(\\\\n(*A-\\\\n[*a\\\\$1]/2/24*24)\n\
+.if '\\\\$3'a' .ie \\\\$1<\\\\$2 .nr *X +1n\n\
+.el .if '\\\\$3'a' .nr *X +(\\\\n(*A-\\\\n[*a\\\\$1]/2/24*24)\n\
 .if '\\\\$3'n' .*pnumber \\\\$1 \\\\$2\n\
 .*to \\\\n(*X\n\
 .if !'\\\\*[*f\\\\n(*k,\\\\$1]'' .as *o \"\\\\f\\\\*[*f\\\\n(*k,\\\\$1]\n\
@@ -144,11 +219,12 @@ pub(crate) static DRAWING: [u8; 4251] = *b"\
 ..\n\
 .de *pnumber\n\
 .nr *6 \\w\\a\\\\*[*u\\\\n(*r,\\\\n(*f]\\a\n\
+.if \\\\$1<\\\\$2 .nr *6 0\n\
 .ie \\\\n(*6 .nr *X +(\\\\n(*A-\\\\n[*l\\\\$1]-\\\\n[*q\\\\$1]/2/24*24)+\\\\n[*l\\\\$1]-\\\\n(*6\n\
 .el .nr *X +(\\\\n(*A-\\\\n(*t/2/24*24)\n\
 ..\n\
 .de *prule\n\
-.*to \\\\n[*o\\\\$1]\n\
+.if !\\\\n[*was] .if !\\\\n(*v .*to \\\\n[*o\\\\$1]\n\
 .*dash \\\\n[*o\\\\$1]+\\\\n(*A\n\
 ..\n\
 .de *pin\n\
@@ -190,6 +266,8 @@ pub(crate) static DRAWING: [u8; 4251] = *b"\
 .sp |\\\\n(*Mu+\\\\n(*Hu\n\
 ..\n\
 .de *barlines\n\
+.nr *was 0\n\
+.nr *is 0\n\
 .ds *o\n\
 .nr *p 0\n\
 .ds *h *pbar\n\
@@ -231,7 +309,7 @@ pub(crate) static DRAWING: [u8; 4251] = *b"\
 .*drop \\\\n(*c\n\
 ..\n\
 .de *drop\n\
-.if \\\\$1<=\\\\n(*F .*dropped \\\\n(*r,\\\\$1\n\
+.if \\\\$1<=\\\\n(*F .if !\\\\n[*&\\\\n(*r,\\\\$1] .*dropped \\\\n(*r,\\\\$1\n\
 ..\n\
 .de *dropped\n\
 .rm *t\\\\$1\n\

@@ -7,7 +7,7 @@ use super::drawing::DRAWING;
 use nr_units::slice_vec::SliceVec;
 
 /// The macros by which a table is read, measured and ended.
-static MACROS: [u8; 5516] = *b"\
+static MACROS: [u8; 7104] = *b"\
 .de *.\n\
 ..\n\
 .de *begin\n\
@@ -31,6 +31,7 @@ static MACROS: [u8; 5516] = *b"\
 .rm *blocks\n\
 .rm *spans\n\
 .nr *J 0\n\
+.nr *height 0\n\
 ..\n\
 .de *line\n\
 .nr *K +1\n\
@@ -43,6 +44,7 @@ static MACROS: [u8; 5516] = *b"\
 .nr *v\\\\n(*K,\\\\n(*c \\\\$2\n\
 .ds *f\\\\n(*K,\\\\n(*c\n\
 .nr *z\\\\n(*K,\\\\n(*c 0\n\
+.nr *-\\\\n(*K,\\\\n(*c 0\n\
 .nr *n\\\\n(*K \\\\n(*c\n\
 .if !'\\\\$1'_' .if !'\\\\$1'=' .nr *g\\\\n(*K 0\n\
 .if !'\\\\$1's' .nr *b \\\\n(*c\n\
@@ -52,6 +54,8 @@ static MACROS: [u8; 5516] = *b"\
 ..\n\
 .de *column\n\
 .nr *N \\\\n(*c\n\
+.nr *%\\\\n(*c 0\n\
+.nr *Y\\\\n(*c 0\n\
 .nr *w\\\\n(*c 0\n\
 .nr *m\\\\n(*c 0\n\
 .nr *e\\\\n(*c 0\n\
@@ -72,6 +76,12 @@ static MACROS: [u8; 5516] = *b"\
 .de *font\n\
 .ds *f\\\\n(*K,\\\\n(*c \\\\$1\n\
 ..\n\
+.de *top\n\
+.nr *-\\\\n(*K,\\\\n(*c 1\n\
+..\n\
+.de *low\n\
+.nr *-\\\\n(*K,\\\\n(*c 2\n\
+..\n\
 .de *zero\n\
 .nr *z\\\\n(*K,\\\\n(*c 1\n\
 ..\n\
@@ -80,7 +90,8 @@ static MACROS: [u8; 5516] = *b"\
 .nr *m\\\\n(*c \\\\n[*m\\\\n(*c]+12/24*24\n\
 ..\n\
 .de *gap\n\
-.nr *s\\\\n(*c \\\\$1\n\
+.if \\\\$1+1>\\\\n[*%\\\\n(*c] .nr *%\\\\n(*c \\\\$1+1\n\
+.nr *s\\\\n(*c \\\\n[*%\\\\n(*c]-1\n\
 ..\n\
 .de *equal\n\
 .nr *e\\\\n(*c 1\n\
@@ -99,9 +110,22 @@ static MACROS: [u8; 5516] = *b"\
 .de *skip\n\
 .if \\\\n(*k<\\\\n(*K .if \\\\n[*g\\\\n(*k] .*lines1\n\
 ..\n\
+.de *fill\n\
+.nr *1 \\\\n(*K\n\
+.nr *K \\\\n(*k\n\
+.nr *c \\\\n[*n\\\\n(*k]\n\
+.*fill1\n\
+.nr *K \\\\n(*1\n\
+..\n\
+.de *fill1\n\
+.nr *t \\\\n(*c+1\n\
+.*cell l 0\\\\n[*v\\\\n(*K,\\\\n(*t]\n\
+.if \\\\n(*c<\\\\n(*N .*fill1\n\
+..\n\
 .de *row\n\
 .nr *F \\\\n(*f\n\
 .*skip\n\
+.if \\\\n[*n\\\\n(*k]<\\\\n(*N .*fill\n\
 .nr *f 0 1\n\
 .ds *h *mcell\n\
 .*all\n\
@@ -110,18 +134,45 @@ static MACROS: [u8; 5516] = *b"\
 .*.\n\
 .nr *f 0 1\n\
 .nr *r +1\n\
+.nr *height +1v\n\
+.if \\\\n[*box]=2 .nr *height +1v\n\
 .if \\\\n(*k<\\\\n(*K .nr *k +1\n\
 ..\n\
 .de *mcell\n\
 .nr *t 0\n\
+.ie '\\\\*[*k\\\\n(*k,\\\\$1]'^' .*down \\\\$1\n\
+.el .nr *Y\\\\$1 0\n\
 .if \\\\n[*n\\\\n(*k]>=\\\\$1 .if !'\\\\*[*k\\\\n(*k,\\\\$1]'s' .nr *t 1\n\
 .if \\\\n(*t .if \\\\n(*f<\\\\n(*F .*mfield \\\\$1 \\\\n[*j\\\\n(*k,\\\\$1]\n\
 ..\n\
 .de *mfield\n\
 .nr *f +1\n\
 .nr *y \\\\n[*y\\\\n(*r,\\\\n(*f]\n\
+.if '\\\\*[*k\\\\n(*k,\\\\$1]'^' .nr *y 9\n\
+.if \\\\n(*y=3 .nr *Y\\\\$1 \\\\n[*y\\\\$1]\n\
+.if \\\\n(*y=3 .*down \\\\$1\n\
+.if \\\\n(*y<3 .*from \\\\$1 \\\\$2\n\
+.if \\\\n(*y=4:(\\\\n(*y=5) .*from \\\\$1 \\\\$2\n\
 .if \\\\n(*y=0 .if !\\\\n[*z\\\\n(*k,\\\\$1] .*mtext \\\\$1 \\\\$2 \\\\*[*k\\\\n(*k,\\\\$1]\n\
 .if \\\\n(*y=5 .*later \\\\n(*r \\\\n(*k \\\\n(*f \\\\$1 \\\\$2\n\
+..\n\
+.de *from\n\
+.nr *Y\\\\$1 \\\\n(*r\n\
+.nr *y\\\\$1 \\\\n(*r\n\
+.nr *Z\\\\$1 \\\\n(*f\n\
+.nr *z\\\\$1 \\\\$2\n\
+..\n\
+.de *down\n\
+.if \\\\n[*Y\\\\$1] \\{\\\n\
+.nr *&\\\\n[*Y\\\\$1],\\\\n[*Z\\\\$1] \\\\n(*r\n\
+.nr *^\\\\n(*r 1\n\
+.*under \\\\$1 \\\\n[*z\\\\$1]\n\
+.\\}\n\
+..\n\
+.de *under\n\
+.nr *^\\\\n(*r,\\\\$1 1\n\
+.nr *t \\\\$1+1\n\
+.if \\\\$1<\\\\$2 .*under \\\\n(*t \\\\$2\n\
 ..\n\
 .de *later\n\
 .nr *J 1\n\
@@ -131,6 +182,7 @@ static MACROS: [u8; 5516] = *b"\
 ..\n\
 .de *mtext\n\
 .nr *t \\w\\a\\\\*[*t\\\\n(*r,\\\\n(*f]\\a\n\
+.if \\\\$1<\\\\$2 .if '\\\\$3'a' .nr *t +2n\n\
 .if \\\\$1<\\\\$2 .*mspan \\\\$1 \\\\$2 \\\\n(*t\n\
 .if \\\\$1=\\\\$2 .*mcolumn \\\\$1 \\\\$3\n\
 ..\n\
@@ -155,6 +207,7 @@ static MACROS: [u8; 5516] = *b"\
 .if \\\\n[*a\\\\$1] .if \\\\n[*a\\\\$1]+2n>\\\\n[*w\\\\$1] .nr *w\\\\$1 \\\\n[*a\\\\$1]+2n\n\
 .if \\\\n[*l\\\\$1]+\\\\n[*q\\\\$1]>\\\\n[*w\\\\$1] .nr *w\\\\$1 \\\\n[*l\\\\$1]+\\\\n[*q\\\\$1]\n\
 .if \\\\n[*m\\\\$1]>\\\\n[*w\\\\$1] .nr *w\\\\$1 \\\\n[*m\\\\$1]\n\
+.if \\\\n[*w\\\\$1]<1n .nr *w\\\\$1 1n\n\
 ..\n\
 .de *sum\n\
 .if \\\\$1>=\\\\n(*1 .if \\\\$1<=\\\\n(*2 .nr *S +\\\\n[*w\\\\$1]\n\
@@ -218,7 +271,7 @@ a b ccc\n\
 .nr *t 1\n\
 .ds *h *mins\n\
 .if !\\\\n(*G .*all\n\
-.if !\\\\n(*t .if \\\\n(*L*(\\\\$5-\\\\$4+1)/(\\\\n(*N+1)>\\\\n(*S .nr *S \\\\n(*L*(\\\\$5-\\\\$4+1)/(\\\\n(*N+1)/24*24\n\
+.if !\\\\n(*t .if \\\\n(*L*(\\\\$5-\\\\$4+1)/(\\\\n(*N+1)>\\\\n(*S .nr *S \\\\n(*L*(\\\\$5-\\\\$4+1)/(\\\\n(*N+1)+11/24*24\n\
 .if '\\\\*[*k\\\\$2,\\\\$4]'a' .nr *S -2n\n\
 .di *d\\\\$1,\\\\$3\n\
 .in 0\n\
@@ -231,6 +284,10 @@ a b ccc\n\
 .di\n\
 .nr *h\\\\$1,\\\\$3 \\\\n(dn\n\
 .nr *d\\\\$1,\\\\$3 \\\\n(dl\n\
+.nr *t \\\\n[*#\\\\$1]\n\
+.if !\\\\n(*t .nr *t 1v\n\
+.if \\\\n[*h\\\\$1,\\\\$3]>\\\\n(*t .nr *height +\\\\n[*h\\\\$1,\\\\$3]-\\\\n(*t\n\
+.if \\\\n[*h\\\\$1,\\\\$3]>\\\\n(*t .nr *#\\\\$1 \\\\n[*h\\\\$1,\\\\$3]\n\
 .ll \\\\n(*Lu\n\
 .in \\\\n(*Iu\n\
 .rm *b\\\\$1,\\\\$3\n\
@@ -252,10 +309,13 @@ a b ccc\n\
 .nr *W \\\\n(*S\n\
 .nr *S +(\\\\n[*s\\\\$1]n)\n\
 ..\n\
+.de *xfree\n\
+.if \\\\n[*x\\\\$1] .nr *S +(\\\\n[*w\\\\$1]/24)\n\
+..\n\
 .de *xshare\n\
 .if \\\\n[*x\\\\$1] \\{\\\n\
 .nr *t \\\\n(*S+\\\\n(*D-1/\\\\n(*D\n\
-.nr *w\\\\$1 +(\\\\n(*tn)\n\
+.if \\\\n[*w\\\\$1]<\\\\n(*tn .nr *w\\\\$1 \\\\n(*tn\n\
 .nr *S -\\\\n(*t\n\
 .nr *D -1\n\
 .\\}\n\
@@ -274,6 +334,14 @@ a b ccc\n\
 .if \\\\n(*N>1 .nr *g 1\n\
 .if \\\\n[*xs] .nr *g 2\n\
 .if \\\\n(*S>0 .*grow\\\\n(*g\n\
+.if \\\\n(*S<0 .if \\\\n[*expand] .if !\\\\n[*xs] .*shrink\n\
+..\n\
+.de *shrink\n\
+.ds *h *nogap\n\
+.*all\n\
+..\n\
+.de *nogap\n\
+.nr *s\\\\$1 0\n\
 ..\n\
 .de *grow0\n\
 .nr *w1 +(\\\\n(*Sn)\n\
@@ -284,6 +352,8 @@ a b ccc\n\
 .*all\n\
 ..\n\
 .de *grow2\n\
+.ds *h *xfree\n\
+.*all\n\
 .nr *D \\\\n[*xs]\n\
 .ds *h *xshare\n\
 .*all\n\
@@ -328,6 +398,8 @@ a b ccc\n\
 .nf\n\
 .nr *P 0\n\
 .nr *R 0\n\
+.if !\\\\n(*N .nr *box 0\n\
+.if \\\\n[*box] .if !\\\\n[*nokeep] .*keep\n\
 .if \\\\n[*box]=3 .*draw 0 0\n\
 .if \\\\n[*box] .nr *P 1\n\
 .*rows\n\
@@ -335,6 +407,12 @@ a b ccc\n\
 .if \\\\n(*P .*draw \\\\n(*R 0\n\
 .if \\\\n[*box]=3 .*draw \\\\n(*R 0\n\
 .nr *P 0\n\
+..\n\
+.de *keep\n\
+.nr *height +2v\n\
+.if \\\\n[*box]=2 .nr *height -1v\n\
+.if \\\\n[*box]=3 .nr *height +2v\n\
+.if \\\\n[*height]<\\\\n(.p .ne \\\\n[*height]u\n\
 ..\n\
 .de *done\n\
 .ll \\\\n(*Lu\n\
