@@ -4,7 +4,7 @@ use Rattle.nr_tbl.specs.declared.formats.Formats.{Formats}
 use Rattle.nr_tbl.specs.declared.formats.Part.{Part}
 use Rattle.nr_tbl.specs.declared.formats.Part.TheVariants as parts
 use Rattle.nr_tbl.specs.declared.formats.Call.{Call}
-use Rattle.nr_tbl.specs.declared.formats.Call.TheVariants.{Nothing, Cell, Bars, Font, Width, Gap, Byte, Equal, Wide, Zero}
+use Rattle.nr_tbl.specs.declared.formats.Call.TheVariants.{Nothing, Cell, Bars, Font, Width, Gap, Byte, Equal, Wide, Zero, Top, Low}
 use Rattle.nr_tbl.specs.declared.formats.Called.{Called}
 use Rattle.nr_tbl.specs.Numbers.{is_digit, one_more}
 use Rattle.nr_tbl.specs.Options.{small}
@@ -25,6 +25,8 @@ call_bytes (Byte b) = b ∷ []
 call_bytes Equal = codes ".*equal\n"
 call_bytes Wide = codes ".*wide\n"
 call_bytes Zero = codes ".*zero\n"
+call_bytes Top = codes ".*top\n"
+call_bytes Low = codes ".*low\n"
 
 -- a call ends, a line begins, and this is called
 abbrev pub called_bytes : Called → List ℕ
@@ -64,23 +66,33 @@ kind_of b =
 
 -- a line begins
 abbrev pub line_begun : Formats → Formats
-line_begun f = if f.begun then f else record f { cells = 0; many = f.many || nat_le 256 f.lines; lines = one_more f.lines 256 }
+line_begun f = record f { cells = 0; many = f.many || nat_le 256 f.lines; lines = one_more f.lines 256 }
 
--- one column more, of at most 64
-abbrev pub with_cell : ℕ → Formats → Formats
-with_cell kind f =
+-- nothing stands before the next column, or above it, over which it could go on
+abbrev pub is_bad : ℕ → Formats → Bool
+is_bad kind f = if kind == 115 then f.cells == 0 else if kind == 94 then f.lines == 1 else false
+
+-- one column more, of at most 64: l where it can't be of its kind
+abbrev pub with_cell : ℕ → Bool → Formats → Formats
+with_cell kind bad f =
     let cells = one_more f.cells 64 in
     record f {
       many = f.many || nat_le 64 f.cells;
       cells = cells;
       columns = if nat_lt f.columns cells then cells else f.columns;
       numeric = f.numeric || (kind == 110);
+      bad = f.bad || bad;
       begun = true;
       bars = 0;
     }
 
+abbrev pub new_cell : ℕ → Bool → Formats → Formats → Told
+new_cell kind bad f g =
+    let kind = if bad then 108 else kind in
+    told (with_cell kind bad g) (record { ends = false; begins = not f.begun; call = Cell kind f.bars })
+
 abbrev pub cell : ℕ → Formats → Told
-cell kind f = told (with_cell kind (line_begun f)) (record { ends = false; begins = not f.begun; call = Cell kind f.bars })
+cell kind f = let g = if f.begun then f else line_begun f in new_cell kind (is_bad kind g) f g
 
 abbrev pub line_ends : Formats → Told
 line_ends f = if f.begun then told (record f { begun = false; bars = 0 }) (only (Bars f.bars)) else told f (only Nothing)
@@ -96,7 +108,7 @@ bad_byte f = told (record f { bad = true }) (only Nothing)
 abbrev pub going_on : Part → Call → Formats → Told
 going_on part call f = told (record f { part = part }) (only call)
 
--- b i e x z, t d u without effect, f w p v m, and a number for the space behind it
+-- b i e x z t d, u without effect, f w p v m, and a number for the space behind it
 abbrev pub modifier : ℕ → Formats → Told
 modifier b f =
     if b == 98 then told f (only (Font 66)) else
@@ -104,7 +116,9 @@ modifier b f =
     if b == 101 then told f (only Equal) else
     if b == 120 then told f (only Wide) else
     if b == 122 then told f (only Zero) else
-    if (b == 116) || (b == 100) || (b == 117) then told f (only Nothing) else
+    if b == 116 then told f (only Top) else
+    if b == 100 then told f (only Low) else
+    if b == 117 then told f (only Nothing) else
     if b == 102 then going_on parts.Font Nothing f else
     if b == 119 then going_on parts.Width Width f else
     if (b == 112) || (b == 118) || (b == 109) then going_on parts.Size Nothing f else
@@ -112,7 +126,7 @@ modifier b f =
 
 abbrev pub column : ℕ → Option ℕ → Formats → Told
 column b (Some kind) f = cell kind f
-column b None f = modifier b f
+column b None f = if f.begun then modifier b f else bad_byte f
 
 abbrev pub small_key : ℕ → Formats → Told
 small_key b f =

@@ -14,7 +14,7 @@ use Rattle.nr_tbl.specs.declared.said.Said.TheVariants as says
 use Rattle.nr_tbl.specs.Half.{Met, taking, leaving, complaining, is_open}
 use Rattle.nr_tbl.specs.Outside.{at_start, in_passing, in_title}
 use Rattle.nr_tbl.specs.Head.{at_format_start, in_format_line, in_begun, in_failed}
-use Rattle.nr_tbl.specs.Rows.{at_row_start, in_field, in_escaped, in_literal, in_row_end, in_request, in_command}
+use Rattle.nr_tbl.specs.Rows.{at_row_start, in_field, in_escaped, in_literal, in_comment, in_row_end, in_request, in_command}
 use Rattle.nr_tbl.specs.Blocks.{closing_block, at_block_start, in_block_line, in_block_end}
 use Rattle.nr_tbl.specs.Plain.{at_plain_start, in_plain_line, in_plain_end}
 
@@ -31,6 +31,7 @@ byte_in (modes.RowStart held) b full h = at_row_start held b h
 byte_in modes.Field b full h = in_field b full.row h
 byte_in modes.Escaped b full h = in_escaped b h
 byte_in modes.Literal b full h = in_literal b full.row h
+byte_in modes.Comment b full h = in_comment b h
 byte_in modes.RowEnd b full h = in_row_end h
 byte_in modes.Request b full h = in_request b h
 byte_in modes.Command b full h = in_command b h

@@ -18,7 +18,7 @@ is_letter b = (nat_le 65 b && nat_le b 90) || (nat_le 97 b && nat_le b 122)
 
 -- without effect here
 abbrev pub is_passed : List ℕ → Bool
-is_passed word = is_word word (codes "linesize") || is_word word (codes "delim") || is_word word (codes "nokeep") || is_word word (codes "nowarn")
+is_passed word = is_word word (codes "linesize") || is_word word (codes "delim") || is_word word (codes "nowarn")
 
 abbrev pub frame_of : List ℕ → Choice
 frame_of word =
@@ -34,11 +34,12 @@ choice_of word =
     if is_word word (codes "expand") then choices.Expand else
     if is_word word (codes "tab") then choices.Tab else
     if is_word word (codes "decimalpoint") then choices.Point else
-    if is_word word (codes "nospaces") then choices.NoSpaces else frame_of word
+    if is_word word (codes "nospaces") then choices.NoSpaces else
+    if is_word word (codes "nokeep") then choices.NoKeep else frame_of word
 
 -- fields are separated by tabs, and the fraction of a number stands behind a point
 abbrev pub no_options : Options
-no_options = record { center = false; expand = false; frame = Open; tab = 9; point = 46; nospaces = false; unknown = false }
+no_options = record { center = false; expand = false; frame = Open; tab = 9; point = 46; nospaces = false; nokeep = false; unknown = false }
 
 abbrev pub unknown : Options → Options
 unknown o = record o { unknown = true }
@@ -59,18 +60,23 @@ options_with (choices.Frame frame) argument o = record o { frame = frame }
 options_with choices.Tab argument o = tab_with argument o
 options_with choices.Point argument o = point_with argument o
 options_with choices.NoSpaces argument o = record o { nospaces = true }
+options_with choices.NoKeep argument o = record o { nokeep = true }
 options_with choices.Passed argument o = o
 options_with choices.Unknown argument o = unknown o
 
 abbrev pub first_options : OptionsRead
-first_options = record { options = no_options; word = []; inside = false; argument = None }
+first_options = record { options = no_options; word = []; spaced = false; inside = false; argument = None }
 
 -- the word has ended, if there is one
 abbrev pub word_ended : OptionsRead → OptionsRead
 word_ended r = record first_options { options = if length r.word == 0 then r.options else options_with (choice_of r.word) r.argument r.options }
 
+abbrev pub with_letter : ℕ → OptionsRead → OptionsRead
+with_letter b r = if length r.word == 32 then r else record r { word = r.word ++ small b ∷ [] }
+
+-- behind a blank it begins another word
 abbrev pub letter : ℕ → OptionsRead → OptionsRead
-letter b r = if length r.word == 32 then r else record r { word = r.word ++ small b ∷ [] }
+letter b r = with_letter b (if r.spaced then word_ended r else r)
 
 abbrev pub first_of : Option ℕ → ℕ → Option ℕ
 first_of None b = Some b
@@ -84,7 +90,8 @@ abbrev pub options_read : ℕ → OptionsRead → OptionsRead
 options_read b r =
     if r.inside then in_argument b r else
     if is_letter b then letter b r else
-    if b == 40 then record r { inside = true } else word_ended r
+    if b == 40 then record r { inside = true } else
+    if (b == 32) || (b == 9) then record r { spaced = true } else word_ended r
 
 -- with many
 abbrev pub all_options : List ℕ → OptionsRead → OptionsRead

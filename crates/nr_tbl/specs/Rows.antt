@@ -113,10 +113,16 @@ in_field b full h =
     if full then giving_up_row h else
     if b == 92 then taking modes.Escaped (Say says.Nothing) h else keeping b h
 
--- behind a backslash, which is kept first: a newline there vanishes with it
+-- in a comment behind the last column
+abbrev pub in_comment : ℕ → Half → Met
+in_comment b h = if b == 10 then leaving modes.RowEnd (Say says.Nothing) h else taking modes.Comment (Say says.Nothing) h
+
+-- behind a backslash, which is kept first: a newline there vanishes with it, and a quote makes a comment of a field beyond
+-- the columns
 abbrev pub in_escaped : ℕ → Half → Met
 in_escaped b h =
-    if b == 10 then taking modes.Field (Say says.Nothing) h
+    if b == 10 then taking modes.Field (Say says.Nothing) h else
+    if (b == 34) && is_beyond h && is_empty h.shape then taking modes.Comment (Say says.Nothing) h
     else (let m = keeping 92 h in leaving modes.Literal m.act m.half)
 
 -- two backslashes are kept as \e, which stays itself where it is read twice

@@ -38,9 +38,9 @@ repeat_bytes b = mark_bytes marks.Repeat ++ codes ".ds *t\\n(*r,\\n(*f \"" ++ do
 abbrev pub text_bytes : List ℕ → List ℕ
 text_bytes text = codes ".ds *t\\n(*r,\\n+(*f \"" ++ doubled text ++ 10 ∷ []
 
--- string *uR,F is what of it stands before the place where it is aligned
+-- string *uR,F is what of it stands before the place where it is aligned, behind a 0, so that it has a width
 abbrev pub front_bytes : List ℕ → List ℕ
-front_bytes text = codes ".ds *u\\n(*r,\\n(*f \"" ++ doubled text ++ 10 ∷ []
+front_bytes text = codes ".ds *u\\n(*r,\\n(*f \"0" ++ doubled text ++ 10 ∷ []
 
 -- ---- tables
 
@@ -56,7 +56,7 @@ frame_digit Double = 51
 abbrev pub options_bytes : Options → List ℕ
 options_bytes o =
     codes ".nr *center " ++ switch_digit o.center ∷ [] ++ codes "\n.nr *expand " ++ switch_digit o.expand ∷ []
-    ++ codes "\n.nr *box " ++ frame_digit o.frame ∷ 10 ∷ []
+    ++ codes "\n.nr *nokeep " ++ switch_digit o.nokeep ∷ [] ++ codes "\n.nr *box " ++ frame_digit o.frame ∷ 10 ∷ []
 
 -- register *C tells whether long names were on
 abbrev pub begin_bytes : Bool → List ℕ

@@ -1,7 +1,7 @@
 //! The private macros that print a table: its rules, bars, rows and fields.
 
 /// The macros by which a table is drawn.
-pub(crate) static DRAWING: [u8; 5987] = *b"\
+pub(crate) static DRAWING: [u8; 5990] = *b"\
 .de *rule\n\
 .nr *height +1v\n\
 .am *rows *.\n\
@@ -220,7 +220,7 @@ pub(crate) static DRAWING: [u8; 5987] = *b"\
 .de *pnumber\n\
 .nr *6 \\w\\a\\\\*[*u\\\\n(*r,\\\\n(*f]\\a\n\
 .if \\\\$1<\\\\$2 .nr *6 0\n\
-.ie \\\\n(*6 .nr *X +(\\\\n(*A-\\\\n[*l\\\\$1]-\\\\n[*q\\\\$1]/2/24*24)+\\\\n[*l\\\\$1]-\\\\n(*6\n\
+.ie \\\\n(*6 .nr *X +(\\\\n(*A-\\\\n[*l\\\\$1]-\\\\n[*q\\\\$1]/2/24*24)+\\\\n[*l\\\\$1]-\\\\n(*6+1n\n\
 .el .nr *X +(\\\\n(*A-\\\\n(*t/2/24*24)\n\
 ..\n\
 .de *prule\n\

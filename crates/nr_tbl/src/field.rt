@@ -15,7 +15,7 @@ pub(crate) enum Shape {
     Block,
     /// A backslash.
     Backslash,
-    /// `\_`: a rule as wide as what stands in the column.
+    /// `\_` or `\=`: a rule as wide as what stands in the column.
     Inner,
     /// `\^`: the field above goes on.
     Above,
@@ -37,7 +37,7 @@ impl Shape {
             (Shape::Empty, b'T') => Shape::T,
             (Shape::Empty, b'\\') => Shape::Backslash,
             (Shape::T, b'{') => Shape::Block,
-            (Shape::Backslash, b'_') => Shape::Inner,
+            (Shape::Backslash, b'_' | b'=') => Shape::Inner,
             (Shape::Backslash, b'^') => Shape::Above,
             (Shape::Backslash, b'R') => Shape::R,
             (Shape::R, _) => Shape::Repeat(byte),

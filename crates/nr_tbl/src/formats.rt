@@ -83,6 +83,10 @@ pub(crate) enum Call {
     Wide,
     /// A column whose text doesn't count.
     Zero,
+    /// A column whose text that goes on below stands at the top of its rows.
+    Top,
+    /// It stands at their bottom.
+    Low,
 }
 
 /// What a byte calls: what was called has ended, a line begins, and this.
@@ -137,6 +141,8 @@ fn put_call(call: Call, out: &mut SliceVec<'_, u8>)
         Call::Equal => out.extend(b".*equal\n"),
         Call::Wide => out.extend(b".*wide\n"),
         Call::Zero => out.extend(b".*zero\n"),
+        Call::Top => out.extend(b".*top\n"),
+        Call::Low => out.extend(b".*low\n"),
     }
 }
 
@@ -209,17 +215,38 @@ impl Formats {
         }
     }
 
-    /// A column comes.
+    /// Whether nothing stands before the next column, or above it, over which it could go on.
+    fn is_bad(&self, kind: u8) -> bool
+        ensures { result ≡ specs.is_bad kind self.now }
+    {
+        match kind {
+            b's' => self.cells == 0,
+            b'^' => self.lines == 1,
+            _ => false,
+        }
+    }
+
+    /// A line begins.
+    fn line_begins(&mut self)
+        ensures { self.new ≡ specs.line_begun self.old }
+    {
+        self.cells = 0;
+        self.many = self.many || self.lines >= LINES;
+        self.lines = one_more(self.lines, LINES);
+    }
+
+    /// A column comes, of `l` where it can't be of its kind.
     fn cell(&mut self, kind: u8) -> Called
         ensures { specs.told self.new result ≡ specs.cell kind self.old }
     {
         let begins = !self.begun;
         let bars = self.bars;
         if begins {
-            self.cells = 0;
-            self.many = self.many || self.lines >= LINES;
-            self.lines = one_more(self.lines, LINES);
+            self.line_begins();
         }
+        let bad = self.is_bad(kind);
+        let kind = if bad { b'l' } else { kind };
+        self.bad = self.bad || bad;
         self.many = self.many || self.cells >= COLUMNS;
         self.cells = one_more(self.cells, COLUMNS);
         if self.columns < self.cells {
@@ -272,7 +299,7 @@ impl Formats {
         Called::only(Call::Nothing)
     }
 
-    /// What modifies a column: nothing is called for it where none stands before it.
+    /// What modifies the column before it.
     fn modifier(&mut self, key: u8) -> Called
         ensures { specs.told self.new result ≡ specs.modifier key self.old }
     {
@@ -282,7 +309,9 @@ impl Formats {
             b'e' => Called::only(Call::Equal),
             b'x' => Called::only(Call::Wide),
             b'z' => Called::only(Call::Zero),
-            b't' | b'd' | b'u' => Called::only(Call::Nothing),
+            b't' => Called::only(Call::Top),
+            b'd' => Called::only(Call::Low),
+            b'u' => Called::only(Call::Nothing),
             b'f' => self.goes_on(Part::Font, Call::Nothing),
             b'w' => self.goes_on(Part::Width, Call::Width),
             b'p' | b'v' | b'm' => self.goes_on(Part::Size, Call::Nothing),
@@ -301,7 +330,8 @@ impl Formats {
             b'|' => self.bar(),
             key => match kind_of(key) {
                 Some(kind) => self.cell(kind),
-                None => self.modifier(key),
+                None if self.begun => self.modifier(key),
+                None => self.bad_byte(),
             },
         }
     }

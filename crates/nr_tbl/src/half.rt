@@ -35,6 +35,8 @@ pub(crate) enum Mode {
     Escaped,
     /// Behind a backslash that is.
     Literal,
+    /// In a comment behind the last column.
+    Comment,
     /// At the end of a row, whose fields were said.
     RowEnd,
     /// In a line of a request between rows.

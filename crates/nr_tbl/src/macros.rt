@@ -7,7 +7,7 @@ use super::drawing::DRAWING;
 use nr_units::slice_vec::SliceVec;
 
 /// The macros by which a table is read, measured and ended.
-static MACROS: [u8; 7104] = *b"\
+static MACROS: [u8; 7124] = *b"\
 .de *.\n\
 ..\n\
 .de *begin\n\
@@ -22,6 +22,7 @@ static MACROS: [u8; 7104] = *b"\
 .nr *f 0 1\n\
 .nr *center 0\n\
 .nr *expand 0\n\
+.nr *nokeep 0\n\
 .nr *box 0\n\
 .nr *edge 0\n\
 .nr *right 0\n\
@@ -192,8 +193,8 @@ static MACROS: [u8; 7104] = *b"\
 .if '\\\\$2'a' .nr *g -1\n\
 .if \\\\n(*g=0 .*mmax *w\\\\$1 \\\\n(*t\n\
 .if \\\\n(*g<0 .*mmax *a\\\\$1 \\\\n(*t\n\
-.if \\\\n(*g>0 .*mmax *l\\\\$1 \\\\n(*g\n\
-.if \\\\n(*g>0 .*mmax *q\\\\$1 \\\\n(*t-\\\\n(*g\n\
+.if \\\\n(*g>0 .*mmax *l\\\\$1 \\\\n(*g-1n\n\
+.if \\\\n(*g>0 .*mmax *q\\\\$1 \\\\n(*t-\\\\n(*g+1n\n\
 ..\n\
 .de *mmax\n\
 .if \\\\$2>\\\\n[\\\\$1] .nr \\\\$1 \\\\$2\n\

@@ -25,6 +25,7 @@ impl Half {
             Mode::Field => self.in_field(byte, full.row),
             Mode::Escaped => self.in_escaped(byte),
             Mode::Literal => self.in_literal(byte, full.row),
+            Mode::Comment => self.in_comment(byte),
             Mode::RowEnd => self.in_row_end(),
             Mode::Request => self.in_request(byte),
             Mode::Command => self.in_command(byte),

@@ -32,6 +32,8 @@ pub(crate) struct Options {
     pub point: u8,
     /// Blanks around fields don't count.
     pub nospaces: bool,
+    /// A table in a box may be cut by the end of a page.
+    pub nokeep: bool,
     /// A word was no option.
     pub unknown: bool,
 }
@@ -51,6 +53,8 @@ enum Choice {
     Point,
     /// `nospaces`
     NoSpaces,
+    /// `nokeep`
+    NoKeep,
     /// One without effect.
     Passed,
     /// None.
@@ -64,6 +68,8 @@ pub(crate) struct OptionsRead {
     pub options: Options,
     /// The word.
     pub word: Name,
+    /// A blank stands behind the word.
+    pub spaced: bool,
     /// Its argument is read.
     pub inside: bool,
     /// The first byte of its argument.
@@ -96,6 +102,9 @@ fn choice_of(word: Name) -> Choice
     if is_word(word, Name::of(b"nospaces")) {
         return Choice::NoSpaces;
     }
+    if is_word(word, Name::of(b"nokeep")) {
+        return Choice::NoKeep;
+    }
     frame_of(word)
 }
 
@@ -124,7 +133,6 @@ fn is_passed(word: Name) -> bool
 {
     is_word(word, Name::of(b"linesize"))
         || is_word(word, Name::of(b"delim"))
-        || is_word(word, Name::of(b"nokeep"))
         || is_word(word, Name::of(b"nowarn"))
 }
 
@@ -157,6 +165,7 @@ impl Options {
             tab: b'\t',
             point: b'.',
             nospaces: false,
+            nokeep: false,
             unknown: false,
         }
     }
@@ -173,6 +182,7 @@ impl Options {
             (Choice::Tab, Some(byte)) => options.tab = byte,
             (Choice::Point, Some(byte)) => options.point = byte,
             (Choice::NoSpaces, _) => options.nospaces = true,
+            (Choice::NoKeep, _) => options.nokeep = true,
             (Choice::Passed, _) => {}
             (Choice::Tab | Choice::Point | Choice::Unknown, _) => options.unknown = true,
         }
@@ -188,6 +198,7 @@ impl OptionsRead {
         OptionsRead {
             options: Options::new(),
             word: Name::new(),
+            spaced: false,
             inside: false,
             argument: None,
         }
@@ -206,11 +217,11 @@ impl OptionsRead {
         read
     }
 
-    /// A letter of a word.
+    /// A letter of a word: behind a blank it begins another.
     fn letter(self, byte: u8) -> OptionsRead
         ensures { result ≡ specs.letter byte self }
     {
-        let mut read = self;
+        let mut read = if self.spaced { self.ended() } else { self };
         if !read.word.is_full() {
             read.word.push(small(byte));
         }
@@ -242,11 +253,12 @@ impl OptionsRead {
         if is_letter(byte) {
             return self.letter(byte);
         }
-        if byte == b'(' {
-            let mut read = self;
-            read.inside = true;
-            return read;
+        let mut read = self;
+        match byte {
+            b'(' => read.inside = true,
+            b' ' | b'\t' => read.spaced = true,
+            _ => return self.ended(),
         }
-        self.ended()
+        read
     }
 }

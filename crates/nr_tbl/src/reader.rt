@@ -80,14 +80,14 @@ fn put_text(text: &[u8], out: &mut SliceVec<'_, u8>)
     out.push(b'\n');
 }
 
-/// Puts what stands before the place where a field is aligned.
+/// Puts what stands before the place where a field is aligned, behind a 0.
 fn put_front(text: &[u8], out: &mut SliceVec<'_, u8>)
     requires { length out.old.items + 32 + 2 * length text.now ≤ out.old.room }
     ensures items { out.new.items ≡ out.old.items ++ specs.front_bytes text.now }
     ensures few { length out.new.items ≤ length out.old.items + 32 + 2 * length text.now }
     ensures room { out.new.room ≡ out.old.room }
 {
-    out.extend(b".ds *u\\n(*r,\\n(*f \"");
+    out.extend(b".ds *u\\n(*r,\\n(*f \"0");
     put_doubled(text, out);
     out.push(b'\n');
 }

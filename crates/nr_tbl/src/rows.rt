@@ -171,12 +171,26 @@ impl Half {
         self.keeps(byte)
     }
 
-    /// A byte behind a backslash, which is kept first: a newline there vanishes with it.
+    /// A byte in a comment behind the last column: the row ends with its line.
+    pub(crate) fn in_comment(&mut self, byte: u8) -> Seen
+        ensures { met self.new result ≡ specs.in_comment byte self.old }
+    {
+        if byte == b'\n' {
+            return self.leaves(Mode::RowEnd, Act::Say(Said::Nothing));
+        }
+        self.takes(Mode::Comment, Act::Say(Said::Nothing))
+    }
+
+    /// A byte behind a backslash, which is kept first: a newline there vanishes with it, and a quote makes a
+    /// comment of a field beyond the columns.
     pub(crate) fn in_escaped(&mut self, byte: u8) -> Seen
         ensures { met self.new result ≡ specs.in_escaped byte self.old }
     {
         if byte == b'\n' {
             return self.takes(Mode::Field, Act::Say(Said::Nothing));
+        }
+        if byte == b'"' && self.is_beyond() && self.shape.is_empty() {
+            return self.takes(Mode::Comment, Act::Say(Said::Nothing));
         }
         let seen = self.keeps(b'\\');
         self.leaves(Mode::Literal, seen.act)

@@ -127,6 +127,8 @@ fn put_options(options: Options, out: &mut SliceVec<'_, u8>)
     out.push(switch_digit(options.center));
     out.extend(b"\n.nr *expand ");
     out.push(switch_digit(options.expand));
+    out.extend(b"\n.nr *nokeep ");
+    out.push(switch_digit(options.nokeep));
     out.extend(b"\n.nr *box ");
     out.extend(&[frame_digit(options.frame), b'\n']);
 }
