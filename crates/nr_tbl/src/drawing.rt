@@ -1,7 +1,7 @@
 //! The private macros that print a table: its rules, bars, rows and fields.
 
 /// The macros by which a table is drawn.
-pub(crate) static DRAWING: [u8; 5990] = *b"\
+pub(crate) static DRAWING: [u8; 6990] = *b"\
 .de *rule\n\
 .nr *height +1v\n\
 .am *rows *.\n\
@@ -82,11 +82,38 @@ pub(crate) static DRAWING: [u8; 5990] = *b"\
 .ie \\\\n(*t .nr *x \\\\n[*s\\\\n(*t]/2*24+\\\\n[*o\\\\n(*t]+\\\\n[*w\\\\n(*t]\n\
 .el .nr *x 0\n\
 ..\n\
+.de *need\n\
+.nr *S \\\\n[*#\\\\$1]\n\
+.if \\\\n[*~\\\\$1] .*together \\\\$1\n\
+.if !\\\\n(*S .if \\\\n[*^\\\\$1] .nr *S 1v\n\
+.if \\\\n(*S .if \\\\n(*P .nr *S +1v\n\
+.if \\\\n(*S .ne \\\\n(*Su+1v\n\
+..\n\
+.de *together\n\
+.nr *S 0\n\
+.nr *t \\\\n[*~\\\\$1]-\\\\$1+1\n\
+.*tally \\\\$1 \\\\n(*t\n\
+.if \\\\n[*?\\\\$1]>\\\\n(*S .nr *S \\\\n[*?\\\\$1]\n\
+.if \\\\n[*box]=2 .nr *S +(\\\\n[*~\\\\$1]-\\\\$1*1v)\n\
+.if \\\\n(*S>=\\\\n(.p .nr *S 0\n\
+..\n\
+.de *tally\n\
+.ie \\\\$2>1 .*tally2 \\\\$1 \\\\$2\n\
+.el .nr *S +(\\\\n[*#\\\\$1]+(\\\\n[*#\\\\$1]=0*1v))\n\
+..\n\
+.de *tally2\n\
+.nr *t \\\\$2/2\n\
+.*tally \\\\$1 \\\\n(*t\n\
+.nr *t \\\\$2/2+\\\\$1\n\
+.nr *g \\\\$2+1/2\n\
+.*tally \\\\n(*t \\\\n(*g\n\
+..\n\
 .de *print\n\
 .nr *r \\\\$1\n\
 .nr *k \\\\$2\n\
 .nr *F \\\\$3\n\
 .nr *f 0 1\n\
+.*need \\\\$1\n\
 .nr *now \\\\n(*r\n\
 .if \\\\n(*P .*draw \\\\n(*R \\\\n(*k\n\
 .nr *now 0\n\
@@ -100,6 +127,7 @@ pub(crate) static DRAWING: [u8; 5990] = *b"\
 .ds *o\n\
 .nr *was 0\n\
 .nr *waits 0\n\
+.if \\\\n[*^\\\\$1] .*by\\\\$1\n\
 .ds *h *pcell\n\
 .*all\n\
 .nr *is 0\n\
@@ -111,9 +139,13 @@ pub(crate) static DRAWING: [u8; 5990] = *b"\
 .el \\&\\\\*(*o\n\
 .if \\\\n[*waits] .nr *T\\\\n(*r \\\\n(.d-1v\n\
 .if \\\\n[*waits] .if \\\\n(*H .nr *T\\\\n(*r \\\\n(*M\n\
+.if \\\\n[*waits] .nr *%\\\\n(*r \\\\n%\n\
 .if \\\\n(*E .*extra\n\
-.*forget\n\
 .if \\\\n[*^\\\\$1] .*ends \\\\$1\n\
+.nr *r \\\\$1\n\
+.nr *k \\\\$2\n\
+.nr *F \\\\$3\n\
+.*forget\n\
 .if \\\\n[*box]=2 .nr *P 1\n\
 ..\n\
 .de *pbar\n\
@@ -172,12 +204,24 @@ pub(crate) static DRAWING: [u8; 5990] = *b"\
 .am *at\\\\n[*&\\\\n(*r,\\\\n(*f] *.\n\
 .*fall \\\\n(*r \\\\n(*f \\\\n(*k \\\\$1 \\\\$2 \\\\$3 \\\\n(*y \\\\n(*A\n\
 .*.\n\
+.if \\\\n(*y=5 .*reaching \\\\n[*&\\\\n(*r,\\\\n(*f] \\\\n[*h\\\\n(*r,\\\\n(*f]\n\
 .nr *y 9\n\
+..\n\
+.de *reaching\n\
+.am *by\\\\$1 *.\n\
+.*reach \\\\n(*r \\\\$2\n\
+.*.\n\
+..\n\
+.de *reach\n\
+.nr *t \\\\$2\n\
+.if \\\\n[*%\\\\$1]=\\\\n% .nr *t \\\\$2-\\\\n(.d+\\\\n[*T\\\\$1]\n\
+.if \\\\n(*t>1v .*mmax *H \\\\n(*t\n\
 ..\n\
 .de *ends\n\
 .nr *U \\\\n(.d\n\
 .*at\\\\$1\n\
 .rm *at\\\\$1\n\
+.rm *by\\\\$1\n\
 .sp |\\\\n(*Uu\n\
 ..\n\
 .de *fall\n\
@@ -188,9 +232,10 @@ pub(crate) static DRAWING: [u8; 5990] = *b"\
 .nr *H 1v\n\
 .if \\\\$7=5 .nr *H \\\\n[*h\\\\$1,\\\\$2]\n\
 .nr *M \\\\n[*T\\\\$1]\n\
-.if \\\\n(*M>\\\\n(*U .nr *M 0\n\
+.if !\\\\n[*%\\\\$1]=\\\\n% .nr *M \\\\n(*U-\\\\n(*H\n\
 .if !\\\\n[*-\\\\n(*k,\\\\$4] .nr *M \\\\n(*U-\\\\n(*M-\\\\n(*H/2/1v*1v+\\\\n(*M\n\
 .if \\\\n[*-\\\\n(*k,\\\\$4]=2 .nr *M \\\\n(*U-\\\\n(*H\n\
+.if \\\\n(*M<0 .nr *M 0\n\
 .ds *o\n\
 .nr *p 0\n\
 .nr *t \\w\\a\\\\*[*t\\\\n(*r,\\\\n(*f]\\a\n\
@@ -257,9 +302,8 @@ pub(crate) static DRAWING: [u8; 5990] = *b"\
 .in \\\\n(*Ou\n\
 ..\n\
 .de *tall\n\
-.ne \\\\n(*Hu\n\
-.mk *M\n\
 \\&\\\\*(*o\n\
+.nr *M \\\\n(.d-1v\n\
 .if \\\\n(*V .*barlines\n\
 .*put\n\
 .rm *put\n\
@@ -303,12 +347,17 @@ pub(crate) static DRAWING: [u8; 5990] = *b"\
 \\&\\\\*(*e\n\
 ..\n\
 .de *forget\n\
+.rr *#\\\\n(*r\n\
+.rr *^\\\\n(*r\n\
+.rr *~\\\\n(*r\n\
+.rr *?\\\\n(*r\n\
 .ds *h *drop\n\
 .*all\n\
 .nr *c \\\\n(*N+1\n\
 .*drop \\\\n(*c\n\
 ..\n\
 .de *drop\n\
+.rr *^\\\\n(*r,\\\\$1\n\
 .if \\\\$1<=\\\\n(*F .if !\\\\n[*&\\\\n(*r,\\\\$1] .*dropped \\\\n(*r,\\\\$1\n\
 ..\n\
 .de *dropped\n\

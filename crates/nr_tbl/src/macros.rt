@@ -7,7 +7,7 @@ use super::drawing::DRAWING;
 use nr_units::slice_vec::SliceVec;
 
 /// The macros by which a table is read, measured and ended.
-static MACROS: [u8; 7124] = *b"\
+static MACROS: [u8; 7230] = *b"\
 .de *.\n\
 ..\n\
 .de *begin\n\
@@ -166,6 +166,7 @@ static MACROS: [u8; 7124] = *b"\
 .de *down\n\
 .if \\\\n[*Y\\\\$1] \\{\\\n\
 .nr *&\\\\n[*Y\\\\$1],\\\\n[*Z\\\\$1] \\\\n(*r\n\
+.nr *~\\\\n[*Y\\\\$1] \\\\n(*r\n\
 .nr *^\\\\n(*r 1\n\
 .*under \\\\$1 \\\\n[*z\\\\$1]\n\
 .\\}\n\
@@ -285,10 +286,8 @@ a b ccc\n\
 .di\n\
 .nr *h\\\\$1,\\\\$3 \\\\n(dn\n\
 .nr *d\\\\$1,\\\\$3 \\\\n(dl\n\
-.nr *t \\\\n[*#\\\\$1]\n\
-.if !\\\\n(*t .nr *t 1v\n\
-.if \\\\n[*h\\\\$1,\\\\$3]>\\\\n(*t .nr *height +\\\\n[*h\\\\$1,\\\\$3]-\\\\n(*t\n\
-.if \\\\n[*h\\\\$1,\\\\$3]>\\\\n(*t .nr *#\\\\$1 \\\\n[*h\\\\$1,\\\\$3]\n\
+.ie \\\\n[*&\\\\$1,\\\\$3] .*mmax *?\\\\$1 \\\\n[*h\\\\$1,\\\\$3]\n\
+.el .*high \\\\$1 \\\\n[*h\\\\$1,\\\\$3]\n\
 .ll \\\\n(*Lu\n\
 .in \\\\n(*Iu\n\
 .rm *b\\\\$1,\\\\$3\n\
@@ -297,6 +296,13 @@ a b ccc\n\
 .if '\\\\*[*k\\\\$2,\\\\$4]'a' .nr *t +2n\n\
 .if \\\\$4=\\\\$5 .*mmax *w\\\\$4 \\\\n(*t\n\
 .if \\\\$4<\\\\$5 .*mspan \\\\$4 \\\\$5 \\\\n(*t\n\
+..\n\
+.de *high\n\
+.nr *t \\\\n[*#\\\\$1]\n\
+.if !\\\\n(*t .nr *t 1v\n\
+.if !\\\\n[*#\\\\$1] .nr *#\\\\$1 1v\n\
+.if \\\\$2>\\\\n(*t .nr *height +\\\\$2-\\\\n(*t\n\
+.if \\\\$2>\\\\n(*t .nr *#\\\\$1 \\\\$2\n\
 ..\n\
 .de *emax\n\
 .if \\\\n[*e\\\\$1] .if \\\\n[*w\\\\$1]>\\\\n(*S .nr *S \\\\n[*w\\\\$1]\n\
