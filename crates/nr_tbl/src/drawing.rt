@@ -1,7 +1,7 @@
 //! The private macros that print a table: its rules, bars, rows and fields.
 
 /// The macros by which a table is drawn.
-pub(crate) static DRAWING: [u8; 6990] = *b"\
+pub(crate) static DRAWING: [u8; 7012] = *b"\
 .de *rule\n\
 .nr *height +1v\n\
 .am *rows *.\n\
@@ -256,6 +256,7 @@ pub(crate) static DRAWING: [u8; 6990] = *b"\
 .if '\\\\$3'a' .ie \\\\$1<\\\\$2 .nr *X +1n\n\
 .el .if '\\\\$3'a' .nr *X +(\\\\n(*A-\\\\n[*a\\\\$1]/2/24*24)\n\
 .if '\\\\$3'n' .*pnumber \\\\$1 \\\\$2\n\
+.if \\\\n(*X<0 .nr *X 0\n\
 .*to \\\\n(*X\n\
 .if !'\\\\*[*f\\\\n(*k,\\\\$1]'' .as *o \"\\\\f\\\\*[*f\\\\n(*k,\\\\$1]\n\
 .as *o \"\\\\\\\\*[*t\\\\n(*r,\\\\n(*f]\n\

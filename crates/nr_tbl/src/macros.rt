@@ -7,7 +7,7 @@ use super::drawing::DRAWING;
 use nr_units::slice_vec::SliceVec;
 
 /// The macros by which a table is read, measured and ended.
-static MACROS: [u8; 7230] = *b"\
+static MACROS: [u8; 7247] = *b"\
 .de *.\n\
 ..\n\
 .de *begin\n\
@@ -144,7 +144,8 @@ static MACROS: [u8; 7230] = *b"\
 .ie '\\\\*[*k\\\\n(*k,\\\\$1]'^' .*down \\\\$1\n\
 .el .nr *Y\\\\$1 0\n\
 .if \\\\n[*n\\\\n(*k]>=\\\\$1 .if !'\\\\*[*k\\\\n(*k,\\\\$1]'s' .nr *t 1\n\
-.if \\\\n(*t .if \\\\n(*f<\\\\n(*F .*mfield \\\\$1 \\\\n[*j\\\\n(*k,\\\\$1]\n\
+.ie \\\\n(*f<\\\\n(*F .if \\\\n(*t .*mfield \\\\$1 \\\\n[*j\\\\n(*k,\\\\$1]\n\
+.el .nr *y\\\\$1 0\n\
 ..\n\
 .de *mfield\n\
 .nr *f +1\n\
