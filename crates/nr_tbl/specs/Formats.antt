@@ -72,27 +72,28 @@ line_begun f = record f { cells = 0; many = f.many || nat_le 256 f.lines; lines 
 abbrev pub is_bad : ℕ → Formats → Bool
 is_bad kind f = if kind == 115 then f.cells == 0 else if kind == 94 then f.lines == 1 else false
 
--- one column more, of at most 64: l where it can't be of its kind
-abbrev pub with_cell : ℕ → Bool → Formats → Formats
-with_cell kind bad f =
+-- one column more, of at most 64
+abbrev pub with_cell : ℕ → Formats → Formats
+with_cell kind f =
     let cells = one_more f.cells 64 in
     record f {
       many = f.many || nat_le 64 f.cells;
       cells = cells;
       columns = if nat_lt f.columns cells then cells else f.columns;
       numeric = f.numeric || (kind == 110);
-      bad = f.bad || bad;
       begun = true;
       bars = 0;
     }
 
-abbrev pub new_cell : ℕ → Bool → Formats → Formats → Told
-new_cell kind bad f g =
-    let kind = if bad then 108 else kind in
-    told (with_cell kind bad g) (record { ends = false; begins = not f.begun; call = Cell kind f.bars })
+abbrev pub cell_added : ℕ → Bool → Formats → Told
+cell_added kind begins f = told (with_cell kind f) (record { ends = false; begins = begins; call = Cell kind f.bars })
+
+-- one of l where it can't be of its kind
+abbrev pub kind_added : ℕ → Bool → Formats → Told
+kind_added kind begins f = if is_bad kind f then cell_added 108 begins (record f { bad = true }) else cell_added kind begins f
 
 abbrev pub cell : ℕ → Formats → Told
-cell kind f = let g = if f.begun then f else line_begun f in new_cell kind (is_bad kind g) f g
+cell kind f = if f.begun then kind_added kind false f else kind_added kind true (line_begun f)
 
 abbrev pub line_ends : Formats → Told
 line_ends f = if f.begun then told (record f { begun = false; bars = 0 }) (only (Bars f.bars)) else told f (only Nothing)

@@ -235,18 +235,11 @@ impl Formats {
         self.lines = one_more(self.lines, LINES);
     }
 
-    /// A column comes, of `l` where it can't be of its kind.
-    fn cell(&mut self, kind: u8) -> Called
-        ensures { specs.told self.new result ≡ specs.cell kind self.old }
+    /// A column is added, before which a line begins or not.
+    fn add_cell(&mut self, kind: u8, begins: bool) -> Called
+        ensures { specs.told self.new result ≡ specs.cell_added kind begins self.old }
     {
-        let begins = !self.begun;
         let bars = self.bars;
-        if begins {
-            self.line_begins();
-        }
-        let bad = self.is_bad(kind);
-        let kind = if bad { b'l' } else { kind };
-        self.bad = self.bad || bad;
         self.many = self.many || self.cells >= COLUMNS;
         self.cells = one_more(self.cells, COLUMNS);
         if self.columns < self.cells {
@@ -260,6 +253,28 @@ impl Formats {
             begins,
             call: Call::Cell(kind, bars),
         }
+    }
+
+    /// A column of this kind is added, or where it can't be of it one of `l`.
+    fn add_kind(&mut self, kind: u8, begins: bool) -> Called
+        ensures { specs.told self.new result ≡ specs.kind_added kind begins self.old }
+    {
+        if self.is_bad(kind) {
+            self.bad = true;
+            return self.add_cell(b'l', begins);
+        }
+        self.add_cell(kind, begins)
+    }
+
+    /// A column comes.
+    fn cell(&mut self, kind: u8) -> Called
+        ensures { specs.told self.new result ≡ specs.cell kind self.old }
+    {
+        if self.begun {
+            return self.add_kind(kind, false);
+        }
+        self.line_begins();
+        self.add_kind(kind, true)
     }
 
     /// A line ends, if one has begun.
