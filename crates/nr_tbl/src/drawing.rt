@@ -1,7 +1,7 @@
 //! The private macros that print a table: its rules, bars, rows and fields.
 
 /// The macros by which a table is drawn.
-pub(crate) static DRAWING: [u8; 7012] = *b"\
+pub(crate) static DRAWING: [u8; 7128] = *b"\
 .de *rule\n\
 .nr *height +1v\n\
 .am *rows *.\n\
@@ -99,7 +99,7 @@ pub(crate) static DRAWING: [u8; 7012] = *b"\
 ..\n\
 .de *tally\n\
 .ie \\\\$2>1 .*tally2 \\\\$1 \\\\$2\n\
-.el .nr *S +(\\\\n[*#\\\\$1]+(\\\\n[*#\\\\$1]=0*1v))\n\
+.el .if \\\\n[*^\\\\$1]<2 .nr *S +(\\\\n[*#\\\\$1]+(\\\\n[*#\\\\$1]=0*1v))\n\
 ..\n\
 .de *tally2\n\
 .nr *t \\\\$2/2\n\
@@ -113,21 +113,33 @@ pub(crate) static DRAWING: [u8; 7012] = *b"\
 .nr *k \\\\$2\n\
 .nr *F \\\\$3\n\
 .nr *f 0 1\n\
-.*need \\\\$1\n\
-.nr *now \\\\n(*r\n\
-.if \\\\n(*P .*draw \\\\n(*R \\\\n(*k\n\
-.nr *now 0\n\
-.nr *R \\\\n(*k\n\
+.if \\\\n[*^\\\\$1]<2 .*above\n\
 .if \\\\n(.u .nf\n\
 .if !\\\\n(.i=\\\\n(*O .in \\\\n(*Ou\n\
 .nr *H 0\n\
-.nr *B 0\n\
+.if \\\\n[*^\\\\$1] .*by\\\\$1\n\
+.nr *g \\\\n(*H\n\
+.if \\\\n[*^\\\\$1]<2 .nr *g 1\n\
+.if \\\\n(*g .*fields\n\
+.if \\\\n[*^\\\\$1] .*ends \\\\$1\n\
+.nr *r \\\\$1\n\
+.nr *k \\\\$2\n\
+.nr *F \\\\$3\n\
+.*forget\n\
+..\n\
+.de *above\n\
+.*need \\\\n(*r\n\
+.nr *now \\\\n(*r\n\
+.if \\\\n(*P .*draw \\\\n(*R \\\\n(*k\n\
+.nr *now 0\n\
+..\n\
+.de *fields\n\
+.nr *R \\\\n(*k\n\
 .nr *V 0\n\
 .nr *p 0\n\
 .ds *o\n\
 .nr *was 0\n\
 .nr *waits 0\n\
-.if \\\\n[*^\\\\$1] .*by\\\\$1\n\
 .ds *h *pcell\n\
 .*all\n\
 .nr *is 0\n\
@@ -141,11 +153,6 @@ pub(crate) static DRAWING: [u8; 7012] = *b"\
 .if \\\\n[*waits] .if \\\\n(*H .nr *T\\\\n(*r \\\\n(*M\n\
 .if \\\\n[*waits] .nr *%\\\\n(*r \\\\n%\n\
 .if \\\\n(*E .*extra\n\
-.if \\\\n[*^\\\\$1] .*ends \\\\$1\n\
-.nr *r \\\\$1\n\
-.nr *k \\\\$2\n\
-.nr *F \\\\$3\n\
-.*forget\n\
 .if \\\\n[*box]=2 .nr *P 1\n\
 ..\n\
 .de *pbar\n\
@@ -215,7 +222,7 @@ pub(crate) static DRAWING: [u8; 7012] = *b"\
 .de *reach\n\
 .nr *t \\\\$2\n\
 .if \\\\n[*%\\\\$1]=\\\\n% .nr *t \\\\$2-\\\\n(.d+\\\\n[*T\\\\$1]\n\
-.if \\\\n(*t>1v .*mmax *H \\\\n(*t\n\
+.if \\\\n(*t>0 .*mmax *H \\\\n(*t\n\
 ..\n\
 .de *ends\n\
 .nr *U \\\\n(.d\n\
@@ -290,7 +297,6 @@ pub(crate) static DRAWING: [u8; 7012] = *b"\
 .if '\\\\$2'c' .nr *X +(\\\\n(*A-\\\\n[*d\\\\n(*r,\\\\n(*f]/2/24*24)\n\
 .if '\\\\$2'a' .nr *X +1n\n\
 .nr *d\\\\n(*r,\\\\n(*f \\\\n(*X\n\
-.nr *B +1\n\
 .am *put *.\n\
 .*put1 \\\\n(*r \\\\n(*f \\\\n(*X\n\
 .*.\n\

@@ -7,7 +7,7 @@ use super::drawing::DRAWING;
 use nr_units::slice_vec::SliceVec;
 
 /// The macros by which a table is read, measured and ended.
-static MACROS: [u8; 7247] = *b"\
+static MACROS: [u8; 7461] = *b"\
 .de *.\n\
 ..\n\
 .de *begin\n\
@@ -128,15 +128,18 @@ static MACROS: [u8; 7247] = *b"\
 .*skip\n\
 .if \\\\n[*n\\\\n(*k]<\\\\n(*N .*fill\n\
 .nr *f 0 1\n\
+.nr *own 0\n\
 .ds *h *mcell\n\
 .*all\n\
+.if \\\\n(*f<\\\\n(*F .nr *own 1\n\
+.if \\\\n[*^\\\\n(*r] .if !\\\\n[*own] .nr *^\\\\n(*r 2\n\
 .am *rows *.\n\
 .*print \\\\n(*r \\\\n(*k \\\\n(*F\n\
 .*.\n\
+.if \\\\n[*^\\\\n(*r]<2 .nr *height +1v\n\
+.if \\\\n[*^\\\\n(*r]<2 .if \\\\n[*box]=2 .nr *height +1v\n\
 .nr *f 0 1\n\
 .nr *r +1\n\
-.nr *height +1v\n\
-.if \\\\n[*box]=2 .nr *height +1v\n\
 .if \\\\n(*k<\\\\n(*K .nr *k +1\n\
 ..\n\
 .de *mcell\n\
@@ -145,7 +148,11 @@ static MACROS: [u8; 7247] = *b"\
 .el .nr *Y\\\\$1 0\n\
 .if \\\\n[*n\\\\n(*k]>=\\\\$1 .if !'\\\\*[*k\\\\n(*k,\\\\$1]'s' .nr *t 1\n\
 .ie \\\\n(*f<\\\\n(*F .if \\\\n(*t .*mfield \\\\$1 \\\\n[*j\\\\n(*k,\\\\$1]\n\
-.el .nr *y\\\\$1 0\n\
+.el .*lack \\\\$1\n\
+..\n\
+.de *lack\n\
+.nr *y\\\\$1 0\n\
+.if \\\\n(*t .if !'\\\\*[*k\\\\n(*k,\\\\$1]'^' .nr *own 1\n\
 ..\n\
 .de *mfield\n\
 .nr *f +1\n\
@@ -159,6 +166,7 @@ static MACROS: [u8; 7247] = *b"\
 .if \\\\n(*y=5 .*later \\\\n(*r \\\\n(*k \\\\n(*f \\\\$1 \\\\$2\n\
 ..\n\
 .de *from\n\
+.nr *own 1\n\
 .nr *Y\\\\$1 \\\\n(*r\n\
 .nr *y\\\\$1 \\\\n(*r\n\
 .nr *Z\\\\$1 \\\\n(*f\n\
@@ -439,11 +447,11 @@ a b ccc\n\
 ..\n\
 ";
 
-/// Puts the macros behind what goes out: at most 14336 bytes.
+/// Puts the macros behind what goes out: at most 15296 bytes.
 pub(crate) fn put_macros(out: &mut SliceVec<'_, u8>)
-    requires { length out.old.items + 14336 ≤ out.old.room }
+    requires { length out.old.items + 15296 ≤ out.old.room }
     ensures items { out.new.items ≡ out.old.items ++ macros }
-    ensures few { length out.new.items ≤ length out.old.items + 14336 }
+    ensures few { length out.new.items ≤ length out.old.items + 15296 }
     ensures room { out.new.room ≡ out.old.room }
 {
     out.extend(&MACROS);
