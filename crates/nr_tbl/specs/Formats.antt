@@ -68,7 +68,7 @@ kind_of b =
 abbrev pub line_begun : Formats → Formats
 line_begun f = record f { cells = 0; many = f.many || nat_le 256 f.lines; lines = one_more f.lines 256 }
 
--- nothing stands before the next column, or above it, over which it could go on
+-- nothing stands before the next column, or above it, that could go on over it
 abbrev pub is_bad : ℕ → Formats → Bool
 is_bad kind f = if kind == 115 then f.cells == 0 else if kind == 94 then f.lines == 1 else false
 

@@ -5,7 +5,7 @@
 pub enum Kind {
     /// The table ends before its formats do: its text goes out as it stands.
     NoFormat,
-    /// A byte that is no part of a format: it is passed over.
+    /// A byte that is no part of a format: it is passed over. A column over which nothing can go on is read as `l`.
     BadFormat,
     /// An option that is none: it is passed over.
     UnknownOption,

@@ -54,7 +54,7 @@ pub(crate) struct Formats {
     pub lines: usize,
     /// A column has numbers.
     pub numeric: bool,
-    /// A byte was no part of a format.
+    /// A byte was no part of a format, or nothing can go on over a column.
     pub bad: bool,
     /// There are too many columns or lines.
     pub many: bool,
@@ -215,7 +215,7 @@ impl Formats {
         }
     }
 
-    /// Whether nothing stands before the next column, or above it, over which it could go on.
+    /// Whether nothing stands before the next column, or above it, that could go on over it.
     fn is_bad(&self, kind: u8) -> bool
         ensures { result ≡ specs.is_bad kind self.now }
     {
