@@ -1,7 +1,7 @@
 //! The private macros that print a table: its rules, bars, rows and fields.
 
 /// The macros by which a table is drawn.
-pub(crate) static DRAWING: [u8; 7128] = *b"\
+pub(crate) static DRAWING: [u8; 7434] = *b"\
 .de *rule\n\
 .nr *height +1v\n\
 .am *rows *.\n\
@@ -198,7 +198,6 @@ pub(crate) static DRAWING: [u8; 7128] = *b"\
 .nr *t \\w\\a\\\\*[*t\\\\n(*r,\\\\n(*f]\\a\n\
 .if !\\\\n(*t .if '\\\\$3'_' .nr *y 1\n\
 .if !\\\\n(*t .if '\\\\$3'=' .nr *y 1\n\
-.if '\\\\$3'^' .nr *y 9\n\
 .if \\\\n[*&\\\\n(*r,\\\\n(*f] .*wait \\\\$1 \\\\$2 \\\\$3\n\
 .if \\\\n(*y=0 .*ptext \\\\$1 \\\\$2 \\\\$3\n\
 .if \\\\n(*y=1 .*prule \\\\$1 \\\\$2\n\
@@ -339,19 +338,37 @@ pub(crate) static DRAWING: [u8; 7128] = *b"\
 .*lines \\\\n(*t\n\
 ..\n\
 .de *left\n\
-.nr *E 1\n\
-.nr *g \\\\n(*f\n\
 .ds *e\n\
-.ds *h *more\n\
-.*all\n\
-.nr *c \\\\n(*N+1\n\
+.nr *c \\\\n(*f+1\n\
 .*more \\\\n(*c\n\
 ..\n\
 .de *more\n\
-.if \\\\$1>\\\\n(*g .if \\\\$1<=\\\\n(*F .as *e \"\\\\\\\\*[*t\\\\n(*r,\\\\$1]\\0\n\
+.ie \\\\n[*y\\\\n(*r,\\\\$1]=5 .*loose \\\\n(*r,\\\\$1\n\
+.el .*spare \\\\$1\n\
+.nr *t \\\\$1+1\n\
+.if \\\\$1<\\\\n(*F .*more \\\\n(*t\n\
+..\n\
+.de *spare\n\
+.as *e \"\\\\\\\\*[*t\\\\n(*r,\\\\$1]\\0\n\
+.if \\\\n(*E-2*\\\\n(*E=0 .nr *E +1\n\
+..\n\
+.de *loose\n\
+.if \\\\n(*E<2 .nr *E +2\n\
+.am *rest *.\n\
+.*b\\\\$1\n\
+.br\n\
+.rm *b\\\\$1\n\
+.*.\n\
 ..\n\
 .de *extra\n\
-\\&\\\\*(*e\n\
+.if !\\\\n(*E=2 \\&\\\\*(*e\n\
+.if \\\\n(*E>1 .*rests\n\
+..\n\
+.de *rests\n\
+.fi\n\
+.*rest\n\
+.nf\n\
+.rm *rest\n\
 ..\n\
 .de *forget\n\
 .rr *#\\\\n(*r\n\
@@ -361,7 +378,12 @@ pub(crate) static DRAWING: [u8; 7128] = *b"\
 .ds *h *drop\n\
 .*all\n\
 .nr *c \\\\n(*N+1\n\
-.*drop \\\\n(*c\n\
+.if \\\\n(*N<\\\\n(*F .*drops \\\\n(*c\n\
+..\n\
+.de *drops\n\
+.*dropped \\\\n(*r,\\\\$1\n\
+.nr *t \\\\$1+1\n\
+.if \\\\$1<\\\\n(*F .*drops \\\\n(*t\n\
 ..\n\
 .de *drop\n\
 .rr *^\\\\n(*r,\\\\$1\n\

@@ -7,7 +7,7 @@ use super::drawing::DRAWING;
 use nr_units::slice_vec::SliceVec;
 
 /// The macros by which a table is read, measured and ended.
-static MACROS: [u8; 7461] = *b"\
+static MACROS: [u8; 7690] = *b"\
 .de *.\n\
 ..\n\
 .de *begin\n\
@@ -144,11 +144,17 @@ static MACROS: [u8; 7461] = *b"\
 ..\n\
 .de *mcell\n\
 .nr *t 0\n\
-.ie '\\\\*[*k\\\\n(*k,\\\\$1]'^' .*down \\\\$1\n\
+.nr *y 0\n\
+.if '\\\\*[*k\\\\n(*k,\\\\$1]'^' .if \\\\n(*f<\\\\n(*F .*ahead\n\
+.ie '\\\\*[*k\\\\n(*k,\\\\$1]'^' .if !\\\\n(*y .*down \\\\$1\n\
 .el .nr *Y\\\\$1 0\n\
 .if \\\\n[*n\\\\n(*k]>=\\\\$1 .if !'\\\\*[*k\\\\n(*k,\\\\$1]'s' .nr *t 1\n\
 .ie \\\\n(*f<\\\\n(*F .if \\\\n(*t .*mfield \\\\$1 \\\\n[*j\\\\n(*k,\\\\$1]\n\
 .el .*lack \\\\$1\n\
+..\n\
+.de *ahead\n\
+.nr *y \\\\n(*f+1\n\
+.nr *y \\w\\a\\\\*[*t\\\\n(*r,\\\\n(*y]\\a+(\\\\n[*y\\\\n(*r,\\\\n(*y]-3*\\\\n[*y\\\\n(*r,\\\\n(*y])\n\
 ..\n\
 .de *lack\n\
 .nr *y\\\\$1 0\n\
@@ -157,7 +163,7 @@ static MACROS: [u8; 7461] = *b"\
 .de *mfield\n\
 .nr *f +1\n\
 .nr *y \\\\n[*y\\\\n(*r,\\\\n(*f]\n\
-.if '\\\\*[*k\\\\n(*k,\\\\$1]'^' .nr *y 9\n\
+.if '\\\\*[*k\\\\n(*k,\\\\$1]'^' .if \\\\n(*y=0 .if !\\w\\a\\\\*[*t\\\\n(*r,\\\\n(*f]\\a .nr *y 9\n\
 .if \\\\n(*y=3 .nr *Y\\\\$1 \\\\n[*y\\\\$1]\n\
 .if \\\\n(*y=3 .*down \\\\$1\n\
 .if \\\\n(*y<3 .*from \\\\$1 \\\\$2\n\
