@@ -262,59 +262,68 @@ impl<'a> Reader<'a> {
         }
     }
 
-    /// What comes is met so many times at most.
-    fn hear_in(&mut self, coming: Coming, most: u8, out: &mut SliceVec<'_, u8>)
+    /// What comes is met so many times at most. Tells how many steps that took, as all below do.
+    fn hear_in(&mut self, coming: Coming, most: u8, out: &mut SliceVec<'_, u8>) -> u64
         requires { length out.old.items + most * specs.most self.old ≤ out.old.room }
         ensures page { self.new ≡ (specs.heard_in most coming self.old).page }
         ensures items { out.new.items ≡ out.old.items ++ (specs.heard_in most coming self.old).bytes }
+        ensures steps { result ≡ (specs.heard_in most coming self.old).steps }
         ensures few { length out.new.items ≤ length out.old.items + most * specs.most self.old }
+        ensures quick { result ≤ most }
         ensures room { out.new.room ≡ out.old.room }
     {
         if most == 0 {
-            return;
+            return 0;
         }
         let full = self.full();
         let seen = self.half.meet(coming, full);
         self.act(seen.act, out);
-        if !seen.takes {
-            self.hear_in(coming, most - 1, out);
+        if seen.takes {
+            return 1;
         }
+        1 + self.hear_in(coming, most - 1, out)
     }
 
     /// What comes is met until it is taken.
     #[tactic(auto, unfolding(crate::specs::Reading::heard))]
-    fn hear(&mut self, coming: Coming, out: &mut SliceVec<'_, u8>)
+    fn hear(&mut self, coming: Coming, out: &mut SliceVec<'_, u8>) -> u64
         requires { length out.old.items + 10 * specs.most self.old ≤ out.old.room }
         ensures page { self.new ≡ (specs.heard coming self.old).page }
         ensures items { out.new.items ≡ out.old.items ++ (specs.heard coming self.old).bytes }
+        ensures steps { result ≡ (specs.heard coming self.old).steps }
         ensures few { length out.new.items ≤ length out.old.items + 10 * specs.most self.old }
+        ensures quick { result ≤ 10 }
         ensures room { out.new.room ≡ out.old.room }
     {
-        self.hear_in(coming, MEETINGS, out);
+        self.hear_in(coming, MEETINGS, out)
     }
 
     /// A byte comes.
-    pub(crate) fn read(&mut self, byte: u8, out: &mut SliceVec<'_, u8>)
+    pub(crate) fn read(&mut self, byte: u8, out: &mut SliceVec<'_, u8>) -> u64
         requires { length out.old.items + 10 * specs.most self.old ≤ out.old.room }
         ensures page { self.new ≡ (specs.read byte self.old).page }
         ensures items { out.new.items ≡ out.old.items ++ (specs.read byte self.old).bytes }
+        ensures steps { result ≡ (specs.read byte self.old).steps }
         ensures few { length out.new.items ≤ length out.old.items + 10 * specs.most self.old }
+        ensures quick { result ≤ 10 }
         ensures room { out.new.room ≡ out.old.room }
     {
         self.half.complaint = None;
-        self.hear(Coming::Byte(byte), out);
+        self.hear(Coming::Byte(byte), out)
     }
 
     /// The end comes.
-    pub(crate) fn finish(&mut self, out: &mut SliceVec<'_, u8>)
+    pub(crate) fn finish(&mut self, out: &mut SliceVec<'_, u8>) -> u64
         requires { length out.old.items + 10 * specs.most self.old ≤ out.old.room }
         ensures page { self.new ≡ (specs.finished self.old).page }
         ensures items { out.new.items ≡ out.old.items ++ (specs.finished self.old).bytes }
+        ensures steps { result ≡ (specs.finished self.old).steps }
         ensures few { length out.new.items ≤ length out.old.items + 10 * specs.most self.old }
+        ensures quick { result ≤ 10 }
         ensures room { out.new.room ≡ out.old.room }
     {
         self.half.complaint = None;
-        self.hear(Coming::End, out);
+        self.hear(Coming::End, out)
     }
 
     /// What was found wrong at what came last.
@@ -331,7 +340,7 @@ impl<'a> Reader<'a> {
         matches!(self.half.mode, Mode::Passing) && self.half.complaint.is_none()
     }
 
-    /// How many of these bytes come first that go out as they are and change nothing.
+    /// How many of these bytes come first that go out as they are and change nothing, each in one step.
     pub(crate) fn plain_front(&self, bytes: &[u8]) -> usize
         ensures within { result ≤ length bytes.now }
         ensures plain { specs.IsPlainFront result bytes.now self.now }
