@@ -88,7 +88,8 @@ acted-most acts.GiveUp p = refl
 acted-most (acts.KeepField b) p = field_kept-most (is_full p.row) b p
 acted-most (acts.Field front solid) p = refl
 acted-most (acts.Replace said) p = refl
-acted-most acts.GiveUpRow p = refl
+acted-most (acts.EndRow said) p = refl
+acted-most (acts.GiveUpRow said) p = refl
 
 -- of all meetings
 met-most : (p : Page) (rest : Told) (takes : Bool) → most rest.page ≡ most p → most (if takes then told p [] 0 else rest).page ≡ most p

@@ -1,5 +1,5 @@
 -- A page is read byte by byte.
-use Rattle.std.specs.Prelude.{◌≡◌, ℕ, zero, suc, ◌+◌, ◌*◌, List, [], ◌∷◌, ◌++◌, length, take, Bool, true, false, not, ◌==◌, ◌&&◌, if◌then◌else◌, Option, None, Some}
+use Rattle.std.specs.Prelude.{◌≡◌, ℕ, zero, suc, ◌+◌, ◌-◌, ◌*◌, List, [], ◌∷◌, ◌++◌, length, take, drop, Bool, true, false, not, ◌==◌, ◌&&◌, if◌then◌else◌, Option, None, Some}
 use Rattle.nr_units.specs.Items.{Items}
 use Rattle.nr_tbl.specs.declared.complaint.Kind.{Kind}
 use Rattle.nr_tbl.specs.declared.complaint.Complaint.{Complaint}
@@ -24,15 +24,16 @@ use Rattle.nr_tbl.specs.Half.{first_half}
 use Rattle.nr_tbl.specs.Head.{with_options, with_formats}
 use Rattle.nr_tbl.specs.Meeting.{meet}
 
--- what is half read of a page, what is kept of options and formats, and what of a field
+-- what is half read of a page, what is kept of options and formats, and what of a row, in which a field begins at this place
 pub record Page : Type 0 where
   pub half : Half
   pub formats : Items ℕ
   pub row : Items ℕ
+  pub from : ℕ
 
 -- a page begins, and so many bytes of each are kept at most
 abbrev pub first_page : ℕ → ℕ → Page
-first_page formats row = record { half = first_half; formats = record { items = []; room = formats }; row = record { items = []; room = row } }
+first_page formats row = record { half = first_half; formats = record { items = []; room = formats }; row = record { items = []; room = row }; from = 0 }
 
 -- what goes out at most at once
 abbrev pub most : Page → ℕ
@@ -74,6 +75,18 @@ with_formats_kept items p = record p { formats = holding items p.formats }
 abbrev pub with_row : List ℕ → Page → Page
 with_row items p = record p { row = holding items p.row }
 
+-- what is kept of the field
+abbrev pub field_of : Page → List ℕ
+field_of p = drop p.from p.row.items
+
+-- it has ended
+abbrev pub field_ended : Page → Page
+field_ended p = record p { from = length p.row.items }
+
+-- nothing is kept of a row
+abbrev pub row_forgotten : Page → Page
+row_forgotten p = record p { row = holding [] p.row; from = 0 }
+
 abbrev pub with_half : Half → Page → Page
 with_half h p = record p { half = h }
 
@@ -90,7 +103,7 @@ format_kept b p = if is_full p.formats then p else with_formats_kept (p.formats.
 -- with its form and its places
 abbrev pub field_half : ℕ → Page → Half
 field_half b p = record p.half {
-  marks = marks_with b (length p.row.items) p.half.options.point p.half.marks;
+  marks = marks_with b (length p.row.items - p.from) p.half.options.point p.half.marks;
   shape = shape_with p.half.shape b;
 }
 
@@ -116,8 +129,8 @@ formats_told p =
 abbrev pub given_up : Page → Effect
 given_up p = effect (with_formats_kept [] p) (bytes_of says.GiveUp ++ p.formats.items)
 
-abbrev pub row_given_up : Page → Effect
-row_given_up p = effect (with_row [] p) (bytes_of says.GiveUpRow ++ p.row.items)
+abbrev pub row_given_up : Said → Page → Effect
+row_given_up said p = effect (row_forgotten p) (bytes_of says.GiveUpRow ++ field_of p ++ bytes_of said)
 
 -- the first bytes of a text
 abbrev pub front_of : List ℕ → Option ℕ → List ℕ
@@ -133,10 +146,13 @@ abbrev pub field_bytes : List ℕ → Option ℕ → List ℕ
 field_bytes text front = text_bytes text ++ front_said text front
 
 abbrev pub field_told : Option ℕ → Option ℕ → Page → Effect
-field_told front solid p = effect (with_row [] p) (field_bytes (front_of p.row.items solid) front)
+field_told front solid p = effect (field_ended p) (field_bytes (front_of (field_of p) solid) front)
 
 abbrev pub field_replaced : Said → Page → Effect
-field_replaced said p = effect (with_row [] p) (bytes_of said)
+field_replaced said p = effect (field_ended p) (bytes_of said)
+
+abbrev pub row_ended : Said → Page → Effect
+row_ended said p = effect (row_forgotten p) (bytes_of said)
 
 abbrev pub acted : Act → Page → Effect
 acted (acts.Say said) p = effect p (bytes_of said)
@@ -148,7 +164,8 @@ acted acts.GiveUp p = given_up p
 acted (acts.KeepField b) p = effect (field_kept b p) []
 acted (acts.Field front solid) p = field_told front solid p
 acted (acts.Replace said) p = field_replaced said p
-acted acts.GiveUpRow p = row_given_up p
+acted (acts.EndRow said) p = row_ended said p
+acted (acts.GiveUpRow said) p = row_given_up said p
 
 -- ---- what comes is met again until it is taken
 

@@ -70,15 +70,17 @@ pub(crate) enum Act {
     Forget,
     /// The table isn't set: what was kept of its formats goes out as it stands.
     GiveUp,
-    /// A byte of a field is kept.
+    /// A byte of a row is kept.
     KeepField(u8),
     /// The field goes out as text: the length of what stands before the place where it is aligned, and that
     /// without the blanks at its end, where these count.
     Field(Option<usize>, Option<usize>),
     /// This goes out in place of the field.
     Replace(Said),
-    /// The table isn't set further: what was kept of the field goes out as it stands.
-    GiveUpRow,
+    /// This goes out, and what was kept of the row is forgotten.
+    EndRow(Said),
+    /// The table isn't set further: what was kept of the field goes out as it stands, and this.
+    GiveUpRow(Said),
 }
 
 /// What comes.
@@ -95,7 +97,7 @@ pub(crate) enum Coming {
 pub(crate) struct Full {
     /// Of options and formats.
     pub formats: bool,
-    /// Of a field.
+    /// Of a row.
     pub row: bool,
 }
 

@@ -6,16 +6,19 @@ use super::complaint::Kind;
 use super::formats::{Formats, put_called};
 use super::half::{Act, Coming, Full, Half, Mode};
 use super::options::{Options, OptionsRead};
-use super::said::{Said, put_double, say};
+use super::said::{Said, put_call, put_double, say};
 use nr_units::slice_vec::SliceVec;
 use std::marker::Model;
 
-/// What is half read of a page, with what is kept of a table: its options and formats, and a field, as they stand.
+/// What is half read of a page, with what is kept of a table: its options and formats, and the fields of a row, as they
+/// stand.
 #[derive(Drop)]
 pub(crate) struct Reader<'a> {
     half: Half,
     formats: SliceVec<'a, u8>,
     row: SliceVec<'a, u8>,
+    /// The place in it where the field begins.
+    from: usize,
 }
 
 impl<'a> Model for Reader<'a> {
@@ -23,7 +26,7 @@ impl<'a> Model for Reader<'a> {
 
     ghost Value = { Page };
 
-    ghost view = { λ r. record { half = r.half; formats = r.formats; row = r.row } };
+    ghost view = { λ r. record { half = r.half; formats = r.formats; row = r.row; from = r.from } };
 }
 
 /// How often what comes is met at most.
@@ -126,6 +129,7 @@ impl<'a> Reader<'a> {
             half: Half::new(),
             formats: SliceVec::over(formats),
             row: SliceVec::over(row),
+            from: 0,
         }
     }
 
@@ -142,10 +146,10 @@ impl<'a> Reader<'a> {
     fn keep_field(&mut self, byte: u8)
         ensures { self.new ≡ specs.field_kept byte self.old }
     {
-        let place = self.row.len();
-        if place >= self.row.room() {
+        if self.row.is_full() {
             return;
         }
+        let place = self.row.len().saturating_sub(self.from);
         let point = self.half.options.point;
         self.half.marks = self.half.marks.with(byte, place, point);
         self.half.shape = self.half.shape.with(byte);
@@ -193,17 +197,51 @@ impl<'a> Reader<'a> {
         self.formats.clear();
     }
 
-    /// What was kept of a field goes out as it stands.
-    fn give_up_row(&mut self, out: &mut SliceVec<'_, u8>)
+    /// What is kept of the field.
+    fn field(&self) -> &[u8]
+        ensures value { result.now ≡ specs.field_of self.now }
+        ensures few { length result.now ≤ self.now.row.room }
+    {
+        let kept = self.row.as_slice();
+        if self.from < kept.len() {
+            &kept[self.from..]
+        } else {
+            b""
+        }
+    }
+
+    /// Nothing is kept of a row.
+    fn forget_row(&mut self)
+        ensures { self.new ≡ specs.row_forgotten self.old }
+    {
+        self.row.clear();
+        self.from = 0;
+    }
+
+    /// What was kept of a field goes out as it stands, and this.
+    fn give_up_row(&mut self, said: Said, out: &mut SliceVec<'_, u8>)
         requires { length out.old.items + specs.most self.old ≤ out.old.room }
-        ensures page { self.new ≡ (specs.row_given_up self.old).page }
-        ensures items { out.new.items ≡ out.old.items ++ (specs.row_given_up self.old).bytes }
+        ensures page { self.new ≡ (specs.row_given_up said self.old).page }
+        ensures items { out.new.items ≡ out.old.items ++ (specs.row_given_up said self.old).bytes }
         ensures few { length out.new.items ≤ length out.old.items + specs.most self.old }
         ensures room { out.new.room ≡ out.old.room }
     {
-        say(Said::GiveUpRow, out);
-        out.extend(self.row.as_slice());
-        self.row.clear();
+        put_call(Said::GiveUpRow, out);
+        out.extend(self.field());
+        say(said, out);
+        self.forget_row();
+    }
+
+    /// The row ends, and this goes out.
+    fn end_row(&mut self, said: Said, out: &mut SliceVec<'_, u8>)
+        requires { length out.old.items + specs.most self.old ≤ out.old.room }
+        ensures page { self.new ≡ (specs.row_ended said self.old).page }
+        ensures items { out.new.items ≡ out.old.items ++ (specs.row_ended said self.old).bytes }
+        ensures few { length out.new.items ≤ length out.old.items + specs.most self.old }
+        ensures room { out.new.room ≡ out.old.room }
+    {
+        say(said, out);
+        self.forget_row();
     }
 
     /// The field goes out as text.
@@ -214,8 +252,8 @@ impl<'a> Reader<'a> {
         ensures few { length out.new.items ≤ length out.old.items + specs.most self.old }
         ensures room { out.new.room ≡ out.old.room }
     {
-        put_field(front_of(self.row.as_slice(), solid), front, out);
-        self.row.clear();
+        put_field(front_of(self.field(), solid), front, out);
+        self.from = self.row.len();
     }
 
     /// This goes out in place of the field.
@@ -227,7 +265,7 @@ impl<'a> Reader<'a> {
         ensures room { out.new.room ≡ out.old.room }
     {
         say(said, out);
-        self.row.clear();
+        self.from = self.row.len();
     }
 
     /// What is done.
@@ -248,7 +286,8 @@ impl<'a> Reader<'a> {
             Act::KeepField(byte) => self.keep_field(byte),
             Act::Field(front, solid) => self.say_field(front, solid, out),
             Act::Replace(said) => self.replace_field(said, out),
-            Act::GiveUpRow => self.give_up_row(out),
+            Act::EndRow(said) => self.end_row(said, out),
+            Act::GiveUpRow(said) => self.give_up_row(said, out),
         }
     }
 
