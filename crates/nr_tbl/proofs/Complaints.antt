@@ -31,7 +31,7 @@ or-true : (x : Bool) → (x || true) ≡ true
 or-true true = refl
 or-true false = refl
 
-none_first : (n : ℕ) → take n [] ≡ [] {A = Complaint}
+none_first : (n : ℕ) → take {A = Complaint} n [] ≡ []
 none_first n = take_all n [] (omega arith)
 
 not_more : (room n : ℕ) → n ≤ room → nat_lt room n ≡ false
@@ -47,7 +47,7 @@ one_longer : (all : List Complaint) (c : Complaint) → length (all ++ c ∷ [])
 one_longer all c = length-append all (c ∷ [])
 
 pub Keeps-none : (kept : Items Complaint) → kept.items ≡ [] → Keeps [] kept false
-Keeps-none kept none = record { first = none ∙ sym (none_first kept.room); others = sym (not_more kept.room 0 (omega arith)) }
+Keeps-none kept empty = record { first = empty ∙ sym (none_first kept.room); others = sym (not_more kept.room 0 (omega arith)) }
 
 -- nothing was found
 pub Keeps-same : (all : List Complaint) (kept : Items Complaint) (missed : Bool) → Keeps all kept missed → Keeps (all ++ []) kept (missed || false)

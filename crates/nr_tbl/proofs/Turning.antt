@@ -1,5 +1,5 @@
 -- How a run goes on and ends.
-use Rattle.std.proofs.Common.{◌≡◌, ℕ, ◌+◌, ◌*◌, ◌≤◌, List, [], ◌∷◌, ◌++◌, length, take, drop, Bool, false, ◌||◌, Option, None, Some, Result, Ok, Err, OnOk, refl, sym, ◌∙◌, ap, subst, append_assoc, append-nil, arith, length-append, zero-add, inl, inr}
+use Rattle.std.proofs.Common.{◌≡◌, ℕ, ◌+◌, ◌*◌, ◌≤◌, List, [], ◌∷◌, ◌++◌, length, take, drop, Bool, false, ◌||◌, Option, None, Some, Result, Ok, Err, OnOk, refl, sym, ◌∙◌, ap, subst, append_assoc, append-nil, arith, length-append, zero-add, mul-add, mul-one, inl, inr}
 use Rattle.std.specs.Io.KnownBytes.{Appends}
 use Rattle.std.proofs.KnownBytes.{Appends-trans, Appends-nil}
 use Rattle.std.proofs.lemmas.List.{take-append-drop, take-take, length-take}
@@ -116,9 +116,9 @@ Took-byte a b byte r s pending left steps wrong gives reader out made complains 
 }
 
 -- behind nothing
-pub Took-after_none : (a b c : Option Supply) (r s : Page) (p q left : List ℕ) (n m j steps : ℕ) (wrong none : Option Kind)
-    → n ≡ 0 → Took a b r r p q n m none → Took b c r s q left j steps wrong → Took a c r s p left j steps wrong
-Took-after_none a b c r s p q left n m j steps wrong none zero f g =
+pub Took-after_none : (a b c : Option Supply) (r s : Page) (p q left : List ℕ) (n m j steps : ℕ) (wrong other : Option Kind)
+    → n ≡ 0 → Took a b r r p q n m other → Took b c r s q left j steps wrong → Took a c r s p left j steps wrong
+Took-after_none a b c r s p q left n m j steps wrong other zero f g =
     let nothing : f.bytes ≡ [] = no_bytes f.bytes (f.count ∙ zero) in
     let same : q ≡ p = f.out ∙ ap (λ (xs : List ℕ). p ++ (fed r xs).bytes) nothing ∙ append-nil p in
     let P : List ℕ → Type 0 = λ xs. Comes a xs b in
@@ -132,10 +132,10 @@ Took-after_none a b c r s p q left n m j steps wrong none zero f g =
       complains = g.complains;
     }
 
-pub Ended-after_none : (a b c : Option Supply) (r : Page) (p q left : List ℕ) (n m steps : ℕ) (wrong none : Option Kind)
-    → n ≡ 0 → Took a b r r p q n m none → Comes b [] c × Ends b c → left ≡ q ++ (finished r).bytes
+pub Ended-after_none : (a b c : Option Supply) (r : Page) (p q left : List ℕ) (n m steps : ℕ) (wrong other : Option Kind)
+    → n ≡ 0 → Took a b r r p q n m other → Comes b [] c × Ends b c → left ≡ q ++ (finished r).bytes
     → steps ≡ (finished r).steps → wrong ≡ (finished r).page.half.complaint → Ended a c r p left steps wrong
-Ended-after_none a b c r p q left n m steps wrong none zero f ended out made complains =
+Ended-after_none a b c r p q left n m steps wrong other zero f ended out made complains =
     let nothing : f.bytes ≡ [] = no_bytes f.bytes (f.count ∙ zero) in
     let same : q ≡ p = f.out ∙ ap (λ (xs : List ℕ). p ++ (fed r xs).bytes) nothing ∙ append-nil p in
     let P : List ℕ → Type 0 = λ xs. Comes a xs b in
@@ -151,7 +151,7 @@ Ended-after_none a b c r p q left n m steps wrong none zero f ended out made com
 -- ---- what is told
 
 Tells-first : (kept : Items Complaint) → kept.items ≡ [] → Tells (account 0 kept false) 0 []
-Tells-first kept none = record { made = refl; keeps = Keeps-none kept none }
+Tells-first kept empty = record { made = refl; keeps = Keeps-none kept empty }
 
 -- what note promises
 abbrev pub Notes : Option Kind → ℕ → Items Complaint → Items Complaint → Bool → Type 0
@@ -160,10 +160,10 @@ Notes wrong at old new no_room =
 
 -- ---- a run goes on
 
-pub Stands-first : (fl rl : ℕ) (a : Option Supply) (h : Option (List ℕ)) (p : List ℕ) (r : Page) (kept : Items Complaint) (steps : ℕ) (missed : Bool)
-    → r ≡ first_page fl rl → p ≡ [] → kept.items ≡ [] → steps ≡ 0 → missed ≡ false
-    → Stands fl rl a a h h p r 0 (account steps kept missed)
-Stands-first fl rl a h p r kept steps missed is none no zero false_so =
+pub Stands-first : (fl rl ll : ℕ) (a : Option Supply) (h : Option (List ℕ)) (p : List ℕ) (r : Page) (kept : Items Complaint) (steps : ℕ) (missed : Bool)
+    → r ≡ first_page fl rl ll → p ≡ [] → kept.items ≡ [] → steps ≡ 0 → missed ≡ false
+    → Stands fl rl ll a a h h p r 0 (account steps kept missed)
+Stands-first fl rl ll a h p r kept steps missed is none empty zero false_so =
     record {
       bytes = [];
       came = Comes-nil a;
@@ -173,7 +173,7 @@ Stands-first fl rl a h p r kept steps missed is none no zero false_so =
       went_out = Appends-nil h;
       all = none;
       few = omega arith;
-      tells = rw (zero, false_so) (Tells-first kept no);
+      tells = rw (zero, false_so) (Tells-first kept empty);
       quick = omega arith;
     }
 
@@ -184,13 +184,13 @@ grown xs ys zs n e l =
 both_few : (a b c size t n : ℕ) → c ≡ a + b → a ≤ size * t → b ≤ size * n → c ≤ size * (t + n)
 both_few a b c size t n e p q = let split : size * (t + n) ≡ size * t + size * n = mul-add size t n in omega arith
 
-pub Stands-took : (fl rl : ℕ) (a b c : Option Supply) (h k : Option (List ℕ)) (p left : List ℕ) (r s : Page) (t n i j : ℕ)
+pub Stands-took : (fl rl ll : ℕ) (a b c : Option Supply) (h k : Option (List ℕ)) (p left : List ℕ) (r s : Page) (t n i j : ℕ)
     (kept new : Items Complaint) (missed no_room : Bool) (wrong : Option Kind)
-    → Stands fl rl a b h k p r t (account i kept missed) → Took b c r s p left n j wrong
+    → Stands fl rl ll a b h k p r t (account i kept missed) → Took b c r s p left n j wrong
     → length left ≤ length p + pending_size fl rl * n → j ≤ 10 * n → Notes wrong (t + n) kept new no_room
-    → Stands fl rl a c h k left s (t + n) (account (i + j) new (missed || no_room))
-Stands-took fl rl a b c h k p left r s t n i j kept new missed no_room wrong st w l q notes =
-    let first = first_page fl rl in
+    → Stands fl rl ll a c h k left s (t + n) (account (i + j) new (missed || no_room))
+Stands-took fl rl ll a b c h k p left r s t n i j kept new missed no_room wrong st w l q notes =
+    let first = first_page fl rl ll in
     let before = fed first st.bytes in
     let here : fed before.page w.bytes ≡ fed r w.bytes = ap (λ (x : Page). fed x w.bytes) (sym st.page) in
     let more : (fed first (st.bytes ++ w.bytes)).bytes ≡ before.bytes ++ (fed r w.bytes).bytes =
@@ -198,11 +198,11 @@ Stands-took fl rl a b c h k p left r s t n i j kept new missed no_room wrong st 
     let few : length (fed r w.bytes).bytes ≤ pending_size fl rl * n = grown p (fed r w.bytes).bytes left (pending_size fl rl * n) w.out l in
     let count : length st.bytes ≡ t = st.count in
     let quick : i ≤ 10 * t = st.quick in
-    let wrong_with : complaints_before_end fl rl (st.bytes ++ w.bytes) ≡ complaints_before_end fl rl st.bytes ++ found wrong (t + n) =
+    let wrong_with : complaints_before_end fl rl ll (st.bytes ++ w.bytes) ≡ complaints_before_end fl rl ll st.bytes ++ found wrong (t + n) =
     complaints-append 0 first st.bytes w.bytes
-    ∙ ap (λ (x : Page). complaints_before_end fl rl st.bytes ++ complaints_from (0 + length st.bytes) x w.bytes) (sym st.page)
-    ∙ ap (λ (x : ℕ). complaints_before_end fl rl st.bytes ++ complaints_from x r w.bytes) (zero-add (length st.bytes) ∙ count)
-    ∙ ap (λ (xs : List Complaint). complaints_before_end fl rl st.bytes ++ xs) (w.complains t) in
+    ∙ ap (λ (x : Page). complaints_before_end fl rl ll st.bytes ++ complaints_from (0 + length st.bytes) x w.bytes) (sym st.page)
+    ∙ ap (λ (x : ℕ). complaints_before_end fl rl ll st.bytes ++ complaints_from x r w.bytes) (zero-add (length st.bytes) ∙ count)
+    ∙ ap (λ (xs : List Complaint). complaints_before_end fl rl ll st.bytes ++ xs) (w.complains t) in
     record {
       bytes = st.bytes ++ w.bytes;
       came = Comes-trans a b c st.bytes w.bytes st.came w.came;
@@ -218,14 +218,14 @@ Stands-took fl rl a b c h k p left r s t n i j kept new missed no_room wrong st 
           (ap length more ∙ length-append before.bytes (fed r w.bytes).bytes) st.few few;
       tells = record {
         made = both_made st.tells.made (w.made ∙ ap (λ (x : Told). x.steps) (sym here)) ∙ sym (fed-append_steps first st.bytes w.bytes);
-        keeps = rw wrong_with (notes (complaints_before_end fl rl st.bytes) missed st.tells.keeps);
+        keeps = rw wrong_with (notes (complaints_before_end fl rl ll st.bytes) missed st.tells.keeps);
       };
       quick = omega arith;
     }
 
-pub Stands-flushed : (fl rl : ℕ) (a b : Option Supply) (h k m : Option (List ℕ)) (p left : List ℕ) (r : Page) (t : ℕ) (x : Account)
-    → Stands fl rl a b h k p r t x → Flushes k m p left → Stands fl rl a b h m left r t x
-Stands-flushed fl rl a b h k m p left r t x st f = record {
+pub Stands-flushed : (fl rl ll : ℕ) (a b : Option Supply) (h k m : Option (List ℕ)) (p left : List ℕ) (r : Page) (t : ℕ) (x : Account)
+    → Stands fl rl ll a b h k p r t x → Flushes k m p left → Stands fl rl ll a b h m left r t x
+Stands-flushed fl rl ll a b h k m p left r t x st f = record {
   bytes = st.bytes;
   came = st.came;
   count = st.count;
@@ -251,51 +251,51 @@ Flushes-on (Err e) k m p left went none = tt
 
 -- ---- a run ends
 
-ended-all : (fl rl : ℕ) (sent p left bytes : List ℕ) (r : Page) → sent ++ p ≡ (fed (first_page fl rl) bytes).bytes
-    → r ≡ (fed (first_page fl rl) bytes).page → left ≡ p ++ (finished r).bytes → sent ++ left ≡ tables_set fl rl bytes
-ended-all fl rl sent p left bytes r all reader out =
+ended-all : (fl rl ll : ℕ) (sent p left bytes : List ℕ) (r : Page) → sent ++ p ≡ (fed (first_page fl rl ll) bytes).bytes
+    → r ≡ (fed (first_page fl rl ll) bytes).page → left ≡ p ++ (finished r).bytes → sent ++ left ≡ tables_set fl rl ll bytes
+ended-all fl rl ll sent p left bytes r all reader out =
     ap (λ (xs : List ℕ). sent ++ xs) out ∙ sym (append_assoc sent p ((finished r).bytes))
     ∙ ap (λ (xs : List ℕ). xs ++ (finished r).bytes) all
-    ∙ ap (λ (x : Page). (fed (first_page fl rl) bytes).bytes ++ (finished x).bytes) reader
+    ∙ ap (λ (x : Page). (fed (first_page fl rl ll) bytes).bytes ++ (finished x).bytes) reader
 
-ended-few : (fl rl : ℕ) (bytes p left : List ℕ) (r : Page) (t : ℕ) → length bytes ≡ t
-    → length (fed (first_page fl rl) bytes).bytes ≤ pending_size fl rl * t → r ≡ (fed (first_page fl rl) bytes).page
+ended-few : (fl rl ll : ℕ) (bytes p left : List ℕ) (r : Page) (t : ℕ) → length bytes ≡ t
+    → length (fed (first_page fl rl ll) bytes).bytes ≤ pending_size fl rl * t → r ≡ (fed (first_page fl rl ll) bytes).page
     → left ≡ p ++ (finished r).bytes → length left ≤ length p + pending_size fl rl
-    → length (tables_set fl rl bytes) ≤ pending_size fl rl * (length bytes + 1)
-ended-few fl rl bytes p left r t count few reader out l =
-    let after = fed (first_page fl rl) bytes in
+    → length (tables_set fl rl ll bytes) ≤ pending_size fl rl * (length bytes + 1)
+ended-few fl rl ll bytes p left r t count few reader out l =
+    let after = fed (first_page fl rl ll) bytes in
     let last = (finished r).bytes in
     let same : length (finished after.page).bytes ≡ length last = ap (λ (x : Page). length (finished x).bytes) (sym reader) in
-    let lengths : length (tables_set fl rl bytes) ≡ length after.bytes + length last =
+    let lengths : length (tables_set fl rl ll bytes) ≡ length after.bytes + length last =
     length-append after.bytes (finished after.page).bytes ∙ ap (λ (n : ℕ). length after.bytes + n) same in
     let rest : length last ≤ pending_size fl rl = grown p last left (pending_size fl rl) out l in
-    both_few (length after.bytes) (length last) (length (tables_set fl rl bytes)) (pending_size fl rl) (length bytes) 1
+    both_few (length after.bytes) (length last) (length (tables_set fl rl ll bytes)) (pending_size fl rl) (length bytes) 1
     lengths (rw count few) (rw (mul-one (pending_size fl rl)) rest)
 
 -- what is told with the end
-Tells-end : (fl rl : ℕ) (bytes p left : List ℕ) (b c : Option Supply) (r : Page) (t i j : ℕ)
+Tells-end : (fl rl ll : ℕ) (bytes p left : List ℕ) (b c : Option Supply) (r : Page) (t i j : ℕ)
     (kept new : Items Complaint) (missed no_room : Bool) (wrong : Option Kind)
-    → length bytes ≡ t → r ≡ (fed (first_page fl rl) bytes).page
-    → Tells (account i kept missed) (fed (first_page fl rl) bytes).steps (complaints_before_end fl rl bytes)
+    → length bytes ≡ t → r ≡ (fed (first_page fl rl ll) bytes).page
+    → Tells (account i kept missed) (fed (first_page fl rl ll) bytes).steps (complaints_before_end fl rl ll bytes)
     → Ended b c r p left j wrong → Notes wrong t kept new no_room
-    → Tells (account (i + j) new (missed || no_room)) (steps_of fl rl bytes) (complaints_of fl rl bytes)
-Tells-end fl rl bytes p left b c r t i j kept new missed no_room wrong count reader tells e notes =
-    let after = fed (first_page fl rl) bytes in
+    → Tells (account (i + j) new (missed || no_room)) (steps_of fl rl ll bytes) (complaints_of fl rl ll bytes)
+Tells-end fl rl ll bytes p left b c r t i j kept new missed no_room wrong count reader tells e notes =
+    let after = fed (first_page fl rl ll) bytes in
     let last : found wrong t ≡ found (finished after.page).page.half.complaint (length bytes) =
     ap (λ (k : Option Kind). found k t) (e.complains ∙ ap (λ (x : Page). (finished x).page.half.complaint) reader)
     ∙ ap (found (finished after.page).page.half.complaint) (sym count) in
     record {
       made = both_made tells.made (e.made ∙ ap (λ (x : Page). (finished x).steps) reader);
-      keeps = rw (← last) (notes (complaints_before_end fl rl bytes) missed tells.keeps);
+      keeps = rw (← last) (notes (complaints_before_end fl rl ll bytes) missed tells.keeps);
     }
 
-pub Ran-done : (fl rl : ℕ) (a b c : Option Supply) (h k m : Option (List ℕ)) (p left : List ℕ) (r : Page) (t i j : ℕ)
+pub Ran-done : (fl rl ll : ℕ) (a b c : Option Supply) (h k m : Option (List ℕ)) (p left : List ℕ) (r : Page) (t i j : ℕ)
     (kept new : Items Complaint) (missed no_room : Bool) (wrong : Option Kind)
-    → Stands fl rl a b h k p r t (account i kept missed) → Ended b c r p left j wrong
+    → Stands fl rl ll a b h k p r t (account i kept missed) → Ended b c r p left j wrong
     → length left ≤ length p + pending_size fl rl → j ≤ 10 → Notes wrong t kept new no_room
-    → (outcome : Outcome) → EndsAs Done outcome k m left → Ran fl rl a c h m (account (i + j) new (missed || no_room)) outcome
-Ran-done fl rl a b c h k m p left r t i j kept new missed no_room wrong st turn l q notes Done ends =
-    let all = ended-all fl rl st.sent p left st.bytes r st.all st.page turn.out in
+    → (outcome : Outcome) → EndsAs Done outcome k m left → Ran fl rl ll a c h m (account (i + j) new (missed || no_room)) outcome
+Ran-done fl rl ll a b c h k m p left r t i j kept new missed no_room wrong st turn l q notes Done ends =
+    let all = ended-all fl rl ll st.sent p left st.bytes r st.all st.page turn.out in
     let P : List ℕ → Type 0 = λ xs. Appends h m xs in
     let count : length st.bytes ≡ t = st.count in
     let quick : i ≤ 10 * t = st.quick in
@@ -304,14 +304,14 @@ Ran-done fl rl a b c h k m p left r t i j kept new missed no_room wrong st turn 
       came = Comes-then_nothing a b c st.bytes st.came turn.came;
       ends = Ends-after a b c st.bytes st.came turn.ends;
       went_out = subst P all (Appends-trans h k m st.sent left st.went_out ends.1);
-      few = ended-few fl rl st.bytes p left r t st.count st.few st.page turn.out l;
-      tells = Tells-end fl rl st.bytes p left b c r t i j kept new missed no_room wrong st.count st.page st.tells turn notes;
+      few = ended-few fl rl ll st.bytes p left r t st.count st.few st.page turn.out l;
+      tells = Tells-end fl rl ll st.bytes p left b c r t i j kept new missed no_room wrong st.count st.page st.tells turn notes;
       quick = omega arith;
     }
-Ran-done fl rl a b c h k m p left r t i j kept new missed no_room wrong st turn l q notes (ReadFault at) ends = absurd (let no : Done ≡ ReadFault at = ends.0 in cc)
-Ran-done fl rl a b c h k m p left r t i j kept new missed no_room wrong st turn l q notes TooLong ends = absurd (let no : Done ≡ TooLong = ends.0 in cc)
-Ran-done fl rl a b c h k m p left r t i j kept new missed no_room wrong st turn l q notes WriteFault ends =
-    let all = ended-all fl rl st.sent p left st.bytes r st.all st.page turn.out in
+Ran-done fl rl ll a b c h k m p left r t i j kept new missed no_room wrong st turn l q notes (ReadFault at) ends = absurd (let no : Done ≡ ReadFault at = ends.0 in cc)
+Ran-done fl rl ll a b c h k m p left r t i j kept new missed no_room wrong st turn l q notes TooLong ends = absurd (let no : Done ≡ TooLong = ends.0 in cc)
+Ran-done fl rl ll a b c h k m p left r t i j kept new missed no_room wrong st turn l q notes WriteFault ends =
+    let all = ended-all fl rl ll st.sent p left st.bytes r st.all st.page turn.out in
     let P : List ℕ → Type 0 = λ xs. AppendsFront h m xs in
     let count : length st.bytes ≡ t = st.count in
     let quick : i ≤ 10 * t = st.quick in
@@ -319,15 +319,15 @@ Ran-done fl rl a b c h k m p left r t i j kept new missed no_room wrong st turn 
       bytes = st.bytes;
       came = Comes-then_nothing a b c st.bytes st.came turn.came;
       went_out = subst P all (AppendsFront-after h k m st.sent left st.went_out ends);
-      tells = inr (Tells-end fl rl st.bytes p left b c r t i j kept new missed no_room wrong st.count st.page st.tells turn notes);
+      tells = inr (Tells-end fl rl ll st.bytes p left b c r t i j kept new missed no_room wrong st.count st.page st.tells turn notes);
       quick = omega arith;
     }
 
 -- what went out and what is pending, cut by a write fault
-Stands-broken : (fl rl : ℕ) (a b c : Option Supply) (h k m : Option (List ℕ)) (p : List ℕ) (r : Page) (t : ℕ) (x : Account)
-    → Stands fl rl a b h k p r t x → Comes b [] c → AppendsFront k m p → IsBroken fl rl a c h m x
-Stands-broken fl rl a b c h k m p r t x st came front =
-    let after = fed (first_page fl rl) st.bytes in
+Stands-broken : (fl rl ll : ℕ) (a b c : Option Supply) (h k m : Option (List ℕ)) (p : List ℕ) (r : Page) (t : ℕ) (x : Account)
+    → Stands fl rl ll a b h k p r t x → Comes b [] c → AppendsFront k m p → IsBroken fl rl ll a c h m x
+Stands-broken fl rl ll a b c h k m p r t x st came front =
+    let after = fed (first_page fl rl ll) st.bytes in
     let P : List ℕ → Type 0 = λ xs. AppendsFront h m xs in
     let count : length st.bytes ≡ t = st.count in
     let quick : x.steps ≤ 10 * t = st.quick in
@@ -340,9 +340,9 @@ Stands-broken fl rl a b c h k m p r t x st came front =
       quick = omega arith;
     }
 
-Stands-cut : (fl rl : ℕ) (a b c : Option Supply) (h k m : Option (List ℕ)) (p : List ℕ) (r : Page) (t : ℕ) (x : Account)
-    → Stands fl rl a b h k p r t x → Comes b [] c → Appends k m p → IsCut fl rl a c h m t x
-Stands-cut fl rl a b c h k m p r t x st came went =
+Stands-cut : (fl rl ll : ℕ) (a b c : Option Supply) (h k m : Option (List ℕ)) (p : List ℕ) (r : Page) (t : ℕ) (x : Account)
+    → Stands fl rl ll a b h k p r t x → Comes b [] c → Appends k m p → IsCut fl rl ll a c h m t x
+Stands-cut fl rl ll a b c h k m p r t x st came went =
     let P : List ℕ → Type 0 = λ xs. Appends h m xs in
     let count : length st.bytes ≡ t = st.count in
     let quick : x.steps ≤ 10 * t = st.quick in
@@ -355,35 +355,35 @@ Stands-cut fl rl a b c h k m p r t x st came went =
       quick = omega arith;
     }
 
-pub Ran-broken : (fl rl : ℕ) (a b : Option Supply) (h k m : Option (List ℕ)) (p : List ℕ) (r : Page) (t : ℕ) (x : Account)
-    → Stands fl rl a b h k p r t x → AppendsFront k m p → Ran fl rl a b h m x WriteFault
-Ran-broken fl rl a b h k m p r t x st front = Stands-broken fl rl a b b h k m p r t x st (Comes-nil b) front
+pub Ran-broken : (fl rl ll : ℕ) (a b : Option Supply) (h k m : Option (List ℕ)) (p : List ℕ) (r : Page) (t : ℕ) (x : Account)
+    → Stands fl rl ll a b h k p r t x → AppendsFront k m p → Ran fl rl ll a b h m x WriteFault
+Ran-broken fl rl ll a b h k m p r t x st front = Stands-broken fl rl ll a b b h k m p r t x st (Comes-nil b) front
 
-ran-fault : (fl rl : ℕ) (a b c : Option Supply) (h k m : Option (List ℕ)) (p : List ℕ) (r : Page) (t : ℕ) (x : Account)
-    → Stands fl rl a b h k p r t x → Comes b [] c
-    → (outcome : Outcome) → EndsAs (ReadFault t) outcome k m p → Ran fl rl a c h m x outcome
-ran-fault fl rl a b c h k m p r t x st came Done ends = absurd (let no : ReadFault t ≡ Done = ends.0 in cc)
-ran-fault fl rl a b c h k m p r t x st came (ReadFault at) ends =
-    let P : ℕ → Type 0 = λ n. IsCut fl rl a c h m n x in
+ran-fault : (fl rl ll : ℕ) (a b c : Option Supply) (h k m : Option (List ℕ)) (p : List ℕ) (r : Page) (t : ℕ) (x : Account)
+    → Stands fl rl ll a b h k p r t x → Comes b [] c
+    → (outcome : Outcome) → EndsAs (ReadFault t) outcome k m p → Ran fl rl ll a c h m x outcome
+ran-fault fl rl ll a b c h k m p r t x st came Done ends = absurd (let no : ReadFault t ≡ Done = ends.0 in cc)
+ran-fault fl rl ll a b c h k m p r t x st came (ReadFault at) ends =
+    let P : ℕ → Type 0 = λ n. IsCut fl rl ll a c h m n x in
     let same : ReadFault t ≡ ReadFault at = ends.0 in
     let n : t ≡ at = cc in
-    subst P n (Stands-cut fl rl a b c h k m p r t x st came ends.1)
-ran-fault fl rl a b c h k m p r t x st came TooLong ends = absurd (let no : ReadFault t ≡ TooLong = ends.0 in cc)
-ran-fault fl rl a b c h k m p r t x st came WriteFault ends = Stands-broken fl rl a b c h k m p r t x st came ends
+    subst P n (Stands-cut fl rl ll a b c h k m p r t x st came ends.1)
+ran-fault fl rl ll a b c h k m p r t x st came TooLong ends = absurd (let no : ReadFault t ≡ TooLong = ends.0 in cc)
+ran-fault fl rl ll a b c h k m p r t x st came WriteFault ends = Stands-broken fl rl ll a b c h k m p r t x st came ends
 
-pub Ran-fault : (fl rl : ℕ) (a b c : Option Supply) (h k m : Option (List ℕ)) (p left : List ℕ) (r : Page) (t : ℕ) (x : Account)
-    → Stands fl rl a b h k p r t x → Comes b [] c × (left ≡ p)
-    → (outcome : Outcome) → EndsAs (ReadFault t) outcome k m left → Ran fl rl a c h m x outcome
-Ran-fault fl rl a b c h k m p left r t x st turn outcome ends =
+pub Ran-fault : (fl rl ll : ℕ) (a b c : Option Supply) (h k m : Option (List ℕ)) (p left : List ℕ) (r : Page) (t : ℕ) (x : Account)
+    → Stands fl rl ll a b h k p r t x → Comes b [] c × (left ≡ p)
+    → (outcome : Outcome) → EndsAs (ReadFault t) outcome k m left → Ran fl rl ll a c h m x outcome
+Ran-fault fl rl ll a b c h k m p left r t x st turn outcome ends =
     let P : List ℕ → Type 0 = λ xs. EndsAs (ReadFault t) outcome k m xs in
-    ran-fault fl rl a b c h k m p r t x st turn.0 outcome (subst P turn.1 ends)
+    ran-fault fl rl ll a b c h k m p r t x st turn.0 outcome (subst P turn.1 ends)
 
-pub Ran-long : (fl rl : ℕ) (a b : Option Supply) (h k m : Option (List ℕ)) (p : List ℕ) (r : Page) (t : ℕ) (x : Account)
-    → t ≡ 1099511627776 → Stands fl rl a b h k p r t x
-    → (outcome : Outcome) → EndsAs TooLong outcome k m p → Ran fl rl a b h m x outcome
-Ran-long fl rl a b h k m p r t x n st Done ends = absurd (let no : TooLong ≡ Done = ends.0 in cc)
-Ran-long fl rl a b h k m p r t x n st (ReadFault at) ends = absurd (let no : TooLong ≡ ReadFault at = ends.0 in cc)
-Ran-long fl rl a b h k m p r t x n st TooLong ends =
-    let P : ℕ → Type 0 = λ i. IsCut fl rl a b h m i x in
-    subst P n (Stands-cut fl rl a b b h k m p r t x st (Comes-nil b) ends.1)
-Ran-long fl rl a b h k m p r t x n st WriteFault ends = Ran-broken fl rl a b h k m p r t x st ends
+pub Ran-long : (fl rl ll : ℕ) (a b : Option Supply) (h k m : Option (List ℕ)) (p : List ℕ) (r : Page) (t : ℕ) (x : Account)
+    → t ≡ 1099511627776 → Stands fl rl ll a b h k p r t x
+    → (outcome : Outcome) → EndsAs TooLong outcome k m p → Ran fl rl ll a b h m x outcome
+Ran-long fl rl ll a b h k m p r t x n st Done ends = absurd (let no : TooLong ≡ Done = ends.0 in cc)
+Ran-long fl rl ll a b h k m p r t x n st (ReadFault at) ends = absurd (let no : TooLong ≡ ReadFault at = ends.0 in cc)
+Ran-long fl rl ll a b h k m p r t x n st TooLong ends =
+    let P : ℕ → Type 0 = λ i. IsCut fl rl ll a b h m i x in
+    subst P n (Stands-cut fl rl ll a b b h k m p r t x st (Comes-nil b) ends.1)
+Ran-long fl rl ll a b h k m p r t x n st WriteFault ends = Ran-broken fl rl ll a b h k m p r t x st ends

@@ -1,7 +1,8 @@
 -- A page is read byte by byte.
-use Rattle.std.specs.Prelude.{◌≡◌, ℕ, zero, suc, ◌+◌, ◌-◌, ◌*◌, List, [], ◌∷◌, ◌++◌, length, take, drop, Bool, true, false, not, ◌==◌, ◌&&◌, if◌then◌else◌, Option, None, Some}
+use Rattle.std.specs.Prelude.{◌≡◌, ℕ, zero, suc, ◌+◌, ◌-◌, ◌*◌, List, [], ◌∷◌, ◌++◌, length, take, drop, Bool, true, false, not, ◌==◌, ◌&&◌, nat_lt, if◌then◌else◌, Option, None, Some}
 use Rattle.nr_units.specs.Items.{Items}
 use Rattle.nr_tbl.specs.declared.complaint.Kind.{Kind}
+use Rattle.nr_tbl.specs.declared.complaint.Kind.TheVariants.{TooWide}
 use Rattle.nr_tbl.specs.declared.complaint.Complaint.{Complaint}
 use Rattle.nr_tbl.specs.declared.half.Half.{Half}
 use Rattle.nr_tbl.specs.declared.half.Act.{Act}
@@ -20,7 +21,8 @@ use Rattle.nr_tbl.specs.Saying.{bytes_of}
 use Rattle.nr_tbl.specs.Formats.{read as format_read, called_bytes}
 use Rattle.nr_tbl.specs.Field.{shape_with}
 use Rattle.nr_tbl.specs.Numbers.{marks_with}
-use Rattle.nr_tbl.specs.Half.{first_half}
+use Rattle.nr_tbl.specs.Half.{first_half, complaining}
+use Rattle.nr_tbl.specs.Measure.{cells_of, passes, taken, told as told_of, with_formats as measured_formats}
 use Rattle.nr_tbl.specs.Head.{with_options, with_formats}
 use Rattle.nr_tbl.specs.Meeting.{meet}
 
@@ -31,9 +33,9 @@ pub record Page : Type 0 where
   pub row : Items ℕ
   pub from : ℕ
 
--- a page begins, and so many bytes of each are kept at most
-abbrev pub first_page : ℕ → ℕ → Page
-first_page formats row = record { half = first_half; formats = record { items = []; room = formats }; row = record { items = []; room = row }; from = 0 }
+-- a page begins; so many bytes of each are kept at most, and the line has so many cells
+abbrev pub first_page : ℕ → ℕ → ℕ → Page
+first_page formats row line = record { half = first_half line; formats = record { items = []; room = formats }; row = record { items = []; room = row }; from = 0 }
 
 -- what goes out at most at once
 abbrev pub most : Page → ℕ
@@ -118,12 +120,16 @@ options_told p =
     let o = options_of p.formats.items in
     effect (with_formats_kept [] (with_half (with_options o p.half) p)) (bytes_of (says.Options o))
 
+-- what they surely take of the line
+abbrev pub formats_measured : List ℕ → Half → Half
+formats_measured text h = record h { measure = measured_formats h.options.expand text h.measure }
+
 -- what was kept is formats, up to a newline behind it
 abbrev pub formats_told : Page → Effect
 formats_told p =
     let s = all_read p.formats.items p.half.formats in
     let t = format_read 10 s.formats in
-    effect (with_half (with_formats t.formats p.half) p) (s.bytes ++ called_bytes t.called)
+    effect (with_half (with_formats t.formats (formats_measured p.formats.items p.half)) p) (s.bytes ++ called_bytes t.called)
 
 -- what was kept goes out as it stands
 abbrev pub given_up : Page → Effect
@@ -145,8 +151,20 @@ front_said text (Some n) = front_bytes (take n text)
 abbrev pub field_bytes : List ℕ → Option ℕ → List ℕ
 field_bytes text front = text_bytes text ++ front_said text front
 
+-- a field of so many cells passes the end of the line, or is taken
+abbrev pub cells_taken : ℕ → Half → Half
+cells_taken cells h =
+    if passes h.measure.gap cells h.measure.left then complaining TooWide (record h { measure = told_of h.measure })
+    else record h { measure = taken h.measure.gap cells h.measure }
+
+-- one beyond the columns stands below its row
+abbrev pub field_taken : ℕ → Half → Half
+field_taken cells h = if nat_lt h.formats.columns h.fields then h else cells_taken cells h
+
 abbrev pub field_told : Option ℕ → Option ℕ → Page → Effect
-field_told front solid p = effect (field_ended p) (field_bytes (front_of (field_of p) solid) front)
+field_told front solid p =
+    let text = front_of (field_of p) solid in
+    effect (with_half (field_taken (cells_of text) p.half) (field_ended p)) (field_bytes text front)
 
 abbrev pub field_replaced : Said → Page → Effect
 field_replaced said p = effect (field_ended p) (bytes_of said)
@@ -232,25 +250,26 @@ pub record IsPlainFront (n : ℕ) (bytes : List ℕ) (p : Page) : Type 0 where
   pub told_so : fed p (take n bytes) ≡ told p (take n bytes) n
   pub well : (at : ℕ) → complaints_from at p (take n bytes) ≡ []
 
--- ---- the definition: what comes of all bytes of an input, where so many bytes of formats and of a field are kept
+-- ---- the definition: what comes of all bytes of an input, where so many bytes of formats and of a row are kept and the line has
+-- so many cells
 
-abbrev pub tables_set : ℕ → ℕ → List ℕ → List ℕ
-tables_set formats row input =
-    let t = fed (first_page formats row) input in
+abbrev pub tables_set : ℕ → ℕ → ℕ → List ℕ → List ℕ
+tables_set formats row line input =
+    let t = fed (first_page formats row line) input in
     t.bytes ++ (finished t.page).bytes
 
 -- in how many steps that comes
-abbrev pub steps_of : ℕ → ℕ → List ℕ → ℕ
-steps_of formats row input =
-    let t = fed (first_page formats row) input in
+abbrev pub steps_of : ℕ → ℕ → ℕ → List ℕ → ℕ
+steps_of formats row line input =
+    let t = fed (first_page formats row line) input in
     t.steps + (finished t.page).steps
 
 -- what is wrong with it, in the order of the input: of bytes, before the end
-abbrev pub complaints_before_end : ℕ → ℕ → List ℕ → List Complaint
-complaints_before_end formats row input = complaints_from 0 (first_page formats row) input
+abbrev pub complaints_before_end : ℕ → ℕ → ℕ → List ℕ → List Complaint
+complaints_before_end formats row line input = complaints_from 0 (first_page formats row line) input
 
 -- and with the end
-abbrev pub complaints_of : ℕ → ℕ → List ℕ → List Complaint
-complaints_of formats row input =
-    complaints_before_end formats row input
-    ++ found (finished (fed (first_page formats row) input).page).page.half.complaint (length input)
+abbrev pub complaints_of : ℕ → ℕ → ℕ → List ℕ → List Complaint
+complaints_of formats row line input =
+    complaints_before_end formats row line input
+    ++ found (finished (fed (first_page formats row line) input).page).page.half.complaint (length input)

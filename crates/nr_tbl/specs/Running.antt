@@ -99,53 +99,53 @@ is_fault turn = false
 -- ---- a run
 
 -- where a run stands that took these bytes: what they come to went out, or is pending
-pub record Stands (fl rl : ℕ) (first supply : Option Supply) (held new : Option (List ℕ)) (pending : List ℕ) (p : Page) (taken : ℕ) (a : Account) : Type 0 where
+pub record Stands (fl rl ll : ℕ) (first supply : Option Supply) (held new : Option (List ℕ)) (pending : List ℕ) (p : Page) (taken : ℕ) (a : Account) : Type 0 where
   pub bytes : List ℕ
   pub came : Comes first bytes supply
   pub count : length bytes ≡ taken
-  pub page : p ≡ (fed (first_page fl rl) bytes).page
+  pub page : p ≡ (fed (first_page fl rl ll) bytes).page
   pub sent : List ℕ
   pub went_out : Appends held new sent
-  pub all : sent ++ pending ≡ (fed (first_page fl rl) bytes).bytes
-  pub few : length (fed (first_page fl rl) bytes).bytes ≤ pending_size fl rl * taken
-  pub tells : Tells a (fed (first_page fl rl) bytes).steps (complaints_before_end fl rl bytes)
+  pub all : sent ++ pending ≡ (fed (first_page fl rl ll) bytes).bytes
+  pub few : length (fed (first_page fl rl ll) bytes).bytes ≤ pending_size fl rl * taken
+  pub tells : Tells a (fed (first_page fl rl ll) bytes).steps (complaints_before_end fl rl ll bytes)
   pub quick : a.steps ≤ 10 * taken
 
 -- All bytes came, and what they come to went out, so many bytes for each at most and as many more. That took so many steps, at
 -- most ten for each byte and ten for the end.
-pub record IsDone (fl rl : ℕ) (first last : Option Supply) (held new : Option (List ℕ)) (a : Account) : Type 0 where
+pub record IsDone (fl rl ll : ℕ) (first last : Option Supply) (held new : Option (List ℕ)) (a : Account) : Type 0 where
   pub bytes : List ℕ
   pub came : Comes first bytes last
   pub ends : Ends first last
-  pub went_out : Appends held new (tables_set fl rl bytes)
-  pub few : length (tables_set fl rl bytes) ≤ pending_size fl rl * (length bytes + 1)
-  pub tells : Tells a (steps_of fl rl bytes) (complaints_of fl rl bytes)
+  pub went_out : Appends held new (tables_set fl rl ll bytes)
+  pub few : length (tables_set fl rl ll bytes) ≤ pending_size fl rl * (length bytes + 1)
+  pub tells : Tells a (steps_of fl rl ll bytes) (complaints_of fl rl ll bytes)
   pub quick : a.steps ≤ 10 * (length bytes + 1)
 
 -- so many bytes came, and what they come to went out but for what is half read; what they tell is told
-pub record IsCut (fl rl : ℕ) (first last : Option Supply) (held new : Option (List ℕ)) (at : ℕ) (a : Account) : Type 0 where
+pub record IsCut (fl rl ll : ℕ) (first last : Option Supply) (held new : Option (List ℕ)) (at : ℕ) (a : Account) : Type 0 where
   pub bytes : List ℕ
   pub came : Comes first bytes last
   pub count : length bytes ≡ at
-  pub went_out : Appends held new (fed (first_page fl rl) bytes).bytes
-  pub tells : Tells a (fed (first_page fl rl) bytes).steps (complaints_before_end fl rl bytes)
+  pub went_out : Appends held new (fed (first_page fl rl ll) bytes).bytes
+  pub tells : Tells a (fed (first_page fl rl ll) bytes).steps (complaints_before_end fl rl ll bytes)
   pub quick : a.steps ≤ 10 * length bytes
 
 -- some bytes came, and a front of what they come to went out; what they tell is told, without the end or with it
-pub record IsBroken (fl rl : ℕ) (first last : Option Supply) (held new : Option (List ℕ)) (a : Account) : Type 0 where
+pub record IsBroken (fl rl ll : ℕ) (first last : Option Supply) (held new : Option (List ℕ)) (a : Account) : Type 0 where
   pub bytes : List ℕ
   pub came : Comes first bytes last
-  pub went_out : AppendsFront held new (tables_set fl rl bytes)
+  pub went_out : AppendsFront held new (tables_set fl rl ll bytes)
   pub tells :
-      Tells a (fed (first_page fl rl) bytes).steps (complaints_before_end fl rl bytes)
-      ⊎ Tells a (steps_of fl rl bytes) (complaints_of fl rl bytes)
+      Tells a (fed (first_page fl rl ll) bytes).steps (complaints_before_end fl rl ll bytes)
+      ⊎ Tells a (steps_of fl rl ll bytes) (complaints_of fl rl ll bytes)
   pub quick : a.steps ≤ 10 * (length bytes + 1)
 
-abbrev pub Ran : ℕ → ℕ → Option Supply → Option Supply → Option (List ℕ) → Option (List ℕ) → Account → Outcome → Type 0
-Ran fl rl first last held new a Done = IsDone fl rl first last held new a
-Ran fl rl first last held new a (ReadFault at) = IsCut fl rl first last held new at a
-Ran fl rl first last held new a TooLong = IsCut fl rl first last held new 1099511627776 a
-Ran fl rl first last held new a WriteFault = IsBroken fl rl first last held new a
+abbrev pub Ran : ℕ → ℕ → ℕ → Option Supply → Option Supply → Option (List ℕ) → Option (List ℕ) → Account → Outcome → Type 0
+Ran fl rl ll first last held new a Done = IsDone fl rl ll first last held new a
+Ran fl rl ll first last held new a (ReadFault at) = IsCut fl rl ll first last held new at a
+Ran fl rl ll first last held new a TooLong = IsCut fl rl ll first last held new 1099511627776 a
+Ran fl rl ll first last held new a WriteFault = IsBroken fl rl ll first last held new a
 
 abbrev pub is_read_fault : Outcome → Bool
 is_read_fault (ReadFault at) = true

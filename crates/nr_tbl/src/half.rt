@@ -6,6 +6,7 @@ use super::complaint::Kind;
 use super::field::Shape;
 use super::formats::Formats;
 use super::held::Held;
+use super::measure::Measure;
 use super::numbers::Marks;
 use super::options::Options;
 use super::said::Said;
@@ -133,6 +134,8 @@ pub(crate) struct Half {
     pub shape: Shape,
     /// Its places.
     pub marks: Marks,
+    /// What the table surely takes of the line.
+    pub measure: Measure,
     /// What was found wrong.
     pub complaint: Option<Kind>,
 }
@@ -172,9 +175,9 @@ impl Mode {
 }
 
 impl Half {
-    /// A page begins.
-    pub(crate) fn new() -> Half
-        ensures { result ≡ specs.first_half }
+    /// A page begins, and the line has so many cells.
+    pub(crate) fn new(line: usize) -> Half
+        ensures { result ≡ specs.first_half line }
     {
         Half {
             mode: Mode::Start(Held::Nothing),
@@ -187,6 +190,7 @@ impl Half {
             fields: 0,
             shape: Shape::Empty,
             marks: Marks::new(),
+            measure: Measure::new(line),
             complaint: None,
         }
     }

@@ -5,6 +5,7 @@ ghost use Rattle.nr_tbl.specs.Reading as specs;
 use super::complaint::Kind;
 use super::formats::{Formats, put_called};
 use super::half::{Act, Coming, Full, Half, Mode};
+use super::measure::cells_of;
 use super::options::{Options, OptionsRead};
 use super::said::{Said, put_call, put_double, say};
 use nr_units::slice_vec::SliceVec;
@@ -120,13 +121,30 @@ fn put_field(text: &[u8], front: Option<usize>, out: &mut SliceVec<'_, u8>)
     }
 }
 
+impl Half {
+    /// A field of so many cells passes the end of the line, or is taken. One beyond the columns stands below its row.
+    fn takes_field(&mut self, cells: usize)
+        ensures { self.new ≡ specs.field_taken cells self.old }
+    {
+        if self.fields > self.formats.columns {
+            return;
+        }
+        if self.measure.passes(cells) {
+            self.measure = self.measure.told();
+            self.complains(Kind::TooWide);
+        } else {
+            self.measure = self.measure.taken(cells);
+        }
+    }
+}
+
 impl<'a> Reader<'a> {
-    /// A page begins.
-    pub(crate) fn over(formats: &'a mut [u8], row: &'a mut [u8]) -> Reader<'a>
-        ensures { result ≡ specs.first_page (length formats.entry.now) (length row.entry.now) }
+    /// A page begins, and the line has so many cells.
+    pub(crate) fn over(formats: &'a mut [u8], row: &'a mut [u8], line: usize) -> Reader<'a>
+        ensures { result ≡ specs.first_page (length formats.entry.now) (length row.entry.now) line }
     {
         Reader {
-            half: Half::new(),
+            half: Half::new(line),
             formats: SliceVec::over(formats),
             row: SliceVec::over(row),
             from: 0,
@@ -178,6 +196,8 @@ impl<'a> Reader<'a> {
         ensures few { length out.new.items ≤ length out.old.items + specs.most self.old }
         ensures room { out.new.room ≡ out.old.room }
     {
+        let expand = self.half.options.expand;
+        self.half.measure = self.half.measure.with_formats(expand, self.formats.as_slice());
         let mut formats = read_formats(self.half.formats, self.formats.as_slice(), out);
         let called = formats.read(b'\n');
         put_called(called, out);
@@ -252,7 +272,10 @@ impl<'a> Reader<'a> {
         ensures few { length out.new.items ≤ length out.old.items + specs.most self.old }
         ensures room { out.new.room ≡ out.old.room }
     {
-        put_field(front_of(self.field(), solid), front, out);
+        let text = front_of(self.field(), solid);
+        put_field(text, front, out);
+        let cells = cells_of(text);
+        self.half.takes_field(cells);
         self.from = self.row.len();
     }
 

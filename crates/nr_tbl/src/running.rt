@@ -84,8 +84,7 @@ fn note(wrong: Option<Kind>, at: u64, complaints: &mut SliceVec<'_, Complaint>) 
     false
 }
 
-/// The least length of the slice for what goes out, where so many bytes of options and formats and of a field are
-/// kept.
+/// The least length of the slice for what goes out, where so many bytes of options and formats and of a row are kept.
 pub fn pending_size(formats: usize, row: usize) -> usize
     requires formats { formats ≤ 2 ^ 30 }
     requires row { row ≤ 2 ^ 30 }
@@ -209,13 +208,13 @@ fn run<R: Source, W: Sink>(
     complaints: &mut SliceVec<'_, Complaint>,
     tally: &mut Tally,
 ) -> Outcome
-    requires first { reader.old ≡ first_page reader.old.formats.room reader.old.row.room }
+    requires first { reader.old ≡ first_page reader.old.formats.room reader.old.row.room reader.old.half.measure.line }
     requires most { most ≡ 10 * most_of reader.old }
     requires room { most ≤ out.old.room }
     requires empty { out.old.items ≡ [] }
     requires none { complaints.old.items ≡ [] }
     requires begins { (tally.old.steps ≡ 0) × (tally.old.missed ≡ false) }
-    ensures ran { specs.Ran reader.old.formats.room reader.old.row.room (R.supply input.old) (R.supply input.new) (W.held output.old) (W.held output.new) (specs.account tally.new.steps complaints.new tally.new.missed) result }
+    ensures ran { specs.Ran reader.old.formats.room reader.old.row.room reader.old.half.measure.line (R.supply input.old) (R.supply input.new) (W.held output.old) (W.held output.new) (specs.account tally.new.steps complaints.new tally.new.missed) result }
     ensures read_faults { specs.TellsReads result (R.failures input.old) (R.failures input.new) }
     ensures write_faults { W.failures output.new ≡ put_counted_if (specs.is_write_fault result) (W.failures output.old) }
     ensures kept { complaints.new.room ≡ complaints.old.room }
@@ -248,8 +247,8 @@ fn run<R: Source, W: Sink>(
 /// Turns the tables of what the input gives into the language of the formatter, and puts it to the output, which is
 /// not flushed. Nothing is allocated.
 ///
-/// The lengths of `formats` and `row` are the limits on the bytes of a table's options and formats, and of a
-/// field. What the slices and `complaints` held is of no account.
+/// The lengths of `formats` and `row` are the limits on the bytes of a table's options and formats, and of the fields of
+/// a row. `line` is the line's length in cells, by which a table is told that is surely wider. What the slices and `complaints` held is of no account.
 ///
 /// What goes out is one function of the bytes that came, however they came. At a read fault, and where the
 /// input is too long, it is that of the bytes before, but for what is half read; at a write fault a front of it.
@@ -264,13 +263,14 @@ pub fn convert<R: Source, W: Sink>(
     output: &mut W,
     formats: &mut [u8],
     row: &mut [u8],
+    line: usize,
     complaints: &mut SliceVec<'_, Complaint>,
     pending: &mut [u8],
 ) -> Report
     requires formats { length formats.old ≤ 2 ^ 30 }
     requires row { length row.old ≤ 2 ^ 30 }
     requires pending { specs.pending_size (length formats.old) (length row.old) ≤ length pending.old }
-    ensures ran { specs.Ran (length formats.old) (length row.old) (R.supply input.old) (R.supply input.new) (W.held output.old) (W.held output.new) (specs.account result.steps complaints.new result.missed) result.outcome }
+    ensures ran { specs.Ran (length formats.old) (length row.old) line (R.supply input.old) (R.supply input.new) (W.held output.old) (W.held output.new) (specs.account result.steps complaints.new result.missed) result.outcome }
     // A read fault is told only where the source failed once, and then always, but where the output fails too.
     ensures read_faults { specs.TellsReads result.outcome (R.failures input.old) (R.failures input.new) }
     ensures write_faults { W.failures output.new ≡ put_counted_if (specs.is_write_fault result.outcome) (W.failures output.old) }
@@ -281,7 +281,7 @@ pub fn convert<R: Source, W: Sink>(
         steps: 0,
         missed: false,
     };
-    let mut reader = Reader::over(formats, row);
+    let mut reader = Reader::over(formats, row, line);
     let mut out = SliceVec::over(pending);
     complaints.clear();
     let outcome = run(

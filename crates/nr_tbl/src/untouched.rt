@@ -20,9 +20,9 @@ fn begins_table(bytes: &[u8]) -> bool
 /// makes of it, in two steps for each byte at most and one for the end, with nothing to complain of.
 pub fn passes_unchanged(text: &[u8]) -> bool
     ensures value { result ≡ is_untouched text.now }
-    ensures law { IsTrue result → (formats row : ℕ) → tables_set formats row text.now ≡ text.now }
-    ensures quick { IsTrue result → (formats row : ℕ) → steps_of formats row text.now ≤ 2 * length text.now + 1 }
-    ensures well { IsTrue result → (formats row : ℕ) → complaints_of formats row text.now ≡ [] }
+    ensures law { IsTrue result → (formats row line : ℕ) → tables_set formats row line text.now ≡ text.now }
+    ensures quick { IsTrue result → (formats row line : ℕ) → steps_of formats row line text.now ≤ 2 * length text.now + 1 }
+    ensures well { IsTrue result → (formats row line : ℕ) → complaints_of formats row line text.now ≡ [] }
 {
     let mut starts = true;
     for i in 0..text.len() {
