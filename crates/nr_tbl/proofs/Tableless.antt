@@ -28,7 +28,7 @@ or-second true y h = absurd (let no : true ≡ false = h in cc)
 
 -- a page outside of tables
 outside : ℕ → ℕ → ℕ → Mode → Page
-outside fl rl ll mode = record { half = record (first_half ll) { mode = mode }; formats = record { items = []; room = fl }; row = record { items = []; room = rl } }
+outside fl rl ll mode = record { half = record (first_half ll) { mode = mode }; formats = record { items = []; room = fl }; row = record { items = []; room = rl }; from = 0 }
 
 -- where it is behind a byte
 behind_byte : Bool → Mode

@@ -1,5 +1,5 @@
 -- How a run goes on and ends.
-use Rattle.std.proofs.Common.{◌≡◌, ℕ, ◌+◌, ◌*◌, ◌≤◌, List, [], ◌∷◌, ◌++◌, length, take, drop, Bool, false, ◌||◌, Option, None, Some, Result, Ok, Err, OnOk, refl, sym, ◌∙◌, ap, subst, append_assoc, append-nil, arith, length-append, zero-add, mul-add, mul-one, inl, inr}
+use Rattle.std.proofs.Common.{◌≡◌, ℕ, ◌+◌, ◌*◌, ◌≤◌, List, [], ◌∷◌, ◌++◌, length, take, drop, Bool, false, Option, None, Some, Result, Ok, Err, OnOk, refl, sym, ◌∙◌, ap, subst, append_assoc, append-nil, arith, length-append, zero-add, mul-add, mul-one, inl, inr}
 use Rattle.std.specs.Io.KnownBytes.{Appends}
 use Rattle.std.proofs.KnownBytes.{Appends-trans, Appends-nil}
 use Rattle.std.proofs.lemmas.List.{take-append-drop, take-take, length-take}
@@ -154,9 +154,9 @@ Tells-first : (kept : Items Complaint) → kept.items ≡ [] → Tells (account 
 Tells-first kept empty = record { made = refl; keeps = Keeps-none kept empty }
 
 -- what note promises
-abbrev pub Notes : Option Kind → ℕ → Items Complaint → Items Complaint → Bool → Type 0
-Notes wrong at old new no_room =
-    (all : List Complaint) → (missed : Bool) → Keeps all old missed → Keeps (all ++ found wrong at) new (missed || no_room)
+abbrev pub Notes : Option Kind → ℕ → Items Complaint → Items Complaint → Bool → Bool → Type 0
+Notes wrong at old new missed more =
+    (all : List Complaint) → Keeps all old missed → Keeps (all ++ found wrong at) new more
 
 -- ---- a run goes on
 
@@ -185,15 +185,15 @@ both_few : (a b c size t n : ℕ) → c ≡ a + b → a ≤ size * t → b ≤ s
 both_few a b c size t n e p q = let split : size * (t + n) ≡ size * t + size * n = mul-add size t n in omega arith
 
 pub Stands-took : (fl rl ll : ℕ) (a b c : Option Supply) (h k : Option (List ℕ)) (p left : List ℕ) (r s : Page) (t n i j : ℕ)
-    (kept new : Items Complaint) (missed no_room : Bool) (wrong : Option Kind)
+    (kept new : Items Complaint) (missed more : Bool) (wrong : Option Kind)
     → Stands fl rl ll a b h k p r t (account i kept missed) → Took b c r s p left n j wrong
-    → length left ≤ length p + pending_size fl rl * n → j ≤ 10 * n → Notes wrong (t + n) kept new no_room
-    → Stands fl rl ll a c h k left s (t + n) (account (i + j) new (missed || no_room))
-Stands-took fl rl ll a b c h k p left r s t n i j kept new missed no_room wrong st w l q notes =
+    → length left ≤ length p + pending_size fl rl * n → j ≤ 10 * n → Notes wrong (t + n) kept new missed more
+    → Stands fl rl ll a c h k left s (t + n) (account (i + j) new more)
+Stands-took fl rl ll a b c h k p left r s t n i j kept new missed more wrong st w l q notes =
     let first = first_page fl rl ll in
     let before = fed first st.bytes in
     let here : fed before.page w.bytes ≡ fed r w.bytes = ap (λ (x : Page). fed x w.bytes) (sym st.page) in
-    let more : (fed first (st.bytes ++ w.bytes)).bytes ≡ before.bytes ++ (fed r w.bytes).bytes =
+    let both : (fed first (st.bytes ++ w.bytes)).bytes ≡ before.bytes ++ (fed r w.bytes).bytes =
     fed-append_bytes first st.bytes w.bytes ∙ ap (λ (x : Told). before.bytes ++ x.bytes) here in
     let few : length (fed r w.bytes).bytes ≤ pending_size fl rl * n = grown p (fed r w.bytes).bytes left (pending_size fl rl * n) w.out l in
     let count : length st.bytes ≡ t = st.count in
@@ -213,12 +213,12 @@ Stands-took fl rl ll a b c h k p left r s t n i j kept new missed no_room wrong 
       went_out = st.went_out;
       all =
           ap (λ (xs : List ℕ). st.sent ++ xs) w.out ∙ sym (append_assoc st.sent p (fed r w.bytes).bytes)
-          ∙ ap (λ (xs : List ℕ). xs ++ (fed r w.bytes).bytes) st.all ∙ sym more;
+          ∙ ap (λ (xs : List ℕ). xs ++ (fed r w.bytes).bytes) st.all ∙ sym both;
       few = both_few (length before.bytes) (length (fed r w.bytes).bytes) (length (fed first (st.bytes ++ w.bytes)).bytes) (pending_size fl rl) t n
-          (ap length more ∙ length-append before.bytes (fed r w.bytes).bytes) st.few few;
+          (ap length both ∙ length-append before.bytes (fed r w.bytes).bytes) st.few few;
       tells = record {
         made = both_made st.tells.made (w.made ∙ ap (λ (x : Told). x.steps) (sym here)) ∙ sym (fed-append_steps first st.bytes w.bytes);
-        keeps = rw wrong_with (notes (complaints_before_end fl rl ll st.bytes) missed st.tells.keeps);
+        keeps = rw wrong_with (notes (complaints_before_end fl rl ll st.bytes) st.tells.keeps);
       };
       quick = omega arith;
     }
@@ -274,27 +274,27 @@ ended-few fl rl ll bytes p left r t count few reader out l =
 
 -- what is told with the end
 Tells-end : (fl rl ll : ℕ) (bytes p left : List ℕ) (b c : Option Supply) (r : Page) (t i j : ℕ)
-    (kept new : Items Complaint) (missed no_room : Bool) (wrong : Option Kind)
+    (kept new : Items Complaint) (missed more : Bool) (wrong : Option Kind)
     → length bytes ≡ t → r ≡ (fed (first_page fl rl ll) bytes).page
     → Tells (account i kept missed) (fed (first_page fl rl ll) bytes).steps (complaints_before_end fl rl ll bytes)
-    → Ended b c r p left j wrong → Notes wrong t kept new no_room
-    → Tells (account (i + j) new (missed || no_room)) (steps_of fl rl ll bytes) (complaints_of fl rl ll bytes)
-Tells-end fl rl ll bytes p left b c r t i j kept new missed no_room wrong count reader tells e notes =
+    → Ended b c r p left j wrong → Notes wrong t kept new missed more
+    → Tells (account (i + j) new more) (steps_of fl rl ll bytes) (complaints_of fl rl ll bytes)
+Tells-end fl rl ll bytes p left b c r t i j kept new missed more wrong count reader tells e notes =
     let after = fed (first_page fl rl ll) bytes in
     let last : found wrong t ≡ found (finished after.page).page.half.complaint (length bytes) =
     ap (λ (k : Option Kind). found k t) (e.complains ∙ ap (λ (x : Page). (finished x).page.half.complaint) reader)
     ∙ ap (found (finished after.page).page.half.complaint) (sym count) in
     record {
       made = both_made tells.made (e.made ∙ ap (λ (x : Page). (finished x).steps) reader);
-      keeps = rw (← last) (notes (complaints_before_end fl rl ll bytes) missed tells.keeps);
+      keeps = rw (← last) (notes (complaints_before_end fl rl ll bytes) tells.keeps);
     }
 
 pub Ran-done : (fl rl ll : ℕ) (a b c : Option Supply) (h k m : Option (List ℕ)) (p left : List ℕ) (r : Page) (t i j : ℕ)
-    (kept new : Items Complaint) (missed no_room : Bool) (wrong : Option Kind)
+    (kept new : Items Complaint) (missed more : Bool) (wrong : Option Kind)
     → Stands fl rl ll a b h k p r t (account i kept missed) → Ended b c r p left j wrong
-    → length left ≤ length p + pending_size fl rl → j ≤ 10 → Notes wrong t kept new no_room
-    → (outcome : Outcome) → EndsAs Done outcome k m left → Ran fl rl ll a c h m (account (i + j) new (missed || no_room)) outcome
-Ran-done fl rl ll a b c h k m p left r t i j kept new missed no_room wrong st turn l q notes Done ends =
+    → length left ≤ length p + pending_size fl rl → j ≤ 10 → Notes wrong t kept new missed more
+    → (outcome : Outcome) → EndsAs Done outcome k m left → Ran fl rl ll a c h m (account (i + j) new more) outcome
+Ran-done fl rl ll a b c h k m p left r t i j kept new missed more wrong st turn l q notes Done ends =
     let all = ended-all fl rl ll st.sent p left st.bytes r st.all st.page turn.out in
     let P : List ℕ → Type 0 = λ xs. Appends h m xs in
     let count : length st.bytes ≡ t = st.count in
@@ -305,12 +305,12 @@ Ran-done fl rl ll a b c h k m p left r t i j kept new missed no_room wrong st tu
       ends = Ends-after a b c st.bytes st.came turn.ends;
       went_out = subst P all (Appends-trans h k m st.sent left st.went_out ends.1);
       few = ended-few fl rl ll st.bytes p left r t st.count st.few st.page turn.out l;
-      tells = Tells-end fl rl ll st.bytes p left b c r t i j kept new missed no_room wrong st.count st.page st.tells turn notes;
+      tells = Tells-end fl rl ll st.bytes p left b c r t i j kept new missed more wrong st.count st.page st.tells turn notes;
       quick = omega arith;
     }
-Ran-done fl rl ll a b c h k m p left r t i j kept new missed no_room wrong st turn l q notes (ReadFault at) ends = absurd (let no : Done ≡ ReadFault at = ends.0 in cc)
-Ran-done fl rl ll a b c h k m p left r t i j kept new missed no_room wrong st turn l q notes TooLong ends = absurd (let no : Done ≡ TooLong = ends.0 in cc)
-Ran-done fl rl ll a b c h k m p left r t i j kept new missed no_room wrong st turn l q notes WriteFault ends =
+Ran-done fl rl ll a b c h k m p left r t i j kept new missed more wrong st turn l q notes (ReadFault at) ends = absurd (let no : Done ≡ ReadFault at = ends.0 in cc)
+Ran-done fl rl ll a b c h k m p left r t i j kept new missed more wrong st turn l q notes TooLong ends = absurd (let no : Done ≡ TooLong = ends.0 in cc)
+Ran-done fl rl ll a b c h k m p left r t i j kept new missed more wrong st turn l q notes WriteFault ends =
     let all = ended-all fl rl ll st.sent p left st.bytes r st.all st.page turn.out in
     let P : List ℕ → Type 0 = λ xs. AppendsFront h m xs in
     let count : length st.bytes ≡ t = st.count in
@@ -319,7 +319,7 @@ Ran-done fl rl ll a b c h k m p left r t i j kept new missed no_room wrong st tu
       bytes = st.bytes;
       came = Comes-then_nothing a b c st.bytes st.came turn.came;
       went_out = subst P all (AppendsFront-after h k m st.sent left st.went_out ends);
-      tells = inr (Tells-end fl rl ll st.bytes p left b c r t i j kept new missed no_room wrong st.count st.page st.tells turn notes);
+      tells = inr (Tells-end fl rl ll st.bytes p left b c r t i j kept new missed more wrong st.count st.page st.tells turn notes);
       quick = omega arith;
     }
 

@@ -95,9 +95,9 @@ abbrev pub with_row : Measure → Measure
 with_row m = record m { left = m.line }
 
 -- a field of so many cells has not so many left of the line
-abbrev pub passes : Option ℕ → ℕ → ℕ → Bool
-passes None cells left = false
-passes (Some gap) cells left = nat_lt left cells
+abbrev pub overruns : Option ℕ → ℕ → ℕ → Bool
+overruns None cells left = false
+overruns (Some gap) cells left = nat_lt left cells
 
 -- it was told: of this table nothing more is
 abbrev pub told : Measure → Measure

@@ -22,7 +22,7 @@ use Rattle.nr_tbl.specs.Formats.{read as format_read, called_bytes}
 use Rattle.nr_tbl.specs.Field.{shape_with}
 use Rattle.nr_tbl.specs.Numbers.{marks_with}
 use Rattle.nr_tbl.specs.Half.{first_half, complaining}
-use Rattle.nr_tbl.specs.Measure.{cells_of, passes, taken, told as told_of, with_formats as measured_formats}
+use Rattle.nr_tbl.specs.Measure.{cells_of, overruns, taken, told as told_of, with_formats as measured_formats}
 use Rattle.nr_tbl.specs.Head.{with_options, with_formats}
 use Rattle.nr_tbl.specs.Meeting.{meet}
 
@@ -154,7 +154,7 @@ field_bytes text front = text_bytes text ++ front_said text front
 -- a field of so many cells passes the end of the line, or is taken
 abbrev pub cells_taken : ℕ → Half → Half
 cells_taken cells h =
-    if passes h.measure.gap cells h.measure.left then complaining TooWide (record h { measure = told_of h.measure })
+    if overruns h.measure.gap cells h.measure.left then complaining TooWide (record h { measure = told_of h.measure })
     else record h { measure = taken h.measure.gap cells h.measure }
 
 -- one beyond the columns stands below its row

@@ -212,8 +212,8 @@ impl Measure {
     }
 
     /// Whether a field of so many cells passes the end of the line.
-    pub(crate) fn passes(self, cells: usize) -> bool
-        ensures { result ≡ specs.passes self.gap cells self.left }
+    pub(crate) fn overruns(self, cells: usize) -> bool
+        ensures { result ≡ specs.overruns self.gap cells self.left }
     {
         self.gap.is_some() && self.left < cells
     }

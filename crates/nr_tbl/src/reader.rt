@@ -129,7 +129,7 @@ impl Half {
         if self.fields > self.formats.columns {
             return;
         }
-        if self.measure.passes(cells) {
+        if self.measure.overruns(cells) {
             self.measure = self.measure.told();
             self.complains(Kind::TooWide);
         } else {
@@ -164,10 +164,11 @@ impl<'a> Reader<'a> {
     fn keep_field(&mut self, byte: u8)
         ensures { self.new ≡ specs.field_kept byte self.old }
     {
-        if self.row.is_full() {
+        let len = self.row.len();
+        if len >= self.row.room() {
             return;
         }
-        let place = self.row.len().saturating_sub(self.from);
+        let place = len.saturating_sub(self.from);
         let point = self.half.options.point;
         self.half.marks = self.half.marks.with(byte, place, point);
         self.half.shape = self.half.shape.with(byte);

@@ -1,5 +1,5 @@
 //! A whole page is turned.
-ghost use Rattle.std.specs.Prelude.{◌≡◌, ◌+◌, ◌*◌, ◌^◌, ◌<◌, ◌≤◌, List, [], ◌++◌, length, Bool, false, ◌||◌, None, OnOk};
+ghost use Rattle.std.specs.Prelude.{◌≡◌, ◌+◌, ◌*◌, ◌^◌, ◌<◌, ◌≤◌, List, [], ◌++◌, length, false, None, OnOk};
 ghost use Rattle.std.specs.Io.KnownBytes.{Appends};
 ghost use Rattle.nr_units.specs.Failures.{counted_if, put_counted, put_counted_if};
 ghost use Rattle.nr_tbl.specs.Reading.{first_page, found, most as most_of};
@@ -69,19 +69,25 @@ struct Tally {
     missed: bool,
 }
 
-/// Keeps what was found wrong behind so many bytes, if anything was. Tells whether there was no room for it.
-fn note(wrong: Option<Kind>, at: u64, complaints: &mut SliceVec<'_, Complaint>) -> bool
-    ensures notes { (all : List ComplaintValue) → (missed : Bool) → specs.Keeps all complaints.old missed → specs.Keeps (all ++ found wrong at) complaints.new (missed || result) }
+/// Keeps what was found wrong behind so many bytes, if anything was and there is room for it.
+fn note(
+    wrong: Option<Kind>,
+    at: u64,
+    complaints: &mut SliceVec<'_, Complaint>,
+    tally: &mut Tally,
+)
+    ensures notes { (all : List ComplaintValue) → specs.Keeps all complaints.old tally.old.missed → specs.Keeps (all ++ found wrong at) complaints.new tally.new.missed }
     ensures room { complaints.new.room ≡ complaints.old.room }
+    ensures steps { tally.new.steps ≡ tally.old.steps }
 {
     let Some(kind) = wrong else {
-        return false;
+        return;
     };
     if complaints.is_full() {
-        return true;
+        tally.missed = true;
+        return;
     }
     complaints.push(Complaint { kind, at });
-    false
 }
 
 /// The least length of the slice for what goes out, where so many bytes of options and formats and of a row are kept.
@@ -229,13 +235,11 @@ fn run<R: Source, W: Sink>(
             Turn::Took { bytes, steps, wrong } => {
                 taken += bytes;
                 tally.steps += steps;
-                let missed = note(wrong, taken, complaints);
-                tally.missed = tally.missed || missed;
+                note(wrong, taken, complaints, tally);
             }
             Turn::End { steps, wrong } => {
                 tally.steps += steps;
-                let missed = note(wrong, taken, complaints);
-                tally.missed = tally.missed || missed;
+                note(wrong, taken, complaints, tally);
                 return ended(out, output, Outcome::Done);
             }
             Turn::ReadFault => return ended(out, output, Outcome::ReadFault { at: taken }),
