@@ -188,8 +188,8 @@ pub Stands-took : (fl rl ll : ℕ) (a b c : Option Supply) (h k : Option (List �
     (kept new : Items Complaint) (missed more : Bool) (wrong : Option Kind)
     → Stands fl rl ll a b h k p r t (account i kept missed) → Took b c r s p left n j wrong
     → length left ≤ length p + pending_size fl rl * n → j ≤ 10 * n → Notes wrong (t + n) kept new missed more
-    → Stands fl rl ll a c h k left s (t + n) (account (i + j) new more)
-Stands-took fl rl ll a b c h k p left r s t n i j kept new missed more wrong st w l q notes =
+    → (steps : ℕ) → steps ≡ i + j → Stands fl rl ll a c h k left s (t + n) (account steps new more)
+Stands-took fl rl ll a b c h k p left r s t n i j kept new missed more wrong st w l q notes steps e =
     let first = first_page fl rl ll in
     let before = fed first st.bytes in
     let here : fed before.page w.bytes ≡ fed r w.bytes = ap (λ (x : Page). fed x w.bytes) (sym st.page) in
@@ -217,7 +217,7 @@ Stands-took fl rl ll a b c h k p left r s t n i j kept new missed more wrong st 
       few = both_few (length before.bytes) (length (fed r w.bytes).bytes) (length (fed first (st.bytes ++ w.bytes)).bytes) (pending_size fl rl) t n
           (ap length both ∙ length-append before.bytes (fed r w.bytes).bytes) st.few few;
       tells = record {
-        made = both_made st.tells.made (w.made ∙ ap (λ (x : Told). x.steps) (sym here)) ∙ sym (fed-append_steps first st.bytes w.bytes);
+        made = e ∙ both_made st.tells.made (w.made ∙ ap (λ (x : Told). x.steps) (sym here)) ∙ sym (fed-append_steps first st.bytes w.bytes);
         keeps = rw wrong_with (notes (complaints_before_end fl rl ll st.bytes) st.tells.keeps);
       };
       quick = omega arith;
@@ -278,14 +278,14 @@ Tells-end : (fl rl ll : ℕ) (bytes p left : List ℕ) (b c : Option Supply) (r 
     → length bytes ≡ t → r ≡ (fed (first_page fl rl ll) bytes).page
     → Tells (account i kept missed) (fed (first_page fl rl ll) bytes).steps (complaints_before_end fl rl ll bytes)
     → Ended b c r p left j wrong → Notes wrong t kept new missed more
-    → Tells (account (i + j) new more) (steps_of fl rl ll bytes) (complaints_of fl rl ll bytes)
-Tells-end fl rl ll bytes p left b c r t i j kept new missed more wrong count reader tells e notes =
+    → (steps : ℕ) → steps ≡ i + j → Tells (account steps new more) (steps_of fl rl ll bytes) (complaints_of fl rl ll bytes)
+Tells-end fl rl ll bytes p left b c r t i j kept new missed more wrong count reader tells last_turn notes steps e =
     let after = fed (first_page fl rl ll) bytes in
     let last : found wrong t ≡ found (finished after.page).page.half.complaint (length bytes) =
-    ap (λ (k : Option Kind). found k t) (e.complains ∙ ap (λ (x : Page). (finished x).page.half.complaint) reader)
+    ap (λ (k : Option Kind). found k t) (last_turn.complains ∙ ap (λ (x : Page). (finished x).page.half.complaint) reader)
     ∙ ap (found (finished after.page).page.half.complaint) (sym count) in
     record {
-      made = both_made tells.made (e.made ∙ ap (λ (x : Page). (finished x).steps) reader);
+      made = e ∙ both_made tells.made (last_turn.made ∙ ap (λ (x : Page). (finished x).steps) reader);
       keeps = rw (← last) (notes (complaints_before_end fl rl ll bytes) tells.keeps);
     }
 
@@ -293,8 +293,9 @@ pub Ran-done : (fl rl ll : ℕ) (a b c : Option Supply) (h k m : Option (List �
     (kept new : Items Complaint) (missed more : Bool) (wrong : Option Kind)
     → Stands fl rl ll a b h k p r t (account i kept missed) → Ended b c r p left j wrong
     → length left ≤ length p + pending_size fl rl → j ≤ 10 → Notes wrong t kept new missed more
-    → (outcome : Outcome) → EndsAs Done outcome k m left → Ran fl rl ll a c h m (account (i + j) new more) outcome
-Ran-done fl rl ll a b c h k m p left r t i j kept new missed more wrong st turn l q notes Done ends =
+    → (steps : ℕ) → steps ≡ i + j
+    → (outcome : Outcome) → EndsAs Done outcome k m left → Ran fl rl ll a c h m (account steps new more) outcome
+Ran-done fl rl ll a b c h k m p left r t i j kept new missed more wrong st turn l q notes steps e Done ends =
     let all = ended-all fl rl ll st.sent p left st.bytes r st.all st.page turn.out in
     let P : List ℕ → Type 0 = λ xs. Appends h m xs in
     let count : length st.bytes ≡ t = st.count in
@@ -305,12 +306,12 @@ Ran-done fl rl ll a b c h k m p left r t i j kept new missed more wrong st turn 
       ends = Ends-after a b c st.bytes st.came turn.ends;
       went_out = subst P all (Appends-trans h k m st.sent left st.went_out ends.1);
       few = ended-few fl rl ll st.bytes p left r t st.count st.few st.page turn.out l;
-      tells = Tells-end fl rl ll st.bytes p left b c r t i j kept new missed more wrong st.count st.page st.tells turn notes;
+      tells = Tells-end fl rl ll st.bytes p left b c r t i j kept new missed more wrong st.count st.page st.tells turn notes steps e;
       quick = omega arith;
     }
-Ran-done fl rl ll a b c h k m p left r t i j kept new missed more wrong st turn l q notes (ReadFault at) ends = absurd (let no : Done ≡ ReadFault at = ends.0 in cc)
-Ran-done fl rl ll a b c h k m p left r t i j kept new missed more wrong st turn l q notes TooLong ends = absurd (let no : Done ≡ TooLong = ends.0 in cc)
-Ran-done fl rl ll a b c h k m p left r t i j kept new missed more wrong st turn l q notes WriteFault ends =
+Ran-done fl rl ll a b c h k m p left r t i j kept new missed more wrong st turn l q notes steps e (ReadFault at) ends = absurd (let no : Done ≡ ReadFault at = ends.0 in cc)
+Ran-done fl rl ll a b c h k m p left r t i j kept new missed more wrong st turn l q notes steps e TooLong ends = absurd (let no : Done ≡ TooLong = ends.0 in cc)
+Ran-done fl rl ll a b c h k m p left r t i j kept new missed more wrong st turn l q notes steps e WriteFault ends =
     let all = ended-all fl rl ll st.sent p left st.bytes r st.all st.page turn.out in
     let P : List ℕ → Type 0 = λ xs. AppendsFront h m xs in
     let count : length st.bytes ≡ t = st.count in
@@ -319,7 +320,7 @@ Ran-done fl rl ll a b c h k m p left r t i j kept new missed more wrong st turn 
       bytes = st.bytes;
       came = Comes-then_nothing a b c st.bytes st.came turn.came;
       went_out = subst P all (AppendsFront-after h k m st.sent left st.went_out ends);
-      tells = inr (Tells-end fl rl ll st.bytes p left b c r t i j kept new missed more wrong st.count st.page st.tells turn notes);
+      tells = inr (Tells-end fl rl ll st.bytes p left b c r t i j kept new missed more wrong st.count st.page st.tells turn notes steps e);
       quick = omega arith;
     }
 

@@ -43,14 +43,14 @@ loop-taken-preserved g c =
       stands = Stands-took f w l a b (g.R.Source.supply c.make_turn.new.input) h m c.make_room.new.out.items c.make_turn.new.out.items
           c.loop-taken.reader c.make_turn.new.reader c.loop-taken.taken c.in-Took.bytes c.loop-taken.tally.steps c.in-Took.steps
           c.loop-taken.complaints c.note.new.complaints c.loop-taken.tally.missed c.note.new.tally.missed c.in-Took.wrong
-          flushed c.in-Took.ensures.turns grown c.in-Took.ensures.measured.3 c.note.ensures.notes;
+          flushed c.in-Took.ensures.turns grown c.in-Took.ensures.measured.3 c.note.ensures.notes c.note.new.tally.steps c.note.ensures.steps;
       source = c.in-Took.ensures.failures ∙ c.loop-taken.invariant.source;
       sink = c.in-Ok.ensures.failures ∙ c.loop-taken.invariant.sink;
       rooms = c.make_turn.ensures.rooms ∙ c.loop-taken.invariant.rooms;
       room = c.make_turn.ensures.room ∙ c.make_room.ensures.room ∙ c.loop-taken.invariant.room;
       kept = c.note.ensures.room ∙ c.loop-taken.invariant.kept;
       taken = (let few = c.in-Took.ensures.measured.1 in omega (arith, few));
-      steps = (let quick = c.in-Took.ensures.measured.3 in let before = c.loop-taken.invariant.steps in omega (arith, quick, before));
+      steps = (let quick = c.in-Took.ensures.measured.3 in let before = c.loop-taken.invariant.steps in let made = c.note.ensures.steps in omega (arith, quick, before, made));
     }
 
 pub returns-in-End-clause-ran : goal.returns-in-End-clause-ran
@@ -72,7 +72,7 @@ returns-in-End-clause-ran g c =
     Ran-done f w l a b (g.R.Source.supply c.make_turn.new.input) h m (g.W.Sink.held c.ended.new.output) c.make_room.new.out.items c.make_turn.new.out.items
     c.loop-taken.reader c.loop-taken.taken c.loop-taken.tally.steps c.in-End.steps
     c.loop-taken.complaints c.note-in-End.new.complaints c.loop-taken.tally.missed c.note-in-End.new.tally.missed c.in-End.wrong
-    flushed c.in-End.ensures.turns grown c.in-End.ensures.measured.1 c.note-in-End.ensures.notes c.ended.result c.ended.ensures.ends
+    flushed c.in-End.ensures.turns grown c.in-End.ensures.measured.1 c.note-in-End.ensures.notes c.note-in-End.new.tally.steps c.note-in-End.ensures.steps c.ended.result c.ended.ensures.ends
 
 pub returns-in-ReadFault-clause-ran : goal.returns-in-ReadFault-clause-ran
 returns-in-ReadFault-clause-ran g c =
