@@ -1,9 +1,8 @@
 -- What is wrong with bytes in two parts, and what is kept of it.
-use Rattle.std.proofs.Common.{◌≡◌, ℕ, suc, ◌+◌, ◌≤◌, ◌<◌, List, [], ◌∷◌, ◌++◌, length, take, Bool, true, false, ◌||◌, nat_lt, Option, None, Some, refl, sym, ◌∙◌, ap, append-nil, append_assoc, add-zero, length-append, min, arith}
+use Rattle.std.proofs.Common.{◌≡◌, ℕ, suc, ◌+◌, ◌≤◌, List, [], ◌∷◌, ◌++◌, length, take, false, nat_lt, sym, ◌∙◌, ap, append_assoc, add-zero, arith}
 use Rattle.std.proofs.lemmas.Bool.Decides.{nat_tests}
-use Rattle.std.proofs.lemmas.List.{take_all, take-append-le, length-take}
+use Rattle.std.proofs.lemmas.List.{take_all}
 use Rattle.nr_units.specs.Items.{Items}
-use Rattle.nr_tbl.specs.declared.complaint.Kind.{Kind}
 use Rattle.nr_tbl.specs.declared.complaint.Complaint.{Complaint}
 use Rattle.nr_tbl.specs.Reading.{Page, read, fed, found, complaints_from}
 use Rattle.nr_tbl.specs.Running.{Keeps}
@@ -26,5 +25,8 @@ complaints-append at p (x ∷ xs) ys =
 none_first : (n : ℕ) → take {A = Complaint} n [] ≡ []
 none_first n = take_all n [] (omega arith)
 
-not_pub Keeps-none : (kept : Items Complaint) → kept.items ≡ [] → Keeps [] kept false
+not_more : (room n : ℕ) → n ≤ room → nat_lt room n ≡ false
+not_more room n l = grind (arith, nat_tests)
+
+pub Keeps-none : (kept : Items Complaint) → kept.items ≡ [] → Keeps [] kept false
 Keeps-none kept empty = record { first = empty ∙ sym (none_first kept.room); others = sym (not_more kept.room 0 (omega arith)) }

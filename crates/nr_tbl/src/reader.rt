@@ -198,7 +198,10 @@ impl<'a> Reader<'a> {
         ensures room { out.new.room ≡ out.old.room }
     {
         let expand = self.half.options.expand;
-        self.half.measure = self.half.measure.with_formats(expand, self.formats.as_slice());
+        self.half.measure = self
+            .half
+            .measure
+            .with_formats(expand, self.formats.as_slice());
         let mut formats = read_formats(self.half.formats, self.formats.as_slice(), out);
         let called = formats.read(b'\n');
         put_called(called, out);

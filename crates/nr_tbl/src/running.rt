@@ -55,7 +55,10 @@ enum Turn {
         wrong: Option<Kind>,
     },
     /// The input has ended, in so many steps, and this was found wrong.
-    End { steps: u64, wrong: Option<Kind> },
+    End {
+        steps: u64,
+        wrong: Option<Kind>,
+    },
     /// The input failed.
     ReadFault,
 }
@@ -70,12 +73,7 @@ struct Tally {
 }
 
 /// Keeps what was found wrong behind so many bytes, if anything was and there is room for it.
-fn note(
-    wrong: Option<Kind>,
-    at: u64,
-    complaints: &mut SliceVec<'_, Complaint>,
-    tally: &mut Tally,
-)
+fn note(wrong: Option<Kind>, at: u64, complaints: &mut SliceVec<'_, Complaint>, tally: &mut Tally)
     ensures notes { (all : List ComplaintValue) → specs.Keeps all complaints.old tally.old.missed → specs.Keeps (all ++ found wrong at) complaints.new tally.new.missed }
     ensures room { complaints.new.room ≡ complaints.old.room }
     ensures steps { tally.new.steps ≡ tally.old.steps }
@@ -232,7 +230,11 @@ fn run<R: Source, W: Sink>(
             Err(Fault) => return Outcome::WriteFault,
         }
         match make_turn(reader, input, out, TOO_MANY - taken) {
-            Turn::Took { bytes, steps, wrong } => {
+            Turn::Took {
+                bytes,
+                steps,
+                wrong,
+            } => {
                 taken += bytes;
                 tally.steps += steps;
                 note(wrong, taken, complaints, tally);

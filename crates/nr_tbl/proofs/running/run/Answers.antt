@@ -1,5 +1,5 @@
 use Rattle.std.proofs.Common.{◌≡◌, ℕ, ◌+◌, ◌*◌, ◌≤◌, length, ◌∙◌, refl, ap, subst, arith}
-use Rattle.nr_tbl.specs.Reading.{Page, most, first_page}
+use Rattle.nr_tbl.specs.Reading.{most}
 use Rattle.nr_tbl.specs.Running.{account, pending_size}
 use Rattle.nr_tbl.proofs.Turning.{Stands-first, Stands-flushed, Stands-took, Ran-broken, Ran-done, Ran-fault, Ran-long}
 use Rattle.nr_tbl.proofs.running.run.Goals as goal

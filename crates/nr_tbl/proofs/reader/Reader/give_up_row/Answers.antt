@@ -1,7 +1,6 @@
 use Rattle.std.proofs.Common.{List, ℕ, ◌++◌, ◌∙◌, ap}
 use Rattle.nr_tbl.specs.declared.said.Said.TheVariants as says
 use Rattle.nr_tbl.specs.Saying.{bytes_of}
-use Rattle.nr_tbl.specs.Reading.{Page, field_of}
 use Rattle.nr_tbl.proofs.Putting.{both-behind}
 use Rattle.nr_tbl.proofs.reader.Reader.give_up_row.Goals as goal
 
