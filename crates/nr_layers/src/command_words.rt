@@ -1,6 +1,7 @@
 // Words of every length, words that are no UTF-8, and none.
-use super::{SystemWords, words_of};
-use crate::fakes::System;
+
+use nr_command_line::fakes::System;
+use nr_command_line::{SystemWords, words_of};
 use std::alloc::{AllocError, Global};
 
 /// The words of a system behind its program's name.

@@ -1,9 +1,11 @@
 // Whole runs over words, and over texts in memory.
-use super::{run_program, run_words};
-use crate::memory::{Heap, Memory, counted};
-use crate::opening::Opener;
-use nr_command_line::fakes::{Closing, Page, System, Typed};
+ghost use Rattle.std.specs.Prelude.{◌≡◌};
+ghost use Rattle.nr_units.specs.Failures.{counted as counted_value};
+
+use nr_command::{Heap, Memory, Opener, run_words};
+use nr_command_line::fakes::Page;
 use nr_engine::{Buffered, Desk, Limits, ToWriter};
+use nr_units::source::next_count;
 use nr_words::{Input, MacroFile};
 use std::alloc::{AllocError, Global};
 use std::cell::Cell;
@@ -72,6 +74,17 @@ impl Scarce {
         self.before = self.before.wrapping_sub(1);
         refused
     }
+}
+
+/// What was taken, and one refusal more where it was refused.
+fn counted<T>(refusals: &mut u64, taken: Result<T, AllocError>) -> Result<T, AllocError>
+    ensures same { result ≡ taken }
+    ensures refusals { refusals.new ≡ counted_value refusals.old taken }
+{
+    if taken.is_err() {
+        *refusals = next_count(*refusals);
+    }
+    taken
 }
 
 impl Memory for Scarce {
@@ -332,123 +345,4 @@ fn tells_memory_that_is_refused(rt: HostRuntime) {
     let ran = run(rt.alloc(), &mut memory, &["one", "two"]);
     assert_eq!(rt; ran.status, 0);
     assert!(rt; ran.output.as_slice() == b"one two\n".as_slice());
-}
-
-/// A run in a system: its words, standard input, what it prints, its status and its line.
-struct SystemRow {
-    words: &'static [&'static [u8]],
-    input: &'static [u8],
-    output: &'static [u8],
-    status: u8,
-    line: &'static [u8],
-}
-
-static SYSTEM_ROWS: [SystemRow; 7] = [
-    SystemRow {
-        words: &[b"nroff"],
-        input: b".pl 2\n.ll 8\na bb ccc dddd\n",
-        output: b"a bb ccc\ndddd\n",
-        status: 0,
-        line: b"",
-    },
-    // Macro files come first, in the folder that was given last, then the files, and then standard input,
-    // which was read before. No text ends with a newline.
-    SystemRow {
-        words: &[
-            b"nroff",
-            b"-mpage",
-            b"-Mnowhere",
-            b"-Mlib",
-            b"-mline",
-            b"-i",
-            b"-Ld4",
-            b"first",
-            b"-",
-            b"-i",
-        ],
-        input: b"from the input",
-        output: b"one\ntwo from the input\nthree\n",
-        status: 0,
-        line: b"",
-    },
-    SystemRow {
-        words: &[b"nroff", b"-Lp100", b"-s", b"-x"],
-        input: b".pl 1\na\n",
-        output: b"",
-        status: 2,
-        line: b"nroff: option -s is not in this profile\n",
-    },
-    SystemRow {
-        words: &[b"nroff", b"there", b"nowhere"],
-        input: b"",
-        output: b"",
-        status: 3,
-        line: b"nroff: cannot open nowhere\n",
-    },
-    SystemRow {
-        words: &[b"nroff", b"-mnot", b"there"],
-        input: b"",
-        output: b"",
-        status: 3,
-        line: b"nroff: cannot open ./tmac.not\n",
-    },
-    // What was ended before the fault is out.
-    SystemRow {
-        words: &[b"nroff", b"there", b"folder"],
-        input: b"",
-        output: b"a\n",
-        status: 3,
-        line: b"nroff: read fault at byte 18\n",
-    },
-    SystemRow {
-        words: &[b"nroff", b"-Lp4"],
-        input: b".pl 1\na\n.br\nb\n.br\nhello\n",
-        output: b"a\n",
-        status: 1,
-        line: b"nroff: line cells limit passed at byte 23\n",
-    },
-];
-
-#[test]
-fn runs_in_a_system(rt: HostRuntime) {
-    for row in &SYSTEM_ROWS {
-        let system = System {
-            words: row.words,
-            texts: &SYSTEM_TEXTS,
-        };
-        let left = Cell::new(row.input);
-        let input = Typed { left: &left };
-        let mut output = Vec::new(rt.alloc());
-        let mut line = Vec::new(rt.alloc());
-        let status = run_program(&system, rt.alloc(), input, &mut output, &mut line);
-        let words = row.words;
-        assert!(rt; output.as_slice() == row.output, "{words:?}");
-        assert!(rt; line.as_slice() == row.line, "{words:?}");
-        assert_eq!(rt; status, row.status, "{words:?}");
-    }
-}
-
-static SYSTEM_TEXTS: [(&str, Page<'static>); 6] = [
-    ("first", Page::Bytes(b"one\n.br\ntwo")),
-    ("-i", Page::Bytes(b".br\nthree")),
-    ("lib/tmac.line", Page::Bytes(b".ll 20")),
-    ("lib/tmac.page", Page::Bytes(b".pl 1")),
-    ("there", Page::Bytes(b".pl 1\na\n.br\nb\n.br")),
-    ("folder", Page::Cut(b"")),
-];
-
-#[test]
-fn tells_an_output_that_fails(rt: HostRuntime) {
-    let system = System {
-        words: &[b"nroff", b"first"],
-        texts: &SYSTEM_TEXTS,
-    };
-    let mut line = Vec::new(rt.alloc());
-    let input = b"".as_slice();
-    let output = Closing { takes: false };
-    assert_eq!(rt;
-        run_program(&system, rt.alloc(), input, output, &mut line),
-        4
-    );
-    assert!(rt; line.as_slice() == b"nroff: write fault\n".as_slice());
 }

@@ -1,16 +1,13 @@
-// Faults at every byte, a flush that fails, fronts of a text, and allocations that are refused.
-use super::run_over;
+// The status and the line of runs: with a fault at every byte, with a flush that fails, of fronts of a text, and with
+// allocations that are refused.
+
+use super::whole::HEADER_AND_FOOTER;
+use nr_command::run_over;
 use nr_engine::{Buffered, Desk, Limits, Options, Source, ToWriter};
 use nr_units::fakes::{Script, Shut, Slate};
 use std::alloc::Global;
 use std::process::Abort;
 use std::test::Fail;
-
-/// Two pages with a title on top and a trap at the bottom.
-static HEADER_AND_FOOTER: &[u8] =
-    b".pl 4v\n.de hd\n.tl 'H''%'\n..\n.de fo\n'bp\n..\n.wh 0 hd\n.wh -1v fo\n.lt 5n\n.nf\na\nb\nc\n";
-
-static ITS_PAGES: &[u8] = b"H   1\na\nb\n\nH   2\nc\n\n\n";
 
 /// Runs over the input, and looks at the status, at what was printed and at the line.
 fn expect(
@@ -36,18 +33,18 @@ fn expect(
 #[test]
 fn writer_at_every_byte(rt: HostRuntime) {
     let line = b"nroff: write fault\n".as_slice();
-    for taken in 0..ITS_PAGES.len() {
+    for taken in 0..HEADER_AND_FOOTER.pages.len() {
         let mut room = [0; 80];
         assert!(rt; taken <= room.len());
         let mut output = Slate::over(&mut room[..taken]);
-        let mut input = Script::new(HEADER_AND_FOOTER);
-        let printed = &ITS_PAGES[..taken];
+        let mut input = Script::new(HEADER_AND_FOOTER.input);
+        let printed = &HEADER_AND_FOOTER.pages[..taken];
         expect(&rt, rt.alloc(), &mut input, &mut output, 4, printed, line);
     }
     let mut room = [0; 21];
     let mut output = Slate::over(&mut room);
-    let mut input = Script::new(HEADER_AND_FOOTER);
-    expect(&rt, rt.alloc(), &mut input, &mut output, 0, ITS_PAGES, b"");
+    let mut input = Script::new(HEADER_AND_FOOTER.input);
+    expect(&rt, rt.alloc(), &mut input, &mut output, 0, HEADER_AND_FOOTER.pages, b"");
 }
 
 #[test]
@@ -62,11 +59,11 @@ fn writer_in_the_second_page(rt: HostRuntime) {
 // The first page is out where the line behind it was read.
 #[test]
 fn reader_at_every_byte(rt: HostRuntime) -> Result<(), Fail> {
-    for given in 0..=HEADER_AND_FOOTER.len() {
+    for given in 0..=HEADER_AND_FOOTER.input.len() {
         let mut room = [0; 80];
         let mut output = Slate::over(&mut room);
-        let mut input = Script::failing_after(HEADER_AND_FOOTER, given);
-        let printed = if given < 77 { &[] } else { &ITS_PAGES[..11] };
+        let mut input = Script::failing_after(HEADER_AND_FOOTER.input, given);
+        let printed = if given < 77 { &[] } else { &HEADER_AND_FOOTER.pages[..11] };
         let line = format!(in rt.alloc(); "nroff: read fault at byte {given}\n")?;
         let line = line.as_bytes();
         expect(&rt, rt.alloc(), &mut input, &mut output, 3, printed, line);
@@ -79,9 +76,9 @@ fn reader_at_every_byte(rt: HostRuntime) -> Result<(), Fail> {
 fn flush_fault_alone(rt: HostRuntime) {
     let mut room = [0; 80];
     let mut output = Slate::failing_flush(&mut room);
-    let mut input = Script::new(HEADER_AND_FOOTER);
+    let mut input = Script::new(HEADER_AND_FOOTER.input);
     let line = b"nroff: write fault\n";
-    expect(&rt, rt.alloc(), &mut input, &mut output, 4, ITS_PAGES, line);
+    expect(&rt, rt.alloc(), &mut input, &mut output, 4, HEADER_AND_FOOTER.pages, line);
     assert_eq!(rt; (output.failed_puts(), output.failed_flushes()), (0, 1));
 }
 
@@ -122,7 +119,7 @@ fn writer_that_takes_no_byte(rt: HostRuntime) {
     let limits = Limits::new(1024, 4, 100, 10).unwrap();
     let desk = Desk::new(rt.alloc(), limits);
     assert!(rt; desk.is_ok());
-    let mut input = Script::new(HEADER_AND_FOOTER);
+    let mut input = Script::new(HEADER_AND_FOOTER.input);
     let mut room = [0u8; 1];
     let mut output = ToWriter::over(&mut room[..0]);
     let mut out = [0; 80];
@@ -141,8 +138,8 @@ fn writer_that_takes_no_byte(rt: HostRuntime) {
 // Each front of a text is a text, in one piece and byte by byte.
 #[test]
 fn every_front_as_input(rt: HostRuntime) {
-    for len in 0..=HEADER_AND_FOOTER.len() {
-        let front = &HEADER_AND_FOOTER[..len];
+    for len in 0..=HEADER_AND_FOOTER.input.len() {
+        let front = &HEADER_AND_FOOTER.input[..len];
         let mut room = [0; 80];
         let mut output = Slate::over(&mut room);
         let mut whole = Script::new(front);
