@@ -32,19 +32,20 @@ fn expect(
 
 #[test]
 fn writer_at_every_byte(rt: HostRuntime) {
+    let text = &HEADER_AND_FOOTER;
     let line = b"nroff: write fault\n".as_slice();
-    for taken in 0..HEADER_AND_FOOTER.pages.len() {
+    for taken in 0..text.pages.len() {
         let mut room = [0; 80];
         assert!(rt; taken <= room.len());
         let mut output = Slate::over(&mut room[..taken]);
-        let mut input = Script::new(HEADER_AND_FOOTER.input);
-        let printed = &HEADER_AND_FOOTER.pages[..taken];
+        let mut input = Script::new(text.input);
+        let printed = &text.pages[..taken];
         expect(&rt, rt.alloc(), &mut input, &mut output, 4, printed, line);
     }
     let mut room = [0; 21];
     let mut output = Slate::over(&mut room);
-    let mut input = Script::new(HEADER_AND_FOOTER.input);
-    expect(&rt, rt.alloc(), &mut input, &mut output, 0, HEADER_AND_FOOTER.pages, b"");
+    let mut input = Script::new(text.input);
+    expect(&rt, rt.alloc(), &mut input, &mut output, 0, text.pages, b"");
 }
 
 #[test]
@@ -59,11 +60,14 @@ fn writer_in_the_second_page(rt: HostRuntime) {
 // The first page is out where the line behind it was read.
 #[test]
 fn reader_at_every_byte(rt: HostRuntime) -> Result<(), Fail> {
-    for given in 0..=HEADER_AND_FOOTER.input.len() {
+    let text = &HEADER_AND_FOOTER;
+    for given in 0..=text.input.len() {
         let mut room = [0; 80];
         let mut output = Slate::over(&mut room);
-        let mut input = Script::failing_after(HEADER_AND_FOOTER.input, given);
-        let printed = if given < 77 { &[] } else { &HEADER_AND_FOOTER.pages[..11] };
+        let mut input = Script::failing_after(text.input, given);
+        let printed = text.printed_after(given);
+        assert!(rt; printed <= text.pages.len());
+        let printed = &text.pages[..printed];
         let line = format!(in rt.alloc(); "nroff: read fault at byte {given}\n")?;
         let line = line.as_bytes();
         expect(&rt, rt.alloc(), &mut input, &mut output, 3, printed, line);
@@ -74,11 +78,20 @@ fn reader_at_every_byte(rt: HostRuntime) -> Result<(), Fail> {
 // Nothing but the flush fails: all bytes went out.
 #[test]
 fn flush_fault_alone(rt: HostRuntime) {
+    let text = &HEADER_AND_FOOTER;
     let mut room = [0; 80];
     let mut output = Slate::failing_flush(&mut room);
-    let mut input = Script::new(HEADER_AND_FOOTER.input);
+    let mut input = Script::new(text.input);
     let line = b"nroff: write fault\n";
-    expect(&rt, rt.alloc(), &mut input, &mut output, 4, HEADER_AND_FOOTER.pages, line);
+    expect(
+        &rt,
+        rt.alloc(),
+        &mut input,
+        &mut output,
+        4,
+        text.pages,
+        line,
+    );
     assert_eq!(rt; (output.failed_puts(), output.failed_flushes()), (0, 1));
 }
 

@@ -1,13 +1,10 @@
-use Rattle.std.proofs.Common.{◌≤◌, ◌<◌, [], ◌∷◌, ◌++◌, refl, ◌∙◌, arith, rules}
+use Rattle.std.proofs.Common.{◌≤◌, ◌<◌, [], ◌∷◌, ◌++◌, refl, ◌∙◌, arith}
 use Rattle.nr_page.specs.Grid.{Placed}
 use Rattle.nr_page.specs.Rows.{sheet_of}
 use Rattle.nr_page.specs.Sheet.{Holds}
 use Rattle.nr_page.proofs.Showing.{Holds-push}
 use Rattle.nr_page.proofs.Keeping.{AreAbove-weaker}
 use Rattle.nr_page.proofs.page.Page.place.Goals as goal
-
-pub returns-then-self-len-clause-full : goal.returns-then-self-len-clause-full
-returns-then-self-len-clause-full c = search rules
 
 pub invariant_of-self : goal.invariant_of-self
 invariant_of-self c =
