@@ -8,9 +8,6 @@ ghost use Rattle.nr_command.specs.Faults.{limited_text, line_of, place_text};
 use itoa::Buffer;
 use nr_engine::{Fault, Measure, Outcome, Sink, WriteFault};
 
-#[cfg(test)]
-mod tests;
-
 /// Writes the one line that tells how a run ended, and nothing where it is done.
 ///
 /// `WriteFault` where the sink failed; a front of the line went out then.

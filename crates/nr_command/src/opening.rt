@@ -15,9 +15,6 @@ use std::alloc::AllocError;
 use std::{fmt, io};
 use thiserror::Error;
 
-#[cfg(test)]
-mod tests;
-
 /// The bytes of the buffer of each text that is read.
 pub const BUFFER_SIZE: usize = 16_384;
 

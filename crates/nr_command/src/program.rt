@@ -20,9 +20,6 @@ use std::alloc::{AllocError, Global};
 use std::io::{BufWriter, Read, Write};
 use std::rt::{Env, Files};
 
-#[cfg(test)]
-pub(crate) mod tests;
-
 /// The bytes of the buffer of the output.
 const OUTPUT_SIZE: usize = 65_536;
 

@@ -8,9 +8,6 @@ use super::faults::fault_line;
 use nr_engine::{Desk, Fault, Options, Outcome, Sink, Source, format};
 use std::alloc::AllocError;
 
-#[cfg(test)]
-mod tests;
-
 /// Formats the input within the desk, flushes the output, writes the one line that tells a fault to
 /// `errors`, where a further fault is ignored, and gives the status of the program: 0 done, 1 a limit
 /// passed or the input too long, 3 read fault, 4 write fault. A fault of the flush makes it a write

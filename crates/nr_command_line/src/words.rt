@@ -7,9 +7,6 @@ use std::alloc::{AllocError, Global};
 use std::env::FillError;
 use std::rt::Env;
 
-#[cfg(test)]
-mod tests;
-
 /// The bytes of the buffer into which a word is read at first.
 const WORD_SIZE: usize = 256;
 

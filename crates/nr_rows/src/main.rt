@@ -1,9 +1,11 @@
 //! Worked rows: inputs of the formatter with the pages that they must give, as files in data/, NAME.roff and NAME.out.
 //! data/rows lists those that end under the limits by default, data/rows_with_limits the others, with their limits and
 //! their ends; data/rows_of_tables lists inputs that go through tbl first, with their limits and what that tells. The
-//! program runs them. Those with faults of their own are tests.
+//! program runs them. Those with faults of their own are tests, and so are runs of the program nroff over words and
+//! texts in memory.
 //!
-//! It stands on nr_units, nr_engine and nr_tbl. To read: this file, `limits`, `tables`; then the tests.
+//! It stands on nr_units, nr_engine and nr_tbl; its tests stand on nr_command, nr_words and nr_command_line too. To
+//! read: this file, `limits`, `tables`; then the tests: `whole`, `row`, and the others in any order.
 #![tactic(auto)]
 
 use nr_engine::{Buffered, Desk, Limits, Options, Outcome, Sink, Source, format};
@@ -16,12 +18,20 @@ mod limits;
 #[cfg(test)]
 mod limits_and_faults;
 #[cfg(test)]
+mod lines;
+#[cfg(test)]
 mod row;
 #[cfg(test)]
+mod statuses;
+#[cfg(test)]
 mod sweeps;
+#[cfg(test)]
+mod systems;
 mod tables;
 #[cfg(test)]
 mod whole;
+#[cfg(test)]
+mod words;
 
 use limits::limits_of;
 use tables::Turner;

@@ -1,4 +1,5 @@
 use Rattle.std.proofs.Common.{arith}
+use Rattle.std.proofs.lemmas.Grind.{common_steps}
 use Rattle.nr_store.specs.Holders.{beside_of}
 use Rattle.nr_store.proofs.Besides.{beside_paid}
 use Rattle.nr_store.proofs.Hyphenating.{words_length}
@@ -12,3 +13,6 @@ push-requires g c =
     let below = c.self.invariant.within in
     let room = c.self.invariant.beside_suffices.words in
     omega arith
+
+pub returns-then-room-weight-clause-answer : goal.returns-then-room-weight-clause-answer
+returns-then-room-weight-clause-answer g c = grind (arith, common_steps)
