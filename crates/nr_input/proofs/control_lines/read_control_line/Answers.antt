@@ -5,9 +5,6 @@ use Rattle.nr_reading.specs.declared.front.Front.TheVariants as fronts
 use Rattle.nr_reading.specs.Passing.{quiet}
 use Rattle.nr_reading.specs.Runs.{HasMet, spot}
 use Rattle.nr_reading.specs.declared.half.Half.{Half}
-use Rattle.nr_input.specs.declared.reader.Reader.{Reader}
-use Rattle.nr_input.specs.Moving.{situation}
-use Rattle.nr_input.specs.Runs.{HasRead, ReadsSome}
 use Rattle.nr_input.proofs.ControlLines.{all_read, all_paid}
 use Rattle.nr_input.proofs.RowsRead.{bytes_met, holds_past}
 use Rattle.nr_input.proofs.control_lines.read_control_line.Goals.{then-not-matches-via-then-not-matches, then-not-matches-via-else-not-matches+then-not-meet_name}
