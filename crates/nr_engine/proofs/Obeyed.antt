@@ -22,7 +22,7 @@ use Rattle.nr_engine.specs.State.{State, plainly}
 use Rattle.nr_engine.specs.Machine as machine
 use Rattle.nr_engine.specs.Machine.{work}
 use Rattle.nr_engine.specs.Measures.{IsWithin}
-use Rattle.nr_engine.specs.Holding.{Holds, Made, Shape, Stands, at}
+use Rattle.nr_engine.specs.Holding.{Holds, Made, ReadsNext, Shape, Stands, at}
 use Rattle.nr_engine.specs.Running.{Makes, MakesInPlace}
 use Rattle.nr_engine.proofs.EmptyLines.{within_kept}
 use Rattle.nr_engine.proofs.Gliding.{Glides, glides-add, glides-by}
@@ -186,3 +186,40 @@ makes_by true e supply may request =
 -- the request whose line was read, if it only sets
 pub makes_obeyed : (e : Shape) → e.formatter.event ≡ events.Request → MakesInPlace (moves_obeying e.formatter) e (obeyed_shape (obeyed e.formatter) e)
 makes_obeyed e request = record { makes = λ supply. makes_by (may_obey e.formatter) e supply refl request; place = refl }
+
+-- ---- what comes next
+
+abbrev behind_by : Bool → Formatter → Formatter
+behind_by b f =
+    if b then break_done (thens.Act f.reader.request) (heard_for (tasks.Break (thens.Act f.reader.request)) f)
+    else heard_for (tasks.Act f.reader.request) f
+
+springs_behind : (b : Bool) (f : Formatter) → (behind_by b f).springs ≡ f.springs
+springs_behind true f = refl
+springs_behind false f = refl
+
+event_behind : (b : Bool) (f : Formatter) → (behind_by b f).event ≡ events.Nothing
+event_behind true f = refl
+event_behind false f = refl
+
+reads_behind : (b : Bool) (f : Formatter) → only_sets f.reader.request ≡ true → f.springs ≡ None → ReadsNext (act f.reader.request (behind_by b f))
+reads_behind b f sets springs =
+    let same = act-sets f.reader.request (behind_by b f) sets in
+    record {
+      springs = ap (λ (g : Formatter). g.springs) same ∙ springs_behind b f ∙ springs;
+      event = ap (λ (g : Formatter). g.event) same ∙ event_behind b f;
+      task = ap (λ (g : Formatter). g.task) same;
+    }
+
+reads_by : (m : Bool) (f : Formatter) → may_obey f ≡ m → 0 < moves_obeying f → ReadsNext (obeyed f)
+reads_by false f may some =
+    let none : moves_obeying f ≡ 0 = rw may refl in
+    absurd (omega (arith, none, some))
+reads_by true f may some =
+    let parts = may_parts f may in
+    let is : obeyed f ≡ act f.reader.request (behind_by (breaks_first f) f) = rw may refl in
+    subst ReadsNext (sym is) (reads_behind (breaks_first f) f parts.sets parts.springs)
+
+-- the input is read next where the request took effect
+pub reads_obeyed : (f : Formatter) → 0 < moves_obeying f → ReadsNext (obeyed f)
+reads_obeyed f some = reads_by (may_obey f) f refl some

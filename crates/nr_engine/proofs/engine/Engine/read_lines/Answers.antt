@@ -1,5 +1,5 @@
 use Rattle.nr_engine.specs.Holding.{shape}
-use Rattle.nr_engine.proofs.Travelling.{reading-add, reading_in_place}
+use Rattle.nr_engine.proofs.Travelling.{reading-add}
 use Rattle.nr_engine.proofs.engine.Engine.read_lines.Goals as goal
 
 pub returns-in-Empty-clause-reads : goal.returns-in-Empty-clause-reads
@@ -9,5 +9,5 @@ returns-in-Empty-clause-reads g c =
 
 pub returns-in-Request-clause-reads : goal.returns-in-Request-clause-reads
 returns-in-Request-clause-reads g c =
-    reading-add c.read_run-run.result c.obey.result (shape c.args.self.now) (shape c.read_run-run.new.self) (shape c.obey.new.self)
-    _ _ _ _ _ _ c.read_run-run.ensures.reads (reading_in_place c.obey.result (shape c.read_run-run.new.self) (shape c.obey.new.self) _ _ c.obey.ensures.obeys)
+    reading-add c.read_run-run.result c.obey_lines.result (shape c.args.self.now) (shape c.read_run-run.new.self) (shape c.obey_lines.new.self)
+    _ _ _ _ _ _ c.read_run-run.ensures.reads c.obey_lines.ensures.reads
