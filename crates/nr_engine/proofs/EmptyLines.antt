@@ -67,7 +67,7 @@ spaces_is s goes positive =
     rw (goes.no_space, positive, goes.diversion, goes.state, lt-ltb s.formatter.paper.place s.formatter.settings.pages.page_length goes.room) refl
 
 -- within the limits as before: what is stored and the line stay, and so does the burst or it is none
-within_kept : (s : State) (c : Coming) (f : Formatter) → f.store ≡ s.formatter.store → f.line ≡ s.formatter.line → f.reader.burst ≤ f.reader.most → IsWithin s
+pub within_kept : (s : State) (c : Coming) (f : Formatter) → f.store ≡ s.formatter.store → f.line ≡ s.formatter.line → f.reader.burst ≤ f.reader.most → IsWithin s
     → IsWithin (record s { coming = c; formatter = f })
 within_kept s c f store line burst within = record {
   formatter = record { stored = rw store within.formatter.stored; depth = rw store within.formatter.depth; line = rw line within.formatter.line; burst = burst };

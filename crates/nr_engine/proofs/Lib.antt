@@ -10,6 +10,7 @@ mod LinesAtHand
 mod Measured
 mod Moving
 mod NextMoves
+mod Obeyed
 mod PlainGaps
 mod PlainNewlines
 mod PlainText

@@ -68,18 +68,18 @@ impl<'a> Engine<'a> {
         4 * count as u128 + 3
     }
 
-    /// Items that lie in a row are read, and where an empty line is told, it goes down with those behind it, as far as it does
-    /// nothing else. Tells how many moves that was.
+    /// Items that lie in a row are read; where an empty line is told, it goes down with those behind it, as far as it does nothing
+    /// else, and where a request is told that only sets, it takes effect with those behind it. Tells how many moves that was.
     #[inline(always)]
     pub(crate) fn read_lines<R: Source>(&mut self, input: &mut R) -> u128
         ensures reads { MakesReading result (shape self.old) (shape self.new) (R.supply input.old) (R.supply input.new) (R.failures input.old) (R.failures input.new) }
         ensures few { result < 2 ^ 67 }
     {
         let run = self.read_run(input);
-        if !matches!(self.formatter.event, Event::Empty) {
-            return run;
+        match self.formatter.event {
+            Event::Empty => run + self.put_empty_lines(input),
+            Event::Request => run + self.obey_lines(input),
+            _ => run,
         }
-        let lines = self.put_empty_lines(input);
-        run + lines
     }
 }

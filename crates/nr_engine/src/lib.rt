@@ -2,8 +2,8 @@
 //!
 //! It stands on nr_formatter, nr_page, nr_options and the crates below them. To read: `outcome`, `lengths`,
 //! `desk`; `engine`; its moves in `pages`, `lines`, `breaks`, `titles`, `rooms`, `diverted`, `spacing`,
-//! `ejecting`; many moves at once in `reading`, `plain_text`, `level_text`, `rereading`, `empty_lines`; `run`,
-//! with `format`.
+//! `ejecting`; many moves at once in `reading`, `plain_text`, `level_text`, `rereading`, `empty_lines`,
+//! `obeying`; `run`, with `format`.
 #![tactic(auto)]
 
 mod breaks;
@@ -15,6 +15,7 @@ mod engine;
 mod lengths;
 mod level_text;
 mod lines;
+mod obeying;
 mod outcome;
 mod pages;
 mod plain_text;

@@ -18,6 +18,7 @@ pub mod LineFalls
 pub mod LineWeights
 pub mod Nearest
 pub mod NextSprings
+pub mod Obeyed
 pub mod PageFalls
 pub mod PlainText
 pub mod RequestFalls

@@ -14,6 +14,7 @@ pub mod Motions
 pub mod Moves
 pub mod Naming
 pub mod Numbering
+pub mod Obeying
 pub mod Pages
 pub mod Passed
 pub mod Places

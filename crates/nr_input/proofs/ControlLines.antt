@@ -1,6 +1,6 @@
 -- A control line of the source: its name, what it calls, and the line of a request, as moves of the machine that reads.
 use Rattle.std.specs.Prelude.{map, drop, not, ◌⊎◌}
-use Rattle.std.proofs.Common.{◌≡◌, ℕ, zero, suc, ◌+◌, ◌-◌, ◌<◌, ◌≤◌, ◌==◌, Bool, false, List, [], length, take, Option, Ok, IsOk, Result, inl, inr, refl, ap, ap₂, sym, ◌∙◌, subst, length-drop, arith}
+use Rattle.std.proofs.Common.{◌≡◌, ℕ, zero, suc, ◌+◌, ◌-◌, ◌<◌, ◌≤◌, ◌==◌, Bool, false, List, [], length, take, Option, Ok, Result, inl, inr, refl, ap, ap₂, sym, ◌∙◌, subst, length-drop, arith}
 use Rattle.std.proofs.lemmas.Bool.{cases_lt}
 use Rattle.std.proofs.lemmas.List.{get_or-drop, drop-drop, drop-take}
 use Rattle.nr_units.specs.Supply.{Supply, Faults, Never, After, Anytime, MayGiveAll, later}

@@ -1,6 +1,6 @@
 -- What those who read events set, splice and spring is paid, or costs little.
 use Rattle.std.specs.Prelude.{is_some}
-use Rattle.std.proofs.Common.{◌≡◌, ℕ, ◌+◌, ◌-◌, ◌*◌, ◌<◌, ◌≤◌, Bool, true, false, if◌then◌else◌, List, [], length, Option, None, Some, Result, Ok, Err, refl, ap, ◌∙◌, arith}
+use Rattle.std.proofs.Common.{◌≡◌, ℕ, ◌+◌, ◌-◌, ◌*◌, ◌<◌, ◌≤◌, Bool, true, false, List, [], Option, None, Some, Result, Ok, Err, refl, ap, arith}
 use Rattle.nr_tables.specs.Named.{find}
 use Rattle.nr_store.specs.Stored.{Stored, begun, words, reading, shared_by, entered, reading_bytes}
 use Rattle.nr_store.specs.Laws.{named_weighs}

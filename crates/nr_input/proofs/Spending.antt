@@ -9,13 +9,12 @@ use Rattle.nr_tables.specs.Named.{Named, find}
 use Rattle.nr_store.specs.Laws.{named_weighs}
 use Rattle.nr_levels.specs.Gathered.{bytes_in}
 use Rattle.nr_levels.specs.Levels.{argument}
-use Rattle.nr_store.specs.Stored.{Stored, Level, Read, Built, Shared, Means, weight, weight_of, own_text, shared_by, afforded, checked, charge_of, level_charge, begun, text_of, added, defined, named_newest, words, reading, entered, called as called_text, reading_bytes, gathering, gathered_whole, ungathered, register_of, stepped, written, gone_on}
+use Rattle.nr_store.specs.Stored.{Stored, Level, Read, Built, Shared, Means, weight, weight_of, own_text, shared_by, afforded, charge_of, level_charge, begun, text_of, added, defined, named_newest, words, reading, entered, called as called_text, reading_bytes, gathering, gathered_whole, ungathered, register_of, stepped, written, gone_on}
 use Rattle.nr_store.specs.declared.element.Element.{Element}
 use Rattle.nr_store.specs.declared.element.Element.TheVariants as elements
 use Rattle.nr_store.specs.declared.named.Meaning.{Meaning}
 use Rattle.nr_store.specs.declared.named.Meaning.TheVariants as meanings
 use Rattle.nr_store.specs.declared.refusal.Refusal.TheVariants as stores
-use Rattle.nr_store.specs.declared.refusal.StoredBytes.{StoredBytes}
 use Rattle.nr_store.specs.declared.register.Register.{Register}
 use Rattle.nr_store.specs.declared.request.Request.{Request}
 use Rattle.nr_reading.specs.declared.ask.Sign.TheVariants as signs

@@ -16,7 +16,6 @@ use Rattle.nr_reading.specs.declared.mode.Mode.TheVariants as modes
 use Rattle.nr_input.specs.declared.place.Ahead.{Ahead}
 use Rattle.nr_store.specs.Stored.{afforded}
 use Rattle.nr_store.specs.declared.refusal.StoredBytes.{StoredBytes}
-use Rattle.nr_input.specs.declared.reader.Reader.{Reader}
 use Rattle.nr_input.specs.declared.refusal.Refusal.{Refusal}
 use Rattle.nr_input.specs.declared.refusal.Refusal.TheVariants as refusals
 use Rattle.nr_input.specs.Acting.{base_of, is_look}

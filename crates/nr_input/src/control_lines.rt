@@ -1,5 +1,5 @@
 //! Control lines of the source: many moves at once.
-ghost use Rattle.std.specs.Prelude.{◌≡◌, ◌≢◌, ◌≤◌, [], length, map, nat_lt, true, false};
+ghost use Rattle.std.specs.Prelude.{◌≡◌, ◌≢◌, ◌<◌, ◌≤◌, [], length, map, nat_lt, true, false, None, IfSome};
 ghost use Rattle.nr_reading.specs.declared.event.Event.TheVariants as events;
 ghost use Rattle.nr_reading.specs.declared.front.Front.TheVariants as variants;
 ghost use Rattle.nr_reading.specs.declared.mode.Mode.TheVariants as modes;
@@ -36,8 +36,49 @@ fn meet_behind_name(half: &mut Half, told: Event, bytes: &[u8]) -> Run
     half.meet_request_line(bytes)
 }
 
-// The bytes that the source has at hand at the beginning of a line are read, where nothing else comes first: a control line whose
-// name is there is looked up, and if it calls a request whose line is there too, with no escape in it, all of it is read.
+/// The control line that the source has at hand, where nothing else comes first: its name is looked up, and if it calls a request
+/// whose line is there too, with no escape in it, all of it is read. None where no such name is there.
+#[inline(always)]
+pub fn read_control_line<K: Copy, R: Source>(
+    place: &mut Place,
+    reader: &mut Reader,
+    store: &mut Store<'_, K>,
+    source: &mut R,
+) -> Option<Run>
+    ensures read { IfSome result (λ run. (c : Coming) → HoldsComing c place.old (R.supply source.old) → HasRead run.moves (situation store.old c reader.old) run.event store.new reader.new place.new (R.supply source.new)) }
+    ensures pays { IfSome result (λ run. PaysAll run.moves store.old place.old reader.old run.event store.new place.new reader.new) }
+    ensures some { IfSome result (λ run. 0 < run.moves) }
+    ensures few { IfSome result (λ run. run.moves ≤ 65536) }
+    ensures failures { R.failures source.new ≡ R.failures source.old }
+    ensures unfailed { has_failed place.old.ahead ≡ false → has_failed place.new.ahead ≡ false }
+    ensures reader { result ≡ None → reader.new ≡ reader.old }
+    ensures store { result ≡ None → store.new ≡ store.old }
+    ensures place { result ≡ None → place.new ≡ place.old }
+    ensures source { result ≡ None → source.new ≡ source.old }
+{
+    let bytes = window(place, store, source);
+    let row = Row {
+        bytes,
+        elements: &[],
+    };
+    if !matches!(reader.half.reading.due, Due::Look) || !reader.half.meet_name(&row) {
+        return None;
+    }
+    reader.burst = 0;
+    let told = reader.seek(store);
+    let line = meet_behind_name(&mut reader.half, told, &bytes[3..]);
+    let taken = 3 + line.taken;
+    place.pass_run(bytes[taken - 1], taken);
+    source.skip(taken);
+    Some(Run {
+        taken,
+        moves: 5 + line.moves,
+        event: line.event,
+    })
+}
+
+// The bytes that the source has at hand at the beginning of a line are read, where nothing else comes first: of a control line whose
+// name is there more than the name.
 #[inline(never)]
 fn read_beginning<K: Copy, R: Source>(
     place: &mut Place,
@@ -52,24 +93,9 @@ fn read_beginning<K: Copy, R: Source>(
     ensures failures { R.failures source.new ≡ R.failures source.old }
     ensures unfailed { has_failed place.old.ahead ≡ false → has_failed place.new.ahead ≡ false }
 {
-    let bytes = window(place, store, source);
-    let row = Row {
-        bytes,
-        elements: &[],
-    };
-    if !matches!(reader.half.reading.due, Due::Look) || !reader.half.meet_name(&row) {
-        return read_source(place, reader, store, source);
-    }
-    reader.burst = 0;
-    let told = reader.seek(store);
-    let line = meet_behind_name(&mut reader.half, told, &bytes[3..]);
-    let taken = 3 + line.taken;
-    place.pass_run(bytes[taken - 1], taken);
-    source.skip(taken);
-    Run {
-        taken,
-        moves: 5 + line.moves,
-        event: line.event,
+    match read_control_line(place, reader, store, source) {
+        Some(run) => run,
+        None => read_source(place, reader, store, source),
     }
 }
 

@@ -21,7 +21,7 @@ mod target;
 mod told;
 
 pub use at_hand::{take_window, window};
-pub use control_lines::read_next;
+pub use control_lines::{read_control_line, read_next};
 pub use moving::advance;
 pub use nr_reading::{Event, Question, Standing};
 pub use place::{Ahead, Place};

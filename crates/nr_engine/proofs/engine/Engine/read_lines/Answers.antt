@@ -2,7 +2,12 @@ use Rattle.nr_engine.specs.Holding.{shape}
 use Rattle.nr_engine.proofs.Travelling.{reading-add}
 use Rattle.nr_engine.proofs.engine.Engine.read_lines.Goals as goal
 
-pub returns-clause-reads : goal.returns-clause-reads
-returns-clause-reads g c =
-    reading-add c.read_run-run.result c.put_empty_lines-lines.result (shape c.args.self.now) (shape c.read_run-run.new.self) (shape c.put_empty_lines-lines.new.self)
-    _ _ _ _ _ _ c.read_run-run.ensures.reads c.put_empty_lines-lines.ensures.reads
+pub returns-in-Empty-clause-reads : goal.returns-in-Empty-clause-reads
+returns-in-Empty-clause-reads g c =
+    reading-add c.read_run-run.result c.put_empty_lines.result (shape c.args.self.now) (shape c.read_run-run.new.self) (shape c.put_empty_lines.new.self)
+    _ _ _ _ _ _ c.read_run-run.ensures.reads c.put_empty_lines.ensures.reads
+
+pub returns-in-Request-clause-reads : goal.returns-in-Request-clause-reads
+returns-in-Request-clause-reads g c =
+    reading-add c.read_run-run.result c.obey_lines.result (shape c.args.self.now) (shape c.read_run-run.new.self) (shape c.obey_lines.new.self)
+    _ _ _ _ _ _ c.read_run-run.ensures.reads c.obey_lines.ensures.reads

@@ -5,13 +5,10 @@ use Rattle.nr_reading.specs.declared.front.Front.TheVariants as fronts
 use Rattle.nr_reading.specs.Passing.{quiet}
 use Rattle.nr_reading.specs.Runs.{HasMet, spot}
 use Rattle.nr_reading.specs.declared.half.Half.{Half}
-use Rattle.nr_input.specs.declared.reader.Reader.{Reader}
-use Rattle.nr_input.specs.Moving.{situation}
-use Rattle.nr_input.specs.Runs.{HasRead, ReadsSome}
 use Rattle.nr_input.proofs.ControlLines.{all_read, all_paid}
 use Rattle.nr_input.proofs.RowsRead.{bytes_met, holds_past}
-use Rattle.nr_input.proofs.control_lines.read_beginning.Goals.{then-not-matches-via-then-not-matches, then-not-matches-via-else-not-matches+then-not-meet_name}
-use Rattle.nr_input.proofs.control_lines.read_beginning.Goals as goal
+use Rattle.nr_input.proofs.control_lines.read_control_line.Goals.{then-not-matches-via-then-not-matches, then-not-matches-via-else-not-matches+then-not-meet_name}
+use Rattle.nr_input.proofs.control_lines.read_control_line.Goals as goal
 
 pub returns-clause-read : goal.returns-clause-read
 returns-clause-read g c = λ k holds.
@@ -49,23 +46,8 @@ returns-clause-pays g c =
     (λ silent. subst (λ ys. HasMet line.moves (map fronts.Byte ys) r2.half (spot line h3)) rest (c.meet_behind_name-line.ensures.met silent))
     c.meet_behind_name-line.ensures.left c.meet_behind_name-line.ensures.none (slice_index bs (3 + line.taken - 1)) c.args.place.now c.pass_run.new.self c.pass_run.ensures
 
-pub returns-then-not-matches-clause-read : goal.returns-then-not-matches-clause-read
-returns-then-not-matches-clause-read g c = λ k holds.
-    let r = c.args.reader.now in
-    let run = c.read_source.result in
-    let same : c.then-not-matches.reader ≡ r = elim c.then-not-matches.branch [
-      | then-not-matches-via-then-not-matches w ↦ w.reader-is
-      | then-not-matches-via-else-not-matches+then-not-meet_name w ↦ w.reader-is ∙ ap (λ (h : Half). record r { half = h }) (w.meet_name.ensures.left w.if-not-meet_name.true)
-    ] in
-    subst (λ (q : Reader). HasRead run.moves (situation c.args.store.now k q) run.event c.args.store.now c.read_source.new.reader c.read_source.new.place (g.R.Source.supply c.read_source.new.source)) same
-    (c.read_source.ensures.read k holds)
-
-pub returns-then-not-matches-clause-some : goal.returns-then-not-matches-clause-some
-returns-then-not-matches-clause-some g c = λ none unseen.
-    let r = c.args.reader.now in
-    let same : c.then-not-matches.reader ≡ r = elim c.then-not-matches.branch [
-      | then-not-matches-via-then-not-matches w ↦ w.reader-is
-      | then-not-matches-via-else-not-matches+then-not-meet_name w ↦ w.reader-is ∙ ap (λ (h : Half). record r { half = h }) (w.meet_name.ensures.left w.if-not-meet_name.true)
-    ] in
-    subst (λ (q : Reader). ReadsSome (g.R.Source.at_hand c.args.source.now) c.read_source.result.moves c.args.place.now q) same
-    (c.read_source.ensures.longest none unseen).some
+pub returns-then-not-matches-clause-reader : goal.returns-then-not-matches-clause-reader
+returns-then-not-matches-clause-reader g c = λ none. elim c.then-not-matches.branch [
+  | then-not-matches-via-then-not-matches w ↦ w.reader-is
+  | then-not-matches-via-else-not-matches+then-not-meet_name w ↦ w.reader-is ∙ ap (λ (h : Half). record c.args.reader.now { half = h }) (w.meet_name.ensures.left w.if-not-meet_name.true)
+]

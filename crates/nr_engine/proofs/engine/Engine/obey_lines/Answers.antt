@@ -1,0 +1,53 @@
+use Rattle.std.proofs.Common.{◌≡◌, ◌+◌, ◌*◌, ◌≤◌, ℕ, subst, arith}
+use Rattle.nr_engine.specs.Holding.{Shape, shape}
+use Rattle.nr_engine.specs.Running.{MakesReading}
+use Rattle.nr_engine.proofs.Travelling.{reading-add, reading_in_place, reading_none}
+use Rattle.nr_engine.proofs.engine.Engine.obey_lines.Goals as goal
+
+pub loop-init : goal.loop-init
+loop-init g c = record {
+  reads = reading_none (shape c.args.self.now) (g.R.Source.supply c.args.input.now) (g.R.Source.failures c.args.input.now);
+  request = c.requires.request;
+  few = omega arith;
+}
+
+pub obey-obeyed-requires : goal.obey-obeyed-requires
+obey-obeyed-requires g c = record { request = c.loop.invariant.request; }
+
+pub returns-then-obeyed-eq0-clause-reads : goal.returns-then-obeyed-eq0-clause-reads
+returns-then-obeyed-eq0-clause-reads g c =
+    let e : Shape = shape c.args.self.now in
+    let f : Shape = shape c.obey-obeyed.new.self in
+    let none : c.loop.moves + c.obey-obeyed.result ≡ c.loop.moves = omega (arith, c.if-obeyed-eq0.true) in
+    subst (λ (n : ℕ). MakesReading n e f (g.R.Source.supply c.args.input.now) (g.R.Source.supply c.loop.input) (g.R.Source.failures c.args.input.now) (g.R.Source.failures c.loop.input)) none
+    (reading-add c.loop.moves c.obey-obeyed.result e (shape c.loop.self) f _ _ _ _ _ _ c.loop.invariant.reads
+    (reading_in_place c.obey-obeyed.result (shape c.loop.self) f _ _ c.obey-obeyed.ensures.obeys))
+
+pub returns-then-obeyed-eq0-clause-few : goal.returns-then-obeyed-eq0-clause-few
+returns-then-obeyed-eq0-clause-few g c = omega (arith, c.loop.invariant.few, c.loop-test.true)
+
+pub overflow_add-moves-in-loop : goal.overflow_add-moves-in-loop
+overflow_add-moves-in-loop g c = omega (arith, c.loop.invariant.few, c.loop-test.true, c.obey-obeyed.ensures.few, c.read_control_line.ensures.few)
+
+pub loop-preserved : goal.loop-preserved
+loop-preserved g c = record {
+  reads = reading-add c.loop.moves (c.obey-obeyed.result + c.read_control_line.result) (shape c.args.self.now) (shape c.loop.self) (shape c.read_control_line.new.self) _ _ _ _ _ _ c.loop.invariant.reads
+      (reading-add c.obey-obeyed.result c.read_control_line.result (shape c.loop.self) (shape c.obey-obeyed.new.self) (shape c.read_control_line.new.self) _ _ _ _ _ _
+      (reading_in_place c.obey-obeyed.result (shape c.loop.self) (shape c.obey-obeyed.new.self) _ _ c.obey-obeyed.ensures.obeys) c.read_control_line.ensures.reads);
+  request = c.in-Request.is;
+  few = omega (arith, c.loop.invariant.few, c.obey-obeyed.ensures.few, c.read_control_line.ensures.few);
+}
+
+pub returns-in_default : goal.returns-in_default
+returns-in_default g c = record {
+  reads = reading-add c.loop.moves (c.obey-obeyed.result + c.read_control_line.result) (shape c.args.self.now) (shape c.loop.self) (shape c.read_control_line.new.self) _ _ _ _ _ _ c.loop.invariant.reads
+      (reading-add c.obey-obeyed.result c.read_control_line.result (shape c.loop.self) (shape c.obey-obeyed.new.self) (shape c.read_control_line.new.self) _ _ _ _ _ _
+      (reading_in_place c.obey-obeyed.result (shape c.loop.self) (shape c.obey-obeyed.new.self) _ _ c.obey-obeyed.ensures.obeys) c.read_control_line.ensures.reads);
+  few = omega (arith, c.loop.invariant.few, c.loop-test.true, c.obey-obeyed.ensures.few, c.read_control_line.ensures.few);
+}
+
+pub returns-clause-reads : goal.returns-clause-reads
+returns-clause-reads g c = c.loop.invariant.reads
+
+pub returns-clause-few : goal.returns-clause-few
+returns-clause-few g c = omega (arith, c.loop.invariant.few, c.loop-test.false, c.loop.auto.counter-end)

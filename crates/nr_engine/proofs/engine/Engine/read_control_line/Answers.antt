@@ -1,0 +1,13 @@
+use Rattle.nr_engine.specs.Holding.{shape}
+use Rattle.nr_engine.proofs.ReadRuns.{makes_reading}
+use Rattle.nr_engine.proofs.engine.Engine.read_control_line.Goals as goal
+
+pub returns-clause-reads : goal.returns-clause-reads
+returns-clause-reads g c =
+    let run = c.in-Some.run' in
+    record {
+      makes = makes_reading run.moves run.event c.read_control_line.new.store c.read_control_line.new.reader c.read_control_line.new.place (shape c.args.self.now) _ _
+          c.requires.next c.in-Some.ensures.read c.in-Some.ensures.pays c.fit_memory.ensures;
+      failures = c.read_control_line.ensures.failures;
+      unfailed = c.read_control_line.ensures.unfailed;
+    }

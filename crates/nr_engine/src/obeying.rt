@@ -1,0 +1,70 @@
+//! Requests that only set: many moves in one call.
+ghost use Rattle.std.specs.Prelude.{◌≡◌, ◌*◌, ◌<◌, ◌≤◌};
+ghost use Rattle.nr_reading.specs.declared.event.Event.TheVariants as events;
+ghost use Rattle.nr_engine.specs.Holding.{shape, ReadsNext};
+ghost use Rattle.nr_engine.specs.Running.{MakesInPlace, MakesReading};
+
+use crate::engine::Engine;
+use nr_input::Event;
+use nr_units::source::Source;
+
+/// The most lines of requests that are acted on in one call.
+const MOST_LINES: u32 = 4096;
+
+impl<'a> Engine<'a> {
+    /// The request whose line was read takes effect, if it only sets and its break does nothing. Tells how many moves that was.
+    #[inline(always)]
+    fn obey(&mut self) -> u128
+        requires request { self.old.formatter.event ≡ events.Request }
+        ensures obeys { MakesInPlace result (shape self.old) (shape self.new) }
+        ensures few { result ≤ 3 }
+        ensures next { 0 < result → ReadsNext self.new.formatter }
+    {
+        u128::from(self.formatter.obey())
+    }
+
+    /// The control line that the source has at hand is read, if one comes next. Tells how many moves that was.
+    #[inline(always)]
+    fn read_control_line<R: Source>(&mut self, input: &mut R) -> u128
+        requires next { ReadsNext self.old.formatter }
+        ensures reads { MakesReading result (shape self.old) (shape self.new) (R.supply input.old) (R.supply input.new) (R.failures input.old) (R.failures input.new) }
+        ensures few { result ≤ 65536 }
+    {
+        let formatter = &mut self.formatter;
+        let Some(run) = nr_input::read_control_line(
+            &mut self.place,
+            &mut formatter.reader,
+            &mut formatter.store,
+            input,
+        ) else {
+            return 0;
+        };
+        self.formatter.event = run.event;
+        self.formatter.fit_memory();
+        run.moves as u128
+    }
+
+    /// The request whose line was read takes effect, if it only sets and its break does nothing, and so do those of the lines that
+    /// the source has at hand behind it, up to what is no such request: of a control line that is one the name and the line are
+    /// read. Tells how many moves that was.
+    #[inline(never)]
+    pub(crate) fn obey_lines<R: Source>(&mut self, input: &mut R) -> u128
+        requires request { self.old.formatter.event ≡ events.Request }
+        ensures reads { MakesReading result (shape self.old) (shape self.new) (R.supply input.old) (R.supply input.new) (R.failures input.old) (R.failures input.new) }
+        ensures few { result ≤ 4096 * 65539 }
+    {
+        let mut moves = 0u128;
+        for _ in 0..MOST_LINES {
+            let obeyed = self.obey();
+            if obeyed == 0 {
+                return moves;
+            }
+            moves += obeyed + self.read_control_line(input);
+            match self.formatter.event {
+                Event::Request => {}
+                _ => return moves,
+            }
+        }
+        moves
+    }
+}

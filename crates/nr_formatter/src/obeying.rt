@@ -1,0 +1,129 @@
+//! Requests that only set, acted on as soon as their line was read: many moves at once.
+ghost use Rattle.std.specs.Prelude.{◌≡◌, true};
+ghost use Rattle.nr_formatter.specs.Obeying.{only_sets, breaks_first, breaks_idly, may_obey, obeyed, moves_obeying};
+ghost use Rattle.nr_formatter.specs.Requests.{act};
+
+use crate::formatter::Formatter;
+use crate::requests::breaks;
+use crate::tasks::{Task, Then};
+use nr_input::Event;
+use nr_store::Request;
+
+/// A request that sets, or has the input read on, and does nothing else.
+#[inline]
+fn only_sets(request: Request) -> bool
+    ensures { result ≡ only_sets request }
+{
+    matches!(
+        request,
+        Request::Ad
+            | Request::Br
+            | Request::Ce
+            | Request::Fi
+            | Request::Ft
+            | Request::Hy
+            | Request::In
+            | Request::Lc
+            | Request::Ll
+            | Request::Lt
+            | Request::Na
+            | Request::Nf
+            | Request::Nh
+            | Request::Ns
+            | Request::Pc
+            | Request::Pl
+            | Request::Po
+            | Request::Rs
+            | Request::Ta
+            | Request::Tc
+            | Request::Ti
+            | Request::Ul
+            | Request::Vs
+    )
+}
+
+impl<'a> Formatter<'a> {
+    /// Such a request takes effect.
+    #[inline(never)]
+    fn set(&mut self, request: Request)
+        requires { only_sets request ≡ true }
+        ensures { self.new ≡ act request self.old }
+    {
+        match request {
+            Request::Ad => self.ad(),
+            Request::Ce => self.ce(),
+            Request::Fi => self.fi(),
+            Request::Ft => self.ft(),
+            Request::Hy => self.hy(),
+            Request::In => self.in_(),
+            Request::Lc => self.lc(),
+            Request::Ll => self.ll(),
+            Request::Lt => self.lt(),
+            Request::Na => self.na(),
+            Request::Nf => self.nf(),
+            Request::Nh => self.nh(),
+            Request::Ns => self.ns(),
+            Request::Pc => self.pc(),
+            Request::Pl => self.pl(),
+            Request::Po => self.po(),
+            Request::Rs => self.rs(),
+            Request::Ta => self.ta(),
+            Request::Tc => self.tc(),
+            Request::Ti => self.ti(),
+            Request::Ul => self.ul(),
+            Request::Vs => self.vs(),
+            _ => self.task = Task::Read,
+        }
+    }
+
+    /// Whether the request breaks before it takes effect.
+    #[inline]
+    fn breaks_first(&self, request: Request) -> bool
+        requires { request ≡ self.now.reader.request }
+        ensures { result ≡ breaks_first self.now }
+    {
+        breaks(request) && !self.reader.no_break()
+    }
+
+    /// Whether its break does nothing: nothing is collected, and no page begins.
+    #[inline]
+    fn breaks_idly(&self, request: Request) -> bool
+        requires { request ≡ self.now.reader.request }
+        ensures { result ≡ breaks_idly self.now }
+    {
+        self.line.is_empty() && !self.begins_first_page(Then::Act(request))
+    }
+
+    /// Whether no macro springs, and all that the request does is to set.
+    #[inline]
+    fn may_obey(&self, request: Request, breaks: bool) -> bool
+        requires request { request ≡ self.now.reader.request }
+        requires breaks { breaks ≡ breaks_first self.now }
+        ensures may { result ≡ may_obey self.now }
+        ensures sets { result ≡ true → only_sets request ≡ true }
+    {
+        self.springs.is_none() && (only_sets(request) && (!breaks || self.breaks_idly(request)))
+    }
+
+    /// The request whose line was read takes effect, if it only sets and its break does nothing. Tells how many moves that was.
+    #[inline]
+    pub fn obey(&mut self) -> u32
+        ensures moves { result ≡ moves_obeying self.old }
+        ensures is { self.new ≡ obeyed self.old }
+    {
+        let request = self.reader.request();
+        let breaks = self.breaks_first(request);
+        if !self.may_obey(request, breaks) {
+            return 0;
+        }
+        self.event = Event::Nothing;
+        self.task = Task::Act(request);
+        if !breaks {
+            self.set(request);
+            return 2;
+        }
+        self.break_done(Then::Act(request));
+        self.set(request);
+        3
+    }
+}
