@@ -1,5 +1,5 @@
 -- Parts of a move, as parts of a whole one.
-use Rattle.std.proofs.Common.{◌≡◌, ◌≢◌, ℕ, false, List, [], Option, Result, Ok, Err, refl, ◌∙◌}
+use Rattle.std.proofs.Common.{◌≡◌, ℕ, false, List, [], Option, Result, Ok, Err, refl, ◌∙◌}
 use Rattle.std.specs.Prelude.{OnOk}
 use Rattle.nr_units.specs.Supply.{Supply}
 use Rattle.nr_input.specs.Coming.{has_failed}

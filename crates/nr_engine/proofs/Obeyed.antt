@@ -1,6 +1,6 @@
 -- Requests that only set: what was read is heard, the break does nothing, and the request takes effect.
 use Rattle.std.specs.Prelude.{◌&&◌, ◌||◌, not, if◌then◌else◌, is_none}
-use Rattle.std.proofs.Common.{◌≡◌, ℕ, ◌+◌, ◌<◌, ◌≤◌, Bool, true, false, List, [], Option, None, Some, refl, sym, ap, ◌∙◌, subst, arith}
+use Rattle.std.proofs.Common.{◌≡◌, ℕ, ◌<◌, Bool, true, false, List, [], Option, None, Some, refl, sym, ap, ◌∙◌, subst, arith}
 use Rattle.std.proofs.lemmas.Bool.{and_parts}
 use Rattle.nr_units.specs.Supply.{Supply}
 use Rattle.nr_fill.specs.Pieces.{begins_line, is_nil}
@@ -9,7 +9,7 @@ use Rattle.nr_store.specs.declared.request.Request.{Request}
 use Rattle.nr_store.specs.declared.request.Request.TheVariants as requests
 use Rattle.nr_formatter.specs.Access.{collected}
 use Rattle.nr_formatter.specs.Lines.{break_done}
-use Rattle.nr_formatter.specs.Moves.{heard, heard_for, task_requested}
+use Rattle.nr_formatter.specs.Moves.{heard_for, task_requested}
 use Rattle.nr_formatter.specs.Obeying.{breaks_first, breaks_idly, may_obey, moves_obeying, obeyed, only_sets}
 use Rattle.nr_formatter.specs.Pages.{begins_first_page}
 use Rattle.nr_formatter.specs.Requests.{act}

@@ -1,5 +1,5 @@
 -- What is read and what goes on, under limits.
-use Rattle.std.proofs.Common.{◌≡◌, ◌≢◌, ◌≤◌, true, false, Result, Ok, Err, Option, Some, None, if◌then◌else◌, ap, sym, subst, ◌∙◌}
+use Rattle.std.proofs.Common.{◌≡◌, ◌≤◌, true, false, Result, Ok, Err, Option, Some, None, if◌then◌else◌, ap, sym, subst, ◌∙◌}
 use Rattle.std.specs.Prelude.{OnOk}
 use Rattle.std.proofs.lemmas.Bool.{cond-true}
 use Rattle.nr_fill.specs.declared.line.LineCells.{LineCells}

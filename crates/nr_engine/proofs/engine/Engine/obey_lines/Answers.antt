@@ -1,4 +1,4 @@
-use Rattle.std.proofs.Common.{◌≡◌, ◌+◌, ◌*◌, ◌≤◌, ℕ, subst, arith}
+use Rattle.std.proofs.Common.{◌≡◌, ◌+◌, ℕ, subst, arith}
 use Rattle.nr_engine.specs.Holding.{Shape, shape}
 use Rattle.nr_engine.specs.Running.{MakesReading}
 use Rattle.nr_engine.proofs.Travelling.{reading-add, reading_in_place, reading_none}
@@ -12,7 +12,7 @@ loop-init g c = record {
 }
 
 pub obey-obeyed-requires : goal.obey-obeyed-requires
-obey-obeyed-requires g c = record { request = c.loop.invariant.request; }
+obey-obeyed-requires g c = record { request = c.loop.invariant.request }
 
 pub returns-then-obeyed-eq0-clause-reads : goal.returns-then-obeyed-eq0-clause-reads
 returns-then-obeyed-eq0-clause-reads g c =
