@@ -46,5 +46,8 @@ pub fn tell_complaints<E: Sink>(report: Report, complaints: &[Complaint], errors
     if report.missed && written.is_ok() {
         let _ = errors.put(b"tbl: and more\n");
     }
-    report.missed || complaints.iter().any(|complaint| complaint.kind != Kind::TooWide)
+    report.missed
+        || complaints
+            .iter()
+            .any(|complaint| complaint.kind != Kind::TooWide)
 }

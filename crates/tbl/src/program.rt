@@ -74,14 +74,7 @@ fn run_words<'a, R: Files, I: Read + Copy + Drop, W: Sink, E: Sink>(
         return Ending::OutOfMemory;
     };
     let mut complaints = SliceVec::over(&mut slots);
-    let ending = run_texts(
-        texts,
-        standard,
-        output,
-        errors,
-        &mut rooms,
-        &mut complaints,
-    );
+    let ending = run_texts(texts, standard, output, errors, &mut rooms, &mut complaints);
     match output.flush() {
         Ok(()) => ending,
         Err(_) => Ending::Ran(Outcome::WriteFault),

@@ -163,8 +163,16 @@ static ROWS: [Row; 22] = [
 /// Texts with tables.
 static TABLES: [(&str, Page<'static>); 4] = [
     ("bad", Page::Bytes(b".TS\nl.\na\tb\n.TE\n.TS\nl.\n")),
-    ("wide", Page::Bytes(b".TS\nl l.\nabc\td\nefgh\t\\fIij\\fP\n.TE\n")),
-    ("long", Page::Bytes(b".TS\nl l.\n0123456789012345678901234567890123456789\t0123456789012345678901234\n.TE\n")),
+    (
+        "wide",
+        Page::Bytes(b".TS\nl l.\nabc\td\nefgh\t\\fIij\\fP\n.TE\n"),
+    ),
+    (
+        "long",
+        Page::Bytes(
+            b".TS\nl l.\n0123456789012345678901234567890123456789\t0123456789012345678901234\n.TE\n",
+        ),
+    ),
     ("none", Page::Bytes(b"a\n")),
 ];
 
