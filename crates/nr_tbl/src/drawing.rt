@@ -1,7 +1,7 @@
 //! The private macros that print a table: its rules, bars, rows and fields.
 
 /// The macros by which a table is drawn.
-pub(crate) static DRAWING: [u8; 7485] = *b"\
+pub(crate) static DRAWING: [u8; 7522] = *b"\
 .de *rule\n\
 .nr *height +1v\n\
 .am *rows *.\n\
@@ -240,7 +240,7 @@ pub(crate) static DRAWING: [u8; 7485] = *b"\
 .if \\\\$7=5 .nr *H \\\\n[*h\\\\$1,\\\\$2]\n\
 .nr *M \\\\n[*T\\\\$1]\n\
 .if !\\\\n[*%\\\\$1]=\\\\n% .nr *M \\\\n(*U-\\\\n(*H\n\
-.if !\\\\n[*-\\\\n(*k,\\\\$4] .nr *M \\\\n(*U-\\\\n(*M-\\\\n(*H/2/1v*1v+\\\\n(*M\n\
+.if !\\\\n[*-\\\\n(*k,\\\\$4] .if \\\\n[*over]<\\\\$1 .nr *M \\\\n(*U-\\\\n(*M-\\\\n(*H/2/1v*1v+\\\\n(*M\n\
 .if \\\\n[*-\\\\n(*k,\\\\$4]=2 .nr *M \\\\n(*U-\\\\n(*H\n\
 .if \\\\n(*M<0 .nr *M 0\n\
 .ds *o\n\
@@ -362,6 +362,7 @@ pub(crate) static DRAWING: [u8; 7485] = *b"\
 .*.\n\
 ..\n\
 .de *extra\n\
+.nr *over \\\\n(*r\n\
 .if !\\\\n(*E=2 \\&\\\\*(*e\n\
 .if \\\\n(*E>1 .*rests\n\
 ..\n\

@@ -7,7 +7,7 @@ use super::drawing::DRAWING;
 use nr_units::slice_vec::SliceVec;
 
 /// The macros by which a table is read, measured and ended.
-static MACROS: [u8; 7690] = *b"\
+static MACROS: [u8; 7702] = *b"\
 .de *.\n\
 ..\n\
 .de *begin\n\
@@ -420,6 +420,7 @@ a b ccc\n\
 .nf\n\
 .nr *P 0\n\
 .nr *R 0\n\
+.nr *over 0\n\
 .if !\\\\n(*N .nr *box 0\n\
 .if \\\\n[*box] .if !\\\\n[*nokeep] .*keep\n\
 .if \\\\n[*box]=3 .*draw 0 0\n\
