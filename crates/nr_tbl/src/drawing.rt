@@ -1,7 +1,7 @@
 //! The private macros that print a table: its rules, bars, rows and fields.
 
 /// The macros by which a table is drawn.
-pub(crate) static DRAWING: [u8; 7522] = *b"\
+pub(crate) static DRAWING: [u8; 7542] = *b"\
 .de *rule\n\
 .nr *height +1v\n\
 .am *rows *.\n\
@@ -123,10 +123,10 @@ pub(crate) static DRAWING: [u8; 7522] = *b"\
 .nr *E 0\n\
 .if \\\\n(*g .*fields\n\
 .if \\\\n[*^\\\\$1] .*ends \\\\$1\n\
-.if \\\\n(*E .*extra\n\
 .nr *r \\\\$1\n\
 .nr *k \\\\$2\n\
 .nr *F \\\\$3\n\
+.if \\\\n(*E .*extra\n\
 .*forget\n\
 ..\n\
 .de *above\n\
@@ -240,8 +240,9 @@ pub(crate) static DRAWING: [u8; 7522] = *b"\
 .if \\\\$7=5 .nr *H \\\\n[*h\\\\$1,\\\\$2]\n\
 .nr *M \\\\n[*T\\\\$1]\n\
 .if !\\\\n[*%\\\\$1]=\\\\n% .nr *M \\\\n(*U-\\\\n(*H\n\
-.if !\\\\n[*-\\\\n(*k,\\\\$4] .if \\\\n[*over]<\\\\$1 .nr *M \\\\n(*U-\\\\n(*M-\\\\n(*H/2/1v*1v+\\\\n(*M\n\
+.if !\\\\n[*-\\\\n(*k,\\\\$4] .nr *M \\\\n(*U-\\\\n(*M-\\\\n(*H/2/1v*1v+\\\\n(*M\n\
 .if \\\\n[*-\\\\n(*k,\\\\$4]=2 .nr *M \\\\n(*U-\\\\n(*H\n\
+.if \\\\n[*over]>=\\\\$1 .nr *M \\\\n[*T\\\\$1]\n\
 .if \\\\n(*M<0 .nr *M 0\n\
 .ds *o\n\
 .nr *p 0\n\
