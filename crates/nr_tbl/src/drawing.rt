@@ -1,7 +1,7 @@
 //! The private macros that print a table: its rules, bars, rows and fields.
 
 /// The macros by which a table is drawn.
-pub(crate) static DRAWING: [u8; 7542] = *b"\
+pub(crate) static DRAWING: [u8; 7533] = *b"\
 .de *rule\n\
 .nr *height +1v\n\
 .am *rows *.\n\
@@ -199,7 +199,7 @@ pub(crate) static DRAWING: [u8; 7542] = *b"\
 .nr *t \\w\\a\\\\*[*t\\\\n(*r,\\\\n(*f]\\a\n\
 .if !\\\\n(*t+\\\\n(*y .if '\\\\$3'_' .nr *y 1\n\
 .if !\\\\n(*t+\\\\n(*y .if '\\\\$3'=' .nr *y 1\n\
-.if \\\\n[*&\\\\n(*r,\\\\n(*f] .*wait \\\\$1 \\\\$2 \\\\$3\n\
+.if \\\\n[*&\\\\n(*r,\\\\n(*f] .if !\\\\n[*many] .*wait \\\\$1 \\\\$2 \\\\$3\n\
 .if \\\\n(*y=0 .*ptext \\\\$1 \\\\$2 \\\\$3\n\
 .if \\\\n(*y=1 .*prule \\\\$1 \\\\$2\n\
 .if \\\\n(*y=2 .*pin \\\\$1\n\
@@ -241,7 +241,6 @@ pub(crate) static DRAWING: [u8; 7542] = *b"\
 .nr *M \\\\n[*T\\\\$1]\n\
 .if !\\\\n[*-\\\\n(*k,\\\\$4] .nr *M \\\\n(*U-\\\\n(*M-\\\\n(*H/2/1v*1v+\\\\n(*M\n\
 .if \\\\n[*-\\\\n(*k,\\\\$4]=2 .nr *M \\\\n(*U-\\\\n(*H\n\
-.if \\\\n[*over]>=\\\\$1 .nr *M \\\\n[*T\\\\$1]\n\
 .if !\\\\n[*%\\\\$1]=\\\\n% .nr *M \\\\n(*U-\\\\n(*H\n\
 .if \\\\n(*M<0 .nr *M 0\n\
 .ds *o\n\
@@ -297,6 +296,7 @@ pub(crate) static DRAWING: [u8; 7542] = *b"\
 .if '\\\\$2'r' .nr *X +\\\\n(*A-\\\\n[*d\\\\n(*r,\\\\n(*f]\n\
 .if '\\\\$2'c' .nr *X +(\\\\n(*A-\\\\n[*d\\\\n(*r,\\\\n(*f]/2/24*24)\n\
 .if '\\\\$2'a' .nr *X +1n\n\
+.if \\\\n(*X<\\\\n(*p .nr *X \\\\n(*p\n\
 .nr *d\\\\n(*r,\\\\n(*f \\\\n(*X\n\
 .am *put *.\n\
 .*put1 \\\\n(*r \\\\n(*f \\\\n(*X\n\
@@ -363,7 +363,6 @@ pub(crate) static DRAWING: [u8; 7542] = *b"\
 .*.\n\
 ..\n\
 .de *extra\n\
-.nr *over \\\\n(*r\n\
 .if !\\\\n(*E=2 \\&\\\\*(*e\n\
 .if \\\\n(*E>1 .*rests\n\
 ..\n\
