@@ -4,6 +4,7 @@ use super::formatted;
 use nr_engine::{Buffered, Desk, Outcome};
 use nr_tbl::{Complaint, Report, convert, pending_size};
 use nr_units::fakes::{Script, Slate};
+use nr_units::slice_vec::SliceVec;
 use std::alloc::{AllocError, Global};
 use std::fs;
 use std::rt::Files;
@@ -11,8 +12,11 @@ use std::rt::Files;
 /// The most bytes that tbl makes of a row.
 const MOST_BYTES: usize = 262_144;
 
-/// The limits on formats and on a field where a row sets none, and the greatest that it may set.
+/// The limits on formats and on a row where a row sets none, and the greatest that it may set.
 const USUAL: usize = 4096;
+
+/// The length of the line where a row sets none.
+const USUAL_LINE: usize = 65;
 
 /// The most complaints of a row.
 const MOST_COMPLAINTS: usize = 8;
@@ -55,11 +59,12 @@ pub(crate) fn passes<R: Files + AllocGlobal + Print>(
     gives(rt, desk, turner, name, limits, end, &mut buffer[..1])
 }
 
-/// The limits on formats and on a field.
+/// The limits on formats and on a row, and the length of the line.
 #[derive(Clone, Copy)]
 struct Bounds {
     formats: usize,
     row: usize,
+    line: usize,
 }
 
 /// The limits that the words set, as in `formats=4 row=64`.
@@ -67,6 +72,7 @@ fn limits_of(words: &str) -> anyhow::Result<Bounds> {
     let mut limits = Bounds {
         formats: USUAL,
         row: USUAL,
+        line: USUAL_LINE,
     };
     for word in words.split_whitespace() {
         let (name, digits) = word
@@ -76,6 +82,7 @@ fn limits_of(words: &str) -> anyhow::Result<Bounds> {
         match name {
             "formats" => limits.formats = number,
             "row" => limits.row = number,
+            "line" => limits.line = number,
             _ => anyhow::bail!("no limit: {word}"),
         }
     }
@@ -102,17 +109,19 @@ fn gives<R: Files + AllocGlobal + Print>(
     let mut pending = vec![in rt.alloc(); 0u8; pending_size(limits.formats, limits.row)]?;
     let mut printed = vec![in rt.alloc(); 0u8; pages.len()]?;
     let mut turned = Slate::over(&mut turner.turned);
+    let mut complaints = SliceVec::over(&mut turner.complaints);
     let report = convert(
         &mut Buffered::over(file, buffer),
         &mut turned,
         &mut formats,
         &mut row,
-        &mut turner.complaints,
+        limits.line,
+        &mut complaints,
         &mut pending,
     );
     let mut output = Slate::over(&mut printed);
     let outcome = formatted(desk, &mut Script::new(turned.bytes()), &mut output);
-    let ended = end_of(rt.alloc(), report, &turner.complaints, outcome)?;
+    let ended = end_of(rt.alloc(), report, complaints.as_slice(), outcome)?;
     let good = ended.as_str() == end && output.bytes() == pages.as_slice();
     if !good {
         println!(rt; "other pages or another end: {name}, {ended}")?;
@@ -131,7 +140,7 @@ fn end_of(
         return Ok(format!(in alloc; "{report:?}, {outcome:?}")?);
     }
     let mut ended = String::new(alloc);
-    for complaint in complaints.get(..report.complaints).unwrap_or(complaints) {
+    for complaint in complaints {
         if !ended.is_empty() {
             ended.push_str(", ")?;
         }

@@ -21,8 +21,8 @@ not_false false h = absurd (let wrong : true ≡ false = h in cc)
 -- what comes of one meeting
 behind_met : ℕ → Coming → Page → Met → Told
 behind_met k c p m =
-    behind (acted m.act (with_half m.half p)).bytes
-    (if m.takes then told (acted m.act (with_half m.half p)).page [] else heard_in k c (acted m.act (with_half m.half p)).page)
+    behind (acted m.act (with_half m.half p)).bytes 1
+    (if m.takes then told (acted m.act (with_half m.half p)).page [] 0 else heard_in k c (acted m.act (with_half m.half p)).page)
 
 met_once : (n : ℕ) (c : Coming) (p : Page) (h : Half) (seen : Seen) → met h seen ≡ meet c (full p) p.half → 0 < n
     → heard_in n c p ≡ behind_met (n - 1) c p (met h seen)
@@ -32,18 +32,18 @@ met_once n c p h seen e l =
     ap (λ (k : ℕ). heard_in k c p) m ∙ ap (behind_met (n - 1) c p) (sym e)
 
 pub heard_taken : (n : ℕ) (c : Coming) (p : Page) (h : Half) (seen : Seen) → met h seen ≡ meet c (full p) p.half → 0 < n → seen.takes ≡ true
-    → heard_in n c p ≡ told (acted seen.act (with_half h p)).page ((acted seen.act (with_half h p)).bytes ++ [])
+    → heard_in n c p ≡ told (acted seen.act (with_half h p)).page ((acted seen.act (with_half h p)).bytes ++ []) 1
 unfolding behind_met
 heard_taken n c p h seen e l takes =
     met_once n c p h seen e l
-    ∙ ap (λ (b : Bool). behind (acted seen.act (with_half h p)).bytes (if b then told (acted seen.act (with_half h p)).page [] else heard_in (n - 1) c (acted seen.act (with_half h p)).page)) takes
+    ∙ ap (λ (b : Bool). behind (acted seen.act (with_half h p)).bytes 1 (if b then told (acted seen.act (with_half h p)).page [] 0 else heard_in (n - 1) c (acted seen.act (with_half h p)).page)) takes
 
 pub heard_left : (n : ℕ) (c : Coming) (p : Page) (h : Half) (seen : Seen) → met h seen ≡ meet c (full p) p.half → 0 < n → seen.takes ≡ false
-    → heard_in n c p ≡ behind (acted seen.act (with_half h p)).bytes (heard_in (n - 1) c (acted seen.act (with_half h p)).page)
+    → heard_in n c p ≡ behind (acted seen.act (with_half h p)).bytes 1 (heard_in (n - 1) c (acted seen.act (with_half h p)).page)
 unfolding behind_met
 heard_left n c p h seen e l takes =
     met_once n c p h seen e l
-    ∙ ap (λ (b : Bool). behind (acted seen.act (with_half h p)).bytes (if b then told (acted seen.act (with_half h p)).page [] else heard_in (n - 1) c (acted seen.act (with_half h p)).page)) takes
+    ∙ ap (λ (b : Bool). behind (acted seen.act (with_half h p)).bytes 1 (if b then told (acted seen.act (with_half h p)).page [] 0 else heard_in (n - 1) c (acted seen.act (with_half h p)).page)) takes
 
 -- ---- how much goes out at most
 
@@ -88,10 +88,11 @@ acted-most acts.GiveUp p = refl
 acted-most (acts.KeepField b) p = field_kept-most (is_full p.row) b p
 acted-most (acts.Field front solid) p = refl
 acted-most (acts.Replace said) p = refl
-acted-most acts.GiveUpRow p = refl
+acted-most (acts.EndRow said) p = refl
+acted-most (acts.GiveUpRow said) p = refl
 
 -- of all meetings
-met-most : (p : Page) (rest : Told) (takes : Bool) → most rest.page ≡ most p → most (if takes then told p [] else rest).page ≡ most p
+met-most : (p : Page) (rest : Told) (takes : Bool) → most rest.page ≡ most p → most (if takes then told p [] 0 else rest).page ≡ most p
 met-most p rest true e = refl
 met-most p rest false e = e
 

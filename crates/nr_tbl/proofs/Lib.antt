@@ -1,3 +1,4 @@
+pub mod Complaints
 pub mod Hearing
 pub mod Passing
 pub mod Putting

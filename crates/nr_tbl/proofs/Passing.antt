@@ -2,6 +2,7 @@
 use Rattle.std.proofs.Common.{◌≡◌, ℕ, ◌+◌, ◌<◌, List, [], ◌∷◌, ◌++◌, length, take, get_or, Bool, true, false, ◌==◌, ◌&&◌, if◌then◌else◌, Option, None, Some, refl, sym, ◌∙◌, ap, add-one}
 use Rattle.std.proofs.Math.Seq.{take-suc}
 use Rattle.nr_tbl.specs.declared.complaint.Kind.{Kind}
+use Rattle.nr_tbl.specs.declared.complaint.Complaint.{Complaint}
 use Rattle.nr_tbl.specs.declared.half.Half.{Half}
 use Rattle.nr_tbl.specs.declared.half.Full.{Full}
 use Rattle.nr_tbl.specs.declared.half.Mode.{Mode}
@@ -12,9 +13,10 @@ use Rattle.nr_tbl.specs.declared.held.Held.TheVariants as helds
 use Rattle.nr_tbl.specs.declared.said.Said.TheVariants as says
 use Rattle.nr_tbl.specs.Half.{Met, taking}
 use Rattle.nr_tbl.specs.Meeting.{meet, byte_in}
-use Rattle.nr_tbl.specs.Reading.{Page, Told, told, behind, then_told, acted, heard, heard_in, with_half, full, unblamed, read, fed, is_passing, is_well, passes, is_plain_byte}
+use Rattle.nr_tbl.specs.Reading.{Page, Told, told, behind, then_told, acted, heard, heard_in, with_half, full, unblamed, read, fed, is_passing, is_well, passes, is_plain_byte, IsPlainFront, found, complaints_from}
 use Rattle.nr_tbl.proofs.Hearing.{not_true}
 use Rattle.nr_tbl.proofs.Reading.{fed-append}
+use Rattle.nr_tbl.proofs.Complaints.{complaints-append}
 
 pub and-first : (x y : Bool) → (x && y) ≡ true → x ≡ true
 and-first true y h = refl
@@ -44,25 +46,36 @@ passing_meets b f h p ne =
     ∙ ap (λ (x : Bool). taking (if x then modes.Start helds.Nothing else modes.Passing) (acts.Say (says.Byte b)) h) ne
     ∙ ap (λ (m : Mode). taking m (acts.Say (says.Byte b)) h) (sym e)
 
-pub read_passing : (b : ℕ) (p : Page) → passes p ≡ true → (b == 10) ≡ false → read b p ≡ told p (b ∷ [])
+pub read_passing : (b : ℕ) (p : Page) → passes p ≡ true → (b == 10) ≡ false → read b p ≡ told p (b ∷ []) 1
 unfolding heard passed
 read_passing b p ok ne =
     let well : p.half.complaint ≡ None = complaint_is p.half.complaint (and-second (is_passing p.half.mode) (is_well p.half.complaint) ok) in
     let same : unblamed p ≡ p = ap (λ (k : Option Kind). record p { half = record p.half { complaint = k } }) (sym well) in
     ap (λ (q : Page). heard (comings.Byte b) q) same
-    ∙ ap (λ (m : Met). behind (acted m.act (with_half m.half p)).bytes
-    (if m.takes then told (acted m.act (with_half m.half p)).page [] else heard_in 9 (comings.Byte b) (acted m.act (with_half m.half p)).page))
+    ∙ ap (λ (m : Met). behind (acted m.act (with_half m.half p)).bytes 1
+    (if m.takes then told (acted m.act (with_half m.half p)).page [] 0 else heard_in 9 (comings.Byte b) (acted m.act (with_half m.half p)).page))
     (passing_meets b (full p) p.half (and-first (is_passing p.half.mode) (is_well p.half.complaint) ok) ne)
 
-pub fed-more : (p : Page) (bs : List ℕ) (i : ℕ) → fed p (take i bs) ≡ told p (take i bs) → i < length bs
-    → passes p ≡ true → is_plain_byte (get_or bs i 0) ≡ true
-    → fed p (take (i + 1) bs) ≡ told p (take (i + 1) bs)
+-- so far plain bytes went out, and this one does
+pub fed-more : (p : Page) (bs : List ℕ) (i : ℕ) → IsPlainFront i bs p → i < length bs
+    → passes p ≡ true → is_plain_byte (get_or bs i 0) ≡ true → IsPlainFront (i + 1) bs p
 fed-more p bs i before l ok plain =
     let xs = take i bs in
     let b = get_or bs i 0 in
     let front : take (i + 1) bs ≡ xs ++ b ∷ [] = rw add-one (take-suc bs i 0 l) in
-    let one : fed p (b ∷ []) ≡ told p (b ∷ []) =
-    ap (λ (t : Told). then_told t (λ s. told s [])) (read_passing b p ok (not_true (b == 10) plain)) in
-    let both : fed p (xs ++ b ∷ []) ≡ told p (xs ++ b ∷ []) =
-    fed-append p xs (b ∷ []) ∙ ap (λ (t : Told). then_told t (λ s. fed s (b ∷ []))) before ∙ ap (behind xs) one in
-    rw front both
+    let well : p.half.complaint ≡ None = complaint_is p.half.complaint (and-second (is_passing p.half.mode) (is_well p.half.complaint) ok) in
+    let here : read b p ≡ told p (b ∷ []) 1 = read_passing b p ok (not_true (b == 10) plain) in
+    let one : fed p (b ∷ []) ≡ told p (b ∷ []) 1 = ap (λ (t : Told). then_told t (λ s. told s [] 0)) here in
+    let both : fed p (xs ++ b ∷ []) ≡ told p (xs ++ b ∷ []) (i + 1) =
+    fed-append p xs (b ∷ []) ∙ ap (λ (t : Told). then_told t (λ s. fed s (b ∷ []))) before.told_so ∙ ap (behind xs i) one in
+    record {
+      told_so = rw front both;
+      well = λ at. rw front (complaints-append at p xs (b ∷ [])
+          ∙ ap (λ (ys : List Complaint). ys ++ complaints_from (at + length xs) (fed p xs).page (b ∷ [])) (before.well at)
+          ∙ ap (λ (t : Told). complaints_from (at + length xs) t.page (b ∷ [])) before.told_so
+          ∙ ap (λ (t : Told). found t.page.half.complaint (at + length xs + 1) ++ []) here
+          ∙ ap (λ (k : Option Kind). found k (at + length xs + 1) ++ []) well);
+    }
+
+pub plain-none : (p : Page) (bs : List ℕ) → IsPlainFront 0 bs p
+plain-none p bs = record { told_so = refl; well = λ at. refl }

@@ -1,5 +1,5 @@
 -- How a run goes on and ends.
-use Rattle.std.proofs.Common.{◌≡◌, ℕ, ◌+◌, ◌≤◌, List, [], ◌∷◌, ◌++◌, length, take, drop, Option, None, Some, Result, Ok, Err, OnOk, refl, sym, ◌∙◌, ap, subst, append_assoc, append-nil, arith, length-append}
+use Rattle.std.proofs.Common.{◌≡◌, ℕ, ◌+◌, ◌*◌, ◌≤◌, List, [], ◌∷◌, ◌++◌, length, take, drop, Bool, false, Option, None, Some, Result, Ok, Err, OnOk, refl, sym, ◌∙◌, ap, subst, append_assoc, append-nil, arith, length-append, zero-add, mul-add, mul-one, inl, inr}
 use Rattle.std.specs.Io.KnownBytes.{Appends}
 use Rattle.std.proofs.KnownBytes.{Appends-trans, Appends-nil}
 use Rattle.std.proofs.lemmas.List.{take-append-drop, take-take, length-take}
@@ -9,9 +9,13 @@ use Rattle.nr_units.specs.declared.source.Fault.{Fault}
 use Rattle.nr_units.proofs.Fronts.{AppendsFront-append, AppendsFront-after}
 use Rattle.nr_tbl.specs.declared.running.Outcome.{Outcome}
 use Rattle.nr_tbl.specs.declared.running.Outcome.TheVariants.{Done, ReadFault, TooLong, WriteFault}
-use Rattle.nr_tbl.specs.Reading.{Page, Told, first_page, read, fed, finished, tables_set, told, IsPlainFront}
-use Rattle.nr_tbl.specs.Running.{Comes, Ends, Flushes, Took, Stands, IsCut, IsBroken, Ran, EndsAs}
-use Rattle.nr_tbl.proofs.Reading.{fed-append_page, fed-append_bytes}
+use Rattle.nr_units.specs.Items.{Items}
+use Rattle.nr_tbl.specs.declared.complaint.Kind.{Kind}
+use Rattle.nr_tbl.specs.declared.complaint.Complaint.{Complaint}
+use Rattle.nr_tbl.specs.Reading.{Page, Told, first_page, read, fed, finished, found, complaints_from, complaints_before_end, complaints_of, tables_set, steps_of, told, IsPlainFront}
+use Rattle.nr_tbl.specs.Running.{Comes, Ends, Flushes, Account, account, Keeps, Tells, Took, Ended, Stands, IsCut, IsBroken, Ran, EndsAs, pending_size}
+use Rattle.nr_tbl.proofs.Reading.{fed-append_page, fed-append_bytes, fed-append_steps}
+use Rattle.nr_tbl.proofs.Complaints.{complaints-append, Keeps-none}
 
 -- ---- what comes of a source
 
@@ -71,72 +75,157 @@ Comes-skip (Some q) (Some t) window n l o s =
 
 pub Took-plain : (a b : Option Supply) (window : List ℕ) (most n : ℕ) (r : Page) (pending left : List ℕ)
     → n ≤ length (take most window) → n ≤ most → n ≤ length window → Offers a window → Skips a n b
-    → IsPlainFront n (take most window) r → left ≡ pending ++ take n window → Took a b r r pending left n
+    → IsPlainFront n (take most window) r → left ≡ pending ++ take n window → Took a b r r pending left n n None
 Took-plain a b window most n r pending left l m k o s plain out =
     let front : take n (take most window) ≡ take n window = take-take n most window m in
-    let told_so : fed r (take n window) ≡ told r (take n window) =
-    (let P : List ℕ → Type 0 = λ xs. fed r xs ≡ told r xs in subst P front plain) in
+    let told_so : fed r (take n window) ≡ told r (take n window) n =
+    (let P : List ℕ → Type 0 = λ xs. fed r xs ≡ told r xs n in subst P front plain.told_so) in
     record {
       bytes = take n window;
       came = Comes-skip a b window n k o s;
       count = omega (arith, length-take n window);
       page = sym (ap (λ (t : Told). t.page) told_so);
       out = out ∙ ap (λ (xs : List ℕ). pending ++ xs) (sym (ap (λ (t : Told). t.bytes) told_so));
+      made = sym (ap (λ (t : Told). t.steps) told_so);
+      complains = λ at. ap (complaints_from at r) (sym front) ∙ plain.well at;
     }
 
-pub Took-trans : (a b c : Option Supply) (r s u : Page) (p q left : List ℕ) (n m : ℕ)
-    → Took a b r s p q n → Took b c s u q left m → Took a c r u p left (n + m)
-Took-trans a b c r s u p q left n m f g =
-    let here : fed (fed r f.bytes).page g.bytes ≡ fed s g.bytes = ap (λ (x : Page). fed x g.bytes) (sym f.page) in
-    let more : (fed r (f.bytes ++ g.bytes)).bytes ≡ (fed r f.bytes).bytes ++ (fed s g.bytes).bytes =
-    fed-append_bytes r f.bytes g.bytes ∙ ap (λ (x : Told). (fed r f.bytes).bytes ++ x.bytes) here in
+-- nothing was taken
+no_bytes : (xs : List ℕ) → length xs ≡ 0 → xs ≡ []
+no_bytes [] e = refl
+no_bytes (x ∷ xs) e = absurd (omega arith)
+
+both_made : {a b c d : ℕ} → a ≡ c → b ≡ d → a + b ≡ c + d
+both_made p q = cc
+
+none_added : (n : ℕ) → n + 0 ≡ n
+none_added n = omega arith
+
+pub Took-byte : (a b : Option Supply) (byte : ℕ) (r s : Page) (pending left : List ℕ) (steps : ℕ) (wrong : Option Kind)
+    → Gives {E = Fault} a (Ok (Some byte)) b → s ≡ (read byte r).page → left ≡ pending ++ (read byte r).bytes
+    → steps ≡ (read byte r).steps → wrong ≡ s.half.complaint → Took a b r s pending left 1 steps wrong
+Took-byte a b byte r s pending left steps wrong gives reader out made complains = record {
+  bytes = byte ∷ [];
+  came = Comes-next a b byte gives;
+  count = refl;
+  page = reader;
+  out = out ∙ ap (λ (xs : List ℕ). pending ++ xs) (sym (append-nil (read byte r).bytes));
+  made = made ∙ sym (none_added (read byte r).steps);
+  complains = λ at. append-nil (found (read byte r).page.half.complaint (at + 1))
+      ∙ ap (λ (k : Option Kind). found k (at + 1)) (sym (complains ∙ ap (λ (q : Page). q.half.complaint) reader));
+}
+
+-- behind nothing
+pub Took-after_none : (a b c : Option Supply) (r s : Page) (p q left : List ℕ) (n m j steps : ℕ) (wrong other : Option Kind)
+    → n ≡ 0 → Took a b r r p q n m other → Took b c r s q left j steps wrong → Took a c r s p left j steps wrong
+Took-after_none a b c r s p q left n m j steps wrong other zero f g =
+    let nothing : f.bytes ≡ [] = no_bytes f.bytes (f.count ∙ zero) in
+    let same : q ≡ p = f.out ∙ ap (λ (xs : List ℕ). p ++ (fed r xs).bytes) nothing ∙ append-nil p in
+    let P : List ℕ → Type 0 = λ xs. Comes a xs b in
     record {
-      bytes = f.bytes ++ g.bytes;
-      came = Comes-trans a b c f.bytes g.bytes f.came g.came;
-      count = (let lengths : length (f.bytes ++ g.bytes) ≡ length f.bytes + length g.bytes = length-append f.bytes g.bytes in
-          let first : length f.bytes ≡ n = f.count in let second : length g.bytes ≡ m = g.count in omega arith);
-      page = g.page ∙ ap (λ (x : Told). x.page) (sym here) ∙ sym (fed-append_page r f.bytes g.bytes);
-      out = g.out ∙ ap (λ (xs : List ℕ). xs ++ (fed s g.bytes).bytes) f.out
-          ∙ append_assoc p (fed r f.bytes).bytes (fed s g.bytes).bytes ∙ ap (λ (xs : List ℕ). p ++ xs) (sym more);
+      bytes = g.bytes;
+      came = Comes-trans a b c [] g.bytes (subst P nothing f.came) g.came;
+      count = g.count;
+      page = g.page;
+      out = g.out ∙ ap (λ (xs : List ℕ). xs ++ (fed r g.bytes).bytes) same;
+      made = g.made;
+      complains = g.complains;
     }
+
+pub Ended-after_none : (a b c : Option Supply) (r : Page) (p q left : List ℕ) (n m steps : ℕ) (wrong other : Option Kind)
+    → n ≡ 0 → Took a b r r p q n m other → Comes b [] c × Ends b c → left ≡ q ++ (finished r).bytes
+    → steps ≡ (finished r).steps → wrong ≡ (finished r).page.half.complaint → Ended a c r p left steps wrong
+Ended-after_none a b c r p q left n m steps wrong other zero f ended out made complains =
+    let nothing : f.bytes ≡ [] = no_bytes f.bytes (f.count ∙ zero) in
+    let same : q ≡ p = f.out ∙ ap (λ (xs : List ℕ). p ++ (fed r xs).bytes) nothing ∙ append-nil p in
+    let P : List ℕ → Type 0 = λ xs. Comes a xs b in
+    let came : Comes a [] b = subst P nothing f.came in
+    record {
+      came = Comes-trans a b c [] [] came ended.0;
+      ends = Ends-after a b c [] came ended.1;
+      out = out ∙ ap (λ (xs : List ℕ). xs ++ (finished r).bytes) same;
+      made = made;
+      complains = complains;
+    }
+
+-- ---- what is told
+
+Tells-first : (kept : Items Complaint) → kept.items ≡ [] → Tells (account 0 kept false) 0 []
+Tells-first kept empty = record { made = refl; keeps = Keeps-none kept empty }
+
+-- what note promises
+abbrev pub Notes : Option Kind → ℕ → Items Complaint → Items Complaint → Bool → Bool → Type 0
+Notes wrong at old new missed more =
+    (all : List Complaint) → Keeps all old missed → Keeps (all ++ found wrong at) new more
 
 -- ---- a run goes on
 
-pub Stands-first : (fl rl : ℕ) (a : Option Supply) (h : Option (List ℕ)) (p : List ℕ) (r : Page)
-    → r ≡ first_page fl rl → p ≡ [] → Stands fl rl a a h h p r 0
-Stands-first fl rl a h p r is none = record {
-  bytes = [];
-  came = Comes-nil a;
-  count = refl;
-  page = is;
-  sent = [];
-  went_out = Appends-nil h;
-  all = none;
-}
+pub Stands-first : (fl rl ll : ℕ) (a : Option Supply) (h : Option (List ℕ)) (p : List ℕ) (r : Page) (kept : Items Complaint) (steps : ℕ) (missed : Bool)
+    → r ≡ first_page fl rl ll → p ≡ [] → kept.items ≡ [] → steps ≡ 0 → missed ≡ false
+    → Stands fl rl ll a a h h p r 0 (account steps kept missed)
+Stands-first fl rl ll a h p r kept steps missed is none empty zero false_so =
+    record {
+      bytes = [];
+      came = Comes-nil a;
+      count = refl;
+      page = is;
+      sent = [];
+      went_out = Appends-nil h;
+      all = none;
+      few = omega arith;
+      tells = rw (zero, false_so) (Tells-first kept empty);
+      quick = omega arith;
+    }
 
-pub Stands-took : (fl rl : ℕ) (a b c : Option Supply) (h k : Option (List ℕ)) (p left : List ℕ) (r s : Page) (t n : ℕ)
-    → Stands fl rl a b h k p r t → Took b c r s p left n → Stands fl rl a c h k left s (t + n)
-Stands-took fl rl a b c h k p left r s t n st w =
-    let before = fed (first_page fl rl) st.bytes in
+grown : (xs ys zs : List ℕ) (n : ℕ) → zs ≡ xs ++ ys → length zs ≤ length xs + n → length ys ≤ n
+grown xs ys zs n e l =
+    let lengths : length zs ≡ length xs + length ys = ap length e ∙ length-append xs ys in omega arith
+
+both_few : (a b c size t n : ℕ) → c ≡ a + b → a ≤ size * t → b ≤ size * n → c ≤ size * (t + n)
+both_few a b c size t n e p q = let split : size * (t + n) ≡ size * t + size * n = mul-add size t n in omega arith
+
+pub Stands-took : (fl rl ll : ℕ) (a b c : Option Supply) (h k : Option (List ℕ)) (p left : List ℕ) (r s : Page) (t n i j : ℕ)
+    (kept new : Items Complaint) (missed more : Bool) (wrong : Option Kind)
+    → Stands fl rl ll a b h k p r t (account i kept missed) → Took b c r s p left n j wrong
+    → length left ≤ length p + pending_size fl rl * n → j ≤ 10 * n → Notes wrong (t + n) kept new missed more
+    → (steps : ℕ) → steps ≡ i + j → Stands fl rl ll a c h k left s (t + n) (account steps new more)
+Stands-took fl rl ll a b c h k p left r s t n i j kept new missed more wrong st w l q notes steps e =
+    let first = first_page fl rl ll in
+    let before = fed first st.bytes in
     let here : fed before.page w.bytes ≡ fed r w.bytes = ap (λ (x : Page). fed x w.bytes) (sym st.page) in
-    let more : (fed (first_page fl rl) (st.bytes ++ w.bytes)).bytes ≡ before.bytes ++ (fed r w.bytes).bytes =
-    fed-append_bytes (first_page fl rl) st.bytes w.bytes ∙ ap (λ (x : Told). before.bytes ++ x.bytes) here in
+    let both : (fed first (st.bytes ++ w.bytes)).bytes ≡ before.bytes ++ (fed r w.bytes).bytes =
+    fed-append_bytes first st.bytes w.bytes ∙ ap (λ (x : Told). before.bytes ++ x.bytes) here in
+    let few : length (fed r w.bytes).bytes ≤ pending_size fl rl * n = grown p (fed r w.bytes).bytes left (pending_size fl rl * n) w.out l in
+    let count : length st.bytes ≡ t = st.count in
+    let quick : i ≤ 10 * t = st.quick in
+    let wrong_with : complaints_before_end fl rl ll (st.bytes ++ w.bytes) ≡ complaints_before_end fl rl ll st.bytes ++ found wrong (t + n) =
+    complaints-append 0 first st.bytes w.bytes
+    ∙ ap (λ (x : Page). complaints_before_end fl rl ll st.bytes ++ complaints_from (0 + length st.bytes) x w.bytes) (sym st.page)
+    ∙ ap (λ (x : ℕ). complaints_before_end fl rl ll st.bytes ++ complaints_from x r w.bytes) (zero-add (length st.bytes) ∙ count)
+    ∙ ap (λ (xs : List Complaint). complaints_before_end fl rl ll st.bytes ++ xs) (w.complains t) in
     record {
       bytes = st.bytes ++ w.bytes;
       came = Comes-trans a b c st.bytes w.bytes st.came w.came;
       count = (let lengths : length (st.bytes ++ w.bytes) ≡ length st.bytes + length w.bytes = length-append st.bytes w.bytes in
-          let first : length st.bytes ≡ t = st.count in let second : length w.bytes ≡ n = w.count in omega arith);
-      page = w.page ∙ ap (λ (x : Told). x.page) (sym here) ∙ sym (fed-append_page (first_page fl rl) st.bytes w.bytes);
+          let second : length w.bytes ≡ n = w.count in omega arith);
+      page = w.page ∙ ap (λ (x : Told). x.page) (sym here) ∙ sym (fed-append_page first st.bytes w.bytes);
       sent = st.sent;
       went_out = st.went_out;
       all =
           ap (λ (xs : List ℕ). st.sent ++ xs) w.out ∙ sym (append_assoc st.sent p (fed r w.bytes).bytes)
-          ∙ ap (λ (xs : List ℕ). xs ++ (fed r w.bytes).bytes) st.all ∙ sym more;
+          ∙ ap (λ (xs : List ℕ). xs ++ (fed r w.bytes).bytes) st.all ∙ sym both;
+      few = both_few (length before.bytes) (length (fed r w.bytes).bytes) (length (fed first (st.bytes ++ w.bytes)).bytes) (pending_size fl rl) t n
+          (ap length both ∙ length-append before.bytes (fed r w.bytes).bytes) st.few few;
+      tells = record {
+        made = e ∙ both_made st.tells.made (w.made ∙ ap (λ (x : Told). x.steps) (sym here)) ∙ sym (fed-append_steps first st.bytes w.bytes);
+        keeps = rw wrong_with (notes (complaints_before_end fl rl ll st.bytes) st.tells.keeps);
+      };
+      quick = omega arith;
     }
 
-pub Stands-flushed : (fl rl : ℕ) (a b : Option Supply) (h k m : Option (List ℕ)) (p left : List ℕ) (r : Page) (t : ℕ)
-    → Stands fl rl a b h k p r t → Flushes k m p left → Stands fl rl a b h m left r t
-Stands-flushed fl rl a b h k m p left r t st f = record {
+pub Stands-flushed : (fl rl ll : ℕ) (a b : Option Supply) (h k m : Option (List ℕ)) (p left : List ℕ) (r : Page) (t : ℕ) (x : Account)
+    → Stands fl rl ll a b h k p r t x → Flushes k m p left → Stands fl rl ll a b h m left r t x
+Stands-flushed fl rl ll a b h k m p left r t x st f = record {
   bytes = st.bytes;
   came = st.came;
   count = st.count;
@@ -144,6 +233,9 @@ Stands-flushed fl rl a b h k m p left r t st f = record {
   sent = st.sent ++ f.out;
   went_out = Appends-trans h k m st.sent f.out st.went_out f.went_out;
   all = append_assoc st.sent f.out left ∙ ap (λ (xs : List ℕ). st.sent ++ xs) (sym f.all) ∙ st.all;
+  few = st.few;
+  tells = st.tells;
+  quick = st.quick;
 }
 
 pub Flushes-none : (k : Option (List ℕ)) (p : List ℕ) → Flushes k k p p
@@ -157,101 +249,142 @@ pub Flushes-on : (x : Result (Unit {0}) Fault) (k m : Option (List ℕ)) (p left
 Flushes-on (Ok x) k m p left went none = Flushes-all k m p left went none
 Flushes-on (Err e) k m p left went none = tt
 
-pub Took-byte : (a b : Option Supply) (byte : ℕ) (r s : Page) (pending left : List ℕ)
-    → Gives {E = Fault} a (Ok (Some byte)) b → s ≡ (read byte r).page → left ≡ pending ++ (read byte r).bytes → Took a b r s pending left 1
-Took-byte a b byte r s pending left gives reader out = record {
-  bytes = byte ∷ [];
-  came = Comes-next a b byte gives;
-  count = refl;
-  page = reader;
-  out = out ∙ ap (λ (xs : List ℕ). pending ++ xs) (sym (append-nil (read byte r).bytes));
-}
-
 -- ---- a run ends
 
-ended-all : (fl rl : ℕ) (sent p left bytes : List ℕ) (r : Page) → sent ++ p ≡ (fed (first_page fl rl) bytes).bytes
-    → r ≡ (fed (first_page fl rl) bytes).page → left ≡ p ++ (finished r).bytes → sent ++ left ≡ tables_set fl rl bytes
-ended-all fl rl sent p left bytes r all reader out =
+ended-all : (fl rl ll : ℕ) (sent p left bytes : List ℕ) (r : Page) → sent ++ p ≡ (fed (first_page fl rl ll) bytes).bytes
+    → r ≡ (fed (first_page fl rl ll) bytes).page → left ≡ p ++ (finished r).bytes → sent ++ left ≡ tables_set fl rl ll bytes
+ended-all fl rl ll sent p left bytes r all reader out =
     ap (λ (xs : List ℕ). sent ++ xs) out ∙ sym (append_assoc sent p ((finished r).bytes))
     ∙ ap (λ (xs : List ℕ). xs ++ (finished r).bytes) all
-    ∙ ap (λ (x : Page). (fed (first_page fl rl) bytes).bytes ++ (finished x).bytes) reader
+    ∙ ap (λ (x : Page). (fed (first_page fl rl ll) bytes).bytes ++ (finished x).bytes) reader
 
-pub Ran-done : (fl rl : ℕ) (a b c : Option Supply) (h k m : Option (List ℕ)) (p left : List ℕ) (r : Page) (t : ℕ)
-    → Stands fl rl a b h k p r t → Comes b [] c × Ends b c × (left ≡ p ++ (finished r).bytes)
-    → (outcome : Outcome) → EndsAs Done outcome k m left → Ran fl rl a c h m outcome
-Ran-done fl rl a b c h k m p left r t st turn Done ends =
-    let all = ended-all fl rl st.sent p left st.bytes r st.all st.page turn.2 in
-    let P : List ℕ → Type 0 = λ xs. Appends h m xs in
+ended-few : (fl rl ll : ℕ) (bytes p left : List ℕ) (r : Page) (t : ℕ) → length bytes ≡ t
+    → length (fed (first_page fl rl ll) bytes).bytes ≤ pending_size fl rl * t → r ≡ (fed (first_page fl rl ll) bytes).page
+    → left ≡ p ++ (finished r).bytes → length left ≤ length p + pending_size fl rl
+    → length (tables_set fl rl ll bytes) ≤ pending_size fl rl * (length bytes + 1)
+ended-few fl rl ll bytes p left r t count few reader out l =
+    let after = fed (first_page fl rl ll) bytes in
+    let last = (finished r).bytes in
+    let same : length (finished after.page).bytes ≡ length last = ap (λ (x : Page). length (finished x).bytes) (sym reader) in
+    let lengths : length (tables_set fl rl ll bytes) ≡ length after.bytes + length last =
+    length-append after.bytes (finished after.page).bytes ∙ ap (λ (n : ℕ). length after.bytes + n) same in
+    let rest : length last ≤ pending_size fl rl = grown p last left (pending_size fl rl) out l in
+    both_few (length after.bytes) (length last) (length (tables_set fl rl ll bytes)) (pending_size fl rl) (length bytes) 1
+    lengths (rw count few) (rw (mul-one (pending_size fl rl)) rest)
+
+-- what is told with the end
+Tells-end : (fl rl ll : ℕ) (bytes p left : List ℕ) (b c : Option Supply) (r : Page) (t i j : ℕ)
+    (kept new : Items Complaint) (missed more : Bool) (wrong : Option Kind)
+    → length bytes ≡ t → r ≡ (fed (first_page fl rl ll) bytes).page
+    → Tells (account i kept missed) (fed (first_page fl rl ll) bytes).steps (complaints_before_end fl rl ll bytes)
+    → Ended b c r p left j wrong → Notes wrong t kept new missed more
+    → (steps : ℕ) → steps ≡ i + j → Tells (account steps new more) (steps_of fl rl ll bytes) (complaints_of fl rl ll bytes)
+Tells-end fl rl ll bytes p left b c r t i j kept new missed more wrong count reader tells last_turn notes steps e =
+    let after = fed (first_page fl rl ll) bytes in
+    let last : found wrong t ≡ found (finished after.page).page.half.complaint (length bytes) =
+    ap (λ (k : Option Kind). found k t) (last_turn.complains ∙ ap (λ (x : Page). (finished x).page.half.complaint) reader)
+    ∙ ap (found (finished after.page).page.half.complaint) (sym count) in
     record {
-      bytes = st.bytes;
-      came = Comes-then_nothing a b c st.bytes st.came turn.0;
-      ends = Ends-after a b c st.bytes st.came turn.1;
-      went_out = subst P all (Appends-trans h k m st.sent left st.went_out ends.1);
+      made = e ∙ both_made tells.made (last_turn.made ∙ ap (λ (x : Page). (finished x).steps) reader);
+      keeps = rw (← last) (notes (complaints_before_end fl rl ll bytes) tells.keeps);
     }
-Ran-done fl rl a b c h k m p left r t st turn (ReadFault at) ends = absurd (let no : Done ≡ ReadFault at = ends.0 in cc)
-Ran-done fl rl a b c h k m p left r t st turn TooLong ends = absurd (let no : Done ≡ TooLong = ends.0 in cc)
-Ran-done fl rl a b c h k m p left r t st turn WriteFault ends =
-    let all = ended-all fl rl st.sent p left st.bytes r st.all st.page turn.2 in
-    let P : List ℕ → Type 0 = λ xs. AppendsFront h m xs in
+
+pub Ran-done : (fl rl ll : ℕ) (a b c : Option Supply) (h k m : Option (List ℕ)) (p left : List ℕ) (r : Page) (t i j : ℕ)
+    (kept new : Items Complaint) (missed more : Bool) (wrong : Option Kind)
+    → Stands fl rl ll a b h k p r t (account i kept missed) → Ended b c r p left j wrong
+    → length left ≤ length p + pending_size fl rl → j ≤ 10 → Notes wrong t kept new missed more
+    → (steps : ℕ) → steps ≡ i + j
+    → (outcome : Outcome) → EndsAs Done outcome k m left → Ran fl rl ll a c h m (account steps new more) outcome
+Ran-done fl rl ll a b c h k m p left r t i j kept new missed more wrong st turn l q notes steps e Done ends =
+    let all = ended-all fl rl ll st.sent p left st.bytes r st.all st.page turn.out in
+    let P : List ℕ → Type 0 = λ xs. Appends h m xs in
+    let count : length st.bytes ≡ t = st.count in
+    let quick : i ≤ 10 * t = st.quick in
     record {
       bytes = st.bytes;
-      came = Comes-then_nothing a b c st.bytes st.came turn.0;
+      came = Comes-then_nothing a b c st.bytes st.came turn.came;
+      ends = Ends-after a b c st.bytes st.came turn.ends;
+      went_out = subst P all (Appends-trans h k m st.sent left st.went_out ends.1);
+      few = ended-few fl rl ll st.bytes p left r t st.count st.few st.page turn.out l;
+      tells = Tells-end fl rl ll st.bytes p left b c r t i j kept new missed more wrong st.count st.page st.tells turn notes steps e;
+      quick = omega arith;
+    }
+Ran-done fl rl ll a b c h k m p left r t i j kept new missed more wrong st turn l q notes steps e (ReadFault at) ends = absurd (let no : Done ≡ ReadFault at = ends.0 in cc)
+Ran-done fl rl ll a b c h k m p left r t i j kept new missed more wrong st turn l q notes steps e TooLong ends = absurd (let no : Done ≡ TooLong = ends.0 in cc)
+Ran-done fl rl ll a b c h k m p left r t i j kept new missed more wrong st turn l q notes steps e WriteFault ends =
+    let all = ended-all fl rl ll st.sent p left st.bytes r st.all st.page turn.out in
+    let P : List ℕ → Type 0 = λ xs. AppendsFront h m xs in
+    let count : length st.bytes ≡ t = st.count in
+    let quick : i ≤ 10 * t = st.quick in
+    record {
+      bytes = st.bytes;
+      came = Comes-then_nothing a b c st.bytes st.came turn.came;
       went_out = subst P all (AppendsFront-after h k m st.sent left st.went_out ends);
+      tells = inr (Tells-end fl rl ll st.bytes p left b c r t i j kept new missed more wrong st.count st.page st.tells turn notes steps e);
+      quick = omega arith;
     }
 
 -- what went out and what is pending, cut by a write fault
-Stands-broken : (fl rl : ℕ) (a b c : Option Supply) (h k m : Option (List ℕ)) (p : List ℕ) (r : Page) (t : ℕ)
-    → Stands fl rl a b h k p r t → Comes b [] c → AppendsFront k m p → IsBroken fl rl a c h m
-Stands-broken fl rl a b c h k m p r t st came front =
-    let after = fed (first_page fl rl) st.bytes in
+Stands-broken : (fl rl ll : ℕ) (a b c : Option Supply) (h k m : Option (List ℕ)) (p : List ℕ) (r : Page) (t : ℕ) (x : Account)
+    → Stands fl rl ll a b h k p r t x → Comes b [] c → AppendsFront k m p → IsBroken fl rl ll a c h m x
+Stands-broken fl rl ll a b c h k m p r t x st came front =
+    let after = fed (first_page fl rl ll) st.bytes in
     let P : List ℕ → Type 0 = λ xs. AppendsFront h m xs in
+    let count : length st.bytes ≡ t = st.count in
+    let quick : x.steps ≤ 10 * t = st.quick in
     record {
       bytes = st.bytes;
       came = Comes-then_nothing a b c st.bytes st.came came;
       went_out = AppendsFront-append h m after.bytes (finished after.page).bytes
           (subst P st.all (AppendsFront-after h k m st.sent p st.went_out front));
+      tells = inl st.tells;
+      quick = omega arith;
     }
 
-Stands-cut : (fl rl : ℕ) (a b c : Option Supply) (h k m : Option (List ℕ)) (p : List ℕ) (r : Page) (t : ℕ)
-    → Stands fl rl a b h k p r t → Comes b [] c → Appends k m p → IsCut fl rl a c h m t
-Stands-cut fl rl a b c h k m p r t st came went =
+Stands-cut : (fl rl ll : ℕ) (a b c : Option Supply) (h k m : Option (List ℕ)) (p : List ℕ) (r : Page) (t : ℕ) (x : Account)
+    → Stands fl rl ll a b h k p r t x → Comes b [] c → Appends k m p → IsCut fl rl ll a c h m t x
+Stands-cut fl rl ll a b c h k m p r t x st came went =
     let P : List ℕ → Type 0 = λ xs. Appends h m xs in
+    let count : length st.bytes ≡ t = st.count in
+    let quick : x.steps ≤ 10 * t = st.quick in
     record {
       bytes = st.bytes;
       came = Comes-then_nothing a b c st.bytes st.came came;
       count = st.count;
       went_out = subst P st.all (Appends-trans h k m st.sent p st.went_out went);
+      tells = st.tells;
+      quick = omega arith;
     }
 
-pub Ran-broken : (fl rl : ℕ) (a b : Option Supply) (h k m : Option (List ℕ)) (p : List ℕ) (r : Page) (t : ℕ)
-    → Stands fl rl a b h k p r t → AppendsFront k m p → Ran fl rl a b h m WriteFault
-Ran-broken fl rl a b h k m p r t st front = Stands-broken fl rl a b b h k m p r t st (Comes-nil b) front
+pub Ran-broken : (fl rl ll : ℕ) (a b : Option Supply) (h k m : Option (List ℕ)) (p : List ℕ) (r : Page) (t : ℕ) (x : Account)
+    → Stands fl rl ll a b h k p r t x → AppendsFront k m p → Ran fl rl ll a b h m x WriteFault
+Ran-broken fl rl ll a b h k m p r t x st front = Stands-broken fl rl ll a b b h k m p r t x st (Comes-nil b) front
 
-ran-fault : (fl rl : ℕ) (a b c : Option Supply) (h k m : Option (List ℕ)) (p : List ℕ) (r : Page) (t : ℕ)
-    → Stands fl rl a b h k p r t → Comes b [] c
-    → (outcome : Outcome) → EndsAs (ReadFault t) outcome k m p → Ran fl rl a c h m outcome
-ran-fault fl rl a b c h k m p r t st came Done ends = absurd (let no : ReadFault t ≡ Done = ends.0 in cc)
-ran-fault fl rl a b c h k m p r t st came (ReadFault at) ends =
-    let P : ℕ → Type 0 = λ n. IsCut fl rl a c h m n in
+ran-fault : (fl rl ll : ℕ) (a b c : Option Supply) (h k m : Option (List ℕ)) (p : List ℕ) (r : Page) (t : ℕ) (x : Account)
+    → Stands fl rl ll a b h k p r t x → Comes b [] c
+    → (outcome : Outcome) → EndsAs (ReadFault t) outcome k m p → Ran fl rl ll a c h m x outcome
+ran-fault fl rl ll a b c h k m p r t x st came Done ends = absurd (let no : ReadFault t ≡ Done = ends.0 in cc)
+ran-fault fl rl ll a b c h k m p r t x st came (ReadFault at) ends =
+    let P : ℕ → Type 0 = λ n. IsCut fl rl ll a c h m n x in
     let same : ReadFault t ≡ ReadFault at = ends.0 in
     let n : t ≡ at = cc in
-    subst P n (Stands-cut fl rl a b c h k m p r t st came ends.1)
-ran-fault fl rl a b c h k m p r t st came TooLong ends = absurd (let no : ReadFault t ≡ TooLong = ends.0 in cc)
-ran-fault fl rl a b c h k m p r t st came WriteFault ends = Stands-broken fl rl a b c h k m p r t st came ends
+    subst P n (Stands-cut fl rl ll a b c h k m p r t x st came ends.1)
+ran-fault fl rl ll a b c h k m p r t x st came TooLong ends = absurd (let no : ReadFault t ≡ TooLong = ends.0 in cc)
+ran-fault fl rl ll a b c h k m p r t x st came WriteFault ends = Stands-broken fl rl ll a b c h k m p r t x st came ends
 
-pub Ran-fault : (fl rl : ℕ) (a b c : Option Supply) (h k m : Option (List ℕ)) (p left : List ℕ) (r : Page) (t : ℕ)
-    → Stands fl rl a b h k p r t → Comes b [] c × (left ≡ p)
-    → (outcome : Outcome) → EndsAs (ReadFault t) outcome k m left → Ran fl rl a c h m outcome
-Ran-fault fl rl a b c h k m p left r t st turn outcome ends =
+pub Ran-fault : (fl rl ll : ℕ) (a b c : Option Supply) (h k m : Option (List ℕ)) (p left : List ℕ) (r : Page) (t : ℕ) (x : Account)
+    → Stands fl rl ll a b h k p r t x → Comes b [] c × (left ≡ p)
+    → (outcome : Outcome) → EndsAs (ReadFault t) outcome k m left → Ran fl rl ll a c h m x outcome
+Ran-fault fl rl ll a b c h k m p left r t x st turn outcome ends =
     let P : List ℕ → Type 0 = λ xs. EndsAs (ReadFault t) outcome k m xs in
-    ran-fault fl rl a b c h k m p r t st turn.0 outcome (subst P turn.1 ends)
+    ran-fault fl rl ll a b c h k m p r t x st turn.0 outcome (subst P turn.1 ends)
 
-pub Ran-long : (fl rl : ℕ) (a b : Option Supply) (h k m : Option (List ℕ)) (p : List ℕ) (r : Page) (t : ℕ)
-    → t ≡ 1099511627776 → Stands fl rl a b h k p r t
-    → (outcome : Outcome) → EndsAs TooLong outcome k m p → Ran fl rl a b h m outcome
-Ran-long fl rl a b h k m p r t n st Done ends = absurd (let no : TooLong ≡ Done = ends.0 in cc)
-Ran-long fl rl a b h k m p r t n st (ReadFault at) ends = absurd (let no : TooLong ≡ ReadFault at = ends.0 in cc)
-Ran-long fl rl a b h k m p r t n st TooLong ends =
-    let P : ℕ → Type 0 = λ i. IsCut fl rl a b h m i in
-    subst P n (Stands-cut fl rl a b b h k m p r t st (Comes-nil b) ends.1)
-Ran-long fl rl a b h k m p r t n st WriteFault ends = Ran-broken fl rl a b h k m p r t st ends
+pub Ran-long : (fl rl ll : ℕ) (a b : Option Supply) (h k m : Option (List ℕ)) (p : List ℕ) (r : Page) (t : ℕ) (x : Account)
+    → t ≡ 1099511627776 → Stands fl rl ll a b h k p r t x
+    → (outcome : Outcome) → EndsAs TooLong outcome k m p → Ran fl rl ll a b h m x outcome
+Ran-long fl rl ll a b h k m p r t x n st Done ends = absurd (let no : TooLong ≡ Done = ends.0 in cc)
+Ran-long fl rl ll a b h k m p r t x n st (ReadFault at) ends = absurd (let no : TooLong ≡ ReadFault at = ends.0 in cc)
+Ran-long fl rl ll a b h k m p r t x n st TooLong ends =
+    let P : ℕ → Type 0 = λ i. IsCut fl rl ll a b h m i x in
+    subst P n (Stands-cut fl rl ll a b b h k m p r t x st (Comes-nil b) ends.1)
+Ran-long fl rl ll a b h k m p r t x n st WriteFault ends = Ran-broken fl rl ll a b h k m p r t x st ends

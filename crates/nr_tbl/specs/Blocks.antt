@@ -3,7 +3,7 @@ use Rattle.std.specs.Prelude.{ℕ, ◌==◌, if◌then◌else◌, Option, None, 
 use Rattle.nr_tbl.specs.declared.complaint.Kind.TheVariants.{OpenBlock}
 use Rattle.nr_tbl.specs.declared.half.Half.{Half}
 use Rattle.nr_tbl.specs.declared.half.Mode.TheVariants as modes
-use Rattle.nr_tbl.specs.declared.half.Act.TheVariants.{Say}
+use Rattle.nr_tbl.specs.declared.half.Act.TheVariants.{Say, EndRow}
 use Rattle.nr_tbl.specs.declared.held.Held.{Held}
 use Rattle.nr_tbl.specs.declared.held.Held.TheVariants as helds
 use Rattle.nr_tbl.specs.declared.said.Said.TheVariants as says
@@ -14,7 +14,7 @@ use Rattle.nr_tbl.specs.Rows.{counted}
 
 -- it has no end
 abbrev pub closing_block : Held → Half → Met
-closing_block held h = leaving (modes.RowStart held) (Say says.CloseBlock) (row_begun (complaining OpenBlock h))
+closing_block held h = leaving (modes.RowStart held) (EndRow says.CloseBlock) (row_begun (complaining OpenBlock h))
 
 abbrev pub text : Held → Half → Met
 text held h = leaving modes.BlockLine (Say (says.Held held)) h

@@ -1,5 +1,5 @@
 -- What is half read, and what is done.
-use Rattle.std.specs.Prelude.{Bool, true, false, Option, None, Some}
+use Rattle.std.specs.Prelude.{ℕ, Bool, true, false, Option, None, Some}
 use Rattle.nr_tbl.specs.declared.complaint.Kind.{Kind}
 use Rattle.nr_tbl.specs.declared.half.Half.{Half}
 use Rattle.nr_tbl.specs.declared.half.Seen.{Seen}
@@ -10,6 +10,7 @@ use Rattle.nr_tbl.specs.declared.held.Held.{Held}
 use Rattle.nr_tbl.specs.declared.held.Held.TheVariants as helds
 use Rattle.nr_tbl.specs.declared.field.Shape.TheVariants.{Empty}
 use Rattle.nr_tbl.specs.Numbers.{first_marks}
+use Rattle.nr_tbl.specs.Measure.{begun}
 use Rattle.nr_tbl.specs.Options.{no_options}
 use Rattle.nr_tbl.specs.Formats.{first_formats}
 
@@ -41,9 +42,9 @@ first_kind (Some first) kind = Some first
 abbrev pub complaining : Kind → Half → Half
 complaining kind h = record h { complaint = first_kind h.complaint kind }
 
--- a page begins
-abbrev pub first_half : Half
-first_half = record {
+-- a page begins, and the line has so many cells
+abbrev pub first_half : ℕ → Half
+first_half line = record {
   mode = modes.Start helds.Nothing;
   known = false;
   options = no_options;
@@ -54,6 +55,7 @@ first_half = record {
   fields = 0;
   shape = Empty;
   marks = first_marks;
+  measure = begun line;
   complaint = None;
 }
 

@@ -5,6 +5,7 @@ pub mod Half
 pub mod Head
 pub mod Held
 pub mod Macros
+pub mod Measure
 pub mod Meeting
 pub mod Numbers
 pub mod Options

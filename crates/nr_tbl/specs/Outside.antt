@@ -11,6 +11,7 @@ use Rattle.nr_tbl.specs.declared.field.Shape.TheVariants.{Empty}
 use Rattle.nr_tbl.specs.Numbers.{first_marks}
 use Rattle.nr_tbl.specs.Options.{no_options}
 use Rattle.nr_tbl.specs.Formats.{first_formats}
+use Rattle.nr_tbl.specs.Measure.{begun, with_row}
 use Rattle.nr_tbl.specs.Held.{ends_name, held_with}
 use Rattle.nr_tbl.specs.Half.{Met, taking, leaving}
 
@@ -35,7 +36,7 @@ in_passing b h = taking (if b == 10 then modes.Start helds.Nothing else modes.Pa
 
 -- no field of a row was read
 abbrev pub row_begun : Half → Half
-row_begun h = record h { fields = 0; shape = Empty; marks = first_marks }
+row_begun h = record h { fields = 0; shape = Empty; marks = first_marks; measure = with_row h.measure }
 
 -- a line of formats begins, or that of the options
 abbrev pub formats_begun : Bool → Act → Half → Met
@@ -45,5 +46,5 @@ formats_begun first act h = taking (modes.FormatStart helds.Nothing) act (record
 abbrev pub in_title : ℕ → Half → Met
 in_title b h =
     if b == 10
-    then formats_begun true (Say (says.Begin h.known)) (row_begun (record h { known = true; options = no_options; formats = first_formats 0 0 false }))
+    then formats_begun true (Say (says.Begin h.known)) (row_begun (record h { known = true; options = no_options; formats = first_formats 0 0 false; measure = begun h.measure.line }))
     else taking modes.Title (Say (says.Byte b)) h

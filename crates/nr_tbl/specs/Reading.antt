@@ -1,7 +1,9 @@
 -- A page is read byte by byte.
-use Rattle.std.specs.Prelude.{◌≡◌, ℕ, zero, suc, ◌+◌, ◌*◌, List, [], ◌∷◌, ◌++◌, length, take, Bool, true, false, not, ◌==◌, ◌&&◌, if◌then◌else◌, Option, None, Some}
+use Rattle.std.specs.Prelude.{◌≡◌, ℕ, zero, suc, ◌+◌, ◌-◌, ◌*◌, List, [], ◌∷◌, ◌++◌, length, take, drop, Bool, true, false, not, ◌==◌, ◌&&◌, nat_lt, if◌then◌else◌, Option, None, Some}
 use Rattle.nr_units.specs.Items.{Items}
 use Rattle.nr_tbl.specs.declared.complaint.Kind.{Kind}
+use Rattle.nr_tbl.specs.declared.complaint.Kind.TheVariants.{TooWide}
+use Rattle.nr_tbl.specs.declared.complaint.Complaint.{Complaint}
 use Rattle.nr_tbl.specs.declared.half.Half.{Half}
 use Rattle.nr_tbl.specs.declared.half.Act.{Act}
 use Rattle.nr_tbl.specs.declared.half.Act.TheVariants as acts
@@ -19,39 +21,50 @@ use Rattle.nr_tbl.specs.Saying.{bytes_of}
 use Rattle.nr_tbl.specs.Formats.{read as format_read, called_bytes}
 use Rattle.nr_tbl.specs.Field.{shape_with}
 use Rattle.nr_tbl.specs.Numbers.{marks_with}
-use Rattle.nr_tbl.specs.Half.{first_half}
+use Rattle.nr_tbl.specs.Half.{first_half, complaining}
+use Rattle.nr_tbl.specs.Measure.{cells_of, overruns, taken, told as told_of, with_formats as measured_formats}
 use Rattle.nr_tbl.specs.Head.{with_options, with_formats}
 use Rattle.nr_tbl.specs.Meeting.{meet}
 
--- what is half read of a page, what is kept of options and formats, and what of a field
+-- what is half read of a page, what is kept of options and formats, and what of a row, in which a field begins at this place
 pub record Page : Type 0 where
   pub half : Half
   pub formats : Items ℕ
   pub row : Items ℕ
+  pub from : ℕ
 
--- a page begins, and so many bytes of each are kept at most
-abbrev pub first_page : ℕ → ℕ → Page
-first_page formats row = record { half = first_half; formats = record { items = []; room = formats }; row = record { items = []; room = row } }
+-- a page begins; so many bytes of each are kept at most, and the line has so many cells
+abbrev pub first_page : ℕ → ℕ → ℕ → Page
+first_page formats row line = record { half = first_half line; formats = record { items = []; room = formats }; row = record { items = []; room = row }; from = 0 }
 
 -- what goes out at most at once
 abbrev pub most : Page → ℕ
 most p = 4 * p.row.room + 32 * p.formats.room + 16384
 
--- what is half read then, and what goes out
-pub record Told : Type 0 where
+-- what is half read behind an act, and what goes out
+pub record Effect : Type 0 where
   pub page : Page
   pub bytes : List ℕ
 
-abbrev pub told : Page → List ℕ → Told
-told p bytes = record { page = p; bytes = bytes }
+abbrev pub effect : Page → List ℕ → Effect
+effect p bytes = record { page = p; bytes = bytes }
 
--- these bytes, and then what comes
-abbrev pub behind : List ℕ → Told → Told
-behind bytes t = record { page = t.page; bytes = bytes ++ t.bytes }
+-- What is half read then, what goes out, and in how many steps: in each what comes meets what is half read.
+pub record Told : Type 0 where
+  pub page : Page
+  pub bytes : List ℕ
+  pub steps : ℕ
+
+abbrev pub told : Page → List ℕ → ℕ → Told
+told p bytes steps = record { page = p; bytes = bytes; steps = steps }
+
+-- these bytes, in so many steps, and then what comes
+abbrev pub behind : List ℕ → ℕ → Told → Told
+behind bytes steps t = record { page = t.page; bytes = bytes ++ t.bytes; steps = steps + t.steps }
 
 -- first the one, then the other
 abbrev pub then_told : Told → (Page → Told) → Told
-then_told t next = behind t.bytes (next t.page)
+then_told t next = behind t.bytes t.steps (next t.page)
 
 -- ---- what is kept
 
@@ -63,6 +76,18 @@ with_formats_kept items p = record p { formats = holding items p.formats }
 
 abbrev pub with_row : List ℕ → Page → Page
 with_row items p = record p { row = holding items p.row }
+
+-- what is kept of the field
+abbrev pub field_of : Page → List ℕ
+field_of p = drop p.from p.row.items
+
+-- it has ended
+abbrev pub field_ended : Page → Page
+field_ended p = record p { from = length p.row.items }
+
+-- nothing is kept of a row
+abbrev pub row_forgotten : Page → Page
+row_forgotten p = record p { row = holding [] p.row; from = 0 }
 
 abbrev pub with_half : Half → Page → Page
 with_half h p = record p { half = h }
@@ -80,7 +105,7 @@ format_kept b p = if is_full p.formats then p else with_formats_kept (p.formats.
 -- with its form and its places
 abbrev pub field_half : ℕ → Page → Half
 field_half b p = record p.half {
-  marks = marks_with b (length p.row.items) p.half.options.point p.half.marks;
+  marks = marks_with b (length p.row.items - p.from) p.half.options.point p.half.marks;
   shape = shape_with p.half.shape b;
 }
 
@@ -90,24 +115,28 @@ field_kept b p = if is_full p.row then p else with_half (field_half b p) (with_r
 -- ---- what is done
 
 -- what was kept is options
-abbrev pub options_told : Page → Told
+abbrev pub options_told : Page → Effect
 options_told p =
     let o = options_of p.formats.items in
-    told (with_formats_kept [] (with_half (with_options o p.half) p)) (bytes_of (says.Options o))
+    effect (with_formats_kept [] (with_half (with_options o p.half) p)) (bytes_of (says.Options o))
+
+-- what they surely take of the line
+abbrev pub formats_measured : List ℕ → Half → Half
+formats_measured text h = record h { measure = measured_formats h.options.expand text h.measure }
 
 -- what was kept is formats, up to a newline behind it
-abbrev pub formats_told : Page → Told
+abbrev pub formats_told : Page → Effect
 formats_told p =
     let s = all_read p.formats.items p.half.formats in
     let t = format_read 10 s.formats in
-    told (with_half (with_formats t.formats p.half) p) (s.bytes ++ called_bytes t.called)
+    effect (with_half (with_formats t.formats (formats_measured p.formats.items p.half)) p) (s.bytes ++ called_bytes t.called)
 
 -- what was kept goes out as it stands
-abbrev pub given_up : Page → Told
-given_up p = told (with_formats_kept [] p) (bytes_of says.GiveUp ++ p.formats.items)
+abbrev pub given_up : Page → Effect
+given_up p = effect (with_formats_kept [] p) (bytes_of says.GiveUp ++ p.formats.items)
 
-abbrev pub row_given_up : Page → Told
-row_given_up p = told (with_row [] p) (bytes_of says.GiveUpRow ++ p.row.items)
+abbrev pub row_given_up : Said → Page → Effect
+row_given_up said p = effect (row_forgotten p) (bytes_of says.GiveUpRow ++ field_of p ++ bytes_of said)
 
 -- the first bytes of a text
 abbrev pub front_of : List ℕ → Option ℕ → List ℕ
@@ -122,32 +151,48 @@ front_said text (Some n) = front_bytes (take n text)
 abbrev pub field_bytes : List ℕ → Option ℕ → List ℕ
 field_bytes text front = text_bytes text ++ front_said text front
 
-abbrev pub field_told : Option ℕ → Option ℕ → Page → Told
-field_told front solid p = told (with_row [] p) (field_bytes (front_of p.row.items solid) front)
+-- a field of so many cells passes the end of the line, or is taken
+abbrev pub cells_taken : ℕ → Half → Half
+cells_taken cells h =
+    if overruns h.measure.gap cells h.measure.left then complaining TooWide (record h { measure = told_of h.measure })
+    else record h { measure = taken h.measure.gap cells h.measure }
 
-abbrev pub field_replaced : Said → Page → Told
-field_replaced said p = told (with_row [] p) (bytes_of said)
+-- one beyond the columns stands below its row
+abbrev pub field_taken : ℕ → Half → Half
+field_taken cells h = if nat_lt h.formats.columns h.fields then h else cells_taken cells h
 
-abbrev pub acted : Act → Page → Told
-acted (acts.Say said) p = told p (bytes_of said)
-acted (acts.KeepFormat b) p = told (format_kept b p) []
+abbrev pub field_told : Option ℕ → Option ℕ → Page → Effect
+field_told front solid p =
+    let text = front_of (field_of p) solid in
+    effect (with_half (field_taken (cells_of text) p.half) (field_ended p)) (field_bytes text front)
+
+abbrev pub field_replaced : Said → Page → Effect
+field_replaced said p = effect (field_ended p) (bytes_of said)
+
+abbrev pub row_ended : Said → Page → Effect
+row_ended said p = effect (row_forgotten p) (bytes_of said)
+
+abbrev pub acted : Act → Page → Effect
+acted (acts.Say said) p = effect p (bytes_of said)
+acted (acts.KeepFormat b) p = effect (format_kept b p) []
 acted acts.ReadOptions p = options_told p
 acted acts.ReadFormats p = formats_told p
-acted acts.Forget p = told (with_formats_kept [] p) []
+acted acts.Forget p = effect (with_formats_kept [] p) []
 acted acts.GiveUp p = given_up p
-acted (acts.KeepField b) p = told (field_kept b p) []
+acted (acts.KeepField b) p = effect (field_kept b p) []
 acted (acts.Field front solid) p = field_told front solid p
 acted (acts.Replace said) p = field_replaced said p
-acted acts.GiveUpRow p = row_given_up p
+acted (acts.EndRow said) p = row_ended said p
+acted (acts.GiveUpRow said) p = row_given_up said p
 
 -- ---- what comes is met again until it is taken
 
 abbrev pub heard_in : ℕ → Coming → Page → Told
-heard_in zero coming p = told p []
+heard_in zero coming p = told p [] 0
 heard_in (suc n) coming p =
     let m = meet coming (full p) p.half in
-    let t = acted m.act (with_half m.half p) in
-    behind t.bytes (if m.takes then told t.page [] else heard_in n coming t.page)
+    let d = acted m.act (with_half m.half p) in
+    behind d.bytes 1 (if m.takes then told d.page [] 0 else heard_in n coming d.page)
 
 -- ten times are enough
 unfoldable pub heard : Coming → Page → Told
@@ -165,8 +210,21 @@ finished p = heard End (unblamed p)
 
 -- many bytes
 abbrev pub fed : Page → List ℕ → Told
-fed p [] = told p []
+fed p [] = told p [] 0
 fed p (b ∷ bs) = then_told (read b p) (λ q. fed q bs)
+
+-- ---- what is wrong
+
+-- what was found wrong behind so many bytes
+abbrev pub found : Option Kind → ℕ → List Complaint
+found None at = []
+found (Some kind) at = record { kind = kind; at = at } ∷ []
+
+-- of bytes behind so many others: of two things that are wrong at a byte the first is told
+abbrev pub complaints_from : ℕ → Page → List ℕ → List Complaint
+complaints_from at p [] = []
+complaints_from at p (b ∷ bs) =
+    found (read b p).page.half.complaint (at + 1) ++ complaints_from (at + 1) (read b p).page bs
 
 -- ---- bytes that pass
 
@@ -187,13 +245,31 @@ passes p = is_passing p.half.mode && is_well p.half.complaint
 abbrev pub is_plain_byte : ℕ → Bool
 is_plain_byte b = not (b == 10)
 
--- the first n of these go out as they are and change nothing
-abbrev pub IsPlainFront : ℕ → List ℕ → Page → Type 0
-IsPlainFront n bytes p = fed p (take n bytes) ≡ told p (take n bytes)
+-- the first n of these go out as they are and change nothing, each in one step, and nothing is wrong with them
+pub record IsPlainFront (n : ℕ) (bytes : List ℕ) (p : Page) : Type 0 where
+  pub told_so : fed p (take n bytes) ≡ told p (take n bytes) n
+  pub well : (at : ℕ) → complaints_from at p (take n bytes) ≡ []
 
--- ---- the definition: what comes of all bytes of an input, where so many bytes of formats and of a field are kept
+-- ---- the definition: what comes of all bytes of an input, where so many bytes of formats and of a row are kept and the line has
+-- so many cells
 
-abbrev pub tables_set : ℕ → ℕ → List ℕ → List ℕ
-tables_set formats row input =
-    let t = fed (first_page formats row) input in
+abbrev pub tables_set : ℕ → ℕ → ℕ → List ℕ → List ℕ
+tables_set formats row line input =
+    let t = fed (first_page formats row line) input in
     t.bytes ++ (finished t.page).bytes
+
+-- in how many steps that comes
+abbrev pub steps_of : ℕ → ℕ → ℕ → List ℕ → ℕ
+steps_of formats row line input =
+    let t = fed (first_page formats row line) input in
+    t.steps + (finished t.page).steps
+
+-- what is wrong with it, in the order of the input: of bytes, before the end
+abbrev pub complaints_before_end : ℕ → ℕ → ℕ → List ℕ → List Complaint
+complaints_before_end formats row line input = complaints_from 0 (first_page formats row line) input
+
+-- and with the end
+abbrev pub complaints_of : ℕ → ℕ → ℕ → List ℕ → List Complaint
+complaints_of formats row line input =
+    complaints_before_end formats row line input
+    ++ found (finished (fed (first_page formats row line) input).page).page.half.complaint (length input)

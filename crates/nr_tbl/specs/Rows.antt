@@ -4,9 +4,10 @@ use Rattle.nr_tbl.specs.declared.complaint.Kind.TheVariants.{TooManyFields, RowL
 use Rattle.nr_tbl.specs.declared.half.Half.{Half}
 use Rattle.nr_tbl.specs.declared.half.Mode.TheVariants as modes
 use Rattle.nr_tbl.specs.declared.half.Act.{Act}
-use Rattle.nr_tbl.specs.declared.half.Act.TheVariants.{Say, KeepField, Field, Replace, GiveUpRow}
+use Rattle.nr_tbl.specs.declared.half.Act.TheVariants.{Say, KeepField, Field, Replace, EndRow, GiveUpRow}
 use Rattle.nr_tbl.specs.declared.held.Held.{Held}
 use Rattle.nr_tbl.specs.declared.held.Held.TheVariants as helds
+use Rattle.nr_tbl.specs.declared.said.Said.{Said}
 use Rattle.nr_tbl.specs.declared.said.Said.TheVariants as says
 use Rattle.nr_tbl.specs.declared.said.Mark.TheVariants as marks
 use Rattle.nr_tbl.specs.declared.field.Shape.{Shape}
@@ -18,25 +19,35 @@ use Rattle.nr_tbl.specs.Held.{ends_name, held_with}
 use Rattle.nr_tbl.specs.Half.{Met, taking, leaving, complaining}
 use Rattle.nr_tbl.specs.Outside.{row_begun, formats_begun}
 
+-- ---- no room for another byte of a row
+
+-- what was kept of the field goes out as it stands, and this, which was half read
+abbrev pub giving_up_row : Said → Half → Met
+giving_up_row said h = leaving modes.PlainLine (GiveUpRow said) (complaining RowLimit h)
+
 -- ---- the beginning of a line: a row, the end of the table, new formats, or a request
+
+-- a point that a row begins with
+abbrev pub pointed : Bool → Half → Met
+pointed full h = if full then giving_up_row (says.Held helds.Dot) h else leaving modes.Field (KeepField 46) h
 
 abbrev pub request : Held → Half → Met
 request held h = leaving modes.Request (Say (says.Request held)) h
 
 -- a line that begins with a point and a digit is a row
-abbrev pub released : Held → ℕ → Half → Met
-released helds.Nothing b h = leaving modes.Field (Say says.Nothing) h
-released helds.Dot b h = if is_digit b then leaving modes.Field (KeepField 46) h else request helds.Dot h
-released helds.End b h = if ends_name b then leaving modes.Passing (Say says.End) h else request helds.End h
-released helds.More b h = if ends_name b then leaving modes.Command (Say says.More) h else request helds.More h
-released held b h = request held h
+abbrev pub released : Held → ℕ → Bool → Half → Met
+released helds.Nothing b full h = leaving modes.Field (Say says.Nothing) h
+released helds.Dot b full h = if is_digit b then pointed full h else request helds.Dot h
+released helds.End b full h = if ends_name b then leaving modes.Passing (Say says.End) h else request helds.End h
+released helds.More b full h = if ends_name b then leaving modes.Command (Say says.More) h else request helds.More h
+released held b full h = request held h
 
-abbrev pub start_with : Option Held → Held → ℕ → Half → Met
-start_with (Some more) held b h = taking (modes.RowStart more) (Say says.Nothing) h
-start_with None held b h = released held b h
+abbrev pub start_with : Option Held → Held → ℕ → Bool → Half → Met
+start_with (Some more) held b full h = taking (modes.RowStart more) (Say says.Nothing) h
+start_with None held b full h = released held b full h
 
-abbrev pub at_row_start : Held → ℕ → Half → Met
-at_row_start held b h = start_with (held_with held b) held b h
+abbrev pub at_row_start : Held → ℕ → Bool → Half → Met
+at_row_start held b full h = start_with (held_with held b) held b full h
 
 abbrev pub in_request : ℕ → Half → Met
 in_request b h =
@@ -58,13 +69,10 @@ is_beyond h = nat_le h.formats.columns h.fields
 abbrev pub beyond_told : Half → Half
 beyond_told h = if is_beyond h && is_empty h.shape then complaining TooManyFields h else h
 
-abbrev pub keeping : ℕ → Half → Met
-keeping b h =
-    if h.options.nospaces && is_empty h.shape && (b == 32) then taking modes.Field (Say says.Nothing) h
-    else taking modes.Field (KeepField b) (beyond_told h)
-
-abbrev pub giving_up_row : Half → Met
-giving_up_row h = leaving modes.PlainLine GiveUpRow (complaining RowLimit h)
+abbrev pub keeping : ℕ → Bool → Half → Met
+keeping b full h =
+    if h.options.nospaces && is_empty h.shape && (b == 32) then taking modes.Field (Say says.Nothing) h else
+    if full then giving_up_row says.Nothing h else taking modes.Field (KeepField b) (beyond_told h)
 
 -- ---- the end of a field
 
@@ -96,7 +104,7 @@ last_field h = leaving modes.RowEnd (field_act h) (counted h)
 -- a rule alone is one across the table, and `T{` begins a block
 abbrev pub line_with : Shape → Half → Met
 line_with shapes.Rule h =
-    if h.fields == 0 then taking (modes.RowStart helds.Nothing) (Replace says.Rule) (row_begun h) else last_field h
+    if h.fields == 0 then taking (modes.RowStart helds.Nothing) (EndRow says.Rule) (row_begun h) else last_field h
 line_with shapes.Block h = taking (modes.BlockStart helds.Nothing) (Replace says.Block) h
 line_with shape h = last_field h
 
@@ -110,8 +118,7 @@ abbrev pub in_field : ℕ → Bool → Half → Met
 in_field b full h =
     if b == 10 then ending_line h else
     if (b == h.options.tab) && not (is_beyond h) then ending_field h else
-    if full then giving_up_row h else
-    if b == 92 then taking modes.Escaped (Say says.Nothing) h else keeping b h
+    if b == 92 then taking modes.Escaped (Say says.Nothing) h else keeping b full h
 
 -- in a comment behind the last column
 abbrev pub in_comment : ℕ → Half → Met
@@ -119,15 +126,15 @@ in_comment b h = if b == 10 then leaving modes.RowEnd (Say says.Nothing) h else 
 
 -- behind a backslash, which is kept first: a newline there vanishes with it, and a quote makes a comment of a field beyond
 -- the columns
-abbrev pub in_escaped : ℕ → Half → Met
-in_escaped b h =
+abbrev pub in_escaped : ℕ → Bool → Half → Met
+in_escaped b full h =
     if b == 10 then taking modes.Field (Say says.Nothing) h else
-    if (b == 34) && is_beyond h && is_empty h.shape then taking modes.Comment (Say says.Nothing) h
-    else (let m = keeping 92 h in leaving modes.Literal m.act m.half)
+    if (b == 34) && is_beyond h && is_empty h.shape then taking modes.Comment (Say says.Nothing) h else
+    if full then giving_up_row (says.Byte 92) h else leaving modes.Literal (KeepField 92) (beyond_told h)
 
 -- two backslashes are kept as \e, which stays itself where it is read twice
 abbrev pub in_literal : ℕ → Bool → Half → Met
-in_literal b full h = if (b == 92) && not full then keeping 101 h else in_field b full h
+in_literal b full h = if b == 92 then keeping 101 full h else in_field b full h
 
 abbrev pub in_row_end : Half → Met
-in_row_end h = taking (modes.RowStart helds.Nothing) (Say says.Row) (row_begun h)
+in_row_end h = taking (modes.RowStart helds.Nothing) (EndRow says.Row) (row_begun h)

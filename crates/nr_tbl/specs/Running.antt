@@ -1,14 +1,17 @@
 -- A run over a source and a sink.
-use Rattle.std.specs.Prelude.{◌≡◌, ℕ, ◌+◌, ◌*◌, ◌<◌, ◌≤◌, List, [], ◌++◌, length, Bool, true, false, Option, None, Some, Result, Ok, Err, ⊤, ◌⊎◌}
+use Rattle.std.specs.Prelude.{◌≡◌, ℕ, ◌+◌, ◌*◌, ◌<◌, ◌≤◌, List, [], ◌++◌, length, take, nat_lt, Bool, true, false, Option, None, Some, Result, Ok, Err, ⊤, ◌⊎◌}
 use Rattle.std.specs.Io.KnownBytes.{Appends}
 use Rattle.nr_units.specs.Failures.{next_count}
 use Rattle.nr_units.specs.Held.{AppendsFront}
+use Rattle.nr_units.specs.Items.{Items}
 use Rattle.nr_units.specs.Supply.{Supply}
+use Rattle.nr_tbl.specs.declared.complaint.Complaint.{Complaint}
+use Rattle.nr_tbl.specs.declared.complaint.Kind.{Kind}
 use Rattle.nr_tbl.specs.declared.running.Outcome.{Outcome}
 use Rattle.nr_tbl.specs.declared.running.Outcome.TheVariants.{Done, ReadFault, TooLong, WriteFault}
 use Rattle.nr_tbl.specs.declared.running.Turn.{Turn}
 use Rattle.nr_tbl.specs.declared.running.Turn.TheVariants as turns
-use Rattle.nr_tbl.specs.Reading.{Page, first_page, fed, finished, tables_set}
+use Rattle.nr_tbl.specs.Reading.{Page, first_page, fed, finished, found, complaints_from, tables_set, steps_of, complaints_before_end, complaints_of}
 
 -- these bytes came
 abbrev pub Comes : Option Supply → List ℕ → Option Supply → Type 0
@@ -33,29 +36,61 @@ pub record Flushes (held new : Option (List ℕ)) (pending left : List ℕ) : Ty
   pub went_out : Appends held new out
   pub all : pending ≡ out ++ left
 
--- how much goes out in one turn at most
+-- how much goes out for a byte that comes at most, and at the end
 abbrev pub pending_size : ℕ → ℕ → ℕ
 pending_size formats row = 10 * (4 * row + 32 * formats + 16384)
 
+-- ---- what a run tells beside what goes out
+
+-- its steps, the complaints that were kept, and whether there were more
+pub record Account : Type 0 where
+  pub steps : ℕ
+  pub kept : Items Complaint
+  pub missed : Bool
+
+abbrev pub account : ℕ → Items Complaint → Bool → Account
+account steps kept missed = record { steps = steps; kept = kept; missed = missed }
+
+-- of these complaints the first are kept, as many as there is room for
+pub record Keeps (all : List Complaint) (kept : Items Complaint) (missed : Bool) : Type 0 where
+  pub first : kept.items ≡ take kept.room all
+  pub others : missed ≡ nat_lt kept.room (length all)
+
+-- it tells so many steps, and these complaints
+pub record Tells (a : Account) (steps : ℕ) (all : List Complaint) : Type 0 where
+  pub made : a.steps ≡ steps
+  pub keeps : Keeps all a.kept a.missed
+
 -- ---- one turn
 
--- so many bytes came and were read
-pub record Took (old new : Option Supply) (p q : Page) (pending left : List ℕ) (n : ℕ) : Type 0 where
+-- so many bytes came and were read, in so many steps, and this was found wrong with the last of them
+pub record Took (old new : Option Supply) (p q : Page) (pending left : List ℕ) (n steps : ℕ) (wrong : Option Kind) : Type 0 where
   pub bytes : List ℕ
   pub came : Comes old bytes new
   pub count : length bytes ≡ n
   pub page : q ≡ (fed p bytes).page
   pub out : left ≡ pending ++ (fed p bytes).bytes
+  pub made : steps ≡ (fed p bytes).steps
+  pub complains : (at : ℕ) → complaints_from at p bytes ≡ found wrong (at + n)
+
+-- the end came
+pub record Ended (old new : Option Supply) (p : Page) (pending left : List ℕ) (steps : ℕ) (wrong : Option Kind) : Type 0 where
+  pub came : Comes old [] new
+  pub ends : Ends old new
+  pub out : left ≡ pending ++ (finished p).bytes
+  pub made : steps ≡ (finished p).steps
+  pub complains : wrong ≡ (finished p).page.half.complaint
 
 abbrev pub Turns : Option Supply → Option Supply → Page → Page → List ℕ → List ℕ → Turn → Type 0
-Turns old new p q pending left (turns.Took n) = Took old new p q pending left n
-Turns old new p q pending left turns.End = Comes old [] new × Ends old new × (left ≡ pending ++ (finished p).bytes)
+Turns old new p q pending left (turns.Took n steps wrong) = Took old new p q pending left n steps wrong
+Turns old new p q pending left (turns.End steps wrong) = Ended old new p pending left steps wrong
 Turns old new p q pending left turns.ReadFault = Comes old [] new × (left ≡ pending)
 
--- at least one byte and not too many were taken
-abbrev pub IsCounted : ℕ → Turn → Type 0
-IsCounted most (turns.Took n) = (0 < n) × (n ≤ most)
-IsCounted most turn = ⊤
+-- At least one byte and not too many were taken. So many went out for each at most, in ten steps at most, and as many at the end.
+abbrev pub IsMeasured : ℕ → ℕ → ℕ → ℕ → Turn → Type 0
+IsMeasured size most before after (turns.Took n steps wrong) = (0 < n) × (n ≤ most) × (after ≤ before + size * n) × (steps ≤ 10 * n)
+IsMeasured size most before after (turns.End steps wrong) = (after ≤ before + size) × (steps ≤ 10)
+IsMeasured size most before after turns.ReadFault = after ≤ before
 
 abbrev pub is_fault : Turn → Bool
 is_fault turns.ReadFault = true
@@ -64,40 +99,53 @@ is_fault turn = false
 -- ---- a run
 
 -- where a run stands that took these bytes: what they come to went out, or is pending
-pub record Stands (fl rl : ℕ) (first supply : Option Supply) (held new : Option (List ℕ)) (pending : List ℕ) (p : Page) (taken : ℕ) : Type 0 where
+pub record Stands (fl rl ll : ℕ) (first supply : Option Supply) (held new : Option (List ℕ)) (pending : List ℕ) (p : Page) (taken : ℕ) (a : Account) : Type 0 where
   pub bytes : List ℕ
   pub came : Comes first bytes supply
   pub count : length bytes ≡ taken
-  pub page : p ≡ (fed (first_page fl rl) bytes).page
+  pub page : p ≡ (fed (first_page fl rl ll) bytes).page
   pub sent : List ℕ
   pub went_out : Appends held new sent
-  pub all : sent ++ pending ≡ (fed (first_page fl rl) bytes).bytes
+  pub all : sent ++ pending ≡ (fed (first_page fl rl ll) bytes).bytes
+  pub few : length (fed (first_page fl rl ll) bytes).bytes ≤ pending_size fl rl * taken
+  pub tells : Tells a (fed (first_page fl rl ll) bytes).steps (complaints_before_end fl rl ll bytes)
+  pub quick : a.steps ≤ 10 * taken
 
--- all bytes came, and what they come to went out
-pub record IsDone (fl rl : ℕ) (first last : Option Supply) (held new : Option (List ℕ)) : Type 0 where
+-- All bytes came, and what they come to went out, so many bytes for each at most and as many more. That took so many steps, at
+-- most ten for each byte and ten for the end.
+pub record IsDone (fl rl ll : ℕ) (first last : Option Supply) (held new : Option (List ℕ)) (a : Account) : Type 0 where
   pub bytes : List ℕ
   pub came : Comes first bytes last
   pub ends : Ends first last
-  pub went_out : Appends held new (tables_set fl rl bytes)
+  pub went_out : Appends held new (tables_set fl rl ll bytes)
+  pub few : length (tables_set fl rl ll bytes) ≤ pending_size fl rl * (length bytes + 1)
+  pub tells : Tells a (steps_of fl rl ll bytes) (complaints_of fl rl ll bytes)
+  pub quick : a.steps ≤ 10 * (length bytes + 1)
 
--- so many bytes came, and what they come to went out but for what is half read
-pub record IsCut (fl rl : ℕ) (first last : Option Supply) (held new : Option (List ℕ)) (at : ℕ) : Type 0 where
+-- so many bytes came, and what they come to went out but for what is half read; what they tell is told
+pub record IsCut (fl rl ll : ℕ) (first last : Option Supply) (held new : Option (List ℕ)) (at : ℕ) (a : Account) : Type 0 where
   pub bytes : List ℕ
   pub came : Comes first bytes last
   pub count : length bytes ≡ at
-  pub went_out : Appends held new (fed (first_page fl rl) bytes).bytes
+  pub went_out : Appends held new (fed (first_page fl rl ll) bytes).bytes
+  pub tells : Tells a (fed (first_page fl rl ll) bytes).steps (complaints_before_end fl rl ll bytes)
+  pub quick : a.steps ≤ 10 * length bytes
 
--- some bytes came, and a front of what they come to went out
-pub record IsBroken (fl rl : ℕ) (first last : Option Supply) (held new : Option (List ℕ)) : Type 0 where
+-- some bytes came, and a front of what they come to went out; what they tell is told, without the end or with it
+pub record IsBroken (fl rl ll : ℕ) (first last : Option Supply) (held new : Option (List ℕ)) (a : Account) : Type 0 where
   pub bytes : List ℕ
   pub came : Comes first bytes last
-  pub went_out : AppendsFront held new (tables_set fl rl bytes)
+  pub went_out : AppendsFront held new (tables_set fl rl ll bytes)
+  pub tells :
+      Tells a (fed (first_page fl rl ll) bytes).steps (complaints_before_end fl rl ll bytes)
+      ⊎ Tells a (steps_of fl rl ll bytes) (complaints_of fl rl ll bytes)
+  pub quick : a.steps ≤ 10 * (length bytes + 1)
 
-abbrev pub Ran : ℕ → ℕ → Option Supply → Option Supply → Option (List ℕ) → Option (List ℕ) → Outcome → Type 0
-Ran fl rl first last held new Done = IsDone fl rl first last held new
-Ran fl rl first last held new (ReadFault at) = IsCut fl rl first last held new at
-Ran fl rl first last held new TooLong = IsCut fl rl first last held new 1099511627776
-Ran fl rl first last held new WriteFault = IsBroken fl rl first last held new
+abbrev pub Ran : ℕ → ℕ → ℕ → Option Supply → Option Supply → Option (List ℕ) → Option (List ℕ) → Account → Outcome → Type 0
+Ran fl rl ll first last held new a Done = IsDone fl rl ll first last held new a
+Ran fl rl ll first last held new a (ReadFault at) = IsCut fl rl ll first last held new at a
+Ran fl rl ll first last held new a TooLong = IsCut fl rl ll first last held new 1099511627776 a
+Ran fl rl ll first last held new a WriteFault = IsBroken fl rl ll first last held new a
 
 abbrev pub is_read_fault : Outcome → Bool
 is_read_fault (ReadFault at) = true

@@ -15,7 +15,7 @@ impl Half {
     {
         self.complains(Kind::OpenBlock);
         self.row_begins();
-        self.leaves(Mode::RowStart(held), Act::Say(Said::CloseBlock))
+        self.leaves(Mode::RowStart(held), Act::EndRow(Said::CloseBlock))
     }
 
     /// A byte at the beginning of a line that may be the last of the block, or of the table.

@@ -21,6 +21,8 @@ pub enum Kind {
     FormatsLimit,
     /// More bytes of a row than are kept: the rest of the table goes out as plain lines.
     RowLimit,
+    /// A row of the table is surely wider than the line: it is set as wide as it is.
+    TooWide,
 }
 
 /// What is wrong, and where.

@@ -6,6 +6,7 @@ use super::complaint::Kind;
 use super::field::Shape;
 use super::formats::Formats;
 use super::held::Held;
+use super::measure::Measure;
 use super::numbers::Marks;
 use super::options::Options;
 use super::said::Said;
@@ -72,15 +73,17 @@ pub(crate) enum Act {
     Forget,
     /// The table isn't set: what was kept of its formats goes out as it stands.
     GiveUp,
-    /// A byte of a field is kept.
+    /// A byte of a row is kept.
     KeepField(u8),
     /// The field goes out as text: the length of what stands before the place where it is aligned, and that
     /// without the blanks at its end, where these count.
     Field(Option<usize>, Option<usize>),
     /// This goes out in place of the field.
     Replace(Said),
-    /// The table isn't set further: what was kept of the field goes out as it stands.
-    GiveUpRow,
+    /// This goes out, and what was kept of the row is forgotten.
+    EndRow(Said),
+    /// The table isn't set further: what was kept of the field goes out as it stands, and this.
+    GiveUpRow(Said),
 }
 
 /// What comes.
@@ -97,7 +100,7 @@ pub(crate) enum Coming {
 pub(crate) struct Full {
     /// Of options and formats.
     pub formats: bool,
-    /// Of a field.
+    /// Of a row.
     pub row: bool,
 }
 
@@ -133,6 +136,8 @@ pub(crate) struct Half {
     pub shape: Shape,
     /// Its places.
     pub marks: Marks,
+    /// What the table surely takes of the line.
+    pub measure: Measure,
     /// What was found wrong.
     pub complaint: Option<Kind>,
 }
@@ -172,9 +177,9 @@ impl Mode {
 }
 
 impl Half {
-    /// A page begins.
-    pub(crate) fn new() -> Half
-        ensures { result ≡ specs.first_half }
+    /// A page begins, and the line has so many cells.
+    pub(crate) fn new(line: usize) -> Half
+        ensures { result ≡ specs.first_half line }
     {
         Half {
             mode: Mode::Start(Held::Nothing),
@@ -187,6 +192,7 @@ impl Half {
             fields: 0,
             shape: Shape::Empty,
             marks: Marks::new(),
+            measure: Measure::new(line),
             complaint: None,
         }
     }

@@ -1,6 +1,6 @@
 //! tbl: tables become requests of the language of the formatter.
 //!
-//! It stands on nr_units. To read: `complaint`, `held`, `field`, `numbers`; `options`, `formats`; `macros`, `drawing`,
+//! It stands on nr_units. To read: `complaint`, `held`, `field`, `numbers`, `measure`; `options`, `formats`; `macros`, `drawing`,
 //! `said`; `half`, `outside`, `head`, `rows`, `blocks`, `plain`, `meeting`; `reader`, `running`; `untouched`.
 #![tactic(auto)]
 
@@ -13,6 +13,7 @@ mod half;
 mod head;
 mod held;
 mod macros;
+mod measure;
 mod meeting;
 mod numbers;
 mod options;

@@ -7,6 +7,7 @@ use super::field::Shape;
 use super::formats::Formats;
 use super::half::{Act, Half, Mode, Seen};
 use super::held::{Held, ends_name};
+use super::measure::Measure;
 use super::numbers::Marks;
 use super::options::Options;
 use super::said::Said;
@@ -44,6 +45,7 @@ impl Half {
         self.fields = 0;
         self.shape = Shape::Empty;
         self.marks = Marks::new();
+        self.measure = self.measure.with_row();
     }
 
     /// A line of formats begins behind this byte, or that of the options.
@@ -67,6 +69,7 @@ impl Half {
         self.known = true;
         self.options = Options::new();
         self.formats = Formats::new(0, 0, false);
+        self.measure = Measure::new(self.measure.line);
         self.row_begins();
         self.formats_begin(true, Act::Say(Said::Begin(known)))
     }

@@ -5,17 +5,21 @@ ghost use Rattle.nr_tbl.specs.Reading as specs;
 use super::complaint::Kind;
 use super::formats::{Formats, put_called};
 use super::half::{Act, Coming, Full, Half, Mode};
+use super::measure::cells_of;
 use super::options::{Options, OptionsRead};
-use super::said::{Said, put_double, say};
+use super::said::{Said, put_call, put_double, say};
 use nr_units::slice_vec::SliceVec;
 use std::marker::Model;
 
-/// What is half read of a page, with what is kept of a table: its options and formats, and a field, as they stand.
+/// What is half read of a page, with what is kept of a table: its options and formats, and the fields of a row, as they
+/// stand.
 #[derive(Drop)]
 pub(crate) struct Reader<'a> {
     half: Half,
     formats: SliceVec<'a, u8>,
     row: SliceVec<'a, u8>,
+    /// The place in it where the field begins.
+    from: usize,
 }
 
 impl<'a> Model for Reader<'a> {
@@ -23,7 +27,7 @@ impl<'a> Model for Reader<'a> {
 
     ghost Value = { Page };
 
-    ghost view = { λ r. record { half = r.half; formats = r.formats; row = r.row } };
+    ghost view = { λ r. record { half = r.half; formats = r.formats; row = r.row; from = r.from } };
 }
 
 /// How often what comes is met at most.
@@ -117,15 +121,33 @@ fn put_field(text: &[u8], front: Option<usize>, out: &mut SliceVec<'_, u8>)
     }
 }
 
+impl Half {
+    /// A field of so many cells passes the end of the line, or is taken. One beyond the columns stands below its row.
+    fn takes_field(&mut self, cells: usize)
+        ensures { self.new ≡ specs.field_taken cells self.old }
+    {
+        if self.fields > self.formats.columns {
+            return;
+        }
+        if self.measure.overruns(cells) {
+            self.measure = self.measure.told();
+            self.complains(Kind::TooWide);
+        } else {
+            self.measure = self.measure.taken(cells);
+        }
+    }
+}
+
 impl<'a> Reader<'a> {
-    /// A page begins.
-    pub(crate) fn over(formats: &'a mut [u8], row: &'a mut [u8]) -> Reader<'a>
-        ensures { result ≡ specs.first_page (length formats.entry.now) (length row.entry.now) }
+    /// A page begins, and the line has so many cells.
+    pub(crate) fn over(formats: &'a mut [u8], row: &'a mut [u8], line: usize) -> Reader<'a>
+        ensures { result ≡ specs.first_page (length formats.entry.now) (length row.entry.now) line }
     {
         Reader {
-            half: Half::new(),
+            half: Half::new(line),
             formats: SliceVec::over(formats),
             row: SliceVec::over(row),
+            from: 0,
         }
     }
 
@@ -142,10 +164,11 @@ impl<'a> Reader<'a> {
     fn keep_field(&mut self, byte: u8)
         ensures { self.new ≡ specs.field_kept byte self.old }
     {
-        let place = self.row.len();
-        if place >= self.row.room() {
+        let len = self.row.len();
+        if len >= self.row.room() {
             return;
         }
+        let place = len.saturating_sub(self.from);
         let point = self.half.options.point;
         self.half.marks = self.half.marks.with(byte, place, point);
         self.half.shape = self.half.shape.with(byte);
@@ -174,6 +197,11 @@ impl<'a> Reader<'a> {
         ensures few { length out.new.items ≤ length out.old.items + specs.most self.old }
         ensures room { out.new.room ≡ out.old.room }
     {
+        let expand = self.half.options.expand;
+        self.half.measure = self
+            .half
+            .measure
+            .with_formats(expand, self.formats.as_slice());
         let mut formats = read_formats(self.half.formats, self.formats.as_slice(), out);
         let called = formats.read(b'\n');
         put_called(called, out);
@@ -193,17 +221,51 @@ impl<'a> Reader<'a> {
         self.formats.clear();
     }
 
-    /// What was kept of a field goes out as it stands.
-    fn give_up_row(&mut self, out: &mut SliceVec<'_, u8>)
+    /// What is kept of the field.
+    fn field(&self) -> &[u8]
+        ensures value { result.now ≡ specs.field_of self.now }
+        ensures few { length result.now ≤ self.now.row.room }
+    {
+        let kept = self.row.as_slice();
+        if self.from < kept.len() {
+            &kept[self.from..]
+        } else {
+            b""
+        }
+    }
+
+    /// Nothing is kept of a row.
+    fn forget_row(&mut self)
+        ensures { self.new ≡ specs.row_forgotten self.old }
+    {
+        self.row.clear();
+        self.from = 0;
+    }
+
+    /// What was kept of a field goes out as it stands, and this.
+    fn give_up_row(&mut self, said: Said, out: &mut SliceVec<'_, u8>)
         requires { length out.old.items + specs.most self.old ≤ out.old.room }
-        ensures page { self.new ≡ (specs.row_given_up self.old).page }
-        ensures items { out.new.items ≡ out.old.items ++ (specs.row_given_up self.old).bytes }
+        ensures page { self.new ≡ (specs.row_given_up said self.old).page }
+        ensures items { out.new.items ≡ out.old.items ++ (specs.row_given_up said self.old).bytes }
         ensures few { length out.new.items ≤ length out.old.items + specs.most self.old }
         ensures room { out.new.room ≡ out.old.room }
     {
-        say(Said::GiveUpRow, out);
-        out.extend(self.row.as_slice());
-        self.row.clear();
+        put_call(Said::GiveUpRow, out);
+        out.extend(self.field());
+        say(said, out);
+        self.forget_row();
+    }
+
+    /// The row ends, and this goes out.
+    fn end_row(&mut self, said: Said, out: &mut SliceVec<'_, u8>)
+        requires { length out.old.items + specs.most self.old ≤ out.old.room }
+        ensures page { self.new ≡ (specs.row_ended said self.old).page }
+        ensures items { out.new.items ≡ out.old.items ++ (specs.row_ended said self.old).bytes }
+        ensures few { length out.new.items ≤ length out.old.items + specs.most self.old }
+        ensures room { out.new.room ≡ out.old.room }
+    {
+        say(said, out);
+        self.forget_row();
     }
 
     /// The field goes out as text.
@@ -214,8 +276,11 @@ impl<'a> Reader<'a> {
         ensures few { length out.new.items ≤ length out.old.items + specs.most self.old }
         ensures room { out.new.room ≡ out.old.room }
     {
-        put_field(front_of(self.row.as_slice(), solid), front, out);
-        self.row.clear();
+        let text = front_of(self.field(), solid);
+        put_field(text, front, out);
+        let cells = cells_of(text);
+        self.half.takes_field(cells);
+        self.from = self.row.len();
     }
 
     /// This goes out in place of the field.
@@ -227,7 +292,7 @@ impl<'a> Reader<'a> {
         ensures room { out.new.room ≡ out.old.room }
     {
         say(said, out);
-        self.row.clear();
+        self.from = self.row.len();
     }
 
     /// What is done.
@@ -248,7 +313,8 @@ impl<'a> Reader<'a> {
             Act::KeepField(byte) => self.keep_field(byte),
             Act::Field(front, solid) => self.say_field(front, solid, out),
             Act::Replace(said) => self.replace_field(said, out),
-            Act::GiveUpRow => self.give_up_row(out),
+            Act::EndRow(said) => self.end_row(said, out),
+            Act::GiveUpRow(said) => self.give_up_row(said, out),
         }
     }
 
@@ -262,59 +328,68 @@ impl<'a> Reader<'a> {
         }
     }
 
-    /// What comes is met so many times at most.
-    fn hear_in(&mut self, coming: Coming, most: u8, out: &mut SliceVec<'_, u8>)
+    /// What comes is met so many times at most. Tells how many steps that took, as all below do.
+    fn hear_in(&mut self, coming: Coming, most: u8, out: &mut SliceVec<'_, u8>) -> u64
         requires { length out.old.items + most * specs.most self.old ≤ out.old.room }
         ensures page { self.new ≡ (specs.heard_in most coming self.old).page }
         ensures items { out.new.items ≡ out.old.items ++ (specs.heard_in most coming self.old).bytes }
+        ensures steps { result ≡ (specs.heard_in most coming self.old).steps }
         ensures few { length out.new.items ≤ length out.old.items + most * specs.most self.old }
+        ensures quick { result ≤ most }
         ensures room { out.new.room ≡ out.old.room }
     {
         if most == 0 {
-            return;
+            return 0;
         }
         let full = self.full();
         let seen = self.half.meet(coming, full);
         self.act(seen.act, out);
-        if !seen.takes {
-            self.hear_in(coming, most - 1, out);
+        if seen.takes {
+            return 1;
         }
+        1 + self.hear_in(coming, most - 1, out)
     }
 
     /// What comes is met until it is taken.
     #[tactic(auto, unfolding(crate::specs::Reading::heard))]
-    fn hear(&mut self, coming: Coming, out: &mut SliceVec<'_, u8>)
+    fn hear(&mut self, coming: Coming, out: &mut SliceVec<'_, u8>) -> u64
         requires { length out.old.items + 10 * specs.most self.old ≤ out.old.room }
         ensures page { self.new ≡ (specs.heard coming self.old).page }
         ensures items { out.new.items ≡ out.old.items ++ (specs.heard coming self.old).bytes }
+        ensures steps { result ≡ (specs.heard coming self.old).steps }
         ensures few { length out.new.items ≤ length out.old.items + 10 * specs.most self.old }
+        ensures quick { result ≤ 10 }
         ensures room { out.new.room ≡ out.old.room }
     {
-        self.hear_in(coming, MEETINGS, out);
+        self.hear_in(coming, MEETINGS, out)
     }
 
     /// A byte comes.
-    pub(crate) fn read(&mut self, byte: u8, out: &mut SliceVec<'_, u8>)
+    pub(crate) fn read(&mut self, byte: u8, out: &mut SliceVec<'_, u8>) -> u64
         requires { length out.old.items + 10 * specs.most self.old ≤ out.old.room }
         ensures page { self.new ≡ (specs.read byte self.old).page }
         ensures items { out.new.items ≡ out.old.items ++ (specs.read byte self.old).bytes }
+        ensures steps { result ≡ (specs.read byte self.old).steps }
         ensures few { length out.new.items ≤ length out.old.items + 10 * specs.most self.old }
+        ensures quick { result ≤ 10 }
         ensures room { out.new.room ≡ out.old.room }
     {
         self.half.complaint = None;
-        self.hear(Coming::Byte(byte), out);
+        self.hear(Coming::Byte(byte), out)
     }
 
     /// The end comes.
-    pub(crate) fn finish(&mut self, out: &mut SliceVec<'_, u8>)
+    pub(crate) fn finish(&mut self, out: &mut SliceVec<'_, u8>) -> u64
         requires { length out.old.items + 10 * specs.most self.old ≤ out.old.room }
         ensures page { self.new ≡ (specs.finished self.old).page }
         ensures items { out.new.items ≡ out.old.items ++ (specs.finished self.old).bytes }
+        ensures steps { result ≡ (specs.finished self.old).steps }
         ensures few { length out.new.items ≤ length out.old.items + 10 * specs.most self.old }
+        ensures quick { result ≤ 10 }
         ensures room { out.new.room ≡ out.old.room }
     {
         self.half.complaint = None;
-        self.hear(Coming::End, out);
+        self.hear(Coming::End, out)
     }
 
     /// What was found wrong at what came last.
@@ -331,7 +406,7 @@ impl<'a> Reader<'a> {
         matches!(self.half.mode, Mode::Passing) && self.half.complaint.is_none()
     }
 
-    /// How many of these bytes come first that go out as they are and change nothing.
+    /// How many of these bytes come first that go out as they are and change nothing, each in one step.
     pub(crate) fn plain_front(&self, bytes: &[u8]) -> usize
         ensures within { result ≤ length bytes.now }
         ensures plain { specs.IsPlainFront result bytes.now self.now }

@@ -15,16 +15,34 @@ use super::said::{Mark, Said};
 const MOST_FIELDS: usize = 65;
 
 impl Half {
+    /// There is no room for a byte of the row. This was half read before it.
+    fn gives_up_row(&mut self, said: Said) -> Seen
+        ensures { met self.new result ≡ specs.giving_up_row said self.old }
+    {
+        self.complains(Kind::RowLimit);
+        self.leaves(Mode::PlainLine, Act::GiveUpRow(said))
+    }
+
+    /// A point that a row begins with.
+    fn points(&mut self, full: bool) -> Seen
+        ensures { met self.new result ≡ specs.pointed full self.old }
+    {
+        if full {
+            return self.gives_up_row(Said::Held(Held::Dot));
+        }
+        self.leaves(Mode::Field, Act::KeepField(b'.'))
+    }
+
     /// A byte at the beginning of a line.
-    pub(crate) fn at_row_start(&mut self, held: Held, byte: u8) -> Seen
-        ensures { met self.new result ≡ specs.at_row_start held byte self.old }
+    pub(crate) fn at_row_start(&mut self, held: Held, byte: u8, full: bool) -> Seen
+        ensures { met self.new result ≡ specs.at_row_start held byte full self.old }
     {
         if let Some(held) = held.with(byte) {
             return self.takes(Mode::RowStart(held), Act::Say(Said::Nothing));
         }
         match held {
             Held::Nothing => self.leaves(Mode::Field, Act::Say(Said::Nothing)),
-            Held::Dot if is_digit(byte) => self.leaves(Mode::Field, Act::KeepField(b'.')),
+            Held::Dot if is_digit(byte) => self.points(full),
             Held::End if ends_name(byte) => self.leaves(Mode::Passing, Act::Say(Said::End)),
             Held::More if ends_name(byte) => self.leaves(Mode::Command, Act::Say(Said::More)),
             _ => self.leaves(Mode::Request, Act::Say(Said::Request(held))),
@@ -63,25 +81,27 @@ impl Half {
         self.fields >= self.formats.columns
     }
 
+    /// A field beyond the columns begins.
+    fn tells_beyond(&mut self)
+        ensures { self.new ≡ specs.beyond_told self.old }
+    {
+        if self.is_beyond() && self.shape.is_empty() {
+            self.complains(Kind::TooManyFields);
+        }
+    }
+
     /// A byte of a field is kept.
-    fn keeps(&mut self, byte: u8) -> Seen
-        ensures { met self.new result ≡ specs.keeping byte self.old }
+    fn keeps(&mut self, byte: u8, full: bool) -> Seen
+        ensures { met self.new result ≡ specs.keeping byte full self.old }
     {
         if self.options.nospaces && self.shape.is_empty() && byte == b' ' {
             return self.takes(Mode::Field, Act::Say(Said::Nothing));
         }
-        if self.is_beyond() && self.shape.is_empty() {
-            self.complains(Kind::TooManyFields);
+        if full {
+            return self.gives_up_row(Said::Nothing);
         }
+        self.tells_beyond();
         self.takes(Mode::Field, Act::KeepField(byte))
-    }
-
-    /// There is no room for a byte of the field.
-    fn gives_up_row(&mut self) -> Seen
-        ensures { met self.new result ≡ specs.giving_up_row self.old }
-    {
-        self.complains(Kind::RowLimit);
-        self.leaves(Mode::PlainLine, Act::GiveUpRow)
     }
 
     /// One field more has ended.
@@ -141,7 +161,7 @@ impl Half {
         match self.shape {
             Shape::Rule if self.fields == 0 => {
                 self.row_begins();
-                self.takes(Mode::RowStart(Held::Nothing), Act::Replace(Said::Rule))
+                self.takes(Mode::RowStart(Held::Nothing), Act::EndRow(Said::Rule))
             }
             Shape::Block => self.takes(Mode::BlockStart(Held::Nothing), Act::Replace(Said::Block)),
             _ => {
@@ -162,13 +182,10 @@ impl Half {
         if byte == self.options.tab && !self.is_beyond() {
             return self.ends_field();
         }
-        if full {
-            return self.gives_up_row();
-        }
         if byte == b'\\' {
             return self.takes(Mode::Escaped, Act::Say(Said::Nothing));
         }
-        self.keeps(byte)
+        self.keeps(byte, full)
     }
 
     /// A byte in a comment behind the last column: the row ends with its line.
@@ -183,8 +200,8 @@ impl Half {
 
     /// A byte behind a backslash, which is kept first: a newline there vanishes with it, and a quote makes a
     /// comment of a field beyond the columns.
-    pub(crate) fn in_escaped(&mut self, byte: u8) -> Seen
-        ensures { met self.new result ≡ specs.in_escaped byte self.old }
+    pub(crate) fn in_escaped(&mut self, byte: u8, full: bool) -> Seen
+        ensures { met self.new result ≡ specs.in_escaped byte full self.old }
     {
         if byte == b'\n' {
             return self.takes(Mode::Field, Act::Say(Said::Nothing));
@@ -192,16 +209,19 @@ impl Half {
         if byte == b'"' && self.is_beyond() && self.shape.is_empty() {
             return self.takes(Mode::Comment, Act::Say(Said::Nothing));
         }
-        let seen = self.keeps(b'\\');
-        self.leaves(Mode::Literal, seen.act)
+        if full {
+            return self.gives_up_row(Said::Byte(b'\\'));
+        }
+        self.tells_beyond();
+        self.leaves(Mode::Literal, Act::KeepField(b'\\'))
     }
 
     /// A byte behind a backslash that is kept. Two are kept as `\\e`, which stays itself where it is read twice.
     pub(crate) fn in_literal(&mut self, byte: u8, full: bool) -> Seen
         ensures { met self.new result ≡ specs.in_literal byte full self.old }
     {
-        if byte == b'\\' && !full {
-            return self.keeps(b'e');
+        if byte == b'\\' {
+            return self.keeps(b'e', full);
         }
         self.in_field(byte, full)
     }
@@ -211,6 +231,6 @@ impl Half {
         ensures { met self.new result ≡ specs.in_row_end self.old }
     {
         self.row_begins();
-        self.takes(Mode::RowStart(Held::Nothing), Act::Say(Said::Row))
+        self.takes(Mode::RowStart(Held::Nothing), Act::EndRow(Said::Row))
     }
 }

@@ -1,8 +1,9 @@
 //! A whole page is turned.
-ghost use Rattle.std.specs.Prelude.{◌≡◌, ◌+◌, ◌*◌, ◌^◌, ◌<◌, ◌≤◌, [], length, false, OnOk};
+ghost use Rattle.std.specs.Prelude.{◌≡◌, ◌+◌, ◌*◌, ◌^◌, ◌<◌, ◌≤◌, List, [], ◌++◌, length, false, None, OnOk};
 ghost use Rattle.std.specs.Io.KnownBytes.{Appends};
 ghost use Rattle.nr_units.specs.Failures.{counted_if, put_counted, put_counted_if};
-ghost use Rattle.nr_tbl.specs.Reading.{first_page, most as most_of};
+ghost use Rattle.nr_tbl.specs.Reading.{first_page, found, most as most_of};
+ghost use Rattle.nr_tbl.specs.declared.complaint.Complaint.{Complaint as ComplaintValue};
 ghost use Rattle.nr_tbl.specs.Running as specs;
 
 use super::complaint::{Complaint, Kind};
@@ -33,63 +34,61 @@ pub enum Outcome {
     WriteFault,
 }
 
-/// How a run ended, and what it complains of.
+/// How a run ended, and what it tells beside what went out.
 #[derive(Clone, Copy, Debug, PartialEq, Eq)]
 pub struct Report {
     /// How it ended.
     pub outcome: Outcome,
-    /// How many complaints lie in the slice.
-    pub complaints: usize,
-    /// There were more, for which it had no room.
+    /// In how many steps: in each what comes meets what is half read.
+    pub steps: u64,
+    /// There were more complaints than there was room for.
     pub missed: bool,
 }
 
 /// What one turn came to.
 #[derive(Clone, Copy)]
 enum Turn {
-    /// So many bytes were taken, and more may come.
-    Took(u64),
-    /// The input has ended.
-    End,
+    /// So many bytes were taken, in so many steps, and this was found wrong with the last of them. More may come.
+    Took {
+        bytes: u64,
+        steps: u64,
+        wrong: Option<Kind>,
+    },
+    /// The input has ended, in so many steps, and this was found wrong.
+    End {
+        steps: u64,
+        wrong: Option<Kind>,
+    },
     /// The input failed.
     ReadFault,
 }
 
-/// The complaints of a run.
-#[derive(Drop)]
-struct Notes<'a> {
-    list: SliceVec<'a, Complaint>,
+/// What a run counts.
+#[derive(Clone, Copy)]
+struct Tally {
+    /// The steps.
+    steps: u64,
+    /// There were more complaints than there was room for.
     missed: bool,
 }
 
-impl<'a> Notes<'a> {
-    /// None yet.
-    fn over(complaints: &'a mut [Complaint]) -> Notes<'a>
-        ensures { result.list ≡ record { items = []; room = length complaints.entry.now } }
-    {
-        Notes {
-            list: SliceVec::over(complaints),
-            missed: false,
-        }
+/// Keeps what was found wrong behind so many bytes, if anything was and there is room for it.
+fn note(wrong: Option<Kind>, at: u64, complaints: &mut SliceVec<'_, Complaint>, tally: &mut Tally)
+    ensures notes { (all : List ComplaintValue) → specs.Keeps all complaints.old tally.old.missed → specs.Keeps (all ++ found wrong at) complaints.new tally.new.missed }
+    ensures room { complaints.new.room ≡ complaints.old.room }
+    ensures steps { tally.new.steps ≡ tally.old.steps }
+{
+    let Some(kind) = wrong else {
+        return;
+    };
+    if complaints.is_full() {
+        tally.missed = true;
+        return;
     }
-
-    /// What was found wrong behind so many bytes, if anything was.
-    fn note(&mut self, kind: Option<Kind>, at: u64)
-        ensures { self.new.list.room ≡ self.old.list.room }
-    {
-        let Some(kind) = kind else {
-            return;
-        };
-        if self.list.is_full() {
-            self.missed = true;
-            return;
-        }
-        self.list.push(Complaint { kind, at });
-    }
+    complaints.push(Complaint { kind, at });
 }
 
-/// The least length of the slice for what goes out, where so many bytes of options and formats and of a field are
-/// kept.
+/// The least length of the slice for what goes out, where so many bytes of options and formats and of a row are kept.
 pub fn pending_size(formats: usize, row: usize) -> usize
     requires formats { formats ≤ 2 ^ 30 }
     requires row { row ≤ 2 ^ 30 }
@@ -126,7 +125,7 @@ fn make_room<W: Sink>(most: usize, out: &mut SliceVec<'_, u8>, output: &mut W) -
     put_pending(out, output)
 }
 
-/// Bytes at hand that pass are taken, and tells how many.
+/// Bytes at hand that pass are taken, each in one step, and tells how many.
 fn take_passing<R: Source>(
     reader: &Reader<'_>,
     input: &mut R,
@@ -134,8 +133,9 @@ fn take_passing<R: Source>(
     most: u64,
 ) -> u64
     requires { length out.old.items + 16384 ≤ out.old.room }
-    ensures took { specs.Took (R.supply input.old) (R.supply input.new) reader.now reader.now out.old.items out.new.items result }
+    ensures took { specs.Took (R.supply input.old) (R.supply input.new) reader.now reader.now out.old.items out.new.items result result None }
     ensures few { result ≤ most }
+    ensures grown { length out.new.items ≤ length out.old.items + result }
     ensures failures { R.failures input.new ≡ R.failures input.old }
     ensures room { out.new.room ≡ out.old.room }
 {
@@ -157,23 +157,34 @@ fn make_turn<R: Source>(
     requires room { length out.old.items + 10 * most_of reader.old ≤ out.old.room }
     requires some { 0 < most }
     ensures turns { specs.Turns (R.supply input.old) (R.supply input.new) reader.old reader.new out.old.items out.new.items result }
-    ensures counted { specs.IsCounted most result }
+    ensures measured { specs.IsMeasured (10 * most_of reader.old) most (length out.old.items) (length out.new.items) result }
     ensures failures { R.failures input.new ≡ counted_if (specs.is_fault result) (R.failures input.old) }
     ensures rooms { most_of reader.new ≡ most_of reader.old }
     ensures room { out.new.room ≡ out.old.room }
 {
     let count = take_passing(reader, input, out, most);
     if count > 0 {
-        return Turn::Took(count);
+        return Turn::Took {
+            bytes: count,
+            steps: count,
+            wrong: None,
+        };
     }
     match input.next() {
         Ok(Some(byte)) => {
-            reader.read(byte, out);
-            Turn::Took(1)
+            let steps = reader.read(byte, out);
+            Turn::Took {
+                bytes: 1,
+                steps,
+                wrong: reader.complaint(),
+            }
         }
         Ok(None) => {
-            reader.finish(out);
-            Turn::End
+            let steps = reader.finish(out);
+            Turn::End {
+                steps,
+                wrong: reader.complaint(),
+            }
         }
         Err(Fault) => Turn::ReadFault,
     }
@@ -190,23 +201,27 @@ fn ended<W: Sink>(out: &mut SliceVec<'_, u8>, output: &mut W, outcome: Outcome) 
     }
 }
 
-/// All bytes are turned, each turn saying so many at most.
+/// All bytes are turned, each turn saying so many at most. The steps are added to `steps`, `missed` is set where a
+/// complaint finds no room.
 fn run<R: Source, W: Sink>(
     most: usize,
     reader: &mut Reader<'_>,
     input: &mut R,
     output: &mut W,
     out: &mut SliceVec<'_, u8>,
-    notes: &mut Notes<'_>,
+    complaints: &mut SliceVec<'_, Complaint>,
+    tally: &mut Tally,
 ) -> Outcome
-    requires first { reader.old ≡ first_page reader.old.formats.room reader.old.row.room }
+    requires first { reader.old ≡ first_page reader.old.formats.room reader.old.row.room reader.old.half.measure.line }
     requires most { most ≡ 10 * most_of reader.old }
     requires room { most ≤ out.old.room }
     requires empty { out.old.items ≡ [] }
-    ensures ran { specs.Ran reader.old.formats.room reader.old.row.room (R.supply input.old) (R.supply input.new) (W.held output.old) (W.held output.new) result }
+    requires none { complaints.old.items ≡ [] }
+    requires begins { (tally.old.steps ≡ 0) × (tally.old.missed ≡ false) }
+    ensures ran { specs.Ran reader.old.formats.room reader.old.row.room reader.old.half.measure.line (R.supply input.old) (R.supply input.new) (W.held output.old) (W.held output.new) (specs.account tally.new.steps complaints.new tally.new.missed) result }
     ensures read_faults { specs.TellsReads result (R.failures input.old) (R.failures input.new) }
     ensures write_faults { W.failures output.new ≡ put_counted_if (specs.is_write_fault result) (W.failures output.old) }
-    ensures notes { notes.new.list.room ≡ notes.old.list.room }
+    ensures kept { complaints.new.room ≡ complaints.old.room }
 {
     let mut taken = 0;
     while taken < TOO_MANY {
@@ -215,12 +230,18 @@ fn run<R: Source, W: Sink>(
             Err(Fault) => return Outcome::WriteFault,
         }
         match make_turn(reader, input, out, TOO_MANY - taken) {
-            Turn::Took(count) => {
-                taken += count;
-                notes.note(reader.complaint(), taken);
+            Turn::Took {
+                bytes,
+                steps,
+                wrong,
+            } => {
+                taken += bytes;
+                tally.steps += steps;
+                note(wrong, taken, complaints, tally);
             }
-            Turn::End => {
-                notes.note(reader.complaint(), taken);
+            Turn::End { steps, wrong } => {
+                tally.steps += steps;
+                note(wrong, taken, complaints, tally);
                 return ended(out, output, Outcome::Done);
             }
             Turn::ReadFault => return ended(out, output, Outcome::ReadFault { at: taken }),
@@ -232,33 +253,55 @@ fn run<R: Source, W: Sink>(
 /// Turns the tables of what the input gives into the language of the formatter, and puts it to the output, which is
 /// not flushed. Nothing is allocated.
 ///
-/// The lengths of `formats` and `row` are the limits on the bytes of a table's options and formats, and of a
-/// field. What the slices held is of no account. The complaints come first in theirs, in the order of the input.
+/// The lengths of `formats` and `row` are the limits on the bytes of a table's options and formats, and of the fields of
+/// a row. `line` is the line's length in cells, by which a table is told that is surely wider. What the slices and `complaints` held is of no account.
+///
+/// What goes out is one function of the bytes that came, however they came. At a read fault, and where the
+/// input is too long, it is that of the bytes before, but for what is half read; at a write fault a front of it.
+///
+/// `complaints` holds then what was wrong with the tables of the bytes that came, in the order of the input, as many
+/// as there is room for.
+///
+/// In a step a byte that came, or the end, meets what is half read of the page, or a byte passes as it is. There are
+/// at most ten for each byte, and ten for the end.
 pub fn convert<R: Source, W: Sink>(
     input: &mut R,
     output: &mut W,
     formats: &mut [u8],
     row: &mut [u8],
-    complaints: &mut [Complaint],
+    line: usize,
+    complaints: &mut SliceVec<'_, Complaint>,
     pending: &mut [u8],
 ) -> Report
     requires formats { length formats.old ≤ 2 ^ 30 }
     requires row { length row.old ≤ 2 ^ 30 }
     requires pending { specs.pending_size (length formats.old) (length row.old) ≤ length pending.old }
-    ensures ran { specs.Ran (length formats.old) (length row.old) (R.supply input.old) (R.supply input.new) (W.held output.old) (W.held output.new) result.outcome }
+    ensures ran { specs.Ran (length formats.old) (length row.old) line (R.supply input.old) (R.supply input.new) (W.held output.old) (W.held output.new) (specs.account result.steps complaints.new result.missed) result.outcome }
     // A read fault is told only where the source failed once, and then always, but where the output fails too.
     ensures read_faults { specs.TellsReads result.outcome (R.failures input.old) (R.failures input.new) }
     ensures write_faults { W.failures output.new ≡ put_counted_if (specs.is_write_fault result.outcome) (W.failures output.old) }
-    ensures complaints { result.complaints ≤ length complaints.old }
+    ensures room { complaints.new.room ≡ complaints.old.room }
 {
     let most = pending_size(formats.len(), row.len());
-    let mut reader = Reader::over(formats, row);
+    let mut tally = Tally {
+        steps: 0,
+        missed: false,
+    };
+    let mut reader = Reader::over(formats, row, line);
     let mut out = SliceVec::over(pending);
-    let mut notes = Notes::over(complaints);
-    let outcome = run(most, &mut reader, input, output, &mut out, &mut notes);
+    complaints.clear();
+    let outcome = run(
+        most,
+        &mut reader,
+        input,
+        output,
+        &mut out,
+        complaints,
+        &mut tally,
+    );
     Report {
         outcome,
-        complaints: notes.list.len(),
-        missed: notes.missed,
+        steps: tally.steps,
+        missed: tally.missed,
     }
 }

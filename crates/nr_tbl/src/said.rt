@@ -174,7 +174,7 @@ fn put_repeat(byte: u8, out: &mut SliceVec<'_, u8>)
 }
 
 /// Puts what a row or a table says: at most 64 bytes.
-fn put_call(said: Said, out: &mut SliceVec<'_, u8>)
+pub(crate) fn put_call(said: Said, out: &mut SliceVec<'_, u8>)
     requires { length out.old.items + 64 ≤ out.old.room }
     ensures items { out.new.items ≡ out.old.items ++ specs.call_bytes said }
     ensures few { length out.new.items ≤ length out.old.items + 64 }

@@ -1,6 +1,6 @@
 //! Text that goes out as it is.
-ghost use Rattle.std.specs.Prelude.{◌≡◌, ℕ, IsTrue};
-ghost use Rattle.nr_tbl.specs.Reading.{tables_set};
+ghost use Rattle.std.specs.Prelude.{◌≡◌, ℕ, ◌+◌, ◌*◌, ◌≤◌, [], length, IsTrue};
+ghost use Rattle.nr_tbl.specs.Reading.{tables_set, steps_of, complaints_of};
 ghost use Rattle.nr_tbl.specs.Untouched.{begins_table, is_untouched};
 
 use super::held::ends_name;
@@ -17,10 +17,12 @@ fn begins_table(bytes: &[u8]) -> bool
 }
 
 /// Whether no line of a text begins a table, with `.TS` and a byte that ends a name. Such a text is what `convert`
-/// makes of it.
+/// makes of it, in two steps for each byte at most and one for the end, with nothing to complain of.
 pub fn passes_unchanged(text: &[u8]) -> bool
     ensures value { result ≡ is_untouched text.now }
-    ensures law { IsTrue result → (formats row : ℕ) → tables_set formats row text.now ≡ text.now }
+    ensures law { IsTrue result → (formats row line : ℕ) → tables_set formats row line text.now ≡ text.now }
+    ensures quick { IsTrue result → (formats row line : ℕ) → steps_of formats row line text.now ≤ 2 * length text.now + 1 }
+    ensures well { IsTrue result → (formats row line : ℕ) → complaints_of formats row line text.now ≡ [] }
 {
     let mut starts = true;
     for i in 0..text.len() {

@@ -17,6 +17,7 @@ fn words_of(kind: Kind) -> &'static [u8] {
         Kind::TooManyColumns => b"more than 64 columns".as_slice(),
         Kind::FormatsLimit => b"table formats limit passed".as_slice(),
         Kind::RowLimit => b"table row limit passed".as_slice(),
+        Kind::TooWide => b"table wider than the line".as_slice(),
     }
 }
 
@@ -38,12 +39,15 @@ fn put_complaints<E: Sink>(complaints: &[Complaint], errors: &mut E) -> Result<(
     Ok(())
 }
 
-/// Tells what a text's tables came to, as far as `errors` takes it, and whether there was anything to tell.
+/// Tells the complaints about a text's tables, as far as `errors` takes it, and whether something is wrong with them:
+/// that one is wider than the line is not.
 pub fn tell_complaints<E: Sink>(report: Report, complaints: &[Complaint], errors: &mut E) -> bool {
-    let told = complaints.get(..report.complaints).unwrap_or(complaints);
-    let written = put_complaints(told, errors);
+    let written = put_complaints(complaints, errors);
     if report.missed && written.is_ok() {
         let _ = errors.put(b"tbl: and more\n");
     }
-    report.missed || !told.is_empty()
+    report.missed
+        || complaints
+            .iter()
+            .any(|complaint| complaint.kind != Kind::TooWide)
 }

@@ -5,9 +5,10 @@ use super::endings::{Ending, tell};
 use super::rooms::Rooms;
 use super::words::read_words;
 use nr_command_line::{SystemWords, words_of};
-use nr_tbl::Outcome;
+use nr_tbl::{Complaint, Outcome};
 use nr_units::over_std::ToWriter;
 use nr_units::sink::Sink;
+use nr_units::slice_vec::SliceVec;
 use std::alloc::{AllocError, Global};
 use std::fs;
 use std::io::{Read, Write};
@@ -15,6 +16,9 @@ use std::rt::{Env, Files};
 
 #[cfg(test)]
 mod tests;
+
+/// How many complaints about the tables of a text are told.
+const MOST_COMPLAINTS: usize = 64;
 
 /// Runs the program in a system, and gives its status.
 pub fn run_program<R: Env + Files, I: Read + Copy + Drop, W: Write + Drop, E: Write + Drop>(
@@ -66,7 +70,11 @@ fn run_words<'a, R: Files, I: Read + Copy + Drop, W: Sink, E: Sink>(
     let Ok(mut rooms) = Rooms::new(job, alloc) else {
         return Ending::OutOfMemory;
     };
-    let ending = run_texts(texts, standard, output, errors, &mut rooms);
+    let Ok(mut slots) = vec![in alloc; Complaint::NONE; MOST_COMPLAINTS] else {
+        return Ending::OutOfMemory;
+    };
+    let mut complaints = SliceVec::over(&mut slots);
+    let ending = run_texts(texts, standard, output, errors, &mut rooms, &mut complaints);
     match output.flush() {
         Ok(()) => ending,
         Err(_) => Ending::Ran(Outcome::WriteFault),
@@ -108,14 +116,15 @@ fn run_texts<'a, F: Read + Drop, I: Read + Copy + Drop, W: Sink, E: Sink>(
     output: &mut W,
     errors: &mut E,
     rooms: &mut Rooms,
+    complaints: &mut SliceVec<'_, Complaint>,
 ) -> Ending<'a> {
     let mut ending = Ending::Ran(Outcome::Done);
     for text in texts {
         let report = match text {
-            Some(file) => rooms.turn(file, output),
-            None => rooms.turn(standard, output),
+            Some(file) => rooms.turn(file, output, complaints),
+            None => rooms.turn(standard, output, complaints),
         };
-        if tell_complaints(report, rooms.complaints(), errors) {
+        if tell_complaints(report, complaints.as_slice(), errors) {
             ending = Ending::Complained;
         }
         if !matches!(report.outcome, Outcome::Done) {

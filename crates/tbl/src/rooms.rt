@@ -5,6 +5,7 @@ use super::words::Job;
 use nr_tbl::{Complaint, Report, convert, pending_size};
 use nr_units::buffered::Buffered;
 use nr_units::sink::Sink;
+use nr_units::slice_vec::SliceVec;
 use std::alloc::{AllocError, Global};
 use std::io::Read;
 use std::marker::Model;
@@ -12,20 +13,17 @@ use std::marker::Model;
 /// The bytes of the buffer of the input.
 const BUFFER_SIZE: usize = 65_536;
 
-/// How many complaints about the tables of a text are told.
-const MOST_COMPLAINTS: usize = 64;
-
-/// All memory of a run, taken once.
+/// The memory that texts are turned in, taken once.
 #[derive(Drop)]
 pub struct Rooms {
     /// What was read of a text and is not taken yet.
     input: Vec<u8>,
     /// The options and formats of a table.
     formats: Vec<u8>,
-    /// A field of a row.
+    /// The fields of a row.
     row: Vec<u8>,
-    /// What is wrong with the tables of a text.
-    complaints: Vec<Complaint>,
+    /// The length of the line.
+    line: usize,
     /// What is to go out.
     pending: Vec<u8>,
 }
@@ -34,7 +32,7 @@ impl Model for Rooms {
     ghost use Rattle.std.specs.Prelude.{ℕ, ◌^◌, ◌≤◌, length};
     ghost use Rattle.nr_tbl.specs.Running.{pending_size};
 
-    // The limits on the bytes of options and formats, and of a field.
+    // The limits on the bytes of options and formats, and of a row.
     ghost Value = { ℕ × ℕ };
 
     ghost view = { λ r. (length r.formats.items, length r.row.items) };
@@ -54,26 +52,27 @@ impl Rooms {
             input: vec![in alloc; 0u8; BUFFER_SIZE]?,
             formats: vec![in alloc; 0u8; job.formats]?,
             row: vec![in alloc; 0u8; job.row]?,
-            complaints: vec![in alloc; Complaint::NONE; MOST_COMPLAINTS]?,
+            line: job.line,
             pending: vec![in alloc; 0u8; size]?,
         })
     }
 
-    /// Turns one text.
-    pub fn turn<T: Read + Drop, W: Sink>(&mut self, text: T, output: &mut W) -> Report {
+    /// Turns one text, and puts what was wrong with its tables in place of what the complaints were.
+    pub fn turn<T: Read + Drop, W: Sink>(
+        &mut self,
+        text: T,
+        output: &mut W,
+        complaints: &mut SliceVec<'_, Complaint>,
+    ) -> Report {
         let mut source = Buffered::over(text, &mut self.input);
         convert(
             &mut source,
             output,
             &mut self.formats,
             &mut self.row,
-            &mut self.complaints,
+            self.line,
+            complaints,
             &mut self.pending,
         )
-    }
-
-    /// What was wrong with the tables of the last text, first; and then what is of no account.
-    pub fn complaints(&self) -> &[Complaint] {
-        &self.complaints
     }
 }

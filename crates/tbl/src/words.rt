@@ -12,13 +12,18 @@ const USUAL_FORMATS: usize = 8192;
 
 const USUAL_ROW: usize = 16_384;
 
+/// The line's length where no word sets it: that of nroff.
+const USUAL_LINE: usize = 65;
+
 /// What the words ask for.
 #[derive(Clone, Copy)]
 pub struct Job {
     /// The limit on the bytes of a table's options and formats.
     pub formats: usize,
-    /// The limit on the bytes of a row.
+    /// The limit on the bytes of a row's fields.
     pub row: usize,
+    /// The length of the line, in n.
+    pub line: usize,
     /// The place of the first file among the words: there may be none.
     pub files: usize,
 }
@@ -28,7 +33,7 @@ pub struct Job {
 pub enum Wrong {
     /// It is no option.
     Unknown,
-    /// It is a limit without a number, or with one out of range.
+    /// It has no number, or one out of range.
     BadValue,
 }
 
@@ -41,16 +46,18 @@ pub struct BadWord {
     pub wrong: Wrong,
 }
 
-/// Which limit a word sets.
+/// What a word sets.
 #[derive(Clone, Copy)]
 enum Which {
     /// That on options and formats.
     Formats,
-    /// That on a field.
+    /// That on a row.
     Row,
+    /// The length of the line.
+    Line,
 }
 
-/// A limit that a word sets.
+/// A number that a word sets.
 #[derive(Clone, Copy)]
 struct Setting {
     which: Which,
@@ -78,19 +85,20 @@ fn read_limit(digits: &str, least: u64) -> Option<usize>
     }
 }
 
-/// Reads an option: `-LtN` or `-LrN`.
+/// Reads an option: `-LtN`, `-LrN` or `-lN`.
 fn read_option(word: &str) -> Result<Setting, Wrong>
     ensures range { IfOk result (λ setting. setting.limit ≤ 1048576) }
 {
-    let Some(limit) = word.strip_prefix("-L") else {
-        return Err(Wrong::Unknown);
-    };
-    let (which, digits, least) = if let Some(digits) = limit.strip_prefix('t') {
+    let (which, digits, least) = if let Some(digits) = word.strip_prefix("-Lt") {
         (Which::Formats, digits, 1)
-    } else if let Some(digits) = limit.strip_prefix('r') {
+    } else if let Some(digits) = word.strip_prefix("-Lr") {
         (Which::Row, digits, LEAST_ROW)
-    } else {
+    } else if let Some(digits) = word.strip_prefix("-l") {
+        (Which::Line, digits, 1)
+    } else if word.starts_with("-L") {
         return Err(Wrong::BadValue);
+    } else {
+        return Err(Wrong::Unknown);
     };
     let limit = read_limit(digits, least).ok_or(Wrong::BadValue)?;
     Ok(Setting { which, limit })
@@ -113,6 +121,10 @@ impl Job {
                 row: setting.limit,
                 ..self
             },
+            Which::Line => Job {
+                line: setting.limit,
+                ..self
+            },
         }
     }
 }
@@ -127,6 +139,7 @@ pub fn read_words(words: &[&str]) -> Result<Job, BadWord>
     let mut job = Job {
         formats: USUAL_FORMATS,
         row: USUAL_ROW,
+        line: USUAL_LINE,
         files: words.len(),
     };
     for (place, word) in words.iter().enumerate() {

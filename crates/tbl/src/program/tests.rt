@@ -1,44 +1,7 @@
 // Whole runs over words, and over texts in memory.
 use super::run_program;
-use nr_command_line::fakes::{Page, System};
+use nr_command_line::fakes::{Closing, Page, System, Typed};
 use std::cell::Cell;
-use std::io;
-use std::io::{ErrorKind, Read, Write};
-
-/// Standard input: bytes that come once, however often it is read.
-#[derive(Clone, Copy)]
-struct Typed<'r, 'a> {
-    left: &'r Cell<&'a [u8]>,
-}
-
-impl Read for Typed<'_, '_> {
-    fn read(&mut self, buffer: &mut [u8]) -> io::Result<usize> {
-        let mut bytes = self.left.get();
-        let count = bytes.read(buffer)?;
-        self.left.set(bytes);
-        Ok(count)
-    }
-}
-
-/// Takes bytes, or fails at each write; fails at each flush.
-#[derive(Drop)]
-struct Closing {
-    takes: bool,
-}
-
-impl Write for Closing {
-    fn write(&mut self, bytes: &[u8]) -> io::Result<usize> {
-        if self.takes {
-            Ok(bytes.len())
-        } else {
-            Err(io::Error::from(ErrorKind::BrokenPipe))
-        }
-    }
-
-    fn flush(&mut self) -> io::Result<()> {
-        Err(io::Error::from(ErrorKind::BrokenPipe))
-    }
-}
 
 /// A run: its words, what it writes, its status and its lines. Standard input is `a` and a line `.br`.
 struct Row {
@@ -56,7 +19,7 @@ static TEXTS: [(&str, Page<'static>); 5] = [
     ("empty", Page::Bytes(b"")),
 ];
 
-static ROWS: [Row; 20] = [
+static ROWS: [Row; 22] = [
     Row {
         words: &[b"tbl"],
         output: b"a\n.br\n",
@@ -159,6 +122,18 @@ static ROWS: [Row; 20] = [
         lines: b"tbl: bad value in -Lt1048577\n",
     },
     Row {
+        words: &[b"tbl", b"-l0"],
+        output: b"",
+        status: 2,
+        lines: b"tbl: bad value in -l0\n",
+    },
+    Row {
+        words: &[b"tbl", b"-l"],
+        output: b"",
+        status: 2,
+        lines: b"tbl: bad value in -l\n",
+    },
+    Row {
         words: &[b"tbl", b"-Lr+64"],
         output: b"",
         status: 2,
@@ -184,6 +159,86 @@ static ROWS: [Row; 20] = [
         lines: b"tbl: read fault at byte 9\n",
     },
 ];
+
+/// Texts with tables.
+static TABLES: [(&str, Page<'static>); 4] = [
+    ("bad", Page::Bytes(b".TS\nl.\na\tb\n.TE\n.TS\nl.\n")),
+    (
+        "wide",
+        Page::Bytes(b".TS\nl l.\nabc\td\nefgh\t\\fIij\\fP\n.TE\n"),
+    ),
+    (
+        "long",
+        Page::Bytes(
+            b".TS\nl l.\n0123456789012345678901234567890123456789\t0123456789012345678901234\n.TE\n",
+        ),
+    ),
+    ("none", Page::Bytes(b"a\n")),
+];
+
+/// A run over texts with tables: its words, its status and its lines.
+struct Told {
+    words: &'static [&'static [u8]],
+    status: u8,
+    lines: &'static [u8],
+}
+
+static TOLD: [Told; 7] = [
+    Told {
+        words: &[b"tbl", b"bad", b"none"],
+        status: 1,
+        lines: b"tbl: more fields than columns at byte 10\ntbl: table without an end at byte 22\n",
+    },
+    // A table wider than the line is told, and nothing is wrong with it.
+    Told {
+        words: &[b"tbl", b"-l8", b"wide"],
+        status: 0,
+        lines: b"tbl: table wider than the line at byte 29\n",
+    },
+    Told {
+        words: &[b"tbl", b"-l9", b"wide"],
+        status: 0,
+        lines: b"",
+    },
+    Told {
+        words: &[b"tbl", b"-l3", b"wide", b"none", b"wide"],
+        status: 0,
+        lines: b"tbl: table wider than the line at byte 15\ntbl: table wider than the line at byte 15\n",
+    },
+    Told {
+        words: &[b"tbl", b"-l1", b"wide", b"bad"],
+        status: 1,
+        lines: b"tbl: table wider than the line at byte 13\ntbl: more fields than columns at byte 10\ntbl: table without an end at byte 22\n",
+    },
+    // The line's length is 65 where no word sets it, and the limit on a row is one on its fields together.
+    Told {
+        words: &[b"tbl", b"long"],
+        status: 0,
+        lines: b"tbl: table wider than the line at byte 76\n",
+    },
+    Told {
+        words: &[b"tbl", b"-Lr64", b"-l68", b"long"],
+        status: 1,
+        lines: b"tbl: table row limit passed at byte 75\n",
+    },
+];
+
+#[test]
+fn tells_of_tables(rt: HostRuntime) {
+    for row in &TOLD {
+        let system = System {
+            words: row.words,
+            texts: &TABLES,
+        };
+        let mut output = Vec::new(rt.alloc());
+        let mut lines = Vec::new(rt.alloc());
+        let input = b"".as_slice();
+        let status = run_program(&system, rt.alloc(), input, &mut output, &mut lines);
+        let words = row.words;
+        assert!(rt; lines.as_slice() == row.lines, "{words:?}");
+        assert_eq!(rt; status, row.status, "{words:?}");
+    }
+}
 
 #[test]
 fn runs_in_a_system(rt: HostRuntime) {
