@@ -1,5 +1,5 @@
 -- The formats of a table (Tbl, "Format"; tbl(1), "Column descriptors"): lines of columns, each with what modifies it.
-use Rattle.std.specs.Prelude.{ℕ, List, [], ◌∷◌, ◌++◌, codes, Bool, true, false, not, ◌==◌, ◌&&◌, ◌||◌, nat_le, nat_lt, if◌then◌else◌, Option, None, Some}
+use Rattle.std.specs.Prelude.{ℕ, List, [], ◌∷◌, ◌++◌, codes, Bool, true, false, ◌==◌, ◌&&◌, ◌||◌, nat_le, nat_lt, if◌then◌else◌, Option, None, Some}
 use Rattle.nr_tbl.specs.declared.formats.Formats.{Formats}
 use Rattle.nr_tbl.specs.declared.formats.Part.{Part}
 use Rattle.nr_tbl.specs.declared.formats.Part.TheVariants as parts

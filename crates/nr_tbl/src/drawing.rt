@@ -1,7 +1,7 @@
 //! The private macros that print a table: its rules, bars, rows and fields.
 
 /// The macros by which a table is drawn.
-pub(crate) static DRAWING: [u8; 7434] = *b"\
+pub(crate) static DRAWING: [u8; 7533] = *b"\
 .de *rule\n\
 .nr *height +1v\n\
 .am *rows *.\n\
@@ -120,11 +120,13 @@ pub(crate) static DRAWING: [u8; 7434] = *b"\
 .if \\\\n[*^\\\\$1] .*by\\\\$1\n\
 .nr *g \\\\n(*H\n\
 .if \\\\n[*^\\\\$1]<2 .nr *g 1\n\
+.nr *E 0\n\
 .if \\\\n(*g .*fields\n\
 .if \\\\n[*^\\\\$1] .*ends \\\\$1\n\
 .nr *r \\\\$1\n\
 .nr *k \\\\$2\n\
 .nr *F \\\\$3\n\
+.if \\\\n(*E .*extra\n\
 .*forget\n\
 ..\n\
 .de *above\n\
@@ -145,14 +147,12 @@ pub(crate) static DRAWING: [u8; 7434] = *b"\
 .nr *is 0\n\
 .nr *c \\\\n(*N+1\n\
 .*pbar \\\\n(*c\n\
-.nr *E 0\n\
 .if \\\\n(*f<\\\\n(*F .*left\n\
 .ie \\\\n(*H .*tall\n\
 .el \\&\\\\*(*o\n\
 .if \\\\n[*waits] .nr *T\\\\n(*r \\\\n(.d-1v\n\
 .if \\\\n[*waits] .if \\\\n(*H .nr *T\\\\n(*r \\\\n(*M\n\
 .if \\\\n[*waits] .nr *%\\\\n(*r \\\\n%\n\
-.if \\\\n(*E .*extra\n\
 .if \\\\n[*box]=2 .nr *P 1\n\
 ..\n\
 .de *pbar\n\
@@ -189,6 +189,7 @@ pub(crate) static DRAWING: [u8; 7434] = *b"\
 .if !'\\\\*(*j's' .if \\\\n[*y\\\\n(*r,\\\\n(*t]=1 .nr *is 1\n\
 .if '\\\\*(*j'_' .nr *is 1\n\
 .if '\\\\*(*j'=' .nr *is 1\n\
+.if \\\\n[*y\\\\n(*r,\\\\n(*t]>1 .nr *is 0\n\
 .if \\\\n[*is] .if !'\\\\*(*j's' .if \\\\w\\a\\\\*[*t\\\\n(*r,\\\\n(*t]\\a .nr *is 0\n\
 ..\n\
 .de *pfield\n\
@@ -196,9 +197,9 @@ pub(crate) static DRAWING: [u8; 7434] = *b"\
 .nr *y \\\\n[*y\\\\n(*r,\\\\n(*f]\n\
 .nr *A \\\\n[*o\\\\$2]+\\\\n[*w\\\\$2]-\\\\n[*o\\\\$1]\n\
 .nr *t \\w\\a\\\\*[*t\\\\n(*r,\\\\n(*f]\\a\n\
-.if !\\\\n(*t .if '\\\\$3'_' .nr *y 1\n\
-.if !\\\\n(*t .if '\\\\$3'=' .nr *y 1\n\
-.if \\\\n[*&\\\\n(*r,\\\\n(*f] .*wait \\\\$1 \\\\$2 \\\\$3\n\
+.if !\\\\n(*t+\\\\n(*y .if '\\\\$3'_' .nr *y 1\n\
+.if !\\\\n(*t+\\\\n(*y .if '\\\\$3'=' .nr *y 1\n\
+.if \\\\n[*&\\\\n(*r,\\\\n(*f] .if !\\\\n[*many] .*wait \\\\$1 \\\\$2 \\\\$3\n\
 .if \\\\n(*y=0 .*ptext \\\\$1 \\\\$2 \\\\$3\n\
 .if \\\\n(*y=1 .*prule \\\\$1 \\\\$2\n\
 .if \\\\n(*y=2 .*pin \\\\$1\n\
@@ -238,9 +239,9 @@ pub(crate) static DRAWING: [u8; 7434] = *b"\
 .nr *H 1v\n\
 .if \\\\$7=5 .nr *H \\\\n[*h\\\\$1,\\\\$2]\n\
 .nr *M \\\\n[*T\\\\$1]\n\
-.if !\\\\n[*%\\\\$1]=\\\\n% .nr *M \\\\n(*U-\\\\n(*H\n\
 .if !\\\\n[*-\\\\n(*k,\\\\$4] .nr *M \\\\n(*U-\\\\n(*M-\\\\n(*H/2/1v*1v+\\\\n(*M\n\
 .if \\\\n[*-\\\\n(*k,\\\\$4]=2 .nr *M \\\\n(*U-\\\\n(*H\n\
+.if !\\\\n[*%\\\\$1]=\\\\n% .nr *M \\\\n(*U-\\\\n(*H\n\
 .if \\\\n(*M<0 .nr *M 0\n\
 .ds *o\n\
 .nr *p 0\n\
@@ -295,6 +296,7 @@ pub(crate) static DRAWING: [u8; 7434] = *b"\
 .if '\\\\$2'r' .nr *X +\\\\n(*A-\\\\n[*d\\\\n(*r,\\\\n(*f]\n\
 .if '\\\\$2'c' .nr *X +(\\\\n(*A-\\\\n[*d\\\\n(*r,\\\\n(*f]/2/24*24)\n\
 .if '\\\\$2'a' .nr *X +1n\n\
+.if \\\\n(*X<\\\\n(*p .nr *X \\\\n(*p\n\
 .nr *d\\\\n(*r,\\\\n(*f \\\\n(*X\n\
 .am *put *.\n\
 .*put1 \\\\n(*r \\\\n(*f \\\\n(*X\n\

@@ -7,7 +7,7 @@ use super::drawing::DRAWING;
 use nr_units::slice_vec::SliceVec;
 
 /// The macros by which a table is read, measured and ended.
-static MACROS: [u8; 7690] = *b"\
+static MACROS: [u8; 7732] = *b"\
 .de *.\n\
 ..\n\
 .de *begin\n\
@@ -23,6 +23,7 @@ static MACROS: [u8; 7690] = *b"\
 .nr *center 0\n\
 .nr *expand 0\n\
 .nr *nokeep 0\n\
+.nr *many 0\n\
 .nr *box 0\n\
 .nr *edge 0\n\
 .nr *right 0\n\
@@ -132,6 +133,7 @@ static MACROS: [u8; 7690] = *b"\
 .ds *h *mcell\n\
 .*all\n\
 .if \\\\n(*f<\\\\n(*F .nr *own 1\n\
+.if \\\\n(*f<\\\\n(*F .nr *many 1\n\
 .if \\\\n[*^\\\\n(*r] .if !\\\\n[*own] .nr *^\\\\n(*r 2\n\
 .am *rows *.\n\
 .*print \\\\n(*r \\\\n(*k \\\\n(*F\n\
