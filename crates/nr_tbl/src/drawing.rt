@@ -1,7 +1,29 @@
 //! The private macros that print a table: its rules, bars, rows and fields.
 
 /// The macros by which a table is drawn.
-pub(crate) static DRAWING: [u8; 7533] = *b"\
+pub(crate) static DRAWING: [u8; 7892] = *b"\
+.de *m\n\
+.if '\\\\n(.z'' .sp \\\\$1u\n\
+.if !'\\\\n(.z'' \\{\\\n\
+\\!.*m \\\\$1\n\
+.\\}\n\
+..\n\
+.de *n\n\
+.if '\\\\n(.z'' .ne \\\\$1u\n\
+.if !'\\\\n(.z'' \\{\\\n\
+\\!.*n \\\\$1\n\
+.\\}\n\
+..\n\
+.de *go\n\
+.nr *5 \\\\$1\n\
+.ie '\\\\n(.z'' .sp |\\\\n(*5u\n\
+.el .*pass \\\\n(*5-\\\\n(.d+(\\\\n[*over])\n\
+..\n\
+.de *pass\n\
+.nr *6 \\\\$1\n\
+.if !\\\\n(*6=0 .*m \\\\n(*6\n\
+.nr *over \\\\n[*over]-(\\\\n(*6)\n\
+..\n\
 .de *rule\n\
 .nr *height +1v\n\
 .am *rows *.\n\
@@ -87,7 +109,8 @@ pub(crate) static DRAWING: [u8; 7533] = *b"\
 .if \\\\n[*~\\\\$1] .*together \\\\$1\n\
 .if !\\\\n(*S .if \\\\n[*^\\\\$1] .nr *S 1v\n\
 .if \\\\n(*S .if \\\\n(*P .nr *S +1v\n\
-.if \\\\n(*S .ne \\\\n(*Su+1v\n\
+.nr *S +1v\n\
+.if \\\\n(*S>1v .*n \\\\n(*S\n\
 ..\n\
 .de *together\n\
 .nr *S 0\n\
@@ -150,7 +173,7 @@ pub(crate) static DRAWING: [u8; 7533] = *b"\
 .if \\\\n(*f<\\\\n(*F .*left\n\
 .ie \\\\n(*H .*tall\n\
 .el \\&\\\\*(*o\n\
-.if \\\\n[*waits] .nr *T\\\\n(*r \\\\n(.d-1v\n\
+.if \\\\n[*waits] .nr *T\\\\n(*r \\\\n(.d-(\\\\n[*over])-1v\n\
 .if \\\\n[*waits] .if \\\\n(*H .nr *T\\\\n(*r \\\\n(*M\n\
 .if \\\\n[*waits] .nr *%\\\\n(*r \\\\n%\n\
 .if \\\\n[*box]=2 .nr *P 1\n\
@@ -221,15 +244,15 @@ pub(crate) static DRAWING: [u8; 7533] = *b"\
 ..\n\
 .de *reach\n\
 .nr *t \\\\$2\n\
-.if \\\\n[*%\\\\$1]=\\\\n% .nr *t \\\\$2-\\\\n(.d+\\\\n[*T\\\\$1]\n\
+.if \\\\n[*%\\\\$1]=\\\\n% .nr *t \\\\n[*over]+\\\\$2-\\\\n(.d+\\\\n[*T\\\\$1]\n\
 .if \\\\n(*t>0 .*mmax *H \\\\n(*t\n\
 ..\n\
 .de *ends\n\
-.nr *U \\\\n(.d\n\
+.nr *U \\\\n(.d-(\\\\n[*over])\n\
 .*at\\\\$1\n\
 .rm *at\\\\$1\n\
 .rm *by\\\\$1\n\
-.sp |\\\\n(*Uu\n\
+.*go \\\\n(*U\n\
 ..\n\
 .de *fall\n\
 .nr *r \\\\$1\n\
@@ -249,7 +272,7 @@ pub(crate) static DRAWING: [u8; 7533] = *b"\
 .if \\\\$7=0 .*ptext \\\\$4 \\\\$5 \\\\$6\n\
 .if \\\\$7=4 .*prepeat \\\\$4\n\
 .if \\\\$7=5 .*pblock \\\\$4 \\\\$6\n\
-.sp |\\\\n(*Mu\n\
+.*go \\\\n(*M\n\
 .if \\\\$7<5 \\&\\\\*(*o\n\
 .*put\n\
 .rm *put\n\
@@ -303,7 +326,7 @@ pub(crate) static DRAWING: [u8; 7533] = *b"\
 .*.\n\
 ..\n\
 .de *put1\n\
-.sp |\\\\n(*Mu\n\
+.*go \\\\n(*M\n\
 .in \\\\n(*Ou+\\\\$3u\n\
 .*d\\\\$1,\\\\$2\n\
 .br\n\
@@ -311,11 +334,11 @@ pub(crate) static DRAWING: [u8; 7533] = *b"\
 ..\n\
 .de *tall\n\
 \\&\\\\*(*o\n\
-.nr *M \\\\n(.d-1v\n\
+.nr *M \\\\n(.d-(\\\\n[*over])-1v\n\
 .if \\\\n(*V .*barlines\n\
 .*put\n\
 .rm *put\n\
-.sp |\\\\n(*Mu+\\\\n(*Hu\n\
+.*go \\\\n(*M+\\\\n(*H\n\
 ..\n\
 .de *barlines\n\
 .nr *was 0\n\

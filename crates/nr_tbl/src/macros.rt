@@ -7,7 +7,7 @@ use super::drawing::DRAWING;
 use nr_units::slice_vec::SliceVec;
 
 /// The macros by which a table is read, measured and ended.
-static MACROS: [u8; 7732] = *b"\
+static MACROS: [u8; 7743] = *b"\
 .de *.\n\
 ..\n\
 .de *begin\n\
@@ -34,6 +34,7 @@ static MACROS: [u8; 7732] = *b"\
 .rm *spans\n\
 .nr *J 0\n\
 .nr *height 0\n\
+.nr *over 0\n\
 ..\n\
 .de *line\n\
 .nr *K +1\n\
@@ -436,7 +437,7 @@ a b ccc\n\
 .nr *height +2v\n\
 .if \\\\n[*box]=2 .nr *height -1v\n\
 .if \\\\n[*box]=3 .nr *height +2v\n\
-.if \\\\n[*height]<\\\\n(.p .ne \\\\n[*height]u\n\
+.if \\\\n[*height]<\\\\n(.p .*n \\\\n[*height]\n\
 ..\n\
 .de *done\n\
 .ll \\\\n(*Lu\n\
@@ -455,11 +456,11 @@ a b ccc\n\
 ..\n\
 ";
 
-/// Puts the macros behind what goes out: at most 15296 bytes.
+/// Puts the macros behind what goes out: at most 15872 bytes.
 pub(crate) fn put_macros(out: &mut SliceVec<'_, u8>)
-    requires { length out.old.items + 15296 ≤ out.old.room }
+    requires { length out.old.items + 15872 ≤ out.old.room }
     ensures items { out.new.items ≡ out.old.items ++ macros }
-    ensures few { length out.new.items ≤ length out.old.items + 15296 }
+    ensures few { length out.new.items ≤ length out.old.items + 15872 }
     ensures room { out.new.room ≡ out.old.room }
 {
     out.extend(&MACROS);
