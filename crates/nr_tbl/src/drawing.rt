@@ -1,7 +1,7 @@
 //! The private macros that print a table: its rules, bars, rows and fields.
 
 /// The macros by which a table is drawn.
-pub(crate) static DRAWING: [u8; 7892] = *b"\
+pub(crate) static DRAWING: [u8; 7925] = *b"\
 .de *m\n\
 .if '\\\\n(.z'' .sp \\\\$1u\n\
 .if !'\\\\n(.z'' \\{\\\n\
@@ -412,6 +412,7 @@ pub(crate) static DRAWING: [u8; 7892] = *b"\
 ..\n\
 .de *drop\n\
 .rr *^\\\\n(*r,\\\\$1\n\
+.if \\\\n[*many] .rr *&\\\\n(*r,\\\\$1\n\
 .if \\\\$1<=\\\\n(*F .if !\\\\n[*&\\\\n(*r,\\\\$1] .*dropped \\\\n(*r,\\\\$1\n\
 ..\n\
 .de *dropped\n\

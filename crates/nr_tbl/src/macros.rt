@@ -7,7 +7,7 @@ use super::drawing::DRAWING;
 use nr_units::slice_vec::SliceVec;
 
 /// The macros by which a table is read, measured and ended.
-static MACROS: [u8; 7743] = *b"\
+static MACROS: [u8; 7770] = *b"\
 .de *.\n\
 ..\n\
 .de *begin\n\
@@ -440,6 +440,7 @@ a b ccc\n\
 .if \\\\n[*height]<\\\\n(.p .*n \\\\n[*height]\n\
 ..\n\
 .de *done\n\
+.nr *+ \\\\n(*++(\\\\n[*over])\n\
 .ll \\\\n(*Lu\n\
 .in \\\\n(*Iu\n\
 .ie \\\\n(*u .fi\n\
