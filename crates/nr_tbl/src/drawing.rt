@@ -1,7 +1,7 @@
 //! The private macros that print a table: its rules, bars, rows and fields.
 
 /// The macros by which a table is drawn.
-pub(crate) static DRAWING: [u8; 7925] = *b"\
+pub(crate) static DRAWING: [u8; 7980] = *b"\
 .de *m\n\
 .if '\\\\n(.z'' .sp \\\\$1u\n\
 .if !'\\\\n(.z'' \\{\\\n\
@@ -319,11 +319,15 @@ pub(crate) static DRAWING: [u8; 7925] = *b"\
 .if '\\\\$2'r' .nr *X +\\\\n(*A-\\\\n[*d\\\\n(*r,\\\\n(*f]\n\
 .if '\\\\$2'c' .nr *X +(\\\\n(*A-\\\\n[*d\\\\n(*r,\\\\n(*f]/2/24*24)\n\
 .if '\\\\$2'a' .nr *X +1n\n\
-.if \\\\n(*X<\\\\n(*p .nr *X \\\\n(*p\n\
+.if \\\\n(*X<\\\\n(*p .*shove\n\
 .nr *d\\\\n(*r,\\\\n(*f \\\\n(*X\n\
 .am *put *.\n\
 .*put1 \\\\n(*r \\\\n(*f \\\\n(*X\n\
 .*.\n\
+..\n\
+.de *shove\n\
+.nr *X \\\\n(*p\n\
+.*to \\\\n(*X+\\\\n[*d\\\\n(*r,\\\\n(*f]\n\
 ..\n\
 .de *put1\n\
 .*go \\\\n(*M\n\

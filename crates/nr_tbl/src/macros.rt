@@ -7,7 +7,7 @@ use super::drawing::DRAWING;
 use nr_units::slice_vec::SliceVec;
 
 /// The macros by which a table is read, measured and ended.
-static MACROS: [u8; 7770] = *b"\
+static MACROS: [u8; 7785] = *b"\
 .de *.\n\
 ..\n\
 .de *begin\n\
@@ -59,6 +59,7 @@ static MACROS: [u8; 7770] = *b"\
 .nr *N \\\\n(*c\n\
 .nr *%\\\\n(*c 0\n\
 .nr *Y\\\\n(*c 0\n\
+.nr *y\\\\n(*c 0\n\
 .nr *w\\\\n(*c 0\n\
 .nr *m\\\\n(*c 0\n\
 .nr *e\\\\n(*c 0\n\
