@@ -1,7 +1,7 @@
 //! The private macros that print a table: its rules, bars, rows and fields.
 
 /// The macros by which a table is drawn.
-pub(crate) static DRAWING: [u8; 7980] = *b"\
+pub(crate) static DRAWING: [u8; 7998] = *b"\
 .de *m\n\
 .if '\\\\n(.z'' .sp \\\\$1u\n\
 .if !'\\\\n(.z'' \\{\\\n\
@@ -9,6 +9,7 @@ pub(crate) static DRAWING: [u8; 7980] = *b"\
 .\\}\n\
 ..\n\
 .de *n\n\
+.if '\\\\n(.z'' .br\n\
 .if '\\\\n(.z'' .ne \\\\$1u\n\
 .if !'\\\\n(.z'' \\{\\\n\
 \\!.*n \\\\$1\n\
