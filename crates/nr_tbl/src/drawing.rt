@@ -1,7 +1,7 @@
 //! The private macros that print a table: its rules, bars, rows and fields.
 
 /// The macros by which a table is drawn.
-pub(crate) static DRAWING: [u8; 7998] = *b"\
+pub(crate) static DRAWING: [u8; 8224] = *b"\
 .de *m\n\
 .if '\\\\n(.z'' .sp \\\\$1u\n\
 .if !'\\\\n(.z'' \\{\\\n\
@@ -55,6 +55,13 @@ pub(crate) static DRAWING: [u8; 7998] = *b"\
 .if \\\\n(*g .nr *v 0\n\
 ..\n\
 .de *draw\n\
+.nr *g \\\\n[*^\\\\n[*now]]\n\
+.if \\\\n(*8=\\\\$1 .if \\\\n(*9=\\\\$2 .if !\\\\n(*g .nr *g 0-1\n\
+.ie \\\\n(*g<0 \\&\\\\*(*q\n\
+.el .*draw1 \\\\$1 \\\\$2 \\\\n(*g\n\
+.nr *P 0\n\
+..\n\
+.de *draw1\n\
 .nr *was 1\n\
 .nr *3 \\\\$1\n\
 .nr *4 \\\\$2\n\
@@ -69,7 +76,12 @@ pub(crate) static DRAWING: [u8; 7998] = *b"\
 .*dash \\\\n(*W\n\
 .if \\\\n(*v .as *o \"\\\\*(*j\n\
 \\&\\\\*(*o\n\
-.nr *P 0\n\
+.if \\\\$3=0 .*again \\\\$1 \\\\$2\n\
+..\n\
+.de *again\n\
+.nr *8 \\\\$1\n\
+.nr *9 \\\\$2\n\
+.ds *q \"\\\\*(*o\n\
 ..\n\
 .de *drawcell\n\
 .nr *is \\\\n[*^\\\\n[*now],\\\\$1]\n\

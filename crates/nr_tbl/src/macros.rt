@@ -7,7 +7,7 @@ use super::drawing::DRAWING;
 use nr_units::slice_vec::SliceVec;
 
 /// The macros by which a table is read, measured and ended.
-static MACROS: [u8; 7785] = *b"\
+static MACROS: [u8; 7796] = *b"\
 .de *.\n\
 ..\n\
 .de *begin\n\
@@ -424,6 +424,7 @@ a b ccc\n\
 .nf\n\
 .nr *P 0\n\
 .nr *R 0\n\
+.nr *8 0-1\n\
 .if !\\\\n(*N .nr *box 0\n\
 .if \\\\n[*box] .if !\\\\n[*nokeep] .*keep\n\
 .if \\\\n[*box]=3 .*draw 0 0\n\
@@ -458,11 +459,11 @@ a b ccc\n\
 ..\n\
 ";
 
-/// Puts the macros behind what goes out: at most 15872 bytes.
+/// Puts the macros behind what goes out: at most 16128 bytes.
 pub(crate) fn put_macros(out: &mut SliceVec<'_, u8>)
-    requires { length out.old.items + 15872 ≤ out.old.room }
+    requires { length out.old.items + 16128 ≤ out.old.room }
     ensures items { out.new.items ≡ out.old.items ++ macros }
-    ensures few { length out.new.items ≤ length out.old.items + 15872 }
+    ensures few { length out.new.items ≤ length out.old.items + 16128 }
     ensures room { out.new.room ≡ out.old.room }
 {
     out.extend(&MACROS);
