@@ -300,10 +300,12 @@
 .ns
 .nr )d \\n(.d
 ..
-.\" keep: set apart, then placed where it fits, with its notes
+.\" keep: set apart, then placed where it fits, with its notes; the register *+
+.\" tells how much less room the tables in it take than their parts together
 .de KS
 .br
 .if \\n()r .if !\\n()K .)t
+.if !\\n()K .nr *+ 0
 .if !\\n()K .di )k
 .nr )K 1
 ..
@@ -313,9 +315,11 @@
 .di
 .nr )K 0
 .nr )k \\n(dn
+.nr )+ \\n()k-\\n(*+
+.if \\n(*+ .nr )+ +1v
 .nr )h 0
 .if \\n()r .)S
-.ne \\n()ku+\\n()hu
+.ne \\n()+u+\\n()hu
 .nr )e \\n(.i
 .in 0
 .)k

@@ -5,13 +5,16 @@ use Rattle.nr_preconv.specs.declared.signs.TheConstants.{LATIN, LATIN_ADDITIONAL
 
 -- ---- ASCII
 
--- An ASCII character that stood as an escape, so that it is read as itself. Control characters show nothing.
+-- An ASCII character that stood as an escape, so that it is read as itself; `=` and `_` alone would be rules of a table.
+-- Control characters show nothing.
 abbrev pub ascii_like : ℕ → List ℕ
 ascii_like b =
     if b == 32 then codes "\\ " else
     if b == 34 then codes "\\(dq" else
     if b == 39 then codes "\\(aq" else
     if b == 46 then codes "\\&." else
+    if b == 61 then codes "\\&=" else
+    if b == 95 then codes "\\&_" else
     if b == 92 then codes "\\(rs" else
     if is_within 33 126 b then b ∷ [] else []
 

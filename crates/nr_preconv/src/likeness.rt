@@ -180,7 +180,7 @@ fn put_beyond(code: u32, out: &mut SliceVec<'_, u8>)
     }
 }
 
-/// Puts an ASCII character that stood as an escape, so that it is read as itself: at most 4 bytes.
+/// Puts an ASCII character that stood as an escape, so that it is read as itself, and by tbl as text: at most 4 bytes.
 fn put_ascii(byte: u8, out: &mut SliceVec<'_, u8>)
     requires { length out.old.items + 4 ≤ out.old.room }
     ensures items { out.new.items ≡ out.old.items ++ ascii_like byte }
@@ -192,6 +192,8 @@ fn put_ascii(byte: u8, out: &mut SliceVec<'_, u8>)
         b'"' => out.extend(b"\\(dq"),
         b'\'' => out.extend(b"\\(aq"),
         b'.' => out.extend(b"\\&."),
+        b'=' => out.extend(b"\\&="),
+        b'_' => out.extend(b"\\&_"),
         b'\\' => out.extend(b"\\(rs"),
         b'!'..=b'~' => out.push(byte),
         _ => {}

@@ -145,6 +145,10 @@ ended ends b f =
     let t = key b (record f { part = parts.Keys }) in
     told t.formats (record t.called { ends = ends })
 
+-- its line has ended before what the part needs
+abbrev pub cut_short : Bool → ℕ → Formats → Told
+cut_short ends b f = ended ends b (record f { bad = true })
+
 -- ---- fonts
 
 -- by the last letter of its name
@@ -158,7 +162,7 @@ abbrev pub in_font : ℕ → Formats → Told
 in_font b f =
     if b == 40 then going_on (parts.FontName 82) Nothing f else
     if (b == 32) || (b == 9) then told f (only Nothing) else
-    if b == 10 then ended false b f else going_on parts.FontMore (Font (font_of b)) f
+    if b == 10 then cut_short false b f else going_on parts.FontMore (Font (font_of b)) f
 
 -- a capital letter or a digit
 abbrev pub is_name_byte : ℕ → Bool
@@ -170,7 +174,7 @@ in_font_more b f = if is_name_byte b then font b f else ended false b f
 abbrev pub in_font_name : ℕ → ℕ → Formats → Told
 in_font_name last b f =
     if b == 41 then font last f else
-    if b == 10 then ended false b f else going_on (parts.FontName b) Nothing f
+    if b == 10 then cut_short false b f else going_on (parts.FontName b) Nothing f
 
 -- ---- numbers
 
@@ -183,7 +187,7 @@ in_width b f =
 abbrev pub in_width_in : ℕ → Formats → Told
 in_width_in b f =
     if b == 41 then going_on parts.Keys (Byte 10) f else
-    if b == 10 then ended true b f else told f (only (Byte b))
+    if b == 10 then cut_short true b f else told f (only (Byte b))
 
 abbrev pub in_digits : ℕ → Formats → Told
 in_digits b f = if is_digit b then told f (only (Byte b)) else ended true b f
@@ -200,7 +204,7 @@ in_size_digits b f = if is_digit b then told f (only Nothing) else ended false b
 abbrev pub in_size_in : ℕ → Formats → Told
 in_size_in b f =
     if b == 41 then going_on parts.Keys Nothing f else
-    if b == 10 then ended false b f else told f (only Nothing)
+    if b == 10 then cut_short false b f else told f (only Nothing)
 
 -- ---- a byte, by the part that is half read
 

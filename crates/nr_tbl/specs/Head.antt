@@ -61,13 +61,13 @@ with_options o h =
 abbrev pub failed : Kind → Half → Half
 failed kind h = complaining kind (at modes.Failed h)
 
--- a table without columns, or with too many, isn't set
+-- a table without columns, or with too many, isn't set; where new formats have no line, that is told
 abbrev pub with_formats : Formats → Half → Half
 with_formats f h =
     let read = record h { formats = f } in
     if f.columns == 0 then failed NoFormat read else
     if f.many then failed TooManyColumns read else
-    if f.bad then complaining BadFormat read else read
+    if f.bad || (f.lines == h.formats.lines) then complaining BadFormat read else read
 
 abbrev pub in_begun : Half → Met
 in_begun h = taking (modes.RowStart helds.Nothing) Forget h

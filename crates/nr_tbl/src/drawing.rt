@@ -1,7 +1,30 @@
 //! The private macros that print a table: its rules, bars, rows and fields.
 
 /// The macros by which a table is drawn.
-pub(crate) static DRAWING: [u8; 7533] = *b"\
+pub(crate) static DRAWING: [u8; 8224] = *b"\
+.de *m\n\
+.if '\\\\n(.z'' .sp \\\\$1u\n\
+.if !'\\\\n(.z'' \\{\\\n\
+\\!.*m \\\\$1\n\
+.\\}\n\
+..\n\
+.de *n\n\
+.if '\\\\n(.z'' .br\n\
+.if '\\\\n(.z'' .ne \\\\$1u\n\
+.if !'\\\\n(.z'' \\{\\\n\
+\\!.*n \\\\$1\n\
+.\\}\n\
+..\n\
+.de *go\n\
+.nr *5 \\\\$1\n\
+.ie '\\\\n(.z'' .sp |\\\\n(*5u\n\
+.el .*pass \\\\n(*5-\\\\n(.d+(\\\\n[*over])\n\
+..\n\
+.de *pass\n\
+.nr *6 \\\\$1\n\
+.if !\\\\n(*6=0 .*m \\\\n(*6\n\
+.nr *over \\\\n[*over]-(\\\\n(*6)\n\
+..\n\
 .de *rule\n\
 .nr *height +1v\n\
 .am *rows *.\n\
@@ -32,6 +55,13 @@ pub(crate) static DRAWING: [u8; 7533] = *b"\
 .if \\\\n(*g .nr *v 0\n\
 ..\n\
 .de *draw\n\
+.nr *g \\\\n[*^\\\\n[*now]]\n\
+.if \\\\n(*8=\\\\$1 .if \\\\n(*9=\\\\$2 .if !\\\\n(*g .nr *g 0-1\n\
+.ie \\\\n(*g<0 \\&\\\\*(*q\n\
+.el .*draw1 \\\\$1 \\\\$2 \\\\n(*g\n\
+.nr *P 0\n\
+..\n\
+.de *draw1\n\
 .nr *was 1\n\
 .nr *3 \\\\$1\n\
 .nr *4 \\\\$2\n\
@@ -46,7 +76,12 @@ pub(crate) static DRAWING: [u8; 7533] = *b"\
 .*dash \\\\n(*W\n\
 .if \\\\n(*v .as *o \"\\\\*(*j\n\
 \\&\\\\*(*o\n\
-.nr *P 0\n\
+.if \\\\$3=0 .*again \\\\$1 \\\\$2\n\
+..\n\
+.de *again\n\
+.nr *8 \\\\$1\n\
+.nr *9 \\\\$2\n\
+.ds *q \"\\\\*(*o\n\
 ..\n\
 .de *drawcell\n\
 .nr *is \\\\n[*^\\\\n[*now],\\\\$1]\n\
@@ -87,7 +122,8 @@ pub(crate) static DRAWING: [u8; 7533] = *b"\
 .if \\\\n[*~\\\\$1] .*together \\\\$1\n\
 .if !\\\\n(*S .if \\\\n[*^\\\\$1] .nr *S 1v\n\
 .if \\\\n(*S .if \\\\n(*P .nr *S +1v\n\
-.if \\\\n(*S .ne \\\\n(*Su+1v\n\
+.nr *S +1v\n\
+.if \\\\n(*S>1v .*n \\\\n(*S\n\
 ..\n\
 .de *together\n\
 .nr *S 0\n\
@@ -150,7 +186,7 @@ pub(crate) static DRAWING: [u8; 7533] = *b"\
 .if \\\\n(*f<\\\\n(*F .*left\n\
 .ie \\\\n(*H .*tall\n\
 .el \\&\\\\*(*o\n\
-.if \\\\n[*waits] .nr *T\\\\n(*r \\\\n(.d-1v\n\
+.if \\\\n[*waits] .nr *T\\\\n(*r \\\\n(.d-(\\\\n[*over])-1v\n\
 .if \\\\n[*waits] .if \\\\n(*H .nr *T\\\\n(*r \\\\n(*M\n\
 .if \\\\n[*waits] .nr *%\\\\n(*r \\\\n%\n\
 .if \\\\n[*box]=2 .nr *P 1\n\
@@ -221,15 +257,15 @@ pub(crate) static DRAWING: [u8; 7533] = *b"\
 ..\n\
 .de *reach\n\
 .nr *t \\\\$2\n\
-.if \\\\n[*%\\\\$1]=\\\\n% .nr *t \\\\$2-\\\\n(.d+\\\\n[*T\\\\$1]\n\
+.if \\\\n[*%\\\\$1]=\\\\n% .nr *t \\\\n[*over]+\\\\$2-\\\\n(.d+\\\\n[*T\\\\$1]\n\
 .if \\\\n(*t>0 .*mmax *H \\\\n(*t\n\
 ..\n\
 .de *ends\n\
-.nr *U \\\\n(.d\n\
+.nr *U \\\\n(.d-(\\\\n[*over])\n\
 .*at\\\\$1\n\
 .rm *at\\\\$1\n\
 .rm *by\\\\$1\n\
-.sp |\\\\n(*Uu\n\
+.*go \\\\n(*U\n\
 ..\n\
 .de *fall\n\
 .nr *r \\\\$1\n\
@@ -249,7 +285,7 @@ pub(crate) static DRAWING: [u8; 7533] = *b"\
 .if \\\\$7=0 .*ptext \\\\$4 \\\\$5 \\\\$6\n\
 .if \\\\$7=4 .*prepeat \\\\$4\n\
 .if \\\\$7=5 .*pblock \\\\$4 \\\\$6\n\
-.sp |\\\\n(*Mu\n\
+.*go \\\\n(*M\n\
 .if \\\\$7<5 \\&\\\\*(*o\n\
 .*put\n\
 .rm *put\n\
@@ -296,14 +332,18 @@ pub(crate) static DRAWING: [u8; 7533] = *b"\
 .if '\\\\$2'r' .nr *X +\\\\n(*A-\\\\n[*d\\\\n(*r,\\\\n(*f]\n\
 .if '\\\\$2'c' .nr *X +(\\\\n(*A-\\\\n[*d\\\\n(*r,\\\\n(*f]/2/24*24)\n\
 .if '\\\\$2'a' .nr *X +1n\n\
-.if \\\\n(*X<\\\\n(*p .nr *X \\\\n(*p\n\
+.if \\\\n(*X<\\\\n(*p .*shove\n\
 .nr *d\\\\n(*r,\\\\n(*f \\\\n(*X\n\
 .am *put *.\n\
 .*put1 \\\\n(*r \\\\n(*f \\\\n(*X\n\
 .*.\n\
 ..\n\
+.de *shove\n\
+.nr *X \\\\n(*p\n\
+.*to \\\\n(*X+\\\\n[*d\\\\n(*r,\\\\n(*f]\n\
+..\n\
 .de *put1\n\
-.sp |\\\\n(*Mu\n\
+.*go \\\\n(*M\n\
 .in \\\\n(*Ou+\\\\$3u\n\
 .*d\\\\$1,\\\\$2\n\
 .br\n\
@@ -311,11 +351,11 @@ pub(crate) static DRAWING: [u8; 7533] = *b"\
 ..\n\
 .de *tall\n\
 \\&\\\\*(*o\n\
-.nr *M \\\\n(.d-1v\n\
+.nr *M \\\\n(.d-(\\\\n[*over])-1v\n\
 .if \\\\n(*V .*barlines\n\
 .*put\n\
 .rm *put\n\
-.sp |\\\\n(*Mu+\\\\n(*Hu\n\
+.*go \\\\n(*M+\\\\n(*H\n\
 ..\n\
 .de *barlines\n\
 .nr *was 0\n\
@@ -389,6 +429,7 @@ pub(crate) static DRAWING: [u8; 7533] = *b"\
 ..\n\
 .de *drop\n\
 .rr *^\\\\n(*r,\\\\$1\n\
+.if \\\\n[*many] .rr *&\\\\n(*r,\\\\$1\n\
 .if \\\\$1<=\\\\n(*F .if !\\\\n[*&\\\\n(*r,\\\\$1] .*dropped \\\\n(*r,\\\\$1\n\
 ..\n\
 .de *dropped\n\

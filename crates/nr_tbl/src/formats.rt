@@ -361,6 +361,14 @@ impl Formats {
         called
     }
 
+    /// A part has ended with its line, before what it needs.
+    fn cut_short(&mut self, ends: bool, byte: u8) -> Called
+        ensures { specs.told self.new result ≡ specs.cut_short ends byte self.old }
+    {
+        self.bad = true;
+        self.ended(ends, byte)
+    }
+
     /// The name of a font has ended with this letter.
     fn font(&mut self, letter: u8) -> Called
         ensures { specs.told self.new result ≡ specs.font letter self.old }
@@ -375,7 +383,7 @@ impl Formats {
         match byte {
             b'(' => self.goes_on(Part::FontName(b'R'), Call::Nothing),
             b' ' | b'\t' => Called::only(Call::Nothing),
-            b'\n' => self.ended(false, byte),
+            b'\n' => self.cut_short(false, byte),
             _ => self.goes_on(Part::FontMore, Call::Font(font_of(byte))),
         }
     }
@@ -396,7 +404,7 @@ impl Formats {
     {
         match byte {
             b')' => self.font(last),
-            b'\n' => self.ended(false, byte),
+            b'\n' => self.cut_short(false, byte),
             _ => self.goes_on(Part::FontName(byte), Call::Nothing),
         }
     }
@@ -419,7 +427,7 @@ impl Formats {
     {
         match byte {
             b')' => self.goes_on(Part::Keys, Call::Byte(b'\n')),
-            b'\n' => self.ended(true, byte),
+            b'\n' => self.cut_short(true, byte),
             _ => Called::only(Call::Byte(byte)),
         }
     }
@@ -461,7 +469,7 @@ impl Formats {
     {
         match byte {
             b')' => self.goes_on(Part::Keys, Call::Nothing),
-            b'\n' => self.ended(false, byte),
+            b'\n' => self.cut_short(false, byte),
             _ => Called::only(Call::Nothing),
         }
     }

@@ -76,10 +76,11 @@ impl Half {
         }
     }
 
-    /// The formats were read: a table without columns, or with too many, isn't set.
+    /// The formats were read: a table without columns, or with too many, isn't set. No line of new ones is told.
     pub(crate) fn with_formats(&mut self, formats: Formats)
         ensures { self.new ≡ specs.with_formats formats self.old }
     {
+        let lines = self.formats.lines;
         self.formats = formats;
         if formats.columns == 0 {
             self.mode = Mode::Failed;
@@ -87,7 +88,7 @@ impl Half {
         } else if formats.many {
             self.mode = Mode::Failed;
             self.complains(Kind::TooManyColumns);
-        } else if formats.bad {
+        } else if formats.bad || formats.lines == lines {
             self.complains(Kind::BadFormat);
         }
     }

@@ -7,7 +7,7 @@ use super::drawing::DRAWING;
 use nr_units::slice_vec::SliceVec;
 
 /// The macros by which a table is read, measured and ended.
-static MACROS: [u8; 7732] = *b"\
+static MACROS: [u8; 7796] = *b"\
 .de *.\n\
 ..\n\
 .de *begin\n\
@@ -34,6 +34,7 @@ static MACROS: [u8; 7732] = *b"\
 .rm *spans\n\
 .nr *J 0\n\
 .nr *height 0\n\
+.nr *over 0\n\
 ..\n\
 .de *line\n\
 .nr *K +1\n\
@@ -58,6 +59,7 @@ static MACROS: [u8; 7732] = *b"\
 .nr *N \\\\n(*c\n\
 .nr *%\\\\n(*c 0\n\
 .nr *Y\\\\n(*c 0\n\
+.nr *y\\\\n(*c 0\n\
 .nr *w\\\\n(*c 0\n\
 .nr *m\\\\n(*c 0\n\
 .nr *e\\\\n(*c 0\n\
@@ -422,6 +424,7 @@ a b ccc\n\
 .nf\n\
 .nr *P 0\n\
 .nr *R 0\n\
+.nr *8 0-1\n\
 .if !\\\\n(*N .nr *box 0\n\
 .if \\\\n[*box] .if !\\\\n[*nokeep] .*keep\n\
 .if \\\\n[*box]=3 .*draw 0 0\n\
@@ -436,9 +439,10 @@ a b ccc\n\
 .nr *height +2v\n\
 .if \\\\n[*box]=2 .nr *height -1v\n\
 .if \\\\n[*box]=3 .nr *height +2v\n\
-.if \\\\n[*height]<\\\\n(.p .ne \\\\n[*height]u\n\
+.if \\\\n[*height]<\\\\n(.p .*n \\\\n[*height]\n\
 ..\n\
 .de *done\n\
+.nr *+ \\\\n(*++(\\\\n[*over])\n\
 .ll \\\\n(*Lu\n\
 .in \\\\n(*Iu\n\
 .ie \\\\n(*u .fi\n\
@@ -455,11 +459,11 @@ a b ccc\n\
 ..\n\
 ";
 
-/// Puts the macros behind what goes out: at most 15296 bytes.
+/// Puts the macros behind what goes out: at most 16128 bytes.
 pub(crate) fn put_macros(out: &mut SliceVec<'_, u8>)
-    requires { length out.old.items + 15296 ≤ out.old.room }
+    requires { length out.old.items + 16128 ≤ out.old.room }
     ensures items { out.new.items ≡ out.old.items ++ macros }
-    ensures few { length out.new.items ≤ length out.old.items + 15296 }
+    ensures few { length out.new.items ≤ length out.old.items + 16128 }
     ensures room { out.new.room ≡ out.old.room }
 {
     out.extend(&MACROS);

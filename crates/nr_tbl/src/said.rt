@@ -133,11 +133,11 @@ fn put_options(options: Options, out: &mut SliceVec<'_, u8>)
     out.extend(&[frame_digit(options.frame), b'\n']);
 }
 
-/// Puts the beginning of a table: at most 15360 bytes.
+/// Puts the beginning of a table: at most 16192 bytes.
 fn put_begin(known: bool, out: &mut SliceVec<'_, u8>)
-    requires { length out.old.items + 15360 ≤ out.old.room }
+    requires { length out.old.items + 16192 ≤ out.old.room }
     ensures items { out.new.items ≡ out.old.items ++ specs.begin_bytes known }
-    ensures few { length out.new.items ≤ length out.old.items + 15360 }
+    ensures few { length out.new.items ≤ length out.old.items + 16192 }
     ensures room { out.new.room ≡ out.old.room }
 {
     out.extend(b"\n.nr *C 0\n.if '\\*[*none]'' .nr *C 1\n.cp 0\n");
@@ -198,11 +198,11 @@ pub(crate) fn put_call(said: Said, out: &mut SliceVec<'_, u8>)
     }
 }
 
-/// Puts what is said behind what goes out: at most 15360 bytes.
+/// Puts what is said behind what goes out: at most 16192 bytes.
 pub(crate) fn say(said: Said, out: &mut SliceVec<'_, u8>)
-    requires { length out.old.items + 15360 ≤ out.old.room }
+    requires { length out.old.items + 16192 ≤ out.old.room }
     ensures items { out.new.items ≡ out.old.items ++ specs.bytes_of said }
-    ensures few { length out.new.items ≤ length out.old.items + 15360 }
+    ensures few { length out.new.items ≤ length out.old.items + 16192 }
     ensures room { out.new.room ≡ out.old.room }
 {
     match said {

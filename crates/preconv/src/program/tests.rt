@@ -11,19 +11,20 @@ struct Row {
     line: &'static [u8],
 }
 
-static TEXTS: [(&str, Page<'static>); 6] = [
+static TEXTS: [(&str, Page<'static>); 7] = [
     (
         "quotes",
         Page::Bytes(b"\xe2\x80\x9ca\xe2\x80\x9d \\(em \\fIb\\fP\n"),
     ),
     ("latin", Page::Bytes(b"na\xefve \xc3\xa9\n")),
     ("half", Page::Bytes(b"\\(l")),
+    ("signs", Page::Bytes(b"\\(ul\t\\[eq]\n")),
     ("other", Page::Bytes(b"q\n.tr x")),
     ("folder", Page::Cut(b"")),
     ("cut", Page::Cut(b"a\\~b\n.BR c\\(l")),
 ];
 
-static ROWS: [Row; 14] = [
+static ROWS: [Row; 15] = [
     Row {
         words: &[b"preconv"],
         output: b"cafe",
@@ -46,6 +47,13 @@ static ROWS: [Row; 14] = [
     Row {
         words: &[b"preconv", b"quotes", b"-", b"latin", b"-"],
         output: b"\\(dqa\\(dq \\(em \\fIb\\fP\ncafenaive e\n",
+        status: 0,
+        line: b"",
+    },
+    // Fields of a table that are these signs are no rules.
+    Row {
+        words: &[b"preconv", b"signs"],
+        output: b"\\&_\t\\&=\n",
         status: 0,
         line: b"",
     },
