@@ -1,8 +1,8 @@
 -- A byte of the source that goes to the word and does not end it: two moves.
-use Rattle.std.proofs.Common.{◌≡◌, ℕ, ◌+◌, ◌<◌, ◌^◌, true, false, List, [], ◌∷◌, length, drop, Option, refl, sym, ap, ◌∙◌, subst, arith}
+use Rattle.std.proofs.Common.{◌≡◌, ℕ, ◌+◌, ◌<◌, ◌≤◌, true, false, List, [], ◌∷◌, length, drop, Option, refl, sym, ap, ◌∙◌, subst, arith}
 use Rattle.std.specs.Prelude.{◌==◌, slice_index}
 use Rattle.std.specs.Option.{option_map}
-use Rattle.nr_units.specs.Supply.{MayGive, Supply, skipped}
+use Rattle.nr_units.specs.Supply.{Supply, skipped}
 use Rattle.nr_fill.specs.Pieces.{line_cells}
 use Rattle.nr_reading.specs.declared.event.Event.TheVariants as events
 use Rattle.nr_reading.proofs.InText.{in_text}
@@ -10,7 +10,6 @@ use Rattle.nr_input.specs.AtHand.{ComeNext}
 use Rattle.nr_input.specs.Coming.{Coming, HoldsComing}
 use Rattle.nr_input.specs.Runs.{passed_run}
 use Rattle.nr_input.specs.Weights.{expansions_worth}
-use Rattle.nr_formatter.specs.Access.{collected}
 use Rattle.nr_formatter.specs.CellBytes.{IsCellByte, byte_added, byte_put, goes_to_word}
 use Rattle.nr_formatter.specs.Runs.{IsInLine, is_in_line}
 use Rattle.nr_formatter.specs.Weights as weights
