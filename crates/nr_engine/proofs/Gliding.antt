@@ -68,7 +68,7 @@ module _ (s t : State) (b : ℕ) (chosen : t.chosen ≡ []) (line : IsInLine t.f
   text = in_text t.formatter.reader.half line.half
 
   -- it is read and heard
-  glides_heard : (u : State) → step (told b t) ≡ u → IsWithin u → Glides s 2 u
+  pub glides_heard : (u : State) → step (told b t) ≡ u → IsWithin u → Glides s 2 u
   glides_heard u is within =
       let hears = kind-hear (told b t) (events.Byte b) chosen line.springs refl (λ e. let wrong : ⊥ = cc in wrong) in
       let goes_on = subst (λ k. GoesBy k (told b t)) (sym hears) (ap passed is ∙ passed_none u within) in

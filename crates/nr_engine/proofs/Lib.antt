@@ -1,4 +1,5 @@
 mod Bursts
+mod CellBytes
 mod Choosing
 mod EmptyLines
 mod Gliding

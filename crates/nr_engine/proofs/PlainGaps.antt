@@ -50,7 +50,7 @@ abbrev pub gone_shape : (Formatter → Formatter) → Shape → Shape
 gone_shape g e = record e { formatter = g (unburst e.formatter); place = passed_many 1 e.place }
 
 -- the moves lead where the engine stands
-made_gone : (n : ℕ) (g : Formatter → Formatter) (e : Shape) (supply supply' : Option Supply) (held : Option (List ℕ)) (s : State) → Stands [] supply s e
+pub made_gone : (n : ℕ) (g : Formatter → Formatter) (e : Shape) (supply supply' : Option Supply) (held : Option (List ℕ)) (s : State) → Stands [] supply s e
     → HoldsComing (behind_many 1 s.coming) (passed_many 1 e.place) supply' → IsWithin (made_of g (behind_byte (at e s))) → Glides (at e s) n (made_of g (behind_byte (at e s)))
     → Made [] (at e s) n (gone_shape g e) supply' held held
 made_gone n g e supply supply' held s h behind within glides =

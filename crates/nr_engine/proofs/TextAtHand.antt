@@ -101,7 +101,7 @@ passed_on t n bs p some =
 pub passed_inside : (b n : ℕ) (p : Reached) → (b == 10) ≡ false → passed_many n p ≡ passed_run b n p
 passed_inside b n p is = rw is refl
 
-holds_inside : (n : ℕ) (c : Coming) (p : Reached) (supply : Option Supply) → is_unseen p.ahead ≡ true → HoldsComing c p supply
+pub holds_inside : (n : ℕ) (c : Coming) (p : Reached) (supply : Option Supply) → is_unseen p.ahead ≡ true → HoldsComing c p supply
     → HoldsComing (behind_many n c) (passed_many n p) (option_map (skipped n) supply)
 holds_inside n c p supply unseen h = holds_behind 0 n c p supply unseen h
 

@@ -19,8 +19,8 @@ struct Words {
     moves: usize,
 }
 
-/// Puts the words that these bytes begin with, and the blanks behind them that do nothing but end their word, in a text line
-/// that has begun: up to a byte that is neither, or to the limit of the line.
+/// Puts the words that these bytes begin with, with the hyphens, tabs and blanks that go to a word and do not end it, and the blanks
+/// that do nothing but end it, in a text line that has begun: up to a byte that is none of these, or to the limit of the line.
 #[inline(always)]
 fn put_line_words(formatter: &mut Formatter<'_>, bytes: &[u8]) -> Words
     requires line { is_in_line formatter.old ≡ true }
@@ -37,7 +37,13 @@ fn put_line_words(formatter: &mut Formatter<'_>, bytes: &[u8]) -> Words
         taken += word.count;
         moves += 2 * word.count;
         match word.gap {
-            Gap::Left => return Words { taken, moves },
+            Gap::Left => {
+                if taken == bytes.len() || !formatter.put_cell_byte(bytes[taken]) {
+                    return Words { taken, moves };
+                }
+                taken += 1;
+                moves += 2;
+            }
             Gap::Flows => {
                 return Words {
                     taken: taken + 1,

@@ -1,5 +1,6 @@
 pub mod Below
 pub mod Calm
+pub mod CellBytes
 pub mod Cells
 pub mod DivertedFalls
 pub mod DivertedRows

@@ -1,5 +1,6 @@
 pub mod Access
 pub mod Beginning
+pub mod CellBytes
 pub mod Conditions
 pub mod DiversionRows
 pub mod Diversions

@@ -7,6 +7,7 @@
 //! `ending`; `requests` and `moves`, the tables of them; `runs`, `empty_lines` and `obeying`, many moves at once.
 #![tactic(auto)]
 
+mod cell_bytes;
 mod conditions;
 mod diversion_row;
 mod diversions;

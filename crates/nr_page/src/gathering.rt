@@ -12,10 +12,10 @@ use nr_units::slice_vec::SliceVec;
 use nr_units::source::Fault;
 
 /// How many bytes are gathered.
-pub(crate) const GATHERED: usize = 4096;
+pub(crate) const GATHERED: usize = 1024;
 
 /// How many cells are gathered at once. Each is at most three bytes.
-pub(crate) const RUN: usize = 1024;
+pub(crate) const RUN: usize = 256;
 
 /// Makes room for so many bytes: where there is none, all that is pending goes out.
 pub(crate) fn make_room<W: Sink>(

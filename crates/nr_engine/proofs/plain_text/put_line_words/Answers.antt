@@ -4,41 +4,42 @@ use Rattle.nr_formatter.specs.Runs.{is_in_line, manner_of, run_put}
 use Rattle.nr_formatter.specs.declared.formatter.Formatter.{Formatter}
 use Rattle.nr_engine.specs.Running.{PutsText}
 use Rattle.nr_engine.proofs.TextAtHand.{index_rest, length_rest, rest_of, turn_flows, turn_gap, turn_line, turn_on, turn_run}
-use Rattle.nr_engine.proofs.plain_text.put_line_words.Goals.{After-put_word-word}
+use Rattle.nr_engine.proofs.CellBytes.{byte_on, turn_byte}
+use Rattle.nr_engine.proofs.plain_text.put_line_words.Goals.{After-put_word-word, then-taken-bytes-via-then-taken-bytes, then-taken-bytes-via-else-taken-bytes+then-not-put_cell_byte}
 use Rattle.nr_engine.proofs.plain_text.put_line_words.Goals as goal
 
 -- the word, before the blank
 abbrev word_put : (c : After-put_word-word) → Formatter
-word_put c = run_put (take c.put_word-word.result.count (rest_of c.loop-taken.taken c.args.bytes.now)) c.loop-taken.formatter
+word_put c = run_put (take c.put_word-word.result.count (rest_of c.loop-formatter.taken c.args.bytes.now)) c.loop-formatter.formatter
 
 -- it was put
 run : (c : After-put_word-word)
-    → PutsText c.args.bytes.now (c.loop-taken.taken + c.put_word-word.result.count) (c.loop-taken.moves + 2 * c.put_word-word.result.count) c.args.formatter.now (word_put c)
+    → PutsText c.args.bytes.now (c.loop-formatter.taken + c.put_word-word.result.count) (c.loop-formatter.moves + 2 * c.put_word-word.result.count) c.args.formatter.now (word_put c)
 run c =
-    let now = c.loop-taken.invariant in
+    let now = c.loop-formatter.invariant in
     let put = c.put_word-word.ensures in
-    turn_run c.loop-taken.taken c.loop-taken.moves c.put_word-word.result.count c.args.bytes.now c.args.formatter.now c.loop-taken.formatter (word_put c)
+    turn_run c.loop-formatter.taken c.loop-formatter.moves c.put_word-word.result.count c.args.bytes.now c.args.formatter.now c.loop-formatter.formatter (word_put c)
     now.puts now.line put.front put.plain refl put.within
 
 -- in a line that has begun
 line : (c : After-put_word-word) → is_in_line (word_put c) ≡ true
-line c = turn_line (take c.put_word-word.result.count (rest_of c.loop-taken.taken c.args.bytes.now)) c.loop-taken.formatter (word_put c) c.loop-taken.invariant.line refl
+line c = turn_line (take c.put_word-word.result.count (rest_of c.loop-formatter.taken c.args.bytes.now)) c.loop-formatter.formatter (word_put c) c.loop-formatter.invariant.line refl
 
 -- a blank stands behind it
-blank : (c : After-put_word-word) → c.put_word-word.result.count < length (rest_of c.loop-taken.taken c.args.bytes.now)
-    → slice_index (rest_of c.loop-taken.taken c.args.bytes.now) c.put_word-word.result.count ≡ 32
-    → (c.loop-taken.taken + c.put_word-word.result.count < length c.args.bytes.now) × (slice_index c.args.bytes.now (c.loop-taken.taken + c.put_word-word.result.count) ≡ 32)
+blank : (c : After-put_word-word) → c.put_word-word.result.count < length (rest_of c.loop-formatter.taken c.args.bytes.now)
+    → slice_index (rest_of c.loop-formatter.taken c.args.bytes.now) c.put_word-word.result.count ≡ 32
+    → (c.loop-formatter.taken + c.put_word-word.result.count < length c.args.bytes.now) × (slice_index c.args.bytes.now (c.loop-formatter.taken + c.put_word-word.result.count) ≡ 32)
 blank c below is =
-    let t = c.loop-taken.taken in
+    let t = c.loop-formatter.taken in
     let bs = c.args.bytes.now in
     (omega (arith, below, length_rest t bs), sym (index_rest t c.put_word-word.result.count bs below) ∙ is)
 
-pub loop-taken-preserved : goal.loop-taken-preserved
-loop-taken-preserved c =
-    let h = (goal.at.loop-taken-preserved c).After-put_word-word in
+pub loop-formatter-preserved : goal.loop-formatter-preserved
+loop-formatter-preserved c =
+    let h = (goal.at.loop-formatter-preserved c).After-put_word-word in
     let n = c.put_word-word.result.count in
-    let t = c.loop-taken.taken + n in
-    let m = c.loop-taken.moves + 2 * n in
+    let t = c.loop-formatter.taken + n in
+    let m = c.loop-formatter.moves + 2 * n in
     let bs = c.args.bytes.now in
     let f = c.args.formatter.now in
     let put = rw c.in-Reads.is at c.put_word-word.ensures in
@@ -47,16 +48,50 @@ loop-taken-preserved c =
     let g = c.put_word-word.new.self in
     record {
       line = turn_on t m bs f (word_put h) (run h) (line h) b.0 b.1 gap.0 g gap.2;
-      manner = c.loop-taken.invariant.manner ∙ ap manner_of (sym gap.2);
+      manner = c.loop-formatter.invariant.manner ∙ ap manner_of (sym gap.2);
       puts = turn_gap t m bs f (word_put h) (run h) (line h) b.0 b.1 gap.0 g gap.1 gap.2;
     }
 
-pub returns-in-Left-clause-puts : goal.returns-in-Left-clause-puts
-returns-in-Left-clause-puts c =
-    let h = (goal.at.returns-in-Left-clause-puts c).After-put_word-word in
+pub put_cell_byte-requires : goal.put_cell_byte-requires
+put_cell_byte-requires c =
+    let h = (goal.at.put_cell_byte-requires c).After-put_word-word in
     let put = rw c.in-Left.is at c.put_word-word.ensures in
-    subst (λ (x : Formatter). PutsText c.args.bytes.now (c.loop-taken.taken + c.put_word-word.result.count) (c.loop-taken.moves + 2 * c.put_word-word.result.count) c.args.formatter.now x)
-    (sym put.gap) (run h)
+    ap is_in_line put.gap ∙ line h
+
+pub returns-then-taken-bytes-clause-puts : goal.returns-then-taken-bytes-clause-puts
+returns-then-taken-bytes-clause-puts c =
+    let h = (goal.at.returns-then-taken-bytes-clause-puts c).After-put_word-word in
+    let put = rw c.in-Left.is at c.put_word-word.ensures in
+    let n = c.put_word-word.result.count in
+    let t = c.loop-formatter.taken + n in
+    let m = c.loop-formatter.moves + 2 * n in
+    let bs = c.args.bytes.now in
+    let f = c.args.formatter.now in
+    let here : PutsText bs t m f c.put_word-word.new.self = subst (λ (x : Formatter). PutsText bs t m f x) (sym put.gap) (run h) in
+    elim c.then-taken-bytes.branch [
+      | then-taken-bytes-via-then-taken-bytes w ↦ subst (λ (x : Formatter). PutsText bs t m f x) (sym w.formatter-is) here
+      | then-taken-bytes-via-else-taken-bytes+then-not-put_cell_byte w ↦ subst (λ (x : Formatter). PutsText bs t m f x) (sym (w.formatter-is ∙ w.if-not-put_cell_byte.ensures)) here
+    ]
+
+pub loop-formatter-preserved-in-Left : goal.loop-formatter-preserved-in-Left
+loop-formatter-preserved-in-Left c =
+    let h = (goal.at.loop-formatter-preserved-in-Left c).After-put_word-word in
+    let put = rw c.in-Left.is at c.put_word-word.ensures in
+    let n = c.put_word-word.result.count in
+    let t = c.loop-formatter.taken + n in
+    let m = c.loop-formatter.moves + 2 * n in
+    let bs = c.args.bytes.now in
+    let f = c.args.formatter.now in
+    let g = c.put_word-word.new.self in
+    let new = c.put_cell_byte.new.self in
+    let cell = c.if-not-put_cell_byte.ensures in
+    let here : PutsText bs t m f g = subst (λ (x : Formatter). PutsText bs t m f x) (sym put.gap) (run h) in
+    let below : t < length bs = omega (arith, here.front, c.if-taken-bytes.false) in
+    record {
+      line = byte_on t m (slice_index bs t) bs f g here below refl cell.0 new cell.1;
+      manner = c.loop-formatter.invariant.manner ∙ ap manner_of (sym put.gap) ∙ ap manner_of (sym cell.1);
+      puts = turn_byte t m (slice_index bs t) bs f g here below refl cell.0 new cell.1;
+    }
 
 pub returns-in-Flows-clause-puts : goal.returns-in-Flows-clause-puts
 returns-in-Flows-clause-puts c =
@@ -65,4 +100,4 @@ returns-in-Flows-clause-puts c =
     let put = rw c.in-Flows.is at c.put_word-word.ensures in
     let gap = put.gap in
     let b = blank h (put.below refl) (put.blank refl) in
-    turn_flows (c.loop-taken.taken + n) (c.loop-taken.moves + 2 * n) c.args.bytes.now c.args.formatter.now (word_put h) (run h) (line h) b.0 b.1 gap.0 c.put_word-word.new.self gap.1
+    turn_flows (c.loop-formatter.taken + n) (c.loop-formatter.moves + 2 * n) c.args.bytes.now c.args.formatter.now (word_put h) (run h) (line h) b.0 b.1 gap.0 c.put_word-word.new.self gap.1
