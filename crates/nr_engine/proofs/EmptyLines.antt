@@ -302,6 +302,7 @@ makes_empty e supply empty room =
       makes = λ held s h. made_empty e supply held s h empty room;
       limit = falls.limit;
       most = falls.most;
+      limits = refl;
       spends = let less = falls.falls e.place in omega (arith, less);
     }
 
@@ -345,6 +346,7 @@ makes_lines (suc n) e supply supply' some start room next behind = record {
   makes = λ held s h. made_lines n e supply supply' held s h start room next behind;
   limit = refl;
   most = refl;
+  limits = refl;
   spends = spends_lines n e start room;
 }
 

@@ -192,6 +192,7 @@ makes_text bs zs e supply some is plain rest_is fits = record {
   makes = λ held s h. made_by bs zs e supply held s h is plain fits e.formatter.store.levels refl some rest_is;
   limit = refl;
   most = refl;
+  limits = refl;
   spends = level_spends bs e (let all = ap length rest_is in omega (arith, all, length-append (map elements.Byte bs) zs, length-map bs elements.Byte));
 }
 
@@ -302,6 +303,7 @@ module _ (e : Shape) (supply : Option Supply) (is : is_in_line e.formatter ≡ t
         makes = λ held s h. made_flows e supply held s h is gap there.l there.ls there.xs there.is;
         limit = refl;
         most = refl;
+        limits = refl;
         spends = flows_spends e line.event line.task (one_left e.formatter.store.levels (elements.Byte 32) there);
       }
 
@@ -310,6 +312,7 @@ module _ (e : Shape) (supply : Option Supply) (is : is_in_line e.formatter ≡ t
     makes = λ held s h. made_put e supply held s h is gap there.l there.ls there.xs there.is fits;
     limit = refl;
     most = refl;
+    limits = refl;
     spends = gap_spends e (one_left e.formatter.store.levels (elements.Byte 32) there);
   }
 

@@ -5,6 +5,7 @@ mod EmptyLines
 mod Gliding
 mod Going
 mod LevelText
+mod LimitsStay
 mod Lightening
 mod LineBeginnings
 mod LinesAtHand

@@ -189,5 +189,6 @@ module _ (bs : List ℕ) (e : Shape) (supply : Option Supply) (at_text : is_at_t
     makes = λ held s h. made_begun n f supply' held s h (makes.makes held s (stands_begun supply s e h));
     limit = makes.limit;
     most = makes.most;
+    limits = makes.limits;
     spends = omega (arith, saves, weighs_begun);
   }

@@ -17,7 +17,7 @@ use Rattle.nr_formatter.specs.declared.formatter.Formatter.{Formatter}
 use Rattle.nr_formatter.specs.declared.tasks.Task.{Task}
 use Rattle.nr_formatter.specs.declared.tasks.Task.TheVariants as tasks
 use Rattle.nr_formatter.specs.declared.tasks.Then.TheVariants as thens
-use Rattle.nr_formatter.proofs.Obeyed.{act-sets, falls-obeyed}
+use Rattle.nr_formatter.proofs.Obeyed.{act-sets, falls-obeyed, obeyed-limits}
 use Rattle.nr_engine.specs.State.{State, plainly}
 use Rattle.nr_engine.specs.Machine as machine
 use Rattle.nr_engine.specs.Machine.{work}
@@ -26,6 +26,7 @@ use Rattle.nr_engine.specs.Holding.{Holds, Made, ReadsNext, Shape, Stands, at}
 use Rattle.nr_engine.specs.Running.{Makes, MakesInPlace}
 use Rattle.nr_engine.proofs.EmptyLines.{within_kept}
 use Rattle.nr_engine.proofs.Gliding.{Glides, glides-add, glides-by}
+use Rattle.nr_engine.proofs.LimitsStay.{formatter-limits}
 use Rattle.nr_engine.proofs.NextMoves.{kind-hear, kind-work, step-hear, step-work}
 use Rattle.nr_engine.proofs.Standing.{wrote_nothing}
 use Rattle.nr_engine.proofs.Travelling.{makes_none}
@@ -180,6 +181,7 @@ makes_by true e supply may request =
       makes = λ held s h. subst (λ n. Made [] (at e s) n (obeyed_shape (obeyed e.formatter) e) supply held held) (sym moves) (made_set e supply held s h request may);
       limit = falls.limit;
       most = falls.most;
+      limits = formatter-limits e (obeyed e.formatter) (obeyed-limits e.formatter (may_parts e.formatter may).sets may);
       spends = (let less = falls.falls e.place in omega (arith, less));
     }
 

@@ -130,10 +130,10 @@ module _ (bs : List ℕ) (e : Shape) (supply supply' : Option Supply) (is : is_i
   pub makes_flows : Makes 2 e (gone_shape gap_flows e) supply supply'
   makes_flows =
       let line = in_line e.formatter is in
-      record { makes = made_flows; limit = refl; most = refl; spends = (let saves = saves_flows e line.event line.task in omega (arith, saves)) }
+      record { makes = made_flows; limit = refl; most = refl; limits = refl; spends = (let saves = saves_flows e line.event line.task in omega (arith, saves)) }
 
   pub makes_put : fits_line (gapped (collected e.formatter)) ≡ true → Makes 3 e (gone_shape gap_put e) supply supply'
-  makes_put fits = record { makes = made_put fits; limit = refl; most = refl; spends = (let saves = saves_put e in omega (arith, saves)) }
+  makes_put fits = record { makes = made_put fits; limit = refl; most = refl; limits = refl; spends = (let saves = saves_put e in omega (arith, saves)) }
 
 -- bytes of which the first is known
 pub first_of : (bs : List ℕ) (b : ℕ) → 0 < length bs → get_or bs 0 0 ≡ b → (rest : List ℕ) × (bs ≡ b ∷ rest)

@@ -310,6 +310,7 @@ module _ (bs : List ℕ) (e : Shape) (supply supply' : Option Supply) (levels : 
     makes = made_flows;
     limit = refl;
     most = refl;
+    limits = refl;
     spends = let saves = saves_newline_flows e (in_line e.formatter newline.line) in omega (arith, saves);
   }
 
@@ -318,5 +319,6 @@ module _ (bs : List ℕ) (e : Shape) (supply supply' : Option Supply) (levels : 
     makes = made_put fits;
     limit = refl;
     most = refl;
+    limits = refl;
     spends = let saves = saves_newline e (in_line e.formatter newline.line) in omega (arith, saves);
   }

@@ -309,5 +309,6 @@ makes_run (b ∷ bs) e supply supply' some line levels plain next fits behind = 
   makes = λ held s h. glided b bs e supply supply' held s h line levels plain next fits behind;
   limit = refl;
   most = refl;
+  limits = refl;
   spends = (let saves = run_saves (b ∷ bs) e some in omega (arith, saves));
 }

@@ -8,11 +8,13 @@ use Rattle.nr_input.specs.declared.reader.Reader.{Reader}
 use Rattle.nr_input.specs.declared.told.Told.{Told}
 use Rattle.nr_input.specs.declared.told.Told.TheVariants as tells
 use Rattle.nr_input.specs.Coming.{Reached, HoldsComing}
+use Rattle.nr_input.specs.Limits as limits
 use Rattle.nr_input.specs.Moving.{Situation, Move, situation, move}
 use Rattle.nr_input.specs.Moving as input
 use Rattle.nr_input.specs.Runs.{HasRead, PaysAll, moves, told_last}
 use Rattle.nr_formatter.specs.Limits as formatter
 use Rattle.nr_formatter.specs.declared.tasks.Resume.{Resume}
+use Rattle.nr_formatter.proofs.LimitsStay.{input-limits}
 use Rattle.nr_engine.specs.State.{State}
 use Rattle.nr_engine.specs.Machine.{step, state_after, read, situation_of, with_situation}
 use Rattle.nr_engine.specs.Measures.{IsWithin}
@@ -20,6 +22,7 @@ use Rattle.nr_engine.specs.Answer.{Goes, GoesBy}
 use Rattle.nr_engine.specs.Holding.{Shape, at, Holds, ReadsNext}
 use Rattle.nr_engine.specs.Running.{Makes}
 use Rattle.nr_engine.proofs.Bursts.{move-short}
+use Rattle.nr_engine.proofs.LimitsStay.{formatter-limits}
 use Rattle.nr_engine.proofs.NextMoves.{step-read, kind-read}
 use Rattle.nr_engine.proofs.Gliding.{Glides}
 use Rattle.nr_engine.proofs.Spending.{told_all}
@@ -80,8 +83,9 @@ read_shape v r x p e = record e { formatter = record e.formatter { store = v; re
 
 pub makes_reading : (n : ℕ) (x : Event) (v : Stored Resume) (r : Reader) (p : Reached) (e : Shape) (supply supply' : Option Supply) → ReadsNext e.formatter
     → ((c : _) → HoldsComing c e.place supply → HasRead n (situation e.formatter.store c e.formatter.reader) x v r p supply')
-    → PaysAll n e.formatter.store e.place e.formatter.reader x v p r → formatter.FitsMemory (read_shape v r x p e).formatter → Makes n e (read_shape v r x p e) supply supply'
-makes_reading n x v r p e supply supply' reads read pays fits = record {
+    → PaysAll n e.formatter.store e.place e.formatter.reader x v p r → limits.limits_of v r ≡ limits.limits_of e.formatter.store e.formatter.reader
+    → formatter.FitsMemory (read_shape v r x p e).formatter → Makes n e (read_shape v r x p e) supply supply'
+makes_reading n x v r p e supply supply' reads read pays same fits = record {
   makes = λ held s h.
       let now = at e s in
       let there = read s.coming h.coming in
@@ -105,5 +109,6 @@ makes_reading n x v r p e supply supply' reads read pays fits = record {
       };
   limit = pays.limit;
   most = pays.most;
+  limits = formatter-limits e (record e.formatter { store = v; reader = r }) (input-limits e.formatter v r same);
   spends = told_all n e.place p e.formatter v r x reads.event reads.task pays;
 }

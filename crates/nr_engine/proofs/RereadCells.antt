@@ -222,6 +222,7 @@ makes_cells ys zs row e supply is are some adds rest_is = record {
   makes = λ held s h. made_by ys zs row e supply held s h is are (some s.row h.row) adds e.formatter.store.levels refl rest_is;
   limit = refl;
   most = refl;
+  limits = refl;
   spends = reread_spends (length ys) row e (let whole = ap length rest_is in omega (arith, whole, length-append ys zs));
 }
 

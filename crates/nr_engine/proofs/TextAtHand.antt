@@ -372,6 +372,7 @@ makes_there n e f x y z m there = record {
       };
   limit = m.limit;
   most = m.most;
+  limits = m.limits;
   spends = m.spends;
 }
 

@@ -82,6 +82,7 @@ makes-add n m e f g x y z a b =
       makes = λ held s h. made_run (at e s) n m f g y z held held (a.makes held s h) b;
       limit = b.limit ∙ a.limit;
       most = b.most ∙ a.most;
+      limits = b.limits ∙ a.limits;
       spends = omega (arith, a.spends, more);
     }
 
@@ -91,6 +92,7 @@ makes_none e supply = record {
   makes = λ held s h. made_none [] (at e s) e supply held (holds_of supply (at e s) e refl h.chosen_is h.coming h.row h.page h.page_limit h.select h.within);
   limit = refl;
   most = refl;
+  limits = refl;
   spends = omega arith;
 }
 

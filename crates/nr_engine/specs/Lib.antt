@@ -2,6 +2,7 @@ pub mod Answer
 pub mod Desks
 pub mod EmptyLines
 pub mod Holding
+pub mod Limits
 pub mod LineBeginnings
 pub mod Machine
 pub mod Measures

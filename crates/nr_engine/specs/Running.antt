@@ -23,6 +23,7 @@ use Rattle.nr_engine.specs.State.{State, Choice, choices, formatter_at_first}
 use Rattle.nr_engine.specs.Machine.{choose, state_after}
 use Rattle.nr_engine.specs.Answer.{stops_reading, stops_writing}
 use Rattle.nr_engine.specs.Holding.{Shape, at, Stands, Holds, Made, Halts, weight, worth}
+use Rattle.nr_engine.specs.Limits.{limits_of}
 use Rattle.nr_engine.specs.declared.outcome.Measure.TheVariants.{Stored}
 use Rattle.nr_engine.specs.declared.outcome.Outcome.{Outcome}
 use Rattle.nr_engine.specs.declared.outcome.Outcome.TheVariants.{Limit}
@@ -55,6 +56,7 @@ pub record Makes (n : ℕ) (e f : Shape) (supply supply' : Option Supply) : Type
   pub makes : (held : Option (List ℕ)) (s : State) → Stands [] supply s e → Made [] (at e s) n f supply' held held
   pub limit : f.formatter.store.limit ≡ e.formatter.store.limit
   pub most : f.formatter.reader.most ≡ e.formatter.reader.most
+  pub limits : limits_of f ≡ limits_of e
   pub spends : weight f + n + worth e * e.place.taken ≤ weight e + worth e * f.place.taken
 
 -- n moves were made, whatever the source is about to give, of which nothing was taken

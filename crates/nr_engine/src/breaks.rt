@@ -8,6 +8,7 @@ ghost use Rattle.nr_units.specs.Failures.{put_counted_if};
 ghost use Rattle.nr_formatter.specs.declared.tasks.Task.TheVariants as tasks;
 ghost use Rattle.nr_engine.specs.Answer.{fails_writing};
 ghost use Rattle.nr_engine.specs.Holding.{shape, IsUnderWay, Works, WorksQuietly};
+ghost use Rattle.nr_engine.specs.Limits.{limits_of};
 
 use crate::engine::Engine;
 use crate::outcome::{Measure, Stop};
@@ -19,6 +20,7 @@ impl<'a> Engine<'a> {
     fn end_word(&mut self) -> Result<(), Measure>
         requires { is_none (collected self.old.formatter).word ≡ false }
         ensures works { WorksQuietly (plainly break_word_end) (shape self.old) (shape self.new) result }
+        ensures limits { limits_of (shape self.new) ≡ limits_of (shape self.old) }
     {
         match self.formatter.break_word_end() {
             Ok(()) => Ok(()),
@@ -30,6 +32,7 @@ impl<'a> Engine<'a> {
     pub(crate) fn break_out<W: Sink>(&mut self, then: Then, output: &mut W) -> Result<(), Stop>
         requires { IsUnderWay (tasks.Break then) self.old.formatter }
         ensures works { Works (break_out then) (shape self.old) (shape self.new) (W.held output.old) (W.held output.new) result }
+        ensures limits { limits_of (shape self.new) ≡ limits_of (shape self.old) }
         ensures failures { W.failures output.new ≡ put_counted_if (fails_writing result) (W.failures output.old) }
     {
         if self.formatter.line.has_word() {

@@ -11,6 +11,7 @@ ghost use Rattle.nr_reading.specs.declared.event.Event.TheVariants as events;
 ghost use Rattle.nr_formatter.specs.declared.tasks.Task.TheVariants as tasks;
 ghost use Rattle.nr_engine.specs.Answer.{fails_writing};
 ghost use Rattle.nr_engine.specs.Holding.{shape, IsUnderWay, Works, WorksQuietly};
+ghost use Rattle.nr_engine.specs.Limits.{limits_of};
 
 use crate::engine::Engine;
 use crate::outcome::{Measure, Stop};
@@ -42,6 +43,7 @@ impl<'a> Engine<'a> {
     fn divert_cell(&mut self, cell: Cell) -> Result<(), Measure>
         requires { self.old.formatter.event ≡ events.DivertedCell cell }
         ensures works { WorksQuietly (cell_to outlets.Diversion cell) (shape self.old) (shape self.new) result }
+        ensures limits { limits_of (shape self.new) ≡ limits_of (shape self.old) }
     {
         let indent = self.formatter.settings.indents.indent.value.cells();
         let blanks = self.margin(indent);
@@ -60,6 +62,7 @@ impl<'a> Engine<'a> {
     fn read_cell(&mut self, cell: Cell)
         requires { self.old.formatter.event ≡ events.DivertedCell cell }
         ensures works { WorksQuietly (cell_to outlets.Room cell) (shape self.old) (shape self.new) (Ok tt) }
+        ensures limits { limits_of (shape self.new) ≡ limits_of (shape self.old) }
     {
         let indent = self.formatter.settings.indents.indent.value.cells();
         let blanks = self.margin(self.offset() + indent);
@@ -71,6 +74,7 @@ impl<'a> Engine<'a> {
     pub(crate) fn put_diverted_cell(&mut self, cell: Cell) -> Result<(), Measure>
         requires { self.old.formatter.event ≡ events.DivertedCell cell }
         ensures works { WorksQuietly (λ s. cell_to (outlet s.formatter) cell s) (shape self.old) (shape self.new) result }
+        ensures limits { limits_of (shape self.new) ≡ limits_of (shape self.old) }
     {
         match self.formatter.outlet() {
             Outlet::Diversion => self.divert_cell(cell),
@@ -85,6 +89,7 @@ impl<'a> Engine<'a> {
     fn end_line(&mut self, height: u32) -> Result<(), Measure>
         requires { IsUnderWay (tasks.Line height) self.old.formatter }
         ensures works { WorksQuietly (line_to outlets.Diversion height) (shape self.old) (shape self.new) result }
+        ensures limits { limits_of (shape self.new) ≡ limits_of (shape self.old) }
     {
         let cells = self.row.written().min(u32::MAX as usize) as u32;
         match self.formatter.divert_line_end(cells, height) {
@@ -100,6 +105,7 @@ impl<'a> Engine<'a> {
     fn place_diverted_line(&mut self, height: u32) -> Result<(), Measure>
         requires { IsUnderWay (tasks.Line height) self.old.formatter }
         ensures works { WorksQuietly (line_to outlets.Room height) (shape self.old) (shape self.new) result }
+        ensures limits { limits_of (shape self.new) ≡ limits_of (shape self.old) }
     {
         self.formatter.task = Task::Read;
         self.place_row(height)
@@ -113,6 +119,7 @@ impl<'a> Engine<'a> {
     ) -> Result<(), Stop>
         requires { IsUnderWay (tasks.Line height) self.old.formatter }
         ensures works { Works (λ s. line_to (outlet s.formatter) height s) (shape self.old) (shape self.new) (W.held output.old) (W.held output.new) result }
+        ensures limits { limits_of (shape self.new) ≡ limits_of (shape self.old) }
         ensures failures { W.failures output.new ≡ put_counted_if (fails_writing result) (W.failures output.old) }
     {
         match self.formatter.outlet() {

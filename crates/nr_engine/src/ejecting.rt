@@ -8,6 +8,7 @@ ghost use Rattle.nr_units.specs.Failures.{put_counted_if};
 ghost use Rattle.nr_formatter.specs.declared.tasks.Task.TheVariants as tasks;
 ghost use Rattle.nr_engine.specs.Answer.{fails_writing};
 ghost use Rattle.nr_engine.specs.Holding.{shape, IsUnderWay, Works, WorksQuietly};
+ghost use Rattle.nr_engine.specs.Limits.{limits_of};
 
 use crate::engine::Engine;
 use crate::outcome::{Measure, Stop};
@@ -21,6 +22,7 @@ impl<'a> Engine<'a> {
         requires below { pos 0 ≤ℤ trap.place }
         requires named { names_text trap.name self.old.formatter ≡ true }
         ensures works { WorksQuietly (plainly (ejected_to trap)) (shape self.old) (shape self.new) result }
+        ensures limits { limits_of (shape self.new) ≡ limits_of (shape self.old) }
     {
         Measure::of_splice(self.formatter.eject_to(trap))
     }
@@ -29,6 +31,7 @@ impl<'a> Engine<'a> {
     pub(crate) fn eject<W: Sink>(&mut self, ejected: Ejected, output: &mut W) -> Result<(), Stop>
         requires { IsUnderWay (tasks.Eject ejected) self.old.formatter }
         ensures works { Works (eject ejected) (shape self.old) (shape self.new) (W.held output.old) (W.held output.new) result }
+        ensures limits { limits_of (shape self.new) ≡ limits_of (shape self.old) }
         ensures failures { W.failures output.new ≡ put_counted_if (fails_writing result) (W.failures output.old) }
     {
         if !self.formatter.is_ejecting() {

@@ -49,6 +49,7 @@ impl<'a> Engine<'a> {
     ghost use Rattle.nr_engine.specs.Machine.{told as told_formatter, act as act_request, work as work_state, hear as hear_event};
     ghost use Rattle.nr_engine.specs.Answer.{refused, fails_writing, stops_writing};
     ghost use Rattle.nr_engine.specs.Holding.{shape, ReadsNext, IsUnderWay, IsAtWork, WorksQuietly, Acts, ActsQuietly, Exits, Moves, TellsRead, TellsSource};
+    ghost use Rattle.nr_engine.specs.Limits.{limits_of};
 
     /// The next move would pass this limit.
     pub(crate) fn passed(&self, which: Measure) -> Outcome
@@ -64,6 +65,7 @@ impl<'a> Engine<'a> {
     #[inline(always)]
     fn tell(&mut self, heard: Heard)
         ensures is { shape self.new ≡ record (shape self.old) { formatter = told_formatter (told_as self.old.resumed heard) self.old.formatter } }
+        ensures limits { limits_of (shape self.new) ≡ limits_of (shape self.old) }
         ensures falls { (resume : ResumeValue) → told_as self.old.resumed heard ≡ tells.Resume resume → self.old.formatter.event ≡ events.Nothing → self.old.formatter.task ≡ tasks.Read → Falls 0 510 self.old.formatter self.new.formatter }
     {
         match heard {
@@ -77,6 +79,7 @@ impl<'a> Engine<'a> {
     fn read<R: Source>(&mut self, input: &mut R) -> Result<(), Refusal>
         requires { ReadsNext self.old.formatter }
         ensures moves { (held : Option (List ℕ)) → Moves (shape self.old) (shape self.new) (R.supply input.old) (R.supply input.new) held held (refused (place_told self.old.place.taken self.old.formatter.reader) result) }
+        ensures limits { limits_of (shape self.new) ≡ limits_of (shape self.old) }
         ensures tells { TellsRead (shape self.old) (shape self.new) result (R.failures input.old) (R.failures input.new) }
     {
         let formatter = &mut self.formatter;
@@ -100,6 +103,7 @@ impl<'a> Engine<'a> {
     fn exit(&mut self)
         requires { IsUnderWay (tasks.Act requests.Ex) self.old.formatter }
         ensures exits { Exits (shape self.old) (shape self.new) }
+        ensures limits { limits_of (shape self.new) ≡ limits_of (shape self.old) }
     {
         self.place.empty();
         self.formatter.ex();
@@ -110,6 +114,7 @@ impl<'a> Engine<'a> {
         requires under_way { IsUnderWay task self.old.formatter }
         requires plain { works task ≡ true }
         ensures works { WorksQuietly (plainly (worked task)) (shape self.old) (shape self.new) result }
+        ensures limits { limits_of (shape self.new) ≡ limits_of (shape self.old) }
     {
         Measure::of_answer(self.formatter.work(task))
     }
@@ -118,6 +123,7 @@ impl<'a> Engine<'a> {
     fn act(&mut self, request: Request) -> Result<(), Measure>
         requires { IsUnderWay (tasks.Act request) self.old.formatter }
         ensures acts { ActsQuietly (act_request request) (shape self.old) (shape self.new) result }
+        ensures limits { limits_of (shape self.new) ≡ limits_of (shape self.old) }
     {
         match request {
             Request::Ex => {
@@ -132,6 +138,7 @@ impl<'a> Engine<'a> {
     fn work<W: Sink>(&mut self, task: Task, output: &mut W) -> Result<(), Stop>
         requires { IsAtWork task self.old.formatter }
         ensures acts { Acts (work_state task) (shape self.old) (shape self.new) (W.held output.old) (W.held output.new) result }
+        ensures limits { limits_of (shape self.new) ≡ limits_of (shape self.old) }
         ensures failures { W.failures output.new ≡ put_counted_if (fails_writing result) (W.failures output.old) }
     {
         match task {
@@ -156,6 +163,7 @@ impl<'a> Engine<'a> {
         requires event { self.old.formatter.event ≡ event }
         requires busy { event ≢ events.Nothing }
         ensures works { WorksQuietly (hear_event event) (shape self.old) (shape self.new) result }
+        ensures limits { limits_of (shape self.new) ≡ limits_of (shape self.old) }
     {
         if let Event::DivertedCell(cell) = event {
             return self.put_diverted_cell(cell);
@@ -167,6 +175,7 @@ impl<'a> Engine<'a> {
     fn spring(&mut self, name: Name) -> Result<(), Measure>
         requires { self.old.formatter.springs ≡ Some name }
         ensures works { WorksQuietly (plainly (sprung name)) (shape self.old) (shape self.new) result }
+        ensures limits { limits_of (shape self.new) ≡ limits_of (shape self.old) }
     {
         Measure::of_splice(self.formatter.spring(name))
     }
@@ -179,6 +188,7 @@ impl<'a> Engine<'a> {
         output: &mut W,
     ) -> Result<(), Outcome>
         ensures moves { Moves (shape self.old) (shape self.new) (R.supply input.old) (R.supply input.new) (W.held output.old) (W.held output.new) result }
+        ensures limits { limits_of (shape self.new) ≡ limits_of (shape self.old) }
         ensures tells { TellsSource (shape self.old) (shape self.new) result (R.failures input.old) (R.failures input.new) }
         ensures write_failures { W.failures output.new ≡ put_counted_if (stops_writing result) (W.failures output.old) }
     {

@@ -10,6 +10,7 @@ ghost use Rattle.nr_units.specs.Failures.{put_counted_if};
 ghost use Rattle.nr_formatter.specs.declared.tasks.Task.TheVariants as tasks;
 ghost use Rattle.nr_engine.specs.Answer.{fails_writing};
 ghost use Rattle.nr_engine.specs.Holding.{shape, IsUnderWay, Works, WorksQuietly};
+ghost use Rattle.nr_engine.specs.Limits.{limits_of};
 
 use crate::engine::Engine;
 use crate::outcome::{Measure, Stop};
@@ -31,6 +32,7 @@ impl<'a> Engine<'a> {
     fn divert_line(&mut self, going: Going) -> Result<(), Measure>
         requires { 0 < length (collected self.old.formatter).pieces }
         ensures works { WorksQuietly (plainly (divert_line going)) (shape self.old) (shape self.new) result }
+        ensures limits { limits_of (shape self.new) ≡ limits_of (shape self.old) }
     {
         match self.formatter.divert_line(going) {
             Ok(()) => {
@@ -45,6 +47,7 @@ impl<'a> Engine<'a> {
     fn place_line(&mut self, going: Going) -> Result<(), Measure>
         requires { 0 < length (collected self.old.formatter).pieces }
         ensures works { WorksQuietly (put_line_to outlets.Room going) (shape self.old) (shape self.new) result }
+        ensures limits { limits_of (shape self.new) ≡ limits_of (shape self.old) }
     {
         let offset = self.offset();
         let height = self.formatter.settings.pages.spacing.units();
@@ -58,6 +61,7 @@ impl<'a> Engine<'a> {
     pub(crate) fn put_line<W: Sink>(&mut self, going: Going, output: &mut W) -> Result<(), Stop>
         requires { 0 < length (collected self.old.formatter).pieces }
         ensures works { Works (put_line going) (shape self.old) (shape self.new) (W.held output.old) (W.held output.new) result }
+        ensures limits { limits_of (shape self.new) ≡ limits_of (shape self.old) }
         ensures failures { W.failures output.new ≡ put_counted_if (fails_writing result) (W.failures output.old) }
     {
         match self.formatter.outlet() {
@@ -76,6 +80,7 @@ impl<'a> Engine<'a> {
     ) -> Result<(), Stop>
         requires { IsUnderWay (tasks.Flow after breaks) self.old.formatter }
         ensures works { Works (flow after breaks) (shape self.old) (shape self.new) (W.held output.old) (W.held output.new) result }
+        ensures limits { limits_of (shape self.new) ≡ limits_of (shape self.old) }
         ensures failures { W.failures output.new ≡ put_counted_if (fails_writing result) (W.failures output.old) }
     {
         match self.formatter.flow_line(after, breaks) {

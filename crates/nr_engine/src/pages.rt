@@ -14,6 +14,7 @@ ghost use Rattle.nr_units.specs.Failures.{put_counted, put_counted_if};
 ghost use Rattle.nr_formatter.specs.declared.tasks.Task.TheVariants as tasks;
 ghost use Rattle.nr_engine.specs.Answer.{fails_writing};
 ghost use Rattle.nr_engine.specs.Holding.{shape, IsUnderWay, NeedsPage, IsEnding, IsLighter, Comes, ComesQuietly, Works, Places};
+ghost use Rattle.nr_engine.specs.Limits.{limits_of};
 
 use crate::engine::Engine;
 use crate::outcome::{Measure, Stop};
@@ -35,6 +36,7 @@ impl<'a> Engine<'a> {
     /// A page begins.
     pub(crate) fn begin_page(&mut self)
         ensures comes { ComesQuietly begin_page (shape self.old) (shape self.new) (Ok tt) }
+        ensures limits { limits_of (shape self.new) ≡ limits_of (shape self.old) }
         ensures opened { is_open self.old.formatter.paper.state ≡ false → IsLighter (shape self.old) (shape self.new) }
         ensures begun { (given : Option Bool) → IsUnderWay (tasks.Begin given) self.old.formatter → IsLighter (shape self.old) (shape self.new) }
     {
@@ -59,6 +61,7 @@ impl<'a> Engine<'a> {
     /// The open page ends: its bytes go out.
     pub(crate) fn end_page<W: Sink>(&mut self, output: &mut W) -> Result<(), Stop>
         ensures comes { Comes end_page (shape self.old) (shape self.new) (W.held output.old) (W.held output.new) result }
+        ensures limits { limits_of (shape self.new) ≡ limits_of (shape self.old) }
         ensures lightens { IsEnding self.old.formatter → OnOk result (IsLighter (shape self.old) (shape self.new)) }
         ensures failures { W.failures output.new ≡ put_counted_if (fails_writing result) (W.failures output.old) }
     {
@@ -76,6 +79,7 @@ impl<'a> Engine<'a> {
     pub(crate) fn turn_page<W: Sink>(&mut self, outlet: Outlet, output: &mut W) -> Result<(), Stop>
         requires { NeedsPage outlet self.old.formatter }
         ensures works { Works (turn_page outlet) (shape self.old) (shape self.new) (W.held output.old) (W.held output.new) result }
+        ensures limits { limits_of (shape self.new) ≡ limits_of (shape self.old) }
         ensures failures { W.failures output.new ≡ put_counted_if (fails_writing result) (W.failures output.old) }
     {
         if matches!(outlet, Outlet::Full) {
@@ -88,6 +92,7 @@ impl<'a> Engine<'a> {
     /// The row goes on the page as a line of this height, in u.
     pub(crate) fn place_row(&mut self, height: u32) -> Result<(), Measure>
         ensures places { (cells : List CellValue) → IsRow cells self.old.row → Places cells height (shape self.old) (shape self.new) result }
+        ensures limits { limits_of (shape self.new) ≡ limits_of (shape self.old) }
         ensures falls { OnOk result (Falls 0 4 self.old.formatter self.new.formatter × (self.new.place ≡ self.old.place)) }
     {
         let row = row_at(self.formatter.place_behind(height));

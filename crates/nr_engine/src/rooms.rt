@@ -6,6 +6,7 @@ ghost use Rattle.nr_units.specs.Failures.{put_counted_if};
 ghost use Rattle.nr_formatter.specs.declared.tasks.Task.TheVariants as tasks;
 ghost use Rattle.nr_engine.specs.Answer.{fails_writing};
 ghost use Rattle.nr_engine.specs.Holding.{shape, IsUnderWay, Works};
+ghost use Rattle.nr_engine.specs.Limits.{limits_of};
 
 use crate::engine::Engine;
 use crate::outcome::Stop;
@@ -18,6 +19,7 @@ impl<'a> Engine<'a> {
     pub(crate) fn make_room<W: Sink>(&mut self, room: Room, output: &mut W) -> Result<(), Stop>
         requires { IsUnderWay (tasks.Room room) self.old.formatter }
         ensures works { Works (λ s. room_in (outlet s.formatter) room s) (shape self.old) (shape self.new) (W.held output.old) (W.held output.new) result }
+        ensures limits { limits_of (shape self.new) ≡ limits_of (shape self.old) }
         ensures failures { W.failures output.new ≡ put_counted_if (fails_writing result) (W.failures output.old) }
     {
         match self.formatter.outlet() {

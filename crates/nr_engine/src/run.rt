@@ -38,6 +38,7 @@ impl<'a> Engine<'a> {
     ghost use Rattle.nr_engine.specs.State.{Register as SetRegister};
     ghost use Rattle.nr_engine.specs.Machine.{first_set};
     ghost use Rattle.nr_engine.specs.Holding.{shape, weight, worth};
+    ghost use Rattle.nr_engine.specs.Limits.{limits_of};
     ghost use Rattle.nr_engine.specs.Running.{Chooses, ChoosesAll, IsNew, Travels};
 
     /// Nothing is read yet, and nothing placed. The slices are long enough for the limits.
@@ -98,7 +99,8 @@ impl<'a> Engine<'a> {
 
     /// A register of a name of one byte takes this number.
     fn set_register(&mut self, name: u8, number: i64) -> Result<(), Outcome>
-        ensures { Chooses (SetRegister name number) (shape self.old) (shape self.new) result }
+        ensures chooses { Chooses (SetRegister name number) (shape self.old) (shape self.new) result }
+        ensures limits { limits_of (shape self.new) ≡ limits_of (shape self.old) }
     {
         let name = [name];
         match self.formatter.set_register(Name::of(&name), number, None) {
@@ -110,6 +112,7 @@ impl<'a> Engine<'a> {
     /// The options take effect, each as a move.
     fn choose(&mut self, options: &Options, moves: &mut u128) -> Result<(), Outcome>
         ensures chooses { ChoosesAll options.now (shape self.old) (shape self.new) moves.new result }
+        ensures limits { limits_of (shape self.new) ≡ limits_of (shape self.old) }
         ensures bound { moves.new ≤ 33 }
     {
         self.set_first(options.first);
@@ -135,6 +138,7 @@ impl<'a> Engine<'a> {
         requires small { worth (shape self.old) < 2 ^ 80 }
         requires bound { moves.old + weight (shape self.old) ≤ worth (shape self.old) * (self.old.place.taken + 1) }
         ensures travels { Travels (shape self.old) (R.supply input.old) (W.held output.old) (W.held output.new) moves.old moves.new result }
+        ensures limits { limits_of (shape self.new) ≡ limits_of (shape self.old) }
         ensures faults { ToldFaults result (R.failures input.old) (R.failures input.new) (W.failures output.old) (W.failures output.new) }
     {
         loop {

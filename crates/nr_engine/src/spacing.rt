@@ -7,6 +7,7 @@ ghost use Rattle.nr_units.specs.Failures.{put_counted_if};
 ghost use Rattle.nr_formatter.specs.declared.tasks.Task.TheVariants as tasks;
 ghost use Rattle.nr_engine.specs.Answer.{fails_writing};
 ghost use Rattle.nr_engine.specs.Holding.{shape, IsUnderWay, Works, WorksQuietly};
+ghost use Rattle.nr_engine.specs.Limits.{limits_of};
 
 use crate::engine::Engine;
 use crate::outcome::{Measure, Stop};
@@ -19,6 +20,7 @@ impl<'a> Engine<'a> {
     fn divert_space(&mut self, distance: u32) -> Result<(), Measure>
         requires { IsUnderWay (tasks.Space distance) self.old.formatter }
         ensures works { WorksQuietly (plainly (with_diverted_space distance)) (shape self.old) (shape self.new) result }
+        ensures limits { limits_of (shape self.new) ≡ limits_of (shape self.old) }
     {
         match self.formatter.divert_space(distance) {
             Ok(()) => Ok(()),
@@ -30,6 +32,7 @@ impl<'a> Engine<'a> {
     pub(crate) fn put_space<W: Sink>(&mut self, distance: u32, output: &mut W) -> Result<(), Stop>
         requires { IsUnderWay (tasks.Space distance) self.old.formatter }
         ensures works { Works (put_space distance) (shape self.old) (shape self.new) (W.held output.old) (W.held output.new) result }
+        ensures limits { limits_of (shape self.new) ≡ limits_of (shape self.old) }
         ensures failures { W.failures output.new ≡ put_counted_if (fails_writing result) (W.failures output.old) }
     {
         if self.formatter.is_spaceless(distance) {

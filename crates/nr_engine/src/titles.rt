@@ -9,6 +9,7 @@ ghost use Rattle.nr_units.specs.Failures.{put_counted_if};
 ghost use Rattle.nr_formatter.specs.declared.tasks.Task.TheVariants as tasks;
 ghost use Rattle.nr_engine.specs.Answer.{fails_writing};
 ghost use Rattle.nr_engine.specs.Holding.{shape, IsUnderWay, Works, WorksQuietly};
+ghost use Rattle.nr_engine.specs.Limits.{limits_of};
 
 use crate::engine::Engine;
 use crate::outcome::{Measure, Stop};
@@ -20,6 +21,7 @@ impl<'a> Engine<'a> {
     fn divert_title(&mut self) -> Result<(), Measure>
         requires { IsUnderWay tasks.Title self.old.formatter }
         ensures works { WorksQuietly (plainly divert_title) (shape self.old) (shape self.new) result }
+        ensures limits { limits_of (shape self.new) ≡ limits_of (shape self.old) }
     {
         match self.formatter.divert_title() {
             Ok(()) => Ok(()),
@@ -31,6 +33,7 @@ impl<'a> Engine<'a> {
     fn place_title(&mut self) -> Result<(), Measure>
         requires { IsUnderWay tasks.Title self.old.formatter }
         ensures works { WorksQuietly (title_to outlets.Room) (shape self.old) (shape self.new) result }
+        ensures limits { limits_of (shape self.new) ≡ limits_of (shape self.old) }
     {
         let offset = self.offset();
         let height = self.formatter.settings.pages.spacing.units();
@@ -44,6 +47,7 @@ impl<'a> Engine<'a> {
     pub(crate) fn put_title<W: Sink>(&mut self, output: &mut W) -> Result<(), Stop>
         requires { IsUnderWay tasks.Title self.old.formatter }
         ensures works { Works (λ s. title_to (outlet s.formatter) s) (shape self.old) (shape self.new) (W.held output.old) (W.held output.new) result }
+        ensures limits { limits_of (shape self.new) ≡ limits_of (shape self.old) }
         ensures failures { W.failures output.new ≡ put_counted_if (fails_writing result) (W.failures output.old) }
     {
         match self.formatter.outlet() {

@@ -11,6 +11,7 @@ use Rattle.nr_store.proofs.Building.{affordable}
 use Rattle.nr_store.specs.Stored.{Stored, Built, afforded, charge_of, on_newest, longer, diverted, diverted_end}
 use Rattle.nr_formatter.specs.declared.tasks.Resume.{Resume}
 use Rattle.nr_formatter.specs.DiversionRows.{plain, diverted_cells, with_cells, HoldsRow}
+use Rattle.nr_formatter.specs.Limits.{stored_limits}
 use Rattle.nr_formatter.proofs.DivertedRows.{share, share-le, with_cells-with_cells, with_cells-nothing, charge_of-with_cells, diverted_end-with_cells, charge_of-diverted-le, trimmed-blanks, trimmed-some, plain-blank, plain-some, plain-blanks}
 
 pub holds_nothing : (v : Stored Resume) → HoldsRow v [] v 0 false
@@ -22,6 +23,7 @@ holds_nothing v = record {
   blanks_are = λ differs. refl;
   store_is = λ differs. sym (with_cells-nothing v);
   passed = λ agrees. cc;
+  limits = refl;
 }
 
 -- more blanks wait
@@ -36,6 +38,7 @@ holds_blanks {before} {store} {row} {blanks} {refused} n now h now_is = record {
   blanks_are = λ differs. let was = h.blanks_are differs in omega arith;
   store_is = h.store_is;
   passed = h.passed;
+  limits = h.limits;
 }
 
 pub holds_blank : {before store : Stored Resume} {row : List Cell} {blanks : ℕ} {refused : Bool} → (cell : Cell) (now : ℕ) → is_blank cell ≡ true → HoldsRow before row store blanks refused
@@ -49,6 +52,7 @@ holds_blank {before} {store} {row} {blanks} {refused} cell now agrees h now_is =
   blanks_are = λ differs. let was = h.blanks_are differs in omega arith;
   store_is = h.store_is;
   passed = h.passed;
+  limits = h.limits;
 }
 
 -- cells with which a row ends that has no blank to leave out
@@ -86,8 +90,9 @@ module _ {before store : Stored Resume} {row : List Cell} {blanks : ℕ} {refuse
   pub charge_is : charge_of (with_cells longer_row before) ≡ charge_of before + share before.building (length h.done + h.waiting + length cells)
   charge_is = charge_of-with_cells longer_row before ∙ ap (λ n. charge_of before + share before.building n) length-longer_row
 
-  pub holds_refused : (store_now : Stored Resume) (now : ℕ) → before.limit < charge_of (with_cells h.done before) → HoldsRow before (row ++ cells) store_now now true
-  holds_refused store_now now above = record {
+  pub holds_refused : (store_now : Stored Resume) (now : ℕ) → stored_limits store_now ≡ stored_limits before → before.limit < charge_of (with_cells h.done before)
+      → HoldsRow before (row ++ cells) store_now now true
+  holds_refused store_now now limits above = record {
     done = longer_row;
     waiting = 0;
     row_is = longer_row_is;
@@ -95,6 +100,7 @@ module _ {before store : Stored Resume} {row : List Cell} {blanks : ℕ} {refuse
     blanks_are = λ e. cc;
     store_is = λ e. cc;
     passed = λ agrees. let was = charge_of-with_cells h.done before in let more = share-le before.building (length h.done) (length h.done + h.waiting + length cells) (omega arith) in let is = charge_is in omega arith;
+    limits = limits;
   }
 
 -- where nothing is being built nothing is added
@@ -138,10 +144,12 @@ module _ {before store : Stored Resume} {row : List Cell} {blanks : ℕ} (cells 
         let part = share-le before.building (blanks + length cells) (length h.done + (blanks + length cells)) (omega arith) in
         now_is ∙ added_is ∙ counted_all before before.building refl h.done blanks h.waiting cells (h.blanks_are refl) (omega arith);
     passed = λ agrees. cc;
+    limits = ap stored_limits now_is ∙ h.limits;
   }
 
-  pub holds_no_more : (store_now : Stored Resume) (now : ℕ) → store.limit < charge_of (with_cells behind store) → HoldsRow before (row ++ cells) store_now now true
-  holds_no_more store_now now above = record {
+  pub holds_no_more : (store_now : Stored Resume) (now : ℕ) → stored_limits store_now ≡ stored_limits store → store.limit < charge_of (with_cells behind store)
+      → HoldsRow before (row ++ cells) store_now now true
+  holds_no_more store_now now limits above = record {
     done = longer_row cells ends h;
     waiting = 0;
     row_is = longer_row_is cells ends h;
@@ -155,6 +163,7 @@ module _ {before store : Stored Resume} {row : List Cell} {blanks : ℕ} (cells 
         let limit : store.limit ≡ before.limit = ap (λ (v : Stored Resume). v.limit) (h.store_is refl) in
         let more = share-le before.building (length h.done + (blanks + length cells)) (length h.done + h.waiting + length cells) (omega arith) in
         omega arith;
+    limits = limits ∙ h.limits;
   }
 
 -- ---- the row ends

@@ -14,6 +14,7 @@ pub mod HeldRows
 pub mod InputFalls
 pub mod Judging
 pub mod LevelRuns
+pub mod LimitsStay
 pub mod LineEnds
 pub mod LineFalls
 pub mod LineWeights

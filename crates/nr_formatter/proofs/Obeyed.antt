@@ -1,12 +1,13 @@
 -- Requests that only set: what they leave as it was, and what may still come behind them.
 use Rattle.std.specs.Prelude.{if◌then◌else◌}
-use Rattle.std.proofs.Common.{◌≡◌, Bool, true, false, refl, subst, arith}
+use Rattle.std.proofs.Common.{◌≡◌, Bool, true, false, refl, ap, ◌∙◌, subst, arith}
 use Rattle.nr_reading.specs.declared.event.Event.TheVariants as events
 use Rattle.nr_store.specs.declared.request.Request.{Request}
 use Rattle.nr_store.specs.declared.request.Request.TheVariants.{Ad, Br, Ce, Fi, Ft, Hy, In, Lc, Ll, Lt, Na, Nf, Nh, Ns, Pc, Pl, Po, Rs, Ta, Tc, Ti, Ul, Vs}
+use Rattle.nr_formatter.specs.Limits.{limits_of}
 use Rattle.nr_formatter.specs.Lines.{break_done}
 use Rattle.nr_formatter.specs.Moves.{heard_for, task_requested}
-use Rattle.nr_formatter.specs.Obeying.{breaks_first, may_obey, moves_obeying, obeyed, only_sets}
+use Rattle.nr_formatter.specs.Obeying.{behind_break, breaks_first, may_obey, moves_obeying, obeyed, only_sets}
 use Rattle.nr_formatter.specs.Places.{to_read}
 use Rattle.nr_formatter.specs.Requests.{act}
 use Rattle.nr_formatter.specs.Weights.{Falls}
@@ -15,6 +16,7 @@ use Rattle.nr_formatter.specs.declared.tasks.Task.TheVariants as tasks
 use Rattle.nr_formatter.specs.declared.tasks.Then.TheVariants as thens
 use Rattle.nr_formatter.proofs.Falling.{falls-then}
 use Rattle.nr_formatter.proofs.HearingFalls.{falls-control}
+use Rattle.nr_formatter.proofs.LimitsStay.{either-limits}
 use Rattle.nr_formatter.proofs.LineFalls.{falls-break_done}
 use Rattle.nr_formatter.proofs.RequestFalls.{falls-act}
 
@@ -44,6 +46,17 @@ act-sets Ti f is = refl
 act-sets Ul f is = refl
 act-sets Vs f is = refl
 act-sets r f is = absurd (let wrong : false ≡ true = is in cc)
+
+-- and the limits stay
+behind_break-limits : (f : Formatter) → limits_of (behind_break f) ≡ limits_of f
+behind_break-limits f =
+    let r = f.reader.request in
+    either-limits (breaks_first f) f (break_done (thens.Act r) (heard_for (tasks.Break (thens.Act r)) f)) (heard_for (tasks.Act r) f) refl refl
+
+pub obeyed-limits : (f : Formatter) → only_sets f.reader.request ≡ true → may_obey f ≡ true → limits_of (obeyed f) ≡ limits_of f
+obeyed-limits f sets may =
+    let there : obeyed f ≡ act f.reader.request (behind_break f) = rw may refl in
+    ap limits_of there ∙ ap limits_of (act-sets f.reader.request (behind_break f) sets) ∙ behind_break-limits f
 
 -- each move takes off one
 falls-obeyed_by : (may first : Bool) (f : Formatter) → breaks_first f ≡ first → f.event ≡ events.Request

@@ -7,6 +7,7 @@ use Rattle.nr_units.specs.declared.cell.Cell.{Cell}
 use Rattle.nr_store.specs.declared.element.Element.TheVariants as elements
 use Rattle.nr_store.specs.Stored.{Stored, added, charge_of}
 use Rattle.nr_formatter.specs.declared.tasks.Resume.{Resume}
+use Rattle.nr_formatter.specs.Limits.{stored_limits}
 
 -- a blank is a blank, underlined or not
 abbrev pub plain : Cell → Cell
@@ -29,6 +30,7 @@ pub record HoldsRow (before : Stored Resume) (row : List Cell) (store : Stored R
   pub blanks_are : refused ≡ false → blanks ≡ min waiting (2 ^ 64 - 1)
   pub store_is : refused ≡ false → store ≡ with_cells done before
   pub passed : refused ≡ true → before.limit < charge_of (with_cells done before)
+  pub limits : stored_limits store ≡ stored_limits before
 
 -- these cells were added to a row
 abbrev pub AddsToDiversion : Stored Resume → ℕ → Bool → List Cell → Stored Resume → ℕ → Bool → Type 0

@@ -1,11 +1,33 @@
 -- What has a limit, and whether a move is made.
-use Rattle.std.specs.Prelude.{◌≤◌, nat_lt, if◌then◌else◌, length, Option, None, Some, Result, Ok, Err}
+use Rattle.std.specs.Prelude.{ℕ, ◌≤◌, nat_lt, if◌then◌else◌, length, Option, None, Some, Result, Ok, Err}
 use Rattle.nr_fill.specs.Pieces.{line_cells}
-use Rattle.nr_store.specs.Stored.{charge_of}
+use Rattle.nr_store.specs.Stored.{Stored, charge_of}
 use Rattle.nr_formatter.specs.declared.formatter.Formatter.{Formatter}
 use Rattle.nr_formatter.specs.declared.passed.Passed.{Passed}
 use Rattle.nr_formatter.specs.declared.passed.Passed.TheVariants as measures
+use Rattle.nr_formatter.specs.declared.tasks.Resume.{Resume}
 use Rattle.nr_formatter.specs.Access.{collected}
+
+-- the most that each measure may come to: of what is stored, of levels, of the cells of the line, and of splices and springs behind
+-- one byte
+pub record Limits : Type 0 where
+  pub stored : ℕ
+  pub depth : ℕ
+  pub cells : ℕ
+  pub expansions : ℕ
+
+-- those of what is stored
+pub record StoredLimits : Type 0 where
+  pub stored : ℕ
+  pub depth : ℕ
+
+-- the limits that stand in what is stored
+abbrev pub stored_limits : Stored Resume → StoredLimits
+stored_limits v = record { stored = v.limit; depth = v.deepest }
+
+-- the limits that stand in a formatter
+abbrev pub limits_of : Formatter → Limits
+limits_of f = record { stored = f.store.limit; depth = f.store.deepest; cells = f.line.limit; expansions = f.reader.most }
 
 -- the first measure that is above its limit, lines on the page aside
 abbrev pub passes : Formatter → Option Passed

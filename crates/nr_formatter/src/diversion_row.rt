@@ -7,6 +7,7 @@ ghost use Rattle.nr_units.specs.declared.cell.Cell.{Cell as CellValue};
 ghost use Rattle.nr_store.specs.Stored.{Stored, afforded, charge_of, diverted};
 ghost use Rattle.nr_fill.specs.Pieces.{without_title};
 ghost use Rattle.nr_fill.specs.Titles.{titled_row};
+ghost use Rattle.nr_formatter.specs.Limits.{stored_limits};
 ghost use Rattle.nr_formatter.specs.Lines.{row_of, rest_of, settings_behind};
 ghost use Rattle.nr_formatter.specs.declared.tasks.Resume.{Resume as ResumeValue};
 ghost use Rattle.nr_formatter.specs.DiversionRows.{AddsToDiversion, AddsToDiversion-both, AddsToDiversion-nothing, HoldsRow, diverted_cells, with_cells};
@@ -52,6 +53,7 @@ fn add_behind(
     ensures result { result ≡ afforded (with_cells (replicate blanks blank ++ cells.now) store.old) (charge_of (with_cells (replicate blanks blank ++ cells.now) store.old)) }
     ensures ok { OnOk result (store.new ≡ with_cells (replicate blanks blank ++ cells.now) store.old) }
     ensures small { OnOk result (charge_of (with_cells (replicate blanks blank ++ cells.now) store.old) < 2 ^ 32) }
+    ensures limits { stored_limits store.new ≡ stored_limits store.old }
 {
     for _blank in 0..blanks {
         store.add(Element::Cell(Cell::blank()))?;
@@ -96,6 +98,7 @@ impl<'b, 'a> DiversionRow<'b, 'a> {
             → self.old.charge ≡ charge_of before → result ≡ afforded (diverted 0 (diverted_cells row) height before) tt }
         ensures ok { (before : Stored ResumeValue) → (row : List CellValue) → HoldsRow before row self.old.store.now self.old.blanks self.old.refused
             → self.old.charge ≡ charge_of before → OnOk result (self.new.store.now ≡ diverted 0 (diverted_cells row) height before) }
+        ensures limits { stored_limits self.new.store.now ≡ stored_limits self.old.store.now }
     {
         if self.refused {
             return Err(StoredBytes);
@@ -150,6 +153,7 @@ pub(crate) fn divert_going(
     requires { 0 < length line.old.collected.pieces }
     ensures result { result ≡ afforded (diverted 0 (diverted_cells (row_of going 0 line.old.collected)) height store.old) tt }
     ensures ok { OnOk result (store.new ≡ diverted 0 (diverted_cells (row_of going 0 line.old.collected)) height store.old) }
+    ensures limits { stored_limits store.new ≡ stored_limits store.old }
     ensures line { line.new ≡ record line.old { collected = rest_of going settings.old.indents line.old.collected } }
     ensures settings { settings.new ≡ settings_behind going line.old.collected settings.old }
 {
@@ -173,6 +177,7 @@ pub(crate) fn divert_titled(
 ) -> Result<(), StoredBytes>
     ensures result { result ≡ afforded (diverted 0 (diverted_cells (titled_row 0 length line.old.collected.title)) height store.old) tt }
     ensures ok { OnOk result (store.new ≡ diverted 0 (diverted_cells (titled_row 0 length line.old.collected.title)) height store.old) }
+    ensures limits { stored_limits store.new ≡ stored_limits store.old }
     ensures line { line.new ≡ record line.old { collected = without_title line.old.collected } }
 {
     let charge = store.charge();

@@ -2,7 +2,7 @@
 ghost use Rattle.std.specs.Prelude.{◌≡◌, ◌<◌, ◌≤◌, length, replicate, OnOk};
 ghost use Rattle.nr_formatter.specs.Access.{collected};
 ghost use Rattle.nr_formatter.specs.Diversions.{trap_between, trap_reached, with_diverted, divert_line, divert_title, with_diverted_space, with_diverted_cell, with_diverted_end, end_diversion, di, da, dt};
-ghost use Rattle.nr_formatter.specs.Limits.{IsWithin};
+ghost use Rattle.nr_formatter.specs.Limits.{IsWithin, limits_of, stored_limits};
 ghost use Rattle.nr_formatter.specs.Places.{diversion_room, is_diverting, room_above};
 ghost use Rattle.nr_formatter.specs.Weights.{Falls};
 ghost use Rattle.nr_reading.specs.declared.event.Event.TheVariants as events;
@@ -60,6 +60,7 @@ fn trap_reached(height: u32, diversion: Option<Diversion>) -> Option<Name>
 fn add_blanks(store: &mut Store<'_, Resume>, count: u32) -> Result<(), StoredBytes>
     ensures answer { charge_of store.old ≤ store.old.limit → result ≡ afforded (added (replicate count blank_cell) store.old) tt }
     ensures ok { OnOk result (store.new ≡ added (replicate count blank_cell) store.old) }
+    ensures limits { stored_limits store.new ≡ stored_limits store.old }
 {
     for _ in 0..count {
         match store.add(Element::Cell(Cell::blank())) {
@@ -86,6 +87,7 @@ impl<'a> Formatter<'a> {
     fn divert(&mut self, indent: u32, cells: &[Cell], height: u32) -> Result<(), StoredBytes>
         ensures result { result ≡ afforded (with_diverted indent cells.now height self.old).store tt }
         ensures ok { OnOk result (self.new ≡ with_diverted indent cells.now height self.old) }
+        ensures limits { limits_of self.new ≡ limits_of self.old }
     {
         let springs = trap_reached(height, self.store.diversion());
         match self.store.add_line(indent, cells, height) {
@@ -103,6 +105,7 @@ impl<'a> Formatter<'a> {
         requires pieces { 0 < length (collected self.old).pieces }
         ensures result { result ≡ afforded (divert_line going self.old).store tt }
         ensures ok { OnOk result (self.new ≡ divert_line going self.old) }
+        ensures limits { limits_of self.new ≡ limits_of self.old }
         ensures falls { OnOk result (Falls 1 0 self.old self.new) }
     {
         let height = self.settings.pages.spacing.units();
@@ -123,6 +126,7 @@ impl<'a> Formatter<'a> {
     pub fn divert_title(&mut self) -> Result<(), StoredBytes>
         ensures result { result ≡ afforded (divert_title self.old).store tt }
         ensures ok { OnOk result (self.new ≡ divert_title self.old) }
+        ensures limits { limits_of self.new ≡ limits_of self.old }
         ensures falls { self.old.event ≡ events.Nothing → self.old.task ≡ Task.Title → OnOk result (Falls 1 0 self.old self.new) }
     {
         let height = self.settings.pages.spacing.units();
@@ -139,6 +143,7 @@ impl<'a> Formatter<'a> {
     pub fn divert_space(&mut self, distance: u32) -> Result<(), StoredBytes>
         ensures result { result ≡ afforded (with_diverted_space distance self.old).store tt }
         ensures ok { OnOk result (self.new ≡ with_diverted_space distance self.old) }
+        ensures limits { limits_of self.new ≡ limits_of self.old }
         ensures falls { self.old.event ≡ events.Nothing → self.old.task ≡ Task.Space distance → OnOk result (Falls 1 0 self.old self.new) }
     {
         let height = distance.min(self.diversion_room());
@@ -150,6 +155,7 @@ impl<'a> Formatter<'a> {
     pub fn divert_cell(&mut self, indent: u32, cell: Cell) -> Result<(), StoredBytes>
         ensures result { IsWithin self.old → result ≡ afforded (with_diverted_cell indent cell self.old).store tt }
         ensures ok { OnOk result (self.new ≡ with_diverted_cell indent cell self.old) }
+        ensures limits { limits_of self.new ≡ limits_of self.old }
         ensures falls { OnOk result (Falls 0 0 self.old self.new) }
     {
         match add_blanks(&mut self.store, indent) {
@@ -162,6 +168,7 @@ impl<'a> Formatter<'a> {
     pub fn divert_line_end(&mut self, cells: u32, height: u32) -> Result<(), StoredBytes>
         ensures result { result ≡ afforded (with_diverted_end cells height self.old).store tt }
         ensures ok { OnOk result (self.new ≡ with_diverted_end cells height self.old) }
+        ensures limits { limits_of self.new ≡ limits_of self.old }
         ensures falls { self.old.event ≡ events.Nothing → self.old.task ≡ Task.Line height → OnOk result (Falls 1 0 self.old self.new) }
     {
         let springs = trap_reached(height, self.store.diversion());
@@ -193,6 +200,7 @@ impl<'a> Formatter<'a> {
     pub(crate) fn di(&mut self) -> Result<(), StoredBytes>
         ensures result { result ≡ afforded (di self.old).store tt }
         ensures ok { OnOk result (self.new ≡ di self.old) }
+        ensures limits { limits_of self.new ≡ limits_of self.old }
     {
         self.task = Task::Read;
         let long = self.reader.long_names();
@@ -210,6 +218,7 @@ impl<'a> Formatter<'a> {
     pub(crate) fn da(&mut self) -> Result<(), StoredBytes>
         ensures result { result ≡ afforded (da self.old).store tt }
         ensures ok { OnOk result (self.new ≡ da self.old) }
+        ensures limits { limits_of self.new ≡ limits_of self.old }
     {
         self.task = Task::Read;
         let long = self.reader.long_names();

@@ -3,6 +3,7 @@ ghost use Rattle.std.specs.Prelude.{◌≡◌, ◌<◌, Bool, false, is_none, On
 ghost use Rattle.nr_fill.specs.Lined.{afforded};
 ghost use Rattle.nr_reading.specs.declared.event.Event.TheVariants as events;
 ghost use Rattle.nr_formatter.specs.Access.{collected, with_collected};
+ghost use Rattle.nr_formatter.specs.Limits.{limits_of};
 ghost use Rattle.nr_formatter.specs.Lines.{with_points, most_points, pointed, breaks_behind, word_ended, break_word_end, goes_out, whole_line, front_line, flow_line, break_line, row_of, row_going, rest_of, settings_behind, behind_line, task_after, flow_done, task_of, step_behind, break_done, count, count_input};
 ghost use Rattle.nr_formatter.specs.Weights.{Falls};
 
@@ -130,6 +131,7 @@ impl<'a> Formatter<'a> {
     pub(crate) fn end_word(&mut self) -> Result<(), LineCells>
         ensures result { result ≡ afforded (word_ended self.old).line }
         ensures ok { OnOk result (self.new ≡ word_ended self.old) }
+        ensures limits { limits_of self.new ≡ limits_of self.old }
     {
         let breaks = self.breaks && !self.breaks_behind();
         self.point_word();
@@ -142,6 +144,7 @@ impl<'a> Formatter<'a> {
     pub fn break_word_end(&mut self) -> Result<(), LineCells>
         ensures result { result ≡ afforded (break_word_end self.old).line }
         ensures ok { OnOk result (self.new ≡ break_word_end self.old) }
+        ensures limits { limits_of self.new ≡ limits_of self.old }
         ensures falls { is_none (collected self.old).word ≡ false → OnOk result (Falls 1 0 self.old self.new) }
     {
         if self.line.has_field() {

@@ -3,7 +3,7 @@ ghost use Rattle.std.specs.Prelude.{◌≡◌, ◌≢◌, true, OnOk};
 ghost use Rattle.nr_reading.specs.declared.event.Event.TheVariants as events;
 ghost use Rattle.nr_formatter.specs.declared.tasks.Task.TheVariants as tasks;
 ghost use Rattle.nr_fill.specs.Lined.{afforded};
-ghost use Rattle.nr_formatter.specs.Limits.{IsWithin, judged};
+ghost use Rattle.nr_formatter.specs.Limits.{IsWithin, judged, limits_of};
 ghost use Rattle.nr_formatter.specs.Moves.{is_text, text_heard, heard_for, task_requested, font_set, width_given, control, heard_beside, heard, read_in, gone_on, worked, works};
 ghost use Rattle.nr_formatter.specs.Registers.{splice_checked};
 ghost use Rattle.nr_formatter.specs.Requests.{act};
@@ -76,6 +76,7 @@ impl<'a> Formatter<'a> {
     fn give_width(&mut self) -> Result<(), Refusal>
         ensures result { result ≡ splice_checked (width_given self.old) }
         ensures ok { OnOk result (self.new ≡ width_given self.old) }
+        ensures limits { limits_of self.new ≡ limits_of self.old }
         ensures falls { OnOk result (Falls 1 0 self.old self.new) }
     {
         let units = width(
@@ -122,6 +123,7 @@ impl<'a> Formatter<'a> {
     fn hear_text(&mut self, event: Event) -> Result<(), LineCells>
         ensures result { IsWithin self.old → result ≡ afforded (text_heard event self.old).line }
         ensures ok { OnOk result (self.new ≡ text_heard event self.old) }
+        ensures limits { limits_of self.new ≡ limits_of self.old }
         ensures falls { self.old.event ≡ event → is_text event ≡ true → OnOk result (Falls 1 0 self.old self.new) }
     {
         if self.reads_title() {
@@ -134,6 +136,7 @@ impl<'a> Formatter<'a> {
     fn hear_beside(&mut self, event: Event) -> Result<(), Passed>
         ensures result { IsWithin self.old → result ≡ judged (heard_beside event self.old) }
         ensures ok { OnOk result (self.new ≡ heard_beside event self.old) }
+        ensures limits { limits_of self.new ≡ limits_of self.old }
         ensures falls { self.old.event ≡ event → event ≢ events.Nothing → OnOk result (Falls 1 0 self.old self.new) }
     {
         match event {
@@ -152,6 +155,7 @@ impl<'a> Formatter<'a> {
     pub fn hear(&mut self, event: Event) -> Result<(), Passed>
         ensures result { IsWithin self.old → result ≡ judged (heard event self.old) }
         ensures ok { OnOk result (self.new ≡ heard event self.old) }
+        ensures limits { limits_of self.new ≡ limits_of self.old }
         ensures falls { self.old.event ≡ event → event ≢ events.Nothing → OnOk result (Falls 1 0 self.old self.new) }
     {
         if is_text(event) {
@@ -189,6 +193,7 @@ impl<'a> Formatter<'a> {
     fn take_effect(&mut self, request: Request) -> Result<(), Passed>
         ensures result { IsWithin self.old → result ≡ judged (act request self.old) }
         ensures ok { OnOk result (self.new ≡ act request self.old) }
+        ensures limits { limits_of self.new ≡ limits_of self.old }
     {
         match self.act(request) {
             Ok(()) => {
@@ -203,6 +208,7 @@ impl<'a> Formatter<'a> {
     pub fn work(&mut self, task: Task) -> Result<(), Passed>
         ensures result { IsWithin self.old → result ≡ judged (worked task self.old) }
         ensures ok { OnOk result (self.new ≡ worked task self.old) }
+        ensures limits { limits_of self.new ≡ limits_of self.old }
         ensures falls { self.old.event ≡ events.Nothing → self.old.task ≡ task → works task ≡ true → OnOk result (Falls 1 0 self.old self.new) }
     {
         match task {

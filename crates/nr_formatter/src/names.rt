@@ -1,7 +1,7 @@
 //! Names and the texts that they stand for. (CSTR 54, section 7)
 ghost use Rattle.std.specs.Prelude.{◌≡◌, ◌≤◌, length, OnOk, Some};
 ghost use Rattle.nr_store.specs.Stored.{afforded, charge_of};
-ghost use Rattle.nr_formatter.specs.Limits.{IsWithin};
+ghost use Rattle.nr_formatter.specs.Limits.{IsWithin, limits_of, stored_limits};
 ghost use Rattle.nr_formatter.specs.Naming.{with_lines, named_definition, de, am, ig, rm, rn, cc, c2, cp, with_words, hw};
 
 use crate::formatter::Formatter;
@@ -16,6 +16,7 @@ use nr_units::Name;
 fn add_words(store: &mut Store<'_, Resume>, line: &[u8]) -> Result<(), StoredBytes>
     ensures answer { charge_of store.old ≤ store.old.limit → result ≡ afforded (with_words (length line.now) line.now store.old) tt }
     ensures ok { OnOk result (store.new ≡ with_words (length line.now) line.now store.old) }
+    ensures limits { stored_limits store.new ≡ stored_limits store.old }
 {
     let mut arguments = Arguments::of(line);
     for _word in 0..line.len() {
@@ -41,6 +42,7 @@ impl<'a> Formatter<'a> {
     ) -> Result<(), StoredBytes>
         ensures result { IsWithin self.old → result ≡ afforded (with_lines definition name ending self.old).store tt }
         ensures ok { OnOk result (self.new ≡ with_lines definition name ending self.old) }
+        ensures limits { limits_of self.new ≡ limits_of self.old }
     {
         let ending = ending.unwrap_or(Name::new());
         self.reader
@@ -51,6 +53,7 @@ impl<'a> Formatter<'a> {
     fn define(&mut self, definition: Definition) -> Result<(), StoredBytes>
         ensures result { IsWithin self.old → result ≡ afforded (named_definition definition self.old).store tt }
         ensures ok { OnOk result (self.new ≡ named_definition definition self.old) }
+        ensures limits { limits_of self.new ≡ limits_of self.old }
     {
         self.task = Task::Read;
         let long = self.reader.long_names();
@@ -66,6 +69,7 @@ impl<'a> Formatter<'a> {
     pub(crate) fn de(&mut self) -> Result<(), StoredBytes>
         ensures result { IsWithin self.old → result ≡ afforded (de self.old).store tt }
         ensures ok { OnOk result (self.new ≡ de self.old) }
+        ensures limits { limits_of self.new ≡ limits_of self.old }
     {
         self.define(Definition::De)
     }
@@ -74,6 +78,7 @@ impl<'a> Formatter<'a> {
     pub(crate) fn am(&mut self) -> Result<(), StoredBytes>
         ensures result { IsWithin self.old → result ≡ afforded (am self.old).store tt }
         ensures ok { OnOk result (self.new ≡ am self.old) }
+        ensures limits { limits_of self.new ≡ limits_of self.old }
     {
         self.define(Definition::Am)
     }
@@ -82,6 +87,7 @@ impl<'a> Formatter<'a> {
     pub(crate) fn ig(&mut self) -> Result<(), StoredBytes>
         ensures result { IsWithin self.old → result ≡ afforded (ig self.old).store tt }
         ensures ok { OnOk result (self.new ≡ ig self.old) }
+        ensures limits { limits_of self.new ≡ limits_of self.old }
     {
         self.task = Task::Read;
         let ending = Arguments::of(self.reader.line()).name(self.reader.long_names());
@@ -145,6 +151,7 @@ impl<'a> Formatter<'a> {
     pub(crate) fn hw(&mut self) -> Result<(), StoredBytes>
         ensures result { IsWithin self.old → result ≡ afforded (hw self.old).store tt }
         ensures ok { OnOk result (self.new ≡ hw self.old) }
+        ensures limits { limits_of self.new ≡ limits_of self.old }
     {
         self.task = Task::Read;
         add_words(&mut self.store, self.reader.line())

@@ -6,7 +6,7 @@ ghost use Rattle.nr_formatter.specs.declared.tasks.Ejected.{Ejected};
 ghost use Rattle.nr_formatter.specs.declared.tasks.Task.TheVariants as tasks;
 ghost use Rattle.nr_formatter.specs.Pages.{begins_page, begins_first_page, place_behind, reached, moved_to, line_placed, task_begun, page_begun, task_ejected, task_ended, page_ended, turned, is_ejecting, names_text, next_springing};
 ghost use Rattle.nr_formatter.specs.Places.{is_open, page_outlet, trap_below, IsBelow};
-ghost use Rattle.nr_formatter.specs.Limits.{IsWithin};
+ghost use Rattle.nr_formatter.specs.Limits.{IsWithin, limits_of};
 ghost use Rattle.nr_formatter.specs.Registers.{splice_checked};
 ghost use Rattle.nr_formatter.specs.Springing.{ejected_to};
 ghost use Rattle.nr_formatter.specs.Weights.{Falls};
@@ -194,6 +194,7 @@ impl<'a> Formatter<'a> {
         requires { pos 0 ≤ℤ trap.place }
         ensures result { IsWithin self.old → result ≡ splice_checked (ejected_to trap self.old) }
         ensures ok { OnOk result (self.new ≡ ejected_to trap self.old) }
+        ensures limits { limits_of self.new ≡ limits_of self.old }
         ensures falls { names_text trap.name self.old ≡ true → OnOk result (Falls 1 0 self.old self.new) }
     {
         self.paper.place = trap.place as u32;

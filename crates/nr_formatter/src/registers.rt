@@ -4,7 +4,7 @@ ghost use Rattle.nr_store.specs.Stored.{afforded};
 ghost use Rattle.nr_reading.specs.declared.event.Event.TheVariants as events;
 ghost use Rattle.nr_input.specs.Weights.{Splices};
 ghost use Rattle.nr_formatter.specs.Access.{diversion};
-ghost use Rattle.nr_formatter.specs.Limits.{IsWithin};
+ghost use Rattle.nr_formatter.specs.Limits.{IsWithin, limits_of};
 ghost use Rattle.nr_formatter.specs.Places.{place_in};
 ghost use Rattle.nr_formatter.specs.Given.{given_named};
 ghost use Rattle.nr_formatter.specs.Registers.{spliced, splice_checked, distance, given_value, given_format, given_formatted, name_of, given_by, given_register, register_set_by, register_set, register_value, nr, formatted_by, af, rr, mk};
@@ -112,6 +112,7 @@ impl<'a> Formatter<'a> {
     pub(crate) fn splice(&mut self, bytes: &[u8]) -> Result<(), Refusal>
         ensures result { result ≡ splice_checked (spliced bytes.now self.old) }
         ensures ok { OnOk result (self.new ≡ spliced bytes.now self.old) }
+        ensures limits { limits_of self.new ≡ limits_of self.old }
         ensures pays { OnOk result (Splices self.old.store self.old.reader self.new.store self.new.reader) }
     {
         self.reader.give(&mut self.store, bytes)
@@ -121,6 +122,7 @@ impl<'a> Formatter<'a> {
     fn give_given(&mut self, register: GivenRegister) -> Result<(), Refusal>
         ensures result { result ≡ splice_checked (given_by (Some register) self.old) }
         ensures ok { OnOk result (self.new ≡ given_by (Some register) self.old) }
+        ensures limits { limits_of self.new ≡ limits_of self.old }
         ensures pays { OnOk result (Splices self.old.store self.old.reader self.new.store self.new.reader) }
     {
         if matches!(register, GivenRegister::Diversion) {
@@ -135,6 +137,7 @@ impl<'a> Formatter<'a> {
     pub(crate) fn give_register(&mut self) -> Result<(), Refusal>
         ensures result { IsWithin self.old → result ≡ splice_checked (given_register self.old) }
         ensures ok { OnOk result (self.new ≡ given_register self.old) }
+        ensures limits { limits_of self.new ≡ limits_of self.old }
         ensures falls { self.old.event ≡ events.Given → OnOk result (Falls 1 0 self.old self.new) }
     {
         let name = self.reader.asked();
@@ -182,6 +185,7 @@ impl<'a> Formatter<'a> {
     ) -> Result<(), StoredBytes>
         ensures result { IsWithin self.old → result ≡ afforded (register_set name value step self.old).store tt }
         ensures ok { OnOk result (self.new ≡ register_set name value step self.old) }
+        ensures limits { limits_of self.new ≡ limits_of self.old }
     {
         match GivenRegister::of(name.as_bytes()) {
             None => self.store.set_register(name, value, step),
@@ -196,6 +200,7 @@ impl<'a> Formatter<'a> {
     pub(crate) fn nr(&mut self) -> Result<(), StoredBytes>
         ensures result { IsWithin self.old → result ≡ afforded (nr self.old).store tt }
         ensures ok { OnOk result (self.new ≡ nr self.old) }
+        ensures limits { limits_of self.new ≡ limits_of self.old }
     {
         self.task = Task::Read;
         let Some(nr) = settings::nr(
@@ -213,6 +218,7 @@ impl<'a> Formatter<'a> {
     fn set_format(&mut self, name: Name, format: Format) -> Result<(), StoredBytes>
         ensures result { IsWithin self.old → result ≡ afforded (formatted_by (given_named name) name format self.old).store tt }
         ensures ok { OnOk result (self.new ≡ formatted_by (given_named name) name format self.old) }
+        ensures limits { limits_of self.new ≡ limits_of self.old }
     {
         match GivenRegister::of(name.as_bytes()) {
             None => self.store.set_format(name, format),
@@ -227,6 +233,7 @@ impl<'a> Formatter<'a> {
     pub(crate) fn af(&mut self) -> Result<(), StoredBytes>
         ensures result { IsWithin self.old → result ≡ afforded (af self.old).store tt }
         ensures ok { OnOk result (self.new ≡ af self.old) }
+        ensures limits { limits_of self.new ≡ limits_of self.old }
     {
         self.task = Task::Read;
         let Some(af) = settings::af(self.reader.line(), self.reader.long_names()) else {
@@ -252,6 +259,7 @@ impl<'a> Formatter<'a> {
     pub(crate) fn mk(&mut self) -> Result<(), StoredBytes>
         ensures result { IsWithin self.old → result ≡ afforded (mk self.old).store tt }
         ensures ok { OnOk result (self.new ≡ mk self.old) }
+        ensures limits { limits_of self.new ≡ limits_of self.old }
     {
         self.task = Task::Read;
         let place = self.place();

@@ -1,7 +1,7 @@
 //! What each request does, one under each name. (CSTR 54, request reference and index; groff manual, `.cp`)
 ghost use Rattle.std.specs.Prelude.{◌≡◌, OnOk};
 ghost use Rattle.nr_store.specs.Stored.{afforded};
-ghost use Rattle.nr_formatter.specs.Limits.{IsWithin};
+ghost use Rattle.nr_formatter.specs.Limits.{IsWithin, limits_of};
 ghost use Rattle.nr_formatter.specs.Requests.{breaks, act};
 
 use crate::formatter::Formatter;
@@ -30,6 +30,7 @@ impl<'a> Formatter<'a> {
     pub(crate) fn act(&mut self, request: Request) -> Result<(), StoredBytes>
         ensures result { IsWithin self.old → result ≡ afforded (act request self.old).store tt }
         ensures ok { OnOk result (self.new ≡ act request self.old) }
+        ensures limits { limits_of self.new ≡ limits_of self.old }
     {
         match request {
             Request::Ad => Ok(self.ad()),

@@ -3,7 +3,7 @@
 ghost use Rattle.std.specs.Prelude.{◌≡◌, true, Some, OnOk};
 ghost use Rattle.nr_reading.specs.declared.event.Event.TheVariants as events;
 ghost use Rattle.nr_formatter.specs.declared.tasks.Task.TheVariants as tasks;
-ghost use Rattle.nr_formatter.specs.Limits.{IsWithin};
+ghost use Rattle.nr_formatter.specs.Limits.{IsWithin, limits_of};
 ghost use Rattle.nr_formatter.specs.Pages.{names_text};
 ghost use Rattle.nr_formatter.specs.Registers.{splice_checked};
 ghost use Rattle.nr_formatter.specs.Springing.{interrupted, sprung, resumed};
@@ -31,6 +31,7 @@ impl<'a> Formatter<'a> {
     pub fn spring(&mut self, name: Name) -> Result<(), Refusal>
         ensures result { IsWithin self.old → result ≡ splice_checked (sprung name self.old) }
         ensures ok { OnOk result (self.new ≡ sprung name self.old) }
+        ensures limits { limits_of self.new ≡ limits_of self.old }
         ensures text { names_text name self.old ≡ true → OnOk result (Falls 4 0 self.old self.new) }
         ensures falls { self.old.springs ≡ Some name → OnOk result (Falls 1 0 self.old self.new) }
     {

@@ -2,7 +2,7 @@
 ghost use Rattle.std.specs.Prelude.{◌≡◌, OnOk};
 ghost use Rattle.nr_fill.specs.Lined.{afforded};
 ghost use Rattle.nr_formatter.specs.Access.{margins};
-ghost use Rattle.nr_formatter.specs.Limits.{IsWithin};
+ghost use Rattle.nr_formatter.specs.Limits.{IsWithin, limits_of};
 ghost use Rattle.nr_formatter.specs.Text.{line_begun, put, character, letter, blank_cell, gap_blank, blank, tab, text_byte, dash, dash_end, finish_dash, hyphen, special, cells, horizontal, ruled, mark, percent, break_word, line_end, text_sign, text};
 ghost use Rattle.nr_formatter.specs.Weights.{Falls};
 
@@ -31,6 +31,7 @@ impl<'a> Formatter<'a> {
     fn put(&mut self, cell: Cell, behind: Behind) -> Result<(), LineCells>
         ensures result { result ≡ afforded (put cell behind self.old).line }
         ensures ok { OnOk result (self.new ≡ put cell behind self.old) }
+        ensures limits { limits_of self.new ≡ limits_of self.old }
     {
         let margins = self.margins();
         self.line.put(margins, cell, behind)?;
@@ -42,6 +43,7 @@ impl<'a> Formatter<'a> {
     fn character(&mut self, byte: u8) -> Result<(), LineCells>
         ensures result { result ≡ afforded (character byte self.old).line }
         ensures ok { OnOk result (self.new ≡ character byte self.old) }
+        ensures limits { limits_of self.new ≡ limits_of self.old }
     {
         let behind = if byte == b'-' {
             Behind::Hyphen
@@ -56,6 +58,7 @@ impl<'a> Formatter<'a> {
     fn letter(&mut self, byte: u8) -> Result<(), LineCells>
         ensures result { result ≡ afforded (letter byte self.old).line }
         ensures ok { OnOk result (self.new ≡ letter byte self.old) }
+        ensures limits { limits_of self.new ≡ limits_of self.old }
     {
         let cell = self.settings.fonts.cell(byte);
         self.put(cell, Behind::Letter)
@@ -65,6 +68,7 @@ impl<'a> Formatter<'a> {
     fn blank_cell(&mut self) -> Result<(), LineCells>
         ensures result { result ≡ afforded (blank_cell self.old).line }
         ensures ok { OnOk result (self.new ≡ blank_cell self.old) }
+        ensures limits { limits_of self.new ≡ limits_of self.old }
     {
         let margins = self.margins();
         self.line.put_blank(margins)?;
@@ -76,6 +80,7 @@ impl<'a> Formatter<'a> {
     fn gap_blank(&mut self) -> Result<(), LineCells>
         ensures result { result ≡ afforded (gap_blank self.old).line }
         ensures ok { OnOk result (self.new ≡ gap_blank self.old) }
+        ensures limits { limits_of self.new ≡ limits_of self.old }
     {
         let task = if self.line.has_word() {
             Task::Flow(After::Text, self.breaks_behind())
@@ -94,6 +99,7 @@ impl<'a> Formatter<'a> {
     fn blank(&mut self) -> Result<(), LineCells>
         ensures result { result ≡ afforded (blank self.old).line }
         ensures ok { OnOk result (self.new ≡ blank self.old) }
+        ensures limits { limits_of self.new ≡ limits_of self.old }
     {
         if !self.settings.filling.is_filling() {
             return self.blank_cell();
@@ -109,6 +115,7 @@ impl<'a> Formatter<'a> {
     fn tab(&mut self, filler: Option<u8>) -> Result<(), LineCells>
         ensures result { result ≡ afforded (tab filler self.old).line }
         ensures ok { OnOk result (self.new ≡ tab filler self.old) }
+        ensures limits { limits_of self.new ≡ limits_of self.old }
     {
         if self.line.has_field() {
             return self.line.end_field();
@@ -127,6 +134,7 @@ impl<'a> Formatter<'a> {
     fn byte(&mut self, byte: u8) -> Result<(), LineCells>
         ensures result { IsWithin self.old → result ≡ afforded (text_byte byte self.old).line }
         ensures ok { OnOk result (self.new ≡ text_byte byte self.old) }
+        ensures limits { limits_of self.new ≡ limits_of self.old }
     {
         match byte {
             b' ' => self.blank(),
@@ -144,6 +152,7 @@ impl<'a> Formatter<'a> {
     fn hyphen(&mut self) -> Result<(), LineCells>
         ensures result { result ≡ afforded (hyphen self.old).line }
         ensures ok { OnOk result (self.new ≡ hyphen self.old) }
+        ensures limits { limits_of self.new ≡ limits_of self.old }
     {
         let cell = self.settings.fonts.cell(b'-');
         self.put(cell, Behind::Hyphen)
@@ -153,6 +162,7 @@ impl<'a> Formatter<'a> {
     fn dash(&mut self) -> Result<(), LineCells>
         ensures result { result ≡ afforded (dash self.old).line }
         ensures ok { OnOk result (self.new ≡ dash self.old) }
+        ensures limits { limits_of self.new ≡ limits_of self.old }
     {
         self.letter(b'-')?;
         self.task = Task::Dash;
@@ -163,6 +173,7 @@ impl<'a> Formatter<'a> {
     fn dash_end(&mut self) -> Result<(), LineCells>
         ensures result { result ≡ afforded (dash_end self.old).line }
         ensures ok { OnOk result (self.new ≡ dash_end self.old) }
+        ensures limits { limits_of self.new ≡ limits_of self.old }
     {
         let cell = self.settings.fonts.cell(b'-');
         self.put(cell, Behind::Dash)?;
@@ -175,6 +186,7 @@ impl<'a> Formatter<'a> {
     fn special(&mut self) -> Result<(), LineCells>
         ensures result { IsWithin self.old → result ≡ afforded (special self.old).line }
         ensures ok { OnOk result (self.new ≡ special self.old) }
+        ensures limits { limits_of self.new ≡ limits_of self.old }
     {
         match Special::of(self.reader.asked().as_bytes()) {
             None => {
@@ -191,6 +203,7 @@ impl<'a> Formatter<'a> {
     fn cells(&mut self, byte: u8, n: u32) -> Result<(), LineCells>
         ensures result { result ≡ afforded (cells byte n self.old).line }
         ensures ok { OnOk result (self.new ≡ cells byte n self.old) }
+        ensures limits { limits_of self.new ≡ limits_of self.old }
     {
         let margins = self.margins();
         let cell = self.settings.fonts.cell(byte);
@@ -203,6 +216,7 @@ impl<'a> Formatter<'a> {
     fn horizontal(&mut self) -> Result<(), LineCells>
         ensures result { result ≡ afforded (horizontal self.old).line }
         ensures ok { OnOk result (self.new ≡ horizontal self.old) }
+        ensures limits { limits_of self.new ≡ limits_of self.old }
     {
         let n = self.motion_cells();
         self.cells(b' ', n)
@@ -212,6 +226,7 @@ impl<'a> Formatter<'a> {
     fn rule(&mut self) -> Result<(), LineCells>
         ensures result { result ≡ afforded (ruled self.old).line }
         ensures ok { OnOk result (self.new ≡ ruled self.old) }
+        ensures limits { limits_of self.new ≡ limits_of self.old }
     {
         let rule = self.rule_cells();
         self.cells(rule.byte, rule.cells)
@@ -247,6 +262,7 @@ impl<'a> Formatter<'a> {
     fn line_end(&mut self, after: After) -> Result<(), LineCells>
         ensures result { result ≡ afforded (line_end after self.old).line }
         ensures ok { OnOk result (self.new ≡ line_end after self.old) }
+        ensures limits { limits_of self.new ≡ limits_of self.old }
     {
         if !self.settings.filling.is_filling() {
             self.line.drop_blanks();
@@ -278,6 +294,7 @@ impl<'a> Formatter<'a> {
     pub(crate) fn text(&mut self, event: Event) -> Result<(), LineCells>
         ensures result { IsWithin self.old → result ≡ afforded (text event self.old).line }
         ensures ok { OnOk result (self.new ≡ text event self.old) }
+        ensures limits { limits_of self.new ≡ limits_of self.old }
     {
         match event {
             Event::Byte(byte) => self.byte(byte),
@@ -303,6 +320,7 @@ impl<'a> Formatter<'a> {
     pub(crate) fn finish_dash(&mut self) -> Result<(), LineCells>
         ensures result { result ≡ afforded (finish_dash self.old).line }
         ensures ok { OnOk result (self.new ≡ finish_dash self.old) }
+        ensures limits { limits_of self.new ≡ limits_of self.old }
         ensures falls { self.old.event ≡ Event.Nothing → self.old.task ≡ Task.Dash → OnOk result (Falls 1 0 self.old self.new) }
     {
         if self.reads_title() {

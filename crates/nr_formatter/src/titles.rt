@@ -4,7 +4,7 @@ ghost use Rattle.nr_fill.specs.Lined.{afforded};
 ghost use Rattle.nr_fill.specs.Pieces.{line_cells};
 ghost use Rattle.nr_settings.specs.Fonts.{cell_of};
 ghost use Rattle.nr_formatter.specs.Access.{cell as cell_in};
-ghost use Rattle.nr_formatter.specs.Limits.{IsWithin};
+ghost use Rattle.nr_formatter.specs.Limits.{IsWithin, limits_of};
 ghost use Rattle.nr_formatter.specs.Titles.{reads_title, title_part, with_title_cells, titled, page_number, title_byte, printed, title_special, title_dash_end, title, title_row, title_set};
 ghost use Rattle.nr_settings.specs.Specials.{special_of};
 ghost use Rattle.nr_formatter.specs.Access.{asked};
@@ -24,6 +24,7 @@ use nr_units::format_number;
 fn put_copies(line: &mut Line<'_>, cell: Cell, n: u32) -> Result<(), LineCells>
     ensures result { line_cells line.old.collected ≤ line.old.limit → result ≡ afforded (record line.old { collected = with_title_cells (replicate n cell) line.old.collected }) }
     ensures ok { OnOk result (line.new ≡ record line.old { collected = with_title_cells (replicate n cell) line.old.collected }) }
+    ensures limit { line.new.limit ≡ line.old.limit }
 {
     for _copy in 0..n {
         line.put_title(cell)?;
@@ -35,6 +36,7 @@ fn put_copies(line: &mut Line<'_>, cell: Cell, n: u32) -> Result<(), LineCells>
 fn put_bytes(line: &mut Line<'_>, fonts: &Fonts, bytes: &[u8]) -> Result<(), LineCells>
     ensures result { line_cells line.old.collected ≤ line.old.limit → result ≡ afforded (record line.old { collected = with_title_cells (map (λ b. cell_of b fonts.now) bytes.now) line.old.collected }) }
     ensures ok { OnOk result (line.new ≡ record line.old { collected = with_title_cells (map (λ b. cell_of b fonts.now) bytes.now) line.old.collected }) }
+    ensures limit { line.new.limit ≡ line.old.limit }
 {
     for byte in bytes {
         line.put_title(fonts.cell(*byte))?;
@@ -69,6 +71,7 @@ impl<'a> Formatter<'a> {
     fn title_cell(&mut self, cell: Cell) -> Result<(), LineCells>
         ensures result { result ≡ afforded (titled (cell ∷ []) self.old).line }
         ensures ok { OnOk result (self.new ≡ titled (cell ∷ []) self.old) }
+        ensures limits { limits_of self.new ≡ limits_of self.old }
     {
         self.event = Event::Nothing;
         self.line.put_title(cell)
@@ -78,6 +81,7 @@ impl<'a> Formatter<'a> {
     fn title_letter(&mut self, byte: u8) -> Result<(), LineCells>
         ensures result { result ≡ afforded (titled (cell_in byte self.old ∷ []) self.old).line }
         ensures ok { OnOk result (self.new ≡ titled (cell_in byte self.old ∷ []) self.old) }
+        ensures limits { limits_of self.new ≡ limits_of self.old }
     {
         let cell = self.settings.fonts.cell(byte);
         self.title_cell(cell)
@@ -87,6 +91,7 @@ impl<'a> Formatter<'a> {
     fn title_cells(&mut self, byte: u8, n: u32) -> Result<(), LineCells>
         ensures result { IsWithin self.old → result ≡ afforded (titled (replicate n (cell_in byte self.old)) self.old).line }
         ensures ok { OnOk result (self.new ≡ titled (replicate n (cell_in byte self.old)) self.old) }
+        ensures limits { limits_of self.new ≡ limits_of self.old }
     {
         self.event = Event::Nothing;
         let cell = self.settings.fonts.cell(byte);
@@ -97,6 +102,7 @@ impl<'a> Formatter<'a> {
     fn page_number(&mut self) -> Result<(), LineCells>
         ensures result { IsWithin self.old → result ≡ afforded (titled (page_number self.old) self.old).line }
         ensures ok { OnOk result (self.new ≡ titled (page_number self.old) self.old) }
+        ensures limits { limits_of self.new ≡ limits_of self.old }
     {
         self.event = Event::Nothing;
         let text = format_number(i64::from(self.paper.number), self.given.page_format);
@@ -107,6 +113,7 @@ impl<'a> Formatter<'a> {
     fn title_plain(&mut self, byte: u8) -> Result<(), LineCells>
         ensures result { IsWithin self.old → result ≡ afforded (titled (printed byte self.old) self.old).line }
         ensures ok { OnOk result (self.new ≡ titled (printed byte self.old) self.old) }
+        ensures limits { limits_of self.new ≡ limits_of self.old }
     {
         if prints(byte) {
             return self.title_letter(byte);
@@ -119,6 +126,7 @@ impl<'a> Formatter<'a> {
     fn title_byte(&mut self, byte: u8) -> Result<(), LineCells>
         ensures result { IsWithin self.old → result ≡ afforded (titled (title_byte byte self.old) self.old).line }
         ensures ok { OnOk result (self.new ≡ titled (title_byte byte self.old) self.old) }
+        ensures limits { limits_of self.new ≡ limits_of self.old }
     {
         if self.settings.pages.number_character == Some(byte) {
             return self.page_number();
@@ -130,6 +138,7 @@ impl<'a> Formatter<'a> {
     fn title_special(&mut self) -> Result<(), LineCells>
         ensures result { IsWithin self.old → result ≡ afforded (title_special (special_of (asked self.old)) self.old).line }
         ensures ok { OnOk result (self.new ≡ title_special (special_of (asked self.old)) self.old) }
+        ensures limits { limits_of self.new ≡ limits_of self.old }
     {
         match Special::of(self.reader.asked().as_bytes()) {
             None => {
@@ -149,6 +158,7 @@ impl<'a> Formatter<'a> {
     pub(crate) fn title_dash_end(&mut self) -> Result<(), LineCells>
         ensures result { result ≡ afforded (title_dash_end self.old).line }
         ensures ok { OnOk result (self.new ≡ title_dash_end self.old) }
+        ensures limits { limits_of self.new ≡ limits_of self.old }
     {
         self.title_letter(b'-')?;
         self.task = Task::Read;
@@ -159,6 +169,7 @@ impl<'a> Formatter<'a> {
     fn title_horizontal(&mut self) -> Result<(), LineCells>
         ensures result { IsWithin self.old → result ≡ afforded (title Event.Horizontal self.old).line }
         ensures ok { OnOk result (self.new ≡ title Event.Horizontal self.old) }
+        ensures limits { limits_of self.new ≡ limits_of self.old }
     {
         let n = self.motion_cells();
         self.title_cells(b' ', n)
@@ -168,6 +179,7 @@ impl<'a> Formatter<'a> {
     fn title_rule(&mut self) -> Result<(), LineCells>
         ensures result { IsWithin self.old → result ≡ afforded (title Event.Rule self.old).line }
         ensures ok { OnOk result (self.new ≡ title Event.Rule self.old) }
+        ensures limits { limits_of self.new ≡ limits_of self.old }
     {
         let rule = self.rule_cells();
         self.title_cells(rule.byte, rule.cells)
@@ -177,6 +189,7 @@ impl<'a> Formatter<'a> {
     pub(crate) fn title(&mut self, event: Event) -> Result<(), LineCells>
         ensures result { IsWithin self.old → result ≡ afforded (title event self.old).line }
         ensures ok { OnOk result (self.new ≡ title event self.old) }
+        ensures limits { limits_of self.new ≡ limits_of self.old }
     {
         match event {
             Event::Byte(byte) => self.title_byte(byte),

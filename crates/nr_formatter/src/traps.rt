@@ -1,6 +1,6 @@
 //! Page traps and input line traps. (CSTR 54, section 7.5)
 ghost use Rattle.std.specs.Prelude.{◌≡◌, OnOk};
-ghost use Rattle.nr_formatter.specs.Limits.{IsWithin};
+ghost use Rattle.nr_formatter.specs.Limits.{IsWithin, limits_of};
 ghost use Rattle.nr_formatter.specs.Trapping.{wh, ch, it};
 ghost use Rattle.nr_store.specs.Stored.{afforded};
 
@@ -15,6 +15,7 @@ impl<'a> Formatter<'a> {
     pub(crate) fn wh(&mut self) -> Result<(), StoredBytes>
         ensures result { IsWithin self.old → result ≡ afforded (wh self.old).store tt }
         ensures ok { OnOk result (self.new ≡ wh self.old) }
+        ensures limits { limits_of self.new ≡ limits_of self.old }
     {
         let here = self.here();
         let wh = settings::wh(

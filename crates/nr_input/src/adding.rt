@@ -8,6 +8,7 @@ ghost use Rattle.nr_reading.specs.InArgument.{ending_of, IsPlain};
 ghost use Rattle.nr_input.specs.declared.target.Target.TheVariants.{Argument};
 ghost use Rattle.nr_input.specs.AtHand.{is_unseen};
 ghost use Rattle.nr_input.specs.Coming.{Coming, Reached, HoldsComing, has_failed};
+ghost use Rattle.nr_input.specs.Limits.{limits_of};
 ghost use Rattle.nr_input.specs.Moving.{situation};
 ghost use Rattle.nr_input.specs.Runs.{HasRead, PaysAll, IsLongest, IsLongestInLevel};
 ghost use Rattle.nr_input.specs.Targets.{is_read_for, with_more};
@@ -89,6 +90,7 @@ pub(crate) fn add_from_level<K: Copy>(reader: &mut Reader, store: &mut Store<'_,
     ensures read { (c : Coming) (p : Reached) (supply : Option Supply) → HoldsComing c p supply → HasRead result.moves (situation store.old c reader.old) result.event store.new reader.new p supply }
     ensures pays { (p : Reached) → PaysAll result.moves store.old p reader.old result.event store.new p reader.new }
     ensures few { result.moves ≤ 65536 }
+    ensures limits { limits_of store.new reader.new ≡ limits_of store.old reader.old }
     ensures longest { IsLongestInLevel result.moves store.old reader.old result.event store.new reader.new }
 {
     let mut chunk = [0; CHUNK];
@@ -118,6 +120,7 @@ pub(crate) fn add_from_source<K: Copy, R: Source>(
     ensures read { (c : Coming) → HoldsComing c place.old (R.supply source.old) → HasRead result.moves (situation store.old c reader.old) result.event store.new reader.new place.new (R.supply source.new) }
     ensures pays { PaysAll result.moves store.old place.old reader.old result.event store.new place.new reader.new }
     ensures few { result.moves ≤ 65536 }
+    ensures limits { limits_of store.new reader.new ≡ limits_of store.old reader.old }
     ensures longest { store.old.levels ≡ [] → is_unseen place.old.ahead ≡ true → IsLongest (R.at_hand source.old) result.moves place.old reader.old result.event store.new place.new reader.new }
     ensures failures { R.failures source.new ≡ R.failures source.old }
     ensures unfailed { has_failed place.old.ahead ≡ false → has_failed place.new.ahead ≡ false }

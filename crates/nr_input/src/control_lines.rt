@@ -6,6 +6,7 @@ ghost use Rattle.nr_reading.specs.declared.mode.Mode.TheVariants as modes;
 ghost use Rattle.nr_reading.specs.Runs.{HasMet, spot};
 ghost use Rattle.nr_input.specs.AtHand.{is_unseen};
 ghost use Rattle.nr_input.specs.Coming.{Coming, HoldsComing, has_failed};
+ghost use Rattle.nr_input.specs.Limits.{limits_of};
 ghost use Rattle.nr_input.specs.Moving.{situation};
 ghost use Rattle.nr_input.specs.Runs.{HasRead, PaysAll, ReadsSome, IsLongest, IsLongestInLevel};
 
@@ -49,6 +50,7 @@ pub fn read_control_line<K: Copy, R: Source>(
     ensures pays { IfSome result (λ run. PaysAll run.moves store.old place.old reader.old run.event store.new place.new reader.new) }
     ensures some { IfSome result (λ run. 0 < run.moves) }
     ensures few { IfSome result (λ run. run.moves ≤ 65536) }
+    ensures limits { limits_of store.new reader.new ≡ limits_of store.old reader.old }
     ensures failures { R.failures source.new ≡ R.failures source.old }
     ensures unfailed { has_failed place.old.ahead ≡ false → has_failed place.new.ahead ≡ false }
     ensures reader { result ≡ None → reader.new ≡ reader.old }
@@ -89,6 +91,7 @@ fn read_beginning<K: Copy, R: Source>(
     ensures read { (c : Coming) → HoldsComing c place.old (R.supply source.old) → HasRead result.moves (situation store.old c reader.old) result.event store.new reader.new place.new (R.supply source.new) }
     ensures pays { PaysAll result.moves store.old place.old reader.old result.event store.new place.new reader.new }
     ensures few { result.moves ≤ 65536 }
+    ensures limits { limits_of store.new reader.new ≡ limits_of store.old reader.old }
     ensures some { store.old.levels ≡ [] → is_unseen place.old.ahead ≡ true → ReadsSome (R.at_hand source.old) result.moves place.old reader.old }
     ensures failures { R.failures source.new ≡ R.failures source.old }
     ensures unfailed { has_failed place.old.ahead ≡ false → has_failed place.new.ahead ≡ false }
@@ -111,6 +114,7 @@ pub fn read_next<K: Copy, R: Source>(
     ensures read { (c : Coming) → HoldsComing c place.old (R.supply source.old) → HasRead result.moves (situation store.old c reader.old) result.event store.new reader.new place.new (R.supply source.new) }
     ensures pays { PaysAll result.moves store.old place.old reader.old result.event store.new place.new reader.new }
     ensures few { result.moves ≤ 65536 }
+    ensures limits { limits_of store.new reader.new ≡ limits_of store.old reader.old }
     ensures some { store.old.levels ≡ [] → is_unseen place.old.ahead ≡ true → ReadsSome (R.at_hand source.old) result.moves place.old reader.old }
     ensures longest { store.old.levels ≡ [] → is_unseen place.old.ahead ≡ true → reader.old.half.reading.mode ≢ modes.Start → IsLongest (R.at_hand source.old) result.moves place.old reader.old result.event store.new place.new reader.new }
     ensures longest_in_level { nat_lt 0 (length store.old.levels) ≡ true → IsLongestInLevel result.moves store.old reader.old result.event store.new reader.new }

@@ -7,6 +7,7 @@ ghost use Rattle.nr_store.specs.Stored.{shown};
 ghost use Rattle.nr_input.specs.Coming.{Coming, HoldsComing, fails_now, has_failed, KeepsRefusal, RefusesAgain};
 ghost use Rattle.nr_input.specs.Moving.{burst_past, situation, AfterMove};
 ghost use Rattle.nr_input.specs.Hearing.{heard_of, told_with};
+ghost use Rattle.nr_input.specs.Limits.{limits_of};
 ghost use Rattle.nr_input.specs.Weights.{PaysIfMade, diversions_in};
 
 use super::place::Place;
@@ -52,6 +53,7 @@ fn look<K: Copy, R: Source>(
     ensures failures { R.failures source.new ≡ counted_if (fails_now place.old.ahead result) (R.failures source.old) }
     ensures pays { PaysIfMade store.old place.old reader.old (told_with mode.new result) store.new place.new reader.new }
     ensures diversions { diversions_in store.new.building ≤ diversions_in store.old.building }
+    ensures limits { limits_of store.new reader.new ≡ limits_of store.old reader.old }
     ensures unfailed { OnOk result (has_failed place.new.ahead ≡ has_failed place.old.ahead) }
     ensures keeps { KeepsRefusal result place.new.ahead }
     ensures again { shown store.old.levels ≡ shows.Nothing → RefusesAgain place.old.ahead result }
@@ -81,6 +83,7 @@ pub fn advance<K: Copy, R: Source>(
     ensures failures { R.failures source.new ≡ counted_if (fails_now place.old.ahead result) (R.failures source.old) }
     ensures pays { PaysIfMade store.old place.old reader.old (told_with mode.new result) store.new place.new reader.new }
     ensures diversions { diversions_in store.new.building ≤ diversions_in store.old.building }
+    ensures limits { limits_of store.new reader.new ≡ limits_of store.old reader.old }
     ensures unfailed { OnOk result (has_failed place.new.ahead ≡ has_failed place.old.ahead) }
     // What the source refused is refused from then on.
     ensures keeps { KeepsRefusal result place.new.ahead }

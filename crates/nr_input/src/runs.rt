@@ -5,6 +5,7 @@ ghost use Rattle.nr_reading.specs.declared.front.Front.TheVariants as variants;
 ghost use Rattle.nr_store.specs.Windows.{elements_in};
 ghost use Rattle.nr_input.specs.AtHand.{is_unseen};
 ghost use Rattle.nr_input.specs.Coming.{Coming, Reached, HoldsComing, element_front, has_failed};
+ghost use Rattle.nr_input.specs.Limits.{limits_of};
 ghost use Rattle.nr_input.specs.Moving.{situation};
 ghost use Rattle.nr_input.specs.Runs.{HasRead, PaysAll, IsLongest, IsLongestInLevel};
 
@@ -69,6 +70,7 @@ pub(crate) fn read_level<K: Copy>(reader: &mut Reader, store: &mut Store<'_, K>)
     ensures read { (c : Coming) (p : Reached) (supply : Option Supply) → HoldsComing c p supply → HasRead result.moves (situation store.old c reader.old) result.event store.new reader.new p supply }
     ensures pays { (p : Reached) → PaysAll result.moves store.old p reader.old result.event store.new p reader.new }
     ensures few { result.moves ≤ 65536 }
+    ensures limits { limits_of store.new reader.new ≡ limits_of store.old reader.old }
     ensures longest { IsLongestInLevel result.moves store.old reader.old result.event store.new reader.new }
 {
     let row = Row::of(store.rest());
@@ -88,6 +90,7 @@ pub(crate) fn read_source<K: Copy, R: Source>(
     ensures read { (c : Coming) → HoldsComing c place.old (R.supply source.old) → HasRead result.moves (situation store.now c reader.old) result.event store.now reader.new place.new (R.supply source.new) }
     ensures pays { PaysAll result.moves store.now place.old reader.old result.event store.now place.new reader.new }
     ensures few { result.moves ≤ 65536 }
+    ensures limits { limits_of store.now reader.new ≡ limits_of store.now reader.old }
     ensures longest { store.now.levels ≡ [] → is_unseen place.old.ahead ≡ true → IsLongest (R.at_hand source.old) result.moves place.old reader.old result.event store.now place.new reader.new }
     ensures failures { R.failures source.new ≡ R.failures source.old }
     ensures unfailed { has_failed place.old.ahead ≡ false → has_failed place.new.ahead ≡ false }
@@ -118,6 +121,7 @@ pub fn read_run<K: Copy, R: Source>(
     ensures read { (c : Coming) → HoldsComing c place.old (R.supply source.old) → HasRead result.moves (situation store.old c reader.old) result.event store.new reader.new place.new (R.supply source.new) }
     ensures pays { PaysAll result.moves store.old place.old reader.old result.event store.new place.new reader.new }
     ensures few { result.moves ≤ 65536 }
+    ensures limits { limits_of store.new reader.new ≡ limits_of store.old reader.old }
     ensures longest { store.old.levels ≡ [] → is_unseen place.old.ahead ≡ true → IsLongest (R.at_hand source.old) result.moves place.old reader.old result.event store.new place.new reader.new }
     ensures longest_in_level { nat_lt 0 (length store.old.levels) ≡ true → IsLongestInLevel result.moves store.old reader.old result.event store.new reader.new }
     ensures failures { R.failures source.new ≡ R.failures source.old }

@@ -44,6 +44,7 @@ impl Definition {
 
 impl Reader {
     ghost use Rattle.std.specs.Prelude.{OnOk};
+    ghost use Rattle.nr_input.specs.Limits.{limits_of};
     ghost use Rattle.nr_input.specs.Refusals.{called};
     ghost use Rattle.nr_input.specs.Splicing.{giving, springing, defining_lines};
     ghost use Rattle.nr_input.specs.Weights.{Splices, Springs, Defines};
@@ -52,6 +53,7 @@ impl Reader {
     pub fn give<K: Copy>(&mut self, store: &mut Store<'_, K>, bytes: &[u8]) -> Result<(), Refusal>
         ensures gives { called store.new self.new result ≡ giving bytes.now store.old self.old }
         ensures pays { OnOk result (Splices store.old self.old store.new self.new) }
+        ensures limits { limits_of store.new self.new ≡ limits_of store.old self.old }
     {
         match self.splice_bytes(bytes, store) {
             Ok(_) => Ok(()),
@@ -68,6 +70,7 @@ impl Reader {
     ) -> Result<bool, Refusal>
         ensures springs { called store.new self.new result ≡ springing name mode store.old self.old }
         ensures pays { Springs store.old self.old result store.new self.new }
+        ensures limits { limits_of store.new self.new ≡ limits_of store.old self.old }
     {
         match store.spring(name, mode) {
             Err(refusal) => Err(Refusal::from(refusal)),
@@ -97,6 +100,7 @@ impl Reader {
     ) -> Result<(), StoredBytes>
         ensures defines { called store.new self.new result ≡ defining_lines definition name ending store.old self.old }
         ensures costs { OnOk result (Defines store.old self.old store.new self.new) }
+        ensures limits { limits_of store.new self.new ≡ limits_of store.old self.old }
     {
         match definition.begin(name, store) {
             Err(refusal) => Err(refusal),

@@ -17,3 +17,11 @@ returns-clause-ok c =
     let adds = c.set_going.ensures.out in
     let h = c.end.ensures.ok v row (adds.2 v [] (holds_nothing v)) (adds.1 ∙ c.charge-charge.ensures.value) in
     search (rules, h)
+
+pub returns-clause-limits : goal.returns-clause-limits
+returns-clause-limits c =
+    let v = c.args.store.now in
+    let row = row_of c.args.going 0 c.args.line.now.collected in
+    let adds = c.set_going.ensures.out in
+    let h = c.end.ensures.limits ∙ (adds.2 v [] (holds_nothing v)).limits in
+    search (rules, h)

@@ -1,6 +1,8 @@
 use Rattle.std.specs.Prelude.{◌==◌}
 use Rattle.std.proofs.Common.{◌≡◌, ℕ, List, length, true, ap, sym, ◌∙◌}
 use Rattle.nr_settings.specs.Arguments.{word_in}
+use Rattle.nr_formatter.specs.Limits.{stored_limits}
+use Rattle.nr_formatter.proofs.LimitsStay.{worded-limits}
 use Rattle.nr_formatter.proofs.WordsStored.{words-none, words-refused, words-kept, kept-within, within-made}
 use Rattle.nr_formatter.proofs.names.add_words.Goals as goal
 
@@ -27,5 +29,9 @@ loop-word-preserved c =
     record {
       rest = words-kept (length c.args.line.now) c.loop-word._word c.loop-word.arguments.rest.now c.word-word.new.self.rest.now c.word-word.result.now c.loop-word.store c.add_word.new.self _
           c.loop-word-test.true (sym c.is_empty.ensures ∙ c.if-is_empty.false) c.word-word.ensures.word c.word-word.ensures.rest c.in-Ok.ensures.ok c.loop-word.invariant.rest;
+      limits = ap stored_limits c.in-Ok.ensures.ok ∙ worded-limits c.word-word.result.now c.loop-word.store ∙ c.loop-word.invariant.limits;
       within = λ fits. kept-within c.add_word.new.self _ c.in-Ok.ensures.ok c.in-Ok.ensures.answer;
     }
+
+pub returns-in-Err-clause-limits : goal.returns-in-Err-clause-limits
+returns-in-Err-clause-limits c = ap stored_limits c.in-Err.ensures.err ∙ c.loop-word.invariant.limits

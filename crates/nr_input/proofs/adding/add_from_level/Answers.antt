@@ -8,6 +8,8 @@ use Rattle.nr_input.specs.declared.target.Target.TheVariants.{Argument}
 use Rattle.nr_input.specs.Moving.{situation}
 use Rattle.nr_input.specs.Runs.{HasRead, PaysAll, IsLongestInLevel}
 use Rattle.nr_input.specs.Targets.{with_more}
+use Rattle.nr_input.specs.Limits.{limits_of}
+use Rattle.nr_input.proofs.LimitsStay.{left_times-limits, with_more-limits}
 use Rattle.nr_input.proofs.RowsRead.{some_taken}
 use Rattle.nr_input.proofs.PuttingLevel.{AreFront, level_added, level_added_pays, level_added_longest}
 use Rattle.nr_input.proofs.Targets.{nothing_added}
@@ -70,3 +72,18 @@ returns-clause-longest g c =
     let within : taken ≤ near = omega (arith, c.add_front-taken.ensures.front, long) in
     level_added_longest taken near v c.add_front-taken.new.store c.skip.new.self r bs c.requires (omega (arith, c.if-taken-eq0.false)) long within front
     c.copy_level-near.ensures.longest c.add_front-taken.ensures.longest c.add_front-taken.ensures.added c.skip.ensures
+
+pub returns-then-taken-eq0-clause-limits : goal.returns-then-taken-eq0-clause-limits
+returns-then-taken-eq0-clause-limits g c =
+    let v = c.args.store.now in
+    let r = c.args.reader.now in
+    let bs = take c.copy_level-near.result c.copy_level-near.new.chunk in
+    c.read_level.ensures.limits ∙ ap (λ (w : Stored _). limits_of w r) c.add_front-taken.ensures.added ∙ with_more-limits Argument (take c.add_front-taken.result bs) v r
+
+pub returns-clause-limits : goal.returns-clause-limits
+returns-clause-limits g c =
+    let v = c.args.store.now in
+    let r = c.args.reader.now in
+    let bs = take c.copy_level-near.result c.copy_level-near.new.chunk in
+    ap (λ (w : Stored _). limits_of w r) c.skip.ensures ∙ left_times-limits c.add_front-taken.result c.add_front-taken.new.store r
+    ∙ (ap (λ (w : Stored _). limits_of w r) c.add_front-taken.ensures.added ∙ with_more-limits Argument (take c.add_front-taken.result bs) v r)

@@ -3,6 +3,8 @@ use Rattle.std.specs.Prelude.{slice_index}
 use Rattle.nr_store.specs.Stored.{Stored}
 use Rattle.nr_input.specs.Moving.{situation}
 use Rattle.nr_input.specs.Runs.{HasRead, PaysAll}
+use Rattle.nr_input.specs.Limits.{limits_of}
+use Rattle.nr_input.proofs.LimitsStay.{with_more-limits}
 use Rattle.nr_input.proofs.Longest.{added_longest}
 use Rattle.nr_input.proofs.RowsRead.{holds_past}
 use Rattle.nr_input.proofs.PuttingRead.{source_added, source_added_pays}
@@ -50,3 +52,15 @@ returns-clause-longest g c = λ none unseen.
     let r = c.args.reader.now in
     added_longest c.args.target (g.R.Source.at_hand c.args.source.now) c.window-bytes.result.now c.add_front-taken.result c.args.place.now c.pass_run.new.self r (record r { burst = 0 }) c.add_front-taken.new.store
     (c.window-bytes.ensures.all unseen none) c.requires (omega (arith, c.if-taken-eq0.false)) c.add_front-taken.ensures.longest (ap (λ q. q.taken) c.pass_run.ensures)
+
+pub returns-then-taken-eq0-clause-limits : goal.returns-then-taken-eq0-clause-limits
+returns-then-taken-eq0-clause-limits g c =
+    let v = c.args.store.now in
+    let r = c.args.reader.now in
+    c.read_source.ensures.limits ∙ (ap (λ (w : Stored _). limits_of w r) c.add_front-taken.ensures.added ∙ with_more-limits c.args.target (take c.add_front-taken.result c.window-bytes.result.now) v r)
+
+pub returns-clause-limits : goal.returns-clause-limits
+returns-clause-limits g c =
+    let v = c.args.store.now in
+    let r = c.args.reader.now in
+    ap (λ (w : Stored _). limits_of w r) c.add_front-taken.ensures.added ∙ with_more-limits c.args.target (take c.add_front-taken.result c.window-bytes.result.now) v r

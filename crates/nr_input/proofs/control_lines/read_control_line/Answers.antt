@@ -5,6 +5,11 @@ use Rattle.nr_reading.specs.declared.front.Front.TheVariants as fronts
 use Rattle.nr_reading.specs.Passing.{quiet}
 use Rattle.nr_reading.specs.Runs.{HasMet, spot}
 use Rattle.nr_reading.specs.declared.half.Half.{Half}
+use Rattle.std.proofs.Common.{Ok}
+use Rattle.nr_reading.specs.declared.mode.Due.TheVariants as dues
+use Rattle.nr_input.specs.declared.reader.Reader.{Reader}
+use Rattle.nr_input.specs.Limits.{limits_of}
+use Rattle.nr_input.proofs.LimitsStay.{act_stays}
 use Rattle.nr_input.proofs.ControlLines.{all_read, all_paid}
 use Rattle.nr_input.proofs.RowsRead.{bytes_met, holds_past}
 use Rattle.nr_input.proofs.control_lines.read_control_line.Goals.{then-not-matches-via-then-not-matches, then-not-matches-via-else-not-matches+then-not-meet_name}
@@ -51,3 +56,14 @@ returns-then-not-matches-clause-reader g c = λ none. elim c.then-not-matches.br
   | then-not-matches-via-then-not-matches w ↦ w.reader-is
   | then-not-matches-via-else-not-matches+then-not-meet_name w ↦ w.reader-is ∙ ap (λ (h : Half). record c.args.reader.now { half = h }) (w.meet_name.ensures.left w.if-not-meet_name.true)
 ]
+
+pub returns-then-not-matches-clause-limits : goal.returns-then-not-matches-clause-limits
+returns-then-not-matches-clause-limits g c = elim c.then-not-matches.branch [
+  | then-not-matches-via-then-not-matches w ↦ ap (λ (r : Reader). limits_of c.args.store.now r) w.reader-is
+  | then-not-matches-via-else-not-matches+then-not-meet_name w ↦ ap (λ (r : Reader). limits_of c.args.store.now r) w.reader-is
+]
+
+pub returns-clause-limits : goal.returns-clause-limits
+returns-clause-limits g c =
+    let r = c.args.reader.now in
+    act_stays c.args.store.now c.seek-told.new.store (record r { half = c.meet_name.new.self; burst = 0 }) c.seek-told.new.self dues.Seek (Ok c.seek-told.result) c.seek-told.ensures

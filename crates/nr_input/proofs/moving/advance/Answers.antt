@@ -1,6 +1,7 @@
-use Rattle.std.proofs.Common.{◌≡◌, Ok, ap, sym, true}
+use Rattle.std.proofs.Common.{◌≡◌, Ok, Err, ap, sym, true}
 use Rattle.nr_reading.specs.declared.mode.Due.TheVariants as dues
 use Rattle.nr_input.specs.Acting.{is_look}
+use Rattle.nr_input.proofs.LimitsStay.{act_stays}
 use Rattle.nr_input.proofs.Due.{acted_moves, acted_refuses}
 use Rattle.nr_input.proofs.Spending.{act_pays}
 use Rattle.nr_input.proofs.Staying.{act_begins_none}
@@ -23,3 +24,11 @@ returns-in-Ok-clause-pays g c =
 pub returns-in-Ok-clause-diversions : goal.returns-in-Ok-clause-diversions
 returns-in-Ok-clause-diversions g c =
     let r = c.args.reader.now in act_begins_none c.args.store.now c.act.new.store r c.act.new.self (Ok c.in-Ok.event) c.in-Ok.ensures
+
+pub returns-in-Ok-clause-limits : goal.returns-in-Ok-clause-limits
+returns-in-Ok-clause-limits g c =
+    let r = c.args.reader.now in act_stays c.args.store.now c.act.new.store r c.act.new.self r.half.reading.due (Ok c.in-Ok.event) c.in-Ok.ensures
+
+pub returns-in-Err-clause-limits : goal.returns-in-Err-clause-limits
+returns-in-Err-clause-limits g c =
+    let r = c.args.reader.now in act_stays c.args.store.now c.act.new.store r c.act.new.self r.half.reading.due (Err c.in-Err.refusal) c.in-Err.ensures

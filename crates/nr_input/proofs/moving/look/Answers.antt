@@ -3,6 +3,9 @@ use Rattle.nr_store.specs.declared.shown.Shown.{Shown}
 use Rattle.nr_reading.specs.Meeting.{meet}
 use Rattle.nr_input.specs.Moving.{burst_past, told_of}
 use Rattle.nr_input.specs.Hearing.{told_as}
+use Rattle.nr_store.specs.Stored.{Stored}
+use Rattle.nr_input.specs.Limits.{limits_of}
+use Rattle.nr_input.proofs.LimitsStay.{left-limits}
 use Rattle.nr_input.proofs.Hearing.{heard_is, taken_moves}
 use Rattle.nr_input.proofs.Taking.{look_takes, look_leaves, not-false, not-true}
 use Rattle.nr_input.proofs.moving.look.Goals as goal
@@ -35,3 +38,9 @@ returns-clause-moved g c = λ coming holds.
     looked.0 looked.1 looked.2 meets c.take-sight.ensures.store (c.take-sight.ensures.takes coming _ looked.1)
     (c.burst_behind-reader.ensures ∙ ap₂ (λ (a b : ℕ). burst_past a b r.burst) c.taken-before.ensures.value c.taken.ensures.value)
     (ap (told_as c.take-sight.new.mode) c.heard_of.ensures ∙ heard_is c.take-sight.result c.take-sight.new.mode seen.event ∙ ap (λ (s : Shown g.row.K.Denot). told_of s seen.event) c.take-sight.ensures.was)
+
+pub returns-clause-limits : goal.returns-clause-limits
+returns-clause-limits g c =
+    let v = c.args.store.now in
+    let r = c.args.reader.now in
+    ap (λ (w : Stored _). limits_of w r) c.take-sight.ensures.store ∙ left-limits v.levels v r

@@ -3,6 +3,9 @@ use Rattle.std.proofs.Common.{map, subst, ap, ◌∙◌, arith, refl}
 use Rattle.nr_store.specs.Windows.{rest_of}
 use Rattle.nr_reading.specs.Runs.{HasMet, spot}
 use Rattle.nr_input.specs.Coming.{element_front}
+use Rattle.nr_store.specs.Stored.{Stored}
+use Rattle.nr_input.specs.Limits.{limits_of}
+use Rattle.nr_input.proofs.LimitsStay.{left_times-limits}
 use Rattle.nr_input.proofs.RowsRead.{level_read, level_pays, taken-le}
 use Rattle.nr_input.proofs.Longest.{level_longest}
 use Rattle.nr_input.proofs.runs.read_level.Goals as goal
@@ -37,3 +40,9 @@ returns-clause-longest g c =
     let met : HasMet run.moves (map element_front (rest_of c.args.store.now.levels)) r.half p = subst (λ fs. HasMet run.moves fs r.half p) row c.meet_run-run.ensures.met in
     level_longest run.moves c.args.store.now c.skip.new.self r (record r { half = p.half }) p met
     (λ quiet due few byte is. c.meet_run-run.ensures.longest quiet due few byte (ap (λ fs. slice_get fs run.taken) row ∙ is)) refl c.skip.ensures
+
+pub returns-clause-limits : goal.returns-clause-limits
+returns-clause-limits g c =
+    let v = c.args.store.now in
+    let r = c.args.reader.now in
+    ap (λ (w : Stored _). limits_of w r) c.skip.ensures ∙ left_times-limits c.meet_run-run.result.taken v r

@@ -28,6 +28,7 @@ returns-in_default-task g c =
           (λ s h. (kind-work (at e s) t h.chosen_is c.in_default.is c.in-Nothing.is refl ∙ working, step-work (at e s) t h.chosen_is c.in_default.is c.in-Nothing.is refl));
       tells = tells_acts (work t) e f _ _ _ c.work.result _ c.stopped.ensures c.work.ensures.acts _;
       write_failures = rw (c.stopped.ensures, stopped_writes c.taken-at.result c.work.result) c.work.ensures.failures;
+      limits = c.work.ensures.limits;
     }
 
 pub returns-in_default-event : goal.returns-in_default-event
@@ -40,4 +41,5 @@ returns-in_default-event g c =
           (λ s h. (kind-hear (at e s) x h.chosen_is c.in_default.is refl c.in_default-event.not-Nothing, step-hear (at e s) x h.chosen_is c.in_default.is refl));
       tells = tells_quietly (hear x) e f _ c.hear.result _ c.limited-in_default-event.ensures c.hear.ensures.works _;
       write_failures = rw (c.limited-in_default-event.ensures, limited_writes c.taken-at.result c.hear.result) refl;
+      limits = c.hear.ensures.limits;
     }

@@ -2,6 +2,7 @@ use Rattle.std.proofs.Common.{◌≡◌, ℕ, ◌+◌, List, Option, map, drop}
 use Rattle.nr_units.specs.Supply.{Supply}
 use Rattle.nr_engine.specs.State.{State, Register, choices}
 use Rattle.nr_engine.specs.Holding.{Holds, Made, shape}
+use Rattle.nr_engine.specs.Limits.{limits_of}
 use Rattle.nr_engine.specs.Running.{StaysLight}
 use Rattle.nr_engine.proofs.engine.Engine.choose.Given as goal
 
@@ -10,6 +11,7 @@ invariant-loop-choice l = record {
   items : l.choice-items ≡ l.fn.options.registers.items;
   moves : l.moves ≡ l.choice-index + 1;
   stays : StaysLight (shape l.fn.self) (shape l.self);
+  limits : limits_of (shape l.self) ≡ limits_of (shape l.fn.self);
   made : (supply : Option Supply) (held : Option (List ℕ)) (s : State) → Holds (choices l.fn.options) supply s (shape l.fn.self) →
       Made (map (λ r. Register r.0 r.1) (drop l.choice-index l.choice-items)) s l.moves (shape l.self) supply held held;
 }

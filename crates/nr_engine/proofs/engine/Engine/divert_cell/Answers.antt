@@ -1,9 +1,12 @@
-use Rattle.std.proofs.Common.{◌≡◌, rules, ap}
+use Rattle.std.proofs.Common.{◌≡◌, rules, ap, ◌∙◌}
 use Rattle.nr_formatter.specs.Access.{done}
 use Rattle.nr_formatter.specs.Weights.{Falls}
 use Rattle.nr_reading.specs.declared.event.Event.TheVariants as events
 use Rattle.nr_formatter.proofs.Falling.{falls-then}
 use Rattle.nr_engine.proofs.Lightening.{falls-cell}
+use Rattle.nr_engine.specs.Holding.{shape}
+use Rattle.nr_engine.specs.Limits.{limits_of}
+use Rattle.nr_engine.proofs.LimitsStay.{formatter-limits}
 use Rattle.nr_engine.proofs.engine.Engine.divert_cell.Goals as goal
 
 pub returns-in-Ok : goal.returns-in-Ok
@@ -17,4 +20,5 @@ returns-in-Ok c =
         comes = search rules;
         lightens = (rw (ap (λ x. x.formatter) c.push.ensures.rest) falls, ap (λ x. x.place) c.push.ensures.rest);
       };
+      limits = ap limits_of c.push.ensures.rest ∙ formatter-limits (shape e) f c.divert_cell.ensures.limits;
     }

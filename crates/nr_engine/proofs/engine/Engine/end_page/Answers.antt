@@ -4,6 +4,9 @@ use Rattle.nr_engine.specs.Machine.{end_page, page_of}
 use Rattle.nr_engine.specs.Measures.{IsWithin}
 use Rattle.nr_engine.specs.Holding.{shape, at}
 use Rattle.nr_engine.proofs.Working.{holds_of, text-push}
+use Rattle.std.proofs.Common.{ap}
+use Rattle.nr_formatter.specs.Limits as formatter
+use Rattle.nr_engine.proofs.LimitsStay.{page-limits}
 use Rattle.nr_engine.proofs.engine.Engine.end_page.Goals as goal
 
 pub returns-in-Err-clause-comes : goal.returns-in-Err-clause-comes
@@ -25,3 +28,8 @@ returns-in-Ok-clause-comes g c = λ supply s h.
           c.clear.ensures.empty (c.clear.ensures.limit ∙ h.page_limit) h.select within,
       record { wrote = (bytes_of (page_of t), record { grows = text-push s.pages (page_of t) }, all) },
     )
+
+pub returns-in-Ok-clause-limits : goal.returns-in-Ok-clause-limits
+returns-in-Ok-clause-limits g c =
+    let e = shape c.args.self.now in
+    page-limits e (record e { formatter = c.page_ended.new.self; page = c.clear.new.self }) (ap formatter.limits_of c.page_ended.ensures.is) c.clear.ensures.limit

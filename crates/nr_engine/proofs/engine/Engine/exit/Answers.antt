@@ -1,5 +1,8 @@
-use Rattle.std.proofs.Common.{rules, refl}
+use Rattle.std.proofs.Common.{rules, refl, ap}
 use Rattle.nr_engine.proofs.Spending.{exit_spends}
+use Rattle.nr_formatter.specs.Limits as formatter
+use Rattle.nr_engine.specs.Holding.{shape}
+use Rattle.nr_engine.proofs.LimitsStay.{formatter-limits}
 use Rattle.nr_engine.proofs.engine.Engine.exit.Goals as goal
 
 pub returns : goal.returns
@@ -15,4 +18,5 @@ returns c =
           spends = rw c.empty.ensures.place (exit_spends _ c.args.self.now.place c.args.self.now.formatter c.ex.new.self falls);
         };
       };
+      limits = formatter-limits (shape c.args.self.now) c.ex.new.self (ap formatter.limits_of c.ex.ensures.is);
     }

@@ -14,4 +14,5 @@ returns c =
         lightens = on_ok c.place_row.result
             (λ p. (falls-less 5 4 1 0 f g (falls-then 5 0 0 4 f (to_read f) g (falls-line c.args.height f c.requires.idle c.requires.task) p.0) (omega arith), p.1)) c.place_row.ensures.falls;
       };
+      limits = c.place_row.ensures.limits;
     }

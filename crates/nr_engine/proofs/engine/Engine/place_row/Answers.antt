@@ -7,6 +7,9 @@ use Rattle.nr_page.specs.Sheet.{Holds as HoldsPage}
 use Rattle.nr_formatter.specs.Pages.{place_behind}
 use Rattle.nr_engine.specs.Machine.{placed, row_at}
 use Rattle.nr_engine.proofs.Working.{page_charge-push}
+use Rattle.nr_formatter.specs.Limits as formatter
+use Rattle.nr_engine.specs.Holding.{shape}
+use Rattle.nr_engine.proofs.LimitsStay.{page-limits}
 use Rattle.nr_engine.proofs.engine.Engine.place_row.Goals as goal
 
 pub returns-in-Ok-clause-places : goal.returns-in-Ok-clause-places
@@ -33,3 +36,8 @@ returns-in-Ok-clause-places c = λ cells is.
           in
           (holds, low),
     )
+
+pub returns-in-Ok-clause-limits : goal.returns-in-Ok-clause-limits
+returns-in-Ok-clause-limits c =
+    let e = shape c.args.self.now in
+    page-limits e (record e { formatter = c.line_placed.new.self; page = c.place.new.self }) (ap formatter.limits_of c.line_placed.ensures.is) c.place.ensures.limit

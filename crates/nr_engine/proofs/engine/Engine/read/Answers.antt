@@ -12,6 +12,7 @@ use Rattle.nr_formatter.specs.declared.formatter.Formatter.{Formatter}
 use Rattle.nr_formatter.specs.declared.tasks.Resume.{Resume}
 use Rattle.nr_input.specs.declared.told.Told.{Told}
 use Rattle.nr_input.specs.declared.told.Told.TheVariants as tells
+use Rattle.nr_formatter.proofs.LimitsStay.{input-limits}
 use Rattle.nr_engine.specs.State.{State}
 use Rattle.nr_engine.specs.Machine.{read, situation_of, told}
 use Rattle.nr_engine.specs.Measures.{IsWithin}
@@ -19,6 +20,7 @@ use Rattle.nr_engine.specs.Answer.{GoesBy}
 use Rattle.nr_input.specs.Refusals.{place_told}
 use Rattle.nr_engine.specs.Holding.{Shape, shape, at, Holds, Spends}
 use Rattle.nr_engine.proofs.Bursts.{move-short}
+use Rattle.nr_engine.proofs.LimitsStay.{formatter-limits}
 use Rattle.nr_engine.proofs.NextMoves.{step-read, kind-read}
 use Rattle.nr_engine.proofs.Spending.{told_spends, resumed_spends}
 use Rattle.nr_engine.proofs.Standing.{wrote_nothing}
@@ -90,3 +92,15 @@ returns-in-Err-clause-moves g c = λ held. record {
       (refused_stops now kinds _ told c.in-Err.refusal m.0, refused_left now _ held c.in-Err.refusal);
   spends = tt;
 }
+
+pub returns-in-Ok-clause-limits : goal.returns-in-Ok-clause-limits
+returns-in-Ok-clause-limits g c =
+    let e : Shape = shape c.args.self.now in
+    let f : Formatter = record e.formatter { store = c.advance.new.store; reader = c.advance.new.reader } in
+    c.tell.ensures.limits ∙ formatter-limits e f (input-limits e.formatter c.advance.new.store c.advance.new.reader c.advance.ensures.limits)
+
+pub returns-in-Err-clause-limits : goal.returns-in-Err-clause-limits
+returns-in-Err-clause-limits g c =
+    let e : Shape = shape c.args.self.now in
+    let f : Formatter = record e.formatter { store = c.advance.new.store; reader = c.advance.new.reader } in
+    formatter-limits e f (input-limits e.formatter c.advance.new.store c.advance.new.reader c.advance.ensures.limits)

@@ -10,6 +10,7 @@ use Rattle.nr_engine.specs.Holding.{shape, at, ComesQuietly}
 use Rattle.nr_engine.proofs.Going.{with_cell-is}
 use Rattle.nr_engine.proofs.Lightening.{falls-cell}
 use Rattle.nr_engine.proofs.Working.{holds_of}
+use Rattle.nr_engine.specs.Limits.{limits_of}
 use Rattle.nr_engine.proofs.engine.Engine.read_cell.Goals as goal
 
 pub returns : goal.returns
@@ -40,4 +41,5 @@ returns c =
         comes = comes;
         lightens = (rw (ap (λ x. x.formatter) rest) falls, ap (λ x. x.place) rest);
       };
+      limits = ap limits_of rest;
     }

@@ -7,7 +7,7 @@ returns-clause-reads g c =
     let run = c.in-Some.run' in
     record {
       makes = makes_reading run.moves run.event c.read_control_line.new.store c.read_control_line.new.reader c.read_control_line.new.place (shape c.args.self.now) _ _
-          c.requires.next c.in-Some.ensures.read c.in-Some.ensures.pays c.fit_memory.ensures;
+          c.requires.next c.in-Some.ensures.read c.in-Some.ensures.pays c.in-Some.ensures.limits c.fit_memory.ensures;
       failures = c.read_control_line.ensures.failures;
       unfailed = c.read_control_line.ensures.unfailed;
     }

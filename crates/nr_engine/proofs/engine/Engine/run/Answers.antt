@@ -20,6 +20,7 @@ loop-self-preserved-then-reads_on g c =
     record {
       limit = run.limit ∙ now.limit;
       most = run.most ∙ now.most;
+      limits = run.limits ∙ now.limits;
       bound = spent_run first (shape c.loop-self.self) (shape c.put_at_hand-many.new.self) _ _ c.loop-self.moves c.put_at_hand-many.result now.limit now.most now.bound run;
       unfailed = c.put_at_hand-many.ensures.reads.unfailed now.unfailed;
       reads = c.put_at_hand-many.ensures.reads.failures ∙ now.reads;
@@ -42,6 +43,7 @@ loop-self-preserved g c =
     record {
       limit = made.moves.spends.limit ∙ limit;
       most = made.moves.spends.most ∙ most;
+      limits = c.advance.ensures.limits ∙ (run.limits ∙ now.limits);
       bound = spent first (shape c.put_at_hand-many.new.self) (shape c.advance.new.self) (c.loop-self.moves + c.put_at_hand-many.result) limit most bound made.moves.spends;
       unfailed = made.tells.unfailed unfailed;
       reads = made.tells.counts unfailed ∙ c.put_at_hand-many.ensures.reads.failures ∙ now.reads;
@@ -67,3 +69,6 @@ returns-in-Err-clause-travels g c = λ s h.
           c.in-Err.outcome _ _ _ glided c.in-Err.ensures.moves.advances;
       bound = bound_there (worth first) (c.loop-self.moves + c.put_at_hand-many.result) (weight (shape c.put_at_hand-many.new.self)) _ _ glided.holds.stands.coming.taken bound;
     }
+
+pub returns-in-Err-clause-limits : goal.returns-in-Err-clause-limits
+returns-in-Err-clause-limits g c = c.advance.ensures.limits ∙ (c.put_at_hand-many.ensures.reads.makes.limits ∙ c.loop-self.invariant.limits)

@@ -11,7 +11,7 @@ returns-then-self-clause-adds c =
     let old = c.args.self.now in
     let cells = c.args.cells.now in
     subst (λ (r : Bool). HoldsRow before (row ++ cells) old.store.now old.blanks r) (sym c.if-self.true)
-    (holds_refused cells (ends_row cells c.requires.some c.requires.no_blank) h old.store.now old.blanks (h.passed c.if-self.true))
+    (holds_refused cells (ends_row cells c.requires.some c.requires.no_blank) h old.store.now old.blanks h.limits (h.passed c.if-self.true))
 
 pub returns-in-Ok-clause-adds : goal.returns-in-Ok-clause-adds
 returns-in-Ok-clause-adds c =
@@ -29,4 +29,4 @@ returns-in-Err-clause-adds c =
     let cells = c.args.cells.now in
     let held = subst (λ (r : Bool). HoldsRow before row old.store.now old.blanks r) c.if-self.false h in
     let more = with_cells (replicate old.blanks blank ++ cells) old.store.now in
-    holds_no_more cells (ends_row cells c.requires.some c.requires.no_blank) held c.add_behind.new.store old.blanks (refused_by more (charge_of more) c.in-Err.field-0 c.in-Err.ensures.result)
+    holds_no_more cells (ends_row cells c.requires.some c.requires.no_blank) held c.add_behind.new.store old.blanks c.add_behind.ensures.limits (refused_by more (charge_of more) c.in-Err.field-0 c.in-Err.ensures.result)

@@ -1,0 +1,12 @@
+-- The limits that stand in an engine.
+use Rattle.std.specs.Prelude.{ℕ}
+use Rattle.nr_formatter.specs.Limits as formatter
+use Rattle.nr_engine.specs.Holding.{Shape}
+
+-- those of the formatter, and what the open page may be charged
+pub record Limits : Type 0 where
+  pub formatter : formatter.Limits
+  pub page : ℕ
+
+abbrev pub limits_of : Shape → Limits
+limits_of e = record { formatter = formatter.limits_of e.formatter; page = e.page.limit }
