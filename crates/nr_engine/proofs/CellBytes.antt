@@ -21,7 +21,7 @@ use Rattle.nr_engine.specs.Machine.{step}
 use Rattle.nr_engine.specs.Measures.{IsWithin}
 use Rattle.nr_engine.specs.Answer.{Goes}
 use Rattle.nr_engine.specs.Holding.{Made, Shape, Stands, at}
-use Rattle.nr_engine.specs.Running.{HasNext, Makes, PutsText, Saves, unburst}
+use Rattle.nr_engine.specs.Running.{Makes, PutsText, Saves, unburst}
 use Rattle.nr_engine.proofs.Gliding.{Glides, glides_heard, made_of, told}
 use Rattle.nr_engine.proofs.NextMoves.{step-hear}
 use Rattle.nr_engine.proofs.PlainGaps.{first, first_of, gone_shape, made_gone}

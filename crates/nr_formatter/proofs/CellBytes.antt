@@ -1,16 +1,16 @@
 -- A byte that goes to the word of a text line and does not end it.
-use Rattle.std.proofs.Common.{◌≡◌, ℕ, ◌+◌, ◌-◌, ◌≤◌, Bool, true, false, List, [], ◌∷◌, Option, None, Some, refl, sym, subst, arith}
+use Rattle.std.proofs.Common.{◌≡◌, ℕ, ◌+◌, ◌-◌, ◌≤◌, Bool, true, false, Option, None, Some, refl, sym, subst, arith}
 use Rattle.std.specs.Prelude.{◌==◌, ◌&&◌, if◌then◌else◌, not, unwrap_or}
 use Rattle.std.proofs.lemmas.Bool.{cond_both, eqb-true}
 use Rattle.nr_units.specs.declared.cell.Cell.{Cell}
 use Rattle.nr_settings.specs.declared.indents.Margins.{Margins}
 use Rattle.nr_settings.specs.declared.stops.Stop.{Stop}
 use Rattle.nr_fill.specs.declared.piece.Behind.TheVariants.{Hyphen}
-use Rattle.nr_fill.specs.Pieces.{Collected, add_blank, add_cell, add_cells, begins_line, is_nil}
-use Rattle.nr_fill.specs.Tabs.{column, first_beyond, is_aligned, tabbed, to_stop}
+use Rattle.nr_fill.specs.Pieces.{Collected, add_cells, begins_line, is_nil}
+use Rattle.nr_fill.specs.Tabs.{column, first_beyond, is_aligned, to_stop}
 use Rattle.nr_reading.specs.declared.event.Event.TheVariants as events
 use Rattle.nr_reading.specs.declared.mode.Mode.TheVariants as modes
-use Rattle.nr_formatter.specs.Access.{cell, collected, done, is_filling, margins, with_collected}
+use Rattle.nr_formatter.specs.Access.{cell, collected, done, is_filling, margins}
 use Rattle.nr_formatter.specs.CellBytes.{byte_added, byte_put, goes_to_word}
 use Rattle.nr_formatter.specs.Lines.{reads_a_field}
 use Rattle.nr_formatter.specs.Moves.{heard}

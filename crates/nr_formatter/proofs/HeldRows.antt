@@ -1,16 +1,18 @@
 -- What is held of a row that goes into a diversion, once more cells came.
-use Rattle.std.proofs.Common.{◌≡◌, ℕ, ◌+◌, ◌-◌, ◌^◌, ◌<◌, min, Bool, true, false, List, [], ◌∷◌, ◌++◌, length, map, replicate, Result, Err, refl, ap, ap₂, sym, ◌∙◌, append_assoc, subst, arith, length-append, inl, inr}
+use Rattle.std.proofs.Common.{◌≡◌, ℕ, ◌+◌, ◌-◌, ◌^◌, ◌<◌, ◌≤◌, min, ◌&&◌, Bool, true, false, if◌then◌else◌, List, [], ◌∷◌, ◌++◌, length, map, take, replicate, Result, Err, refl, ap, ap₂, sym, ◌∙◌, append_assoc, subst, arith, length-append, inl, inr}
 use Rattle.std.specs.List.{list_any}
-use Rattle.std.proofs.lemmas.Bool.{cases_lt, or_parts}
-use Rattle.std.proofs.lemmas.List.{append-nil, length-replicate, map-append, replicate-append-replicate, replicate_more}
+use Rattle.std.specs.Prelude.{◌==◌, get_or}
+use Rattle.std.proofs.lemmas.Bool.{cases_lt, eqb-true, ne_eqb, or_parts}
+use Rattle.std.proofs.lemmas.List.{append-nil, length-replicate, map-append, replicate-append-replicate, replicate_more, take-append-le, take_all, take_more}
 use Rattle.nr_units.specs.Cells.{blank, is_blank, trimmed}
 use Rattle.nr_units.specs.declared.cell.Cell.{Cell}
+use Rattle.nr_fill.specs.Rows.{AddsToRow, IsRow, Row, row_of}
 use Rattle.nr_store.specs.declared.element.Element.TheVariants as elements
 use Rattle.nr_store.specs.declared.refusal.StoredBytes.{StoredBytes}
 use Rattle.nr_store.proofs.Building.{affordable}
 use Rattle.nr_store.specs.Stored.{Stored, Built, afforded, charge_of, on_newest, longer, diverted, diverted_end}
 use Rattle.nr_formatter.specs.declared.tasks.Resume.{Resume}
-use Rattle.nr_formatter.specs.DiversionRows.{plain, diverted_cells, with_cells, HoldsRow}
+use Rattle.nr_formatter.specs.DiversionRows.{plain, diverted_cells, is_under_blank, with_cells, EndsRow, HoldsRow}
 use Rattle.nr_formatter.specs.Limits.{stored_limits}
 use Rattle.nr_formatter.proofs.DivertedRows.{share, share-le, with_cells-with_cells, with_cells-nothing, charge_of-with_cells, diverted_end-with_cells, charge_of-diverted-le, trimmed-blanks, trimmed-some, plain-blank, plain-some, plain-blanks}
 
@@ -55,26 +57,63 @@ holds_blank {before} {store} {row} {blanks} {refused} cell now agrees h now_is =
   limits = h.limits;
 }
 
--- cells with which a row ends that has no blank to leave out
-pub record EndsRow (cells : List Cell) : Type 0 where
-  pub plain_is : map plain cells ≡ cells
-  pub all_written : (xs : List Cell) → trimmed (xs ++ cells) ≡ xs ++ cells
+-- a cell that is no blank, behind plain ones
+ends_behind : (front : List Cell) (cell : Cell) → is_blank cell ≡ false → (xs : List Cell) → trimmed (xs ++ (front ++ cell ∷ [])) ≡ xs ++ (front ++ cell ∷ [])
+ends_behind front cell some xs =
+    subst (λ (zs : List Cell). trimmed zs ≡ zs) (append_assoc xs front (cell ∷ [])) (trimmed-some (xs ++ front) cell some)
 
-plain_cells : (cells : List Cell) → list_any is_blank cells ≡ false → map plain cells ≡ cells
+-- one that is no blank by itself
+pub ends_one : (cell : Cell) → is_blank cell ≡ false → EndsRow (cell ∷ [])
+ends_one cell some = record { plain_is = ap (λ (x : Cell). x ∷ []) (plain-some cell some); all_written = ends_behind [] cell some }
+
+-- a blank that is not underlined is a blank
+plain_under : (under : Bool) (byte : ℕ) → (under && (byte == 32)) ≡ false → plain (record { byte = byte; under = under }) ≡ record { byte = byte; under = under }
+plain_under under byte none = by_blank (byte == 32) refl none
+  where
+    by_under : (u : Bool) → byte ≡ 32 → (u && true) ≡ false → ◌≡◌ {A = Cell} blank (record { byte = byte; under = u })
+    by_under true is other = absurd (let wrong : true ≡ false = other in cc)
+    by_under false is other = ap (λ n. record { byte = n; under = false }) (sym is)
+
+    by_blank : (b : Bool) → (byte == 32) ≡ b → (under && b) ≡ false → (if b then blank else record { byte = byte; under = under }) ≡ record { byte = byte; under = under }
+    by_blank true is other = by_under under (eqb-true byte 32 is) other
+    by_blank false is other = refl
+
+plain_cells : (cells : List Cell) → list_any is_under_blank cells ≡ false → map plain cells ≡ cells
 plain_cells [] none = refl
 plain_cells (cell ∷ cells) none =
-    let parts = or_parts (is_blank cell) (list_any is_blank cells) none in
-    ap₂ (λ (x : Cell) (xs : List Cell). x ∷ xs) (plain-some cell parts.0) (plain_cells cells parts.1)
+    let parts = or_parts (is_under_blank cell) (list_any is_under_blank cells) none in
+    ap₂ (λ (x : Cell) (xs : List Cell). x ∷ xs) (plain_under cell.under cell.byte parts.0) (plain_cells cells parts.1)
 
-all_written_cells : (cells : List Cell) → 0 < length cells → list_any is_blank cells ≡ false → (xs : List Cell) → trimmed (xs ++ cells) ≡ xs ++ cells
-all_written_cells [] some none xs = absurd (omega arith)
-all_written_cells (cell ∷ []) some none xs = trimmed-some xs cell (or_parts (is_blank cell) false none).0
-all_written_cells (cell ∷ next ∷ cells) some none xs =
-    let parts = or_parts (is_blank cell) (list_any is_blank (next ∷ cells)) none in
-    subst (λ (zs : List Cell). trimmed zs ≡ zs) (append_assoc xs (cell ∷ []) (next ∷ cells)) (all_written_cells (next ∷ cells) (omega arith) parts.1 (xs ++ cell ∷ []))
+-- the last of these cells is no blank, and no blank of them is underlined
+pub ends_row : (cells : List Cell) (d : Cell) → 0 < length cells → list_any is_under_blank cells ≡ false → ((get_or cells (length cells - 1) d).byte ≡ 32 → ⊥) → EndsRow cells
+ends_row cells d some none last =
+    let n = length cells - 1 in
+    let cell = get_or cells n d in
+    let one : n + 1 ≡ length cells = omega (arith, some) in
+    let all : cells ≡ take n cells ++ cell ∷ [] = sym (take_all (n + 1) cells (omega (arith, one))) ∙ take_more cells n d (omega (arith, some)) in
+    record {
+      plain_is = plain_cells cells none;
+      all_written = λ xs. subst (λ (zs : List Cell). trimmed (xs ++ zs) ≡ xs ++ zs) (sym all) (ends_behind (take n cells) cell (ne_eqb cell.byte 32 last) xs);
+    }
 
-pub ends_row : (cells : List Cell) → 0 < length cells → list_any is_blank cells ≡ false → EndsRow cells
-ends_row cells some none = record { plain_is = plain_cells cells none; all_written = all_written_cells cells some none }
+-- ---- a line that is laid at once
+
+-- it stands before a cell that is no blank
+module _ (start line marked : Row) (xs row : List Cell) (mark : Cell) (room : ℕ) (empty : start ≡ row_of room []) (first : AddsToRow start xs line) (second : AddsToRow line (mark ∷ []) marked)
+    (some : is_blank mark ≡ false) (is : (cells : List Cell) → IsRow cells marked → row ≡ trimmed cells) where
+  nothing : IsRow [] start
+  nothing = empty ∙ ap (λ n. row_of n []) (sym (ap (λ (r : Row). r.room) empty))
+
+  all_laid : row ≡ xs ++ mark ∷ []
+  all_laid = is (xs ++ mark ∷ []) (second.1 xs (first.1 [] nothing)) ∙ trimmed-some xs mark some
+
+  pub laid_some : 1 ≤ length row
+  laid_some = omega (arith, ap length all_laid, length-append xs (mark ∷ []))
+
+  pub laid_row : take (length row - 1) row ≡ xs
+  laid_row =
+      let count : length row - 1 ≡ length xs = omega (arith, ap length all_laid, length-append xs (mark ∷ [])) in
+      ap (λ n. take n row) count ∙ ap (take (length xs)) all_laid ∙ take-append-le (length xs) xs (mark ∷ []) (omega arith) ∙ take_all (length xs) xs (omega arith)
 
 -- the row up to such cells
 module _ {before store : Stored Resume} {row : List Cell} {blanks : ℕ} {refused : Bool} (cells : List Cell) (ends : EndsRow cells) (h : HoldsRow before row store blanks refused) where

@@ -1,5 +1,5 @@
 -- The rows that go into a diversion. (CSTR 54, section 7.4.)
-use Rattle.std.specs.Prelude.{◌≡◌, ℕ, ◌<◌, ◌^◌, ◌-◌, min, Bool, true, false, if◌then◌else◌, List, [], ◌++◌, map, replicate}
+use Rattle.std.specs.Prelude.{◌≡◌, ℕ, ◌<◌, ◌^◌, ◌-◌, ◌&&◌, min, Bool, true, false, if◌then◌else◌, List, [], ◌++◌, map, replicate}
 use Rattle.std.proofs.Common.{sym, append_assoc, subst}
 use Rattle.std.proofs.lemmas.List.{append-nil}
 use Rattle.nr_units.specs.Cells.{blank, is_blank, trimmed}
@@ -20,6 +20,15 @@ diverted_cells row = trimmed (map plain row)
 -- with these cells more in the newest text being built
 abbrev pub with_cells : List Cell → Stored Resume → Stored Resume
 with_cells cells v = added (map elements.Cell cells) v
+
+-- a blank that is underlined
+abbrev pub is_under_blank : Cell → Bool
+is_under_blank x = x.under && is_blank x
+
+-- cells with which a row ends that has no blank to leave out
+pub record EndsRow (cells : List Cell) : Type 0 where
+  pub plain_is : map plain cells ≡ cells
+  pub all_written : (xs : List Cell) → trimmed (xs ++ cells) ≡ xs ++ cells
 
 -- Of a row of these cells what stands before some blanks was added to what was stored, while that could be afforded, and the blanks wait.
 pub record HoldsRow (before : Stored Resume) (row : List Cell) (store : Stored Resume) (blanks : ℕ) (refused : Bool) : Type 0 where

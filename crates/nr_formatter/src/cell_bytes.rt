@@ -31,8 +31,7 @@ impl<'a> Formatter<'a> {
         let filler = self.settings.tabs.tab.unwrap_or(b' ');
         let cell = self.settings.fonts.cell(filler);
         let aligned = !self.settings.filling.fill;
-        self.line
-            .tab(margins, self.settings.tabs.stops.as_slice(), aligned, cell)
+        self.line.tab(margins, self.settings.tabs.stops.as_slice(), aligned, cell)
     }
 
     /// Such a byte goes to the word.

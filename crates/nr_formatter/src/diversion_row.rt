@@ -1,8 +1,8 @@
-// The row that goes into a diversion, word by word. (CSTR 54, section 7.4.)
-ghost use Rattle.std.specs.Prelude.{◌≡◌, ◌<◌, length, ◌^◌, ◌++◌, ◌∷◌, [], List, replicate, OnOk, false, refl};
+// The row that goes into a diversion, a line of few cells at once. (CSTR 54, section 7.4.)
+ghost use Rattle.std.specs.Prelude.{◌≡◌, ◌<◌, length, ◌^◌, ◌++◌, List, replicate, OnOk, true, refl};
 ghost use Rattle.std.proofs.Common.{◌∙◌};
 ghost use Rattle.std.specs.List.{list_any};
-ghost use Rattle.nr_units.specs.Cells.{blank, is_blank};
+ghost use Rattle.nr_units.specs.Cells.{blank};
 ghost use Rattle.nr_units.specs.declared.cell.Cell.{Cell as CellValue};
 ghost use Rattle.nr_store.specs.Stored.{Stored, afforded, charge_of, diverted};
 ghost use Rattle.nr_fill.specs.Pieces.{without_title};
@@ -10,15 +10,22 @@ ghost use Rattle.nr_fill.specs.Titles.{titled_row};
 ghost use Rattle.nr_formatter.specs.Limits.{stored_limits};
 ghost use Rattle.nr_formatter.specs.Lines.{row_of, rest_of, settings_behind};
 ghost use Rattle.nr_formatter.specs.declared.tasks.Resume.{Resume as ResumeValue};
-ghost use Rattle.nr_formatter.specs.DiversionRows.{AddsToDiversion, AddsToDiversion-both, AddsToDiversion-nothing, HoldsRow, diverted_cells, with_cells};
+ghost use Rattle.nr_formatter.specs.DiversionRows.{AddsToDiversion, AddsToDiversion-both, AddsToDiversion-nothing, EndsRow, HoldsRow, diverted_cells, is_under_blank, with_cells};
 
 use crate::lines::{Going, set_going};
 use crate::tasks::Resume;
 use nr_fill::cells::CellSink;
 use nr_fill::line::Line;
+use nr_fill::measured::Extent;
+use nr_fill::out::Out;
+use nr_fill::piece::PieceSlot;
+use nr_fill::setting::Extra;
 use nr_settings::Settings;
 use nr_store::{Element, Store, StoredBytes};
 use nr_units::cell::Cell;
+
+/// How many cells a line has at most that is laid at once.
+const LAID: usize = 256;
 
 /// A row whose cells are added to the newest text being built. Blanks wait for a cell that is none; once a cell is
 /// refused, nothing more is added.
@@ -32,16 +39,26 @@ pub(crate) struct DiversionRow<'b, 'a> {
     refused: bool,
 }
 
-/// Whether one of the cells is a blank.
-fn has_blank(cells: &[Cell]) -> bool
-    ensures { result ≡ list_any is_blank cells.now }
+/// Whether one of the cells is an underlined blank.
+fn has_under_blank(cells: &[Cell]) -> bool
+    ensures { result ≡ list_any is_under_blank cells.now }
 {
     for cell in cells {
-        if cell.byte == b' ' {
+        if cell.under && cell.byte == b' ' {
             return true;
         }
     }
     false
+}
+
+/// Whether the cells end with one that is no blank, and no blank of them is underlined.
+fn ends_row(cells: &[Cell]) -> bool
+    ensures { result ≡ true → EndsRow cells.now }
+{
+    if cells.is_empty() || cells[cells.len() - 1].byte == b' ' {
+        return false;
+    }
+    !has_under_blank(cells)
 }
 
 /// Adds so many blanks and cells behind them, and tells what the store is charged then.
@@ -74,10 +91,9 @@ fn push_each(row: &mut DiversionRow<'_, '_>, cells: &[Cell])
 }
 
 impl<'b, 'a> DiversionRow<'b, 'a> {
-    /// Adds cells, of which none is a blank, behind the blanks that wait.
+    /// Adds cells that end with one that is no blank behind the blanks that wait.
     fn add_written(&mut self, cells: &[Cell])
-        requires some { 0 < length cells.now }
-        requires no_blank { list_any is_blank cells.now ≡ false }
+        requires { EndsRow cells.now }
         ensures same_reference { self.new.store.ghost_name ≡ self.old.store.ghost_name }
         ensures charge { self.new.charge ≡ self.old.charge }
         ensures adds { AddsToDiversion self.old.store.now self.old.blanks self.old.refused cells.now self.new.store.now self.new.blanks self.new.refused }
@@ -122,15 +138,40 @@ impl CellSink for DiversionRow<'_, '_> {
     }
 
     fn extend(&mut self, cells: &[Cell]) {
-        if cells.is_empty() || has_blank(cells) {
-            push_each(self, cells);
+        if ends_row(cells) {
+            self.add_written(cells);
             return;
         }
-        self.add_written(cells);
+        push_each(self, cells);
     }
 
     fn blanks(&mut self, n: usize) {
         self.blanks = self.blanks.saturating_add(n);
+    }
+
+    /// A line of few cells is laid in a row of its own, and added at once.
+    fn lay(
+        &mut self,
+        slots: &[PieceSlot],
+        cells: &[Cell],
+        extra: Extra,
+        most: usize,
+    ) -> Option<Extent> {
+        let mut block = [Cell::blank(); LAID];
+        let mut line = Out::over(&mut block);
+        let Some(extent) = line.lay(slots, cells, extra, most) else {
+            return None;
+        };
+        // Behind a cell that is no blank the row leaves no blanks out.
+        line.push(Cell {
+            byte: b'.',
+            under: false,
+        });
+        let Some(row) = line.row() else {
+            return None;
+        };
+        self.extend(&row[..row.len() - 1]);
+        Some(extent)
     }
 
     ghost adds_nothing = { λ row. (refl, refl, AddsToDiversion-nothing row.store.now row.blanks row.refused) };

@@ -4,7 +4,8 @@
 //! nr_input. To read: `request_line`, `tasks`, `paper`, `formatter`; `limits`, `passed`; then a file for each
 //! matter, in any order: `text`, `motions`, `lines`, `titles`, `pages`, `numbering`, `spacing`, `traps`,
 //! `springing`, `diversion_row`, `diversions`, `given`, `registers`, `names`, `conditions`, `settings`,
-//! `ending`; `requests` and `moves`, the tables of them; `runs`, `empty_lines` and `obeying`, many moves at once.
+//! `ending`; `requests` and `moves`, the tables of them; `runs`, `cell_bytes`, `empty_lines` and `obeying`, many moves
+//! at once.
 #![tactic(auto)]
 
 mod cell_bytes;
