@@ -85,7 +85,7 @@ module _ (b : ℕ) (bs : List ℕ) (e : Shape) (supply supply' : Option Supply) 
       (glides_byte (at e s) (behind_byte (at e s)) b h.chosen_is (line_behind (at e s) typing) goes reads byte.goes within)
 
   makes_byte : Makes 2 e (gone_shape (byte_put b) e) supply supply'
-  makes_byte = record { makes = made_byte; limit = refl; most = refl; spends = (let saves = saves_byte b e in omega (arith, saves)) }
+  makes_byte = record { makes = made_byte; limit = refl; most = refl; limits = refl; spends = (let saves = saves_byte b e in omega (arith, saves)) }
 
 -- the same place, written in another way
 place_inside : (b : ℕ) (e : Shape) → (b == 10) ≡ false → gone_shape (byte_put b) e ≡ record e { formatter = byte_put b (unburst e.formatter); place = passed_run b 1 e.place }
