@@ -1,8 +1,5 @@
 // The words of the command line, and what they ask for.
-ghost use Rattle.std.specs.Prelude.{◌≡◌, ◌<◌, ◌≤◌, IfErr, IfOk, length};
-ghost use Rattle.std.specs.Option.{SomeIff};
-ghost use Rattle.std.specs.Str.Parse.{IsNumeral, digits_value};
-ghost use Rattle.tbl.specs.Words as specs;
+ghost use Rattle.std.specs.Prelude.{◌≡◌, ◌<◌, ◌≤◌, IfErr, IfOk, IfSome, length};
 
 /// The greatest limit that a word may set.
 const MOST: u64 = 1_048_576;
@@ -68,16 +65,14 @@ struct Setting {
 }
 
 /// Whether a word is an option: it begins with `-` and isn't `-` alone.
-fn is_option(word: &str) -> bool
-    ensures { result ≡ specs.is_option word.now }
-{
+fn is_option(word: &str) -> bool {
     let bytes = word.as_bytes();
     bytes.len() > 1 && bytes[0] == b'-'
 }
 
 /// The number that decimal digits write, if it lies between the two. A sign isn't allowed.
 fn read_limit(digits: &str, least: u64) -> Option<usize>
-    ensures { SomeIff result (IsNumeral 10 digits.now × (least ≤ digits_value 10 digits.now) × (digits_value 10 digits.now ≤ 1048576)) (digits_value 10 digits.now) }
+    ensures range { IfSome result (λ limit. (least ≤ limit) × (limit ≤ 1048576)) }
 {
     if digits.starts_with('+') {
         return None;
@@ -113,7 +108,6 @@ impl Job {
     /// With a limit set.
     fn with(self, setting: Setting) -> Job
         requires { setting.limit ≤ 1048576 }
-        ensures value { result ≡ specs.job_with setting self }
         ensures formats { self.formats ≤ 1048576 → result.formats ≤ 1048576 }
         ensures row { self.row ≤ 1048576 → result.row ≤ 1048576 }
         ensures files { result.files ≡ self.files }
