@@ -12,7 +12,7 @@ ghost use Rattle.nr_input.specs.Runs.{HasRead, PaysAll, ReadsSome, IsLongest, Is
 use super::at_hand::window;
 use super::place::Place;
 use super::reader::Reader;
-use super::runs::{Row, read_run, read_source};
+use super::runs::{ByteRow, read_run, read_source};
 use nr_reading::{Due, Event, Half, Mode, Run};
 use nr_store::Store;
 use nr_units::source::Source;
@@ -57,10 +57,7 @@ pub fn read_control_line<K: Copy, R: Source>(
     ensures source { result ≡ None → source.new ≡ source.old }
 {
     let bytes = window(place, store, source);
-    let row = Row {
-        bytes,
-        elements: &[],
-    };
+    let row = ByteRow { bytes };
     if !matches!(reader.half.reading.due, Due::Look) || !reader.half.meet_name(&row) {
         return None;
     }
