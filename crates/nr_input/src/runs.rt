@@ -44,8 +44,8 @@ impl<'a> Items for ByteRow<'a> {
 
 /// Elements as items in a row.
 #[derive(Clone, Copy)]
-struct ElementRow<'a> {
-    elements: &'a [Element],
+pub(crate) struct ElementRow<'a> {
+    pub(crate) elements: &'a [Element],
 }
 
 impl<'a> Items for ElementRow<'a> {
@@ -85,6 +85,7 @@ pub(crate) fn read_level<K: Copy>(reader: &mut Reader, store: &mut Store<'_, K>)
     ensures read { (c : Coming) (p : Reached) (supply : Option Supply) → HoldsComing c p supply → HasRead result.moves (situation store.old c reader.old) result.event store.new reader.new p supply }
     ensures pays { (p : Reached) → PaysAll result.moves store.old p reader.old result.event store.new p reader.new }
     ensures few { result.moves ≤ 65536 }
+    ensures within { result.taken ≤ 65536 }
     ensures longest { IsLongestInLevel result.moves store.old reader.old result.event store.new reader.new }
 {
     let run = meet_rest(&mut reader.half, store.rest());
