@@ -1,3 +1,4 @@
+mod Answering
 mod Bursts
 mod Choosing
 mod EmptyLines

@@ -69,7 +69,7 @@ impl<'a> Engine<'a> {
     }
 
     /// Items that lie in a row are read; where an empty line is told, it goes down with those behind it, as far as it does nothing
-    /// else, and where a request is told that only sets, it takes effect with those behind it. Tells how many moves that was.
+    /// else, and where a request is told that only sets, or a condition, it is acted on with those behind it. Tells how many moves that was.
     #[inline(always)]
     pub(crate) fn read_lines<R: Source>(&mut self, input: &mut R) -> u128
         ensures reads { MakesReading result (shape self.old) (shape self.new) (R.supply input.old) (R.supply input.new) (R.failures input.old) (R.failures input.new) }
@@ -78,7 +78,7 @@ impl<'a> Engine<'a> {
         let run = self.read_run(input);
         match self.formatter.event {
             Event::Empty => run + self.put_empty_lines(input),
-            Event::Request => run + self.obey_lines(input),
+            Event::Request | Event::Judge(_) => run + self.obey_lines(input),
             _ => run,
         }
     }

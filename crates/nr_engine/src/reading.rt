@@ -1,5 +1,5 @@
 //! Many moves that read, in one call.
-ghost use Rattle.std.specs.Prelude.{◌≡◌, ◌≤◌, true, None};
+ghost use Rattle.std.specs.Prelude.{◌≡◌, ◌*◌, ◌≤◌, true, None};
 ghost use Rattle.nr_reading.specs.declared.event.Event.TheVariants as events;
 ghost use Rattle.nr_formatter.specs.declared.tasks.Task.TheVariants as tasks;
 ghost use Rattle.nr_engine.specs.Holding.{shape};
@@ -43,7 +43,7 @@ impl<'a> Engine<'a> {
     #[inline(always)]
     pub(crate) fn read_run<R: Source>(&mut self, input: &mut R) -> u128
         ensures reads { MakesReading result (shape self.old) (shape self.new) (R.supply input.old) (R.supply input.new) (R.failures input.old) (R.failures input.new) }
-        ensures few { result ≤ 65536 }
+        ensures few { result ≤ 65 * 65537 }
     {
         if !self.reads_next() {
             return 0;

@@ -168,11 +168,11 @@ pays_once v w p q r s e lead diversions pays = record {
 
 -- ---- the name is looked up
 
-seeks_no_lead : (c : Calls) → is_lead (sought_event c) ≡ false
+pub seeks_no_lead : (c : Calls) → is_lead (sought_event c) ≡ false
 seeks_no_lead calls.Title = refl
 seeks_no_lead c = refl
 
-builds_the_same : {K : Type 0} (m : Meaning) (v : Stored K) → (behind_meaning m v).building ≡ v.building
+pub builds_the_same : {K : Type 0} (m : Meaning) (v : Stored K) → (behind_meaning m v).building ≡ v.building
 builds_the_same meanings.Text v = refl
 builds_the_same m v = refl
 

@@ -4,6 +4,7 @@ mod Refusals
 pub mod ControlLines
 pub mod Costs
 pub mod Items
+pub mod LevelLines
 pub mod Longest
 pub mod Putting
 pub mod PuttingLevel

@@ -173,3 +173,12 @@ act dues.Expanded v r = done events.Nothing v r
 abbrev pub is_look : Due → Bool
 is_look dues.Look = true
 is_look d = false
+
+-- it is due behind the bytes of a control line: a name that is looked up, a condition's answer, an argument's byte or end, a call
+abbrev pub is_of_line : Due → Bool
+is_of_line dues.Seek = true
+is_of_line (dues.Judge b) = true
+is_of_line (dues.Put b) = true
+is_of_line dues.EndArgument = true
+is_of_line dues.Call = true
+is_of_line d = false

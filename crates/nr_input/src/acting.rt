@@ -72,9 +72,9 @@ fn behind_lead(count: u32) -> Due
 }
 
 impl Reader {
-    ghost use Rattle.std.specs.Prelude.{true, Ok};
+    ghost use Rattle.std.specs.Prelude.{true, None, IfSome, Ok};
     ghost use Rattle.nr_store.specs.Stored.{stepped};
-    ghost use Rattle.nr_input.specs.Acting.{name_in, adding_byte, naming, behind_definition, has_text, expanded, splicing_name, splicing_bytes, meaning_in, is_look, then_due};
+    ghost use Rattle.nr_input.specs.Acting.{name_in, adding_byte, naming, behind_definition, has_text, expanded, splicing_name, splicing_bytes, meaning_in, is_look, is_of_line, then_due};
     ghost use Rattle.nr_input.specs.Refusals.{expanding_answer, storing_answer, splicing_answer, called, reader_by, answered, acted_by, acted};
 
     /// The limit of splices is asked.
@@ -302,6 +302,61 @@ impl Reader {
         self.half.seek(calls);
         self.request = request_of(meaning, self.request);
         calls.event()
+    }
+
+    // A macro is called, where a splice more is allowed.
+    fn call_at_once<K: Copy>(&mut self, store: &mut Store<'_, K>) -> Option<Event>
+        ensures acts { IfSome result (λ e. called store.new self.new (Ok e) ≡ acted Due.Call store.old self.old) }
+        ensures store { result ≡ None → store.new ≡ store.old }
+        ensures reader { result ≡ None → self.new ≡ self.old }
+    {
+        if self.burst >= self.most {
+            return None;
+        }
+        match self.call(store) {
+            Ok(event) => Some(event),
+            Err(_) => None,
+        }
+    }
+
+    // A byte is added to the argument that is read, where it may be stored.
+    fn put_at_once<K: Copy>(&mut self, byte: u8, store: &mut Store<'_, K>) -> Option<Event>
+        ensures acts { IfSome result (λ e. called store.new self.new (Ok e) ≡ acted (Due.Put byte) store.old self.old) }
+        ensures store { result ≡ None → store.new ≡ store.old }
+        ensures reader { result ≡ None → self.new ≡ self.old }
+    {
+        match self.put(byte, store) {
+            Ok(event) => Some(event),
+            Err(_) => None,
+        }
+    }
+
+    /// Does what is due behind the bytes of a control line: its name is looked up, its condition answered, a byte added to an argument
+    /// or the argument ended, the macro called. Answers what is told; None where something else is due, and where it is refused: then
+    /// nothing is done.
+    #[inline(always)]
+    pub(crate) fn act_at_once<K: Copy>(&mut self, store: &mut Store<'_, K>) -> Option<Event>
+        ensures acts { IfSome result (λ e. called store.new self.new (Ok e) ≡ acted self.old.half.reading.due store.old self.old) }
+        ensures due { IfSome result (λ e. is_of_line self.old.half.reading.due ≡ true) }
+        ensures store { result ≡ None → store.new ≡ store.old }
+        ensures reader { result ≡ None → self.new ≡ self.old }
+    {
+        match self.half.reading.due {
+            Due::Seek => Some(self.seek(store)),
+            Due::Judge(found) => {
+                self.half.reading.due = Due::Look;
+                self.half.judge(found);
+                Some(Event::Nothing)
+            }
+            Due::Put(byte) => self.put_at_once(byte, store),
+            Due::EndArgument => {
+                store.end_argument();
+                self.half.reading.due = Due::Look;
+                Some(Event::Nothing)
+            }
+            Due::Call => self.call_at_once(store),
+            _ => None,
+        }
     }
 
     /// Nothing is due: the item in front is looked at.

@@ -1,5 +1,5 @@
 //! Control lines of the source: many moves at once.
-ghost use Rattle.std.specs.Prelude.{◌≡◌, ◌≢◌, ◌<◌, ◌≤◌, [], length, map, nat_lt, true, false, None, IfSome};
+ghost use Rattle.std.specs.Prelude.{◌≡◌, ◌≢◌, ◌*◌, ◌<◌, ◌≤◌, [], length, map, nat_lt, true, false, None, IfSome};
 ghost use Rattle.nr_reading.specs.declared.event.Event.TheVariants as events;
 ghost use Rattle.nr_reading.specs.declared.front.Front.TheVariants as variants;
 ghost use Rattle.nr_reading.specs.declared.mode.Mode.TheVariants as modes;
@@ -10,6 +10,8 @@ ghost use Rattle.nr_input.specs.Moving.{situation};
 ghost use Rattle.nr_input.specs.Runs.{HasRead, PaysAll, ReadsSome, IsLongest, IsLongestInLevel};
 
 use super::at_hand::window;
+use super::level_lines::read_lines;
+use super::made::Made;
 use super::place::Place;
 use super::reader::Reader;
 use super::runs::{Row, read_run, read_source};
@@ -99,26 +101,35 @@ fn read_beginning<K: Copy, R: Source>(
     }
 }
 
-/// As `read_run`; but the name of a control line of the source is looked up at once, and the line of a request that it calls is
-/// read, where the source has it at hand and no escape stands in it.
+/// As `read_run`; but of a control line more than the name is read. Of the source that is so at the beginning of a line: the name is
+/// looked up at once, and the line of a request that it calls is read, where the source has it at hand and no escape stands in it.
+/// Of a level what is due behind the bytes of a control line is done, and more items are read.
 #[inline(always)]
 pub fn read_next<K: Copy, R: Source>(
     place: &mut Place,
     reader: &mut Reader,
     store: &mut Store<'_, K>,
     source: &mut R,
-) -> Run
+) -> Made
     ensures read { (c : Coming) → HoldsComing c place.old (R.supply source.old) → HasRead result.moves (situation store.old c reader.old) result.event store.new reader.new place.new (R.supply source.new) }
     ensures pays { PaysAll result.moves store.old place.old reader.old result.event store.new place.new reader.new }
-    ensures few { result.moves ≤ 65536 }
+    ensures few { result.moves ≤ 65 * 65537 }
     ensures some { store.old.levels ≡ [] → is_unseen place.old.ahead ≡ true → ReadsSome (R.at_hand source.old) result.moves place.old reader.old }
     ensures longest { store.old.levels ≡ [] → is_unseen place.old.ahead ≡ true → reader.old.half.reading.mode ≢ modes.Start → IsLongest (R.at_hand source.old) result.moves place.old reader.old result.event store.new place.new reader.new }
     ensures longest_in_level { nat_lt 0 (length store.old.levels) ≡ true → IsLongestInLevel result.moves store.old reader.old result.event store.new reader.new }
     ensures failures { R.failures source.new ≡ R.failures source.old }
     ensures unfailed { has_failed place.old.ahead ≡ false → has_failed place.new.ahead ≡ false }
 {
-    if store.is_reading() || !matches!(reader.half.reading.mode, Mode::Start) {
-        return read_run(place, reader, store, source);
+    if store.is_reading() {
+        return read_lines(reader, store);
     }
-    read_beginning(place, reader, store, source)
+    let run = if matches!(reader.half.reading.mode, Mode::Start) {
+        read_beginning(place, reader, store, source)
+    } else {
+        read_run(place, reader, store, source)
+    };
+    Made {
+        moves: run.moves,
+        event: run.event,
+    }
 }
