@@ -310,7 +310,7 @@ impl Reader {
         ensures store { result ≡ None → store.new ≡ store.old }
         ensures reader { result ≡ None → self.new ≡ self.old }
     {
-        if self.burst >= self.most {
+        if self.most <= self.burst {
             return None;
         }
         match self.call(store) {

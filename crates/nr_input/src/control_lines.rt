@@ -123,11 +123,14 @@ pub fn read_next<K: Copy, R: Source>(
     if store.is_reading() {
         return read_lines(reader, store);
     }
-    let run = if matches!(reader.half.reading.mode, Mode::Start) {
-        read_beginning(place, reader, store, source)
-    } else {
-        read_run(place, reader, store, source)
-    };
+    if !matches!(reader.half.reading.mode, Mode::Start) {
+        let run = read_run(place, reader, store, source);
+        return Made {
+            moves: run.moves,
+            event: run.event,
+        };
+    }
+    let run = read_beginning(place, reader, store, source);
     Made {
         moves: run.moves,
         event: run.event,
