@@ -1,0 +1,1 @@
+for k in macros titles diversions requests prose escapes fonts fill-and-no-fill short-lines empty-lines; do a=$(MOVES=1 ./base < in/$k-200k 2>&1 | md5sum); b=$(MOVES=1 $1 < in/$k-200k 2>&1 | md5sum); [ "$a" = "$b" ] || echo DIFF $k; done
