@@ -1,7 +1,7 @@
 use Rattle.std.proofs.Common.{◌∙◌, ap}
 use Rattle.std.proofs.lemmas.Slice.{between_is}
 use Rattle.nr_units.specs.Items.{Items}
-use Rattle.nr_fill.proofs.slice_queue.SliceQueue.as_slice.Goals as goal
+use Rattle.nr_fill.proofs.queue.Queue.as_slice.Goals as goal
 
 pub returns-clause-value : goal.returns-clause-value
 returns-clause-value g c =

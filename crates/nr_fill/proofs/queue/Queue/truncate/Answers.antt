@@ -1,7 +1,7 @@
 use Rattle.std.proofs.Common.{◌≡◌, length, take, ap, sym, ◌∙◌, arith}
 use Rattle.nr_units.specs.Items.{Items}
 use Rattle.nr_fill.proofs.Queues.{take_behind, length_between}
-use Rattle.nr_fill.proofs.slice_queue.SliceQueue.truncate.Goals as goal
+use Rattle.nr_fill.proofs.queue.Queue.truncate.Goals as goal
 
 pub returns-clause-items : goal.returns-clause-items
 returns-clause-items g c =

@@ -2,7 +2,7 @@ use Rattle.std.proofs.Common.{◌≡◌, ◌+◌, ◌-◌, length, take, drop, a
 use Rattle.std.proofs.lemmas.List.{drop-drop}
 use Rattle.nr_units.specs.Items.{Items}
 use Rattle.nr_fill.proofs.Queues.{moved_to_front, length_between}
-use Rattle.nr_fill.proofs.slice_queue.SliceQueue.remove_front.Goals as goal
+use Rattle.nr_fill.proofs.queue.Queue.remove_front.Goals as goal
 
 pub returns-clause-items : goal.returns-clause-items
 returns-clause-items g c =

@@ -1,32 +1,37 @@
-// Items in a lent slice that come in at the end and go out at the front.
-ghost use Rattle.std.specs.Prelude.{◌≡◌, ◌+◌, ◌-◌, ◌<◌, ◌≤◌, [], ◌∷◌, ◌++◌, length, map, take, drop, replicate, slice_index, All};
+// Items that come in at the end and go out at the front, for which room is taken once.
+ghost use Rattle.std.specs.Prelude.{◌≡◌, ◌+◌, ◌-◌, ◌<◌, ◌≤◌, [], ◌∷◌, ◌++◌, length, map, take, drop, replicate, slice_index, All, IfOk, vec_len, vec_capacity};
 ghost use Rattle.nr_fill.specs.Runs.{IsPlain, run_cell};
 
 use crate::runs::set_plain;
+use nr_rooms::lengthen;
 use nr_units::cell::Cell;
+use std::alloc::{AllocError, Global};
 use std::marker::Model;
 
-/// Items in a slice that is lent. A front that is taken away stays where it is until it is as long as what is left or
-/// its place is needed, so that taking a front costs no more than it had items.
+/// Items, and room for a number of them that stays; `new` is the only call that allocates. A front that is taken away stays
+/// where it is until it is as long as what is left or its place is needed, so that taking a front costs no more than it had
+/// items.
 #[derive(Drop)]
-pub(crate) struct SliceQueue<'a, T: Copy> {
-    slots: &'a mut [T],
+pub(crate) struct Queue<T: Copy> {
+    // The items stand from `start` to `end`. What lies beside them is of no account.
+    slots: Vec<T>,
     start: usize,
     end: usize,
+    room: usize,
 }
 
-impl<'a, T: Copy> Model for SliceQueue<'a, T> {
-    ghost use Rattle.std.specs.Prelude.{◌≤◌, length, take, drop};
+impl<T: Copy> Model for Queue<T> {
+    ghost use Rattle.std.specs.Prelude.{◌≤◌, take, drop, vec_len, vec_capacity};
     ghost use Rattle.nr_units.specs.Items.{Items};
 
     ghost Value = { Items T };
 
-    ghost view = { λ q. record { items = drop q.start (take q.end q.slots.now); room = length q.slots.now } };
+    ghost view = { λ q. record { items = drop q.start (take q.end q.slots.items); room = q.room } };
 
-    ghost invariant = { λ q. (q.start ≤ q.end) × (q.end ≤ length q.slots.now) };
+    ghost invariant = { λ q. (q.start ≤ q.end) × ((q.end ≤ vec_len q.slots) × ((vec_len q.slots ≤ q.room) × (q.room ≤ vec_capacity q.slots))) };
 }
 
-/// Where items stand in a slice.
+/// Where items stand in a vector.
 #[derive(Clone, Copy)]
 struct Span {
     start: usize,
@@ -35,22 +40,44 @@ struct Span {
 
 /// Makes sure that there are n free slots behind the items of the span, and tells where they are then.
 #[inline]
-fn make_room<T: Copy>(slots: &mut [T], span: Span, n: usize) -> Span
+fn make_room<T: Copy>(slots: &mut Vec<T>, room: usize, span: Span, n: usize, item: T) -> Span
     requires ordered { span.start ≤ span.end }
-    requires within { span.end ≤ length slots.old }
-    requires room { span.end - span.start + n ≤ length slots.old }
-    ensures items { drop result.start (take result.end slots.new) ≡ drop span.start (take span.end slots.old) }
+    requires within { span.end ≤ vec_len slots.old }
+    requires held { vec_len slots.old ≤ room }
+    requires capacity { room ≤ vec_capacity slots.old }
+    requires room { span.end - span.start + n ≤ room }
+    ensures items { drop result.start (take result.end slots.new.items) ≡ drop span.start (take span.end slots.old.items) }
     ensures ordered { result.start ≤ result.end }
-    ensures free { result.end + n ≤ length slots.new }
+    ensures free { result.end + n ≤ vec_len slots.new }
+    ensures held { vec_len slots.new ≤ room }
+    ensures capacity { room ≤ vec_capacity slots.new }
 {
     if n <= slots.len() - span.end {
         return span;
     }
+    move_to_front(slots, room, span, n, item)
+}
+
+/// The same where there are not so many: the items move to the front. Where they and n more would fill more than half of the
+/// slots, there are more slots then, if there is room for more.
+#[cold]
+fn move_to_front<T: Copy>(slots: &mut Vec<T>, room: usize, span: Span, n: usize, item: T) -> Span
+    requires ordered { span.start ≤ span.end }
+    requires within { span.end ≤ vec_len slots.old }
+    requires held { vec_len slots.old ≤ room }
+    requires capacity { room ≤ vec_capacity slots.old }
+    requires room { span.end - span.start + n ≤ room }
+    ensures items { drop result.start (take result.end slots.new.items) ≡ drop span.start (take span.end slots.old.items) }
+    ensures ordered { result.start ≤ result.end }
+    ensures free { result.end + n ≤ vec_len slots.new }
+    ensures held { vec_len slots.new ≤ room }
+    ensures capacity { room ≤ vec_capacity slots.new }
+{
     slots.copy_within(span.start..span.end, 0);
-    Span {
-        start: 0,
-        end: span.end - span.start,
-    }
+    let end = span.end - span.start;
+    let least = (end + n).saturating_mul(2).min(room);
+    lengthen(slots, least, room, item);
+    Span { start: 0, end }
 }
 
 /// Puts the item everywhere.
@@ -62,7 +89,7 @@ fn set_all<T: Copy>(slots: &mut [T], item: T)
     }
 }
 
-impl<'a> SliceQueue<'a, Cell> {
+impl Queue<Cell> {
     /// Puts the cells of these bytes at the end, up to the first that is not plain, and tells how many these are.
     #[inline]
     pub(crate) fn push_plain(&mut self, under: bool, bytes: &[u8]) -> usize
@@ -78,8 +105,8 @@ impl<'a> SliceQueue<'a, Cell> {
             end: self.end,
         };
         let n = bytes.len();
-        let slots = &mut *self.slots;
-        let span = make_room(slots, span, n);
+        let span = make_room(&mut self.slots, self.room, span, n, Cell::blank());
+        let slots = self.slots.as_mut_slice();
         let count = set_plain(&mut slots[span.end..span.end + n], under, bytes);
         self.start = span.start;
         self.end = span.end + count;
@@ -87,17 +114,18 @@ impl<'a> SliceQueue<'a, Cell> {
     }
 }
 
-impl<'a, T: Copy> SliceQueue<'a, T> {
-    /// No items yet, and room for as many as the slice has.
-    pub(crate) fn over(slots: &'a mut [T]) -> Self
-        ensures empty { result.items ≡ [] }
-        ensures room { result.room ≡ length slots.entry.now }
+impl<T: Copy> Queue<T> {
+    /// No items, and room for so many: `AllocError` where there is no memory for them.
+    pub(crate) fn new(alloc: Global, room: usize) -> Result<Queue<T>, AllocError>
+        ensures { IfOk result (λ made. made ≡ record { items = []; room = room }) }
     {
-        SliceQueue {
+        let slots = Vec::with_capacity(alloc, room)?;
+        Ok(Queue {
             slots,
             start: 0,
             end: 0,
-        }
+            room,
+        })
     }
 
     #[inline]
@@ -113,7 +141,8 @@ impl<'a, T: Copy> SliceQueue<'a, T> {
         ensures value { result.now ≡ self.now.items }
         ensures within { length result.now ≤ self.now.room }
     {
-        &self.slots[self.start..self.end]
+        let slots = self.slots.as_slice();
+        &slots[self.start..self.end]
     }
 
     #[inline]
@@ -126,9 +155,8 @@ impl<'a, T: Copy> SliceQueue<'a, T> {
             start: self.start,
             end: self.end,
         };
-        let slots = &mut *self.slots;
-        let span = make_room(slots, span, 1);
-        slots[span.end] = item;
+        let span = make_room(&mut self.slots, self.room, span, 1, item);
+        self.slots[span.end] = item;
         self.start = span.start;
         self.end = span.end + 1;
     }
@@ -144,10 +172,10 @@ impl<'a, T: Copy> SliceQueue<'a, T> {
             start: self.start,
             end: self.end,
         };
-        let slots = &mut *self.slots;
-        let span = make_room(slots, span, n);
+        let span = make_room(&mut self.slots, self.room, span, n, item);
         let at = span.start + place;
-        slots.copy_within(at..span.end, at + n);
+        self.slots.copy_within(at..span.end, at + n);
+        let slots = self.slots.as_mut_slice();
         set_all(&mut slots[at..at + n], item);
         self.start = span.start;
         self.end = span.end + n;
@@ -168,6 +196,15 @@ impl<'a, T: Copy> SliceQueue<'a, T> {
         self.slots.copy_within(start..self.end, 0);
         self.start = 0;
         self.end = left;
+    }
+
+    /// Takes all items away.
+    pub(crate) fn clear(&mut self)
+        ensures items { self.new.items ≡ [] }
+        ensures room { self.new.room ≡ self.old.room }
+    {
+        self.start = 0;
+        self.end = 0;
     }
 
     /// Keeps the first n items.

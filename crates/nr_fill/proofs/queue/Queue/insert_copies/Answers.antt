@@ -2,7 +2,7 @@ use Rattle.std.proofs.Common.{◌≡◌, ◌+◌, ◌-◌, ◌≤◌, List, ◌+
 use borrow.Rule.Slice.PartMut.{put_mid}
 use Rattle.nr_units.specs.Items.{Items}
 use Rattle.nr_fill.proofs.Queues.{inserted, length_between}
-use Rattle.nr_fill.proofs.slice_queue.SliceQueue.insert_copies.Goals as goal
+use Rattle.nr_fill.proofs.queue.Queue.insert_copies.Goals as goal
 
 pub returns-clause-items : goal.returns-clause-items
 returns-clause-items g c =

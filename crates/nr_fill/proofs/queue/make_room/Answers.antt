@@ -1,6 +1,6 @@
 use Rattle.std.proofs.Common.{◌-◌, take, ap, ◌∙◌}
 use Rattle.nr_fill.proofs.Queues.{moved_to_front}
-use Rattle.nr_fill.proofs.slice_queue.make_room.Goals as goal
+use Rattle.nr_fill.proofs.queue.make_room.Goals as goal
 
 pub returns-clause-items : goal.returns-clause-items
 returns-clause-items g c =

@@ -3,7 +3,7 @@ use borrow.Rule.Slice.PartMut.{put_mid}
 use Rattle.nr_units.specs.Items.{Items}
 use Rattle.nr_units.specs.declared.cell.Cell.{Cell}
 use Rattle.nr_fill.proofs.Queues.{extended_front}
-use Rattle.nr_fill.proofs.slice_queue.SliceQueue+Cell.push_plain.Goals as goal
+use Rattle.nr_fill.proofs.queue.Queue+Cell.push_plain.Goals as goal
 
 pub returns-clause-items : goal.returns-clause-items
 returns-clause-items c =
