@@ -262,9 +262,7 @@ impl<T: Copy> Pool<T> {
             return Err(Full);
         }
         let index = id.index as usize;
-        if used == self.elements.len() {
-            lengthen(&mut self.elements, used + 1, self.capacity, element);
-        }
+        lengthen(&mut self.elements, used + 1, self.capacity, element);
         bring_last(&mut self.elements, &mut self.slots, self.used, index);
         self.elements[used] = element;
         self.slots[index].len += 1;
@@ -290,9 +288,7 @@ impl<T: Copy> Pool<T> {
             return Ok(());
         }
         let index = id.index as usize;
-        if used + count > self.elements.len() {
-            lengthen(&mut self.elements, used + count, self.capacity, elements[0]);
-        }
+        lengthen(&mut self.elements, used + count, self.capacity, elements[0]);
         bring_last(&mut self.elements, &mut self.slots, self.used, index);
         let places = self.elements.as_mut_slice();
         places[used..used + count].copy_from_slice(elements);
@@ -320,10 +316,8 @@ impl<T: Copy> Pool<T> {
             return Ok(());
         }
         let index = to.index as usize;
-        if used + len > self.elements.len() {
-            let element = self.get(from, 0);
-            lengthen(&mut self.elements, used + len, self.capacity, element);
-        }
+        let element = self.get(from, 0);
+        lengthen(&mut self.elements, used + len, self.capacity, element);
         bring_last(&mut self.elements, &mut self.slots, self.used, index);
         let start = self.slots[from.index as usize].start as usize;
         self.elements.copy_within(start..start + len, used);

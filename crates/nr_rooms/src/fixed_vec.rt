@@ -1,5 +1,5 @@
 //! A vector for which room is taken once.
-ghost use Rattle.std.specs.Prelude.{◌≡◌, ◌+◌, ◌<◌, ◌≤◌, [], ◌∷◌, ◌++◌, length, take, replicate, slice_get, slice_set, Some, IfOk};
+ghost use Rattle.std.specs.Prelude.{◌≡◌, ◌+◌, ◌<◌, ◌≤◌, [], ◌∷◌, ◌++◌, length, take, replicate, slice_get, slice_set, Some, IfOk, vec_len, vec_capacity};
 ghost use Rattle.std.specs.List.{insert, remove};
 
 use crate::growing::lengthen;
@@ -101,9 +101,7 @@ impl<T: Copy> FixedVec<T> {
         ensures room { self.new.room ≡ self.old.room }
     {
         let len = self.len;
-        if len == self.slots.len() {
-            lengthen(&mut self.slots, len + 1, self.room, item);
-        }
+        lengthen(&mut self.slots, len + 1, self.room, item);
         self.slots[len] = item;
         self.len = len + 1;
     }
@@ -116,9 +114,7 @@ impl<T: Copy> FixedVec<T> {
         ensures room { self.new.room ≡ self.old.room }
     {
         let end = self.len + more.len();
-        if end > self.slots.len() {
-            lengthen(&mut self.slots, end, self.room, more[0]);
-        }
+        fit(&mut self.slots, self.len, more, self.room);
         let slots = self.slots.as_mut_slice();
         slots[self.len..end].copy_from_slice(more);
         self.len = end;
@@ -157,9 +153,7 @@ impl<T: Copy> FixedVec<T> {
             self.len = len + n;
             return;
         }
-        if len + n > self.slots.len() {
-            lengthen(&mut self.slots, len + n, self.room, item);
-        }
+        lengthen(&mut self.slots, len + n, self.room, item);
         let slots = self.slots.as_mut_slice();
         set_all(&mut slots[len..len + n], item);
         self.len = len + n;
@@ -174,9 +168,7 @@ impl<T: Copy> FixedVec<T> {
         ensures room { self.new.room ≡ self.old.room }
     {
         let len = self.len;
-        if len == self.slots.len() {
-            lengthen(&mut self.slots, len + 1, self.room, item);
-        }
+        lengthen(&mut self.slots, len + 1, self.room, item);
         self.slots.copy_within(place..len, place + 1);
         self.slots[place] = item;
         self.len = len + 1;
@@ -211,6 +203,24 @@ impl<T: Copy> FixedVec<T> {
         ensures room { self.new.room ≡ self.old.room }
     {
         self.len = 0;
+    }
+}
+
+/// Makes sure that there are places for all these items behind the first `len`.
+#[inline]
+fn fit<T: Copy>(slots: &mut Vec<T>, len: usize, more: &[T], room: usize)
+    requires len { len ≤ vec_len slots.old }
+    requires asked { len + length more.now ≤ room }
+    requires held { vec_len slots.old ≤ room }
+    requires room { room ≤ vec_capacity slots.old }
+    ensures front { take len slots.new.items ≡ take len slots.old.items }
+    ensures least { len + length more.now ≤ vec_len slots.new }
+    ensures held { vec_len slots.new ≤ room }
+    ensures room { room ≤ vec_capacity slots.new }
+{
+    let end = len + more.len();
+    if end > slots.len() {
+        lengthen(slots, end, room, more[0]);
     }
 }
 
