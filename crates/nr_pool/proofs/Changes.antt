@@ -3,6 +3,7 @@ use Rattle.std.proofs.Common.{◌≡◌, ℕ, ◌+◌, ◌-◌, ◌^◌, ◌<◌
 use Rattle.nr_pool.specs.Texts.{Texts, IsOpen}
 use Rattle.nr_pool.specs.Places.{slot_at, texts_of, IsPacked}
 use Rattle.nr_pool.specs.Spares.{HasSpares}
+use Rattle.nr_pool.specs.Rooms.{IsKept}
 use Rattle.nr_pool.specs.declared.slot.Slot.{Slot}
 use Rattle.nr_pool.proofs.Places.{IsExtended, found, set_last, set_same}
 use Rattle.nr_pool.proofs.Spares.{spares_set, spares_open, spares_close}
@@ -54,4 +55,16 @@ pub after_open : (capacity : ℕ) (slots : List Slot) (n count m first : ℕ) (n
 after_open capacity slots n count m first new packed spares more start len held = record {
   packed = set_same capacity n slots first new packed (spares.within 0 (omega arith)) len (λ _. start) (λ none. absurd (omega arith));
   spares = spares_open slots count m first new spares more held start;
+}
+
+-- what is kept true where the texts are packed again in no more room
+pub kept_after : {T : Type 0} (E F : List T) (slots news : List Slot) (n count first m spares at c most : ℕ) → IsKept E slots n count first c most → IsPool (length F) news m spares at → length F ≤ c → length news ≤ most
+    → IsKept F news m spares at c most
+kept_after E F slots news n count first m spares at c most kept pool elements few = record {
+  packed = pool.packed;
+  spares = pool.spares;
+  elements_within = elements;
+  slots_within = few;
+  elements_fit = kept.elements_fit;
+  slots_fit = kept.slots_fit;
 }

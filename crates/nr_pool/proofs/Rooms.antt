@@ -7,7 +7,7 @@ use Rattle.std.proofs.lemmas.Option.{slice_get-get_or, get_or_from_slice_get, sl
 use Rattle.std.proofs.lemmas.Bool.{cases_lt}
 use Rattle.nr_pool.specs.Texts.{Held, Texts, no_text, entry, text, holders, IsOpen, used, with_entry, opened, with_text, with_holders, without_text}
 use Rattle.nr_pool.specs.Places.{blank_slot, slot_at, held_of, texts_of, IsPacked}
-use Rattle.nr_pool.specs.Rooms.{with_room, texts_within}
+use Rattle.nr_pool.specs.Rooms.{with_room, texts_within, IsKept}
 use Rattle.nr_pool.specs.declared.slot.Slot.{Slot}
 use Rattle.nr_pool.proofs.Places.{same_map, same_part, same_slot}
 
@@ -87,6 +87,19 @@ texts_lengthened E more slots n c m packed =
     (λ some. let inside = packed.inside k some in omega arith)
     (λ some. let inside = packed.inside k some in omega arith)
     (λ j d below. let inside = packed.inside k (omega arith) in get_or_append_left E more d (s.start + j) (omega arith)))))
+
+-- the elements were made more
+pub record IsLonger {T : Type 0} (F : List T) (slots : List Slot) (n c m : ℕ) (p : Texts T) : Type 0 where
+  pub packed : IsPacked (length F) slots n
+  pub view : texts_within c m F slots ≡ p
+
+pub longer : {T : Type 0} (E F more : List T) (slots : List Slot) (n count first c m : ℕ) (p : Texts T) → IsKept E slots n count first c m → texts_within c m E slots ≡ p → F ≡ E ++ more → length F ≤ c → IsLonger F slots n c m p
+longer E F more slots n count first c m p kept view is within =
+    let long : length F ≡ length E + length more = ap length is ∙ length-append E more in
+    record {
+      packed = packed_within (length E) (length F) n slots (omega arith) (omega (arith, kept.elements_fit)) kept.packed;
+      view = ap (λ xs. texts_within c m xs slots) is ∙ texts_lengthened E more slots n c m kept.packed ∙ view;
+    }
 
 -- ---- a slot more, without a text
 
