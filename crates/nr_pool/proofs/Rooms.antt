@@ -9,7 +9,7 @@ use Rattle.nr_pool.specs.Texts.{Held, Texts, no_text, entry, text, holders, IsOp
 use Rattle.nr_pool.specs.Places.{blank_slot, slot_at, held_of, texts_of, IsPacked}
 use Rattle.nr_pool.specs.Rooms.{with_room, texts_within, IsKept}
 use Rattle.nr_pool.specs.declared.slot.Slot.{Slot}
-use Rattle.nr_pool.proofs.Places.{same_map, same_part, same_slot}
+use Rattle.nr_pool.proofs.Places.{same_map, same_part, same_slot, used_is}
 
 -- what stands behind a list by default changes none of its elements
 get_or_padded : {X : Type 0} (xs : List X) (k i : ℕ) (d : X) → get_or (xs ++ replicate k d) i d ≡ get_or xs i d
@@ -146,3 +146,23 @@ pub all_within : {T : Type 0} (c m : ℕ) (p q : Texts T) → with_room c m q �
 all_within c m p q view full all =
     let none : m - length q.texts ≡ 0 = omega arith in
     subst (λ (s : Texts _). All (λ t. 0 < t.holders) s.texts) view (rw none (subst (λ ts. All (λ t. 0 < t.holders) ts) (sym (append-nil q.texts)) all))
+
+-- ---- whether elements fit
+
+-- where k elements more do not
+pub too_many : {T : Type 0} (E : List T) (slots : List Slot) (n k count first c m : ℕ) (p : Texts T) → IsKept E slots n count first c m → texts_within c m E slots ≡ p → c - n < k → p.capacity < used p + k
+too_many E slots n k count first c m p kept view more =
+    let all = same_used c m p (texts_of E slots) view ∙ used_is E slots n (texts_of E slots) kept.packed refl in
+    let room : c ≡ p.capacity = ap (λ (q : Texts _). q.capacity) view in
+    let within = kept.packed.room in
+    let held = kept.elements_within in
+    omega arith
+
+-- where they do
+pub not_too_many : {T : Type 0} (E : List T) (slots : List Slot) (n k count first c m : ℕ) (p : Texts T) → IsKept E slots n count first c m → texts_within c m E slots ≡ p → k ≤ c - n → p.capacity < used p + k → ⊥
+not_too_many E slots n k count first c m p kept view fits more =
+    let all = same_used c m p (texts_of E slots) view ∙ used_is E slots n (texts_of E slots) kept.packed refl in
+    let room : c ≡ p.capacity = ap (λ (q : Texts _). q.capacity) view in
+    let within = kept.packed.room in
+    let held = kept.elements_within in
+    omega arith
