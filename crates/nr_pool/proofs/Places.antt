@@ -76,22 +76,6 @@ used_is E slots n p packed view =
     ∙ length_part E (slot_at slots k).start (slot_at slots k).len (λ some. let inside = packed.inside k some in let room = packed.room in omega arith)) in
     ap used (sym view) ∙ sym (sum-map len_of (map (held_of E) slots)) ∙ ap sum lens ∙ sum-map (λ (s : Slot). s.len) slots ∙ packed.filled
 
--- where k elements more do not fit
-pub too_many : {T : Type 0} (E : List T) (slots : List Slot) (n k : ℕ) (p : Texts T) → IsPacked (length E) slots n → texts_of E slots ≡ p → length E - n < k → p.capacity < used p + k
-too_many E slots n k p packed view more =
-    let all = used_is E slots n p packed view in
-    let room : length E ≡ p.capacity = ap (λ (q : Texts _). q.capacity) view in
-    let within = packed.room in
-    omega arith
-
--- where they do
-pub not_too_many : {T : Type 0} (E : List T) (slots : List Slot) (n k : ℕ) (p : Texts T) → IsPacked (length E) slots n → texts_of E slots ≡ p → k ≤ length E - n → p.capacity < used p + k → ⊥
-not_too_many E slots n k p packed view fits more =
-    let all = used_is E slots n p packed view in
-    let room : length E ≡ p.capacity = ap (λ (q : Texts _). q.capacity) view in
-    let within = packed.room in
-    omega arith
-
 -- a slot that lies last: every other text ends before it
 below_last : (capacity n : ℕ) (slots : List Slot) (i j : ℕ) → IsPacked capacity slots n → (slot_at slots i).start + (slot_at slots i).len ≡ n → j ≢ i → 0 < (slot_at slots j).len
     → (slot_at slots j).start + (slot_at slots j).len ≤ (slot_at slots i).start

@@ -61,7 +61,7 @@ pub struct Pool<T: Copy> {
 }
 
 impl<T: Copy> Model for Pool<T> {
-    ghost use Rattle.std.specs.Prelude.{vec_len, vec_capacity};
+    ghost use Rattle.std.specs.Prelude.{◌≤◌, vec_capacity};
     ghost use Rattle.nr_pool.specs.Texts.{Texts};
     ghost use Rattle.nr_pool.specs.Rooms.{texts_within, IsKept};
 
@@ -69,7 +69,7 @@ impl<T: Copy> Model for Pool<T> {
 
     ghost view = { λ p. texts_within p.capacity p.most p.elements.items p.slots.items };
 
-    ghost invariant = { λ p. IsKept p.elements.items p.slots.items p.used p.spares p.first_spare p.capacity p.most (vec_len p.elements) (vec_len p.slots) (vec_capacity p.elements) (vec_capacity p.slots) };
+    ghost invariant = { λ p. IsKept p.elements.items p.slots.items p.used p.spares p.first_spare p.capacity p.most × ((p.capacity ≤ vec_capacity p.elements) × (p.most ≤ vec_capacity p.slots)) };
 }
 
 impl Id {

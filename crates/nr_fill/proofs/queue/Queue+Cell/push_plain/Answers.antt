@@ -8,7 +8,7 @@ use Rattle.nr_fill.proofs.queue.Queue+Cell.push_plain.Goals as goal
 pub returns-clause-items : goal.returns-clause-items
 returns-clause-items c =
     let s = c.make_room-span.result in
-    let slots = c.make_room-span.new.slots in
+    let slots = c.make_room-span.new.slots.items in
     let n = length c.args.bytes.now in
     let count = c.set_plain-count.result in
     let zs = c.set_plain-count.new.slots in

@@ -5,4 +5,4 @@ use Rattle.nr_fill.proofs.queue.Queue.as_slice.Goals as goal
 
 pub returns-clause-value : goal.returns-clause-value
 returns-clause-value g c =
-    between_is c.self.inside.slots.now c.self.inside.start c.self.inside.end ∙ ap (λ (v : Items _). v.items) c.self.view_is
+    between_is c.self.inside.slots.items c.self.inside.start c.self.inside.end ∙ ap (λ (v : Items _). v.items) c.self.view_is

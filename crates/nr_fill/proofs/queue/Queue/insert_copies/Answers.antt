@@ -7,7 +7,7 @@ use Rattle.nr_fill.proofs.queue.Queue.insert_copies.Goals as goal
 pub returns-clause-items : goal.returns-clause-items
 returns-clause-items g c =
     let s = c.make_room-span.result in
-    let xs = c.make_room-span.new.slots in
+    let xs = c.make_room-span.new.slots.items in
     let n = c.args.n in
     let place = c.args.place in
     let at = s.start + place in
@@ -18,11 +18,11 @@ returns-clause-items g c =
     let low = c.requires.within in
     let within : at ≤ s.end = omega arith in
     let span : (at + n) - at ≡ n = omega arith in
-    let moved = c.copy_within.ensures.after in
+    let moved = c.copy_within.ensures.items in
     let same = c.copy_within.ensures.len in
-    let many : length (take ((at + n) - at) (drop at c.copy_within.new.self)) ≡ n =
-    omega (arith, length-take ((at + n) - at) (drop at c.copy_within.new.self), length-drop at c.copy_within.new.self) in
+    let many : length (take ((at + n) - at) (drop at c.copy_within.new.self.items)) ≡ n =
+    omega (arith, length-take ((at + n) - at) (drop at c.copy_within.new.self.items), length-drop at c.copy_within.new.self.items) in
     let filled : c.set_all.new.slots ≡ replicate n c.args.item = c.set_all.ensures ∙ ap (λ m. replicate m c.args.item) many in
-    ap₂ (λ k (zs : List _). drop s.start (take (s.end + n) (put_mid at k c.copy_within.new.self zs))) span filled
-    ∙ inserted xs c.copy_within.new.self s.start place s.end n c.args.item within free moved
+    ap₂ (λ k (zs : List _). drop s.start (take (s.end + n) (put_mid at k c.copy_within.new.self.items zs))) span filled
+    ∙ inserted xs c.copy_within.new.self.items s.start place s.end n c.args.item within free moved
     ∙ ap (λ (ws : List _). take place ws ++ replicate n c.args.item ++ drop place ws) items
