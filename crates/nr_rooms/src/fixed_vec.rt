@@ -122,7 +122,7 @@ impl<T: Copy> FixedVec<T> {
 
     /// Adds the first n of these items. A few more are copied than are added where there are places for them on both sides,
     /// as a copy of a fixed length is the cheapest.
-    #[inline]
+    #[inline(always)]
     pub fn extend_front(&mut self, more: &[T], n: usize)
         requires front { n ≤ length more.now }
         requires room { length self.old.items + n ≤ self.old.room }
@@ -140,7 +140,7 @@ impl<T: Copy> FixedVec<T> {
     }
 
     /// Adds n copies of an item. A few more are written than are added where there are places for them, as with `extend_front`.
-    #[inline]
+    #[inline(always)]
     pub fn extend_copies(&mut self, item: T, n: usize)
         requires { length self.old.items + n ≤ self.old.room }
         ensures items { self.new.items ≡ self.old.items ++ replicate n item }

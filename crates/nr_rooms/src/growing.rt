@@ -1,5 +1,5 @@
 //! Vectors that become longer within the memory that they have.
-ghost use Rattle.std.specs.Prelude.{◌≡◌, ◌-◌, ◌≤◌, ◌++◌, replicate, vec_len, vec_capacity};
+ghost use Rattle.std.specs.Prelude.{◌≡◌, ◌-◌, ◌<◌, ◌≤◌, ◌++◌, replicate, vec_len, vec_capacity};
 
 /// How long a vector becomes at least, where it has room for so many items.
 const LEAST: usize = 64;
