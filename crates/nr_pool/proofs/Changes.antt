@@ -1,5 +1,5 @@
 -- What each change of a pool keeps true of its slots.
-use Rattle.std.proofs.Common.{◌≡◌, ℕ, ◌+◌, ◌-◌, ◌^◌, ◌<◌, ◌≤◌, List, length, set, arith}
+use Rattle.std.proofs.Common.{◌≡◌, ℕ, ◌+◌, ◌-◌, ◌<◌, ◌≤◌, List, length, set, arith}
 use Rattle.std.proofs.lemmas.List.{length-set}
 use Rattle.nr_pool.specs.Texts.{Texts, IsOpen}
 use Rattle.nr_pool.specs.Places.{slot_at, texts_of, IsPacked}

@@ -1,11 +1,10 @@
 -- What holds of the texts in the front of a pool's room holds of the pool.
-use Rattle.std.proofs.Common.{◌≡◌, ℕ, zero, suc, ◌+◌, ◌-◌, ◌<◌, ◌≤◌, ◌⊎◌, List, [], ◌∷◌, ◌++◌, length, take, drop, map, set, get_or, slice_get, Some, replicate, All, sum_by, ◌^◌, refl, sym, ap, ap₂, ◌∙◌, subst, append_assoc, length-drop, arith}
-use Rattle.std.proofs.lemmas.List.{length-append, length-map, length-set, length-replicate, map-append, set-append_left, replicate-append-replicate, get_or_append_left, append-nil, take_at, length-take-le}
+use Rattle.std.proofs.Common.{◌≡◌, ℕ, zero, suc, ◌+◌, ◌-◌, ◌<◌, ◌≤◌, ◌⊎◌, List, [], ◌∷◌, ◌++◌, length, take, drop, map, set, get_or, slice_get, Some, replicate, All, sum_by, ◌^◌, refl, sym, ap, ◌∙◌, inl, inr, subst, append_assoc, length-drop, arith}
+use Rattle.std.proofs.lemmas.List.{length-append, length-map, length-set, map-append, set-append_left, replicate-append-replicate, get_or_append_left, append-nil, take_at, length-take-le}
 use Rattle.std.proofs.lemmas.List.Sums.{sum_by-append}
 use Rattle.std.proofs.lemmas.List.Folds.{sum_by-replicate}
 use Rattle.std.proofs.lemmas.Option.{slice_get-get_or, get_or_from_slice_get, slice_get_within}
-use Rattle.std.proofs.lemmas.Bool.{cases_lt}
-use Rattle.nr_pool.specs.Texts.{Held, Texts, no_text, entry, text, holders, IsOpen, used, with_entry, opened, with_text, with_holders, without_text}
+use Rattle.nr_pool.specs.Texts.{Held, Texts, no_text, entry, text, holders, IsOpen, used, with_entry, with_text, with_holders}
 use Rattle.nr_pool.specs.Places.{blank_slot, slot_at, held_of, texts_of, IsPacked}
 use Rattle.nr_pool.specs.Rooms.{with_room, texts_within, written, IsKept}
 use borrow.Rule.Slice.PartMut.{put_mid}
@@ -126,6 +125,20 @@ packed_spared c n slots packed =
       inside = λ i. rw (at i) (packed.inside i);
       apart = λ i j. rw (at i, at j) (packed.apart i j);
     }
+
+-- the slots as they are, or with one more
+pub record IsSpared {T : Type 0} (E : List T) (news : List Slot) (n c m : ℕ) (p : Texts T) : Type 0 where
+  pub packed : IsPacked (length E) news n
+  pub view : texts_within c m E news ≡ p
+
+pub spared : {T : Type 0} (E : List T) (slots news : List Slot) (n count first c m : ℕ) (p : Texts T) → IsKept E slots n count first c m → texts_within c m E slots ≡ p → (news ≡ slots) ⊎ (news ≡ slots ++ blank_slot ∷ []) → length news ≤ m
+    → IsSpared E news n c m p
+spared E slots news n count first c m p kept view which few = elim which [
+  | inl same ↦ rw same record { packed = kept.packed; view = view }
+  | inr more ↦
+      let long : length news ≡ length slots + 1 = ap length more ∙ length-append slots (blank_slot ∷ []) in
+      rw more record { packed = packed_spared (length E) n slots kept.packed; view = texts_spared E slots c m (omega arith) ∙ view }
+]
 
 -- ---- numbers with and without a text
 

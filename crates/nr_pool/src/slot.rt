@@ -106,12 +106,7 @@ fn exchange<T: Copy>(elements: &mut [T], slots: &mut [Slot], used: u32, index: u
 }
 
 // Moves the text at `index` behind all others: the elements from it on are rotated, and the texts behind it begin earlier.
-fn rotate_last<T: Copy>(
-    elements: &mut [T],
-    slots: &mut [Slot],
-    used: u32,
-    index: usize,
-)
+fn rotate_last<T: Copy>(elements: &mut [T], slots: &mut [Slot], used: u32, index: usize)
     requires packed { IsPacked (length elements.old) slots.old used }
     requires within { index < length slots.old }
     requires held { 0 < (slot_at slots.old index).holders }

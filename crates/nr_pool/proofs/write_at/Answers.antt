@@ -1,4 +1,4 @@
-use Rattle.std.proofs.Common.{◌≡◌, length, arith}
+use Rattle.std.proofs.Common.{arith}
 use Rattle.nr_pool.proofs.Rooms.{is_written}
 use Rattle.nr_pool.proofs.write_at.Goals as goal
 

@@ -1,4 +1,4 @@
-use Rattle.std.proofs.Common.{◌≡◌, ◌<◌, [], ◌∷◌, ◌++◌, length, refl, sym, ap, ◌∙◌, arith}
+use Rattle.std.proofs.Common.{◌<◌, [], ◌∷◌, ◌++◌, length, refl, sym, ap, ◌∙◌, arith}
 use Rattle.std.proofs.lemmas.Bool.{false≢true}
 use Rattle.nr_pool.specs.Texts.{Texts}
 use Rattle.nr_pool.specs.Laws.{open_after_text, within_of_open}
@@ -34,8 +34,11 @@ invariant_of-self g c =
     let room = (let below : c.self.inside.used < length c.bring_last.new.elements.items = omega (arith, c.lengthen.ensures.least) in below) in
     let here = found _ _ _ _ _ _ last.packed last.same c.id.view_is is_open in
     let at = slot_is c.bring_last.new.slots.items c.id.inside.index _ c.index_mut-2.ensures.value here.within in
-    rw at (kept_after _ _ _ _ _ _ _ _ _ _ _ _ _ _ kept (after_more _ _ _ _ _ _ _ _ last.packed (last.spares _ _ kept.spares) last.same c.id.view_is is_open _ _ _ _ (one_more _ _ c.args.element room) last.last (omega arith) refl refl refl refl)
-    (let same = (one_more c.bring_last.new.elements.items c.self.inside.used c.args.element room).same_length in omega (arith, c.lengthen.ensures.held)) (omega (arith, c.bring_last.ensures.slots, kept.slots_within)), (omega (arith, c.lengthen.ensures.room, c.bring_last.ensures.elements_room), omega (arith, c.bring_last.ensures.slots_room, c.self.invariant.1.1)))
+    rw at (
+      kept_after _ _ _ _ _ _ _ _ _ _ _ _ _ _ kept (after_more _ _ _ _ _ _ _ _ last.packed (last.spares _ _ kept.spares) last.same c.id.view_is is_open _ _ _ _ (one_more _ _ c.args.element room) last.last (omega arith) refl refl refl refl)
+          (let same = (one_more c.bring_last.new.elements.items c.self.inside.used c.args.element room).same_length in omega (arith, c.lengthen.ensures.held)) (omega (arith, c.bring_last.ensures.slots, kept.slots_within)),
+      (omega (arith, c.lengthen.ensures.room, c.bring_last.ensures.elements_room), omega (arith, c.bring_last.ensures.slots_room, c.self.invariant.1.1)),
+    )
 
 pub returns-clause-ok : goal.returns-clause-ok
 returns-clause-ok g c =

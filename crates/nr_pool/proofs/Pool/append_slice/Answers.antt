@@ -1,4 +1,4 @@
-use Rattle.std.proofs.Common.{◌≡◌, ◌+◌, ◌≤◌, ◌++◌, length, refl, ap, ◌∙◌, arith}
+use Rattle.std.proofs.Common.{◌+◌, ◌≤◌, ◌++◌, length, refl, arith}
 use Rattle.std.proofs.lemmas.Bool.{false≢true}
 use Rattle.nr_pool.specs.Laws.{open_after_text, within_of_open}
 use Rattle.nr_pool.specs.Places.{texts_of}
@@ -32,8 +32,11 @@ invariant_of-self g c =
     let room = (let below : c.self.inside.used + length c.args.elements.now ≤ length c.bring_last.new.elements.items = omega (arith, c.lengthen.ensures.least) in below) in
     let here = found _ _ _ _ _ _ last.packed last.same c.id.view_is is_open in
     let at = slot_is c.bring_last.new.slots.items c.id.inside.index _ c.index_mut.ensures.value here.within in
-    rw at (kept_after _ _ _ _ _ _ _ _ _ _ _ _ _ _ kept (after_more _ _ _ _ _ _ _ _ last.packed (last.spares _ _ kept.spares) last.same c.id.view_is is_open _ _ _ _ (written_more _ _ _ c.args.elements.now c.write_at.ensures.items room) last.last (omega arith) refl refl refl refl)
-    (omega (arith, c.write_at.ensures.len, c.lengthen.ensures.held)) (omega (arith, c.bring_last.ensures.slots, kept.slots_within)), (omega (arith, c.lengthen.ensures.room, c.bring_last.ensures.elements_room, c.write_at.ensures.room), omega (arith, c.bring_last.ensures.slots_room, c.self.invariant.1.1)))
+    rw at (
+      kept_after _ _ _ _ _ _ _ _ _ _ _ _ _ _ kept (after_more _ _ _ _ _ _ _ _ last.packed (last.spares _ _ kept.spares) last.same c.id.view_is is_open _ _ _ _ (written_more _ _ _ c.args.elements.now c.write_at.ensures.items room) last.last (omega arith) refl refl refl refl)
+          (omega (arith, c.write_at.ensures.len, c.lengthen.ensures.held)) (omega (arith, c.bring_last.ensures.slots, kept.slots_within)),
+      (omega (arith, c.lengthen.ensures.room, c.bring_last.ensures.elements_room, c.write_at.ensures.room), omega (arith, c.bring_last.ensures.slots_room, c.self.invariant.1.1)),
+    )
 
 pub returns-clause-ok : goal.returns-clause-ok
 returns-clause-ok g c =

@@ -1,4 +1,4 @@
-use Rattle.std.proofs.Common.{◌∙◌, refl, arith}
+use Rattle.std.proofs.Common.{refl, arith}
 use Rattle.nr_pool.specs.Texts.{IsOpen}
 use Rattle.nr_pool.specs.Laws.{open_after_removal, within_of_open}
 use Rattle.nr_pool.specs.Places.{texts_of}
@@ -15,8 +15,11 @@ invariant_of-self g c =
     let is_open = open_in c.self.inside.capacity c.self.inside.most _ (texts_of c.self.inside.elements.items c.self.inside.slots.items) c.self.view_is _ one in
     let f = found _ _ _ _ _ _ last.packed last.same c.id.view_is is_open in
     let at = slot_is c.bring_last.new.slots.items c.id.inside.index _ c.index_mut-slot.ensures.value f.within in
-    rw at (kept_after _ _ _ _ _ _ _ _ _ _ _ _ _ _ kept (after_close _ _ _ _ _ _ _ _ last.packed (last.spares _ _ kept.spares) last.same c.id.view_is is_open _ last.last refl refl refl)
-    (omega (arith, c.bring_last.ensures.elements, kept.elements_within)) (omega (arith, c.bring_last.ensures.slots, kept.slots_within)), (omega (arith, c.bring_last.ensures.elements_room, c.self.invariant.1.0), omega (arith, c.bring_last.ensures.slots_room, c.self.invariant.1.1)))
+    rw at (
+      kept_after _ _ _ _ _ _ _ _ _ _ _ _ _ _ kept (after_close _ _ _ _ _ _ _ _ last.packed (last.spares _ _ kept.spares) last.same c.id.view_is is_open _ last.last refl refl refl)
+          (omega (arith, c.bring_last.ensures.elements, kept.elements_within)) (omega (arith, c.bring_last.ensures.slots, kept.slots_within)),
+      (omega (arith, c.bring_last.ensures.elements_room, c.self.invariant.1.0), omega (arith, c.bring_last.ensures.slots_room, c.self.invariant.1.1)),
+    )
 
 pub returns-clause-closed : goal.returns-clause-closed
 returns-clause-closed g c =

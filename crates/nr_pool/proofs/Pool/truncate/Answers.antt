@@ -17,8 +17,11 @@ invariant_of-self g c =
     let within = last.packed.room in
     let len_is = ap (λ (t : Held _). length t.elements) (same_entry c.self.inside.capacity c.self.inside.most _ (texts_of c.self.inside.elements.items c.self.inside.slots.items) c.self.view_is c.args.id) ∙ f.len_is in
     let at = slot_is c.bring_last.new.slots.items c.id.inside.index _ c.index_mut-slot.ensures.value f.within in
-    rw at (kept_after _ _ _ _ _ _ _ _ _ _ _ _ _ _ kept (after_length _ _ _ _ _ _ _ _ last.packed (last.spares _ _ kept.spares) last.same c.id.view_is is_open _ _ at_end (omega arith) (omega arith) refl refl)
-    (omega (arith, c.bring_last.ensures.elements, kept.elements_within)) (omega (arith, c.bring_last.ensures.slots, kept.slots_within)), (omega (arith, c.bring_last.ensures.elements_room, c.self.invariant.1.0), omega (arith, c.bring_last.ensures.slots_room, c.self.invariant.1.1)))
+    rw at (
+      kept_after _ _ _ _ _ _ _ _ _ _ _ _ _ _ kept (after_length _ _ _ _ _ _ _ _ last.packed (last.spares _ _ kept.spares) last.same c.id.view_is is_open _ _ at_end (omega arith) (omega arith) refl refl)
+          (omega (arith, c.bring_last.ensures.elements, kept.elements_within)) (omega (arith, c.bring_last.ensures.slots, kept.slots_within)),
+      (omega (arith, c.bring_last.ensures.elements_room, c.self.invariant.1.0), omega (arith, c.bring_last.ensures.slots_room, c.self.invariant.1.1)),
+    )
 
 pub returns-clause-truncated : goal.returns-clause-truncated
 returns-clause-truncated g c =

@@ -1,4 +1,4 @@
-use Rattle.std.proofs.Common.{◌≡◌, length, drop, subst, sym, arith}
+use Rattle.std.proofs.Common.{length, drop, subst, sym, arith}
 use Rattle.std.proofs.lemmas.List.{take_at}
 use Rattle.nr_pool.specs.Spares.{HasSpares}
 use Rattle.nr_pool.proofs.slot.bring_last.Goals as goal

@@ -1,4 +1,4 @@
-use Rattle.std.proofs.Common.{◌≡◌, ℕ, ◌≤◌, refl, sym, ◌∙◌, arith}
+use Rattle.std.proofs.Common.{refl, sym, ◌∙◌, arith}
 use Rattle.nr_pool.proofs.Places.{emptied}
 use Rattle.nr_pool.proofs.Spares.{spares_set}
 use Rattle.nr_pool.proofs.Rotation.{brought_last, all_shifted, shift_step_moves, shift_step_keeps}
