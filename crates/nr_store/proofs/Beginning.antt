@@ -156,11 +156,11 @@ shows p ns ds ls g rs ts ws limit = record {
   deepest = ls.most;
 }
 
-pub begun : {K : Type 0} (p : Texts Element) (names : Table Sense) (drafts : Items Draft) (levels : Levels K) (gathering : Gathering) (registers : Table Register) (traps : Items Trap) (words : Items HyphenationWord) (limit room most : ℕ)
-    → names.entries ≡ with_senses REQUESTS [] → drafts.items ≡ [] → levels ≡ record { levels = []; arguments = []; room = room; most = most } → gathering.gathered ≡ none_gathered → registers.entries ≡ [] → traps.items ≡ [] → words.items ≡ []
-    → stored_of p names.entries drafts.items levels (beside_of gathering registers traps words) limit ≡ nothing request_names limit most
+pub begun : {K : Type 0} (p : Texts Element) (entries : List (Named Sense)) (drafts : Items Draft) (levels : Levels K) (gathering : Gathering) (registers : Table Register) (traps : Items Trap) (words : Items HyphenationWord) (limit room most : ℕ)
+    → entries ≡ with_senses REQUESTS [] → drafts.items ≡ [] → levels ≡ record { levels = []; arguments = []; room = room; most = most } → gathering.gathered ≡ none_gathered → registers.entries ≡ [] → traps.items ≡ [] → words.items ≡ []
+    → stored_of p entries drafts.items levels (beside_of gathering registers traps words) limit ≡ nothing request_names limit most
 unfolding shows
-begun {K = K} p names drafts levels gathering registers traps words limit room most named no_drafts levels_is no_gathered no_registers no_traps no_words =
+begun {K = K} p entries drafts levels gathering registers traps words limit room most named no_drafts levels_is no_gathered no_registers no_traps no_words =
     let base = with_senses REQUESTS [] in
     let none : Levels K = record { levels = []; arguments = []; room = room; most = most } in
     ap (λ ns. shows p ns drafts.items levels gathering.gathered registers.entries traps.items words.items limit) named
