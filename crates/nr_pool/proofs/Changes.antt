@@ -1,5 +1,6 @@
 -- What each change of a pool keeps true of its slots.
-use Rattle.std.proofs.Common.{◌≡◌, ℕ, ◌+◌, ◌-◌, ◌^◌, ◌<◌, ◌≤◌, List, length, max, set, arith}
+use Rattle.std.proofs.Common.{◌≡◌, ℕ, ◌+◌, ◌-◌, ◌<◌, ◌≤◌, List, length, set, arith}
+use Rattle.std.proofs.lemmas.List.{length-set}
 use Rattle.nr_pool.specs.Texts.{Texts, IsOpen}
 use Rattle.nr_pool.specs.Places.{slot_at, texts_of, IsPacked}
 use Rattle.nr_pool.specs.Spares.{HasSpares}
@@ -57,14 +58,14 @@ after_open capacity slots n count m first new packed spares more start len held 
   spares = spares_open slots count m first new spares more held start;
 }
 
--- what is kept true where the texts are packed again in no more room
-pub kept_after : {T : Type 0} (E F : List T) (slots news : List Slot) (n count first m spares at c most : ℕ) → IsKept E slots n count first c most → IsPool (length F) news m spares at → length F ≤ c → length news ≤ most
-    → IsKept F news m spares at c most
-kept_after E F slots news n count first m spares at c most kept pool elements few = record {
+-- what is kept true where the texts are packed again in no more room, and a slot is written
+pub kept_after : {T : Type 0} (E F : List T) (slots news : List Slot) (i : ℕ) (new : Slot) (n count first m spares at c most : ℕ) → IsKept E slots n count first c most → IsPool (length F) (set news i new) m spares at → length F ≤ c → length news ≤ most
+    → IsKept F (set news i new) m spares at c most
+kept_after E F slots news i new n count first m spares at c most kept pool elements few = record {
   packed = pool.packed;
   spares = pool.spares;
   elements_within = elements;
-  slots_within = few;
+  slots_within = omega (arith, length-set news i new);
   elements_fit = kept.elements_fit;
   slots_fit = kept.slots_fit;
 }

@@ -1,15 +1,15 @@
 -- What holds of the texts in the front of a pool's room holds of the pool.
-use Rattle.std.proofs.Common.{◌≡◌, ℕ, zero, suc, ◌+◌, ◌-◌, ◌<◌, ◌≤◌, ◌⊎◌, List, [], ◌∷◌, ◌++◌, length, map, set, get_or, slice_get, Some, replicate, All, sum_by, ◌^◌, refl, sym, ap, ap₂, ◌∙◌, subst, append_assoc, arith}
-use Rattle.std.proofs.lemmas.List.{length-append, length-map, length-set, length-replicate, map-append, set-append_left, replicate-append-replicate, get_or_append_left, append-nil}
+use Rattle.std.proofs.Common.{◌≡◌, ℕ, zero, suc, ◌+◌, ◌-◌, ◌<◌, ◌≤◌, ◌⊎◌, List, [], ◌∷◌, ◌++◌, length, take, drop, map, set, get_or, slice_get, Some, replicate, All, sum_by, ◌^◌, refl, sym, ap, ◌∙◌, inl, inr, subst, append_assoc, length-drop, arith}
+use Rattle.std.proofs.lemmas.List.{length-append, length-map, length-set, map-append, set-append_left, replicate-append-replicate, get_or_append_left, append-nil, take_at, length-take-le}
 use Rattle.std.proofs.lemmas.List.Sums.{sum_by-append}
 use Rattle.std.proofs.lemmas.List.Folds.{sum_by-replicate}
 use Rattle.std.proofs.lemmas.Option.{slice_get-get_or, get_or_from_slice_get, slice_get_within}
-use Rattle.std.proofs.lemmas.Bool.{cases_lt}
-use Rattle.nr_pool.specs.Texts.{Held, Texts, no_text, entry, text, holders, IsOpen, used, with_entry, opened, with_text, with_holders, without_text}
+use Rattle.nr_pool.specs.Texts.{Held, Texts, no_text, entry, text, holders, IsOpen, used, with_entry, with_text, with_holders}
 use Rattle.nr_pool.specs.Places.{blank_slot, slot_at, held_of, texts_of, IsPacked}
-use Rattle.nr_pool.specs.Rooms.{with_room, texts_within, IsKept}
+use Rattle.nr_pool.specs.Rooms.{with_room, texts_within, written, IsKept}
+use borrow.Rule.Slice.PartMut.{put_mid}
 use Rattle.nr_pool.specs.declared.slot.Slot.{Slot}
-use Rattle.nr_pool.proofs.Places.{same_map, same_part, same_slot, used_is}
+use Rattle.nr_pool.proofs.Places.{same_map, same_part, same_slot, used_is, IsExtended, part_more}
 
 -- what stands behind a list by default changes none of its elements
 get_or_padded : {X : Type 0} (xs : List X) (k i : ℕ) (d : X) → get_or (xs ++ replicate k d) i d ≡ get_or xs i d
@@ -24,14 +24,10 @@ pub entry-with_room : {T : Type 0} (c m : ℕ) (q : Texts T) (id : ℕ) → entr
 entry-with_room c m q id = get_or_padded q.texts (m - length q.texts) id no_text
 
 pub used-with_room : {T : Type 0} (c m : ℕ) (q : Texts T) → used (with_room c m q) ≡ used q
-used-with_room c m q =
-    let len_of : Held _ → ℕ = λ (t : Held _). length t.elements in
-    let none : sum_by len_of (replicate (m - length q.texts) no_text) ≡ 0 = sum_by-replicate len_of (m - length q.texts) no_text ∙ omega arith in
-    omega (arith, sum_by-append len_of q.texts (replicate (m - length q.texts) no_text))
-
--- as many numbers as there is room for
-pub numbers-with_room : {T : Type 0} (c m : ℕ) (q : Texts T) → length q.texts ≤ m → length (with_room c m q).texts ≡ m
-numbers-with_room c m q few = omega (arith, length-append q.texts (replicate (m - length q.texts) no_text), length-replicate (m - length q.texts) (no_text {T = _}))
+used-with_room {T = T} c m q =
+    let behind : List (Held T) = replicate (m - length q.texts) no_text in
+    let none : sum_by (λ (t : Held T). length t.elements) behind ≡ 0 = sum_by-replicate (λ (t : Held T). length t.elements) (m - length q.texts) no_text ∙ omega arith in
+    sum_by-append (λ (t : Held T). length t.elements) q.texts behind ∙ ap (λ n. used q + n) none ∙ omega arith
 
 with_entry-with_room : {T : Type 0} (c m : ℕ) (q : Texts T) (id : ℕ) (t : Held T) → id < length q.texts → with_room c m (with_entry q id t) ≡ with_entry (with_room c m q) id t
 with_entry-with_room c m q id t within =
@@ -130,6 +126,20 @@ packed_spared c n slots packed =
       apart = λ i j. rw (at i, at j) (packed.apart i j);
     }
 
+-- the slots as they are, or with one more
+pub record IsSpared {T : Type 0} (E : List T) (news : List Slot) (n c m : ℕ) (p : Texts T) : Type 0 where
+  pub packed : IsPacked (length E) news n
+  pub view : texts_within c m E news ≡ p
+
+pub spared : {T : Type 0} (E : List T) (slots news : List Slot) (n count first c m : ℕ) (p : Texts T) → IsKept E slots n count first c m → texts_within c m E slots ≡ p → (news ≡ slots) ⊎ (news ≡ slots ++ blank_slot ∷ []) → length news ≤ m
+    → IsSpared E news n c m p
+spared E slots news n count first c m p kept view which few = elim which [
+  | inl same ↦ rw same record { packed = kept.packed; view = view }
+  | inr more ↦
+      let long : length news ≡ length slots + 1 = ap length more ∙ length-append slots (blank_slot ∷ []) in
+      rw more record { packed = packed_spared (length E) n slots kept.packed; view = texts_spared E slots c m (omega arith) ∙ view }
+]
+
 -- ---- numbers with and without a text
 
 -- a number of the front with no text is one of the pool with none
@@ -166,3 +176,16 @@ not_too_many E slots n k count first c m p kept view fits more =
     let within = kept.packed.room in
     let held = kept.elements_within in
     omega arith
+
+-- ---- elements that are written
+
+pub is_written : {X : Type 0} (xs zs ys ws : List X) (a k size : ℕ) → zs ≡ xs → size ≡ length xs → a + k ≤ length xs → ws ≡ ys → k ≡ length ys
+    → take size (put_mid a k zs ws ++ drop (length (put_mid a k zs ws)) xs) ≡ written xs a ys
+is_written {X = X} xs zs ys ws a k size same all within is long = rw (same, is, long)
+    (let whole : length (written xs a ys) ≡ size = length_written xs ys a size all (omega arith) in take_at (written xs a ys) (drop (length (written xs a ys)) xs) size whole)
+  where
+    length_written : (xs ys : List X) (a size : ℕ) → size ≡ length xs → a + length ys ≤ length xs → length (written xs a ys) ≡ size
+    length_written xs ys a size all within = omega (arith, length-append (take a xs) (ys ++ drop (length ys) (drop a xs)), length-append ys (drop (length ys) (drop a xs)), length-take-le a xs (omega arith), length-drop (length ys) (drop a xs), length-drop a xs)
+
+pub written_more : {T : Type 0} (E F : List T) (n : ℕ) (xs : List T) → F ≡ written E n xs → n + length xs ≤ length E → IsExtended E F xs n
+written_more E F n xs is room = subst (λ zs. IsExtended E zs xs n) (sym is) (part_more E n (length xs) xs xs refl refl room)

@@ -1,10 +1,8 @@
 -- Lemmas on the slots with no text.
-use Rattle.std.proofs.Common.{◌≡◌, ◌≢◌, ℕ, zero, suc, ◌+◌, ◌^◌, ◌<◌, ◌⊎◌, max, List, length, map, set, sum, sum_by, replicate, refl, sym, ap, ◌∙◌, inl, inr, arith}
-use Rattle.std.proofs.lemmas.List.{length-map, length-set, length-replicate, get_or-set_same, get_or-map, get_or-replicate, get_or_past, same_lists}
-use Rattle.std.proofs.lemmas.List.Folds.{sum_by-replicate}
-use Rattle.std.proofs.lemmas.List.Sums.{sum-map, sum_by-set, sum_by-le}
+use Rattle.std.proofs.Common.{◌≡◌, ◌≢◌, ℕ, zero, suc, ◌+◌, ◌<◌, ◌⊎◌, List, [], ◌∷◌, ◌++◌, length, map, set, sum, sum_by, refl, sym, ap, ◌∙◌, inl, inr, arith}
+use Rattle.std.proofs.lemmas.List.{length-set, length-append, get_or-set_same}
+use Rattle.std.proofs.lemmas.List.Sums.{sum-map, sum_by-set, sum_by-le, sum_by-append}
 use Rattle.std.proofs.lemmas.Bool.{cases_lt}
-use Rattle.nr_pool.specs.Texts.{Texts, no_text}
 use Rattle.nr_pool.specs.Places.{blank_slot, slot_at}
 use Rattle.nr_pool.specs.Spares.{spare_at, taken, HasSpares}
 use Rattle.nr_pool.specs.declared.slot.Slot.{Slot}

@@ -1,5 +1,5 @@
 -- A pool's texts in the room that there is for them.
-use Rattle.std.specs.Prelude.{ℕ, ◌-◌, ◌^◌, ◌<◌, ◌≤◌, List, ◌++◌, length, replicate}
+use Rattle.std.specs.Prelude.{ℕ, ◌-◌, ◌^◌, ◌<◌, ◌≤◌, List, ◌++◌, length, take, drop, replicate}
 use Rattle.nr_pool.specs.declared.slot.Slot.{Slot}
 use Rattle.nr_pool.specs.Texts.{Texts, no_text}
 use Rattle.nr_pool.specs.Places.{texts_of, IsPacked}
@@ -21,3 +21,7 @@ pub record IsKept {T : Type 0} (elements : List T) (slots : List Slot) (used cou
   pub slots_within : length slots ≤ most
   pub elements_fit : capacity < 2 ^ 32
   pub slots_fit : most < 2 ^ 32
+
+-- elements written over those from a place on
+abbrev pub written : {T : Type 0} → List T → ℕ → List T → List T
+written xs place ys = take place xs ++ (ys ++ drop (length ys) (drop place xs))

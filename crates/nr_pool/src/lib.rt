@@ -4,7 +4,8 @@
 //! It stands on nr_rooms. To read: this file, and then `slot`.
 #![tactic(auto)]
 
-ghost use Rattle.std.specs.Prelude.{◌≡◌, ◌≢◌, ℕ, ◌+◌, ◌^◌, ◌<◌, ◌≤◌, ◌↔◌, [], ◌∷◌, ◌++◌, length, take, replicate, All, IsErr, IfOk, OnOk, OnErr, IsTrue, slice_get, slice_set, Some};
+ghost use Rattle.std.specs.Prelude.{◌≡◌, ◌≢◌, ℕ, ◌+◌, ◌^◌, ◌<◌, ◌≤◌, ◌↔◌, [], ◌∷◌, ◌++◌, length, take, replicate, All, IsErr, IfOk, OnOk, OnErr, IsTrue, slice_get, slice_set, Some, vec_capacity};
+ghost use Rattle.nr_pool.specs.Rooms.{written};
 ghost use Rattle.nr_pool.specs.Texts.{IsOpen, text, holders, used, no_text, opened, with_text, with_holders, without_text, released};
 
 pub use crate::slot::Slot;
@@ -290,8 +291,7 @@ impl<T: Copy> Pool<T> {
         let index = id.index as usize;
         lengthen(&mut self.elements, used + count, self.capacity, elements[0]);
         bring_last(&mut self.elements, &mut self.slots, self.used, index);
-        let places = self.elements.as_mut_slice();
-        places[used..used + count].copy_from_slice(elements);
+        write_at(&mut self.elements, used, elements);
         self.slots[index].len += count as u32;
         self.used += count as u32;
         Ok(())
@@ -350,4 +350,15 @@ impl<T: Copy> Pool<T> {
     {
         self.truncate(id, 0);
     }
+}
+
+/// Writes elements from a place on over those that stand there.
+fn write_at<T: Copy>(elements: &mut Vec<T>, place: usize, more: &[T])
+    requires { place + length more.now ≤ length elements.old.items }
+    ensures items { elements.new.items ≡ written elements.old.items place more.now }
+    ensures len { length elements.new.items ≡ length elements.old.items }
+    ensures room { vec_capacity elements.new ≡ vec_capacity elements.old }
+{
+    let places = elements.as_mut_slice();
+    places[place..place + more.len()].copy_from_slice(more);
 }

@@ -106,12 +106,7 @@ fn exchange<T: Copy>(elements: &mut [T], slots: &mut [Slot], used: u32, index: u
 }
 
 // Moves the text at `index` behind all others: the elements from it on are rotated, and the texts behind it begin earlier.
-fn rotate_last<T: Copy>(
-    elements: &mut [T],
-    slots: &mut [Slot],
-    used: u32,
-    index: usize,
-)
+fn rotate_last<T: Copy>(elements: &mut [T], slots: &mut [Slot], used: u32, index: usize)
     requires packed { IsPacked (length elements.old) slots.old used }
     requires within { index < length slots.old }
     requires held { 0 < (slot_at slots.old index).holders }
@@ -141,12 +136,7 @@ fn rotate_last<T: Copy>(
 
 // Moves the text at `index` behind all others, into the elements that end at `used`. Where the text that lies last is
 // as long, the two change places.
-pub(crate) fn bring_last<T: Copy>(
-    elements: &mut [T],
-    slots: &mut [Slot],
-    used: u32,
-    index: usize,
-)
+fn move_last<T: Copy>(elements: &mut [T], slots: &mut [Slot], used: u32, index: usize)
     requires packed { IsPacked (length elements.old) slots.old used }
     requires within { index < length slots.old }
     requires held { 0 < (slot_at slots.old index).holders }
@@ -163,4 +153,27 @@ pub(crate) fn bring_last<T: Copy>(
         }
     }
     rotate_last(elements, slots, used, index);
+}
+
+// The same in vectors.
+#[inline]
+pub(crate) fn bring_last<T: Copy>(
+    elements: &mut Vec<T>,
+    slots: &mut Vec<Slot>,
+    used: u32,
+    index: usize,
+)
+    requires packed { IsPacked (length elements.old.items) slots.old.items used }
+    requires within { index < length slots.old.items }
+    requires held { 0 < (slot_at slots.old.items index).holders }
+    ensures packed { IsPacked (length elements.new.items) slots.new.items used }
+    ensures last { (slot_at slots.new.items index).start + (slot_at slots.new.items index).len ≡ used }
+    ensures spares { (count first : ℕ) → HasSpares slots.old.items count first → HasSpares slots.new.items count first }
+    ensures same { texts_of elements.new.items slots.new.items ≡ texts_of elements.old.items slots.old.items }
+    ensures elements { length elements.new.items ≡ length elements.old.items }
+    ensures slots { length slots.new.items ≡ length slots.old.items }
+    ensures elements_room { vec_capacity elements.new ≡ vec_capacity elements.old }
+    ensures slots_room { vec_capacity slots.new ≡ vec_capacity slots.old }
+{
+    move_last(elements.as_mut_slice(), slots.as_mut_slice(), used, index);
 }

@@ -1,11 +1,12 @@
 use Rattle.std.proofs.Common.{◌≡◌, refl, sym, ap, ◌∙◌, arith}
 use Rattle.nr_pool.specs.Texts.{Texts}
+use Rattle.nr_pool.specs.Places.{texts_of}
 use Rattle.nr_pool.proofs.Places.{used_is}
 use Rattle.nr_pool.proofs.Rooms.{same_used}
 use Rattle.nr_pool.proofs.Pool.used.Goals as goal
 
 pub returns-clause-value : goal.returns-clause-value
-returns-clause-value g c = sym (same_used _ _ _ _ c.self.view_is ∙ used_is _ _ _ _ c.self.invariant.0.packed refl)
+returns-clause-value g c = sym (same_used c.self.inside.capacity c.self.inside.most _ (texts_of c.self.inside.elements.items c.self.inside.slots.items) c.self.view_is ∙ used_is _ _ _ _ c.self.invariant.0.packed refl)
 
 pub returns-clause-within : goal.returns-clause-within
 returns-clause-within g c =
