@@ -1,5 +1,5 @@
 -- What stands at the front of a vector where something was written behind it.
-use Rattle.std.proofs.Common.{◌≡◌, ℕ, ◌+◌, ◌-◌, ◌<◌, ◌≤◌, List, [], ◌∷◌, ◌++◌, length, take, drop, set, get_or, ap, ◌∙◌, refl, arith, length-append, length-drop}
+use Rattle.std.proofs.Common.{◌≡◌, ℕ, ◌+◌, ◌<◌, ◌≤◌, List, [], ◌∷◌, ◌++◌, length, take, drop, set, get_or, ap, ◌∙◌, arith, length-append, length-drop}
 use Rattle.std.proofs.lemmas.List.{take_at, take-append-le, take_more, set_at, length-take-le}
 use Rattle.nr_units.proofs.Copying.{front_put}
 use Rattle.nr_units.proofs.Edits.{take_set}

@@ -1,7 +1,7 @@
 use Rattle.std.proofs.Common.{◌≡◌, ◌++◌, length, take, replicate, ap, ap₂, ◌∙◌, arith}
-use Rattle.std.proofs.lemmas.List.{length-replicate, take-replicate, take_all}
+use Rattle.std.proofs.lemmas.List.{length-replicate, take-replicate}
 use Rattle.nr_units.specs.Items.{Items}
-use Rattle.nr_rooms.proofs.Written.{take_written, take_lengthened}
+use Rattle.nr_rooms.proofs.Written.{take_written}
 use Rattle.nr_rooms.proofs.fixed_vec.FixedVec.extend_copies.Goals as goal
 
 pub returns-then-len-ge-CHUNK-clause-items : goal.returns-then-len-ge-CHUNK-clause-items

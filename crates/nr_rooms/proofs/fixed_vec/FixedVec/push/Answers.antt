@@ -1,4 +1,4 @@
-use Rattle.std.proofs.Common.{◌≡◌, [], ◌∷◌, ◌++◌, length, ap, ◌∙◌, arith}
+use Rattle.std.proofs.Common.{[], ◌∷◌, ◌++◌, ap, ◌∙◌, arith}
 use Rattle.nr_units.specs.Items.{Items}
 use Rattle.nr_rooms.proofs.Written.{take_lengthened, take_pushed}
 use Rattle.nr_rooms.proofs.fixed_vec.FixedVec.push.Goals as goal
