@@ -1,11 +1,15 @@
 //! Interpolations that are read at once: where all that they bring is only met or added, no level is opened for it.
-ghost use Rattle.std.specs.Prelude.{◌≡◌, ◌+◌, ◌*◌, ◌<◌, ◌≤◌, Option, length, true};
+ghost use Rattle.std.specs.Prelude.{◌≡◌, ◌+◌, ◌*◌, ◌<◌, ◌≤◌, Option, length, true, false};
 ghost use Rattle.nr_units.specs.Supply.{Supply};
 ghost use Rattle.nr_store.specs.Stored.{charge_of, reading_bytes};
 ghost use Rattle.nr_store.specs.Windows.{left_times};
+ghost use Rattle.nr_reading.specs.declared.ask.Sign.TheVariants as signs;
 ghost use Rattle.nr_reading.specs.declared.front.Front.TheVariants as fronts;
+ghost use Rattle.nr_reading.specs.declared.mode.Due.TheVariants as dues;
 ghost use Rattle.nr_reading.specs.Meeting.{meet, silent};
+ghost use Rattle.nr_reading.specs.Modes.{is_direct};
 ghost use Rattle.nr_input.specs.Coming.{Coming, Reached, HoldsComing, has_failed};
+ghost use Rattle.nr_input.specs.Interpolations.{IsSplice};
 ghost use Rattle.nr_input.specs.Moving.{situation};
 ghost use Rattle.nr_input.specs.Runs.{HasRead, PaysAll};
 
@@ -15,7 +19,7 @@ use super::place::Place;
 use super::reader::Reader;
 use super::runs::Row;
 use super::target::Target;
-use nr_reading::{Due, Escape, Event, Half, Mode, Run, Sign};
+use nr_reading::{Due, Event, Half, Mode, Run, Sign};
 use nr_store::Store;
 use nr_units::format_number;
 use nr_units::source::Source;
@@ -35,14 +39,10 @@ pub struct Moved {
     pub event: Event,
 }
 
-/// No move.
-const NONE: Moved = Moved {
-    moves: 0,
-    event: Event::Nothing,
-};
-
-// Whether items are read in copy mode, in the line of a request or of a macro, a condition, or a text that is defined.
-fn copies(mode: Mode) -> bool {
+// Whether items are read in copy mode: in the line of a request or a macro, in a condition, or in a text that is defined.
+fn copies(mode: Mode) -> bool
+    ensures { result ≡ true → is_direct mode ≡ false }
+{
     match mode {
         Mode::RequestBlanks | Mode::RequestLine => true,
         Mode::Condition | Mode::Number(_) | Mode::First(_) | Mode::Second(_) => true,
@@ -52,22 +52,37 @@ fn copies(mode: Mode) -> bool {
     }
 }
 
-// Whether the end of a level does nothing, and is passed over.
-fn passes_end(half: &Half) -> bool {
-    copies(half.reading.mode)
-        && matches!(half.reading.escape, Escape::Plain)
-        && matches!(half.reading.due, Due::Look)
-        && half.asks.is_empty()
+// Whether the end of a level would be taken next, and do nothing.
+fn passes_end(half: &Half) -> bool
+    ensures due { result ≡ true → half.now.reading.due ≡ dues.Look }
+    ensures end { result ≡ true → meet fronts.Mark half.now ≡ silent half.now }
+{
+    matches!(half.reading.due, Due::Look) && copies(half.reading.mode)
 }
 
 impl Reader {
-    // Whether a level of so many bytes may be opened, and as many be stored of it before its end.
-    fn may_splice<K: Copy>(&self, len: usize, store: &Store<'_, K>) -> bool {
+    // Whether a level of so many bytes may be opened, and as many bytes be stored of it before its end.
+    fn may_splice<K: Copy>(&self, len: usize, store: &Store<'_, K>) -> bool
+        ensures few { result ≡ true → len ≤ 64 }
+        ensures burst { result ≡ true → self.now.burst < self.now.most }
+        ensures charge { result ≡ true → charge_of store.now + (32 + 2 * len) ≤ store.now.limit }
+        ensures depth { result ≡ true → length store.now.levels < store.now.deepest }
+    {
         len <= LONGEST && self.burst < self.most && store.admits(32 + 2 * len)
     }
 
-    // The bytes are read, as those of a level that brings them.
-    fn read_bytes<K: Copy>(&mut self, bytes: &[u8], store: &mut Store<'_, K>) -> Run {
+    // Bytes are read as those of a level that brings them: how many, and in how many moves.
+    fn read_bytes<K: Copy>(&mut self, bytes: &[u8], store: &mut Store<'_, K>) -> Run
+        requires room { charge_of store.old + (32 + 2 * length bytes.now) ≤ store.old.limit }
+        ensures read { (c : Coming) (p : Reached) (supply : Option Supply) → HoldsComing c p supply →
+            HasRead result.moves (situation (reading_bytes bytes.now store.old) c self.old) result.event (left_times result.taken (reading_bytes bytes.now store.new)) self.new p supply }
+        ensures pays { (p : Reached) → PaysAll result.moves (reading_bytes bytes.now store.old) p self.old result.event (left_times result.taken (reading_bytes bytes.now store.new)) p self.new }
+        ensures within { result.taken ≤ length bytes.now }
+        ensures few { result.moves ≤ 65536 }
+        ensures levels { store.new.levels ≡ store.old.levels }
+        ensures deepest { store.new.deepest ≡ store.old.deepest }
+        ensures room { charge_of store.new + (32 + length bytes.now) ≤ store.new.limit }
+    {
         let Some(target) = Target::of(&self.half) else {
             return self.half.meet_run(&Row {
                 bytes,
@@ -82,11 +97,20 @@ impl Reader {
         }
     }
 
-    // The bytes are spliced: they are read, and where that is not all that the level does, it is opened behind those that were read.
+    // Bytes are spliced and read; where that is not all that their level brings, it is opened behind those that were read. No move
+    // where a limit is near.
     #[inline(never)]
-    fn splice_read<K: Copy>(&mut self, bytes: &[u8], store: &mut Store<'_, K>) -> Moved {
+    fn splice_read<K: Copy>(&mut self, bytes: &[u8], store: &mut Store<'_, K>) -> Moved
+        requires due { IsSplice bytes.now store.old self.old }
+        ensures read { (c : Coming) (p : Reached) (supply : Option Supply) → HoldsComing c p supply → HasRead result.moves (situation store.old c self.old) result.event store.new self.new p supply }
+        ensures pays { (p : Reached) → PaysAll result.moves store.old p self.old result.event store.new p self.new }
+        ensures few { result.moves ≤ 65538 }
+    {
         if !self.may_splice(bytes.len(), store) {
-            return NONE;
+            return Moved {
+                moves: 0,
+                event: Event::Nothing,
+            };
         }
         self.burst += 1;
         self.half.reading.due = Due::Look;
@@ -109,60 +133,89 @@ impl Reader {
     }
 
     // An argument is spliced.
-    fn read_argument<K: Copy>(&mut self, n: u8, store: &mut Store<'_, K>) -> Moved {
+    fn read_argument<K: Copy>(&mut self, n: u8, store: &mut Store<'_, K>) -> Moved
+        requires due { self.old.half.reading.due ≡ dues.Argument n }
+        ensures read { (c : Coming) (p : Reached) (supply : Option Supply) → HoldsComing c p supply → HasRead result.moves (situation store.old c self.old) result.event store.new self.new p supply }
+        ensures pays { (p : Reached) → PaysAll result.moves store.old p self.old result.event store.new p self.new }
+        ensures few { result.moves ≤ 65538 }
+    {
         let bytes = store.argument(usize::from(n));
         let len = bytes.len();
         if len > LONGEST {
-            return NONE;
+            return Moved {
+                moves: 0,
+                event: Event::Nothing,
+            };
         }
         let mut chunk = [0; LONGEST];
         chunk[..len].copy_from_slice(bytes);
         self.splice_read(&chunk[..len], store)
     }
 
-    // A register is spliced; where it has a sign, its step is made first.
-    fn read_register<K: Copy>(&mut self, sign: Sign, store: &mut Store<'_, K>) -> Moved {
-        let stepped = match sign {
-            Sign::None => 0,
-            Sign::Plus => {
-                store.step_register(self.half.notes.asked, true);
-                1
-            }
-            Sign::Minus => {
-                store.step_register(self.half.notes.asked, false);
-                1
-            }
-        };
-        self.half.reading.due = Due::Register(Sign::None);
+    // A register is spliced.
+    fn read_value<K: Copy>(&mut self, store: &mut Store<'_, K>) -> Moved
+        requires due { self.old.half.reading.due ≡ dues.Register signs.None }
+        ensures read { (c : Coming) (p : Reached) (supply : Option Supply) → HoldsComing c p supply → HasRead result.moves (situation store.old c self.old) result.event store.new self.new p supply }
+        ensures pays { (p : Reached) → PaysAll result.moves store.old p self.old result.event store.new p self.new }
+        ensures few { result.moves ≤ 65538 }
+    {
         let register = store.register(self.half.notes.asked);
         let text = format_number(i64::from(register.value), register.format);
-        let read = self.splice_read(text.as_slice(), store);
+        self.splice_read(text.as_slice(), store)
+    }
+
+    // A register is spliced; where it has a sign, its step is made first.
+    fn read_register<K: Copy>(&mut self, sign: Sign, store: &mut Store<'_, K>) -> Moved
+        requires due { self.old.half.reading.due ≡ dues.Register sign }
+        ensures read { (c : Coming) (p : Reached) (supply : Option Supply) → HoldsComing c p supply → HasRead result.moves (situation store.old c self.old) result.event store.new self.new p supply }
+        ensures pays { (p : Reached) → PaysAll result.moves store.old p self.old result.event store.new p self.new }
+        ensures few { result.moves ≤ 65539 }
+    {
+        if matches!(sign, Sign::None) {
+            return self.read_value(store);
+        }
+        let _ = self.act(store);
+        let read = self.read_value(store);
         Moved {
-            moves: stepped + read.moves,
+            moves: read.moves + 1,
             event: read.event,
         }
     }
 
-    // An argument or a register is spliced where that is due in copy mode.
+    // An argument or a register is spliced, where that is due in copy mode.
     #[inline(always)]
-    fn interpolate_read<K: Copy>(&mut self, store: &mut Store<'_, K>) -> Moved {
-        match self.half.reading.due {
+    fn interpolate_read<K: Copy>(&mut self, store: &mut Store<'_, K>) -> Moved
+        ensures read { (c : Coming) (p : Reached) (supply : Option Supply) → HoldsComing c p supply → HasRead result.moves (situation store.old c self.old) result.event store.new self.new p supply }
+        ensures pays { (p : Reached) → PaysAll result.moves store.old p self.old result.event store.new p self.new }
+        ensures few { result.moves ≤ 65539 }
+    {
+        let due = self.half.reading.due;
+        match due {
             Due::Argument(n) if copies(self.half.reading.mode) => self.read_argument(n, store),
             Due::Register(sign) if copies(self.half.reading.mode) => self.read_register(sign, store),
-            _ => NONE,
+            _ => Moved {
+                moves: 0,
+                event: Event::Nothing,
+            },
         }
     }
 }
 
-/// As `read_next`; and where an argument or a register is to be spliced behind what was read, that is done, and what comes behind it is
-/// read in the same call.
+/// As `read_next`; and where an argument or a register is to be spliced in copy mode behind what was read, that is done, and what comes
+/// behind it is read in the same call.
 #[inline(always)]
 pub fn read_on<K: Copy, R: Source>(
     place: &mut Place,
     reader: &mut Reader,
     store: &mut Store<'_, K>,
     source: &mut R,
-) -> Moved {
+) -> Moved
+    ensures read { (c : Coming) → HoldsComing c place.old (R.supply source.old) → HasRead result.moves (situation store.old c reader.old) result.event store.new reader.new place.new (R.supply source.new) }
+    ensures pays { PaysAll result.moves store.old place.old reader.old result.event store.new place.new reader.new }
+    ensures few { result.moves ≤ 64 * 131075 }
+    ensures failures { R.failures source.new ≡ R.failures source.old }
+    ensures unfailed { has_failed place.old.ahead ≡ false → has_failed place.new.ahead ≡ false }
+{
     let mut moves = 0;
     for _ in 0..MOST {
         let run = read_next(place, reader, store, source);
