@@ -1,7 +1,7 @@
 -- Bytes that are spliced and read with no level opened for them, as moves of the machine that reads: a level that brings them is
 -- opened, they are read, and its end is taken.
-use Rattle.std.specs.Prelude.{map, slice_get}
-use Rattle.std.proofs.Common.{◌≡◌, ℕ, zero, suc, ◌+◌, ◌*◌, ◌<◌, ◌≤◌, Bool, true, false, List, [], ◌∷◌, ◌++◌, length, take, drop, All, Option, None, Ok, inl, inr, sum_by, refl, ap, sym, ◌∙◌, subst, length-append, arith}
+use Rattle.std.specs.Prelude.{map, nat_le, nat_lt}
+use Rattle.std.proofs.Common.{◌≡◌, ℕ, zero, suc, ◌+◌, ◌*◌, ◌<◌, ◌≤◌, Bool, true, false, List, [], ◌∷◌, ◌++◌, length, take, drop, All, Option, None, Ok, inl, inr, sum_by, refl, ap, ap₂, sym, ◌∙◌, subst, length-append, arith, Result, Err, if◌then◌else◌}
 use Rattle.std.proofs.lemmas.Bool.{cases_lt, cases_Bool, le-ltb, lt-leb, eq-eqb}
 use Rattle.std.proofs.lemmas.List.{append-nil, length-map, length-take, take_all, drop_all}
 use Rattle.std.proofs.lemmas.List.Sums.{sum_by-cons}
@@ -13,6 +13,7 @@ use Rattle.nr_store.specs.Windows.{rest_of, left_times, run_left, levels_behind}
 use Rattle.nr_store.specs.Laws.{left_times-run}
 use Rattle.nr_store.specs.declared.element.Element.{Element}
 use Rattle.nr_store.specs.declared.element.Element.TheVariants as elements
+use Rattle.nr_store.specs.declared.refusal.Refusal.TheVariants as stores
 use Rattle.nr_reading.specs.declared.ask.Ask.{Ask}
 use Rattle.nr_reading.specs.declared.event.Event.{Event}
 use Rattle.nr_reading.specs.declared.event.Event.TheVariants as events
@@ -28,11 +29,12 @@ use Rattle.nr_input.specs.declared.reader.Reader.{Reader}
 use Rattle.nr_input.specs.declared.target.Target.{Target}
 use Rattle.nr_input.specs.declared.target.Target.TheVariants.{Argument, Text}
 use Rattle.nr_input.specs.declared.told.Told.TheVariants as tells
-use Rattle.nr_input.specs.Acting.{act, done, expanded, is_look, splicing_bytes}
+use Rattle.nr_input.specs.declared.refusal.Refusal.{Refusal}
+use Rattle.nr_input.specs.Acting.{Acted, expanded, is_look}
 use Rattle.nr_input.specs.Coming.{Coming, Reached, HoldsComing, element_front}
 use Rattle.nr_input.specs.Interpolations.{IsSplice}
 use Rattle.nr_input.specs.Moving.{Situation, Stands, situation, move, Goes}
-use Rattle.nr_input.specs.Refusals.{called, acted, answer, splicing_answer}
+use Rattle.nr_input.specs.Refusals.{called, acted, acted_by, splicing_by, splicing_answer}
 use Rattle.nr_input.specs.Runs.{HasRead, PaysAll, moves, told_last}
 use Rattle.nr_input.specs.Targets.{is_read_for, with_more}
 use Rattle.nr_input.specs.Weights.{items_in, items_left, expansions_worth, diversions_in}
@@ -61,7 +63,7 @@ led_to {K} n s v r p supply read = record {
       | inl below ↦ read.quiet k below
       | inr last ↦ let same : n ≡ k = omega (arith, few, last) in subst (λ j. told_last j s ≡ tells.Event events.Nothing) same read.tells
     ];
-    leads = rw (read.stands.stored, read.stands.reader) refl;
+    leads = ap₂ (λ (x : Stored K) (y : Reader). situation x (moves n s).coming y) (sym read.stands.stored) (sym read.stands.reader);
   };
   holds = read.stands.coming;
 }
@@ -92,17 +94,23 @@ charge-reading {K} bytes v =
     let level : Level K = Read (record { rest = map elements.Byte bytes; old = v.arguments; charge = 32 + length bytes; resume = None }) in
     omega (arith, sum_by-cons level_charge level v.levels, sum_by-cons text_charge own_text v.texts)
 
+-- whether it is, by the tests that it meets
+allowed : (charged deep : Bool) (r : Reader) → charged ≡ false → deep ≡ false → nat_le r.most r.burst ≡ false
+    → splicing_by (if charged then Err stores.Stored else (if deep then Err stores.Depth else Ok true)) r ≡ Ok tt
+allowed charged deep r few shallow less = rw (few, shallow, less) refl
+
 pub splicing-allowed : {K : Type 0} (bytes : List ℕ) (v : Stored K) (r : Reader) → HasRoom bytes v r → splicing_answer true (reading_bytes bytes v) r ≡ Ok tt
 splicing-allowed bytes v r room =
     let w = reading_bytes bytes v in
     let is = charge-reading bytes v in
     let charge = room.charge in
     let depth = room.depth in
-    rw (le-ltb w.limit (charge_of w) (omega (arith, is, charge)), le-ltb w.deepest (length w.levels) (omega (arith, depth)), lt-leb r.most r.burst room.burst) refl
+    allowed (nat_lt w.limit (charge_of w)) (nat_lt w.deepest (length w.levels)) r (le-ltb w.limit (charge_of w) (omega (arith, is, charge))) (le-ltb w.deepest (length w.levels) (omega (arith, depth)))
+    (lt-leb r.most r.burst room.burst)
 
 module _ {K : Type 0} (bytes : List ℕ) (v : Stored K) (r : Reader) (splice : IsSplice bytes v r) (room : HasRoom bytes v r) where
   acts_so : called (reading_bytes bytes v) (expanded r) (Ok events.Nothing) ≡ acted r.half.reading.due v r
-  acts_so = rw (splice.answers, splice.acts, splicing-allowed bytes v r room) refl
+  acts_so = sym (ap₂ (λ (x : Result (Unit {0}) Refusal) (a : Acted K). acted_by x a v r) (splice.answers ∙ splicing-allowed bytes v r room) splice.acts)
 
   pub opened_quietly : (c : Coming) → Quietly 1 (situation v c r) (situation (reading_bytes bytes v) c (expanded r))
   opened_quietly c = done_quietly v (reading_bytes bytes v) c r (expanded r) events.Nothing splice.waits acts_so refl

@@ -22,6 +22,7 @@ mod escape;
 mod event;
 mod front;
 mod half;
+mod interpolations;
 mod kept;
 mod mode;
 mod notes;

@@ -88,6 +88,15 @@ impl Half {
             let Some(byte) = items.byte(taken) else {
                 break;
             };
+            if byte == b'\\' && moves + 6 <= LONGEST {
+                if let Some(escape) = self.meet_interpolation(items, taken) {
+                    return Run {
+                        taken: taken + escape.taken,
+                        moves: moves + escape.moves,
+                        event: escape.event,
+                    };
+                }
+            }
             let seen = self.meet_byte(byte);
             moves += 1;
             taken += usize::from(seen.takes);
