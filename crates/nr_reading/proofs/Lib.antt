@@ -17,4 +17,4 @@ pub mod Moving
 pub mod PlainBytes
 pub mod ControlNames
 pub mod RequestLines
-pub mod Interpolations
+pub mod Interpolated

@@ -1,5 +1,5 @@
 //! Interpolations that stand whole in a row, met at once.
-ghost use Rattle.std.specs.Prelude.{◌≡◌, ◌+◌, ◌<◌, ◌≤◌, ⊥, ℕ, length, slice_get, Some, None, IfSome, true};
+ghost use Rattle.std.specs.Prelude.{◌≡◌, ◌+◌, ◌<◌, ◌≤◌, ℕ, length, slice_get, Some, None, IfSome, true};
 ghost use Rattle.nr_reading.specs.declared.ask.Kind.TheVariants as kinds;
 ghost use Rattle.nr_reading.specs.declared.ask.Sign.TheVariants as signs;
 ghost use Rattle.nr_reading.specs.declared.event.Event.TheVariants as events;
@@ -33,14 +33,15 @@ fn is_lone_name(byte: u8) -> bool
         || byte == b'-')
 }
 
-// The byte at a place of a row, if there is one.
+// The byte so many items behind a place of a row, if there is one.
 #[inline(always)]
-fn byte_at<I: Items>(items: &I, place: usize) -> Option<u8>
-    ensures value { IfSome result (λ byte. slice_get (I.fronts items.now) place ≡ Some (variants.Byte byte)) }
-    ensures within { IfSome result (λ byte. place < length (I.fronts items.now)) }
+fn byte_at<I: Items>(items: &I, place: usize, behind: usize) -> Option<u8>
+    requires { place < length (I.fronts items.now) }
+    ensures value { IfSome result (λ byte. slice_get (I.fronts items.now) (place + behind) ≡ Some (variants.Byte byte)) }
+    ensures within { IfSome result (λ byte. place + behind < length (I.fronts items.now)) }
 {
-    if place < items.count() {
-        return items.byte(place);
+    if behind < items.count() - place {
+        return items.byte(place + behind);
     }
     None
 }
@@ -104,8 +105,7 @@ impl Half {
         ensures due { IfSome result (λ run. run.event ≡ events.Nothing → self.new.reading.due ≡ dues.Look → ⊥) }
         ensures left { result ≡ None → self.new ≡ self.old }
     {
-        let at = place + before;
-        let Some(first) = byte_at(items, at) else {
+        let Some(first) = byte_at(items, place, before) else {
             return None;
         };
         if is_lone_name(first) {
@@ -114,10 +114,10 @@ impl Half {
         if first != b'(' {
             return None;
         }
-        let Some(one) = byte_at(items, at + 1) else {
+        let Some(one) = byte_at(items, place, before + 1) else {
             return None;
         };
-        let Some(two) = byte_at(items, at + 2) else {
+        let Some(two) = byte_at(items, place, before + 2) else {
             return None;
         };
         if !is_plain(one) || !is_plain(two) {
@@ -139,7 +139,7 @@ impl Half {
         ensures due { IfSome result (λ run. run.event ≡ events.Nothing → self.new.reading.due ≡ dues.Look → ⊥) }
         ensures left { result ≡ None → self.new ≡ self.old }
     {
-        let Some(byte) = byte_at(items, place + 2) else {
+        let Some(byte) = byte_at(items, place, 2) else {
             return None;
         };
         if byte < b'1' || byte > b'9' {
@@ -166,7 +166,7 @@ impl Half {
         ensures due { IfSome result (λ run. run.event ≡ events.Nothing → self.new.reading.due ≡ dues.Look → ⊥) }
         ensures left { result ≡ None → self.new ≡ self.old }
     {
-        match byte_at(items, place + 2) {
+        match byte_at(items, place, 2) {
             Some(b'+') => self.meet_named(items, place, 3, Kind::Register(Sign::Plus)),
             Some(b'-') => self.meet_named(items, place, 3, Kind::Register(Sign::Minus)),
             _ => self.meet_named(items, place, 2, Kind::Register(Sign::None)),
@@ -190,7 +190,7 @@ impl Half {
         if !self.interpolates() {
             return None;
         }
-        match byte_at(items, place + 1) {
+        match byte_at(items, place, 1) {
             Some(b'$') => self.meet_number(items, place),
             Some(b'n') => self.meet_register(items, place),
             Some(b'*') => self.meet_named(items, place, 2, Kind::String),

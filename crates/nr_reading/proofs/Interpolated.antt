@@ -42,21 +42,21 @@ Tells b h k e = meet (fronts.Byte b) h ≡ record { half = k; event = e; takes =
 -- ---- bytes of names
 
 -- a byte that begins no escape, and ends no line
-record IsApart (b : ℕ) : Type 0 where
-  escape : (b == 92) ≡ false
-  newline : (b == 10) ≡ false
+pub record IsApart (b : ℕ) : Type 0 where
+  pub escape : (b == 92) ≡ false
+  pub newline : (b == 10) ≡ false
 
 pub apart : (b : ℕ) → is_plain b ≡ true → IsApart b
 apart b is = let two = neither (b == 92) (b == 10) is in record { escape = two.0; newline = two.1 }
 
 -- a byte that is a name of its own
-record IsLone (b : ℕ) : Type 0 where
-  escape : (b == 92) ≡ false
-  newline : (b == 10) ≡ false
-  two : (b == 40) ≡ false
-  bracket : (b == 91) ≡ false
-  plus : (b == 43) ≡ false
-  minus : (b == 45) ≡ false
+pub record IsLone (b : ℕ) : Type 0 where
+  pub escape : (b == 92) ≡ false
+  pub newline : (b == 10) ≡ false
+  pub two : (b == 40) ≡ false
+  pub bracket : (b == 91) ≡ false
+  pub plus : (b == 43) ≡ false
+  pub minus : (b == 45) ≡ false
 
 pub lone : (b : ℕ) → is_lone_name b ≡ true → IsLone b
 lone b is = by (b == 92) (b == 10) (b == 40) (b == 91) (b == 43) (b == 45) refl refl refl refl refl refl is
@@ -265,17 +265,18 @@ module _ (fs : List Front) (place : ℕ) (j : Half) (is : interpolates j ≡ tru
         recount (m + before + 1) (m + (before + 1)) (place + before + 1) (place + (before + 1)) (named k (b ∷ []) there) (named k (b ∷ []) j) (event_of k (b ∷ [])) fs h one (omega arith) (omega arith)
         (ap (named k (b ∷ [])) (sym j_is))
 
-    pub pair_met : (a b : ℕ) → place + before + 2 < length fs → slice_get fs (place + before) ≡ Some (fronts.Byte 40) → slice_get fs (place + before + 1) ≡ Some (fronts.Byte a) → slice_get fs (place + before + 2) ≡ Some (fronts.Byte b) → IsApart a → IsApart b
+    pub pair_met : (a b : ℕ) → place + (before + 2) < length fs → slice_get fs (place + before) ≡ Some (fronts.Byte 40) → slice_get fs (place + (before + 1)) ≡ Some (fronts.Byte a) → slice_get fs (place + (before + 2)) ≡ Some (fronts.Byte b) → IsApart a → IsApart b
         → (h : Half) (m : ℕ) → HasMet (m + before) fs h (quiet (place + before) (begun k j))
         → HasMet (m + (before + 3)) fs h (record { taken = place + (before + 3); half = named k (a ∷ b ∷ []) j; event = event_of k (a ∷ b ∷ []) })
     pair_met a b within first second third apart_a apart_b = λ h m has.
         let x1 = asking_there (at_stage stages.Two (begun_ask k)) in
         let x2 = asking_there (with_byte a (at_stage stages.Two (begun_ask k))) in
-        let at_b : place + before + 2 ≡ place + before + 1 + 1 = omega arith in
+        let at_a : place + before + 1 ≡ place + (before + 1) = omega arith in
+        let at_b : place + before + 1 + 1 ≡ place + (before + 2) = omega arith in
         let one = tells_more (m + before) (place + before) 40 fs h (asking_there (begun_ask k)) x1 events.Nothing (begun_there h m has) (omega (arith, within)) refl first (two_begin c n j.signs j.delimited j.notes k j.reading.mode kind) in
-        let two = tells_more (m + before + 1) (place + before + 1) a fs h x1 x2 events.Nothing one (omega (arith, within)) refl second (first_read c n j.signs j.delimited j.notes k a j.reading.mode kind apart_a) in
+        let two = tells_more (m + before + 1) (place + before + 1) a fs h x1 x2 events.Nothing one (omega (arith, within)) refl (ap (slice_get fs) at_a ∙ second) (first_read c n j.signs j.delimited j.notes k a j.reading.mode kind apart_a) in
         let three = tells_more (m + before + 1 + 1) (place + before + 1 + 1) b fs h x2 (named k (a ∷ b ∷ []) there) (event_of k (a ∷ b ∷ [])) two (omega (arith, within)) refl
-        (ap (slice_get fs) (sym at_b) ∙ third) (second_ends c n j.signs j.delimited j.notes k a b j.reading.mode kind apart_b) in
+        (ap (slice_get fs) at_b ∙ third) (second_ends c n j.signs j.delimited j.notes k a b j.reading.mode kind apart_b) in
         recount (m + before + 1 + 1 + 1) (m + (before + 3)) (place + before + 1 + 1 + 1) (place + (before + 3)) (named k (a ∷ b ∷ []) there) (named k (a ∷ b ∷ []) j) (event_of k (a ∷ b ∷ [])) fs h three (omega arith) (omega arith)
         (ap (named k (a ∷ b ∷ [])) (sym j_is))
 
