@@ -102,6 +102,7 @@ impl Half {
             HasMet (n + run.moves) (I.fronts items.now) h (record { taken = place + run.taken; half = self.new; event = run.event })) }
         ensures few { IfSome result (λ run. run.moves ≤ 6) }
         ensures taken { IfSome result (λ run. run.taken ≡ run.moves) }
+        ensures within { IfSome result (λ run. place + run.taken ≤ length (I.fronts items.now)) }
         ensures due { IfSome result (λ run. run.event ≡ events.Nothing → self.new.reading.due ≡ dues.Look → ⊥) }
         ensures left { result ≡ None → self.new ≡ self.old }
     {
@@ -136,6 +137,7 @@ impl Half {
             HasMet (n + run.moves) (I.fronts items.now) h (record { taken = place + run.taken; half = self.new; event = run.event })) }
         ensures few { IfSome result (λ run. run.moves ≤ 6) }
         ensures taken { IfSome result (λ run. run.taken ≡ run.moves) }
+        ensures within { IfSome result (λ run. place + run.taken ≤ length (I.fronts items.now)) }
         ensures due { IfSome result (λ run. run.event ≡ events.Nothing → self.new.reading.due ≡ dues.Look → ⊥) }
         ensures left { result ≡ None → self.new ≡ self.old }
     {
@@ -163,6 +165,7 @@ impl Half {
             HasMet (n + run.moves) (I.fronts items.now) h (record { taken = place + run.taken; half = self.new; event = run.event })) }
         ensures few { IfSome result (λ run. run.moves ≤ 6) }
         ensures taken { IfSome result (λ run. run.taken ≡ run.moves) }
+        ensures within { IfSome result (λ run. place + run.taken ≤ length (I.fronts items.now)) }
         ensures due { IfSome result (λ run. run.event ≡ events.Nothing → self.new.reading.due ≡ dues.Look → ⊥) }
         ensures left { result ≡ None → self.new ≡ self.old }
     {
@@ -184,6 +187,7 @@ impl Half {
             HasMet (n + run.moves) (I.fronts items.now) h (record { taken = place + run.taken; half = self.new; event = run.event })) }
         ensures few { IfSome result (λ run. run.moves ≤ 6) }
         ensures taken { IfSome result (λ run. run.taken ≡ run.moves) }
+        ensures within { IfSome result (λ run. place + run.taken ≤ length (I.fronts items.now)) }
         ensures due { IfSome result (λ run. run.event ≡ events.Nothing → self.new.reading.due ≡ dues.Look → ⊥) }
         ensures left { result ≡ None → self.new ≡ self.old }
     {

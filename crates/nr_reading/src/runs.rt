@@ -80,7 +80,7 @@ impl Half {
         ensures due { IfSome result (λ run. run.event ≡ events.Nothing → self.new.reading.due ≡ dues.Look → ⊥) }
         ensures left { result ≡ None → self.new ≡ self.old }
     {
-        if byte != b'\\' || moves + 6 > LONGEST {
+        if byte != b'\\' || items.count() - taken < 3 || moves + 6 > LONGEST {
             return None;
         }
         let Some(run) = self.meet_interpolation(items, taken) else {
