@@ -13,7 +13,7 @@ use Rattle.nr_reading.proofs.half.Half.meet_items.Goals.{in-Nothing, in_default-
 pub returns-then-not-matches-2-clause-met : goal.returns-then-not-matches-2-clause-met
 returns-then-not-matches-2-clause-met g c =
     let i = c.loop-taken.invariant in
-    let same = c.meet_whole.ensures.left ? in
+    let same = c.meet_whole.ensures.left c.in_default-meet_whole.is in
     let there = subst (λ (h : Half). HasMet c.loop-taken.moves (g.I.Items.fronts c.args.items.now) c.args.self.now (quiet c.loop-taken.taken h)) (sym same) i.met in
     let due = ap (λ (h : Half). h.reading.due) same ∙ i.due in
     met_counted c.loop-taken.moves c.loop-taken.taken c.from.result c.in-Some.byte (g.I.Items.fronts c.args.items.now) c.args.self.now c.meet_whole.new.self c.meet_byte-seen.new.self c.meet_byte-seen.result
@@ -22,7 +22,7 @@ returns-then-not-matches-2-clause-met g c =
 pub loop-taken-preserved : goal.loop-taken-preserved
 loop-taken-preserved g c =
     let i = c.loop-taken.invariant in
-    let same = c.meet_whole.ensures.left ? in
+    let same = c.meet_whole.ensures.left c.in_default-meet_whole.is in
     let there = subst (λ (h : Half). HasMet c.loop-taken.moves (g.I.Items.fronts c.args.items.now) c.args.self.now (quiet c.loop-taken.taken h)) (sym same) i.met in
     let due = ap (λ (h : Half). h.reading.due) same ∙ i.due in
     let is_silent : c.meet_byte-seen.result.event ≡ events.Nothing = elim c.match-matches-2.branch [ in-Nothing w ↦ w.in-Nothing.is | in_default-matches w ↦ absurd (false≢true (sym w.matches-is ∙ c.if-not-matches-2.false)) ] in
