@@ -1,11 +1,10 @@
 -- Interpolations that stand whole in a row, met at once.
-use Rattle.std.specs.Prelude.{slice_get, ◌==◌, ◌&&◌, ◌||◌, not, nat_le}
-use Rattle.std.proofs.Common.{◌≡◌, ℕ, ◌+◌, ◌-◌, ◌<◌, ◌≤◌, Bool, true, false, if◌then◌else◌, List, [], ◌∷◌, length, Some, inl, inr, refl, sym, subst, ap, ap₂, ◌∙◌, arith}
+use Rattle.std.specs.Prelude.{slice_get, ◌==◌, ◌||◌, not}
+use Rattle.std.proofs.Common.{◌≡◌, ℕ, ◌+◌, ◌-◌, ◌<◌, ◌≤◌, Bool, true, false, if◌then◌else◌, List, [], ◌∷◌, length, Some, inl, inr, refl, sym, subst, ap, ◌∙◌, arith}
 use Rattle.std.proofs.lemmas.Bool.{cases_Bool, and_parts, not-true, le-leb, ne_eqb}
 use Rattle.nr_reading.specs.declared.ask.Ask.{Ask}
 use Rattle.nr_reading.specs.declared.ask.Kind.{Kind}
 use Rattle.nr_reading.specs.declared.ask.Kind.TheVariants as kinds
-use Rattle.nr_reading.specs.declared.ask.Sign.{Sign}
 use Rattle.nr_reading.specs.declared.ask.Sign.TheVariants as signs
 use Rattle.nr_reading.specs.declared.ask.Stage.TheVariants as stages
 use Rattle.nr_reading.specs.declared.event.Event.{Event}
@@ -28,7 +27,6 @@ use Rattle.nr_reading.specs.Meeting.{meet, reads_plainly, reads_plainly_at}
 use Rattle.nr_reading.specs.Modes.{is_direct, reads_name}
 use Rattle.nr_reading.specs.Passing.{is_plain, quiet}
 use Rattle.nr_reading.specs.Runs.{HasMet}
-use Rattle.nr_reading.specs.Spelling.{nothing_spelled, spelled}
 use Rattle.nr_reading.proofs.Asked.{half_at}
 use Rattle.nr_reading.proofs.Moving.{met_counted}
 use Rattle.nr_reading.proofs.Paying.{pays_for}
