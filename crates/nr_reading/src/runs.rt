@@ -42,6 +42,12 @@ pub struct Run {
     pub event: Event,
 }
 
+// Whether such a byte behind a `\` interpolates an argument, a register or a string.
+#[inline(always)]
+fn interpolates(byte: Option<u8>) -> bool {
+    matches!(byte, Some(b'$' | b'n' | b'*'))
+}
+
 impl Half {
     /// Bytes are met, up to the first item that is none, the first that tells something, or behind which something is due;
     /// in 65,536 moves at most.
@@ -81,6 +87,9 @@ impl Half {
         ensures left { result ≡ None → self.new ≡ self.old }
     {
         if byte != b'\\' || items.count() - taken < 3 || moves + 6 > LONGEST {
+            return None;
+        }
+        if !interpolates(items.byte(taken + 1)) {
             return None;
         }
         let Some(run) = self.meet_interpolation(items, taken) else {
