@@ -11,13 +11,12 @@ ghost use Rattle.nr_reading.specs.Interpolations.{interpolates, is_lone_name, is
 ghost use Rattle.nr_reading.specs.Passing.{quiet};
 ghost use Rattle.nr_reading.specs.Runs.{HasMet};
 
-use super::ask::{Ask, Kind, Sign, Stage};
+use super::ask::{Kind, Sign, is_given};
 use super::event::Event;
 use super::half::Half;
 use super::mode::{Due, Mode};
 use super::passing::is_plain;
 use super::runs::{Items, Run};
-use super::spelled::Spelled;
 use nr_units::Name;
 
 // The byte is a name of its own, where it comes first.
@@ -60,26 +59,38 @@ impl Half {
         self.reads_plainly() && begins
     }
 
+    // What is due behind the name of a string or a register. Answers what is told.
+    #[inline(always)]
+    fn end_name(&mut self, kind: Kind, name: Name) -> Event
+        requires kind { is_named kind ≡ true }
+        ensures half { self.new ≡ named kind name self.old }
+        ensures event { result ≡ event_of kind name }
+    {
+        self.notes.asked = name;
+        let Kind::Register(sign) = kind else {
+            self.reading.due = Due::Splice;
+            return Event::Nothing;
+        };
+        if is_given(name.as_bytes()) {
+            self.reading.due = Due::Look;
+            return Event::Given;
+        }
+        self.reading.due = Due::Register(sign);
+        Event::Nothing
+    }
+
     // The name was read, in so many items of the interpolation.
     #[inline(always)]
     fn end_named(&mut self, kind: Kind, name: Name, count: usize) -> Run
+        requires kind { is_named kind ≡ true }
         ensures half { self.new ≡ named kind name self.old }
         ensures run { result ≡ record { taken = count; moves = count; event = event_of kind name } }
     {
-        let ask = Ask {
-            kind,
-            stage: Stage::First,
-            name: Spelled {
-                bytes: name,
-                bad: false,
-            },
-        };
-        self.reading.due = ask.due();
-        self.notes.asked = name;
+        let event = self.end_name(kind, name);
         Run {
             taken: count,
             moves: count,
-            event: ask.event(),
+            event,
         }
     }
 
