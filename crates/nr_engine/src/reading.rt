@@ -49,7 +49,7 @@ impl<'a> Engine<'a> {
             return 0;
         }
         let formatter = &mut self.formatter;
-        let run = nr_input::read_next(
+        let run = nr_input::read_on(
             &mut self.place,
             &mut formatter.reader,
             &mut formatter.store,

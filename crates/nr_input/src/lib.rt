@@ -3,13 +3,14 @@
 //!
 //! It stands on nr_units, nr_pool, nr_levels, nr_tables, nr_store and nr_reading. To read: `refusal`, `told`;
 //! `place`, `reader`; `acting`, `moving`; `splicing`, `setting`; then many moves at once: `at_hand`, `target`,
-//! `adding`, `runs`, `control_lines`.
+//! `adding`, `runs`, `control_lines`, `interpolations`.
 #![tactic(auto)]
 
 mod acting;
 mod adding;
 mod at_hand;
 mod control_lines;
+mod interpolations;
 mod moving;
 mod place;
 mod reader;
@@ -22,6 +23,7 @@ mod told;
 
 pub use at_hand::{take_window, window};
 pub use control_lines::{read_control_line, read_next};
+pub use interpolations::{Moved, read_on};
 pub use moving::advance;
 pub use nr_reading::{Event, Question, Standing};
 pub use place::{Ahead, Place};
