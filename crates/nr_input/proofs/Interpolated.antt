@@ -1,7 +1,7 @@
 -- Bytes that are spliced and read with no level opened for them, as moves of the machine that reads: a level that brings them is
 -- opened, they are read, and its end is taken.
 use Rattle.std.specs.Prelude.{map, nat_le, nat_lt}
-use Rattle.std.proofs.Common.{◌≡◌, ℕ, zero, suc, ◌+◌, ◌*◌, ◌<◌, ◌≤◌, Bool, true, false, List, [], ◌∷◌, ◌++◌, length, take, drop, All, Option, None, Ok, inl, inr, sum_by, refl, ap, ap₂, sym, ◌∙◌, subst, length-append, arith, Result, Err, if◌then◌else◌}
+use Rattle.std.proofs.Common.{◌≡◌, ◌==◌, ℕ, zero, suc, ◌+◌, ◌*◌, ◌<◌, ◌≤◌, Bool, true, false, List, [], ◌∷◌, ◌++◌, length, take, drop, All, Option, None, Ok, inl, inr, sum_by, refl, ap, ap₂, sym, ◌∙◌, subst, length-append, arith, Result, Err, if◌then◌else◌}
 use Rattle.std.proofs.lemmas.Bool.{cases_lt, cases_Bool, le-ltb, lt-leb, eq-eqb}
 use Rattle.std.proofs.lemmas.List.{append-nil, length-map, length-take, take_all, drop_all}
 use Rattle.std.proofs.lemmas.List.Sums.{sum_by-cons}
@@ -33,7 +33,7 @@ use Rattle.nr_input.specs.declared.refusal.Refusal.{Refusal}
 use Rattle.nr_input.specs.Acting.{Acted, expanded, is_look}
 use Rattle.nr_input.specs.Coming.{Coming, Reached, HoldsComing, element_front}
 use Rattle.nr_input.specs.Interpolations.{IsSplice}
-use Rattle.nr_input.specs.Moving.{Situation, Stands, situation, move, Goes}
+use Rattle.nr_input.specs.Moving.{Situation, Stands, situation, met_at, move, Goes}
 use Rattle.nr_input.specs.Refusals.{called, acted, acted_by, splicing_by, splicing_answer}
 use Rattle.nr_input.specs.Runs.{HasRead, PaysAll, moves, told_last}
 use Rattle.nr_input.specs.Targets.{is_read_for, with_more}
@@ -145,7 +145,11 @@ module _ {K : Type 0} (n : ℕ) (bytes : List ℕ) (v : Stored K) (r : Reader) (
   emptied = record (reading_bytes bytes v) { levels = Read (record { rest = []; old = v.arguments; charge = 32 + length bytes; resume = None }) ∷ v.levels }
 
   end_taken : (c : Coming) → move (situation emptied c r) ≡ quiet (situation v c r)
-  end_taken c = rw (due, passes, eq-eqb c.taken c.taken refl) refl
+  end_taken c =
+      let s = situation emptied c r in
+      let looks : move s ≡ met_at (meet fronts.Mark r.half) s = rw due refl in
+      let taken : met_at (silent r.half) s ≡ quiet (situation v c r) = rw (eq-eqb c.taken c.taken refl) refl in
+      looks ∙ ap (λ (m : Met). met_at m s) passes ∙ taken
 
   end_goes : (c : Coming) → Goes (situation emptied c r)
   end_goes c = rw due tt
