@@ -1,5 +1,6 @@
 // The words of the command line, and what they ask for.
-ghost use Rattle.std.specs.Prelude.{◌<◌, ◌≤◌, IfErr, IfOk, length};
+ghost use Rattle.std.specs.Prelude.{◌≡◌, ℕ, ◌<◌, ◌≤◌, ◌↔◌, IfErr, IfOk, IsTrue, Result, length};
+ghost use Rattle.preconv.specs.Words.{IsAnswer, IsKnown, is_option, options, texts};
 
 /// What the words ask for.
 #[derive(Clone, Copy)]
@@ -11,32 +12,51 @@ pub struct Job {
 }
 
 /// Whether a word is an option: it begins with `-` and isn't `-` alone.
-fn is_option(word: &str) -> bool {
+fn is_option(word: &str) -> bool
+    ensures { result ≡ is_option word.now }
+{
     let bytes = word.as_bytes();
     bytes.len() > 1 && bytes[0] == b'-'
+}
+
+/// Whether an option is the program's, `-8`.
+fn is_known(option: &str) -> bool
+    ensures { IsTrue result ↔ IsKnown option.now }
+{
+    option.as_bytes() == b"-8".as_slice()
+}
+
+/// How many words stand before the files.
+fn options_len(words: &[&str]) -> usize
+    ensures value { result ≡ length (options (texts words.now)) }
+    ensures within { result ≤ length words.now }
+{
+    for (at, word) in words.iter().enumerate() {
+        if !is_option(word) {
+            return at;
+        }
+    }
+    words.len()
 }
 
 /// Reads the words: options up to the first file. The first that is no option of the program is
 /// told by its place.
 pub fn read_words(words: &[&str]) -> Result<Job, usize>
+    ensures answer { IsAnswer (texts words.now) result }
+
+    // There is no other answer.
+    ensures only { (answer : Result Job ℕ) → IsAnswer (texts words.now) answer → answer ≡ result }
     ensures files { IfOk result (λ job. job.files ≤ length words.now) }
     ensures bad { IfErr result (λ place. place < length words.now) }
 {
-    let mut eight_bit = false;
-    for (place, word) in words.iter().enumerate() {
-        if !is_option(word) {
-            return Ok(Job {
-                eight_bit,
-                files: place,
-            });
-        }
-        if word.as_bytes() != b"-8".as_slice() {
+    let options = &words[..options_len(words)];
+    for (place, word) in options.iter().enumerate() {
+        if !is_known(word) {
             return Err(place);
         }
-        eight_bit = true;
     }
     Ok(Job {
-        eight_bit,
-        files: words.len(),
+        eight_bit: !options.is_empty(),
+        files: options.len(),
     })
 }

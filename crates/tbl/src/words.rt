@@ -1,5 +1,8 @@
 // The words of the command line, and what they ask for.
-ghost use Rattle.std.specs.Prelude.{◌≡◌, ◌<◌, ◌≤◌, IfErr, IfOk, IfSome, length};
+ghost use Rattle.std.specs.Prelude.{◌≡◌, ◌≢◌, ℕ, ◌<◌, ◌≤◌, List, ◌++◌, IfErr, IfNone, IfOk, IfSome, Result, length};
+ghost use Rattle.std.specs.Option.{SomeIff};
+ghost use Rattle.std.specs.Str.Parse.{IsNumeral, digits_value};
+ghost use Rattle.tbl.specs.Words.{IsAnswer, Reads, front_of, is_option, least_of, options, texts, with_setting};
 
 /// The greatest limit that a word may set.
 const MOST: u64 = 1_048_576;
@@ -64,15 +67,57 @@ struct Setting {
     limit: usize,
 }
 
+impl Which {
+    /// The least number that may be set.
+    fn least(self) -> u64
+        ensures { result ≡ least_of self }
+    {
+        match self {
+            Which::Formats | Which::Line => 1,
+            Which::Row => LEAST_ROW,
+        }
+    }
+}
+
 /// Whether a word is an option: it begins with `-` and isn't `-` alone.
-fn is_option(word: &str) -> bool {
+fn is_option(word: &str) -> bool
+    ensures { result ≡ is_option word.now }
+{
     let bytes = word.as_bytes();
     bytes.len() > 1 && bytes[0] == b'-'
 }
 
+/// How many words stand before the files.
+fn options_len(words: &[&str]) -> usize
+    ensures value { result ≡ length (options (texts words.now)) }
+    ensures within { result ≤ length words.now }
+{
+    for (at, word) in words.iter().enumerate() {
+        if !is_option(word) {
+            return at;
+        }
+    }
+    words.len()
+}
+
+/// What an option sets, and what stands behind its front: `-LtN`, `-LrN` or `-lN`.
+fn split_option(word: &str) -> Option<(Which, &str)>
+    ensures found { IfSome result (λ parts. word.now ≡ front_of parts.0 ++ parts.1.now) }
+    ensures none { IfNone result ((which : Which) (rest : List ℕ) → word.now ≢ front_of which ++ rest) }
+{
+    if let Some(digits) = word.strip_prefix("-Lt") {
+        Some((Which::Formats, digits))
+    } else if let Some(digits) = word.strip_prefix("-Lr") {
+        Some((Which::Row, digits))
+    } else {
+        let digits = word.strip_prefix("-l")?;
+        Some((Which::Line, digits))
+    }
+}
+
 /// The number that decimal digits write, if it lies between the two. A sign isn't allowed.
 fn read_limit(digits: &str, least: u64) -> Option<usize>
-    ensures range { IfSome result (λ limit. (least ≤ limit) × (limit ≤ 1048576)) }
+    ensures { SomeIff result (IsNumeral 10 digits.now × (least ≤ digits_value 10 digits.now) × (digits_value 10 digits.now ≤ 1048576)) (digits_value 10 digits.now) }
 {
     if digits.starts_with('+') {
         return None;
@@ -85,32 +130,26 @@ fn read_limit(digits: &str, least: u64) -> Option<usize>
     }
 }
 
-/// Reads an option: `-LtN`, `-LrN` or `-lN`.
+/// Reads an option.
 fn read_option(word: &str) -> Result<Setting, Wrong>
-    ensures range { IfOk result (λ setting. setting.limit ≤ 1048576) }
+    ensures { Reads word.now result }
 {
-    let (which, digits, least) = if let Some(digits) = word.strip_prefix("-Lt") {
-        (Which::Formats, digits, 1)
-    } else if let Some(digits) = word.strip_prefix("-Lr") {
-        (Which::Row, digits, LEAST_ROW)
-    } else if let Some(digits) = word.strip_prefix("-l") {
-        (Which::Line, digits, 1)
-    } else if word.starts_with("-L") {
-        return Err(Wrong::BadValue);
-    } else {
+    let Some((which, digits)) = split_option(word) else {
+        if word.starts_with("-L") {
+            return Err(Wrong::BadValue);
+        }
         return Err(Wrong::Unknown);
     };
-    let limit = read_limit(digits, least).ok_or(Wrong::BadValue)?;
-    Ok(Setting { which, limit })
+    match read_limit(digits, which.least()) {
+        Some(limit) => Ok(Setting { which, limit }),
+        None => Err(Wrong::BadValue),
+    }
 }
 
 impl Job {
-    /// With a limit set.
+    /// With a number set.
     fn with(self, setting: Setting) -> Job
-        requires { setting.limit ≤ 1048576 }
-        ensures formats { self.formats ≤ 1048576 → result.formats ≤ 1048576 }
-        ensures row { self.row ≤ 1048576 → result.row ≤ 1048576 }
-        ensures files { result.files ≡ self.files }
+        ensures { result ≡ with_setting setting self }
     {
         match setting.which {
             Which::Formats => Job {
@@ -132,21 +171,22 @@ impl Job {
 /// Reads the words: options up to the first file, the last of each counts. The first that can't be taken is
 /// told by its place.
 pub fn read_words(words: &[&str]) -> Result<Job, BadWord>
+    ensures answer { IsAnswer (texts words.now) result }
+
+    // There is no other answer.
+    ensures only { (answer : Result Job BadWord) → IsAnswer (texts words.now) answer → answer ≡ result }
     ensures files { IfOk result (λ job. job.files ≤ length words.now) }
     ensures limits { IfOk result (λ job. (job.formats ≤ 1048576) × (job.row ≤ 1048576)) }
     ensures bad { IfErr result (λ bad. bad.place < length words.now) }
 {
+    let options = &words[..options_len(words)];
     let mut job = Job {
         formats: USUAL_FORMATS,
         row: USUAL_ROW,
         line: USUAL_LINE,
-        files: words.len(),
+        files: options.len(),
     };
-    for (place, word) in words.iter().enumerate() {
-        if !is_option(word) {
-            job.files = place;
-            return Ok(job);
-        }
+    for (place, word) in options.iter().enumerate() {
         match read_option(word) {
             Ok(setting) => job = job.with(setting),
             Err(wrong) => return Err(BadWord { place, wrong }),

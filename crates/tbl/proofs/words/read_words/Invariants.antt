@@ -1,5 +1,8 @@
-use Rattle.std.proofs.Common.{◌≤◌, length}
+-- The options before `place` were read.
+use Rattle.std.proofs.Common.{length, take}
+use Rattle.tbl.specs.Words.{texts}
+use Rattle.tbl.proofs.Answering.{Taken}
 use Rattle.tbl.proofs.words.read_words.Given as goal
 
 abbrev pub invariant-loop-place : goal.invariant-loop-place
-invariant-loop-place l = (l.job.files ≤ length l.words) × (l.job.formats ≤ 1048576) × (l.job.row ≤ 1048576)
+invariant-loop-place l = Taken (texts (take l.place l.options)) (length l.options) l.job
