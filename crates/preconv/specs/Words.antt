@@ -1,5 +1,5 @@
 -- What the words of the command line come to.
-use Rattle.std.specs.Prelude.{◌≡◌, ◌≢◌, ℕ, List, [], ◌∷◌, length, take, map, Bool, false, ◌==◌, nat_lt, Some, Result, Ok, Err, codes, slice_get}
+use Rattle.std.specs.Prelude.{◌≡◌, ℕ, List, [], ◌∷◌, length, take, map, Bool, false, ◌==◌, nat_lt, Some, Result, Ok, Err, codes, slice_get}
 use Rattle.std.specs.Borrow.{Bor}
 use Rattle.std.specs.List.{take_while, All}
 use Rattle.preconv.specs.declared.words.Job.{Job}
