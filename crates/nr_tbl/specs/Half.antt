@@ -1,6 +1,7 @@
 -- What is half read, and what is done.
 use Rattle.std.specs.Prelude.{ℕ, Bool, true, false, Option, None, Some}
 use Rattle.nr_tbl.specs.declared.complaint.Kind.{Kind}
+use Rattle.nr_tbl.specs.declared.complaint.Kind.TheVariants.{TooWide}
 use Rattle.nr_tbl.specs.declared.half.Half.{Half}
 use Rattle.nr_tbl.specs.declared.half.Seen.{Seen}
 use Rattle.nr_tbl.specs.declared.half.Act.{Act}
@@ -10,7 +11,7 @@ use Rattle.nr_tbl.specs.declared.held.Held.{Held}
 use Rattle.nr_tbl.specs.declared.held.Held.TheVariants as helds
 use Rattle.nr_tbl.specs.declared.field.Shape.TheVariants.{Empty}
 use Rattle.nr_tbl.specs.Numbers.{first_marks}
-use Rattle.nr_tbl.specs.Measure.{begun}
+use Rattle.nr_tbl.specs.Measure.{begun, told}
 use Rattle.nr_tbl.specs.Options.{no_options}
 use Rattle.nr_tbl.specs.Formats.{first_formats}
 
@@ -41,6 +42,10 @@ first_kind (Some first) kind = Some first
 
 abbrev pub complaining : Kind → Half → Half
 complaining kind h = record h { complaint = first_kind h.complaint kind }
+
+-- the table is wider than the line
+abbrev pub too_wide : Half → Half
+too_wide h = complaining TooWide (record h { measure = told h.measure })
 
 -- a page begins, and the line has so many cells
 abbrev pub first_half : ℕ → Half

@@ -13,7 +13,9 @@ use Rattle.nr_tbl.specs.declared.said.Said.TheVariants as says
 use Rattle.nr_tbl.specs.declared.options.Options.{Options}
 use Rattle.nr_tbl.specs.declared.formats.Formats.{Formats}
 use Rattle.nr_tbl.specs.Held.{ends_name, held_with}
-use Rattle.nr_tbl.specs.Half.{Met, at, taking, leaving, complaining}
+use Rattle.nr_tbl.specs.declared.widths.Line.{Line}
+use Rattle.nr_tbl.specs.Half.{Met, at, taking, leaving, complaining, too_wide}
+use Rattle.nr_tbl.specs.Measure.{is_wider}
 use Rattle.nr_tbl.specs.Outside.{formats_begun}
 
 -- the table isn't set
@@ -61,13 +63,17 @@ with_options o h =
 abbrev pub failed : Kind → Half → Half
 failed kind h = complaining kind (at modes.Failed h)
 
--- a table without columns, or with too many, isn't set; where new formats have no line, that is told
-abbrev pub with_formats : Formats → Half → Half
-with_formats f h =
+-- a table is wider than the line by the widths of a line of its formats
+abbrev pub line_measured : Line → Half → Half
+line_measured line h = if is_wider h.measure.sure h.options.frame line h.measure then too_wide h else h
+
+-- A table without columns, or with too many, isn't set; where new formats have no line, that is told, or else that it is too wide.
+abbrev pub with_formats : Formats → Line → Half → Half
+with_formats f line h =
     let read = record h { formats = f } in
     if f.columns == 0 then failed NoFormat read else
     if f.many then failed TooManyColumns read else
-    if f.bad || (f.lines == h.formats.lines) then complaining BadFormat read else read
+    if f.bad || (f.lines == h.formats.lines) then complaining BadFormat read else line_measured line read
 
 abbrev pub in_begun : Half → Met
 in_begun h = taking (modes.RowStart helds.Nothing) Forget h

@@ -16,3 +16,4 @@ pub mod Rows
 pub mod Running
 pub mod Saying
 pub mod Untouched
+pub mod Widths

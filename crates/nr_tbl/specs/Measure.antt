@@ -1,10 +1,16 @@
--- What a table surely takes of the line, in cells: the printing bytes of the fields of a row, and the spaces between them.
-use Rattle.std.specs.Prelude.{ℕ, ◌+◌, ◌-◌, List, [], ◌∷◌, Bool, false, ◌==◌, ◌&&◌, ◌||◌, nat_le, nat_lt, if◌then◌else◌, Option, None, Some}
+-- What a table surely takes of the line, in cells: the printing bytes of the fields of a row, or the widths that its formats say,
+-- and the spaces between them.
+use Rattle.std.specs.Prelude.{ℕ, ◌+◌, ◌-◌, List, [], ◌∷◌, Bool, false, ◌==◌, ◌&&◌, ◌||◌, nat_le, nat_lt, if◌then◌else◌}
 use Rattle.nr_tbl.specs.declared.measure.Place.{Place}
 use Rattle.nr_tbl.specs.declared.measure.Place.TheVariants.{Text, Escape, Font, First, Second, Unsure}
 use Rattle.nr_tbl.specs.declared.measure.Cells.{Cells}
 use Rattle.nr_tbl.specs.declared.measure.Measure.{Measure}
-use Rattle.nr_tbl.specs.Numbers.{is_digit}
+use Rattle.nr_tbl.specs.declared.measure.Sure.{Sure}
+use Rattle.nr_tbl.specs.declared.measure.Sure.TheVariants as sures
+use Rattle.nr_tbl.specs.declared.options.Frame.{Frame}
+use Rattle.nr_tbl.specs.declared.options.Frame.TheVariants.{Open}
+use Rattle.nr_tbl.specs.declared.widths.Line.{Line}
+use Rattle.nr_tbl.specs.declared.widths.Widths.{Widths}
 
 -- ---- a field
 
@@ -59,51 +65,51 @@ sure place count = 0
 abbrev pub cells_of : List ℕ → ℕ
 cells_of text = let c = all_cells text first_cells in sure c.place c.count
 
--- ---- formats
-
--- s x z ^ _ - = and S X Z: such a column may have less room than its field's text, or none
-abbrev pub is_hiding : ℕ → Bool
-is_hiding b =
-    (b == 115) || (b == 120) || (b == 122) || (b == 83) || (b == 88) || (b == 90) || (b == 94) || (b == 95) || (b == 45) || (b == 61)
-
--- the space that surely stands between two fields: none where a number may change it, and nothing is sure with such a column
-abbrev pub gap_with : ℕ → Option ℕ → Option ℕ
-gap_with b None = None
-gap_with b (Some gap) = if is_hiding b then None else if is_digit b then Some 0 else Some gap
-
-abbrev pub all_gaps : List ℕ → Option ℕ → Option ℕ
-all_gaps [] gap = gap
-all_gaps (b ∷ bs) gap = all_gaps bs (gap_with b gap)
-
--- a table that is made as wide as the line may lose its spaces
-abbrev pub expanded : Bool → Option ℕ → Option ℕ
-expanded expand None = None
-expanded expand (Some gap) = if expand then Some 0 else Some gap
-
 -- ---- a table
 
 -- it begins
 abbrev pub begun : ℕ → Measure
-begun line = record { line = line; gap = Some 3; left = line }
+begun line = record { line = line; gap = 3; sure = sures.Text; left = line }
 
--- its formats were read
-abbrev pub with_formats : Bool → List ℕ → Measure → Measure
-with_formats expand text m = record m { gap = all_gaps text (expanded expand m.gap) }
+-- with a letter that hides, only widths are sure
+abbrev pub hidden : Sure → Sure
+hidden sures.Text = sures.Widths
+hidden sure = sure
+
+-- Its formats were read. The space between columns isn't sure where a number gives one, or the table is made as wide as the line.
+abbrev pub with_formats : Bool → Widths → Measure → Measure
+with_formats expand w m = record m { gap = if expand || w.numbered then 0 else m.gap; sure = if w.hides then hidden m.sure else m.sure }
 
 -- a row begins
 abbrev pub with_row : Measure → Measure
 with_row m = record m { left = m.line }
 
 -- a field of so many cells has not so many left of the line
-abbrev pub overruns : Option ℕ → ℕ → ℕ → Bool
-overruns None cells left = false
-overruns (Some gap) cells left = nat_lt left cells
+abbrev pub overruns : Sure → ℕ → ℕ → Bool
+overruns sures.Text cells left = nat_lt left cells
+overruns sure cells left = false
 
 -- it was told: of this table nothing more is
 abbrev pub told : Measure → Measure
-told m = record m { gap = None }
+told m = record m { sure = sures.Nothing }
 
 -- the field and the space behind it are taken
-abbrev pub taken : Option ℕ → ℕ → Measure → Measure
-taken None cells m = m
-taken (Some gap) cells m = record m { left = m.left - cells - gap }
+abbrev pub taken : Sure → ℕ → Measure → Measure
+taken sures.Text cells m = record m { left = m.left - cells - m.gap }
+taken sure cells m = m
+
+-- ---- widths
+
+-- what a box takes of the line
+abbrev pub edges : Frame → ℕ
+edges Open = 0
+edges frame = 2
+
+-- what the spaces between columns surely take
+abbrev pub gaps_in : ℕ → Line → ℕ
+gaps_in gap line = if gap == 0 then 0 else line.gaps
+
+-- the columns of a line of formats have not so many cells left of the line
+abbrev pub is_wider : Sure → Frame → Line → Measure → Bool
+is_wider sures.Nothing frame line m = false
+is_wider sure frame line m = nat_lt (m.line - edges frame - gaps_in m.gap line) line.cells

@@ -2,7 +2,6 @@
 use Rattle.std.specs.Prelude.{◌≡◌, ℕ, zero, suc, ◌+◌, ◌-◌, ◌*◌, List, [], ◌∷◌, ◌++◌, length, take, drop, Bool, true, false, not, ◌==◌, ◌&&◌, nat_lt, if◌then◌else◌, Option, None, Some}
 use Rattle.nr_units.specs.Items.{Items}
 use Rattle.nr_tbl.specs.declared.complaint.Kind.{Kind}
-use Rattle.nr_tbl.specs.declared.complaint.Kind.TheVariants.{TooWide}
 use Rattle.nr_tbl.specs.declared.complaint.Complaint.{Complaint}
 use Rattle.nr_tbl.specs.declared.half.Half.{Half}
 use Rattle.nr_tbl.specs.declared.half.Act.{Act}
@@ -21,8 +20,10 @@ use Rattle.nr_tbl.specs.Saying.{bytes_of}
 use Rattle.nr_tbl.specs.Formats.{read as format_read, called_bytes}
 use Rattle.nr_tbl.specs.Field.{shape_with}
 use Rattle.nr_tbl.specs.Numbers.{marks_with}
-use Rattle.nr_tbl.specs.Half.{first_half, complaining}
-use Rattle.nr_tbl.specs.Measure.{cells_of, overruns, taken, told as told_of, with_formats as measured_formats}
+use Rattle.nr_tbl.specs.Half.{first_half, too_wide}
+use Rattle.nr_tbl.specs.declared.widths.Widths.{Widths}
+use Rattle.nr_tbl.specs.Measure.{cells_of, overruns, taken, with_formats as measured_formats}
+use Rattle.nr_tbl.specs.Widths.{widths_of}
 use Rattle.nr_tbl.specs.Head.{with_options, with_formats}
 use Rattle.nr_tbl.specs.Meeting.{meet}
 
@@ -120,16 +121,17 @@ options_told p =
     let o = options_of p.formats.items in
     effect (with_formats_kept [] (with_half (with_options o p.half) p)) (bytes_of (says.Options o))
 
--- what they surely take of the line
-abbrev pub formats_measured : List ℕ → Half → Half
-formats_measured text h = record h { measure = measured_formats h.options.expand text h.measure }
+-- what they say of widths
+abbrev pub formats_measured : Widths → Half → Half
+formats_measured w h = record h { measure = measured_formats h.options.expand w h.measure }
 
 -- what was kept is formats, up to a newline behind it
 abbrev pub formats_told : Page → Effect
 formats_told p =
     let s = all_read p.formats.items p.half.formats in
     let t = format_read 10 s.formats in
-    effect (with_half (with_formats t.formats (formats_measured p.formats.items p.half)) p) (s.bytes ++ called_bytes t.called)
+    let w = widths_of p.formats.items p.half.formats in
+    effect (with_half (with_formats t.formats w.last (formats_measured w p.half)) p) (s.bytes ++ called_bytes t.called)
 
 -- what was kept goes out as it stands
 abbrev pub given_up : Page → Effect
@@ -154,8 +156,7 @@ field_bytes text front = text_bytes text ++ front_said text front
 -- a field of so many cells passes the end of the line, or is taken
 abbrev pub cells_taken : ℕ → Half → Half
 cells_taken cells h =
-    if overruns h.measure.gap cells h.measure.left then complaining TooWide (record h { measure = told_of h.measure })
-    else record h { measure = taken h.measure.gap cells h.measure }
+    if overruns h.measure.sure cells h.measure.left then too_wide h else record h { measure = taken h.measure.sure cells h.measure }
 
 -- one beyond the columns stands below its row
 abbrev pub field_taken : ℕ → Half → Half

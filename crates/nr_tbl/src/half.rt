@@ -221,4 +221,12 @@ impl Half {
             self.complaint = Some(kind);
         }
     }
+
+    /// The table is wider than the line.
+    pub(crate) fn tells_width(&mut self)
+        ensures { self.new ≡ specs.too_wide self.old }
+    {
+        self.measure = self.measure.told();
+        self.complains(Kind::TooWide);
+    }
 }

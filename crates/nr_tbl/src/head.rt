@@ -9,6 +9,7 @@ use super::half::{Act, Half, Mode, Seen};
 use super::held::{Held, ends_name};
 use super::options::Options;
 use super::said::Said;
+use super::widths::Line;
 
 impl Half {
     /// The table isn't set: what was kept goes out, and it goes on so.
@@ -76,11 +77,21 @@ impl Half {
         }
     }
 
-    /// The formats were read: a table without columns, or with too many, isn't set. No line of new ones is told.
-    pub(crate) fn with_formats(&mut self, formats: Formats)
-        ensures { self.new ≡ specs.with_formats formats self.old }
+    /// A table is wider than the line by the widths of a line of its formats, or not.
+    fn measures_line(&mut self, line: Line)
+        ensures { self.new ≡ specs.line_measured line self.old }
     {
-        let lines = self.formats.lines;
+        if self.measure.is_wider(self.options.frame, line) {
+            self.tells_width();
+        }
+    }
+
+    /// The formats were read: a table without columns, or with too many, isn't set. No line of new ones is told, or
+    /// else that the widths of this one are too much for the line.
+    pub(crate) fn with_formats(&mut self, formats: Formats, line: Line)
+        ensures { self.new ≡ specs.with_formats formats line self.old }
+    {
+        let before = self.formats.lines;
         self.formats = formats;
         if formats.columns == 0 {
             self.mode = Mode::Failed;
@@ -88,8 +99,10 @@ impl Half {
         } else if formats.many {
             self.mode = Mode::Failed;
             self.complains(Kind::TooManyColumns);
-        } else if formats.bad || formats.lines == lines {
+        } else if formats.bad || formats.lines == before {
             self.complains(Kind::BadFormat);
+        } else {
+            self.measures_line(line);
         }
     }
 

@@ -1,6 +1,6 @@
 //! tbl: tables become requests of the language of the formatter.
 //!
-//! It stands on nr_units. To read: `complaint`, `held`, `field`, `numbers`, `measure`; `options`, `formats`; `macros`, `drawing`,
+//! It stands on nr_units. To read: `complaint`, `held`, `field`, `numbers`; `options`, `formats`, `widths`, `measure`; `macros`, `drawing`,
 //! `said`; `half`, `outside`, `head`, `rows`, `blocks`, `plain`, `meeting`; `reader`, `running`; `untouched`.
 #![tactic(auto)]
 
@@ -24,6 +24,7 @@ mod rows;
 mod running;
 mod said;
 mod untouched;
+mod widths;
 
 pub use complaint::{Complaint, Kind};
 pub use running::{Outcome, Report, convert, pending_size};

@@ -1,9 +1,10 @@
-//! What a table surely takes of the line, in cells: the printing bytes of the fields of a row, and the spaces between
-//! them. Only the formatter knows how wide it is.
+//! What a table surely takes of the line, in cells: the printing bytes of the fields of a row, or the widths that its
+//! formats say, and the spaces between them. Only the formatter knows how wide it is.
 ghost use Rattle.std.specs.Prelude.{◌≡◌, ◌+◌, ◌^◌, ◌<◌, ◌≤◌, length};
 ghost use Rattle.nr_tbl.specs.Measure as specs;
 
-use super::numbers::is_digit;
+use super::options::Frame;
+use super::widths::{Line, Widths};
 
 /// The space between two columns where no number gives another.
 const GAP: usize = 3;
@@ -34,13 +35,26 @@ pub(crate) struct Cells {
     pub count: usize,
 }
 
+/// By what a table may still be told as wider than the line.
+#[derive(Clone, Copy)]
+pub(crate) enum Sure {
+    /// The text of a row, and the widths of its formats.
+    Text,
+    /// These widths alone: a column may have less room than its field's text.
+    Widths,
+    /// Nothing more: it was told.
+    Nothing,
+}
+
 /// What is known of the width of a table.
 #[derive(Clone, Copy)]
 pub(crate) struct Measure {
     /// The line, in cells.
     pub line: usize,
-    /// The space that surely stands between two fields; none where nothing is sure, or all was told.
-    pub gap: Option<usize>,
+    /// The space that surely stands between two columns.
+    pub gap: usize,
+    /// What else is sure.
+    pub sure: Sure,
     /// What the fields of the row, and the spaces behind them, leave of the line.
     pub left: usize,
 }
@@ -140,39 +154,14 @@ pub(crate) fn cells_of(text: &[u8]) -> usize
     }
 }
 
-/// A byte of formats by which a column may have less room than its field's text, or none.
-fn is_hiding(byte: u8) -> bool
-    ensures { result ≡ specs.is_hiding byte }
+/// What a box takes of the line.
+fn edges(frame: Frame) -> usize
+    ensures { result ≡ specs.edges frame }
 {
-    matches!(
-        byte,
-        b's' | b'x' | b'z' | b'S' | b'X' | b'Z' | b'^' | b'_' | b'-' | b'='
-    )
-}
-
-/// The space between two fields that is sure with one byte of formats more.
-fn gap_with(gap: Option<usize>, byte: u8) -> Option<usize>
-    ensures { result ≡ specs.gap_with byte gap }
-{
-    let gap = gap?;
-    if is_hiding(byte) {
-        None
-    } else if is_digit(byte) {
-        Some(0)
-    } else {
-        Some(gap)
+    match frame {
+        Frame::Open => 0,
+        _ => 2,
     }
-}
-
-/// That which is sure with these formats.
-fn all_gaps(first: Option<usize>, text: &[u8]) -> Option<usize>
-    ensures { result ≡ specs.all_gaps text.now first }
-{
-    let mut gap = first;
-    for byte in text {
-        gap = gap_with(gap, *byte);
-    }
-    gap
 }
 
 impl Measure {
@@ -182,23 +171,26 @@ impl Measure {
     {
         Measure {
             line,
-            gap: Some(GAP),
+            gap: GAP,
+            sure: Sure::Text,
             left: line,
         }
     }
 
     /// These formats were read of a table that is made as wide as the line, or isn't.
-    pub(crate) fn with_formats(self, expand: bool, text: &[u8]) -> Measure
-        ensures { result ≡ specs.with_formats expand text.now self }
+    pub(crate) fn with_formats(self, expand: bool, widths: Widths) -> Measure
+        ensures { result ≡ specs.with_formats expand widths self }
     {
-        let gap = match self.gap {
-            Some(_) if expand => Some(0),
-            gap => gap,
+        let gap = if expand || widths.numbered {
+            0
+        } else {
+            self.gap
         };
-        Measure {
-            gap: all_gaps(gap, text),
-            ..self
-        }
+        let sure = match self.sure {
+            Sure::Text if widths.hides => Sure::Widths,
+            sure => sure,
+        };
+        Measure { gap, sure, ..self }
     }
 
     /// A row begins.
@@ -213,28 +205,49 @@ impl Measure {
 
     /// Whether a field of so many cells passes the end of the line.
     pub(crate) fn overruns(self, cells: usize) -> bool
-        ensures { result ≡ specs.overruns self.gap cells self.left }
+        ensures { result ≡ specs.overruns self.sure cells self.left }
     {
-        self.gap.is_some() && self.left < cells
+        matches!(self.sure, Sure::Text) && self.left < cells
     }
 
     /// That was told.
     pub(crate) fn told(self) -> Measure
         ensures { result ≡ specs.told self }
     {
-        Measure { gap: None, ..self }
+        Measure {
+            sure: Sure::Nothing,
+            ..self
+        }
     }
 
     /// A field of so many cells is taken, and the space behind it.
     pub(crate) fn taken(self, cells: usize) -> Measure
-        ensures { result ≡ specs.taken self.gap cells self }
+        ensures { result ≡ specs.taken self.sure cells self }
     {
-        match self.gap {
-            Some(gap) => Measure {
-                left: self.left.saturating_sub(cells).saturating_sub(gap),
+        match self.sure {
+            Sure::Text => Measure {
+                left: self.left.saturating_sub(cells).saturating_sub(self.gap),
                 ..self
             },
-            None => self,
+            _ => self,
         }
+    }
+
+    /// What the spaces of a line of formats surely take.
+    fn gaps(self, line: Line) -> usize
+        ensures { result ≡ specs.gaps_in self.gap line }
+    {
+        if self.gap == 0 { 0 } else { line.gaps }
+    }
+
+    /// Whether the columns of a line of formats, in this frame, pass the end of the line.
+    pub(crate) fn is_wider(self, frame: Frame, line: Line) -> bool
+        ensures { result ≡ specs.is_wider self.sure frame line self }
+    {
+        let left = self
+            .line
+            .saturating_sub(edges(frame))
+            .saturating_sub(self.gaps(line));
+        !matches!(self.sure, Sure::Nothing) && left < line.cells
     }
 }

@@ -8,6 +8,7 @@ use super::half::{Act, Coming, Full, Half, Mode};
 use super::measure::cells_of;
 use super::options::{Options, OptionsRead};
 use super::said::{Said, put_call, put_double, say};
+use super::widths::widths_of;
 use nr_units::slice_vec::SliceVec;
 use std::marker::Model;
 
@@ -130,8 +131,7 @@ impl Half {
             return;
         }
         if self.measure.overruns(cells) {
-            self.measure = self.measure.told();
-            self.complains(Kind::TooWide);
+            self.tells_width();
         } else {
             self.measure = self.measure.taken(cells);
         }
@@ -197,15 +197,13 @@ impl<'a> Reader<'a> {
         ensures few { length out.new.items ≤ length out.old.items + specs.most self.old }
         ensures room { out.new.room ≡ out.old.room }
     {
+        let widths = widths_of(self.half.formats, self.formats.as_slice());
         let expand = self.half.options.expand;
-        self.half.measure = self
-            .half
-            .measure
-            .with_formats(expand, self.formats.as_slice());
+        self.half.measure = self.half.measure.with_formats(expand, widths);
         let mut formats = read_formats(self.half.formats, self.formats.as_slice(), out);
         let called = formats.read(b'\n');
         put_called(called, out);
-        self.half.with_formats(formats);
+        self.half.with_formats(formats, widths.last);
     }
 
     /// What was kept of options and formats goes out as it stands.
