@@ -21,7 +21,7 @@ pub enum Kind {
     FormatsLimit,
     /// More bytes of a row than are kept: the rest of the table goes out as plain lines.
     RowLimit,
-    /// A row of the table is surely wider than the line: it is set as wide as it is.
+    /// The table is surely wider than the line, by its formats or by a row: it is set as wide as it is.
     TooWide,
 }
 

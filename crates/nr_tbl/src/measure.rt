@@ -4,10 +4,7 @@ ghost use Rattle.std.specs.Prelude.{◌≡◌, ◌+◌, ◌^◌, ◌<◌, ◌≤
 ghost use Rattle.nr_tbl.specs.Measure as specs;
 
 use super::options::Frame;
-use super::widths::{Line, Widths};
-
-/// The space between two columns where no number gives another.
-const GAP: usize = 3;
+use super::widths::{GAP, Line, Widths};
 
 /// Where the text of a field is read.
 #[derive(Clone, Copy)]

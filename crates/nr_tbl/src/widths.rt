@@ -6,7 +6,7 @@ use super::formats::{Call, Called, Formats};
 use super::numbers::is_digit;
 
 /// The space behind a column where no number gives another.
-const GAP: usize = 3;
+pub(crate) const GAP: usize = 3;
 
 /// What is read of a width.
 #[derive(Clone, Copy)]
