@@ -27,7 +27,7 @@ fn count_newlines(bytes: &[u8]) -> usize
     count
 }
 
-impl<'a> Engine<'a> {
+impl Engine {
     /// How many newlines the source has at hand at the beginning of a line, as far as they are asked for.
     fn newlines_next<R: Source>(&self, input: &R, most: usize) -> usize
         ensures most { result ≤ most }

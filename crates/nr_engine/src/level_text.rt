@@ -12,7 +12,7 @@ use nr_formatter::runs::Gap;
 use nr_store::Sight;
 use nr_store::element::Element;
 
-impl<'a> Engine<'a> {
+impl Engine {
     /// Reads and puts the plain bytes that come next of the newest level, in a text line that has begun, and tells how many
     /// moves that was.
     #[inline]

@@ -11,7 +11,7 @@ use nr_units::source::Source;
 /// The most lines of requests that are acted on in one call.
 const MOST_LINES: u32 = 4096;
 
-impl<'a> Engine<'a> {
+impl Engine {
     /// The request whose line was read takes effect, if it only sets and its break does nothing. Tells how many moves that was.
     #[inline(always)]
     fn obey(&mut self) -> u128

@@ -32,7 +32,7 @@ fn row_at(place: u32) -> u32
     (place / ROW_HEIGHT).saturating_sub(1)
 }
 
-impl<'a> Engine<'a> {
+impl Engine {
     /// A page begins.
     pub(crate) fn begin_page(&mut self)
         ensures comes { ComesQuietly begin_page (shape self.old) (shape self.new) (Ok tt) }

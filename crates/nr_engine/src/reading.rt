@@ -11,7 +11,7 @@ use nr_input::Event;
 use nr_reading::Due;
 use nr_units::source::Source;
 
-impl<'a> Engine<'a> {
+impl Engine {
     /// Whether the input is read next.
     #[inline(always)]
     pub(crate) fn reads_next(&self) -> bool

@@ -10,8 +10,8 @@ use crate::cells::CellSink;
 use crate::measured::Extent;
 use crate::piece::{Join, PieceSlot};
 use crate::setting::Extra;
+use nr_rooms::FixedVec;
 use nr_units::cell::Cell;
-use nr_units::slice_vec::SliceVec;
 
 /// What the pieces of a line come to.
 #[derive(Clone, Copy)]
@@ -148,7 +148,7 @@ pub(crate) fn lay_pieces(
     slots: &[PieceSlot],
     cells: &[Cell],
     extra: Extra,
-    row: &mut SliceVec<'_, Cell>,
+    row: &mut FixedVec<Cell>,
 )
     requires some { 0 < length slots.now }
     requires cells { cells_in_slots slots.now ≤ length cells.now }

@@ -2,7 +2,7 @@
 //! a row of cells, tab stops, and titles.
 //!
 //! It stands on nr_units and nr_settings. To read: `piece`, `margins`, `setting`, `stops`, `title`; `cells`,
-//! `measured`, `out`; `slice_queue`, `cutting`, `piece_row`; then `line`, and its calls in `words`, `runs`,
+//! `measured`, `out`; `queue`, `cutting`, `piece_row`; then `line`, and its calls in `words`, `runs`,
 //! `tabs`, `taking`, `titling`.
 #![tactic(auto)]
 
@@ -14,9 +14,9 @@ pub mod measured;
 pub mod out;
 pub mod piece;
 mod piece_row;
+mod queue;
 mod runs;
 pub mod setting;
-mod slice_queue;
 pub mod stops;
 mod tabs;
 mod taking;

@@ -30,8 +30,8 @@ const LAID: usize = 256;
 /// A row whose cells are added to the newest text being built. Blanks wait for a cell that is none; once a cell is
 /// refused, nothing more is added.
 #[derive(Drop)]
-pub(crate) struct DiversionRow<'b, 'a> {
-    store: &'b mut Store<'a, Resume>,
+pub(crate) struct DiversionRow<'b> {
+    store: &'b mut Store<Resume>,
     /// What the store was charged before the row.
     charge: u32,
     /// How many blanks wait.
@@ -63,7 +63,7 @@ fn ends_row(cells: &[Cell]) -> bool
 
 /// Adds so many blanks and cells behind them, and tells what the store is charged then.
 fn add_behind(
-    store: &mut Store<'_, Resume>,
+    store: &mut Store<Resume>,
     blanks: usize,
     cells: &[Cell],
 ) -> Result<u32, StoredBytes>
@@ -80,7 +80,7 @@ fn add_behind(
 }
 
 /// Adds the cells one after another.
-fn push_each(row: &mut DiversionRow<'_, '_>, cells: &[Cell])
+fn push_each(row: &mut DiversionRow<'_>, cells: &[Cell])
     ensures same_reference { row.new.store.ghost_name ≡ row.old.store.ghost_name }
     ensures charge { row.new.charge ≡ row.old.charge }
     ensures adds { AddsToDiversion row.old.store.now row.old.blanks row.old.refused cells.now row.new.store.now row.new.blanks row.new.refused }
@@ -90,7 +90,7 @@ fn push_each(row: &mut DiversionRow<'_, '_>, cells: &[Cell])
     }
 }
 
-impl<'b, 'a> DiversionRow<'b, 'a> {
+impl<'b> DiversionRow<'b> {
     /// Adds cells that end with one that is no blank behind the blanks that wait.
     fn add_written(&mut self, cells: &[Cell])
         requires { EndsRow cells.now }
@@ -124,7 +124,7 @@ impl<'b, 'a> DiversionRow<'b, 'a> {
     }
 }
 
-impl CellSink for DiversionRow<'_, '_> {
+impl CellSink for DiversionRow<'_> {
     ghost Adds = { λ old cells new.
         (new.store.ghost_name ≡ old.store.ghost_name) × (new.charge ≡ old.charge)
         × AddsToDiversion old.store.now old.blanks old.refused cells new.store.now new.blanks new.refused };
@@ -185,8 +185,8 @@ impl CellSink for DiversionRow<'_, '_> {
 
 /// The line that goes out next goes into the text that is being built, so many u high.
 pub(crate) fn divert_going(
-    store: &mut Store<'_, Resume>,
-    line: &mut Line<'_>,
+    store: &mut Store<Resume>,
+    line: &mut Line,
     settings: &mut Settings,
     going: Going,
     height: u32,
@@ -211,8 +211,8 @@ pub(crate) fn divert_going(
 
 /// The title that was read goes into the text that is being built, so many cells long and so many u high.
 pub(crate) fn divert_titled(
-    store: &mut Store<'_, Resume>,
-    line: &mut Line<'_>,
+    store: &mut Store<Resume>,
+    line: &mut Line,
     length: u32,
     height: u32,
 ) -> Result<(), StoredBytes>

@@ -15,7 +15,7 @@ use nr_units::source::Source;
 #[inline]
 pub fn window<'s, K: Copy, R: Source>(
     place: &Place,
-    store: &Store<'_, K>,
+    store: &Store<K>,
     source: &'s R,
 ) -> &'s [u8]
     ensures all { is_unseen place.now.ahead ≡ true → store.now.levels ≡ [] → result.now ≡ take (2 ^ 40 - 1 - place.now.taken) (R.at_hand source.now) }

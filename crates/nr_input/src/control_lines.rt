@@ -43,7 +43,7 @@ fn meet_behind_name(half: &mut Half, told: Event, bytes: &[u8]) -> Run
 pub fn read_control_line<K: Copy, R: Source>(
     place: &mut Place,
     reader: &mut Reader,
-    store: &mut Store<'_, K>,
+    store: &mut Store<K>,
     source: &mut R,
 ) -> Option<Run>
     ensures read { IfSome result (λ run. (c : Coming) → HoldsComing c place.old (R.supply source.old) → HasRead run.moves (situation store.old c reader.old) run.event store.new reader.new place.new (R.supply source.new)) }
@@ -85,7 +85,7 @@ pub fn read_control_line<K: Copy, R: Source>(
 fn read_beginning<K: Copy, R: Source>(
     place: &mut Place,
     reader: &mut Reader,
-    store: &mut Store<'_, K>,
+    store: &mut Store<K>,
     source: &mut R,
 ) -> Run
     ensures read { (c : Coming) → HoldsComing c place.old (R.supply source.old) → HasRead result.moves (situation store.old c reader.old) result.event store.new reader.new place.new (R.supply source.new) }
@@ -108,7 +108,7 @@ fn read_beginning<K: Copy, R: Source>(
 pub fn read_next<K: Copy, R: Source>(
     place: &mut Place,
     reader: &mut Reader,
-    store: &mut Store<'_, K>,
+    store: &mut Store<K>,
     source: &mut R,
 ) -> Run
     ensures read { (c : Coming) → HoldsComing c place.old (R.supply source.old) → HasRead result.moves (situation store.old c reader.old) result.event store.new reader.new place.new (R.supply source.new) }

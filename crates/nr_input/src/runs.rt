@@ -66,7 +66,7 @@ impl<'a> Row<'a> {
 
 /// The items of the newest level are read.
 #[inline(always)]
-pub(crate) fn read_level<K: Copy>(reader: &mut Reader, store: &mut Store<'_, K>) -> Run
+pub(crate) fn read_level<K: Copy>(reader: &mut Reader, store: &mut Store<K>) -> Run
     ensures read { (c : Coming) (p : Reached) (supply : Option Supply) → HoldsComing c p supply → HasRead result.moves (situation store.old c reader.old) result.event store.new reader.new p supply }
     ensures pays { (p : Reached) → PaysAll result.moves store.old p reader.old result.event store.new p reader.new }
     ensures few { result.moves ≤ 65536 }
@@ -84,7 +84,7 @@ pub(crate) fn read_level<K: Copy>(reader: &mut Reader, store: &mut Store<'_, K>)
 pub(crate) fn read_source<K: Copy, R: Source>(
     place: &mut Place,
     reader: &mut Reader,
-    store: &Store<'_, K>,
+    store: &Store<K>,
     source: &mut R,
 ) -> Run
     ensures read { (c : Coming) → HoldsComing c place.old (R.supply source.old) → HasRead result.moves (situation store.now c reader.old) result.event store.now reader.new place.new (R.supply source.new) }
@@ -115,7 +115,7 @@ pub(crate) fn read_source<K: Copy, R: Source>(
 pub fn read_run<K: Copy, R: Source>(
     place: &mut Place,
     reader: &mut Reader,
-    store: &mut Store<'_, K>,
+    store: &mut Store<K>,
     source: &mut R,
 ) -> Run
     ensures read { (c : Coming) → HoldsComing c place.old (R.supply source.old) → HasRead result.moves (situation store.old c reader.old) result.event store.new reader.new place.new (R.supply source.new) }

@@ -3,3 +3,4 @@ pub mod Spares
 pub mod Rotation
 pub mod Changes
 pub mod Exchange
+pub mod Rooms

@@ -14,7 +14,7 @@ use crate::store::names::{lone_share, text_in};
 use nr_levels::Next;
 use nr_units::Name;
 
-impl<'a, K: Copy> Store<'a, K> {
+impl<K: Copy> Store<K> {
     /// Opens a level that reads the text of a name, with no arguments in force. Answers whether there is one.
     pub fn enter(&mut self, name: Name) -> Result<bool, Refusal>
         ensures answer { let text = words (find name self.old.names) in
