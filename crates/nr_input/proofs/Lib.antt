@@ -4,7 +4,11 @@ mod Refusals
 pub mod ControlLines
 pub mod Costs
 pub mod Items
+<<<<<<< ours
 pub mod LimitsStay
+=======
+pub mod LevelLines
+>>>>>>> theirs
 pub mod Longest
 pub mod Putting
 pub mod PuttingLevel

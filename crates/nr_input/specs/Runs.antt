@@ -67,13 +67,17 @@ pub record IsLongest {K : Type 0} (bs : List ℕ) (n : ℕ) (p : Reached) (r : R
   pub all : n < 65536 → e ≡ events.Nothing → r'.half.reading.due ≡ dues.Look → p'.taken + 1 < 2 ^ 40 → p'.taken < p.taken + length bs
       → IsLeft (slice_index bs (p'.taken - p.taken)) r.half v'
 
--- Of what is left of the newest level as many bytes were read in n moves as can be: one move at least where a byte was in front and
--- nothing was due. Fewer than 512 moves of which none told anything and behind which nothing is due left no byte in front but one
+-- Fewer than 512 moves of which none told anything and behind which nothing is due left no byte of the newest level in front but one
 -- that is left.
+abbrev pub StopsInLevel : {K : Type 0} → ℕ → Event → Stored K → Reader → Type 0
+StopsInLevel n e v r =
+    n < 512 → e ≡ events.Nothing → r.half.reading.due ≡ dues.Look → (b : ℕ) → slice_get (rest_of v.levels) 0 ≡ Some (elements.Byte b) → IsLeft b r.half v
+
+-- Of the newest level as many bytes were read in n moves as can be: one move at least where a byte was in front and nothing was due,
+-- and none behind which they go on.
 pub record IsLongestInLevel {K : Type 0} (n : ℕ) (v : Stored K) (r : Reader) (e : Event) (v' : Stored K) (r' : Reader) : Type 0 where
   pub some : (b : ℕ) → slice_get (rest_of v.levels) 0 ≡ Some (elements.Byte b) → r.half.reading.due ≡ dues.Look → 0 < n
-  pub all : n < 512 → e ≡ events.Nothing → r'.half.reading.due ≡ dues.Look → (b : ℕ) → slice_get (rest_of v'.levels) 0 ≡ Some (elements.Byte b)
-      → IsLeft b r.half v'
+  pub all : StopsInLevel n e v' r'
 
 -- ---- bytes that the source has at hand
 
