@@ -4,11 +4,8 @@ mod Refusals
 pub mod ControlLines
 pub mod Costs
 pub mod Items
-<<<<<<< ours
-pub mod LimitsStay
-=======
 pub mod LevelLines
->>>>>>> theirs
+pub mod LimitsStay
 pub mod Longest
 pub mod Putting
 pub mod PuttingLevel

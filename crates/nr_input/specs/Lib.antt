@@ -6,6 +6,7 @@ pub mod Laws
 pub mod Limits
 pub mod Moving
 pub mod Refusals
+pub mod Rows
 pub mod Runs
 pub mod Splicing
 pub mod Targets

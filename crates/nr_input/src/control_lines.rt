@@ -14,7 +14,7 @@ use super::at_hand::window;
 use super::level_lines::read_level_line;
 use super::place::Place;
 use super::reader::Reader;
-use super::runs::{ByteRow, read_run, read_source};
+use super::runs::{Row, read_run, read_source};
 use nr_reading::{Due, Event, Half, Mode, Run};
 use nr_store::Store;
 use nr_units::source::Source;
@@ -60,7 +60,7 @@ pub fn read_control_line<K: Copy, R: Source>(
     ensures source { result ≡ None → source.new ≡ source.old }
 {
     let bytes = window(place, store, source);
-    let row = ByteRow { bytes };
+    let row = Row::Bytes(bytes);
     if !matches!(reader.half.reading.due, Due::Look) || !reader.half.meet_name(&row) {
         return None;
     }
@@ -111,12 +111,8 @@ pub fn read_next<K: Copy, R: Source>(
 ) -> Run
     ensures read { (c : Coming) → HoldsComing c place.old (R.supply source.old) → HasRead result.moves (situation store.old c reader.old) result.event store.new reader.new place.new (R.supply source.new) }
     ensures pays { PaysAll result.moves store.old place.old reader.old result.event store.new place.new reader.new }
-<<<<<<< ours
-    ensures few { result.moves ≤ 65536 }
-    ensures limits { limits_of store.new reader.new ≡ limits_of store.old reader.old }
-=======
     ensures few { result.moves ≤ 65541 }
->>>>>>> theirs
+    ensures limits { limits_of store.new reader.new ≡ limits_of store.old reader.old }
     ensures some { store.old.levels ≡ [] → is_unseen place.old.ahead ≡ true → ReadsSome (R.at_hand source.old) result.moves place.old reader.old }
     ensures longest { store.old.levels ≡ [] → is_unseen place.old.ahead ≡ true → reader.old.half.reading.mode ≢ modes.Start → IsLongest (R.at_hand source.old) result.moves place.old reader.old result.event store.new place.new reader.new }
     ensures longest_in_level { nat_lt 0 (length store.old.levels) ≡ true → IsLongestInLevel result.moves store.old reader.old result.event store.new reader.new }

@@ -1,15 +1,12 @@
 //! Many moves over items that lie in a row.
-ghost use Rattle.std.specs.Prelude.{◌≡◌, ℕ, ◌<◌, ◌≤◌, [], length, map, nat_lt, true, false, Option, Some, slice_get};
+ghost use Rattle.std.specs.Prelude.{◌≡◌, ◌<◌, ◌≤◌, [], length, map, nat_lt, true, false, Option};
 ghost use Rattle.nr_units.specs.Supply.{Supply};
-ghost use Rattle.nr_reading.specs.declared.event.Event.TheVariants as events;
-ghost use Rattle.nr_reading.specs.declared.front.Front.TheVariants as variants;
-ghost use Rattle.nr_reading.specs.declared.mode.Due.TheVariants as dues;
-ghost use Rattle.nr_reading.specs.Runs.{HasMet, spot};
 ghost use Rattle.nr_store.specs.Windows.{elements_in};
 ghost use Rattle.nr_input.specs.AtHand.{is_unseen};
 ghost use Rattle.nr_input.specs.Coming.{Coming, Reached, HoldsComing, element_front, has_failed};
 ghost use Rattle.nr_input.specs.Limits.{limits_of};
 ghost use Rattle.nr_input.specs.Moving.{situation};
+ghost use Rattle.nr_input.specs.Rows.{fronts_in};
 ghost use Rattle.nr_input.specs.Runs.{HasRead, PaysAll, IsLongest, IsLongestInLevel};
 
 use super::adding::{add_from_level, add_from_source};
@@ -17,66 +14,52 @@ use super::at_hand::window;
 use super::place::Place;
 use super::reader::Reader;
 use super::target::Target;
-use nr_reading::{Half, Items, Run};
+use nr_reading::{Items, Run};
 use nr_store::{Element, Rest, Store};
 use nr_units::source::Source;
 
-// Rows of bytes and of elements are two types, so that a byte of a row is one look.
-
-/// Bytes as items in a row.
+/// Items in a row. It is one type, so that what reads rows is there once.
 #[derive(Clone, Copy)]
-pub(crate) struct ByteRow<'a> {
-    pub(crate) bytes: &'a [u8],
+pub(crate) enum Row<'a> {
+    /// Bytes.
+    Bytes(&'a [u8]),
+    /// Elements of a text.
+    Elements(&'a [Element]),
 }
 
-impl<'a> Items for ByteRow<'a> {
-    ghost fronts = { λ row. map variants.Byte row.bytes.now };
+impl<'a> Items for Row<'a> {
+    ghost fronts = { fronts_in };
 
     #[inline(always)]
     fn count(&self) -> usize {
-        self.bytes.len()
+        match self {
+            Row::Bytes(bytes) => bytes.len(),
+            Row::Elements(elements) => elements.len(),
+        }
     }
 
     #[inline(always)]
     fn byte(&self, n: usize) -> Option<u8> {
-        Some(self.bytes[n])
-    }
-}
-
-/// Elements as items in a row.
-#[derive(Clone, Copy)]
-pub(crate) struct ElementRow<'a> {
-    pub(crate) elements: &'a [Element],
-}
-
-impl<'a> Items for ElementRow<'a> {
-    ghost fronts = { λ row. map element_front row.elements.now };
-
-    #[inline(always)]
-    fn count(&self) -> usize {
-        self.elements.len()
-    }
-
-    #[inline(always)]
-    fn byte(&self, n: usize) -> Option<u8> {
-        match self.elements[n] {
-            Element::Byte(byte) => Some(byte),
-            _ => None,
+        match self {
+            Row::Bytes(bytes) => Some(bytes[n]),
+            Row::Elements(elements) => match elements[n] {
+                Element::Byte(byte) => Some(byte),
+                _ => None,
+            },
         }
     }
 }
 
-// What is left of a level is met, as far as it is bytes.
-#[inline(always)]
-fn meet_rest(half: &mut Half, rest: Rest<'_>) -> Run
-    ensures met { HasMet result.moves (map element_front (elements_in rest.entry)) half.old (spot result half.new) }
-    ensures few { result.moves ≤ 65536 }
-    ensures longest { result.event ≡ events.Nothing → half.new.reading.due ≡ dues.Look → result.moves < 65536
-        → (byte : ℕ) → slice_get (map element_front (elements_in rest.entry)) result.taken ≡ Some (variants.Byte byte) → ⊥ }
-{
-    match rest {
-        Rest::Text(elements) => half.meet_run(&ElementRow { elements }),
-        Rest::Bytes(bytes) => half.meet_run(&ByteRow { bytes }),
+impl<'a> Row<'a> {
+    /// What is left of a level.
+    #[inline(always)]
+    pub(crate) fn of(rest: Rest<'a>) -> Self
+        ensures { fronts_in result ≡ map element_front (elements_in rest.entry) }
+    {
+        match rest {
+            Rest::Text(elements) => Row::Elements(elements),
+            Rest::Bytes(bytes) => Row::Bytes(bytes),
+        }
     }
 }
 
@@ -86,14 +69,12 @@ pub(crate) fn read_level<K: Copy>(reader: &mut Reader, store: &mut Store<K>) -> 
     ensures read { (c : Coming) (p : Reached) (supply : Option Supply) → HoldsComing c p supply → HasRead result.moves (situation store.old c reader.old) result.event store.new reader.new p supply }
     ensures pays { (p : Reached) → PaysAll result.moves store.old p reader.old result.event store.new p reader.new }
     ensures few { result.moves ≤ 65536 }
-<<<<<<< ours
-    ensures limits { limits_of store.new reader.new ≡ limits_of store.old reader.old }
-=======
     ensures within { result.taken ≤ 65536 }
->>>>>>> theirs
+    ensures limits { limits_of store.new reader.new ≡ limits_of store.old reader.old }
     ensures longest { IsLongestInLevel result.moves store.old reader.old result.event store.new reader.new }
 {
-    let run = meet_rest(&mut reader.half, store.rest());
+    let row = Row::of(store.rest());
+    let run = reader.half.meet_run(&row);
     store.skip(run.taken as u32);
     run
 }
@@ -115,7 +96,7 @@ pub(crate) fn read_source<K: Copy, R: Source>(
     ensures unfailed { has_failed place.old.ahead ≡ false → has_failed place.new.ahead ≡ false }
 {
     let bytes = window(place, store, source);
-    let run = reader.half.meet_run(&ByteRow { bytes });
+    let run = reader.half.meet_run(&Row::Bytes(bytes));
     if run.taken == 0 {
         return run;
     }

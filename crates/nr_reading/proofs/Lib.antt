@@ -17,3 +17,4 @@ pub mod Moving
 pub mod PlainBytes
 pub mod ControlNames
 pub mod RequestLines
+pub mod Interpolated
