@@ -117,12 +117,7 @@ impl Reader {
     }
 
     // A byte is added to the text that is built, and then this is due.
-    fn add<K: Copy>(
-        &mut self,
-        byte: u8,
-        due: Due,
-        store: &mut Store<K>,
-    ) -> Result<Event, Refusal>
+    fn add<K: Copy>(&mut self, byte: u8, due: Due, store: &mut Store<K>) -> Result<Event, Refusal>
         ensures { let a = adding_byte byte due store.old self.old in
             called store.new self.new result ≡ acted_by (storing_answer a.stored) a store.old self.old }
     {
@@ -226,11 +221,7 @@ impl Reader {
     }
 
     // An argument is spliced.
-    fn splice_argument<K: Copy>(
-        &mut self,
-        n: u8,
-        store: &mut Store<K>,
-    ) -> Result<Event, Refusal>
+    fn splice_argument<K: Copy>(&mut self, n: u8, store: &mut Store<K>) -> Result<Event, Refusal>
         ensures { called store.new self.new result ≡ acted (Due.Argument n) store.old self.old }
     {
         match store.enter_argument(usize::from(n)) {
@@ -250,11 +241,7 @@ impl Reader {
     }
 
     // A register is spliced; where it has a sign, its step is made first.
-    fn interpolate<K: Copy>(
-        &mut self,
-        sign: Sign,
-        store: &mut Store<K>,
-    ) -> Result<Event, Refusal>
+    fn interpolate<K: Copy>(&mut self, sign: Sign, store: &mut Store<K>) -> Result<Event, Refusal>
         ensures { called store.new self.new result ≡ acted (Due.Register sign) store.old self.old }
     {
         match sign {

@@ -1,6 +1,7 @@
 //! Many moves over items that lie in a row.
-ghost use Rattle.std.specs.Prelude.{◌≡◌, ◌<◌, ◌≤◌, [], length, map, nat_lt, true, false, Option};
+ghost use Rattle.std.specs.Prelude.{◌≡◌, ℕ, ◌<◌, ◌≤◌, [], length, map, slice_get, nat_lt, true, false, Option, None, Some, IfSome};
 ghost use Rattle.nr_units.specs.Supply.{Supply};
+ghost use Rattle.nr_reading.specs.declared.front.Front.TheVariants as variants;
 ghost use Rattle.nr_store.specs.Windows.{elements_in};
 ghost use Rattle.nr_input.specs.AtHand.{is_unseen};
 ghost use Rattle.nr_input.specs.Coming.{Coming, Reached, HoldsComing, element_front, has_failed};
@@ -42,11 +43,21 @@ impl<'a> Items for Row<'a> {
     fn byte(&self, n: usize) -> Option<u8> {
         match self {
             Row::Bytes(bytes) => Some(bytes[n]),
-            Row::Elements(elements) => match elements[n] {
-                Element::Byte(byte) => Some(byte),
-                _ => None,
-            },
+            Row::Elements(elements) => byte_at(elements, n),
         }
+    }
+}
+
+// The n-th element, where it is a byte.
+#[inline(always)]
+fn byte_at(elements: &[Element], n: usize) -> Option<u8>
+    requires { n < length elements.now }
+    ensures value { IfSome result (λ byte. slice_get (map element_front elements.now) n ≡ Some (variants.Byte byte)) }
+    ensures other { result ≡ None → (byte : ℕ) → slice_get (map element_front elements.now) n ≡ Some (variants.Byte byte) → ⊥ }
+{
+    match elements[n] {
+        Element::Byte(byte) => Some(byte),
+        _ => None,
     }
 }
 
