@@ -75,6 +75,9 @@ impl Engine {
         ensures reads { MakesReading result (shape self.old) (shape self.new) (R.supply input.old) (R.supply input.new) (R.failures input.old) (R.failures input.new) }
         ensures few { result < 2 ^ 67 }
     {
+        if self.formatter.store.is_reading() {
+            return self.read_levels();
+        }
         let run = self.read_run(input);
         match self.formatter.event {
             Event::Empty => run + self.put_empty_lines(input),

@@ -67,4 +67,36 @@ impl Engine {
         }
         moves
     }
+
+    /// What levels bring is read, and requests of it that only set take effect.
+    #[inline(never)]
+    pub(crate) fn read_levels(&mut self) -> u128
+    {
+        let mut moves = 0u128;
+        if !self.reads_next() {
+            return 0;
+        }
+        for _ in 0..MOST_LINES {
+            let formatter = &mut self.formatter;
+            let run = nr_input::read_levels(&mut formatter.reader, &mut formatter.store, &mut self.resumed);
+            self.formatter.event = run.event;
+            self.formatter.fit_memory();
+            moves += run.moves as u128;
+            match run.event {
+                Event::Request => {
+                    let obeyed = self.obey();
+                    moves += obeyed;
+                    if obeyed == 0 {
+                        return moves;
+                    }
+                }
+                Event::Judge(question) => {
+                    self.formatter.judge(question);
+                    moves += 1;
+                }
+                _ => return moves,
+            }
+        }
+        moves
+    }
 }

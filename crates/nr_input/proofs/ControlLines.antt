@@ -168,7 +168,7 @@ pays_once v w p q r s e lead diversions pays = record {
 
 -- ---- the name is looked up
 
-seeks_no_lead : (c : Calls) → is_lead (sought_event c) ≡ false
+pub seeks_no_lead : (c : Calls) → is_lead (sought_event c) ≡ false
 seeks_no_lead calls.Title = refl
 seeks_no_lead c = refl
 

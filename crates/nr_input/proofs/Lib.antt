@@ -5,6 +5,7 @@ pub mod ControlLines
 pub mod Costs
 pub mod Items
 pub mod LevelLines
+pub mod LevelParts
 pub mod LimitsStay
 pub mod Longest
 pub mod Putting

@@ -11,6 +11,7 @@ mod adding;
 mod at_hand;
 mod control_lines;
 mod level_lines;
+mod levels;
 mod moving;
 mod place;
 mod reader;
@@ -22,6 +23,7 @@ mod target;
 mod told;
 
 pub use at_hand::{take_window, window};
+pub use levels::{Moved, read_levels};
 pub use control_lines::{read_control_line, read_next};
 pub use moving::advance;
 pub use nr_reading::{Event, Question, Standing};

@@ -117,6 +117,21 @@ pub(crate) fn read_source<K: Copy, R: Source>(
     run
 }
 
+/// As `read_run`, of the newest level.
+#[inline(always)]
+pub(crate) fn read_run_of_level<K: Copy>(reader: &mut Reader, store: &mut Store<K>) -> Run
+    ensures read { (c : Coming) (p : Reached) (supply : Option Supply) → HoldsComing c p supply → HasRead result.moves (situation store.old c reader.old) result.event store.new reader.new p supply }
+    ensures pays { (p : Reached) → PaysAll result.moves store.old p reader.old result.event store.new p reader.new }
+    ensures few { result.moves ≤ 65536 }
+    ensures limits { limits_of store.new reader.new ≡ limits_of store.old reader.old }
+    ensures longest { IsLongestInLevel result.moves store.old reader.old result.event store.new reader.new }
+{
+    match Target::of(&reader.half) {
+        Some(Target::Argument) => add_from_level(reader, store),
+        _ => read_level(reader, store),
+    }
+}
+
 /// Items that lie in a row are read, many moves at once: up to the first that tells something or behind which something
 /// is due, and none where an item has to be looked at alone.
 #[inline(always)]
@@ -135,14 +150,10 @@ pub fn read_run<K: Copy, R: Source>(
     ensures failures { R.failures source.new ≡ R.failures source.old }
     ensures unfailed { has_failed place.old.ahead ≡ false → has_failed place.new.ahead ≡ false }
 {
-    let target = Target::of(&reader.half);
     if store.is_reading() {
-        return match target {
-            Some(Target::Argument) => add_from_level(reader, store),
-            _ => read_level(reader, store),
-        };
+        return read_run_of_level(reader, store);
     }
-    match target {
+    match Target::of(&reader.half) {
         Some(target) => add_from_source(target, place, reader, store, source),
         None => read_source(place, reader, store, source),
     }

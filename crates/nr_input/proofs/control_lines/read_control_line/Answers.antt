@@ -2,7 +2,6 @@ use Rattle.std.specs.Prelude.{slice_index}
 use Rattle.std.proofs.Common.{◌≡◌, ◌+◌, ◌-◌, ◌<◌, ◌≤◌, length, length-drop, take, drop, map, ap, ◌∙◌, subst, arith}
 use Rattle.std.proofs.lemmas.List.{length-map, take_all}
 use Rattle.nr_reading.specs.declared.front.Front.TheVariants as fronts
-use Rattle.nr_reading.specs.Passing.{quiet}
 use Rattle.nr_reading.specs.Runs.{HasMet, spot}
 use Rattle.nr_reading.specs.declared.half.Half.{Half}
 use Rattle.std.proofs.Common.{Ok}
