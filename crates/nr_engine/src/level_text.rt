@@ -9,8 +9,7 @@ ghost use Rattle.nr_engine.specs.Running.{MakesInPlace};
 
 use crate::engine::Engine;
 use nr_formatter::runs::Gap;
-use nr_store::{Rest, Sight};
-use crate::plain_text::put_words;
+use nr_store::Sight;
 use nr_store::element::Element;
 
 impl Engine {
@@ -72,22 +71,32 @@ impl Engine {
         plain + gap
     }
 
-    /// Puts the text that the newest level has in front, and tells how many moves that was.
+    /// Reads the newline behind a word that comes next of the newest level, where it does nothing but end the line, and tells
+    /// how many moves that was.
     #[inline(always)]
-    fn put_level_words(&mut self) -> u128
+    fn put_level_newline(&mut self) -> u128
     {
-        let formatter = &mut self.formatter;
-        let mut chunk = [0; CHUNK];
-        let count = copy_text(formatter.store.rest(), &mut chunk);
-        if count == 0 {
-            return 0;
-        }
-        if !formatter.is_in_line() && !formatter.begin_text(&chunk[..count]) {
-            return 0;
-        }
-        let words = put_words(formatter, &chunk[..count]);
-        formatter.store.skip(words.taken as u32);
-        words.moves as u128
+        let moves = match self.formatter.put_newline() {
+            Gap::Left => return 0,
+            Gap::Flows => 2,
+            Gap::Reads => 5,
+        };
+        self.formatter.store.skip(1);
+        moves
+    }
+
+    /// Reads the blank
+    #[inline(always)]
+    fn put_level_blank(&mut self) -> u128
+    {
+        let gap = self.formatter.put_gap();
+        let moves = match gap {
+            Gap::Left => return 0,
+            Gap::Flows => 2,
+            Gap::Reads => 3,
+        };
+        self.formatter.store.skip(1);
+        moves
     }
 
     /// Reads what levels bring. Tells how many moves that was.
@@ -101,15 +110,28 @@ impl Engine {
         run.moves as u128
     }
 
+    #[inline(always)]
+    fn put_next(&mut self) -> u128
+    {
+        let Sight::Item(Element::Byte(byte)) = self.formatter.store.look() else {
+            return 0;
+        };
+        match byte {
+            b' ' => self.put_level_blank(),
+            b'\n' => self.put_level_newline(),
+            _ => self.put_level_plain(),
+        }
+    }
+
     /// Text of levels.
     #[inline(never)]
     pub(crate) fn put_texts(&mut self) -> u128
     {
         let mut moves = 0;
         for _ in 0..4096 {
-            let words = self.put_level_words();
-            moves += words;
-            if words == 0 {
+            let next = self.put_next();
+            moves += next;
+            if next == 0 {
                 let read = self.read_level_part();
                 moves += read;
                 if read == 0 {
@@ -122,35 +144,4 @@ impl Engine {
         }
         moves
     }
-}
-
-const CHUNK: usize = 64;
-
-/// Copies the bytes in front, up to a `\` or behind a newline.
-#[inline(always)]
-fn copy_text(rest: Rest<'_>, chunk: &mut [u8; CHUNK]) -> usize {
-    let mut n = 0;
-    match rest {
-        Rest::Text(elements) => {
-            let most = elements.len().min(CHUNK);
-            while n < most {
-                let Element::Byte(byte) = elements[n] else { return n; };
-                if byte == b'\\' { return n; }
-                chunk[n] = byte;
-                n += 1;
-                if byte == b'\n' { return n; }
-            }
-        }
-        Rest::Bytes(bytes) => {
-            let most = bytes.len().min(CHUNK);
-            while n < most {
-                let byte = bytes[n];
-                if byte == b'\\' { return n; }
-                chunk[n] = byte;
-                n += 1;
-                if byte == b'\n' { return n; }
-            }
-        }
-    }
-    n
 }

@@ -14,9 +14,9 @@ use nr_units::source::Source;
 
 /// How much of some bytes was put.
 #[derive(Clone, Copy)]
-pub(crate) struct Words {
-    pub(crate) taken: usize,
-    pub(crate) moves: usize,
+struct Words {
+    taken: usize,
+    moves: usize,
 }
 
 /// Puts the words that these bytes begin with, with the hyphens, tabs and blanks that go to a word and do not end it, and the blanks
@@ -61,7 +61,7 @@ fn put_line_words(formatter: &mut Formatter, bytes: &[u8]) -> Words
 /// Puts the text that these bytes begin with, in a text line that has begun: its words, and behind the newline that ends it and does
 /// nothing else, where it begins with a byte that is put, the next line's.
 #[inline(always)]
-pub(crate) fn put_words(formatter: &mut Formatter, bytes: &[u8]) -> Words
+fn put_words(formatter: &mut Formatter, bytes: &[u8]) -> Words
     requires line { is_in_line formatter.old ≡ true }
     requires few { length bytes.now < 2 ^ 40 }
     ensures puts { PutsText bytes.now result.taken result.moves formatter.old formatter.new }

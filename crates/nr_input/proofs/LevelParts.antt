@@ -24,6 +24,7 @@ use Rattle.nr_reading.specs.declared.mode.Calls.TheVariants as calls
 use Rattle.nr_reading.specs.Meeting.{meet}
 use Rattle.nr_reading.specs.Seeking.{sought_event}
 use Rattle.nr_reading.specs.Weights.{PaysFor, is_lead}
+use Rattle.nr_reading.proofs.Marks.{meet-mark}
 use Rattle.nr_input.specs.declared.reader.Reader.{Reader}
 use Rattle.nr_input.specs.declared.refusal.Refusal.{Refusal}
 use Rattle.nr_input.specs.declared.refusal.Refusal.TheVariants as refusals
@@ -206,27 +207,24 @@ left-diversions (Mark mode ∷ ls) v = refl
 burst_past-same : (t burst : ℕ) → burst_past t t burst ≡ burst
 burst_past-same t burst = let same : (t == t) ≡ true = eq-eqb t t refl in rw same refl
 
-module _ {K : Type 0} (v w : Stored K) (r : Reader) (k : Half) (seen : Seen) (due : r.half.reading.due ≡ dues.Look) (is : shown v.levels ≡ shows.End) where
+module _ {K : Type 0} (v w : Stored K) (r : Reader) (due : r.half.reading.due ≡ dues.Look) (is : shown v.levels ≡ shows.End) (store : w ≡ left v.levels v) where
   looks : is_look r.half.reading.due ≡ true
   looks = rw due refl
 
-  -- it is taken
-  pub end_read : seen.takes ≡ true → record { half = k; event = seen.event; takes = seen.takes } ≡ meet fronts.Mark r.half → w ≡ left v.levels v
-      → (c : Coming) (p : Reached) (supply : Option Supply) → HoldsComing c p supply → HasRead 1 (situation v c r) seen.event w (record r { half = k }) p supply
-  end_read takes meets store c p supply holds =
-      let there : record { half = k; event = seen.event; takes = true } ≡ meet fronts.Mark r.half = ap (λ (b : Bool). record { half = k; event = seen.event; takes = b }) (sym takes) ∙ meets in
-      let m = taken_moves v r c k seen.event p p fronts.Mark w (tells.Event seen.event) r.burst supply supply looks (sym (ap (λ (x : Shown K). front x c) is)) holds
-          (subst (λ (x : Shown K). MayLook x c) (sym is) tt) there store (subst (λ (x : Shown K). HoldsComing (behind x c) p supply) (sym is) holds)
-          (sym (burst_past-same p.taken r.burst)) (ap (λ (x : Shown K). told_of x seen.event) (sym is)) in
-      moved_once (situation v c r) seen.event w (record r { half = k }) p supply m.0 m.1 m.2
+  -- it does nothing to what is half read
+  passed_by_half : PaysFor fronts.Mark r.half r.half (record { event = events.Nothing; takes = true })
+  passed_by_half = record { pays = omega arith; tells = refl }
 
-  pub end_paid : seen.takes ≡ true → PaysFor fronts.Mark r.half k seen → w ≡ left v.levels v → (p : Reached) → PaysMany 1 v p r seen.event w p (record r { half = k })
-  end_paid takes paid store p =
-      many_of_one v w p p r (record r { half = k }) seen.event paid.tells (let same = ap (λ (x : Stored K). diversions_in x.building) store ∙ left-diversions v.levels v in omega (arith, same))
-      (look_takes v w p p p r fronts.Mark k seen r.burst (tells.Event seen.event) looks (record { taken = refl; inside = refl }) (sym (ap (λ (x : Shown K). front_seen x p) is)) (λ look. paid) takes
-      store (sym (ap (λ (x : Shown K). passed_in x p) is)) (sym (burst_past-same p.taken r.burst)) (ap (λ (x : Shown K). told_of x seen.event) (sym is)))
+  pub end_read : (c : Coming) (p : Reached) (supply : Option Supply) → HoldsComing c p supply → HasRead 1 (situation v c r) events.Nothing w r p supply
+  end_read c p supply holds =
+      let m = taken_moves v r c r.half events.Nothing p p fronts.Mark w (tells.Event events.Nothing) r.burst supply supply looks (sym (ap (λ (x : Shown K). front x c) is)) holds
+          (subst (λ (x : Shown K). MayLook x c) (sym is) tt) (sym (meet-mark r.half)) store (subst (λ (x : Shown K). HoldsComing (behind x c) p supply) (sym is) holds)
+          (sym (burst_past-same p.taken r.burst)) (ap (λ (x : Shown K). told_of x events.Nothing) (sym is)) in
+      moved_once (situation v c r) events.Nothing w r p supply m.0 m.1 m.2
 
-  -- it stays
-  pub end_left_paid : seen.takes ≡ false → PaysFor fronts.Mark r.half k seen → (p : Reached) → PaysMany 1 v p r seen.event v p (record r { half = k })
-  end_left_paid leaves paid p =
-      many_of_one v v p p r (record r { half = k }) seen.event paid.tells (omega arith) (look_leaves v p p r fronts.Mark k seen looks (record { taken = refl; inside = refl }) (λ look. paid) leaves)
+  pub end_paid : (p : Reached) → PaysMany 1 v p r events.Nothing w p r
+  end_paid p =
+      many_of_one v w p p r r events.Nothing refl (let same = ap (λ (x : Stored K). diversions_in x.building) store ∙ left-diversions v.levels v in omega (arith, same))
+      (look_takes v w p p p r fronts.Mark r.half (record { event = events.Nothing; takes = true }) r.burst (tells.Event events.Nothing) looks (record { taken = refl; inside = refl })
+      (sym (ap (λ (x : Shown K). front_seen x p) is)) (λ look. passed_by_half) refl store (sym (ap (λ (x : Shown K). passed_in x p) is)) (sym (burst_past-same p.taken r.burst))
+      (ap (λ (x : Shown K). told_of x events.Nothing) (sym is)))

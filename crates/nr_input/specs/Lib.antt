@@ -2,6 +2,7 @@ pub mod Acting
 pub mod AtHand
 pub mod Coming
 pub mod Hearing
+pub mod Interpolations
 pub mod Laws
 pub mod Levels
 pub mod Limits

@@ -28,9 +28,14 @@ const LONGEST: usize = 32_768;
 /// The most bytes of a level in one run.
 const CHUNK: usize = 256;
 
-// Adds a front of these bytes, each of which stands for itself, as far as they find room. Answers how many.
+/// Adds a front of these bytes, each of which stands for itself, as far as they find room. Answers how many.
 #[inline]
-fn add_front<K: Copy>(target: Target, half: &Half, store: &mut Store<K>, bytes: &[u8]) -> usize
+pub(crate) fn add_front<K: Copy>(
+    target: Target,
+    half: &Half,
+    store: &mut Store<K>,
+    bytes: &[u8],
+) -> usize
     ensures front { result ≤ length bytes.now }
     ensures few { result ≤ 32768 }
     ensures plain { All (IsPlain (ending_of half.now.reading.mode)) (take result bytes.now) }

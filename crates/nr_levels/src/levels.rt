@@ -245,6 +245,18 @@ impl<K: Copy> Levels<K> {
         span.last.saturating_sub(span.first) as usize
     }
 
+    /// The bytes of an argument. They are counted from 0; an absent one has none.
+    #[inline]
+    pub fn argument_bytes(&self, n: usize) -> &[u8]
+        ensures { result.now ≡ argument self.now.arguments n }
+    {
+        let span = span_of(&self.places, self.in_force, n);
+        if span.last <= span.first {
+            return &[];
+        }
+        &self.bytes.as_slice()[span.first as usize..span.last as usize]
+    }
+
     /// Opens a level that reads an argument where it lies. The arguments stay in force.
     pub fn open_argument(&mut self, n: usize, charge: u32)
         requires room { length self.old.levels < self.old.most }
