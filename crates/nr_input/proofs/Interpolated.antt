@@ -1,6 +1,6 @@
 -- Bytes that are spliced and read with no level opened for them, as moves of the machine that reads: a level that brings them is
 -- opened, they are read, and its end is taken.
-use Rattle.std.specs.Prelude.{map, nat_le, nat_lt}
+use Rattle.std.specs.Prelude.{map, nat_le, nat_lt, OnOk}
 use Rattle.std.proofs.Common.{◌≡◌, ◌==◌, ℕ, zero, suc, ◌+◌, ◌*◌, ◌<◌, ◌≤◌, Bool, true, false, List, [], ◌∷◌, ◌++◌, length, take, drop, All, Option, None, Ok, inl, inr, sum_by, refl, ap, ap₂, sym, ◌∙◌, subst, length-append, arith, Result, Err, if◌then◌else◌}
 use Rattle.std.proofs.lemmas.Bool.{cases_lt, cases_Bool, le-ltb, lt-leb, eq-eqb}
 use Rattle.std.proofs.lemmas.List.{length-map, length-take, take_all, drop_all}
@@ -8,11 +8,12 @@ use Rattle.std.proofs.lemmas.List.Sums.{sum_by-cons}
 use Rattle.nr_units.specs.Supply.{Supply}
 use Rattle.nr_levels.specs.Gathered.{Gathered, gathered_len, with_bytes}
 use Rattle.nr_levels.specs.Laws.{with_bytes-full, with_bytes-more}
-use Rattle.nr_store.specs.Stored.{Stored, Built, Level, Read, Reading, charge_of, level_charge, text_charge, own_text, reading_bytes, weight, longer, on_newest}
+use Rattle.nr_store.specs.Stored.{Stored, Built, Level, Read, Reading, charge_of, checked, level_charge, text_charge, own_text, reading_bytes, weight, longer, on_newest}
 use Rattle.nr_store.specs.Windows.{rest_of, left_times, run_left, levels_behind}
 use Rattle.nr_store.specs.Laws.{left_times-run}
 use Rattle.nr_store.specs.declared.element.Element.{Element}
 use Rattle.nr_store.specs.declared.element.Element.TheVariants as elements
+use Rattle.nr_store.specs.declared.refusal.Refusal as stored
 use Rattle.nr_store.specs.declared.refusal.Refusal.TheVariants as stores
 use Rattle.nr_reading.specs.declared.ask.Ask.{Ask}
 use Rattle.nr_reading.specs.declared.event.Event.{Event}
@@ -95,6 +96,9 @@ charge-reading {K} bytes v =
     let level : Level K = Read (record { rest = map elements.Byte bytes; old = v.arguments; charge = 32 + length bytes; resume = None }) in
     omega (arith, sum_by-cons level_charge level v.levels, sum_by-cons text_charge own_text v.texts)
 
+abbrev opening : Bool → Bool → Result (Unit {0}) stored.Refusal
+opening charged deep = if charged then Err stores.Stored else (if deep then Err stores.Depth else Ok tt)
+
 -- whether it is, by the tests that it meets
 allowed : (charged deep : Bool) (r : Reader) → charged ≡ false → deep ≡ false → nat_le r.most r.burst ≡ false
     → splicing_by (if charged then Err stores.Stored else (if deep then Err stores.Depth else Ok true)) r ≡ Ok tt
@@ -108,6 +112,19 @@ splicing-allowed bytes v r room =
     let depth = room.depth in
     allowed (nat_lt w.limit (charge_of w)) (nat_lt w.deepest (length w.levels)) r (le-ltb w.limit (charge_of w) (omega (arith, is, charge))) (le-ltb w.deepest (length w.levels) (omega (arith, depth)))
     (lt-leb r.most r.burst room.burst)
+
+-- the same, as the program opens it
+opens_by : (charged deep : Bool) → charged ≡ false → deep ≡ false → opening charged deep ≡ Ok tt
+opens_by charged deep few shallow = rw (few, shallow) refl
+
+pub entered_bytes : {K : Type 0} (bytes : List ℕ) (w u : Stored K) (x : Result (Unit {0}) stored.Refusal) → charge_of w + (32 + length bytes) ≤ w.limit → length w.levels < w.deepest
+    → x ≡ checked (reading_bytes bytes w) tt → OnOk x (u ≡ reading_bytes bytes w) → u ≡ reading_bytes bytes w
+entered_bytes bytes w u x charge depth is ok =
+    let y = reading_bytes bytes w in
+    let charged = charge-reading bytes w in
+    let opens : checked y tt ≡ Ok tt =
+    opens_by (nat_lt y.limit (charge_of y)) (nat_lt y.deepest (length y.levels)) (le-ltb y.limit (charge_of y) (omega (arith, charged, charge))) (le-ltb y.deepest (length y.levels) (omega (arith, depth))) in
+    subst (λ (z : Result (Unit {0}) stored.Refusal). OnOk z (u ≡ y)) (is ∙ opens) ok
 
 module _ {K : Type 0} (bytes : List ℕ) (v : Stored K) (r : Reader) (splice : IsSplice bytes v r) (room : HasRoom bytes v r) where
   acts_so : called (reading_bytes bytes v) (expanded r) (Ok events.Nothing) ≡ acted r.half.reading.due v r
