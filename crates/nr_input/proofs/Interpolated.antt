@@ -1,30 +1,26 @@
 -- Bytes that are spliced and read with no level opened for them, as moves of the machine that reads: a level that brings them is
 -- opened, they are read, and its end is taken.
 use Rattle.std.specs.Prelude.{map, nat_le, nat_lt, OnOk}
-use Rattle.std.proofs.Common.{◌≡◌, ◌==◌, ℕ, zero, suc, ◌+◌, ◌*◌, ◌<◌, ◌≤◌, Bool, true, false, List, [], ◌∷◌, ◌++◌, length, take, drop, All, Option, None, Ok, inl, inr, sum_by, refl, ap, ap₂, sym, ◌∙◌, subst, length-append, arith, Result, Err, if◌then◌else◌}
+use Rattle.std.proofs.Common.{◌≡◌, ◌==◌, ℕ, ◌+◌, ◌*◌, ◌<◌, ◌≤◌, Bool, true, false, List, [], ◌∷◌, length, take, drop, All, Option, None, Ok, inl, inr, sum_by, refl, ap, ap₂, sym, ◌∙◌, subst, length-append, arith, Result, Err, if◌then◌else◌}
 use Rattle.std.proofs.lemmas.Bool.{cases_lt, cases_Bool, le-ltb, lt-leb, eq-eqb}
 use Rattle.std.proofs.lemmas.List.{length-map, length-take, take_all, drop_all}
 use Rattle.std.proofs.lemmas.List.Sums.{sum_by-cons}
 use Rattle.nr_units.specs.Supply.{Supply}
 use Rattle.nr_levels.specs.Gathered.{Gathered, gathered_len, with_bytes}
 use Rattle.nr_levels.specs.Laws.{with_bytes-full, with_bytes-more}
-use Rattle.nr_store.specs.Stored.{Stored, Built, Level, Read, Reading, charge_of, checked, level_charge, text_charge, own_text, reading_bytes, weight, longer, on_newest}
-use Rattle.nr_store.specs.Windows.{rest_of, left_times, run_left, levels_behind}
+use Rattle.nr_store.specs.Stored.{Stored, Built, Level, Read, charge_of, checked, level_charge, text_charge, own_text, reading_bytes, weight, longer, on_newest}
+use Rattle.nr_store.specs.Windows.{rest_of, left_times}
 use Rattle.nr_store.specs.Laws.{left_times-run}
 use Rattle.nr_store.specs.declared.element.Element.{Element}
 use Rattle.nr_store.specs.declared.element.Element.TheVariants as elements
 use Rattle.nr_store.specs.declared.refusal.Refusal as stored
 use Rattle.nr_store.specs.declared.refusal.Refusal.TheVariants as stores
-use Rattle.nr_reading.specs.declared.ask.Ask.{Ask}
 use Rattle.nr_reading.specs.declared.event.Event.{Event}
 use Rattle.nr_reading.specs.declared.event.Event.TheVariants as events
 use Rattle.nr_reading.specs.declared.front.Front.TheVariants as fronts
-use Rattle.nr_reading.specs.declared.half.Half.{Half}
 use Rattle.nr_reading.specs.declared.mode.Due.TheVariants as dues
 use Rattle.nr_reading.specs.InArgument.{ending_of, IsPlain}
-use Rattle.nr_reading.specs.Asking.{is_size}
-use Rattle.nr_reading.specs.Meeting.{Met, meet, meet_by, silent, escaping}
-use Rattle.nr_reading.specs.Modes.{is_direct}
+use Rattle.nr_reading.specs.Meeting.{Met, meet, silent}
 use Rattle.nr_reading.specs.Runs.{Spot, HasMet}
 use Rattle.nr_reading.proofs.Marks.{meet-mark}
 use Rattle.nr_input.specs.declared.reader.Reader.{Reader}
@@ -35,11 +31,11 @@ use Rattle.nr_input.specs.declared.refusal.Refusal.{Refusal}
 use Rattle.nr_input.specs.Acting.{Acted, expanded, is_look}
 use Rattle.nr_input.specs.Coming.{Coming, Reached, HoldsComing, element_front}
 use Rattle.nr_input.specs.Interpolations.{IsSplice}
-use Rattle.nr_input.specs.Moving.{Situation, Stands, situation, met_at, move, Goes}
+use Rattle.nr_input.specs.Moving.{Situation, situation, met_at, move, Goes}
 use Rattle.nr_input.specs.Refusals.{called, acted, acted_by, splicing_by, splicing_answer}
 use Rattle.nr_input.specs.Runs.{HasRead, PaysAll, moves, told_last}
 use Rattle.nr_input.specs.Targets.{is_read_for, with_more}
-use Rattle.nr_input.specs.Weights.{items_in, items_left, expansions_worth, diversions_in}
+use Rattle.nr_input.specs.Weights.{items_in}
 use Rattle.nr_input.proofs.ControlLines.{then_read, quietly_add, done_quietly, pays_then, pays_once}
 use Rattle.nr_input.proofs.Putting.{Quietly, quiet, one_more, no_moves, has_read_quietly}
 use Rattle.nr_input.proofs.PuttingLevel.{AreFront, level_added, level_added_pays}

@@ -1,6 +1,6 @@
 -- What levels bring, part by part, as moves of the machine that reads and what they cost.
 use Rattle.std.specs.Prelude.{◌&&◌, nat_lt, nat_le}
-use Rattle.std.proofs.Common.{◌≡◌, ℕ, ◌+◌, ◌≤◌, ◌<◌, ◌==◌, Bool, true, false, if◌then◌else◌, List, [], ◌∷◌, Option, Result, Ok, Err, refl, ap, ap₂, sym, ◌∙◌, subst, arith}
+use Rattle.std.proofs.Common.{◌≡◌, ℕ, ◌+◌, ◌≤◌, ◌==◌, Bool, true, false, if◌then◌else◌, List, [], ◌∷◌, Option, Result, Ok, Err, refl, ap, ap₂, sym, ◌∙◌, subst, arith}
 use Rattle.std.proofs.lemmas.Bool.{eq-eqb, lt-leb, ltb-true}
 use Rattle.nr_units.specs.Supply.{Supply}
 use Rattle.nr_store.specs.Stored.{Stored, Level, Read, Mark, Reading, shown, left, left_of, afforded, checked}
@@ -12,17 +12,10 @@ use Rattle.nr_store.specs.declared.shown.Shown.{Shown}
 use Rattle.nr_store.specs.declared.shown.Shown.TheVariants as shows
 use Rattle.nr_reading.specs.declared.event.Event.{Event}
 use Rattle.nr_reading.specs.declared.event.Event.TheVariants as events
-use Rattle.nr_reading.specs.declared.front.Front.{Front}
 use Rattle.nr_reading.specs.declared.front.Front.TheVariants as fronts
-use Rattle.nr_reading.specs.declared.half.Half.{Half}
-use Rattle.nr_reading.specs.declared.half.Seen.{Seen}
 use Rattle.nr_reading.specs.declared.ask.Sign.TheVariants as signs
 use Rattle.nr_reading.specs.declared.mode.Due.{Due}
 use Rattle.nr_reading.specs.declared.mode.Due.TheVariants as dues
-use Rattle.nr_reading.specs.declared.mode.Calls.{Calls}
-use Rattle.nr_reading.specs.declared.mode.Calls.TheVariants as calls
-use Rattle.nr_reading.specs.Meeting.{meet}
-use Rattle.nr_reading.specs.Seeking.{sought_event}
 use Rattle.nr_reading.specs.Weights.{PaysFor, is_lead}
 use Rattle.nr_reading.proofs.Marks.{meet-mark}
 use Rattle.nr_input.specs.declared.reader.Reader.{Reader}
@@ -30,8 +23,8 @@ use Rattle.nr_input.specs.declared.refusal.Refusal.{Refusal}
 use Rattle.nr_input.specs.declared.refusal.Refusal.TheVariants as refusals
 use Rattle.nr_input.specs.declared.told.Told.TheVariants as tells
 use Rattle.nr_input.specs.Acting.{Acted, act, is_look, meaning_in, calls_of}
-use Rattle.nr_input.specs.Refusals.{Called, called, acted, answer, answer_to, asking, Asking, Nothing, Bytes, Splice, Refused, stored_by, reader_by, storing_by, splicing_by, expanding_answer, refusal_of}
-use Rattle.nr_input.specs.Coming.{Coming, Reached, StaysThere, HoldsComing, MayLook, front, behind, front_seen, passed_in}
+use Rattle.nr_input.specs.Refusals.{called, acted, answer, answer_to, asking, Asking, Nothing, Bytes, Splice, Refused, stored_by, reader_by, storing_by, splicing_by}
+use Rattle.nr_input.specs.Coming.{Coming, Reached, HoldsComing, MayLook, front, behind, front_seen, passed_in}
 use Rattle.nr_input.specs.Levels.{acts_by, may_act}
 use Rattle.nr_input.specs.Moving.{Situation, Stands, situation, move, Goes, told_of, burst_past}
 use Rattle.nr_input.specs.Runs.{HasRead, PaysAll, PaysMany, moves, told_last}
@@ -42,7 +35,7 @@ use Rattle.nr_input.proofs.LevelLines.{then_reads}
 use Rattle.nr_input.proofs.Refusals.{acted-ok, called-err}
 use Rattle.nr_input.proofs.Spending.{act_pays}
 use Rattle.nr_input.proofs.Staying.{act_begins_none}
-use Rattle.nr_input.proofs.Taking.{look_takes, look_leaves}
+use Rattle.nr_input.proofs.Taking.{look_takes}
 
 -- ---- what moves cost
 
@@ -218,8 +211,8 @@ module _ {K : Type 0} (v w : Stored K) (r : Reader) (due : r.half.reading.due �
   pub end_read : (c : Coming) (p : Reached) (supply : Option Supply) → HoldsComing c p supply → HasRead 1 (situation v c r) events.Nothing w r p supply
   end_read c p supply holds =
       let m = taken_moves v r c r.half events.Nothing p p fronts.Mark w (tells.Event events.Nothing) r.burst supply supply looks (sym (ap (λ (x : Shown K). front x c) is)) holds
-          (subst (λ (x : Shown K). MayLook x c) (sym is) tt) (sym (meet-mark r.half)) store (subst (λ (x : Shown K). HoldsComing (behind x c) p supply) (sym is) holds)
-          (sym (burst_past-same p.taken r.burst)) (ap (λ (x : Shown K). told_of x events.Nothing) (sym is)) in
+      (subst (λ (x : Shown K). MayLook x c) (sym is) tt) (sym (meet-mark r.half)) store (subst (λ (x : Shown K). HoldsComing (behind x c) p supply) (sym is) holds)
+      (sym (burst_past-same p.taken r.burst)) (ap (λ (x : Shown K). told_of x events.Nothing) (sym is)) in
       moved_once (situation v c r) events.Nothing w r p supply m.0 m.1 m.2
 
   pub end_paid : (p : Reached) → PaysMany 1 v p r events.Nothing w p r

@@ -1,5 +1,5 @@
 -- What levels bring: what is due there, as far as it is done at once.
-use Rattle.std.specs.Prelude.{ℕ, ◌&&◌, nat_lt, Bool, true, false}
+use Rattle.std.specs.Prelude.{◌&&◌, nat_lt, Bool, true, false}
 use Rattle.nr_reading.specs.declared.mode.Due.{Due}
 use Rattle.nr_reading.specs.declared.mode.Due.TheVariants as dues
 use Rattle.nr_input.specs.declared.reader.Reader.{Reader}

@@ -14,8 +14,8 @@ ghost use Rattle.nr_input.specs.Limits.{limits_of};
 ghost use Rattle.nr_input.specs.Moving.{situation};
 ghost use Rattle.nr_input.specs.Runs.{HasRead, PaysMany, StopsInLevel, IsLongestInLevel, IsLongestUpToText};
 
-use super::level_lines::read_level_line;
 use super::interpolations::Moved;
+use super::level_lines::read_level_line;
 use super::reader::Reader;
 use super::runs::read_run_of_level;
 use nr_reading::{Due, Event, Mode, Run};

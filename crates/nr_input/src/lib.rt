@@ -24,9 +24,9 @@ mod target;
 mod told;
 
 pub use at_hand::{take_window, window};
+pub use control_lines::{read_control_line, read_next};
 pub use interpolations::Moved;
 pub use levels::read_levels;
-pub use control_lines::{read_control_line, read_next};
 pub use moving::advance;
 pub use nr_reading::{Event, Question, Standing};
 pub use place::{Ahead, Place};
