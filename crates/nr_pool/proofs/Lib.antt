@@ -4,3 +4,4 @@ pub mod Rotation
 pub mod Changes
 pub mod Exchange
 pub mod Rooms
+mod Rotating

@@ -1,8 +1,13 @@
 //! Where the texts of a pool lie.
-ghost use Rattle.std.specs.Prelude.{◌≡◌, ◌≢◌, ℕ, ◌+◌, ◌-◌, ◌^◌, ◌<◌, ◌≤◌, ◌⊎◌, [], ◌∷◌, ◌++◌, length, IfSome, None, vec_len, vec_capacity};
+ghost use Rattle.std.specs.Prelude.{◌≡◌, ◌≢◌, ℕ, ◌+◌, ◌-◌, ◌^◌, ◌<◌, ◌≤◌, ◌⊎◌, [], ◌∷◌, ◌++◌, length, take, drop, IfSome, None, vec_len, vec_capacity};
 ghost use Rattle.nr_pool.specs.Places.{texts_of, slot_at, blank_slot, is_behind, IsPacked};
 ghost use Rattle.nr_pool.specs.Spares.{HasSpares};
 ghost use Rattle.nr_pool.specs.Exchange.{LiesAt, IsSwapped, IsExchanged};
+
+/// How many elements are moved one by one, and among how many.
+const FEW: usize = 8;
+
+const SHORT: usize = 64;
 
 /// What a `Pool` keeps for one text: 12 bytes.
 #[derive(Clone, Copy, Drop)]
@@ -105,6 +110,22 @@ fn exchange<T: Copy>(elements: &mut [T], slots: &mut [Slot], used: u32, index: u
     slots[last].start = start;
 }
 
+// Moves the first n elements behind the others. Where they are few they go one by one: the room in which `rotate_left` has them wait
+// is large, and cleared each time.
+#[inline]
+fn rotate<T: Copy>(part: &mut [T], n: usize)
+    requires { n ≤ length part.old }
+    ensures after { part.new ≡ drop n part.old ++ take n part.old }
+{
+    if n > FEW || part.len() > SHORT {
+        part.rotate_left(n);
+        return;
+    }
+    for _ in 0..n {
+        part.rotate_left(1);
+    }
+}
+
 // Moves the text at `index` behind all others: the elements from it on are rotated, and the texts behind it begin earlier.
 fn rotate_last<T: Copy>(elements: &mut [T], slots: &mut [Slot], used: u32, index: usize)
     requires packed { IsPacked (length elements.old) slots.old used }
@@ -124,7 +145,7 @@ fn rotate_last<T: Copy>(elements: &mut [T], slots: &mut [Slot], used: u32, index
     if end == used {
         return;
     }
-    elements[start as usize..used as usize].rotate_left(len as usize);
+    rotate(&mut elements[start as usize..used as usize], len as usize);
     for i in 0..slots.len() {
         let slot = &mut slots[i];
         if slot.is_behind(end) {

@@ -23,12 +23,12 @@ loop-i-preserved g c =
 
 pub returns-clause-packed : goal.returns-clause-packed
 returns-clause-packed g c =
-    (brought_last _ _ _ _ _ _ _ _ _ _ c.requires.packed c.requires.within c.requires.held refl refl (omega arith) refl c.rotate_left.ensures.after (all_shifted _ _ c.loop-i.i c.args.slots.now _ c.loop-i.invariant (omega (arith, c.loop-i-test.false))) refl).packed
+    (brought_last _ _ _ _ _ _ _ _ _ _ c.requires.packed c.requires.within c.requires.held refl refl (omega arith) refl c.rotate.ensures.after (all_shifted _ _ c.loop-i.i c.args.slots.now _ c.loop-i.invariant (omega (arith, c.loop-i-test.false))) refl).packed
 
 pub returns-clause-same : goal.returns-clause-same
 returns-clause-same g c =
-    (brought_last _ _ _ _ _ _ _ _ _ _ c.requires.packed c.requires.within c.requires.held refl refl (omega arith) refl c.rotate_left.ensures.after (all_shifted _ _ c.loop-i.i c.args.slots.now _ c.loop-i.invariant (omega (arith, c.loop-i-test.false))) refl).same
+    (brought_last _ _ _ _ _ _ _ _ _ _ c.requires.packed c.requires.within c.requires.held refl refl (omega arith) refl c.rotate.ensures.after (all_shifted _ _ c.loop-i.i c.args.slots.now _ c.loop-i.invariant (omega (arith, c.loop-i-test.false))) refl).same
 
 pub returns-clause-spares : goal.returns-clause-spares
 returns-clause-spares g c =
-    (brought_last _ _ _ _ _ _ _ _ _ _ c.requires.packed c.requires.within c.requires.held refl refl (omega arith) refl c.rotate_left.ensures.after (all_shifted _ _ c.loop-i.i c.args.slots.now _ c.loop-i.invariant (omega (arith, c.loop-i-test.false))) refl).spares
+    (brought_last _ _ _ _ _ _ _ _ _ _ c.requires.packed c.requires.within c.requires.held refl refl (omega arith) refl c.rotate.ensures.after (all_shifted _ _ c.loop-i.i c.args.slots.now _ c.loop-i.invariant (omega (arith, c.loop-i-test.false))) refl).spares
