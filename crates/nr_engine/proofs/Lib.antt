@@ -4,6 +4,7 @@ mod Choosing
 mod EmptyLines
 mod Gliding
 mod Going
+mod LevelNewlines
 mod LevelText
 mod LimitsStay
 mod Lightening

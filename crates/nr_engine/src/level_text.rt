@@ -12,6 +12,9 @@ use nr_formatter::runs::Gap;
 use nr_store::Sight;
 use nr_store::element::Element;
 
+/// The most words, newlines and interpolations of a text in one call.
+const MOST_PARTS: u32 = 4096;
+
 impl Engine {
     /// Reads and puts the plain bytes that come next of the newest level, in a text line that has begun, and tells how many
     /// moves that was.
@@ -60,8 +63,8 @@ impl Engine {
 
     /// Reads and puts the plain bytes of the newest level and the blank behind them, in a text line that has begun, and tells
     /// how many moves that was.
-    #[inline]
-    pub(crate) fn put_level_text(&mut self) -> u128
+    #[inline(always)]
+    fn put_level_word(&mut self) -> u128
         requires line { is_in_line self.old.formatter ≡ true }
         ensures puts { MakesInPlace result (shape self.old) (shape self.new) }
         ensures few { result ≤ 131 }
@@ -71,12 +74,29 @@ impl Engine {
         plain + gap
     }
 
+    /// Whether a newline comes next of the newest level.
+    #[inline]
+    fn is_newline_next(&self) -> bool
+        ensures newline { result ≡ true → shown self.now.formatter.store.levels ≡ shows.Item (elements.Byte 10) }
+    {
+        let Sight::Item(Element::Byte(byte)) = self.formatter.store.look() else {
+            return false;
+        };
+        byte == b'\n'
+    }
+
     /// Reads the newline behind a word that comes next of the newest level, where it does nothing but end the line, and tells
     /// how many moves that was.
     #[inline(always)]
     fn put_level_newline(&mut self) -> u128
+        ensures puts { MakesInPlace result (shape self.old) (shape self.new) }
+        ensures few { result ≤ 5 }
     {
-        let moves = match self.formatter.put_newline() {
+        if !self.is_newline_next() {
+            return 0;
+        }
+        let gap = self.formatter.put_newline();
+        let moves = match gap {
             Gap::Left => return 0,
             Gap::Flows => 2,
             Gap::Reads => 5,
@@ -85,60 +105,38 @@ impl Engine {
         moves
     }
 
-    /// Reads the blank
+    /// Reads and puts what comes next of the newest level in a text line that has begun: a word, a newline that does nothing but end
+    /// the line, or else what levels bring. Tells how many moves that was.
     #[inline(always)]
-    fn put_level_blank(&mut self) -> u128
+    fn put_level_next(&mut self) -> u128
+        requires line { is_in_line self.old.formatter ≡ true }
+        ensures puts { MakesInPlace result (shape self.old) (shape self.new) }
+        ensures few { result ≤ 65541 * 4096 }
     {
-        let gap = self.formatter.put_gap();
-        let moves = match gap {
-            Gap::Left => return 0,
-            Gap::Flows => 2,
-            Gap::Reads => 3,
-        };
-        self.formatter.store.skip(1);
-        moves
-    }
-
-    /// Reads what levels bring. Tells how many moves that was.
-    #[inline(always)]
-    fn read_level_part(&mut self) -> u128
-    {
-        let formatter = &mut self.formatter;
-        let run = nr_input::read_levels(&mut formatter.reader, &mut formatter.store, &mut self.resumed);
-        self.formatter.event = run.event;
-        self.formatter.fit_memory();
-        run.moves as u128
-    }
-
-    #[inline(always)]
-    fn put_next(&mut self) -> u128
-    {
-        let Sight::Item(Element::Byte(byte)) = self.formatter.store.look() else {
-            return 0;
-        };
-        match byte {
-            b' ' => self.put_level_blank(),
-            b'\n' => self.put_level_newline(),
-            _ => self.put_level_plain(),
+        let word = self.put_level_word();
+        if word > 0 {
+            return word;
         }
+        let newline = self.put_level_newline();
+        if newline > 0 {
+            return newline;
+        }
+        self.read_levels_once()
     }
 
-    /// Text of levels.
+    /// Reads and puts the text of levels, in a text line that has begun, as long as it is in such a line, and tells how many moves
+    /// that was.
     #[inline(never)]
-    pub(crate) fn put_texts(&mut self) -> u128
+    pub(crate) fn put_level_text(&mut self) -> u128
+        requires line { is_in_line self.old.formatter ≡ true }
+        ensures puts { MakesInPlace result (shape self.old) (shape self.new) }
+        ensures few { result ≤ 4096 * (65541 * 4096) }
     {
-        let mut moves = 0;
-        for _ in 0..4096 {
-            let next = self.put_next();
+        let mut moves = 0u128;
+        for _ in 0..MOST_PARTS {
+            let next = self.put_level_next();
             moves += next;
-            if next == 0 {
-                let read = self.read_level_part();
-                moves += read;
-                if read == 0 {
-                    return moves;
-                }
-            }
-            if !self.formatter.is_in_line() {
+            if next == 0 || !self.formatter.is_in_line() {
                 return moves;
             }
         }

@@ -68,34 +68,24 @@ impl Engine {
         moves
     }
 
-    /// What levels bring is read, and requests of it that only set take effect.
+    /// What levels bring is read, and requests of it that only set take effect. Tells how many moves that was.
     #[inline(never)]
     pub(crate) fn read_levels(&mut self) -> u128
+        ensures reads { MakesInPlace result (shape self.old) (shape self.new) }
+        ensures few { result ≤ 4096 * (65541 * 4096 + 3) }
     {
         let mut moves = 0u128;
-        if !self.reads_next() {
-            return 0;
-        }
         for _ in 0..MOST_LINES {
-            let formatter = &mut self.formatter;
-            let run = nr_input::read_levels(&mut formatter.reader, &mut formatter.store, &mut self.resumed);
-            self.formatter.event = run.event;
-            self.formatter.fit_memory();
-            moves += run.moves as u128;
-            match run.event {
-                Event::Request => {
-                    let obeyed = self.obey();
-                    moves += obeyed;
-                    if obeyed == 0 {
-                        return moves;
-                    }
-                }
-                Event::Judge(question) => {
-                    self.formatter.judge(question);
-                    moves += 1;
-                }
+            moves += self.read_levels_once();
+            match self.formatter.event {
+                Event::Request => {}
                 _ => return moves,
             }
+            let obeyed = self.obey();
+            if obeyed == 0 {
+                return moves;
+            }
+            moves += obeyed;
         }
         moves
     }

@@ -140,7 +140,7 @@ impl Engine {
             if !in_line {
                 return 0;
             }
-            return self.put_texts();
+            return self.put_level_text();
         }
         if !in_line && !self.begin_text(input) {
             return 0;

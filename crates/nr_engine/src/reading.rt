@@ -1,9 +1,9 @@
 //! Many moves that read, in one call.
-ghost use Rattle.std.specs.Prelude.{◌≡◌, ◌≤◌, true, None};
+ghost use Rattle.std.specs.Prelude.{◌≡◌, ◌*◌, ◌≤◌, true, None};
 ghost use Rattle.nr_reading.specs.declared.event.Event.TheVariants as events;
 ghost use Rattle.nr_formatter.specs.declared.tasks.Task.TheVariants as tasks;
 ghost use Rattle.nr_engine.specs.Holding.{shape};
-ghost use Rattle.nr_engine.specs.Running.{MakesReading};
+ghost use Rattle.nr_engine.specs.Running.{MakesInPlace, MakesReading};
 
 use crate::engine::Engine;
 use nr_formatter::tasks::Task;
@@ -54,6 +54,26 @@ impl Engine {
             &mut formatter.reader,
             &mut formatter.store,
             input,
+        );
+        self.formatter.event = run.event;
+        self.formatter.fit_memory();
+        run.moves as u128
+    }
+
+    /// What levels bring is read, up to what tells something and to text, if the input is read next. Tells how many moves that was.
+    #[inline(always)]
+    pub(crate) fn read_levels_once(&mut self) -> u128
+        ensures reads { MakesInPlace result (shape self.old) (shape self.new) }
+        ensures few { result ≤ 65541 * 4096 }
+    {
+        if !self.reads_next() {
+            return 0;
+        }
+        let formatter = &mut self.formatter;
+        let run = nr_input::read_levels(
+            &mut formatter.reader,
+            &mut formatter.store,
+            &mut self.resumed,
         );
         self.formatter.event = run.event;
         self.formatter.fit_memory();

@@ -1,7 +1,7 @@
 use Rattle.std.proofs.Common.{◌∙◌}
 use Rattle.nr_engine.specs.Holding.{shape}
 use Rattle.nr_engine.proofs.Travelling.{makes-add}
-use Rattle.nr_engine.proofs.engine.Engine.put_level_text.Goals as goal
+use Rattle.nr_engine.proofs.engine.Engine.put_level_word.Goals as goal
 
 pub returns-clause-puts : goal.returns-clause-puts
 returns-clause-puts c =
