@@ -1,5 +1,5 @@
 //! Requests that only set: many moves in one call.
-ghost use Rattle.std.specs.Prelude.{◌≡◌, ◌*◌, ◌<◌, ◌≤◌};
+ghost use Rattle.std.specs.Prelude.{◌≡◌, ◌+◌, ◌*◌, ◌<◌, ◌≤◌};
 ghost use Rattle.nr_reading.specs.declared.event.Event.TheVariants as events;
 ghost use Rattle.nr_engine.specs.Holding.{shape, ReadsNext};
 ghost use Rattle.nr_engine.specs.Running.{MakesInPlace, MakesReading};

@@ -1,4 +1,4 @@
-use Rattle.std.proofs.Common.{◌*◌, ◌≤◌}
+use Rattle.std.proofs.Common.{◌+◌, ◌*◌, ◌≤◌}
 use Rattle.nr_engine.specs.Holding.{shape}
 use Rattle.nr_engine.specs.Running.{MakesInPlace}
 use Rattle.nr_engine.proofs.engine.Engine.read_levels.Given as goal
