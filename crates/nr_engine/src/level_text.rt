@@ -1,5 +1,5 @@
 //! Plain text of the newest level: many moves in one call.
-ghost use Rattle.std.specs.Prelude.{◌≡◌, ℕ, ◌*◌, ◌≤◌, true, false};
+ghost use Rattle.std.specs.Prelude.{◌≡◌, ℕ, ◌+◌, ◌*◌, ◌≤◌, true, false};
 ghost use Rattle.nr_store.specs.Stored.{shown};
 ghost use Rattle.nr_store.specs.declared.element.Element.TheVariants as elements;
 ghost use Rattle.nr_store.specs.declared.shown.Shown.TheVariants as shows;
@@ -61,19 +61,6 @@ impl Engine {
         moves
     }
 
-    /// Reads and puts the plain bytes of the newest level and the blank behind them, in a text line that has begun, and tells
-    /// how many moves that was.
-    #[inline(always)]
-    fn put_level_word(&mut self) -> u128
-        requires line { is_in_line self.old.formatter ≡ true }
-        ensures puts { MakesInPlace result (shape self.old) (shape self.new) }
-        ensures few { result ≤ 131 }
-    {
-        let plain = self.put_level_plain();
-        let gap = self.put_level_gap();
-        plain + gap
-    }
-
     /// Whether a newline comes next of the newest level.
     #[inline]
     fn is_newline_next(&self) -> bool
@@ -105,23 +92,24 @@ impl Engine {
         moves
     }
 
-    /// Reads and puts what comes next of the newest level in a text line that has begun: a word, a newline that does nothing but end
-    /// the line, or else what levels bring. Tells how many moves that was.
+    /// Reads and puts the plain bytes that come next of the newest level in a text line that has begun, and behind them a blank, a
+    /// newline that does nothing but end the line, or else what levels bring. Tells how many moves that was.
     #[inline(always)]
     fn put_level_next(&mut self) -> u128
         requires line { is_in_line self.old.formatter ≡ true }
         ensures puts { MakesInPlace result (shape self.old) (shape self.new) }
-        ensures few { result ≤ 65541 * 4096 }
+        ensures few { result ≤ 65541 * 4096 + 128 }
     {
-        let word = self.put_level_word();
-        if word > 0 {
-            return word;
+        let plain = self.put_level_plain();
+        let gap = self.put_level_gap();
+        if gap > 0 {
+            return plain + gap;
         }
         let newline = self.put_level_newline();
         if newline > 0 {
-            return newline;
+            return plain + newline;
         }
-        self.read_levels_once()
+        plain + self.read_levels_once()
     }
 
     /// Reads and puts the text of levels, in a text line that has begun, as long as it is in such a line, and tells how many moves
@@ -130,7 +118,7 @@ impl Engine {
     pub(crate) fn put_level_text(&mut self) -> u128
         requires line { is_in_line self.old.formatter ≡ true }
         ensures puts { MakesInPlace result (shape self.old) (shape self.new) }
-        ensures few { result ≤ 4096 * (65541 * 4096) }
+        ensures few { result ≤ 4096 * (65541 * 4096 + 128) }
     {
         let mut moves = 0u128;
         for _ in 0..MOST_PARTS {

@@ -5,7 +5,7 @@ ghost use Rattle.nr_engine.specs.Holding.{shape, ReadsNext};
 ghost use Rattle.nr_engine.specs.Running.{MakesInPlace, MakesReading};
 
 use crate::engine::Engine;
-use nr_input::Event;
+use nr_input::{Event, Question};
 use nr_units::source::Source;
 
 /// The most lines of requests that are acted on in one call.
@@ -68,7 +68,34 @@ impl Engine {
         moves
     }
 
-    /// What levels bring is read, and requests of it that only set take effect. Tells how many moves that was.
+    /// The condition that was told is judged, unless a macro springs. Tells how many moves that was.
+    #[inline(always)]
+    fn judge(&mut self, question: Question) -> u128
+        requires event { self.old.formatter.event ≡ events.Judge question }
+        ensures judges { MakesInPlace result (shape self.old) (shape self.new) }
+        ensures few { result ≤ 1 }
+    {
+        if self.formatter.springs.is_some() {
+            return 0;
+        }
+        self.formatter.judge(question);
+        1
+    }
+
+    /// What was told is done, if it is a request that only sets or a condition to be judged. Tells how many moves that was.
+    #[inline(always)]
+    fn answer(&mut self) -> u128
+        ensures answers { MakesInPlace result (shape self.old) (shape self.new) }
+        ensures few { result ≤ 3 }
+    {
+        match self.formatter.event {
+            Event::Request => self.obey(),
+            Event::Judge(question) => self.judge(question),
+            _ => 0,
+        }
+    }
+
+    /// What levels bring is read; requests of it that only set take effect, and conditions are judged. Tells how many moves that was.
     #[inline(never)]
     pub(crate) fn read_levels(&mut self) -> u128
         ensures reads { MakesInPlace result (shape self.old) (shape self.new) }
@@ -77,15 +104,11 @@ impl Engine {
         let mut moves = 0u128;
         for _ in 0..MOST_LINES {
             moves += self.read_levels_once();
-            match self.formatter.event {
-                Event::Request => {}
-                _ => return moves,
-            }
-            let obeyed = self.obey();
-            if obeyed == 0 {
+            let answered = self.answer();
+            if answered == 0 {
                 return moves;
             }
-            moves += obeyed;
+            moves += answered;
         }
         moves
     }

@@ -19,7 +19,7 @@ impl Formatter {
     }
 
     /// The question is answered.
-    pub(crate) fn judge(&mut self, question: Question)
+    pub fn judge(&mut self, question: Question)
         ensures { self.new ≡ answered question self.old }
     {
         let holds = self.holds(question);
