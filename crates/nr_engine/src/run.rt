@@ -3,6 +3,8 @@ ghost use Rattle.std.specs.Prelude.{◌≡◌, ◌+◌, ◌*◌, ◌^◌, ◌<�
 ghost use Rattle.nr_units.specs.Supply.{Supply};
 ghost use Rattle.nr_engine.specs.State.{start};
 ghost use Rattle.nr_engine.specs.Answer.{Answers, ToldFaults};
+ghost use Rattle.nr_engine.specs.Holding.{shape};
+ghost use Rattle.nr_engine.specs.Limits.{limits_of, limits_under};
 
 use crate::desk::Work;
 use crate::engine::Engine;
@@ -141,6 +143,29 @@ impl Engine {
     }
 }
 
+/// A run under these limits, from the beginning.
+fn run_in<R: Source, W: Sink>(
+    engine: &mut Engine,
+    limits: Limits,
+    options: &Options,
+    input: &mut R,
+    output: &mut W,
+    moves: &mut u128,
+) -> Outcome
+    requires limits { limits_of (shape engine.old) ≡ limits_under limits }
+    ensures answers { (supply : Supply) → R.supply input.old ≡ Some supply →
+        Answers limits (start limits options.now supply) moves.new result (W.held output.old) (W.held output.new) }
+    ensures faults { ToldFaults result (R.failures input.old) (R.failures input.new) (W.failures output.old) (W.failures output.new) }
+    ensures stay { limits_of (shape engine.new) ≡ limits_of (shape engine.old) }
+{
+    engine.clear(limits, &options.select);
+    *moves = 0;
+    match engine.choose(options, moves) {
+        Err(outcome) => outcome,
+        Ok(()) => engine.run(input, output, moves),
+    }
+}
+
 /// Formats the input until the run ends, a limit would be passed or the input or the output fails, and
 /// sets `moves` to the number of moves made. It consumes its working space.
 pub fn format<R: Source, W: Sink>(
@@ -157,12 +182,7 @@ pub fn format<R: Source, W: Sink>(
     ensures faults { ToldFaults result (R.failures input.old) (R.failures input.new) (W.failures output.old) (W.failures output.new) }
     ensures limits { work.exit.0.now ≡ work.entry.desk.now }
 {
-    let Work { desk } = work;
+    let desk = work.desk;
     let limits = desk.limits;
-    desk.engine.clear(limits, &options.select);
-    *moves = 0;
-    match desk.engine.choose(options, moves) {
-        Err(outcome) => outcome,
-        Ok(()) => desk.engine.run(input, output, moves),
-    }
+    run_in(&mut desk.engine, limits, options, input, output, moves)
 }
