@@ -2,10 +2,11 @@
 //! a row of cells, tab stops, and titles.
 //!
 //! It stands on nr_units and nr_settings. To read: `piece`, `margins`, `setting`, `stops`, `title`; `cells`,
-//! `measured`, `out`; `queue`, `cutting`, `piece_row`; then `line`, and its calls in `words`, `runs`,
+//! `measured`, `cell_row`, `out`; `queue`, `cutting`, `piece_row`; then `line`, and its calls in `words`, `runs`,
 //! `tabs`, `taking`, `titling`.
 #![tactic(auto)]
 
+pub mod cell_row;
 pub mod cells;
 mod cutting;
 pub mod line;

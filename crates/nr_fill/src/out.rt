@@ -9,8 +9,8 @@ ghost use Rattle.nr_fill.specs.Rows.{AddsToRow, AddsToRow-both, AddsToRow-nothin
 ghost use Rattle.nr_fill.specs.Slots.{cells_in_slots, pieces_of};
 ghost use Rattle.nr_fill.specs.Spreading.{cells_in_line};
 
+use crate::cell_row::lay_line;
 use crate::cells::CellSink;
-use crate::cutting::lay_pieces;
 use crate::measured::Extent;
 use crate::piece::PieceSlot;
 use crate::setting::Extra;
@@ -142,9 +142,9 @@ impl CellSink for Out {
         if self.count != start || most > self.cells.room() - start {
             return None;
         }
-        lay_pieces(slots, cells, extra, &mut self.cells);
+        lay_line(slots, cells, extra, &mut self.cells);
         let laid = &self.cells.as_slice()[start..];
-        let extent = Extent::none().with_cells(laid);
+        let extent = Extent::of(laid);
         self.written = written_behind(self.written, start, extent.written);
         self.count = start + extent.count;
         Some(extent)

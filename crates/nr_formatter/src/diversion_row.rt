@@ -14,15 +14,16 @@ ghost use Rattle.nr_formatter.specs.DiversionRows.{AddsToDiversion, AddsToDivers
 
 use crate::lines::{Going, set_going};
 use crate::tasks::Resume;
+use nr_fill::cell_row::lay_line;
 use nr_fill::cells::CellSink;
 use nr_fill::line::Line;
 use nr_fill::measured::Extent;
-use nr_fill::out::Out;
 use nr_fill::piece::PieceSlot;
 use nr_fill::setting::Extra;
 use nr_settings::Settings;
 use nr_store::{Element, Store, StoredBytes};
 use nr_units::cell::Cell;
+use nr_units::slice_vec::SliceVec;
 
 /// How many cells a line has at most that is laid at once.
 const LAID: usize = 256;
@@ -157,20 +158,15 @@ impl CellSink for DiversionRow<'_> {
         extra: Extra,
         most: usize,
     ) -> Option<Extent> {
+        if most > LAID {
+            return None;
+        }
         let mut block = [Cell::blank(); LAID];
-        let mut line = Out::over(&mut block);
-        let Some(extent) = line.lay(slots, cells, extra, most) else {
-            return None;
-        };
-        // Behind a cell that is no blank the row leaves no blanks out.
-        line.push(Cell {
-            byte: b'.',
-            under: false,
-        });
-        let Some(row) = line.row() else {
-            return None;
-        };
-        self.extend(&row[..row.len() - 1]);
+        let mut row = SliceVec::over(&mut block);
+        lay_line(slots, cells, extra, &mut row);
+        let laid = row.as_slice();
+        let extent = Extent::of(laid);
+        self.extend(laid);
         Some(extent)
     }
 
