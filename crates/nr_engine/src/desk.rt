@@ -52,7 +52,13 @@ impl Model for Desk {
 
     ghost Value = { Bounds };
 
+    ghost use Rattle.std.specs.Prelude.{◌≡◌};
+    ghost use Rattle.nr_engine.specs.Holding.{shape};
+    ghost use Rattle.nr_engine.specs.Limits.{limits_of, limits_under};
+
     ghost view = { λ d. d.limits };
+
+    ghost invariant = { λ d. limits_of (shape d.engine) ≡ limits_under d.limits };
 }
 
 /// An empty working space, lent by a desk.

@@ -1,9 +1,8 @@
 //! A whole run.
-ghost use Rattle.std.specs.Prelude.{◌≡◌, ℕ, ◌+◌, ◌*◌, ◌^◌, ◌<◌, ◌≤◌, length, Some};
+ghost use Rattle.std.specs.Prelude.{◌≡◌, ◌+◌, ◌*◌, ◌^◌, ◌<◌, ◌≤◌, Some, IfOk};
 ghost use Rattle.nr_units.specs.Supply.{Supply};
 ghost use Rattle.nr_engine.specs.State.{start};
 ghost use Rattle.nr_engine.specs.Answer.{Answers, ToldFaults};
-ghost use Rattle.nr_engine.specs.Desks.{HasSizes};
 
 use crate::desk::Work;
 use crate::engine::Engine;
@@ -30,12 +29,13 @@ impl Engine {
     ghost use Rattle.nr_engine.specs.State.{Register as SetRegister};
     ghost use Rattle.nr_engine.specs.Machine.{first_set};
     ghost use Rattle.nr_engine.specs.Holding.{shape, weight, worth};
-    ghost use Rattle.nr_engine.specs.Limits.{limits_of};
+    ghost use Rattle.nr_engine.specs.Limits.{limits_of, limits_under};
     ghost use Rattle.nr_engine.specs.Running.{Chooses, ChoosesAll, IsNew, Travels};
 
     /// Nothing is read yet, and nothing placed: `AllocError` where there is no memory for what the limits allow. No other call
     /// allocates.
     pub(crate) fn new(alloc: Global, limits: Limits) -> Result<Engine, AllocError>
+        ensures { IfOk result (λ engine. limits_of (shape engine) ≡ limits_under limits) }
     {
         Ok(Engine {
             formatter: Formatter::new(
@@ -53,14 +53,20 @@ impl Engine {
         })
     }
 
-    /// Nothing is read yet, and nothing placed.
+    /// Nothing is read yet, and nothing placed, under the limits that it was made for.
     fn clear(&mut self, limits: Limits, select: &Select)
+        requires { limits_of (shape self.old) ≡ limits_under limits }
+        ensures is_new { IsNew limits select.now (shape self.new) }
+        ensures stored { limits.stored ≤ 2 ^ 24 }
+        ensures expansions { limits.expansions ≤ 2 ^ 32 }
     {
-        self.formatter.clear(limits.expansions());
+        let _stored = limits.stored();
+        let _expansions = limits.expansions();
+        self.formatter.clear();
         self.place = Place::new();
         self.row.clear();
         self.page.clear();
-        self.select = select.clone();
+        self.select = select.copied();
         self.resumed = Resume::blank();
     }
 

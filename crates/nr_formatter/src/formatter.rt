@@ -1,5 +1,8 @@
 //! The formatter between two moves: everything but the source, the lines on the page and the output.
-ghost use Rattle.std.specs.Prelude.{◌≡◌};
+ghost use Rattle.std.specs.Prelude.{◌≡◌, ◌<◌, ◌^◌, IfOk};
+ghost use Rattle.nr_fill.specs.Pieces.{nothing_collected};
+ghost use Rattle.nr_store.specs.Requests.{request_names};
+ghost use Rattle.nr_store.specs.Stored.{nothing};
 ghost use Rattle.nr_formatter.specs.Beginning.{first_formatter, with_first};
 ghost use Rattle.nr_formatter.specs.Places.{outlet, present_place};
 
@@ -50,7 +53,15 @@ pub struct Formatter {
 impl Formatter {
     /// Nothing is read yet. There may be at most so many splices and springs behind one byte of the input, and so much may be
     /// stored, in so many levels, and collected: `AllocError` where there is no memory for that. No other call allocates.
-    pub fn new(alloc: Global, stored: u32, deepest: u32, cells: usize, most: u64) -> Result<Formatter, AllocError>
+    pub fn new(
+        alloc: Global,
+        stored: u32,
+        deepest: u32,
+        cells: usize,
+        most: u64,
+    ) -> Result<Formatter, AllocError>
+        requires { cells < 2 ^ 32 }
+        ensures { IfOk result (λ made. made ≡ first_formatter (nothing request_names stored deepest) (record { collected = nothing_collected; limit = cells }) most) }
     {
         Ok(Formatter {
             reader: Reader::new(most),
@@ -70,9 +81,10 @@ impl Formatter {
     }
 
     /// Nothing is read yet, under the same limits.
-    pub fn clear(&mut self, most: u64)
+    pub fn clear(&mut self)
+        ensures { self.new ≡ first_formatter (nothing request_names self.old.store.limit self.old.store.deepest) (record { collected = nothing_collected; limit = self.old.line.limit }) self.old.reader.most }
     {
-        self.reader = Reader::new(most);
+        self.reader = Reader::new(self.reader.most);
         self.store.clear();
         self.line.clear();
         self.settings = Settings::new();
