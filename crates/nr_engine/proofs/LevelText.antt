@@ -82,7 +82,7 @@ module _ (l : Reading Resume) (ls : List (Level Resume)) (b : ℕ) (xs : List El
 -- ---- a run
 
 module _ (l : Reading Resume) (ls : List (Level Resume)) where
-  line_there : (xs : List Element) (s : State) → IsInLine s.formatter → IsInLine (at_text l ls xs s).formatter
+  pub line_there : (xs : List Element) (s : State) → IsInLine s.formatter → IsInLine (at_text l ls xs s).formatter
   line_there xs s line = record { springs = line.springs; event = line.event; task = line.task; half = line.half; begun = line.begun }
 
   line_behind : (b : ℕ) (xs : List Element) (s : State) → IsInLine s.formatter → IsInLine (made_of (run_put (b ∷ [])) (at_text l ls xs s)).formatter
@@ -95,7 +95,7 @@ module _ (l : Reading Resume) (ls : List (Level Resume)) where
   }
 
   -- what is left of a text is charged nothing
-  within_text : (xs ys : List Element) (bs : List ℕ) (s : State) → IsWithin (at_text l ls xs s) → line_cells (collected (run_put bs s.formatter)) ≤ s.formatter.line.limit
+  pub within_text : (xs ys : List Element) (bs : List ℕ) (s : State) → IsWithin (at_text l ls xs s) → line_cells (collected (run_put bs s.formatter)) ≤ s.formatter.line.limit
       → IsWithin (made_of (run_put bs) (at_text l ls ys s))
   within_text xs ys bs s w fits = record {
     formatter = record {
@@ -135,7 +135,7 @@ module _ (l : Reading Resume) (ls : List (Level Resume)) where
 -- ---- the engine
 
 -- The moves lead to a state with this formatter, all else as it was.
-made_glided : (n : ℕ) (e : Shape) (f g : Formatter) (supply : Option Supply) (held : Option (List ℕ)) (s : State) → Stands [] supply s e → g ≡ f
+pub made_glided : (n : ℕ) (e : Shape) (f g : Formatter) (supply : Option Supply) (held : Option (List ℕ)) (s : State) → Stands [] supply s e → g ≡ f
     → IsWithin (record (at e s) { formatter = f }) → Glides (at e s) n (record (at e s) { formatter = f }) → Made [] (at e s) n (record e { formatter = g }) supply held held
 made_glided n e f g supply held s h is within glides =
     let holds : Holds [] supply (record (at e s) { formatter = f }) (record e { formatter = g }) =
@@ -219,11 +219,11 @@ abbrev pub level_gone : (Formatter → Formatter) → Shape → Shape
 level_gone g e = record e { formatter = g (record e.formatter { store = run_left 1 e.formatter.store }) }
 
 -- the level that shows an element
-record Showing (levels : List (Level Resume)) (x : Element) : Type 0 where
-  l : Reading Resume
-  ls : List (Level Resume)
-  xs : List Element
-  is : levels ≡ Read (record l { rest = x ∷ xs }) ∷ ls
+pub record Showing (levels : List (Level Resume)) (x : Element) : Type 0 where
+  pub l : Reading Resume
+  pub ls : List (Level Resume)
+  pub xs : List Element
+  pub is : levels ≡ Read (record l { rest = x ∷ xs }) ∷ ls
 
 showing_in : (rest : List Element) (l : Reading Resume) (ls : List (Level Resume)) (x : Element) → l.rest ≡ rest → shown (Read (record l { rest = rest }) ∷ ls) ≡ shows.Item x → Showing (Read l ∷ ls) x
 showing_in [] l ls x rest_is is = absurd (let wrong : ◌≡◌ {A = Shown Resume} shows.End (shows.Item x) = is in cc)
@@ -231,13 +231,13 @@ showing_in (y ∷ ys) l ls x rest_is is =
     let same : y ≡ x = cc in
     record { l = l; ls = ls; xs = ys; is = ap (λ r. Read (record l { rest = r }) ∷ ls) (rest_is ∙ ap (λ z. z ∷ ys) same) }
 
-showing : (levels : List (Level Resume)) (x : Element) → shown levels ≡ shows.Item x → Showing levels x
+pub showing : (levels : List (Level Resume)) (x : Element) → shown levels ≡ shows.Item x → Showing levels x
 showing [] x is = absurd (let wrong : ◌≡◌ {A = Shown Resume} shows.Nothing (shows.Item x) = is in cc)
 showing (Mark mode ∷ ls) x is = absurd (let wrong : ◌≡◌ {A = Shown Resume} (shows.Resume mode) (shows.Item x) = is in cc)
 showing (Read l ∷ ls) x is = showing_in l.rest l ls x refl is
 
 -- so one element is left
-one_left : (levels : List (Level Resume)) (x : Element) → Showing levels x → 1 ≤ length (rest_of levels)
+pub one_left : (levels : List (Level Resume)) (x : Element) → Showing levels x → 1 ≤ length (rest_of levels)
 one_left levels x there = subst (λ v. 1 ≤ length (rest_of v)) (sym there.is) (omega arith)
 
 module _ (e : Shape) (supply : Option Supply) (held : Option (List ℕ)) (s : State) (h : Stands [] supply s e) (is : is_in_line e.formatter ≡ true) (gap : IsGap e.formatter)

@@ -4,6 +4,8 @@ mod Choosing
 mod EmptyLines
 mod Gliding
 mod Going
+mod Judged
+mod LevelNewlines
 mod LevelText
 mod LimitsStay
 mod Lightening

@@ -50,7 +50,7 @@ use Rattle.nr_engine.proofs.Working.{holds_of}
 -- ---- the newline is read
 
 -- the text of the line has ended
-abbrev ended : Formatter → Formatter
+abbrev pub ended : Formatter → Formatter
 ended f = record f { reader = on_half text_ended f.reader }
 
 -- behind the newline
@@ -58,7 +58,7 @@ abbrev behind_line : State → State
 behind_line s = record s { coming = behind_last 10 1 s.coming; formatter = unburst (ended s.formatter) }
 
 -- the end of the line is told
-abbrev told_line : State → State
+abbrev pub told_line : State → State
 told_line t = record t { formatter = record t.formatter { event = events.EndLine } }
 
 module _ (rest : List ℕ) (s : State) (typing : IsTyping s) (next : s.coming.supply.bytes ≡ 10 ∷ rest) (gives : MayGive s.coming.supply.faults) (few : s.coming.taken + 1 < 2 ^ 40) where
@@ -98,23 +98,23 @@ module _ (rest : List ℕ) (s : State) (typing : IsTyping s) (next : s.coming.su
 -- ---- it is heard, and the line counted
 
 -- the text of a line has ended, and the newline does nothing but end the word and widen the gap
-record IsLineEnd (f : Formatter) : Type 0 where
-  springs : f.springs ≡ None
-  event : f.event ≡ events.Nothing
-  task : f.task ≡ tasks.Read
-  mode : f.reader.half.reading.mode ≡ modes.Start
-  ends : EndsWord f
-  trap : f.input_trap ≡ None
-  underlined : f.settings.fonts.underlined ≡ 0
-  within : line_cells (line_gapped (collected f)) ≤ f.line.limit
+pub record IsLineEnd (f : Formatter) : Type 0 where
+  pub springs : f.springs ≡ None
+  pub event : f.event ≡ events.Nothing
+  pub task : f.task ≡ tasks.Read
+  pub mode : f.reader.half.reading.mode ≡ modes.Start
+  pub ends : EndsWord f
+  pub trap : f.input_trap ≡ None
+  pub underlined : f.settings.fonts.underlined ≡ 0
+  pub within : line_cells (line_gapped (collected f)) ≤ f.line.limit
 
 -- with the word and the gap, and this under way
-abbrev line_put : Task → Formatter → Formatter
+abbrev pub line_put : Task → Formatter → Formatter
 line_put t f = record (with_collected (line_gapped (collected f)) f) { event = events.Nothing; task = t }
 
 module _ (t : State) (chosen : t.chosen ≡ []) (end : IsLineEnd t.formatter) (within : IsWithin t) where
   -- what is collected is within the limits
-  within_put : (k : Task) → IsWithin (plainly (line_put k) t)
+  pub within_put : (k : Task) → IsWithin (plainly (line_put k) t)
   within_put k = record {
     formatter = record { stored = within.formatter.stored; depth = within.formatter.depth; line = end.within; burst = within.formatter.burst };
     page = within.page;
@@ -130,7 +130,7 @@ module _ (t : State) (chosen : t.chosen ≡ []) (end : IsLineEnd t.formatter) (w
       ∙ ap (λ f. record t { formatter = f }) (heard-newline (told_line t).formatter ends_told end.mode)
 
   -- the word ends
-  hears : Glides (told_line t) 1 (plainly line_flows t)
+  pub hears : Glides (told_line t) 1 (plainly line_flows t)
   hears =
       let works = kind-hear (told_line t) events.EndLine chosen end.springs refl (λ e. let wrong : ⊥ = cc in wrong) in
       let goes_on = subst (λ k. GoesBy k (told_line t)) (sym works) (ap passed step_heard ∙ passed_none (plainly line_flows t) (within_put (tasks.Flow afters.Line false))) in
@@ -159,7 +159,7 @@ module _ (t : State) (chosen : t.chosen ≡ []) (end : IsLineEnd t.formatter) (w
       (step-work s tasks.InputTrap chosen end.springs refl refl ∙ ap (λ f. record t { formatter = f }) (count_input-none s.formatter end.trap)) (within_put tasks.Read)
 
   -- four moves behind the one that reads
-  ends_line : fits_line (line_gapped (collected t.formatter)) ≡ true → Glides (told_line t) 4 (plainly (line_put tasks.Read) t)
+  pub ends_line : fits_line (line_gapped (collected t.formatter)) ≡ true → Glides (told_line t) 4 (plainly (line_put tasks.Read) t)
   ends_line fits =
       let two = glides-add (told_line t) 1 1 (plainly line_flows t) (plainly (line_put tasks.Count) t) hears (flows fits) in
       let more = glides-add (plainly (line_put tasks.Count) t) 1 1 (plainly (line_put tasks.InputTrap) t) (plainly (line_put tasks.Read) t) counts counts_input in
@@ -218,13 +218,13 @@ made_line n g e supply supply' held s h behind within glides =
     }
 
 -- the text's end weighs 20 less, and owes nothing
-record Lightens (f : Formatter) : Type 0 where
-  half : weight_of_half (text_ended f.reader.half) + 20 ≡ weight_of_half f.reader.half
-  blanks : blanks_owed (text_ended f.reader.half) ≡ 0
-  owed : owed_by_event f.event + owed_by_task f.task f.reader.half ≡ 0
-  owed_behind : (t : Task) → t ≡ tasks.Read → owed_by_task t (text_ended f.reader.half) ≡ 0
+pub record Lightens (f : Formatter) : Type 0 where
+  pub half : weight_of_half (text_ended f.reader.half) + 20 ≡ weight_of_half f.reader.half
+  pub blanks : blanks_owed (text_ended f.reader.half) ≡ 0
+  pub owed : owed_by_event f.event + owed_by_task f.task f.reader.half ≡ 0
+  pub owed_behind : (t : Task) → t ≡ tasks.Read → owed_by_task t (text_ended f.reader.half) ≡ 0
 
-lightens : (f : Formatter) → IsInLine f → Lightens f
+pub lightens : (f : Formatter) → IsInLine f → Lightens f
 lightens f line =
     let half = in_text f.reader.half line.half in
     record {

@@ -11,7 +11,7 @@ use Rattle.nr_input.specs.Coming.{Reached, HoldsComing}
 use Rattle.nr_input.specs.Limits as limits
 use Rattle.nr_input.specs.Moving.{Situation, Move, situation, move}
 use Rattle.nr_input.specs.Moving as input
-use Rattle.nr_input.specs.Runs.{HasRead, PaysAll, moves, told_last}
+use Rattle.nr_input.specs.Runs.{HasRead, PaysMany, moves, told_last}
 use Rattle.nr_formatter.specs.Limits as formatter
 use Rattle.nr_formatter.specs.declared.tasks.Resume.{Resume}
 use Rattle.nr_formatter.proofs.LimitsStay.{input-limits}
@@ -83,7 +83,7 @@ read_shape v r x p e = record e { formatter = record e.formatter { store = v; re
 
 pub makes_reading : (n : ℕ) (x : Event) (v : Stored Resume) (r : Reader) (p : Reached) (e : Shape) (supply supply' : Option Supply) → ReadsNext e.formatter
     → ((c : _) → HoldsComing c e.place supply → HasRead n (situation e.formatter.store c e.formatter.reader) x v r p supply')
-    → PaysAll n e.formatter.store e.place e.formatter.reader x v p r → limits.limits_of v r ≡ limits.limits_of e.formatter.store e.formatter.reader
+    → PaysMany n e.formatter.store e.place e.formatter.reader x v p r → limits.limits_of v r ≡ limits.limits_of e.formatter.store e.formatter.reader
     → formatter.FitsMemory (read_shape v r x p e).formatter → Makes n e (read_shape v r x p e) supply supply'
 makes_reading n x v r p e supply supply' reads read pays same fits = record {
   makes = λ held s h.

@@ -7,7 +7,7 @@ use Rattle.nr_reading.specs.declared.event.Event.TheVariants as events
 use Rattle.nr_reading.specs.Weights.{cost_of_event, blanks_owed, is_lead}
 use Rattle.nr_store.specs.Stored.{Stored, Built}
 use Rattle.nr_input.specs.Coming.{Reached, ended}
-use Rattle.nr_input.specs.Runs.{PaysAll}
+use Rattle.nr_input.specs.Runs.{PaysMany}
 use Rattle.nr_input.specs.Weights.{byte_worth, weight_before_byte, risen, Pays, IfLead, diversions_in, diversions_of, count_of_diversion}
 use Rattle.nr_input.specs.declared.reader.Reader.{Reader}
 use Rattle.nr_input.specs.declared.told.Told.TheVariants as tells
@@ -122,7 +122,7 @@ no_lead e is = refl
 
 -- many moves read, and the last of them told this
 pub told_all : (n : ℕ) (p q : Reached) (f : Formatter) (v : Stored Resume) (r : Reader) (e : Event) → f.event ≡ events.Nothing → f.task ≡ tasks.Read
-    → PaysAll n f.store p f.reader e v q r
+    → PaysMany n f.store p f.reader e v q r
     → weight q (record f { store = v; reader = r; event = e }) + n + byte_worth f.reader.most f.store.limit * p.taken
     ≤ weight p f + byte_worth f.reader.most f.store.limit * q.taken
 told_all n p q f v r e idle task pays =

@@ -96,6 +96,24 @@ makes_none e supply = record {
   spends = omega arith;
 }
 
+-- in which nothing of the source was taken
+pub in_place-add : (n m : ℕ) (e f g : Shape) → MakesInPlace n e f → MakesInPlace m f g → MakesInPlace (n + m) e g
+in_place-add n m e f g a b = record {
+  makes = λ supply. makes-add n m e f g supply supply supply (a.makes supply) (b.makes supply);
+  place = b.place ∙ a.place;
+}
+
+pub in_place-none : (e : Shape) → MakesInPlace 0 e e
+in_place-none e = record { makes = λ supply. makes_none e supply; place = refl }
+
+-- none were made, and then some
+pub in_place-later : (n m : ℕ) (e f g : Shape) → n ≡ 0 → MakesInPlace n e f → MakesInPlace m f g → MakesInPlace m e g
+in_place-later n m e f g none a b = let same : n + m ≡ m = omega (arith, none) in subst (λ k. MakesInPlace k e g) same (in_place-add n m e f g a b)
+
+-- some were made, and then none
+pub in_place-before : (n m : ℕ) (e f g : Shape) → m ≡ 0 → MakesInPlace n e f → MakesInPlace m f g → MakesInPlace n e g
+in_place-before n m e f g none a b = let same : n + m ≡ n = omega (arith, none) in subst (λ k. MakesInPlace k e g) same (in_place-add n m e f g a b)
+
 -- ---- in which no call of the source failed
 
 pub reading-add : (n m : ℕ) (e f g : Shape) (x y z : Option Supply) (a b c : ℕ) → MakesReading n e f x y a b → MakesReading m f g y z b c → MakesReading (n + m) e g x z a c

@@ -45,7 +45,7 @@ pub record Shape : Type 0 where
   pub select : Option (List PageRange)
 
 abbrev pub shape : Engine → Shape
-shape e = record { formatter = e.formatter; place = e.place; row = e.row; page = e.page; select = e.select.now }
+shape e = record { formatter = e.formatter; place = e.place; row = e.row; page = e.page; select = e.select }
 
 -- the state with all that the engine keeps but pages
 abbrev pub at : Shape → State → State

@@ -15,7 +15,7 @@ use crate::outcome::{Measure, Stop};
 use nr_formatter::tasks::Then;
 use nr_units::sink::Sink;
 
-impl<'a> Engine<'a> {
+impl Engine {
     /// The word ends before a break.
     fn end_word(&mut self) -> Result<(), Measure>
         requires { is_none (collected self.old.formatter).word ≡ false }

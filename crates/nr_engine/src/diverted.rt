@@ -22,7 +22,7 @@ use nr_input::Event;
 use nr_units::cell::Cell;
 use nr_units::sink::Sink;
 
-impl<'a> Engine<'a> {
+impl Engine {
     /// How many blanks stand before the next cell, in cells: the margin before the first.
     fn margin(&self, margin: u32) -> u32
         ensures { (cells : List CellValue) → IsRow cells self.now.row → result ≡ margin_in margin cells }

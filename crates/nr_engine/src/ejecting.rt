@@ -16,7 +16,7 @@ use nr_formatter::tasks::Ejected;
 use nr_store::Trap;
 use nr_units::sink::Sink;
 
-impl<'a> Engine<'a> {
+impl Engine {
     /// The page goes to a trap, whose macro springs.
     fn eject_to(&mut self, trap: Trap) -> Result<(), Measure>
         requires below { pos 0 ≤ℤ trap.place }

@@ -27,7 +27,7 @@ fn count_newlines(bytes: &[u8]) -> usize
     count
 }
 
-impl<'a> Engine<'a> {
+impl Engine {
     /// How many newlines the source has at hand at the beginning of a line, as far as they are asked for.
     fn newlines_next<R: Source>(&self, input: &R, most: usize) -> usize
         ensures most { result ≤ most }
@@ -75,6 +75,9 @@ impl<'a> Engine<'a> {
         ensures reads { MakesReading result (shape self.old) (shape self.new) (R.supply input.old) (R.supply input.new) (R.failures input.old) (R.failures input.new) }
         ensures few { result < 2 ^ 67 }
     {
+        if self.formatter.store.is_reading() {
+            return self.read_levels();
+        }
         let run = self.read_run(input);
         match self.formatter.event {
             Event::Empty => run + self.put_empty_lines(input),

@@ -15,23 +15,23 @@ use nr_units::source::Source;
 
 /// The state of a run.
 #[derive(Drop)]
-pub struct Engine<'a> {
+pub struct Engine {
     /// All that is kept but pages.
-    pub(crate) formatter: Formatter<'a>,
+    pub(crate) formatter: Formatter,
     /// How far the source was taken.
     pub(crate) place: Place,
     /// The row that goes out, or the diverted line that is being read again.
-    pub(crate) row: Out<'a>,
+    pub(crate) row: Out,
     /// The lines on the open page.
-    pub(crate) page: Page<'a>,
+    pub(crate) page: Page,
     /// The pages to print.
-    pub(crate) select: &'a Select,
+    pub(crate) select: Select,
     /// What was under way where the text was sprung whose mark was taken last.
     pub(crate) resumed: Resume,
     ghost has_row: { page.limit ≤ row.room },
 }
 
-impl<'a> Engine<'a> {
+impl Engine {
     ghost use Rattle.std.specs.Prelude.{◌≡◌, ◌≢◌, ℕ, List, Option, None, Some, true};
     ghost use Rattle.nr_units.specs.Failures.{put_counted_if};
     ghost use Rattle.nr_formatter.specs.Weights.{Falls};

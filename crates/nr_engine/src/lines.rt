@@ -19,7 +19,7 @@ use nr_formatter::paper::Outlet;
 use nr_formatter::tasks::After;
 use nr_units::sink::Sink;
 
-impl<'a> Engine<'a> {
+impl Engine {
     /// The page offset, in cells.
     pub(crate) fn offset(&self) -> u32
         ensures value { result ≡ offset self.now.formatter }

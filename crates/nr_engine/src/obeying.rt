@@ -1,17 +1,17 @@
 //! Requests that only set: many moves in one call.
-ghost use Rattle.std.specs.Prelude.{◌≡◌, ◌*◌, ◌<◌, ◌≤◌};
+ghost use Rattle.std.specs.Prelude.{◌≡◌, ◌+◌, ◌*◌, ◌<◌, ◌≤◌};
 ghost use Rattle.nr_reading.specs.declared.event.Event.TheVariants as events;
 ghost use Rattle.nr_engine.specs.Holding.{shape, ReadsNext};
 ghost use Rattle.nr_engine.specs.Running.{MakesInPlace, MakesReading};
 
 use crate::engine::Engine;
-use nr_input::Event;
+use nr_input::{Event, Question};
 use nr_units::source::Source;
 
 /// The most lines of requests that are acted on in one call.
 const MOST_LINES: u32 = 4096;
 
-impl<'a> Engine<'a> {
+impl Engine {
     /// The request whose line was read takes effect, if it only sets and its break does nothing. Tells how many moves that was.
     #[inline(always)]
     fn obey(&mut self) -> u128
@@ -64,6 +64,51 @@ impl<'a> Engine<'a> {
                 Event::Request => {}
                 _ => return moves,
             }
+        }
+        moves
+    }
+
+    /// The condition that was told is judged, unless a macro springs. Tells how many moves that was.
+    #[inline(always)]
+    fn judge(&mut self, question: Question) -> u128
+        requires event { self.old.formatter.event ≡ events.Judge question }
+        ensures judges { MakesInPlace result (shape self.old) (shape self.new) }
+        ensures few { result ≤ 1 }
+    {
+        if self.formatter.springs.is_some() {
+            return 0;
+        }
+        self.formatter.judge(question);
+        1
+    }
+
+    /// What was told is done, if it is a request that only sets or a condition to be judged. Tells how many moves that was.
+    #[inline(always)]
+    fn answer(&mut self) -> u128
+        ensures answers { MakesInPlace result (shape self.old) (shape self.new) }
+        ensures few { result ≤ 3 }
+    {
+        match self.formatter.event {
+            Event::Request => self.obey(),
+            Event::Judge(question) => self.judge(question),
+            _ => 0,
+        }
+    }
+
+    /// What levels bring is read; requests of it that only set take effect, and conditions are judged. Tells how many moves that was.
+    #[inline(never)]
+    pub(crate) fn read_levels(&mut self) -> u128
+        ensures reads { MakesInPlace result (shape self.old) (shape self.new) }
+        ensures few { result ≤ 4096 * (65541 * 4096 + 3) }
+    {
+        let mut moves = 0u128;
+        for _ in 0..MOST_LINES {
+            moves += self.read_levels_once();
+            let answered = self.answer();
+            if answered == 0 {
+                return moves;
+            }
+            moves += answered;
         }
         moves
     }

@@ -32,7 +32,7 @@ fn row_at(place: u32) -> u32
     (place / ROW_HEIGHT).saturating_sub(1)
 }
 
-impl<'a> Engine<'a> {
+impl Engine {
     /// A page begins.
     pub(crate) fn begin_page(&mut self)
         ensures comes { ComesQuietly begin_page (shape self.old) (shape self.new) (Ok tt) }
@@ -47,8 +47,8 @@ impl<'a> Engine<'a> {
 
     /// The bytes of the open page go out, if its number is one to print.
     fn print<W: Sink>(&self, output: &mut W) -> Result<(), WriteFault>
-        ensures ok { OnOk result ((s : State) → HoldsPage s.lines self.now.page → s.select ≡ self.now.select.now → s.formatter ≡ self.now.formatter → Appends (W.held output.old) (W.held output.new) (bytes_of (page_of s))) }
-        ensures err { OnErr result ((s : State) → HoldsPage s.lines self.now.page → s.select ≡ self.now.select.now → s.formatter ≡ self.now.formatter → AppendsFront (W.held output.old) (W.held output.new) (bytes_of (page_of s))) }
+        ensures ok { OnOk result ((s : State) → HoldsPage s.lines self.now.page → s.select ≡ self.now.select → s.formatter ≡ self.now.formatter → Appends (W.held output.old) (W.held output.new) (bytes_of (page_of s))) }
+        ensures err { OnErr result ((s : State) → HoldsPage s.lines self.now.page → s.select ≡ self.now.select → s.formatter ≡ self.now.formatter → AppendsFront (W.held output.old) (W.held output.new) (bytes_of (page_of s))) }
         ensures failures { W.failures output.new ≡ put_counted (W.failures output.old) result }
     {
         if !self.select.has(i64::from(self.formatter.paper.number)) {

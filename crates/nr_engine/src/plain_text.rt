@@ -22,7 +22,7 @@ struct Words {
 /// Puts the words that these bytes begin with, with the hyphens, tabs and blanks that go to a word and do not end it, and the blanks
 /// that do nothing but end it, in a text line that has begun: up to a byte that is none of these, or to the limit of the line.
 #[inline(always)]
-fn put_line_words(formatter: &mut Formatter<'_>, bytes: &[u8]) -> Words
+fn put_line_words(formatter: &mut Formatter, bytes: &[u8]) -> Words
     requires line { is_in_line formatter.old ≡ true }
     requires few { length bytes.now < 2 ^ 40 }
     ensures puts { PutsText bytes.now result.taken result.moves formatter.old formatter.new }
@@ -61,7 +61,7 @@ fn put_line_words(formatter: &mut Formatter<'_>, bytes: &[u8]) -> Words
 /// Puts the text that these bytes begin with, in a text line that has begun: its words, and behind the newline that ends it and does
 /// nothing else, where it begins with a byte that is put, the next line's.
 #[inline(always)]
-fn put_words(formatter: &mut Formatter<'_>, bytes: &[u8]) -> Words
+fn put_words(formatter: &mut Formatter, bytes: &[u8]) -> Words
     requires line { is_in_line formatter.old ≡ true }
     requires few { length bytes.now < 2 ^ 40 }
     ensures puts { PutsText bytes.now result.taken result.moves formatter.old formatter.new }
@@ -94,7 +94,7 @@ fn put_words(formatter: &mut Formatter<'_>, bytes: &[u8]) -> Words
     }
 }
 
-impl<'a> Engine<'a> {
+impl Engine {
     /// Reads and puts the text of the source at hand, in a text line that has begun, with the blanks and newlines that do
     /// nothing but end their word, and tells how many moves that was.
     #[inline(always)]

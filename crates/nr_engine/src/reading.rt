@@ -1,9 +1,9 @@
 //! Many moves that read, in one call.
-ghost use Rattle.std.specs.Prelude.{◌≡◌, ◌≤◌, true, None};
+ghost use Rattle.std.specs.Prelude.{◌≡◌, ◌*◌, ◌≤◌, true, None};
 ghost use Rattle.nr_reading.specs.declared.event.Event.TheVariants as events;
 ghost use Rattle.nr_formatter.specs.declared.tasks.Task.TheVariants as tasks;
 ghost use Rattle.nr_engine.specs.Holding.{shape};
-ghost use Rattle.nr_engine.specs.Running.{MakesReading};
+ghost use Rattle.nr_engine.specs.Running.{MakesInPlace, MakesReading};
 
 use crate::engine::Engine;
 use nr_formatter::tasks::Task;
@@ -11,7 +11,7 @@ use nr_input::Event;
 use nr_reading::Due;
 use nr_units::source::Source;
 
-impl<'a> Engine<'a> {
+impl Engine {
     /// Whether the input is read next.
     #[inline(always)]
     pub(crate) fn reads_next(&self) -> bool
@@ -43,7 +43,7 @@ impl<'a> Engine<'a> {
     #[inline(always)]
     pub(crate) fn read_run<R: Source>(&mut self, input: &mut R) -> u128
         ensures reads { MakesReading result (shape self.old) (shape self.new) (R.supply input.old) (R.supply input.new) (R.failures input.old) (R.failures input.new) }
-        ensures few { result ≤ 65536 }
+        ensures few { result ≤ 65541 }
     {
         if !self.reads_next() {
             return 0;
@@ -54,6 +54,26 @@ impl<'a> Engine<'a> {
             &mut formatter.reader,
             &mut formatter.store,
             input,
+        );
+        self.formatter.event = run.event;
+        self.formatter.fit_memory();
+        run.moves as u128
+    }
+
+    /// What levels bring is read, up to what tells something and to text, if the input is read next. Tells how many moves that was.
+    #[inline(always)]
+    pub(crate) fn read_levels_once(&mut self) -> u128
+        ensures reads { MakesInPlace result (shape self.old) (shape self.new) }
+        ensures few { result ≤ 65541 * 4096 }
+    {
+        if !self.reads_next() {
+            return 0;
+        }
+        let formatter = &mut self.formatter;
+        let run = nr_input::read_levels(
+            &mut formatter.reader,
+            &mut formatter.store,
+            &mut self.resumed,
         );
         self.formatter.event = run.event;
         self.formatter.fit_memory();

@@ -15,7 +15,7 @@ use nr_store::element::Element;
 const LONGEST_RUN: usize = 4096;
 
 /// Adds a front of these elements to the row, up to the first that is no cell, and tells how many.
-fn put_cells(row: &mut Out<'_>, elements: &[Element]) -> usize
+fn put_cells(row: &mut Out, elements: &[Element]) -> usize
     ensures front { result ≤ length elements.now }
     ensures cells { AreCells (take result elements.now) }
     ensures adds { AddsToRow row.old (cells_of (take result elements.now)) row.new }
@@ -31,7 +31,7 @@ fn put_cells(row: &mut Out<'_>, elements: &[Element]) -> usize
     count
 }
 
-impl<'a> Engine<'a> {
+impl Engine {
     /// Reads and puts the cells that come next of a diverted line that goes on the page, and tells how many moves that was.
     #[inline(always)]
     pub(crate) fn put_row(&mut self) -> u128

@@ -14,7 +14,7 @@ use nr_formatter::paper::Outlet;
 use nr_formatter::tasks::Room;
 use nr_units::sink::Sink;
 
-impl<'a> Engine<'a> {
+impl Engine {
     /// A title or a diverted line makes room, and is read then.
     pub(crate) fn make_room<W: Sink>(&mut self, room: Room, output: &mut W) -> Result<(), Stop>
         requires { IsUnderWay (tasks.Room room) self.old.formatter }

@@ -1,91 +1,75 @@
 //! A whole run.
-ghost use Rattle.std.specs.Prelude.{◌≡◌, ℕ, ◌+◌, ◌*◌, ◌^◌, ◌<◌, ◌≤◌, length, Some};
+ghost use Rattle.std.specs.Prelude.{◌≡◌, ◌+◌, ◌*◌, ◌^◌, ◌<◌, ◌≤◌, Some, IfOk};
 ghost use Rattle.nr_units.specs.Supply.{Supply};
 ghost use Rattle.nr_engine.specs.State.{start};
 ghost use Rattle.nr_engine.specs.Answer.{Answers, ToldFaults};
-ghost use Rattle.nr_engine.specs.Desks.{HasSizes};
+ghost use Rattle.nr_engine.specs.Holding.{shape};
+ghost use Rattle.nr_engine.specs.Limits.{limits_of, limits_under};
 
 use crate::desk::Work;
 use crate::engine::Engine;
 use crate::outcome::{Measure, Outcome};
 use nr_fill::line::Line;
 use nr_fill::out::Out;
-use nr_fill::piece::PieceSlot;
 use nr_formatter::formatter::Formatter;
 use nr_formatter::tasks::Resume;
 use nr_input::Place;
-use nr_levels::{Frame, Span};
 use nr_options::{Limits, Options};
 use nr_page::Select;
 use nr_page::page::Page;
-use nr_page::row::RowSlot;
-use nr_pool::Slot;
-use nr_store::element::{Draft, Element};
-use nr_store::named::Sense;
-use nr_store::{HyphenationWord, Memory, Register, Store};
-use nr_tables::{Entry, Trap};
 use nr_units::Name;
-use nr_units::cell::Cell;
 use nr_units::sink::Sink;
 use nr_units::source::Source;
+use std::alloc::{AllocError, Global};
 
 /// The greatest number that a register holds, and without its sign the least.
 const GREATEST: u64 = 2_147_483_647;
 
-impl<'a> Engine<'a> {
+impl Engine {
     ghost use Rattle.std.specs.Prelude.{false};
     ghost use Rattle.nr_input.specs.Coming.{has_failed};
     ghost use Rattle.nr_engine.specs.State.{Register as SetRegister};
     ghost use Rattle.nr_engine.specs.Machine.{first_set};
     ghost use Rattle.nr_engine.specs.Holding.{shape, weight, worth};
-    ghost use Rattle.nr_engine.specs.Limits.{limits_of};
+    ghost use Rattle.nr_engine.specs.Limits.{limits_of, limits_under};
     ghost use Rattle.nr_engine.specs.Running.{Chooses, ChoosesAll, IsNew, Travels};
 
-    /// Nothing is read yet, and nothing placed. The slices are long enough for the limits.
-    fn over(
-        limits: Limits,
-        memory: Memory<'a, Resume>,
-        cells: &'a mut [Cell],
-        pieces: &'a mut [PieceSlot],
-        row: &'a mut [Cell],
-        page_cells: &'a mut [Cell],
-        page_texts: &'a mut [Slot],
-        page_rows: &'a mut [RowSlot],
-        select: &'a Select,
-    ) -> Engine<'a>
-        requires sizes { HasSizes limits (record {
-          elements = length memory.elements.now;
-          slots = length memory.slots.now;
-          names = length memory.names.now;
-          drafts = length memory.drafts.now;
-          frames = length memory.frames.now;
-          bytes = length memory.bytes.now;
-          places = length memory.places.now;
-          gathering = length memory.gathering.now;
-          registers = length memory.registers.now;
-          traps = length memory.traps.now;
-          words = length memory.words.now;
-          cells = length cells.now;
-          pieces = length pieces.now;
-          row = length row.now;
-          page_cells = length page_cells.now;
-          page_texts = length page_texts.now;
-          page_rows = length page_rows.now;
-        }) }
-        ensures is_new { IsNew limits select.now (shape result) }
+    /// Nothing is read yet, and nothing placed: `AllocError` where there is no memory for what the limits allow. No other call
+    /// allocates.
+    pub(crate) fn new(alloc: Global, limits: Limits) -> Result<Engine, AllocError>
+        ensures { IfOk result (λ engine. limits_of (shape engine) ≡ limits_under limits) }
+    {
+        Ok(Engine {
+            formatter: Formatter::new(
+                alloc,
+                limits.stored() as u32,
+                limits.depth() as u32,
+                limits.cells(),
+                limits.expansions(),
+            )?,
+            place: Place::new(),
+            row: Out::new(alloc, Line::room(limits.cells()).row)?,
+            page: Page::new(alloc, limits.cells())?,
+            select: Select::all(),
+            resumed: Resume::blank(),
+        })
+    }
+
+    /// Nothing is read yet, and nothing placed, under the limits that it was made for.
+    fn clear(&mut self, limits: Limits, select: &Select)
+        requires { limits_of (shape self.old) ≡ limits_under limits }
+        ensures is_new { IsNew limits select.now (shape self.new) }
         ensures stored { limits.stored ≤ 2 ^ 24 }
         ensures expansions { limits.expansions ≤ 2 ^ 32 }
     {
-        let store = Store::over(memory, limits.stored() as u32);
-        let line = Line::over(cells, pieces, limits.cells());
-        Engine {
-            formatter: Formatter::over(store, line, limits.expansions()),
-            place: Place::new(),
-            row: Out::over(row),
-            page: Page::over(page_cells, page_texts, page_rows, limits.cells()),
-            select,
-            resumed: Resume::blank(),
-        }
+        let _stored = limits.stored();
+        let _expansions = limits.expansions();
+        self.formatter.clear();
+        self.place = Place::new();
+        self.row.clear();
+        self.page.clear();
+        self.select = select.copied();
+        self.resumed = Resume::blank();
     }
 
     /// The number of the first page, if a register holds it.
@@ -159,6 +143,29 @@ impl<'a> Engine<'a> {
     }
 }
 
+/// A run under these limits, from the beginning.
+fn run_in<R: Source, W: Sink>(
+    engine: &mut Engine,
+    limits: Limits,
+    options: &Options,
+    input: &mut R,
+    output: &mut W,
+    moves: &mut u128,
+) -> Outcome
+    requires limits { limits_of (shape engine.old) ≡ limits_under limits }
+    ensures answers { (supply : Supply) → R.supply input.old ≡ Some supply →
+        Answers limits (start limits options.now supply) moves.new result (W.held output.old) (W.held output.new) }
+    ensures faults { ToldFaults result (R.failures input.old) (R.failures input.new) (W.failures output.old) (W.failures output.new) }
+    ensures stay { limits_of (shape engine.new) ≡ limits_of (shape engine.old) }
+{
+    engine.clear(limits, &options.select);
+    *moves = 0;
+    match engine.choose(options, moves) {
+        Err(outcome) => outcome,
+        Ok(()) => engine.run(input, output, moves),
+    }
+}
+
 /// Formats the input until the run ends, a limit would be passed or the input or the output fails, and
 /// sets `moves` to the number of moves made. It consumes its working space.
 pub fn format<R: Source, W: Sink>(
@@ -175,109 +182,7 @@ pub fn format<R: Source, W: Sink>(
     ensures faults { ToldFaults result (R.failures input.old) (R.failures input.new) (W.failures output.old) (W.failures output.new) }
     ensures limits { work.exit.0.now ≡ work.entry.desk.now }
 {
-    let Work { desk } = work;
+    let desk = work.desk;
     let limits = desk.limits;
-    run_in(
-        limits,
-        &mut desk.elements,
-        &mut desk.slots,
-        &mut desk.names,
-        &mut desk.drafts,
-        &mut desk.frames,
-        &mut desk.bytes,
-        &mut desk.places,
-        &mut desk.gathering,
-        &mut desk.registers,
-        &mut desk.traps,
-        &mut desk.words,
-        &mut desk.cells,
-        &mut desk.pieces,
-        &mut desk.row,
-        &mut desk.page_cells,
-        &mut desk.page_texts,
-        &mut desk.page_rows,
-        options,
-        input,
-        output,
-        moves,
-    )
-}
-
-/// Formats the input within slices that are long enough for the limits.
-fn run_in<'a, R: Source, W: Sink>(
-    limits: Limits,
-    elements: &'a mut [Element],
-    slots: &'a mut [Slot],
-    names: &'a mut [Entry<Sense>],
-    drafts: &'a mut [Draft],
-    frames: &'a mut [Frame<Resume>],
-    bytes: &'a mut [u8],
-    places: &'a mut [Span],
-    gathering: &'a mut [u8],
-    registers: &'a mut [Entry<Register>],
-    traps: &'a mut [Trap],
-    words: &'a mut [HyphenationWord],
-    cells: &'a mut [Cell],
-    pieces: &'a mut [PieceSlot],
-    row: &'a mut [Cell],
-    page_cells: &'a mut [Cell],
-    page_texts: &'a mut [Slot],
-    page_rows: &'a mut [RowSlot],
-    options: &'a Options,
-    input: &mut R,
-    output: &mut W,
-    moves: &mut u128,
-) -> Outcome
-    requires sizes { HasSizes limits (record {
-      elements = length elements.old;
-      slots = length slots.old;
-      names = length names.old;
-      drafts = length drafts.old;
-      frames = length frames.old;
-      bytes = length bytes.old;
-      places = length places.old;
-      gathering = length gathering.old;
-      registers = length registers.old;
-      traps = length traps.old;
-      words = length words.old;
-      cells = length cells.old;
-      pieces = length pieces.old;
-      row = length row.old;
-      page_cells = length page_cells.old;
-      page_texts = length page_texts.old;
-      page_rows = length page_rows.old;
-    }) }
-    ensures answers { (supply : Supply) → R.supply input.old ≡ Some supply →
-        Answers limits (start limits options.now supply) moves.new result (W.held output.old) (W.held output.new) }
-    ensures faults { ToldFaults result (R.failures input.old) (R.failures input.new) (W.failures output.old) (W.failures output.new) }
-{
-    let memory = Memory {
-        elements,
-        slots,
-        names,
-        drafts,
-        frames,
-        bytes,
-        places,
-        gathering,
-        registers,
-        traps,
-        words,
-    };
-    let mut engine = Engine::over(
-        limits,
-        memory,
-        cells,
-        pieces,
-        row,
-        page_cells,
-        page_texts,
-        page_rows,
-        &options.select,
-    );
-    *moves = 0;
-    match engine.choose(options, moves) {
-        Err(outcome) => outcome,
-        Ok(()) => engine.run(input, output, moves),
-    }
+    run_in(&mut desk.engine, limits, options, input, output, moves)
 }

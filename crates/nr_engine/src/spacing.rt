@@ -15,7 +15,7 @@ use nr_formatter::paper::Outlet;
 use nr_formatter::tasks::Task;
 use nr_units::sink::Sink;
 
-impl<'a> Engine<'a> {
+impl Engine {
     /// Space of so many u goes into the innermost diversion.
     fn divert_space(&mut self, distance: u32) -> Result<(), Measure>
         requires { IsUnderWay (tasks.Space distance) self.old.formatter }

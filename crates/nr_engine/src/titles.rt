@@ -16,7 +16,7 @@ use crate::outcome::{Measure, Stop};
 use nr_formatter::paper::Outlet;
 use nr_units::sink::Sink;
 
-impl<'a> Engine<'a> {
+impl Engine {
     /// The title goes into the innermost diversion.
     fn divert_title(&mut self) -> Result<(), Measure>
         requires { IsUnderWay tasks.Title self.old.formatter }

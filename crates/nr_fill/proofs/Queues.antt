@@ -76,3 +76,10 @@ inserted xs ys start place end n y h k moved =
     ∙ drop-append-le start (take at xs) (R ++ take m moving) (omega arith)
     ∙ ap₂ (λ a b. a ++ (R ++ b)) (sym (take_behind xs start place end h)) (between_is xs at end ∙ sym (drop-drop place start (take end xs)))
     ∙ sym (append_assoc (take place (drop start (take end xs))) R (drop place (drop start (take end xs))))
+
+-- a vector of which a part was written
+pub written_back : {X : Type 0} (xs zs ys : List X) (a k size : ℕ) → zs ≡ xs → size ≡ length xs → a + k ≤ length xs → length ys ≡ k
+    → take size (put_mid a k zs ys ++ drop (length (put_mid a k zs ys)) xs) ≡ put_mid a k xs ys
+written_back xs zs ys a k size same all within long = rw same
+    (let whole : length (put_mid a k xs ys) ≡ size = omega (arith, length-append (take a xs) (ys ++ drop k (drop a xs)), length-append ys (drop k (drop a xs)), length-take-le a xs (omega arith), length-drop k (drop a xs), length-drop a xs) in
+    take_at (put_mid a k xs ys) (drop (length (put_mid a k xs ys)) xs) size whole)

@@ -11,7 +11,6 @@ use crate::measured::Extent;
 use crate::piece::{Join, PieceSlot};
 use crate::setting::Extra;
 use nr_units::cell::Cell;
-use nr_units::slice_vec::SliceVec;
 
 /// What the pieces of a line come to.
 #[derive(Clone, Copy)]
@@ -89,7 +88,7 @@ pub(crate) fn sums_of(slots: &[PieceSlot]) -> Sums
 
 /// How many blanks stand before a piece that is not the first, and has this gap where it hangs on one.
 #[inline]
-fn blanks_of(join: Join, extra: Extra, gap: usize) -> usize
+pub(crate) fn blanks_of(join: Join, extra: Extra, gap: usize) -> usize
     requires each { extra.each < 2 ^ 62 }
     ensures { result ≡ blanks_before extra gap join }
 {
@@ -101,7 +100,7 @@ fn blanks_of(join: Join, extra: Extra, gap: usize) -> usize
 
 /// The number of the next gap.
 #[inline]
-fn gap_behind(join: Join, gap: usize) -> usize
+pub(crate) fn gap_behind(join: Join, gap: usize) -> usize
     requires gap { gap < 2 ^ 62 }
     ensures next { result ≡ next_gap gap join }
     ensures near { result ≤ gap + 1 }
@@ -141,31 +140,4 @@ pub(crate) fn set_pieces<S: CellSink>(
         taken = end;
     }
     extent
-}
-
-/// The same where the row has room for them: in blocks.
-pub(crate) fn lay_pieces(
-    slots: &[PieceSlot],
-    cells: &[Cell],
-    extra: Extra,
-    row: &mut SliceVec<'_, Cell>,
-)
-    requires some { 0 < length slots.now }
-    requires cells { cells_in_slots slots.now ≤ length cells.now }
-    requires each { extra.each < 2 ^ 62 }
-    requires few { length slots.now < 2 ^ 32 }
-    requires room { length row.old.items + length (cells_in_line extra (pieces_of slots.now cells.now)) ≤ row.old.room }
-    ensures items { row.new.items ≡ row.old.items ++ cells_in_line extra (pieces_of slots.now cells.now) }
-    ensures room { row.new.room ≡ row.old.room }
-{
-    let mut taken = slots[0].len as usize;
-    row.extend_front(cells, taken);
-    let mut gap = 1;
-    let others = &slots[1..];
-    for slot in others {
-        row.extend_copies(Cell::blank(), blanks_of(slot.join, extra, gap));
-        gap = gap_behind(slot.join, gap);
-        row.extend_front(&cells[taken..], slot.len as usize);
-        taken += slot.len as usize;
-    }
 }

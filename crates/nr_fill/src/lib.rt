@@ -2,10 +2,11 @@
 //! a row of cells, tab stops, and titles.
 //!
 //! It stands on nr_units and nr_settings. To read: `piece`, `margins`, `setting`, `stops`, `title`; `cells`,
-//! `measured`, `out`; `slice_queue`, `cutting`, `piece_row`; then `line`, and its calls in `words`, `runs`,
+//! `measured`, `cell_row`, `out`; `queue`, `cutting`, `piece_row`; then `line`, and its calls in `words`, `runs`,
 //! `tabs`, `taking`, `titling`.
 #![tactic(auto)]
 
+pub mod cell_row;
 pub mod cells;
 mod cutting;
 pub mod line;
@@ -14,9 +15,9 @@ pub mod measured;
 pub mod out;
 pub mod piece;
 mod piece_row;
+mod queue;
 mod runs;
 pub mod setting;
-mod slice_queue;
 pub mod stops;
 mod tabs;
 mod taking;

@@ -1,15 +1,16 @@
 //! The collected line. (CSTR 54, section 4.)
-ghost use Rattle.std.specs.Prelude.{◌≡◌, ◌+◌, ◌<◌, ◌≤◌, ◌^◌, ◌↔◌, IsTrue, not, is_none, length, Some};
+ghost use Rattle.std.specs.Prelude.{◌≡◌, ◌+◌, ◌<◌, ◌≤◌, ◌^◌, ◌↔◌, IsTrue, not, is_none, length, Some, IfOk};
 ghost use Rattle.nr_fill.specs.Cut.{fits, pieces_width};
 ghost use Rattle.nr_fill.specs.Pieces.{nothing_collected, begins_line, is_nil, line_cells, text_cells, word_or_new, word_pieces, cells_of_word, may_hyphenate, reads_field};
 ghost use Rattle.nr_fill.specs.Tabs.{column};
 
 use crate::margins::{Margins, Turn};
-use crate::piece::{Join, PieceSlot};
+use crate::piece::Join;
 use crate::piece_row::PieceRow;
 use crate::stops::Pending;
 use crate::title::TitleState;
 use nr_units::cell::Cell;
+use std::alloc::{AllocError, Global};
 use std::marker::Model;
 
 /// The widest gap, in cells, and the widest line.
@@ -22,7 +23,7 @@ const MARGIN_ROOM: usize = 4096;
 #[derive(Clone, Copy)]
 pub struct LineCells;
 
-/// The least lengths of the slices of a line and of the row that it is set in, in elements.
+/// How many elements there is room for in a line and in the row that it is set in.
 #[derive(Clone, Copy)]
 pub struct LineRoom {
     pub cells: usize,
@@ -48,8 +49,8 @@ pub(crate) struct WordState {
 ///
 /// Its measure, 1 and its cells for each piece and the cells of the word and of the title, stays within a limit.
 #[derive(Drop)]
-pub struct Line<'a> {
-    pub(crate) row: PieceRow<'a>,
+pub struct Line {
+    pub(crate) row: PieceRow,
     pub(crate) limit: usize,
     /// How many of the row's pieces are the line's: the others are the word's.
     pub(crate) pieces: usize,
@@ -64,7 +65,7 @@ pub struct Line<'a> {
     pub(crate) title: Option<TitleState>,
 }
 
-impl<'a> Model for Line<'a> {
+impl Model for Line {
     ghost use Rattle.nr_fill.specs.Lined.{Lined};
     ghost use Rattle.nr_fill.specs.Lying.{collected_of, IsLine};
 
@@ -78,8 +79,8 @@ impl<'a> Model for Line<'a> {
     ghost invariant = { λ l. IsLine l.row l.limit l.pieces l.wide l.word l.gap l.title };
 }
 
-impl<'a> Line<'a> {
-    /// The lengths under which a line of this limit refuses nothing but what passes the limit, and its row takes
+impl Line {
+    /// The rooms under which a line of this limit refuses nothing but what passes the limit, and its row takes
     /// each line that is cut off it whole.
     pub fn room(limit: usize) -> LineRoom
         requires { limit < 2 ^ 32 }
@@ -92,15 +93,14 @@ impl<'a> Line<'a> {
         }
     }
 
-    /// A line with nothing collected. `limit` is what its measure may come to.
-    pub fn over(cells: &'a mut [Cell], pieces: &'a mut [PieceSlot], limit: usize) -> Self
-        requires cells { limit ≤ length cells.now }
-        requires pieces { limit ≤ length pieces.now }
-        requires small { length cells.now < 2 ^ 32 }
-        ensures { result ≡ record { collected = nothing_collected; limit = limit } }
+    /// A line with nothing collected: `AllocError` where there is no memory for it. `limit` is what its measure may come to.
+    /// No other call allocates.
+    pub fn new(alloc: Global, limit: usize) -> Result<Line, AllocError>
+        requires { limit < 2 ^ 32 }
+        ensures { IfOk result (λ made. made ≡ record { collected = nothing_collected; limit = limit }) }
     {
-        Line {
-            row: PieceRow::over(cells, pieces),
+        Ok(Line {
+            row: PieceRow::new(alloc, limit, limit)?,
             limit,
             pieces: 0,
             wide: 0,
@@ -114,7 +114,26 @@ impl<'a> Line<'a> {
             },
             turn: Turn::Left,
             title: None,
-        }
+        })
+    }
+
+    /// Takes away what is collected.
+    pub fn clear(&mut self)
+        ensures { self.new ≡ record self.old { collected = nothing_collected } }
+    {
+        self.row.clear();
+        self.pieces = 0;
+        self.wide = 0;
+        self.word = None;
+        self.gap = 0;
+        self.barred = false;
+        self.sentence = false;
+        self.margins = Margins {
+            indent: 0,
+            length: 0,
+        };
+        self.turn = Turn::Left;
+        self.title = None;
     }
 
     /// Whether a word is being read.

@@ -1,7 +1,7 @@
 //! How far cells reach.
 ghost use Rattle.std.specs.Prelude.{◌≡◌, length, replicate};
 ghost use Rattle.nr_units.specs.Cells.{blank};
-ghost use Rattle.nr_fill.specs.Extents.{AddsToExtent};
+ghost use Rattle.nr_fill.specs.Extents.{AddsToExtent, IsExtent};
 
 use crate::out::{written_behind, written_len};
 use nr_units::cell::Cell;
@@ -24,6 +24,14 @@ impl Extent {
             count: 0,
             written: 0,
         }
+    }
+
+    /// How far these cells reach.
+    #[inline]
+    pub fn of(cells: &[Cell]) -> Self
+        ensures { IsExtent cells.now result.count result.written }
+    {
+        Extent::none().with_cells(cells)
     }
 
     /// These cells more.

@@ -1,5 +1,5 @@
 //! The row that a line is set in.
-ghost use Rattle.std.specs.Prelude.{◌≡◌, ◌+◌, ◌-◌, ◌<◌, ◌≤◌, ◌^◌, ◌↔◌, List, [], length, MatchOption, None, IfSome, IsSome};
+ghost use Rattle.std.specs.Prelude.{◌≡◌, ◌+◌, ◌-◌, ◌<◌, ◌≤◌, ◌^◌, ◌↔◌, List, [], length, MatchOption, None, IfSome, IsSome, IfOk};
 ghost use Rattle.std.specs.List.{suffix_len};
 ghost use Rattle.nr_units.specs.Cells.{is_blank, trimmed};
 ghost use Rattle.nr_units.specs.declared.cell.Cell.{Cell as CellValue};
@@ -9,27 +9,28 @@ ghost use Rattle.nr_fill.specs.Rows.{AddsToRow, AddsToRow-both, AddsToRow-nothin
 ghost use Rattle.nr_fill.specs.Slots.{cells_in_slots, pieces_of};
 ghost use Rattle.nr_fill.specs.Spreading.{cells_in_line};
 
+use crate::cell_row::lay_line;
 use crate::cells::CellSink;
-use crate::cutting::lay_pieces;
 use crate::measured::Extent;
 use crate::piece::PieceSlot;
 use crate::setting::Extra;
+use nr_rooms::FixedVec;
 use nr_units::cell::Cell;
-use nr_units::slice_vec::SliceVec;
+use std::alloc::{AllocError, Global};
 use std::marker::Model;
 
-/// A row of cells in a slice that is lent. Cells for which the slice has no room are only counted: how many there are,
+/// A row of cells, with room for a number of them that stays. Cells for which it has no room are only counted: how many there are,
 /// and how many up to the last that is no blank.
 ///
 /// Clauses see what is kept of a row as a value of its own, and say of each call what it does to whatever row that may be.
 #[derive(Drop)]
-pub struct Out<'a> {
-    cells: SliceVec<'a, Cell>,
+pub struct Out {
+    cells: FixedVec<Cell>,
     count: usize,
     written: usize,
 }
 
-impl<'a> Model for Out<'a> {
+impl Model for Out {
     ghost use Rattle.std.specs.Prelude.{◌<◌, ◌^◌};
     ghost use Rattle.nr_fill.specs.Rows.{Row};
 
@@ -40,17 +41,17 @@ impl<'a> Model for Out<'a> {
     ghost invariant = { λ o. o.cells.room < 2 ^ 32 };
 }
 
-impl<'a> Out<'a> {
-    /// A row with no cells, and room for as many as the slice has.
-    pub fn over(cells: &'a mut [Cell]) -> Self
-        requires { length cells.now < 2 ^ 32 }
-        ensures { result ≡ row_of (length cells.entry.now) [] }
+impl Out {
+    /// A row with no cells, and room for so many: `AllocError` where there is no memory for them. No other call allocates.
+    pub fn new(alloc: Global, room: usize) -> Result<Out, AllocError>
+        requires { room < 2 ^ 32 }
+        ensures { IfOk result (λ made. made ≡ row_of room []) }
     {
-        Out {
-            cells: SliceVec::over(cells),
+        Ok(Out {
+            cells: FixedVec::new(alloc, room)?,
             count: 0,
             written: 0,
-        }
+        })
     }
 
     /// The row without the blanks at its end, where there was room for it.
@@ -92,7 +93,7 @@ impl<'a> Out<'a> {
     }
 }
 
-impl CellSink for Out<'_> {
+impl CellSink for Out {
     ghost Adds = { AddsToRow };
 
     #[inline]
@@ -141,9 +142,9 @@ impl CellSink for Out<'_> {
         if self.count != start || most > self.cells.room() - start {
             return None;
         }
-        lay_pieces(slots, cells, extra, &mut self.cells);
+        lay_line(slots, cells, extra, &mut self.cells);
         let laid = &self.cells.as_slice()[start..];
-        let extent = Extent::none().with_cells(laid);
+        let extent = Extent::of(laid);
         self.written = written_behind(self.written, start, extent.written);
         self.count = start + extent.count;
         Some(extent)

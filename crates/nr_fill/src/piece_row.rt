@@ -1,5 +1,5 @@
-// Pieces one after another in two lent slices, behind them the cells of one that has no end yet, and those of a title.
-ghost use Rattle.std.specs.Prelude.{◌≡◌, ℕ, ◌+◌, ◌-◌, ◌<◌, ◌≤◌, ◌^◌, List, [], ◌∷◌, ◌++◌, length, map, min, take, drop, replicate, slice_index, All};
+// Pieces one after another in two vectors, behind them the cells of one that has no end yet, and those of a title.
+ghost use Rattle.std.specs.Prelude.{◌≡◌, ℕ, ◌+◌, ◌-◌, ◌<◌, ◌≤◌, ◌^◌, List, [], ◌∷◌, ◌++◌, length, map, min, take, drop, replicate, slice_index, All, IfOk};
 ghost use Rattle.std.specs.List.{flat_map};
 ghost use Rattle.nr_units.specs.declared.cell.Cell.{Cell as CellValue};
 ghost use Rattle.nr_fill.specs.Cut.{cut, hyphen_before, pieces_width};
@@ -13,24 +13,25 @@ use crate::cells::CellSink;
 use crate::cutting::{Sums, front_from_behind, longest_front, set_pieces, sums_of};
 use crate::measured::Extent;
 use crate::piece::{Join, PieceSlot};
+use crate::queue::Queue;
 use crate::setting::Extra;
-use crate::slice_queue::SliceQueue;
 use nr_units::cell::Cell;
+use std::alloc::{AllocError, Global};
 use std::marker::Model;
 
-/// The cells of all pieces stand in one slice one after another, behind them those of the piece that is being read and
-/// those of a title; a second slice says of each piece how long it is and how it hangs on the one before it.
+/// The cells of all pieces stand in one vector one after another, behind them those of the piece that is being read and
+/// those of a title; a second vector says of each piece how long it is and how it hangs on the one before it.
 #[derive(Drop)]
-pub(crate) struct PieceRow<'a> {
-    cells: SliceQueue<'a, Cell>,
-    slots: SliceQueue<'a, PieceSlot>,
+pub(crate) struct PieceRow {
+    cells: Queue<Cell>,
+    slots: Queue<PieceSlot>,
     /// How many cells are the pieces'.
     pieced: usize,
     /// How many cells are not the title's.
     read: usize,
 }
 
-impl<'a> Model for PieceRow<'a> {
+impl Model for PieceRow {
     ghost use Rattle.std.specs.Prelude.{min};
     ghost use Rattle.nr_fill.specs.Laid.{Laid, laid_of, IsLaid};
 
@@ -41,18 +42,28 @@ impl<'a> Model for PieceRow<'a> {
     ghost invariant = { λ r. IsLaid r.slots.items r.cells.items r.slots.room r.cells.room r.pieced r.read };
 }
 
-impl<'a> PieceRow<'a> {
-    /// No pieces and no cells.
-    pub(crate) fn over(cells: &'a mut [Cell], slots: &'a mut [PieceSlot]) -> Self
-        requires small { length cells.now < 2 ^ 32 }
-        ensures { result ≡ record { pieces = []; last = []; title = []; room = min (length slots.entry.now) (length cells.entry.now) } }
+impl PieceRow {
+    /// No pieces and no cells, and room for so many of each: `AllocError` where there is no memory for them.
+    pub(crate) fn new(alloc: Global, cells: usize, pieces: usize) -> Result<PieceRow, AllocError>
+        requires small { cells < 2 ^ 32 }
+        ensures { IfOk result (λ made. made ≡ record { pieces = []; last = []; title = []; room = min pieces cells }) }
     {
-        PieceRow {
-            cells: SliceQueue::over(cells),
-            slots: SliceQueue::over(slots),
+        Ok(PieceRow {
+            cells: Queue::new(alloc, cells)?,
+            slots: Queue::new(alloc, pieces)?,
             pieced: 0,
             read: 0,
-        }
+        })
+    }
+
+    /// Takes all pieces and cells away.
+    pub(crate) fn clear(&mut self)
+        ensures { self.new ≡ record self.old { pieces = []; last = []; title = [] } }
+    {
+        self.cells.clear();
+        self.slots.clear();
+        self.pieced = 0;
+        self.read = 0;
     }
 
     /// How many pieces there are.

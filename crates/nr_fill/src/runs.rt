@@ -49,7 +49,7 @@ pub struct WordRun {
     pub ended: bool,
 }
 
-impl<'a> Line<'a> {
+impl Line {
     /// Reads a front of these bytes as cells of a word, underlined or not, as many calls of `put` would: up to the first
     /// that is not plain or whose cell would pass the limit. Tells how many it read. It takes the time of one pass
     /// over those bytes.

@@ -51,7 +51,7 @@ impl Field {
     }
 }
 
-impl<'a> Line<'a> {
+impl Line {
     /// Reads a tab or leader: as part of a word it moves to the first stop beyond the column, by cells `fill` as one
     /// addition. With `aligned`, as in no-fill mode, a right or centring stop instead takes the text up to the next
     /// tab, leader or line end; `end_field` is to be called there. It fails where the cells would pass the limit.

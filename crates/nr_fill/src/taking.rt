@@ -50,7 +50,7 @@ fn push_hyphens<S: CellSink>(out: &mut S, count: u16)
     }
 }
 
-impl<'a> Line<'a> {
+impl Line {
     /// Sets in a row, behind what stands there, the longest front of the pieces that fits, with its hyphen where it is
     /// cut at a soft point, and one piece where none fits. What is left takes the margins `next`. Tells how wide the
     /// text is, in cells, without the blanks at its end; the row keeps them. A word that is being read stays.

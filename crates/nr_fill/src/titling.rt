@@ -9,7 +9,7 @@ use crate::line::{Line, LineCells};
 use crate::title::{TitleParts, TitleState, set_parts};
 use nr_units::cell::Cell;
 
-impl<'a> Line<'a> {
+impl Line {
     /// A title begins with its left part, which has no cells yet. It shares the line's cells: what is added to the
     /// line while a title is read gives the title up.
     pub fn begin_title(&mut self)

@@ -83,7 +83,7 @@ impl Pending {
     }
 }
 
-impl<'a> Line<'a> {
+impl Line {
     /// There is a word from now on: a new one takes the gap that waits, and the margins where it begins the line.
     /// A title that is being read is given up.
     #[inline(always)]

@@ -6,7 +6,6 @@ use Rattle.std.proofs.lemmas.Bool.{cases_lt, eqb-true, ne_eqb, or_parts}
 use Rattle.std.proofs.lemmas.List.{append-nil, length-replicate, map-append, replicate-append-replicate, replicate_more, take-append-le, take_all, take_more}
 use Rattle.nr_units.specs.Cells.{blank, is_blank, trimmed}
 use Rattle.nr_units.specs.declared.cell.Cell.{Cell}
-use Rattle.nr_fill.specs.Rows.{AddsToRow, IsRow, Row, row_of}
 use Rattle.nr_store.specs.declared.element.Element.TheVariants as elements
 use Rattle.nr_store.specs.declared.refusal.StoredBytes.{StoredBytes}
 use Rattle.nr_store.proofs.Building.{affordable}
@@ -95,25 +94,6 @@ ends_row cells d some none last =
       plain_is = plain_cells cells none;
       all_written = λ xs. subst (λ (zs : List Cell). trimmed (xs ++ zs) ≡ xs ++ zs) (sym all) (ends_behind (take n cells) cell (ne_eqb cell.byte 32 last) xs);
     }
-
--- ---- a line that is laid at once
-
--- it stands before a cell that is no blank
-module _ (start line marked : Row) (xs row : List Cell) (mark : Cell) (room : ℕ) (empty : start ≡ row_of room []) (first : AddsToRow start xs line) (second : AddsToRow line (mark ∷ []) marked)
-    (some : is_blank mark ≡ false) (is : (cells : List Cell) → IsRow cells marked → row ≡ trimmed cells) where
-  nothing : IsRow [] start
-  nothing = empty ∙ ap (λ n. row_of n []) (sym (ap (λ (r : Row). r.room) empty))
-
-  all_laid : row ≡ xs ++ mark ∷ []
-  all_laid = is (xs ++ mark ∷ []) (second.1 xs (first.1 [] nothing)) ∙ trimmed-some xs mark some
-
-  pub laid_some : 1 ≤ length row
-  laid_some = omega (arith, ap length all_laid, length-append xs (mark ∷ []))
-
-  pub laid_row : take (length row - 1) row ≡ xs
-  laid_row =
-      let count : length row - 1 ≡ length xs = omega (arith, ap length all_laid, length-append xs (mark ∷ [])) in
-      ap (λ n. take n row) count ∙ ap (take (length xs)) all_laid ∙ take-append-le (length xs) xs (mark ∷ []) (omega arith) ∙ take_all (length xs) xs (omega arith)
 
 -- the row up to such cells
 module _ {before store : Stored Resume} {row : List Cell} {blanks : ℕ} {refused : Bool} (cells : List Cell) (ends : EndsRow cells) (h : HoldsRow before row store blanks refused) where

@@ -8,7 +8,7 @@ use crate::formatter::Formatter;
 use nr_fill::line::LineCells;
 use nr_fill::piece::Behind;
 
-impl<'a> Formatter<'a> {
+impl Formatter {
     /// A hyphen, a blank where lines are not filled, or a tab where no text for a stop is read.
     #[inline]
     fn goes_to_word(&self, byte: u8) -> bool

@@ -6,7 +6,7 @@ use crate::formatter::Formatter;
 use nr_input::{Event, Question};
 use nr_settings::is_true_number;
 
-impl<'a> Formatter<'a> {
+impl Formatter {
     /// Whether what was asked holds.
     fn holds(&self, question: Question) -> bool
         ensures { result ≡ holds question self.now }
@@ -19,7 +19,7 @@ impl<'a> Formatter<'a> {
     }
 
     /// The question is answered.
-    pub(crate) fn judge(&mut self, question: Question)
+    pub fn judge(&mut self, question: Question)
         ensures { self.new ≡ answered question self.old }
     {
         let holds = self.holds(question);

@@ -14,15 +14,16 @@ ghost use Rattle.nr_formatter.specs.DiversionRows.{AddsToDiversion, AddsToDivers
 
 use crate::lines::{Going, set_going};
 use crate::tasks::Resume;
+use nr_fill::cell_row::lay_line;
 use nr_fill::cells::CellSink;
 use nr_fill::line::Line;
 use nr_fill::measured::Extent;
-use nr_fill::out::Out;
 use nr_fill::piece::PieceSlot;
 use nr_fill::setting::Extra;
 use nr_settings::Settings;
 use nr_store::{Element, Store, StoredBytes};
 use nr_units::cell::Cell;
+use nr_units::slice_vec::SliceVec;
 
 /// How many cells a line has at most that is laid at once.
 const LAID: usize = 256;
@@ -30,8 +31,8 @@ const LAID: usize = 256;
 /// A row whose cells are added to the newest text being built. Blanks wait for a cell that is none; once a cell is
 /// refused, nothing more is added.
 #[derive(Drop)]
-pub(crate) struct DiversionRow<'b, 'a> {
-    store: &'b mut Store<'a, Resume>,
+pub(crate) struct DiversionRow<'b> {
+    store: &'b mut Store<Resume>,
     /// What the store was charged before the row.
     charge: u32,
     /// How many blanks wait.
@@ -63,7 +64,7 @@ fn ends_row(cells: &[Cell]) -> bool
 
 /// Adds so many blanks and cells behind them, and tells what the store is charged then.
 fn add_behind(
-    store: &mut Store<'_, Resume>,
+    store: &mut Store<Resume>,
     blanks: usize,
     cells: &[Cell],
 ) -> Result<u32, StoredBytes>
@@ -80,7 +81,7 @@ fn add_behind(
 }
 
 /// Adds the cells one after another.
-fn push_each(row: &mut DiversionRow<'_, '_>, cells: &[Cell])
+fn push_each(row: &mut DiversionRow<'_>, cells: &[Cell])
     ensures same_reference { row.new.store.ghost_name ≡ row.old.store.ghost_name }
     ensures charge { row.new.charge ≡ row.old.charge }
     ensures adds { AddsToDiversion row.old.store.now row.old.blanks row.old.refused cells.now row.new.store.now row.new.blanks row.new.refused }
@@ -90,7 +91,7 @@ fn push_each(row: &mut DiversionRow<'_, '_>, cells: &[Cell])
     }
 }
 
-impl<'b, 'a> DiversionRow<'b, 'a> {
+impl<'b> DiversionRow<'b> {
     /// Adds cells that end with one that is no blank behind the blanks that wait.
     fn add_written(&mut self, cells: &[Cell])
         requires { EndsRow cells.now }
@@ -124,7 +125,7 @@ impl<'b, 'a> DiversionRow<'b, 'a> {
     }
 }
 
-impl CellSink for DiversionRow<'_, '_> {
+impl CellSink for DiversionRow<'_> {
     ghost Adds = { λ old cells new.
         (new.store.ghost_name ≡ old.store.ghost_name) × (new.charge ≡ old.charge)
         × AddsToDiversion old.store.now old.blanks old.refused cells new.store.now new.blanks new.refused };
@@ -157,20 +158,15 @@ impl CellSink for DiversionRow<'_, '_> {
         extra: Extra,
         most: usize,
     ) -> Option<Extent> {
+        if most > LAID {
+            return None;
+        }
         let mut block = [Cell::blank(); LAID];
-        let mut line = Out::over(&mut block);
-        let Some(extent) = line.lay(slots, cells, extra, most) else {
-            return None;
-        };
-        // Behind a cell that is no blank the row leaves no blanks out.
-        line.push(Cell {
-            byte: b'.',
-            under: false,
-        });
-        let Some(row) = line.row() else {
-            return None;
-        };
-        self.extend(&row[..row.len() - 1]);
+        let mut row = SliceVec::over(&mut block);
+        lay_line(slots, cells, extra, &mut row);
+        let laid = row.as_slice();
+        let extent = Extent::of(laid);
+        self.extend(laid);
         Some(extent)
     }
 
@@ -185,8 +181,8 @@ impl CellSink for DiversionRow<'_, '_> {
 
 /// The line that goes out next goes into the text that is being built, so many u high.
 pub(crate) fn divert_going(
-    store: &mut Store<'_, Resume>,
-    line: &mut Line<'_>,
+    store: &mut Store<Resume>,
+    line: &mut Line,
     settings: &mut Settings,
     going: Going,
     height: u32,
@@ -211,8 +207,8 @@ pub(crate) fn divert_going(
 
 /// The title that was read goes into the text that is being built, so many cells long and so many u high.
 pub(crate) fn divert_titled(
-    store: &mut Store<'_, Resume>,
-    line: &mut Line<'_>,
+    store: &mut Store<Resume>,
+    line: &mut Line,
     length: u32,
     height: u32,
 ) -> Result<(), StoredBytes>

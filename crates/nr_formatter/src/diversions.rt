@@ -57,7 +57,7 @@ fn trap_reached(height: u32, diversion: Option<Diversion>) -> Option<Name>
 }
 
 /// So many blanks go into the text that is being built.
-fn add_blanks(store: &mut Store<'_, Resume>, count: u32) -> Result<(), StoredBytes>
+fn add_blanks(store: &mut Store<Resume>, count: u32) -> Result<(), StoredBytes>
     ensures answer { charge_of store.old ≤ store.old.limit → result ≡ afforded (added (replicate count blank_cell) store.old) tt }
     ensures ok { OnOk result (store.new ≡ added (replicate count blank_cell) store.old) }
     ensures limits { stored_limits store.new ≡ stored_limits store.old }
@@ -71,7 +71,7 @@ fn add_blanks(store: &mut Store<'_, Resume>, count: u32) -> Result<(), StoredByt
     Ok(())
 }
 
-impl<'a> Formatter<'a> {
+impl Formatter {
     /// How far down the innermost diversion goes before its trap, in u; no bound where it has none below.
     pub(crate) fn diversion_room(&self) -> u32
         ensures { result ≡ diversion_room self.now }

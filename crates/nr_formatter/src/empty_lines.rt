@@ -9,7 +9,7 @@ use crate::tasks::Task;
 use nr_input::Event;
 use nr_reading::{Due, Escape, Mode};
 
-impl<'a> Formatter<'a> {
+impl Formatter {
     /// Whether an empty line does nothing but go down the open page.
     fn goes_down(&self) -> bool
         ensures { result ≡ goes_down self.now }

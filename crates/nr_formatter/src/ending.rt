@@ -11,7 +11,7 @@ use crate::tasks::{Ejected, Step, Task, Then};
 use nr_input::Event;
 use nr_settings::Arguments;
 
-impl<'a> Formatter<'a> {
+impl Formatter {
     /// The next step of the end.
     pub(crate) fn finish(&mut self)
         ensures { self.new ≡ finish self.old }

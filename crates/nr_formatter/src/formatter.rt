@@ -1,5 +1,8 @@
 //! The formatter between two moves: everything but the source, the lines on the page and the output.
-ghost use Rattle.std.specs.Prelude.{◌≡◌};
+ghost use Rattle.std.specs.Prelude.{◌≡◌, ◌<◌, ◌^◌, IfOk};
+ghost use Rattle.nr_fill.specs.Pieces.{nothing_collected};
+ghost use Rattle.nr_store.specs.Requests.{request_names};
+ghost use Rattle.nr_store.specs.Stored.{nothing};
 ghost use Rattle.nr_formatter.specs.Beginning.{first_formatter, with_first};
 ghost use Rattle.nr_formatter.specs.Places.{outlet, present_place};
 
@@ -10,6 +13,7 @@ use nr_input::{Event, Reader};
 use nr_settings::Settings;
 use nr_store::Store;
 use nr_units::Name;
+use std::alloc::{AllocError, Global};
 
 /// An input line trap. (CSTR 54, section 7.5)
 #[derive(Clone, Copy)]
@@ -21,13 +25,13 @@ pub struct InputTrap {
 
 /// All that a run keeps, but for the source, the lines on the page and the output.
 #[derive(Drop)]
-pub struct Formatter<'a> {
+pub struct Formatter {
     /// What of the input is half read.
     pub reader: Reader,
     /// Names, texts being built, levels, registers, traps, hyphenation words.
-    pub store: Store<'a, Resume>,
+    pub store: Store<Resume>,
     /// What was read and is not set yet.
-    pub line: Line<'a>,
+    pub line: Line,
     pub settings: Settings,
     pub paper: Paper,
     pub given: Given,
@@ -46,15 +50,23 @@ pub struct Formatter<'a> {
     pub end_macro: Option<Name>,
 }
 
-impl<'a> Formatter<'a> {
-    /// Nothing is read yet. There may be at most so many splices and springs behind one byte of the input.
-    pub fn over(store: Store<'a, Resume>, line: Line<'a>, most: u64) -> Formatter<'a>
-        ensures { result ≡ first_formatter store.entry line.entry most }
+impl Formatter {
+    /// Nothing is read yet. There may be at most so many splices and springs behind one byte of the input, and so much may be
+    /// stored, in so many levels, and collected: `AllocError` where there is no memory for that. No other call allocates.
+    pub fn new(
+        alloc: Global,
+        stored: u32,
+        deepest: u32,
+        cells: usize,
+        most: u64,
+    ) -> Result<Formatter, AllocError>
+        requires { cells < 2 ^ 32 }
+        ensures { IfOk result (λ made. made ≡ first_formatter (nothing request_names stored deepest) (record { collected = nothing_collected; limit = cells }) most) }
     {
-        Formatter {
+        Ok(Formatter {
             reader: Reader::new(most),
-            store,
-            line,
+            store: Store::new(alloc, stored, deepest)?,
+            line: Line::new(alloc, cells)?,
             settings: Settings::new(),
             paper: Paper::new(),
             given: Given::new(),
@@ -65,7 +77,26 @@ impl<'a> Formatter<'a> {
             input_trap: None,
             step: Step::NotYet,
             end_macro: None,
-        }
+        })
+    }
+
+    /// Nothing is read yet, under the same limits.
+    pub fn clear(&mut self)
+        ensures { self.new ≡ first_formatter (nothing request_names self.old.store.limit self.old.store.deepest) (record { collected = nothing_collected; limit = self.old.line.limit }) self.old.reader.most }
+    {
+        self.reader = Reader::new(self.reader.most);
+        self.store.clear();
+        self.line.clear();
+        self.settings = Settings::new();
+        self.paper = Paper::new();
+        self.given = Given::new();
+        self.event = Event::Nothing;
+        self.springs = None;
+        self.task = Task::Read;
+        self.breaks = false;
+        self.input_trap = None;
+        self.step = Step::NotYet;
+        self.end_macro = None;
     }
 
     /// The next page has this number, as `-n` asks before the first.

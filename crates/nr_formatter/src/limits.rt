@@ -3,7 +3,7 @@ ghost use Rattle.nr_formatter.specs.Limits.{FitsMemory};
 
 use crate::formatter::Formatter;
 
-impl<'a> Formatter<'a> {
+impl Formatter {
     /// What is stored, the levels and the line are within their limits, whatever was done.
     #[inline]
     pub fn fit_memory(&self)

@@ -36,7 +36,7 @@ fn most_points(places: &[u8]) -> &[u8]
 }
 
 /// The word that is being read may be cut at these places, so many cells in.
-fn cut_at(line: &mut Line<'_>, places: &[u8])
+fn cut_at(line: &mut Line, places: &[u8])
     ensures { line.new ≡ record line.old { collected = with_points places.now line.old.collected } }
 {
     for place in places {
@@ -46,7 +46,7 @@ fn cut_at(line: &mut Line<'_>, places: &[u8])
 
 /// Sets the line that goes out next in a row behind what stands there, so many cells on, and takes it away.
 pub(crate) fn set_going<S: CellSink>(
-    line: &mut Line<'_>,
+    line: &mut Line,
     settings: &mut Settings,
     going: Going,
     offset: u32,
@@ -104,7 +104,7 @@ impl Then {
     }
 }
 
-impl<'a> Formatter<'a> {
+impl Formatter {
     /// The word takes the points of its `.hw` word, or is one piece where lines are not filled.
     #[tactic(auto, unfolding(crate::specs::Lines::pointed))]
     fn point_word(&mut self)

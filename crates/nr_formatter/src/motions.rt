@@ -5,7 +5,7 @@ ghost use Rattle.nr_formatter.specs.Motions.{next_place, motion_cells, rule_cell
 use crate::formatter::Formatter;
 use nr_settings::{Repeated, motion, rule};
 
-impl<'a> Formatter<'a> {
+impl Formatter {
     /// Where the next cell of the line stands, in u.
     fn next_place(&self) -> i64
         ensures { result ≡ next_place self.now }

@@ -44,7 +44,7 @@ fn is_text(event: Event) -> bool
     )
 }
 
-impl<'a> Formatter<'a> {
+impl Formatter {
     /// What was read is acted on by this.
     fn begin(&mut self, task: Task)
         ensures { self.new ≡ heard_for task self.old }

@@ -13,7 +13,7 @@ use nr_store::{Store, StoredBytes};
 use nr_units::Name;
 
 /// The words of a line are stored.
-fn add_words(store: &mut Store<'_, Resume>, line: &[u8]) -> Result<(), StoredBytes>
+fn add_words(store: &mut Store<Resume>, line: &[u8]) -> Result<(), StoredBytes>
     ensures answer { charge_of store.old ≤ store.old.limit → result ≡ afforded (with_words (length line.now) line.now store.old) tt }
     ensures ok { OnOk result (store.new ≡ with_words (length line.now) line.now store.old) }
     ensures limits { stored_limits store.new ≡ stored_limits store.old }
@@ -32,7 +32,7 @@ fn add_words(store: &mut Store<'_, Resume>, line: &[u8]) -> Result<(), StoredByt
     Ok(())
 }
 
-impl<'a> Formatter<'a> {
+impl Formatter {
     /// The lines that follow are a definition's.
     fn begin_definition(
         &mut self,

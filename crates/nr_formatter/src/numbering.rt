@@ -7,7 +7,7 @@ use crate::paper::PageState;
 use crate::tasks::Task;
 use nr_settings::page_number;
 
-impl<'a> Formatter<'a> {
+impl Formatter {
     /// The page number of the request's line.
     fn given_number(&self) -> Option<i32>
         ensures { result ≡ given_number self.now }

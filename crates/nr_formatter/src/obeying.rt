@@ -42,7 +42,7 @@ fn only_sets(request: Request) -> bool
     )
 }
 
-impl<'a> Formatter<'a> {
+impl Formatter {
     /// Such a request takes effect.
     #[inline(never)]
     fn set(&mut self, request: Request)

@@ -75,7 +75,7 @@ fn reached(trap: Option<Trap>, place: u32) -> Option<Name>
     None
 }
 
-impl<'a> Formatter<'a> {
+impl Formatter {
     /// The nearest trap below a place.
     pub(crate) fn trap_below(&self, place: u32) -> Option<Trap>
         ensures value { result ≡ trap_below place self.now }

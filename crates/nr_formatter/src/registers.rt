@@ -51,7 +51,7 @@ impl Given {
     }
 }
 
-impl<'a> Formatter<'a> {
+impl Formatter {
     /// The present place, in u: in the innermost diversion, and else on the open page.
     fn place(&self) -> u32
         ensures { result ≡ place_in (diversion self.now) self.now }

@@ -25,7 +25,7 @@ pub(crate) fn breaks(request: Request) -> bool
     )
 }
 
-impl<'a> Formatter<'a> {
+impl Formatter {
     /// A request takes effect. The reader acts on those that only have the input read on.
     pub(crate) fn act(&mut self, request: Request) -> Result<(), StoredBytes>
         ensures result { IsWithin self.old → result ≡ afforded (act request self.old).store tt }

@@ -73,7 +73,7 @@ fn copy_bytes(text: &[Element], bytes: &mut [u8]) -> usize
     count
 }
 
-impl<'a> Formatter<'a> {
+impl Formatter {
     /// Whether the input is read next, unless a macro springs.
     #[inline]
     fn reads_next(&self) -> bool

@@ -5,7 +5,7 @@ ghost use Rattle.nr_formatter.specs.Settings.{ad, ce, fi, ft, hy, in_, lc, ll, l
 use crate::formatter::Formatter;
 use crate::tasks::Task;
 
-impl<'a> Formatter<'a> {
+impl Formatter {
     /// `.ad c`: lines are adjusted.
     pub(crate) fn ad(&mut self)
         ensures { self.new ≡ ad self.old }

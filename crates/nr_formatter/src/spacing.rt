@@ -11,7 +11,7 @@ use crate::paper::Outlet;
 use crate::tasks::Task;
 use nr_settings as settings;
 
-impl<'a> Formatter<'a> {
+impl Formatter {
     /// The distance from a place to the next trap below it, or else to the bottom; 0 at the bottom or below it. In u.
     pub(crate) fn distance_below(&self, place: u32) -> u32
         ensures value { result ≡ distance_below place self.now }

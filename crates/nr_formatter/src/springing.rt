@@ -15,7 +15,7 @@ use crate::tasks::{Resume, Task};
 use nr_input::{Event, Refusal};
 use nr_units::Name;
 
-impl<'a> Formatter<'a> {
+impl Formatter {
     /// What a sprung macro interrupts now.
     fn interrupted(&self) -> Resume
         ensures { result ≡ interrupted self.now }

@@ -15,7 +15,7 @@ use nr_input::Event;
 use nr_settings::{Special, prints};
 use nr_units::cell::Cell;
 
-impl<'a> Formatter<'a> {
+impl Formatter {
     /// The margins of a line that begins now. A `.ti` is used up where one does.
     fn margins(&mut self) -> Margins
         ensures margins { result ≡ margins self.old }

@@ -21,7 +21,7 @@ use nr_units::cell::Cell;
 use nr_units::format_number;
 
 /// So many equal cells more of the title that is being read.
-fn put_copies(line: &mut Line<'_>, cell: Cell, n: u32) -> Result<(), LineCells>
+fn put_copies(line: &mut Line, cell: Cell, n: u32) -> Result<(), LineCells>
     ensures result { line_cells line.old.collected ≤ line.old.limit → result ≡ afforded (record line.old { collected = with_title_cells (replicate n cell) line.old.collected }) }
     ensures ok { OnOk result (line.new ≡ record line.old { collected = with_title_cells (replicate n cell) line.old.collected }) }
     ensures limit { line.new.limit ≡ line.old.limit }
@@ -33,7 +33,7 @@ fn put_copies(line: &mut Line<'_>, cell: Cell, n: u32) -> Result<(), LineCells>
 }
 
 /// The cells of these bytes more of the title that is being read.
-fn put_bytes(line: &mut Line<'_>, fonts: &Fonts, bytes: &[u8]) -> Result<(), LineCells>
+fn put_bytes(line: &mut Line, fonts: &Fonts, bytes: &[u8]) -> Result<(), LineCells>
     ensures result { line_cells line.old.collected ≤ line.old.limit → result ≡ afforded (record line.old { collected = with_title_cells (map (λ b. cell_of b fonts.now) bytes.now) line.old.collected }) }
     ensures ok { OnOk result (line.new ≡ record line.old { collected = with_title_cells (map (λ b. cell_of b fonts.now) bytes.now) line.old.collected }) }
     ensures limit { line.new.limit ≡ line.old.limit }
@@ -44,7 +44,7 @@ fn put_bytes(line: &mut Line<'_>, fonts: &Fonts, bytes: &[u8]) -> Result<(), Lin
     Ok(())
 }
 
-impl<'a> Formatter<'a> {
+impl Formatter {
     /// A title is being read.
     pub(crate) fn reads_title(&self) -> bool
         ensures { result ≡ reads_title self.now }

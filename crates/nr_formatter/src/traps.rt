@@ -10,7 +10,7 @@ use nr_settings as settings;
 use nr_settings::{LineTrap, PageTrap};
 use nr_store::StoredBytes;
 
-impl<'a> Formatter<'a> {
+impl Formatter {
     /// `.wh`
     pub(crate) fn wh(&mut self) -> Result<(), StoredBytes>
         ensures result { IsWithin self.old → result ≡ afforded (wh self.old).store tt }

@@ -122,7 +122,7 @@ module _ {K : Type 0} (v w : Stored K) (c : Coming) (r s : Reader) (e : Event) (
     stands = subst (λ x. Stands x w s q supply) (sym (ap (λ m. m.situation) done_there)) (record { stored = refl; reader = refl; coming = holds });
   }
 
-quietly_add : {K : Type 0} (m n : ℕ) (s t u : Situation K) → Quietly n s t → Quietly m t u → Quietly (m + n) s u
+pub quietly_add : {K : Type 0} (m n : ℕ) (s t u : Situation K) → Quietly n s t → Quietly m t u → Quietly (m + n) s u
 quietly_add m n s t u all more = record {
   goes = λ k below. elim (cases_lt k n) [
     | inl less ↦ all.goes k less
@@ -168,7 +168,7 @@ pays_once v w p q r s e lead diversions pays = record {
 
 -- ---- the name is looked up
 
-seeks_no_lead : (c : Calls) → is_lead (sought_event c) ≡ false
+pub seeks_no_lead : (c : Calls) → is_lead (sought_event c) ≡ false
 seeks_no_lead calls.Title = refl
 seeks_no_lead c = refl
 

@@ -3,7 +3,10 @@ mod Hearing
 mod Refusals
 pub mod ControlLines
 pub mod Costs
+pub mod Interpolated
 pub mod Items
+pub mod LevelLines
+pub mod LevelParts
 pub mod LimitsStay
 pub mod Longest
 pub mod Putting

@@ -1,8 +1,8 @@
 -- How many of the bytes are read that the source has at hand, or that a level has left.
 use Rattle.std.specs.Prelude.{slice_get, slice_index, map}
 use Rattle.std.specs.Option.{option_map}
-use Rattle.std.proofs.Common.{◌≡◌, ℕ, zero, suc, ◌+◌, ◌-◌, ◌*◌, ◌^◌, ◌<◌, ◌≤◌, true, List, [], ◌∷◌, ◌++◌, length, take, drop, Some, refl, ap, sym, ◌∙◌, subst, arith}
-use Rattle.std.proofs.lemmas.List.{append-nil, length-map, length-take, get_or-take}
+use Rattle.std.proofs.Common.{◌≡◌, ℕ, zero, suc, ◌+◌, ◌-◌, ◌*◌, ◌^◌, ◌<◌, ◌≤◌, true, List, [], ◌∷◌, length, take, drop, Some, refl, ap, sym, ◌∙◌, subst, arith}
+use Rattle.std.proofs.lemmas.List.{length-map, length-take, get_or-take}
 use Rattle.std.proofs.lemmas.Option.{slice_get-map, slice_get-get_or}
 use Rattle.nr_store.specs.Stored.{Stored, Level, Read, Mark, charge_of}
 use Rattle.nr_store.specs.Windows.{rest_of, left_times, levels_behind}
@@ -23,13 +23,13 @@ use Rattle.nr_input.specs.Targets.{is_read_for, with_more}
 
 -- no byte of the row stands there
 abbrev pub NoByteAt : List ℕ → ℕ → Type 0
-NoByteAt bs k = (byte : ℕ) → slice_get (map fronts.Byte bs ++ []) k ≡ Some (fronts.Byte byte) → ⊥
+NoByteAt bs k = (byte : ℕ) → slice_get (map fronts.Byte bs) k ≡ Some (fronts.Byte byte) → ⊥
 
 -- so it is behind the row
 behind_all : (bs : List ℕ) (k : ℕ) → NoByteAt bs k → k < length bs → ⊥
 behind_all bs k none less =
     none (slice_index bs k)
-    (ap (λ fs. slice_get fs k) (append-nil (map fronts.Byte bs)) ∙ slice_get-map fronts.Byte bs k ∙ ap (option_map fronts.Byte) (slice_get-get_or bs k 0 less))
+    (slice_get-map fronts.Byte bs k ∙ ap (option_map fronts.Byte) (slice_get-get_or bs k 0 less))
 
 -- as many bytes as may be taken: one more of those at hand is among them
 among : (k taken : ℕ) (bs all : List ℕ) → bs ≡ take (2 ^ 40 - 1 - taken) all → taken + k + 1 < 2 ^ 40 → k < length all → k < length bs

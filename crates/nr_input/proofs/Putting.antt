@@ -37,10 +37,10 @@ silent_none : {K : Type 0} (k : ℕ) (s : Situation K) → k ≤ 0 → told_last
 silent_none zero s few = refl
 silent_none (suc k) s few = absurd (omega (arith, few))
 
-no_moves : {K : Type 0} (s : Situation K) → Quietly 0 s s
+pub no_moves : {K : Type 0} (s : Situation K) → Quietly 0 s s
 no_moves s = record { goes = λ k below. absurd (omega (arith, below)); silent = λ k few. silent_none k s few; leads = refl }
 
-one_more : {K : Type 0} (n : ℕ) (s t u : Situation K) → Quietly n s t → Goes t → move t ≡ quiet u → Quietly (suc n) s u
+pub one_more : {K : Type 0} (n : ℕ) (s t u : Situation K) → Quietly n s t → Goes t → move t ≡ quiet u → Quietly (suc n) s u
 one_more n s t u so_far goes is = record {
   goes = λ k below. elim (cases_lt k n) [
     | inl less ↦ so_far.goes k less

@@ -1,4 +1,4 @@
--- Bytes of an argument that the newest level has in front, as those who read them say it.
+-- Bytes that the newest level has in front and that are added one by one to what is stored, as those who read them say it.
 use Rattle.std.specs.Prelude.{map, slice_get, slice_index}
 use Rattle.std.specs.Option.{option_map}
 use Rattle.std.proofs.Common.{inl, inr, ◌≡◌, ℕ, zero, suc, ◌*◌, ◌<◌, ◌≤◌, true, List, [], ◌∷◌, ◌++◌, length, take, drop, get_or, All, Option, Some, sum_by, refl, ap, sym, ◌∙◌, subst, arith}
@@ -17,7 +17,8 @@ use Rattle.nr_reading.specs.declared.mode.Due.{Due}
 use Rattle.nr_reading.specs.InArgument.{ending_of, IsPlain}
 use Rattle.nr_reading.specs.Runs.{Spot}
 use Rattle.nr_input.specs.declared.reader.Reader.{Reader}
-use Rattle.nr_input.specs.declared.target.Target.TheVariants.{Argument}
+use Rattle.nr_input.specs.declared.target.Target.{Target}
+use Rattle.nr_input.specs.declared.target.Target.TheVariants.{Argument, Text}
 use Rattle.nr_input.specs.Coming.{Coming, Reached, HoldsComing, element_front}
 use Rattle.nr_input.specs.Moving.{Situation, Stands, situation}
 use Rattle.nr_input.specs.Runs.{HasRead, PaysAll, IsLeft, IsLongestInLevel}
@@ -27,7 +28,7 @@ use Rattle.nr_input.proofs.Rows.{at_level, with_rest, level_goings}
 use Rattle.nr_input.proofs.RowsRead.{items_behind}
 use Rattle.nr_input.proofs.Longest.{rest_of-behind}
 use Rattle.nr_input.proofs.Putting.{quiet, has_read_quietly, Adds, goes_put, move-put, twice, twice-is, spot_at, Puttings, all_put}
-use Rattle.nr_input.proofs.Targets.{due-is_read_for, meet-plain, adds_byte, with_more-next, charge_of-some}
+use Rattle.nr_input.proofs.Targets.{due-is_read_for, meet-plain, adds_byte, levels-with_more, limit-with_more, diversions-with_more, with_more-none, with_more-next, charge_of-some}
 use Rattle.nr_input.proofs.PuttingRead.{plain_at}
 
 -- these bytes are as many elements
@@ -49,13 +50,18 @@ own_front (suc n) own ys post rest copied within is =
 charge-rest : {K : Type 0} (l : Reading K) (ls : List (Level K)) (xs ys : List Element) → sum_by level_charge (Read (record l { rest = ys }) ∷ ls) ≡ sum_by level_charge (Read (record l { rest = xs }) ∷ ls)
 charge-rest l ls xs ys = sum_by-cons level_charge (Read (record l { rest = ys })) ls ∙ sym (sum_by-cons level_charge (Read (record l { rest = xs })) ls)
 
-module _ {K : Type 0} (n : ℕ) (l : Reading K) (ls : List (Level K)) (xs : List Element) (v : Stored K) (c : Coming) (r : Reader) (bs : List ℕ) (levels : v.levels ≡ Read (record l { rest = xs }) ∷ ls) (front : AreFront bs xs)
-    (reads : is_read_for Argument r.half ≡ true) (within : n ≤ length bs) (plain : All (IsPlain (ending_of r.half.reading.mode)) (take n bs)) (fits : charge_of (with_more Argument (take n bs) v) ≤ v.limit) where
+-- what is left of a text is nothing to what is added
+rest-with_more : {K : Type 0} (t : Target) (bs : List ℕ) (l : Reading K) (ls : List (Level K)) (xs : List Element) (v : Stored K) → with_more t bs (with_rest l ls xs v) ≡ with_rest l ls xs (with_more t bs v)
+rest-with_more Argument bs l ls xs v = refl
+rest-with_more Text bs l ls xs v = refl
+
+module _ {K : Type 0} (t : Target) (n : ℕ) (l : Reading K) (ls : List (Level K)) (xs : List Element) (v : Stored K) (c : Coming) (r : Reader) (bs : List ℕ) (levels : v.levels ≡ Read (record l { rest = xs }) ∷ ls) (front : AreFront bs xs)
+    (reads : is_read_for t r.half ≡ true) (within : n ≤ length bs) (plain : All (IsPlain (ending_of r.half.reading.mode)) (take n bs)) (fits : charge_of (with_more t (take n bs) v) ≤ v.limit) where
   abbrev at : ℕ → Spot → Situation K
-  at k p = at_level l ls xs (with_more Argument (take k bs) v) c r p
+  at k p = at_level l ls xs (with_more t (take k bs) v) c r p
 
   abbrev due : ℕ → Due
-  due k = due_for Argument (slice_index bs k)
+  due k = due_for t (slice_index bs k)
 
   element_at : (k : ℕ) → k < n → get_or xs k (elements.Byte 0) ≡ elements.Byte (slice_index bs k)
   element_at k below =
@@ -64,69 +70,76 @@ module _ {K : Type 0} (n : ℕ) (l : Reading K) (ls : List (Level K)) (xs : List
 
   -- so many bytes were added, and one more was taken
   abbrev stored_at : ℕ → Stored K
-  stored_at k = with_rest l ls (drop (suc k) xs) (with_more Argument (take k bs) v)
+  stored_at k = with_rest l ls (drop (suc k) xs) (with_more t (take k bs) v)
 
   -- with that byte
-  stored_next : (k : ℕ) → k < n → with_more Argument (slice_index bs k ∷ []) (stored_at k) ≡ with_rest l ls (drop (suc k) xs) (with_more Argument (take (suc k) bs) v)
-  stored_next k below = ap (λ (w : Stored K). with_rest l ls (drop (suc k) xs) w) (with_more-next Argument k bs v (omega (arith, below, within)))
+  stored_next : (k : ℕ) → k < n → with_more t (slice_index bs k ∷ []) (stored_at k) ≡ with_rest l ls (drop (suc k) xs) (with_more t (take (suc k) bs) v)
+  stored_next k below =
+      rest-with_more t (slice_index bs k ∷ []) l ls (drop (suc k) xs) (with_more t (take k bs) v) ∙ ap (λ (w : Stored K). with_rest l ls (drop (suc k) xs) w) (with_more-next t k bs v (omega (arith, below, within)))
 
-  one_fits : (k : ℕ) → k < n → charge_of (with_more Argument (slice_index bs k ∷ []) (stored_at k)) ≤ (stored_at k).limit
+  one_fits : (k : ℕ) → k < n → charge_of (with_more t (slice_index bs k ∷ []) (stored_at k)) ≤ (stored_at k).limit
   one_fits k below =
-      let some = charge_of-some Argument k n bs v below within fits in
-      let charged = ap (λ y. sum_by level_charge y) levels in
-      omega (arith, some, charged, charge-rest l ls xs (drop (suc k) xs))
+      let w = with_more t (take (suc k) bs) v in
+      let some = charge_of-some t k n bs v below within fits in
+      let more = ap (λ (x : Stored K). charge_of x) (with_more-next t k bs v (omega (arith, below, within))) in
+      let is = ap (λ (x : Stored K). charge_of x) (stored_next k below) in
+      let charged = ap (λ y. sum_by level_charge y) (levels-with_more t (take (suc k) bs) v ∙ levels) in
+      omega (arith, some, more, is, charged, charge-rest l ls xs (drop (suc k) xs), limit-with_more t (take k bs) v)
 
   -- that byte is added
-  adds_there : (k : ℕ) → k < n → Adds (due k) (stored_at k) (with_more Argument (slice_index bs k ∷ []) (stored_at k))
-  adds_there k below = adds_byte Argument (slice_index bs k) (stored_at k) (one_fits k below)
+  adds_there : (k : ℕ) → k < n → Adds (due k) (stored_at k) (with_more t (slice_index bs k ∷ []) (stored_at k))
+  adds_there k below = adds_byte t (slice_index bs k) (stored_at k) (one_fits k below)
 
   level_puttings : Puttings n (map element_front xs) (λ k. slice_index bs k) due r.half at
   level_puttings = record {
-    goings = λ k below. level_goings l ls xs (with_more Argument (take k bs) v) c r;
+    goings = λ k below. level_goings l ls xs (with_more t (take k bs) v) c r;
     fronts = λ k below.
         slice_get-map element_front xs k
         ∙ ap (option_map element_front) (slice_get-get_or xs k (elements.Byte 0) (omega (arith, below, within, front_within bs xs front)) ∙ ap Some (element_at k below));
-    meets = λ k below. meet-plain Argument (slice_index bs k) r.half reads (plain_at n k (ending_of r.half.reading.mode) bs below within plain);
+    meets = λ k below. meet-plain t (slice_index bs k) r.half reads (plain_at n k (ending_of r.half.reading.mode) bs below within plain);
     goes = λ k below. goes_put (due k) (stored_at k) _ c r (adds_there k below);
     puts = λ k below.
-        move-put (due k) (stored_at k) _ c r (adds_there k below) (due-is_read_for Argument r.half reads) ∙ ap (λ (w : Stored K). quiet (situation w c r)) (stored_next k below);
+        move-put (due k) (stored_at k) _ c r (adds_there k below) (due-is_read_for t r.half reads) ∙ ap (λ (w : Stored K). quiet (situation w c r)) (stored_next k below);
   }
 
   level_added_there : (q : Reached) (supply : Option Supply) → HoldsComing c q supply
-      → HasRead (2 * n) (situation v c r) events.Nothing (with_rest l ls (drop n xs) (with_more Argument (take n bs) v)) r q supply
+      → HasRead (2 * n) (situation v c r) events.Nothing (with_rest l ls (drop n xs) (with_more t (take n bs) v)) r q supply
   level_added_there q supply holds =
-      let w = with_rest l ls (drop n xs) (with_more Argument (take n bs) v) in
-      let begins : at 0 (spot_at 0 r.half) ≡ situation v c r = ap (λ (y : List (Level K)). situation (record v { levels = y }) c r) (sym levels) in
+      let w = with_rest l ls (drop n xs) (with_more t (take n bs) v) in
+      let begins : at 0 (spot_at 0 r.half) ≡ situation v c r = ap (λ (w : Stored K). situation (with_rest l ls xs w) c r) (with_more-none t v) ∙ ap (λ (y : List (Level K)). situation (record v { levels = y }) c r) (sym levels) in
       let stands : Stands (at n (spot_at n r.half)) w r q supply = record { stored = refl; reader = refl; coming = holds } in
       let few : n ≤ length (map element_front xs) = omega (arith, within, front_within bs xs front, length-map xs element_front) in
-      let all = all_put n (map element_front xs) (λ j. slice_index bs j) due r.half at (due-is_read_for Argument r.half reads) few level_puttings n (omega arith) in
+      let all = all_put n (map element_front xs) (λ j. slice_index bs j) due r.half at (due-is_read_for t r.half reads) few level_puttings n (omega arith) in
       subst (λ m. HasRead m (situation v c r) events.Nothing w r q supply) (twice-is n)
       (subst (λ s. HasRead (twice n) s events.Nothing w r q supply) begins (has_read_quietly (twice n) _ _ w r q supply all stands))
 
-module _ {K : Type 0} (n : ℕ) (v : Stored K) (c : Coming) (r : Reader) (bs : List ℕ) (reads : is_read_for Argument r.half ≡ true) (some : 0 < n) (within : n ≤ length bs)
-    (plain : All (IsPlain (ending_of r.half.reading.mode)) (take n bs)) (fits : charge_of (with_more Argument (take n bs) v) ≤ v.limit) (q : Reached) (supply : Option Supply) (holds : HoldsComing c q supply) where
-  level_added_by : (levels : List (Level K)) → v.levels ≡ levels → AreFront bs (rest_of levels) → HasRead (2 * n) (situation v c r) events.Nothing (left_times n (with_more Argument (take n bs) v)) r q supply
+module _ {K : Type 0} (t : Target) (n : ℕ) (v : Stored K) (c : Coming) (r : Reader) (bs : List ℕ) (reads : is_read_for t r.half ≡ true) (some : 0 < n) (within : n ≤ length bs)
+    (plain : All (IsPlain (ending_of r.half.reading.mode)) (take n bs)) (fits : charge_of (with_more t (take n bs) v) ≤ v.limit) (q : Reached) (supply : Option Supply) (holds : HoldsComing c q supply) where
+  level_added_by : (levels : List (Level K)) → v.levels ≡ levels → AreFront bs (rest_of levels) → HasRead (2 * n) (situation v c r) events.Nothing (left_times n (with_more t (take n bs) v)) r q supply
   level_added_by [] is front = absurd (let none = front_within bs [] front in omega (arith, none, some, within))
   level_added_by (Mark mode ∷ ls) is front = absurd (let none = front_within bs [] front in omega (arith, none, some, within))
   level_added_by (Read l ∷ ls) is front =
-      let w = with_more Argument (take n bs) v in
-      let few : n ≤ length (rest_of w.levels) = omega (arith, within, front_within bs l.rest front, ap (λ y. length (rest_of y)) is) in
-      let ends : left_times n w ≡ with_rest l ls (drop n l.rest) w = left_times-run n w few ∙ ap (λ (y : List (Level K)). record w { levels = levels_behind n y }) is in
-      subst (λ (x : Stored K). HasRead (2 * n) (situation v c r) events.Nothing x r q supply) (sym ends) (level_added_there n l ls l.rest v c r bs is front reads within plain fits q supply holds)
+      let w = with_more t (take n bs) v in
+      let here : w.levels ≡ Read l ∷ ls = levels-with_more t (take n bs) v ∙ is in
+      let few : n ≤ length (rest_of w.levels) = omega (arith, within, front_within bs l.rest front, ap (λ y. length (rest_of y)) here) in
+      let ends : left_times n w ≡ with_rest l ls (drop n l.rest) w = left_times-run n w few ∙ ap (λ (y : List (Level K)). record w { levels = levels_behind n y }) here in
+      subst (λ (x : Stored K). HasRead (2 * n) (situation v c r) events.Nothing x r q supply) (sym ends) (level_added_there t n l ls l.rest v c r bs is front reads within plain fits q supply holds)
 
-  pub level_added : AreFront bs (rest_of v.levels) → HasRead (2 * n) (situation v c r) events.Nothing (left_times n (with_more Argument (take n bs) v)) r q supply
+  pub level_added : AreFront bs (rest_of v.levels) → HasRead (2 * n) (situation v c r) events.Nothing (left_times n (with_more t (take n bs) v)) r q supply
   level_added front = level_added_by v.levels refl front
 
-pub level_added_pays : {K : Type 0} (n : ℕ) (bytes : List ℕ) (v w : Stored K) (q : Reached) (r : Reader) → n ≤ length (rest_of v.levels) → w ≡ left_times n (with_more Argument bytes v)
+pub level_added_pays : {K : Type 0} (t : Target) (n : ℕ) (bytes : List ℕ) (v w : Stored K) (q : Reached) (r : Reader) → n ≤ length (rest_of v.levels) → w ≡ left_times n (with_more t bytes v)
     → PaysAll (2 * n) v q r events.Nothing w q r
-level_added_pays n bytes v w q r few is =
-    let w_is : w ≡ run_left n (with_more Argument bytes v) = is ∙ left_times-run n (with_more Argument bytes v) few in
+level_added_pays t n bytes v w q r few is =
+    let same = levels-with_more t bytes v in
+    let w_is : w ≡ run_left n (with_more t bytes v) = is ∙ left_times-run n (with_more t bytes v) (omega (arith, few, ap (λ y. length (rest_of y)) same)) in
     let items = items_behind n v.levels few in
-    let left = ap (λ x. items_left x.levels) w_is in
-    let worths = ap (λ x. expansions_worth r.most r.burst x.limit) w_is in
+    let left = ap (λ x. items_left x.levels) w_is ∙ ap (λ y. items_left (levels_behind n y)) same in
+    let limits = ap (λ x. x.limit) w_is ∙ limit-with_more t bytes v in
+    let worths = ap (λ k. expansions_worth r.most r.burst k) limits in
     record {
-      limit = ap (λ x. x.limit) w_is;
-      diversions = ap (λ x. diversions_in x.building) w_is;
+      limit = limits;
+      diversions = ap (λ x. diversions_in x.building) w_is ∙ diversions-with_more t bytes v;
       most = refl;
       pays = λ worth enough. omega (arith, items, left, worths);
       tells = refl;

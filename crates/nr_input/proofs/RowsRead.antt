@@ -1,8 +1,8 @@
 -- Many moves over a row, as those who read it say it.
 use Rattle.std.specs.Prelude.{not, map, slice_get, slice_index}
-use Rattle.std.proofs.Common.{◌≡◌, ℕ, zero, suc, ◌+◌, ◌-◌, ◌*◌, ◌<◌, ◌≤◌, ◌==◌, Bool, true, false, List, [], ◌∷◌, ◌++◌, length, drop, Option, None, Some, refl, ap, sym, ◌∙◌, subst, arith, length-drop}
+use Rattle.std.proofs.Common.{◌≡◌, ℕ, zero, suc, ◌+◌, ◌-◌, ◌*◌, ◌<◌, ◌≤◌, ◌==◌, Bool, true, false, List, [], ◌∷◌, length, drop, Option, None, Some, refl, ap, sym, ◌∙◌, subst, arith, length-drop}
 use Rattle.std.proofs.lemmas.Bool.{eq-eqb, ne_eqb}
-use Rattle.std.proofs.lemmas.List.{append-nil, length-map, get_or-take}
+use Rattle.std.proofs.lemmas.List.{length-map, get_or-take}
 use Rattle.std.proofs.lemmas.List.Sums.{sum_by-cons}
 use Rattle.nr_units.specs.Supply.{Supply, Skips, Faults, Never, After, Anytime, later, skipped}
 use Rattle.nr_store.specs.Stored.{Stored, Level, Read, Mark}
@@ -229,7 +229,3 @@ holds_past (suc k) bs c q p supply supply' some within unseen next holds skips i
     let last : k ≡ suc k - 1 = omega arith in
     subst (λ x. HoldsComing (behind_run (suc k) c) x supply') (ap (λ j. passed_run (slice_index bs j) (suc k) q) last ∙ sym is)
     (holds_behind k bs c q supply supply' (omega (arith, within)) unseen next holds skips)
-
--- a row of bytes alone
-pub bytes_met : (n : ℕ) (bs : List ℕ) (h : Half) (p : Spot) → HasMet n (map fronts.Byte bs ++ []) h p → HasMet n (map fronts.Byte bs) h p
-bytes_met n bs h p met = subst (λ fs. HasMet n fs h p) (append-nil (map fronts.Byte bs)) met

@@ -155,7 +155,7 @@ taken_pays v p q r k e stays paid = taken_by v.levels v p q r k e stays refl pai
 
 -- ---- a move that looks at what is in front
 
-due_look : (d : Due) → is_look d ≡ true → d ≡ dues.Look
+pub due_look : (d : Due) → is_look d ≡ true → d ≡ dues.Look
 due_look dues.Look is = refl
 due_look d is = let wrong : ⊥ = cc in absurd wrong
 

@@ -2,10 +2,13 @@ pub mod Acting
 pub mod AtHand
 pub mod Coming
 pub mod Hearing
+pub mod Interpolations
 pub mod Laws
+pub mod Levels
 pub mod Limits
 pub mod Moving
 pub mod Refusals
+pub mod Rows
 pub mod Runs
 pub mod Splicing
 pub mod Targets

@@ -9,6 +9,7 @@ use Rattle.nr_reading.specs.declared.event.Event.TheVariants as events
 use Rattle.nr_reading.specs.declared.half.Half.{Half}
 use Rattle.nr_reading.specs.declared.mode.Due.TheVariants as dues
 use Rattle.nr_reading.specs.InArgument.{ending_of, IsPlain}
+use Rattle.nr_reading.specs.InText.{is_in_text}
 use Rattle.nr_reading.specs.Weights.{cost_of_event, is_lead}
 use Rattle.nr_input.specs.declared.reader.Reader.{Reader}
 use Rattle.nr_input.specs.declared.target.Target.{Target}
@@ -46,6 +47,15 @@ pub record PaysAll {K : Type 0} (n : ℕ) (v : Stored K) (p : Reached) (r : Read
       weight_before_byte v' p' r' + cost_of_event e + n + 178 * risen r.half r'.half + worth * p.taken ≤ weight_before_byte v p r + 1 + worth * p'.taken
   pub tells : is_lead e ≡ false
 
+-- As PaysAll, where of the texts that are being built fewer may have a diversion then: one that takes its name.
+pub record PaysMany {K : Type 0} (n : ℕ) (v : Stored K) (p : Reached) (r : Reader) (e : Event) (v' : Stored K) (p' : Reached) (r' : Reader) : Type 0 where
+  pub limit : v'.limit ≡ v.limit
+  pub diversions : diversions_in v'.building ≤ diversions_in v.building
+  pub most : r'.most ≡ r.most
+  pub pays : (worth : ℕ) → byte_worth r.most v.limit ≤ worth →
+      weight_before_byte v' p' r' + cost_of_event e + n + 178 * risen r.half r'.half + worth * p.taken ≤ weight_before_byte v p r + 1 + worth * p'.taken
+  pub tells : is_lead e ≡ false
+
 -- ---- how many moves are made
 
 -- A byte at hand is left: it is to be added to an argument or to a text that is being defined, and does not stand for itself
@@ -67,13 +77,23 @@ pub record IsLongest {K : Type 0} (bs : List ℕ) (n : ℕ) (p : Reached) (r : R
   pub all : n < 65536 → e ≡ events.Nothing → r'.half.reading.due ≡ dues.Look → p'.taken + 1 < 2 ^ 40 → p'.taken < p.taken + length bs
       → IsLeft (slice_index bs (p'.taken - p.taken)) r.half v'
 
--- Of what is left of the newest level as many bytes were read in n moves as can be: one move at least where a byte was in front and
--- nothing was due. Fewer than 512 moves of which none told anything and behind which nothing is due left no byte in front but one
+-- Fewer than 512 moves of which none told anything and behind which nothing is due left no byte of the newest level in front but one
 -- that is left.
+abbrev pub StopsInLevel : {K : Type 0} → ℕ → Event → Stored K → Reader → Type 0
+StopsInLevel n e v r =
+    n < 512 → e ≡ events.Nothing → r.half.reading.due ≡ dues.Look → (b : ℕ) → slice_get (rest_of v.levels) 0 ≡ Some (elements.Byte b) → IsLeft b r.half v
+
+-- Of the newest level as many bytes were read in n moves as can be: one move at least where a byte was in front and nothing was due,
+-- and none behind which they go on.
 pub record IsLongestInLevel {K : Type 0} (n : ℕ) (v : Stored K) (r : Reader) (e : Event) (v' : Stored K) (r' : Reader) : Type 0 where
   pub some : (b : ℕ) → slice_get (rest_of v.levels) 0 ≡ Some (elements.Byte b) → r.half.reading.due ≡ dues.Look → 0 < n
-  pub all : n < 512 → e ≡ events.Nothing → r'.half.reading.due ≡ dues.Look → (b : ℕ) → slice_get (rest_of v'.levels) 0 ≡ Some (elements.Byte b)
-      → IsLeft b r.half v'
+  pub all : StopsInLevel n e v' r'
+
+-- Up to text: one move at least was made where a byte of the newest level was in front and nothing was due; and where no text line
+-- has begun, no byte is left in front as IsLongestInLevel says.
+pub record IsLongestUpToText {K : Type 0} (n : ℕ) (v : Stored K) (r : Reader) (e : Event) (v' : Stored K) (r' : Reader) : Type 0 where
+  pub some : (b : ℕ) → slice_get (rest_of v.levels) 0 ≡ Some (elements.Byte b) → r.half.reading.due ≡ dues.Look → 0 < n
+  pub all : is_in_text r'.half ≡ false → StopsInLevel n e v' r'
 
 -- ---- bytes that the source has at hand
 

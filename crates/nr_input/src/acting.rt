@@ -99,7 +99,7 @@ impl Reader {
     }
 
     // A string's text begins.
-    fn begin<K: Copy>(&mut self, store: &mut Store<'_, K>) -> Result<Event, Refusal>
+    fn begin<K: Copy>(&mut self, store: &mut Store<K>) -> Result<Event, Refusal>
         ensures { called store.new self.new result ≡ acted Due.Begin store.old self.old }
     {
         let begun = if self.half.notes.defining.appends {
@@ -117,12 +117,7 @@ impl Reader {
     }
 
     // A byte is added to the text that is built, and then this is due.
-    fn add<K: Copy>(
-        &mut self,
-        byte: u8,
-        due: Due,
-        store: &mut Store<'_, K>,
-    ) -> Result<Event, Refusal>
+    fn add<K: Copy>(&mut self, byte: u8, due: Due, store: &mut Store<K>) -> Result<Event, Refusal>
         ensures { let a = adding_byte byte due store.old self.old in
             called store.new self.new result ≡ acted_by (storing_answer a.stored) a store.old self.old }
     {
@@ -141,7 +136,7 @@ impl Reader {
         held: u8,
         next: u8,
         then: Option<u8>,
-        store: &mut Store<'_, K>,
+        store: &mut Store<K>,
     ) -> Result<Event, Refusal>
         ensures { called store.new self.new result ≡ acted (Due.Release held next then) store.old self.old }
     {
@@ -150,7 +145,7 @@ impl Reader {
     }
 
     // The text takes its name, where it is kept.
-    fn name_text<K: Copy>(&self, store: &mut Store<'_, K>)
+    fn name_text<K: Copy>(&self, store: &mut Store<K>)
         ensures { store.new ≡ naming self.now store.old }
     {
         if self.half.notes.defining.keeps {
@@ -169,7 +164,7 @@ impl Reader {
     }
 
     // The text of a name is spliced, with no arguments in force.
-    fn splice<K: Copy>(&mut self, name: Name, store: &mut Store<'_, K>) -> Result<Event, Refusal>
+    fn splice<K: Copy>(&mut self, name: Name, store: &mut Store<K>) -> Result<Event, Refusal>
         ensures { let a = splicing_name name store.old self.old in
             called store.new self.new result ≡ acted_by (splicing_answer (has_text name store.old) a.stored self.old) a store.old self.old }
     {
@@ -186,7 +181,7 @@ impl Reader {
     }
 
     // A macro is called with the arguments that were read.
-    fn call<K: Copy>(&mut self, store: &mut Store<'_, K>) -> Result<Event, Refusal>
+    fn call<K: Copy>(&mut self, store: &mut Store<K>) -> Result<Event, Refusal>
         ensures { called store.new self.new result ≡ acted Due.Call store.old self.old }
     {
         match store.call(self.name()) {
@@ -205,7 +200,7 @@ impl Reader {
     pub(crate) fn splice_bytes<K: Copy>(
         &mut self,
         bytes: &[u8],
-        store: &mut Store<'_, K>,
+        store: &mut Store<K>,
     ) -> Result<Event, Refusal>
         ensures { let a = splicing_bytes bytes.now store.old self.old in
             called store.new self.new result ≡ acted_by (splicing_answer true a.stored self.old) a store.old self.old }
@@ -217,7 +212,7 @@ impl Reader {
     }
 
     // A register is spliced.
-    fn splice_register<K: Copy>(&mut self, store: &mut Store<'_, K>) -> Result<Event, Refusal>
+    fn splice_register<K: Copy>(&mut self, store: &mut Store<K>) -> Result<Event, Refusal>
         ensures { called store.new self.new result ≡ acted (Due.Register Sign.None) store.old self.old }
     {
         let register = store.register(self.half.notes.asked);
@@ -226,11 +221,7 @@ impl Reader {
     }
 
     // An argument is spliced.
-    fn splice_argument<K: Copy>(
-        &mut self,
-        n: u8,
-        store: &mut Store<'_, K>,
-    ) -> Result<Event, Refusal>
+    fn splice_argument<K: Copy>(&mut self, n: u8, store: &mut Store<K>) -> Result<Event, Refusal>
         ensures { called store.new self.new result ≡ acted (Due.Argument n) store.old self.old }
     {
         match store.enter_argument(usize::from(n)) {
@@ -240,7 +231,7 @@ impl Reader {
     }
 
     // A register's step is added or taken away; it is spliced next.
-    fn step<K: Copy>(&mut self, up: bool, store: &mut Store<'_, K>) -> Result<Event, Refusal>
+    fn step<K: Copy>(&mut self, up: bool, store: &mut Store<K>) -> Result<Event, Refusal>
         ensures { called store.new self.new result
             ≡ called (stepped self.old.half.notes.asked up store.old) (then_due (Due.Register Sign.None) self.old) (Ok Event.Nothing) }
     {
@@ -250,11 +241,7 @@ impl Reader {
     }
 
     // A register is spliced; where it has a sign, its step is made first.
-    fn interpolate<K: Copy>(
-        &mut self,
-        sign: Sign,
-        store: &mut Store<'_, K>,
-    ) -> Result<Event, Refusal>
+    fn interpolate<K: Copy>(&mut self, sign: Sign, store: &mut Store<K>) -> Result<Event, Refusal>
         ensures { called store.new self.new result ≡ acted (Due.Register sign) store.old self.old }
     {
         match sign {
@@ -265,7 +252,7 @@ impl Reader {
     }
 
     // A byte is added to the argument that is read.
-    fn put<K: Copy>(&mut self, byte: u8, store: &mut Store<'_, K>) -> Result<Event, Refusal>
+    fn put<K: Copy>(&mut self, byte: u8, store: &mut Store<K>) -> Result<Event, Refusal>
         ensures { called store.new self.new result ≡ acted (Due.Put byte) store.old self.old }
     {
         match store.add_argument_byte(byte) {
@@ -278,7 +265,7 @@ impl Reader {
     }
 
     // What the name that was read means.
-    fn meaning<K: Copy>(&self, store: &Store<'_, K>) -> Meaning
+    fn meaning<K: Copy>(&self, store: &Store<K>) -> Meaning
         ensures { result ≡ meaning_in store.now self.now }
     {
         let name = self.name();
@@ -290,7 +277,7 @@ impl Reader {
 
     /// The name of a control line is looked up. Answers what is told of it.
     #[inline(always)]
-    pub(crate) fn seek<K: Copy>(&mut self, store: &mut Store<'_, K>) -> Event
+    pub(crate) fn seek<K: Copy>(&mut self, store: &mut Store<K>) -> Event
         ensures { called store.new self.new (Ok result) ≡ acted Due.Seek store.old self.old }
     {
         let meaning = self.meaning(store);
@@ -312,7 +299,7 @@ impl Reader {
     }
 
     /// Does what is due.
-    pub(crate) fn act<K: Copy>(&mut self, store: &mut Store<'_, K>) -> Result<Event, Refusal>
+    pub(crate) fn act<K: Copy>(&mut self, store: &mut Store<K>) -> Result<Event, Refusal>
         ensures { called store.new self.new result ≡ acted self.old.half.reading.due store.old self.old }
     {
         match self.half.reading.due {

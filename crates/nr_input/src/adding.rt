@@ -28,9 +28,14 @@ const LONGEST: usize = 32_768;
 /// The most bytes of a level in one run.
 const CHUNK: usize = 256;
 
-// Adds a front of these bytes, each of which stands for itself, as far as they find room. Answers how many.
+/// Adds a front of these bytes, each of which stands for itself, as far as they find room. Answers how many.
 #[inline]
-fn add_front<K: Copy>(target: Target, half: &Half, store: &mut Store<'_, K>, bytes: &[u8]) -> usize
+pub(crate) fn add_front<K: Copy>(
+    target: Target,
+    half: &Half,
+    store: &mut Store<K>,
+    bytes: &[u8],
+) -> usize
     ensures front { result ≤ length bytes.now }
     ensures few { result ≤ 32768 }
     ensures plain { All (IsPlain (ending_of half.now.reading.mode)) (take result bytes.now) }
@@ -67,7 +72,7 @@ fn copy_bytes(elements: &[Element], chunk: &mut [u8]) -> usize
 
 // The bytes that the newest level has in front are put into the chunk, as many as it holds. Answers how many.
 #[inline]
-fn copy_level<K: Copy>(store: &Store<'_, K>, chunk: &mut [u8]) -> usize
+fn copy_level<K: Copy>(store: &Store<K>, chunk: &mut [u8]) -> usize
     ensures holds { result ≤ length chunk.old }
     ensures front { result ≤ length (rest_of store.now.levels) }
     ensures bytes { map variants.Byte (take result chunk.new) ≡ take result (rest_of store.now.levels) }
@@ -85,7 +90,7 @@ fn copy_level<K: Copy>(store: &Store<'_, K>, chunk: &mut [u8]) -> usize
 
 /// As `read_level`, in the midst of a macro's argument: the bytes in front that stand for themselves are added to it.
 #[inline]
-pub(crate) fn add_from_level<K: Copy>(reader: &mut Reader, store: &mut Store<'_, K>) -> Run
+pub(crate) fn add_from_level<K: Copy>(reader: &mut Reader, store: &mut Store<K>) -> Run
     requires { is_read_for Argument reader.old.half ≡ true }
     ensures read { (c : Coming) (p : Reached) (supply : Option Supply) → HoldsComing c p supply → HasRead result.moves (situation store.old c reader.old) result.event store.new reader.new p supply }
     ensures pays { (p : Reached) → PaysAll result.moves store.old p reader.old result.event store.new p reader.new }
@@ -113,7 +118,7 @@ pub(crate) fn add_from_source<K: Copy, R: Source>(
     target: Target,
     place: &mut Place,
     reader: &mut Reader,
-    store: &mut Store<'_, K>,
+    store: &mut Store<K>,
     source: &mut R,
 ) -> Run
     requires { is_read_for target reader.old.half ≡ true }

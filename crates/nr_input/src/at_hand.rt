@@ -13,11 +13,7 @@ use nr_units::source::Source;
 /// The bytes that come next of the input, as far as the source has them at hand: none where a level is read or a byte
 /// was read ahead.
 #[inline]
-pub fn window<'s, K: Copy, R: Source>(
-    place: &Place,
-    store: &Store<'_, K>,
-    source: &'s R,
-) -> &'s [u8]
+pub fn window<'s, K: Copy, R: Source>(place: &Place, store: &Store<K>, source: &'s R) -> &'s [u8]
     ensures all { is_unseen place.now.ahead ≡ true → store.now.levels ≡ [] → result.now ≡ take (2 ^ 40 - 1 - place.now.taken) (R.at_hand source.now) }
     ensures room { place.now.taken + length result.now < 2 ^ 40 }
     ensures front { take (length result.now) (R.at_hand source.now) ≡ result.now }

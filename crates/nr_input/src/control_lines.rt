@@ -11,6 +11,7 @@ ghost use Rattle.nr_input.specs.Moving.{situation};
 ghost use Rattle.nr_input.specs.Runs.{HasRead, PaysAll, ReadsSome, IsLongest, IsLongestInLevel};
 
 use super::at_hand::window;
+use super::level_lines::read_level_line;
 use super::place::Place;
 use super::reader::Reader;
 use super::runs::{Row, read_run, read_source};
@@ -43,7 +44,7 @@ fn meet_behind_name(half: &mut Half, told: Event, bytes: &[u8]) -> Run
 pub fn read_control_line<K: Copy, R: Source>(
     place: &mut Place,
     reader: &mut Reader,
-    store: &mut Store<'_, K>,
+    store: &mut Store<K>,
     source: &mut R,
 ) -> Option<Run>
     ensures read { IfSome result (λ run. (c : Coming) → HoldsComing c place.old (R.supply source.old) → HasRead run.moves (situation store.old c reader.old) run.event store.new reader.new place.new (R.supply source.new)) }
@@ -59,10 +60,7 @@ pub fn read_control_line<K: Copy, R: Source>(
     ensures source { result ≡ None → source.new ≡ source.old }
 {
     let bytes = window(place, store, source);
-    let row = Row {
-        bytes,
-        elements: &[],
-    };
+    let row = Row::Bytes(bytes);
     if !matches!(reader.half.reading.due, Due::Look) || !reader.half.meet_name(&row) {
         return None;
     }
@@ -85,7 +83,7 @@ pub fn read_control_line<K: Copy, R: Source>(
 fn read_beginning<K: Copy, R: Source>(
     place: &mut Place,
     reader: &mut Reader,
-    store: &mut Store<'_, K>,
+    store: &mut Store<K>,
     source: &mut R,
 ) -> Run
     ensures read { (c : Coming) → HoldsComing c place.old (R.supply source.old) → HasRead result.moves (situation store.old c reader.old) result.event store.new reader.new place.new (R.supply source.new) }
@@ -102,18 +100,18 @@ fn read_beginning<K: Copy, R: Source>(
     }
 }
 
-/// As `read_run`; but the name of a control line of the source is looked up at once, and the line of a request that it calls is
-/// read, where the source has it at hand and no escape stands in it.
+/// As `read_run`; but the name of a control line is looked up at once, and what is behind it is read: of the source the line of a
+/// request, where it is at hand and no escape stands in it, of a level its items.
 #[inline(always)]
 pub fn read_next<K: Copy, R: Source>(
     place: &mut Place,
     reader: &mut Reader,
-    store: &mut Store<'_, K>,
+    store: &mut Store<K>,
     source: &mut R,
 ) -> Run
     ensures read { (c : Coming) → HoldsComing c place.old (R.supply source.old) → HasRead result.moves (situation store.old c reader.old) result.event store.new reader.new place.new (R.supply source.new) }
     ensures pays { PaysAll result.moves store.old place.old reader.old result.event store.new place.new reader.new }
-    ensures few { result.moves ≤ 65536 }
+    ensures few { result.moves ≤ 65541 }
     ensures limits { limits_of store.new reader.new ≡ limits_of store.old reader.old }
     ensures some { store.old.levels ≡ [] → is_unseen place.old.ahead ≡ true → ReadsSome (R.at_hand source.old) result.moves place.old reader.old }
     ensures longest { store.old.levels ≡ [] → is_unseen place.old.ahead ≡ true → reader.old.half.reading.mode ≢ modes.Start → IsLongest (R.at_hand source.old) result.moves place.old reader.old result.event store.new place.new reader.new }
@@ -121,8 +119,11 @@ pub fn read_next<K: Copy, R: Source>(
     ensures failures { R.failures source.new ≡ R.failures source.old }
     ensures unfailed { has_failed place.old.ahead ≡ false → has_failed place.new.ahead ≡ false }
 {
-    if store.is_reading() || !matches!(reader.half.reading.mode, Mode::Start) {
+    if !matches!(reader.half.reading.mode, Mode::Start) {
         return read_run(place, reader, store, source);
+    }
+    if store.is_reading() {
+        return read_level_line(reader, store);
     }
     read_beginning(place, reader, store, source)
 }

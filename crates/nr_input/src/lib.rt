@@ -3,13 +3,16 @@
 //!
 //! It stands on nr_units, nr_pool, nr_levels, nr_tables, nr_store and nr_reading. To read: `refusal`, `told`;
 //! `place`, `reader`; `acting`, `moving`; `splicing`, `setting`; then many moves at once: `at_hand`, `target`,
-//! `adding`, `runs`, `control_lines`.
+//! `adding`, `runs`, `level_lines`, `interpolations`, `levels`, `control_lines`.
 #![tactic(auto)]
 
 mod acting;
 mod adding;
 mod at_hand;
 mod control_lines;
+mod interpolations;
+mod level_lines;
+mod levels;
 mod moving;
 mod place;
 mod reader;
@@ -22,6 +25,8 @@ mod told;
 
 pub use at_hand::{take_window, window};
 pub use control_lines::{read_control_line, read_next};
+pub use interpolations::Moved;
+pub use levels::read_levels;
 pub use moving::advance;
 pub use nr_reading::{Event, Question, Standing};
 pub use place::{Ahead, Place};

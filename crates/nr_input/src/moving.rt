@@ -43,7 +43,7 @@ fn heard_of(sight: Sight, event: Event) -> Heard
 fn look<K: Copy, R: Source>(
     place: &mut Place,
     reader: &mut Reader,
-    store: &mut Store<'_, K>,
+    store: &mut Store<K>,
     source: &mut R,
     mode: &mut K,
 ) -> Result<Heard, Refusal>
@@ -74,7 +74,7 @@ fn look<K: Copy, R: Source>(
 pub fn advance<K: Copy, R: Source>(
     place: &mut Place,
     reader: &mut Reader,
-    store: &mut Store<'_, K>,
+    store: &mut Store<K>,
     source: &mut R,
     mode: &mut K,
 ) -> Result<Heard, Refusal>

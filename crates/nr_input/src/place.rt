@@ -172,7 +172,7 @@ impl Place {
     /// The item in front of the list, which stays there.
     pub(crate) fn look<K: Copy, R: Source>(
         &mut self,
-        store: &Store<'_, K>,
+        store: &Store<K>,
         source: &mut R,
     ) -> Result<Front, Refusal>
         ensures looks { (c : Coming) → HoldsComing c self.old (R.supply source.old) → AfterLook (shown store.now.levels) c result self.new (R.supply source.new) }
@@ -201,7 +201,7 @@ impl Place {
 
     /// The item in front of the list, which was looked at, is taken. Answers what was taken of the levels, and puts a mode
     /// into `mode`.
-    pub(crate) fn take<K: Copy>(&mut self, store: &mut Store<'_, K>, mode: &mut K) -> Sight
+    pub(crate) fn take<K: Copy>(&mut self, store: &mut Store<K>, mode: &mut K) -> Sight
         requires { is_ready (shown store.old.levels) self.old.ahead ≡ true }
         ensures was { shown_with result mode.new ≡ shown store.old.levels }
         ensures store { store.new ≡ left store.old.levels store.old }

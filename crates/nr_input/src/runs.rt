@@ -1,5 +1,5 @@
 //! Many moves over items that lie in a row.
-ghost use Rattle.std.specs.Prelude.{◌≡◌, ◌≤◌, ◌++◌, [], length, map, nat_lt, true, false, Option};
+ghost use Rattle.std.specs.Prelude.{◌≡◌, ℕ, ◌<◌, ◌≤◌, [], length, map, slice_get, nat_lt, true, false, Option, None, Some, IfSome};
 ghost use Rattle.nr_units.specs.Supply.{Supply};
 ghost use Rattle.nr_reading.specs.declared.front.Front.TheVariants as variants;
 ghost use Rattle.nr_store.specs.Windows.{elements_in};
@@ -7,6 +7,7 @@ ghost use Rattle.nr_input.specs.AtHand.{is_unseen};
 ghost use Rattle.nr_input.specs.Coming.{Coming, Reached, HoldsComing, element_front, has_failed};
 ghost use Rattle.nr_input.specs.Limits.{limits_of};
 ghost use Rattle.nr_input.specs.Moving.{situation};
+ghost use Rattle.nr_input.specs.Rows.{fronts_in};
 ghost use Rattle.nr_input.specs.Runs.{HasRead, PaysAll, IsLongest, IsLongestInLevel};
 
 use super::adding::{add_from_level, add_from_source};
@@ -18,58 +19,68 @@ use nr_reading::{Items, Run};
 use nr_store::{Element, Rest, Store};
 use nr_units::source::Source;
 
-/// Bytes, and elements behind them, as items in a row.
+/// Items in a row. It is one type, so that what reads rows is there once.
 #[derive(Clone, Copy)]
-pub(crate) struct Row<'a> {
-    pub(crate) bytes: &'a [u8],
-    pub(crate) elements: &'a [Element],
+pub(crate) enum Row<'a> {
+    /// Bytes.
+    Bytes(&'a [u8]),
+    /// Elements of a text.
+    Elements(&'a [Element]),
 }
 
 impl<'a> Items for Row<'a> {
-    ghost fronts = { λ row. map variants.Byte row.bytes.now ++ map element_front row.elements.now };
+    ghost fronts = { fronts_in };
 
     #[inline(always)]
     fn count(&self) -> usize {
-        self.bytes.len() + self.elements.len()
+        match self {
+            Row::Bytes(bytes) => bytes.len(),
+            Row::Elements(elements) => elements.len(),
+        }
     }
 
     #[inline(always)]
     fn byte(&self, n: usize) -> Option<u8> {
-        if n < self.bytes.len() {
-            return Some(self.bytes[n]);
-        }
-        match self.elements[n - self.bytes.len()] {
-            Element::Byte(byte) => Some(byte),
-            _ => None,
+        match self {
+            Row::Bytes(bytes) => Some(bytes[n]),
+            Row::Elements(elements) => byte_at(elements, n),
         }
     }
 }
 
+// The n-th element, where it is a byte.
+#[inline(always)]
+fn byte_at(elements: &[Element], n: usize) -> Option<u8>
+    requires { n < length elements.now }
+    ensures value { IfSome result (λ byte. slice_get (map element_front elements.now) n ≡ Some (variants.Byte byte)) }
+    ensures other { result ≡ None → (byte : ℕ) → slice_get (map element_front elements.now) n ≡ Some (variants.Byte byte) → ⊥ }
+{
+    match elements[n] {
+        Element::Byte(byte) => Some(byte),
+        _ => None,
+    }
+}
+
 impl<'a> Row<'a> {
-    // What is left of a level.
+    /// What is left of a level.
     #[inline(always)]
-    fn of(rest: Rest<'a>) -> Self
-        ensures { map variants.Byte result.bytes.now ++ map element_front result.elements.now ≡ map element_front (elements_in rest.entry) }
+    pub(crate) fn of(rest: Rest<'a>) -> Self
+        ensures { fronts_in result ≡ map element_front (elements_in rest.entry) }
     {
         match rest {
-            Rest::Text(elements) => Row {
-                bytes: &[],
-                elements,
-            },
-            Rest::Bytes(bytes) => Row {
-                bytes,
-                elements: &[],
-            },
+            Rest::Text(elements) => Row::Elements(elements),
+            Rest::Bytes(bytes) => Row::Bytes(bytes),
         }
     }
 }
 
 /// The items of the newest level are read.
 #[inline(always)]
-pub(crate) fn read_level<K: Copy>(reader: &mut Reader, store: &mut Store<'_, K>) -> Run
+pub(crate) fn read_level<K: Copy>(reader: &mut Reader, store: &mut Store<K>) -> Run
     ensures read { (c : Coming) (p : Reached) (supply : Option Supply) → HoldsComing c p supply → HasRead result.moves (situation store.old c reader.old) result.event store.new reader.new p supply }
     ensures pays { (p : Reached) → PaysAll result.moves store.old p reader.old result.event store.new p reader.new }
     ensures few { result.moves ≤ 65536 }
+    ensures within { result.taken ≤ 65536 }
     ensures limits { limits_of store.new reader.new ≡ limits_of store.old reader.old }
     ensures longest { IsLongestInLevel result.moves store.old reader.old result.event store.new reader.new }
 {
@@ -84,7 +95,7 @@ pub(crate) fn read_level<K: Copy>(reader: &mut Reader, store: &mut Store<'_, K>)
 pub(crate) fn read_source<K: Copy, R: Source>(
     place: &mut Place,
     reader: &mut Reader,
-    store: &Store<'_, K>,
+    store: &Store<K>,
     source: &mut R,
 ) -> Run
     ensures read { (c : Coming) → HoldsComing c place.old (R.supply source.old) → HasRead result.moves (situation store.now c reader.old) result.event store.now reader.new place.new (R.supply source.new) }
@@ -96,10 +107,7 @@ pub(crate) fn read_source<K: Copy, R: Source>(
     ensures unfailed { has_failed place.old.ahead ≡ false → has_failed place.new.ahead ≡ false }
 {
     let bytes = window(place, store, source);
-    let run = reader.half.meet_run(&Row {
-        bytes,
-        elements: &[],
-    });
+    let run = reader.half.meet_run(&Row::Bytes(bytes));
     if run.taken == 0 {
         return run;
     }
@@ -109,13 +117,28 @@ pub(crate) fn read_source<K: Copy, R: Source>(
     run
 }
 
+/// As `read_run`, of the newest level.
+#[inline(always)]
+pub(crate) fn read_run_of_level<K: Copy>(reader: &mut Reader, store: &mut Store<K>) -> Run
+    ensures read { (c : Coming) (p : Reached) (supply : Option Supply) → HoldsComing c p supply → HasRead result.moves (situation store.old c reader.old) result.event store.new reader.new p supply }
+    ensures pays { (p : Reached) → PaysAll result.moves store.old p reader.old result.event store.new p reader.new }
+    ensures few { result.moves ≤ 65536 }
+    ensures limits { limits_of store.new reader.new ≡ limits_of store.old reader.old }
+    ensures longest { IsLongestInLevel result.moves store.old reader.old result.event store.new reader.new }
+{
+    match Target::of(&reader.half) {
+        Some(Target::Argument) => add_from_level(reader, store),
+        _ => read_level(reader, store),
+    }
+}
+
 /// Items that lie in a row are read, many moves at once: up to the first that tells something or behind which something
 /// is due, and none where an item has to be looked at alone.
 #[inline(always)]
 pub fn read_run<K: Copy, R: Source>(
     place: &mut Place,
     reader: &mut Reader,
-    store: &mut Store<'_, K>,
+    store: &mut Store<K>,
     source: &mut R,
 ) -> Run
     ensures read { (c : Coming) → HoldsComing c place.old (R.supply source.old) → HasRead result.moves (situation store.old c reader.old) result.event store.new reader.new place.new (R.supply source.new) }
@@ -127,14 +150,10 @@ pub fn read_run<K: Copy, R: Source>(
     ensures failures { R.failures source.new ≡ R.failures source.old }
     ensures unfailed { has_failed place.old.ahead ≡ false → has_failed place.new.ahead ≡ false }
 {
-    let target = Target::of(&reader.half);
     if store.is_reading() {
-        return match target {
-            Some(Target::Argument) => add_from_level(reader, store),
-            _ => read_level(reader, store),
-        };
+        return read_run_of_level(reader, store);
     }
-    match target {
+    match Target::of(&reader.half) {
         Some(target) => add_from_source(target, place, reader, store, source),
         None => read_source(place, reader, store, source),
     }

@@ -29,7 +29,7 @@ impl Definition {
     }
 
     // The text to which they are added is begun.
-    fn begin<K: Copy>(self, name: Name, store: &mut Store<'_, K>) -> Result<(), StoredBytes>
+    fn begin<K: Copy>(self, name: Name, store: &mut Store<K>) -> Result<(), StoredBytes>
         ensures answer { result ≡ base_answer self name store.old }
         ensures ok { OnOk result (store.new ≡ base self name store.old) }
         ensures err { OnErr result (store.new ≡ store.old) }
@@ -50,7 +50,7 @@ impl Reader {
     ghost use Rattle.nr_input.specs.Weights.{Splices, Springs, Defines};
 
     /// Splices the text of a given register, or of a width.
-    pub fn give<K: Copy>(&mut self, store: &mut Store<'_, K>, bytes: &[u8]) -> Result<(), Refusal>
+    pub fn give<K: Copy>(&mut self, store: &mut Store<K>, bytes: &[u8]) -> Result<(), Refusal>
         ensures gives { called store.new self.new result ≡ giving bytes.now store.old self.old }
         ensures pays { OnOk result (Splices store.old self.old store.new self.new) }
         ensures limits { limits_of store.new self.new ≡ limits_of store.old self.old }
@@ -64,7 +64,7 @@ impl Reader {
     /// Springs the text of a name, behind whose end the mode is resumed. Answers whether there is such a text.
     pub fn spring<K: Copy>(
         &mut self,
-        store: &mut Store<'_, K>,
+        store: &mut Store<K>,
         name: Name,
         mode: K,
     ) -> Result<bool, Refusal>
@@ -93,7 +93,7 @@ impl Reader {
     /// is empty.
     pub fn define<K: Copy>(
         &mut self,
-        store: &mut Store<'_, K>,
+        store: &mut Store<K>,
         definition: Definition,
         name: Name,
         ending: Name,

@@ -1,13 +1,11 @@
-// Texts in lent slices.
-use nr_pool::{Pool, Slot};
+// Texts in memory that is taken once.
+use nr_pool::Pool;
 use std::test::Fail;
 
 // Where all elements and numbers are taken, nothing is added; what one text gives back another gets.
 #[test]
 fn pool_full(rt: HostRuntime) -> Result<(), Fail> {
-    let mut elements = [0u8; 3];
-    let mut slots = [Slot::blank(); 2];
-    let mut pool = Pool::over(&mut elements, &mut slots);
+    let mut pool = Pool::<u8>::new(rt.alloc(), 3, 2)?;
     let a = pool.open()?;
     pool.append(a, 1)?;
     pool.append(a, 2)?;

@@ -1,11 +1,10 @@
 // Pages with their bytes, and the limit of a page.
 ghost use Rattle.std.specs.Prelude.{◌≤◌, length};
 
-use nr_page::page::{Page, PageCells, room};
-use nr_page::row::RowSlot;
-use nr_pool::Slot;
+use nr_page::page::{Page, PageCells};
 use nr_units::cell::Cell;
 use nr_units::fakes::Slate;
+use std::test::Fail;
 
 /// The lines placed, each a row and its text; how many rows are asked for; and the bytes of the page.
 /// In a text `^` underlines the cell behind it.
@@ -196,7 +195,7 @@ fn cells_of<'a>(cells: &'a mut [Cell], text: &[u8]) -> &'a [Cell] {
     &cells[..len.min(cells.len())]
 }
 
-fn place_all(page: &mut Page<'_>, lines: &[(u32, &[u8])]) -> Result<(), PageCells> {
+fn place_all(page: &mut Page, lines: &[(u32, &[u8])]) -> Result<(), PageCells> {
     let mut cells = [Cell::blank(); 64];
     for (row, text) in lines {
         page.place(*row, cells_of(&mut cells, text))?;
@@ -205,12 +204,9 @@ fn place_all(page: &mut Page<'_>, lines: &[(u32, &[u8])]) -> Result<(), PageCell
 }
 
 #[test]
-fn writes_pages(rt: HostRuntime) {
+fn writes_pages(rt: HostRuntime) -> Result<(), Fail> {
+    let mut page = Page::new(rt.alloc(), 200)?;
     for case in &CASES {
-        let mut cells = [Cell::blank(); 200];
-        let mut texts = [Slot::blank(); 200];
-        let mut rows = [RowSlot::blank(); 200];
-        let mut page = Page::over(&mut cells, &mut texts, &mut rows, 200);
         assert!(rt; place_all(&mut page, case.lines).is_ok(), "{}", case.name);
         let mut out = [0; 100];
         let mut slate = Slate::over(&mut out);
@@ -221,24 +217,16 @@ fn writes_pages(rt: HostRuntime) {
         );
         assert!(rt; slate.bytes() == case.bytes, "{}", case.name);
         assert_eq!(rt; slate.failed_puts(), 0, "{}", case.name);
+        page.clear();
     }
+    Ok(())
 }
 
 // The limit is reached exactly, and a line that would pass it changes nothing.
 #[test]
-fn keeps_the_limit(rt: HostRuntime) {
-    let mut cells = [Cell::blank(); 7];
-    let mut texts = [Slot::blank(); 7];
-    let mut rows = [RowSlot::blank(); 7];
+fn keeps_the_limit(rt: HostRuntime) -> Result<(), Fail> {
     for (limit, second, bytes) in [(6, false, b"abc\n"), (7, true, b"xyc\n")] {
-        let room = room(limit);
-        assert!(rt;
-            room.cells <= cells.len()
-                && room.texts <= texts.len()
-                && room.rows <= rows.len()
-                && limit <= 7
-        );
-        let mut page = Page::over(&mut cells, &mut texts, &mut rows, limit);
+        let mut page = Page::new(rt.alloc(), limit)?;
         assert!(rt; page.is_empty());
         assert!(rt; place_all(&mut page, &[(0, b"abc")]).is_ok());
         assert_eq!(rt; page.charge(), 4);
@@ -258,4 +246,5 @@ fn keeps_the_limit(rt: HostRuntime) {
         assert!(rt; place_all(&mut page, &[(3, b"")]).is_ok());
         assert_eq!(rt; page.charge(), 1);
     }
+    Ok(())
 }

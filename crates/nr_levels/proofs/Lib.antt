@@ -2,3 +2,4 @@ mod Going
 pub mod Stacked
 pub mod Pushing
 pub mod Cutting
+mod Reversed

@@ -1,11 +1,11 @@
 -- Lemmas on levels in a row of frames.
-use Rattle.std.proofs.Common.{◌≡◌, ℕ, ◌+◌, ◌*◌, ◌^◌, ◌<◌, ◌≤◌, List, [], ◌∷◌, ◌++◌, length, map, take, drop, get_or, Option, Some, None, refl, ap, ap₂, sym, ◌∙◌, subst, inl, inr, arith}
+use Rattle.std.proofs.Common.{◌≡◌, ℕ, ◌+◌, ◌*◌, ◌<◌, ◌≤◌, List, [], ◌∷◌, ◌++◌, length, map, take, drop, get_or, Option, Some, None, refl, ap, ap₂, sym, ◌∙◌, subst, inl, inr, arith}
 use Rattle.std.specs.List.{slice_get}
 use Rattle.std.proofs.lemmas.List.{take-take, length-take, drop_all, drop_more, get_or-take, length-take-le}
 use Rattle.std.proofs.lemmas.Bool.{cases_lt}
 use Rattle.std.proofs.lemmas.List.Sums.{sum_by-cons}
 use Rattle.std.proofs.lemmas.Option.{get_or_from_slice_get}
-use Rattle.nr_levels.specs.Levels.{Source, Text, Own, Mark, Open, Levels, total, front, front_of, marks, closed, HasNext}
+use Rattle.nr_levels.specs.Levels.{Source, Own, Mark, Open, Levels, total, front, front_of, marks, closed, HasNext}
 use Rattle.nr_levels.specs.Frames.{part, arguments_of, source_of, open_of, levels_of, EndBy, AreBelow, ReadsBelow, reader, readers, IsStacked, AreLevels}
 use Rattle.nr_levels.specs.Windows.{left_in, rest_of}
 use Rattle.nr_levels.specs.declared.frame.Span.{Span}

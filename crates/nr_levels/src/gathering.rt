@@ -1,25 +1,26 @@
 //! The arguments of a macro that are being read.
-ghost use Rattle.std.specs.Prelude.{◌≡◌, ◌==◌, ◌+◌, ◌^◌, ◌<◌, ◌≤◌, length, map};
+ghost use Rattle.std.specs.Prelude.{◌≡◌, ◌==◌, ◌+◌, ◌^◌, ◌<◌, ◌≤◌, length, map, IfOk};
 ghost use Rattle.nr_levels.specs.Gathered.{joined, none_gathered, gathered_len, with_byte, with_bytes, with_end};
 
-use nr_units::slice_vec::SliceVec;
+use nr_rooms::FixedVec;
+use std::alloc::{AllocError, Global};
 use std::marker::Model;
 
 /// How many arguments a macro has at most.
 pub const MOST: usize = 9;
 
-/// Arguments that are being read, with their bytes in a slice that is lent: nine at most, further ones are dropped
-/// (CSTR 54, macros with arguments). Each call takes constant time.
+/// Arguments that are being read, with room for a number of bytes that stays: nine at most, further ones are dropped
+/// (CSTR 54, macros with arguments). Each call takes constant time; `new` is the only one that allocates.
 #[derive(Drop)]
-pub struct Gathering<'a> {
-    bytes: SliceVec<'a, u8>,
+pub struct Gathering {
+    bytes: FixedVec<u8>,
     // How many arguments are read whole, how long each is, and where the next begins.
     lens: [u32; MOST],
     count: usize,
     start: usize,
 }
 
-impl<'a> Model for Gathering<'a> {
+impl Model for Gathering {
     ghost use Rattle.std.specs.Prelude.{take};
     ghost use Rattle.nr_levels.specs.Gathered.{Gathering, gathered_of, IsGathering};
 
@@ -30,18 +31,18 @@ impl<'a> Model for Gathering<'a> {
     ghost invariant = { λ g. IsGathering g.lens g.bytes.items g.count g.start g.bytes.room };
 }
 
-impl<'a> Gathering<'a> {
-    /// No arguments, and room for as many bytes as the slice has.
-    pub fn over(bytes: &'a mut [u8]) -> Self
-        requires { length bytes.old < 2 ^ 32 }
-        ensures { result ≡ record { gathered = none_gathered; room = length bytes.old } }
+impl Gathering {
+    /// No arguments, and room for so many bytes: `AllocError` where there is no memory for them.
+    pub fn new(alloc: Global, room: usize) -> Result<Gathering, AllocError>
+        requires { room < 2 ^ 32 }
+        ensures { IfOk result (λ made. made ≡ record { gathered = none_gathered; room = room }) }
     {
-        Gathering {
-            bytes: SliceVec::over(bytes),
+        Ok(Gathering {
+            bytes: FixedVec::new(alloc, room)?,
             lens: [0; MOST],
             count: 0,
             start: 0,
-        }
+        })
     }
 
     /// Whether no argument more counts.

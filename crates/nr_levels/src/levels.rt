@@ -1,5 +1,5 @@
 //! The levels that are open, and the bytes and arguments that they keep.
-ghost use Rattle.std.specs.Prelude.{◌≡◌, ◌+◌, ◌*◌, ◌/◌, ◌^◌, ◌<◌, ◌≤◌, [], length, min, sum, nat_le, Some, None};
+ghost use Rattle.std.specs.Prelude.{◌≡◌, ◌+◌, ◌*◌, ◌/◌, ◌^◌, ◌<◌, ◌≤◌, [], length, min, sum, nat_le, Some, None, IfOk};
 ghost use Rattle.nr_levels.specs.Levels.{Text, Own, total, front_of, advanced, HasNext, HasEnd, HasMark, deeper, closed, charge_of_newest, resumed, argument, cut};
 ghost use Rattle.nr_levels.specs.Further.{further_on, NewestReaches};
 ghost use Rattle.nr_levels.specs.Windows.{source_in, rest_of};
@@ -10,24 +10,25 @@ use crate::frame::{Frame, Next, Reads, Rest, Span};
 use crate::spans::{push_spans, span_of};
 use crate::stack::Stack;
 use nr_pool::Id;
-use nr_units::slice_vec::SliceVec;
+use nr_rooms::FixedVec;
+use std::alloc::{AllocError, Global};
 use std::marker::Model;
 
-/// The levels that are open, the newest first, in slices that are lent. Bytes that a level brings lie on a stack, and
+/// The levels that are open, the newest first, with room for a number of them that stays. Bytes that a level brings lie on a stack, and
 /// so do the places of arguments: a level's end takes away what came with it, and nothing is ever moved. Each call
-/// takes constant time, and that of a copy of the bytes that it is given.
+/// takes constant time, and that of a copy of the bytes that it is given; `new` is the only one that allocates.
 ///
 /// A level whose end was taken stays while the mode behind it is still to be resumed.
 #[derive(Drop)]
-pub struct Levels<'a, K: Copy> {
-    frames: Stack<'a, Frame<K>>,
-    bytes: SliceVec<'a, u8>,
-    places: SliceVec<'a, Span>,
+pub struct Levels<K: Copy> {
+    frames: Stack<Frame<K>>,
+    bytes: FixedVec<u8>,
+    places: FixedVec<Span>,
     // The arguments in force, in `places`.
     in_force: Span,
 }
 
-impl<'a, K: Copy> Model for Levels<'a, K> {
+impl<K: Copy> Model for Levels<K> {
     ghost use Rattle.nr_levels.specs.Levels.{Levels};
     ghost use Rattle.nr_levels.specs.Frames.{levels_of, AreLevels};
 
@@ -38,22 +39,29 @@ impl<'a, K: Copy> Model for Levels<'a, K> {
     ghost invariant = { λ s. AreLevels s.frames.items s.bytes.items s.places.items s.in_force s.bytes.room s.frames.room s.places.room };
 }
 
-impl<'a, K: Copy> Levels<'a, K> {
-    /// No levels, with room for as many as `frames` has, and for the bytes of levels that are charged as many as
-    /// `bytes` has.
-    pub fn over(frames: &'a mut [Frame<K>], bytes: &'a mut [u8], places: &'a mut [Span]) -> Self
-        requires bytes { length bytes.old < 2 ^ 32 }
-        requires places { 9 * min (length frames.old) (length bytes.old / 16) ≤ length places.old }
-        requires places_small { length places.old < 2 ^ 32 }
-        ensures { result
-            ≡ record { levels = []; arguments = []; room = length bytes.old; most = length frames.old } }
+impl<K: Copy> Levels<K> {
+    /// No levels, with room for `most` of them, and for the bytes of levels that are charged `room` together: `AllocError`
+    /// where there is no memory for them.
+    pub fn new(alloc: Global, room: usize, most: usize) -> Result<Levels<K>, AllocError>
+        requires { room < 2 ^ 32 }
+        ensures { IfOk result (λ made. made ≡ record { levels = []; arguments = []; room = room; most = most }) }
     {
-        Levels {
-            frames: Stack::over(frames),
-            bytes: SliceVec::over(bytes),
-            places: SliceVec::over(places),
+        Ok(Levels {
+            frames: Stack::new(alloc, most)?,
+            bytes: FixedVec::new(alloc, room)?,
+            places: FixedVec::new(alloc, 9 * most.min(room / 16))?,
             in_force: Span { first: 0, last: 0 },
-        }
+        })
+    }
+
+    /// Takes all levels and arguments away.
+    pub fn clear(&mut self)
+        ensures { self.new ≡ record self.old { levels = []; arguments = [] } }
+    {
+        self.frames.clear();
+        self.bytes.clear();
+        self.places.clear();
+        self.in_force = Span { first: 0, last: 0 };
     }
 
     /// How many levels there are.
@@ -235,6 +243,18 @@ impl<'a, K: Copy> Levels<'a, K> {
     {
         let span = span_of(&self.places, self.in_force, n);
         span.last.saturating_sub(span.first) as usize
+    }
+
+    /// The bytes of an argument. They are counted from 0; an absent one has none.
+    #[inline]
+    pub fn argument_bytes(&self, n: usize) -> &[u8]
+        ensures { result.now ≡ argument self.now.arguments n }
+    {
+        let span = span_of(&self.places, self.in_force, n);
+        if span.last <= span.first {
+            return &[];
+        }
+        &self.bytes.as_slice()[span.first as usize..span.last as usize]
     }
 
     /// Opens a level that reads an argument where it lies. The arguments stay in force.

@@ -3,10 +3,10 @@ ghost use Rattle.std.specs.Prelude.{◌≡◌, ◌+◌, ◌^◌, ◌<◌, ◌≤
 ghost use Rattle.nr_levels.specs.Frames.{part, spans_from, no_span};
 
 use crate::frame::Span;
-use nr_units::slice_vec::SliceVec;
+use nr_rooms::FixedVec;
 
 /// Adds the places of parts of these lengths, the first of which begins at `start`.
-pub(crate) fn push_spans(places: &mut SliceVec<'_, Span>, start: u32, lens: &[u32])
+pub(crate) fn push_spans(places: &mut FixedVec<Span>, start: u32, lens: &[u32])
     requires room { length places.old.items + length lens.now ≤ places.old.room }
     requires small { start + sum lens.now < 2 ^ 32 }
     ensures { places.new ≡ record places.old { items = places.old.items ++ spans_from start lens.now } }
@@ -20,7 +20,7 @@ pub(crate) fn push_spans(places: &mut SliceVec<'_, Span>, start: u32, lens: &[u3
 }
 
 /// The n-th place in a part of the row; an absent one is empty.
-pub(crate) fn span_of(places: &SliceVec<'_, Span>, within: Span, n: usize) -> Span
+pub(crate) fn span_of(places: &FixedVec<Span>, within: Span, n: usize) -> Span
     requires { within.last ≤ length places.now.items }
     ensures { result ≡ slice_index_or (part places.now.items within) n no_span }
 {

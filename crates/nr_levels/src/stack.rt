@@ -1,34 +1,36 @@
-//! A stack over a slice that is lent.
-ghost use Rattle.std.specs.Prelude.{◌≡◌, ◌==◌, ◌<◌, ◌≤◌, [], ◌∷◌, length, drop, slice_get, Some};
+//! A stack for which room is taken once.
+ghost use Rattle.std.specs.Prelude.{◌≡◌, ◌==◌, ◌<◌, ◌≤◌, [], ◌∷◌, length, drop, slice_get, Some, IfOk};
 
 use crate::frame::Frame;
+use std::alloc::{AllocError, Global};
 use std::marker::Model;
 
-/// Items in a slice that is lent. A clause sees the last that came as the first, and the room, the greatest number
-/// of items. Each call takes constant time.
+/// Items, and room for a number of them that stays; `new` is the only call that allocates. A clause sees the last that
+/// came as the first, and the room, the greatest number of items. Each call takes constant time.
 #[derive(Drop)]
-pub struct Stack<'a, T: Copy> {
-    items: &'a mut [T],
-    len: usize,
+pub struct Stack<T: Copy> {
+    items: Vec<T>,
+    room: usize,
 }
 
-impl<'a, T: Copy> Model for Stack<'a, T> {
-    ghost use Rattle.std.specs.Prelude.{◌≤◌, length, take, reverse};
+impl<T: Copy> Model for Stack<T> {
+    ghost use Rattle.std.specs.Prelude.{◌≤◌, reverse, vec_len, vec_capacity};
     ghost use Rattle.nr_units.specs.Items.{Items};
 
     ghost Value = { Items T };
 
-    ghost view = { λ v. record { items = reverse (take v.len v.items.now); room = length v.items.now } };
+    ghost view = { λ v. record { items = reverse v.items.items; room = v.room } };
 
-    ghost invariant = { λ v. v.len ≤ length v.items.now };
+    ghost invariant = { λ v. (vec_len v.items ≤ v.room) × (v.room ≤ vec_capacity v.items) };
 }
 
-impl<'a, T: Copy> Stack<'a, T> {
-    /// No items yet, and room for as many as the slice has.
-    pub fn over(items: &'a mut [T]) -> Self
-        ensures { result ≡ record { items = []; room = length items.entry.now } }
+impl<T: Copy> Stack<T> {
+    /// No items, and room for so many: `AllocError` where there is no memory for them.
+    pub fn new(alloc: Global, room: usize) -> Result<Stack<T>, AllocError>
+        ensures { IfOk result (λ made. made ≡ record { items = []; room = room }) }
     {
-        Stack { items, len: 0 }
+        let items = Vec::with_capacity(alloc, room)?;
+        Ok(Stack { items, room })
     }
 
     /// The number of items.
@@ -37,7 +39,7 @@ impl<'a, T: Copy> Stack<'a, T> {
         ensures value { result ≡ length self.now.items }
         ensures within { result ≤ self.now.room }
     {
-        self.len
+        self.items.len()
     }
 
     /// The greatest number of items.
@@ -45,7 +47,7 @@ impl<'a, T: Copy> Stack<'a, T> {
     pub fn room(&self) -> usize
         ensures { result ≡ self.now.room }
     {
-        self.items.len()
+        self.room
     }
 
     /// Whether there is no item.
@@ -53,7 +55,7 @@ impl<'a, T: Copy> Stack<'a, T> {
     pub fn is_empty(&self) -> bool
         ensures { result ≡ (length self.now.items == 0) }
     {
-        self.len == 0
+        self.items.is_empty()
     }
 
     /// The item that came last.
@@ -61,10 +63,10 @@ impl<'a, T: Copy> Stack<'a, T> {
     pub fn top(&self) -> Option<T>
         ensures { result ≡ slice_get self.now.items 0 }
     {
-        if self.len == 0 {
+        if self.items.is_empty() {
             return None;
         }
-        Some(self.items[self.len - 1])
+        Some(self.items[self.items.len() - 1])
     }
 
     /// Adds an item.
@@ -73,8 +75,7 @@ impl<'a, T: Copy> Stack<'a, T> {
         requires { length self.old.items < self.old.room }
         ensures { self.new ≡ record self.old { items = item ∷ self.old.items } }
     {
-        self.items[self.len] = item;
-        self.len += 1;
+        self.items.push_reserved(item);
     }
 
     /// The n-th item from the last that came, counted from 0, where it lies.
@@ -83,8 +84,8 @@ impl<'a, T: Copy> Stack<'a, T> {
         requires { n < length self.now.items }
         ensures { slice_get self.now.items n ≡ Some result.now }
     {
-        let items = &*self.items;
-        &items[self.len - 1 - n]
+        let items = self.items.as_slice();
+        &items[items.len() - 1 - n]
     }
 
     /// The n-th item from the last that came, counted from 0.
@@ -102,7 +103,8 @@ impl<'a, T: Copy> Stack<'a, T> {
         requires { 0 < length self.old.items }
         ensures { self.new ≡ record self.old { items = item ∷ drop 1 self.old.items } }
     {
-        self.items[self.len - 1] = item;
+        let last = self.items.len() - 1;
+        self.items[last] = item;
     }
 
     /// Takes the item away that came last.
@@ -111,11 +113,18 @@ impl<'a, T: Copy> Stack<'a, T> {
         requires { 0 < length self.old.items }
         ensures { self.new ≡ record self.old { items = drop 1 self.old.items } }
     {
-        self.len -= 1;
+        self.items.truncate(self.items.len() - 1);
+    }
+
+    /// Takes all items away.
+    pub fn clear(&mut self)
+        ensures { self.new ≡ record self.old { items = [] } }
+    {
+        self.items.clear();
     }
 }
 
-impl<'a, K: Copy> Stack<'a, Frame<K>> {
+impl<K: Copy> Stack<Frame<K>> {
     ghost use Rattle.nr_levels.specs.Moving.{newest_gone_on, NewestMayGoOn};
 
     /// What came last reads so many elements further on.
@@ -124,6 +133,7 @@ impl<'a, K: Copy> Stack<'a, Frame<K>> {
         requires { NewestMayGoOn n self.old.items }
         ensures { self.new ≡ record self.old { items = newest_gone_on n self.old.items } }
     {
-        self.items[self.len - 1].reads.go_on(n);
+        let last = self.items.len() - 1;
+        self.items[last].reads.go_on(n);
     }
 }

@@ -8,3 +8,4 @@ mod Showing
 pub mod DecimalText
 pub mod ItemText
 pub mod ListText
+mod Beginning

@@ -1,41 +1,45 @@
-// A list that grows at any place, in a slice that is lent.
-ghost use Rattle.std.specs.Prelude.{◌≡◌, ℕ, ◌+◌, ◌<◌, ◌≤◌, List, [], ◌++◌, length, take, drop, insert, slice_get, slice_set, Some};
+// A list that grows at any place, for which room is taken once.
+ghost use Rattle.std.specs.Prelude.{◌≡◌, ℕ, ◌+◌, ◌<◌, ◌≤◌, List, [], ◌++◌, length, take, drop, insert, slice_get, slice_set, Some, IfOk, vec_len, vec_capacity};
 
+use nr_rooms::lengthen;
+use std::alloc::{AllocError, Global};
 use std::marker::Model;
 
-/// Items in a lent slice, with a gap among them where the last one was put: to put one beside it takes constant
-/// time, and elsewhere the items between are moved.
+/// Items, and room for a number of them that stays, with a gap among them where the last one was put: to put one beside it
+/// takes constant time, and elsewhere the items between are moved. Where the gap is used up, and there is room for more,
+/// there come as many slots more as there are, so that is seldom.
 #[derive(Drop)]
-pub(crate) struct GapVec<'a, T: Copy> {
-    slots: &'a mut [T],
+pub(crate) struct GapVec<T: Copy> {
+    slots: Vec<T>,
     // The items before the gap stand at the front of the slots, and those behind it at their end.
     front: usize,
     gap: usize,
+    room: usize,
 }
 
-impl<'a, T: Copy> Model for GapVec<'a, T> {
-    ghost use Rattle.std.specs.Prelude.{◌+◌, ◌≤◌, ◌++◌, length, take, drop};
+impl<T: Copy> Model for GapVec<T> {
+    ghost use Rattle.std.specs.Prelude.{◌+◌, ◌≤◌, ◌++◌, take, drop, vec_len, vec_capacity};
     ghost use Rattle.nr_units.specs.Items.{Items};
 
     ghost Value = { Items T };
 
-    ghost view = { λ v. record { items = take v.front v.slots.now ++ drop (v.front + v.gap) v.slots.now; room = length v.slots.now } };
+    ghost view = { λ v. record { items = take v.front v.slots.items ++ drop (v.front + v.gap) v.slots.items; room = v.room } };
 
-    ghost invariant = { λ v. v.front + v.gap ≤ length v.slots.now };
+    ghost invariant = { λ v. (v.front + v.gap ≤ vec_len v.slots) × ((vec_len v.slots ≤ v.room) × (v.room ≤ vec_capacity v.slots)) };
 }
 
-impl<'a, T: Copy> GapVec<'a, T> {
-    /// No items yet, in this slice.
-    pub(crate) fn over(slots: &'a mut [T]) -> Self
-        ensures empty { result.items ≡ [] }
-        ensures room { result.room ≡ length slots.entry.now }
+impl<T: Copy> GapVec<T> {
+    /// No items, and room for so many: `AllocError` where there is no memory for them.
+    pub(crate) fn new(alloc: Global, room: usize) -> Result<GapVec<T>, AllocError>
+        ensures { IfOk result (λ made. made ≡ record { items = []; room = room }) }
     {
-        let gap = slots.len();
-        GapVec {
+        let slots = Vec::with_capacity(alloc, room)?;
+        Ok(GapVec {
             slots,
             front: 0,
-            gap,
-        }
+            gap: 0,
+            room,
+        })
     }
 
     pub(crate) fn len(&self) -> usize
@@ -48,11 +52,10 @@ impl<'a, T: Copy> GapVec<'a, T> {
         requires { place < length self.now.items }
         ensures { slice_get self.now.items place ≡ Some result }
     {
-        let slots = &*self.slots;
         if place < self.front {
-            slots[place]
+            self.slots[place]
         } else {
-            slots[self.gap + place]
+            self.slots[self.gap + place]
         }
     }
 
@@ -61,11 +64,10 @@ impl<'a, T: Copy> GapVec<'a, T> {
         ensures items { self.new.items ≡ slice_set self.old.items place item }
         ensures room { self.new.room ≡ self.old.room }
     {
-        let slots = &mut *self.slots;
         if place < self.front {
-            slots[place] = item;
+            self.slots[place] = item;
         } else {
-            slots[self.gap + place] = item;
+            self.slots[self.gap + place] = item;
         }
     }
 
@@ -75,10 +77,11 @@ impl<'a, T: Copy> GapVec<'a, T> {
         ensures items { self.new.items ≡ insert self.old.items place item }
         ensures room { self.new.room ≡ self.old.room }
     {
-        move_gap(self.slots, self.front, self.gap, place);
+        move_gap(&mut self.slots, self.front, self.gap, place);
+        let gap = make_gap(&mut self.slots, self.room, place, self.gap, item);
         self.slots[place] = item;
         self.front = place + 1;
-        self.gap -= 1;
+        self.gap = gap - 1;
     }
 
     pub(crate) fn clear(&mut self)
@@ -88,6 +91,29 @@ impl<'a, T: Copy> GapVec<'a, T> {
         self.front = 0;
         self.gap = self.slots.len();
     }
+}
+
+/// Makes sure that there is a gap at a place, where it is or would be, and tells how long it is then.
+#[inline]
+fn make_gap<T: Copy>(slots: &mut Vec<T>, room: usize, place: usize, gap: usize, item: T) -> usize
+    requires here { place + gap ≤ vec_len slots.old }
+    requires held { vec_len slots.old < room + gap }
+    requires within { vec_len slots.old ≤ room }
+    requires capacity { room ≤ vec_capacity slots.old }
+    ensures items { take place slots.new.items ++ drop (place + result) slots.new.items ≡ take place slots.old.items ++ drop (place + gap) slots.old.items }
+    ensures some { 0 < result }
+    ensures here { place + result ≤ vec_len slots.new }
+    ensures within { vec_len slots.new ≤ room }
+    ensures capacity { room ≤ vec_capacity slots.new }
+{
+    if gap > 0 {
+        return gap;
+    }
+    let len = slots.len();
+    lengthen(slots, len + 1, room, item);
+    let gap = slots.len() - len;
+    slots.copy_within(place..len, place + gap);
+    gap
 }
 
 /// Moves the gap from one place to another.

@@ -1,5 +1,5 @@
 //! The open page.
-ghost use Rattle.std.specs.Prelude.{◌≡◌, ℕ, ◌+◌, ◌/◌, ◌^◌, ◌<◌, ◌≤◌, ◌↔◌, List, [], ◌∷◌, ◌++◌, length, OnOk, OnErr, IsErr, IsTrue};
+ghost use Rattle.std.specs.Prelude.{◌≡◌, ℕ, ◌+◌, ◌/◌, ◌^◌, ◌<◌, ◌≤◌, ◌↔◌, List, [], ◌∷◌, ◌++◌, length, OnOk, OnErr, IsErr, IsTrue, IfOk};
 ghost use Rattle.nr_page.specs.Grid.{Placed, page_charge};
 ghost use Rattle.nr_page.specs.Sheet.{Holds};
 ghost use Rattle.std.specs.Io.KnownBytes.{Appends};
@@ -11,10 +11,11 @@ use crate::gap_vec::GapVec;
 use crate::placing::put;
 use crate::row::RowSlot;
 use crate::writing::write_all;
-use nr_pool::{Pool, Slot};
+use nr_pool::Pool;
 use nr_units::cell::Cell;
 use nr_units::sink::Sink;
 use nr_units::source::Fault;
+use std::alloc::{AllocError, Global};
 use std::marker::Model;
 
 /// Placing the line would pass the limit of the page's charge.
@@ -25,7 +26,7 @@ pub struct PageCells;
 #[derive(Clone, Copy, Debug, PartialEq, Eq)]
 pub struct WriteFault;
 
-/// The least lengths of the slices that a page is lent, in elements.
+/// How many elements there is room for in a page.
 #[derive(Clone, Copy)]
 pub struct PageRoom {
     pub cells: usize,
@@ -33,7 +34,7 @@ pub struct PageRoom {
     pub rows: usize,
 }
 
-/// The least lengths of the slices of a page whose charge is at most `limit`. Only a line with cells needs a text and a row,
+/// The rooms of a page whose charge is at most `limit`. Only a line with cells needs a text and a row,
 /// and is charged 2 or more.
 pub fn room(limit: usize) -> PageRoom
     ensures cells { result.cells ≡ limit }
@@ -47,24 +48,24 @@ pub fn room(limit: usize) -> PageRoom
     }
 }
 
-/// The open page, over slices that are lent to it. It holds the lines placed on it, up to a limit: each line is
-/// charged 1 and its cells. Of lines on one row it keeps one text, the later laid over the earlier.
+/// The open page. It holds the lines placed on it, up to a limit: each line is charged 1 and its cells. `new` takes memory
+/// for all that the limit allows, and no other call allocates. Of lines on one row it keeps one text, the later laid over the earlier.
 ///
 /// A line on the last row, or below it, takes time for its cells, and one above it for a search too. Where it comes
 /// to a new row, the rows between it and the newest one are moved, 8 bytes each; where it has more cells than its row,
 /// the row gets a new text, as long as the line, and its old one is of no use until the page is cleared. So the texts,
 /// old and new, have no more cells than the lines.
 #[derive(Drop)]
-pub struct Page<'a> {
-    texts: Pool<'a, Cell>,
-    rows: GapVec<'a, RowSlot>,
+pub struct Page {
+    texts: Pool<Cell>,
+    rows: GapVec<RowSlot>,
     // how many rows there are down to the lowest line, which may have no cells
     row_count: usize,
     charge: usize,
     limit: usize,
 }
 
-impl<'a> Model for Page<'a> {
+impl Model for Page {
     ghost use Rattle.nr_page.specs.Sheet.{Sheet};
     ghost use Rattle.nr_page.specs.Rows.{sheet_of, IsKept};
 
@@ -75,28 +76,21 @@ impl<'a> Model for Page<'a> {
     ghost invariant = { λ p. IsKept p.texts p.rows p.row_count p.charge p.limit };
 }
 
-impl<'a> Page<'a> {
-    /// An empty page.
-    pub fn over(
-        cells: &'a mut [Cell],
-        texts: &'a mut [Slot],
-        rows: &'a mut [RowSlot],
-        limit: usize,
-    ) -> Self
+impl Page {
+    /// An empty page: `AllocError` where there is not the memory that `room` tells.
+    pub fn new(alloc: Global, limit: usize) -> Result<Page, AllocError>
         requires in_range { limit < 2 ^ 32 }
-        requires cells { limit ≤ length cells.now }
-        requires texts { limit / 2 ≤ length texts.now }
-        requires rows { limit / 2 ≤ length rows.now }
-        ensures empty { Holds [] result }
-        ensures limit { result.limit ≡ limit }
+        ensures empty { IfOk result (λ page. Holds [] page) }
+        ensures limit { IfOk result (λ page. page.limit ≡ limit) }
     {
-        Page {
-            texts: Pool::over(&mut cells[..limit], &mut texts[..limit / 2]),
-            rows: GapVec::over(rows),
+        let room = room(limit);
+        Ok(Page {
+            texts: Pool::new(alloc, room.cells, room.texts)?,
+            rows: GapVec::new(alloc, room.rows)?,
             row_count: 0,
             charge: 0,
             limit,
-        }
+        })
     }
 
     /// The charge of the lines that the page holds: 1 and the cells for each.

@@ -8,8 +8,7 @@ use nr_units::cell::Cell;
 
 pub(crate) const BLANK: u8 = b' ';
 
-/// A row on which cells were placed, with its text in the page's pool: an element of the slice of rows that a `Page`
-/// is lent.
+/// A row on which cells were placed, with its text in the page's pool.
 #[derive(Clone, Copy)]
 pub struct RowSlot {
     // counted from 0 at the top of the page
@@ -32,7 +31,7 @@ impl RowSlot {
 }
 
 /// Lays cells over a text. A blank hides nothing.
-pub(crate) fn lay_over(texts: &mut Pool<'_, Cell>, id: Id, cells: &[Cell])
+pub(crate) fn lay_over(texts: &mut Pool<Cell>, id: Id, cells: &[Cell])
     requires is_open { IsOpen texts.old id }
     requires fits { used texts.old + (length cells.now - length (text_of texts.old id)) ≤ texts.old.capacity }
     ensures { texts.new ≡ with_text texts.old id (overlaid (text_of texts.old id) cells.now) }

@@ -111,6 +111,18 @@ impl Select {
         }
     }
 
+    /// The same pages, in memory of their own.
+    pub fn copied(&self) -> Select
+        ensures { result ≡ self.now }
+    {
+        let Some(items) = &self.list else {
+            return Select::all();
+        };
+        let mut list = ArrayVec::new();
+        let _ = list.try_extend_from_slice(items.as_slice());
+        Select { list: Some(list) }
+    }
+
     /// Whether the page of that number is selected. The number may be 0 or negative: `-N` selects those pages too.
     pub fn has(&self, page: i64) -> bool
         ensures { IsTrue result ↔ Selects self.now page }

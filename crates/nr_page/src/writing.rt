@@ -48,8 +48,8 @@ fn write_row<W: Sink>(
 /// So many rows, and all that have cells are among them.
 fn write_rows<W: Sink>(
     pending: &mut SliceVec<'_, u8>,
-    texts: &Pool<'_, Cell>,
-    rows: &GapVec<'_, RowSlot>,
+    texts: &Pool<Cell>,
+    rows: &GapVec<RowSlot>,
     count: usize,
     output: &mut W,
 ) -> Result<(), Fault>
@@ -72,8 +72,8 @@ fn write_rows<W: Sink>(
 
 /// The bytes of so many rows, all that were gathered too.
 pub(crate) fn write_all<W: Sink>(
-    texts: &Pool<'_, Cell>,
-    rows: &GapVec<'_, RowSlot>,
+    texts: &Pool<Cell>,
+    rows: &GapVec<RowSlot>,
     count: usize,
     output: &mut W,
 ) -> Result<(), Fault>

@@ -8,7 +8,7 @@ use Rattle.nr_pool.specs.Places.{blank_slot, slot_at, held_of, IsPacked}
 use Rattle.nr_pool.specs.Exchange.{LiesAt, IsSwapped, IsExchanged}
 use Rattle.nr_pool.specs.declared.slot.Slot.{Slot}
 use Rattle.nr_pool.proofs.Places.{written_at, same_map, same_part, same_slot}
-use Rattle.nr_pool.proofs.Spares.{spares_set, reached_set}
+use Rattle.nr_pool.proofs.Spares.{spares_set}
 
 module _ {T : Type 0} (E F : List T) (slots : List Slot) (used a b n i j : ℕ) (new_i new_j : Slot) (packed : IsPacked (length E) slots used) (within : i < length slots) (lies : LiesAt slots j b n) (last : b + n ≡ used)
     (a_is : (slot_at slots i).start ≡ a) (n_is : (slot_at slots i).len ≡ n) (some : 0 < n) (before : a + n ≢ used)
@@ -173,7 +173,6 @@ module _ {T : Type 0} (E F : List T) (slots : List Slot) (used a b n i j : ℕ) 
         last = let start = ap (λ (s : Slot). s.start) here in let len = ap (λ (s : Slot). s.len) here in omega arith;
         spares = λ count first h.
             spares_set mid j new_j count first within_j held_mid (let held = held_j in omega arith) (spares_set slots i new_i count first within held_i (let held = held_i in omega arith) h);
-        reached = λ r h. reached_set mid j new_j r within_j held_mid (reached_set slots i new_i r within held_i h);
         same = ap₂ (λ (c : ℕ) (ts : List (Held _)). record { capacity = c; texts = ts }) swapped.same_length
             (same_map (held_of F) (held_of E) news slots blank_slot blank_slot (long_news ∙ long_mid) (λ k _. now_same k));
       }

@@ -3,3 +3,5 @@ pub mod Spares
 pub mod Rotation
 pub mod Changes
 pub mod Exchange
+pub mod Rooms
+mod Rotating

@@ -1,6 +1,6 @@
 -- Lemmas on where the texts of a pool lie.
 use Rattle.std.proofs.Common.{◌≡◌, ◌≢◌, ℕ, ◌+◌, ◌-◌, ◌<◌, ◌≤◌, ◌⊎◌, List, [], ◌∷◌, ◌++◌, length, map, take, drop, set, get_or, slice_get, Some, All, sum, refl, sym, ap, ap₂, ◌∙◌, subst, inl, inr, add-zero, arith, rules}
-use Rattle.std.proofs.lemmas.List.{get_or-map, get_or_past, length-map, length-set, length-take-le, length-append, length-drop, same_lists, get_or-set_same, get_or-set_other, get_or-take, get_or-drop, get_or_append_left, get_or-append_right, map-set, take-take, places}
+use Rattle.std.proofs.lemmas.List.{get_or-map, get_or_past, length-map, length-set, length-take-le, length-append, length-drop, same_lists, get_or-set_same, get_or-set_other, get_or-take, get_or-drop, get_or_append_left, get_or-append_right, map-set, take-take, places, get_or_default}
 use Rattle.std.proofs.lemmas.List.Sums.{sum-map, sum_by-set}
 use Rattle.std.proofs.lemmas.Bool.{cases_lt, cases_eq}
 use Rattle.std.proofs.lemmas.Option.{slice_get-get_or, get_or_from_slice_get, slice_get_within}
@@ -30,6 +30,10 @@ written_at slots i new within j = elim (cases_eq j i) [
   | inl same ↦ inl (same, ap (slot_at (set slots i new)) same ∙ get_or-set_same slots i new blank_slot within)
   | inr other ↦ inr (other, get_or-set_other slots i j new blank_slot other)
 ]
+
+-- the slot that an index gives
+pub slot_is : (slots : List Slot) (i : ℕ) (s : Slot) → s ≡ get_or slots i s → i < length slots → s ≡ slot_at slots i
+slot_is slots i s is within = is ∙ get_or_default slots i s blank_slot within
 
 -- what a number has is what its slot stands for
 pub entry_is : {T : Type 0} (E : List T) (slots : List Slot) (i : ℕ) → get_or (map (held_of E) slots) i no_text ≡ held_of E (slot_at slots i)
@@ -75,22 +79,6 @@ used_is E slots n p packed view =
     same_map len_of (λ (s : Slot). s.len) (map (held_of E) slots) slots no_text blank_slot (length-map slots (held_of E)) (λ k below. ap len_of (entry_is E slots k)
     ∙ length_part E (slot_at slots k).start (slot_at slots k).len (λ some. let inside = packed.inside k some in let room = packed.room in omega arith)) in
     ap used (sym view) ∙ sym (sum-map len_of (map (held_of E) slots)) ∙ ap sum lens ∙ sum-map (λ (s : Slot). s.len) slots ∙ packed.filled
-
--- where k elements more do not fit
-pub too_many : {T : Type 0} (E : List T) (slots : List Slot) (n k : ℕ) (p : Texts T) → IsPacked (length E) slots n → texts_of E slots ≡ p → length E - n < k → p.capacity < used p + k
-too_many E slots n k p packed view more =
-    let all = used_is E slots n p packed view in
-    let room : length E ≡ p.capacity = ap (λ (q : Texts _). q.capacity) view in
-    let within = packed.room in
-    omega arith
-
--- where they do
-pub not_too_many : {T : Type 0} (E : List T) (slots : List Slot) (n k : ℕ) (p : Texts T) → IsPacked (length E) slots n → texts_of E slots ≡ p → k ≤ length E - n → p.capacity < used p + k → ⊥
-not_too_many E slots n k p packed view fits more =
-    let all = used_is E slots n p packed view in
-    let room : length E ≡ p.capacity = ap (λ (q : Texts _). q.capacity) view in
-    let within = packed.room in
-    omega arith
 
 -- a slot that lies last: every other text ends before it
 below_last : (capacity n : ℕ) (slots : List Slot) (i j : ℕ) → IsPacked capacity slots n → (slot_at slots i).start + (slot_at slots i).len ≡ n → j ≢ i → 0 < (slot_at slots j).len

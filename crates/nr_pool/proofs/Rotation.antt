@@ -1,16 +1,16 @@
 -- What it does to the slots and the elements to move one text behind all others.
-use Rattle.std.proofs.Common.{◌≡◌, ◌≢◌, ℕ, zero, suc, ◌+◌, ◌-◌, ◌<◌, ◌≤◌, ◌⊎◌, min, ltb, leb, cond, true, false, List, [], ◌∷◌, ◌++◌, length, map, take, drop, set, get_or, sum, refl, sym, ap, ap₂, ◌∙◌, inl, inr, arith, rules}
-use Rattle.std.proofs.lemmas.List.{get_or-map, get_or_past, length-map, length-set, places, get_or_default}
+use Rattle.std.proofs.Common.{◌≡◌, ◌≢◌, ℕ, ◌+◌, ◌-◌, ◌<◌, ◌≤◌, ◌⊎◌, min, ltb, leb, cond, true, false, List, ◌++◌, length, map, take, drop, set, get_or, sum, refl, sym, ap, ap₂, ◌∙◌, inl, inr, arith, rules}
+use Rattle.std.proofs.lemmas.List.{get_or-map, get_or_past, length-map, length-set, places, get_or_default, take_all, drop_all, append-nil}
 use Rattle.std.proofs.lemmas.List.Edits.{map_over_more}
 use Rattle.std.proofs.lemmas.List.Sums.{sum-map}
 use Rattle.std.proofs.lemmas.Bool.{cases_lt, cases_Bool, cond-true, cond-false, and_parts, and_cases, ltb-true, ltb-false, leb-true, leb-false}
 use borrow.Rule.Slice.PartMut.{put_mid}
 use Rattle.nr_pool.specs.Texts.{Held}
 use Rattle.nr_pool.specs.Places.{blank_slot, slot_at, held_of, texts_of, is_behind, IsPacked}
-use Rattle.nr_pool.specs.Spares.{HasSpares, IsReached}
+use Rattle.nr_pool.specs.Spares.{HasSpares}
 use Rattle.nr_pool.specs.declared.slot.Slot.{Slot}
 use Rattle.nr_pool.proofs.Places.{same_map, same_part, same_slot, written_at}
-use Rattle.nr_pool.proofs.Spares.{spares_same, reached_same}
+use Rattle.nr_pool.proofs.Spares.{spares_same}
 
 -- a text with elements, from e on, begins n further down
 abbrev pub shifted : ℕ → ℕ → Slot → Slot
@@ -210,7 +210,6 @@ texts_by_shift E R u slots i new a n e packed within a_is n_is nonempty e_is rot
 pub record IsBroughtLast {T : Type 0} (E F : List T) (slots news : List Slot) (u : ℕ) : Type 0 where
   pub packed : IsPacked (length F) news u
   pub spares : (count first : ℕ) → HasSpares slots count first → HasSpares news count first
-  pub reached : (r : ℕ) → IsReached slots r → IsReached news r
   pub same : texts_of F news ≡ texts_of E slots
 
 pub brought_last : {T : Type 0} (E R : List T) (u : ℕ) (slots shifts : List Slot) (i : ℕ) (new : Slot) (a n e : ℕ) → IsPacked (length E) slots u → i < length slots → 0 < (slot_at slots i).holders
@@ -228,33 +227,13 @@ brought_last E R u slots shifts i new a n e packed within held a_is n_is nonempt
         | inl h ↦ rw h.0 record { taken = ap (λ m. min m 1) (rw h.0 at h.1.holders); next = λ none. absurd (omega arith) }
         | inr h ↦ record { taken = ap (λ m. min m 1) h.1.holders; next = λ none. h.1.nothing (packed.empty j none) }
       ]);
-      reached = λ r reached. reached_same slots (set (map (shifted e n) slots) i new) r (length-set (map (shifted e n) slots) i new ∙ length-map slots (shifted e n)) (λ j. elim (rotated_at u slots i new n e within last j) [
-        | inl h ↦ rw h.0 (rw h.0 at h.1.holders)
-        | inr h ↦ h.1.holders
-      ]) reached;
       same = texts_by_shift E R u slots i new a n e packed within a_is n_is nonempty e_is rotated last;
     }
 
--- a slot whose text has no elements stays
-unshifted : (e n : ℕ) (s : Slot) → s.len ≡ 0 → s ≡ shifted e n s
-unshifted e n s none = elim (cases_Bool (is_behind e s)) [
-  | inl behind ↦
-      let parts = and_parts (ltb 0 s.len) (leb e s.start) behind in
-      let some = ltb-true 0 s.len parts.0 in
-      absurd (omega arith)
-  | inr before ↦ sym (cond-false (is_behind e s) (record s { start = s.start - n }) s before)
-]
-
--- the slots from k on have no elements, so only those before it are moved
-shifted_front : (e n k : ℕ) (slots : List Slot) → ((j : ℕ) → k ≤ j → (slot_at slots j).len ≡ 0) → map (shifted e n) (take k slots) ++ drop k slots ≡ map (shifted e n) slots
-shifted_front e n zero [] empty = refl
-shifted_front e n (suc k) [] empty = refl
-shifted_front e n zero (s ∷ ss) empty = ap₂ (λ t ts. t ∷ ts) (unshifted e n s (empty 0 (omega arith))) (shifted_front e n zero ss (λ j le. empty (suc j) (omega arith)))
-shifted_front e n (suc k) (s ∷ ss) empty = ap (λ ts. shifted e n s ∷ ts) (shifted_front e n k ss (λ j le. empty (suc j) (omega arith)))
-
 -- the loop that moves the slots, at its end
-pub all_shifted : (capacity u e n k r : ℕ) (slots now : List Slot) → now ≡ map (shifted e n) (take k slots) ++ drop k slots → k ≡ r → IsPacked capacity slots u → IsReached slots r → now ≡ map (shifted e n) slots
-all_shifted capacity u e n k r slots now is at packed reached = is ∙ shifted_front e n k slots (λ j le. packed.empty j (reached.beyond j (omega arith)))
+pub all_shifted : (e n k : ℕ) (slots now : List Slot) → now ≡ map (shifted e n) (take k slots) ++ drop k slots → length slots ≤ k → now ≡ map (shifted e n) slots
+all_shifted e n k slots now is all =
+    is ∙ ap₂ (λ front back. map (shifted e n) front ++ back) (take_all k slots all) (drop_all k slots all) ∙ append-nil (map (shifted e n) slots)
 
 -- the same loop, one slot further
 shift_step : (e n k : ℕ) (slots now : List Slot) → k < length slots → length now ≡ length slots → now ≡ map (shifted e n) (take k slots) ++ drop k slots

@@ -1,12 +1,10 @@
 -- Lemmas on the slots with no text.
-use Rattle.std.proofs.Common.{◌≡◌, ◌≢◌, ℕ, zero, suc, ◌+◌, ◌^◌, ◌<◌, ◌⊎◌, max, List, length, map, set, sum, sum_by, replicate, refl, sym, ap, ◌∙◌, inl, inr, arith}
-use Rattle.std.proofs.lemmas.List.{length-map, length-set, length-replicate, get_or-set_same, get_or-map, get_or-replicate, get_or_past, same_lists}
-use Rattle.std.proofs.lemmas.List.Folds.{sum_by-replicate}
-use Rattle.std.proofs.lemmas.List.Sums.{sum-map, sum_by-set, sum_by-le}
+use Rattle.std.proofs.Common.{◌≡◌, ◌≢◌, ℕ, zero, suc, ◌+◌, ◌<◌, ◌⊎◌, List, [], ◌∷◌, ◌++◌, length, map, set, sum, sum_by, refl, sym, ap, ◌∙◌, inl, inr, arith}
+use Rattle.std.proofs.lemmas.List.{length-set, length-append, get_or-set_same}
+use Rattle.std.proofs.lemmas.List.Sums.{sum-map, sum_by-set, sum_by-le, sum_by-append}
 use Rattle.std.proofs.lemmas.Bool.{cases_lt}
-use Rattle.nr_pool.specs.Texts.{Texts, no_text}
-use Rattle.nr_pool.specs.Places.{blank_slot, slot_at, held_of, texts_of}
-use Rattle.nr_pool.specs.Spares.{spare_at, taken, HasSpares, IsReached, IsPool}
+use Rattle.nr_pool.specs.Places.{blank_slot, slot_at}
+use Rattle.nr_pool.specs.Spares.{spare_at, taken, HasSpares}
 use Rattle.nr_pool.specs.declared.slot.Slot.{Slot}
 use Rattle.nr_pool.proofs.Places.{same_map, written_at}
 
@@ -154,128 +152,28 @@ spares_close slots count first i new spares within held none start =
       ];
     }
 
--- a function that gives the same at each slot
-all_same : {Y : Type 0} (f : Slot → Y) (slots : List Slot) (n : ℕ) (y : Y) → length slots ≡ n → ((k : ℕ) → k < n → f (slot_at slots k) ≡ y) → map f slots ≡ replicate n y
-all_same f slots n y lengths same =
-    same_lists _ _ (length-map slots f ∙ lengths ∙ sym (length-replicate n y)) (λ k d below.
-    let in_slots : k < length slots = omega (arith, length-map slots f) in
-    let in_n : k < n = omega arith in
-    get_or-map f slots k blank_slot d in_slots ∙ same k in_n ∙ sym (get_or-replicate n k y d in_n))
-
--- what a new pool writes at k
-abbrev pub fresh_slot : ℕ → Slot
-fresh_slot k = record { start = k + 1; len = 0; holders = 0 }
-
-spare_at-fresh : (slots : List Slot) (n : ℕ) → ((k : ℕ) → k < n → slot_at slots k ≡ fresh_slot k) → (k : ℕ) → k < n → spare_at slots 0 k ≡ k
-spare_at-fresh slots n each zero below = refl
-spare_at-fresh slots n each (suc k) below =
-    ap (λ j. (slot_at slots j).start) (spare_at-fresh slots n each k (omega arith)) ∙ ap (λ (s : Slot). s.start) (each k (omega arith)) ∙ omega arith
-
--- no slot has a text
-pub fresh : (capacity n : ℕ) (slots : List Slot) → capacity < 2 ^ 32 → length slots ≡ n → ((k : ℕ) → k < n → slot_at slots k ≡ fresh_slot k) → IsPool capacity slots 0 n 0 0
-fresh capacity n slots fits lengths each =
-    let nothing : (f : Slot → ℕ) → ((k : ℕ) → f (fresh_slot k) ≡ 0) → sum_by f slots ≡ 0 =
-    λ f zeros. sym (sum-map f slots) ∙ ap sum (all_same f slots n 0 lengths (λ k below. ap f (each k below) ∙ zeros k)) ∙ sum_by-replicate (λ (x : ℕ). x) n 0 ∙ omega arith in
-    let none : (i : ℕ) → (slot_at slots i).len ≡ 0 = λ i. elim (cases_lt i n) [
-      | inl below ↦ ap (λ (s : Slot). s.len) (each i below)
-      | inr past ↦ ap (λ (s : Slot). s.len) (get_or_past slots i blank_slot (omega arith))
-    ] in
-    let at = spare_at-fresh slots n each in
-    let unheld : (i : ℕ) → (slot_at slots i).holders ≡ 0 = λ i. elim (cases_lt i n) [
-      | inl below ↦ ap (λ (s : Slot). s.holders) (each i below)
-      | inr past ↦ ap (λ (s : Slot). s.holders) (get_or_past slots i blank_slot (omega arith))
-    ] in
+-- a new slot is the only spare one where there was none
+pub spares_more : (slots : List Slot) (first : ℕ) → HasSpares slots 0 first → HasSpares (slots ++ blank_slot ∷ []) 1 (length slots)
+spares_more slots first spares =
+    let here : slot_at (slots ++ blank_slot ∷ []) (length slots) ≡ blank_slot = get_or-append_at slots in
+    let at_first : (k : ℕ) → k < 1 → spare_at (slots ++ blank_slot ∷ []) (length slots) k ≡ length slots = λ k below. let is : k ≡ 0 = omega arith in rw is refl in
+    let longer = length-append slots (blank_slot ∷ []) in
     record {
-      packed = record {
-        fits = fits;
-        room = omega arith;
-        filled = nothing (λ (s : Slot). s.len) (λ _. refl);
-        empty = λ i _. none i;
-        inside = λ i some. let nil = none i in absurd (omega arith);
-        apart = λ i j ne some _ _. let nil = none i in absurd (omega arith);
-      };
-      spares = record {
-        counted = let counts : sum_by taken slots ≡ 0 = nothing taken (λ _. refl) in omega arith;
-        within = λ k below. rw (at k below) (omega arith);
-        unheld = λ k below. rw (at k below) (ap (λ (s : Slot). s.holders) (each k below));
-        distinct = λ j k j_below k_below e. sym (at j j_below) ∙ e ∙ at k k_below;
-      };
-      reached = record { within = omega arith; fits = omega arith; beyond = λ k _. unheld k };
+      counted = let counted = spares.counted in omega (arith, sum_by-append taken slots (blank_slot ∷ []));
+      within = λ k below. rw (at_first k below) (omega arith);
+      unheld = λ k below. rw (at_first k below) (ap (λ (s : Slot). s.holders) here);
+      distinct = λ j k j_below k_below _. omega arith;
     }
+  where
+    get_or-append_at : (xs : List Slot) → slot_at (xs ++ blank_slot ∷ []) (length xs) ≡ blank_slot
+    get_or-append_at [] = refl
+    get_or-append_at (x ∷ xs) = get_or-append_at xs
 
--- and stands for none
-pub fresh_texts : {T : Type 0} (E : List T) (n : ℕ) (slots : List Slot) → length slots ≡ n → ((k : ℕ) → k < n → slot_at slots k ≡ fresh_slot k) → map (held_of E) slots ≡ replicate n no_text
-fresh_texts E n slots lengths each = all_same (held_of E) slots n no_text lengths (λ k below. ap (held_of E) (each k below))
-
--- ---- slots that never had a text
-
--- a slot that has one is among the first
-pub reached_by : (slots : List Slot) (i r : ℕ) → 0 < (slot_at slots i).holders → IsReached slots r → i < r
-reached_by slots i r held reached = elim (cases_lt i r) [
-  | inl below ↦ below
-  | inr past ↦ let none = reached.beyond i past in absurd (omega arith)
-]
-
--- a slot with a text is written
-pub reached_set : (slots : List Slot) (i : ℕ) (new : Slot) (r : ℕ) → i < length slots → 0 < (slot_at slots i).holders → IsReached slots r → IsReached (set slots i new) r
-reached_set slots i new r within held reached =
-    let below = reached_by slots i r held reached in
-    let inside = reached.within in
-    record {
-      within = omega (arith, length-set slots i new);
-      fits = reached.fits;
-      beyond = λ k past. elim (written_at slots i new within k) [
-        | inl h ↦ let is = h.0 in absurd (omega arith)
-        | inr h ↦ ap (λ (s : Slot). s.holders) h.1 ∙ reached.beyond k past
-      ];
-    }
-
--- a slot is given its first text
-pub reached_open : (slots : List Slot) (i : ℕ) (new : Slot) (r q : ℕ) → q ≡ max r (i + 1) → i < 2 ^ 32 → i < length slots → IsReached slots r → IsReached (set slots i new) q
-reached_open slots i new r q is fits within reached =
-    let inside = reached.within in
-    record {
-      within = omega (arith, length-set slots i new);
-      fits = omega (arith, reached.fits);
-      beyond = λ k past. elim (written_at slots i new within k) [
-        | inl h ↦ let same = h.0 in absurd (omega arith)
-        | inr h ↦ ap (λ (s : Slot). s.holders) h.1 ∙ reached.beyond k (omega arith)
-      ];
-    }
-
--- the same slots have a text
-pub reached_same : (slots news : List Slot) (r : ℕ) → length news ≡ length slots → ((k : ℕ) → (slot_at news k).holders ≡ (slot_at slots k).holders) → IsReached slots r → IsReached news r
-reached_same slots news r lengths same reached =
-    let inside = reached.within in
-    record { within = omega arith; fits = reached.fits; beyond = λ k past. same k ∙ reached.beyond k past }
-
--- ---- all texts removed
-
--- a pool has as many numbers as slots
-pub slot_count : {T : Type 0} (E : List T) (slots : List Slot) (p : Texts T) → texts_of E slots ≡ p → length slots ≡ length p.texts
-slot_count E slots p view_is = sym (length-map slots (held_of E)) ∙ ap (λ (q : Texts _). length q.texts) view_is
-
--- no slot has a text
-pub emptied : (capacity : ℕ) (slots : List Slot) (count first : ℕ) → capacity < 2 ^ 32 → HasSpares slots count first → ((k : ℕ) → (slot_at slots k).len ≡ 0) → ((k : ℕ) → (slot_at slots k).holders ≡ 0)
-    → IsPool capacity slots 0 count first 0
-emptied capacity slots count first fits spares empty none = record {
-  packed = record {
-    fits = fits;
-    room = omega arith;
-    filled = sym (sum-map (λ (s : Slot). s.len) slots) ∙ ap sum (all_same (λ (s : Slot). s.len) slots (length slots) 0 refl (λ k _. empty k)) ∙ sum_by-replicate (λ (x : ℕ). x) (length slots) 0 ∙ omega arith;
-    empty = λ i _. empty i;
-    inside = λ i some. let nil = empty i in absurd (omega arith);
-    apart = λ i j ne some _ _. let nil = empty i in absurd (omega arith);
-  };
-  spares = spares;
-  reached = record { within = omega arith; fits = omega arith; beyond = λ k _. none k };
+-- no slots
+pub no_spares : (first : ℕ) → HasSpares [] 0 first
+no_spares first = record {
+  counted = refl;
+  within = λ k below. absurd (omega arith);
+  unheld = λ k below. absurd (omega arith);
+  distinct = λ j k j_below k_below e. absurd (omega arith);
 }
-
--- what a slot without elements and holders stands for
-no_text-held_of : {T : Type 0} (E : List T) (start len holders : ℕ) → len ≡ 0 → holders ≡ 0 → held_of E (record { start = start; len = len; holders = holders }) ≡ no_text
-no_text-held_of E start len holders empty none = rw (empty, none) refl
-
-pub emptied_texts : {T : Type 0} (E : List T) (n : ℕ) (slots : List Slot) → length slots ≡ n → ((k : ℕ) → (slot_at slots k).len ≡ 0) → ((k : ℕ) → (slot_at slots k).holders ≡ 0)
-    → map (held_of E) slots ≡ replicate n no_text
-emptied_texts E n slots lengths empty none =
-    all_same (held_of E) slots n no_text lengths (λ k _. no_text-held_of E (slot_at slots k).start (slot_at slots k).len (slot_at slots k).holders (empty k) (none k))

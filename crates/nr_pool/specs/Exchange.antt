@@ -2,7 +2,7 @@
 use Rattle.std.specs.Prelude.{◌≡◌, ℕ, ◌+◌, ◌<◌, ◌≤◌, ◌⊎◌, List, length, slice_index_or}
 use Rattle.nr_pool.specs.declared.slot.Slot.{Slot}
 use Rattle.nr_pool.specs.Places.{slot_at, texts_of, IsPacked}
-use Rattle.nr_pool.specs.Spares.{HasSpares, IsReached}
+use Rattle.nr_pool.specs.Spares.{HasSpares}
 
 -- a text of this length begins here
 pub record LiesAt (slots : List Slot) (i start len : ℕ) : Type 0 where
@@ -22,5 +22,4 @@ pub record IsExchanged {T : Type 0} (E F : List T) (slots news : List Slot) (use
   pub packed : IsPacked (length F) news used
   pub last : (slot_at news i).start + (slot_at news i).len ≡ used
   pub spares : (count first : ℕ) → HasSpares slots count first → HasSpares news count first
-  pub reached : (r : ℕ) → IsReached slots r → IsReached news r
   pub same : texts_of F news ≡ texts_of E slots

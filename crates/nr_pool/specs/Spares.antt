@@ -1,7 +1,7 @@
 -- The slots of a pool with no text, each of which names the next.
-use Rattle.std.specs.Prelude.{◌≡◌, ℕ, zero, suc, ◌+◌, ◌^◌, ◌<◌, ◌≤◌, List, length, min, sum_by}
+use Rattle.std.specs.Prelude.{◌≡◌, ℕ, zero, suc, ◌+◌, ◌<◌, List, length, min, sum_by}
 use Rattle.nr_pool.specs.declared.slot.Slot.{Slot}
-use Rattle.nr_pool.specs.Places.{slot_at, IsPacked}
+use Rattle.nr_pool.specs.Places.{slot_at}
 
 -- the k-th spare slot, where `first` is the one at 0
 abbrev pub spare_at : List Slot → ℕ → ℕ → ℕ
@@ -18,15 +18,3 @@ pub record HasSpares (slots : List Slot) (count first : ℕ) : Type 0 where
   pub within : (k : ℕ) → k < count → spare_at slots first k < length slots
   pub unheld : (k : ℕ) → k < count → (slot_at slots (spare_at slots first k)).holders ≡ 0
   pub distinct : (j k : ℕ) → j < count → k < count → spare_at slots first j ≡ spare_at slots first k → j ≡ k
-
--- no slot from `ever` on has a text
-pub record IsReached (slots : List Slot) (ever : ℕ) : Type 0 where
-  pub within : ever ≤ length slots
-  pub fits : ever ≤ 2 ^ 32
-  pub beyond : (k : ℕ) → ever ≤ k → (slot_at slots k).holders ≡ 0
-
--- the texts are packed, each slot with no text is among the spare ones, and those that never had one are known
-pub record IsPool (capacity : ℕ) (slots : List Slot) (used count first ever : ℕ) : Type 0 where
-  pub packed : IsPacked capacity slots used
-  pub spares : HasSpares slots count first
-  pub reached : IsReached slots ever

@@ -1,14 +1,17 @@
-//! Texts in two lent slices. The elements of all texts lie in the one, without holes, and the other says where
-//! each text lies and how many hold it. No call allocates.
+//! Texts in two vectors for which room is taken once. The elements of all texts lie in the one, without holes, and the
+//! other says where each text lies and how many hold it.
 //!
-//! It stands on no crate of the repository. To read: this file, and then `slot`.
+//! It stands on nr_rooms. To read: this file, and then `slot`.
 #![tactic(auto)]
 
-ghost use Rattle.std.specs.Prelude.{◌≡◌, ◌≢◌, ℕ, ◌+◌, ◌^◌, ◌<◌, ◌≤◌, ◌↔◌, [], ◌∷◌, ◌++◌, length, take, replicate, All, IsErr, IfOk, OnOk, OnErr, IsTrue, slice_get, slice_set, Some};
+ghost use Rattle.std.specs.Prelude.{◌≡◌, ◌≢◌, ℕ, ◌+◌, ◌^◌, ◌<◌, ◌≤◌, ◌↔◌, [], ◌∷◌, ◌++◌, length, take, replicate, All, IsErr, IfOk, OnOk, OnErr, IsTrue, slice_get, slice_set, Some, vec_capacity};
+ghost use Rattle.nr_pool.specs.Rooms.{written};
 ghost use Rattle.nr_pool.specs.Texts.{IsOpen, text, holders, used, no_text, opened, with_text, with_holders, without_text, released};
 
 pub use crate::slot::Slot;
-use crate::slot::{bring_last, spare_all};
+use crate::slot::{bring_last, spare_of};
+use nr_rooms::lengthen;
+use std::alloc::{AllocError, Global};
 use std::marker::Model;
 
 mod slot;
@@ -33,39 +36,41 @@ impl Model for Id {
     ghost inverse = { λ n. record { index = n } };
 }
 
-/// Texts of elements of `T`, over slices that are lent to it. A text keeps its `Id` until it is removed,
-/// whatever happens to other texts; the `Id` of a removed text may be given again. Beside each text stands
-/// how many hold it, which only `open`, `hold`, `release` and `close` change.
+/// Texts of elements of `T`, with room for a number of elements and texts that stays. Memory for all of them is taken by
+/// `new`, the only call that allocates, and touched as they come. A text keeps its `Id` until it is removed, whatever
+/// happens to other texts; the `Id` of a removed text may be given again. Beside each text stands how many hold it, which
+/// only `open`, `hold`, `release` and `close` change.
 ///
 /// A call that makes a text longer or shorter, or removes it, first brings its elements behind those of all
 /// other texts: in constant time where they lie there or there are none; else in one pass over the slots that
-/// have ever had a text, and as many steps as it has elements where the text that lies last is as long, for then
-/// the two change places; else in such a pass and one rotation of the elements from the text on. Beside that it
+/// have had a text since all were removed, and as many steps as it has elements where the text that lies last is as long,
+/// for then the two change places; else in such a pass and one rotation of the elements from the text on. Beside that it
 /// takes constant time, and that of a copy of the elements that it is given.
 #[derive(Drop)]
-pub struct Pool<'a, T: Copy> {
-    elements: &'a mut [T],
-    slots: &'a mut [Slot],
-    // How many elements the texts have; they lie at the front of `elements`.
+pub struct Pool<T: Copy> {
+    // The elements of the texts lie at the front. What lies behind them is of no account.
+    elements: Vec<T>,
+    capacity: usize,
+    // The slots that have had a text since all were removed.
+    slots: Vec<Slot>,
+    most: usize,
+    // How many elements the texts have.
     used: u32,
-    // How many slots have no text, and the first of them.
+    // How many of the slots have no text, and the first of them.
     spares: usize,
     first_spare: u32,
-    // No slot from here on has had a text since all were removed.
-    reached: usize,
 }
 
-impl<'a, T: Copy> Model for Pool<'a, T> {
-    ghost use Rattle.std.specs.Prelude.{length};
+impl<T: Copy> Model for Pool<T> {
+    ghost use Rattle.std.specs.Prelude.{◌≤◌, vec_capacity};
     ghost use Rattle.nr_pool.specs.Texts.{Texts};
-    ghost use Rattle.nr_pool.specs.Places.{texts_of};
-    ghost use Rattle.nr_pool.specs.Spares.{IsPool};
+    ghost use Rattle.nr_pool.specs.Rooms.{texts_within, IsKept};
 
     ghost Value = { Texts T };
 
-    ghost view = { λ p. texts_of p.elements.now p.slots.now };
+    ghost view = { λ p. texts_within p.capacity p.most p.elements.items p.slots.items };
 
-    ghost invariant = { λ p. IsPool (length p.elements.now) p.slots.now p.used p.spares p.first_spare p.reached };
+    ghost invariant = { λ p. IsKept p.elements.items p.slots.items p.used p.spares p.first_spare p.capacity p.most × ((p.capacity ≤ vec_capacity p.elements) × (p.most ≤ vec_capacity p.slots)) };
 }
 
 impl Id {
@@ -77,32 +82,26 @@ impl Id {
     }
 }
 
-impl<'a, T: Copy> Pool<'a, T> {
-    /// A pool with no texts. It has room for as many elements as `elements` has, in as many texts as `slots`
-    /// has; what stands in the two slices is of no account. It takes one pass over `slots`. A slot counts in
-    /// 32 bits, so each slice has fewer than 2^32 elements.
-    pub fn over(elements: &'a mut [T], slots: &'a mut [Slot]) -> Pool<'a, T>
-        requires elements_fit { length elements.old < 2 ^ 32 }
-        requires slots_fit { length slots.old < 2 ^ 32 }
-        ensures capacity { result.capacity ≡ length elements.old }
-        ensures empty { result.texts ≡ replicate (length slots.old) no_text }
+impl<T: Copy> Pool<T> {
+    /// A pool with no texts, and room for so many elements in so many texts: `AllocError` where there is no memory for
+    /// them. A slot counts in 32 bits, so there are fewer than 2^32 of each.
+    pub fn new(alloc: Global, capacity: usize, most: usize) -> Result<Pool<T>, AllocError>
+        requires elements_fit { capacity < 2 ^ 32 }
+        requires slots_fit { most < 2 ^ 32 }
+        ensures capacity { IfOk result (λ made. made.capacity ≡ capacity) }
+        ensures empty { IfOk result (λ made. made.texts ≡ replicate most no_text) }
     {
-        let most = slots.len();
-        for i in 0..most {
-            slots[i] = Slot {
-                start: i as u32 + 1,
-                len: 0,
-                holders: 0,
-            };
-        }
-        Pool {
+        let elements = Vec::with_capacity(alloc, capacity)?;
+        let slots = Vec::with_capacity(alloc, most)?;
+        Ok(Pool {
             elements,
+            capacity,
             slots,
+            most,
             used: 0,
-            spares: most,
+            spares: 0,
             first_spare: 0,
-            reached: 0,
-        }
+        })
     }
 
     /// A new text, with no elements and one holder, in constant time. It fails if every number has a text,
@@ -116,15 +115,18 @@ impl<'a, T: Copy> Pool<'a, T> {
         ensures keeps { (other : ℕ) → IsOpen self.old other → IsOpen self.new other }
         ensures err { OnErr result (self.new ≡ self.old) }
     {
-        if self.spares == 0 {
+        let Some((spares, index)) = spare_of(
+            &mut self.slots,
+            self.most,
+            self.spares,
+            self.first_spare,
+        ) else {
             return Err(Full);
-        }
-        let index = self.first_spare;
+        };
         let slot = &mut self.slots[index as usize];
         slot.holders = 1;
         self.first_spare = slot.start;
-        self.spares -= 1;
-        self.reached = self.reached.max(index as usize + 1);
+        self.spares = spares - 1;
         Ok(Id { index })
     }
 
@@ -141,9 +143,8 @@ impl<'a, T: Copy> Pool<'a, T> {
     pub fn is_open(&self, id: Id) -> bool
         ensures { IsTrue result ↔ IsOpen self.now id }
     {
-        let slots = &*self.slots;
         let index = id.index as usize;
-        index < slots.len() && slots[index].holders > 0
+        index < self.slots.len() && self.slots[index].holders > 0
     }
 
     /// How many hold a text: at least one, and fewer than 2^32.
@@ -151,8 +152,7 @@ impl<'a, T: Copy> Pool<'a, T> {
         requires { IsOpen self.now id }
         ensures { result ≡ holders self.now id }
     {
-        let slots = &*self.slots;
-        slots[id.index as usize].holders as usize
+        self.slots[id.index as usize].holders as usize
     }
 
     /// One holder more of a text. The caller keeps the number of holders below 2^32.
@@ -162,8 +162,7 @@ impl<'a, T: Copy> Pool<'a, T> {
         ensures held { self.new ≡ with_holders self.old id (holders self.old id + 1) }
         ensures keeps { (other : ℕ) → IsOpen self.old other → IsOpen self.new other }
     {
-        let slots = &mut *self.slots;
-        slots[id.index as usize].holders += 1;
+        self.slots[id.index as usize].holders += 1;
     }
 
     /// One holder less of a text, which is removed where that was the last.
@@ -175,8 +174,7 @@ impl<'a, T: Copy> Pool<'a, T> {
         if self.holders(id) == 1 {
             self.close(id);
         } else {
-            let slots = &mut *self.slots;
-            slots[id.index as usize].holders -= 1;
+            self.slots[id.index as usize].holders -= 1;
         }
     }
 
@@ -187,7 +185,7 @@ impl<'a, T: Copy> Pool<'a, T> {
         ensures keeps { (other : ℕ) → other ≢ id → IsOpen self.old other → IsOpen self.new other }
     {
         let index = id.index as usize;
-        bring_last(self.elements, self.slots, self.used, self.reached, index);
+        bring_last(&mut self.elements, &mut self.slots, self.used, index);
         let slot = &mut self.slots[index];
         self.used -= slot.len;
         *slot = Slot {
@@ -199,22 +197,14 @@ impl<'a, T: Copy> Pool<'a, T> {
         self.spares += 1;
     }
 
-    /// Removes all texts, whoever holds them. It takes one pass over the slots that have had a text since the
-    /// last time.
+    /// Removes all texts, whoever holds them, in constant time.
     pub fn remove_all(&mut self)
         ensures capacity { self.new.capacity ≡ self.old.capacity }
         ensures empty { self.new.texts ≡ replicate (length self.old.texts) no_text }
     {
-        let (spares, first_spare) = spare_all(
-            self.slots,
-            self.reached,
-            self.spares,
-            self.first_spare,
-        );
+        self.slots.clear();
         self.used = 0;
-        self.spares = spares;
-        self.first_spare = first_spare;
-        self.reached = 0;
+        self.spares = 0;
     }
 
     /// How many elements a text has.
@@ -222,8 +212,7 @@ impl<'a, T: Copy> Pool<'a, T> {
         requires { IsOpen self.now id }
         ensures { result ≡ length (text self.now id) }
     {
-        let slots = &*self.slots;
-        slots[id.index as usize].len as usize
+        self.slots[id.index as usize].len as usize
     }
 
     /// The element at a place of a text.
@@ -232,8 +221,7 @@ impl<'a, T: Copy> Pool<'a, T> {
         requires within { place < length (text self.now id) }
         ensures { slice_get (text self.now id) place ≡ Some result }
     {
-        let slots = &*self.slots;
-        let first = slots[id.index as usize].start as usize;
+        let first = self.slots[id.index as usize].start as usize;
         self.elements[first + place]
     }
 
@@ -242,12 +230,12 @@ impl<'a, T: Copy> Pool<'a, T> {
         requires { IsOpen self.now id }
         ensures { result.now ≡ text self.now id }
     {
-        let slots = &*self.slots;
-        let Slot { start, len, .. } = slots[id.index as usize];
+        let Slot { start, len, .. } = self.slots[id.index as usize];
         if len == 0 {
             return &[];
         }
-        &self.elements[start as usize..start as usize + len as usize]
+        let elements = self.elements.as_slice();
+        &elements[start as usize..start as usize + len as usize]
     }
 
     /// Puts another element at a place of a text.
@@ -257,8 +245,7 @@ impl<'a, T: Copy> Pool<'a, T> {
         ensures replaced { self.new ≡ with_text self.old id (slice_set (text self.old id) place element) }
         ensures keeps { (other : ℕ) → IsOpen self.old other → IsOpen self.new other }
     {
-        let slots = &mut *self.slots;
-        let start = slots[id.index as usize].start as usize;
+        let start = self.slots[id.index as usize].start as usize;
         self.elements[start + place] = element;
     }
 
@@ -271,12 +258,14 @@ impl<'a, T: Copy> Pool<'a, T> {
         ensures keeps { (other : ℕ) → IsOpen self.old other → IsOpen self.new other }
         ensures err { OnErr result (self.new ≡ self.old) }
     {
-        if self.used as usize == self.elements.len() {
+        let used = self.used as usize;
+        if used == self.capacity {
             return Err(Full);
         }
         let index = id.index as usize;
-        bring_last(self.elements, self.slots, self.used, self.reached, index);
-        self.elements[self.used as usize] = element;
+        lengthen(&mut self.elements, used + 1, self.capacity, element);
+        bring_last(&mut self.elements, &mut self.slots, self.used, index);
+        self.elements[used] = element;
         self.slots[index].len += 1;
         self.used += 1;
         Ok(())
@@ -293,15 +282,16 @@ impl<'a, T: Copy> Pool<'a, T> {
     {
         let used = self.used as usize;
         let count = elements.len();
-        if count > self.elements.len() - used {
+        if count > self.capacity - used {
             return Err(Full);
         }
         if count == 0 {
             return Ok(());
         }
         let index = id.index as usize;
-        bring_last(self.elements, self.slots, self.used, self.reached, index);
-        self.elements[used..used + count].copy_from_slice(elements);
+        lengthen(&mut self.elements, used + count, self.capacity, elements[0]);
+        bring_last(&mut self.elements, &mut self.slots, self.used, index);
+        write_at(&mut self.elements, used, elements);
         self.slots[index].len += count as u32;
         self.used += count as u32;
         Ok(())
@@ -319,14 +309,16 @@ impl<'a, T: Copy> Pool<'a, T> {
     {
         let used = self.used as usize;
         let len = self.len(from);
-        if len > self.elements.len() - used {
+        if len > self.capacity - used {
             return Err(Full);
         }
         if len == 0 {
             return Ok(());
         }
         let index = to.index as usize;
-        bring_last(self.elements, self.slots, self.used, self.reached, index);
+        let element = self.get(from, 0);
+        lengthen(&mut self.elements, used + len, self.capacity, element);
+        bring_last(&mut self.elements, &mut self.slots, self.used, index);
         let start = self.slots[from.index as usize].start as usize;
         self.elements.copy_within(start..start + len, used);
         self.slots[index].len += len as u32;
@@ -344,7 +336,7 @@ impl<'a, T: Copy> Pool<'a, T> {
             return;
         }
         let index = id.index as usize;
-        bring_last(self.elements, self.slots, self.used, self.reached, index);
+        bring_last(&mut self.elements, &mut self.slots, self.used, index);
         let slot = &mut self.slots[index];
         self.used -= slot.len - len as u32;
         slot.len = len as u32;
@@ -358,4 +350,15 @@ impl<'a, T: Copy> Pool<'a, T> {
     {
         self.truncate(id, 0);
     }
+}
+
+/// Writes elements from a place on over those that stand there.
+fn write_at<T: Copy>(elements: &mut Vec<T>, place: usize, more: &[T])
+    requires { place + length more.now ≤ length elements.old.items }
+    ensures items { elements.new.items ≡ written elements.old.items place more.now }
+    ensures len { length elements.new.items ≡ length elements.old.items }
+    ensures room { vec_capacity elements.new ≡ vec_capacity elements.old }
+{
+    let places = elements.as_mut_slice();
+    places[place..place + more.len()].copy_from_slice(more);
 }

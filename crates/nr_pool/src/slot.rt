@@ -1,8 +1,13 @@
 //! Where the texts of a pool lie.
-ghost use Rattle.std.specs.Prelude.{◌≡◌, ◌≢◌, ℕ, ◌+◌, ◌-◌, ◌^◌, ◌<◌, ◌≤◌, length, IfSome};
+ghost use Rattle.std.specs.Prelude.{◌≡◌, ◌≢◌, ℕ, ◌+◌, ◌-◌, ◌^◌, ◌<◌, ◌≤◌, ◌⊎◌, [], ◌∷◌, ◌++◌, length, take, drop, IfSome, None, vec_len, vec_capacity};
 ghost use Rattle.nr_pool.specs.Places.{texts_of, slot_at, blank_slot, is_behind, IsPacked};
-ghost use Rattle.nr_pool.specs.Spares.{HasSpares, IsReached};
+ghost use Rattle.nr_pool.specs.Spares.{HasSpares};
 ghost use Rattle.nr_pool.specs.Exchange.{LiesAt, IsSwapped, IsExchanged};
+
+/// How many elements are moved one by one, and among how many.
+const FEW: usize = 8;
+
+const SHORT: usize = 64;
 
 /// What a `Pool` keeps for one text: 12 bytes.
 #[derive(Clone, Copy, Drop)]
@@ -35,45 +40,41 @@ impl Slot {
     }
 }
 
-// Takes the texts from all slots, of which only the first `reached` have ever had one. There were `count` spare
-// slots, from `first` on. It tells how many there are, and the first, which is that of the lowest text.
-pub(crate) fn spare_all(
-    slots: &mut [Slot],
-    reached: usize,
+// How many spare slots there are, and the first of them: where there was none, a new one behind all others, if there may be
+// so many.
+pub(crate) fn spare_of(
+    slots: &mut Vec<Slot>,
+    most: usize,
     count: usize,
     first: u32,
-) -> (usize, u32)
-    requires spares { HasSpares slots.old count first }
-    requires reached { IsReached slots.old reached }
-    requires empty { (k : ℕ) → (slot_at slots.old k).holders ≡ 0 → (slot_at slots.old k).len ≡ 0 }
-    ensures spares { HasSpares slots.new result.0 result.1 }
-    ensures empty { (k : ℕ) → (slot_at slots.new k).len ≡ 0 }
-    ensures none { (k : ℕ) → (slot_at slots.new k).holders ≡ 0 }
+) -> Option<(usize, u32)>
+    requires spares { HasSpares slots.old.items count first }
+    requires few { vec_len slots.old ≤ most }
+    requires small { most < 2 ^ 32 }
+    requires room { most ≤ vec_capacity slots.old }
+    ensures none { result ≡ None → (count ≡ 0) × ((vec_len slots.old ≡ most) × (slots.new ≡ slots.old)) }
+    ensures some { IfSome result (λ found. 0 < found.0) }
+    ensures spares { IfSome result (λ found. HasSpares slots.new.items found.0 found.1) }
+    ensures same { (slots.new.items ≡ slots.old.items) ⊎ (slots.new.items ≡ slots.old.items ++ blank_slot ∷ []) }
+    ensures few { vec_len slots.new ≤ most }
+    ensures room { most ≤ vec_capacity slots.new }
 {
-    let mut count = count;
-    let mut first = first;
-    let mut end = reached;
-    while end > 0 {
-        end -= 1;
-        if slots[end].holders > 0 {
-            slots[end] = Slot {
-                start: first,
-                len: 0,
-                holders: 0,
-            };
-            first = end as u32;
-            count += 1;
-        }
+    if count > 0 {
+        return Some((count, first));
     }
-    (count, first)
+    let index = slots.len();
+    if index == most {
+        return None;
+    }
+    slots.push_reserved(Slot::blank());
+    Some((1, index as u32))
 }
 
-// A text of this length that begins here, among the first `reached`, if there is one.
-fn text_at(slots: &[Slot], reached: usize, start: u32, len: u32) -> Option<usize>
-    requires { reached ≤ length slots.now }
+// A text of this length that begins here, if there is one.
+fn text_at(slots: &[Slot], start: u32, len: u32) -> Option<usize>
     ensures { IfSome result (λ i. LiesAt slots.now i start len) }
 {
-    for i in 0..reached {
+    for i in 0..slots.len() {
         if slots[i].start == start && slots[i].len == len {
             return Some(i);
         }
@@ -109,22 +110,30 @@ fn exchange<T: Copy>(elements: &mut [T], slots: &mut [Slot], used: u32, index: u
     slots[last].start = start;
 }
 
+// Moves the first n elements behind the others. Where they are few they go one by one: the room in which `rotate_left` has them wait
+// is large, and cleared each time.
+#[inline]
+fn rotate<T: Copy>(part: &mut [T], n: usize)
+    requires { n ≤ length part.old }
+    ensures after { part.new ≡ drop n part.old ++ take n part.old }
+{
+    if n > FEW || part.len() > SHORT {
+        part.rotate_left(n);
+        return;
+    }
+    for _ in 0..n {
+        part.rotate_left(1);
+    }
+}
+
 // Moves the text at `index` behind all others: the elements from it on are rotated, and the texts behind it begin earlier.
-fn rotate_last<T: Copy>(
-    elements: &mut [T],
-    slots: &mut [Slot],
-    used: u32,
-    reached: usize,
-    index: usize,
-)
+fn rotate_last<T: Copy>(elements: &mut [T], slots: &mut [Slot], used: u32, index: usize)
     requires packed { IsPacked (length elements.old) slots.old used }
     requires within { index < length slots.old }
     requires held { 0 < (slot_at slots.old index).holders }
-    requires reached { IsReached slots.old reached }
     ensures packed { IsPacked (length elements.new) slots.new used }
     ensures last { (slot_at slots.new index).start + (slot_at slots.new index).len ≡ used }
     ensures spares { (count first : ℕ) → HasSpares slots.old count first → HasSpares slots.new count first }
-    ensures reached { IsReached slots.new reached }
     ensures same { texts_of elements.new slots.new ≡ texts_of elements.old slots.old }
 {
     let Slot { start, len, .. } = slots[index];
@@ -136,8 +145,8 @@ fn rotate_last<T: Copy>(
     if end == used {
         return;
     }
-    elements[start as usize..used as usize].rotate_left(len as usize);
-    for i in 0..reached {
+    rotate(&mut elements[start as usize..used as usize], len as usize);
+    for i in 0..slots.len() {
         let slot = &mut slots[i];
         if slot.is_behind(end) {
             slot.start -= len;
@@ -146,31 +155,46 @@ fn rotate_last<T: Copy>(
     slots[index].start = used - len;
 }
 
-// Moves the text at `index` behind all others, into the elements that end at `used`. Only the first `reached`
-// slots have ever had a text. Where the text that lies last is as long, the two change places.
-pub(crate) fn bring_last<T: Copy>(
-    elements: &mut [T],
-    slots: &mut [Slot],
-    used: u32,
-    reached: usize,
-    index: usize,
-)
+// Moves the text at `index` behind all others, into the elements that end at `used`. Where the text that lies last is
+// as long, the two change places.
+fn move_last<T: Copy>(elements: &mut [T], slots: &mut [Slot], used: u32, index: usize)
     requires packed { IsPacked (length elements.old) slots.old used }
     requires within { index < length slots.old }
     requires held { 0 < (slot_at slots.old index).holders }
-    requires reached { IsReached slots.old reached }
     ensures packed { IsPacked (length elements.new) slots.new used }
     ensures last { (slot_at slots.new index).start + (slot_at slots.new index).len ≡ used }
     ensures spares { (count first : ℕ) → HasSpares slots.old count first → HasSpares slots.new count first }
-    ensures reached { IsReached slots.new reached }
     ensures same { texts_of elements.new slots.new ≡ texts_of elements.old slots.old }
 {
     let Slot { start, len, .. } = slots[index];
     if len > 0 && start + len < used {
-        if let Some(last) = text_at(slots, reached, used - len, len) {
+        if let Some(last) = text_at(slots, used - len, len) {
             exchange(elements, slots, used, index, last);
             return;
         }
     }
-    rotate_last(elements, slots, used, reached, index);
+    rotate_last(elements, slots, used, index);
+}
+
+// The same in vectors.
+#[inline]
+pub(crate) fn bring_last<T: Copy>(
+    elements: &mut Vec<T>,
+    slots: &mut Vec<Slot>,
+    used: u32,
+    index: usize,
+)
+    requires packed { IsPacked (length elements.old.items) slots.old.items used }
+    requires within { index < length slots.old.items }
+    requires held { 0 < (slot_at slots.old.items index).holders }
+    ensures packed { IsPacked (length elements.new.items) slots.new.items used }
+    ensures last { (slot_at slots.new.items index).start + (slot_at slots.new.items index).len ≡ used }
+    ensures spares { (count first : ℕ) → HasSpares slots.old.items count first → HasSpares slots.new.items count first }
+    ensures same { texts_of elements.new.items slots.new.items ≡ texts_of elements.old.items slots.old.items }
+    ensures elements { length elements.new.items ≡ length elements.old.items }
+    ensures slots { length slots.new.items ≡ length slots.old.items }
+    ensures elements_room { vec_capacity elements.new ≡ vec_capacity elements.old }
+    ensures slots_room { vec_capacity slots.new ≡ vec_capacity slots.old }
+{
+    move_last(elements.as_mut_slice(), slots.as_mut_slice(), used, index);
 }

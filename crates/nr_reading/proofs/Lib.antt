@@ -3,6 +3,7 @@ pub mod InArgument
 pub mod InDefinition
 pub mod InText
 pub mod LineBeginnings
+pub mod Marks
 pub mod Newest
 pub mod Over
 pub mod Paying
@@ -17,3 +18,4 @@ pub mod Moving
 pub mod PlainBytes
 pub mod ControlNames
 pub mod RequestLines
+pub mod Interpolated

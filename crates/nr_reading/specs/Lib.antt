@@ -9,6 +9,7 @@ pub mod Delimiting
 pub mod InArgument
 pub mod InDefinition
 pub mod InText
+pub mod Interpolations
 pub mod Keeping
 pub mod LineBeginnings
 pub mod Meeting

@@ -393,7 +393,7 @@ impl Half {
     }
 
     /// What a byte in front does, as a part of a loop.
-    #[inline]
+    #[inline(always)]
     pub(crate) fn meet_byte(&mut self, byte: u8) -> Seen
         ensures meets { met self.new result ≡ meet (fronts.Byte byte) self.old }
         ensures pays { self.old.reading.due ≡ Due.Look → PaysFor (fronts.Byte byte) self.old self.new result }

@@ -4,7 +4,7 @@
 //! `delimited`, `asks`; `escape`, `step`; a file for each group of modes, `text`, `text_escape`, `titles`,
 //! `control`, `strings`, `definitions`, `conditions`, `skipping`; `reader`, which puts them together, and
 //! `half`, where an item is met; `seeking`, `conditionals` and `setting`, what comes from outside; `runs`, many
-//! items at once, with `passing`, `control_names`, `request_lines`, `arguments` and `defined_texts`.
+//! items at once, with `passing`, `control_names`, `interpolations`, `request_lines`, `arguments` and `defined_texts`.
 #![tactic(auto)]
 
 mod answers;
@@ -22,6 +22,7 @@ mod escape;
 mod event;
 mod front;
 mod half;
+mod interpolations;
 mod kept;
 mod mode;
 mod notes;

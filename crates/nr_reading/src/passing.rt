@@ -10,7 +10,7 @@ use super::runs::Items;
 
 // The byte begins no escape, and ends no line.
 #[inline(always)]
-fn is_plain(byte: u8) -> bool
+pub(crate) fn is_plain(byte: u8) -> bool
     ensures { result ≡ is_plain byte }
 {
     !(byte == b'\\' || byte == b'\n')

@@ -3,7 +3,9 @@ ghost use Rattle.std.specs.Prelude.{◌≡◌, ◌<◌, ◌≤◌, ℕ, List, le
 ghost use Rattle.nr_reading.specs.declared.event.Event.TheVariants as events;
 ghost use Rattle.nr_reading.specs.declared.front.Front.{Front as FrontItem};
 ghost use Rattle.nr_reading.specs.declared.front.Front.TheVariants as variants;
+ghost use Rattle.nr_reading.specs.declared.half.Half.{Half as HalfRead};
 ghost use Rattle.nr_reading.specs.declared.mode.Due.TheVariants as dues;
+ghost use Rattle.nr_reading.specs.Passing.{quiet};
 ghost use Rattle.nr_reading.specs.Runs.{HasMet, spot};
 
 use super::event::Event;
@@ -40,6 +42,12 @@ pub struct Run {
     pub event: Event,
 }
 
+// Whether such a byte behind a `\` interpolates an argument, a register or a string.
+#[inline(always)]
+fn interpolates(byte: Option<u8>) -> bool {
+    matches!(byte, Some(b'$' | b'n' | b'*'))
+}
+
 impl Half {
     /// Bytes are met, up to the first item that is none, the first that tells something, or behind which something is due;
     /// in 65,536 moves at most.
@@ -58,6 +66,40 @@ impl Half {
             };
         }
         self.meet_items(items)
+    }
+
+    // Behind so many items and moves, the interpolation that begins with this byte, if it stands whole in the row.
+    #[inline(always)]
+    fn meet_whole<I: Items>(
+        &mut self,
+        items: &I,
+        byte: u8,
+        taken: usize,
+        moves: usize,
+    ) -> Option<Run>
+        requires due { self.old.reading.due ≡ dues.Look }
+        requires within { taken < length (I.fronts items.now) }
+        requires byte { slice_get (I.fronts items.now) taken ≡ Some (variants.Byte byte) }
+        requires few { moves ≤ 65536 }
+        ensures met { IfSome result (λ run. (h : HalfRead) → HasMet moves (I.fronts items.now) h (quiet taken self.old) → HasMet run.moves (I.fronts items.now) h (spot run self.new)) }
+        ensures few { IfSome result (λ run. run.moves ≤ 65536) }
+        ensures due { IfSome result (λ run. run.event ≡ events.Nothing → self.new.reading.due ≡ dues.Look → ⊥) }
+        ensures left { result ≡ None → self.new ≡ self.old }
+    {
+        if byte != b'\\' || items.count() - taken < 3 || moves + 6 > LONGEST {
+            return None;
+        }
+        if !interpolates(items.byte(taken + 1)) {
+            return None;
+        }
+        let Some(run) = self.meet_interpolation(items, taken) else {
+            return None;
+        };
+        Some(Run {
+            taken: taken + run.taken,
+            moves: moves + run.moves,
+            event: run.event,
+        })
     }
 
     // The same of a row that is not empty.
@@ -88,6 +130,9 @@ impl Half {
             let Some(byte) = items.byte(taken) else {
                 break;
             };
+            if let Some(run) = self.meet_whole(items, byte, taken, moves) {
+                return run;
+            }
             let seen = self.meet_byte(byte);
             moves += 1;
             taken += usize::from(seen.takes);

@@ -53,10 +53,15 @@ fn main(rt: HostRuntime) -> anyhow::Result<()> {
 /// How many of the rows under the limits by default pass. One desk serves them all.
 fn plain_rows<R: Files + AllocGlobal + Print>(rt: &R) -> anyhow::Result<u64> {
     let mut desk = Desk::new(rt.alloc(), Limits::default())?;
+    plain_rows_at(rt, &mut desk)
+}
+
+/// The same at this desk.
+fn plain_rows_at<R: Files + AllocGlobal + Print>(rt: &R, desk: &mut Desk) -> anyhow::Result<u64> {
     let list = fs::read_to_string(rt, "rows")?;
     let mut passed = 0u64;
     for name in list.lines() {
-        if passes(rt, &mut desk, name, "Done")? {
+        if passes(rt, desk, name, "Done")? {
             passed = passed.saturating_add(1);
         }
     }
@@ -72,22 +77,41 @@ fn rows_with_limits<R: Files + AllocGlobal + Print>(rt: &R) -> anyhow::Result<u6
             .split_once(": ")
             .ok_or(anyhow::anyhow!("no end: {line}"))?;
         let (name, words) = row.split_once(' ').unwrap_or((row, ""));
-        let mut desk = Desk::new(rt.alloc(), limits_of(words)?)?;
-        if passes(rt, &mut desk, name, end)? {
+        if passes_under(rt, limits_of(words)?, name, end)? {
             passed = passed.saturating_add(1);
         }
     }
     Ok(passed)
 }
 
+/// Whether a row under these limits gives its pages and ends so.
+fn passes_under<R: Files + AllocGlobal + Print>(
+    rt: &R,
+    limits: Limits,
+    name: &str,
+    end: &str,
+) -> anyhow::Result<bool> {
+    let mut desk = Desk::new(rt.alloc(), limits)?;
+    passes(rt, &mut desk, name, end)
+}
+
 /// How many of the rows of tables pass.
 fn rows_of_tables<R: Files + AllocGlobal + Print>(rt: &R) -> anyhow::Result<u64> {
-    let mut desk = Desk::new(rt.alloc(), Limits::default())?;
     let mut turner = Turner::new(rt.alloc())?;
+    let mut desk = Desk::new(rt.alloc(), Limits::default())?;
+    rows_of_tables_at(rt, &mut desk, &mut turner)
+}
+
+/// The same at this desk.
+fn rows_of_tables_at<R: Files + AllocGlobal + Print>(
+    rt: &R,
+    desk: &mut Desk,
+    turner: &mut Turner,
+) -> anyhow::Result<u64> {
     let list = fs::read_to_string(rt, "rows_of_tables")?;
     let mut passed = 0u64;
     for line in list.lines() {
-        if tables::passes(rt, &mut desk, &mut turner, line)? {
+        if tables::passes(rt, desk, turner, line)? {
             passed = passed.saturating_add(1);
         }
     }

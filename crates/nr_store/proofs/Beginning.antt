@@ -16,9 +16,13 @@ use Rattle.nr_store.specs.declared.element.Draft.{Draft}
 use Rattle.nr_store.specs.declared.request.Request.{Request}
 use Rattle.nr_store.specs.declared.request.TheConstants.{REQUESTS}
 use Rattle.nr_store.specs.Senses.{act}
-use Rattle.nr_store.specs.Stored.{Built, weight, level_charge, text_charge, charge_of, charge_beside}
-use Rattle.nr_store.specs.Requests.{name_of, with_senses}
-use Rattle.nr_store.specs.Holders.{Beside, Suffice, acts, built_of, level_of, stored_of, count, values, draft_ids, held_ids, texts_in, IsHeld, AllPay, AreNamed, IsStore}
+use Rattle.nr_levels.specs.Gathered.{Gathered, Gathering, none_gathered}
+use Rattle.nr_tables.specs.declared.trap.Trap.{Trap}
+use Rattle.nr_tables.specs.declared.word.HyphenationWord.{HyphenationWord}
+use Rattle.nr_store.specs.declared.register.Register.{Register}
+use Rattle.nr_store.specs.Stored.{Stored, Built, nothing, weight, level_charge, text_charge, charge_of, charge_beside}
+use Rattle.nr_store.specs.Requests.{name_of, with_senses, request_names}
+use Rattle.nr_store.specs.Holders.{Beside, Suffice, acts, named_means, built_of, level_of, stored_of, beside_of, count, values, draft_ids, held_ids, texts_in, IsHeld, AllPay, AreNamed, IsStore}
 use Rattle.nr_store.proofs.Counting.{count-append}
 use Rattle.nr_store.proofs.Naming.{ones, sum_of, put_sum, put_sum_new, count-values}
 use Rattle.nr_store.proofs.Keeping.{charged_once}
@@ -129,3 +133,41 @@ one_request es i d ns all below before = sym (ap (λ xs. with_senses xs ns) (dro
 
 pub put_few : {X : Type 0} (name : List ℕ) (x : X) (ns : List (Named X)) (n i : ℕ) → length ns ≤ n + i → length (put name x ns) ≤ n + (i + 1)
 put_few name x ns n i few = let one = put_length-le name x ns in omega arith
+
+-- ---- what such a store shows
+
+-- the names of the requests, whatever texts there are
+names_are : (p : Texts Element) → map (named_means p) (with_senses REQUESTS []) ≡ request_names
+names_are p = refl
+
+-- what is shown of these
+shows : {K : Type 0} → Texts Element → List (Named Sense) → List Draft → Levels K → Gathered → List (Named Register) → List Trap → List HyphenationWord → ℕ → Stored K
+shows p ns ds ls g rs ts ws limit = record {
+  names = map (named_means p) ns;
+  building = map (built_of p) ds;
+  levels = map (level_of p) ls.levels;
+  texts = texts_in p ns ls.levels;
+  arguments = ls.arguments;
+  gathered = g;
+  registers = rs;
+  traps = ts;
+  words = map word_in ws;
+  limit = limit;
+  deepest = ls.most;
+}
+
+pub begun : {K : Type 0} (p : Texts Element) (entries : List (Named Sense)) (drafts : Items Draft) (levels : Levels K) (gathering : Gathering) (registers : Table Register) (traps : Items Trap) (words : Items HyphenationWord) (limit room most : ℕ)
+    → entries ≡ with_senses REQUESTS [] → drafts.items ≡ [] → levels ≡ record { levels = []; arguments = []; room = room; most = most } → gathering.gathered ≡ none_gathered → registers.entries ≡ [] → traps.items ≡ [] → words.items ≡ []
+    → stored_of p entries drafts.items levels (beside_of gathering registers traps words) limit ≡ nothing request_names limit most
+unfolding shows
+begun {K = K} p entries drafts levels gathering registers traps words limit room most named no_drafts levels_is no_gathered no_registers no_traps no_words =
+    let base = with_senses REQUESTS [] in
+    let none : Levels K = record { levels = []; arguments = []; room = room; most = most } in
+    ap (λ ns. shows p ns drafts.items levels gathering.gathered registers.entries traps.items words.items limit) named
+    ∙ ap (λ ds. shows p base ds levels gathering.gathered registers.entries traps.items words.items limit) no_drafts
+    ∙ ap (λ (ls : Levels K). shows p base [] ls gathering.gathered registers.entries traps.items words.items limit) levels_is
+    ∙ ap (λ g. shows p base [] none g registers.entries traps.items words.items limit) no_gathered
+    ∙ ap (λ rs. shows p base [] none none_gathered rs traps.items words.items limit) no_registers
+    ∙ ap (λ ts. shows p base [] none none_gathered [] ts words.items limit) no_traps
+    ∙ ap (λ ws. shows p base [] none none_gathered [] [] ws limit) no_words
+    ∙ ap (λ ns. nothing {K = K} ns limit most) (names_are p)

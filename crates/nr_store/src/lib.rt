@@ -18,7 +18,7 @@ pub mod store;
 
 pub use element::{Diversion, Draft, Element};
 pub use height::Height;
-pub use memory::{Memory, Room};
+pub use memory::Room;
 pub use named::{Meaning, Sense};
 pub use nr_tables::{HyphenationWord, Trap};
 pub use refusal::{Refusal, StoredBytes};

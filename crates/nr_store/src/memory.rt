@@ -1,58 +1,35 @@
 //! The memory of a store.
 ghost use Rattle.std.specs.Prelude.{◌≡◌, ◌+◌, ◌*◌, ◌/◌, min};
 
-use crate::element::{Draft, Element};
-use crate::named::Sense;
-use crate::register::Register;
-use nr_levels::{Frame, Span};
-use nr_pool::Slot;
-use nr_tables::{Entry, HyphenationWord, Trap};
-
-/// The slices that a store lies over.
-#[derive(Drop)]
-pub struct Memory<'a, K: Copy> {
-    /// The elements of all texts.
-    pub elements: &'a mut [Element],
-    /// Where each text lies.
-    pub slots: &'a mut [Slot],
-    /// The name list.
-    pub names: &'a mut [Entry<Sense>],
-    /// The texts being built.
-    pub drafts: &'a mut [Draft],
-    /// The levels.
-    pub frames: &'a mut [Frame<K>],
-    /// The bytes that levels bring.
-    pub bytes: &'a mut [u8],
-    /// The places of arguments.
-    pub places: &'a mut [Span],
-    /// The bytes of arguments that are being read.
-    pub gathering: &'a mut [u8],
-    /// The registers.
-    pub registers: &'a mut [Entry<Register>],
-    /// The traps.
-    pub traps: &'a mut [Trap],
-    /// The hyphenation words.
-    pub words: &'a mut [HyphenationWord],
-}
-
-/// The least lengths of a store's slices.
+/// How many there is room for of each.
 #[derive(Clone, Copy)]
 pub struct Room {
+    /// The elements of all texts.
     pub elements: usize,
+    /// Where each text lies.
     pub slots: usize,
+    /// The name list.
     pub names: usize,
+    /// The texts being built.
     pub drafts: usize,
+    /// The levels.
     pub frames: usize,
+    /// The bytes that levels bring.
     pub bytes: usize,
+    /// The places of arguments.
     pub places: usize,
+    /// The bytes of arguments that are being read.
     pub gathering: usize,
+    /// The registers.
     pub registers: usize,
+    /// The traps.
     pub traps: usize,
+    /// The hyphenation words.
     pub words: usize,
 }
 
 impl Room {
-    /// The lengths under which a store with this limit, and with so many levels at most, makes only the refusals that it
+    /// The rooms under which a store with this limit, and with so many levels at most, makes only the refusals that it
     /// names.
     pub fn of(limit: u32, deepest: u32) -> Room
         ensures { result ≡ record {

@@ -17,8 +17,8 @@ use crate::named::Sense;
 use crate::register::Register;
 use nr_levels::{Gathering, Levels, Stack};
 use nr_pool::Pool;
+use nr_rooms::FixedVec;
 use nr_tables::{HyphenationWord, Table, Trap};
-use nr_units::slice_vec::SliceVec;
 use std::marker::Model;
 
 /// Names with their requests and texts, texts being built, and levels that read texts, with modes `K` that sprung texts
@@ -26,22 +26,22 @@ use std::marker::Model;
 ///
 /// Clauses see one record of plain lists. Each call makes of it what its definition says, or is refused, and then
 /// nothing has changed. A name is found in as many steps as the logarithm of their number; what comes next of the
-/// levels is found in constant time; no text is copied or moved for a level.
+/// levels is found in constant time; no text is copied or moved for a level. `new` is the only call that allocates.
 #[derive(Drop)]
-pub struct Store<'a, K: Copy> {
-    pool: Pool<'a, Element>,
-    names: Table<'a, Sense>,
-    drafts: Stack<'a, Draft>,
-    levels: Levels<'a, K>,
-    gathering: Gathering<'a>,
-    registers: Table<'a, Register>,
-    traps: SliceVec<'a, Trap>,
-    words: Stack<'a, HyphenationWord>,
+pub struct Store<K: Copy> {
+    pool: Pool<Element>,
+    names: Table<Sense>,
+    drafts: Stack<Draft>,
+    levels: Levels<K>,
+    gathering: Gathering,
+    registers: Table<Register>,
+    traps: FixedVec<Trap>,
+    words: Stack<HyphenationWord>,
     charge: u32,
     stored: u32,
 }
 
-impl<'a, K: Copy> Model for Store<'a, K> {
+impl<K: Copy> Model for Store<K> {
     ghost use Rattle.nr_store.specs.Stored.{Stored};
     ghost use Rattle.nr_store.specs.Holders.{stored_of, IsStore, beside_of};
 
@@ -52,7 +52,7 @@ impl<'a, K: Copy> Model for Store<'a, K> {
     ghost invariant = { λ s. IsStore s.pool s.names s.drafts s.levels (beside_of s.gathering s.registers s.traps s.words) s.charge s.stored };
 }
 
-impl<'a, K: Copy> Store<'a, K> {
+impl<K: Copy> Store<K> {
     /// What all is charged.
     #[inline]
     pub fn charge(&self) -> u32

@@ -1,7 +1,6 @@
-//! What the store keeps beside texts, in slices that are lent: tables of what has a name, traps, hyphenation
-//! words.
+//! What the store keeps beside texts: tables of what has a name, traps, hyphenation words.
 //!
-//! It stands on nr_units. To read: `table`, with `hints` below it; `trap`; `word`.
+//! It stands on nr_units and nr_rooms. To read: `table`, with `hints` below it; `trap`; `word`.
 #![tactic(auto)]
 
 mod hints;

@@ -1,11 +1,12 @@
 //! A table of what has a name.
-ghost use Rattle.std.specs.Prelude.{◌≡◌, ◌<◌, length, [], MatchResult, None};
+ghost use Rattle.std.specs.Prelude.{◌≡◌, ◌<◌, length, [], MatchResult, None, IfOk};
 ghost use Rattle.nr_tables.specs.Named.{find, put, without};
 ghost use Rattle.nr_tables.specs.Rows.{IsSorted, IsFound, IsMissed};
 
 use crate::hints::Hints;
+use nr_rooms::FixedVec;
 use nr_units::Name;
-use nr_units::slice_vec::SliceVec;
+use std::alloc::{AllocError, Global};
 use std::cmp::Ordering;
 use std::marker::Model;
 
@@ -59,17 +60,17 @@ fn place_near<V: Copy>(row: &[Entry<V>], near: usize, name: Name) -> Result<usiz
     }
 }
 
-/// What has a name, in a slice that is lent, in the order of the names. A name is found at once, or in as many steps as
+/// What has a name, with room for a number of names that stays, in the order of the names. A name is found at once, or in as many steps as
 /// the logarithm of the number of names; one that is new or goes moves those behind it at once.
 ///
 /// Clauses see the list of names with their values, and the room, the greatest number of names.
 #[derive(Drop)]
-pub struct Table<'a, V: Copy> {
-    entries: SliceVec<'a, Entry<V>>,
+pub struct Table<V: Copy> {
+    entries: FixedVec<Entry<V>>,
     hints: Hints,
 }
 
-impl<'a, V: Copy> Model for Table<'a, V> {
+impl<V: Copy> Model for Table<V> {
     ghost use Rattle.std.specs.Prelude.{map};
     ghost use Rattle.nr_tables.specs.Rows.{Table, IsSorted, named};
 
@@ -80,15 +81,23 @@ impl<'a, V: Copy> Model for Table<'a, V> {
     ghost invariant = { λ t. IsSorted t.entries.items };
 }
 
-impl<'a, V: Copy> Table<'a, V> {
-    /// No names yet, and room for as many as the slice has.
-    pub fn over(entries: &'a mut [Entry<V>]) -> Self
-        ensures { result ≡ record { entries = []; room = length entries.entry.now } }
+impl<V: Copy> Table<V> {
+    /// No names, and room for so many: `AllocError` where there is no memory for them. No other call allocates.
+    pub fn new(alloc: Global, room: usize) -> Result<Table<V>, AllocError>
+        ensures { IfOk result (λ made. made ≡ record { entries = []; room = room }) }
     {
-        Table {
-            entries: SliceVec::over(entries),
+        Ok(Table {
+            entries: FixedVec::new(alloc, room)?,
             hints: Hints::new(),
-        }
+        })
+    }
+
+    /// Takes all names away.
+    pub fn clear(&mut self)
+        ensures { self.new ≡ record self.old { entries = [] } }
+    {
+        self.entries.clear();
+        self.hints = Hints::new();
     }
 
     /// The number of names.

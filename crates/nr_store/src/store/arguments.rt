@@ -8,7 +8,7 @@ use crate::store::Store;
 use crate::store::names::text_in;
 use nr_units::Name;
 
-impl<'a, K: Copy> Store<'a, K> {
+impl<K: Copy> Store<K> {
     /// Begins to read a macro's arguments: there are none yet.
     pub fn begin_arguments(&mut self)
         ensures { self.new ≡ ungathered self.old }

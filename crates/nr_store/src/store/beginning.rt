@@ -1,21 +1,22 @@
 // A store with nothing but the requests.
-ghost use Rattle.std.specs.Prelude.{◌≡◌, ◌+◌, ◌*◌, ◌/◌, ◌^◌, ◌<◌, ◌≤◌, [], length, min};
+ghost use Rattle.std.specs.Prelude.{◌≡◌, ◌+◌, ◌≤◌, length, IfOk};
 ghost use Rattle.nr_store.specs.declared.request.TheConstants.{REQUESTS};
 ghost use Rattle.nr_store.specs.Stored.{nothing};
 ghost use Rattle.nr_store.specs.Requests.{request_names, with_senses};
 
-use crate::memory::Memory;
+use crate::memory::Room;
 use crate::named::Sense;
 use crate::request::{REQUESTS, Request};
 use crate::store::Store;
 use nr_levels::{Gathering, Levels, Stack};
 use nr_pool::Pool;
+use nr_rooms::FixedVec;
 use nr_tables::Table;
 use nr_units::Name;
-use nr_units::slice_vec::SliceVec;
+use std::alloc::{AllocError, Global};
 
 // Puts these requests under their names.
-fn name_requests(names: &mut Table<'_, Sense>, requests: &[(u8, u8, Request)])
+fn name_requests(names: &mut Table<Sense>, requests: &[(u8, u8, Request)])
     requires room { length names.old.entries + length requests.now ≤ names.old.room }
     ensures { names.new ≡ record names.old { entries = with_senses requests.now names.old.entries } }
 {
@@ -25,54 +26,42 @@ fn name_requests(names: &mut Table<'_, Sense>, requests: &[(u8, u8, Request)])
     }
 }
 
-impl<'a, K: Copy> Store<'a, K> {
-    /// A store under this limit, with the requests under their names and nothing else. There may be as many levels as
-    /// `frames` has places. What stands in the slices is of no account; `Room::of` gives their least lengths.
-    pub fn over(memory: Memory<'a, K>, limit: u32) -> Store<'a, K>
-        requires elements { limit ≤ length memory.elements.now }
-        requires elements_small { length memory.elements.now < 2 ^ 32 }
-        requires slots { limit / 16 ≤ length memory.slots.now }
-        requires slots_small { length memory.slots.now < 2 ^ 32 }
-        requires names { limit / 48 + length REQUESTS ≤ length memory.names.now }
-        requires drafts { limit / 48 ≤ length memory.drafts.now }
-        requires bytes { limit ≤ length memory.bytes.now }
-        requires bytes_small { length memory.bytes.now < 2 ^ 32 }
-        requires places { 9 * min (length memory.frames.now) (limit / 16) ≤ length memory.places.now }
-        requires places_small { length memory.places.now < 2 ^ 32 }
-        requires gathering { limit ≤ length memory.gathering.now }
-        requires gathering_small { length memory.gathering.now < 2 ^ 32 }
-        requires registers { limit / 48 ≤ length memory.registers.now }
-        requires traps { limit / 48 ≤ length memory.traps.now }
-        requires words { limit / 16 ≤ length memory.words.now }
-        ensures { result ≡ nothing request_names limit (length memory.entry.frames.now) }
+impl<K: Copy> Store<K> {
+    /// A store under this limit, with room for so many levels, and with the requests under their names and nothing else:
+    /// `AllocError` where there is not the memory that `Room::of` tells.
+    pub fn new(alloc: Global, limit: u32, deepest: u32) -> Result<Store<K>, AllocError>
+        ensures { IfOk result (λ made. made ≡ nothing request_names limit deepest) }
     {
-        let Memory {
-            elements,
-            slots,
-            names,
-            drafts,
-            frames,
-            bytes,
-            places,
-            gathering,
-            registers,
-            traps,
-            words,
-        } = memory;
-        let mut names = Table::over(names);
+        let room = Room::of(limit, deepest);
+        let mut names = Table::new(alloc, room.names)?;
         name_requests(&mut names, &REQUESTS);
-        let bytes = &mut bytes[..limit as usize];
-        Store {
-            pool: Pool::over(elements, slots),
+        Ok(Store {
+            pool: Pool::new(alloc, room.elements, room.slots)?,
             names,
-            drafts: Stack::over(drafts),
-            levels: Levels::over(frames, bytes, places),
-            gathering: Gathering::over(gathering),
-            registers: Table::over(registers),
-            traps: SliceVec::over(traps),
-            words: Stack::over(words),
+            drafts: Stack::new(alloc, room.drafts)?,
+            levels: Levels::new(alloc, room.bytes, room.frames)?,
+            gathering: Gathering::new(alloc, room.gathering)?,
+            registers: Table::new(alloc, room.registers)?,
+            traps: FixedVec::new(alloc, room.traps)?,
+            words: Stack::new(alloc, room.words)?,
             charge: 0,
             stored: limit,
-        }
+        })
+    }
+
+    /// Takes all away but the requests, which stand under their names.
+    pub fn clear(&mut self)
+        ensures { self.new ≡ nothing request_names self.old.limit self.old.deepest }
+    {
+        self.pool.remove_all();
+        self.names.clear();
+        name_requests(&mut self.names, &REQUESTS);
+        self.drafts.clear();
+        self.levels.clear();
+        self.gathering.clear();
+        self.registers.clear();
+        self.traps.clear();
+        self.words.clear();
+        self.charge = 0;
     }
 }

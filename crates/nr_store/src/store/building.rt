@@ -14,7 +14,7 @@ use nr_tables::Trap;
 use nr_units::Name;
 use nr_units::cell::Cell;
 
-impl<'a, K: Copy> Store<'a, K> {
+impl<K: Copy> Store<K> {
     /// Begins an empty text.
     pub fn begin(&mut self) -> Result<(), StoredBytes>
         ensures answer { result ≡ afforded (begun [] None self.old) tt }

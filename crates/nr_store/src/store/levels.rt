@@ -1,8 +1,8 @@
 // Levels: texts that are being read.
-ghost use Rattle.std.specs.Prelude.{◌≡◌, ◌≤◌, nat_lt, length, OnOk, OnErr, is_some, None, Some};
+ghost use Rattle.std.specs.Prelude.{◌≡◌, ◌+◌, ◌<◌, ◌≤◌, nat_lt, length, true, OnOk, OnErr, is_some, None, Some};
 ghost use Rattle.nr_tables.specs.Named.{find};
 ghost use Rattle.nr_levels.specs.Levels.{argument};
-ghost use Rattle.nr_store.specs.Stored.{checked, words, entered, reading_bytes, shown, left, dropped, emptied};
+ghost use Rattle.nr_store.specs.Stored.{charge_of, checked, words, entered, reading_bytes, shown, left, dropped, emptied};
 ghost use Rattle.nr_store.specs.Windows.{elements_in, rest_of, left_times};
 ghost use Rattle.nr_store.specs.Sights.{Shows, shown_with};
 
@@ -14,7 +14,7 @@ use crate::store::names::{lone_share, text_in};
 use nr_levels::Next;
 use nr_units::Name;
 
-impl<'a, K: Copy> Store<'a, K> {
+impl<K: Copy> Store<K> {
     /// Opens a level that reads the text of a name, with no arguments in force. Answers whether there is one.
     pub fn enter(&mut self, name: Name) -> Result<bool, Refusal>
         ensures answer { let text = words (find name self.old.names) in
@@ -92,6 +92,24 @@ impl<'a, K: Copy> Store<'a, K> {
         self.levels.open_argument(n, charge as u32);
         self.charge += charge as u32;
         Ok(())
+    }
+
+    /// The bytes of the n-th argument, counted from 0; an absent one has none.
+    #[inline]
+    pub fn argument(&self, n: usize) -> &[u8]
+        ensures { result.now ≡ argument self.now.arguments n }
+    {
+        self.levels.argument_bytes(n)
+    }
+
+    /// Whether there may be a level more, and so many bytes more may be charged, those of the level among them.
+    #[inline]
+    pub fn admits(&self, bytes: usize) -> bool
+        ensures charge { result ≡ true → charge_of self.now + bytes ≤ self.now.limit }
+        ensures depth { result ≡ true → length self.now.levels < self.now.deepest }
+    {
+        let room = (self.stored - self.charge) as usize;
+        bytes <= room && !self.levels.is_full()
     }
 
     /// How many arguments are in force.

@@ -17,7 +17,7 @@ use nr_units::cell::Cell;
 const BLOCK: usize = 16;
 
 // Adds blanks to a text.
-fn append_blanks(pool: &mut Pool<'_, Element>, id: Id, n: u32)
+fn append_blanks(pool: &mut Pool<Element>, id: Id, n: u32)
     requires is_open { IsOpen pool.old id }
     requires room { used pool.old + n ≤ pool.old.capacity }
     ensures { pool.new ≡ with_text pool.old id (text pool.old id ++ replicate n blank_cell) }
@@ -66,7 +66,7 @@ fn fill<T: Single>(block: &mut [Element], more: &[T])
 }
 
 // Adds elements to a text, a block at a time.
-pub(super) fn append_all<T: Single>(pool: &mut Pool<'_, Element>, id: Id, more: &[T])
+pub(super) fn append_all<T: Single>(pool: &mut Pool<Element>, id: Id, more: &[T])
     requires is_open { IsOpen pool.old id }
     requires room { used pool.old + length more.now ≤ pool.old.capacity }
     ensures { pool.new ≡ with_text pool.old id (text pool.old id ++ map T.single more.now) }
@@ -82,7 +82,7 @@ pub(super) fn append_all<T: Single>(pool: &mut Pool<'_, Element>, id: Id, more: 
 }
 
 // Adds a line to a text.
-fn append_line(pool: &mut Pool<'_, Element>, id: Id, indent: u32, cells: &[Cell], height: u32)
+fn append_line(pool: &mut Pool<Element>, id: Id, indent: u32, cells: &[Cell], height: u32)
     requires is_open { IsOpen pool.old id }
     requires room { used pool.old + (indent + length cells.now + 1) ≤ pool.old.capacity }
     ensures { pool.new ≡ with_text pool.old id (text pool.old id ++ line_of indent cells.now height) }
@@ -102,7 +102,7 @@ fn with_line(diversion: Option<Diversion>, cells: usize, height: u32) -> Option<
     Some(diversion.with_line(cells, height))
 }
 
-impl<'a, K: Copy> Store<'a, K> {
+impl<K: Copy> Store<K> {
     /// Adds cells to the newest text being built: all of them or, where they can't be afforded, none. Nothing happens where
     /// none is being built.
     pub fn add_cells(&mut self, cells: &[Cell]) -> Result<(), StoredBytes>

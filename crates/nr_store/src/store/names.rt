@@ -14,7 +14,7 @@ use nr_tables::Table;
 use nr_units::Name;
 
 // The number of the text of a name.
-pub(crate) fn text_in(names: &Table<'_, Sense>, name: Name) -> Option<Id>
+pub(crate) fn text_in(names: &Table<Sense>, name: Name) -> Option<Id>
     ensures { result ≡ text_id (find name names.now.entries) }
 {
     let Some(sense) = names.get(name) else {
@@ -28,7 +28,7 @@ pub(crate) fn text_in(names: &Table<'_, Sense>, name: Name) -> Option<Id>
 
 // What is no longer charged for a text where one of those who hold it lets it go: 16 and its length where no other holds
 // it, else nothing. (A name gives back 32 beside it, a level what it is charged itself.)
-pub(crate) fn lone_share(pool: &Pool<'_, Element>, id: Id) -> u32
+pub(crate) fn lone_share(pool: &Pool<Element>, id: Id) -> u32
     requires is_open { IsOpen pool.now id }
     requires small { share (text pool.now id) < 2 ^ 32 }
     ensures { result ≡ lone pool.now id }
@@ -39,7 +39,7 @@ pub(crate) fn lone_share(pool: &Pool<'_, Element>, id: Id) -> u32
     0
 }
 
-impl<'a, K: Copy> Store<'a, K> {
+impl<K: Copy> Store<K> {
     /// What a name stands for.
     pub fn lookup(&self, name: Name) -> Meaning
         ensures { result ≡ meaning_of (find name self.now.names) }

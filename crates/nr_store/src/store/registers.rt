@@ -8,7 +8,7 @@ use crate::register::Register;
 use crate::store::Store;
 use nr_units::{Format, Name};
 
-impl<'a, K: Copy> Store<'a, K> {
+impl<K: Copy> Store<K> {
     /// A register; an undefined one has the value and the step 0, in Arabic digits.
     pub fn register(&self, name: Name) -> Register
         ensures { result ≡ register_of (find name self.now.registers) }

@@ -9,7 +9,7 @@ use nr_tables::HyphenationWord;
 use nr_tables::word::{LONGEST, stem};
 use nr_units::cell::Cell;
 
-impl<'a, K: Copy> Store<'a, K> {
+impl<K: Copy> Store<K> {
     /// Takes a hyphenation word as it is given, with a minus sign in each place where it may be cut (CSTR 54, `.hw`).
     /// One above 64 bytes, minus signs counted, changes nothing.
     pub fn add_word(&mut self, word: &[u8]) -> Result<(), StoredBytes>

@@ -9,19 +9,19 @@ use Rattle.nr_engine.proofs.run.run_in.Goals as goal
 
 pub run-requires-clause-small : goal.run-requires-clause-small
 run-requires-clause-small g c =
-    let new = c.over-engine.ensures in
-    chosen_small c.args.limits (shape c.over-engine.result) (shape c.choose.new.self) new.stored new.expansions new.is_new.formatter c.in-Ok.ensures.chooses.stays
+    let new = c.clear.ensures in
+    chosen_small c.args.limits (shape c.clear.new.self) (shape c.choose.new.self) new.stored new.expansions new.is_new.formatter c.in-Ok.ensures.chooses.stays
 
 pub run-requires-clause-bound : goal.run-requires-clause-bound
 run-requires-clause-bound g c =
-    let new = c.over-engine.ensures in
-    chosen_bound c.args.limits (shape c.over-engine.result) (shape c.choose.new.self) c.choose.new.moves new.is_new.formatter new.is_new.place c.in-Ok.ensures.chooses.stays c.in-Ok.ensures.bound
+    let new = c.clear.ensures in
+    chosen_bound c.args.limits (shape c.clear.new.self) (shape c.choose.new.self) c.choose.new.moves new.is_new.formatter new.is_new.place c.in-Ok.ensures.chooses.stays c.in-Ok.ensures.bound
 
 pub returns-in-Err-clause-answers : goal.returns-in-Err-clause-answers
 returns-in-Err-clause-answers g c = λ supply q.
-    let new = c.over-engine.ensures in
+    let new = c.clear.ensures in
     let s = start c.args.limits c.args.options.now supply in
-    let h = starts c.args.limits c.args.options.now supply (shape c.over-engine.result) new.is_new in
+    let h = starts c.args.limits c.args.options.now supply (shape c.clear.new.self) new.is_new in
     answers c.args.limits s c.choose.new.moves c.in-Err.outcome _ _ refl (c.in-Err.ensures.chooses.chooses (Some supply) (g.W.Sink.held c.args.output.now) s h)
     (few_moves c.args.limits c.choose.new.moves (state_after c.choose.new.moves s).coming.taken c.in-Err.ensures.bound)
 
@@ -33,10 +33,10 @@ returns-in-Err-clause-faults g c = record {
 
 pub returns-in-Ok-clause-answers : goal.returns-in-Ok-clause-answers
 returns-in-Ok-clause-answers g c = λ supply q.
-    let new = c.over-engine.ensures in
+    let new = c.clear.ensures in
     let s = start c.args.limits c.args.options.now supply in
-    let h = starts c.args.limits c.args.options.now supply (shape c.over-engine.result) new.is_new in
+    let h = starts c.args.limits c.args.options.now supply (shape c.clear.new.self) new.is_new in
     let made = c.in-Ok.ensures.chooses.chooses (Some supply) (g.W.Sink.held c.args.output.now) s h in
     let t = state_after c.choose.new.moves s in
     let u = c.run.ensures.travels t (subst (λ x. Holds [] x t (shape c.choose.new.self)) (sym q) made.holds) in
-    answered c.args.limits s c.choose.new.moves c.run.new.moves (shape c.over-engine.result) (shape c.choose.new.self) (Some supply) c.run.result _ _ refl new.is_new.formatter c.in-Ok.ensures.chooses.stays made u
+    answered c.args.limits s c.choose.new.moves c.run.new.moves (shape c.clear.new.self) (shape c.choose.new.self) (Some supply) c.run.result _ _ refl new.is_new.formatter c.in-Ok.ensures.chooses.stays made u

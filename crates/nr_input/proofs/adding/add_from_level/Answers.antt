@@ -41,7 +41,7 @@ returns-clause-read g c = λ k p supply holds.
     let long : length bs ≡ near = omega (arith, bytes, length-map bs elements.Byte, length-take near (rest_of v.levels), c.copy_level-near.ensures.front) in
     let front : AreFront bs (rest_of v.levels) = c.copy_level-near.ensures.bytes ∙ ap (λ n. take n (rest_of v.levels)) (sym long) in
     let fits : charge_of (with_more Argument (take taken bs) v) ≤ v.limit = subst (λ (w : Stored _). charge_of w ≤ w.limit) c.add_front-taken.ensures.added c.add_front-taken.ensures.afforded in
-    let read = level_added taken v k r bs c.requires (omega (arith, many.1)) c.add_front-taken.ensures.front c.add_front-taken.ensures.plain fits p supply holds front in
+    let read = level_added Argument taken v k r bs c.requires (omega (arith, many.1)) c.add_front-taken.ensures.front c.add_front-taken.ensures.plain fits p supply holds front in
     subst (λ (w : Stored _). HasRead (2 * taken) (situation v k r) events.Nothing w r p supply) (sym (c.skip.ensures ∙ ap (λ (w : Stored _). left_times taken w) c.add_front-taken.ensures.added)) read
 
 pub returns-clause-pays : goal.returns-clause-pays
@@ -50,7 +50,7 @@ returns-clause-pays g c = λ p.
     let taken = c.add_front-taken.result in
     let few : taken ≤ length (rest_of c.args.store.now.levels) =
     omega (arith, c.add_front-taken.ensures.front, length-take c.copy_level-near.result c.copy_level-near.new.chunk, c.copy_level-near.ensures.front) in
-    level_added_pays taken (take taken bs) c.args.store.now c.skip.new.self p c.args.reader.now few (c.skip.ensures ∙ ap (λ (w : Stored _). left_times taken w) c.add_front-taken.ensures.added)
+    level_added_pays Argument taken (take taken bs) c.args.store.now c.skip.new.self p c.args.reader.now few (c.skip.ensures ∙ ap (λ (w : Stored _). left_times taken w) c.add_front-taken.ensures.added)
 
 pub returns-then-taken-eq0-clause-longest : goal.returns-then-taken-eq0-clause-longest
 returns-then-taken-eq0-clause-longest g c =

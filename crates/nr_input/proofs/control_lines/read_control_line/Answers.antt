@@ -2,7 +2,6 @@ use Rattle.std.specs.Prelude.{slice_index}
 use Rattle.std.proofs.Common.{◌≡◌, ◌+◌, ◌-◌, ◌<◌, ◌≤◌, length, length-drop, take, drop, map, ap, ◌∙◌, subst, arith}
 use Rattle.std.proofs.lemmas.List.{length-map, take_all}
 use Rattle.nr_reading.specs.declared.front.Front.TheVariants as fronts
-use Rattle.nr_reading.specs.Passing.{quiet}
 use Rattle.nr_reading.specs.Runs.{HasMet, spot}
 use Rattle.nr_reading.specs.declared.half.Half.{Half}
 use Rattle.std.proofs.Common.{Ok}
@@ -11,7 +10,7 @@ use Rattle.nr_input.specs.declared.reader.Reader.{Reader}
 use Rattle.nr_input.specs.Limits.{limits_of}
 use Rattle.nr_input.proofs.LimitsStay.{act_stays}
 use Rattle.nr_input.proofs.ControlLines.{all_read, all_paid}
-use Rattle.nr_input.proofs.RowsRead.{bytes_met, holds_past}
+use Rattle.nr_input.proofs.RowsRead.{holds_past}
 use Rattle.nr_input.proofs.control_lines.read_control_line.Goals.{then-not-matches-via-then-not-matches, then-not-matches-via-else-not-matches+then-not-meet_name}
 use Rattle.nr_input.proofs.control_lines.read_control_line.Goals as goal
 
@@ -24,7 +23,7 @@ returns-clause-read g c = λ k holds.
     let r2 = c.seek-told.new.self in
     let line = c.meet_behind_name-line.result in
     let h3 = c.meet_behind_name-line.new.half in
-    let name = bytes_met 4 bs r.half (quiet 3 h1) (c.meet_name.ensures.met c.if-not-meet_name.false) in
+    let name = c.meet_name.ensures.met c.if-not-meet_name.false in
     let long : 3 ≤ length bs = omega (arith, name.within, length-map bs fronts.Byte) in
     let some : 0 < length bs = omega (arith, long) in
     let next = c.window-bytes.ensures.next some k holds in
@@ -45,7 +44,7 @@ returns-clause-pays g c =
     let r2 = c.seek-told.new.self in
     let line = c.meet_behind_name-line.result in
     let h3 = c.meet_behind_name-line.new.half in
-    let name = bytes_met 4 bs r.half (quiet 3 h1) (c.meet_name.ensures.met c.if-not-meet_name.false) in
+    let name = c.meet_name.ensures.met c.if-not-meet_name.false in
     let rest : take (length bs - 3) (drop 3 bs) ≡ drop 3 bs = take_all (length bs - 3) (drop 3 bs) (omega (arith, length-drop 3 bs)) in
     all_paid c.args.store.now c.seek-told.new.store r r2 bs h1 e name (c.meet_name.ensures.due c.if-not-meet_name.false) c.seek-told.ensures line h3
     (λ silent. subst (λ ys. HasMet line.moves (map fronts.Byte ys) r2.half (spot line h3)) rest (c.meet_behind_name-line.ensures.met silent))

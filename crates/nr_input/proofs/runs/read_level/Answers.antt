@@ -15,6 +15,11 @@ overflow_cast-run g c =
     let run = c.meet_run-run.result in
     omega (arith, taken-le run.moves _ c.args.reader.now.half (spot run c.meet_run-run.new.self) c.meet_run-run.ensures.met, c.meet_run-run.ensures.few)
 
+pub returns-clause-within : goal.returns-clause-within
+returns-clause-within g c =
+    let run = c.meet_run-run.result in
+    omega (arith, taken-le run.moves _ c.args.reader.now.half (spot run c.meet_run-run.new.self) c.meet_run-run.ensures.met, c.meet_run-run.ensures.few)
+
 pub returns-clause-read : goal.returns-clause-read
 returns-clause-read g c = λ k q supply holds.
     let run = c.meet_run-run.result in

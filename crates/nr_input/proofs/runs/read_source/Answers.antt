@@ -3,7 +3,7 @@ use Rattle.std.specs.Prelude.{slice_index}
 use Rattle.std.proofs.lemmas.List.{length-map}
 use Rattle.nr_reading.specs.declared.front.Front.TheVariants as fronts
 use Rattle.nr_reading.specs.Runs.{spot}
-use Rattle.nr_input.proofs.RowsRead.{bytes_met, none_taken, source_read, source_pays, holds_past}
+use Rattle.nr_input.proofs.RowsRead.{none_taken, source_read, source_pays, holds_past}
 use Rattle.nr_input.proofs.Longest.{source_longest}
 use Rattle.nr_input.proofs.runs.read_source.Goals as goal
 
@@ -13,7 +13,7 @@ returns-then-run-eq0-clause-read g c = λ k holds.
     let bs = c.window-bytes.result.now in
     let r = c.args.reader.now in
     let p = spot run c.meet_run-run.new.self in
-    none_taken bs c.args.store.now k r run.moves p c.args.place.now _ c.window-bytes.ensures.levels (λ some. c.window-bytes.ensures.next some k holds) c.if-run-eq0.true (bytes_met run.moves bs r.half p c.meet_run-run.ensures.met) holds
+    none_taken bs c.args.store.now k r run.moves p c.args.place.now _ c.window-bytes.ensures.levels (λ some. c.window-bytes.ensures.next some k holds) c.if-run-eq0.true c.meet_run-run.ensures.met holds
 
 pub returns-then-run-eq0-clause-longest : goal.returns-then-run-eq0-clause-longest
 returns-then-run-eq0-clause-longest g c = λ none unseen.
@@ -22,7 +22,7 @@ returns-then-run-eq0-clause-longest g c = λ none unseen.
     let r = c.args.reader.now in
     let p = spot run c.meet_run-run.new.self in
     source_longest (g.R.Source.at_hand c.args.source.now) bs run.moves c.args.place.now c.args.place.now r (record r { half = p.half }) c.args.store.now p
-    (c.window-bytes.ensures.all unseen none) (bytes_met run.moves bs r.half p c.meet_run-run.ensures.met) c.meet_run-run.ensures.longest refl (omega (arith, c.if-run-eq0.true))
+    (c.window-bytes.ensures.all unseen none) c.meet_run-run.ensures.met c.meet_run-run.ensures.longest refl (omega (arith, c.if-run-eq0.true))
 
 pub returns-clause-read : goal.returns-clause-read
 returns-clause-read g c = λ k holds.
@@ -30,7 +30,7 @@ returns-clause-read g c = λ k holds.
     let bs = c.window-bytes.result.now in
     let r = c.args.reader.now in
     let p = spot run c.meet_run-run.new.self in
-    let met = bytes_met run.moves bs r.half p c.meet_run-run.ensures.met in
+    let met = c.meet_run-run.ensures.met in
     let many : 0 < run.taken = omega (arith, c.if-run-eq0.false) in
     let front : run.taken ≤ length bs = omega (arith, met.within, length-map bs fronts.Byte) in
     let some : 0 < length bs = omega (arith, many, front) in
@@ -44,7 +44,7 @@ returns-clause-pays g c =
     let bs = c.window-bytes.result.now in
     let r = c.args.reader.now in
     let p = spot run c.meet_run-run.new.self in
-    source_pays run.moves (map fronts.Byte bs) c.args.store.now c.args.place.now r p (bytes_met run.moves bs r.half p c.meet_run-run.ensures.met) (slice_index bs (run.taken - 1)) c.pass_run.new.self
+    source_pays run.moves (map fronts.Byte bs) c.args.store.now c.args.place.now r p c.meet_run-run.ensures.met (slice_index bs (run.taken - 1)) c.pass_run.new.self
     (omega (arith, c.if-run-eq0.false)) c.pass_run.ensures
 
 pub returns-clause-longest : goal.returns-clause-longest
@@ -54,4 +54,4 @@ returns-clause-longest g c = λ none unseen.
     let r = c.args.reader.now in
     let p = spot run c.meet_run-run.new.self in
     source_longest (g.R.Source.at_hand c.args.source.now) bs run.moves c.args.place.now c.pass_run.new.self r (record r { half = p.half; burst = 0 }) c.args.store.now p
-    (c.window-bytes.ensures.all unseen none) (bytes_met run.moves bs r.half p c.meet_run-run.ensures.met) c.meet_run-run.ensures.longest refl (ap (λ q. q.taken) c.pass_run.ensures)
+    (c.window-bytes.ensures.all unseen none) c.meet_run-run.ensures.met c.meet_run-run.ensures.longest refl (ap (λ q. q.taken) c.pass_run.ensures)

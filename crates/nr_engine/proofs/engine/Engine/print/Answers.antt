@@ -12,8 +12,8 @@ returns-then-not-has-clause-ok g c = λ s page select formatter.
     let number : to_z w64 (of_z w64 c.from.result) ≡ s.formatter.paper.number =
     wide ∙ c.from.ensures ∙ to_z-of_z w32 c.args.self.now.formatter.paper.number fits ∙ sym (ap (λ f. f.paper.number) formatter)
     in
-    let none : selects c.args.self.now.select.now (to_z w64 (of_z w64 c.from.result)) ≡ false =
-    not_selected c.args.self.now.select.now (to_z w64 (of_z w64 c.from.result)) c.has.result c.has.ensures.1 c.if-not-has.true
+    let none : selects c.args.self.now.select (to_z w64 (of_z w64 c.from.result)) ≡ false =
+    not_selected c.args.self.now.select (to_z w64 (of_z w64 c.from.result)) c.has.result c.has.ensures.1 c.if-not-has.true
     in
     let unprinted : selects s.select s.formatter.paper.number ≡ false = rw (select, sym number) none in
     rw unprinted (Appends-nil (g.W.Sink.held c.args.output.now))

@@ -17,7 +17,7 @@ pub returns : goal.returns
 returns c =
     let e = shape c.args.self.now in
     let rest = c.push.ensures.rest in
-    let e' = record e { formatter = done c.push.new.self.formatter; place = c.push.new.self.place; row = c.push.new.self.row; page = c.push.new.self.page; select = c.push.new.self.select.now } in
+    let e' = record e { formatter = done c.push.new.self.formatter; place = c.push.new.self.place; row = c.push.new.self.row; page = c.push.new.self.page; select = c.push.new.self.select } in
     let comes : ComesQuietly (cell_to outlets.Room c.args.cell) e e' (Ok tt) = λ supply s h.
     let t = cell_to outlets.Room c.args.cell (at e s) in
     let margin : c.margin-blanks.result ≡ margin_in (offset e.formatter + indent e.formatter) s.row =

@@ -1,3 +1,4 @@
+use Rattle.nr_input.proofs.LevelParts.{many_of_all}
 use Rattle.nr_engine.specs.Holding.{shape}
 use Rattle.nr_engine.proofs.ReadRuns.{makes_reading}
 use Rattle.nr_engine.proofs.engine.Engine.read_control_line.Goals as goal
@@ -7,7 +8,7 @@ returns-clause-reads g c =
     let run = c.in-Some.run' in
     record {
       makes = makes_reading run.moves run.event c.read_control_line.new.store c.read_control_line.new.reader c.read_control_line.new.place (shape c.args.self.now) _ _
-          c.requires.next c.in-Some.ensures.read c.in-Some.ensures.pays c.in-Some.ensures.limits c.fit_memory.ensures;
+          c.requires.next c.in-Some.ensures.read (many_of_all run.moves _ _ _ _ _ _ run.event c.in-Some.ensures.pays) c.in-Some.ensures.limits c.fit_memory.ensures;
       failures = c.read_control_line.ensures.failures;
       unfailed = c.read_control_line.ensures.unfailed;
     }

@@ -1,6 +1,9 @@
 use Rattle.nr_engine.specs.Holding.{shape}
-use Rattle.nr_engine.proofs.Travelling.{reading-add}
+use Rattle.nr_engine.proofs.Travelling.{reading-add, reading_in_place}
 use Rattle.nr_engine.proofs.engine.Engine.read_lines.Goals as goal
+
+pub returns-then-is_reading-clause-reads : goal.returns-then-is_reading-clause-reads
+returns-then-is_reading-clause-reads g c = reading_in_place c.read_levels.result (shape c.args.self.now) (shape c.read_levels.new.self) _ _ c.read_levels.ensures.reads
 
 pub returns-in-Empty-clause-reads : goal.returns-in-Empty-clause-reads
 returns-in-Empty-clause-reads g c =

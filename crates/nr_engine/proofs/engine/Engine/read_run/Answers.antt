@@ -1,3 +1,4 @@
+use Rattle.nr_input.proofs.LevelParts.{many_of_all}
 use Rattle.nr_engine.specs.Holding.{shape}
 use Rattle.nr_engine.proofs.ReadRuns.{makes_reading}
 use Rattle.nr_engine.proofs.engine.Engine.read_run.Goals as goal
@@ -8,7 +9,7 @@ returns-clause-reads g c =
     record {
       makes = makes_reading run.moves run.event c.read_next-run.new.store c.read_next-run.new.reader c.read_next-run.new.place (shape c.args.self.now) _ _
           (record { springs = c.reads_next.ensures.springs c.if-not-reads_next.false; event = c.reads_next.ensures.event c.if-not-reads_next.false; task = c.reads_next.ensures.task c.if-not-reads_next.false })
-          c.read_next-run.ensures.read c.read_next-run.ensures.pays c.read_next-run.ensures.limits c.fit_memory.ensures;
+          c.read_next-run.ensures.read (many_of_all run.moves _ _ _ _ _ _ run.event c.read_next-run.ensures.pays) c.read_next-run.ensures.limits c.fit_memory.ensures;
       failures = c.read_next-run.ensures.failures;
       unfailed = c.read_next-run.ensures.unfailed;
     }

@@ -15,20 +15,20 @@ returns c =
     let start = c.len-start.result in
     let room = c.args.self.now.room in
     let r = c.as_slice.result.now in
-    let n = c.with_cells-extent.result.count in
-    let w = c.with_cells-extent.result.written in
-    let r_is : r ≡ items ++ line = c.as_slice.ensures.value ∙ c.lay_pieces.ensures.items in
+    let n = c.of-extent.result.count in
+    let w = c.of-extent.result.written in
+    let r_is : r ≡ items ++ line = c.as_slice.ensures.value ∙ c.lay_line.ensures.items in
     let laid_is : take (length r - start) (drop start r) ≡ line =
     take_rest r start ∙ ap (drop start) r_is ∙ ap (λ k. drop k (items ++ line)) c.len-start.ensures.value ∙ drop-append_seam items line in
-    let extent : IsExtent line n w = subst (λ zs. IsExtent zs n w) laid_is (c.with_cells-extent.ensures [] (c.none.ensures.none, c.none.ensures.blank)) in
+    let extent : IsExtent line n w = subst (λ zs. IsExtent zs n w) laid_is c.of-extent.ensures in
     record {
       set = (
-        c.lay_pieces.ensures.room ∙ ap (λ (v : Row). v.room) c.self.view_is,
+        c.lay_line.ensures.room ∙ ap (λ (v : Row). v.room) c.self.view_is,
         λ cells h.
             let e = c.self.view_is ∙ h in
-            let room_is : c.lay_pieces.new.row.room ≡ room = c.lay_pieces.ensures.room ∙ ap (λ (v : Row). v.room) e in
+            let room_is : c.lay_line.new.row.room ≡ room = c.lay_line.ensures.room ∙ ap (λ (v : Row). v.room) e in
             let own : c.self.inside.cells.room ≡ room = ap (λ (v : Row). v.room) e in
-            same_row c.lay_pieces.ensures.items (ap (λ k. k + n) c.len-start.ensures.value)
+            same_row c.lay_line.ensures.items (ap (λ k. k + n) c.len-start.ensures.value)
             (c.written_behind-self-inside.ensures ∙ ap (λ k. written_behind c.self.inside.written k w) c.len-start.ensures.value) room_is
             ∙ row_laid cells line n w (ap (λ (v : Row). v.kept) e) (ap (λ (v : Row). v.count) e) (ap (λ (v : Row). v.written) e) (omega (arith, c.self.invariant)) (omega (arith, c.if-self-start.false, c.len-start.ensures.value))
             (omega (arith, c.requires.most, c.if-most-room.false, c.room.ensures.value, c.len-start.ensures.value)) extent.0 extent.1

@@ -1,0 +1,87 @@
+//! Rows in memory that a line is laid in at once.
+ghost use Rattle.std.specs.Prelude.{◌≡◌, ◌+◌, ◌<◌, ◌≤◌, ◌^◌, ◌++◌, length, take, replicate};
+ghost use Rattle.nr_units.specs.Items.{Items};
+ghost use Rattle.nr_units.specs.declared.cell.Cell.{Cell as CellValue};
+ghost use Rattle.nr_fill.specs.Slots.{pieces_of, cells_in_slots};
+ghost use Rattle.nr_fill.specs.Spreading.{cells_in_line};
+
+use crate::cutting::{blanks_of, gap_behind};
+use crate::piece::PieceSlot;
+use crate::setting::Extra;
+use nr_rooms::FixedVec;
+use nr_units::cell::Cell;
+use nr_units::slice_vec::SliceVec;
+
+/// Cells in memory, with room for a number of them that stays.
+pub trait CellRow {
+    /// Its cells and its room.
+    ghost Holds: { Self → Items CellValue };
+
+    /// Adds the first n of these cells.
+    fn add_front(&mut self, cells: &[Cell], n: usize)
+        requires front { n ≤ length cells.now }
+        requires room { length (Holds self.old).items + n ≤ (Holds self.old).room }
+        ensures items { (Holds self.new).items ≡ (Holds self.old).items ++ take n cells.now }
+        ensures room { (Holds self.new).room ≡ (Holds self.old).room };
+
+    /// Adds n copies of a cell.
+    fn add_copies(&mut self, cell: Cell, n: usize)
+        requires { length (Holds self.old).items + n ≤ (Holds self.old).room }
+        ensures items { (Holds self.new).items ≡ (Holds self.old).items ++ replicate n cell }
+        ensures room { (Holds self.new).room ≡ (Holds self.old).room };
+}
+
+impl CellRow for FixedVec<Cell> {
+    ghost Holds = { λ row. row };
+
+    #[inline(always)]
+    fn add_front(&mut self, cells: &[Cell], n: usize) {
+        self.extend_front(cells, n);
+    }
+
+    #[inline(always)]
+    fn add_copies(&mut self, cell: Cell, n: usize) {
+        self.extend_copies(cell, n);
+    }
+}
+
+impl CellRow for SliceVec<'_, Cell> {
+    ghost Holds = { λ row. row };
+
+    #[inline(always)]
+    fn add_front(&mut self, cells: &[Cell], n: usize) {
+        self.extend_front(cells, n);
+    }
+
+    #[inline(always)]
+    fn add_copies(&mut self, cell: Cell, n: usize) {
+        self.extend_copies(cell, n);
+    }
+}
+
+/// Sets these pieces as a line in a row that has room for it, behind what stands there.
+pub fn lay_line<R: CellRow>(
+    slots: &[PieceSlot],
+    cells: &[Cell],
+    extra: Extra,
+    row: &mut R,
+)
+    requires some { 0 < length slots.now }
+    requires cells { cells_in_slots slots.now ≤ length cells.now }
+    requires each { extra.each < 2 ^ 62 }
+    requires few { length slots.now < 2 ^ 32 }
+    requires room { length (R.Holds row.old).items + length (cells_in_line extra (pieces_of slots.now cells.now)) ≤ (R.Holds row.old).room }
+    ensures items { (R.Holds row.new).items ≡ (R.Holds row.old).items ++ cells_in_line extra (pieces_of slots.now cells.now) }
+    ensures room { (R.Holds row.new).room ≡ (R.Holds row.old).room }
+{
+    let mut taken = slots[0].len as usize;
+    row.add_front(cells, taken);
+    let mut gap = 1;
+    let others = &slots[1..];
+    for slot in others {
+        row.add_copies(Cell::blank(), blanks_of(slot.join, extra, gap));
+        gap = gap_behind(slot.join, gap);
+        row.add_front(&cells[taken..], slot.len as usize);
+        taken += slot.len as usize;
+    }
+}

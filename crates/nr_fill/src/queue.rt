@@ -1,0 +1,219 @@
+// Items that come in at the end and go out at the front, for which room is taken once.
+ghost use Rattle.std.specs.Prelude.{◌≡◌, ◌+◌, ◌-◌, ◌<◌, ◌≤◌, [], ◌∷◌, ◌++◌, length, map, take, drop, replicate, slice_index, All, IfOk, vec_len, vec_capacity};
+ghost use Rattle.nr_fill.specs.Runs.{IsPlain, run_cell};
+
+use crate::runs::set_plain;
+use nr_rooms::lengthen;
+use nr_units::cell::Cell;
+use std::alloc::{AllocError, Global};
+use std::marker::Model;
+
+/// Items, and room for a number of them that stays; `new` is the only call that allocates. A front that is taken away stays
+/// where it is until it is as long as what is left or its place is needed, so that taking a front costs no more than it had
+/// items.
+#[derive(Drop)]
+pub(crate) struct Queue<T: Copy> {
+    // The items stand from `start` to `end`. What lies beside them is of no account.
+    slots: Vec<T>,
+    start: usize,
+    end: usize,
+    room: usize,
+}
+
+impl<T: Copy> Model for Queue<T> {
+    ghost use Rattle.std.specs.Prelude.{◌≤◌, take, drop, vec_len, vec_capacity};
+    ghost use Rattle.nr_units.specs.Items.{Items};
+
+    ghost Value = { Items T };
+
+    ghost view = { λ q. record { items = drop q.start (take q.end q.slots.items); room = q.room } };
+
+    ghost invariant = { λ q. (q.start ≤ q.end) × ((q.end ≤ vec_len q.slots) × ((vec_len q.slots ≤ q.room) × (q.room ≤ vec_capacity q.slots))) };
+}
+
+/// Where items stand in a vector.
+#[derive(Clone, Copy)]
+struct Span {
+    start: usize,
+    end: usize,
+}
+
+/// Makes sure that there are n free slots behind the items of the span, and tells where they are then.
+#[inline]
+fn make_room<T: Copy>(slots: &mut Vec<T>, room: usize, span: Span, n: usize, item: T) -> Span
+    requires ordered { span.start ≤ span.end }
+    requires within { span.end ≤ vec_len slots.old }
+    requires held { vec_len slots.old ≤ room }
+    requires capacity { room ≤ vec_capacity slots.old }
+    requires room { span.end - span.start + n ≤ room }
+    ensures items { drop result.start (take result.end slots.new.items) ≡ drop span.start (take span.end slots.old.items) }
+    ensures ordered { result.start ≤ result.end }
+    ensures free { result.end + n ≤ vec_len slots.new }
+    ensures held { vec_len slots.new ≤ room }
+    ensures capacity { room ≤ vec_capacity slots.new }
+{
+    if n <= slots.len() - span.end {
+        return span;
+    }
+    move_to_front(slots, room, span, n, item)
+}
+
+/// The same where there are not so many: the items move to the front. Where they and n more would fill more than half of the
+/// slots, there are more slots then, if there is room for more.
+#[cold]
+fn move_to_front<T: Copy>(slots: &mut Vec<T>, room: usize, span: Span, n: usize, item: T) -> Span
+    requires ordered { span.start ≤ span.end }
+    requires within { span.end ≤ vec_len slots.old }
+    requires held { vec_len slots.old ≤ room }
+    requires capacity { room ≤ vec_capacity slots.old }
+    requires room { span.end - span.start + n ≤ room }
+    ensures items { drop result.start (take result.end slots.new.items) ≡ drop span.start (take span.end slots.old.items) }
+    ensures ordered { result.start ≤ result.end }
+    ensures free { result.end + n ≤ vec_len slots.new }
+    ensures held { vec_len slots.new ≤ room }
+    ensures capacity { room ≤ vec_capacity slots.new }
+{
+    slots.copy_within(span.start..span.end, 0);
+    let end = span.end - span.start;
+    let least = (end + n).saturating_mul(2).min(room);
+    lengthen(slots, least, room, item);
+    Span { start: 0, end }
+}
+
+/// Puts the item everywhere.
+fn set_all<T: Copy>(slots: &mut [T], item: T)
+    ensures { slots.new ≡ replicate (length slots.old) item }
+{
+    for slot in slots.iter_mut() {
+        *slot = item;
+    }
+}
+
+impl Queue<Cell> {
+    /// Puts the cells of these bytes at the end, up to the first that is not plain, and tells how many these are.
+    #[inline]
+    pub(crate) fn push_plain(&mut self, under: bool, bytes: &[u8]) -> usize
+        requires { length self.old.items + length bytes.now ≤ self.old.room }
+        ensures front { result ≤ length bytes.now }
+        ensures plain { All IsPlain (take result bytes.now) }
+        ensures stops { result < length bytes.now → ¬ IsPlain (slice_index bytes.now result) }
+        ensures items { self.new.items ≡ self.old.items ++ map (run_cell under) (take result bytes.now) }
+        ensures room { self.new.room ≡ self.old.room }
+    {
+        let span = Span {
+            start: self.start,
+            end: self.end,
+        };
+        let n = bytes.len();
+        let span = make_room(&mut self.slots, self.room, span, n, Cell::blank());
+        let slots = self.slots.as_mut_slice();
+        let count = set_plain(&mut slots[span.end..span.end + n], under, bytes);
+        self.start = span.start;
+        self.end = span.end + count;
+        count
+    }
+}
+
+impl<T: Copy> Queue<T> {
+    /// No items, and room for so many: `AllocError` where there is no memory for them.
+    pub(crate) fn new(alloc: Global, room: usize) -> Result<Queue<T>, AllocError>
+        ensures { IfOk result (λ made. made ≡ record { items = []; room = room }) }
+    {
+        let slots = Vec::with_capacity(alloc, room)?;
+        Ok(Queue {
+            slots,
+            start: 0,
+            end: 0,
+            room,
+        })
+    }
+
+    #[inline]
+    pub(crate) fn len(&self) -> usize
+        ensures value { result ≡ length self.now.items }
+        ensures within { result ≤ self.now.room }
+    {
+        self.end - self.start
+    }
+
+    #[inline]
+    pub(crate) fn as_slice(&self) -> &[T]
+        ensures value { result.now ≡ self.now.items }
+        ensures within { length result.now ≤ self.now.room }
+    {
+        let slots = self.slots.as_slice();
+        &slots[self.start..self.end]
+    }
+
+    #[inline]
+    pub(crate) fn push(&mut self, item: T)
+        requires { length self.old.items < self.old.room }
+        ensures items { self.new.items ≡ self.old.items ++ item ∷ [] }
+        ensures room { self.new.room ≡ self.old.room }
+    {
+        let span = Span {
+            start: self.start,
+            end: self.end,
+        };
+        let span = make_room(&mut self.slots, self.room, span, 1, item);
+        self.slots[span.end] = item;
+        self.start = span.start;
+        self.end = span.end + 1;
+    }
+
+    /// Puts n copies of an item before the item at a place, or at the end.
+    pub(crate) fn insert_copies(&mut self, place: usize, item: T, n: usize)
+        requires within { place ≤ length self.old.items }
+        requires room { length self.old.items + n ≤ self.old.room }
+        ensures items { self.new.items ≡ take place self.old.items ++ replicate n item ++ drop place self.old.items }
+        ensures room { self.new.room ≡ self.old.room }
+    {
+        let span = Span {
+            start: self.start,
+            end: self.end,
+        };
+        let span = make_room(&mut self.slots, self.room, span, n, item);
+        let at = span.start + place;
+        self.slots.copy_within(at..span.end, at + n);
+        let slots = self.slots.as_mut_slice();
+        set_all(&mut slots[at..at + n], item);
+        self.start = span.start;
+        self.end = span.end + n;
+    }
+
+    /// Takes the first n items away.
+    pub(crate) fn remove_front(&mut self, n: usize)
+        requires { n ≤ length self.old.items }
+        ensures items { self.new.items ≡ drop n self.old.items }
+        ensures room { self.new.room ≡ self.old.room }
+    {
+        let start = self.start + n;
+        let left = self.end - start;
+        if start < left {
+            self.start = start;
+            return;
+        }
+        self.slots.copy_within(start..self.end, 0);
+        self.start = 0;
+        self.end = left;
+    }
+
+    /// Takes all items away.
+    pub(crate) fn clear(&mut self)
+        ensures items { self.new.items ≡ [] }
+        ensures room { self.new.room ≡ self.old.room }
+    {
+        self.start = 0;
+        self.end = 0;
+    }
+
+    /// Keeps the first n items.
+    #[inline]
+    pub(crate) fn truncate(&mut self, n: usize)
+        requires { n ≤ length self.old.items }
+        ensures items { self.new.items ≡ take n self.old.items }
+        ensures room { self.new.room ≡ self.old.room }
+    {
+        self.end = self.start + n;
+    }
+}

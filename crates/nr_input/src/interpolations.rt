@@ -1,0 +1,173 @@
+//! Interpolations that are read at once: where all that they bring is only met or added, no level is opened for it.
+ghost use Rattle.std.specs.Prelude.{◌≡◌, ◌+◌, ◌*◌, ◌<◌, ◌≤◌, Option, length, true};
+ghost use Rattle.nr_units.specs.Supply.{Supply};
+ghost use Rattle.nr_store.specs.Stored.{charge_of, reading_bytes};
+ghost use Rattle.nr_store.specs.Windows.{left_times};
+ghost use Rattle.nr_reading.specs.declared.ask.Sign.TheVariants as signs;
+ghost use Rattle.nr_reading.specs.declared.mode.Due.TheVariants as dues;
+ghost use Rattle.nr_input.specs.Coming.{Coming, Reached, HoldsComing};
+ghost use Rattle.nr_input.specs.Interpolations.{IsSplice};
+ghost use Rattle.nr_input.specs.Limits.{limits_of};
+ghost use Rattle.nr_input.specs.Moving.{situation};
+ghost use Rattle.nr_input.specs.Runs.{HasRead, PaysAll, PaysMany};
+
+use super::adding::add_front;
+use super::reader::Reader;
+use super::runs::Row;
+use super::target::Target;
+use nr_reading::{Due, Event, Half, Mode, Run, Sign};
+use nr_store::Store;
+use nr_units::format_number;
+
+/// The most bytes of an interpolation that is read at once.
+const LONGEST: usize = 64;
+
+/// Many moves.
+#[derive(Clone, Copy)]
+pub struct Moved {
+    /// How many.
+    pub moves: usize,
+    /// What the last of them told.
+    pub event: Event,
+}
+
+// Whether bytes are copied: else a level of them is read as text.
+#[inline(always)]
+fn copies(half: &Half) -> bool {
+    !matches!(half.reading.mode, Mode::Text | Mode::Start)
+}
+
+impl Reader {
+    // Whether a level of so many bytes may be opened, and as many bytes be stored of it before its end.
+    #[inline(always)]
+    fn may_splice<K: Copy>(&self, len: usize, store: &Store<K>) -> bool
+        ensures few { result ≡ true → len ≤ 64 }
+        ensures burst { result ≡ true → self.now.burst < self.now.most }
+        ensures charge { result ≡ true → charge_of store.now + (32 + 2 * len) ≤ store.now.limit }
+        ensures depth { result ≡ true → length store.now.levels < store.now.deepest }
+    {
+        len <= LONGEST && self.burst < self.most && store.admits(32 + 2 * len)
+    }
+
+    // Bytes are read as those of a level that brings them: how many, and in how many moves.
+    #[inline(always)]
+    fn read_bytes<K: Copy>(&mut self, bytes: &[u8], store: &mut Store<K>) -> Run
+        requires room { charge_of store.old + (32 + 2 * length bytes.now) ≤ store.old.limit }
+        ensures read { (c : Coming) (p : Reached) (supply : Option Supply) → HoldsComing c p supply →
+            HasRead result.moves (situation (reading_bytes bytes.now store.old) c self.old) result.event (left_times result.taken (reading_bytes bytes.now store.new)) self.new p supply }
+        ensures pays { (p : Reached) → PaysAll result.moves (reading_bytes bytes.now store.old) p self.old result.event (left_times result.taken (reading_bytes bytes.now store.new)) p self.new }
+        ensures within { result.taken ≤ length bytes.now }
+        ensures few { result.moves ≤ 65536 }
+        ensures levels { store.new.levels ≡ store.old.levels }
+        ensures deepest { store.new.deepest ≡ store.old.deepest }
+        ensures room { charge_of store.new + (32 + length bytes.now) ≤ store.new.limit }
+        ensures limits { limits_of store.new self.new ≡ limits_of store.old self.old }
+    {
+        let Some(target) = Target::of(&self.half) else {
+            return self.half.meet_run(&Row::Bytes(bytes));
+        };
+        let taken = add_front(target, &self.half, store, bytes);
+        Run {
+            taken,
+            moves: 2 * taken,
+            event: Event::Nothing,
+        }
+    }
+
+    // Bytes are spliced and read. Where that is all that their level brings, none is opened; else it is opened behind those that were
+    // read. No move where a limit is near.
+    #[inline(never)]
+    fn splice_read<K: Copy>(&mut self, bytes: &[u8], store: &mut Store<K>) -> Moved
+        requires due { IsSplice bytes.now store.old self.old }
+        ensures read { (c : Coming) (p : Reached) (supply : Option Supply) → HoldsComing c p supply → HasRead result.moves (situation store.old c self.old) result.event store.new self.new p supply }
+        ensures pays { (p : Reached) → PaysMany result.moves store.old p self.old result.event store.new p self.new }
+        ensures few { result.moves ≤ 65538 }
+        ensures limits { limits_of store.new self.new ≡ limits_of store.old self.old }
+        ensures reader { result.moves ≡ 0 → self.new ≡ self.old }
+        ensures store { result.moves ≡ 0 → store.new ≡ store.old }
+    {
+        if !self.may_splice(bytes.len(), store) {
+            return Moved {
+                moves: 0,
+                event: Event::Nothing,
+            };
+        }
+        self.burst += 1;
+        self.half.reading.due = Due::Look;
+        let run = self.read_bytes(bytes, store);
+        if run.taken == bytes.len() && matches!(run.event, Event::Nothing) && self.looks() {
+            return Moved {
+                moves: run.moves + 2,
+                event: Event::Nothing,
+            };
+        }
+        let _ = store.enter_bytes(bytes);
+        store.skip(run.taken as u32);
+        Moved {
+            moves: run.moves + 1,
+            event: run.event,
+        }
+    }
+
+    // An argument is spliced.
+    #[inline(always)]
+    fn read_argument<K: Copy>(&mut self, n: u8, store: &mut Store<K>) -> Moved
+        requires due { self.old.half.reading.due ≡ dues.Argument n }
+        ensures read { (c : Coming) (p : Reached) (supply : Option Supply) → HoldsComing c p supply → HasRead result.moves (situation store.old c self.old) result.event store.new self.new p supply }
+        ensures pays { (p : Reached) → PaysMany result.moves store.old p self.old result.event store.new p self.new }
+        ensures few { result.moves ≤ 65538 }
+        ensures limits { limits_of store.new self.new ≡ limits_of store.old self.old }
+        ensures reader { result.moves ≡ 0 → self.new ≡ self.old }
+        ensures store { result.moves ≡ 0 → store.new ≡ store.old }
+    {
+        let bytes = store.argument(usize::from(n));
+        let len = bytes.len();
+        if len > LONGEST {
+            return Moved {
+                moves: 0,
+                event: Event::Nothing,
+            };
+        }
+        let mut chunk = [0; LONGEST];
+        chunk[..len].copy_from_slice(bytes);
+        self.splice_read(&chunk[..len], store)
+    }
+
+    // A register is spliced.
+    #[inline(always)]
+    fn read_register<K: Copy>(&mut self, store: &mut Store<K>) -> Moved
+        requires due { self.old.half.reading.due ≡ dues.Register signs.None }
+        ensures read { (c : Coming) (p : Reached) (supply : Option Supply) → HoldsComing c p supply → HasRead result.moves (situation store.old c self.old) result.event store.new self.new p supply }
+        ensures pays { (p : Reached) → PaysMany result.moves store.old p self.old result.event store.new p self.new }
+        ensures few { result.moves ≤ 65538 }
+        ensures limits { limits_of store.new self.new ≡ limits_of store.old self.old }
+        ensures reader { result.moves ≡ 0 → self.new ≡ self.old }
+        ensures store { result.moves ≡ 0 → store.new ≡ store.old }
+    {
+        let register = store.register(self.half.notes.asked);
+        let text = format_number(i64::from(register.value), register.format);
+        self.splice_read(text.as_slice(), store)
+    }
+
+    /// An argument or a register is spliced where that is due and bytes are copied, and read. No move where that is not due or a limit
+    /// is near.
+    #[inline(always)]
+    pub(crate) fn interpolate_at_once<K: Copy>(&mut self, store: &mut Store<K>) -> Moved
+        ensures read { (c : Coming) (p : Reached) (supply : Option Supply) → HoldsComing c p supply → HasRead result.moves (situation store.old c self.old) result.event store.new self.new p supply }
+        ensures pays { (p : Reached) → PaysMany result.moves store.old p self.old result.event store.new p self.new }
+        ensures few { result.moves ≤ 65538 }
+        ensures limits { limits_of store.new self.new ≡ limits_of store.old self.old }
+        ensures reader { result.moves ≡ 0 → self.new ≡ self.old }
+        ensures store { result.moves ≡ 0 → store.new ≡ store.old }
+    {
+        let due = self.half.reading.due;
+        match due {
+            Due::Argument(n) if copies(&self.half) => self.read_argument(n, store),
+            Due::Register(Sign::None) if copies(&self.half) => self.read_register(store),
+            _ => Moved {
+                moves: 0,
+                event: Event::Nothing,
+            },
+        }
+    }
+}

@@ -1,0 +1,187 @@
+//! What levels bring: many moves in one loop.
+ghost use Rattle.std.specs.Prelude.{◌≡◌, ℕ, ◌*◌, ◌<◌, ◌≤◌, true, false, Option, Some, slice_get};
+ghost use Rattle.nr_units.specs.Supply.{Supply};
+ghost use Rattle.nr_reading.specs.declared.event.Event.TheVariants as events;
+ghost use Rattle.nr_reading.specs.declared.mode.Due.TheVariants as dues;
+ghost use Rattle.nr_store.specs.Stored.{shown};
+ghost use Rattle.nr_store.specs.Windows.{rest_of};
+ghost use Rattle.nr_store.specs.declared.element.Element.TheVariants as elements;
+ghost use Rattle.nr_store.specs.declared.shown.Shown.TheVariants as shows;
+ghost use Rattle.nr_input.specs.declared.reader.Reader.{Reader as ReaderValue};
+ghost use Rattle.nr_input.specs.Coming.{Coming, Reached, HoldsComing};
+ghost use Rattle.nr_input.specs.Levels.{may_act};
+ghost use Rattle.nr_input.specs.Limits.{limits_of};
+ghost use Rattle.nr_input.specs.Moving.{situation};
+ghost use Rattle.nr_input.specs.Runs.{HasRead, PaysMany, StopsInLevel, IsLongestInLevel, IsLongestUpToText};
+
+use super::interpolations::Moved;
+use super::level_lines::read_level_line;
+use super::reader::Reader;
+use super::runs::read_run_of_level;
+use nr_reading::{Due, Event, Mode, Run};
+use nr_store::{Sight, Store};
+
+/// The most rows, ends of levels and dues in one call.
+const MOST_PARTS: u32 = 4096;
+
+impl Reader {
+    // What is due may be done at once: no blank of a line's beginning is told by it, and there may be a splice more.
+    #[inline(always)]
+    fn may_act(&self) -> bool
+        ensures { result ≡ may_act self.now }
+    {
+        match self.half.reading.due {
+            Due::Look | Due::Lead(_) | Due::Expanded => false,
+            _ => self.burst < self.most,
+        }
+    }
+}
+
+// What is due is done, where it may be done at once and is not refused.
+#[inline(always)]
+fn do_due<K: Copy>(reader: &mut Reader, store: &mut Store<K>) -> Moved
+    ensures read { (c : Coming) (p : Reached) (supply : Option Supply) → HoldsComing c p supply → HasRead result.moves (situation store.old c reader.old) result.event store.new reader.new p supply }
+    ensures pays { (p : Reached) → PaysMany result.moves store.old p reader.old result.event store.new p reader.new }
+    ensures few { result.moves ≤ 1 }
+    ensures limits { limits_of store.new reader.new ≡ limits_of store.old reader.old }
+    ensures left { result.moves ≡ 0 → reader.new ≡ reader.old }
+{
+    if !reader.may_act() {
+        return Moved {
+            moves: 0,
+            event: Event::Nothing,
+        };
+    }
+    match reader.act(store) {
+        Ok(event) => Moved { moves: 1, event },
+        Err(_) => Moved {
+            moves: 0,
+            event: Event::Nothing,
+        },
+    }
+}
+
+// What is due is done, where it may be done at once and is not refused: an argument or a register that is spliced where bytes are
+// copied is read with no level opened for it.
+#[inline(always)]
+fn act<K: Copy>(reader: &mut Reader, store: &mut Store<K>) -> Moved
+    ensures read { (c : Coming) (p : Reached) (supply : Option Supply) → HoldsComing c p supply → HasRead result.moves (situation store.old c reader.old) result.event store.new reader.new p supply }
+    ensures pays { (p : Reached) → PaysMany result.moves store.old p reader.old result.event store.new p reader.new }
+    ensures few { result.moves ≤ 65538 }
+    ensures limits { limits_of store.new reader.new ≡ limits_of store.old reader.old }
+    ensures left { result.moves ≡ 0 → reader.new ≡ reader.old }
+{
+    let spliced = reader.interpolate_at_once(store);
+    if spliced.moves > 0 {
+        return spliced;
+    }
+    do_due(reader, store)
+}
+
+// Whether the end of the newest level comes next.
+#[inline(always)]
+fn ends<K: Copy>(store: &Store<K>) -> bool
+    ensures { result ≡ true → shown store.now.levels ≡ shows.End }
+{
+    matches!(store.look(), Sight::End)
+}
+
+// The end of the newest level is taken, if it comes next: it does nothing to what is half read. Tells whether it was.
+#[inline(always)]
+fn end_level<K: Copy>(store: &mut Store<K>, mode: &mut K) -> bool
+    ensures read { result ≡ true → (c : Coming) (p : Reached) (r : ReaderValue) (supply : Option Supply) → r.half.reading.due ≡ dues.Look → HoldsComing c p supply → HasRead 1 (situation store.old c r) events.Nothing store.new r p supply }
+    ensures pays { result ≡ true → (p : Reached) (r : ReaderValue) → r.half.reading.due ≡ dues.Look → PaysMany 1 store.old p r events.Nothing store.new p r }
+    ensures limits { (r : ReaderValue) → limits_of store.new r ≡ limits_of store.old r }
+    ensures left { result ≡ false → store.new ≡ store.old }
+{
+    if !ends(store) {
+        return false;
+    }
+    store.take(mode);
+    true
+}
+
+// The items in front of the newest level are read, those of a control line with its name.
+#[inline(always)]
+fn read_front<K: Copy>(reader: &mut Reader, store: &mut Store<K>) -> Run
+    ensures read { (c : Coming) (p : Reached) (supply : Option Supply) → HoldsComing c p supply → HasRead result.moves (situation store.old c reader.old) result.event store.new reader.new p supply }
+    ensures pays { (p : Reached) → PaysMany result.moves store.old p reader.old result.event store.new p reader.new }
+    ensures few { result.moves ≤ 65541 }
+    ensures limits { limits_of store.new reader.new ≡ limits_of store.old reader.old }
+    ensures longest { IsLongestInLevel result.moves store.old reader.old result.event store.new reader.new }
+{
+    match reader.half.reading.mode {
+        Mode::Start => read_level_line(reader, store),
+        _ => read_run_of_level(reader, store),
+    }
+}
+
+// Whether no move was made for the items in front, and an item is looked at next.
+#[inline(always)]
+fn made_none(run: Run, reader: &Reader) -> bool
+    ensures moves { result ≡ true → run.moves ≡ 0 }
+    ensures event { result ≡ true → run.event ≡ events.Nothing }
+    ensures due { result ≡ true → reader.now.half.reading.due ≡ dues.Look }
+{
+    run.moves == 0 && matches!(run.event, Event::Nothing) && reader.looks()
+}
+
+// What comes next of the levels: what is due, items that lie in a row, or the end of a level.
+#[inline(always)]
+fn read_part<K: Copy>(reader: &mut Reader, store: &mut Store<K>, mode: &mut K) -> Moved
+    ensures read { (c : Coming) (p : Reached) (supply : Option Supply) → HoldsComing c p supply → HasRead result.moves (situation store.old c reader.old) result.event store.new reader.new p supply }
+    ensures pays { (p : Reached) → PaysMany result.moves store.old p reader.old result.event store.new p reader.new }
+    ensures few { result.moves ≤ 65541 }
+    ensures limits { limits_of store.new reader.new ≡ limits_of store.old reader.old }
+    ensures some { (b : ℕ) → slice_get (rest_of store.old.levels) 0 ≡ Some (elements.Byte b) → reader.old.half.reading.due ≡ dues.Look → 0 < result.moves }
+    ensures stops { result.moves ≡ 0 → StopsInLevel 0 result.event store.new reader.new }
+{
+    if !matches!(reader.half.reading.due, Due::Look) {
+        return act(reader, store);
+    }
+    let run = read_front(reader, store);
+    if made_none(run, reader) && end_level(store, mode) {
+        return Moved {
+            moves: 1,
+            event: Event::Nothing,
+        };
+    }
+    Moved {
+        moves: run.moves,
+        event: run.event,
+    }
+}
+
+/// What levels bring is read, up to what tells something and to a text line: control lines, the lines of requests, conditions, strings
+/// and arguments with what is spliced into them, ends of levels, and what is due. The mode behind a sprung text is left; `mode` is of
+/// no account.
+#[inline(never)]
+pub fn read_levels<K: Copy>(reader: &mut Reader, store: &mut Store<K>, mode: &mut K) -> Moved
+    ensures read { (c : Coming) (p : Reached) (supply : Option Supply) → HoldsComing c p supply → HasRead result.moves (situation store.old c reader.old) result.event store.new reader.new p supply }
+    ensures pays { (p : Reached) → PaysMany result.moves store.old p reader.old result.event store.new p reader.new }
+    ensures few { result.moves ≤ 65541 * 4096 }
+    ensures limits { limits_of store.new reader.new ≡ limits_of store.old reader.old }
+    ensures longest { IsLongestUpToText result.moves store.old reader.old result.event store.new reader.new }
+{
+    let mut moves = 0;
+    for _ in 0..MOST_PARTS {
+        let part = read_part(reader, store, mode);
+        moves += part.moves;
+        if part.moves == 0 || !matches!(part.event, Event::Nothing) {
+            return Moved {
+                moves,
+                event: part.event,
+            };
+        }
+        if reader.half.is_in_text() {
+            return Moved {
+                moves,
+                event: Event::Nothing,
+            };
+        }
+    }
+    Moved {
+        moves,
+        event: Event::Nothing,
+    }
+}

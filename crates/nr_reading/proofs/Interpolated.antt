@@ -1,0 +1,289 @@
+-- Interpolations that stand whole in a row, met at once.
+use Rattle.std.specs.Prelude.{slice_get, ◌==◌, ◌||◌, not}
+use Rattle.std.proofs.Common.{◌≡◌, ℕ, ◌+◌, ◌-◌, ◌<◌, ◌≤◌, Bool, true, false, if◌then◌else◌, List, [], ◌∷◌, length, Some, inl, inr, refl, sym, subst, ap, ◌∙◌, arith}
+use Rattle.std.proofs.lemmas.Bool.{cases_Bool, and_parts, not-true, le-leb, ne_eqb}
+use Rattle.nr_reading.specs.declared.ask.Ask.{Ask}
+use Rattle.nr_reading.specs.declared.ask.Kind.{Kind}
+use Rattle.nr_reading.specs.declared.ask.Kind.TheVariants as kinds
+use Rattle.nr_reading.specs.declared.ask.Sign.TheVariants as signs
+use Rattle.nr_reading.specs.declared.ask.Stage.TheVariants as stages
+use Rattle.nr_reading.specs.declared.event.Event.{Event}
+use Rattle.nr_reading.specs.declared.event.Event.TheVariants as events
+use Rattle.nr_reading.specs.declared.front.Front.{Front}
+use Rattle.nr_reading.specs.declared.front.Front.TheVariants as fronts
+use Rattle.nr_reading.specs.declared.half.Half.{Half}
+use Rattle.nr_reading.specs.declared.mode.Due.{Due}
+use Rattle.nr_reading.specs.declared.mode.Due.TheVariants as dues
+use Rattle.nr_reading.specs.declared.mode.Escape.{Escape}
+use Rattle.nr_reading.specs.declared.mode.Escape.TheVariants as escapes
+use Rattle.nr_reading.specs.declared.mode.Mode.{Mode}
+use Rattle.nr_reading.specs.declared.mode.Mode.TheVariants as modes
+use Rattle.nr_reading.specs.declared.mode.Signs.{Signs}
+use Rattle.nr_reading.specs.declared.notes.Notes.{Notes}
+use Rattle.nr_reading.specs.Asking.{begun_ask, at_stage, with_byte, is_given, due_of, event_of}
+use Rattle.nr_reading.specs.Delimiting.{Texts}
+use Rattle.nr_reading.specs.Interpolations.{interpolates_in, interpolates, is_lone_name, is_named, begun, named}
+use Rattle.nr_reading.specs.Meeting.{meet, reads_plainly, reads_plainly_at}
+use Rattle.nr_reading.specs.Modes.{is_direct, reads_name}
+use Rattle.nr_reading.specs.Passing.{is_plain, quiet}
+use Rattle.nr_reading.specs.Runs.{HasMet}
+use Rattle.nr_reading.proofs.Asked.{half_at}
+use Rattle.nr_reading.proofs.Moving.{met_counted}
+use Rattle.nr_reading.proofs.Paying.{pays_for}
+use Rattle.nr_reading.proofs.PlainBytes.{neither}
+use Rattle.nr_reading.proofs.Weighing.{at}
+
+-- the byte is met and taken, and tells this
+abbrev Tells : ℕ → Half → Half → Event → Type 0
+Tells b h k e = meet (fronts.Byte b) h ≡ record { half = k; event = e; takes = true }
+
+-- ---- bytes of names
+
+-- a byte that begins no escape, and ends no line
+pub record IsApart (b : ℕ) : Type 0 where
+  pub escape : (b == 92) ≡ false
+  pub newline : (b == 10) ≡ false
+
+pub apart : (b : ℕ) → is_plain b ≡ true → IsApart b
+apart b is = let two = neither (b == 92) (b == 10) is in record { escape = two.0; newline = two.1 }
+
+-- a byte that is a name of its own
+pub record IsLone (b : ℕ) : Type 0 where
+  pub escape : (b == 92) ≡ false
+  pub newline : (b == 10) ≡ false
+  pub two : (b == 40) ≡ false
+  pub bracket : (b == 91) ≡ false
+  pub plus : (b == 43) ≡ false
+  pub minus : (b == 45) ≡ false
+
+pub lone : (b : ℕ) → is_lone_name b ≡ true → IsLone b
+lone b is = by (b == 92) (b == 10) (b == 40) (b == 91) (b == 43) (b == 45) refl refl refl refl refl refl is
+  where
+    by : (u v w x y z : Bool) → (b == 92) ≡ u → (b == 10) ≡ v → (b == 40) ≡ w → (b == 91) ≡ x → (b == 43) ≡ y → (b == 45) ≡ z → not (u || v || w || x || y || z) ≡ true → IsLone b
+    by false false false false false false p q r s t u is = record { escape = p; newline = q; two = r; bracket = s; plus = t; minus = u }
+    by u v w x y z p q r s t o is = absurd (let wrong : false ≡ true = is in cc)
+
+-- ---- a `\`, and the byte behind it that says what is asked for
+
+module _ (c n : Bool) (s : Signs) (d : Texts) (o : Notes) where
+  -- with nothing of an escape read; with a `\`; and with this asked
+  abbrev plain_half : Mode → Half
+  plain_half m = half_at (at m escapes.Plain c n) s [] d o
+
+  abbrev escaped_half : Mode → Half
+  escaped_half m = half_at (at m escapes.Begun c n) s [] d o
+
+  abbrev asking_half : Mode → Ask → Half
+  asking_half m a = half_at (at m escapes.Plain c n) s (a ∷ []) d o
+
+  copied_backslash : (m : Mode) → is_direct m ≡ false → Tells 92 (plain_half m) (escaped_half m) events.Nothing
+  copied_backslash m copied = rw copied refl
+
+  backslash : (m : Mode) → interpolates_in m s ≡ true → Tells 92 (plain_half m) (escaped_half m) events.Nothing
+  backslash modes.Text is = refl
+  backslash modes.Start is = let two = neither (92 == s.control) (92 == s.no_break) is in rw (two.0, two.1) refl
+  backslash m is = copied_backslash m (not-true (is_direct m) is)
+
+  copied_argument : (m : Mode) → is_direct m ≡ false → Tells 36 (escaped_half m) (asking_half m (begun_ask kinds.Argument)) events.Nothing
+  copied_argument m copied = elim (cases_Bool (reads_name m)) [ inl name ↦ rw (copied, name) refl | inr other ↦ rw (copied, other) refl ]
+
+  copied_register : (m : Mode) → is_direct m ≡ false → Tells 110 (escaped_half m) (asking_half m (begun_ask (kinds.Register signs.None))) events.Nothing
+  copied_register m copied = elim (cases_Bool (reads_name m)) [ inl name ↦ rw (copied, name) refl | inr other ↦ rw (copied, other) refl ]
+
+  copied_string : (m : Mode) → is_direct m ≡ false → Tells 42 (escaped_half m) (asking_half m (begun_ask kinds.String)) events.Nothing
+  copied_string m copied = elim (cases_Bool (reads_name m)) [ inl name ↦ rw (copied, name) refl | inr other ↦ rw (copied, other) refl ]
+
+  argument_asked : (m : Mode) → interpolates_in m s ≡ true → Tells 36 (escaped_half m) (asking_half m (begun_ask kinds.Argument)) events.Nothing
+  argument_asked modes.Text is = refl
+  argument_asked modes.Start is = refl
+  argument_asked m is = copied_argument m (not-true (is_direct m) is)
+
+  register_asked : (m : Mode) → interpolates_in m s ≡ true → Tells 110 (escaped_half m) (asking_half m (begun_ask (kinds.Register signs.None))) events.Nothing
+  register_asked modes.Text is = refl
+  register_asked modes.Start is = refl
+  register_asked m is = copied_register m (not-true (is_direct m) is)
+
+  string_asked : (m : Mode) → interpolates_in m s ≡ true → Tells 42 (escaped_half m) (asking_half m (begun_ask kinds.String)) events.Nothing
+  string_asked modes.Text is = refl
+  string_asked modes.Start is = refl
+  string_asked m is = copied_string m (not-true (is_direct m) is)
+
+  -- ---- what is asked for
+
+  -- the number of an argument
+  number_ends : (b : ℕ) (m : Mode) → 49 ≤ b → b ≤ 57 → Tells b (asking_half m (begun_ask kinds.Argument)) (half_at (record (at m escapes.Plain c n) { due = dues.Argument (b - 49) }) s [] d o) events.Nothing
+  number_ends b m least most =
+      let escape : (b == 92) ≡ false = ne_eqb b 92 (λ e. omega (arith, e, most)) in
+      let newline : (b == 10) ≡ false = ne_eqb b 10 (λ e. omega (arith, e, least)) in
+      rw (escape, newline, le-leb 49 b least, le-leb b 57 most) refl
+
+  -- a register's sign
+  plus_read : (m : Mode) → Tells 43 (asking_half m (begun_ask (kinds.Register signs.None))) (asking_half m (begun_ask (kinds.Register signs.Plus))) events.Nothing
+  plus_read m = elim (cases_Bool s.long) [ inl long ↦ rw long refl | inr short ↦ rw short refl ]
+
+  minus_read : (m : Mode) → Tells 45 (asking_half m (begun_ask (kinds.Register signs.None))) (asking_half m (begun_ask (kinds.Register signs.Minus))) events.Nothing
+  minus_read m = elim (cases_Bool s.long) [ inl long ↦ rw long refl | inr short ↦ rw short refl ]
+
+  -- a name of one byte
+  lone_ends : (k : Kind) (b : ℕ) (m : Mode) → is_named k ≡ true → IsLone b → Tells b (asking_half m (begun_ask k)) (named k (b ∷ []) (plain_half m)) (event_of k (b ∷ []))
+  lone_ends kinds.String b m is byte = rw (byte.escape, byte.newline, byte.two, byte.bracket, byte.plus, byte.minus) refl
+  lone_ends (kinds.Register s) b m is byte = rw (byte.escape, byte.newline, byte.two, byte.bracket, byte.plus, byte.minus) refl
+  lone_ends k b m is byte = absurd (let wrong : false ≡ true = is in cc)
+
+  -- one of two
+  two_begin : (k : Kind) (m : Mode) → is_named k ≡ true → Tells 40 (asking_half m (begun_ask k)) (asking_half m (at_stage stages.Two (begun_ask k))) events.Nothing
+  two_begin kinds.String m is = refl
+  two_begin (kinds.Register s) m is = refl
+  two_begin k m is = absurd (let wrong : false ≡ true = is in cc)
+
+  first_read : (k : Kind) (a : ℕ) (m : Mode) → is_named k ≡ true → IsApart a
+      → Tells a (asking_half m (at_stage stages.Two (begun_ask k))) (asking_half m (with_byte a (at_stage stages.Two (begun_ask k)))) events.Nothing
+  first_read kinds.String a m is byte = rw (byte.escape, byte.newline) refl
+  first_read (kinds.Register s) a m is byte = rw (byte.escape, byte.newline) refl
+  first_read k a m is byte = absurd (let wrong : false ≡ true = is in cc)
+
+  second_ends : (k : Kind) (a b : ℕ) (m : Mode) → is_named k ≡ true → IsApart b
+      → Tells b (asking_half m (with_byte a (at_stage stages.Two (begun_ask k)))) (named k (a ∷ b ∷ []) (plain_half m)) (event_of k (a ∷ b ∷ []))
+  second_ends kinds.String a b m is byte = rw (byte.escape, byte.newline) refl
+  second_ends (kinds.Register s) a b m is byte = rw (byte.escape, byte.newline) refl
+  second_ends k a b m is byte = absurd (let wrong : false ≡ true = is in cc)
+
+-- ---- in a row
+
+-- one byte more
+tells_more : (k taken b : ℕ) (fs : List Front) (h j new : Half) (e : Event) → HasMet k fs h (quiet taken j) → taken < length fs → j.reading.due ≡ dues.Look → slice_get fs taken ≡ Some (fronts.Byte b) → Tells b j new e
+    → HasMet (k + 1) fs h (record { taken = taken + 1; half = new; event = e })
+tells_more k taken b fs h j new e has within look some tells =
+    met_counted k taken 1 b fs h j new (record { event = e; takes = true }) has within look some (sym tells) (pays_for (fronts.Byte b) j new (record { event = e; takes = true }) (sym tells) look) refl
+
+-- where so many items, that many moves, were met behind a place, and the last told this
+abbrev pub MetBehind : List Front → ℕ → ℕ → Half → Half → Event → Type 0
+MetBehind fs place count old new e = (h : Half) (k : ℕ) → HasMet k fs h (quiet place old) → HasMet (k + count) fs h (record { taken = place + count; half = new; event = e })
+
+-- with nothing asked and nothing due
+plainly : (h : Half) → interpolates h ≡ true → h.reading.due ≡ dues.Look
+    → (h ≡ half_at (at h.reading.mode escapes.Plain h.reading.continued h.reading.no_break) h.signs [] h.delimited h.notes) × (interpolates_in h.reading.mode h.signs ≡ true)
+plainly h is look =
+    let two = and_parts (reads_plainly h) (interpolates_in h.reading.mode h.signs) is in
+    (by h.asks h.reading.escape h.reading.due two.0 look, two.1)
+  where
+    by : (asks : List Ask) (e : Escape) (x : Due) → reads_plainly_at asks e ≡ true → x ≡ dues.Look
+        → half_at (record { mode = h.reading.mode; escape = e; due = x; continued = h.reading.continued; no_break = h.reading.no_break }) h.signs asks h.delimited h.notes
+        ≡ half_at (at h.reading.mode escapes.Plain h.reading.continued h.reading.no_break) h.signs [] h.delimited h.notes
+    by [] escapes.Plain x plain look = rw look refl
+    by [] escapes.Begun x plain look = absurd (let wrong : false ≡ true = plain in cc)
+    by [] escapes.Comment x plain look = absurd (let wrong : false ≡ true = plain in cc)
+    by (a ∷ asks) e x plain look = absurd (let wrong : false ≡ true = plain in cc)
+
+-- the same, counted otherwise, and with what is half read said otherwise
+recount : (x x' y y' : ℕ) (p p' : Half) (e : Event) (fs : List Front) (h : Half) → HasMet x fs h (record { taken = y; half = p; event = e }) → x ≡ x' → y ≡ y' → p ≡ p' → HasMet x' fs h (record { taken = y'; half = p'; event = e })
+recount x x' y y' p p' e fs h has count taken half =
+    subst (λ n. HasMet n fs h (record { taken = y'; half = p'; event = e })) count
+    (subst (λ n. HasMet x fs h (record { taken = n; half = p'; event = e })) taken (subst (λ (q : Half). HasMet x fs h (record { taken = y; half = q; event = e })) half has))
+
+module _ (fs : List Front) (place : ℕ) (j : Half) (is : interpolates j ≡ true) (look : j.reading.due ≡ dues.Look) where
+  abbrev c : Bool
+  c = j.reading.continued
+
+  abbrev n : Bool
+  n = j.reading.no_break
+
+  abbrev there : Half
+  there = plain_half c n j.signs j.delimited j.notes j.reading.mode
+
+  abbrev escaped_there : Half
+  escaped_there = escaped_half c n j.signs j.delimited j.notes j.reading.mode
+
+  abbrev asking_there : Ask → Half
+  asking_there a = asking_half c n j.signs j.delimited j.notes j.reading.mode a
+
+  j_is : j ≡ there
+  j_is = (plainly j is look).0
+
+  in_mode : interpolates_in j.reading.mode j.signs ≡ true
+  in_mode = (plainly j is look).1
+
+  -- the `\` and the byte behind it
+  asked : (k : Kind) (b : ℕ) → place + 1 < length fs → slice_get fs place ≡ Some (fronts.Byte 92) → slice_get fs (place + 1) ≡ Some (fronts.Byte b) → Tells b escaped_there (asking_there (begun_ask k)) events.Nothing
+      → (h : Half) (m : ℕ) → HasMet m fs h (quiet place j) → HasMet (m + 2) fs h (quiet (place + 2) (begun k j))
+  asked k b within first second tells = λ h m has.
+      let one = tells_more m place 92 fs h there escaped_there events.Nothing (subst (λ (x : Half). HasMet m fs h (quiet place x)) j_is has) (omega (arith, within)) refl first (backslash c n j.signs j.delimited j.notes j.reading.mode in_mode) in
+      let two = tells_more (m + 1) (place + 1) b fs h escaped_there (asking_there (begun_ask k)) events.Nothing one within refl second tells in
+      recount (m + 1 + 1) (m + 2) (place + 1 + 1) (place + 2) (asking_there (begun_ask k)) (begun k j) events.Nothing fs h two (omega arith) (omega arith) (ap (begun k) (sym j_is))
+
+  pub argument_met : place + 1 < length fs → slice_get fs place ≡ Some (fronts.Byte 92) → slice_get fs (place + 1) ≡ Some (fronts.Byte 36)
+      → (h : Half) (m : ℕ) → HasMet m fs h (quiet place j) → HasMet (m + 2) fs h (quiet (place + 2) (begun kinds.Argument j))
+  argument_met within first second = asked kinds.Argument 36 within first second (argument_asked c n j.signs j.delimited j.notes j.reading.mode in_mode)
+
+  pub register_met : place + 1 < length fs → slice_get fs place ≡ Some (fronts.Byte 92) → slice_get fs (place + 1) ≡ Some (fronts.Byte 110)
+      → (h : Half) (m : ℕ) → HasMet m fs h (quiet place j) → HasMet (m + 2) fs h (quiet (place + 2) (begun (kinds.Register signs.None) j))
+  register_met within first second = asked (kinds.Register signs.None) 110 within first second (register_asked c n j.signs j.delimited j.notes j.reading.mode in_mode)
+
+  pub string_met : place + 1 < length fs → slice_get fs place ≡ Some (fronts.Byte 92) → slice_get fs (place + 1) ≡ Some (fronts.Byte 42)
+      → (h : Half) (m : ℕ) → HasMet m fs h (quiet place j) → HasMet (m + 2) fs h (quiet (place + 2) (begun kinds.String j))
+  string_met within first second = asked kinds.String 42 within first second (string_asked c n j.signs j.delimited j.notes j.reading.mode in_mode)
+
+  -- one item more of it, where this was asked
+  ask_more : (k k' : Kind) (before b : ℕ) → place + before < length fs → slice_get fs (place + before) ≡ Some (fronts.Byte b) → Tells b (asking_there (begun_ask k)) (asking_there (begun_ask k')) events.Nothing
+      → (h : Half) (m : ℕ) → HasMet (m + before) fs h (quiet (place + before) (begun k j)) → HasMet (m + (before + 1)) fs h (quiet (place + (before + 1)) (begun k' j))
+  ask_more k k' before b within next tells = λ h m has.
+      let one = tells_more (m + before) (place + before) b fs h (asking_there (begun_ask k)) (asking_there (begun_ask k')) events.Nothing
+      (subst (λ (x : Half). HasMet (m + before) fs h (quiet (place + before) x)) (ap (begun k) j_is) has) within refl next tells in
+      recount (m + before + 1) (m + (before + 1)) (place + before + 1) (place + (before + 1)) (asking_there (begun_ask k')) (begun k' j) events.Nothing fs h one (omega arith) (omega arith) (ap (begun k') (sym j_is))
+
+  pub plus_met : place + 2 < length fs → slice_get fs (place + 2) ≡ Some (fronts.Byte 43)
+      → (h : Half) (m : ℕ) → HasMet (m + 2) fs h (quiet (place + 2) (begun (kinds.Register signs.None) j)) → HasMet (m + 3) fs h (quiet (place + 3) (begun (kinds.Register signs.Plus) j))
+  plus_met within next = ask_more (kinds.Register signs.None) (kinds.Register signs.Plus) 2 43 within next (plus_read c n j.signs j.delimited j.notes j.reading.mode)
+
+  pub minus_met : place + 2 < length fs → slice_get fs (place + 2) ≡ Some (fronts.Byte 45)
+      → (h : Half) (m : ℕ) → HasMet (m + 2) fs h (quiet (place + 2) (begun (kinds.Register signs.None) j)) → HasMet (m + 3) fs h (quiet (place + 3) (begun (kinds.Register signs.Minus) j))
+  minus_met within next = ask_more (kinds.Register signs.None) (kinds.Register signs.Minus) 2 45 within next (minus_read c n j.signs j.delimited j.notes j.reading.mode)
+
+  pub number_met : (b : ℕ) → place + 2 < length fs → slice_get fs (place + 2) ≡ Some (fronts.Byte b) → 49 ≤ b → b ≤ 57
+      → (h : Half) (m : ℕ) → HasMet (m + 2) fs h (quiet (place + 2) (begun kinds.Argument j)) → HasMet (m + 3) fs h (quiet (place + 3) (record j { reading = record j.reading { due = dues.Argument (b - 49) } }))
+  number_met b within next least most = λ h m has.
+      let ended : Half = record there { reading = record there.reading { due = dues.Argument (b - 49) } } in
+      let one = tells_more (m + 2) (place + 2) b fs h (asking_there (begun_ask kinds.Argument)) ended events.Nothing
+      (subst (λ (x : Half). HasMet (m + 2) fs h (quiet (place + 2) x)) (ap (begun kinds.Argument) j_is) has) within refl next
+      (number_ends c n j.signs j.delimited j.notes b j.reading.mode least most) in
+      recount (m + 2 + 1) (m + 3) (place + 2 + 1) (place + 3) ended _ events.Nothing fs h one (omega arith) (omega arith)
+      (ap (λ (x : Half). let y : Half = record x { reading = record x.reading { due = dues.Argument (b - 49) } } in y) (sym j_is))
+
+  -- a name
+  module _ (k : Kind) (before : ℕ) (kind : is_named k ≡ true) where
+    begun_there : (h : Half) (m : ℕ) → HasMet (m + before) fs h (quiet (place + before) (begun k j)) → HasMet (m + before) fs h (quiet (place + before) (asking_there (begun_ask k)))
+    begun_there h m has = subst (λ (x : Half). HasMet (m + before) fs h (quiet (place + before) x)) (ap (begun k) j_is) has
+
+    pub lone_met : (b : ℕ) → place + before < length fs → slice_get fs (place + before) ≡ Some (fronts.Byte b) → IsLone b
+        → (h : Half) (m : ℕ) → HasMet (m + before) fs h (quiet (place + before) (begun k j))
+        → HasMet (m + (before + 1)) fs h (record { taken = place + (before + 1); half = named k (b ∷ []) j; event = event_of k (b ∷ []) })
+    lone_met b within next byte = λ h m has.
+        let one = tells_more (m + before) (place + before) b fs h (asking_there (begun_ask k)) (named k (b ∷ []) there) (event_of k (b ∷ [])) (begun_there h m has) within refl next
+        (lone_ends c n j.signs j.delimited j.notes k b j.reading.mode kind byte) in
+        recount (m + before + 1) (m + (before + 1)) (place + before + 1) (place + (before + 1)) (named k (b ∷ []) there) (named k (b ∷ []) j) (event_of k (b ∷ [])) fs h one (omega arith) (omega arith)
+        (ap (named k (b ∷ [])) (sym j_is))
+
+    pub pair_met : (a b : ℕ) → place + (before + 2) < length fs → slice_get fs (place + before) ≡ Some (fronts.Byte 40) → slice_get fs (place + (before + 1)) ≡ Some (fronts.Byte a) → slice_get fs (place + (before + 2)) ≡ Some (fronts.Byte b) → IsApart a → IsApart b
+        → (h : Half) (m : ℕ) → HasMet (m + before) fs h (quiet (place + before) (begun k j))
+        → HasMet (m + (before + 3)) fs h (record { taken = place + (before + 3); half = named k (a ∷ b ∷ []) j; event = event_of k (a ∷ b ∷ []) })
+    pair_met a b within first second third apart_a apart_b = λ h m has.
+        let x1 = asking_there (at_stage stages.Two (begun_ask k)) in
+        let x2 = asking_there (with_byte a (at_stage stages.Two (begun_ask k))) in
+        let at_a : place + before + 1 ≡ place + (before + 1) = omega arith in
+        let at_b : place + before + 1 + 1 ≡ place + (before + 2) = omega arith in
+        let one = tells_more (m + before) (place + before) 40 fs h (asking_there (begun_ask k)) x1 events.Nothing (begun_there h m has) (omega (arith, within)) refl first (two_begin c n j.signs j.delimited j.notes k j.reading.mode kind) in
+        let two = tells_more (m + before + 1) (place + before + 1) a fs h x1 x2 events.Nothing one (omega (arith, within)) refl (ap (slice_get fs) at_a ∙ second) (first_read c n j.signs j.delimited j.notes k a j.reading.mode kind apart_a) in
+        let three = tells_more (m + before + 1 + 1) (place + before + 1 + 1) b fs h x2 (named k (a ∷ b ∷ []) there) (event_of k (a ∷ b ∷ [])) two (omega (arith, within)) refl
+        (ap (slice_get fs) at_b ∙ third) (second_ends c n j.signs j.delimited j.notes k a b j.reading.mode kind apart_b) in
+        recount (m + before + 1 + 1 + 1) (m + (before + 3)) (place + before + 1 + 1 + 1) (place + (before + 3)) (named k (a ∷ b ∷ []) there) (named k (a ∷ b ∷ []) j) (event_of k (a ∷ b ∷ [])) fs h three (omega arith) (omega arith)
+        (ap (named k (a ∷ b ∷ [])) (sym j_is))
+
+-- where nothing is told behind a name something is due
+pub named_waits : (k : Kind) (name : List ℕ) → is_named k ≡ true → event_of k name ≡ events.Nothing → due_of k name ≡ dues.Look → ⊥
+named_waits kinds.String name is silent look = let wrong : ⊥ = cc in wrong
+named_waits (kinds.Register s) name is silent look = by (is_given name) silent look
+  where
+    by : (given : Bool) → (if given then events.Given else events.Nothing) ≡ events.Nothing → (if given then dues.Look else dues.Register s) ≡ dues.Look → ⊥
+    by true silent look = let wrong : ⊥ = cc in wrong
+    by false silent look = let wrong : ⊥ = cc in wrong
+named_waits k name is silent look = let wrong : false ≡ true = is in cc

@@ -1,0 +1,41 @@
+-- Interpolations that stand whole in a row of items (CSTR 54, 7.2, 7.3, 8; the groff manual, Copy Mode).
+use Rattle.std.specs.Prelude.{ℕ, ◌==◌, ◌&&◌, ◌||◌, not, Bool, true, false, List, [], ◌∷◌}
+use Rattle.nr_reading.specs.declared.ask.Kind.{Kind}
+use Rattle.nr_reading.specs.declared.ask.Kind.TheVariants as kinds
+use Rattle.nr_reading.specs.declared.half.Half.{Half}
+use Rattle.nr_reading.specs.declared.mode.Mode.{Mode}
+use Rattle.nr_reading.specs.declared.mode.Mode.TheVariants as modes
+use Rattle.nr_reading.specs.declared.mode.Signs.{Signs}
+use Rattle.nr_reading.specs.Asking.{begun_ask, due_of}
+use Rattle.nr_reading.specs.Meeting.{reads_plainly}
+use Rattle.nr_reading.specs.Modes.{is_direct}
+
+-- a `\` begins an escape there, at a line's beginning where it is no control character; `\$`, `\n` and `\*` interpolate
+abbrev pub interpolates_in : Mode → Signs → Bool
+interpolates_in modes.Text s = true
+interpolates_in modes.Start s = not ((92 == s.control) || (92 == s.no_break))
+interpolates_in m s = not (is_direct m)
+
+abbrev pub interpolates : Half → Bool
+interpolates h = reads_plainly h && interpolates_in h.reading.mode h.signs
+
+-- the byte is a name of its own, where it comes first
+abbrev pub is_lone_name : ℕ → Bool
+is_lone_name b = not ((b == 92) || (b == 10) || (b == 40) || (b == 91) || (b == 43) || (b == 45))
+
+-- the escape asks for a name, of a string or a register
+abbrev pub is_named : Kind → Bool
+is_named kinds.String = true
+is_named (kinds.Register s) = true
+is_named k = false
+
+-- behind `\` and the byte that says what is asked for
+abbrev pub begun : Kind → Half → Half
+begun k h = record h { asks = begun_ask k ∷ [] }
+
+-- behind the name
+abbrev pub named : Kind → List ℕ → Half → Half
+named k name h = record h {
+  reading = record h.reading { due = due_of k name };
+  notes = record h.notes { asked = name };
+}

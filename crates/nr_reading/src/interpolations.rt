@@ -1,0 +1,215 @@
+//! Interpolations that stand whole in a row, met at once.
+ghost use Rattle.std.specs.Prelude.{◌≡◌, ◌+◌, ◌<◌, ◌≤◌, ℕ, length, slice_get, Some, None, IfSome, true};
+ghost use Rattle.nr_reading.specs.declared.ask.Kind.TheVariants as kinds;
+ghost use Rattle.nr_reading.specs.declared.ask.Sign.TheVariants as signs;
+ghost use Rattle.nr_reading.specs.declared.event.Event.TheVariants as events;
+ghost use Rattle.nr_reading.specs.declared.front.Front.TheVariants as variants;
+ghost use Rattle.nr_reading.specs.declared.half.Half.{Half as HalfRead};
+ghost use Rattle.nr_reading.specs.declared.mode.Due.TheVariants as dues;
+ghost use Rattle.nr_reading.specs.Asking.{event_of};
+ghost use Rattle.nr_reading.specs.Interpolations.{interpolates, is_lone_name, is_named, begun, named};
+ghost use Rattle.nr_reading.specs.Passing.{quiet};
+ghost use Rattle.nr_reading.specs.Runs.{HasMet};
+
+use super::ask::{Kind, Sign, is_given};
+use super::event::Event;
+use super::half::Half;
+use super::mode::{Due, Mode};
+use super::passing::is_plain;
+use super::runs::{Items, Run};
+use nr_units::Name;
+
+// The byte is a name of its own, where it comes first.
+#[inline(always)]
+fn is_lone_name(byte: u8) -> bool
+    ensures { result ≡ is_lone_name byte }
+{
+    !(byte == b'\\'
+        || byte == b'\n'
+        || byte == b'('
+        || byte == b'['
+        || byte == b'+'
+        || byte == b'-')
+}
+
+// The byte so many items behind a place of a row, if there is one.
+#[inline(always)]
+fn byte_at<I: Items>(items: &I, place: usize, behind: usize) -> Option<u8>
+    requires { place < length (I.fronts items.now) }
+    ensures value { IfSome result (λ byte. slice_get (I.fronts items.now) (place + behind) ≡ Some (variants.Byte byte)) }
+    ensures within { IfSome result (λ byte. place + behind < length (I.fronts items.now)) }
+{
+    if behind < items.count() - place {
+        return items.byte(place + behind);
+    }
+    None
+}
+
+impl Half {
+    // Whether a `\` in front would begin an escape that may interpolate.
+    #[inline(always)]
+    fn interpolates(&self) -> bool
+        ensures { result ≡ interpolates self.now }
+    {
+        let begins = match self.reading.mode {
+            Mode::Text => true,
+            Mode::Start => !self.signs.begins_control(b'\\'),
+            mode => !mode.is_direct(),
+        };
+        self.reads_plainly() && begins
+    }
+
+    // What is due behind the name of a string or a register. Answers what is told.
+    #[inline(always)]
+    fn end_name(&mut self, kind: Kind, name: Name) -> Event
+        requires kind { is_named kind ≡ true }
+        ensures half { self.new ≡ named kind name self.old }
+        ensures event { result ≡ event_of kind name }
+    {
+        self.notes.asked = name;
+        let Kind::Register(sign) = kind else {
+            self.reading.due = Due::Splice;
+            return Event::Nothing;
+        };
+        if is_given(name.as_bytes()) {
+            self.reading.due = Due::Look;
+            return Event::Given;
+        }
+        self.reading.due = Due::Register(sign);
+        Event::Nothing
+    }
+
+    // The name was read, in so many items of the interpolation.
+    #[inline(always)]
+    fn end_named(&mut self, kind: Kind, name: Name, count: usize) -> Run
+        requires kind { is_named kind ≡ true }
+        ensures half { self.new ≡ named kind name self.old }
+        ensures run { result ≡ record { taken = count; moves = count; event = event_of kind name } }
+    {
+        let event = self.end_name(kind, name);
+        Run {
+            taken: count,
+            moves: count,
+            event,
+        }
+    }
+
+    // The name of a string or a register is met, behind so many items of its interpolation, which begins at a place. None where the
+    // row has not all of it.
+    #[inline(always)]
+    fn meet_named<I: Items>(
+        &mut self,
+        items: &I,
+        place: usize,
+        before: usize,
+        kind: Kind,
+    ) -> Option<Run>
+        requires plain { interpolates self.old ≡ true }
+        requires due { self.old.reading.due ≡ dues.Look }
+        requires kind { is_named kind ≡ true }
+        requires few { before ≤ 3 }
+        requires within { place < length (I.fronts items.now) }
+        ensures met { IfSome result (λ run. (h : HalfRead) (n : ℕ) → HasMet (n + before) (I.fronts items.now) h (quiet (place + before) (begun kind self.old)) →
+            HasMet (n + run.moves) (I.fronts items.now) h (record { taken = place + run.taken; half = self.new; event = run.event })) }
+        ensures few { IfSome result (λ run. run.moves ≤ 6) }
+        ensures taken { IfSome result (λ run. run.taken ≡ run.moves) }
+        ensures within { IfSome result (λ run. place + run.taken ≤ length (I.fronts items.now)) }
+        ensures due { IfSome result (λ run. run.event ≡ events.Nothing → self.new.reading.due ≡ dues.Look → ⊥) }
+        ensures left { result ≡ None → self.new ≡ self.old }
+    {
+        let Some(first) = byte_at(items, place, before) else {
+            return None;
+        };
+        if is_lone_name(first) {
+            return Some(self.end_named(kind, Name::of(&[first]), before + 1));
+        }
+        if first != b'(' {
+            return None;
+        }
+        let Some(one) = byte_at(items, place, before + 1) else {
+            return None;
+        };
+        let Some(two) = byte_at(items, place, before + 2) else {
+            return None;
+        };
+        if !is_plain(one) || !is_plain(two) {
+            return None;
+        }
+        Some(self.end_named(kind, Name::of(&[one, two]), before + 3))
+    }
+
+    // The number of an argument is met.
+    #[inline(always)]
+    fn meet_number<I: Items>(&mut self, items: &I, place: usize) -> Option<Run>
+        requires plain { interpolates self.old ≡ true }
+        requires due { self.old.reading.due ≡ dues.Look }
+        requires within { place < length (I.fronts items.now) }
+        ensures met { IfSome result (λ run. (h : HalfRead) (n : ℕ) → HasMet (n + 2) (I.fronts items.now) h (quiet (place + 2) (begun kinds.Argument self.old)) →
+            HasMet (n + run.moves) (I.fronts items.now) h (record { taken = place + run.taken; half = self.new; event = run.event })) }
+        ensures few { IfSome result (λ run. run.moves ≤ 6) }
+        ensures taken { IfSome result (λ run. run.taken ≡ run.moves) }
+        ensures within { IfSome result (λ run. place + run.taken ≤ length (I.fronts items.now)) }
+        ensures due { IfSome result (λ run. run.event ≡ events.Nothing → self.new.reading.due ≡ dues.Look → ⊥) }
+        ensures left { result ≡ None → self.new ≡ self.old }
+    {
+        let Some(byte) = byte_at(items, place, 2) else {
+            return None;
+        };
+        if byte < b'1' || byte > b'9' {
+            return None;
+        }
+        self.reading.due = Due::Argument(byte - b'1');
+        Some(Run {
+            taken: 3,
+            moves: 3,
+            event: Event::Nothing,
+        })
+    }
+
+    // A register's sign, if it has one, and its name are met.
+    #[inline(always)]
+    fn meet_register<I: Items>(&mut self, items: &I, place: usize) -> Option<Run>
+        requires plain { interpolates self.old ≡ true }
+        requires due { self.old.reading.due ≡ dues.Look }
+        requires within { place < length (I.fronts items.now) }
+        ensures met { IfSome result (λ run. (h : HalfRead) (n : ℕ) → HasMet (n + 2) (I.fronts items.now) h (quiet (place + 2) (begun (kinds.Register signs.None) self.old)) →
+            HasMet (n + run.moves) (I.fronts items.now) h (record { taken = place + run.taken; half = self.new; event = run.event })) }
+        ensures few { IfSome result (λ run. run.moves ≤ 6) }
+        ensures taken { IfSome result (λ run. run.taken ≡ run.moves) }
+        ensures within { IfSome result (λ run. place + run.taken ≤ length (I.fronts items.now)) }
+        ensures due { IfSome result (λ run. run.event ≡ events.Nothing → self.new.reading.due ≡ dues.Look → ⊥) }
+        ensures left { result ≡ None → self.new ≡ self.old }
+    {
+        match byte_at(items, place, 2) {
+            Some(b'+') => self.meet_named(items, place, 3, Kind::Register(Sign::Plus)),
+            Some(b'-') => self.meet_named(items, place, 3, Kind::Register(Sign::Minus)),
+            _ => self.meet_named(items, place, 2, Kind::Register(Sign::None)),
+        }
+    }
+
+    /// An interpolation `\$N`, `\nX`, `\n(XX` or `\*X`, `\*(XX`, with a sign or not, is met at once that begins at this place of a row,
+    /// with a `\`. None where the row has not all of it, or it isn't one of these.
+    #[inline(never)]
+    pub(crate) fn meet_interpolation<I: Items>(&mut self, items: &I, place: usize) -> Option<Run>
+        requires due { self.old.reading.due ≡ dues.Look }
+        requires within { place < length (I.fronts items.now) }
+        requires backslash { slice_get (I.fronts items.now) place ≡ Some (variants.Byte 92) }
+        ensures met { IfSome result (λ run. (h : HalfRead) (n : ℕ) → HasMet n (I.fronts items.now) h (quiet place self.old) →
+            HasMet (n + run.moves) (I.fronts items.now) h (record { taken = place + run.taken; half = self.new; event = run.event })) }
+        ensures few { IfSome result (λ run. run.moves ≤ 6) }
+        ensures taken { IfSome result (λ run. run.taken ≡ run.moves) }
+        ensures within { IfSome result (λ run. place + run.taken ≤ length (I.fronts items.now)) }
+        ensures due { IfSome result (λ run. run.event ≡ events.Nothing → self.new.reading.due ≡ dues.Look → ⊥) }
+        ensures left { result ≡ None → self.new ≡ self.old }
+    {
+        if !self.interpolates() {
+            return None;
+        }
+        match byte_at(items, place, 1) {
+            Some(b'$') => self.meet_number(items, place),
+            Some(b'n') => self.meet_register(items, place),
+            Some(b'*') => self.meet_named(items, place, 2, Kind::String),
+            _ => None,
+        }
+    }
+}

@@ -1,0 +1,234 @@
+//! A vector for which room is taken once.
+ghost use Rattle.std.specs.Prelude.{◌≡◌, ◌+◌, ◌<◌, ◌≤◌, [], ◌∷◌, ◌++◌, length, take, replicate, slice_get, slice_set, Some, IfOk, vec_len, vec_capacity};
+ghost use Rattle.std.specs.List.{insert, remove};
+
+use crate::growing::lengthen;
+use std::alloc::{AllocError, Global};
+use std::marker::Model;
+
+/// How many items are copied at once where no more than so many are added.
+const CHUNK: usize = 8;
+
+/// Items, and room for a number of them that stays. Memory for all of them is taken by `new`, the only call that allocates,
+/// and touched as items come.
+///
+/// Clauses see the items and the room. Each call takes constant time or one move of memory, beside the first touch of
+/// memory.
+#[derive(Drop)]
+pub struct FixedVec<T: Copy> {
+    // The items stand at the front. What lies behind them is of no account.
+    slots: Vec<T>,
+    len: usize,
+    room: usize,
+}
+
+impl<T: Copy> Model for FixedVec<T> {
+    ghost use Rattle.std.specs.Prelude.{◌≤◌, take, vec_len, vec_capacity};
+    ghost use Rattle.nr_units.specs.Items.{Items};
+
+    ghost Value = { Items T };
+
+    ghost view = { λ v. record { items = take v.len v.slots.items; room = v.room } };
+
+    ghost invariant = { λ v. (v.len ≤ vec_len v.slots) × ((vec_len v.slots ≤ v.room) × (v.room ≤ vec_capacity v.slots)) };
+}
+
+impl<T: Copy> FixedVec<T> {
+    /// No items, and room for so many: `AllocError` where there is no memory for them.
+    pub fn new(alloc: Global, room: usize) -> Result<FixedVec<T>, AllocError>
+        ensures { IfOk result (λ made. made ≡ record { items = []; room = room }) }
+    {
+        let slots = Vec::with_capacity(alloc, room)?;
+        Ok(FixedVec {
+            slots,
+            len: 0,
+            room,
+        })
+    }
+
+    /// The number of items.
+    #[inline]
+    pub fn len(&self) -> usize
+        ensures value { result ≡ length self.now.items }
+        ensures within { result ≤ self.now.room }
+    {
+        self.len
+    }
+
+    /// The greatest number of items.
+    #[inline]
+    pub fn room(&self) -> usize
+        ensures value { result ≡ self.now.room }
+        ensures holds { length self.now.items ≤ result }
+    {
+        self.room
+    }
+
+    /// The items.
+    #[inline]
+    pub fn as_slice(&self) -> &[T]
+        ensures value { result.now ≡ self.now.items }
+        ensures within { length result.now ≤ self.now.room }
+    {
+        let slots = self.slots.as_slice();
+        &slots[..self.len]
+    }
+
+    /// The item at a place, counted from 0.
+    #[inline]
+    pub fn get(&self, place: usize) -> T
+        requires { place < length self.now.items }
+        ensures { slice_get self.now.items place ≡ Some result }
+    {
+        self.slots[place]
+    }
+
+    /// Puts another item at a place.
+    #[inline]
+    pub fn set(&mut self, place: usize, item: T)
+        requires { place < length self.old.items }
+        ensures items { self.new.items ≡ slice_set self.old.items place item }
+        ensures room { self.new.room ≡ self.old.room }
+    {
+        self.slots[place] = item;
+    }
+
+    /// Adds an item at the end.
+    #[inline]
+    pub fn push(&mut self, item: T)
+        requires { length self.old.items < self.old.room }
+        ensures items { self.new.items ≡ self.old.items ++ item ∷ [] }
+        ensures room { self.new.room ≡ self.old.room }
+    {
+        let len = self.len;
+        lengthen(&mut self.slots, len + 1, self.room, item);
+        self.slots[len] = item;
+        self.len = len + 1;
+    }
+
+    /// Adds items at the end.
+    #[inline]
+    pub fn extend(&mut self, more: &[T])
+        requires { length self.old.items + length more.now ≤ self.old.room }
+        ensures items { self.new.items ≡ self.old.items ++ more.now }
+        ensures room { self.new.room ≡ self.old.room }
+    {
+        let end = self.len + more.len();
+        fit(&mut self.slots, self.len, more, self.room);
+        let slots = self.slots.as_mut_slice();
+        slots[self.len..end].copy_from_slice(more);
+        self.len = end;
+    }
+
+    /// Adds the first n of these items. A few more are copied than are added where there are places for them on both sides,
+    /// as a copy of a fixed length is the cheapest.
+    #[inline(always)]
+    pub fn extend_front(&mut self, more: &[T], n: usize)
+        requires front { n ≤ length more.now }
+        requires room { length self.old.items + n ≤ self.old.room }
+        ensures items { self.new.items ≡ self.old.items ++ take n more.now }
+        ensures room { self.new.room ≡ self.old.room }
+    {
+        let len = self.len;
+        if n <= CHUNK && more.len() >= CHUNK && self.slots.len() - len >= CHUNK {
+            let slots = self.slots.as_mut_slice();
+            slots[len..len + CHUNK].copy_from_slice(&more[..CHUNK]);
+            self.len = len + n;
+            return;
+        }
+        self.extend(&more[..n]);
+    }
+
+    /// Adds n copies of an item. A few more are written than are added where there are places for them, as with `extend_front`.
+    #[inline(always)]
+    pub fn extend_copies(&mut self, item: T, n: usize)
+        requires { length self.old.items + n ≤ self.old.room }
+        ensures items { self.new.items ≡ self.old.items ++ replicate n item }
+        ensures room { self.new.room ≡ self.old.room }
+    {
+        let len = self.len;
+        if n <= CHUNK && self.slots.len() - len >= CHUNK {
+            let slots = self.slots.as_mut_slice();
+            slots[len..len + CHUNK].copy_from_slice(&[item; CHUNK]);
+            self.len = len + n;
+            return;
+        }
+        lengthen(&mut self.slots, len + n, self.room, item);
+        let slots = self.slots.as_mut_slice();
+        set_all(&mut slots[len..len + n], item);
+        self.len = len + n;
+    }
+
+    /// Puts an item before the one at a place, or at the end.
+    #[inline]
+    pub fn insert(&mut self, place: usize, item: T)
+        requires within { place ≤ length self.old.items }
+        requires room { length self.old.items < self.old.room }
+        ensures items { self.new.items ≡ insert self.old.items place item }
+        ensures room { self.new.room ≡ self.old.room }
+    {
+        let len = self.len;
+        lengthen(&mut self.slots, len + 1, self.room, item);
+        self.slots.copy_within(place..len, place + 1);
+        self.slots[place] = item;
+        self.len = len + 1;
+    }
+
+    /// Takes the item at a place away.
+    #[inline]
+    pub fn remove(&mut self, place: usize)
+        requires { place < length self.old.items }
+        ensures items { self.new.items ≡ remove self.old.items place }
+        ensures room { self.new.room ≡ self.old.room }
+    {
+        let len = self.len;
+        self.slots.copy_within(place + 1..len, place);
+        self.len = len - 1;
+    }
+
+    /// Keeps the first n items.
+    #[inline]
+    pub fn truncate(&mut self, n: usize)
+        requires { n ≤ length self.old.items }
+        ensures items { self.new.items ≡ take n self.old.items }
+        ensures room { self.new.room ≡ self.old.room }
+    {
+        self.len = n;
+    }
+
+    /// Takes all items away.
+    #[inline]
+    pub fn clear(&mut self)
+        ensures items { self.new.items ≡ [] }
+        ensures room { self.new.room ≡ self.old.room }
+    {
+        self.len = 0;
+    }
+}
+
+/// Makes sure that there are places for all these items behind the first `len`.
+#[inline]
+fn fit<T: Copy>(slots: &mut Vec<T>, len: usize, more: &[T], room: usize)
+    requires len { len ≤ vec_len slots.old }
+    requires asked { len + length more.now ≤ room }
+    requires held { vec_len slots.old ≤ room }
+    requires room { room ≤ vec_capacity slots.old }
+    ensures front { take len slots.new.items ≡ take len slots.old.items }
+    ensures least { len + length more.now ≤ vec_len slots.new }
+    ensures held { vec_len slots.new ≤ room }
+    ensures room { room ≤ vec_capacity slots.new }
+{
+    let end = len + more.len();
+    if end > slots.len() {
+        lengthen(slots, end, room, more[0]);
+    }
+}
+
+/// Puts the item everywhere.
+fn set_all<T: Copy>(slots: &mut [T], item: T)
+    ensures { slots.new ≡ replicate (length slots.old) item }
+{
+    for slot in slots.iter_mut() {
+        *slot = item;
+    }
+}

@@ -1,0 +1,59 @@
+use Rattle.std.proofs.Common.{◌≡◌, [], length, map, ap, ◌∙◌, arith}
+use Rattle.std.proofs.lemmas.List.{length-replicate}
+use Rattle.nr_units.specs.Items.{Items}
+use Rattle.nr_pool.specs.Texts.{no_text}
+use Rattle.nr_tables.specs.Rows.{Table}
+use Rattle.nr_tables.specs.Given.{word_in}
+use Rattle.nr_levels.specs.Levels.{Levels}
+use Rattle.nr_levels.specs.Gathered.{Gathering, none_gathered}
+use Rattle.nr_store.specs.declared.element.Element.{Element}
+use Rattle.nr_store.specs.declared.memory.Room.{Room}
+use Rattle.nr_store.specs.declared.request.TheConstants.{REQUESTS}
+use Rattle.nr_store.specs.Stored.{charge_beside}
+use Rattle.nr_store.specs.Requests.{with_senses}
+use Rattle.nr_store.specs.Holders.{beside_of}
+use Rattle.nr_store.proofs.Beginning.{begins_empty, begun}
+use Rattle.nr_store.proofs.store.Store.new.Goals as goal
+
+pub invariant_of-result-2 : goal.invariant_of-result-2
+invariant_of-result-2 g c =
+    let r = c.of-room.result in
+    let n = r.slots in
+    let room_is = c.of-room.ensures in
+    let elements_is = ap (λ (x : Room). x.elements) room_is in
+    let slots_is = ap (λ (x : Room). x.slots) room_is in
+    let names_is = ap (λ (x : Room). x.names) room_is in
+    let drafts_is = ap (λ (x : Room). x.drafts) room_is in
+    let bytes_is = ap (λ (x : Room). x.bytes) room_is in
+    let gathering_is = ap (λ (x : Room). x.gathering) room_is in
+    let registers_is = ap (λ (x : Room). x.registers) room_is in
+    let traps_is = ap (λ (x : Room). x.traps) room_is in
+    let words_is = ap (λ (x : Room). x.words) room_is in
+    let empty = c.in_ok-new.ensures.empty in
+    let capacity = c.in_ok-new.ensures.capacity in
+    let before = c.in_ok-names.ensures in
+    let named = ap (λ (t : Table _). t.entries) c.name_requests.ensures ∙ ap (λ (t : Table _). with_senses REQUESTS t.entries) before in
+    let room = ap (λ (t : Table _). t.room) c.name_requests.ensures ∙ ap (λ (t : Table _). t.room) before in
+    let drafts_room = ap (λ (v : Items _). v.room) c.in_ok-new-2.ensures in
+    let levels_room = ap (λ (v : Levels _). v.room) c.in_ok-new-3.ensures in
+    let gathering_room = ap (λ (v : Gathering). v.room) c.in_ok-new-4.ensures in
+    let registers_room = ap (λ (v : Table _). v.room) c.in_ok-new-5.ensures in
+    let traps_room = ap (λ (v : Items _). v.room) c.in_ok-new-6.ensures in
+    let words_room = ap (λ (v : Items _). v.room) c.in_ok-new-7.ensures in
+    let texts : length c.in_ok-new.field-0.texts ≡ n = ap length empty ∙ length-replicate n (no_text {T = Element}) in
+    let no_words = ap (λ (v : Items _). charge_beside none_gathered [] [] (map word_in v.items)) c.in_ok-new-7.ensures in
+    let no_gathered = ap (λ (v : Gathering). charge_beside v.gathered [] [] []) c.in_ok-new-4.ensures in
+    let no_registers = ap (λ (v : Table _). length v.entries) c.in_ok-new-5.ensures in
+    let no_traps = ap (λ (v : Items _). length v.items) c.in_ok-new-6.ensures in
+    let fits = c.ranges.limit.fits in
+    rw c.names.view_is (begins_empty c.in_ok-new.field-0 c.name_requests.new.names c.in_ok-new-2.field-0 c.in_ok-new-3.field-0 (beside_of c.in_ok-new-4.field-0 c.in_ok-new-5.field-0 c.in_ok-new-6.field-0 c.in_ok-new-7.field-0) c.args.limit n empty named
+    (ap (λ (v : Items _). v.items) c.in_ok-new-2.ensures) (ap (λ (v : Levels _). v.levels) c.in_ok-new-3.ensures) (omega arith)
+    (omega arith) (omega arith) (omega arith) (omega arith) (omega arith) (omega arith) (record { gathering = omega arith; registers = omega arith; traps = omega arith; words = omega arith }))
+
+pub returns : goal.returns
+returns g c =
+    let before = c.in_ok-names.ensures in
+    let named = ap (λ (t : Table _). t.entries) c.names.view_is ∙ ap (λ (t : Table _). t.entries) c.name_requests.ensures ∙ ap (λ (t : Table _). with_senses REQUESTS t.entries) before in
+    begun c.in_ok-new.field-0 _ c.in_ok-new-2.field-0 c.in_ok-new-3.field-0 c.in_ok-new-4.field-0 c.in_ok-new-5.field-0 c.in_ok-new-6.field-0 c.in_ok-new-7.field-0 c.args.limit _ c.args.deepest named
+    (ap (λ (v : Items _). v.items) c.in_ok-new-2.ensures) (c.in_ok-new-3.ensures ∙ ap (λ (x : Room). record { levels = []; arguments = []; room = x.bytes; most = x.frames }) c.of-room.ensures)
+    (ap (λ (v : Gathering). v.gathered) c.in_ok-new-4.ensures) (ap (λ (v : Table _). v.entries) c.in_ok-new-5.ensures) (ap (λ (v : Items _). v.items) c.in_ok-new-6.ensures) (ap (λ (v : Items _). v.items) c.in_ok-new-7.ensures)
