@@ -41,14 +41,21 @@ impl Hints {
         usize::from(self.places[kind_of(name)])
     }
 
-    /// A new name stands here, and those from here on one place further.
-    pub(crate) fn opened(&mut self, name: &Name, at: usize) {
+    /// A new name stands here among so many, and those from here on one place further.
+    pub(crate) fn opened(&mut self, name: &Name, at: usize, names: usize) {
+        if at.saturating_add(1) < names {
+            self.move_on(at);
+        }
+        self.places[kind_of(name)] = at.min(usize::from(u16::MAX)) as u16;
+    }
+
+    // The names from here on stand one place further.
+    fn move_on(&mut self, at: usize) {
         for kind in 0..KINDS {
             if usize::from(self.places[kind]) >= at {
                 self.places[kind] = self.places[kind].saturating_add(1);
             }
         }
-        self.places[kind_of(name)] = at.min(usize::from(u16::MAX)) as u16;
     }
 
     /// The name that stood here is gone, and those behind it stand one place before.

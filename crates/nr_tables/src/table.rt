@@ -134,7 +134,7 @@ impl<V: Copy> Table<V> {
             }
             Err(place) => {
                 self.entries.insert(place, Entry { name, value });
-                self.hints.opened(&name, place);
+                self.hints.opened(&name, place, self.entries.len());
                 None
             }
         }
