@@ -16,6 +16,13 @@ pub mod Weighing
 pub mod Stacked
 pub mod Moving
 pub mod PlainBytes
+pub mod Rows
+pub mod LineRows
+pub mod ConditionRows
+pub mod RequestRows
+pub mod PartRows
+pub mod ArgumentRows
+pub mod StringRows
 pub mod ControlNames
 pub mod RequestLines
 pub mod Interpolated

@@ -1,6 +1,7 @@
 pub mod Asking
 pub mod Conditionals
 pub mod Conditions
+pub mod ConditionRows
 pub mod Control
 pub mod ControlNames
 pub mod Copying
@@ -22,11 +23,13 @@ pub mod Reading
 pub mod Runs
 pub mod Rereading
 pub mod RequestLines
+pub mod Rows
 pub mod Seeking
 pub mod Setting
 pub mod Skipping
 pub mod Spelling
 pub mod Steps
+pub mod StringRows
 pub mod Strings
 pub mod Text
 pub mod TextEscapes

@@ -4,13 +4,17 @@
 //! `delimited`, `asks`; `escape`, `step`; a file for each group of modes, `text`, `text_escape`, `titles`,
 //! `control`, `strings`, `definitions`, `conditions`, `skipping`; `reader`, which puts them together, and
 //! `half`, where an item is met; `seeking`, `conditionals` and `setting`, what comes from outside; `runs`, many
-//! items at once, with `passing`, `control_names`, `interpolations`, `request_lines`, `arguments` and `defined_texts`.
+//! items at once, with `passing`, `control_names`, `interpolations`, `request_lines`, `arguments` and `defined_texts`;
+//! `row` and a file for each group of modes whose rows have loops of their own, `line_rows`, `condition_rows`,
+//! `request_rows`, `part_rows`, `argument_rows`, `string_rows`.
 #![tactic(auto)]
 
 mod answers;
+mod argument_rows;
 mod arguments;
 mod ask;
 mod asks;
+mod condition_rows;
 mod conditionals;
 mod conditions;
 mod control;
@@ -24,17 +28,22 @@ mod front;
 mod half;
 mod interpolations;
 mod kept;
+mod line_rows;
 mod mode;
 mod notes;
+mod part_rows;
 mod passing;
 mod reader;
 mod request_lines;
+mod request_rows;
+mod row;
 mod runs;
 mod seeking;
 mod setting;
 mod skipping;
 mod spelled;
 mod step;
+mod string_rows;
 mod strings;
 mod text;
 mod text_escape;
