@@ -1,68 +1,35 @@
-use Rattle.std.specs.Prelude.{slice_index}
-use Rattle.std.proofs.Common.{◌≡◌, ◌+◌, ◌-◌, ◌<◌, ◌≤◌, length, length-drop, take, drop, map, ap, ◌∙◌, subst, arith}
-use Rattle.std.proofs.lemmas.List.{length-map, take_all}
-use Rattle.nr_reading.specs.declared.front.Front.TheVariants as fronts
-use Rattle.nr_reading.specs.Runs.{HasMet, spot}
-use Rattle.nr_reading.specs.declared.half.Half.{Half}
-use Rattle.std.proofs.Common.{Ok}
-use Rattle.nr_reading.specs.declared.mode.Due.TheVariants as dues
-use Rattle.nr_input.specs.declared.reader.Reader.{Reader}
-use Rattle.nr_input.specs.Limits.{limits_of}
-use Rattle.nr_input.proofs.LimitsStay.{act_stays}
-use Rattle.nr_input.proofs.ControlLines.{all_read, all_paid}
-use Rattle.nr_input.proofs.RowsRead.{holds_past}
-use Rattle.nr_input.proofs.control_lines.read_control_line.Goals.{then-not-matches-via-then-not-matches, then-not-matches-via-else-not-matches+then-not-meet_name}
+use Rattle.std.proofs.Common.{◌≡◌, ◌+◌, sym, ◌∙◌, subst, arith}
+use Rattle.std.proofs.lemmas.Bool.{false≢true}
+use Rattle.nr_reading.specs.declared.event.Event.{Event}
+use Rattle.nr_reading.specs.declared.event.Event.TheVariants as events
+use Rattle.nr_input.specs.Moving.{situation}
+use Rattle.nr_input.specs.Runs.{HasRead, PaysAll}
+use Rattle.nr_input.proofs.ControlLines.{pays_then}
+use Rattle.nr_input.proofs.Interpolated.{read_then}
+use Rattle.nr_input.proofs.control_lines.read_control_line.Goals.{in-Nothing, in_default-matches-2}
 use Rattle.nr_input.proofs.control_lines.read_control_line.Goals as goal
 
 pub returns-clause-read : goal.returns-clause-read
 returns-clause-read g c = λ k holds.
-    let bs = c.window-bytes.result.now in
+    let v = c.args.store.now in
     let r = c.args.reader.now in
-    let h1 = c.meet_name.new.self in
-    let e = c.seek-told.result in
-    let r2 = c.seek-told.new.self in
-    let line = c.meet_behind_name-line.result in
-    let h3 = c.meet_behind_name-line.new.half in
-    let name = c.meet_name.ensures.met c.if-not-meet_name.false in
-    let long : 3 ≤ length bs = omega (arith, name.within, length-map bs fronts.Byte) in
-    let some : 0 < length bs = omega (arith, long) in
-    let next = c.window-bytes.ensures.next some k holds in
-    let rest : take (length bs - 3) (drop 3 bs) ≡ drop 3 bs = take_all (length bs - 3) (drop 3 bs) (omega (arith, length-drop 3 bs)) in
-    let front : 3 + line.taken ≤ length bs = let within = c.meet_behind_name-line.ensures.within in omega (arith, within, long, ap length rest, length-drop 3 bs) in
-    let many : 0 < 3 + line.taken = omega arith in
-    let there = holds_past (3 + line.taken) bs k c.args.place.now c.pass_run.new.self _ _ many front (c.window-bytes.ensures.unseen some) next holds c.skip.ensures.skips c.pass_run.ensures in
-    all_read c.args.store.now c.seek-told.new.store r r2 bs h1 e name (c.meet_name.ensures.due c.if-not-meet_name.false) c.seek-told.ensures k (c.window-bytes.ensures.levels some) next long line h3
-    (λ silent. subst (λ ys. HasMet line.moves (map fronts.Byte ys) r2.half (spot line h3)) rest (c.meet_behind_name-line.ensures.met silent))
-    c.meet_behind_name-line.ensures.left c.meet_behind_name-line.ensures.none c.pass_run.new.self _ there
+    let run = c.in-Some.run' in
+    let named = c.read_named_line.new in
+    let line = c.read_macro_line-line in
+    let silent : run.event ≡ events.Nothing = elim c.match-matches-2.branch [ in-Nothing b ↦ b.in-Nothing.is | in_default-matches-2 b ↦ absurd (false≢true (sym b.matches-is ∙ c.if-not-matches-2.false)) ] in
+    let first = subst (λ (e : Event). HasRead run.moves (situation v k r) e named.store named.reader named.place (g.R.Source.supply named.source)) silent (c.in-Some.ensures.read k holds) in
+    read_then line.result.moves run.moves (situation v k r) line.result.event named.store line.new.store named.reader line.new.reader named.place line.new.place _ _ first (λ d there. line.ensures.read d there)
 
 pub returns-clause-pays : goal.returns-clause-pays
 returns-clause-pays g c =
-    let bs = c.window-bytes.result.now in
+    let v = c.args.store.now in
     let r = c.args.reader.now in
-    let h1 = c.meet_name.new.self in
-    let e = c.seek-told.result in
-    let r2 = c.seek-told.new.self in
-    let line = c.meet_behind_name-line.result in
-    let h3 = c.meet_behind_name-line.new.half in
-    let name = c.meet_name.ensures.met c.if-not-meet_name.false in
-    let rest : take (length bs - 3) (drop 3 bs) ≡ drop 3 bs = take_all (length bs - 3) (drop 3 bs) (omega (arith, length-drop 3 bs)) in
-    all_paid c.args.store.now c.seek-told.new.store r r2 bs h1 e name (c.meet_name.ensures.due c.if-not-meet_name.false) c.seek-told.ensures line h3
-    (λ silent. subst (λ ys. HasMet line.moves (map fronts.Byte ys) r2.half (spot line h3)) rest (c.meet_behind_name-line.ensures.met silent))
-    c.meet_behind_name-line.ensures.left c.meet_behind_name-line.ensures.none (slice_index bs (3 + line.taken - 1)) c.args.place.now c.pass_run.new.self c.pass_run.ensures
-
-pub returns-then-not-matches-clause-reader : goal.returns-then-not-matches-clause-reader
-returns-then-not-matches-clause-reader g c = λ none. elim c.then-not-matches.branch [
-  | then-not-matches-via-then-not-matches w ↦ w.reader-is
-  | then-not-matches-via-else-not-matches+then-not-meet_name w ↦ w.reader-is ∙ ap (λ (h : Half). record c.args.reader.now { half = h }) (w.meet_name.ensures.left w.if-not-meet_name.true)
-]
-
-pub returns-then-not-matches-clause-limits : goal.returns-then-not-matches-clause-limits
-returns-then-not-matches-clause-limits g c = elim c.then-not-matches.branch [
-  | then-not-matches-via-then-not-matches w ↦ ap (λ (r : Reader). limits_of c.args.store.now r) w.reader-is
-  | then-not-matches-via-else-not-matches+then-not-meet_name w ↦ ap (λ (r : Reader). limits_of c.args.store.now r) w.reader-is
-]
-
-pub returns-clause-limits : goal.returns-clause-limits
-returns-clause-limits g c =
-    let r = c.args.reader.now in
-    act_stays c.args.store.now c.seek-told.new.store (record r { half = c.meet_name.new.self; burst = 0 }) c.seek-told.new.self dues.Seek (Ok c.seek-told.result) c.seek-told.ensures
+    let p = c.args.place.now in
+    let run = c.in-Some.run' in
+    let named = c.read_named_line.new in
+    let line = c.read_macro_line-line in
+    let silent : run.event ≡ events.Nothing = elim c.match-matches-2.branch [ in-Nothing b ↦ b.in-Nothing.is | in_default-matches-2 b ↦ absurd (false≢true (sym b.matches-is ∙ c.if-not-matches-2.false)) ] in
+    let first = subst (λ (e : Event). PaysAll run.moves v p r e named.store named.place named.reader) silent c.in-Some.ensures.pays in
+    let count : line.result.moves + run.moves ≡ run.moves + line.result.moves = omega arith in
+    subst (λ n. PaysAll n v p r line.result.event line.new.store line.new.place line.new.reader) count
+    (pays_then line.result.moves run.moves v named.store line.new.store p named.place line.new.place r named.reader line.new.reader line.result.event first line.ensures.pays)
