@@ -6,6 +6,7 @@ pub mod Interpolations
 pub mod Laws
 pub mod Levels
 pub mod Limits
+pub mod MacroLines
 pub mod Moving
 pub mod Refusals
 pub mod Rows

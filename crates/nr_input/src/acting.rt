@@ -251,8 +251,9 @@ impl Reader {
         }
     }
 
-    // A byte is added to the argument that is read.
-    fn put<K: Copy>(&mut self, byte: u8, store: &mut Store<K>) -> Result<Event, Refusal>
+    /// A byte is added to the argument that is read.
+    #[inline]
+    pub(crate) fn put<K: Copy>(&mut self, byte: u8, store: &mut Store<K>) -> Result<Event, Refusal>
         ensures { called store.new self.new result ≡ acted (Due.Put byte) store.old self.old }
     {
         match store.add_argument_byte(byte) {
@@ -262,6 +263,15 @@ impl Reader {
             }
             Err(_) => Err(Refusal::Stored),
         }
+    }
+
+    /// The argument that is read ends.
+    #[inline]
+    pub(crate) fn end_argument<K: Copy>(&mut self, store: &mut Store<K>)
+        ensures { called store.new self.new (Ok Event.Nothing) ≡ acted Due.EndArgument store.old self.old }
+    {
+        store.end_argument();
+        self.half.reading.due = Due::Look;
     }
 
     // What the name that was read means.
@@ -323,8 +333,7 @@ impl Reader {
             Due::Argument(n) => self.splice_argument(n, store),
             Due::Put(byte) => self.put(byte, store),
             Due::EndArgument => {
-                store.end_argument();
-                self.half.reading.due = Due::Look;
+                self.end_argument(store);
                 Ok(Event::Nothing)
             }
             Due::Call => self.call(store),

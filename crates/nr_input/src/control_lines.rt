@@ -12,6 +12,7 @@ ghost use Rattle.nr_input.specs.Runs.{HasRead, PaysAll, ReadsSome, IsLongest, Is
 
 use super::at_hand::window;
 use super::level_lines::read_level_line;
+use super::macro_lines::read_macro_line;
 use super::place::Place;
 use super::reader::Reader;
 use super::runs::{Row, read_run, read_source};
@@ -38,10 +39,10 @@ fn meet_behind_name(half: &mut Half, told: Event, bytes: &[u8]) -> Run
     half.meet_request_line(bytes)
 }
 
-/// The control line that the source has at hand, where nothing else comes first: its name is looked up, and if it calls a request
-/// whose line is there too, with no escape in it, all of it is read. None where no such name is there.
+// The control line that the source has at hand, where nothing else comes first: its name is looked up, and if it calls a request
+// whose line is there too, with no escape in it, all of it is read. None where no such name is there.
 #[inline(always)]
-pub fn read_control_line<K: Copy, R: Source>(
+fn read_named_line<K: Copy, R: Source>(
     place: &mut Place,
     reader: &mut Reader,
     store: &mut Store<K>,
@@ -50,7 +51,7 @@ pub fn read_control_line<K: Copy, R: Source>(
     ensures read { IfSome result (λ run. (c : Coming) → HoldsComing c place.old (R.supply source.old) → HasRead run.moves (situation store.old c reader.old) run.event store.new reader.new place.new (R.supply source.new)) }
     ensures pays { IfSome result (λ run. PaysAll run.moves store.old place.old reader.old run.event store.new place.new reader.new) }
     ensures some { IfSome result (λ run. 0 < run.moves) }
-    ensures few { IfSome result (λ run. run.moves ≤ 65536) }
+    ensures few { IfSome result (λ run. run.moves ≤ 32774) }
     ensures limits { limits_of store.new reader.new ≡ limits_of store.old reader.old }
     ensures failures { R.failures source.new ≡ R.failures source.old }
     ensures unfailed { has_failed place.old.ahead ≡ false → has_failed place.new.ahead ≡ false }
@@ -73,6 +74,44 @@ pub fn read_control_line<K: Copy, R: Source>(
     Some(Run {
         taken,
         moves: 5 + line.moves,
+        event: line.event,
+    })
+}
+
+/// The control line that the source has at hand, where nothing else comes first: its name is looked up. If it calls a request whose
+/// line is there too, with no escape in it, all of it is read, and if it calls a macro its arguments are, up to the first escape.
+/// None where no such name is there.
+#[inline(always)]
+pub fn read_control_line<K: Copy, R: Source>(
+    place: &mut Place,
+    reader: &mut Reader,
+    store: &mut Store<K>,
+    source: &mut R,
+) -> Option<Run>
+    ensures read { IfSome result (λ run. (c : Coming) → HoldsComing c place.old (R.supply source.old) → HasRead run.moves (situation store.old c reader.old) run.event store.new reader.new place.new (R.supply source.new)) }
+    ensures pays { IfSome result (λ run. PaysAll run.moves store.old place.old reader.old run.event store.new place.new reader.new) }
+    ensures some { IfSome result (λ run. 0 < run.moves) }
+    ensures few { IfSome result (λ run. run.moves ≤ 65536) }
+    ensures limits { limits_of store.new reader.new ≡ limits_of store.old reader.old }
+    ensures failures { R.failures source.new ≡ R.failures source.old }
+    ensures unfailed { has_failed place.old.ahead ≡ false → has_failed place.new.ahead ≡ false }
+    ensures reader { result ≡ None → reader.new ≡ reader.old }
+    ensures store { result ≡ None → store.new ≡ store.old }
+    ensures place { result ≡ None → place.new ≡ place.old }
+    ensures source { result ≡ None → source.new ≡ source.old }
+{
+    let Some(run) = read_named_line(place, reader, store, source) else {
+        return None;
+    };
+    if !matches!(reader.half.reading.mode, Mode::MacroBlanks)
+        || !matches!(run.event, Event::Nothing)
+    {
+        return Some(run);
+    }
+    let line = read_macro_line(place, reader, store, source);
+    Some(Run {
+        taken: run.taken + line.taken,
+        moves: run.moves + line.moves,
         event: line.event,
     })
 }
