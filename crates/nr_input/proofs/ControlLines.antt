@@ -223,7 +223,7 @@ come_behind t bs c less next =
     }
 
 -- behind more bytes
-inside_on : (t n : ℕ) (bs : List ℕ) (inside : Bool) → 0 < n → inside_behind n (drop t bs) (inside_behind t bs inside) ≡ inside_behind (t + n) bs inside
+pub inside_on : (t n : ℕ) (bs : List ℕ) (inside : Bool) → 0 < n → inside_behind n (drop t bs) (inside_behind t bs inside) ≡ inside_behind (t + n) bs inside
 inside_on t zero bs inside some = absurd (omega (arith, some))
 inside_on t (suc n) bs inside some =
     let next : suc (t + n) ≡ t + suc n = omega arith in

@@ -9,6 +9,8 @@ pub mod LevelLines
 pub mod LevelParts
 pub mod LimitsStay
 pub mod Longest
+pub mod MacroBytes
+pub mod MacroLines
 pub mod Putting
 pub mod PuttingLevel
 pub mod PuttingRead

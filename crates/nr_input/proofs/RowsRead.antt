@@ -94,7 +94,7 @@ later-none Never = refl
 later-none (After m) = let same : m - 0 ≡ m = omega arith in ap After same
 later-none Anytime = refl
 
-behind_none : (c : Coming) → behind_run 0 c ≡ c
+pub behind_none : (c : Coming) → behind_run 0 c ≡ c
 behind_none c =
     let same : c.taken + 0 ≡ c.taken = omega arith in
     ap (λ f. record { supply = record { bytes = c.supply.bytes; faults = f }; taken = c.taken + 0; inside = c.inside }) (later-none c.supply.faults)

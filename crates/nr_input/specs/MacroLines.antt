@@ -25,6 +25,11 @@ is_before_argument_in m h = false
 abbrev pub is_before_argument : Half → Bool
 is_before_argument h = is_before_argument_in h.reading.mode h
 
+-- before the first argument the blanks are left in a move of their own
+abbrev pub blanks_left : Mode → ℕ
+blanks_left modes.MacroBlanks = 1
+blanks_left m = 0
+
 -- Behind the byte that an argument begins with, or a quote before it, or behind the newline that ends the line.
 abbrev pub begun_with : ℕ → Half → Half
 begun_with b h =

@@ -1,12 +1,12 @@
 //! The arguments of a macro that the source has at hand: many moves at once.
-ghost use Rattle.std.specs.Prelude.{◌≡◌, ◌≢◌, ◌+◌, ◌*◌, ◌≤◌, ℕ, List, All, length, map, take, true, false};
+ghost use Rattle.std.specs.Prelude.{◌≡◌, ◌≢◌, ◌+◌, ◌*◌, ◌<◌, ◌≤◌, ℕ, List, All, length, map, take, slice_index, true, false};
 ghost use Rattle.nr_reading.specs.declared.front.Front.TheVariants as variants;
 ghost use Rattle.nr_reading.specs.InArgument.{is_in_argument};
 ghost use Rattle.nr_reading.specs.Passing.{quiet};
 ghost use Rattle.nr_reading.specs.Runs.{HasMet};
 ghost use Rattle.nr_input.specs.Coming.{Coming, HoldsComing, has_failed};
 ghost use Rattle.nr_input.specs.Limits.{limits_of};
-ghost use Rattle.nr_input.specs.MacroLines.{is_before_argument, begun_with, argument_ended, ReadsOn};
+ghost use Rattle.nr_input.specs.MacroLines.{is_before_argument, blanks_left, begun_with, argument_ended, ReadsOn};
 ghost use Rattle.nr_input.specs.Moving.{situation};
 ghost use Rattle.nr_input.specs.Runs.{HasRead, PaysAll};
 
@@ -50,6 +50,7 @@ fn is_before_argument(half: &Half) -> bool
 fn space_count(bytes: &[u8]) -> usize
     ensures front { result ≤ length bytes.now }
     ensures spaces { All (λ byte. byte ≡ 32) (take result bytes.now) }
+    ensures stops { result < length bytes.now → slice_index bytes.now result ≢ 32 }
 {
     let mut count = 0;
     for byte in bytes {
@@ -59,6 +60,18 @@ fn space_count(bytes: &[u8]) -> usize
         count += 1;
     }
     count
+}
+
+// In how many moves the blanks before the arguments are left.
+#[inline(always)]
+fn blanks_left(mode: Mode) -> usize
+    ensures is { result ≡ blanks_left mode }
+    ensures few { result ≤ 1 }
+{
+    match mode {
+        Mode::MacroBlanks => 1,
+        _ => 0,
+    }
 }
 
 // An argument begins with this byte, or with the one behind it, or the line ends with it: so it is taken.
@@ -98,11 +111,11 @@ fn begin_argument(half: &mut Half, bytes: &[u8]) -> Passed
     if byte == b'\\' || byte == b'\t' {
         return none;
     }
-    let leaves = usize::from(matches!(half.reading.mode, Mode::MacroBlanks));
+    let left = blanks_left(half.reading.mode);
     begin_with(half, byte);
     Passed {
         taken: spaces + 1,
-        moves: spaces + leaves + 1,
+        moves: spaces + left + 1,
     }
 }
 
