@@ -105,11 +105,11 @@ moved_once s e v r p supply told stands goes = record {
 -- ---- what is due
 
 -- a refusal that isn't of the limit of splices leaves all as it was
-record Unchanged {K : Type 0} (e : Refusal) (new v : Stored K) (behind r : Reader) : Type 0 where
-  stored : stored_by (Err e) new v ≡ v
-  reader : reader_by (Err e) behind r ≡ r
+pub record Unchanged {K : Type 0} (e : Refusal) (new v : Stored K) (behind r : Reader) : Type 0 where
+  pub stored : stored_by (Err e) new v ≡ v
+  pub reader : reader_by (Err e) behind r ≡ r
 
-storing_stays : {K : Type 0} (x : Result (Unit {0}) StoredBytes) (e : Refusal) (new v : Stored K) (behind r : Reader) → storing_by x ≡ Err e → Unchanged e new v behind r
+pub storing_stays : {K : Type 0} (x : Result (Unit {0}) StoredBytes) (e : Refusal) (new v : Stored K) (behind r : Reader) → storing_by x ≡ Err e → Unchanged e new v behind r
 storing_stays (Ok x) refusals.Stored new v behind r is = record { stored = refl; reader = refl }
 storing_stays (Err y) refusals.Stored new v behind r is = record { stored = refl; reader = refl }
 storing_stays (Ok x) e new v behind r is = cc

@@ -120,8 +120,8 @@ begins_argument : (b : ℕ) (h : Half) → (b == 92) ≡ false → (b == 32) ≡
 begins_argument b h apart other = elim (cases_Bool (b == 10)) [
   | inl newline ↦ rw (apart, newline) refl
   | inr more ↦ elim (cases_Bool (b == 34)) [
-      | inl quote ↦ rw (apart, more, other, quote) refl
-      | inr plain ↦ rw (apart, more, other, plain) refl
+    | inl quote ↦ rw (apart, more, other, quote) refl
+    | inr plain ↦ rw (apart, more, other, plain) refl
   ]
 ]
 
@@ -130,8 +130,8 @@ begun_alike : (b : ℕ) (h : Half) → h ≡ half_in modes.MacroBlanks h → beg
 begun_alike b h e = elim (cases_Bool (b == 10)) [
   | inl newline ↦ rw newline (ap (λ (j : Half). record j { reading = record j.reading { mode = modes.Start; due = dues.Call } }) (sym e))
   | inr more ↦ elim (cases_Bool (b == 34)) [
-      | inl quote ↦ rw (more, quote) (ap (λ (j : Half). record j { reading = record j.reading { mode = modes.Quoted } }) (sym e))
-      | inr plain ↦ rw (more, plain) (ap (λ (j : Half). record j { reading = record j.reading { mode = modes.Word; due = dues.Put b } }) (sym e))
+    | inl quote ↦ rw (more, quote) (ap (λ (j : Half). record j { reading = record j.reading { mode = modes.Quoted } }) (sym e))
+    | inr plain ↦ rw (more, plain) (ap (λ (j : Half). record j { reading = record j.reading { mode = modes.Word; due = dues.Put b } }) (sym e))
   ]
 ]
 

@@ -2,8 +2,8 @@
 use Rattle.std.specs.Prelude.{map, drop, take, slice_index, not}
 use Rattle.std.proofs.Common.{◌≡◌, ◌==◌, ℕ, zero, suc, ◌+◌, ◌-◌, ◌*◌, ◌<◌, ◌≤◌, Bool, true, false, List, [], ◌∷◌, length, All, Option, Some, Result, Ok, Err, inl, inr, refl, ap, ap₂, sym, ◌∙◌, subst, length-drop, arith}
 use Rattle.std.proofs.lemmas.Bool.{cases_lt}
-use Rattle.std.proofs.lemmas.List.{length-map, drop-drop}
-use Rattle.nr_units.specs.Supply.{Supply}
+use Rattle.std.proofs.lemmas.List.{length-map, length-take, get_or-take, take-take, take_all}
+use Rattle.nr_units.specs.Supply.{Supply, Faults, Never, After, Anytime, MayGiveAll}
 use Rattle.nr_store.specs.Stored.{Stored, afforded, charge_of}
 use Rattle.nr_reading.specs.declared.event.Event.{Event}
 use Rattle.nr_reading.specs.declared.event.Event.TheVariants as events
@@ -30,8 +30,10 @@ use Rattle.nr_input.specs.Targets.{with_more}
 use Rattle.nr_input.specs.Weights.{newline_left, diversions_in}
 use Rattle.nr_input.proofs.ControlLines.{done_read, pays_then, pays_once, come_behind, run_on, inside_on}
 use Rattle.nr_input.proofs.Interpolated.{read_then, pays_nothing}
-use Rattle.nr_input.proofs.LimitsStay.{with_more-limits}
+use Rattle.nr_input.proofs.LevelParts.{storing_stays}
+use Rattle.nr_input.proofs.LimitsStay.{act_stays, with_more-limits}
 use Rattle.nr_input.proofs.PuttingRead.{source_added, source_added_pays}
+use Rattle.nr_input.proofs.Refusals.{called-ok, called-err}
 use Rattle.nr_input.proofs.Rows.{reads_nothing}
 use Rattle.nr_input.proofs.RowsRead.{behind_none, source_looked, source_read, looked_pays, source_pays, some_taken}
 use Rattle.nr_input.proofs.Spending.{act_pays}
@@ -103,6 +105,18 @@ reads_then n m t u bs v w x r s q first more = record {
       (subst (λ (o : Reached). PaysAll (m + n) v p r events.Nothing x o q) (reached_further t u bs p)
       (pays_then m n v w x p (reached_behind t bs p) (reached_behind u (drop t bs) (reached_behind t bs p)) r s q events.Nothing (first.pays still p) (more.pays (first.burst ∙ still) (reached_behind t bs p))));
 }
+
+-- the same, where that takes none of them
+pub reads_still : {K : Type 0} (n m t : ℕ) (bs : List ℕ) (v w x : Stored K) (r s q : Reader) → ReadsOn n t bs v r w s → ReadsOn m 0 (drop t bs) w s x q → ReadsOn (n + m) t bs v r x q
+reads_still n m t bs v w x r s q first more =
+    let same : t + 0 ≡ t = omega arith in
+    subst (λ k. ReadsOn (n + m) k bs v r x q) same (reads_then n m t 0 bs v w x r s q first more)
+
+-- the bytes that are left, as the program has them
+pub reads_rest : {K : Type 0} (n t u : ℕ) (bs : List ℕ) (v w : Stored K) (r s : Reader) → t ≤ length bs → ReadsOn n u (take (length bs - t) (drop t bs)) v r w s → ReadsOn n u (drop t bs) v r w s
+reads_rest n t u bs v w r s few reads =
+    let all : take (length bs - t) (drop t bs) ≡ drop t bs = take_all (length bs - t) (drop t bs) (omega (arith, length-drop t bs)) in
+    subst (λ ys. ReadsOn n u ys v r w s) all reads
 
 -- ---- no move
 
@@ -177,6 +191,33 @@ module _ {K : Type 0} (bs : List ℕ) (v w : Stored K) (r s : Reader) (waits : i
         (pays_once v w p p r s events.Nothing refl (ap diversions_in building) (act_pays v w p r s events.Nothing (λ look. let wrong : true ≡ false = sym (ap is_look look) ∙ waits in cc) is));
   }
 
+module _ {K : Type 0} (bs : List ℕ) (v w : Stored K) (r s : Reader) where
+  -- a byte is added to the argument
+  module _ (b : ℕ) (due : r.half.reading.due ≡ dues.Put b) where
+    pub put_reads : (e : Event) → called w s (Ok e) ≡ acted (dues.Put b) v r → ReadsOn 1 0 bs v r w s
+    put_reads e is =
+        let a = act (dues.Put b) v r in
+        let leads = called-ok (answer (dues.Put b) v r) a.stored a.reader a.event v w r s e is in
+        let quietly : called w s (Ok events.Nothing) ≡ acted (dues.Put b) v r = subst (λ (x : Event). called w s (Ok x) ≡ acted (dues.Put b) v r) leads.answer is in
+        reads_due bs v w r s (ap is_look due) (subst (λ (d : Due). called w s (Ok events.Nothing) ≡ acted d v r) (sym due) quietly)
+        (ap (λ (x : Stored K). x.levels) leads.stored) (ap (λ (x : Reader). x.burst) leads.reader) (ap (λ (x : Stored K). x.building) leads.stored) (act_stays v w r s (dues.Put b) (Ok e) is)
+
+    -- it finds no room
+    pub put_left : (e : Refusal) → called w s (Err e) ≡ acted (dues.Put b) v r → ReadsOn 0 0 bs v r w s
+    put_left e is =
+        let a = act (dues.Put b) v r in
+        let stays = called-err (answer (dues.Put b) v r) a.stored a.reader a.event v w r s e is in
+        let same = storing_stays (afforded a.stored tt) e a.stored v a.reader r stays.refused in
+        reads_none bs v w r s (stays.stored ∙ same.stored) (stays.reader ∙ same.reader)
+
+  -- the argument ends
+  pub end_reads : r.half.reading.due ≡ dues.EndArgument → called w s (Ok events.Nothing) ≡ acted dues.EndArgument v r → ReadsOn 1 0 bs v r w s
+  end_reads due is =
+      let a = act dues.EndArgument v r in
+      let leads = called-ok (answer dues.EndArgument v r) a.stored a.reader a.event v w r s events.Nothing is in
+      reads_due bs v w r s (ap is_look due) (subst (λ (d : Due). called w s (Ok events.Nothing) ≡ acted d v r) (sym due) is)
+      (ap (λ (x : Stored K). x.levels) leads.stored) (ap (λ (x : Reader). x.burst) leads.reader) (ap (λ (x : Stored K). x.building) leads.stored) (act_stays v w r s dues.EndArgument (Ok events.Nothing) is)
+
 -- ---- bytes that are added
 
 module _ {K : Type 0} (n : ℕ) (bs : List ℕ) (v w : Stored K) (r : Reader) (argument : is_in_argument r.half ≡ true) (within : n ≤ length bs)
@@ -208,3 +249,55 @@ module _ {K : Type 0} (n : ℕ) (bs : List ℕ) (v w : Stored K) (r : Reader) (a
         let none : n ≡ 0 = omega (arith, few) in
         subst (λ k. ReadsOn (2 * k) k bs v r w r) (sym none) (reads_none bs v w r r (nothing_added Argument n bs v w none added) refl)
   ]
+
+-- ---- all of it
+
+may_give_fewer : (n m : ℕ) (f : Faults) → n ≤ m → MayGiveAll m f → MayGiveAll n f
+may_give_fewer n m Never less may = tt
+may_give_fewer n m (After k) less may = omega (arith, less, may)
+may_give_fewer n m Anytime less may = tt
+
+all_of_front : (k : ℕ) (bs : List ℕ) → take (length (take k bs)) bs ≡ take k bs
+all_of_front k bs = elim (cases_lt k (length bs)) [
+  | inl less ↦ let same : length (take k bs) ≡ k = omega (arith, less, length-take k bs) in ap (λ n. take n bs) same
+  | inr all ↦ take_all (length (take k bs)) bs (omega (arith, all, length-take k bs)) ∙ sym (take_all k bs (omega (arith, all)))
+]
+
+-- the first of the bytes that come next
+come_front : (k : ℕ) (bs : List ℕ) (c : Coming) → ComeNext bs c → ComeNext (take k bs) c
+come_front k bs c next =
+    let few : length (take k bs) ≤ length bs = omega (arith, length-take k bs) in
+    record {
+      bytes = sym (take-take (length (take k bs)) (length bs) c.supply.bytes few) ∙ ap (take (length (take k bs))) next.bytes ∙ all_of_front k bs;
+      faults = may_give_fewer (length (take k bs)) (length bs) c.supply.faults few next.faults;
+      few = omega (arith, few, next.few);
+    }
+
+-- With nothing spliced since the last byte the first of these bytes are read.
+module _ {K : Type 0} (n t k : ℕ) (bs : List ℕ) (v w : Stored K) (r s : Reader) (still : r.burst ≡ 0) (reads : ReadsOn n t (take k bs) v r w s) where
+  pub taken_within : t ≤ length bs
+  taken_within = let inside = reads.within in omega (arith, inside, length-take k bs)
+
+  pub none_read : v.levels ≡ [] → t ≡ 0 → (c : Coming) (p : Reached) (supply : Option Supply) → ComeNext bs c → HoldsComing c p supply → HasRead n (situation v c r) events.Nothing w s p supply
+  none_read none zero_taken c p supply next holds =
+      reads.reads none still c p supply (come_front k bs c next) (subst (λ (d : Coming). HoldsComing d p supply) (sym (ap (λ j. behind_run j c) zero_taken ∙ behind_none c)) holds)
+
+  pub none_paid : t ≡ 0 → (p : Reached) → PaysAll n v p r events.Nothing w p s
+  none_paid zero_taken p =
+      pays_at n v w p (reached_behind t (take k bs) p) p r s events.Nothing (omega (arith, zero_taken)) (ap (λ j. inside_behind j (take k bs) p.inside) zero_taken) (reads.pays still p)
+
+  pub line_read : v.levels ≡ [] → (c : Coming) (p : Reached) (supply : Option Supply) → ComeNext bs c → HoldsComing (behind_run t c) p supply → HasRead n (situation v c r) events.Nothing w s p supply
+  line_read none c p supply next holds = reads.reads none still c p supply (come_front k bs c next) holds
+
+  inside_of : (t : ℕ) (p : Reached) → 0 < t → t ≤ length (take k bs) → inside_behind t (take k bs) p.inside ≡ not (slice_index bs (t - 1) == 10)
+  inside_of zero p some few = absurd (omega (arith, some))
+  inside_of (suc j) p some few =
+      let same : suc j - 1 ≡ j = omega arith in
+      let below : j < k = omega (arith, few, length-take k bs) in
+      ap (λ b. not (b == 10)) (get_or-take k bs j 0 below) ∙ ap (λ i. not (slice_index bs i == 10)) (sym same)
+
+  pub line_paid : 0 < t → (p q : Reached) → q ≡ passed_run (slice_index bs (t - 1)) t p → PaysAll n v p r events.Nothing w q s
+  line_paid some p q is =
+      let last = slice_index bs (t - 1) in
+      subst (λ (o : Reached). PaysAll n v p r events.Nothing w o s) (sym is)
+      (pays_at n v w p (reached_behind t (take k bs) p) (passed_run last t p) r s events.Nothing refl (inside_of t p some reads.within) (reads.pays still p))

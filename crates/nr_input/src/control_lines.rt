@@ -1,5 +1,5 @@
 //! Control lines of the source: many moves at once.
-ghost use Rattle.std.specs.Prelude.{◌≡◌, ◌≢◌, ◌<◌, ◌≤◌, [], length, map, nat_lt, true, false, None, IfSome};
+ghost use Rattle.std.specs.Prelude.{◌≡◌, ◌≢◌, ◌^◌, ◌<◌, ◌≤◌, [], length, map, nat_lt, true, false, None, IfSome};
 ghost use Rattle.nr_reading.specs.declared.event.Event.TheVariants as events;
 ghost use Rattle.nr_reading.specs.declared.front.Front.TheVariants as variants;
 ghost use Rattle.nr_reading.specs.declared.mode.Mode.TheVariants as modes;
@@ -52,6 +52,7 @@ fn read_named_line<K: Copy, R: Source>(
     ensures pays { IfSome result (λ run. PaysAll run.moves store.old place.old reader.old run.event store.new place.new reader.new) }
     ensures some { IfSome result (λ run. 0 < run.moves) }
     ensures few { IfSome result (λ run. run.moves ≤ 32774) }
+    ensures within { IfSome result (λ run. run.taken < 2 ^ 40) }
     ensures limits { limits_of store.new reader.new ≡ limits_of store.old reader.old }
     ensures failures { R.failures source.new ≡ R.failures source.old }
     ensures unfailed { has_failed place.old.ahead ≡ false → has_failed place.new.ahead ≡ false }

@@ -1,5 +1,5 @@
 //! The arguments of a macro that the source has at hand: many moves at once.
-ghost use Rattle.std.specs.Prelude.{◌≡◌, ◌≢◌, ◌+◌, ◌*◌, ◌<◌, ◌≤◌, ℕ, List, All, length, map, take, slice_index, true, false};
+ghost use Rattle.std.specs.Prelude.{◌≡◌, ◌≢◌, ◌+◌, ◌*◌, ◌^◌, ◌<◌, ◌≤◌, ℕ, List, All, length, map, take, slice_index, true, false};
 ghost use Rattle.nr_reading.specs.declared.front.Front.TheVariants as variants;
 ghost use Rattle.nr_reading.specs.InArgument.{is_in_argument};
 ghost use Rattle.nr_reading.specs.Passing.{quiet};
@@ -195,6 +195,7 @@ fn put_argument<K: Copy>(reader: &mut Reader, store: &mut Store<K>, bytes: &[u8]
 #[inline(always)]
 fn read_argument<K: Copy>(reader: &mut Reader, store: &mut Store<K>, bytes: &[u8]) -> Passed
     requires before { is_before_argument reader.old.half ≡ true }
+    requires short { length bytes.now ≤ 16000 }
     ensures reads { ReadsOn result.moves result.taken bytes.now store.old reader.old store.new reader.new }
     ensures few { result.moves ≤ 2 * result.taken + 4 }
 {
@@ -217,6 +218,7 @@ fn read_argument<K: Copy>(reader: &mut Reader, store: &mut Store<K>, bytes: &[u8
 // The arguments that these bytes begin with are read, and the newline behind them.
 #[inline(always)]
 fn read_arguments<K: Copy>(reader: &mut Reader, store: &mut Store<K>, bytes: &[u8]) -> Passed
+    requires short { length bytes.now ≤ 16000 }
     ensures reads { ReadsOn result.moves result.taken bytes.now store.old reader.old store.new reader.new }
     ensures few { result.moves ≤ 2 * result.taken + 256 }
 {
@@ -248,6 +250,7 @@ pub(crate) fn read_macro_line<K: Copy, R: Source>(
     ensures read { (c : Coming) → HoldsComing c place.old (R.supply source.old) → HasRead result.moves (situation store.old c reader.old) result.event store.new reader.new place.new (R.supply source.new) }
     ensures pays { PaysAll result.moves store.old place.old reader.old result.event store.new place.new reader.new }
     ensures few { result.moves ≤ 32256 }
+    ensures within { result.taken < 2 ^ 40 }
     ensures limits { limits_of store.new reader.new ≡ limits_of store.old reader.old }
     ensures failures { R.failures source.new ≡ R.failures source.old }
     ensures unfailed { has_failed place.old.ahead ≡ false → has_failed place.new.ahead ≡ false }

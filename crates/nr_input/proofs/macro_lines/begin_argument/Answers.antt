@@ -1,4 +1,4 @@
-use Rattle.std.proofs.Common.{◌≡◌, ◌+◌, map, subst, sym, get_or, arith}
+use Rattle.std.proofs.Common.{◌≡◌, ◌+◌, ◌<◌, length, map, subst, sym, get_or, arith}
 use Rattle.nr_reading.specs.declared.front.Front.TheVariants as fronts
 use Rattle.nr_reading.specs.declared.half.Half.{Half}
 use Rattle.nr_reading.specs.Passing.{quiet}
@@ -22,5 +22,5 @@ returns-clause-met c =
     let h = c.args.half.now in
     let bs = c.args.bytes.now in
     let spaces = c.space_count-spaces.ensures in
-    let less = omega (arith, spaces.front, c.if-spaces-bytes.false) in
+    let less : k < length bs = omega (arith, spaces.front, c.if-spaces-bytes.false) in
     rw (c.begin_with.ensures, c.blanks_left-left.ensures.is) (begun_met bs h k c.requires.before less spaces.spaces c.if-byte-eq92.false c.if-byte-eq9.false (spaces.stops less))
