@@ -21,7 +21,7 @@ use Rattle.nr_input.specs.declared.target.Target.{Target}
 use Rattle.nr_input.specs.declared.target.Target.TheVariants.{Argument, Text}
 use Rattle.nr_input.specs.Coming.{Coming, Reached, HoldsComing, element_front}
 use Rattle.nr_input.specs.Moving.{Situation, Stands, situation}
-use Rattle.nr_input.specs.Runs.{HasRead, PaysAll, IsLeft, IsLongestInLevel}
+use Rattle.nr_input.specs.Runs.{HasRead, PaysAll, IsLeft}
 use Rattle.nr_input.specs.Targets.{is_read_for, due_for, with_more}
 use Rattle.nr_input.specs.Weights.{items_left, expansions_worth, diversions_in}
 use Rattle.nr_input.proofs.Rows.{at_level, with_rest, level_goings}
@@ -152,12 +152,17 @@ charge-behind n [] = refl
 charge-behind n (Mark mode ∷ ls) = refl
 charge-behind n (Read l ∷ ls) = charge-rest l ls l.rest (drop n l.rest)
 
-module _ {K : Type 0} (n near : ℕ) (v new w : Stored K) (r : Reader) (bs : List ℕ) (reads : is_read_for Argument r.half ≡ true) (some : 0 < n) (long : length bs ≡ near) (within : n ≤ near) (front : AreFront bs (rest_of v.levels))
-    (stops : near < 256 → (byte : ℕ) → slice_get (rest_of v.levels) near ≡ Some (elements.Byte byte) → ⊥)
-    (full : n < 32768 → n < length bs → IsPlain (ending_of r.half.reading.mode) (slice_index bs n) → new.limit < charge_of (with_more Argument (slice_index bs n ∷ []) new))
-    (added : new ≡ with_more Argument (take n bs) v) (is : w ≡ left_times n new) where
+-- nor is that where more is added
+charge-more-behind : {K : Type 0} (t : Target) (n : ℕ) (bs : List ℕ) (v : Stored K) → charge_of (with_more t bs (run_left n v)) ≡ charge_of (with_more t bs v)
+charge-more-behind Argument n bs v = let same = charge-behind n v.levels in omega (arith, same)
+charge-more-behind Text n bs v = let same = charge-behind n v.levels in omega (arith, same)
+
+module _ {K : Type 0} (t : Target) (n near : ℕ) (v new w : Stored K) (r : Reader) (bs : List ℕ) (reads : is_read_for t r.half ≡ true) (long : length bs ≡ near) (within : n ≤ near) (front : AreFront bs (rest_of v.levels))
+    (stops : near < 256 → (byte : ℕ) → slice_get (rest_of v.levels) near ≡ Some (elements.Byte byte) → ¬ IsPlain (ending_of r.half.reading.mode) byte)
+    (full : n < length bs → new.limit < charge_of (with_more t (slice_index bs n ∷ []) new))
+    (added : new ≡ with_more t (take n bs) v) (is : w ≡ left_times n new) where
   levels_stay : new.levels ≡ v.levels
-  levels_stay = ap (λ (x : Stored K). x.levels) added
+  levels_stay = ap (λ (x : Stored K). x.levels) added ∙ levels-with_more t (take n bs) v
 
   skipped_is : w ≡ run_left n new
   skipped_is = let few : n ≤ length (rest_of new.levels) = omega (arith, within, long, front_within bs (rest_of v.levels) front, ap (λ y. length (rest_of y)) levels_stay) in is ∙ left_times-run n new few
@@ -175,26 +180,22 @@ module _ {K : Type 0} (n near : ℕ) (v new w : Stored K) (r : Reader) (bs : Lis
       let same : elements.Byte (slice_index bs n) ≡ elements.Byte b = sym own ∙ get_or_from_slice_get xs n (elements.Byte b) (elements.Byte 0) there in
       cc
 
-  full_there : (b : ℕ) → n < near → n < 32768 → slice_get (rest_of v.levels) n ≡ Some (elements.Byte b) → IsPlain (ending_of r.half.reading.mode) b → w.limit < charge_of (with_more Argument (b ∷ []) w)
-  full_there b less few there plain =
+  full_there : (b : ℕ) → n < near → slice_get (rest_of v.levels) n ≡ Some (elements.Byte b) → w.limit < charge_of (with_more t (b ∷ []) w)
+  full_there b less there =
       let inside : n < length bs = omega (arith, less, long) in
-      let at_first : IsPlain (ending_of r.half.reading.mode) b → new.limit < charge_of (with_more Argument (b ∷ []) new) =
-      subst (λ x. IsPlain (ending_of r.half.reading.mode) x → new.limit < charge_of (with_more Argument (x ∷ []) new)) (comes_of b less there) (full few inside) in
-      let over = at_first plain in
-      let same = charge-behind n new.levels in
-      subst (λ (x : Stored K). x.limit < charge_of (with_more Argument (b ∷ []) x)) (sym skipped_is) (omega (arith, over, same))
+      let over : new.limit < charge_of (with_more t (b ∷ []) new) = subst (λ x. new.limit < charge_of (with_more t (x ∷ []) new)) (comes_of b less there) (full inside) in
+      let same = charge-more-behind t n (b ∷ []) new in
+      subst (λ (x : Stored K). x.limit < charge_of (with_more t (b ∷ []) x)) (sym skipped_is) (omega (arith, over, same))
 
-  left_there : (b : ℕ) → 2 * n < 512 → slice_get (rest_of v.levels) n ≡ Some (elements.Byte b) → IsLeft b r.half w
+  left_there : (b : ℕ) → n < 256 → slice_get (rest_of v.levels) n ≡ Some (elements.Byte b) → IsLeft b r.half w
   left_there b few there =
       elim (cases_lt n near) [
-        | inl less ↦ record { target = Argument; reads = reads; stops = full_there b less (omega (arith, few)) there }
+        | inl less ↦ record { target = t; reads = reads; stops = λ plain. full_there b less there }
         | inr all ↦
             let ends : n ≡ near = omega (arith, within, all) in
-            absurd (stops (omega (arith, few, ends)) b (subst (λ k. slice_get (rest_of v.levels) k ≡ Some (elements.Byte b)) ends there))
+            let other = stops (omega (arith, few, ends)) b (subst (λ k. slice_get (rest_of v.levels) k ≡ Some (elements.Byte b)) ends there) in
+            record { target = t; reads = reads; stops = λ plain. absurd (other plain) }
       ]
 
-  pub level_added_longest : IsLongestInLevel (2 * n) v r events.Nothing w r
-  level_added_longest = record {
-    some = λ b first due. omega (arith, some);
-    all = λ few quiet due b next. left_there b few (comes b next);
-  }
+  pub level_added_left : (b : ℕ) → n < 256 → slice_get (rest_of w.levels) 0 ≡ Some (elements.Byte b) → IsLeft b r.half w
+  level_added_left b few next = left_there b few (comes b next)

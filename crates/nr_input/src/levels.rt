@@ -12,17 +12,19 @@ ghost use Rattle.nr_input.specs.Coming.{Coming, Reached, HoldsComing};
 ghost use Rattle.nr_input.specs.Levels.{may_act};
 ghost use Rattle.nr_input.specs.Limits.{limits_of};
 ghost use Rattle.nr_input.specs.Moving.{situation};
-ghost use Rattle.nr_input.specs.Runs.{HasRead, PaysMany, StopsInLevel, IsLongestInLevel, IsLongestUpToText};
+ghost use Rattle.nr_input.specs.Runs.{HasRead, PaysAll, PaysMany, StopsInLevel, IsLongestInLevel, IsLongestUpToText};
 
+use super::adding::add_level_front;
 use super::interpolations::Moved;
 use super::level_lines::read_level_line;
 use super::reader::Reader;
-use super::runs::read_run_of_level;
+use super::runs::read_level;
+use super::target::Target;
 use nr_reading::{Due, Event, Mode, Run};
 use nr_store::{Sight, Store};
 
 /// The most rows, ends of levels and dues in one call.
-const MOST_PARTS: u32 = 4096;
+const MOST_PARTS: u32 = 4000;
 
 impl Reader {
     // What is due may be done at once: no blank of a line's beginning is told by it, and there may be a splice more.
@@ -101,18 +103,42 @@ fn end_level<K: Copy>(store: &mut Store<K>, mode: &mut K) -> bool
     true
 }
 
+// The bytes in front of the newest level that stand for themselves are added, where they are read for an argument of a macro or for a
+// text that is defined. Answers how many.
+#[inline(always)]
+fn add_front<K: Copy>(reader: &Reader, store: &mut Store<K>) -> usize
+    ensures read { (c : Coming) (p : Reached) (supply : Option Supply) → HoldsComing c p supply → HasRead (2 * result) (situation store.old c reader.now) events.Nothing store.new reader.now p supply }
+    ensures pays { (p : Reached) → PaysAll (2 * result) store.old p reader.now events.Nothing store.new p reader.now }
+    ensures few { result ≤ 256 }
+    ensures limits { limits_of store.new reader.now ≡ limits_of store.old reader.now }
+    ensures none { result ≡ 0 → store.new ≡ store.old }
+{
+    match Target::of(&reader.half) {
+        Some(target) => add_level_front(target, reader, store),
+        None => 0,
+    }
+}
+
 // The items in front of the newest level are read, those of a control line with its name.
 #[inline(always)]
 fn read_front<K: Copy>(reader: &mut Reader, store: &mut Store<K>) -> Run
     ensures read { (c : Coming) (p : Reached) (supply : Option Supply) → HoldsComing c p supply → HasRead result.moves (situation store.old c reader.old) result.event store.new reader.new p supply }
     ensures pays { (p : Reached) → PaysMany result.moves store.old p reader.old result.event store.new p reader.new }
-    ensures few { result.moves ≤ 65541 }
+    ensures few { result.moves ≤ 66048 }
     ensures limits { limits_of store.new reader.new ≡ limits_of store.old reader.old }
     ensures longest { IsLongestInLevel result.moves store.old reader.old result.event store.new reader.new }
 {
     match reader.half.reading.mode {
         Mode::Start => read_level_line(reader, store),
-        _ => read_run_of_level(reader, store),
+        _ => {
+            let added = add_front(reader, store);
+            let run = read_level(reader, store);
+            Run {
+                taken: added + run.taken,
+                moves: 2 * added + run.moves,
+                event: run.event,
+            }
+        }
     }
 }
 
@@ -131,7 +157,7 @@ fn made_none(run: Run, reader: &Reader) -> bool
 fn read_part<K: Copy>(reader: &mut Reader, store: &mut Store<K>, mode: &mut K) -> Moved
     ensures read { (c : Coming) (p : Reached) (supply : Option Supply) → HoldsComing c p supply → HasRead result.moves (situation store.old c reader.old) result.event store.new reader.new p supply }
     ensures pays { (p : Reached) → PaysMany result.moves store.old p reader.old result.event store.new p reader.new }
-    ensures few { result.moves ≤ 65541 }
+    ensures few { result.moves ≤ 66048 }
     ensures limits { limits_of store.new reader.new ≡ limits_of store.old reader.old }
     ensures some { (b : ℕ) → slice_get (rest_of store.old.levels) 0 ≡ Some (elements.Byte b) → reader.old.half.reading.due ≡ dues.Look → 0 < result.moves }
     ensures stops { result.moves ≡ 0 → StopsInLevel 0 result.event store.new reader.new }
