@@ -1,5 +1,5 @@
 -- The text of a number of one digit.
-use Rattle.std.proofs.Common.{◌≡◌, ℕ, ◌+◌, ◌-◌, ◌<◌, ◌≤◌, min, true, false, ℤ, pos, negsuc, nat_abs, [], ◌∷◌, ◌++◌, length, replicate, decimal, refl, sym, arith}
+use Rattle.std.proofs.Common.{◌≡◌, ℕ, ◌+◌, ◌-◌, ◌≤◌, min, true, false, ℤ, pos, negsuc, nat_abs, [], ◌∷◌, decimal, refl, arith}
 use Rattle.std.proofs.lemmas.Fmt.{decimal_digit}
 use Rattle.std.specs.Int.Signed.{lt_z}
 use Rattle.nr_units.specs.declared.number_text.Format.TheVariants.{Arabic}

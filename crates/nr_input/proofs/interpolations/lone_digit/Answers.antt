@@ -2,7 +2,6 @@ use Rattle.std.proofs.Common.{◌≡◌, ℕ, ◌+◌, ◌∷◌, [], ◌≤◌,
 use Rattle.std.proofs.lemmas.Int.{to_z-of_z}
 use Rattle.std.specs.Int.Signed.{lt_z}
 use Rattle.nr_units.specs.declared.number_text.Format.{Format}
-use Rattle.nr_units.specs.declared.number_text.Format.TheVariants.{Arabic}
 use Rattle.nr_units.specs.NumberText.{number_text}
 use Rattle.nr_input.proofs.Digits.{text-digit}
 use Rattle.nr_input.proofs.interpolations.lone_digit.Goals as goal
