@@ -5,7 +5,7 @@ ghost use Rattle.nr_units.specs.declared.units.Scale.TheVariants.{Unit};
 
 use crate::arguments::Arguments;
 use crate::lengths::Height;
-use crate::plain_numbers::plain_value;
+use crate::plain_numbers::{plain_comparison, plain_value};
 use nr_units::{Ctx, Scale, read_expr};
 
 /// What the argument of a signed request says.
@@ -72,6 +72,9 @@ pub(crate) fn change_of(argument: &[u8], scale: Scale, v: Height, here: i64) -> 
 pub fn is_true_number(argument: &[u8], v: Height) -> bool
     ensures { result ≡ is_true_number v argument.now }
 {
+    if let Some(holds) = plain_comparison(argument) {
+        return holds;
+    }
     match value_of(argument, Scale::Unit, v, 0) {
         Some(n) => n > 0,
         None => false,

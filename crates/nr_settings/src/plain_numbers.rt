@@ -1,9 +1,9 @@
-//! Numbers of few digits, with the letter of a scale or none, which are valued at once.
-ghost use Rattle.std.specs.Prelude.{◌≡◌, ◌*◌, ◌≤◌, Some, IfSome, ℤ, pos, unsigned_abs};
+//! Numbers of few digits, with the letter of a scale or none, which are valued at once, and comparisons of two of them.
+ghost use Rattle.std.specs.Prelude.{◌≡◌, ℕ, ◌*◌, ◌≤◌, Some, IfSome, ℤ, length, pos, unsigned_abs};
 ghost use Rattle.nr_units.specs.Grammar.{letter};
 ghost use Rattle.nr_units.specs.Units.{scaled};
-ghost use Rattle.nr_settings.specs.Numbers.{value_of};
-ghost use Rattle.nr_settings.specs.PlainNumbers.{IsWhole};
+ghost use Rattle.nr_settings.specs.Numbers.{is_true_number, value_of};
+ghost use Rattle.nr_settings.specs.PlainNumbers.{IsWhole, ReadsDigits};
 
 use crate::lengths::Height;
 use nr_units::Scale;
@@ -81,4 +81,55 @@ pub(crate) fn plain_value(argument: &[u8], scale: Scale, v: Height) -> Option<i3
         return None;
     }
     units_of(number, scale, v)
+}
+
+/// Digits that a text begins with.
+#[derive(Clone, Copy)]
+struct Digits {
+    /// How many.
+    count: usize,
+    /// The number that they write.
+    number: u32,
+}
+
+/// The digits that a text begins with: up to the first byte that is none, or behind which they would write more than 9999.
+#[inline(always)]
+fn digits_of(text: &[u8]) -> Digits
+    ensures reads { ReadsDigits text.now result.count result.number }
+    ensures front { result.count ≤ length text.now }
+{
+    let mut number = 0u32;
+    for (at, byte) in text.iter().enumerate() {
+        if !byte.is_ascii_digit() || number > MOST {
+            return Digits { count: at, number };
+        }
+        number = 10 * number + u32::from(*byte - b'0');
+    }
+    Digits {
+        count: text.len(),
+        number,
+    }
+}
+
+/// Whether a condition's number is true, where it compares two numbers of digits, neither above 9999, by `<`, `>` or `=`. None of most
+/// others.
+#[inline]
+pub(crate) fn plain_comparison(argument: &[u8]) -> Option<bool>
+    ensures { (v : ℕ) → IfSome result (λ holds. is_true_number v argument.now ≡ holds) }
+{
+    let left = digits_of(argument);
+    if left.count == 0 || left.count == argument.len() {
+        return None;
+    }
+    let behind = &argument[left.count + 1..];
+    let right = digits_of(behind);
+    if right.count == 0 || right.count < behind.len() {
+        return None;
+    }
+    match argument[left.count] {
+        b'<' => Some(left.number < right.number),
+        b'>' => Some(left.number > right.number),
+        b'=' => Some(left.number == right.number),
+        _ => None,
+    }
 }
