@@ -29,12 +29,12 @@ use Rattle.nr_engine.proofs.PlainText.{IsTyping, behind_byte, behind_many, goes_
 use Rattle.nr_engine.proofs.TextAtHand.{first_left, holds_inside, puts_byte, puts_on, some_left}
 
 -- such a byte is no newline, and begins no escape
-no_newline : (b : ℕ) (f : Formatter) → CellByte b f → (b == 10) ≡ false
+pub no_newline : (b : ℕ) (f : Formatter) → CellByte b f → (b == 10) ≡ false
 no_newline b f (Blank is filling) = rw is refl
 no_newline b f (Tab is field) = rw is refl
 no_newline b f (Dash is) = rw is refl
 
-no_escape : (b : ℕ) (f : Formatter) → CellByte b f → (b == 92) ≡ false
+pub no_escape : (b : ℕ) (f : Formatter) → CellByte b f → (b == 92) ≡ false
 no_escape b f (Blank is filling) = rw is refl
 no_escape b f (Tab is field) = rw is refl
 no_escape b f (Dash is) = rw is refl
@@ -49,7 +49,7 @@ module _ (s t : State) (b : ℕ) (chosen : t.chosen ≡ []) (line : IsInLine t.f
       ∙ ap (λ f. record t { formatter = f }) (heard-byte (told b t).formatter (in_text t.formatter.reader.half line.half).mode line.begun b word)
       ∙ ap (λ e. record t { formatter = record (byte_put b t.formatter) { event = e } }) (sym line.event)
 
-  glides_byte : IsWithin (made_of (byte_put b) t) → Glides s 2 (made_of (byte_put b) t)
+  pub glides_byte : IsWithin (made_of (byte_put b) t) → Glides s 2 (made_of (byte_put b) t)
   glides_byte within = glides_heard s t b chosen line goes reads (made_of (byte_put b) t) step_byte within
 
 within_byte : (b : ℕ) (s : State) → IsTyping s → line_cells (byte_added b s.formatter) ≤ s.formatter.line.limit → IsWithin (made_of (byte_put b) (behind_byte s))

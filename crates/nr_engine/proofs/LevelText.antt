@@ -67,14 +67,14 @@ module _ (l : Reading Resume) (ls : List (Level Resume)) (b : ℕ) (xs : List El
       ap (λ m. with_situation m (at_text l ls (elements.Byte b ∷ xs) s))
       (looks half ∙ ap (λ m. met_at m (situation_of (at_text l ls (elements.Byte b ∷ xs) s))) (meet-plain b s.formatter.reader.half half newline escape) ∙ takes)
 
-  reads_byte : s.chosen ≡ [] → IsInLine s.formatter → (b == 10) ≡ false → (b == 92) ≡ false → step (at_text l ls (elements.Byte b ∷ xs) s) ≡ told b (at_text l ls xs s)
+  pub reads_byte : s.chosen ≡ [] → IsInLine s.formatter → (b == 10) ≡ false → (b == 92) ≡ false → step (at_text l ls (elements.Byte b ∷ xs) s) ≡ told b (at_text l ls xs s)
   reads_byte chosen line newline escape =
       step-read (at_text l ls (elements.Byte b ∷ xs) s) chosen line.springs line.event line.task ∙ read_is (in_text s.formatter.reader.half line.half) newline escape
 
   sees_byte : IsInText s.formatter.reader.half → input.Goes (situation_of (at_text l ls (elements.Byte b ∷ xs) s))
   sees_byte half = rw half.due tt
 
-  goes_byte : s.chosen ≡ [] → IsInLine s.formatter → Goes (at_text l ls (elements.Byte b ∷ xs) s)
+  pub goes_byte : s.chosen ≡ [] → IsInLine s.formatter → Goes (at_text l ls (elements.Byte b ∷ xs) s)
   goes_byte chosen line =
       let reads = kind-read (at_text l ls (elements.Byte b ∷ xs) s) chosen line.springs line.event line.task in
       subst (λ k. GoesBy k (at_text l ls (elements.Byte b ∷ xs) s)) (sym reads) (sees_byte (in_text s.formatter.reader.half line.half))
@@ -196,22 +196,6 @@ makes_text bs zs e supply some is plain rest_is fits = record {
   spends = level_spends bs e (let all = ap length rest_is in omega (arith, all, length-append (map elements.Byte bs) zs, length-map bs elements.Byte));
 }
 
--- so many were put
-pub makes_puts : (n : ℕ) (e : Shape) (g : Formatter) (supply : Option Supply) → is_in_line e.formatter ≡ true → PutsLevel e.formatter n g → Makes (2 * n) e (record e { formatter = g }) supply supply
-makes_puts zero e g supply is puts =
-    let none : puts.bytes ≡ [] = nil_from_length puts.bytes puts.count in
-    let same : g ≡ e.formatter =
-    puts.is ∙ ap (λ bs. level_run_put bs e.formatter) none ∙ ap (λ v. record e.formatter { store = v }) (sym (left_times-run 0 e.formatter.store (omega arith))) in
-    subst (λ f. Makes 0 e (record e { formatter = f }) supply supply) (sym same) (makes_none e supply)
-makes_puts (suc k) e g supply is puts =
-    let rest = rest_of e.formatter.store.levels in
-    let fits = subst (λ f. line_cells (collected f) ≤ f.line.limit) puts.is (puts.within (omega arith)) in
-    let whole : map elements.Byte puts.bytes ++ drop (suc k) rest ≡ rest = ap (λ xs. xs ++ drop (suc k) rest) puts.front ∙ take-append-drop (suc k) rest in
-    let some : 0 < length puts.bytes = omega (arith, puts.count) in
-    let run = makes_text puts.bytes (drop (suc k) rest) e supply some is puts.plain whole fits in
-    subst (λ f. Makes (2 * suc k) e (record e { formatter = f }) supply supply) (sym puts.is)
-    (subst (λ n. Makes (2 * n) e (level_shape puts.bytes e) supply supply) puts.count run)
-
 -- ---- a blank behind a word
 
 -- behind an element of the newest level, with this made of the formatter
@@ -296,7 +280,7 @@ module _ (e : Shape) (supply : Option Supply) (is : is_in_line e.formatter ≡ t
   there : Showing e.formatter.store.levels (elements.Byte 32)
   there = showing e.formatter.store.levels (elements.Byte 32) blank
 
-  makes_flows : Makes 2 e (level_gone gap_flows e) supply supply
+  pub makes_flows : Makes 2 e (level_gone gap_flows e) supply supply
   makes_flows =
       let line = in_line e.formatter is in
       record {
@@ -307,7 +291,7 @@ module _ (e : Shape) (supply : Option Supply) (is : is_in_line e.formatter ≡ t
         spends = flows_spends e line.event line.task (one_left e.formatter.store.levels (elements.Byte 32) there);
       }
 
-  makes_gap : fits_line (gapped (collected e.formatter)) ≡ true → Makes 3 e (level_gone gap_put e) supply supply
+  pub makes_gap : fits_line (gapped (collected e.formatter)) ≡ true → Makes 3 e (level_gone gap_put e) supply supply
   makes_gap fits = record {
     makes = λ held s h. made_put e supply held s h is gap there.l there.ls there.xs there.is fits;
     limit = refl;
@@ -315,25 +299,3 @@ module _ (e : Shape) (supply : Option Supply) (is : is_in_line e.formatter ≡ t
     limits = refl;
     spends = gap_spends e (one_left e.formatter.store.levels (elements.Byte 32) there);
   }
-
--- the store behind that blank
-store_behind : (e : Shape) (f : Formatter) (w : Stored Resume) → shown e.formatter.store.levels ≡ shows.Item (elements.Byte 32) → f.store ≡ e.formatter.store → w ≡ left_times 1 f.store
-    → w ≡ run_left 1 e.formatter.store
-store_behind e f w blank same left =
-    let few = one_left e.formatter.store.levels (elements.Byte 32) (showing e.formatter.store.levels (elements.Byte 32) blank) in
-    left ∙ ap (left_times 1) same ∙ left_times-run 1 e.formatter.store few
-
--- the blank was put, and taken then
-module _ (e : Shape) (f : Formatter) (w : Stored Resume) (supply : Option Supply) (is : is_in_line e.formatter ≡ true) (gap : IsGap e.formatter)
-    (blank : shown e.formatter.store.levels ≡ shows.Item (elements.Byte 32)) (left : w ≡ left_times 1 f.store) where
-  pub makes_flowed : f ≡ gap_flows e.formatter → Makes 2 e (record e { formatter = record f { store = w } }) supply supply
-  makes_flowed flows =
-      let store_is = store_behind e f w blank (ap (λ g. g.store) flows) left in
-      subst (λ g. Makes 2 e (record e { formatter = g }) supply supply)
-      (sym (ap (λ v. record f { store = v }) store_is ∙ ap (λ (g : Formatter). record g { store = run_left 1 e.formatter.store }) flows)) (makes_flows e supply is gap blank)
-
-  pub makes_read : fits_line (gapped (collected e.formatter)) ≡ true → f ≡ gap_put e.formatter → Makes 3 e (record e { formatter = record f { store = w } }) supply supply
-  makes_read fits put =
-      let store_is = store_behind e f w blank (ap (λ g. g.store) put) left in
-      subst (λ g. Makes 3 e (record e { formatter = g }) supply supply)
-      (sym (ap (λ v. record f { store = v }) store_is ∙ ap (λ (g : Formatter). record g { store = run_left 1 e.formatter.store }) put)) (makes_gap e supply is gap blank fits)

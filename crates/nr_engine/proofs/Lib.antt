@@ -7,6 +7,7 @@ mod Going
 mod Judged
 mod LevelNewlines
 mod LevelText
+mod LevelWords
 mod LimitsStay
 mod Lightening
 mod LineBeginnings

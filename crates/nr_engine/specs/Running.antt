@@ -1,5 +1,5 @@
 -- What the options do to the engine, and a whole run of it.
-use Rattle.std.specs.Prelude.{◌≡◌, ℕ, ◌+◌, ◌-◌, ◌*◌, ◌≤◌, ◌<◌, List, [], length, drop, slice_index, Option, Result, Ok, Err, OnOk, true, false}
+use Rattle.std.specs.Prelude.{◌≡◌, ℕ, ◌+◌, ◌-◌, ◌*◌, ◌≤◌, ◌<◌, List, [], length, map, take, drop, slice_index, Option, Result, Ok, Err, OnOk, true, false}
 use Rattle.std.specs.Option.{option_map}
 use Rattle.nr_units.specs.Supply.{Supply, skipped}
 use Rattle.nr_options.specs.Limits.{Bounds}
@@ -14,11 +14,14 @@ use Rattle.nr_formatter.specs.Access.{collected}
 use Rattle.nr_formatter.specs.Limits.{IsWithin}
 use Rattle.nr_formatter.specs.LineBeginnings.{BeginsText, is_at_text}
 use Rattle.nr_formatter.specs.LineEnds.{IsNewline}
-use Rattle.nr_formatter.specs.Runs.{IsGap, is_in_line}
+use Rattle.nr_formatter.specs.Runs.{IsFront, IsGap, is_in_line}
 use Rattle.nr_formatter.specs.declared.formatter.Formatter.{Formatter}
+use Rattle.nr_formatter.specs.declared.tasks.Resume.{Resume}
 use Rattle.nr_page.specs.Sheet.{Holds as HoldsPage}
 use Rattle.nr_page.specs.declared.selection.PageRange.{PageRange}
-use Rattle.nr_store.specs.Stored.{charge_of}
+use Rattle.nr_store.specs.Stored.{Stored, charge_of}
+use Rattle.nr_store.specs.Windows.{rest_of, run_left}
+use Rattle.nr_store.specs.declared.element.Element.TheVariants as elements
 use Rattle.nr_engine.specs.State.{State, Choice, choices, formatter_at_first}
 use Rattle.nr_engine.specs.Machine.{choose, state_after}
 use Rattle.nr_engine.specs.Answer.{stops_reading, stops_writing}
@@ -103,11 +106,30 @@ pub record PutsText (bs : List ℕ) (taken moves : ℕ) (f g : Formatter) : Type
   pub saves : (e : Shape) (supply : Option Supply) → unburst e.formatter ≡ unburst f → HasNext bs e supply → 0 < taken
       → Saves 20 moves e (taken_shape bs taken g e)
 
+-- ---- text of the newest level
+
+-- So many of these bytes were put, up to three moves each, wherever they come next of the newest level.
+pub record PutsOfLevel (bs : List ℕ) (taken moves : ℕ) (f g : Formatter) : Type 0 where
+  pub front : taken ≤ length bs
+  pub most : moves ≤ 3 * taken
+  pub store : g.store ≡ f.store
+  pub makes : (e : Shape) → map elements.Byte bs ≡ take (length bs) (rest_of f.store.levels)
+      → MakesInPlace moves (record e { formatter = f }) (record e { formatter = record g { store = run_left taken f.store } })
+
+-- ---- how much was put
+
 -- As many bytes of a line's words were put as could be: in the midst of a line that is not full, what comes next is neither a plain
 -- byte nor a blank that does nothing but end its word.
 pub record LongestWords (bs : List ℕ) (taken : ℕ) (f : Formatter) : Type 0 where
   pub stops : taken < length bs → is_in_line f ≡ true → IsPlain (slice_index bs taken) → text_cells (collected f) ≡ f.line.limit
   pub blank : taken < length bs → is_in_line f ≡ true → slice_index bs taken ≡ 32 → IsGap f → ⊥
+
+-- The same of the bytes that come next of the newest level: of all up to an element that is no byte or begins an escape, or of 64.
+pub record LongestOfLevel (v : Stored Resume) (f : Formatter) : Type 0 where
+  pub bytes : List ℕ
+  pub front : IsFront bytes (rest_of v.levels)
+  pub taken : ℕ
+  pub longest : LongestWords bytes taken f
 
 -- As many of these bytes were put as could be, two to five moves each: what comes next is none of a line's words, no newline that
 -- does nothing but end its line, and at a line's beginning no text that is put.

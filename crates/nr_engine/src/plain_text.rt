@@ -5,7 +5,7 @@ ghost use Rattle.nr_formatter.specs.LineBeginnings.{is_at_text, BeginsText};
 ghost use Rattle.nr_formatter.specs.Runs.{is_in_line};
 ghost use Rattle.nr_engine.specs.Holding.{shape};
 ghost use Rattle.nr_engine.specs.LineBeginnings.{may_take, Begins, PutsMost};
-ghost use Rattle.nr_engine.specs.Running.{MakesReading, Longest, LongestWords, PutsText};
+ghost use Rattle.nr_engine.specs.Running.{MakesReading, Longest, LongestWords, PutsOfLevel, PutsText};
 
 use crate::engine::Engine;
 use nr_formatter::formatter::Formatter;
@@ -14,18 +14,19 @@ use nr_units::source::Source;
 
 /// How much of some bytes was put.
 #[derive(Clone, Copy)]
-struct Words {
-    taken: usize,
-    moves: usize,
+pub(crate) struct Words {
+    pub(crate) taken: usize,
+    pub(crate) moves: usize,
 }
 
 /// Puts the words that these bytes begin with, with the hyphens, tabs and blanks that go to a word and do not end it, and the blanks
 /// that do nothing but end it, in a text line that has begun: up to a byte that is none of these, or to the limit of the line.
 #[inline(always)]
-fn put_line_words(formatter: &mut Formatter, bytes: &[u8]) -> Words
+pub(crate) fn put_line_words(formatter: &mut Formatter, bytes: &[u8]) -> Words
     requires line { is_in_line formatter.old ≡ true }
     requires few { length bytes.now < 2 ^ 40 }
     ensures puts { PutsText bytes.now result.taken result.moves formatter.old formatter.new }
+    ensures level { PutsOfLevel bytes.now result.taken result.moves formatter.old formatter.new }
     ensures longest { LongestWords bytes.now result.taken formatter.new }
     ensures line { is_at_text formatter.new ≡ true → is_in_line formatter.new ≡ true }
 {
@@ -53,6 +54,9 @@ fn put_line_words(formatter: &mut Formatter, bytes: &[u8]) -> Words
             Gap::Reads => {
                 taken += 1;
                 moves += 3;
+                if taken == bytes.len() {
+                    return Words { taken, moves };
+                }
             }
         }
     }

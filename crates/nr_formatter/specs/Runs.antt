@@ -1,8 +1,7 @@
 -- Runs of bytes that stand for themselves, in a text line that has begun.
-use Rattle.std.specs.Prelude.{◌≡◌, ◌≤◌, ◌<◌, ℕ, Bool, true, false, not, ◌&&◌, nat_lt, List, length, map, take, get_or, slice_index, All, is_none, None}
+use Rattle.std.specs.Prelude.{◌≡◌, ◌≢◌, ◌≤◌, ◌<◌, ℕ, Bool, true, false, not, ◌&&◌, nat_lt, List, length, map, take, get_or, slice_index, All, is_none, None}
 use Rattle.nr_fill.specs.Pieces.{Collected, begins_line, end_word, line_cells, one_blank_more, text_cells}
 use Rattle.nr_fill.specs.Runs.{IsPlain, add_run}
-use Rattle.nr_store.specs.Windows.{rest_of, run_left}
 use Rattle.nr_store.specs.declared.element.Element.{Element}
 use Rattle.nr_store.specs.declared.element.Element.TheVariants as elements
 use Rattle.nr_reading.specs.InText.{is_in_text}
@@ -45,25 +44,16 @@ run_put bs f = with_collected (add_run (margins f) (is_under f.settings.fonts) b
 
 -- ---- bytes of the newest level
 
--- a byte that stands for itself
-abbrev pub IsPlainByte : Element → Type 0
-IsPlainByte (elements.Byte b) = IsPlain b
-IsPlainByte x = ⊥
+-- a byte that begins no escape
+abbrev pub IsCopied : Element → Type 0
+IsCopied (elements.Byte b) = b ≢ 92
+IsCopied x = ⊥
 
--- the newest level behind so many elements, which were these bytes, each a cell of the word
-abbrev pub level_run_put : List ℕ → Formatter → Formatter
-level_run_put bs f = run_put bs (record f { store = run_left (length bs) f.store })
-
--- So many plain bytes that came next of the newest level were put: as many as could be, up to 64.
-pub record PutsLevel (f : Formatter) (n : ℕ) (g : Formatter) : Type 0 where
-  pub bytes : List ℕ
-  pub count : length bytes ≡ n
-  pub front : map elements.Byte bytes ≡ take n (rest_of f.store.levels)
-  pub plain : All IsPlain bytes
-  pub is : g ≡ level_run_put bytes f
-  pub within : 0 < n → line_cells (collected g) ≤ g.line.limit
-  pub few : n ≤ 64
-  pub stops : n < 64 → IsPlainByte (get_or (rest_of f.store.levels) n (elements.Byte 0)) → text_cells (collected g) ≡ g.line.limit
+-- Bytes that are a front of some elements: up to 64, and up to one that is no byte or begins an escape.
+pub record IsFront (bs : List ℕ) (xs : List Element) : Type 0 where
+  pub are : map elements.Byte bs ≡ take (length bs) xs
+  pub few : length bs ≤ 64
+  pub ends : length bs < 64 → IsCopied (get_or xs (length bs) (elements.Byte 92)) → ⊥
 
 -- ---- a blank behind a word
 

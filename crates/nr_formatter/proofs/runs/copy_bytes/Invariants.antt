@@ -1,9 +1,8 @@
-use Rattle.std.proofs.Common.{◌≡◌, take, map}
-use Rattle.nr_store.specs.declared.element.Element.TheVariants as elements
+use Rattle.std.proofs.Common.{◌≡◌, take}
 use Rattle.nr_formatter.proofs.runs.copy_bytes.Given as goal
 
-abbrev pub invariant-loop-element : goal.invariant-loop-element
-invariant-loop-element l = record {
-  count : l.count ≡ l.element-index;
-  copied : map elements.Byte (take l.element-index l.bytes) ≡ take l.element-index l.text;
+abbrev pub invariant-loop-byte : goal.invariant-loop-byte
+invariant-loop-byte l = record {
+  count : l.count ≡ l.byte-index;
+  copied : take l.byte-index l.bytes ≡ take l.byte-index l.own;
 }
