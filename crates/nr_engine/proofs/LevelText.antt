@@ -25,7 +25,7 @@ use Rattle.nr_input.specs.declared.told.Told.TheVariants as tells
 use Rattle.nr_settings.specs.Fonts.{is_under}
 use Rattle.nr_formatter.specs.Access.{collected, margins}
 use Rattle.nr_formatter.specs.Lines.{fits_line}
-use Rattle.nr_formatter.specs.Runs.{IsGap, IsInLine, gap_flows, gap_put, gapped, PutsLevel, is_in_line, level_run_put, run_put}
+use Rattle.nr_formatter.specs.Runs.{IsGap, IsInLine, gap_flows, gap_put, gapped, is_in_line, run_put}
 use Rattle.nr_formatter.specs.Weights as weights
 use Rattle.nr_formatter.specs.Weights.{weight_of_agenda, owed_by_event, owed_by_task}
 use Rattle.nr_formatter.specs.declared.formatter.Formatter.{Formatter}
@@ -146,7 +146,10 @@ made_glided n e f g supply held s h is within glides =
       wrote = wrote_nothing (at e s) _ held (ap (λ t. t.pages) glides.leads);
     }
 
--- the newest level's text was read and put
+-- the newest level behind so many elements, which were these bytes, each a cell of the word
+abbrev level_run_put : List ℕ → Formatter → Formatter
+level_run_put bs f = run_put bs (record f { store = run_left (length bs) f.store })
+
 abbrev pub level_shape : List ℕ → Shape → Shape
 level_shape bs e = record e { formatter = level_run_put bs e.formatter }
 

@@ -2,7 +2,7 @@
 use Rattle.std.proofs.Common.{◌≡◌, ℕ, zero, suc, ◌+◌, ◌*◌, ◌<◌, ◌≤◌, true, List, [], ◌∷◌, ◌++◌, length, map, take, drop, Option, refl, sym, ap, ◌∙◌, subst, arith, length-drop, length-take-le, take-append-drop}
 use Rattle.std.specs.Prelude.{slice_index}
 use Rattle.std.proofs.Math.Seq.{drop-cons, drop-nil}
-use Rattle.std.proofs.lemmas.List.{drop-append-le, drop-map, length-map, take_rest}
+use Rattle.std.proofs.lemmas.List.{append_assoc, drop-append-le, drop-map, length-map, map-append, take_rest}
 use Rattle.nr_units.specs.Supply.{Supply}
 use Rattle.nr_fill.specs.Pieces.{line_cells}
 use Rattle.nr_store.specs.Laws.{left_times-run}
@@ -180,7 +180,11 @@ run_steps t (suc n) bs g line front plain fits = λ e zs supply next.
     let xs : List ℕ = take (suc n) (drop t bs) in
     let ys : List ℕ = drop (suc n) (drop t bs) in
     let count : length xs ≡ suc n = length-take-le (suc n) (drop t bs) front in
-    let all : map elements.Byte xs ++ (map elements.Byte ys ++ zs) ≡ rest_of there.formatter.store.levels = ? in
+    let all : map elements.Byte xs ++ (map elements.Byte ys ++ zs) ≡ rest_of there.formatter.store.levels =
+    sym (append_assoc (map elements.Byte xs) (map elements.Byte ys) zs)
+    ∙ ap (λ vs. vs ++ zs) (sym (map-append elements.Byte xs ys))
+    ∙ ap (λ vs. map elements.Byte vs ++ zs) (take-append-drop (suc n) (drop t bs))
+    ∙ next in
     subst (λ k. Makes (2 * k) there (record e { formatter = record (run_put xs g) { store = run_left k (run_left t g.store) } }) supply supply) count
     (makes_text xs (map elements.Byte ys ++ zs) there supply (omega (arith, count)) line plain all (fits (omega arith)))
 

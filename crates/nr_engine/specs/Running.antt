@@ -19,7 +19,7 @@ use Rattle.nr_formatter.specs.declared.formatter.Formatter.{Formatter}
 use Rattle.nr_formatter.specs.declared.tasks.Resume.{Resume}
 use Rattle.nr_page.specs.Sheet.{Holds as HoldsPage}
 use Rattle.nr_page.specs.declared.selection.PageRange.{PageRange}
-use Rattle.nr_store.specs.Stored.{Stored, charge_of}
+use Rattle.nr_store.specs.Stored.{Stored as StoredOf, charge_of}
 use Rattle.nr_store.specs.Windows.{rest_of, run_left}
 use Rattle.nr_store.specs.declared.element.Element.TheVariants as elements
 use Rattle.nr_engine.specs.State.{State, Choice, choices, formatter_at_first}
@@ -125,7 +125,7 @@ pub record LongestWords (bs : List ℕ) (taken : ℕ) (f : Formatter) : Type 0 w
   pub blank : taken < length bs → is_in_line f ≡ true → slice_index bs taken ≡ 32 → IsGap f → ⊥
 
 -- The same of the bytes that come next of the newest level: of all up to an element that is no byte or begins an escape, or of 64.
-pub record LongestOfLevel (v : Stored Resume) (f : Formatter) : Type 0 where
+pub record LongestOfLevel (v : StoredOf Resume) (f : Formatter) : Type 0 where
   pub bytes : List ℕ
   pub front : IsFront bytes (rest_of v.levels)
   pub taken : ℕ

@@ -5,7 +5,7 @@ use Rattle.nr_formatter.specs.declared.formatter.Formatter.{Formatter}
 use Rattle.nr_engine.specs.Running.{PutsOfLevel, PutsText}
 use Rattle.nr_engine.proofs.TextAtHand.{index_rest, length_rest, rest_of, turn_flows, turn_gap, turn_line, turn_on, turn_run}
 use Rattle.nr_engine.proofs.CellBytes.{byte_on, turn_byte}
-use Rattle.nr_engine.proofs.LevelWords.{level_byte, level_flows, level_gap, level_run}
+use Rattle.nr_engine.proofs.LevelWords.{level_byte, level_flows, level_gap, level_run, none_of_level}
 use Rattle.nr_engine.proofs.plain_text.put_line_words.Goals.{After-put_word-word, then-taken-bytes-via-then-taken-bytes, then-taken-bytes-via-else-taken-bytes+then-not-put_cell_byte}
 use Rattle.nr_engine.proofs.plain_text.put_line_words.Goals as goal
 
@@ -42,6 +42,22 @@ blank c below is =
     let t = c.loop-formatter.taken in
     let bs = c.args.bytes.now in
     (omega (arith, below, length_rest t bs), sym (index_rest t c.put_word-word.result.count bs below) ∙ is)
+
+pub loop-formatter-init : goal.loop-formatter-init
+loop-formatter-init c = record {
+  line = c.requires.line;
+  manner = c.manner-manner.ensures;
+  puts = record {
+    front = omega arith;
+    least = omega arith;
+    most = omega arith;
+    none = λ none. refl;
+    store = refl;
+    makes = λ e supply is has some. absurd (omega (arith, some));
+    saves = λ e supply is has some. absurd (omega (arith, some));
+  };
+  level = none_of_level c.args.bytes.now c.args.formatter.now;
+}
 
 pub loop-formatter-preserved : goal.loop-formatter-preserved
 loop-formatter-preserved c =
@@ -113,3 +129,42 @@ returns-in-Flows-clause-puts c =
     let gap = put.gap in
     let b = blank h (put.below refl) (put.blank refl) in
     turn_flows (c.loop-formatter.taken + n) (c.loop-formatter.moves + 2 * n) c.args.bytes.now c.args.formatter.now (word_put h) (run h) (line h) b.0 b.1 gap.0 c.put_word-word.new.self gap.1
+
+pub returns-then-taken-bytes-2-clause-puts : goal.returns-then-taken-bytes-2-clause-puts
+returns-then-taken-bytes-2-clause-puts c =
+    let h = (goal.at.returns-then-taken-bytes-2-clause-puts c).After-put_word-word in
+    let put = rw c.in-Reads.is at c.put_word-word.ensures in
+    let b = blank h (put.below refl) (put.blank refl) in
+    turn_gap (c.loop-formatter.taken + c.put_word-word.result.count) (c.loop-formatter.moves + 2 * c.put_word-word.result.count) c.args.bytes.now c.args.formatter.now (word_put h) (run h) (line h)
+    b.0 b.1 put.gap.0 c.put_word-word.new.self put.gap.1 put.gap.2
+
+pub returns-then-taken-bytes-2-clause-level : goal.returns-then-taken-bytes-2-clause-level
+returns-then-taken-bytes-2-clause-level c =
+    let h = (goal.at.returns-then-taken-bytes-2-clause-level c).After-put_word-word in
+    let put = rw c.in-Reads.is at c.put_word-word.ensures in
+    let b = blank h (put.below refl) (put.blank refl) in
+    level_gap (c.loop-formatter.taken + c.put_word-word.result.count) (c.loop-formatter.moves + 2 * c.put_word-word.result.count) c.args.bytes.now c.args.formatter.now (word_put h) (run_of_level h) (line h)
+    b.0 b.1 put.gap.0 c.put_word-word.new.self put.gap.1 put.gap.2
+
+pub returns-in-Flows-clause-level : goal.returns-in-Flows-clause-level
+returns-in-Flows-clause-level c =
+    let h = (goal.at.returns-in-Flows-clause-level c).After-put_word-word in
+    let put = rw c.in-Flows.is at c.put_word-word.ensures in
+    let b = blank h (put.below refl) (put.blank refl) in
+    level_flows (c.loop-formatter.taken + c.put_word-word.result.count) (c.loop-formatter.moves + 2 * c.put_word-word.result.count) c.args.bytes.now c.args.formatter.now (word_put h) (run_of_level h) (line h)
+    b.0 b.1 put.gap.0 c.put_word-word.new.self put.gap.1
+
+pub returns-then-taken-bytes-clause-level : goal.returns-then-taken-bytes-clause-level
+returns-then-taken-bytes-clause-level c =
+    let h = (goal.at.returns-then-taken-bytes-clause-level c).After-put_word-word in
+    let put = rw c.in-Left.is at c.put_word-word.ensures in
+    let n = c.put_word-word.result.count in
+    let t = c.loop-formatter.taken + n in
+    let m = c.loop-formatter.moves + 2 * n in
+    let bs = c.args.bytes.now in
+    let f = c.args.formatter.now in
+    let here : PutsOfLevel bs t m f c.put_word-word.new.self = subst (λ (x : Formatter). PutsOfLevel bs t m f x) (sym put.gap) (run_of_level h) in
+    elim c.then-taken-bytes.branch [
+      | then-taken-bytes-via-then-taken-bytes w ↦ subst (λ (x : Formatter). PutsOfLevel bs t m f x) (sym w.formatter-is) here
+      | then-taken-bytes-via-else-taken-bytes+then-not-put_cell_byte w ↦ subst (λ (x : Formatter). PutsOfLevel bs t m f x) (sym (w.formatter-is ∙ w.if-not-put_cell_byte.ensures)) here
+    ]

@@ -1,3 +1,24 @@
-use Rattle.std.proofs.Common.{◌≡◌, ◌≤◌, take, refl, ap, ◌∙◌, arith}
+use Rattle.std.proofs.Common.{◌≡◌, ◌≤◌, List, length, take, sym, ap, ◌∙◌, subst, arith, length-take-le}
+use Rattle.nr_store.specs.Laws.{left_times-run}
+use Rattle.nr_store.specs.Windows.{left_times, rest_of, run_left}
+use Rattle.nr_store.specs.Stored.{Stored}
+use Rattle.nr_formatter.specs.declared.formatter.Formatter.{Formatter}
+use Rattle.nr_formatter.specs.declared.tasks.Resume.{Resume}
+use Rattle.nr_formatter.proofs.LevelRuns.{front_few}
 use Rattle.nr_engine.specs.Holding.{Shape, shape}
+use Rattle.nr_engine.specs.Running.{MakesInPlace}
 use Rattle.nr_engine.proofs.engine.Engine.put_level_words.Goals as goal
+
+pub returns-clause-puts : goal.returns-clause-puts
+returns-clause-puts c =
+    let e : Shape = shape c.args.self.now in
+    let f = e.formatter in
+    let words = c.put_line_words-words in
+    let g = words.new.formatter in
+    let taken = words.result.taken in
+    let front = c.copy_level-count.ensures.front in
+    let level = words.ensures.level in
+    let few : taken ≤ length (rest_of f.store.levels) = omega (arith, level.front, front_few _ _ front) in
+    let w = c.skip.new.self in
+    let store_is : w ≡ run_left taken f.store = c.skip.ensures ∙ ap (left_times taken) level.store ∙ left_times-run taken f.store few in
+    subst (λ v. MakesInPlace words.result.moves e (record e { formatter = record g { store = v } })) (sym store_is) (level.makes e front.are)
