@@ -158,40 +158,30 @@ flows_spends e line few =
 
 -- ---- the engine
 
-module _ (e : Shape) (f : Formatter) (w : Stored Resume) (supply : Option Supply) (newline : IsNewline e.formatter) (next : shown e.formatter.store.levels ≡ shows.Item (elements.Byte 10)) (left : w ≡ left_times 1 f.store) where
+-- the newline comes next of the newest level
+module _ (e : Shape) (supply : Option Supply) (newline : IsNewline e.formatter) (next : shown e.formatter.store.levels ≡ shows.Item (elements.Byte 10)) where
   there_is : Showing e.formatter.store.levels (elements.Byte 10)
   there_is = showing e.formatter.store.levels (elements.Byte 10) next
 
   few : 1 ≤ length (rest_of e.formatter.store.levels)
   few = one_left e.formatter.store.levels (elements.Byte 10) there_is
 
-  store_is : f.store ≡ e.formatter.store → w ≡ run_left 1 e.formatter.store
-  store_is same = left ∙ ap (left_times 1) same ∙ left_times-run 1 e.formatter.store few
-
   -- the line that is collected is full
-  pub makes_ended : f ≡ newline_flows e.formatter → Makes 2 e (record e { formatter = record f { store = w } }) supply supply
-  makes_ended is =
-      let all : Makes 2 e (level_gone newline_flows e) supply supply = record {
-        makes = λ held s h. made_flows e supply held s h newline there_is.l there_is.ls there_is.xs there_is.is;
-        limit = refl;
-        most = refl;
-        limits = refl;
-        spends = flows_spends e (in_line e.formatter newline.line) few;
-      }
-      in
-      subst (λ g. Makes 2 e (record e { formatter = g }) supply supply)
-      (sym (ap (λ v. record f { store = v }) (store_is (ap (λ g. g.store) is)) ∙ ap (λ (g : Formatter). record g { store = run_left 1 e.formatter.store }) is)) all
+  pub makes_ended : Makes 2 e (level_gone newline_flows e) supply supply
+  makes_ended = record {
+    makes = λ held s h. made_flows e supply held s h newline there_is.l there_is.ls there_is.xs there_is.is;
+    limit = refl;
+    most = refl;
+    limits = refl;
+    spends = flows_spends e (in_line e.formatter newline.line) few;
+  }
 
   -- it is not
-  pub makes_line : fits_line (line_gapped (collected e.formatter)) ≡ true → f ≡ newline_put e.formatter → Makes 5 e (record e { formatter = record f { store = w } }) supply supply
-  makes_line fits is =
-      let all : Makes 5 e (level_gone newline_put e) supply supply = record {
-        makes = λ held s h. made_put e supply held s h newline there_is.l there_is.ls there_is.xs there_is.is fits;
-        limit = refl;
-        most = refl;
-        limits = refl;
-        spends = newline_spends e (in_line e.formatter newline.line) few;
-      }
-      in
-      subst (λ g. Makes 5 e (record e { formatter = g }) supply supply)
-      (sym (ap (λ v. record f { store = v }) (store_is (ap (λ g. g.store) is)) ∙ ap (λ (g : Formatter). record g { store = run_left 1 e.formatter.store }) is)) all
+  pub makes_line : fits_line (line_gapped (collected e.formatter)) ≡ true → Makes 5 e (level_gone newline_put e) supply supply
+  makes_line fits = record {
+    makes = λ held s h. made_put e supply held s h newline there_is.l there_is.ls there_is.xs there_is.is fits;
+    limit = refl;
+    most = refl;
+    limits = refl;
+    spends = newline_spends e (in_line e.formatter newline.line) few;
+  }

@@ -13,6 +13,7 @@ use Rattle.nr_store.specs.declared.element.Element.TheVariants as elements
 use Rattle.nr_store.specs.declared.shown.Shown.TheVariants as shows
 use Rattle.nr_formatter.specs.Access.{collected}
 use Rattle.nr_formatter.specs.CellBytes.{IsCellByte, byte_put}
+use Rattle.nr_formatter.specs.LineEnds.{IsNewline, line_gapped, newline_flows, newline_put}
 use Rattle.nr_formatter.specs.Lines.{fits_line}
 use Rattle.nr_formatter.specs.Runs.{IsGap, IsInLine, gap_flows, gap_put, gapped, is_in_line, run_put}
 use Rattle.nr_formatter.specs.Weights as weights
@@ -28,6 +29,7 @@ use Rattle.nr_engine.specs.Holding.{Made, Shape, Stands, at, weight, worth}
 use Rattle.nr_engine.specs.Running.{Makes, MakesInPlace, PutsOfLevel}
 use Rattle.nr_engine.proofs.CellBytes.{glides_byte, no_escape, no_newline}
 use Rattle.nr_engine.proofs.Gliding.{Glides, made_of, told}
+use Rattle.nr_engine.proofs.LevelNewlines.{makes_ended, makes_line}
 use Rattle.nr_engine.proofs.LevelText.{Showing, at_text, goes_byte, level_gone, level_shape, line_there, made_glided, makes_flows, makes_gap, makes_text, one_left, reads_byte, showing, within_text}
 use Rattle.nr_engine.proofs.PlainText.{ArePlain}
 use Rattle.nr_engine.proofs.RereadCells.{items_fewer}
@@ -150,7 +152,7 @@ Steps bs t n k g h =
     (e : Shape) (zs : List Element) (supply : Option Supply) → map elements.Byte (drop t bs) ++ zs ≡ rest_of (run_left t g.store).levels
     → Makes k (record e { formatter = behind t g }) (record e { formatter = record h { store = run_left n (run_left t g.store) } }) supply supply
 
-puts_on : (t m n k : ℕ) (bs : List ℕ) (f g h : Formatter) → PutsOfLevel bs t m f g → t + n ≤ length bs → k ≤ 3 * n → h.store ≡ g.store → Steps bs t n k g h → PutsOfLevel bs (t + n) (m + k) f h
+puts_on : (t m n k : ℕ) (bs : List ℕ) (f g h : Formatter) → PutsOfLevel bs t m f g → t + n ≤ length bs → k ≤ 5 * n → h.store ≡ g.store → Steps bs t n k g h → PutsOfLevel bs (t + n) (m + k) f h
 puts_on t m n k bs f g h puts front few store steps = record {
   front = front;
   most = omega (arith, puts.most, few);
@@ -235,3 +237,22 @@ level_byte t m b bs f g h puts below is byte put =
     let there : Shape = record e { formatter = behind t g } in
     makes_byte b there supply (record { line = byte.line; goes = byte.goes; within = byte.within })
     (showing there.formatter.store.levels (elements.Byte b) (shows_next t b bs zs (run_left t g.store) below is next))))
+
+-- and behind it comes the newline that ends its line
+module _ (t m : ℕ) (bs : List ℕ) (f g : Formatter) (puts : PutsOfLevel bs t m f g) (below : t < length bs) (is : slice_index bs t ≡ 10) (newline : IsNewline g) where
+  newline_there : IsNewline (behind t g)
+  newline_there = record { line = newline.line; plain = newline.plain; trap = newline.trap; underlined = newline.underlined; within = newline.within }
+
+  -- the line is full then
+  pub level_ended : (h : Formatter) → h ≡ newline_flows g → PutsOfLevel bs (t + 1) (m + 2) f h
+  level_ended h ended =
+      subst (λ (x : Formatter). PutsOfLevel bs (t + 1) (m + 2) f x) (sym ended)
+      (puts_on t m 1 2 bs f g (newline_flows g) puts (omega (arith, below)) (omega arith) refl
+      (λ e zs supply next. makes_ended (record e { formatter = behind t g }) supply newline_there (shows_next t 10 bs zs (run_left t g.store) below is next)))
+
+  -- or it is not
+  pub level_line : (h : Formatter) → fits_line (line_gapped (collected g)) ≡ true → h ≡ newline_put g → PutsOfLevel bs (t + 1) (m + 5) f h
+  level_line h fits put =
+      subst (λ (x : Formatter). PutsOfLevel bs (t + 1) (m + 5) f x) (sym put)
+      (puts_on t m 1 5 bs f g (newline_put g) puts (omega (arith, below)) (omega arith) refl
+      (λ e zs supply next. makes_line (record e { formatter = behind t g }) supply newline_there (shows_next t 10 bs zs (run_left t g.store) below is next) fits))

@@ -108,10 +108,10 @@ pub record PutsText (bs : List ℕ) (taken moves : ℕ) (f g : Formatter) : Type
 
 -- ---- text of the newest level
 
--- So many of these bytes were put, up to three moves each, wherever they come next of the newest level.
+-- So many of these bytes were put, up to five moves each, wherever they come next of the newest level.
 pub record PutsOfLevel (bs : List ℕ) (taken moves : ℕ) (f g : Formatter) : Type 0 where
   pub front : taken ≤ length bs
-  pub most : moves ≤ 3 * taken
+  pub most : moves ≤ 5 * taken
   pub store : g.store ≡ f.store
   pub makes : (e : Shape) → map elements.Byte bs ≡ take (length bs) (rest_of f.store.levels)
       → MakesInPlace moves (record e { formatter = f }) (record e { formatter = record g { store = run_left taken f.store } })
@@ -124,12 +124,17 @@ pub record LongestWords (bs : List ℕ) (taken : ℕ) (f : Formatter) : Type 0 w
   pub stops : taken < length bs → is_in_line f ≡ true → IsPlain (slice_index bs taken) → text_cells (collected f) ≡ f.line.limit
   pub blank : taken < length bs → is_in_line f ≡ true → slice_index bs taken ≡ 32 → IsGap f → ⊥
 
+-- The same up to the end of a line: nor is it a newline that does nothing but end its line.
+pub record LongestLine (bs : List ℕ) (taken : ℕ) (f : Formatter) : Type 0 where
+  pub words : LongestWords bs taken f
+  pub newline : taken < length bs → slice_index bs taken ≡ 10 → IsNewline f → ⊥
+
 -- The same of the bytes that come next of the newest level: of all up to an element that is no byte or begins an escape, or of 64.
 pub record LongestOfLevel (v : StoredOf Resume) (f : Formatter) : Type 0 where
   pub bytes : List ℕ
   pub front : IsFront bytes (rest_of v.levels)
   pub taken : ℕ
-  pub longest : LongestWords bytes taken f
+  pub longest : LongestLine bytes taken f
 
 -- As many of these bytes were put as could be, two to five moves each: what comes next is none of a line's words, no newline that
 -- does nothing but end its line, and at a line's beginning no text that is put.

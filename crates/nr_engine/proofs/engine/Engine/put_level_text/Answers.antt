@@ -1,15 +1,25 @@
-use Rattle.std.proofs.Common.{◌≡◌, sym, ◌∙◌, arith}
-use Rattle.nr_engine.specs.Holding.{shape}
+use Rattle.std.proofs.Common.{◌≡◌, ◌+◌, sym, ◌∙◌, arith}
+use Rattle.nr_engine.specs.Holding.{Shape, shape}
+use Rattle.nr_engine.specs.Running.{MakesInPlace}
 use Rattle.nr_engine.proofs.Travelling.{in_place-add}
+use Rattle.nr_engine.proofs.engine.Engine.put_level_text.Goals.{After-read_levels_once}
 use Rattle.nr_engine.proofs.engine.Engine.put_level_text.Goals as goal
 
+-- one part more
+part : (c : After-read_levels_once) → MakesInPlace (c.loop.moves + (c.put_level_line.result + c.read_levels_once.result)) (shape c.args.self.now) (shape c.read_levels_once.new.self)
+part c =
+    let e : Shape = shape c.loop.self in
+    let f : Shape = shape c.put_level_line.new.self in
+    let g : Shape = shape c.read_levels_once.new.self in
+    in_place-add c.loop.moves (c.put_level_line.result + c.read_levels_once.result) (shape c.args.self.now) e g c.loop.invariant.puts
+    (in_place-add c.put_level_line.result c.read_levels_once.result e f g c.put_level_line.ensures.puts c.read_levels_once.ensures.reads)
+
 pub returns-then-next-eq0-clause-puts : goal.returns-then-next-eq0-clause-puts
-returns-then-next-eq0-clause-puts c =
-    in_place-add c.loop.moves c.put_level_next-next.result (shape c.args.self.now) (shape c.loop.self) (shape c.put_level_next-next.new.self) c.loop.invariant.puts c.put_level_next-next.ensures.puts
+returns-then-next-eq0-clause-puts c = part ((goal.at.returns-then-next-eq0-clause-puts c).After-read_levels_once)
 
 pub loop-preserved : goal.loop-preserved
 loop-preserved c = record {
-  puts = in_place-add c.loop.moves c.put_level_next-next.result (shape c.args.self.now) (shape c.loop.self) (shape c.put_level_next-next.new.self) c.loop.invariant.puts c.put_level_next-next.ensures.puts;
+  puts = part ((goal.at.loop-preserved c).After-read_levels_once);
   line = sym c.is_in_line.ensures ∙ c.if-not-is_in_line.false;
-  few = omega (arith, c.loop.invariant.few, c.put_level_next-next.ensures.few);
+  few = omega (arith, c.loop.invariant.few, c.put_level_line.ensures.few, c.read_levels_once.ensures.few);
 }

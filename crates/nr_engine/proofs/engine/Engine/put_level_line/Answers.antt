@@ -7,18 +7,18 @@ use Rattle.nr_formatter.specs.declared.tasks.Resume.{Resume}
 use Rattle.nr_formatter.proofs.LevelRuns.{front_few}
 use Rattle.nr_engine.specs.Holding.{Shape, shape}
 use Rattle.nr_engine.specs.Running.{MakesInPlace}
-use Rattle.nr_engine.proofs.engine.Engine.put_level_words.Goals as goal
+use Rattle.nr_engine.proofs.engine.Engine.put_level_line.Goals as goal
 
 pub returns-clause-puts : goal.returns-clause-puts
 returns-clause-puts c =
     let e : Shape = shape c.args.self.now in
     let f = e.formatter in
-    let words = c.put_line_words-words in
-    let g = words.new.formatter in
-    let taken = words.result.taken in
+    let line = c.put_line-line in
+    let g = line.new.formatter in
+    let taken = line.result.taken in
     let front = c.copy_level-count.ensures.front in
-    let level = words.ensures.level in
+    let level = line.ensures.puts in
     let few : taken ≤ length (rest_of f.store.levels) = omega (arith, level.front, front_few _ _ front) in
     let w = c.skip.new.self in
     let store_is : w ≡ run_left taken f.store = c.skip.ensures ∙ ap (left_times taken) level.store ∙ left_times-run taken f.store few in
-    subst (λ v. MakesInPlace words.result.moves e (record e { formatter = record g { store = v } })) (sym store_is) (level.makes e front.are)
+    subst (λ v. MakesInPlace line.result.moves e (record e { formatter = record g { store = v } })) (sym store_is) (level.makes e front.are)
