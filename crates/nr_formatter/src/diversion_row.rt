@@ -63,11 +63,7 @@ fn ends_row(cells: &[Cell]) -> bool
 }
 
 /// Adds so many blanks and cells behind them, and tells what the store is charged then.
-fn add_behind(
-    store: &mut Store<Resume>,
-    blanks: usize,
-    cells: &[Cell],
-) -> Result<u32, StoredBytes>
+fn add_behind(store: &mut Store<Resume>, blanks: usize, cells: &[Cell]) -> Result<u32, StoredBytes>
     ensures result { result ≡ afforded (with_cells (replicate blanks blank ++ cells.now) store.old) (charge_of (with_cells (replicate blanks blank ++ cells.now) store.old)) }
     ensures ok { OnOk result (store.new ≡ with_cells (replicate blanks blank ++ cells.now) store.old) }
     ensures small { OnOk result (charge_of (with_cells (replicate blanks blank ++ cells.now) store.old) < 2 ^ 32) }
