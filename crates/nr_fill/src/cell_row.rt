@@ -60,12 +60,7 @@ impl CellRow for SliceVec<'_, Cell> {
 }
 
 /// Sets these pieces as a line in a row that has room for it, behind what stands there.
-pub fn lay_line<R: CellRow>(
-    slots: &[PieceSlot],
-    cells: &[Cell],
-    extra: Extra,
-    row: &mut R,
-)
+pub fn lay_line<R: CellRow>(slots: &[PieceSlot], cells: &[Cell], extra: Extra, row: &mut R)
     requires some { 0 < length slots.now }
     requires cells { cells_in_slots slots.now ≤ length cells.now }
     requires each { extra.each < 2 ^ 62 }

@@ -1,9 +1,6 @@
-use Rattle.std.proofs.Common.{◌≡◌, ◌≤◌, List, length, take, sym, ap, ◌∙◌, subst, arith, length-take-le}
+use Rattle.std.proofs.Common.{◌≡◌, ◌≤◌, length, sym, ap, ◌∙◌, subst, arith}
 use Rattle.nr_store.specs.Laws.{left_times-run}
 use Rattle.nr_store.specs.Windows.{left_times, rest_of, run_left}
-use Rattle.nr_store.specs.Stored.{Stored}
-use Rattle.nr_formatter.specs.declared.formatter.Formatter.{Formatter}
-use Rattle.nr_formatter.specs.declared.tasks.Resume.{Resume}
 use Rattle.nr_formatter.proofs.LevelRuns.{front_few}
 use Rattle.nr_engine.specs.Holding.{Shape, shape}
 use Rattle.nr_engine.specs.Running.{MakesInPlace}
