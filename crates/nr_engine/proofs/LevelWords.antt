@@ -25,7 +25,7 @@ use Rattle.nr_engine.specs.State.{State}
 use Rattle.nr_engine.specs.Machine.{step}
 use Rattle.nr_engine.specs.Measures.{IsWithin}
 use Rattle.nr_engine.specs.Holding.{Made, Shape, Stands, at, weight, worth}
-use Rattle.nr_engine.specs.Running.{LongestLine, Makes, MakesInPlace, PutsOfLevel}
+use Rattle.nr_engine.specs.Running.{Makes, MakesInPlace, PutsOfLevel}
 use Rattle.nr_engine.proofs.CellBytes.{glides_byte, no_escape, no_newline}
 use Rattle.nr_engine.proofs.Gliding.{Glides, made_of, told}
 use Rattle.nr_engine.proofs.LevelNewlines.{makes_ended, makes_line}
@@ -255,26 +255,3 @@ module _ (t m : ℕ) (bs : List ℕ) (f g : Formatter) (puts : PutsOfLevel bs t 
       subst (λ (x : Formatter). PutsOfLevel bs (t + 1) (m + 5) f x) (sym put)
       (puts_on t m 1 5 bs f g (newline_put g) puts (omega (arith, below)) (omega arith) refl
       (λ e zs supply next. makes_line (record e { formatter = behind t g }) supply newline_there (shows_next t 10 bs zs (run_left t g.store) below is next) fits))
-
--- ---- as many as could be
-
--- what was taken of the level does not matter
-pub longest_left : (bs : List ℕ) (t : ℕ) (g : Formatter) → LongestLine bs t g → LongestLine bs t (behind t g)
-longest_left bs t g h = record {
-  words = record {
-    stops = h.words.stops;
-    blank = λ below line is gap. h.words.blank below line is (record { plain = gap.plain; within = gap.within });
-  };
-  newline = λ below is newline.
-      h.newline below is (record { line = newline.line; plain = newline.plain; trap = newline.trap; underlined = newline.underlined; within = newline.within });
-}
-
--- no bytes were there
-pub longest_none : (bs : List ℕ) (f : Formatter) → length bs ≡ 0 → LongestLine bs 0 f
-longest_none bs f none = record {
-  words = record {
-    stops = λ below line plain. absurd (omega (arith, none, below));
-    blank = λ below line is gap. absurd (omega (arith, none, below));
-  };
-  newline = λ below is newline. absurd (omega (arith, none, below));
-}

@@ -130,12 +130,10 @@ pub record LongestLine (bs : List ℕ) (taken : ℕ) (f : Formatter) : Type 0 wh
   pub newline : taken < length bs → slice_index bs taken ≡ 10 → IsNewline f → ⊥
 
 -- The same of the bytes that come next of the newest level: of all up to an element that is no byte or begins an escape, or of 64.
--- Those that were put were taken.
 pub record LongestOfLevel (v : StoredOf Resume) (f : Formatter) : Type 0 where
   pub bytes : List ℕ
   pub front : IsFront bytes (rest_of v.levels)
   pub taken : ℕ
-  pub left : f.store ≡ run_left taken v
   pub longest : LongestLine bytes taken f
 
 -- As many of these bytes were put as could be, two to five moves each: what comes next is none of a line's words, no newline that
