@@ -16,6 +16,8 @@ pub mod Weighing
 pub mod Stacked
 pub mod Moving
 pub mod PlainBytes
+pub mod Rows
+pub mod LineRows
 pub mod ControlNames
 pub mod RequestLines
 pub mod Interpolated

@@ -22,6 +22,7 @@ pub mod Reading
 pub mod Runs
 pub mod Rereading
 pub mod RequestLines
+pub mod Rows
 pub mod Seeking
 pub mod Setting
 pub mod Skipping

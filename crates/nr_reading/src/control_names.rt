@@ -1,8 +1,11 @@
 //! The name of a control line, met at once.
-ghost use Rattle.std.specs.Prelude.{◌≡◌, true, false, not};
+ghost use Rattle.std.specs.Prelude.{◌≡◌, ◌+◌, ◌≤◌, ℕ, length, true, false, not};
 ghost use Rattle.nr_reading.specs.declared.mode.Due.TheVariants as dues;
 ghost use Rattle.nr_reading.specs.ControlNames.{goes_on_name, behind_name};
+ghost use Rattle.nr_reading.specs.declared.mode.Mode.TheVariants as modes;
+ghost use Rattle.nr_reading.specs.Meeting.{reads_next};
 ghost use Rattle.nr_reading.specs.Passing.{quiet};
+ghost use Rattle.nr_reading.specs.Rows.{LeadsOn};
 ghost use Rattle.nr_reading.specs.Runs.{HasMet};
 
 use super::half::Half;
@@ -32,6 +35,43 @@ impl Half {
         self.notes.name.push(second);
     }
 
+    // A control character and the two bytes of a name behind it are met, where they come at this place of a row and names aren't
+    // long. Tells whether they came.
+    #[inline(always)]
+    pub(crate) fn meet_name_at<I: Items>(&mut self, items: &I, place: usize) -> bool
+        requires mode { self.old.reading.mode ≡ modes.Start }
+        requires next { reads_next self.old ≡ true }
+        ensures met { result ≡ true → (n : ℕ) → LeadsOn (I.fronts items.now) place n self.old (place + 3) (n + 4) self.new }
+        ensures due { result ≡ true → self.new.reading.due ≡ dues.Seek }
+        ensures within { result ≡ true → place + 3 ≤ length (I.fronts items.now) }
+        ensures left { result ≡ false → self.new ≡ self.old }
+    {
+        if items.count() < 3 || place > items.count() - 3 {
+            return false;
+        }
+        let Some(sign) = items.byte(place) else {
+            return false;
+        };
+        let no_break = sign != self.signs.control;
+        if no_break && sign != self.signs.no_break {
+            return false;
+        }
+        if self.signs.long {
+            return false;
+        }
+        let Some(first) = items.byte(place + 1) else {
+            return false;
+        };
+        let Some(second) = items.byte(place + 2) else {
+            return false;
+        };
+        if !goes_on_name(first) || !goes_on_name(second) {
+            return false;
+        }
+        self.take_name(no_break, first, second);
+        true
+    }
+
     /// A control character at a line's beginning and the two bytes of a name behind it are met, where they come first in a
     /// row and names aren't long: four moves. Tells whether they came.
     #[inline(always)]
@@ -41,29 +81,9 @@ impl Half {
         ensures due { result ≡ true → self.new.reading.due ≡ dues.Seek }
         ensures left { result ≡ false → self.new ≡ self.old }
     {
-        if !matches!(self.reading.mode, Mode::Start) || items.count() < 3 {
+        if !matches!(self.reading.mode, Mode::Start) || !self.reads_plainly() {
             return false;
         }
-        let Some(sign) = items.byte(0) else {
-            return false;
-        };
-        let no_break = sign != self.signs.control;
-        if no_break && sign != self.signs.no_break {
-            return false;
-        }
-        if self.signs.long || !self.reads_plainly() {
-            return false;
-        }
-        let Some(first) = items.byte(1) else {
-            return false;
-        };
-        let Some(second) = items.byte(2) else {
-            return false;
-        };
-        if !goes_on_name(first) || !goes_on_name(second) {
-            return false;
-        }
-        self.take_name(no_break, first, second);
-        true
+        self.meet_name_at(items, 0)
     }
 }

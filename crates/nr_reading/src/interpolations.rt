@@ -189,7 +189,7 @@ impl Half {
 
     /// An interpolation `\$N`, `\nX`, `\n(XX` or `\*X`, `\*(XX`, with a sign or not, is met at once that begins at this place of a row,
     /// with a `\`. None where the row has not all of it, or it isn't one of these.
-    #[inline(never)]
+    #[inline(always)]
     pub(crate) fn meet_interpolation<I: Items>(&mut self, items: &I, place: usize) -> Option<Run>
         requires due { self.old.reading.due ≡ dues.Look }
         requires within { place < length (I.fronts items.now) }

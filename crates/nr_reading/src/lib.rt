@@ -24,6 +24,7 @@ mod front;
 mod half;
 mod interpolations;
 mod kept;
+mod line_rows;
 mod mode;
 mod notes;
 mod passing;

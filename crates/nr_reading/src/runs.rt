@@ -1,16 +1,16 @@
 //! Many items met one after another.
-ghost use Rattle.std.specs.Prelude.{◌≡◌, ◌<◌, ◌≤◌, ℕ, List, length, map, slice_get, Some, None, IfSome};
+ghost use Rattle.std.specs.Prelude.{◌≡◌, ◌<◌, ◌≤◌, ℕ, List, length, map, slice_get, Some, None, IfSome, true};
 ghost use Rattle.nr_reading.specs.declared.event.Event.TheVariants as events;
 ghost use Rattle.nr_reading.specs.declared.front.Front.{Front as FrontItem};
 ghost use Rattle.nr_reading.specs.declared.front.Front.TheVariants as variants;
-ghost use Rattle.nr_reading.specs.declared.half.Half.{Half as HalfRead};
 ghost use Rattle.nr_reading.specs.declared.mode.Due.TheVariants as dues;
-ghost use Rattle.nr_reading.specs.Passing.{quiet};
+ghost use Rattle.nr_reading.specs.Meeting.{reads_next};
+ghost use Rattle.nr_reading.specs.Rows.{MeetsRest};
 ghost use Rattle.nr_reading.specs.Runs.{HasMet, spot};
 
 use super::event::Event;
 use super::half::Half;
-use super::mode::Due;
+use super::mode::{Due, Mode};
 
 /// The most moves of one run.
 const LONGEST: usize = 65_536;
@@ -42,12 +42,6 @@ pub struct Run {
     pub event: Event,
 }
 
-// Whether such a byte behind a `\` interpolates an argument, a register or a string.
-#[inline(always)]
-fn interpolates(byte: Option<u8>) -> bool {
-    matches!(byte, Some(b'$' | b'n' | b'*'))
-}
-
 impl Half {
     /// Bytes are met, up to the first item that is none, the first that tells something, or behind which something is due;
     /// in 65,536 moves at most.
@@ -70,7 +64,7 @@ impl Half {
 
     // Behind so many items and moves, the interpolation that begins with this byte, if it stands whole in the row.
     #[inline(always)]
-    fn meet_whole<I: Items>(
+    pub(crate) fn meet_whole<I: Items>(
         &mut self,
         items: &I,
         byte: u8,
@@ -80,16 +74,10 @@ impl Half {
         requires due { self.old.reading.due ≡ dues.Look }
         requires within { taken < length (I.fronts items.now) }
         requires byte { slice_get (I.fronts items.now) taken ≡ Some (variants.Byte byte) }
-        requires few { moves ≤ 65536 }
-        ensures met { IfSome result (λ run. (h : HalfRead) → HasMet moves (I.fronts items.now) h (quiet taken self.old) → HasMet run.moves (I.fronts items.now) h (spot run self.new)) }
-        ensures few { IfSome result (λ run. run.moves ≤ 65536) }
-        ensures due { IfSome result (λ run. run.event ≡ events.Nothing → self.new.reading.due ≡ dues.Look → ⊥) }
+        ensures rest { IfSome result (λ run. MeetsRest (I.fronts items.now) taken moves self.old run self.new) }
         ensures left { result ≡ None → self.new ≡ self.old }
     {
-        if byte != b'\\' || items.count() - taken < 3 || moves + 6 > LONGEST {
-            return None;
-        }
-        if !interpolates(items.byte(taken + 1)) {
+        if byte != b'\\' || items.count() - taken < 3 || moves > LONGEST - 6 {
             return None;
         }
         let Some(run) = self.meet_interpolation(items, taken) else {
@@ -102,30 +90,15 @@ impl Half {
         })
     }
 
-    // The same of a row that is not empty.
+    /// The items behind a place of a row, to which so many moves led, are met one after another.
     #[inline(never)]
-    fn meet_items<I: Items>(&mut self, items: &I) -> Run
-        ensures met { HasMet result.moves (I.fronts items.now) self.old (spot result self.new) }
-        ensures few { result.moves ≤ 65536 }
-        ensures longest { result.event ≡ events.Nothing → self.new.reading.due ≡ dues.Look → result.moves < 65536
-            → (byte : ℕ) → slice_get (I.fronts items.now) result.taken ≡ Some (variants.Byte byte) → ⊥ }
+    pub(crate) fn meet_more<I: Items>(&mut self, items: &I, from: usize, made: usize) -> Run
+        requires due { self.old.reading.due ≡ dues.Look }
+        requires few { made ≤ 65536 }
+        ensures { MeetsRest (I.fronts items.now) from made self.old result self.new }
     {
-        if !matches!(self.reading.due, Due::Look) {
-            return Run {
-                taken: 0,
-                moves: 0,
-                event: Event::Nothing,
-            };
-        }
-        if self.meet_name(items) {
-            return Run {
-                taken: 3,
-                moves: 4,
-                event: Event::Nothing,
-            };
-        }
-        let mut taken = self.meet_plain(items, LONGEST);
-        let mut moves = taken;
+        let mut taken = from;
+        let mut moves = made;
         while taken < items.count() && moves < LONGEST {
             let Some(byte) = items.byte(taken) else {
                 break;
@@ -149,5 +122,49 @@ impl Half {
             moves,
             event: Event::Nothing,
         }
+    }
+
+    // The items of a row are met: first those that do little, then one after another.
+    #[inline(never)]
+    fn meet_others<I: Items>(&mut self, items: &I) -> Run
+        requires due { self.old.reading.due ≡ dues.Look }
+        ensures { MeetsRest (I.fronts items.now) 0 0 self.old result self.new }
+    {
+        let taken = self.meet_plain(items, LONGEST);
+        self.meet_more(items, taken, taken)
+    }
+
+    // The items of a row are met in the loop of the mode, where it has one.
+    #[inline(always)]
+    fn meet_in_mode<I: Items>(&mut self, items: &I) -> Run
+        requires next { reads_next self.old ≡ true }
+        ensures { MeetsRest (I.fronts items.now) 0 0 self.old result self.new }
+    {
+        match self.reading.mode {
+            Mode::Start => self.meet_beginning(items, 0, 0),
+            Mode::Text => self.meet_more(items, 0, 0),
+            _ => self.meet_others(items),
+        }
+    }
+
+    // The same of a row that is not empty.
+    #[inline(never)]
+    fn meet_items<I: Items>(&mut self, items: &I) -> Run
+        ensures met { HasMet result.moves (I.fronts items.now) self.old (spot result self.new) }
+        ensures few { result.moves ≤ 65536 }
+        ensures longest { result.event ≡ events.Nothing → self.new.reading.due ≡ dues.Look → result.moves < 65536
+            → (byte : ℕ) → slice_get (I.fronts items.now) result.taken ≡ Some (variants.Byte byte) → ⊥ }
+    {
+        if !matches!(self.reading.due, Due::Look) {
+            return Run {
+                taken: 0,
+                moves: 0,
+                event: Event::Nothing,
+            };
+        }
+        if self.reads_plainly() {
+            return self.meet_in_mode(items);
+        }
+        self.meet_others(items)
     }
 }

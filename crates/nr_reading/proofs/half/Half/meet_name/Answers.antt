@@ -1,23 +1,15 @@
-use Rattle.std.specs.Prelude.{◌==◌}
-use Rattle.std.proofs.Common.{◌≡◌, not, refl, subst, sym, ◌∙◌, arith}
-use Rattle.std.proofs.lemmas.Bool.{eq-eqb, false≢true}
-use Rattle.nr_reading.specs.declared.mode.Mode.TheVariants as modes
-use Rattle.nr_reading.specs.Passing.{quiet}
-use Rattle.nr_reading.specs.Runs.{HasMet}
-use Rattle.nr_reading.proofs.ControlNames.{met-name, is_sign}
-use Rattle.nr_reading.proofs.half.Half.meet_name.Goals.{in-Start, in_default, else-no_break-via-then-no_break+else-sign-self, else-no_break-via-else-no_break}
+use Rattle.std.proofs.Common.{sym, ◌∙◌}
+use Rattle.std.proofs.lemmas.Bool.{false≢true}
+use Rattle.nr_reading.proofs.Rows.{nothing_met, looking_next}
+use Rattle.nr_reading.proofs.half.Half.meet_name.Goals.{in-Start, in_default}
 use Rattle.nr_reading.proofs.half.Half.meet_name.Goals as goal
+
+pub meet_name_at-requires-clause-mode : goal.meet_name_at-requires-clause-mode
+meet_name_at-requires-clause-mode g c = elim c.match-matches.branch [ in-Start w ↦ w.in-Start.is | in_default w ↦ absurd (false≢true (sym w.matches-is ∙ c.if-not-matches.false)) ]
+
+pub meet_name_at-requires-clause-next : goal.meet_name_at-requires-clause-next
+meet_name_at-requires-clause-next g c = looking_next c.args.self.now c.requires.due (sym c.reads_plainly.ensures ∙ c.if-not-reads_plainly.false)
 
 pub returns-clause-met : goal.returns-clause-met
 returns-clause-met g c = λ is.
-    let fs = g.I.Items.fronts c.args.items.now in
-    let h = c.args.self.now in
-    let start : h.reading.mode ≡ modes.Start = elim c.match-matches.branch [ in-Start w ↦ w.in-Start.is | in_default w ↦ absurd (false≢true (sym w.matches-is ∙ c.if-not-matches.false)) ] in
-    subst (λ k. HasMet 4 fs h (quiet 3 k)) (sym c.take_name.ensures)
-    (met-name fs h c.in-Some.sign c.in-Some-byte.first c.in-Some-byte-2.second (not (c.in-Some.sign == h.signs.control)) start (sym c.reads_plainly.ensures ∙ c.if-not-reads_plainly.false) c.requires.due c.if-self.false
-    (omega (arith, c.if-count-lt3.false, c.count.ensures)) c.in-Some.ensures.value c.in-Some-byte.ensures.value c.in-Some-byte-2.ensures.value
-    (elim c.else-no_break.branch [
-      | else-no_break-via-then-no_break+else-sign-self w ↦ is_sign c.in-Some.sign h.signs (c.in-Some.sign == h.signs.control) refl (λ e. eq-eqb c.in-Some.sign h.signs.no_break w.if-sign-self.false)
-      | else-no_break-via-else-no_break w ↦ is_sign c.in-Some.sign h.signs (c.in-Some.sign == h.signs.control) refl (λ e. absurd (false≢true (sym e ∙ eq-eqb c.in-Some.sign h.signs.control w.if-no_break.false)))
-    ])
-    (sym c.goes_on_name.ensures ∙ c.if-not-goes_on_name.false) (sym c.goes_on_name-else-not-goes_on_name.ensures ∙ c.if-not-goes_on_name-2.false))
+    (c.meet_name_at.ensures.met is 0).met c.args.self.now (nothing_met (g.I.Items.fronts c.args.items.now) c.args.self.now)

@@ -1,0 +1,33 @@
+-- The beginnings of lines in a row of items.
+use Rattle.std.specs.Prelude.{◌==◌, ◌||◌, not}
+use Rattle.std.proofs.Common.{◌≡◌, ℕ, Bool, true, false, [], refl, sym, subst}
+use Rattle.nr_reading.specs.declared.event.Event.TheVariants as events
+use Rattle.nr_reading.specs.declared.half.Half.{Half}
+use Rattle.nr_reading.specs.declared.mode.Escape.TheVariants as escapes
+use Rattle.nr_reading.specs.declared.mode.Mode.TheVariants as modes
+use Rattle.nr_reading.specs.declared.mode.Signs.{Signs}
+use Rattle.nr_reading.specs.LineBeginnings.{begins_text, text_begun}
+use Rattle.nr_reading.specs.Meeting.{reads_next}
+use Rattle.nr_reading.proofs.Asked.{half_at}
+use Rattle.nr_reading.proofs.Rows.{MeetsByte, standing}
+use Rattle.nr_reading.proofs.Weighing.{at}
+
+-- a byte that begins the text of a line
+record BeginsText (b : ℕ) (s : Signs) : Type 0 where
+  escape : (b == 92) ≡ false
+  newline : (b == 10) ≡ false
+  blank : (b == 32) ≡ false
+  control : (b == s.control) ≡ false
+  no_break : (b == s.no_break) ≡ false
+
+begins : (b : ℕ) (s : Signs) → begins_text b s ≡ true → BeginsText b s
+begins b s is = by (b == 92) (b == 10) (b == 32) (b == s.control) (b == s.no_break) refl refl refl refl refl is
+  where
+    by : (u v w x y : Bool) → (b == 92) ≡ u → (b == 10) ≡ v → (b == 32) ≡ w → (b == s.control) ≡ x → (b == s.no_break) ≡ y → not (u || v || w || (x || y)) ≡ true → BeginsText b s
+    by false false false false false p q r s t is = record { escape = p; newline = q; blank = r; control = s; no_break = t }
+    by u v w x y p q r s t is = absurd (let wrong : false ≡ true = is in cc)
+
+pub meet-text : (b : ℕ) (h : Half) → h.reading.mode ≡ modes.Start → reads_next h ≡ true → begins_text b h.signs ≡ true → MeetsByte b h (text_begun h) (events.Byte b) true
+meet-text b h mode next is =
+    let byte = begins b h.signs is in
+    subst (λ (k : Half). MeetsByte b k (text_begun k) (events.Byte b) true) (sym (standing modes.Start h mode next)) (rw (byte.control, byte.no_break, byte.newline, byte.escape, byte.blank) refl)

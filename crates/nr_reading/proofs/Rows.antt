@@ -1,0 +1,114 @@
+-- Rows of items, met from a place on.
+use Rattle.std.specs.Prelude.{slice_get}
+use Rattle.std.specs.Int.{from_bool}
+use Rattle.std.proofs.lemmas.Option.{slice_get_past}
+use Rattle.std.proofs.Common.{◌≡◌, ℕ, ◌+◌, ◌<◌, ◌≤◌, Bool, true, false, List, [], ◌∷◌, length, Some, refl, sym, subst, ◌∙◌, arith}
+use Rattle.nr_reading.specs.declared.ask.Ask.{Ask}
+use Rattle.nr_reading.specs.declared.event.Event.{Event}
+use Rattle.nr_reading.specs.declared.event.Event.TheVariants as events
+use Rattle.nr_reading.specs.declared.front.Front.{Front}
+use Rattle.nr_reading.specs.declared.front.Front.TheVariants as fronts
+use Rattle.nr_reading.specs.declared.half.Half.{Half}
+use Rattle.nr_reading.specs.declared.mode.Due.{Due}
+use Rattle.nr_reading.specs.declared.mode.Due.TheVariants as dues
+use Rattle.nr_reading.specs.declared.mode.Escape.{Escape}
+use Rattle.nr_reading.specs.declared.mode.Escape.TheVariants as escapes
+use Rattle.nr_reading.specs.declared.mode.Mode.{Mode}
+use Rattle.nr_reading.specs.declared.runs.Run.{Run}
+use Rattle.nr_reading.specs.Meeting.{meet, reads_next, reads_next_at, reads_plainly}
+use Rattle.nr_reading.specs.Passing.{quiet}
+use Rattle.nr_reading.specs.Rows.{LeadsOn, MeetsRest}
+use Rattle.nr_reading.specs.Runs.{HasMet, spot}
+use Rattle.nr_reading.proofs.Asked.{half_at}
+use Rattle.nr_reading.proofs.Moving.{met_counted}
+use Rattle.nr_reading.proofs.Paying.{pays_for}
+use Rattle.nr_reading.proofs.Weighing.{at}
+
+-- the byte in front does this
+abbrev pub MeetsByte : ℕ → Half → Half → Event → Bool → Type 0
+MeetsByte b h k e takes = meet (fronts.Byte b) h ≡ record { half = k; event = e; takes = takes }
+
+-- where an item is read next, behind no part of an escape, in this mode
+pub standing : (m : Mode) (h : Half) → h.reading.mode ≡ m → reads_next h ≡ true → h ≡ half_at (at m escapes.Plain h.reading.continued h.reading.no_break) h.signs [] h.delimited h.notes
+standing m h mode next = by h.reading.due h.asks h.reading.escape h.reading.mode mode next
+  where
+    by : (x : Due) (asks : List Ask) (e : Escape) (k : Mode) → k ≡ m → reads_next_at x asks e ≡ true
+        → half_at (record { mode = k; escape = e; due = x; continued = h.reading.continued; no_break = h.reading.no_break }) h.signs asks h.delimited h.notes
+        ≡ half_at (at m escapes.Plain h.reading.continued h.reading.no_break) h.signs [] h.delimited h.notes
+    by dues.Look [] escapes.Plain k mode next = rw mode refl
+    by x asks e k mode next = absurd (let wrong : false ≡ true = next in cc)
+
+pub looks : (h : Half) → reads_next h ≡ true → h.reading.due ≡ dues.Look
+looks h next = by h.reading.due h.asks h.reading.escape next
+  where
+    by : (x : Due) (asks : List Ask) (e : Escape) → reads_next_at x asks e ≡ true → x ≡ dues.Look
+    by dues.Look asks e next = refl
+    by x asks e next = absurd (let wrong : false ≡ true = next in cc)
+
+pub nothing_met : (fs : List Front) (h : Half) → HasMet 0 fs h (quiet 0 h)
+nothing_met fs h = record { leads = refl; goes = λ k few. absurd (omega (arith, few)); within = omega arith; pays = omega arith; tells = refl }
+
+-- ---- places of a row
+
+module _ (fs : List Front) (from made : ℕ) where
+  pub stays : (h : Half) → LeadsOn fs from made h from made h
+  stays h = record { met = λ k has. has }
+
+  -- one byte more, which is taken or left, whatever it tells
+  one_more : (to moves b : ℕ) (old mid new : Half) (e : Event) (takes : Bool) (more : ℕ) → LeadsOn fs from made old to moves mid → to < length fs → mid.reading.due ≡ dues.Look → slice_get fs to ≡ Some (fronts.Byte b) → MeetsByte b mid new e takes
+      → more ≡ from_bool takes → (h : Half) → HasMet made fs h (quiet from old) → HasMet (moves + 1) fs h (record { taken = to + more; half = new; event = e })
+  one_more to moves b old mid new e takes more leads within look some meets is h has =
+      met_counted moves to more b fs h mid new (record { event = e; takes = takes }) (leads.met h has) within look some (sym meets)
+      (pays_for (fronts.Byte b) mid new (record { event = e; takes = takes }) (sym meets) look) is
+
+  pub taken_more : (to moves b : ℕ) (old mid new : Half) → LeadsOn fs from made old to moves mid → to < length fs → mid.reading.due ≡ dues.Look → slice_get fs to ≡ Some (fronts.Byte b) → MeetsByte b mid new events.Nothing true
+      → LeadsOn fs from made old (to + 1) (moves + 1) new
+  taken_more to moves b old mid new leads within look some meets = record { met = one_more to moves b old mid new events.Nothing true 1 leads within look some meets refl }
+
+  pub left_more : (to moves b : ℕ) (old mid new : Half) → LeadsOn fs from made old to moves mid → to < length fs → mid.reading.due ≡ dues.Look → slice_get fs to ≡ Some (fronts.Byte b) → MeetsByte b mid new events.Nothing false
+      → LeadsOn fs from made old to (moves + 1) new
+  left_more to moves b old mid new leads within look some meets =
+      let none : to + 0 ≡ to = omega arith in
+      subst (λ t. LeadsOn fs from made old t (moves + 1) new) none (record { met = one_more to moves b old mid new events.Nothing false 0 leads within look some meets refl })
+
+  -- the last byte tells something, or something is due behind it
+  pub taken_last : (to moves b : ℕ) (old mid new : Half) (e : Event) → LeadsOn fs from made old to moves mid → to < length fs → mid.reading.due ≡ dues.Look → slice_get fs to ≡ Some (fronts.Byte b) → MeetsByte b mid new e true
+      → moves < 65536 → (e ≡ events.Nothing → new.reading.due ≡ dues.Look → ⊥) → MeetsRest fs from made old (record { taken = to + 1; moves = moves + 1; event = e }) new
+  taken_last to moves b old mid new e leads within look some meets few stops = record {
+    met = one_more to moves b old mid new e true 1 leads within look some meets refl;
+    few = omega (arith, few);
+    longest = λ silent due. absurd (stops silent due);
+  }
+
+  pub left_last : (to moves b : ℕ) (old mid new : Half) (e : Event) → LeadsOn fs from made old to moves mid → to < length fs → mid.reading.due ≡ dues.Look → slice_get fs to ≡ Some (fronts.Byte b) → MeetsByte b mid new e false
+      → moves < 65536 → (e ≡ events.Nothing → new.reading.due ≡ dues.Look → ⊥) → MeetsRest fs from made old (record { taken = to; moves = moves + 1; event = e }) new
+  left_last to moves b old mid new e leads within look some meets few stops =
+      let none : to + 0 ≡ to = omega arith in
+      subst (λ t. MeetsRest fs from made old (record { taken = t; moves = moves + 1; event = e }) new) none (record {
+        met = one_more to moves b old mid new e false 0 leads within look some meets refl;
+        few = omega (arith, few);
+        longest = λ silent due. absurd (stops silent due);
+      })
+
+  -- behind a place that was led to the rest is met
+  pub rest_behind : (to moves : ℕ) (old mid new : Half) (run : Run) → LeadsOn fs from made old to moves mid → MeetsRest fs to moves mid run new → MeetsRest fs from made old run new
+  rest_behind to moves old mid new run leads rest = record { met = λ h has. rest.met h (leads.met h has); few = rest.few; longest = rest.longest }
+
+  -- nothing is left to meet
+  pub ends_here : (to moves : ℕ) (old mid : Half) → LeadsOn fs from made old to moves mid → moves ≤ 65536 → length fs ≤ to → MeetsRest fs from made old (record { taken = to; moves = moves; event = events.Nothing }) mid
+  ends_here to moves old mid leads few past = record {
+    met = leads.met;
+    few = few;
+    longest = λ silent due less byte some. let none = slice_get_past fs to past in let wrong = sym none ∙ some in absurd cc;
+  }
+
+-- something is told
+pub told : (e : Event) (h : Half) → (e ≡ events.Nothing → ⊥) → e ≡ events.Nothing → h.reading.due ≡ dues.Look → ⊥
+told e h is silent due = is silent
+
+pub met_here : (fs : List Front) (h new : Half) (run : Run) → MeetsRest fs 0 0 h run new → HasMet run.moves fs h (spot run new)
+met_here fs h new run rest = rest.met h (nothing_met fs h)
+
+-- with nothing due, and no part of an escape half read
+pub looking_next : (h : Half) → h.reading.due ≡ dues.Look → reads_plainly h ≡ true → reads_next h ≡ true
+looking_next h due plain = rw due plain

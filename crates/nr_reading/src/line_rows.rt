@@ -1,0 +1,57 @@
+//! The beginnings of lines in a row of items.
+ghost use Rattle.std.specs.Prelude.{◌≡◌, ◌≤◌, true};
+ghost use Rattle.nr_reading.specs.declared.mode.Mode.TheVariants as modes;
+ghost use Rattle.nr_reading.specs.LineBeginnings.{begins_text};
+ghost use Rattle.nr_reading.specs.Meeting.{reads_next};
+ghost use Rattle.nr_reading.specs.Rows.{MeetsRest};
+
+use super::event::Event;
+use super::half::Half;
+use super::mode::Mode;
+use super::runs::{Items, Run};
+
+impl Half {
+    // Whether a byte at a line's beginning begins its text, and no escape.
+    #[inline(always)]
+    fn begins_text(&self, byte: u8) -> bool
+        ensures { result ≡ begins_text byte self.now.signs }
+    {
+        !(byte == b'\\' || byte == b'\n' || byte == b' ' || self.signs.begins_control(byte))
+    }
+
+    /// The items behind a line's beginning are met: the name of a control line, or the first byte of its text, and else one after another.
+    #[inline(never)]
+    pub(crate) fn meet_beginning<I: Items>(&mut self, items: &I, from: usize, made: usize) -> Run
+        requires mode { self.old.reading.mode ≡ modes.Start }
+        requires next { reads_next self.old ≡ true }
+        requires few { made ≤ 65000 }
+        ensures { MeetsRest (I.fronts items.now) from made self.old result self.new }
+    {
+        if from >= items.count() {
+            return Run {
+                taken: from,
+                moves: made,
+                event: Event::Nothing,
+            };
+        }
+        if self.meet_name_at(items, from) {
+            return Run {
+                taken: from + 3,
+                moves: made + 4,
+                event: Event::Nothing,
+            };
+        }
+        let Some(byte) = items.byte(from) else {
+            return self.meet_more(items, from, made);
+        };
+        if !self.begins_text(byte) {
+            return self.meet_more(items, from, made);
+        }
+        self.begin_text();
+        Run {
+            taken: from + 1,
+            moves: made + 1,
+            event: Event::Byte(byte),
+        }
+    }
+}
