@@ -2,7 +2,9 @@ use Rattle.std.proofs.Common.{◌+◌, subst, sym, ap, ◌∙◌, arith}
 use Rattle.nr_reading.specs.declared.event.Event.TheVariants as events
 use Rattle.nr_reading.specs.declared.half.Half.{Half}
 use Rattle.nr_reading.specs.declared.mode.Due.{Due}
-use Rattle.nr_reading.specs.Rows.{MeetsRest}
+use Rattle.nr_reading.specs.LineBeginnings.{text_begun}
+use Rattle.nr_reading.specs.Meeting.{reads_next}
+use Rattle.nr_reading.specs.Rows.{LeadsOn, MeetsRest}
 use Rattle.nr_reading.proofs.LineRows.{meet-text}
 use Rattle.nr_reading.proofs.Rows.{stays, taken_last, looks, ends_here}
 use Rattle.nr_reading.proofs.half.Half.meet_beginning.Goals as goal
@@ -22,5 +24,11 @@ returns-then-meet_name_at g c = record {
 pub returns : goal.returns
 returns g c =
     let fs = g.I.Items.fronts c.args.items.now in
-    let h = c.args.self.now in
-    ?
+    let h = c.meet_name_at.new.self in
+    let same = c.meet_name_at.ensures.left c.if-meet_name_at.false in
+    let mode = ap (λ (k : Half). k.reading.mode) same ∙ c.requires.mode in
+    let next = ap reads_next same ∙ c.requires.next in
+    subst (λ (k : Half). MeetsRest fs c.args.from c.args.made c.args.self.now (record { taken = c.args.from + 1; moves = c.args.made + 1; event = events.Byte c.in-Some.byte }) k) (sym c.begin_text.ensures)
+    (taken_last fs c.args.from c.args.made c.args.from c.args.made c.in-Some.byte c.args.self.now h (text_begun h) (events.Byte c.in-Some.byte)
+    (subst (λ (k : Half). LeadsOn fs c.args.from c.args.made c.args.self.now c.args.from c.args.made k) (sym same) (stays fs c.args.from c.args.made c.args.self.now)) (omega arith) (looks h next) c.in-Some.ensures.value
+    (meet-text c.in-Some.byte h mode next (sym c.begins_text.ensures ∙ c.if-not-begins_text.false)) (omega arith) (λ silent due. let wrong : ⊥ = cc in wrong))
