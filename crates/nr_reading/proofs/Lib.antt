@@ -18,6 +18,7 @@ pub mod Moving
 pub mod PlainBytes
 pub mod Rows
 pub mod LineRows
+pub mod ConditionRows
 pub mod ControlNames
 pub mod RequestLines
 pub mod Interpolated

@@ -1,8 +1,9 @@
 -- Rows of items, met from a place on.
-use Rattle.std.specs.Prelude.{slice_get}
+use Rattle.std.specs.Prelude.{slice_get, ◌==◌, ◌||◌, not}
 use Rattle.std.specs.Int.{from_bool}
+use Rattle.std.proofs.lemmas.Bool.{ne_eqb, not-true, eqb-true}
 use Rattle.std.proofs.lemmas.Option.{slice_get_past}
-use Rattle.std.proofs.Common.{◌≡◌, ℕ, ◌+◌, ◌<◌, ◌≤◌, Bool, true, false, List, [], ◌∷◌, length, Some, refl, sym, subst, ◌∙◌, arith}
+use Rattle.std.proofs.Common.{◌≡◌, ℕ, ◌+◌, ◌<◌, ◌≤◌, Bool, true, false, List, [], ◌∷◌, length, Some, inl, inr, ◌⊎◌, refl, sym, subst, ap, ◌∙◌, arith}
 use Rattle.nr_reading.specs.declared.ask.Ask.{Ask}
 use Rattle.nr_reading.specs.declared.event.Event.{Event}
 use Rattle.nr_reading.specs.declared.event.Event.TheVariants as events
@@ -14,10 +15,15 @@ use Rattle.nr_reading.specs.declared.mode.Due.TheVariants as dues
 use Rattle.nr_reading.specs.declared.mode.Escape.{Escape}
 use Rattle.nr_reading.specs.declared.mode.Escape.TheVariants as escapes
 use Rattle.nr_reading.specs.declared.mode.Mode.{Mode}
+use Rattle.nr_reading.specs.declared.mode.Mode.TheVariants as modes
+use Rattle.nr_reading.specs.declared.mode.Signs.{Signs}
+use Rattle.nr_reading.specs.declared.notes.Notes.{Notes}
 use Rattle.nr_reading.specs.declared.runs.Run.{Run}
 use Rattle.nr_reading.specs.Meeting.{meet, reads_next, reads_next_at, reads_plainly}
 use Rattle.nr_reading.specs.Passing.{quiet}
-use Rattle.nr_reading.specs.Rows.{LeadsOn, MeetsRest}
+use Rattle.nr_reading.specs.Delimiting.{Texts}
+use Rattle.nr_reading.specs.Rows.{LeadsOn, MeetsRest, drops_blank}
+use Rattle.nr_reading.specs.Spelling.{is_blank}
 use Rattle.nr_reading.specs.Runs.{HasMet, spot}
 use Rattle.nr_reading.proofs.Asked.{half_at}
 use Rattle.nr_reading.proofs.Moving.{met_counted}
@@ -112,3 +118,41 @@ met_here fs h new run rest = rest.met h (nothing_met fs h)
 -- with nothing due, and no part of an escape half read
 pub looking_next : (h : Half) → h.reading.due ≡ dues.Look → reads_plainly h ≡ true → reads_next h ≡ true
 looking_next h due plain = rw due plain
+
+-- a byte of which a test holds is no other of which it doesn't
+pub apart_from : (test : ℕ → Bool) (b c : ℕ) → test b ≡ true → test c ≡ false → (b == c) ≡ false
+apart_from test b c is not = ne_eqb b c (λ e. absurd (let wrong : false ≡ true = sym not ∙ ap test (sym e) ∙ is in cc))
+
+-- the same, counted otherwise
+pub recount : (fs : List Front) (from made : ℕ) (to to' moves moves' : ℕ) (old new : Half) → LeadsOn fs from made old to moves new → to ≡ to' → moves ≡ moves' → LeadsOn fs from made old to' moves' new
+recount fs from made to to' moves moves' old new leads place count = subst (λ m. LeadsOn fs from made old to' m new) count (subst (λ t. LeadsOn fs from made old t moves new) place leads)
+
+-- the same of a run, as the program counts it
+pub recount_rest : (fs : List Front) (from made : ℕ) (old new : Half) (run run' : Run) → MeetsRest fs from made old run new → run ≡ run' → MeetsRest fs from made old run' new
+recount_rest fs from made old new run run' rest is = subst (λ (r : Run). MeetsRest fs from made old r new) is rest
+
+-- ---- blanks
+
+-- one literal blank or the other
+blank_is : (b : ℕ) → is_blank b ≡ true → (b ≡ 32) ⊎ (b ≡ 9)
+blank_is b is = by (b == 32) (b == 9) refl refl is
+  where
+    by : (x y : Bool) → (b == 32) ≡ x → (b == 9) ≡ y → (x || y) ≡ true → (b ≡ 32) ⊎ (b ≡ 9)
+    by true y p q is = inl (eqb-true b 32 p)
+    by false true p q is = inr (eqb-true b 9 q)
+    by false false p q is = absurd (let wrong : false ≡ true = is in cc)
+
+module _ (c n : Bool) (s : Signs) (d : Texts) (o : Notes) where
+  blank_dropped : (m : Mode) (b : ℕ) → drops_blank m o.condition ≡ true → is_blank b ≡ true → MeetsByte b (half_at (at m escapes.Plain c n) s [] d o) (half_at (at m escapes.Plain c n) s [] d o) events.Nothing true
+  blank_dropped modes.RequestBlanks b drops is = elim (blank_is b is) [ inl e ↦ rw e refl | inr e ↦ rw e refl ]
+  blank_dropped modes.MacroBlanks b drops is = elim (blank_is b is) [ inl e ↦ rw e refl | inr e ↦ rw e refl ]
+  blank_dropped modes.StringBefore b drops is = elim (blank_is b is) [ inl e ↦ rw e refl | inr e ↦ rw e refl ]
+  blank_dropped modes.StringBlanks b drops is = elim (blank_is b is) [ inl e ↦ rw e refl | inr e ↦ rw e refl ]
+  blank_dropped modes.Accepted b drops is = elim (blank_is b is) [ inl e ↦ rw e refl | inr e ↦ rw e refl ]
+  blank_dropped modes.Condition b drops is = let plain = not-true o.condition.negated drops in elim (blank_is b is) [ inl e ↦ rw (e, plain) refl | inr e ↦ rw (e, plain) refl ]
+  blank_dropped m b drops is = absurd (let wrong : false ≡ true = drops in cc)
+
+pub meet-blank : (b : ℕ) (h : Half) → reads_next h ≡ true → drops_blank h.reading.mode h.notes.condition ≡ true → is_blank b ≡ true → MeetsByte b h h events.Nothing true
+meet-blank b h next drops is =
+    subst (λ (k : Half). MeetsByte b k k events.Nothing true) (sym (standing h.reading.mode h refl next))
+    (blank_dropped h.reading.continued h.reading.no_break h.signs h.delimited h.notes h.reading.mode b drops is)

@@ -1,6 +1,7 @@
 pub mod Asking
 pub mod Conditionals
 pub mod Conditions
+pub mod ConditionRows
 pub mod Control
 pub mod ControlNames
 pub mod Copying

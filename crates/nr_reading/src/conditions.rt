@@ -11,7 +11,8 @@ use super::spelled::is_blank;
 use super::step::{Jot, Said, go, leave, leave_noting, leave_telling, noting, tell};
 
 // The byte begins a number.
-fn begins_number(byte: u8) -> bool
+#[inline(always)]
+pub(crate) fn begins_number(byte: u8) -> bool
     ensures { result ≡ begins_number byte }
 {
     is_digit(byte) || byte == b'(' || byte == b'+' || byte == b'-' || byte == b'.' || byte == b'|'
@@ -70,7 +71,7 @@ pub(crate) fn read_condition(byte: u8, negated: bool, reading: &mut Reading) -> 
 
 // The parentheses that are open behind a byte.
 #[inline(always)]
-fn parentheses(byte: u8, depth: u64) -> u64
+pub(crate) fn parentheses(byte: u8, depth: u64) -> u64
     ensures { result ≡ parentheses byte depth }
 {
     if byte == b'(' {

@@ -143,6 +143,10 @@ impl Half {
         match self.reading.mode {
             Mode::Start => self.meet_beginning(items, 0, 0),
             Mode::Text => self.meet_more(items, 0, 0),
+            Mode::Condition => self.meet_condition(items),
+            Mode::Number(depth) => self.meet_tested(items, 0, 0, depth),
+            Mode::First(delimiter) => self.meet_first_string(items, 0, 0, delimiter),
+            Mode::Second(delimiter) => self.meet_second_string(items, 0, 0, delimiter),
             _ => self.meet_others(items),
         }
     }
