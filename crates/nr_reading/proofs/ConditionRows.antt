@@ -1,7 +1,6 @@
 -- Conditions in a row of items.
 use Rattle.std.specs.Prelude.{◌==◌, ◌&&◌, ◌||◌, not}
 use Rattle.std.proofs.Common.{◌≡◌, ℕ, Bool, true, false, [], refl, sym, subst}
-use Rattle.std.proofs.lemmas.Bool.{not-true}
 use Rattle.nr_reading.specs.declared.event.Event.TheVariants as events
 use Rattle.nr_reading.specs.declared.event.Question.TheVariants as questions
 use Rattle.nr_reading.specs.declared.half.Half.{Half}
@@ -10,68 +9,87 @@ use Rattle.nr_reading.specs.declared.mode.Escape.TheVariants as escapes
 use Rattle.nr_reading.specs.declared.mode.Mode.{Mode}
 use Rattle.nr_reading.specs.declared.mode.Mode.TheVariants as modes
 use Rattle.nr_reading.specs.Notes.{Note}
+use Rattle.nr_reading.specs.declared.mode.Signs.{Signs}
+use Rattle.nr_reading.specs.declared.notes.Notes.{Notes}
+use Rattle.nr_reading.specs.Delimiting.{Texts}
 use Rattle.nr_reading.specs.ConditionRows.{delimits, ends_number}
 use Rattle.nr_reading.specs.Conditions.{begins_number, parentheses}
 use Rattle.nr_reading.specs.Meeting.{reads_next}
 use Rattle.nr_reading.specs.Notes as notes
 use Rattle.nr_reading.specs.Noting.{noted, are_equal}
 use Rattle.nr_reading.specs.Passing.{is_plain}
+use Rattle.nr_reading.specs.Spelling.{is_blank}
 use Rattle.nr_reading.proofs.Asked.{half_at}
 use Rattle.nr_reading.proofs.Rows.{MeetsByte, standing, apart_from}
 use Rattle.nr_reading.proofs.Weighing.{at}
 
 -- in another mode, this being noted
-abbrev pub going : Mode → Note → Half → Half
+abbrev going : Mode → Note → Half → Half
 going m n h = record h { reading = record h.reading { mode = m }; notes = noted n h.notes }
 
 -- `!` before a condition
-pub meet-negation : (h : Half) → h.reading.mode ≡ modes.Condition → reads_next h ≡ true → h.notes.condition.negated ≡ false → MeetsByte 33 h (record h { notes = noted notes.Negated h.notes }) events.Nothing true
-meet-negation h mode next plain =
-    subst (λ (k : Half). k.notes.condition.negated ≡ false → MeetsByte 33 k (record k { notes = noted notes.Negated k.notes }) events.Nothing true) (sym (standing modes.Condition h mode next)) (λ is. rw is refl) plain
+pub meet-negation : (o : Notes) (h : Half) → h.reading.mode ≡ modes.Condition → reads_next h ≡ true → h.notes.condition.negated ≡ false → o ≡ noted notes.Negated h.notes → MeetsByte 33 h (record h { notes = o }) events.Nothing true
+meet-negation o h mode next plain is =
+    subst (λ (x : Notes). MeetsByte 33 h (record h { notes = x }) events.Nothing true) (sym is)
+    (subst (λ (k : Half). k.notes.condition.negated ≡ false → MeetsByte 33 k (record k { notes = noted notes.Negated k.notes }) events.Nothing true) (sym (standing modes.Condition h mode next)) (λ fact. rw fact refl) plain)
 
 -- the first byte of a number is left to it
-pub meet-number_begins : (b : ℕ) (h : Half) → h.reading.mode ≡ modes.Condition → reads_next h ≡ true → begins_number b ≡ true → MeetsByte b h (going (modes.Number 0) notes.NewLine h) events.Nothing false
-meet-number_begins b h mode next is =
-    let apart = λ c. apart_from begins_number b c is in
-    subst (λ (k : Half). MeetsByte b k (going (modes.Number 0) notes.NewLine k) events.Nothing false) (sym (standing modes.Condition h mode next))
-    (rw (apart 92 refl, apart 10 refl, apart 32 refl, apart 9 refl, apart 33 refl, apart 111 refl, apart 101 refl, apart 116 refl, apart 110 refl, is) refl)
+pub meet-number_begins : (b : ℕ) (o : Notes) (h : Half) → h.reading.mode ≡ modes.Condition → reads_next h ≡ true → begins_number b ≡ true → o ≡ noted notes.NewLine h.notes
+    → MeetsByte b h (record h { reading = record h.reading { mode = modes.Number 0 }; notes = o }) events.Nothing false
+meet-number_begins b o h mode next begins is =
+    let apart : (c : ℕ) → begins_number c ≡ false → (b == c) ≡ false = λ c. apart_from begins_number b c begins in
+    subst (λ (x : Notes). MeetsByte b h (record h { reading = record h.reading { mode = modes.Number 0 }; notes = x }) events.Nothing false) (sym is)
+    (subst (λ (k : Half). MeetsByte b k (going (modes.Number 0) notes.NewLine k) events.Nothing false) (sym (standing modes.Condition h mode next))
+    (rw (apart 92 refl, apart 10 refl, apart 32 refl, apart 9 refl, apart 33 refl, apart 111 refl, apart 101 refl, apart 116 refl, apart 110 refl, begins) refl))
 
 -- the byte that delimits two strings
-pub meet-delimiter : (b : ℕ) (h : Half) → h.reading.mode ≡ modes.Condition → reads_next h ≡ true → begins_number b ≡ false → delimits b ≡ true → MeetsByte b h (going (modes.First b) notes.Strings h) events.Nothing true
-meet-delimiter b h mode next other is =
-    let apart = λ c. apart_from delimits b c is in
-    subst (λ (k : Half). MeetsByte b k (going (modes.First b) notes.Strings k) events.Nothing true) (sym (standing modes.Condition h mode next))
-    (rw (apart 92 refl, apart 10 refl, apart 32 refl, apart 9 refl, apart 33 refl, apart 111 refl, apart 101 refl, apart 116 refl, apart 110 refl, other) refl)
+pub meet-delimiter : (b : ℕ) (o : Notes) (h : Half) → h.reading.mode ≡ modes.Condition → reads_next h ≡ true → begins_number b ≡ false → delimits b ≡ true → o ≡ noted notes.Strings h.notes
+    → MeetsByte b h (record h { reading = record h.reading { mode = modes.First b }; notes = o }) events.Nothing true
+meet-delimiter b o h mode next other ends is =
+    let apart : (c : ℕ) → delimits c ≡ false → (b == c) ≡ false = λ c. apart_from delimits b c ends in
+    subst (λ (x : Notes). MeetsByte b h (record h { reading = record h.reading { mode = modes.First b }; notes = x }) events.Nothing true) (sym is)
+    (subst (λ (k : Half). MeetsByte b k (going (modes.First b) notes.Strings k) events.Nothing true) (sym (standing modes.Condition h mode next))
+    (rw (apart 92 refl, apart 10 refl, apart 32 refl, apart 9 refl, apart 33 refl, apart 111 refl, apart 101 refl, apart 116 refl, apart 110 refl, other) refl))
 
 -- ---- a number
 
-pub meet-number_byte : (b depth : ℕ) (h : Half) → h.reading.mode ≡ modes.Number depth → reads_next h ≡ true → (b == 92) ≡ false → ends_number b depth ≡ false → MeetsByte b h (going (modes.Number (parentheses b depth)) (notes.Line b) h) events.Nothing true
-meet-number_byte b depth h mode next plain goes =
-    subst (λ (k : Half). MeetsByte b k (going (modes.Number (parentheses b depth)) (notes.Line b) k) events.Nothing true) (sym (standing (modes.Number depth) h mode next)) (rw (goes, plain) refl)
+pub meet-number_byte : (b depth left : ℕ) (o : Notes) (h : Half) → h.reading.mode ≡ modes.Number depth → reads_next h ≡ true → (b == 92) ≡ false → ends_number b depth ≡ false → left ≡ parentheses b depth → o ≡ noted (notes.Line b) h.notes
+    → MeetsByte b h (record h { reading = record h.reading { mode = modes.Number left }; notes = o }) events.Nothing true
+meet-number_byte b depth left o h mode next plain goes is_left is =
+    subst (λ d. MeetsByte b h (record h { reading = record h.reading { mode = modes.Number d }; notes = o }) events.Nothing true) (sym is_left)
+    (subst (λ (x : Notes). MeetsByte b h (record h { reading = record h.reading { mode = modes.Number (parentheses b depth) }; notes = x }) events.Nothing true) (sym is)
+    (subst (λ (k : Half). MeetsByte b k (going (modes.Number (parentheses b depth)) (notes.Line b) k) events.Nothing true) (sym (standing (modes.Number depth) h mode next)) (rw (plain, goes) refl)))
 
-pub meet-number_end : (b depth : ℕ) (h : Half) → h.reading.mode ≡ modes.Number depth → reads_next h ≡ true → (b == 92) ≡ false → ends_number b depth ≡ true → MeetsByte b h (record h { reading = record h.reading { mode = modes.Skip 0 } }) (events.Judge questions.Number) false
+pub meet-number_end : (b depth : ℕ) (h : Half) → h.reading.mode ≡ modes.Number depth → reads_next h ≡ true → (b == 92) ≡ false → ends_number b depth ≡ true
+    → MeetsByte b h (record h { reading = record h.reading { mode = modes.Skip 0 } }) (events.Judge questions.Number) false
 meet-number_end b depth h mode next plain ends =
-    subst (λ (k : Half). MeetsByte b k (record k { reading = record k.reading { mode = modes.Skip 0 } }) (events.Judge questions.Number) false) (sym (standing (modes.Number depth) h mode next)) (rw (ends, plain) refl)
+    subst (λ (k : Half). MeetsByte b k (record k { reading = record k.reading { mode = modes.Skip 0 } }) (events.Judge questions.Number) false) (sym (standing (modes.Number depth) h mode next)) (rw (plain, ends) refl)
 
 -- ---- two strings
 
-pub meet-first_byte : (b delimiter : ℕ) (h : Half) → h.reading.mode ≡ modes.First delimiter → reads_next h ≡ true → is_plain b ≡ true → (b == delimiter) ≡ false → MeetsByte b h (record h { notes = noted (notes.First b) h.notes }) events.Nothing true
-meet-first_byte b delimiter h mode next plain other =
-    let apart = λ c. apart_from is_plain b c plain in
-    subst (λ (k : Half). MeetsByte b k (record k { notes = noted (notes.First b) k.notes }) events.Nothing true) (sym (standing (modes.First delimiter) h mode next)) (rw (apart 92 refl, apart 10 refl, other) refl)
+pub meet-first_byte : (b delimiter : ℕ) (o : Notes) (h : Half) → h.reading.mode ≡ modes.First delimiter → reads_next h ≡ true → is_plain b ≡ true → (b == delimiter) ≡ false → o ≡ noted (notes.First b) h.notes
+    → MeetsByte b h (record h { notes = o }) events.Nothing true
+meet-first_byte b delimiter o h mode next plain other is =
+    let apart : (c : ℕ) → is_plain c ≡ false → (b == c) ≡ false = λ c. apart_from is_plain b c plain in
+    subst (λ (x : Notes). MeetsByte b h (record h { notes = x }) events.Nothing true) (sym is)
+    (subst (λ (k : Half). MeetsByte b k (record k { notes = noted (notes.First b) k.notes }) events.Nothing true) (sym (standing (modes.First delimiter) h mode next)) (rw (apart 92 refl, apart 10 refl, other) refl))
 
-pub meet-first_end : (b delimiter : ℕ) (h : Half) → h.reading.mode ≡ modes.First delimiter → reads_next h ≡ true → is_plain b ≡ true → (b == delimiter) ≡ true → MeetsByte b h (record h { reading = record h.reading { mode = modes.Second delimiter } }) events.Nothing true
+pub meet-first_end : (b delimiter : ℕ) (h : Half) → h.reading.mode ≡ modes.First delimiter → reads_next h ≡ true → is_plain b ≡ true → (b == delimiter) ≡ true
+    → MeetsByte b h (record h { reading = record h.reading { mode = modes.Second delimiter } }) events.Nothing true
 meet-first_end b delimiter h mode next plain same =
-    let apart = λ c. apart_from is_plain b c plain in
+    let apart : (c : ℕ) → is_plain c ≡ false → (b == c) ≡ false = λ c. apart_from is_plain b c plain in
     subst (λ (k : Half). MeetsByte b k (record k { reading = record k.reading { mode = modes.Second delimiter } }) events.Nothing true) (sym (standing (modes.First delimiter) h mode next)) (rw (apart 92 refl, apart 10 refl, same) refl)
 
-pub meet-second_byte : (b delimiter : ℕ) (h : Half) → h.reading.mode ≡ modes.Second delimiter → reads_next h ≡ true → is_plain b ≡ true → (b == delimiter) ≡ false → MeetsByte b h (record h { notes = noted (notes.Second b) h.notes }) events.Nothing true
-meet-second_byte b delimiter h mode next plain other =
-    let apart = λ c. apart_from is_plain b c plain in
-    subst (λ (k : Half). MeetsByte b k (record k { notes = noted (notes.Second b) k.notes }) events.Nothing true) (sym (standing (modes.Second delimiter) h mode next)) (rw (apart 92 refl, apart 10 refl, other) refl)
+pub meet-second_byte : (b delimiter : ℕ) (o : Notes) (h : Half) → h.reading.mode ≡ modes.Second delimiter → reads_next h ≡ true → is_plain b ≡ true → (b == delimiter) ≡ false → o ≡ noted (notes.Second b) h.notes
+    → MeetsByte b h (record h { notes = o }) events.Nothing true
+meet-second_byte b delimiter o h mode next plain other is =
+    let apart : (c : ℕ) → is_plain c ≡ false → (b == c) ≡ false = λ c. apart_from is_plain b c plain in
+    subst (λ (x : Notes). MeetsByte b h (record h { notes = x }) events.Nothing true) (sym is)
+    (subst (λ (k : Half). MeetsByte b k (record k { notes = noted (notes.Second b) k.notes }) events.Nothing true) (sym (standing (modes.Second delimiter) h mode next)) (rw (apart 92 refl, apart 10 refl, other) refl))
 
-pub meet-second_end : (b delimiter : ℕ) (h : Half) → h.reading.mode ≡ modes.Second delimiter → reads_next h ≡ true → is_plain b ≡ true → (b == delimiter) ≡ true
-    → MeetsByte b h (record h { reading = record h.reading { due = dues.Judge (are_equal h.notes.condition) } }) events.Nothing true
-meet-second_end b delimiter h mode next plain same =
-    let apart = λ c. apart_from is_plain b c plain in
-    subst (λ (k : Half). MeetsByte b k (record k { reading = record k.reading { due = dues.Judge (are_equal k.notes.condition) } }) events.Nothing true) (sym (standing (modes.Second delimiter) h mode next)) (rw (apart 92 refl, apart 10 refl, same) refl)
+pub meet-second_end : (b delimiter : ℕ) (found : Bool) (h : Half) → h.reading.mode ≡ modes.Second delimiter → reads_next h ≡ true → is_plain b ≡ true → (b == delimiter) ≡ true → found ≡ are_equal h.notes.condition
+    → MeetsByte b h (record h { reading = record h.reading { due = dues.Judge found } }) events.Nothing true
+meet-second_end b delimiter found h mode next plain same is =
+    let apart : (c : ℕ) → is_plain c ≡ false → (b == c) ≡ false = λ c. apart_from is_plain b c plain in
+    subst (λ x. MeetsByte b h (record h { reading = record h.reading { due = dues.Judge x } }) events.Nothing true) (sym is)
+    (subst (λ (k : Half). MeetsByte b k (record k { reading = record k.reading { due = dues.Judge (are_equal k.notes.condition) } }) events.Nothing true) (sym (standing (modes.Second delimiter) h mode next)) (rw (apart 92 refl, apart 10 refl, same) refl))

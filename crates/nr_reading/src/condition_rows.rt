@@ -96,7 +96,7 @@ impl Half {
         ensures { MeetsRest (I.fronts items.now) from made self.old result self.new }
     {
         let end = near(items, from);
-        let mut open = depth;
+        let mut level = depth;
         for place in from..end {
             let moves = made + (place - from);
             let Some(byte) = items.byte(place) else {
@@ -105,7 +105,7 @@ impl Half {
             if byte == b'\\' {
                 return self.meet_escape(items, place, moves);
             }
-            if ends_number(byte, open) {
+            if ends_number(byte, level) {
                 self.reading.mode = Mode::Skip(0);
                 return Run {
                     taken: place,
@@ -113,8 +113,8 @@ impl Half {
                     event: Event::Judge(Question::Number),
                 };
             }
-            open = parentheses(byte, open);
-            self.reading.mode = Mode::Number(open);
+            level = parentheses(byte, level);
+            self.reading.mode = Mode::Number(level);
             self.notes.note(Jot::Line(byte));
         }
         self.meet_rest(items, end, made + (end - from))

@@ -8,6 +8,6 @@ abbrev pub invariant-loop-place : goal.invariant-loop-place
 invariant-loop-place g l = record {
   leads : LeadsOn (g.I.Items.fronts l.items) l.from l.made l.fn.self l.place (l.made + (l.place - l.from)) l.self;
   front : l.from ≤ l.place;
-  mode : l.self.reading.mode ≡ modes.Number l.open;
+  mode : l.self.reading.mode ≡ modes.Number l.level;
   next : reads_next l.self ≡ true;
 }
