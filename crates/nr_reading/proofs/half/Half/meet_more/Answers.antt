@@ -1,2 +1,1 @@
 use Rattle.nr_reading.proofs.half.Half.meet_more.Goals as goal
-

@@ -1,0 +1,39 @@
+use Rattle.std.proofs.Common.{◌≡◌, ◌+◌, ◌-◌, refl, sym, ap, ◌∙◌, arith}
+use Rattle.std.proofs.lemmas.Bool.{eq-eqb, ne_eqb}
+use Rattle.nr_reading.specs.declared.event.Event.TheVariants as events
+use Rattle.nr_reading.specs.declared.half.Half.{Half}
+use Rattle.nr_reading.specs.declared.mode.Due.TheVariants as dues
+use Rattle.nr_reading.specs.declared.mode.Mode.TheVariants as modes
+use Rattle.nr_reading.proofs.ConditionRows.{meet-first_byte, meet-first_end}
+use Rattle.nr_reading.proofs.Rows.{recount, taken_more, taken_last, rest_behind, looks}
+use Rattle.nr_reading.proofs.half.Half.meet_first_string.Goals as goal
+
+pub loop-place-preserved : goal.loop-place-preserved
+loop-place-preserved g c =
+    let k = c.loop-place.self in
+    let i = c.loop-place.invariant in
+    let place = c.loop-place.place in
+    let new : Half = record k { notes = c.note.new.self } in
+    record {
+      leads =
+          recount (g.I.Items.fronts c.args.items.now) c.args.from c.args.made (place + 1) (place + 1) (c.args.made + (place - c.args.from) + 1) (c.args.made + (place + 1 - c.args.from)) c.args.self.now new
+          (taken_more (g.I.Items.fronts c.args.items.now) c.args.from c.args.made place (c.args.made + (place - c.args.from)) c.in-Some.byte c.args.self.now k new i.leads (omega arith) (looks k i.next) c.in-Some.ensures.value
+          (meet-first_byte c.in-Some.byte c.args.delimiter c.note.new.self k i.mode i.next (sym c.is_plain.ensures ∙ c.if-not-is_plain.false) (ne_eqb c.in-Some.byte c.args.delimiter c.if-byte-delimiter.false) c.note.ensures))
+          refl (omega arith);
+      front = omega arith;
+      mode = i.mode;
+      next = i.next;
+    }
+
+pub returns-then-byte-delimiter : goal.returns-then-byte-delimiter
+returns-then-byte-delimiter g c =
+    let fs = g.I.Items.fronts c.args.items.now in
+    let k = c.loop-place.self in
+    let i = c.loop-place.invariant in
+    let place = c.loop-place.place in
+    let moves = c.args.made + (place - c.args.from) in
+    let new : Half = record k { reading = record k.reading { mode = modes.Second c.args.delimiter } } in
+    rest_behind fs c.args.from c.args.made (place + 1) (moves + 1) c.args.self.now new c.meet_second_string.new.self c.meet_second_string.result
+    (taken_more fs c.args.from c.args.made place moves c.in-Some.byte c.args.self.now k new i.leads (omega arith) (looks k i.next) c.in-Some.ensures.value
+    (meet-first_end c.in-Some.byte c.args.delimiter k i.mode i.next (sym c.is_plain.ensures ∙ c.if-not-is_plain.false) (eq-eqb c.in-Some.byte c.args.delimiter c.if-byte-delimiter.true)))
+    c.meet_second_string.ensures
