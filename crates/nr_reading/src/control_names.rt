@@ -15,7 +15,7 @@ use super::spelled::{Spelled, ends_name};
 
 // The byte goes on a name, and begins no escape.
 #[inline(always)]
-fn goes_on_name(byte: u8) -> bool
+pub(crate) fn goes_on_name(byte: u8) -> bool
     ensures { result ≡ goes_on_name byte }
 {
     !(ends_name(byte) || byte == b'\\')

@@ -8,6 +8,7 @@
 #![tactic(auto)]
 
 mod answers;
+mod argument_rows;
 mod arguments;
 mod ask;
 mod asks;
@@ -28,9 +29,11 @@ mod kept;
 mod line_rows;
 mod mode;
 mod notes;
+mod part_rows;
 mod passing;
 mod reader;
 mod request_lines;
+mod request_rows;
 mod row;
 mod runs;
 mod seeking;
@@ -38,6 +41,7 @@ mod setting;
 mod skipping;
 mod spelled;
 mod step;
+mod string_rows;
 mod strings;
 mod text;
 mod text_escape;

@@ -147,6 +147,17 @@ impl Half {
             Mode::Number(depth) => self.meet_tested(items, 0, 0, depth),
             Mode::First(delimiter) => self.meet_first_string(items, 0, 0, delimiter),
             Mode::Second(delimiter) => self.meet_second_string(items, 0, 0, delimiter),
+            Mode::RequestBlanks => self.meet_request(items),
+            Mode::RequestLine => self.meet_arguments(items, 0, 0),
+            Mode::Accepted => self.meet_accepted(items),
+            Mode::Skip(count) => self.meet_rejected(items, count),
+            Mode::MacroBlanks => self.meet_call(items),
+            Mode::MacroGap => self.meet_gap(items),
+            Mode::Word => self.meet_word(items),
+            Mode::Quoted => self.meet_quoted(items, 0, 0),
+            Mode::StringBefore => self.meet_string(items),
+            Mode::StringBlanks => self.meet_string_blanks(items, 0, 0),
+            Mode::StringText => self.meet_string_text(items),
             _ => self.meet_others(items),
         }
     }

@@ -108,7 +108,8 @@ pub(crate) fn skip(front: Front, count: u64, reading: &mut Reading) -> Said
 }
 
 // The braces that are open behind `\` and a byte.
-fn braces(byte: u8, count: u64) -> u64
+#[inline(always)]
+pub(crate) fn braces(byte: u8, count: u64) -> u64
     ensures { result ≡ braces byte count }
 {
     match byte {

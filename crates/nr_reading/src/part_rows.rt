@@ -1,0 +1,65 @@
+//! The parts behind conditions in a row of items.
+ghost use Rattle.std.specs.Prelude.{◌≡◌, true};
+ghost use Rattle.nr_reading.specs.declared.mode.Mode.TheVariants as modes;
+ghost use Rattle.nr_reading.specs.Meeting.{reads_next};
+ghost use Rattle.nr_reading.specs.Rows.{MeetsRest};
+
+use super::half::Half;
+use super::mode::Mode;
+use super::passing::is_plain;
+use super::row::{byte_of, near};
+use super::runs::{Items, Run};
+use super::skipping::braces;
+use super::spelled::is_blank;
+
+impl Half {
+    /// An accepted part is met: its blanks, and what begins a line behind them.
+    #[inline(never)]
+    pub(crate) fn meet_accepted<I: Items>(&mut self, items: &I) -> Run
+        requires mode { self.old.reading.mode ≡ modes.Accepted }
+        requires next { reads_next self.old ≡ true }
+        ensures { MeetsRest (I.fronts items.now) 0 0 self.old result self.new }
+    {
+        let place = self.pass_blanks(items, 0, near(items, 0));
+        let Some(byte) = byte_of(items, place) else {
+            return self.meet_rest(items, place, place);
+        };
+        if !is_plain(byte) || is_blank(byte) {
+            return self.meet_more(items, place, place);
+        }
+        self.reading.mode = Mode::Start;
+        self.meet_beginning(items, place, place + 1)
+    }
+
+    /// A rejected part is met, in which so many braces are open, and what begins a line behind it.
+    #[inline(never)]
+    pub(crate) fn meet_rejected<I: Items>(&mut self, items: &I, count: u64) -> Run
+        requires mode { self.old.reading.mode ≡ modes.Skip count }
+        requires next { reads_next self.old ≡ true }
+        ensures { MeetsRest (I.fronts items.now) 0 0 self.old result self.new }
+    {
+        let end = near(items, 0);
+        let mut level = count;
+        let mut place = 0;
+        while place < end {
+            let Some(byte) = items.byte(place) else {
+                return self.meet_more(items, place, place);
+            };
+            if byte == b'\\' {
+                let Some(behind) = byte_of(items, place + 1) else {
+                    return self.meet_more(items, place, place);
+                };
+                level = braces(behind, level);
+                self.reading.mode = Mode::Skip(level);
+                place += 2;
+                continue;
+            }
+            if byte == b'\n' && level == 0 {
+                self.reading.mode = Mode::Start;
+                return self.meet_beginning(items, place + 1, place + 1);
+            }
+            place += 1;
+        }
+        self.meet_more(items, place, place)
+    }
+}

@@ -1,0 +1,102 @@
+//! The definitions of strings in a row of items.
+ghost use Rattle.std.specs.Prelude.{◌≡◌, ◌+◌, ◌≤◌, length, true};
+ghost use Rattle.nr_reading.specs.declared.mode.Mode.TheVariants as modes;
+ghost use Rattle.nr_reading.specs.Meeting.{reads_next};
+ghost use Rattle.nr_reading.specs.Rows.{MeetsRest};
+
+use super::control_names::goes_on_name;
+use super::event::Event;
+use super::half::Half;
+use super::mode::{Due, Mode};
+use super::row::{byte_of, near};
+use super::runs::{Items, Run};
+use super::spelled::{Spelled, ends_name, is_blank};
+
+impl Half {
+    /// The definition of a string is met from the blanks before its name on.
+    #[inline(never)]
+    pub(crate) fn meet_string<I: Items>(&mut self, items: &I) -> Run
+        requires mode { self.old.reading.mode ≡ modes.StringBefore }
+        requires next { reads_next self.old ≡ true }
+        ensures { MeetsRest (I.fronts items.now) 0 0 self.old result self.new }
+    {
+        let place = self.pass_blanks(items, 0, near(items, 0));
+        let Some(first) = byte_of(items, place) else {
+            return self.meet_rest(items, place, place);
+        };
+        if self.signs.long || !goes_on_name(first) {
+            return self.meet_escape(items, place, place);
+        }
+        let Some(second) = byte_of(items, place + 1) else {
+            return self.meet_more(items, place, place);
+        };
+        if second == b'\\' {
+            return self.meet_more(items, place, place);
+        }
+        self.notes.name = Spelled::new();
+        self.notes.name.push(first);
+        self.reading.mode = Mode::StringBlanks;
+        if ends_name(second) {
+            return self.meet_string_blanks(items, place + 1, place + 3);
+        }
+        self.notes.name.push(second);
+        self.meet_string_blanks(items, place + 2, place + 3)
+    }
+
+    /// It is met from the blanks before its text on.
+    #[inline(never)]
+    pub(crate) fn meet_string_blanks<I: Items>(
+        &mut self,
+        items: &I,
+        from: usize,
+        made: usize,
+    ) -> Run
+        requires mode { self.old.reading.mode ≡ modes.StringBlanks }
+        requires next { reads_next self.old ≡ true }
+        requires within { from ≤ length (I.fronts items.now) }
+        requires few { made ≤ 16384 }
+        ensures { MeetsRest (I.fronts items.now) from made self.old result self.new }
+    {
+        let place = self.pass_blanks(items, from, near(items, from));
+        let moves = made + (place - from);
+        let Some(byte) = byte_of(items, place) else {
+            return self.meet_rest(items, place, moves);
+        };
+        if byte == b'\\' || is_blank(byte) {
+            return self.meet_escape(items, place, moves);
+        }
+        self.reading.mode = Mode::StringText;
+        self.reading.due = Due::Begin;
+        Run {
+            taken: place + usize::from(byte == b'"'),
+            moves: moves + 1,
+            event: Event::Nothing,
+        }
+    }
+
+    /// A byte of its text is met, or the newline.
+    #[inline(never)]
+    pub(crate) fn meet_string_text<I: Items>(&mut self, items: &I) -> Run
+        requires mode { self.old.reading.mode ≡ modes.StringText }
+        requires next { reads_next self.old ≡ true }
+        ensures { MeetsRest (I.fronts items.now) 0 0 self.old result self.new }
+    {
+        let Some(byte) = byte_of(items, 0) else {
+            return self.meet_rest(items, 0, 0);
+        };
+        if byte == b'\\' {
+            return self.meet_escape(items, 0, 0);
+        }
+        if byte == b'\n' {
+            self.reading.mode = Mode::Start;
+            self.reading.due = Due::Define;
+        } else {
+            self.reading.due = Due::Add(byte);
+        }
+        Run {
+            taken: 1,
+            moves: 1,
+            event: Event::Nothing,
+        }
+    }
+}
