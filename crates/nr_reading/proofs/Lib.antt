@@ -19,6 +19,8 @@ pub mod PlainBytes
 pub mod Rows
 pub mod LineRows
 pub mod ConditionRows
+pub mod RequestRows
+pub mod PartRows
 pub mod ControlNames
 pub mod RequestLines
 pub mod Interpolated

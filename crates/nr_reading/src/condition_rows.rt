@@ -48,7 +48,7 @@ impl Half {
         if self.notes.condition.negated {
             return self.meet_question(items, 0, 0);
         }
-        let place = self.pass_blanks(items, 0, near(items, 0));
+        let place = self.pass_first_blanks(items);
         if let Some(b'!') = byte_of(items, place) {
             self.notes.note(Jot::Negated);
             return self.meet_question(items, place + 1, place + 1);

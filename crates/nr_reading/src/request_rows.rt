@@ -20,7 +20,7 @@ impl Half {
         requires next { reads_next self.old ≡ true }
         ensures { MeetsRest (I.fronts items.now) 0 0 self.old result self.new }
     {
-        let place = self.pass_blanks(items, 0, near(items, 0));
+        let place = self.pass_first_blanks(items);
         let Some(byte) = byte_of(items, place) else {
             return self.meet_rest(items, place, place);
         };

@@ -58,6 +58,18 @@ impl Half {
         to
     }
 
+    /// The same from the beginning of a row on.
+    #[inline(always)]
+    pub(crate) fn pass_first_blanks<I: Items>(&self, items: &I) -> usize
+        requires next { reads_next self.now ≡ true }
+        requires drops { drops_blank self.now.reading.mode self.now.notes.condition ≡ true }
+        ensures leads { LeadsOn (I.fronts items.now) 0 0 self.now result result self.now }
+        ensures within { result ≤ length (I.fronts items.now) }
+        ensures few { result ≤ 8192 }
+    {
+        self.pass_blanks(items, 0, near(items, 0))
+    }
+
     /// What stands at a place of a row is met: an interpolation that stands whole there at once, and else the items one after another.
     #[inline(never)]
     pub(crate) fn meet_escape<I: Items>(&mut self, items: &I, from: usize, made: usize) -> Run

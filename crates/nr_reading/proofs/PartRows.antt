@@ -1,0 +1,53 @@
+-- The parts behind conditions in a row of items.
+use Rattle.std.specs.Prelude.{◌==◌, ◌||◌, not, slice_get}
+use Rattle.std.proofs.Common.{◌≡◌, ℕ, ◌+◌, ◌<◌, Bool, true, false, List, [], length, Some, refl, sym, subst, arith}
+use Rattle.std.proofs.lemmas.Bool.{eqb-true}
+use Rattle.nr_reading.specs.declared.event.Event.TheVariants as events
+use Rattle.nr_reading.specs.declared.front.Front.{Front}
+use Rattle.nr_reading.specs.declared.front.Front.TheVariants as fronts
+use Rattle.nr_reading.specs.declared.half.Half.{Half}
+use Rattle.nr_reading.specs.declared.mode.Escape.TheVariants as escapes
+use Rattle.nr_reading.specs.declared.mode.Mode.TheVariants as modes
+use Rattle.nr_reading.specs.Meeting.{reads_next}
+use Rattle.nr_reading.specs.Passing.{is_plain}
+use Rattle.nr_reading.specs.Rows.{LeadsOn}
+use Rattle.nr_reading.specs.Skipping.{braces}
+use Rattle.nr_reading.specs.Spelling.{is_blank}
+use Rattle.nr_reading.proofs.Asked.{half_at}
+use Rattle.nr_reading.proofs.Rows.{MeetsByte, standing, apart_from, taken_more, looks}
+use Rattle.nr_reading.proofs.Weighing.{at}
+
+-- behind the blanks a line begins
+pub meet-part_begins : (b : ℕ) (h : Half) → h.reading.mode ≡ modes.Accepted → reads_next h ≡ true → is_plain b ≡ true → is_blank b ≡ false → MeetsByte b h (record h { reading = record h.reading { mode = modes.Start } }) events.Nothing false
+meet-part_begins b h mode next plain other =
+    let apart : (c : ℕ) → is_plain c ≡ false → (b == c) ≡ false = λ c. apart_from is_plain b c plain in
+    subst (λ (k : Half). MeetsByte b k (record k { reading = record k.reading { mode = modes.Start } }) events.Nothing false) (sym (standing modes.Accepted h mode next)) (rw (other, apart 10 refl, apart 92 refl) refl)
+
+-- ---- a rejected part
+
+-- a byte that is neither `\` nor the newline at its end does nothing
+pub meet-dropped : (b count : ℕ) (h : Half) → h.reading.mode ≡ modes.Skip count → reads_next h ≡ true → (b == 92) ≡ false → ((b ≡ 10) → (count == 0) ≡ false) → MeetsByte b h h events.Nothing true
+meet-dropped b count h mode next plain goes = subst (λ (k : Half). MeetsByte b k k events.Nothing true) (sym (standing (modes.Skip count) h mode next)) (by (b == 10) refl)
+  where
+    by : (x : Bool) → (b == 10) ≡ x → let k = half_at (at (modes.Skip count) escapes.Plain h.reading.continued h.reading.no_break) h.signs [] h.delimited h.notes in MeetsByte b k k events.Nothing true
+    by true is = rw (is, goes (eqb-true b 10 is)) refl
+    by false is = rw (is, plain) refl
+
+-- the newline at its end
+pub meet-rejected_end : (count : ℕ) (h : Half) → h.reading.mode ≡ modes.Skip count → reads_next h ≡ true → count ≡ 0 → MeetsByte 10 h (record h { reading = record h.reading { mode = modes.Start } }) events.Nothing true
+meet-rejected_end count h mode next none = subst (λ (k : Half). MeetsByte 10 k (record k { reading = record k.reading { mode = modes.Start } }) events.Nothing true) (sym (standing (modes.Skip count) h mode next)) (rw none refl)
+
+-- `\` and the byte behind it
+pub skipped : (fs : List Front) (from made to moves b count left : ℕ) (old h : Half) → LeadsOn fs from made old to moves h → h.reading.mode ≡ modes.Skip count → reads_next h ≡ true → to + 1 < length fs → slice_get fs to ≡ Some (fronts.Byte 92) → slice_get fs (to + 1) ≡ Some (fronts.Byte b)
+    → left ≡ braces b count → LeadsOn fs from made old (to + 1 + 1) (moves + 1 + 1) (record h { reading = record h.reading { mode = modes.Skip left } })
+skipped fs from made to moves b count left old h leads mode next within first second is =
+    let c = h.reading.continued in
+    let n = h.reading.no_break in
+    let k : Half = half_at (at (modes.Skip count) escapes.Plain c n) h.signs [] h.delimited h.notes in
+    let begun : Half = half_at (at (modes.Skip count) escapes.Begun c n) h.signs [] h.delimited h.notes in
+    let new : Half = half_at (at (modes.Skip (braces b count)) escapes.Plain c n) h.signs [] h.delimited h.notes in
+    let same : h ≡ k = standing (modes.Skip count) h mode next in
+    let one = taken_more fs from made to moves 92 old k begun (subst (λ (x : Half). LeadsOn fs from made old to moves x) same leads) (omega (arith, within)) refl first refl in
+    let two = taken_more fs from made (to + 1) (moves + 1) b old begun new one within refl second refl in
+    subst (λ d. LeadsOn fs from made old (to + 1 + 1) (moves + 1 + 1) (record h { reading = record h.reading { mode = modes.Skip d } })) (sym is)
+    (subst (λ (x : Half). LeadsOn fs from made old (to + 1 + 1) (moves + 1 + 1) (record x { reading = record x.reading { mode = modes.Skip (braces b count) } })) (sym same) two)

@@ -1,0 +1,16 @@
+use Rattle.std.proofs.Common.{◌≡◌, ◌-◌, ◌≤◌, true}
+use Rattle.nr_reading.specs.declared.mode.Mode.TheVariants as modes
+use Rattle.nr_reading.specs.Meeting.{reads_next}
+use Rattle.nr_reading.specs.Rows.{LeadsOn}
+use Rattle.nr_reading.proofs.half.Half.meet_rejected.Given as goal
+
+abbrev pub invariant-loop-place : goal.invariant-loop-level
+invariant-loop-place g l = record {
+  leads : LeadsOn (g.I.Items.fronts l.items) 0 0 l.fn.self l.place l.place l.self;
+  mode : l.self.reading.mode ≡ modes.Skip l.level;
+  next : reads_next l.self ≡ true;
+  few : l.place ≤ 8193;
+}
+
+abbrev pub decreases-loop-place : goal.decreases-loop-level
+decreases-loop-place g l = l.end - l.place
