@@ -27,10 +27,10 @@ use Rattle.nr_reading.proofs.Rows.{MeetsByte, standing, stays, taken_more, left_
 use Rattle.nr_reading.proofs.Weighing.{at}
 
 -- a byte that goes on a name
-record GoesOn (b : ℕ) : Type 0 where
-  ends : ends_name b ≡ false
-  blank : is_blank b ≡ false
-  escape : (b == 92) ≡ false
+pub record GoesOn (b : ℕ) : Type 0 where
+  pub ends : ends_name b ≡ false
+  pub blank : is_blank b ≡ false
+  pub escape : (b == 92) ≡ false
 
 -- a blank ends a name
 apart_blank : (b : ℕ) → ends_name b ≡ false → is_blank b ≡ false
@@ -46,7 +46,7 @@ apart_blank b is =
     none_of false true is = absurd (let wrong : true ≡ false = is in cc)
     none_of true y is = absurd (let wrong : true ≡ false = is in cc)
 
-goes_on : (b : ℕ) → goes_on_name b ≡ true → GoesOn b
+pub goes_on : (b : ℕ) → goes_on_name b ≡ true → GoesOn b
 goes_on b is = let two = neither (ends_name b) (b == 92) is in record { ends = two.0; blank = apart_blank b two.0; escape = two.1 }
 
 -- the control character, or the no-break one

@@ -21,6 +21,8 @@ pub mod LineRows
 pub mod ConditionRows
 pub mod RequestRows
 pub mod PartRows
+pub mod ArgumentRows
+pub mod StringRows
 pub mod ControlNames
 pub mod RequestLines
 pub mod Interpolated

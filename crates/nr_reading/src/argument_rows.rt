@@ -8,7 +8,7 @@ use super::event::Event;
 use super::half::Half;
 use super::mode::{Due, Mode};
 use super::passing::is_plain;
-use super::row::{byte_of, near};
+use super::row::byte_of;
 use super::runs::{Items, Run};
 use super::spelled::is_blank;
 
@@ -65,10 +65,14 @@ impl Half {
         if byte == b'\n' {
             self.reading.mode = Mode::Start;
             self.reading.due = Due::Call;
-        } else {
-            self.reading.mode = Mode::Word;
-            self.reading.due = Due::Put(byte);
+            return Run {
+                taken: from + 1,
+                moves: made + 1,
+                event: Event::Nothing,
+            };
         }
+        self.reading.mode = Mode::Word;
+        self.reading.due = Due::Put(byte);
         Run {
             taken: from + 1,
             moves: made + 1,

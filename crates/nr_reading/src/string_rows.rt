@@ -67,8 +67,9 @@ impl Half {
         }
         self.reading.mode = Mode::StringText;
         self.reading.due = Due::Begin;
+        let taken = if byte == b'"' { place + 1 } else { place };
         Run {
-            taken: place + usize::from(byte == b'"'),
+            taken,
             moves: moves + 1,
             event: Event::Nothing,
         }
@@ -90,9 +91,13 @@ impl Half {
         if byte == b'\n' {
             self.reading.mode = Mode::Start;
             self.reading.due = Due::Define;
-        } else {
-            self.reading.due = Due::Add(byte);
+            return Run {
+                taken: 1,
+                moves: 1,
+                event: Event::Nothing,
+            };
         }
+        self.reading.due = Due::Add(byte);
         Run {
             taken: 1,
             moves: 1,

@@ -4,7 +4,7 @@ use Rattle.nr_reading.specs.Meeting.{reads_next}
 use Rattle.nr_reading.specs.Rows.{LeadsOn}
 use Rattle.nr_reading.proofs.half.Half.meet_rejected.Given as goal
 
-abbrev pub invariant-loop-place : goal.invariant-loop-level
+abbrev pub invariant-loop-place : goal.invariant-loop-place
 invariant-loop-place g l = record {
   leads : LeadsOn (g.I.Items.fronts l.items) 0 0 l.fn.self l.place l.place l.self;
   mode : l.self.reading.mode ≡ modes.Skip l.level;
@@ -12,5 +12,5 @@ invariant-loop-place g l = record {
   few : l.place ≤ 8193;
 }
 
-abbrev pub decreases-loop-place : goal.decreases-loop-level
+abbrev pub decreases-loop-place : goal.decreases-loop-place
 decreases-loop-place g l = l.end - l.place

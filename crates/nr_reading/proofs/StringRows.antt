@@ -1,0 +1,72 @@
+-- The definitions of strings in a row of items.
+use Rattle.std.specs.Prelude.{slice_get, ◌==◌, ◌||◌, not}
+use Rattle.std.proofs.Common.{◌≡◌, ℕ, ◌+◌, ◌<◌, Bool, true, false, List, [], length, Some, refl, sym, subst, arith}
+use Rattle.nr_reading.specs.declared.event.Event.TheVariants as events
+use Rattle.nr_reading.specs.declared.front.Front.{Front}
+use Rattle.nr_reading.specs.declared.front.Front.TheVariants as fronts
+use Rattle.nr_reading.specs.declared.half.Half.{Half}
+use Rattle.nr_reading.specs.declared.mode.Due.TheVariants as dues
+use Rattle.nr_reading.specs.declared.mode.Escape.TheVariants as escapes
+use Rattle.nr_reading.specs.declared.mode.Mode.TheVariants as modes
+use Rattle.nr_reading.specs.declared.spelled.Spelled.{Spelled}
+use Rattle.nr_reading.specs.ControlNames.{goes_on_name}
+use Rattle.nr_reading.specs.Meeting.{reads_next}
+use Rattle.nr_reading.specs.Rows.{LeadsOn}
+use Rattle.nr_reading.specs.Spelling.{is_blank, ends_name, nothing_spelled, spelled}
+use Rattle.nr_reading.proofs.Asked.{half_at}
+use Rattle.nr_reading.proofs.ControlNames.{goes_on}
+use Rattle.nr_reading.proofs.Rows.{MeetsByte, standing, taken_more, left_more}
+use Rattle.nr_reading.proofs.Weighing.{at}
+
+-- behind the name
+abbrev pub named_so : Spelled → Half → Half
+named_so name h = record h { reading = record h.reading { mode = modes.StringBlanks }; notes = record h.notes { name = name } }
+
+module _ (fs : List Front) (from made to moves : ℕ) (old h : Half) (leads : LeadsOn fs from made old to moves h) (mode : h.reading.mode ≡ modes.StringBefore) (next : reads_next h ≡ true) (short : h.signs.long ≡ false)
+    (a b : ℕ) (within : to + 1 < length fs) (first : slice_get fs to ≡ Some (fronts.Byte a)) (second : slice_get fs (to + 1) ≡ Some (fronts.Byte b)) (goes_a : goes_on_name a ≡ true) where
+  abbrev there : Half
+  there = half_at (at modes.StringBefore escapes.Plain h.reading.continued h.reading.no_break) h.signs [] h.delimited h.notes
+
+  abbrev naming : Spelled → Half
+  naming name = record there { reading = record there.reading { mode = modes.StringName }; notes = record there.notes { name = name } }
+
+  same : h ≡ there
+  same = standing modes.StringBefore h mode next
+
+  -- the first byte
+  begun : LeadsOn fs from made old (to + 1) (moves + 1 + 1) (naming (spelled a nothing_spelled))
+  begun =
+      let on_a = goes_on a goes_a in
+      let one = left_more fs from made to moves a old there (naming nothing_spelled) (subst (λ (x : Half). LeadsOn fs from made old to moves x) same leads) (omega (arith, within)) refl first (rw (on_a.escape, on_a.blank) refl) in
+      taken_more fs from made to (moves + 1) a old (naming nothing_spelled) (naming (spelled a nothing_spelled)) one (omega (arith, within)) refl first (rw (on_a.escape, on_a.ends, short) refl)
+
+  -- a name of one byte
+  pub lone_named : (b == 92) ≡ false → ends_name b ≡ true → LeadsOn fs from made old (to + 1) (moves + 1 + 1 + 1) (named_so (spelled a nothing_spelled) h)
+  lone_named plain ends =
+      subst (λ (x : Half). LeadsOn fs from made old (to + 1) (moves + 1 + 1 + 1) (named_so (spelled a nothing_spelled) x)) (sym same)
+      (left_more fs from made (to + 1) (moves + 1 + 1) b old (naming (spelled a nothing_spelled)) (named_so (spelled a nothing_spelled) there) begun within refl second (rw (plain, ends) refl))
+
+  -- a name of two
+  pub pair_named : goes_on_name b ≡ true → LeadsOn fs from made old (to + 1 + 1) (moves + 1 + 1 + 1) (named_so (spelled b (spelled a nothing_spelled)) h)
+  pair_named goes_b =
+      let on_b = goes_on b goes_b in
+      subst (λ (x : Half). LeadsOn fs from made old (to + 1 + 1) (moves + 1 + 1 + 1) (named_so (spelled b (spelled a nothing_spelled)) x)) (sym same)
+      (taken_more fs from made (to + 1) (moves + 1 + 1) b old (naming (spelled a nothing_spelled)) (named_so (spelled b (spelled a nothing_spelled)) there) begun within refl second (rw (on_b.escape, on_b.ends, short) refl))
+
+-- ---- the text
+
+-- in another mode, with this due
+abbrev pub begun_text : Half → Half
+begun_text h = record h { reading = record h.reading { mode = modes.StringText; due = dues.Begin } }
+
+pub meet-quote : (h : Half) → h.reading.mode ≡ modes.StringBlanks → reads_next h ≡ true → MeetsByte 34 h (begun_text h) events.Nothing true
+meet-quote h mode next = subst (λ (k : Half). MeetsByte 34 k (begun_text k) events.Nothing true) (sym (standing modes.StringBlanks h mode next)) refl
+
+pub meet-text_begins : (b : ℕ) (h : Half) → h.reading.mode ≡ modes.StringBlanks → reads_next h ≡ true → (b == 92) ≡ false → is_blank b ≡ false → (b == 34) ≡ false → MeetsByte b h (begun_text h) events.Nothing false
+meet-text_begins b h mode next plain blank quote = subst (λ (k : Half). MeetsByte b k (begun_text k) events.Nothing false) (sym (standing modes.StringBlanks h mode next)) (rw (plain, blank, quote) refl)
+
+pub meet-text_byte : (b : ℕ) (h : Half) → h.reading.mode ≡ modes.StringText → reads_next h ≡ true → (b == 92) ≡ false → (b == 10) ≡ false → MeetsByte b h (record h { reading = record h.reading { due = dues.Add b } }) events.Nothing true
+meet-text_byte b h mode next plain newline = subst (λ (k : Half). MeetsByte b k (record k { reading = record k.reading { due = dues.Add b } }) events.Nothing true) (sym (standing modes.StringText h mode next)) (rw (plain, newline) refl)
+
+pub meet-text_end : (h : Half) → h.reading.mode ≡ modes.StringText → reads_next h ≡ true → MeetsByte 10 h (record h { reading = record h.reading { mode = modes.Start; due = dues.Define } }) events.Nothing true
+meet-text_end h mode next = subst (λ (k : Half). MeetsByte 10 k (record k { reading = record k.reading { mode = modes.Start; due = dues.Define } }) events.Nothing true) (sym (standing modes.StringText h mode next)) refl

@@ -1,0 +1,22 @@
+use Rattle.std.proofs.Common.{Some, ap, ◌∙◌, arith}
+use Rattle.nr_reading.specs.declared.event.Event.TheVariants as events
+use Rattle.nr_reading.specs.declared.front.Front.TheVariants as fronts
+use Rattle.nr_reading.specs.declared.mode.Due.TheVariants as dues
+use Rattle.nr_reading.specs.declared.mode.Mode.TheVariants as modes
+use Rattle.nr_reading.proofs.ArgumentRows.{with_due, meet-word_end, meet-word_space}
+use Rattle.nr_reading.proofs.Rows.{stays, taken_last, left_last, looks}
+use Rattle.nr_reading.proofs.half.Half.meet_word.Goals as goal
+
+pub returns-in-Some-eq10 : goal.returns-in-Some-eq10
+returns-in-Some-eq10 g c =
+    let fs = g.I.Items.fronts c.args.items.now in
+    let h = c.args.self.now in
+    left_last fs 0 0 0 0 10 h h (with_due modes.MacroGap dues.EndArgument h) events.Nothing (stays fs 0 0 h) c.in-Some-eq10.ensures.within (looks h c.requires.next) (c.in-Some-eq10.ensures.value ∙ ap (λ b. Some (fronts.Byte b)) c.in-Some-eq10.field-0-test)
+    (meet-word_end h c.requires.mode c.requires.next) (omega arith) (λ silent due. let wrong : ⊥ = cc in wrong)
+
+pub returns-in-Some-eq32 : goal.returns-in-Some-eq32
+returns-in-Some-eq32 g c =
+    let fs = g.I.Items.fronts c.args.items.now in
+    let h = c.args.self.now in
+    taken_last fs 0 0 0 0 32 h h (with_due modes.MacroGap dues.EndArgument h) events.Nothing (stays fs 0 0 h) c.in-Some-eq32.ensures.within (looks h c.requires.next) (c.in-Some-eq32.ensures.value ∙ ap (λ b. Some (fronts.Byte b)) c.in-Some-eq32.field-0-test)
+    (meet-word_space h c.requires.mode c.requires.next) (omega arith) (λ silent due. let wrong : ⊥ = cc in wrong)
