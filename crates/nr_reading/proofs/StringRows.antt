@@ -13,14 +13,11 @@ use Rattle.nr_reading.specs.ControlNames.{goes_on_name}
 use Rattle.nr_reading.specs.Meeting.{reads_next}
 use Rattle.nr_reading.specs.Rows.{LeadsOn}
 use Rattle.nr_reading.specs.Spelling.{is_blank, ends_name, nothing_spelled, spelled}
+use Rattle.nr_reading.specs.StringRows.{behind_name}
 use Rattle.nr_reading.proofs.Asked.{half_at}
 use Rattle.nr_reading.proofs.ControlNames.{goes_on}
 use Rattle.nr_reading.proofs.Rows.{MeetsByte, standing, taken_more, left_more}
 use Rattle.nr_reading.proofs.Weighing.{at}
-
--- behind the name
-abbrev pub named_so : Spelled → Half → Half
-named_so name h = record h { reading = record h.reading { mode = modes.StringBlanks }; notes = record h.notes { name = name } }
 
 module _ (fs : List Front) (from made to moves : ℕ) (old h : Half) (leads : LeadsOn fs from made old to moves h) (mode : h.reading.mode ≡ modes.StringBefore) (next : reads_next h ≡ true) (short : h.signs.long ≡ false)
     (a b : ℕ) (within : to + 1 < length fs) (first : slice_get fs to ≡ Some (fronts.Byte a)) (second : slice_get fs (to + 1) ≡ Some (fronts.Byte b)) (goes_a : goes_on_name a ≡ true) where
@@ -41,17 +38,17 @@ module _ (fs : List Front) (from made to moves : ℕ) (old h : Half) (leads : Le
       taken_more fs from made to (moves + 1) a old (naming nothing_spelled) (naming (spelled a nothing_spelled)) one (omega (arith, within)) refl first (rw (on_a.escape, on_a.ends, short) refl)
 
   -- a name of one byte
-  pub lone_named : (b == 92) ≡ false → ends_name b ≡ true → LeadsOn fs from made old (to + 1) (moves + 1 + 1 + 1) (named_so (spelled a nothing_spelled) h)
+  pub lone_named : (b == 92) ≡ false → ends_name b ≡ true → LeadsOn fs from made old (to + 1) (moves + 1 + 1 + 1) (behind_name (spelled a nothing_spelled) h)
   lone_named plain ends =
-      subst (λ (x : Half). LeadsOn fs from made old (to + 1) (moves + 1 + 1 + 1) (named_so (spelled a nothing_spelled) x)) (sym same)
-      (left_more fs from made (to + 1) (moves + 1 + 1) b old (naming (spelled a nothing_spelled)) (named_so (spelled a nothing_spelled) there) begun within refl second (rw (plain, ends) refl))
+      subst (λ (x : Half). LeadsOn fs from made old (to + 1) (moves + 1 + 1 + 1) (behind_name (spelled a nothing_spelled) x)) (sym same)
+      (left_more fs from made (to + 1) (moves + 1 + 1) b old (naming (spelled a nothing_spelled)) (behind_name (spelled a nothing_spelled) there) begun within refl second (rw (plain, ends) refl))
 
   -- a name of two
-  pub pair_named : goes_on_name b ≡ true → LeadsOn fs from made old (to + 1 + 1) (moves + 1 + 1 + 1) (named_so (spelled b (spelled a nothing_spelled)) h)
+  pub pair_named : goes_on_name b ≡ true → LeadsOn fs from made old (to + 1 + 1) (moves + 1 + 1 + 1) (behind_name (spelled b (spelled a nothing_spelled)) h)
   pair_named goes_b =
       let on_b = goes_on b goes_b in
-      subst (λ (x : Half). LeadsOn fs from made old (to + 1 + 1) (moves + 1 + 1 + 1) (named_so (spelled b (spelled a nothing_spelled)) x)) (sym same)
-      (taken_more fs from made (to + 1) (moves + 1 + 1) b old (naming (spelled a nothing_spelled)) (named_so (spelled b (spelled a nothing_spelled)) there) begun within refl second (rw (on_b.escape, on_b.ends, short) refl))
+      subst (λ (x : Half). LeadsOn fs from made old (to + 1 + 1) (moves + 1 + 1 + 1) (behind_name (spelled b (spelled a nothing_spelled)) x)) (sym same)
+      (taken_more fs from made (to + 1) (moves + 1 + 1) b old (naming (spelled a nothing_spelled)) (behind_name (spelled b (spelled a nothing_spelled)) there) begun within refl second (rw (on_b.escape, on_b.ends, short) refl))
 
 -- ---- the text
 

@@ -29,6 +29,7 @@ pub mod Setting
 pub mod Skipping
 pub mod Spelling
 pub mod Steps
+pub mod StringRows
 pub mod Strings
 pub mod Text
 pub mod TextEscapes

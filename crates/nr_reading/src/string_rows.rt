@@ -3,6 +3,7 @@ ghost use Rattle.std.specs.Prelude.{◌≡◌, ◌+◌, ◌≤◌, length, true}
 ghost use Rattle.nr_reading.specs.declared.mode.Mode.TheVariants as modes;
 ghost use Rattle.nr_reading.specs.Meeting.{reads_next};
 ghost use Rattle.nr_reading.specs.Rows.{MeetsRest};
+ghost use Rattle.nr_reading.specs.StringRows.{behind_name};
 
 use super::control_names::goes_on_name;
 use super::event::Event;
@@ -13,6 +14,15 @@ use super::runs::{Items, Run};
 use super::spelled::{Spelled, ends_name, is_blank};
 
 impl Half {
+    // Behind a string's name.
+    #[inline(always)]
+    fn take_string_name(&mut self, name: Spelled)
+        ensures { self.new ≡ behind_name name self.old }
+    {
+        self.notes.name = name;
+        self.reading.mode = Mode::StringBlanks;
+    }
+
     /// The definition of a string is met from the blanks before its name on.
     #[inline(never)]
     pub(crate) fn meet_string<I: Items>(&mut self, items: &I) -> Run
@@ -33,13 +43,12 @@ impl Half {
         if second == b'\\' {
             return self.meet_more(items, place, place);
         }
-        self.notes.name = Spelled::new();
-        self.notes.name.push(first);
-        self.reading.mode = Mode::StringBlanks;
+        let lone = Spelled::new().with(first);
         if ends_name(second) {
+            self.take_string_name(lone);
             return self.meet_string_blanks(items, place + 1, place + 3);
         }
-        self.notes.name.push(second);
+        self.take_string_name(lone.with(second));
         self.meet_string_blanks(items, place + 2, place + 3)
     }
 
@@ -67,9 +76,15 @@ impl Half {
         }
         self.reading.mode = Mode::StringText;
         self.reading.due = Due::Begin;
-        let taken = if byte == b'"' { place + 1 } else { place };
+        if byte == b'"' {
+            return Run {
+                taken: place + 1,
+                moves: moves + 1,
+                event: Event::Nothing,
+            };
+        }
         Run {
-            taken,
+            taken: place,
             moves: moves + 1,
             event: Event::Nothing,
         }
