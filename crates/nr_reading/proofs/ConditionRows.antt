@@ -1,27 +1,21 @@
 -- Conditions in a row of items.
-use Rattle.std.specs.Prelude.{◌==◌, ◌&&◌, ◌||◌, not}
-use Rattle.std.proofs.Common.{◌≡◌, ℕ, Bool, true, false, [], refl, sym, subst}
+use Rattle.std.specs.Prelude.{◌==◌}
+use Rattle.std.proofs.Common.{◌≡◌, ℕ, Bool, true, false, refl, sym, subst}
 use Rattle.nr_reading.specs.declared.event.Event.TheVariants as events
 use Rattle.nr_reading.specs.declared.event.Question.TheVariants as questions
 use Rattle.nr_reading.specs.declared.half.Half.{Half}
 use Rattle.nr_reading.specs.declared.mode.Due.TheVariants as dues
-use Rattle.nr_reading.specs.declared.mode.Escape.TheVariants as escapes
 use Rattle.nr_reading.specs.declared.mode.Mode.{Mode}
 use Rattle.nr_reading.specs.declared.mode.Mode.TheVariants as modes
 use Rattle.nr_reading.specs.Notes.{Note}
-use Rattle.nr_reading.specs.declared.mode.Signs.{Signs}
 use Rattle.nr_reading.specs.declared.notes.Notes.{Notes}
-use Rattle.nr_reading.specs.Delimiting.{Texts}
 use Rattle.nr_reading.specs.ConditionRows.{delimits, ends_number}
 use Rattle.nr_reading.specs.Conditions.{begins_number, parentheses}
 use Rattle.nr_reading.specs.Meeting.{reads_next}
 use Rattle.nr_reading.specs.Notes as notes
 use Rattle.nr_reading.specs.Noting.{noted, are_equal}
 use Rattle.nr_reading.specs.Passing.{is_plain}
-use Rattle.nr_reading.specs.Spelling.{is_blank}
-use Rattle.nr_reading.proofs.Asked.{half_at}
 use Rattle.nr_reading.proofs.Rows.{MeetsByte, standing, apart_from}
-use Rattle.nr_reading.proofs.Weighing.{at}
 
 -- in another mode, this being noted
 abbrev going : Mode → Note → Half → Half

@@ -1,16 +1,13 @@
 -- The beginnings of lines in a row of items.
 use Rattle.std.specs.Prelude.{◌==◌, ◌||◌, not}
-use Rattle.std.proofs.Common.{◌≡◌, ℕ, Bool, true, false, [], refl, sym, subst}
+use Rattle.std.proofs.Common.{◌≡◌, ℕ, Bool, true, false, refl, sym, subst}
 use Rattle.nr_reading.specs.declared.event.Event.TheVariants as events
 use Rattle.nr_reading.specs.declared.half.Half.{Half}
-use Rattle.nr_reading.specs.declared.mode.Escape.TheVariants as escapes
 use Rattle.nr_reading.specs.declared.mode.Mode.TheVariants as modes
 use Rattle.nr_reading.specs.declared.mode.Signs.{Signs}
 use Rattle.nr_reading.specs.LineBeginnings.{begins_text, text_begun}
 use Rattle.nr_reading.specs.Meeting.{reads_next}
-use Rattle.nr_reading.proofs.Asked.{half_at}
 use Rattle.nr_reading.proofs.Rows.{MeetsByte, standing}
-use Rattle.nr_reading.proofs.Weighing.{at}
 
 -- a byte that begins the text of a line
 record BeginsText (b : ℕ) (s : Signs) : Type 0 where

@@ -1,5 +1,5 @@
 -- The parts behind conditions in a row of items.
-use Rattle.std.specs.Prelude.{◌==◌, ◌||◌, not, slice_get}
+use Rattle.std.specs.Prelude.{◌==◌, slice_get}
 use Rattle.std.proofs.Common.{◌≡◌, ℕ, ◌+◌, ◌<◌, Bool, true, false, List, [], length, Some, refl, sym, subst, arith}
 use Rattle.std.proofs.lemmas.Bool.{eqb-true}
 use Rattle.nr_reading.specs.declared.event.Event.TheVariants as events
@@ -14,7 +14,7 @@ use Rattle.nr_reading.specs.Rows.{LeadsOn}
 use Rattle.nr_reading.specs.Skipping.{braces}
 use Rattle.nr_reading.specs.Spelling.{is_blank}
 use Rattle.nr_reading.proofs.Asked.{half_at}
-use Rattle.nr_reading.proofs.Rows.{MeetsByte, standing, apart_from, taken_more, looks}
+use Rattle.nr_reading.proofs.Rows.{MeetsByte, standing, apart_from, taken_more}
 use Rattle.nr_reading.proofs.Weighing.{at}
 
 -- behind the blanks a line begins

@@ -1,11 +1,9 @@
-use Rattle.std.proofs.Common.{◌≡◌, ◌+◌, ◌-◌, refl, sym, ap, ◌∙◌, arith}
+use Rattle.std.proofs.Common.{◌+◌, ◌-◌, refl, sym, ◌∙◌, arith}
 use Rattle.std.proofs.lemmas.Bool.{eq-eqb, ne_eqb}
-use Rattle.nr_reading.specs.declared.event.Event.TheVariants as events
 use Rattle.nr_reading.specs.declared.half.Half.{Half}
-use Rattle.nr_reading.specs.declared.mode.Due.TheVariants as dues
 use Rattle.nr_reading.specs.declared.mode.Mode.TheVariants as modes
 use Rattle.nr_reading.proofs.ConditionRows.{meet-first_byte, meet-first_end}
-use Rattle.nr_reading.proofs.Rows.{recount, taken_more, taken_last, rest_behind, looks}
+use Rattle.nr_reading.proofs.Rows.{recount, taken_more, rest_behind, looks}
 use Rattle.nr_reading.proofs.half.Half.meet_first_string.Goals as goal
 
 pub loop-place-preserved : goal.loop-place-preserved

@@ -1,4 +1,4 @@
-use Rattle.std.proofs.Common.{◌≡◌, ◌+◌, sym, ◌∙◌}
+use Rattle.std.proofs.Common.{◌+◌, sym, ◌∙◌}
 use Rattle.std.proofs.lemmas.Bool.{ne_eqb}
 use Rattle.nr_reading.specs.declared.half.Half.{Half}
 use Rattle.nr_reading.specs.declared.mode.Mode.TheVariants as modes

@@ -1,4 +1,4 @@
-use Rattle.std.proofs.Common.{◌≡◌, ◌+◌, ◌-◌, refl, arith}
+use Rattle.std.proofs.Common.{◌+◌, ◌-◌, refl, arith}
 use Rattle.nr_reading.proofs.Rows.{recount}
 use Rattle.nr_reading.proofs.half.Half.pass_first_blanks.Goals as goal
 
