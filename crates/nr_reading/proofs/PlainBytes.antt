@@ -16,11 +16,10 @@ use Rattle.nr_reading.specs.declared.mode.Mode.TheVariants as modes
 use Rattle.nr_reading.specs.declared.mode.Signs.{Signs}
 use Rattle.nr_reading.specs.declared.notes.Notes.{Notes}
 use Rattle.nr_reading.specs.Delimiting.{Texts}
-use Rattle.nr_reading.specs.Keeping.{kept}
 use Rattle.nr_reading.specs.Meeting.{meet, meet_by}
 use Rattle.nr_reading.specs.Modes.{is_direct}
 use Rattle.nr_reading.specs.Nesting.{is_none}
-use Rattle.nr_reading.specs.Passing.{is_plain, drops_plain, passes_by, passes_plain, notes_by, notes_plain, quiet, GoesOn}
+use Rattle.nr_reading.specs.Passing.{is_plain, drops_plain, passes_by, passes_plain, quiet, GoesOn}
 use Rattle.nr_reading.proofs.Asked.{half_at}
 use Rattle.nr_reading.proofs.Moving.{met_more}
 use Rattle.nr_reading.proofs.Paying.{pays_for}
@@ -100,20 +99,3 @@ meet-passed b h passes look plain =
     let two = both (is_none h.asks) (passes_by h.reading.escape h.reading.mode h.notes.defining) passes in
     subst (λ (k : Half). meet (fronts.Byte b) k ≡ record { half = k; event = events.Nothing; takes = true }) (sym (looking h (no_asks h.asks two.0) look))
     (by_escape h.reading.escape h.reading.mode h.reading.continued h.reading.no_break h.signs h.delimited h.notes b two.1 (apart b plain))
-
--- ---- a byte of a request's line
-
--- what is half read, the byte being noted
-abbrev pub noting : ℕ → Half → Half
-noting b h = record h { notes = record h.notes { line = kept b h.notes.line } }
-
-in_line : (e : Escape) (m : Mode) (c n : Bool) (s : Signs) (d : Texts) (o : Notes) (b : ℕ) → notes_by e m ≡ true → IsApart b
-    → let h = half_at (at m e c n) s [] d o in meet_by [] (fronts.Byte b) h ≡ record { half = noting b h; event = events.Nothing; takes = true }
-in_line escapes.Plain modes.RequestLine c n s d o b is byte = rw (byte.escape, byte.newline) refl
-in_line e m c n s d o b is byte = let wrong : ⊥ = cc in absurd wrong
-
-pub meet-noted : (b : ℕ) (h : Half) → notes_plain h ≡ true → h.reading.due ≡ dues.Look → is_plain b ≡ true → meet (fronts.Byte b) h ≡ record { half = noting b h; event = events.Nothing; takes = true }
-meet-noted b h notes look plain =
-    let two = both (is_none h.asks) (notes_by h.reading.escape h.reading.mode) notes in
-    subst (λ (k : Half). meet (fronts.Byte b) k ≡ record { half = noting b k; event = events.Nothing; takes = true }) (sym (looking h (no_asks h.asks two.0) look))
-    (in_line h.reading.escape h.reading.mode h.reading.continued h.reading.no_break h.signs h.delimited h.notes b two.1 (apart b plain))

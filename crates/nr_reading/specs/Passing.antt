@@ -34,14 +34,6 @@ passes_by escapes.Comment m d = true
 abbrev pub passes_plain : Half → Bool
 passes_plain h = is_none h.asks && passes_by h.reading.escape h.reading.mode h.notes.defining
 
-abbrev pub notes_by : Escape → Mode → Bool
-notes_by escapes.Plain modes.RequestLine = true
-notes_by e m = false
-
--- such bytes are noted of a request's line
-abbrev pub notes_plain : Half → Bool
-notes_plain h = is_none h.asks && notes_by h.reading.escape h.reading.mode
-
 -- where so many items were taken, and nothing was told
 abbrev pub quiet : ℕ → Half → Spot
 quiet taken h = record { taken = taken; half = h; event = events.Nothing }

@@ -1,7 +1,7 @@
 //! Bytes that are met many at once.
 ghost use Rattle.std.specs.Prelude.{◌≡◌, ◌≤◌, ◌+◌, length, true};
 ghost use Rattle.nr_reading.specs.declared.mode.Due.TheVariants as dues;
-ghost use Rattle.nr_reading.specs.Passing.{GoesOn, is_plain, drops_plain, passes_plain, notes_plain};
+ghost use Rattle.nr_reading.specs.Passing.{GoesOn, is_plain, drops_plain, passes_plain};
 
 use super::half::Half;
 use super::mode::{Escape, Mode};
@@ -45,17 +45,6 @@ impl Half {
         }
     }
 
-    // Such bytes are noted of a request's line.
-    #[inline(always)]
-    fn notes_plain(&self) -> bool
-        ensures { result ≡ notes_plain self.now }
-    {
-        match (self.reading.escape, self.reading.mode) {
-            (Escape::Plain, Mode::RequestLine) => self.asks.is_empty(),
-            _ => false,
-        }
-    }
-
     // Bytes that do nothing are passed over, so many at most. The result is how many.
     #[inline(never)]
     fn pass_plain<I: Items>(&self, items: &I, most: usize) -> usize
@@ -74,37 +63,16 @@ impl Half {
         most
     }
 
-    // Bytes are noted of a request's line, so many at most. The result is how many.
-    #[inline(never)]
-    fn note_plain<I: Items>(&mut self, items: &I, most: usize) -> usize
-        requires notes { notes_plain self.old ≡ true }
-        requires due { self.old.reading.due ≡ dues.Look }
-        requires within { most ≤ length (I.fronts items.now) }
-        ensures goes { GoesOn (I.fronts items.now) result self.old self.new }
-        ensures within { result ≤ most }
-    {
-        for place in 0..most {
-            match items.byte(place) {
-                Some(byte) if is_plain(byte) => self.notes.line.keep(byte),
-                _ => return place,
-            }
-        }
-        most
-    }
-
-    /// Bytes that do little are met, so many at most. The result is how many.
+    /// Bytes that do nothing are passed over from the beginning of a row on, so many at most. The result is how many.
     #[inline(always)]
-    pub(crate) fn meet_plain<I: Items>(&mut self, items: &I, room: usize) -> usize
-        requires due { self.old.reading.due ≡ dues.Look }
-        ensures goes { GoesOn (I.fronts items.now) result self.old self.new }
+    pub(crate) fn meet_plain<I: Items>(&self, items: &I, room: usize) -> usize
+        requires due { self.now.reading.due ≡ dues.Look }
+        ensures goes { GoesOn (I.fronts items.now) result self.now self.now }
         ensures within { result ≤ length (I.fronts items.now) }
         ensures room { result ≤ room }
     {
         if self.passes_plain() {
             return self.pass_plain(items, room.min(items.count()));
-        }
-        if self.notes_plain() {
-            return self.note_plain(items, room.min(items.count()));
         }
         0
     }
