@@ -40,44 +40,44 @@ fn ends_number(byte: u8, depth: u64) -> bool
 impl Half {
     /// A condition is met from its blanks on.
     #[inline(never)]
-    pub(crate) fn meet_condition<I: Items>(&mut self, items: &I, run: &mut Run)
+    pub(crate) fn meet_condition<I: Items>(&mut self, items: &I) -> Run
         requires mode { self.old.reading.mode ≡ modes.Condition }
         requires next { reads_next self.old ≡ true }
-        ensures { MeetsRest (I.fronts items.now) 0 0 self.old run.new self.new }
+        ensures { MeetsRest (I.fronts items.now) 0 0 self.old result self.new }
     {
         if self.notes.condition.negated {
-            return self.meet_question(items, 0, 0, run);
+            return self.meet_question(items, 0, 0);
         }
         let place = self.pass_first_blanks(items);
         if let Some(b'!') = byte_of(items, place) {
             self.notes.note(Jot::Negated);
-            return self.meet_question(items, place + 1, place + 1, run);
+            return self.meet_question(items, place + 1, place + 1);
         }
-        self.meet_question(items, place, place, run)
+        self.meet_question(items, place, place)
     }
 
     // A condition is met from its first byte on.
     #[inline(never)]
-    fn meet_question<I: Items>(&mut self, items: &I, from: usize, made: usize, run: &mut Run)
+    fn meet_question<I: Items>(&mut self, items: &I, from: usize, made: usize) -> Run
         requires mode { self.old.reading.mode ≡ modes.Condition }
         requires next { reads_next self.old ≡ true }
         requires few { made ≤ 16384 }
-        ensures { MeetsRest (I.fronts items.now) from made self.old run.new self.new }
+        ensures { MeetsRest (I.fronts items.now) from made self.old result self.new }
     {
         let Some(byte) = byte_of(items, from) else {
-            return self.meet_rest(items, from, made, run);
+            return self.meet_rest(items, from, made);
         };
         if begins_number(byte) {
             self.reading.mode = Mode::Number(0);
             self.notes.note(Jot::NewLine);
-            return self.meet_tested(items, from, made + 1, 0, run);
+            return self.meet_tested(items, from, made + 1, 0);
         }
         if !delimits(byte) {
-            return self.meet_escape(items, from, made, run);
+            return self.meet_escape(items, from, made);
         }
         self.reading.mode = Mode::First(byte);
         self.notes.note(Jot::Strings);
-        self.meet_first_string(items, from + 1, made + 1, byte, run)
+        self.meet_first_string(items, from + 1, made + 1, byte)
     }
 
     /// A condition's number is met.
@@ -88,36 +88,36 @@ impl Half {
         from: usize,
         made: usize,
         depth: u64,
-        run: &mut Run,
-    )
+    ) -> Run
         requires mode { self.old.reading.mode ≡ modes.Number depth }
         requires next { reads_next self.old ≡ true }
         requires within { from ≤ length (I.fronts items.now) }
         requires few { made ≤ 32768 }
-        ensures { MeetsRest (I.fronts items.now) from made self.old run.new self.new }
+        ensures { MeetsRest (I.fronts items.now) from made self.old result self.new }
     {
         let end = near(items, from);
         let mut level = depth;
         for place in from..end {
             let moves = made + (place - from);
             let Some(byte) = items.byte(place) else {
-                return self.meet_rest(items, place, moves, run);
+                return self.meet_rest(items, place, moves);
             };
             if byte == b'\\' {
-                return self.meet_escape(items, place, moves, run);
+                return self.meet_escape(items, place, moves);
             }
             if ends_number(byte, level) {
                 self.reading.mode = Mode::Skip(0);
-                run.taken = place;
-                run.moves = moves + 1;
-                run.event = Event::Judge(Question::Number);
-                return;
+                return Run {
+                    taken: place,
+                    moves: moves + 1,
+                    event: Event::Judge(Question::Number),
+                };
             }
             level = parentheses(byte, level);
             self.reading.mode = Mode::Number(level);
             self.notes.note(Jot::Line(byte));
         }
-        self.meet_rest(items, end, made + (end - from), run)
+        self.meet_rest(items, end, made + (end - from))
     }
 
     /// A condition's first string is met.
@@ -128,30 +128,29 @@ impl Half {
         from: usize,
         made: usize,
         delimiter: u8,
-        run: &mut Run,
-    )
+    ) -> Run
         requires mode { self.old.reading.mode ≡ modes.First delimiter }
         requires next { reads_next self.old ≡ true }
         requires within { from ≤ length (I.fronts items.now) }
         requires few { made ≤ 32768 }
-        ensures { MeetsRest (I.fronts items.now) from made self.old run.new self.new }
+        ensures { MeetsRest (I.fronts items.now) from made self.old result self.new }
     {
         let end = near(items, from);
         for place in from..end {
             let moves = made + (place - from);
             let Some(byte) = items.byte(place) else {
-                return self.meet_rest(items, place, moves, run);
+                return self.meet_rest(items, place, moves);
             };
             if !is_plain(byte) {
-                return self.meet_escape(items, place, moves, run);
+                return self.meet_escape(items, place, moves);
             }
             if byte == delimiter {
                 self.reading.mode = Mode::Second(delimiter);
-                return self.meet_second_string(items, place + 1, moves + 1, delimiter, run);
+                return self.meet_second_string(items, place + 1, moves + 1, delimiter);
             }
             self.notes.note(Jot::First(byte));
         }
-        self.meet_rest(items, end, made + (end - from), run)
+        self.meet_rest(items, end, made + (end - from))
     }
 
     /// A condition's second string is met.
@@ -162,32 +161,32 @@ impl Half {
         from: usize,
         made: usize,
         delimiter: u8,
-        run: &mut Run,
-    )
+    ) -> Run
         requires mode { self.old.reading.mode ≡ modes.Second delimiter }
         requires next { reads_next self.old ≡ true }
         requires within { from ≤ length (I.fronts items.now) }
         requires few { made ≤ 49152 }
-        ensures { MeetsRest (I.fronts items.now) from made self.old run.new self.new }
+        ensures { MeetsRest (I.fronts items.now) from made self.old result self.new }
     {
         let end = near(items, from);
         for place in from..end {
             let moves = made + (place - from);
             let Some(byte) = items.byte(place) else {
-                return self.meet_rest(items, place, moves, run);
+                return self.meet_rest(items, place, moves);
             };
             if !is_plain(byte) {
-                return self.meet_escape(items, place, moves, run);
+                return self.meet_escape(items, place, moves);
             }
             if byte == delimiter {
                 self.reading.due = Due::Judge(self.notes.condition.are_equal());
-                run.taken = place + 1;
-                run.moves = moves + 1;
-                run.event = Event::Nothing;
-                return;
+                return Run {
+                    taken: place + 1,
+                    moves: moves + 1,
+                    event: Event::Nothing,
+                };
             }
             self.notes.note(Jot::Second(byte));
         }
-        self.meet_rest(items, end, made + (end - from), run)
+        self.meet_rest(items, end, made + (end - from))
     }
 }

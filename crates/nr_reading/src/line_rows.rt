@@ -21,39 +21,37 @@ impl Half {
 
     /// The items behind a line's beginning are met: the name of a control line, or the first byte of its text, and else one after another.
     #[inline(never)]
-    pub(crate) fn meet_beginning<I: Items>(
-        &mut self,
-        items: &I,
-        from: usize,
-        made: usize,
-        run: &mut Run,
-    )
+    pub(crate) fn meet_beginning<I: Items>(&mut self, items: &I, from: usize, made: usize) -> Run
         requires mode { self.old.reading.mode ≡ modes.Start }
         requires next { reads_next self.old ≡ true }
         requires few { made ≤ 65000 }
-        ensures { MeetsRest (I.fronts items.now) from made self.old run.new self.new }
+        ensures { MeetsRest (I.fronts items.now) from made self.old result self.new }
     {
         if from >= items.count() {
-            run.taken = from;
-            run.moves = made;
-            run.event = Event::Nothing;
-            return;
+            return Run {
+                taken: from,
+                moves: made,
+                event: Event::Nothing,
+            };
         }
         if self.meet_name_at(items, from) {
-            run.taken = from + 3;
-            run.moves = made + 4;
-            run.event = Event::Nothing;
-            return;
+            return Run {
+                taken: from + 3,
+                moves: made + 4,
+                event: Event::Nothing,
+            };
         }
         let Some(byte) = items.byte(from) else {
-            return self.meet_more(items, from, made, run);
+            return self.meet_more(items, from, made);
         };
         if !self.begins_text(byte) {
-            return self.meet_more(items, from, made, run);
+            return self.meet_more(items, from, made);
         }
         self.begin_text();
-        run.taken = from + 1;
-        run.moves = made + 1;
-        run.event = Event::Byte(byte);
+        Run {
+            taken: from + 1,
+            moves: made + 1,
+            event: Event::Byte(byte),
+        }
     }
 }

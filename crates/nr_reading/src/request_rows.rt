@@ -15,56 +15,51 @@ use super::step::Jot;
 impl Half {
     /// The line of a request is met from its blanks on.
     #[inline(never)]
-    pub(crate) fn meet_request<I: Items>(&mut self, items: &I, run: &mut Run)
+    pub(crate) fn meet_request<I: Items>(&mut self, items: &I) -> Run
         requires mode { self.old.reading.mode ≡ modes.RequestBlanks }
         requires next { reads_next self.old ≡ true }
-        ensures { MeetsRest (I.fronts items.now) 0 0 self.old run.new self.new }
+        ensures { MeetsRest (I.fronts items.now) 0 0 self.old result self.new }
     {
         let place = self.pass_first_blanks(items);
         let Some(byte) = byte_of(items, place) else {
-            return self.meet_rest(items, place, place, run);
+            return self.meet_rest(items, place, place);
         };
         if byte == b'\\' || is_blank(byte) {
-            return self.meet_escape(items, place, place, run);
+            return self.meet_escape(items, place, place);
         }
         self.reading.mode = Mode::RequestLine;
         self.notes.note(Jot::NewLine);
-        self.meet_arguments(items, place, place + 1, run)
+        self.meet_arguments(items, place, place + 1)
     }
 
     /// It is met from its arguments on.
     #[inline(never)]
-    pub(crate) fn meet_arguments<I: Items>(
-        &mut self,
-        items: &I,
-        from: usize,
-        made: usize,
-        run: &mut Run,
-    )
+    pub(crate) fn meet_arguments<I: Items>(&mut self, items: &I, from: usize, made: usize) -> Run
         requires mode { self.old.reading.mode ≡ modes.RequestLine }
         requires next { reads_next self.old ≡ true }
         requires within { from ≤ length (I.fronts items.now) }
         requires few { made ≤ 32768 }
-        ensures { MeetsRest (I.fronts items.now) from made self.old run.new self.new }
+        ensures { MeetsRest (I.fronts items.now) from made self.old result self.new }
     {
         let end = near(items, from);
         for place in from..end {
             let moves = made + (place - from);
             let Some(byte) = items.byte(place) else {
-                return self.meet_rest(items, place, moves, run);
+                return self.meet_rest(items, place, moves);
             };
             if byte == b'\\' {
-                return self.meet_escape(items, place, moves, run);
+                return self.meet_escape(items, place, moves);
             }
             if byte == b'\n' {
                 self.reading.mode = Mode::Start;
-                run.taken = place + 1;
-                run.moves = moves + 1;
-                run.event = Event::Request;
-                return;
+                return Run {
+                    taken: place + 1,
+                    moves: moves + 1,
+                    event: Event::Request,
+                };
             }
             self.notes.note(Jot::Line(byte));
         }
-        self.meet_rest(items, end, made + (end - from), run)
+        self.meet_rest(items, end, made + (end - from))
     }
 }

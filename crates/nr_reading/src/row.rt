@@ -72,39 +72,34 @@ impl Half {
 
     /// What stands at a place of a row is met: an interpolation that stands whole there at once, and else the items one after another.
     #[inline(never)]
-    pub(crate) fn meet_escape<I: Items>(
-        &mut self,
-        items: &I,
-        from: usize,
-        made: usize,
-        run: &mut Run,
-    )
+    pub(crate) fn meet_escape<I: Items>(&mut self, items: &I, from: usize, made: usize) -> Run
         requires due { self.old.reading.due ≡ dues.Look }
         requires few { made ≤ 65536 }
-        ensures { MeetsRest (I.fronts items.now) from made self.old run.new self.new }
+        ensures { MeetsRest (I.fronts items.now) from made self.old result self.new }
     {
         let Some(byte) = byte_of(items, from) else {
-            return self.meet_more(items, from, made, run);
+            return self.meet_more(items, from, made);
         };
-        if let Some(whole) = self.meet_whole(items, byte, from, made) {
-            *run = whole;
-            return;
+        if let Some(run) = self.meet_whole(items, byte, from, made) {
+            return run;
         }
-        self.meet_more(items, from, made, run)
+        self.meet_more(items, from, made)
     }
 
     /// The same, but where the row ends there.
     #[inline(always)]
-    pub(crate) fn meet_rest<I: Items>(&mut self, items: &I, from: usize, made: usize, run: &mut Run)
+    pub(crate) fn meet_rest<I: Items>(&mut self, items: &I, from: usize, made: usize) -> Run
         requires due { self.old.reading.due ≡ dues.Look }
         requires few { made ≤ 65536 }
-        ensures { MeetsRest (I.fronts items.now) from made self.old run.new self.new }
+        ensures { MeetsRest (I.fronts items.now) from made self.old result self.new }
     {
         if from < items.count() {
-            return self.meet_escape(items, from, made, run);
+            return self.meet_escape(items, from, made);
         }
-        run.taken = from;
-        run.moves = made;
-        run.event = Event::Nothing;
+        Run {
+            taken: from,
+            moves: made,
+            event: Event::Nothing,
+        }
     }
 }

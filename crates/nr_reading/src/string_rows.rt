@@ -25,31 +25,31 @@ impl Half {
 
     /// The definition of a string is met from the blanks before its name on.
     #[inline(never)]
-    pub(crate) fn meet_string<I: Items>(&mut self, items: &I, run: &mut Run)
+    pub(crate) fn meet_string<I: Items>(&mut self, items: &I) -> Run
         requires mode { self.old.reading.mode ≡ modes.StringBefore }
         requires next { reads_next self.old ≡ true }
-        ensures { MeetsRest (I.fronts items.now) 0 0 self.old run.new self.new }
+        ensures { MeetsRest (I.fronts items.now) 0 0 self.old result self.new }
     {
         let place = self.pass_first_blanks(items);
         let Some(first) = byte_of(items, place) else {
-            return self.meet_rest(items, place, place, run);
+            return self.meet_rest(items, place, place);
         };
         if self.signs.long || !goes_on_name(first) {
-            return self.meet_escape(items, place, place, run);
+            return self.meet_escape(items, place, place);
         }
         let Some(second) = byte_of(items, place + 1) else {
-            return self.meet_more(items, place, place, run);
+            return self.meet_more(items, place, place);
         };
         if second == b'\\' {
-            return self.meet_more(items, place, place, run);
+            return self.meet_more(items, place, place);
         }
         let lone = Spelled::new().with(first);
         if ends_name(second) {
             self.take_string_name(lone);
-            return self.meet_string_blanks(items, place + 1, place + 3, run);
+            return self.meet_string_blanks(items, place + 1, place + 3);
         }
         self.take_string_name(lone.with(second));
-        self.meet_string_blanks(items, place + 2, place + 3, run)
+        self.meet_string_blanks(items, place + 2, place + 3)
     }
 
     /// It is met from the blanks before its text on.
@@ -59,59 +59,64 @@ impl Half {
         items: &I,
         from: usize,
         made: usize,
-        run: &mut Run,
-    )
+    ) -> Run
         requires mode { self.old.reading.mode ≡ modes.StringBlanks }
         requires next { reads_next self.old ≡ true }
         requires within { from ≤ length (I.fronts items.now) }
         requires few { made ≤ 16384 }
-        ensures { MeetsRest (I.fronts items.now) from made self.old run.new self.new }
+        ensures { MeetsRest (I.fronts items.now) from made self.old result self.new }
     {
         let place = self.pass_blanks(items, from, near(items, from));
         let moves = made + (place - from);
         let Some(byte) = byte_of(items, place) else {
-            return self.meet_rest(items, place, moves, run);
+            return self.meet_rest(items, place, moves);
         };
         if byte == b'\\' || is_blank(byte) {
-            return self.meet_escape(items, place, moves, run);
+            return self.meet_escape(items, place, moves);
         }
         self.reading.mode = Mode::StringText;
         self.reading.due = Due::Begin;
         if byte == b'"' {
-            run.taken = place + 1;
-            run.moves = moves + 1;
-            run.event = Event::Nothing;
-            return;
+            return Run {
+                taken: place + 1,
+                moves: moves + 1,
+                event: Event::Nothing,
+            };
         }
-        run.taken = place;
-        run.moves = moves + 1;
-        run.event = Event::Nothing;
+        Run {
+            taken: place,
+            moves: moves + 1,
+            event: Event::Nothing,
+        }
     }
 
     /// A byte of its text is met, or the newline.
     #[inline(never)]
-    pub(crate) fn meet_string_text<I: Items>(&mut self, items: &I, run: &mut Run)
+    pub(crate) fn meet_string_text<I: Items>(&mut self, items: &I) -> Run
         requires mode { self.old.reading.mode ≡ modes.StringText }
         requires next { reads_next self.old ≡ true }
-        ensures { MeetsRest (I.fronts items.now) 0 0 self.old run.new self.new }
+        ensures { MeetsRest (I.fronts items.now) 0 0 self.old result self.new }
     {
         let Some(byte) = byte_of(items, 0) else {
-            return self.meet_rest(items, 0, 0, run);
+            return self.meet_rest(items, 0, 0);
         };
         if byte == b'\\' {
-            return self.meet_escape(items, 0, 0, run);
+            return self.meet_escape(items, 0, 0);
         }
         if byte == b'\n' {
             self.reading.mode = Mode::Start;
             self.reading.due = Due::Define;
-            run.taken = 1;
-            run.moves = 1;
-            run.event = Event::Nothing;
-            return;
+            return Run {
+                taken: 1,
+                moves: 1,
+                event: Event::Nothing,
+            };
         }
         self.reading.due = Due::Add(byte);
-        run.taken = 1;
-        run.moves = 1;
-        run.event = Event::Nothing;
+        Run {
+            taken: 1,
+            moves: 1,
+            event: Event::Nothing,
+        }
     }
 }

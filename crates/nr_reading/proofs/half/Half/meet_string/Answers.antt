@@ -18,7 +18,7 @@ returns-then-ends_name g c =
     let first = c.in-Some.first in
     let name : c.with-lone.result ≡ spelled first nothing_spelled = c.with-lone.ensures ∙ ap (spelled first) c.new.ensures in
     let mid : c.take_string_name.new.self ≡ behind_name (spelled first nothing_spelled) h = c.take_string_name.ensures ∙ ap (λ (n : Spelled). behind_name n h) name in
-    rest_behind fs 0 0 (place + 1) (place + 3) h c.take_string_name.new.self c.meet_string_blanks.new.self c.meet_string_blanks.new.run
+    rest_behind fs 0 0 (place + 1) (place + 3) h c.take_string_name.new.self c.meet_string_blanks.new.self c.meet_string_blanks.result
     (subst (λ (k : Half). LeadsOn fs 0 0 h (place + 1) (place + 3) k) (sym mid)
     (recount fs 0 0 (place + 1) (place + 1) (place + 1 + 1 + 1) (place + 3) h (behind_name (spelled first nothing_spelled) h)
     (lone_named fs 0 0 place place h h c.pass_first_blanks-place.ensures.leads c.requires.mode c.requires.next c.if-self.false first c.in-Some-byte_of.second c.in-Some-byte_of.ensures.within c.in-Some.ensures.value c.in-Some-byte_of.ensures.value
@@ -36,7 +36,7 @@ returns g c =
     let name : c.with.result ≡ spelled second (spelled first nothing_spelled) = c.with.ensures ∙ ap (spelled second) (c.with-lone.ensures ∙ ap (spelled first) c.new.ensures) in
     let mid : c.take_string_name-2.new.self ≡ behind_name (spelled second (spelled first nothing_spelled)) h = c.take_string_name-2.ensures ∙ ap (λ (n : Spelled). behind_name n h) name in
     let goes : goes_on_name second ≡ true = rw (sym c.ends_name.ensures ∙ c.if-ends_name.false, ne_eqb second 92 c.if-second-eq92.false) refl in
-    rest_behind fs 0 0 (place + 2) (place + 3) h c.take_string_name-2.new.self c.meet_string_blanks-2.new.self c.meet_string_blanks-2.new.run
+    rest_behind fs 0 0 (place + 2) (place + 3) h c.take_string_name-2.new.self c.meet_string_blanks-2.new.self c.meet_string_blanks-2.result
     (subst (λ (k : Half). LeadsOn fs 0 0 h (place + 2) (place + 3) k) (sym mid)
     (recount fs 0 0 (place + 1 + 1) (place + 2) (place + 1 + 1 + 1) (place + 3) h (behind_name (spelled second (spelled first nothing_spelled)) h)
     (pair_named fs 0 0 place place h h c.pass_first_blanks-place.ensures.leads c.requires.mode c.requires.next c.if-self.false first second c.in-Some-byte_of.ensures.within c.in-Some.ensures.value c.in-Some-byte_of.ensures.value
