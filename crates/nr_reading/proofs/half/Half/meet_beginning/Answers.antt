@@ -13,11 +13,11 @@ returns-then-from-count g c =
     let fs = g.I.Items.fronts c.args.items.now in
     ends_here fs c.args.from c.args.made c.args.from c.args.made c.args.self.now c.args.self.now (stays fs c.args.from c.args.made c.args.self.now) (omega arith) (omega arith)
 
-pub returns-then-meet_name_at : goal.returns-then-meet_name_at
-returns-then-meet_name_at g c = record {
-  met = (c.meet_name_at.ensures.met c.if-meet_name_at.true c.args.made).met;
+pub returns-then-Some : goal.returns-then-Some
+returns-then-Some g c = record {
+  met = (c.in-Some.ensures.met c.args.made).met;
   few = omega arith;
-  longest = λ silent due. let is = c.meet_name_at.ensures.due c.if-meet_name_at.true in let wrong = sym is ∙ due in absurd cc;
+  longest = λ silent due. let wrong = sym c.in-Some.ensures.due ∙ due in absurd cc;
 }
 
 pub returns : goal.returns
