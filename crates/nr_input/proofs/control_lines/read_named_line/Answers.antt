@@ -52,7 +52,7 @@ returns-clause-pays g c =
     c.meet_behind_name-line.ensures.left c.meet_behind_name-line.ensures.none (slice_index bs (t + line.taken - 1)) c.args.place.now c.pass_run.new.self c.pass_run.ensures
 
 pub returns-in-None-clause-reader : goal.returns-in-None-clause-reader
-returns-in-None-clause-reader g c = λ none. ap (λ (h : Half). record c.args.reader.now { half = h }) (c.meet_name.ensures.left c.in-None.is)
+returns-in-None-clause-reader g c = λ none. ap (λ (h : Half). record c.args.reader.now { half = h }) (c.in-None.ensures.left refl)
 
 pub returns-in-None-clause-limits : goal.returns-in-None-clause-limits
 returns-in-None-clause-limits g c = refl

@@ -1,4 +1,4 @@
-use Rattle.std.proofs.Common.{◌≡◌, ℕ, ◌+◌, sym, ◌∙◌, subst, arith}
+use Rattle.std.proofs.Common.{◌≡◌, ℕ, ◌+◌, refl, sym, ◌∙◌, subst, arith}
 use Rattle.std.proofs.lemmas.Bool.{false≢true}
 use Rattle.nr_reading.specs.declared.event.Event.{Event}
 use Rattle.nr_reading.specs.declared.event.Event.TheVariants as events
@@ -11,15 +11,15 @@ use Rattle.nr_input.proofs.level_lines.read_level_line.Goals as goal
 
 pub returns-in-None-clause-read : goal.returns-in-None-clause-read
 returns-in-None-clause-read g c = λ k p supply holds.
-    rw (sym (c.read_name.ensures.store c.in-None.is), sym (c.read_name.ensures.reader c.in-None.is)) (c.read_level.ensures.read k p supply holds)
+    rw (sym (c.in-None.ensures.store refl), sym (c.in-None.ensures.reader refl)) (c.read_level.ensures.read k p supply holds)
 
 pub returns-in-None-clause-pays : goal.returns-in-None-clause-pays
 returns-in-None-clause-pays g c = λ p.
-    rw (sym (c.read_name.ensures.store c.in-None.is), sym (c.read_name.ensures.reader c.in-None.is)) (c.read_level.ensures.pays p)
+    rw (sym (c.in-None.ensures.store refl), sym (c.in-None.ensures.reader refl)) (c.read_level.ensures.pays p)
 
 pub returns-in-None-clause-longest : goal.returns-in-None-clause-longest
 returns-in-None-clause-longest g c =
-    rw (sym (c.read_name.ensures.store c.in-None.is), sym (c.read_name.ensures.reader c.in-None.is)) c.read_level.ensures.longest
+    rw (sym (c.in-None.ensures.store refl), sym (c.in-None.ensures.reader refl)) c.read_level.ensures.longest
 
 pub returns-then-not-matches-clause-read : goal.returns-then-not-matches-clause-read
 returns-then-not-matches-clause-read g c = λ k p supply holds.
