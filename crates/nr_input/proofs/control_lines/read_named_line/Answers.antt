@@ -51,11 +51,11 @@ returns-clause-pays g c =
     (λ silent. subst (λ ys. HasMet line.moves (map fronts.Byte ys) r2.half (spot line h3)) rest (c.meet_behind_name-line.ensures.met silent))
     c.meet_behind_name-line.ensures.left c.meet_behind_name-line.ensures.none (slice_index bs (t + line.taken - 1)) c.args.place.now c.pass_run.new.self c.pass_run.ensures
 
-pub returns-in-None-clause-reader : goal.returns-in-None-clause-reader
-returns-in-None-clause-reader g c = λ none. ap (λ (h : Half). record c.args.reader.now { half = h }) (c.in-None.ensures.left refl)
+pub returns-in_default-meet_name-clause-reader : goal.returns-in_default-meet_name-clause-reader
+returns-in_default-meet_name-clause-reader g c = λ none. ap (λ (h : Half). record c.args.reader.now { half = h }) (c.in_default-meet_name.ensures.left refl)
 
-pub returns-in-None-clause-limits : goal.returns-in-None-clause-limits
-returns-in-None-clause-limits g c = refl
+pub returns-in_default-meet_name-clause-limits : goal.returns-in_default-meet_name-clause-limits
+returns-in_default-meet_name-clause-limits g c = refl
 
 pub returns-clause-limits : goal.returns-clause-limits
 returns-clause-limits g c =

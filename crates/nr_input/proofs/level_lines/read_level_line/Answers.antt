@@ -6,20 +6,20 @@ use Rattle.nr_input.specs.Moving.{situation}
 use Rattle.nr_input.specs.Runs.{HasRead, PaysAll}
 use Rattle.nr_input.proofs.ControlLines.{done_read, pays_then, seeks, waits, seek_pays}
 use Rattle.nr_input.proofs.LevelLines.{then_reads}
-use Rattle.nr_input.proofs.level_lines.read_level_line.Goals.{in-Nothing, in_default}
+use Rattle.nr_input.proofs.level_lines.read_level_line.Goals.{in-Nothing, in_default-matches}
 use Rattle.nr_input.proofs.level_lines.read_level_line.Goals as goal
 
-pub returns-in-None-clause-read : goal.returns-in-None-clause-read
-returns-in-None-clause-read g c = λ k p supply holds.
-    rw (sym (c.in-None.ensures.store refl), sym (c.in-None.ensures.reader refl)) (c.read_level.ensures.read k p supply holds)
+pub returns-in_default-clause-read : goal.returns-in_default-clause-read
+returns-in_default-clause-read g c = λ k p supply holds.
+    rw (sym (c.in_default.ensures.store refl), sym (c.in_default.ensures.reader refl)) (c.read_level.ensures.read k p supply holds)
 
-pub returns-in-None-clause-pays : goal.returns-in-None-clause-pays
-returns-in-None-clause-pays g c = λ p.
-    rw (sym (c.in-None.ensures.store refl), sym (c.in-None.ensures.reader refl)) (c.read_level.ensures.pays p)
+pub returns-in_default-clause-pays : goal.returns-in_default-clause-pays
+returns-in_default-clause-pays g c = λ p.
+    rw (sym (c.in_default.ensures.store refl), sym (c.in_default.ensures.reader refl)) (c.read_level.ensures.pays p)
 
-pub returns-in-None-clause-longest : goal.returns-in-None-clause-longest
-returns-in-None-clause-longest g c =
-    rw (sym (c.in-None.ensures.store refl), sym (c.in-None.ensures.reader refl)) c.read_level.ensures.longest
+pub returns-in_default-clause-longest : goal.returns-in_default-clause-longest
+returns-in_default-clause-longest g c =
+    rw (sym (c.in_default.ensures.store refl), sym (c.in_default.ensures.reader refl)) c.read_level.ensures.longest
 
 pub returns-then-not-matches-clause-read : goal.returns-then-not-matches-clause-read
 returns-then-not-matches-clause-read g c = λ k p supply holds.
@@ -62,7 +62,7 @@ returns-clause-read g c = λ k p supply holds.
     let run = c.read_level-run.result in
     let name = c.in-Some.name in
     let due = c.in-Some.ensures.due in
-    let silent : c.seek-told.result ≡ events.Nothing = elim c.match-matches.branch [ in-Nothing b ↦ b.in-Nothing.is | in_default b ↦ absurd (false≢true (sym b.matches-is ∙ c.if-not-matches.false)) ] in
+    let silent : c.seek-told.result ≡ events.Nothing = elim c.match-matches.branch [ in-Nothing b ↦ b.in-Nothing.is | in_default-matches b ↦ absurd (false≢true (sym b.matches-is ∙ c.if-not-matches.false)) ] in
     let sought = then_reads 1 name.moves (situation v k r) c.seek-told.result w x s t p p supply supply (c.in-Some.ensures.read k p supply holds)
     (λ d there. done_read w x d s t c.seek-told.result (waits w x s t c.seek-told.result due c.seek-told.ensures) (seeks w x s t c.seek-told.result due c.seek-told.ensures) p supply there) in
     let first : HasRead (1 + name.moves) (situation v k r) events.Nothing x t p supply = subst (λ (e : Event). HasRead (1 + name.moves) (situation v k r) e x t p supply) silent sought in
@@ -80,7 +80,7 @@ returns-clause-pays g c = λ p.
     let t = c.seek-told.new.self in
     let run = c.read_level-run.result in
     let name = c.in-Some.name in
-    let silent : c.seek-told.result ≡ events.Nothing = elim c.match-matches.branch [ in-Nothing b ↦ b.in-Nothing.is | in_default b ↦ absurd (false≢true (sym b.matches-is ∙ c.if-not-matches.false)) ] in
+    let silent : c.seek-told.result ≡ events.Nothing = elim c.match-matches.branch [ in-Nothing b ↦ b.in-Nothing.is | in_default-matches b ↦ absurd (false≢true (sym b.matches-is ∙ c.if-not-matches.false)) ] in
     let sought = pays_then 1 name.moves v w x p p p r s t c.seek-told.result (c.in-Some.ensures.pays p) (seek_pays w x s t c.seek-told.result c.in-Some.ensures.due c.seek-told.ensures p) in
     let first : PaysAll (1 + name.moves) v p r events.Nothing x p t = subst (λ (e : Event). PaysAll (1 + name.moves) v p r e x p t) silent sought in
     let count : run.moves + (1 + name.moves) ≡ name.moves + 1 + run.moves = omega arith in
