@@ -43,7 +43,7 @@ impl Engine {
     #[inline(always)]
     pub(crate) fn read_run<R: Source>(&mut self, input: &mut R) -> u128
         ensures reads { MakesReading result (shape self.old) (shape self.new) (R.supply input.old) (R.supply input.new) (R.failures input.old) (R.failures input.new) }
-        ensures few { result ≤ 65541 }
+        ensures few { result ≤ 65542 }
     {
         if !self.reads_next() {
             return 0;

@@ -72,6 +72,7 @@ impl Line {
 
     /// Reads a front of these bytes as `put_run` would, and behind it a blank as `end_word` and `widen_gap` would: where
     /// `ends` says that a blank ends a word, no word and no title was being read, and the piece passes no limit.
+    #[inline(always)]
     pub fn put_word(&mut self, margins: Margins, under: bool, ends: bool, bytes: &[u8]) -> WordRun
         ensures front { result.count ≤ length bytes.now }
         ensures plain { All IsPlain (take result.count bytes.now) }
@@ -93,6 +94,7 @@ impl Line {
     }
 
     /// The same where a blank ends a word, and no word and no title is being read.
+    #[inline(always)]
     fn put_new_word(&mut self, margins: Margins, under: bool, bytes: &[u8]) -> WordRun
         requires word { self.old.collected.word ≡ None }
         requires title { self.old.collected.title ≡ None }

@@ -3,6 +3,7 @@ mod Hearing
 mod Refusals
 pub mod ControlLines
 pub mod Costs
+pub mod Digits
 pub mod Interpolated
 pub mod Items
 pub mod LevelLines

@@ -1,6 +1,6 @@
 -- The arguments of a macro in a line of the source, part by part, as moves of the machine that reads and what they cost.
 use Rattle.std.specs.Prelude.{map, drop, take, slice_index, not}
-use Rattle.std.proofs.Common.{◌≡◌, ◌==◌, ℕ, zero, suc, ◌+◌, ◌-◌, ◌*◌, ◌<◌, ◌≤◌, Bool, true, false, List, [], ◌∷◌, length, All, Option, Some, Result, Ok, Err, inl, inr, refl, ap, ap₂, sym, ◌∙◌, subst, length-drop, arith}
+use Rattle.std.proofs.Common.{◌≡◌, ◌==◌, ℕ, zero, suc, ◌+◌, ◌-◌, ◌*◌, ◌<◌, ◌≤◌, Bool, true, false, List, [], length, All, Option, Some, Ok, Err, inl, inr, refl, ap, ap₂, sym, ◌∙◌, subst, length-drop, arith}
 use Rattle.std.proofs.lemmas.Bool.{cases_lt}
 use Rattle.std.proofs.lemmas.List.{length-map, length-take, get_or-take, take-take, take_all}
 use Rattle.nr_units.specs.Supply.{Supply, Faults, Never, After, Anytime, MayGiveAll}
@@ -18,13 +18,13 @@ use Rattle.nr_input.specs.declared.reader.Reader.{Reader}
 use Rattle.nr_input.specs.declared.place.Ahead.TheVariants.{Unseen}
 use Rattle.nr_input.specs.declared.refusal.Refusal.{Refusal}
 use Rattle.nr_input.specs.declared.target.Target.TheVariants.{Argument}
-use Rattle.nr_input.specs.Acting.{Acted, act, is_look}
+use Rattle.nr_input.specs.Acting.{act, is_look}
 use Rattle.nr_input.specs.Refusals.{called, acted, answer}
 use Rattle.nr_input.specs.AtHand.{ComeNext}
 use Rattle.nr_input.specs.Coming.{Coming, Reached, HoldsComing}
-use Rattle.nr_input.specs.Limits.{Limits, limits_of}
+use Rattle.nr_input.specs.Limits.{limits_of}
 use Rattle.nr_input.specs.MacroLines.{ReadsOn, reached_behind}
-use Rattle.nr_input.specs.Moving.{Situation, situation}
+use Rattle.nr_input.specs.Moving.{situation}
 use Rattle.nr_input.specs.Runs.{HasRead, PaysAll, behind_run, inside_behind, passed_run}
 use Rattle.nr_input.specs.Targets.{with_more}
 use Rattle.nr_input.specs.Weights.{newline_left, diversions_in}
@@ -35,7 +35,7 @@ use Rattle.nr_input.proofs.LimitsStay.{act_stays, with_more-limits}
 use Rattle.nr_input.proofs.PuttingRead.{source_added, source_added_pays}
 use Rattle.nr_input.proofs.Refusals.{called-ok, called-err}
 use Rattle.nr_input.proofs.Rows.{reads_nothing}
-use Rattle.nr_input.proofs.RowsRead.{behind_none, source_looked, source_read, looked_pays, source_pays, some_taken}
+use Rattle.nr_input.proofs.RowsRead.{behind_none, source_looked, source_read, looked_pays, source_pays}
 use Rattle.nr_input.proofs.Spending.{act_pays}
 use Rattle.nr_input.proofs.Targets.{levels-with_more, nothing_added}
 

@@ -44,7 +44,7 @@ fn add_plain<K: Copy>(target: Target, store: &mut Store<K>, bytes: &[u8]) -> usi
 }
 
 /// Adds a front of these bytes, each of which stands for itself, as far as they find room. Answers how many.
-#[inline]
+#[inline(always)]
 pub(crate) fn add_front<K: Copy>(
     target: Target,
     half: &Half,

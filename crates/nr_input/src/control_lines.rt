@@ -51,7 +51,7 @@ fn read_named_line<K: Copy, R: Source>(
     ensures read { IfSome result (λ run. (c : Coming) → HoldsComing c place.old (R.supply source.old) → HasRead run.moves (situation store.old c reader.old) run.event store.new reader.new place.new (R.supply source.new)) }
     ensures pays { IfSome result (λ run. PaysAll run.moves store.old place.old reader.old run.event store.new place.new reader.new) }
     ensures some { IfSome result (λ run. 0 < run.moves) }
-    ensures few { IfSome result (λ run. run.moves ≤ 32774) }
+    ensures few { IfSome result (λ run. run.moves ≤ 32775) }
     ensures within { IfSome result (λ run. run.taken < 2 ^ 40) }
     ensures limits { limits_of store.new reader.new ≡ limits_of store.old reader.old }
     ensures failures { R.failures source.new ≡ R.failures source.old }
@@ -63,18 +63,21 @@ fn read_named_line<K: Copy, R: Source>(
 {
     let bytes = window(place, store, source);
     let row = Row::Bytes(bytes);
-    if !matches!(reader.half.reading.due, Due::Look) || !reader.half.meet_name(&row) {
+    if !matches!(reader.half.reading.due, Due::Look) {
         return None;
     }
+    let Some(name) = reader.half.meet_name(&row) else {
+        return None;
+    };
     reader.burst = 0;
     let told = reader.seek(store);
-    let line = meet_behind_name(&mut reader.half, told, &bytes[3..]);
-    let taken = 3 + line.taken;
+    let line = meet_behind_name(&mut reader.half, told, &bytes[name.taken..]);
+    let taken = name.taken + line.taken;
     place.pass_run(bytes[taken - 1], taken);
     source.skip(taken);
     Some(Run {
         taken,
-        moves: 5 + line.moves,
+        moves: name.moves + 1 + line.moves,
         event: line.event,
     })
 }
@@ -151,7 +154,7 @@ pub fn read_next<K: Copy, R: Source>(
 ) -> Run
     ensures read { (c : Coming) → HoldsComing c place.old (R.supply source.old) → HasRead result.moves (situation store.old c reader.old) result.event store.new reader.new place.new (R.supply source.new) }
     ensures pays { PaysAll result.moves store.old place.old reader.old result.event store.new place.new reader.new }
-    ensures few { result.moves ≤ 65541 }
+    ensures few { result.moves ≤ 65542 }
     ensures limits { limits_of store.new reader.new ≡ limits_of store.old reader.old }
     ensures some { store.old.levels ≡ [] → is_unseen place.old.ahead ≡ true → ReadsSome (R.at_hand source.old) result.moves place.old reader.old }
     ensures longest { store.old.levels ≡ [] → is_unseen place.old.ahead ≡ true → reader.old.half.reading.mode ≢ modes.Start → IsLongest (R.at_hand source.old) result.moves place.old reader.old result.event store.new place.new reader.new }

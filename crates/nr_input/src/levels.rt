@@ -3,10 +3,8 @@ ghost use Rattle.std.specs.Prelude.{◌≡◌, ℕ, ◌*◌, ◌<◌, ◌≤◌,
 ghost use Rattle.nr_units.specs.Supply.{Supply};
 ghost use Rattle.nr_reading.specs.declared.event.Event.TheVariants as events;
 ghost use Rattle.nr_reading.specs.declared.mode.Due.TheVariants as dues;
-ghost use Rattle.nr_store.specs.Stored.{shown};
 ghost use Rattle.nr_store.specs.Windows.{rest_of};
 ghost use Rattle.nr_store.specs.declared.element.Element.TheVariants as elements;
-ghost use Rattle.nr_store.specs.declared.shown.Shown.TheVariants as shows;
 ghost use Rattle.nr_input.specs.declared.reader.Reader.{Reader as ReaderValue};
 ghost use Rattle.nr_input.specs.Coming.{Coming, Reached, HoldsComing};
 ghost use Rattle.nr_input.specs.Levels.{may_act};
@@ -21,7 +19,7 @@ use super::reader::Reader;
 use super::runs::read_level;
 use super::target::Target;
 use nr_reading::{Due, Event, Mode, Run};
-use nr_store::{Sight, Store};
+use nr_store::Store;
 
 /// The most rows, ends of levels and dues in one call.
 const MOST_PARTS: u32 = 4000;
@@ -80,27 +78,15 @@ fn act<K: Copy>(reader: &mut Reader, store: &mut Store<K>) -> Moved
     do_due(reader, store)
 }
 
-// Whether the end of the newest level comes next.
-#[inline(always)]
-fn ends<K: Copy>(store: &Store<K>) -> bool
-    ensures { result ≡ true → shown store.now.levels ≡ shows.End }
-{
-    matches!(store.look(), Sight::End)
-}
-
 // The end of the newest level is taken, if it comes next: it does nothing to what is half read. Tells whether it was.
 #[inline(always)]
-fn end_level<K: Copy>(store: &mut Store<K>, mode: &mut K) -> bool
+fn end_level<K: Copy>(store: &mut Store<K>) -> bool
     ensures read { result ≡ true → (c : Coming) (p : Reached) (r : ReaderValue) (supply : Option Supply) → r.half.reading.due ≡ dues.Look → HoldsComing c p supply → HasRead 1 (situation store.old c r) events.Nothing store.new r p supply }
     ensures pays { result ≡ true → (p : Reached) (r : ReaderValue) → r.half.reading.due ≡ dues.Look → PaysMany 1 store.old p r events.Nothing store.new p r }
     ensures limits { (r : ReaderValue) → limits_of store.new r ≡ limits_of store.old r }
     ensures left { result ≡ false → store.new ≡ store.old }
 {
-    if !ends(store) {
-        return false;
-    }
-    store.take(mode);
-    true
+    store.take_end()
 }
 
 // The bytes in front of the newest level that stand for themselves are added, where they are read for an argument of a macro or for a
@@ -154,7 +140,7 @@ fn made_none(run: Run, reader: &Reader) -> bool
 
 // What comes next of the levels: what is due, items that lie in a row, or the end of a level.
 #[inline(always)]
-fn read_part<K: Copy>(reader: &mut Reader, store: &mut Store<K>, mode: &mut K) -> Moved
+fn read_part<K: Copy>(reader: &mut Reader, store: &mut Store<K>) -> Moved
     ensures read { (c : Coming) (p : Reached) (supply : Option Supply) → HoldsComing c p supply → HasRead result.moves (situation store.old c reader.old) result.event store.new reader.new p supply }
     ensures pays { (p : Reached) → PaysMany result.moves store.old p reader.old result.event store.new p reader.new }
     ensures few { result.moves ≤ 66048 }
@@ -166,7 +152,7 @@ fn read_part<K: Copy>(reader: &mut Reader, store: &mut Store<K>, mode: &mut K) -
         return act(reader, store);
     }
     let run = read_front(reader, store);
-    if made_none(run, reader) && end_level(store, mode) {
+    if made_none(run, reader) && end_level(store) {
         return Moved {
             moves: 1,
             event: Event::Nothing,
@@ -179,10 +165,10 @@ fn read_part<K: Copy>(reader: &mut Reader, store: &mut Store<K>, mode: &mut K) -
 }
 
 /// What levels bring is read, up to what tells something and to a text line: control lines, the lines of requests, conditions, strings
-/// and arguments with what is spliced into them, ends of levels, and what is due. The mode behind a sprung text is left; `mode` is of
+/// and arguments with what is spliced into them, ends of levels, and what is due. The mode behind a sprung text is left; `_mode` is of
 /// no account.
 #[inline(never)]
-pub fn read_levels<K: Copy>(reader: &mut Reader, store: &mut Store<K>, mode: &mut K) -> Moved
+pub fn read_levels<K: Copy>(reader: &mut Reader, store: &mut Store<K>, _mode: &mut K) -> Moved
     ensures read { (c : Coming) (p : Reached) (supply : Option Supply) → HoldsComing c p supply → HasRead result.moves (situation store.old c reader.old) result.event store.new reader.new p supply }
     ensures pays { (p : Reached) → PaysMany result.moves store.old p reader.old result.event store.new p reader.new }
     ensures few { result.moves ≤ 65541 * 4096 }
@@ -191,7 +177,7 @@ pub fn read_levels<K: Copy>(reader: &mut Reader, store: &mut Store<K>, mode: &mu
 {
     let mut moves = 0;
     for _ in 0..MOST_PARTS {
-        let part = read_part(reader, store, mode);
+        let part = read_part(reader, store);
         moves += part.moves;
         if part.moves == 0 || !matches!(part.event, Event::Nothing) {
             return Moved {

@@ -34,10 +34,10 @@ impl Half {
                 event: Event::Nothing,
             };
         }
-        if self.meet_name_at(items, from) {
+        if let Some(name) = self.meet_name_at(items, from) {
             return Run {
-                taken: from + 3,
-                moves: made + 4,
+                taken: from + name.taken,
+                moves: made + name.moves,
                 event: Event::Nothing,
             };
         }

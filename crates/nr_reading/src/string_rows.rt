@@ -5,7 +5,7 @@ ghost use Rattle.nr_reading.specs.Meeting.{reads_next};
 ghost use Rattle.nr_reading.specs.Rows.{MeetsRest};
 ghost use Rattle.nr_reading.specs.StringRows.{behind_name};
 
-use super::control_names::goes_on_name;
+use super::control_names::{goes_on_name, name_ends};
 use super::event::Event;
 use super::half::Half;
 use super::mode::{Due, Mode};
@@ -34,7 +34,7 @@ impl Half {
         let Some(first) = byte_of(items, place) else {
             return self.meet_rest(items, place, place);
         };
-        if self.signs.long || !goes_on_name(first) {
+        if !goes_on_name(first) {
             return self.meet_escape(items, place, place);
         }
         let Some(second) = byte_of(items, place + 1) else {
@@ -48,8 +48,12 @@ impl Half {
             self.take_string_name(lone);
             return self.meet_string_blanks(items, place + 1, place + 3);
         }
+        let long = self.signs.long;
+        if long && !name_ends(items, place + 2) {
+            return self.meet_more(items, place, place);
+        }
         self.take_string_name(lone.with(second));
-        self.meet_string_blanks(items, place + 2, place + 3)
+        self.meet_string_blanks(items, place + 2, place + 3 + usize::from(long))
     }
 
     /// It is met from the blanks before its text on.

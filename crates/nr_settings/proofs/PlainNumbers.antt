@@ -1,5 +1,5 @@
 -- Digits, and a scale's letter behind them, are the longest front that is an expression, and their value is its.
-use Rattle.std.specs.Prelude.{Bool, IfSome, nat_eq, nat_le, nat_lt, unwrap_or}
+use Rattle.std.specs.Prelude.{Bool, IfSome, nat_eq, nat_lt, unwrap_or}
 use Rattle.std.specs.Ordering.{int_eq}
 use Rattle.std.proofs.Common.{◌≡◌, ℕ, zero, suc, ◌+◌, ◌-◌, ◌*◌, ◌/◌, ◌<◌, ◌≤◌, true, false, Option, None, Some, List, [], ◌∷◌, length, drop, get_or, ℤ, pos, unsigned_abs, arith, refl, ap, sym, subst, ◌∙◌}
 use Rattle.std.proofs.Math.Seq.{drop-cons}

@@ -46,7 +46,7 @@ fn place_of<V: Copy>(row: &[Entry<V>], name: Name) -> Result<usize, usize>
 }
 
 // The same, where the name may stand at a place that is looked at first.
-#[inline]
+#[inline(always)]
 fn place_near<V: Copy>(row: &[Entry<V>], near: usize, name: Name) -> Result<usize, usize>
     requires { IsSorted row.now }
     ensures { MatchResult result (IsFound row.now name) (IsMissed row.now name) }
