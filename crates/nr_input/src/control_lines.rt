@@ -15,7 +15,7 @@ use super::level_lines::read_level_line;
 use super::macro_lines::read_macro_line;
 use super::place::Place;
 use super::reader::Reader;
-use super::runs::{Row, read_run, read_source};
+use super::runs::{ByteRow, read_run, read_source};
 use nr_reading::{Due, Event, Half, Mode, Run};
 use nr_store::Store;
 use nr_units::source::Source;
@@ -62,7 +62,7 @@ fn read_named_line<K: Copy, R: Source>(
     ensures source { result ≡ None → source.new ≡ source.old }
 {
     let bytes = window(place, store, source);
-    let row = Row::Bytes(bytes);
+    let row = ByteRow(bytes);
     if !matches!(reader.half.reading.due, Due::Look) {
         return None;
     }

@@ -14,7 +14,7 @@ ghost use Rattle.nr_input.specs.Runs.{HasRead, PaysAll, PaysMany};
 
 use super::adding::add_front;
 use super::reader::Reader;
-use super::runs::Row;
+use super::runs::ByteRow;
 use super::target::Target;
 use nr_reading::{Due, Event, Half, Mode, Run, Sign};
 use nr_store::Store;
@@ -80,7 +80,7 @@ impl Reader {
         ensures limits { limits_of store.new self.new ≡ limits_of store.old self.old }
     {
         let Some(target) = Target::of(&self.half) else {
-            return self.half.meet_run(&Row::Bytes(bytes));
+            return self.half.meet_run(&ByteRow(bytes));
         };
         let taken = add_front(target, &self.half, store, bytes);
         Run {

@@ -1,17 +1,37 @@
 //! Control lines of the newest level: many moves at once.
-ghost use Rattle.std.specs.Prelude.{◌≡◌, ◌≤◌, None, Option, IfSome};
+ghost use Rattle.std.specs.Prelude.{◌≡◌, ◌<◌, ◌≤◌, map, None, Option, IfSome};
 ghost use Rattle.nr_units.specs.Supply.{Supply};
 ghost use Rattle.nr_reading.specs.declared.event.Event.TheVariants as events;
 ghost use Rattle.nr_reading.specs.declared.mode.Due.TheVariants as dues;
-ghost use Rattle.nr_input.specs.Coming.{Coming, Reached, HoldsComing};
+ghost use Rattle.nr_reading.specs.Passing.{quiet};
+ghost use Rattle.nr_reading.specs.Runs.{HasMet};
+ghost use Rattle.nr_store.specs.Windows.{elements_in};
+ghost use Rattle.nr_input.specs.Coming.{Coming, Reached, HoldsComing, element_front};
 ghost use Rattle.nr_input.specs.Limits.{limits_of};
 ghost use Rattle.nr_input.specs.Moving.{situation};
 ghost use Rattle.nr_input.specs.Runs.{HasRead, PaysAll, IsLongestInLevel};
 
 use super::reader::Reader;
-use super::runs::{Row, read_level};
-use nr_reading::{Due, Event, MetName, Run};
-use nr_store::Store;
+use super::runs::{ByteRow, ElementRow, read_level};
+use nr_reading::{Due, Event, Half, MetName, Run};
+use nr_store::{Rest, Store};
+
+// The name of a control line that what is left of a level begins with is met, as `Half::meet_name` says.
+#[inline(always)]
+fn meet_name(half: &mut Half, rest: Rest<'_>) -> Option<MetName>
+    requires due { half.old.reading.due ≡ dues.Look }
+    ensures met { IfSome result (λ name. HasMet name.moves (map element_front (elements_in rest.entry)) half.old (quiet name.taken half.new)) }
+    ensures due { IfSome result (λ name. half.new.reading.due ≡ dues.Seek) }
+    ensures some { IfSome result (λ name. 0 < name.taken) }
+    ensures short { IfSome result (λ name. name.taken ≤ 3) }
+    ensures few { IfSome result (λ name. name.moves ≤ 5) }
+    ensures left { result ≡ None → half.new ≡ half.old }
+{
+    match rest {
+        Rest::Text(elements) => half.meet_name(&ElementRow(elements)),
+        Rest::Bytes(bytes) => half.meet_name(&ByteRow(bytes)),
+    }
+}
 
 // The name of a control line that the newest level begins with is met and taken, if nothing is due. None where none was there.
 #[inline(always)]
@@ -28,8 +48,7 @@ fn read_name<K: Copy>(reader: &mut Reader, store: &mut Store<K>) -> Option<MetNa
     if !matches!(reader.half.reading.due, Due::Look) {
         return None;
     }
-    let row = Row::of(store.rest());
-    let Some(name) = reader.half.meet_name(&row) else {
+    let Some(name) = meet_name(&mut reader.half, store.rest()) else {
         return None;
     };
     store.skip(name.taken as u32);

@@ -14,8 +14,8 @@ returns-clause-read g c = λ k p supply holds.
     let v = c.args.store.now in
     let r = c.args.reader.now in
     let name = c.in-Some.name in
-    let named = quiet name.taken c.meet_name.new.self in
-    let met : HasMet name.moves (map element_front (rest_of v.levels)) r.half named = subst (λ fs. HasMet name.moves fs r.half named) (c.of-row.ensures ∙ ap (map element_front) c.rest.ensures) c.in-Some.ensures.met in
+    let named = quiet name.taken c.meet_name.new.half in
+    let met : HasMet name.moves (map element_front (rest_of v.levels)) r.half named = subst (λ fs. HasMet name.moves fs r.half named) (ap (map element_front) c.rest.ensures) c.in-Some.ensures.met in
     rw c.skip.ensures (level_read v k r p supply name.moves named met holds)
 
 pub returns-clause-pays : goal.returns-clause-pays
@@ -23,8 +23,8 @@ returns-clause-pays g c = λ p.
     let v = c.args.store.now in
     let r = c.args.reader.now in
     let name = c.in-Some.name in
-    let named = quiet name.taken c.meet_name.new.self in
-    let met : HasMet name.moves (map element_front (rest_of v.levels)) r.half named = subst (λ fs. HasMet name.moves fs r.half named) (c.of-row.ensures ∙ ap (map element_front) c.rest.ensures) c.in-Some.ensures.met in
+    let named = quiet name.taken c.meet_name.new.half in
+    let met : HasMet name.moves (map element_front (rest_of v.levels)) r.half named = subst (λ fs. HasMet name.moves fs r.half named) (ap (map element_front) c.rest.ensures) c.in-Some.ensures.met in
     level_pays name.moves v c.skip.new.self p r named met c.skip.ensures
 
 pub returns-clause-limits : goal.returns-clause-limits
