@@ -1,13 +1,19 @@
 //! The lines of a definition that the source has at hand: many moves at once.
-ghost use Rattle.std.specs.Prelude.{◌≡◌, ◌≢◌, ◌+◌, ◌-◌, ◌*◌, ◌^◌, ◌<◌, ◌≤◌, ℕ, suc, length, slice_index, slice_get, Some, true, false};
+ghost use Rattle.std.specs.Prelude.{◌≡◌, ◌+◌, ◌*◌, ◌<◌, ◌≤◌, All, length, take, slice_index, true, false};
+ghost use Rattle.nr_store.specs.Stored.{charge_of};
+ghost use Rattle.nr_reading.specs.declared.mode.Mode.TheVariants as modes;
 ghost use Rattle.nr_reading.specs.Definitions.{in_body};
-ghost use Rattle.nr_input.specs.BodyLines.{is_in_body, IsOther, IsOwn};
+ghost use Rattle.nr_reading.specs.InArgument.{IsPlain};
+ghost use Rattle.nr_input.specs.declared.target.Target.TheVariants.{Text};
+ghost use Rattle.nr_input.specs.BodyLines.{is_in_body, IsLine, IsOther, IsOwn};
 ghost use Rattle.nr_input.specs.Coming.{Coming, HoldsComing, has_failed};
 ghost use Rattle.nr_input.specs.Limits.{limits_of};
 ghost use Rattle.nr_input.specs.MacroLines.{ReadsOn};
 ghost use Rattle.nr_input.specs.Moving.{situation};
 ghost use Rattle.nr_input.specs.Runs.{HasRead, PaysAll};
+ghost use Rattle.nr_input.specs.Targets.{with_more};
 
+use super::adding::is_plain;
 use super::at_hand::window;
 use super::place::Place;
 use super::reader::Reader;
@@ -45,33 +51,56 @@ fn is_in_body(half: &Half) -> bool
     }
 }
 
-// How many bytes there are before the first `\`, or up to the first newline and with it.
+// How many bytes there are before the first `\` or newline.
 #[inline(always)]
-fn line_bytes(bytes: &[u8]) -> usize
+fn text_bytes(bytes: &[u8]) -> usize
     ensures front { result ≤ length bytes.now }
-    ensures escape { (k : ℕ) → k < result → slice_index bytes.now k ≢ 92 }
-    ensures line { (k : ℕ) → suc k < result → slice_index bytes.now k ≢ 10 }
+    ensures plain { All (IsPlain 10) (take result bytes.now) }
 {
     for place in 0..bytes.len() {
-        if bytes[place] == b'\\' {
+        if !is_plain(b'\n', bytes[place]) {
             return place;
-        }
-        if bytes[place] == b'\n' {
-            return place + 1;
         }
     }
     bytes.len()
 }
 
-// Whether a line that begins with these bytes may be the one that ends the definition.
+// The same, and a newline that comes then.
 #[inline(always)]
-fn may_end(defining: &Defining, bytes: &[u8]) -> bool
+fn line_bytes(bytes: &[u8]) -> usize
+    ensures { IsLine result bytes.now }
+{
+    let count = text_bytes(bytes);
+    if count < bytes.len() && bytes[count] == b'\n' {
+        return count + 1;
+    }
+    count
+}
+
+// Whether these bytes begin like the line that ends the definition.
+#[inline(always)]
+fn is_like_last(defining: &Defining, bytes: &[u8]) -> bool
     ensures { result ≡ false → 0 < length bytes.now → slice_index bytes.now 0 ≡ 46 → IsOther bytes.now defining.now }
 {
     if bytes.is_empty() || bytes[0] != b'.' {
         return false;
     }
-    bytes.len() < 2 || bytes[1] == defining.last_line_byte(1)
+    if bytes.len() < 2 {
+        return true;
+    }
+    bytes[1] == defining.last_line_byte(1)
+}
+
+// Whether a line that begins with these bytes, if one does, may be the one that ends the definition.
+#[inline(always)]
+fn may_end(half: &Half, bytes: &[u8]) -> bool
+    ensures { result ≡ false → half.now.reading.mode ≡ modes.BodyStart 0 → 0 < length bytes.now → slice_index bytes.now 0 ≡ 46
+        → IsOther bytes.now half.now.notes.defining }
+{
+    match half.reading.mode {
+        Mode::BodyStart(_) => is_like_last(&half.notes.defining, bytes),
+        _ => false,
+    }
 }
 
 // How many of these bytes stand for themselves, up to the end of their line; none where it may end the definition.
@@ -80,23 +109,39 @@ fn own_bytes(half: &Half, bytes: &[u8]) -> usize
     ensures { IsOwn result bytes.now half.now.reading.mode half.now.notes.defining }
 {
     let count = line_bytes(bytes);
-    if matches!(half.reading.mode, Mode::BodyStart(_))
-        && may_end(&half.notes.defining, &bytes[..count])
-    {
+    if may_end(half, &bytes[..count]) {
         return 0;
     }
     count
 }
 
-// Whether `\\` stands at this place.
+// How many bytes stand for themselves behind a `\` at this place: one, if it is another.
 #[inline(always)]
-fn has_backslash(bytes: &[u8], place: usize) -> bool
+fn backslashes_at(bytes: &[u8], place: usize) -> usize
     requires { place ≤ length bytes.now }
-    ensures within { result ≡ true → place + 1 < length bytes.now }
-    ensures first { result ≡ true → slice_index bytes.now place ≡ 92 }
-    ensures second { result ≡ true → slice_index bytes.now (place + 1) ≡ 92 }
+    ensures few { result ≤ 1 }
+    ensures within { 0 < result → place + 1 < length bytes.now }
+    ensures first { 0 < result → slice_index bytes.now place ≡ 92 }
+    ensures second { 0 < result → slice_index bytes.now (place + 1) ≡ 92 }
 {
-    bytes.len() - place > 1 && bytes[place] == b'\\' && bytes[place + 1] == b'\\'
+    if bytes.len() - place < 2 || bytes[place] != b'\\' || bytes[place + 1] != b'\\' {
+        return 0;
+    }
+    1
+}
+
+// Adds these bytes to the text that is defined, if there is room for all of them. Tells whether there was.
+#[inline(always)]
+fn add_all<K: Copy>(store: &mut Store<K>, bytes: &[u8]) -> bool
+    ensures added { result ≡ true → store.new ≡ with_more Text bytes.now store.old }
+    ensures afforded { result ≡ true → charge_of store.new ≤ store.new.limit }
+    ensures left { result ≡ false → store.new ≡ store.old }
+{
+    if !store.admits(bytes.len()) {
+        return false;
+    }
+    store.add_bytes(bytes);
+    true
 }
 
 // In the midst of a line, or at the beginning of the next, by the last byte.
@@ -121,12 +166,14 @@ fn read_part<K: Copy>(reader: &mut Reader, store: &mut Store<K>, bytes: &[u8]) -
         return nothing;
     }
     let own = own_bytes(&reader.half, bytes);
-    let more = usize::from(has_backslash(bytes, own));
+    let more = backslashes_at(bytes, own);
     let added = own + more;
-    if added == 0 || !store.admits(added) {
+    if added == 0 {
         return nothing;
     }
-    store.add_bytes(&bytes[..added]);
+    if !add_all(store, &bytes[..added]) {
+        return nothing;
+    }
     reader.half.reading.mode = in_body(bytes[added - 1]);
     Passed {
         taken: added + more,
