@@ -1,7 +1,7 @@
 -- The bytes of a line of a definition, met one by one.
-use Rattle.std.specs.Prelude.{map, slice_get, slice_index}
+use Rattle.std.specs.Prelude.{map, nat_lt, slice_get, slice_index}
 use Rattle.std.proofs.Common.{◌≡◌, ◌≢◌, ℕ, zero, suc, ◌+◌, ◌<◌, ◌≤◌, ◌==◌, ◌&&◌, Bool, true, false, List, [], ◌∷◌, length, get_or, Some, inl, inr, refl, sym, subst, ap, ◌∙◌, arith}
-use Rattle.std.proofs.lemmas.Bool.{ne_eqb, cases_Bool}
+use Rattle.std.proofs.lemmas.Bool.{ne_eqb, eqb-true, lt-ltb, cases_Bool}
 use Rattle.std.proofs.lemmas.List.{length-map}
 use Rattle.nr_reading.specs.declared.event.Event.TheVariants as events
 use Rattle.nr_reading.specs.declared.front.Front.{Front}
@@ -11,6 +11,7 @@ use Rattle.nr_reading.specs.declared.mode.Due.TheVariants as dues
 use Rattle.nr_reading.specs.declared.mode.Escape.TheVariants as escapes
 use Rattle.nr_reading.specs.declared.mode.Mode.{Mode}
 use Rattle.nr_reading.specs.declared.mode.Mode.TheVariants as modes
+use Rattle.nr_reading.specs.declared.notes.Defining.{Defining}
 use Rattle.nr_reading.specs.Definitions.{last_line, in_body}
 use Rattle.nr_reading.specs.Meeting.{reads_next}
 use Rattle.nr_reading.specs.Passing.{quiet}
@@ -42,8 +43,7 @@ both true false is = absurd (let wrong : false ≡ true = is in cc)
 both false y is = absurd (let wrong : false ≡ true = is in cc)
 
 held_none : (held : ℕ) → (held == 0) ≡ true → modes.BodyStart held ≡ line_mode true
-held_none zero is = refl
-held_none (suc n) is = absurd (let wrong : false ≡ true = is in cc)
+held_none held is = ap modes.BodyStart (eqb-true held 0 is)
 
 in_line_by : (m : Mode) (h : Half) → is_in_body_in h.notes.defining.keeps m h ≡ true → h.reading.mode ≡ m → IsInLine h
 in_line_by modes.Body h is mode =
@@ -60,27 +60,34 @@ in_line h is = in_line_by h.reading.mode h is refl
 
 -- ---- one byte
 
+-- two bytes at least tell the last line
+long_last : (d : Defining) → 1 < length (last_line d)
+long_last d = long_by d.ending refl
+  where
+    long_by : (e : List ℕ) → d.ending ≡ e → 1 < length (last_line d)
+    long_by [] is = rw is (omega arith)
+    long_by (b ∷ bs) is = rw is (omega arith)
+
+-- so many of them may have come
+may_have : (n : ℕ) (d : Defining) → n ≤ 1 → nat_lt n (length (last_line d)) ≡ true
+may_have n d few = lt-ltb n (length (last_line d)) (let long = long_last d in omega (arith, few, long))
+
 -- a byte that stands for itself is to be added
 pub meets_own : (x : Bool) (b : ℕ) (h : Half) → h.notes.defining.keeps ≡ true → b ≢ 92 → (x ≡ true → b ≢ 46) → Meets b (half_in (line_mode x) h) (next (dues.Add b) (half_in (in_body b) h)) true
-meets_own false b h keeps apart other = rw (keeps, ne_eqb b 92 apart) refl
-meets_own true b h keeps apart other = rw (keeps, ne_eqb b 92 apart, ne_eqb b 46 (other refl)) refl
+meets_own false b h keeps apart other = rw (ne_eqb b 92 apart, keeps) refl
+meets_own true b h keeps apart other = rw (ne_eqb b 92 apart, may_have 0 h.notes.defining (omega arith), ne_eqb b 46 (other refl), keeps) refl
 
 -- a dot at the beginning of a line is held back
 pub meets_dot : (h : Half) → Meets 46 (half_in (modes.BodyStart 0) h) (half_in (modes.BodyStart 1) h) true
-meets_dot h = dot_by h.notes.defining.ending refl
-  where
-    dot_by : (e : List ℕ) → h.notes.defining.ending ≡ e → Meets 46 (half_in (modes.BodyStart 0) h) (half_in (modes.BodyStart 1) h) true
-    dot_by [] is = rw is refl
-    dot_by (b ∷ bs) is = rw is refl
+meets_dot h =
+    let d = h.notes.defining in
+    let more : (1 == length (last_line d)) ≡ false = ne_eqb 1 (length (last_line d)) (λ e. let long = long_last d in omega (arith, e, long)) in
+    rw (may_have 0 d (omega arith), more) refl
 
 -- behind it a byte that is not the last line's shows that both belong to the text
 pub meets_other : (b : ℕ) (h : Half) → h.notes.defining.keeps ≡ true → b ≢ 92 → b ≢ slice_index (last_line h.notes.defining) 1
     → Meets b (half_in (modes.BodyStart 1) h) (next (dues.Release 1 0 (Some b)) (half_in (in_body b) h)) true
-meets_other b h keeps apart other = other_by h.notes.defining.ending refl
-  where
-    other_by : (e : List ℕ) → h.notes.defining.ending ≡ e → Meets b (half_in (modes.BodyStart 1) h) (next (dues.Release 1 0 (Some b)) (half_in (in_body b) h)) true
-    other_by [] is = rw (keeps, ne_eqb b 92 apart, ne_eqb b (slice_index (last_line h.notes.defining) 1) other) (rw is refl)
-    other_by (c ∷ cs) is = rw (keeps, ne_eqb b 92 apart, ne_eqb b (slice_index (last_line h.notes.defining) 1) other) (rw is refl)
+meets_other b h keeps apart other = rw (ne_eqb b 92 apart, may_have 1 h.notes.defining (omega arith), ne_eqb b (slice_index (last_line h.notes.defining) 1) other, keeps) refl
 
 -- behind a `\`
 abbrev half_escaped : Bool → Half → Half
@@ -92,7 +99,7 @@ meets_escape false h = refl
 
 -- a second one makes it one that stands for itself
 meets_second : (x : Bool) (h : Half) → h.notes.defining.keeps ≡ true → Meets 92 (half_escaped x h) (next (dues.Add 92) (half_in modes.Body h)) true
-meets_second true h keeps = rw keeps refl
+meets_second true h keeps = rw (may_have 0 h.notes.defining (omega arith), keeps) refl
 meets_second false h keeps = rw keeps refl
 
 -- ---- the bytes in front of a row

@@ -30,6 +30,14 @@ abbrev begins_behind : List ℕ → Bool → ℕ → Bool
 begins_behind bs x zero = x
 begins_behind bs x (suc k) = slice_index bs k == 10
 
+-- the reader in a line, or at its beginning
+abbrev in_line_at : Reader → Bool → Reader
+in_line_at r x = record r { half = half_in (line_mode x) r.half }
+
+-- the reader in the mode behind this byte
+abbrev reader_behind : Reader → ℕ → Reader
+reader_behind r b = record r { half = record r.half { reading = record r.half.reading { mode = in_body b } } }
+
 module _ {K : Type 0} (r : Reader) where
   -- ---- a byte that is to be added
 
@@ -56,39 +64,33 @@ module _ {K : Type 0} (r : Reader) where
       let is : called w after (Ok events.Nothing) ≡ acted (dues.Release 1 0 (Some b)) u before = sym (ap (λ x. acted_by x (act (dues.Release 1 0 (Some b)) u before) u before) (allowed w fits)) in
       reads_due bs u w before after refl is refl refl (diversions-with_more Text (46 ∷ []) u) refl
 
-  -- ---- where the reader is
-
-  -- in a line, or at its beginning
-  abbrev in_line_at : Bool → Reader
-  in_line_at x = record r { half = half_in (line_mode x) r.half }
-
   module _ (keeps : r.half.notes.defining.keeps ≡ true) (bs : List ℕ) (u : Stored K) where
     own_reads : (x : Bool) (b : ℕ) → 0 < length bs → slice_index bs 0 ≡ b → b ≢ 92 → (x ≡ true → b ≢ 46) → charge_of (with_more Text (b ∷ []) u) ≤ u.limit
-        → ReadsOn 2 1 bs u (in_line_at x) (with_more Text (b ∷ []) u) (in_line_at (b == 10))
+        → ReadsOn 2 1 bs u (in_line_at r x) (with_more Text (b ∷ []) u) (in_line_at r (b == 10))
     own_reads x b some is apart other fits =
         let k = half_in (line_mode (b == 10)) r.half in
-        reads_still 1 1 1 bs u u (with_more Text (b ∷ []) u) (in_line_at x) (record r { half = next (dues.Add b) k }) (in_line_at (b == 10))
-        (reads_met 1 1 bs u (in_line_at x) (next (dues.Add b) k) (own_met bs r.half keeps x b some is apart other)) (add_reads (drop 1 bs) b u k fits)
+        reads_still 1 1 1 bs u u (with_more Text (b ∷ []) u) (in_line_at r x) (record r { half = next (dues.Add b) k }) (in_line_at r (b == 10))
+        (reads_met 1 1 bs u (in_line_at r x) (next (dues.Add b) k) (own_met bs r.half keeps x b some is apart other)) (add_reads (drop 1 bs) b u k fits)
 
     other_reads : (b : ℕ) → 1 < length bs → slice_index bs 0 ≡ 46 → slice_index bs 1 ≡ b → b ≢ 92 → b ≢ slice_index (last_line r.half.notes.defining) 1
         → charge_of (with_more Text (46 ∷ []) u) ≤ u.limit → charge_of (with_more Text (b ∷ []) (with_more Text (46 ∷ []) u)) ≤ u.limit
-        → ReadsOn 4 2 bs u (in_line_at true) (with_more Text (b ∷ []) (with_more Text (46 ∷ []) u)) (in_line_at (b == 10))
+        → ReadsOn 4 2 bs u (in_line_at r true) (with_more Text (b ∷ []) (with_more Text (46 ∷ []) u)) (in_line_at r (b == 10))
     other_reads b some first is apart other fits both_fit =
         let k = half_in (line_mode (b == 10)) r.half in
         let one = with_more Text (46 ∷ []) u in
         let held = record r { half = next (dues.Release 1 0 (Some b)) k } in
         let due = record r { half = next (dues.Add b) k } in
-        reads_still 3 1 2 bs u one (with_more Text (b ∷ []) one) (in_line_at true) due (in_line_at (b == 10))
-        (reads_still 2 1 2 bs u u one (in_line_at true) held due
-        (reads_met 2 2 bs u (in_line_at true) (next (dues.Release 1 0 (Some b)) k) (other_met bs r.half keeps b some first is apart other)) (release_reads (drop 2 bs) b u k fits))
+        reads_still 3 1 2 bs u one (with_more Text (b ∷ []) one) (in_line_at r true) due (in_line_at r (b == 10))
+        (reads_still 2 1 2 bs u u one (in_line_at r true) held due
+        (reads_met 2 2 bs u (in_line_at r true) (next (dues.Release 1 0 (Some b)) k) (other_met bs r.half keeps b some first is apart other)) (release_reads (drop 2 bs) b u k fits))
         (add_reads (drop 2 bs) b one k both_fit)
 
     escape_reads : (x : Bool) → 1 < length bs → slice_index bs 0 ≡ 92 → slice_index bs 1 ≡ 92 → charge_of (with_more Text (92 ∷ []) u) ≤ u.limit
-        → ReadsOn 3 2 bs u (in_line_at x) (with_more Text (92 ∷ []) u) (in_line_at false)
+        → ReadsOn 3 2 bs u (in_line_at r x) (with_more Text (92 ∷ []) u) (in_line_at r false)
     escape_reads x some first second fits =
         let k = half_in modes.Body r.half in
-        reads_still 2 1 2 bs u u (with_more Text (92 ∷ []) u) (in_line_at x) (record r { half = next (dues.Add 92) k }) (in_line_at false)
-        (reads_met 2 2 bs u (in_line_at x) (next (dues.Add 92) k) (escape_met bs r.half keeps x some first second)) (add_reads (drop 2 bs) 92 u k fits)
+        reads_still 2 1 2 bs u u (with_more Text (92 ∷ []) u) (in_line_at r x) (record r { half = next (dues.Add 92) k }) (in_line_at r false)
+        (reads_met 2 2 bs u (in_line_at r x) (next (dues.Add 92) k) (escape_met bs r.half keeps x some first second)) (add_reads (drop 2 bs) 92 u k fits)
 
   -- ---- the bytes of a line, one after another
 
@@ -99,7 +101,7 @@ module _ {K : Type 0} (r : Reader) where
     stored k = with_more Text (take k bs) v
 
     abbrev ReadsTo : Bool → ℕ → Type 0
-    ReadsTo x k = ReadsOn (2 * k) k bs v (in_line_at x) (stored k) (in_line_at (begins_behind bs x k))
+    ReadsTo x k = ReadsOn (2 * k) k bs v (in_line_at r x) (stored k) (in_line_at r (begins_behind bs x k))
 
     front_byte : (k : ℕ) → slice_index (drop k bs) 0 ≡ slice_index bs k
     front_byte k = get_or-drop k bs 0 0 ∙ (let same : k + 0 ≡ k = omega arith in ap (slice_index bs) same)
@@ -108,18 +110,18 @@ module _ {K : Type 0} (r : Reader) where
     one_fits k below = charge_of-some Text k n bs v below within fits
 
     none_read : (x : Bool) → ReadsTo x 0
-    none_read x = reads_none bs v (stored 0) (in_line_at x) (in_line_at x) (with_more-none Text v) refl
+    none_read x = reads_none bs v (stored 0) (in_line_at r x) (in_line_at r x) (with_more-none Text v) refl
 
-    one_more : (x y : Bool) (k : ℕ) → k < n → (y ≡ true → slice_index bs k ≢ 46) → ReadsOn (2 * k) k bs v (in_line_at x) (stored k) (in_line_at y)
-        → ReadsOn (2 * suc k) (suc k) bs v (in_line_at x) (stored (suc k)) (in_line_at (slice_index bs k == 10))
+    one_more : (x y : Bool) (k : ℕ) → k < n → (y ≡ true → slice_index bs k ≢ 46) → ReadsOn (2 * k) k bs v (in_line_at r x) (stored k) (in_line_at r y)
+        → ReadsOn (2 * suc k) (suc k) bs v (in_line_at r x) (stored (suc k)) (in_line_at r (slice_index bs k == 10))
     one_more x y k below other so_far =
         let b = slice_index bs k in
         let moves : 2 * k + 2 ≡ 2 * suc k = omega arith in
         let more : k + 1 ≡ suc k = omega arith in
-        subst (λ j. ReadsOn j (suc k) bs v (in_line_at x) (stored (suc k)) (in_line_at (b == 10))) moves
-        (subst (λ j. ReadsOn (2 * k + 2) j bs v (in_line_at x) (stored (suc k)) (in_line_at (b == 10))) more
-        (subst (λ (w : Stored K). ReadsOn (2 * k + 2) (k + 1) bs v (in_line_at x) w (in_line_at (b == 10))) (with_more-next Text k bs v (omega (arith, below, within)))
-        (reads_then (2 * k) 2 k 1 bs v (stored k) (with_more Text (b ∷ []) (stored k)) (in_line_at x) (in_line_at y) (in_line_at (b == 10)) so_far
+        subst (λ j. ReadsOn j (suc k) bs v (in_line_at r x) (stored (suc k)) (in_line_at r (b == 10))) moves
+        (subst (λ j. ReadsOn (2 * k + 2) j bs v (in_line_at r x) (stored (suc k)) (in_line_at r (b == 10))) more
+        (subst (λ (w : Stored K). ReadsOn (2 * k + 2) (k + 1) bs v (in_line_at r x) w (in_line_at r (b == 10))) (with_more-next Text k bs v (omega (arith, below, within)))
+        (reads_then (2 * k) 2 k 1 bs v (stored k) (with_more Text (b ∷ []) (stored k)) (in_line_at r x) (in_line_at r y) (in_line_at r (b == 10)) so_far
         (own_reads keeps (drop k bs) (stored k) y b (omega (arith, below, within, length-drop k bs)) (front_byte k) (escape k below) other (one_fits k below)))))
 
     -- behind a byte that is not the last no line begins
@@ -141,7 +143,7 @@ module _ {K : Type 0} (r : Reader) where
         let first_fits : charge_of (with_more Text (46 ∷ []) v) ≤ v.limit =
         subst (λ (w : Stored K). charge_of w ≤ v.limit) (sym one) (subst (λ (w : Stored K). charge_of w ≤ v.limit) (with_more-next Text 0 bs v (omega (arith, few, within))) (one_fits 0 (omega (arith, few)))) in
         let both_fit : charge_of (with_more Text (b ∷ []) (with_more Text (46 ∷ []) v)) ≤ v.limit = subst (λ (w : Stored K). charge_of (with_more Text (b ∷ []) w) ≤ v.limit) (sym one) (one_fits 1 (omega (arith, few))) in
-        subst (λ (w : Stored K). ReadsOn 4 2 bs v (in_line_at true) w (in_line_at (b == 10))) two
+        subst (λ (w : Stored K). ReadsOn 4 2 bs v (in_line_at r true) w (in_line_at r (b == 10))) two
         (other_reads keeps bs v b (omega (arith, few, within)) first refl (escape 1 (omega (arith, few))) other first_fits both_fit)
     dot_read (suc k) few first other = one_more true (begins_behind bs true (suc (suc k))) (suc (suc k)) (omega (arith, few)) (still true (suc k) (omega (arith, few))) (dot_read k (omega (arith, few)) first other)
 
@@ -149,7 +151,7 @@ module _ {K : Type 0} (r : Reader) where
     line_read false begins = plain_read false n (omega arith) (λ is some dot. let wrong : false ≡ true = is in cc)
     line_read true begins = elim (cases_Bool (slice_index bs 0 == 46)) [
       | inl is ↦ dotted n refl (eqb-true (slice_index bs 0) 46 is)
-      | inr no ↦ plain_read true n (omega arith) (λ is some dot. let wrong : false ≡ true = sym no ∙ ap (λ b. b == 46) dot in cc)
+      | inr apart ↦ plain_read true n (omega arith) (λ is some dot. let wrong : false ≡ true = sym apart ∙ ap (λ b. b == 46) dot in cc)
     ]
       where
         dotted : (m : ℕ) → n ≡ m → slice_index bs 0 ≡ 46 → ReadsTo true n
@@ -159,24 +161,20 @@ module _ {K : Type 0} (r : Reader) where
 
   -- ---- a part of a line
 
-  -- the reader in the mode behind its last byte
-  abbrev pub reader_behind : ℕ → Reader
-  reader_behind b = record r { half = record r.half { reading = record r.half.reading { mode = in_body b } } }
-
   module _ (bs : List ℕ) (v w : Stored K) (own : ℕ) (body : is_in_body r.half ≡ true) (is_own : IsOwn own bs r.half.reading.mode r.half.notes.defining) where
     abbrev x : Bool
     x = (in_line r.half body).begins
 
-    stands : r ≡ in_line_at x
+    stands : r ≡ in_line_at r x
     stands = let i = in_line r.half body in ap (λ (h : Half). record r { half = h }) (is_half_in (line_mode x) r.half i.mode i.idle)
 
-    behind_is : (b : ℕ) → reader_behind b ≡ in_line_at (b == 10)
+    behind_is : (b : ℕ) → reader_behind r b ≡ in_line_at r (b == 10)
     behind_is b =
         let i = in_line r.half body in
         ap (λ (h : Half). record r { half = record h { reading = record h.reading { mode = in_body b } } }) (is_half_in (line_mode x) r.half i.mode i.idle)
         ∙ ap (λ (m : Mode). record r { half = half_in m r.half }) (in_body-is b)
 
-    own_read : charge_of (with_more Text (take own bs) v) ≤ v.limit → ReadsOn (2 * own) own bs v (in_line_at x) (with_more Text (take own bs) v) (in_line_at (begins_behind bs x own))
+    own_read : charge_of (with_more Text (take own bs) v) ≤ v.limit → ReadsOn (2 * own) own bs v (in_line_at r x) (with_more Text (take own bs) v) (in_line_at r (begins_behind bs x own))
     own_read fits =
         let i = in_line r.half body in
         let text = is_own.text in
@@ -187,15 +185,15 @@ module _ {K : Type 0} (r : Reader) where
         let two : 1 < own = omega (arith, more, length-take own bs) in
         (two, λ same. other.other (get_or-take own bs 1 0 two ∙ same)))
 
-    read_plain : (j : ℕ) → own ≡ suc j → w ≡ with_more Text (take own bs) v → charge_of w ≤ w.limit → ReadsOn (2 * own) own bs v r w (reader_behind (slice_index bs j))
+    read_plain : (j : ℕ) → own ≡ suc j → w ≡ with_more Text (take own bs) v → charge_of w ≤ w.limit → ReadsOn (2 * own) own bs v r w (reader_behind r (slice_index bs j))
     read_plain j is added fits =
         let all = own_read (subst (λ (u : Stored K). charge_of u ≤ u.limit) added fits) in
-        let ends : in_line_at (begins_behind bs x own) ≡ reader_behind (slice_index bs j) = ap (λ k. in_line_at (begins_behind bs x k)) is ∙ sym (behind_is (slice_index bs j)) in
-        subst (λ (q : Reader). ReadsOn (2 * own) own bs v q w (reader_behind (slice_index bs j))) (sym stands)
-        (subst (λ (u : Stored K). ReadsOn (2 * own) own bs v (in_line_at x) u (reader_behind (slice_index bs j))) (sym added)
-        (subst (λ (q : Reader). ReadsOn (2 * own) own bs v (in_line_at x) (with_more Text (take own bs) v) q) ends all))
+        let ends : in_line_at r (begins_behind bs x own) ≡ reader_behind r (slice_index bs j) = ap (λ k. in_line_at r (begins_behind bs x k)) is ∙ sym (behind_is (slice_index bs j)) in
+        subst (λ (q : Reader). ReadsOn (2 * own) own bs v q w (reader_behind r (slice_index bs j))) (sym stands)
+        (subst (λ (u : Stored K). ReadsOn (2 * own) own bs v (in_line_at r x) u (reader_behind r (slice_index bs j))) (sym added)
+        (subst (λ (q : Reader). ReadsOn (2 * own) own bs v (in_line_at r x) (with_more Text (take own bs) v) q) ends all))
 
-    read_escaped : own + 1 < length bs → slice_index bs own ≡ 92 → slice_index bs (own + 1) ≡ 92 → w ≡ with_more Text (take (suc own) bs) v → charge_of w ≤ w.limit → ReadsOn (2 * own + 3) (own + 2) bs v r w (reader_behind 92)
+    read_escaped : own + 1 < length bs → slice_index bs own ≡ 92 → slice_index bs (own + 1) ≡ 92 → w ≡ with_more Text (take (suc own) bs) v → charge_of w ≤ w.limit → ReadsOn (2 * own + 3) (own + 2) bs v r w (reader_behind r 92)
     read_escaped some first second added fits =
         let i = in_line r.half body in
         let y = begins_behind bs x own in
@@ -211,26 +209,26 @@ module _ {K : Type 0} (r : Reader) where
         let there = get_or-drop own bs 0 0 ∙ ap (slice_index bs) zero_on ∙ first in
         let behind = get_or-drop own bs 1 0 ∙ second in
         let escape = escape_reads i.keeps (drop own bs) u y (omega (arith, some, length-drop own bs)) there behind one_fits in
-        subst (λ (q : Reader). ReadsOn (2 * own + 3) (own + 2) bs v q w (reader_behind 92)) (sym stands)
-        (subst (λ (q : Reader). ReadsOn (2 * own + 3) (own + 2) bs v (in_line_at x) w q) (sym (behind_is 92))
-        (subst (λ (o : Stored K). ReadsOn (2 * own + 3) (own + 2) bs v (in_line_at x) o (in_line_at false)) escaped
-        (reads_then (2 * own) 3 own 2 bs v u (with_more Text (92 ∷ []) u) (in_line_at x) (in_line_at y) (in_line_at false) so_far escape)))
+        subst (λ (q : Reader). ReadsOn (2 * own + 3) (own + 2) bs v q w (reader_behind r 92)) (sym stands)
+        (subst (λ (q : Reader). ReadsOn (2 * own + 3) (own + 2) bs v (in_line_at r x) w q) (sym (behind_is 92))
+        (subst (λ (o : Stored K). ReadsOn (2 * own + 3) (own + 2) bs v (in_line_at r x) o (in_line_at r false)) escaped
+        (reads_then (2 * own) 3 own 2 bs v u (with_more Text (92 ∷ []) u) (in_line_at r x) (in_line_at r y) (in_line_at r false) so_far escape)))
 
     -- what stands for itself, and perhaps a `\\` behind it
     pub part_reads : (more : ℕ) → more ≤ 1 → 0 < own + more → (0 < more → (own + 1 < length bs) × ((slice_index bs own ≡ 92) × (slice_index bs (own + 1) ≡ 92))) → w ≡ with_more Text (take (own + more) bs) v → charge_of w ≤ w.limit
-        → ReadsOn (2 * (own + more) + more) (own + more + more) bs v r w (reader_behind (slice_index bs (own + more - 1)))
+        → ReadsOn (2 * (own + more) + more) (own + more + more) bs v r w (reader_behind r (slice_index bs (own + more - 1)))
     part_reads zero few some escaped added fits = plain_part own refl
       where
-        plain_part : (m : ℕ) → own ≡ m → ReadsOn (2 * (own + 0) + 0) (own + 0 + 0) bs v r w (reader_behind (slice_index bs (own + 0 - 1)))
+        plain_part : (m : ℕ) → own ≡ m → ReadsOn (2 * (own + 0) + 0) (own + 0 + 0) bs v r w (reader_behind r (slice_index bs (own + 0 - 1)))
         plain_part zero is = absurd (omega (arith, is, some))
         plain_part (suc j) is =
             let same : own ≡ own + 0 = omega arith in
             let moves : 2 * own ≡ 2 * (own + 0) + 0 = omega arith in
             let taken : own ≡ own + 0 + 0 = omega arith in
             let last : j ≡ own + 0 - 1 = omega (arith, is) in
-            subst (λ k. ReadsOn k (own + 0 + 0) bs v r w (reader_behind (slice_index bs (own + 0 - 1)))) moves
-            (subst (λ k. ReadsOn (2 * own) k bs v r w (reader_behind (slice_index bs (own + 0 - 1)))) taken
-            (subst (λ k. ReadsOn (2 * own) own bs v r w (reader_behind (slice_index bs k))) last
+            subst (λ k. ReadsOn k (own + 0 + 0) bs v r w (reader_behind r (slice_index bs (own + 0 - 1)))) moves
+            (subst (λ k. ReadsOn (2 * own) k bs v r w (reader_behind r (slice_index bs (own + 0 - 1)))) taken
+            (subst (λ k. ReadsOn (2 * own) own bs v r w (reader_behind r (slice_index bs k))) last
             (read_plain j is (added ∙ ap (λ k. with_more Text (take k bs) v) (sym same)) fits)))
     part_reads (suc zero) few some escaped added fits =
         let two = escaped (omega arith) in
@@ -239,9 +237,9 @@ module _ {K : Type 0} (r : Reader) where
         let moves : 2 * own + 3 ≡ 2 * (own + 1) + 1 = omega arith in
         let taken : own + 2 ≡ own + 1 + 1 = omega arith in
         let last : own ≡ own + 1 - 1 = omega arith in
-        subst (λ k. ReadsOn k (own + 1 + 1) bs v r w (reader_behind (slice_index bs (own + 1 - 1)))) moves
-        (subst (λ k. ReadsOn (2 * own + 3) k bs v r w (reader_behind (slice_index bs (own + 1 - 1)))) taken
-        (subst (λ k. ReadsOn (2 * own + 3) (own + 2) bs v r w (reader_behind k)) (sym behind.0 ∙ ap (slice_index bs) last)
+        subst (λ k. ReadsOn k (own + 1 + 1) bs v r w (reader_behind r (slice_index bs (own + 1 - 1)))) moves
+        (subst (λ k. ReadsOn (2 * own + 3) k bs v r w (reader_behind r (slice_index bs (own + 1 - 1)))) taken
+        (subst (λ k. ReadsOn (2 * own + 3) (own + 2) bs v r w (reader_behind r k)) (sym behind.0 ∙ ap (slice_index bs) last)
         (read_escaped two.0 behind.0 behind.1 (added ∙ ap (λ k. with_more Text (take k bs) v) more) fits)))
     part_reads (suc (suc k)) few some escaped added fits = absurd (omega (arith, few))
 
@@ -254,7 +252,7 @@ charge_of-bound bs v = let more = longer-bound (map elements.Byte bs) v.building
 -- where there is room for all, all are added
 pub all_added : {K : Type 0} (n : ℕ) (bs : List ℕ) (v w : Stored K) → n ≤ length bs → charge_of v + length bs ≤ v.limit → w ≡ with_more Text (take n bs) v
     → (n < length bs → w.limit < charge_of (with_more Text (slice_index bs n ∷ []) w)) → w ≡ with_more Text bs v
-all_added n bs v w within room added most = elim (cases_lt n (length bs)) [
+all_added {K = K} n bs v w within room added most = elim (cases_lt n (length bs)) [
   | inl less ↦
       let over = most less in
       let one = charge_of-bound (slice_index bs n ∷ []) w in
@@ -266,7 +264,7 @@ all_added n bs v w within room added most = elim (cases_lt n (length bs)) [
 ]
 
 pub all_fit : {K : Type 0} (bs : List ℕ) (v w : Stored K) → charge_of v + length bs ≤ v.limit → w ≡ with_more Text bs v → charge_of w ≤ w.limit
-all_fit bs v w room added =
+all_fit {K = K} bs v w room added =
     let bound = charge_of-bound bs v in
     subst (λ (u : Stored K). charge_of u ≤ u.limit) (sym added) (omega (arith, bound, room))
 

@@ -1,6 +1,6 @@
 -- What is stored once bytes were added to an argument, or to a text that is being defined.
 use Rattle.std.specs.Prelude.{map, slice_index}
-use Rattle.std.proofs.Common.{◌≡◌, ℕ, suc, ◌<◌, ◌≤◌, ◌==◌, true, List, [], ◌∷◌, ◌++◌, length, take, inl, inr, sum_by, refl, ap, sym, ◌∙◌, append_assoc, length-append, arith}
+use Rattle.std.proofs.Common.{◌≡◌, ℕ, suc, ◌+◌, ◌<◌, ◌≤◌, ◌==◌, true, List, [], ◌∷◌, ◌++◌, length, take, inl, inr, sum_by, refl, ap, sym, ◌∙◌, append_assoc, length-append, arith}
 use Rattle.std.proofs.Math.Seq.{take-suc}
 use Rattle.std.proofs.lemmas.Bool.{cases_Bool}
 use Rattle.std.proofs.lemmas.List.{append-nil, length-map, length-take, map-append}

@@ -1,4 +1,4 @@
-use Rattle.nr_input.proofs.BodyLines.{all_added, all_fit}
+use Rattle.nr_input.proofs.BodyLines.{all_added}
 use Rattle.nr_input.proofs.body_lines.add_all.Goals as goal
 
 pub returns-clause-added : goal.returns-clause-added

@@ -1,4 +1,4 @@
-use Rattle.std.proofs.Common.{◌<◌, ◌+◌, arith}
+use Rattle.std.proofs.Common.{◌<◌, ◌+◌, sym, ◌∙◌, arith}
 use Rattle.nr_input.proofs.BodyLines.{part_reads}
 use Rattle.nr_input.proofs.MacroLines.{reads_none}
 use Rattle.nr_input.proofs.body_lines.read_part.Goals as goal
@@ -9,5 +9,6 @@ returns-clause-reads g c =
     let more = c.backslashes_at-more in
     let put = c.add_all in
     let some : 0 < own.result + more.result = omega (arith, c.if-added-eq0.false) in
-    part_reads c.args.reader.now c.args.bytes.now c.args.store.now put.new.store own.result c.if-not-is_in_body.false own.ensures more.result more.ensures.few some
-    (λ one. (more.ensures.within one, more.ensures.first one, more.ensures.second one)) (put.ensures.added c.if-not-add_all.false) (put.ensures.afforded c.if-not-add_all.false)
+    rw c.in_body-reader.ensures
+    (part_reads c.args.reader.now c.args.bytes.now c.args.store.now put.new.store own.result (sym c.is_in_body.ensures ∙ c.if-not-is_in_body.false) own.ensures more.result more.ensures.few some
+    (λ one. (more.ensures.within one, (more.ensures.first one, more.ensures.second one))) (put.ensures.added c.if-not-add_all.false) (put.ensures.afforded c.if-not-add_all.false))
