@@ -1,9 +1,8 @@
 -- The bytes of a line of a definition, met one by one.
 use Rattle.std.specs.Prelude.{map, nat_lt, slice_get, slice_index}
-use Rattle.std.proofs.Common.{◌≡◌, ◌≢◌, ℕ, zero, suc, ◌+◌, ◌<◌, ◌≤◌, ◌==◌, ◌&&◌, Bool, true, false, List, [], ◌∷◌, length, get_or, Some, inl, inr, refl, sym, subst, ap, ◌∙◌, arith}
+use Rattle.std.proofs.Common.{◌≡◌, ◌≢◌, ℕ, ◌<◌, ◌≤◌, ◌==◌, ◌&&◌, Bool, true, false, List, [], ◌∷◌, length, Some, inl, inr, refl, subst, ap, ◌∙◌, arith}
 use Rattle.std.proofs.lemmas.Bool.{ne_eqb, eqb-true, lt-ltb, cases_Bool}
 use Rattle.std.proofs.lemmas.List.{length-map}
-use Rattle.nr_reading.specs.declared.event.Event.TheVariants as events
 use Rattle.nr_reading.specs.declared.front.Front.{Front}
 use Rattle.nr_reading.specs.declared.front.Front.TheVariants as fronts
 use Rattle.nr_reading.specs.declared.half.Half.{Half}
@@ -19,7 +18,7 @@ use Rattle.nr_reading.specs.Runs.{HasMet}
 use Rattle.nr_reading.proofs.Asked.{half_at}
 use Rattle.nr_input.specs.Acting.{next}
 use Rattle.nr_input.specs.BodyLines.{is_in_body, is_in_body_in}
-use Rattle.nr_input.proofs.MacroBytes.{Meets, met_byte, nothing_met, byte_there, IsIdle, idle, half_in, is_half_in}
+use Rattle.nr_input.proofs.MacroBytes.{Meets, met_byte, nothing_met, byte_there, IsIdle, idle, half_in}
 
 -- ---- where a line of a definition is read
 

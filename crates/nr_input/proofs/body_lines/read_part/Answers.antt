@@ -1,6 +1,5 @@
 use Rattle.std.proofs.Common.{◌<◌, ◌+◌, sym, ◌∙◌, arith}
 use Rattle.nr_input.proofs.BodyLines.{part_reads}
-use Rattle.nr_input.proofs.MacroLines.{reads_none}
 use Rattle.nr_input.proofs.body_lines.read_part.Goals as goal
 
 pub returns-clause-reads : goal.returns-clause-reads
