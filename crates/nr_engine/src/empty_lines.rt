@@ -78,7 +78,8 @@ impl Engine {
         if self.formatter.store.is_reading() {
             return self.read_levels();
         }
-        let run = self.read_run(input);
+        let lines = self.read_body_lines(input);
+        let run = lines + self.read_run(input);
         match self.formatter.event {
             Event::Empty => run + self.put_empty_lines(input),
             Event::Request => run + self.obey_lines(input),

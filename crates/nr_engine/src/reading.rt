@@ -8,7 +8,7 @@ ghost use Rattle.nr_engine.specs.Running.{MakesInPlace, MakesReading};
 use crate::engine::Engine;
 use nr_formatter::tasks::Task;
 use nr_input::Event;
-use nr_reading::Due;
+use nr_reading::{Due, Mode};
 use nr_units::source::Source;
 
 impl Engine {
@@ -50,6 +50,29 @@ impl Engine {
         }
         let formatter = &mut self.formatter;
         let run = nr_input::read_next(
+            &mut self.place,
+            &mut formatter.reader,
+            &mut formatter.store,
+            input,
+        );
+        self.formatter.event = run.event;
+        self.formatter.fit_memory();
+        run.moves as u128
+    }
+
+    /// The lines of a definition that the source has at hand are added to its text, if the input is read next. Tells how many
+    /// moves that was.
+    #[inline(always)]
+    pub(crate) fn read_body_lines<R: Source>(&mut self, input: &mut R) -> u128
+        ensures reads { MakesReading result (shape self.old) (shape self.new) (R.supply input.old) (R.supply input.new) (R.failures input.old) (R.failures input.new) }
+        ensures few { result ≤ 32000 }
+    {
+        let mode = self.formatter.reader.half.reading.mode;
+        if !matches!(mode, Mode::Body | Mode::BodyStart(_)) || !self.reads_next() {
+            return 0;
+        }
+        let formatter = &mut self.formatter;
+        let run = nr_input::read_body_lines(
             &mut self.place,
             &mut formatter.reader,
             &mut formatter.store,

@@ -1,6 +1,8 @@
 mod Due
 mod Hearing
 mod Refusals
+pub mod BodyBytes
+pub mod BodyLines
 pub mod ControlLines
 pub mod Costs
 pub mod Digits
