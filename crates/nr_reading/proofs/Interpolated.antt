@@ -108,6 +108,9 @@ module _ (c n : Bool) (s : Signs) (d : Texts) (o : Notes) where
   string_asked modes.Start is = refl
   string_asked m is = copied_string m (not-true (is_direct m) is)
 
+  font_asked : (m : Mode) → m ≡ modes.Text → Tells 102 (escaped_half m) (asking_half m (begun_ask kinds.Font)) events.Nothing
+  font_asked m is = rw is refl
+
   -- ---- what is asked for
 
   -- the number of an argument
@@ -127,24 +130,28 @@ module _ (c n : Bool) (s : Signs) (d : Texts) (o : Notes) where
   -- a name of one byte
   lone_ends : (k : Kind) (b : ℕ) (m : Mode) → is_named k ≡ true → IsLone b → Tells b (asking_half m (begun_ask k)) (named k (b ∷ []) (plain_half m)) (event_of k (b ∷ []))
   lone_ends kinds.String b m is byte = rw (byte.escape, byte.newline, byte.two, byte.bracket, byte.plus, byte.minus) refl
+  lone_ends kinds.Font b m is byte = rw (byte.escape, byte.newline, byte.two, byte.bracket, byte.plus, byte.minus) refl
   lone_ends (kinds.Register s) b m is byte = rw (byte.escape, byte.newline, byte.two, byte.bracket, byte.plus, byte.minus) refl
   lone_ends k b m is byte = absurd (let wrong : false ≡ true = is in cc)
 
   -- one of two
   two_begin : (k : Kind) (m : Mode) → is_named k ≡ true → Tells 40 (asking_half m (begun_ask k)) (asking_half m (at_stage stages.Two (begun_ask k))) events.Nothing
   two_begin kinds.String m is = refl
+  two_begin kinds.Font m is = refl
   two_begin (kinds.Register s) m is = refl
   two_begin k m is = absurd (let wrong : false ≡ true = is in cc)
 
   first_read : (k : Kind) (a : ℕ) (m : Mode) → is_named k ≡ true → IsApart a
       → Tells a (asking_half m (at_stage stages.Two (begun_ask k))) (asking_half m (with_byte a (at_stage stages.Two (begun_ask k)))) events.Nothing
   first_read kinds.String a m is byte = rw (byte.escape, byte.newline) refl
+  first_read kinds.Font a m is byte = rw (byte.escape, byte.newline) refl
   first_read (kinds.Register s) a m is byte = rw (byte.escape, byte.newline) refl
   first_read k a m is byte = absurd (let wrong : false ≡ true = is in cc)
 
   second_ends : (k : Kind) (a b : ℕ) (m : Mode) → is_named k ≡ true → IsApart b
       → Tells b (asking_half m (with_byte a (at_stage stages.Two (begun_ask k)))) (named k (a ∷ b ∷ []) (plain_half m)) (event_of k (a ∷ b ∷ []))
   second_ends kinds.String a b m is byte = rw (byte.escape, byte.newline) refl
+  second_ends kinds.Font a b m is byte = rw (byte.escape, byte.newline) refl
   second_ends (kinds.Register s) a b m is byte = rw (byte.escape, byte.newline) refl
   second_ends k a b m is byte = absurd (let wrong : false ≡ true = is in cc)
 
@@ -223,6 +230,10 @@ module _ (fs : List Front) (place : ℕ) (j : Half) (is : interpolates j ≡ tru
       → (h : Half) (m : ℕ) → HasMet m fs h (quiet place j) → HasMet (m + 2) fs h (quiet (place + 2) (begun kinds.String j))
   string_met within first second = asked kinds.String 42 within first second (string_asked c n j.signs j.delimited j.notes j.reading.mode in_mode)
 
+  pub font_met : j.reading.mode ≡ modes.Text → place + 1 < length fs → slice_get fs place ≡ Some (fronts.Byte 92) → slice_get fs (place + 1) ≡ Some (fronts.Byte 102)
+      → (h : Half) (m : ℕ) → HasMet m fs h (quiet place j) → HasMet (m + 2) fs h (quiet (place + 2) (begun kinds.Font j))
+  font_met text within first second = asked kinds.Font 102 within first second (font_asked c n j.signs j.delimited j.notes j.reading.mode text)
+
   -- one item more of it, where this was asked
   ask_more : (k k' : Kind) (before b : ℕ) → place + before < length fs → slice_get fs (place + before) ≡ Some (fronts.Byte b) → Tells b (asking_there (begun_ask k)) (asking_there (begun_ask k')) events.Nothing
       → (h : Half) (m : ℕ) → HasMet (m + before) fs h (quiet (place + before) (begun k j)) → HasMet (m + (before + 1)) fs h (quiet (place + (before + 1)) (begun k' j))
@@ -281,6 +292,7 @@ module _ (fs : List Front) (place : ℕ) (j : Half) (is : interpolates j ≡ tru
 -- where nothing is told behind a name something is due
 pub named_waits : (k : Kind) (name : List ℕ) → is_named k ≡ true → event_of k name ≡ events.Nothing → due_of k name ≡ dues.Look → ⊥
 named_waits kinds.String name is silent look = let wrong : ⊥ = cc in wrong
+named_waits kinds.Font name is silent look = let wrong : ⊥ = cc in wrong
 named_waits (kinds.Register s) name is silent look = by (is_given name) silent look
   where
     by : (given : Bool) → (if given then events.Given else events.Nothing) ≡ events.Nothing → (if given then dues.Look else dues.Register s) ≡ dues.Look → ⊥
