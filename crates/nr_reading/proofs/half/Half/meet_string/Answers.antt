@@ -20,7 +20,7 @@ returns-then-ends_name g c =
     let first = c.in-Some.first in
     let name : c.with-lone.result ≡ spelled first nothing_spelled = c.with-lone.ensures ∙ ap (spelled first) c.new.ensures in
     let mid : c.take_string_name.new.self ≡ behind_name (spelled first nothing_spelled) h = c.take_string_name.ensures ∙ ap (λ (n : Spelled). behind_name n h) name in
-    rest_behind fs 0 0 (place + 1) (place + 3) h c.take_string_name.new.self c.meet_string_blanks.new.self c.meet_string_blanks.result
+    rest_behind fs 0 0 (place + 1) (place + 3) h c.take_string_name.new.self c.meet_string_blanks.new.self c.meet_string_blanks.new.run
     (subst (λ (k : Half). LeadsOn fs 0 0 h (place + 1) (place + 3) k) (sym mid)
     (recount fs 0 0 (place + 1) (place + 1) (place + 1 + 1 + 1) (place + 3) h (behind_name (spelled first nothing_spelled) h)
     (lone_named fs 0 0 place place h h c.pass_first_blanks-place.ensures.leads c.requires.mode c.requires.next first c.in-Some-byte_of.second c.in-Some-byte_of.ensures.within c.in-Some.ensures.value c.in-Some-byte_of.ensures.value
@@ -43,7 +43,7 @@ returns g c =
       | else-long-via-then-long+else-not-name_ends w ↦ w.name_ends.ensures w.if-not-name_ends.false
       | else-long-via-else-long w ↦ absurd (false≢true (sym w.if-long.false ∙ is))
     ] in
-    rest_behind fs 0 0 (place + 2) moves h c.take_string_name-2.new.self c.meet_string_blanks-2.new.self c.meet_string_blanks-2.result
+    rest_behind fs 0 0 (place + 2) moves h c.take_string_name-2.new.self c.meet_string_blanks-2.new.self c.meet_string_blanks-2.new.run
     (subst (λ (k : Half). LeadsOn fs 0 0 h (place + 2) moves k) (sym mid)
     (recount fs 0 0 (place + 2) (place + 2) (place + (3 + from_bool h.signs.long)) moves h (behind_name (spelled second (spelled first nothing_spelled)) h)
     (pair_named fs 0 0 place place h h c.pass_first_blanks-place.ensures.leads c.requires.mode c.requires.next first second c.in-Some-byte_of.ensures.within c.in-Some.ensures.value c.in-Some-byte_of.ensures.value
