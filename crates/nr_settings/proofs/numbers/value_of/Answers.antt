@@ -1,4 +1,4 @@
-use Rattle.std.proofs.Common.{sym, arith, rules}
+use Rattle.std.proofs.Common.{sym, rules}
 use Rattle.nr_settings.specs.Numbers.{context}
 use Rattle.nr_settings.proofs.PlainNumbers.{no_bytes}
 use Rattle.nr_settings.proofs.numbers.value_of.Goals as goal
