@@ -278,11 +278,11 @@ impl Reader {
     fn meaning<K: Copy>(&self, store: &Store<K>) -> Meaning
         ensures { result ≡ meaning_in store.now self.now }
     {
-        let name = self.name();
-        if name.is_empty() {
+        let spelled = &self.half.notes.name;
+        if spelled.bad || spelled.bytes.is_empty() {
             return Meaning::Unknown;
         }
-        store.lookup(name)
+        store.lookup(spelled.bytes)
     }
 
     /// The name of a control line is looked up. Answers what is told of it.

@@ -73,6 +73,12 @@ from_start : (c : Ctx) (text : List ℕ) (i n : ℕ) → ReadsDigits text i n �
 unfolding read_of
 from_start c text i n reads = reads.known c start begins_text 0 i nothing_read (omega arith)
 
+-- no bytes have no value
+pub no_bytes : (c : Ctx) (text : List ℕ) → length text ≡ 0 → (read_of c text).value ≡ None
+unfolding read_of
+no_bytes c [] none = refl
+no_bytes c (b ∷ bs) none = absurd (omega (arith, none))
+
 -- ---- the value
 
 -- the nearest unit is exact
