@@ -3,6 +3,7 @@ mod Hearing
 mod Refusals
 pub mod BodyBytes
 pub mod BodyLines
+pub mod CommentLines
 pub mod ControlLines
 pub mod Costs
 pub mod Digits

@@ -2,6 +2,7 @@ pub mod Acting
 pub mod AtHand
 pub mod BodyLines
 pub mod Coming
+pub mod CommentLines
 pub mod Hearing
 pub mod Interpolations
 pub mod Laws

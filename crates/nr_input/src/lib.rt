@@ -4,13 +4,14 @@
 //! It stands on nr_units, nr_pool, nr_levels, nr_tables, nr_store and nr_reading. To read: `refusal`, `told`;
 //! `place`, `reader`; `acting`, `moving`; `splicing`, `setting`; then many moves at once: `at_hand`, `target`,
 //! `adding`, `runs`, `level_lines`, `interpolations`, `levels`, `macro_lines`,
-//! `body_lines`, `control_lines`.
+//! `body_lines`, `comment_lines`, `control_lines`.
 #![tactic(auto)]
 
 mod acting;
 mod adding;
 mod at_hand;
 mod body_lines;
+mod comment_lines;
 mod control_lines;
 mod interpolations;
 mod level_lines;
