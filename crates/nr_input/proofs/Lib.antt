@@ -7,6 +7,7 @@ pub mod CommentLines
 pub mod ControlLines
 pub mod Costs
 pub mod Digits
+pub mod DroppedLines
 pub mod Interpolated
 pub mod Items
 pub mod LevelLines

@@ -3,6 +3,7 @@ pub mod AtHand
 pub mod BodyLines
 pub mod Coming
 pub mod CommentLines
+pub mod DroppedLines
 pub mod Hearing
 pub mod Interpolations
 pub mod Laws
