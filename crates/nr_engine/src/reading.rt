@@ -63,12 +63,11 @@ impl Engine {
     /// The lines of a definition that the source has at hand are added to its text, if the input is read next. Tells how many
     /// moves that was.
     #[inline(always)]
-    pub(crate) fn read_body_lines<R: Source>(&mut self, input: &mut R) -> u128
+    fn read_body_lines<R: Source>(&mut self, input: &mut R) -> u128
         ensures reads { MakesReading result (shape self.old) (shape self.new) (R.supply input.old) (R.supply input.new) (R.failures input.old) (R.failures input.new) }
         ensures few { result ≤ 32000 }
     {
-        let mode = self.formatter.reader.half.reading.mode;
-        if !matches!(mode, Mode::Body | Mode::BodyStart(_)) || !self.reads_next() {
+        if !self.reads_next() {
             return 0;
         }
         let formatter = &mut self.formatter;
@@ -81,6 +80,42 @@ impl Engine {
         self.formatter.event = run.event;
         self.formatter.fit_memory();
         run.moves as u128
+    }
+
+    /// The rest of a line that does nothing is read, if the source has it at hand and the input is read next. Tells how many moves
+    /// that was.
+    #[inline(always)]
+    fn read_dropped_line<R: Source>(&mut self, input: &mut R) -> u128
+        ensures reads { MakesReading result (shape self.old) (shape self.new) (R.supply input.old) (R.supply input.new) (R.failures input.old) (R.failures input.new) }
+        ensures few { result ≤ 16000 }
+    {
+        if !self.reads_next() {
+            return 0;
+        }
+        let formatter = &mut self.formatter;
+        let run = nr_input::read_dropped_line(
+            &mut self.place,
+            &mut formatter.reader,
+            &formatter.store,
+            input,
+        );
+        self.formatter.event = run.event;
+        self.formatter.fit_memory();
+        run.moves as u128
+    }
+
+    /// The lines of a definition and the rest of a line that does nothing are read, as far as the source has them at hand. Tells how
+    /// many moves that was.
+    #[inline(always)]
+    pub(crate) fn read_quiet_lines<R: Source>(&mut self, input: &mut R) -> u128
+        ensures reads { MakesReading result (shape self.old) (shape self.new) (R.supply input.old) (R.supply input.new) (R.failures input.old) (R.failures input.new) }
+        ensures few { result ≤ 32000 }
+    {
+        match self.formatter.reader.half.reading.mode {
+            Mode::Body | Mode::BodyStart(_) => self.read_body_lines(input),
+            Mode::Drop => self.read_dropped_line(input),
+            _ => 0,
+        }
     }
 
     /// What levels bring is read, up to what tells something and to text, if the input is read next. Tells how many moves that was.

@@ -28,7 +28,7 @@ line_mode true = modes.BodyStart 0
 line_mode false = modes.Body
 
 pub in_body-is : (b : ℕ) → in_body b ≡ line_mode (b == 10)
-in_body-is b = elim (cases_Bool (b == 10)) [ | inl newline ↦ rw newline refl | inr more ↦ rw more refl ]
+in_body-is b = elim (cases_Bool (b == 10)) [ inl newline ↦ rw newline refl | inr more ↦ rw more refl ]
 
 pub record IsInLine (h : Half) : Type 0 where
   pub begins : Bool

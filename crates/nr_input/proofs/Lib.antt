@@ -3,9 +3,11 @@ mod Hearing
 mod Refusals
 pub mod BodyBytes
 pub mod BodyLines
+pub mod CommentLines
 pub mod ControlLines
 pub mod Costs
 pub mod Digits
+pub mod DroppedLines
 pub mod Interpolated
 pub mod Items
 pub mod LevelLines

@@ -2,6 +2,8 @@ pub mod Acting
 pub mod AtHand
 pub mod BodyLines
 pub mod Coming
+pub mod CommentLines
+pub mod DroppedLines
 pub mod Hearing
 pub mod Interpolations
 pub mod Laws

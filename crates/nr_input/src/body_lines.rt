@@ -51,9 +51,9 @@ fn is_in_body(half: &Half) -> bool
     }
 }
 
-// How many bytes there are before the first `\` or newline.
+/// How many bytes there are before the first `\` or newline.
 #[inline(always)]
-fn text_bytes(bytes: &[u8]) -> usize
+pub(crate) fn text_bytes(bytes: &[u8]) -> usize
     ensures front { result ≤ length bytes.now }
     ensures plain { All (IsPlain 10) (take result bytes.now) }
 {

@@ -11,11 +11,12 @@ ghost use Rattle.nr_input.specs.Moving.{situation};
 ghost use Rattle.nr_input.specs.Runs.{HasRead, PaysAll, ReadsSome, IsLongest, IsLongestInLevel};
 
 use super::at_hand::window;
+use super::comment_lines::read_unnamed_line;
 use super::level_lines::read_level_line;
 use super::macro_lines::read_macro_line;
 use super::place::Place;
 use super::reader::Reader;
-use super::runs::{ByteRow, read_run, read_source};
+use super::runs::{ByteRow, read_run};
 use nr_reading::{Due, Event, Half, Mode, Run};
 use nr_store::Store;
 use nr_units::source::Source;
@@ -139,7 +140,7 @@ fn read_beginning<K: Copy, R: Source>(
 {
     match read_control_line(place, reader, store, source) {
         Some(run) => run,
-        None => read_source(place, reader, store, source),
+        None => read_unnamed_line(place, reader, store, source),
     }
 }
 

@@ -4,14 +4,16 @@
 //! It stands on nr_units, nr_pool, nr_levels, nr_tables, nr_store and nr_reading. To read: `refusal`, `told`;
 //! `place`, `reader`; `acting`, `moving`; `splicing`, `setting`; then many moves at once: `at_hand`, `target`,
 //! `adding`, `runs`, `level_lines`, `interpolations`, `levels`, `macro_lines`,
-//! `body_lines`, `control_lines`.
+//! `body_lines`, `comment_lines`, `dropped_lines`, `control_lines`.
 #![tactic(auto)]
 
 mod acting;
 mod adding;
 mod at_hand;
 mod body_lines;
+mod comment_lines;
 mod control_lines;
+mod dropped_lines;
 mod interpolations;
 mod level_lines;
 mod levels;
@@ -29,6 +31,7 @@ mod told;
 pub use at_hand::{take_window, window};
 pub use body_lines::read_body_lines;
 pub use control_lines::{read_control_line, read_next};
+pub use dropped_lines::read_dropped_line;
 pub use interpolations::Moved;
 pub use levels::read_levels;
 pub use moving::advance;
