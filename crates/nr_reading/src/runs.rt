@@ -116,6 +116,9 @@ impl Half {
                     event: seen.event,
                 };
             }
+            let end = self.pass_comment(items, taken, LONGEST - moves);
+            moves += end - taken;
+            taken = end;
         }
         Run {
             taken,
