@@ -87,7 +87,7 @@ returns-clause-word c = λ some.
     let word : now.word ≡ None = ap (λ (v : Lined). v.collected.word) (sym c.self.view_is) ∙ rw none refl in
     let begins : begins_line now ≡ (is_nil s.row.pieces && true) = ap (λ (v : Lined). begins_line v.collected) (sym c.self.view_is) ∙ rw (none, before) refl in
     let margins : c.if-self-eq0.self ≡ (if begins_line now then margins_of c.args.indents.now else now.margins) = rw begins (elim c.if-self-eq0.branch [
-      | then-self-eq0 w ↦ rw (nil_from_length s.row.pieces (omega arith)) (w.self-is ∙ w.margins.ensures)
+      | then-self-eq0 w ↦ rw (nil_from_length s.row.pieces (omega arith)) (w.self-is ∙ w.margins-self-inside.ensures)
       | else-self-eq0 w ↦ rw (some_pieces s.row.pieces (omega arith)) (w.self-is ∙ ap (λ (v : Lined). v.collected.margins) c.self.view_is)
     ]) in
     let sentence : c.ends_sentence-self-inside.result ≡ ends_sentence (run_cell c.args.under (get_or (take count bytes) (length (take count bytes) - 1) 0)) =
@@ -129,7 +129,7 @@ returns-then-count-near-clause-run c = λ goes_on.
     let now = c.args.self.now.collected in
     let begins : begins_line now ≡ (is_nil s.row.pieces && true) = ap (λ (v : Lined). begins_line v.collected) (sym c.self.view_is) ∙ rw (none, before) refl in
     let margins : c.if-self-eq0.self ≡ (if begins_line now then margins_of c.args.indents.now else now.margins) = rw begins (elim c.if-self-eq0.branch [
-      | then-self-eq0 w ↦ rw (nil_from_length s.row.pieces (omega arith)) (w.self-is ∙ w.margins.ensures)
+      | then-self-eq0 w ↦ rw (nil_from_length s.row.pieces (omega arith)) (w.self-is ∙ w.margins-self-inside.ensures)
       | else-self-eq0 w ↦ rw (some_pieces s.row.pieces (omega arith)) (w.self-is ∙ ap (λ (v : Lined). v.collected.margins) c.self.view_is)
     ]) in
     let sentence : c.ends_sentence-self-inside.result ≡ ends_sentence (run_cell c.args.under (get_or (take count bytes) (length (take count bytes) - 1) 0)) =
