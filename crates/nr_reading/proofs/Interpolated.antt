@@ -23,6 +23,7 @@ use Rattle.nr_reading.specs.declared.notes.Notes.{Notes}
 use Rattle.nr_reading.specs.Asking.{begun_ask, at_stage, with_byte, is_given, due_of, event_of}
 use Rattle.nr_reading.specs.Delimiting.{Texts}
 use Rattle.nr_reading.specs.Interpolations.{interpolates_in, interpolates, is_lone_name, is_named, begun, named}
+use Rattle.nr_reading.specs.LineBeginnings.{text_begun}
 use Rattle.nr_reading.specs.Meeting.{meet, reads_plainly, reads_plainly_at}
 use Rattle.nr_reading.specs.Modes.{is_direct, reads_name}
 use Rattle.nr_reading.specs.Passing.{is_plain, quiet}
@@ -111,6 +112,10 @@ module _ (c n : Bool) (s : Signs) (d : Texts) (o : Notes) where
   font_asked : (m : Mode) → m ≡ modes.Text → Tells 102 (escaped_half m) (asking_half m (begun_ask kinds.Font)) events.Nothing
   font_asked m is = rw is refl
 
+  -- at a line's beginning it begins the text first
+  font_begins : (m : Mode) → m ≡ modes.Start → meet (fronts.Byte 102) (escaped_half m) ≡ record { half = half_at (at modes.Text escapes.Begun false n) s [] d o; event = events.Nothing; takes = false }
+  font_begins m is = rw is refl
+
   -- ---- what is asked for
 
   -- the number of an argument
@@ -162,6 +167,14 @@ tells_more : (k taken b : ℕ) (fs : List Front) (h j new : Half) (e : Event) �
     → HasMet (k + 1) fs h (record { taken = taken + 1; half = new; event = e })
 tells_more k taken b fs h j new e has within look some tells =
     met_counted k taken 1 b fs h j new (record { event = e; takes = true }) has within look some (sym tells) (pays_for (fronts.Byte b) j new (record { event = e; takes = true }) (sym tells) look) refl
+
+-- one byte is looked at, and left
+left_once : (k taken b : ℕ) (fs : List Front) (h j new : Half) → HasMet k fs h (quiet taken j) → taken < length fs → j.reading.due ≡ dues.Look → slice_get fs taken ≡ Some (fronts.Byte b)
+    → meet (fronts.Byte b) j ≡ record { half = new; event = events.Nothing; takes = false } → HasMet (k + 1) fs h (quiet taken new)
+left_once k taken b fs h j new has within look some left =
+    let none : taken + 0 ≡ taken = omega arith in
+    subst (λ t. HasMet (k + 1) fs h (quiet t new)) none
+    (met_counted k taken 0 b fs h j new (record { event = events.Nothing; takes = false }) has within look some (sym left) (pays_for (fronts.Byte b) j new (record { event = events.Nothing; takes = false }) (sym left) look) refl)
 
 -- where so many items, that many moves, were met behind a place, and the last told this
 abbrev pub MetBehind : List Front → ℕ → ℕ → Half → Half → Event → Type 0
@@ -233,6 +246,21 @@ module _ (fs : List Front) (place : ℕ) (j : Half) (is : interpolates j ≡ tru
   pub font_met : j.reading.mode ≡ modes.Text → place + 1 < length fs → slice_get fs place ≡ Some (fronts.Byte 92) → slice_get fs (place + 1) ≡ Some (fronts.Byte 102)
       → (h : Half) (m : ℕ) → HasMet m fs h (quiet place j) → HasMet (m + 2) fs h (quiet (place + 2) (begun kinds.Font j))
   font_met text within first second = asked kinds.Font 102 within first second (font_asked c n j.signs j.delimited j.notes j.reading.mode text)
+
+  -- a font escape whose name is one byte, where it begins the text of a line
+  pub font_begun : j.reading.mode ≡ modes.Start → (b : ℕ) → place + 2 < length fs → slice_get fs place ≡ Some (fronts.Byte 92) → slice_get fs (place + 1) ≡ Some (fronts.Byte 102) → slice_get fs (place + 2) ≡ Some (fronts.Byte b) → IsLone b
+      → (h : Half) (m : ℕ) → HasMet m fs h (quiet place j) → HasMet (m + 4) fs h (record { taken = place + 3; half = named kinds.Font (b ∷ []) (text_begun j); event = events.Font })
+  font_begun start b within first second third byte = λ h m has.
+      let began : Half = escaped_half false n j.signs j.delimited j.notes modes.Text in
+      let waits : Half = asking_half false n j.signs j.delimited j.notes modes.Text (begun_ask kinds.Font) in
+      let ended : Half = named kinds.Font (b ∷ []) (plain_half false n j.signs j.delimited j.notes modes.Text) in
+      let at_b : place + 1 + 1 ≡ place + 2 = omega arith in
+      let one = tells_more m place 92 fs h there escaped_there events.Nothing (subst (λ (x : Half). HasMet m fs h (quiet place x)) j_is has) (omega (arith, within)) refl first (backslash c n j.signs j.delimited j.notes j.reading.mode in_mode) in
+      let two = left_once (m + 1) (place + 1) 102 fs h escaped_there began one (omega (arith, within)) refl second (font_begins c n j.signs j.delimited j.notes j.reading.mode start) in
+      let three = tells_more (m + 1 + 1) (place + 1) 102 fs h began waits events.Nothing two (omega (arith, within)) refl second (font_asked false n j.signs j.delimited j.notes modes.Text refl) in
+      let four = tells_more (m + 1 + 1 + 1) (place + 1 + 1) b fs h waits ended events.Font three (omega (arith, within)) refl (ap (slice_get fs) at_b ∙ third) (lone_ends false n j.signs j.delimited j.notes kinds.Font b modes.Text refl byte) in
+      recount (m + 1 + 1 + 1 + 1) (m + 4) (place + 1 + 1 + 1) (place + 3) ended (named kinds.Font (b ∷ []) (text_begun j)) events.Font fs h four (omega arith) (omega arith)
+      (ap (λ (x : Half). named kinds.Font (b ∷ []) (text_begun x)) (sym j_is))
 
   -- one item more of it, where this was asked
   ask_more : (k k' : Kind) (before b : ℕ) → place + before < length fs → slice_get fs (place + before) ≡ Some (fronts.Byte b) → Tells b (asking_there (begun_ask k)) (asking_there (begun_ask k')) events.Nothing

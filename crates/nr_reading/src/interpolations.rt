@@ -6,6 +6,7 @@ ghost use Rattle.nr_reading.specs.declared.event.Event.TheVariants as events;
 ghost use Rattle.nr_reading.specs.declared.front.Front.TheVariants as variants;
 ghost use Rattle.nr_reading.specs.declared.half.Half.{Half as HalfRead};
 ghost use Rattle.nr_reading.specs.declared.mode.Due.TheVariants as dues;
+ghost use Rattle.nr_reading.specs.declared.mode.Mode.TheVariants as modes;
 ghost use Rattle.nr_reading.specs.Asking.{due_of, event_of};
 ghost use Rattle.nr_reading.specs.Interpolations.{interpolates, is_lone_name, is_named, begun, named};
 ghost use Rattle.nr_reading.specs.Passing.{quiet};
@@ -202,7 +203,39 @@ impl Half {
         }
     }
 
-    // A font escape is met in the midst of a text line, and none elsewhere.
+    // A font escape is met at the beginning of a line, whose text begins with it. None where its name is not one byte.
+    #[inline(always)]
+    fn begin_font<I: Items>(&mut self, items: &I, place: usize) -> Option<Run>
+        requires plain { interpolates self.old ≡ true }
+        requires due { self.old.reading.due ≡ dues.Look }
+        requires start { self.old.reading.mode ≡ modes.Start }
+        requires within { place + 1 < length (I.fronts items.now) }
+        requires backslash { slice_get (I.fronts items.now) place ≡ Some (variants.Byte 92) }
+        requires font { slice_get (I.fronts items.now) (place + 1) ≡ Some (variants.Byte 102) }
+        ensures met { IfSome result (λ run. (h : HalfRead) (n : ℕ) → HasMet n (I.fronts items.now) h (quiet place self.old) →
+            HasMet (n + run.moves) (I.fronts items.now) h (record { taken = place + run.taken; half = self.new; event = run.event })) }
+        ensures few { IfSome result (λ run. run.moves ≤ 6) }
+        ensures taken { IfSome result (λ run. run.taken ≤ run.moves) }
+        ensures within { IfSome result (λ run. place + run.taken ≤ length (I.fronts items.now)) }
+        ensures due { IfSome result (λ run. run.event ≡ events.Nothing → self.new.reading.due ≡ dues.Look → ⊥) }
+        ensures left { result ≡ None → self.new ≡ self.old }
+    {
+        let Some(name) = byte_at(items, place, 2) else {
+            return None;
+        };
+        if !is_lone_name(name) {
+            return None;
+        }
+        self.begin_text();
+        let event = self.end_name(Kind::Font, Name::of(&[name]));
+        Some(Run {
+            taken: 3,
+            moves: 4,
+            event,
+        })
+    }
+
+    // A font escape is met in the midst of a text line or at the beginning of a line, and none elsewhere.
     #[inline(always)]
     fn meet_font<I: Items>(&mut self, items: &I, place: usize) -> Option<Run>
         requires plain { interpolates self.old ≡ true }
@@ -213,18 +246,19 @@ impl Half {
         ensures met { IfSome result (λ run. (h : HalfRead) (n : ℕ) → HasMet n (I.fronts items.now) h (quiet place self.old) →
             HasMet (n + run.moves) (I.fronts items.now) h (record { taken = place + run.taken; half = self.new; event = run.event })) }
         ensures few { IfSome result (λ run. run.moves ≤ 6) }
-        ensures taken { IfSome result (λ run. run.taken ≡ run.moves) }
+        ensures taken { IfSome result (λ run. run.taken ≤ run.moves) }
         ensures within { IfSome result (λ run. place + run.taken ≤ length (I.fronts items.now)) }
         ensures due { IfSome result (λ run. run.event ≡ events.Nothing → self.new.reading.due ≡ dues.Look → ⊥) }
         ensures left { result ≡ None → self.new ≡ self.old }
     {
         match self.reading.mode {
             Mode::Text => self.meet_named(items, place, 2, Kind::Font),
+            Mode::Start => self.begin_font(items, place),
             _ => None,
         }
     }
 
-    /// An interpolation `\$N`, `\nX`, `\n(XX` or `\*X`, `\*(XX`, with a sign or not, or in a text line a font escape `\fX`, `\f(XX` is met
+    /// An interpolation `\$N`, `\nX`, `\n(XX` or `\*X`, `\*(XX`, with a sign or not, or in a text line a font escape `\fX`, `\f(XX`, is met
     /// at once that begins at this place of a row, with a `\`. None where the row has not all of it, or it isn't one of these.
     #[inline(always)]
     pub(crate) fn meet_interpolation<I: Items>(&mut self, items: &I, place: usize) -> Option<Run>
@@ -234,7 +268,7 @@ impl Half {
         ensures met { IfSome result (λ run. (h : HalfRead) (n : ℕ) → HasMet n (I.fronts items.now) h (quiet place self.old) →
             HasMet (n + run.moves) (I.fronts items.now) h (record { taken = place + run.taken; half = self.new; event = run.event })) }
         ensures few { IfSome result (λ run. run.moves ≤ 6) }
-        ensures taken { IfSome result (λ run. run.taken ≡ run.moves) }
+        ensures taken { IfSome result (λ run. run.taken ≤ run.moves) }
         ensures within { IfSome result (λ run. place + run.taken ≤ length (I.fronts items.now)) }
         ensures due { IfSome result (λ run. run.event ≡ events.Nothing → self.new.reading.due ≡ dues.Look → ⊥) }
         ensures left { result ≡ None → self.new ≡ self.old }

@@ -119,6 +119,9 @@ impl Half {
                 };
                 return;
             }
+            let end = self.pass_comment(items, taken, LONGEST - moves);
+            moves += end - taken;
+            taken = end;
         }
         *run = Run {
             taken,
