@@ -4,7 +4,7 @@ ghost use Rattle.std.specs.Prelude.{◌<◌};
 use nr_units::Name;
 
 /// How many kinds of names there are.
-const KINDS: usize = 256;
+const KINDS: usize = 512;
 
 /// The place of one name of each kind. It may be wrong: whoever asks looks at the name there.
 #[derive(Drop)]

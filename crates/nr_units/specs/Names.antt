@@ -12,9 +12,9 @@ IsName bytes = length bytes ≤ 32
 abbrev pub name_order : List ℕ → List ℕ → Ordering
 name_order = slice_cmp nat_cmp
 
--- the kind of a name, of 256, by its first two bytes; a byte that it has not counts as 0
+-- the kind of a name, of 512, by its first two bytes; a byte that it has not counts as 0
 abbrev pub kind_of_name : List ℕ → ℕ
-kind_of_name bytes = (45 * slice_index bytes 0 + slice_index bytes 1) % 256
+kind_of_name bytes = (45 * slice_index bytes 0 + slice_index bytes 1) % 512
 
 -- a name as it lies in memory: its bytes, and zeros behind them to 32
 abbrev pub padded : List ℕ → List ℕ

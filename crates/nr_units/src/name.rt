@@ -110,12 +110,13 @@ impl Name {
         &self.bytes[..usize::from(self.len)]
     }
 
-    /// Its kind, of 256, by its first two bytes. Names of two letters are spread over the kinds.
+    /// Its kind, of 512, by its first two bytes. Names of two letters are spread over the kinds.
     #[inline]
-    pub fn kind(&self) -> u8
-        ensures { result ≡ kind_of_name self.now }
+    pub fn kind(&self) -> u16
+        ensures value { result ≡ kind_of_name self.now }
+        ensures few { result < 512 }
     {
-        ((45 * u32::from(self.bytes[0]) + u32::from(self.bytes[1])) % 256) as u8
+        ((45 * u32::from(self.bytes[0]) + u32::from(self.bytes[1])) % 512) as u16
     }
 
     /// Whether both are one name of at most two bytes.

@@ -1,6 +1,6 @@
 use Rattle.std.proofs.Common.{◌≡◌, ◌≤◌, ◌-◌, ◌++◌, length, map, take}
 use Rattle.nr_pool.specs.Texts.{text, with_text}
-use Rattle.nr_store.proofs.store.lines.append_all.Given as goal
+use Rattle.nr_store.proofs.store.lines.append_blocks.Given as goal
 
 abbrev pub invariant-loop-done : goal.invariant-loop-done
 invariant-loop-done g l = record {
