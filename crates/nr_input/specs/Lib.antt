@@ -3,6 +3,7 @@ pub mod AtHand
 pub mod Coming
 pub mod Hearing
 pub mod Interpolations
+pub mod LevelRows
 pub mod Laws
 pub mod Levels
 pub mod Limits
