@@ -8,7 +8,7 @@ ghost use Rattle.nr_reading.specs.Runs.{HasMet, spot};
 ghost use Rattle.nr_store.specs.Windows.{rest_of, left_times};
 ghost use Rattle.nr_store.specs.declared.element.Element.TheVariants as elements;
 ghost use Rattle.nr_input.specs.Coming.{Coming, Reached, HoldsComing, element_front};
-ghost use Rattle.nr_input.specs.LevelRows.{begun_by};
+ghost use Rattle.nr_input.specs.LevelRows.{begun_by, is_text};
 ghost use Rattle.nr_input.specs.Limits.{limits_of};
 ghost use Rattle.nr_input.specs.Moving.{situation};
 ghost use Rattle.nr_input.specs.Rows.{fronts_in};
@@ -43,6 +43,14 @@ impl<'a> Row<'a> {
             Row::Elements(elements) => Row::Elements(&elements[n..]),
         }
     }
+}
+
+// Whether a text has the name.
+#[inline(always)]
+fn is_text(meaning: Meaning) -> bool
+    ensures { result ≡ is_text meaning }
+{
+    matches!(meaning, Meaning::Text)
 }
 
 // The items of a row are met; of those of a control line its name alone.
@@ -82,7 +90,7 @@ fn meet_named<K: Copy>(reader: &mut Reader, store: &Store<K>, row: Row, from: us
 {
     let meaning = reader.meaning(store);
     let told = reader.take_meaning(meaning);
-    let calls = matches!(meaning, Meaning::Text);
+    let calls = is_text(meaning);
     if calls || !matches!(told, Event::Nothing) {
         let run = Run {
             taken: 0,

@@ -5,8 +5,8 @@ use Rattle.nr_reading.specs.declared.event.Event.TheVariants as events
 use Rattle.nr_input.specs.Moving.{situation}
 use Rattle.nr_input.specs.Runs.{HasRead, PaysMany}
 use Rattle.nr_input.proofs.LevelParts.{read_on, many_then}
-use Rattle.nr_input.proofs.levels.read_levels.Goals.{in-Nothing, in_default}
-use Rattle.nr_input.proofs.levels.read_levels.Goals as goal
+use Rattle.nr_input.proofs.levels.read_lines.Goals.{in-Nothing, in_default}
+use Rattle.nr_input.proofs.levels.read_lines.Goals as goal
 
 pub returns-then-part-eq0-clause-read : goal.returns-then-part-eq0-clause-read
 returns-then-part-eq0-clause-read g c = λ k p supply holds.
