@@ -1,7 +1,7 @@
 -- Rows of the newest level, in which the names of control lines are looked up, as moves of the machine that reads.
 use Rattle.std.specs.Prelude.{map}
-use Rattle.std.proofs.Common.{◌≡◌, ℕ, zero, suc, ◌+◌, ◌≤◌, Bool, true, false, List, [], ◌∷◌, length, drop, Option, Ok, refl, ap, ap₂, sym, ◌∙◌, subst, length-drop, arith}
-use Rattle.std.proofs.lemmas.List.{length-map, drop-map}
+use Rattle.std.proofs.Common.{◌≡◌, ℕ, zero, suc, ◌+◌, ◌≤◌, Bool, true, false, List, [], ◌∷◌, length, drop, Option, Result, Ok, refl, ap, ap₂, sym, ◌∙◌, subst, length-drop, arith}
+use Rattle.std.proofs.lemmas.List.{length-map, drop-map, drop_all}
 use Rattle.nr_units.specs.Supply.{Supply}
 use Rattle.nr_store.specs.Stored.{Stored, Level, Read, Mark, left}
 use Rattle.nr_store.specs.Windows.{rest_of, left_times, levels_behind}
@@ -16,6 +16,7 @@ use Rattle.nr_reading.specs.declared.mode.Due.TheVariants as dues
 use Rattle.nr_reading.specs.Runs.{Spot, HasMet}
 use Rattle.nr_reading.specs.Seeking.{sought_event}
 use Rattle.nr_input.specs.declared.reader.Reader.{Reader}
+use Rattle.nr_input.specs.declared.refusal.Refusal.{Refusal}
 use Rattle.nr_input.specs.Acting.{behind_meaning, calls_of, meaning_in}
 use Rattle.nr_input.specs.Coming.{Coming, Reached, HoldsComing, element_front}
 use Rattle.nr_input.specs.LevelRows.{behind_name, begun_by, is_text}
@@ -32,16 +33,12 @@ use Rattle.nr_input.proofs.RowsRead.{level_read, level_pays}
 
 -- and then behind more of them
 pub left_times-add : {K : Type 0} (t k : ℕ) (v : Stored K) → left_times k (left_times t v) ≡ left_times (t + k) v
-left_times-add zero k v = refl
-left_times-add (suc t) k v = left_times-add t k (left v.levels v)
-
-drop-none : {X : Type 0} (n : ℕ) → [] ≡ drop n (the (List X) [])
-drop-none zero = refl
-drop-none (suc n) = refl
+left_times-add zero k v = let same : k ≡ 0 + k = omega arith in ap (λ n. left_times n v) same
+left_times-add (suc t) k v = let same : suc (t + k) ≡ suc t + k = omega arith in left_times-add t k (left v.levels v) ∙ ap (λ n. left_times n v) same
 
 rest_behind : {K : Type 0} (n : ℕ) (levels : List (Level K)) → rest_of (levels_behind n levels) ≡ drop n (rest_of levels)
-rest_behind n [] = drop-none n
-rest_behind n (Mark mode ∷ ls) = drop-none n
+rest_behind n [] = sym (drop_all n [] (omega arith))
+rest_behind n (Mark mode ∷ ls) = sym (drop_all n [] (omega arith))
 rest_behind n (Read l ∷ ls) = refl
 
 pub rest-left_times : {K : Type 0} (n : ℕ) (v : Stored K) → n ≤ length (rest_of v.levels) → rest_of (left_times n v).levels ≡ drop n (rest_of v.levels)
@@ -63,7 +60,7 @@ begun-limits true v r = refl
 begun-limits false v r = refl
 
 sought_so : {K : Type 0} (m n : Meaning) (v : Stored K) (r s : Reader) (e : Event) → n ≡ m → s ≡ behind_name m r → e ≡ sought_event (calls_of m)
-    → called (behind_meaning m v) s (Ok e) ≡ called (behind_meaning n v) (behind_name n r) (Ok (sought_event (calls_of n)))
+    → called {A = Result Event Refusal} (behind_meaning m v) s (Ok e) ≡ called {A = Result Event Refusal} (behind_meaning n v) (behind_name n r) (Ok (sought_event (calls_of n)))
 sought_so m n v r s e same reader told = rw (same, reader, told) refl
 
 module _ {K : Type 0} (t : ℕ) (v : Stored K) (m : Meaning) (r s : Reader) (e : Event) (few : t ≤ length (rest_of v.levels)) (due : r.half.reading.due ≡ dues.Seek) (means : m ≡ meaning_in v r)

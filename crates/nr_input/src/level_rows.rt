@@ -36,7 +36,7 @@ impl<'a> Row<'a> {
     #[inline(always)]
     fn behind(self, n: usize) -> Row<'a>
         requires { n ≤ length (fronts_in self) }
-        ensures { fronts_in result ≡ drop n (fronts_in self) }
+        ensures { fronts_in result ≡ drop n (fronts_in self.entry) }
     {
         match self {
             Row::Bytes(bytes) => Row::Bytes(&bytes[n..]),
