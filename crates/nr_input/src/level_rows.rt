@@ -86,6 +86,7 @@ fn meet_named<K: Copy>(reader: &mut Reader, store: &Store<K>, row: Row, from: us
     ensures few { result.run.moves ≤ 65537 }
     ensures some { 0 < result.run.moves }
     ensures within { from + result.run.taken ≤ length (rest_of store.now.levels) }
+    ensures short { result.run.taken ≤ result.run.moves }
     ensures limits { limits_of store.now reader.new ≡ limits_of store.now reader.old }
 {
     let meaning = reader.meaning(store);
@@ -117,6 +118,7 @@ fn meet_rows<K: Copy>(reader: &mut Reader, store: &Store<K>, row: Row) -> Met
     ensures pays { (p : Reached) → PaysAll result.run.moves store.now p reader.old result.run.event (begun_by result.calls (left_times result.run.taken store.now)) p reader.new }
     ensures few { result.run.moves ≤ 65536 + 65537 * 4 }
     ensures within { result.run.taken ≤ length (rest_of store.now.levels) }
+    ensures short { result.run.taken ≤ result.run.moves }
     ensures limits { limits_of store.now reader.new ≡ limits_of store.now reader.old }
     ensures some { (b : ℕ) → slice_get (rest_of store.now.levels) 0 ≡ Some (elements.Byte b) → reader.old.half.reading.due ≡ dues.Look → 0 < result.run.moves }
     ensures stops { result.run.moves ≡ 0 → StopsInLevel 0 result.run.event (begun_by result.calls (left_times result.run.taken store.now)) reader.new }
@@ -146,6 +148,19 @@ fn meet_rows<K: Copy>(reader: &mut Reader, store: &Store<K>, row: Row) -> Met
     met
 }
 
+// What was met of the newest level's row is taken.
+#[inline(always)]
+fn leave_row<K: Copy>(met: Met, store: &mut Store<K>)
+    requires within { met.run.taken ≤ length (rest_of store.old.levels) }
+    requires few { met.run.taken ≤ 327684 }
+    ensures { store.new ≡ begun_by met.calls (left_times met.run.taken store.old) }
+{
+    store.skip(met.run.taken as u32);
+    if met.calls {
+        store.begin_arguments();
+    }
+}
+
 /// The items in front of the newest level are read, and the names of control lines are looked up. None where it has none in front.
 #[inline(always)]
 pub(crate) fn read_rows<K: Copy>(reader: &mut Reader, store: &mut Store<K>) -> Option<Run>
@@ -164,9 +179,6 @@ pub(crate) fn read_rows<K: Copy>(reader: &mut Reader, store: &mut Store<K>) -> O
         return None;
     }
     let met = meet_rows(reader, store, row);
-    store.skip(met.run.taken as u32);
-    if met.calls {
-        store.begin_arguments();
-    }
+    leave_row(met, store);
     Some(met.run)
 }

@@ -89,6 +89,27 @@ fn end_level<K: Copy>(store: &mut Store<K>) -> bool
     store.take_end()
 }
 
+// The same, as many moves.
+#[inline(always)]
+fn read_end<K: Copy>(store: &mut Store<K>) -> Moved
+    ensures read { (c : Coming) (p : Reached) (r : ReaderValue) (supply : Option Supply) → r.half.reading.due ≡ dues.Look → HoldsComing c p supply → HasRead result.moves (situation store.old c r) result.event store.new r p supply }
+    ensures pays { (p : Reached) (r : ReaderValue) → r.half.reading.due ≡ dues.Look → PaysMany result.moves store.old p r result.event store.new p r }
+    ensures few { result.moves ≤ 1 }
+    ensures limits { (r : ReaderValue) → limits_of store.new r ≡ limits_of store.old r }
+    ensures left { result.moves ≡ 0 → store.new ≡ store.old }
+{
+    if end_level(store) {
+        return Moved {
+            moves: 1,
+            event: Event::Nothing,
+        };
+    }
+    Moved {
+        moves: 0,
+        event: Event::Nothing,
+    }
+}
+
 // The bytes in front of the newest level that stand for themselves are added, where they are read for an argument of a macro or for a
 // text that is defined. Answers how many.
 #[inline(always)]
@@ -167,15 +188,12 @@ fn read_row<K: Copy>(reader: &mut Reader, store: &mut Store<K>) -> Moved
     ensures some { (b : ℕ) → slice_get (rest_of store.old.levels) 0 ≡ Some (elements.Byte b) → reader.old.half.reading.due ≡ dues.Look → 0 < result.moves }
     ensures stops { result.moves ≡ 0 → StopsInLevel 0 result.event store.new reader.new }
 {
-    match read_rows(reader, store) {
-        Some(run) => Moved {
-            moves: run.moves,
-            event: run.event,
-        },
-        None => Moved {
-            moves: usize::from(end_level(store)),
-            event: Event::Nothing,
-        },
+    let Some(run) = read_rows(reader, store) else {
+        return read_end(store);
+    };
+    Moved {
+        moves: run.moves,
+        event: run.event,
     }
 }
 

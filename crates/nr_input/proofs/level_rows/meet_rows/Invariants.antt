@@ -17,6 +17,7 @@ invariant-loop g l = record {
   pays : (p : Reached) → PaysAll l.met.run.moves l.fn.store p l.fn.reader l.met.run.event (begun_by l.met.calls (left_times l.met.run.taken l.fn.store)) p l.reader;
   few : l.met.run.moves ≤ 65536 + 65537 * l.counter;
   within : l.met.run.taken ≤ length (rest_of l.fn.store.levels);
+  short : l.met.run.taken ≤ l.met.run.moves;
   limits : limits_of l.fn.store l.reader ≡ limits_of l.fn.store l.fn.reader;
   some : (b : ℕ) → slice_get (rest_of l.fn.store.levels) 0 ≡ Some (elements.Byte b) → l.fn.reader.half.reading.due ≡ dues.Look → 0 < l.met.run.moves;
   stops : l.met.run.moves ≡ 0 → StopsInLevel 0 l.met.run.event (begun_by l.met.calls (left_times l.met.run.taken l.fn.store)) l.reader;
