@@ -188,12 +188,12 @@ fn read_row<K: Copy>(reader: &mut Reader, store: &mut Store<K>) -> Moved
     ensures some { (b : ℕ) → slice_get (rest_of store.old.levels) 0 ≡ Some (elements.Byte b) → reader.old.half.reading.due ≡ dues.Look → 0 < result.moves }
     ensures stops { result.moves ≡ 0 → StopsInLevel 0 result.event store.new reader.new }
 {
-    let Some(run) = read_rows(reader, store) else {
+    let Some(front) = read_rows(reader, store) else {
         return read_end(store);
     };
     Moved {
-        moves: run.moves,
-        event: run.event,
+        moves: front.moves,
+        event: front.event,
     }
 }
 

@@ -40,5 +40,5 @@ returns-in_default-clause-stops g c = λ none less quiet due b first.
 
 pub returns-clause-pays : goal.returns-clause-pays
 returns-clause-pays g c = λ p.
-    let run = c.in-Some.run in
-    many_of_all run.moves c.args.store.now c.read_rows.new.store p p c.args.reader.now c.read_rows.new.reader run.event (c.in-Some.ensures.pays p)
+    let front = c.in-Some.front in
+    many_of_all front.moves c.args.store.now c.read_rows.new.store p p c.args.reader.now c.read_rows.new.reader front.event (c.in-Some.ensures.pays p)
