@@ -1,12 +1,11 @@
 -- Rows of the newest level, in which the names of control lines are looked up, as moves of the machine that reads.
 use Rattle.std.specs.Prelude.{map}
-use Rattle.std.proofs.Common.{◌≡◌, ℕ, zero, suc, ◌+◌, ◌≤◌, Bool, true, false, List, [], ◌∷◌, length, drop, Option, Result, Ok, refl, ap, ap₂, sym, ◌∙◌, subst, length-drop, arith}
+use Rattle.std.proofs.Common.{◌≡◌, ℕ, zero, suc, ◌+◌, ◌≤◌, Bool, true, false, List, [], ◌∷◌, length, drop, Option, Result, Ok, refl, ap, sym, ◌∙◌, subst, length-drop, arith}
 use Rattle.std.proofs.lemmas.List.{length-map, drop-map, drop_all}
 use Rattle.nr_units.specs.Supply.{Supply}
 use Rattle.nr_store.specs.Stored.{Stored, Level, Read, Mark, left}
 use Rattle.nr_store.specs.Windows.{rest_of, left_times, levels_behind}
 use Rattle.nr_store.specs.Laws.{left_times-run}
-use Rattle.nr_store.specs.declared.element.Element.{Element}
 use Rattle.nr_store.specs.declared.named.Meaning.{Meaning}
 use Rattle.nr_store.specs.declared.named.Meaning.TheVariants as meanings
 use Rattle.nr_reading.specs.declared.event.Event.{Event}
@@ -26,7 +25,6 @@ use Rattle.nr_input.specs.Refusals.{called, acted}
 use Rattle.nr_input.specs.Runs.{HasRead, PaysAll}
 use Rattle.nr_input.proofs.ControlLines.{done_read, pays_then, seek_pays, seeks, waits}
 use Rattle.nr_input.proofs.Interpolated.{read_then}
-use Rattle.nr_input.proofs.LimitsStay.{left_times-limits}
 use Rattle.nr_input.proofs.RowsRead.{level_read, level_pays}
 
 -- ---- the newest level behind some of its items

@@ -1,4 +1,4 @@
-use Rattle.std.proofs.Common.{◌≡◌, map, subst, ap, ◌∙◌}
+use Rattle.std.proofs.Common.{map, subst, ap, ◌∙◌}
 use Rattle.nr_store.specs.Stored.{Stored}
 use Rattle.nr_store.specs.Windows.{rest_of}
 use Rattle.nr_reading.specs.Passing.{quiet}
