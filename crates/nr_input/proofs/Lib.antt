@@ -12,6 +12,7 @@ pub mod Interpolated
 pub mod Items
 pub mod LevelLines
 pub mod LevelParts
+pub mod LevelRows
 pub mod LimitsStay
 pub mod Longest
 pub mod MacroBytes

@@ -6,6 +6,7 @@ pub mod CommentLines
 pub mod DroppedLines
 pub mod Hearing
 pub mod Interpolations
+pub mod LevelRows
 pub mod Laws
 pub mod Levels
 pub mod Limits

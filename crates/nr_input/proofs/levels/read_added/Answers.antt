@@ -8,15 +8,10 @@ use Rattle.nr_input.specs.Runs.{PaysMany}
 use Rattle.nr_input.proofs.ControlLines.{pays_then}
 use Rattle.nr_input.proofs.Interpolated.{read_then}
 use Rattle.nr_input.proofs.LevelParts.{many_of_all}
-use Rattle.nr_input.proofs.levels.read_front.Goals as goal
+use Rattle.nr_input.proofs.levels.read_added.Goals as goal
 
-pub returns-in-Start-clause-pays : goal.returns-in-Start-clause-pays
-returns-in-Start-clause-pays g c = λ p.
-    let run = c.read_level_line.result in
-    many_of_all run.moves c.args.store.now c.read_level_line.new.store p p c.args.reader.now c.read_level_line.new.reader run.event (c.read_level_line.ensures.pays p)
-
-pub returns-in_default : goal.returns-in_default
-returns-in_default g c =
+pub returns : goal.returns
+returns g c =
     let v = c.args.store.now in
     let r = c.args.reader.now in
     let added = c.add_front-added.result in
