@@ -11,13 +11,12 @@ ghost use Rattle.nr_input.specs.Coming.{Coming, Reached, HoldsComing, element_fr
 ghost use Rattle.nr_input.specs.LevelRows.{begun_by, is_text};
 ghost use Rattle.nr_input.specs.Limits.{limits_of};
 ghost use Rattle.nr_input.specs.Moving.{situation};
-ghost use Rattle.nr_input.specs.Rows.{fronts_in};
 ghost use Rattle.nr_input.specs.Runs.{HasRead, PaysAll, StopsInLevel};
 
 use super::reader::Reader;
-use super::runs::Row;
+use super::runs::{ByteRow, ElementRow};
 use nr_reading::{Due, Event, Half, Items, Run};
-use nr_store::{Meaning, Store};
+use nr_store::{Meaning, Rest, Store};
 
 /// The most names that are looked up in one row.
 const MOST_NAMES: u32 = 4;
@@ -31,17 +30,25 @@ struct Met {
     calls: bool,
 }
 
-impl<'a> Row<'a> {
-    // What is behind so many items.
+/// Items in a row, of which those in front can be left out.
+trait Tail: Items + Copy {
+    /// What is behind so many items.
+    fn behind(self, n: usize) -> Self
+        requires { n ≤ length (Self.fronts self) }
+        ensures { Self.fronts result ≡ drop n (Self.fronts self) };
+}
+
+impl<'a> Tail for ByteRow<'a> {
     #[inline(always)]
-    fn behind(self, n: usize) -> Row<'a>
-        requires { n ≤ length (fronts_in self) }
-        ensures { fronts_in result ≡ drop n (fronts_in self.entry) }
-    {
-        match self {
-            Row::Bytes(bytes) => Row::Bytes(&bytes[n..]),
-            Row::Elements(elements) => Row::Elements(&elements[n..]),
-        }
+    fn behind(self, n: usize) -> Self {
+        ByteRow(&self.0[n..])
+    }
+}
+
+impl<'a> Tail for ElementRow<'a> {
+    #[inline(always)]
+    fn behind(self, n: usize) -> Self {
+        ElementRow(&self.0[n..])
     }
 }
 
@@ -55,11 +62,11 @@ fn is_text(meaning: Meaning) -> bool
 
 // The items of a row are met; of those of a control line its name alone.
 #[inline(always)]
-fn meet_first(half: &mut Half, row: &Row) -> Run
-    ensures met { HasMet result.moves (fronts_in row.now) half.old (spot result half.new) }
+fn meet_first<I: Items>(half: &mut Half, row: &I) -> Run
+    ensures met { HasMet result.moves (I.fronts row.now) half.old (spot result half.new) }
     ensures few { result.moves ≤ 65536 }
     ensures longest { result.event ≡ events.Nothing → half.new.reading.due ≡ dues.Look → result.moves < 65536
-        → (byte : ℕ) → slice_get (fronts_in row.now) result.taken ≡ Some (variants.Byte byte) → ⊥ }
+        → (byte : ℕ) → slice_get (I.fronts row.now) result.taken ≡ Some (variants.Byte byte) → ⊥ }
 {
     if !matches!(half.reading.due, Due::Look) {
         return half.meet_run(row);
@@ -76,8 +83,13 @@ fn meet_first(half: &mut Half, row: &Row) -> Run
 
 // The name that was read is looked up, and the items that are behind it in a row are met.
 #[inline(always)]
-fn meet_named<K: Copy>(reader: &mut Reader, store: &Store<K>, row: Row, from: usize) -> Met
-    requires row { fronts_in row ≡ map element_front (rest_of store.now.levels) }
+fn meet_named<K: Copy, I: Tail>(
+    reader: &mut Reader,
+    store: &Store<K>,
+    row: I,
+    from: usize,
+) -> Met
+    requires row { I.fronts row ≡ map element_front (rest_of store.now.levels) }
     requires within { from ≤ length (rest_of store.now.levels) }
     requires due { reader.old.half.reading.due ≡ dues.Seek }
     ensures read { (c : Coming) (p : Reached) (supply : Option Supply) → HoldsComing c p supply →
@@ -111,8 +123,8 @@ fn meet_named<K: Copy>(reader: &mut Reader, store: &Store<K>, row: Row, from: us
 
 // The items of a row are met, and the names of control lines that are read there are looked up.
 #[inline(always)]
-fn meet_rows<K: Copy>(reader: &mut Reader, store: &Store<K>, row: Row) -> Met
-    requires row { fronts_in row ≡ map element_front (rest_of store.now.levels) }
+fn meet_rows<K: Copy, I: Tail>(reader: &mut Reader, store: &Store<K>, row: I) -> Met
+    requires row { I.fronts row ≡ map element_front (rest_of store.now.levels) }
     ensures read { (c : Coming) (p : Reached) (supply : Option Supply) → HoldsComing c p supply →
         HasRead result.run.moves (situation store.now c reader.old) result.run.event (begun_by result.calls (left_times result.run.taken store.now)) reader.new p supply }
     ensures pays { (p : Reached) → PaysAll result.run.moves store.now p reader.old result.run.event (begun_by result.calls (left_times result.run.taken store.now)) p reader.new }
@@ -148,6 +160,38 @@ fn meet_rows<K: Copy>(reader: &mut Reader, store: &Store<K>, row: Row) -> Met
     met
 }
 
+// The items in front of the newest level are met, and the names of control lines that are read there are looked up. None where it has
+// none in front.
+#[inline(always)]
+fn meet_front<K: Copy>(reader: &mut Reader, store: &Store<K>) -> Option<Met>
+    ensures read { IfSome result (λ met. (c : Coming) (p : Reached) (supply : Option Supply) → HoldsComing c p supply →
+        HasRead met.run.moves (situation store.now c reader.old) met.run.event (begun_by met.calls (left_times met.run.taken store.now)) reader.new p supply) }
+    ensures pays { IfSome result (λ met. (p : Reached) → PaysAll met.run.moves store.now p reader.old met.run.event (begun_by met.calls (left_times met.run.taken store.now)) p reader.new) }
+    ensures few { IfSome result (λ met. met.run.moves ≤ 65536 + 65537 * 4) }
+    ensures within { IfSome result (λ met. met.run.taken ≤ length (rest_of store.now.levels)) }
+    ensures short { IfSome result (λ met. met.run.taken ≤ met.run.moves) }
+    ensures limits { IfSome result (λ met. limits_of store.now reader.new ≡ limits_of store.now reader.old) }
+    ensures some { IfSome result (λ met. (b : ℕ) → slice_get (rest_of store.now.levels) 0 ≡ Some (elements.Byte b) → reader.old.half.reading.due ≡ dues.Look → 0 < met.run.moves) }
+    ensures stops { IfSome result (λ met. met.run.moves ≡ 0 → StopsInLevel 0 met.run.event (begun_by met.calls (left_times met.run.taken store.now)) reader.new) }
+    ensures none { result ≡ None → (b : ℕ) → slice_get (rest_of store.now.levels) 0 ≡ Some (elements.Byte b) → ⊥ }
+    ensures reader { result ≡ None → reader.new ≡ reader.old }
+{
+    match store.rest() {
+        Rest::Text(elements) => {
+            if elements.is_empty() {
+                return None;
+            }
+            Some(meet_rows(reader, store, ElementRow(elements)))
+        }
+        Rest::Bytes(bytes) => {
+            if bytes.is_empty() {
+                return None;
+            }
+            Some(meet_rows(reader, store, ByteRow(bytes)))
+        }
+    }
+}
+
 // What was met of the newest level's row is taken.
 #[inline(always)]
 fn leave_row<K: Copy>(met: Met, store: &mut Store<K>)
@@ -174,11 +218,9 @@ pub(crate) fn read_rows<K: Copy>(reader: &mut Reader, store: &mut Store<K>) -> O
     ensures reader { result ≡ None → reader.new ≡ reader.old }
     ensures store { result ≡ None → store.new ≡ store.old }
 {
-    let row = Row::of(store.rest());
-    if row.count() == 0 {
+    let Some(met) = meet_front(reader, store) else {
         return None;
-    }
-    let met = meet_rows(reader, store, row);
+    };
     leave_row(met, store);
     Some(met.run)
 }
