@@ -41,7 +41,7 @@ impl Engine {
     /// Items that lie in a row are read, up to the first that tells something or behind which something is due. Tells how many
     /// moves that was.
     #[inline(always)]
-    pub(crate) fn read_run<R: Source>(&mut self, input: &mut R) -> u128
+    fn read_run<R: Source>(&mut self, input: &mut R) -> u128
         ensures reads { MakesReading result (shape self.old) (shape self.new) (R.supply input.old) (R.supply input.new) (R.failures input.old) (R.failures input.new) }
         ensures few { result ≤ 65542 }
     {
@@ -107,7 +107,7 @@ impl Engine {
     /// The lines of a definition and the rest of a line that does nothing are read, as far as the source has them at hand. Tells how
     /// many moves that was.
     #[inline(always)]
-    pub(crate) fn read_quiet_lines<R: Source>(&mut self, input: &mut R) -> u128
+    fn read_quiet_lines<R: Source>(&mut self, input: &mut R) -> u128
         ensures reads { MakesReading result (shape self.old) (shape self.new) (R.supply input.old) (R.supply input.new) (R.failures input.old) (R.failures input.new) }
         ensures few { result ≤ 32000 }
     {
@@ -116,6 +116,17 @@ impl Engine {
             Mode::Drop => self.read_dropped_line(input),
             _ => 0,
         }
+    }
+
+    /// As `read_run`, but first the lines are read that do little. Tells how many moves that was.
+    #[inline(always)]
+    pub(crate) fn read_source<R: Source>(&mut self, input: &mut R) -> u128
+        ensures reads { MakesReading result (shape self.old) (shape self.new) (R.supply input.old) (R.supply input.new) (R.failures input.old) (R.failures input.new) }
+        ensures few { result ≤ 97542 }
+    {
+        let lines = self.read_quiet_lines(input);
+        let run = self.read_run(input);
+        lines + run
     }
 
     /// What levels bring is read, up to what tells something and to text, if the input is read next. Tells how many moves that was.
