@@ -1,48 +1,51 @@
 .\" tmac.s: papers (nroff -ms)
-.\"
-.\" First page  .TL title   .AU authors   .AI institution   .AB .AE abstract
-.\" Headings    .NH level numbered   .SH plain     (texts on the lines below)
-.\" Paragraphs  .PP first line indented   .LP not   .QP quotation
-.\" Lists       .IP tag width   .XP hanging   .RS .RE margin to the right, back
-.\" Fonts       .B .I word behind before   .R     (without a word: from here on)
-.\" Displays    .DS kind .DE   lines as they are: L at the margin, I indented, C
-.\"             centred
-.\" Tables      .TS .TE around what tbl(1) makes of them; if it was not asked, their
-.\"             lines stand as they are
-.\" Keeps       .KS .KE   text that stays on one page, if it fits on one
-.\" Footnotes   \** a number in the text, then .FS mark .FE around the note, which
-.\"             is read in copy mode first
-.\" Titles      .DA date   strings LH CH RH from the second page on, LF CF RF
-.\" Strings     \*Q \*U quotes   \*- a dash
-.\" Registers   LL line length, FL that of footnotes, PI indent of paragraphs,
-.\"             QI of quotations, PD distance of paragraphs, in u
-.\" Options     -rLN lines of N cells (65)
-.\"
-.\" A width without a scale letter counts cells.
-.\"
-.\" Private registers
-.\"   )I margin of the text   )l its line length   )L depth of .RS   >1 .. >9
-.\"   margin before it        )W width of tags     )w width of a tag
-.\"   )H level of a heading   H1 .. H5 numbers of headings
-.\"   )F last footnote number in the text, )G in a note   )h height of a note
-.\"   )r notes whose text waits to be set          )R room kept for them
-.\"   )b height of the notes of this page, )B of those for the next
-.\"   )w 1 for a note that goes to the next page
-.\"   )p height of a line kept aside   )u fill mode    )i, )j, )e an indent
-.\"   )C 1 while lines are centred     )K 1 in a keep   )k height of a keep
-.\"   )g 1 while text is in italics    )d place behind a display or a table
-.\"   )T fill mode before a table
-.\" Private names
-.\"   )N number of a heading  )M mark of a note    )r text of notes to be set
-.\"   )n notes of this page, )o of the next, )X newest notes, set
-.\"   )q a line kept aside    )k a keep          )y text of notes being set
+.if t \{ "t" never holds: so these lines, and those that begin with .if t, are comments
+that cost a tenth of what others do.
+
+First page  .TL title   .AU authors   .AI institution   .AB .AE abstract
+Headings    .NH level numbered   .SH plain     (texts on the lines below)
+Paragraphs  .PP first line indented   .LP not   .QP quotation
+Lists       .IP tag width   .XP hanging   .RS .RE margin to the right, back
+Fonts       .B .I word behind before   .R     (without a word: from here on)
+Displays    .DS kind .DE   lines as they are: L at the margin, I indented, C
+            centred
+Tables      .TS .TE around what tbl(1) makes of them; if it was not asked, their
+            lines stand as they are
+Keeps       .KS .KE   text that stays on one page, if it fits on one
+Footnotes   \** a number in the text, then .FS mark .FE around the note, which
+            is read in copy mode first
+Titles      .DA date   strings LH CH RH from the second page on, LF CF RF
+Strings     \*Q \*U quotes   \*- a dash
+Registers   LL line length, FL that of footnotes, PI indent of paragraphs,
+            QI of quotations, PD distance of paragraphs, in u
+Options     -rLN lines of N cells (65)
+
+A width without a scale letter counts cells.
+
+Private registers
+  )I margin of the text   )l its line length   )L depth of .RS   >1 .. >9
+  margin before it        )W width of tags     )w width of a tag
+  )H level of a heading   H1 .. H5 numbers of headings
+  )F last footnote number in the text, )G in a note   )h height of a note
+  )r notes whose text waits to be set          )R room kept for them
+  )b height of the notes of this page, )B of those for the next
+  )w 1 for a note that goes to the next page
+  )p height of a line kept aside   )u fill mode    )i, )j, )e an indent
+  )C 1 while lines are centred     )K 1 in a keep   )k height of a keep
+  )g 1 while text is in italics    )d place behind a display or a table
+  )T fill mode before a table
+Private names
+  )N number of a heading  )M mark of a note    )r text of notes to be set
+  )n notes of this page, )o of the next, )X newest notes, set
+  )q a line kept aside    )k a keep          )y text of notes being set
+.\}
 .ds Q "\(dq
 .ds U "\(dq
 .ds - --
 .ds * [\\n+()F]
 .ds CF \\n%
 .nr )F 0 1
-.\" header
+.if t header
 .de )h
 .rs
 'sp 2
@@ -53,21 +56,21 @@
 .ns
 .if \\n()B .)m
 ..
-.\" notes that waited for this page
+.if t notes that waited for this page
 .de )m
 .rn )o )n
 .nr )b \\n()B
 .nr )B 0
 .)v
 ..
-.\" place of the footer, above the notes
+.if t place of the footer, above the notes
 .de )v
 .nr )w \\n()b+\\n()R
 .ie \\n()w .ch )f -\\n()wu-6v
 .el .ch )f -5v
 .if \\n()w>(\\n(.p-20v) .ch )f 12v
 ..
-.\" footer, with the notes above it; its trap is out of the way meanwhile
+.if t footer, with the notes above it; its trap is out of the way meanwhile
 .de )f
 .rs
 .ch )f
@@ -83,7 +86,7 @@
 .wh -5v )f
 .)l
 ..
-.\" notes below a rule
+.if t notes below a rule
 .de )g
 .nr )j \\n(.i
 'in 0
@@ -93,7 +96,7 @@
 .rm )n
 'in \\n()ju
 ..
-.\" the line under way is kept aside; it comes back as one word
+.if t the line under way is kept aside; it comes back as one word
 .de )s
 .di )q
 .br
@@ -107,7 +110,7 @@
 \&\\*()q\|
 .\}
 ..
-.\" end: an open keep is closed, notes for the next page get one
+.if t end: an open keep is closed, notes for the next page get one
 .de )e
 .if \\n()K .KE
 .br
@@ -118,11 +121,11 @@
 .bp
 .\}
 ..
-.\" date, at the left of the footer
+.if t date, at the left of the footer
 .de DA
 .ds LF \\$1 \\$2 \\$3 \\$4 \\$5
 ..
-.\" title, authors, institution: centred lines
+.if t title, authors, institution: centred lines
 .de TL
 .)c
 .sp
@@ -137,7 +140,7 @@
 .)c
 .)C
 ..
-.\" lines are centred; lines are plain again
+.if t lines are centred; lines are plain again
 .de )C
 .nr )C 1
 .ce 10000
@@ -150,7 +153,7 @@
 .fi
 .if \\n()r .if !\\n()K .)t
 ..
-.\" abstract
+.if t abstract
 .de AB
 .)p
 .ce
@@ -167,7 +170,7 @@
 .sp
 .ns
 ..
-.\" before a paragraph
+.if t before a paragraph
 .de )p
 .)c
 .ll \\n()lu
@@ -175,7 +178,7 @@
 .sp \\n(PDu
 .ne 2v
 ..
-.\" paragraphs
+.if t paragraphs
 .de PP
 .)p
 .ti +\\n(PIu
@@ -195,7 +198,7 @@
 .in +\\n(PIu
 .ti -\\n(PIu
 ..
-.\" paragraph with a tag, whose blanks stay as they are
+.if t paragraph with a tag, whose blanks stay as they are
 .de IP
 .)p
 .if \\n(.$>1 .nr )W 0\\$2n
@@ -214,7 +217,7 @@
 .\}
 .\}
 ..
-.\" margin to the right, and back
+.if t margin to the right, and back
 .de RS
 .if \\n()L<9 .nr )L +1
 .nr >\\n()L \\n()I
@@ -228,7 +231,7 @@
 .\}
 .in \\n()Iu
 ..
-.\" heading
+.if t heading
 .de SH
 .)p
 .ne 4v
@@ -253,7 +256,7 @@
 \&\\*()N\0\c
 .I
 ..
-.\" fonts
+.if t fonts
 .de B
 .ie \\n(.$ \&\\$3\fB\\$1\fR\\$2
 .el \{\
@@ -272,7 +275,7 @@
 .ft R
 .nr )g 0
 ..
-.\" display
+.if t display
 .de DS
 .)p
 .nf
@@ -286,7 +289,7 @@
 .ns
 .nr )d \\n(.d
 ..
-.\" table
+.if t table
 .de TS
 .nr )T \\n(.u
 .br
@@ -300,8 +303,8 @@
 .ns
 .nr )d \\n(.d
 ..
-.\" keep: set apart, then placed where it fits, with its notes; the register *+
-.\" tells how much less room the tables in it take than their parts together
+.if t keep: set apart, then placed where it fits, with its notes; the register *+
+.if t tells how much less room the tables in it take than their parts together
 .de KS
 .br
 .if \\n()r .if !\\n()K .)t
@@ -329,8 +332,8 @@
 .if \\n()k=\\n()d .ns
 .\}
 ..
-.\" footnote: its text is set at the next break, or at the page's bottom if that
-.\" comes first; three lines are kept for it till then
+.if t footnote: its text is set at the next break, or at the page's bottom if that
+.if t comes first; three lines are kept for it till then
 .de FS
 .ds )M "\\$1
 .if !\\n(.$ .if \\n()F>\\n()G .ds )M [\\n()F]
@@ -345,12 +348,12 @@
 .)v
 .\}
 ..
-.\" the beginning of each note
+.if t the beginning of each note
 .de )x
 .br
 .if !'\\$1'' \&\\$1\ \c
 ..
-.\" sets the notes that wait to be set; no line is under way
+.if t sets the notes that wait to be set; no line is under way
 .de )S
 .nr )u \\n(.u
 .nr )i \\n(.i
@@ -374,21 +377,21 @@
 .if !\\n()u 'nf
 .if \\n()C 'ce 10000
 ..
-.\" at a break
+.if t at a break
 .de )t
 .)S
 .nr )R 0
 .)v
 .)a
 ..
-.\" at the bottom, where there may be room for them
+.if t at the bottom, where there may be room for them
 .de )u
 .)S
 .nr )w \\n()B
 .if \\n(.p-\\n(nl-5v<(\\n()b+\\n()h+1v) .nr )w 1
 .)z
 ..
-.\" for this page, if they have room and none waits, else for the next
+.if t for this page, if they have room and none waits, else for the next
 .de )a
 .nr )w \\n()B
 .if \\n(.t<(\\n()b=0*1v+\\n()h+1v) .nr )w 1
@@ -411,7 +414,7 @@
 'in \\n()ju
 .rm )X
 ..
-.\" the beginning
+.if t the beginning
 .if \nL=0 .nr L 65
 .nr LL \nLn
 .nr FL \n(LL
