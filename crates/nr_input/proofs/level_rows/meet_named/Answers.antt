@@ -33,8 +33,8 @@ returns-clause-read g c = λ k p supply holds.
     let q = spot more c.meet_run-more.new.self in
     let silent : e ≡ events.Nothing = elim c.match-matches.branch [ in-Nothing b ↦ b.in-Nothing.is | in_default b ↦ absurd (false≢true (sym b.matches-is ∙ c.if-not-matches.false)) ] in
     let other : is_text m ≡ false = sym c.is_text-calls.ensures ∙ c.if-calls.false in
-    let met : HasMet more.moves (drop t (c.bound.I.Items.fronts c.args.row)) s.half q = subst (λ fs. HasMet more.moves fs s.half q) c.behind.ensures c.meet_run-more.ensures.met in
-    named_read t v m c.args.reader.now s e c.requires.within c.requires.due c.meaning-meaning.ensures c.take_meaning-told.ensures.reader c.take_meaning-told.ensures.told more.moves (c.bound.I.Items.fronts c.args.row) q
+    let met : HasMet more.moves (drop t (g.I.Items.fronts c.args.row)) s.half q = subst (λ fs. HasMet more.moves fs s.half q) c.behind.ensures c.meet_run-more.ensures.met in
+    named_read t v m c.args.reader.now s e c.requires.within c.requires.due c.meaning-meaning.ensures c.take_meaning-told.ensures.reader c.take_meaning-told.ensures.told more.moves (g.I.Items.fronts c.args.row) q
     c.requires.row met silent other k p supply holds
 
 pub returns-clause-pays : goal.returns-clause-pays
@@ -48,8 +48,8 @@ returns-clause-pays g c = λ p.
     let q = spot more c.meet_run-more.new.self in
     let silent : e ≡ events.Nothing = elim c.match-matches.branch [ in-Nothing b ↦ b.in-Nothing.is | in_default b ↦ absurd (false≢true (sym b.matches-is ∙ c.if-not-matches.false)) ] in
     let other : is_text m ≡ false = sym c.is_text-calls.ensures ∙ c.if-calls.false in
-    let met : HasMet more.moves (drop t (c.bound.I.Items.fronts c.args.row)) s.half q = subst (λ fs. HasMet more.moves fs s.half q) c.behind.ensures c.meet_run-more.ensures.met in
-    named_pays t v m c.args.reader.now s e c.requires.within c.requires.due c.meaning-meaning.ensures c.take_meaning-told.ensures.reader c.take_meaning-told.ensures.told more.moves (c.bound.I.Items.fronts c.args.row) q
+    let met : HasMet more.moves (drop t (g.I.Items.fronts c.args.row)) s.half q = subst (λ fs. HasMet more.moves fs s.half q) c.behind.ensures c.meet_run-more.ensures.met in
+    named_pays t v m c.args.reader.now s e c.requires.within c.requires.due c.meaning-meaning.ensures c.take_meaning-told.ensures.reader c.take_meaning-told.ensures.told more.moves (g.I.Items.fronts c.args.row) q
     c.requires.row met silent other p
 
 pub returns-clause-short : goal.returns-clause-short
