@@ -89,25 +89,19 @@ fn end_level<K: Copy>(store: &mut Store<K>) -> bool
     store.take_end()
 }
 
-// The same, as many moves.
+// The same. Answers how many moves that was.
 #[inline(always)]
-fn read_end<K: Copy>(store: &mut Store<K>) -> Moved
-    ensures read { (c : Coming) (p : Reached) (r : ReaderValue) (supply : Option Supply) → r.half.reading.due ≡ dues.Look → HoldsComing c p supply → HasRead result.moves (situation store.old c r) result.event store.new r p supply }
-    ensures pays { (p : Reached) (r : ReaderValue) → r.half.reading.due ≡ dues.Look → PaysMany result.moves store.old p r result.event store.new p r }
-    ensures few { result.moves ≤ 1 }
+fn read_end<K: Copy>(store: &mut Store<K>) -> usize
+    ensures read { (c : Coming) (p : Reached) (r : ReaderValue) (supply : Option Supply) → r.half.reading.due ≡ dues.Look → HoldsComing c p supply → HasRead result (situation store.old c r) events.Nothing store.new r p supply }
+    ensures pays { (p : Reached) (r : ReaderValue) → r.half.reading.due ≡ dues.Look → PaysMany result store.old p r events.Nothing store.new p r }
+    ensures few { result ≤ 1 }
     ensures limits { (r : ReaderValue) → limits_of store.new r ≡ limits_of store.old r }
-    ensures left { result.moves ≡ 0 → store.new ≡ store.old }
+    ensures left { result ≡ 0 → store.new ≡ store.old }
 {
     if end_level(store) {
-        return Moved {
-            moves: 1,
-            event: Event::Nothing,
-        };
+        return 1;
     }
-    Moved {
-        moves: 0,
-        event: Event::Nothing,
-    }
+    0
 }
 
 // The bytes in front of the newest level that stand for themselves are added, where they are read for an argument of a macro or for a
@@ -189,7 +183,10 @@ fn read_row<K: Copy>(reader: &mut Reader, store: &mut Store<K>) -> Moved
     ensures stops { result.moves ≡ 0 → StopsInLevel 0 result.event store.new reader.new }
 {
     let Some(front) = read_rows(reader, store) else {
-        return read_end(store);
+        return Moved {
+            moves: read_end(store),
+            event: Event::Nothing,
+        };
     };
     Moved {
         moves: front.moves,

@@ -2,6 +2,7 @@ use Rattle.std.specs.Prelude.{slice_get}
 use Rattle.std.proofs.Common.{refl, subst, sym, ap, ap₂, ◌∙◌}
 use Rattle.nr_store.specs.Stored.{Stored}
 use Rattle.nr_store.specs.Windows.{rest_of}
+use Rattle.nr_reading.specs.declared.event.Event.TheVariants as events
 use Rattle.nr_input.specs.declared.reader.Reader.{Reader}
 use Rattle.nr_input.specs.Limits.{limits_of}
 use Rattle.nr_input.specs.Moving.{situation}
@@ -15,8 +16,8 @@ returns-in_default-clause-read g c = λ k p supply holds.
     let x = c.read_end.new.store in
     let end = c.read_end.result in
     let due = ap (λ (q : Reader). q.half.reading.due) (c.in_default.ensures.reader refl) ∙ c.requires.due in
-    subst (λ (y : Stored _). HasRead end.moves (situation y k c.args.reader.now) end.event x s p supply) (c.in_default.ensures.store refl)
-    (subst (λ (y : Reader). HasRead end.moves (situation c.read_rows.new.store k y) end.event x s p supply) (c.in_default.ensures.reader refl) (c.read_end.ensures.read k p s supply due holds))
+    subst (λ (y : Stored _). HasRead end (situation y k c.args.reader.now) events.Nothing x s p supply) (c.in_default.ensures.store refl)
+    (subst (λ (y : Reader). HasRead end (situation c.read_rows.new.store k y) events.Nothing x s p supply) (c.in_default.ensures.reader refl) (c.read_end.ensures.read k p s supply due holds))
 
 pub returns-in_default-clause-pays : goal.returns-in_default-clause-pays
 returns-in_default-clause-pays g c = λ p.
@@ -24,8 +25,8 @@ returns-in_default-clause-pays g c = λ p.
     let x = c.read_end.new.store in
     let end = c.read_end.result in
     let due = ap (λ (q : Reader). q.half.reading.due) (c.in_default.ensures.reader refl) ∙ c.requires.due in
-    subst (λ (y : Stored _). PaysMany end.moves y p c.args.reader.now end.event x p s) (c.in_default.ensures.store refl)
-    (subst (λ (y : Reader). PaysMany end.moves c.read_rows.new.store p y end.event x p s) (c.in_default.ensures.reader refl) (c.read_end.ensures.pays p s due))
+    subst (λ (y : Stored _). PaysMany end y p c.args.reader.now events.Nothing x p s) (c.in_default.ensures.store refl)
+    (subst (λ (y : Reader). PaysMany end c.read_rows.new.store p y events.Nothing x p s) (c.in_default.ensures.reader refl) (c.read_end.ensures.pays p s due))
 
 pub returns-in_default-clause-limits : goal.returns-in_default-clause-limits
 returns-in_default-clause-limits g c =
