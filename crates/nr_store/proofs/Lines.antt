@@ -1,5 +1,5 @@
 -- Lemmas on lines that are added to a text.
-use Rattle.std.proofs.Common.{◌≡◌, ℕ, ◌+◌, ◌<◌, ◌≤◌, ◌↔◌, List, [], ◌∷◌, ◌++◌, length, map, get_or, replicate, Result, Ok, Err, refl, ap, sym, ◌∙◌, append_assoc, length-append, arith}
+use Rattle.std.proofs.Common.{◌≡◌, ℕ, ◌+◌, ◌<◌, ◌≤◌, ◌↔◌, List, [], ◌∷◌, ◌++◌, length, map, replicate, Result, Ok, Err, refl, ap, sym, ◌∙◌, append_assoc, length-append, arith}
 use Rattle.std.specs.Result.{IsErr, OnOk}
 use Rattle.std.specs.Option.{option_map}
 use Rattle.std.proofs.lemmas.List.{append-nil, length-map, length-replicate}
@@ -23,11 +23,7 @@ pub ok_of : {E : Type 0} (r : Result (Unit {0}) E) (P : Type 0) → (IsErr r →
 ok_of (Ok u) P not_err was_ok = was_ok
 ok_of (Err e) P not_err was_ok = absurd (not_err refl)
 
-pub only_one : {T : Type 0} (xs : List T) (d : T) → length xs ≡ 1 → xs ≡ get_or xs 0 d ∷ []
-only_one [] d one = absurd (omega (arith, one))
-only_one (x ∷ []) d one = refl
-only_one (x ∷ y ∷ ys) d one = absurd (omega (arith, one))
-
+-- no items are none
 pub no_items : {T : Type 0} (xs : List T) → length xs ≡ 0 → xs ≡ []
 no_items [] none = refl
 no_items (x ∷ xs) none = absurd (omega (arith, none))

@@ -1,6 +1,5 @@
-use Rattle.std.proofs.Common.{List, [], ◌∷◌, map, ap, sym, ◌∙◌, arith, rules}
-use Rattle.nr_store.specs.declared.element.Element.{Element}
-use Rattle.nr_store.proofs.Lines.{with_more, none_more, one_more, only_one, no_items}
+use Rattle.std.proofs.Common.{List, map, ap, sym, ◌∙◌, rules}
+use Rattle.nr_store.proofs.Lines.{with_more, none_more, no_items}
 use Rattle.nr_store.proofs.store.lines.append_all.Goals as goal
 
 pub returns-then-is_empty : goal.returns-then-is_empty
