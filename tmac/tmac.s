@@ -1,51 +1,48 @@
 .\" tmac.s: papers (nroff -ms)
-.if t \{ "t" never holds: so these lines, and those that begin with .if t, are comments
-that cost a tenth of what others do.
-
-First page  .TL title   .AU authors   .AI institution   .AB .AE abstract
-Headings    .NH level numbered   .SH plain     (texts on the lines below)
-Paragraphs  .PP first line indented   .LP not   .QP quotation
-Lists       .IP tag width   .XP hanging   .RS .RE margin to the right, back
-Fonts       .B .I word behind before   .R     (without a word: from here on)
-Displays    .DS kind .DE   lines as they are: L at the margin, I indented, C
-            centred
-Tables      .TS .TE around what tbl(1) makes of them; if it was not asked, their
-            lines stand as they are
-Keeps       .KS .KE   text that stays on one page, if it fits on one
-Footnotes   \** a number in the text, then .FS mark .FE around the note, which
-            is read in copy mode first
-Titles      .DA date   strings LH CH RH from the second page on, LF CF RF
-Strings     \*Q \*U quotes   \*- a dash
-Registers   LL line length, FL that of footnotes, PI indent of paragraphs,
-            QI of quotations, PD distance of paragraphs, in u
-Options     -rLN lines of N cells (65)
-
-A width without a scale letter counts cells.
-
-Private registers
-  )I margin of the text   )l its line length   )L depth of .RS   >1 .. >9
-  margin before it        )W width of tags     )w width of a tag
-  )H level of a heading   H1 .. H5 numbers of headings
-  )F last footnote number in the text, )G in a note   )h height of a note
-  )r notes whose text waits to be set          )R room kept for them
-  )b height of the notes of this page, )B of those for the next
-  )w 1 for a note that goes to the next page
-  )p height of a line kept aside   )u fill mode    )i, )j, )e an indent
-  )C 1 while lines are centred     )K 1 in a keep   )k height of a keep
-  )g 1 while text is in italics    )d place behind a display or a table
-  )T fill mode before a table
-Private names
-  )N number of a heading  )M mark of a note    )r text of notes to be set
-  )n notes of this page, )o of the next, )X newest notes, set
-  )q a line kept aside    )k a keep          )y text of notes being set
-.\}
+.\"
+.\" First page  .TL title   .AU authors   .AI institution   .AB .AE abstract
+.\" Headings    .NH level numbered   .SH plain     (texts on the lines below)
+.\" Paragraphs  .PP first line indented   .LP not   .QP quotation
+.\" Lists       .IP tag width   .XP hanging   .RS .RE margin to the right, back
+.\" Fonts       .B .I word behind before   .R     (without a word: from here on)
+.\" Displays    .DS kind .DE   lines as they are: L at the margin, I indented, C
+.\"             centred
+.\" Tables      .TS .TE around what tbl(1) makes of them; if it was not asked, their
+.\"             lines stand as they are
+.\" Keeps       .KS .KE   text that stays on one page, if it fits on one
+.\" Footnotes   \** a number in the text, then .FS mark .FE around the note, which
+.\"             is read in copy mode first
+.\" Titles      .DA date   strings LH CH RH from the second page on, LF CF RF
+.\" Strings     \*Q \*U quotes   \*- a dash
+.\" Registers   LL line length, FL that of footnotes, PI indent of paragraphs,
+.\"             QI of quotations, PD distance of paragraphs, in u
+.\" Options     -rLN lines of N cells (65)
+.\"
+.\" A width without a scale letter counts cells.
+.\"
+.\" Private registers
+.\"   )I margin of the text   )l its line length   )L depth of .RS   >1 .. >9
+.\"   margin before it        )W width of tags     )w width of a tag
+.\"   )H level of a heading   H1 .. H5 numbers of headings
+.\"   )F last footnote number in the text, )G in a note   )h height of a note
+.\"   )r notes whose text waits to be set          )R room kept for them
+.\"   )b height of the notes of this page, )B of those for the next
+.\"   )w 1 for a note that goes to the next page
+.\"   )p height of a line kept aside   )u fill mode    )i, )j, )e an indent
+.\"   )C 1 while lines are centred     )K 1 in a keep   )k height of a keep
+.\"   )g 1 while text is in italics    )d place behind a display or a table
+.\"   )T fill mode before a table
+.\" Private names
+.\"   )N number of a heading  )M mark of a note    )r text of notes to be set
+.\"   )n notes of this page, )o of the next, )X newest notes, set
+.\"   )q a line kept aside    )k a keep          )y text of notes being set
 .ds Q "\(dq
 .ds U "\(dq
 .ds - --
 .ds * [\\n+()F]
 .ds CF \\n%
 .nr )F 0 1
-.if t header
+.\" header
 .de )h
 .rs
 'sp 2
@@ -56,21 +53,21 @@ Private names
 .ns
 .if \\n()B .)m
 ..
-.if t notes that waited for this page
+.\" notes that waited for this page
 .de )m
 .rn )o )n
 .nr )b \\n()B
 .nr )B 0
 .)v
 ..
-.if t place of the footer, above the notes
+.\" place of the footer, above the notes
 .de )v
 .nr )w \\n()b+\\n()R
 .ie \\n()w .ch )f -\\n()wu-6v
 .el .ch )f -5v
 .if \\n()w>(\\n(.p-20v) .ch )f 12v
 ..
-.if t footer, with the notes above it; its trap is out of the way meanwhile
+.\" footer, with the notes above it; its trap is out of the way meanwhile
 .de )f
 .rs
 .ch )f
@@ -86,7 +83,7 @@ Private names
 .wh -5v )f
 .)l
 ..
-.if t notes below a rule
+.\" notes below a rule
 .de )g
 .nr )j \\n(.i
 'in 0
@@ -96,7 +93,7 @@ Private names
 .rm )n
 'in \\n()ju
 ..
-.if t the line under way is kept aside; it comes back as one word
+.\" the line under way is kept aside; it comes back as one word
 .de )s
 .di )q
 .br
@@ -110,7 +107,7 @@ Private names
 \&\\*()q\|
 .\}
 ..
-.if t end: an open keep is closed, notes for the next page get one
+.\" end: an open keep is closed, notes for the next page get one
 .de )e
 .if \\n()K .KE
 .br
@@ -121,11 +118,11 @@ Private names
 .bp
 .\}
 ..
-.if t date, at the left of the footer
+.\" date, at the left of the footer
 .de DA
 .ds LF \\$1 \\$2 \\$3 \\$4 \\$5
 ..
-.if t title, authors, institution: centred lines
+.\" title, authors, institution: centred lines
 .de TL
 .)c
 .sp
@@ -140,7 +137,7 @@ Private names
 .)c
 .)C
 ..
-.if t lines are centred; lines are plain again
+.\" lines are centred; lines are plain again
 .de )C
 .nr )C 1
 .ce 10000
@@ -153,7 +150,7 @@ Private names
 .fi
 .if \\n()r .if !\\n()K .)t
 ..
-.if t abstract
+.\" abstract
 .de AB
 .)p
 .ce
@@ -170,7 +167,7 @@ Private names
 .sp
 .ns
 ..
-.if t before a paragraph
+.\" before a paragraph
 .de )p
 .)c
 .ll \\n()lu
@@ -178,7 +175,7 @@ Private names
 .sp \\n(PDu
 .ne 2v
 ..
-.if t paragraphs
+.\" paragraphs
 .de PP
 .)p
 .ti +\\n(PIu
@@ -198,7 +195,7 @@ Private names
 .in +\\n(PIu
 .ti -\\n(PIu
 ..
-.if t paragraph with a tag, whose blanks stay as they are
+.\" paragraph with a tag, whose blanks stay as they are
 .de IP
 .)p
 .if \\n(.$>1 .nr )W 0\\$2n
@@ -217,7 +214,7 @@ Private names
 .\}
 .\}
 ..
-.if t margin to the right, and back
+.\" margin to the right, and back
 .de RS
 .if \\n()L<9 .nr )L +1
 .nr >\\n()L \\n()I
@@ -231,7 +228,7 @@ Private names
 .\}
 .in \\n()Iu
 ..
-.if t heading
+.\" heading
 .de SH
 .)p
 .ne 4v
@@ -256,7 +253,7 @@ Private names
 \&\\*()N\0\c
 .I
 ..
-.if t fonts
+.\" fonts
 .de B
 .ie \\n(.$ \&\\$3\fB\\$1\fR\\$2
 .el \{\
@@ -275,7 +272,7 @@ Private names
 .ft R
 .nr )g 0
 ..
-.if t display
+.\" display
 .de DS
 .)p
 .nf
@@ -289,7 +286,7 @@ Private names
 .ns
 .nr )d \\n(.d
 ..
-.if t table
+.\" table
 .de TS
 .nr )T \\n(.u
 .br
@@ -303,8 +300,8 @@ Private names
 .ns
 .nr )d \\n(.d
 ..
-.if t keep: set apart, then placed where it fits, with its notes; the register *+
-.if t tells how much less room the tables in it take than their parts together
+.\" keep: set apart, then placed where it fits, with its notes; the register *+
+.\" tells how much less room the tables in it take than their parts together
 .de KS
 .br
 .if \\n()r .if !\\n()K .)t
@@ -332,8 +329,8 @@ Private names
 .if \\n()k=\\n()d .ns
 .\}
 ..
-.if t footnote: its text is set at the next break, or at the page's bottom if that
-.if t comes first; three lines are kept for it till then
+.\" footnote: its text is set at the next break, or at the page's bottom if that
+.\" comes first; three lines are kept for it till then
 .de FS
 .ds )M "\\$1
 .if !\\n(.$ .if \\n()F>\\n()G .ds )M [\\n()F]
@@ -348,12 +345,12 @@ Private names
 .)v
 .\}
 ..
-.if t the beginning of each note
+.\" the beginning of each note
 .de )x
 .br
 .if !'\\$1'' \&\\$1\ \c
 ..
-.if t sets the notes that wait to be set; no line is under way
+.\" sets the notes that wait to be set; no line is under way
 .de )S
 .nr )u \\n(.u
 .nr )i \\n(.i
@@ -377,21 +374,21 @@ Private names
 .if !\\n()u 'nf
 .if \\n()C 'ce 10000
 ..
-.if t at a break
+.\" at a break
 .de )t
 .)S
 .nr )R 0
 .)v
 .)a
 ..
-.if t at the bottom, where there may be room for them
+.\" at the bottom, where there may be room for them
 .de )u
 .)S
 .nr )w \\n()B
 .if \\n(.p-\\n(nl-5v<(\\n()b+\\n()h+1v) .nr )w 1
 .)z
 ..
-.if t for this page, if they have room and none waits, else for the next
+.\" for this page, if they have room and none waits, else for the next
 .de )a
 .nr )w \\n()B
 .if \\n(.t<(\\n()b=0*1v+\\n()h+1v) .nr )w 1
@@ -414,7 +411,7 @@ Private names
 'in \\n()ju
 .rm )X
 ..
-.if t the beginning
+.\" the beginning
 .if \nL=0 .nr L 65
 .nr LL \nLn
 .nr FL \n(LL
