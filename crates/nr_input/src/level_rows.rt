@@ -83,12 +83,7 @@ fn meet_first<I: Items>(half: &mut Half, row: &I) -> Run
 
 // The name that was read is looked up, and the items that are behind it in a row are met.
 #[inline(always)]
-fn meet_named<K: Copy, I: Tail>(
-    reader: &mut Reader,
-    store: &Store<K>,
-    row: I,
-    from: usize,
-) -> Met
+fn meet_named<K: Copy, I: Tail>(reader: &mut Reader, store: &Store<K>, row: I, from: usize) -> Met
     requires row { I.fronts row ≡ map element_front (rest_of store.now.levels) }
     requires within { from ≤ length (rest_of store.now.levels) }
     requires due { reader.old.half.reading.due ≡ dues.Seek }
