@@ -1,5 +1,5 @@
 -- A condition that was told is judged: one move.
-use Rattle.std.proofs.Common.{◌≡◌, ℕ, ◌+◌, ◌≤◌, false, List, [], None, Some, Option, refl, ap, ◌∙◌, arith}
+use Rattle.std.proofs.Common.{◌≡◌, ℕ, false, List, [], None, Some, Option, refl, arith}
 use Rattle.std.specs.Prelude.{is_some}
 use Rattle.nr_units.specs.Supply.{Supply}
 use Rattle.nr_reading.specs.declared.event.Event.TheVariants as events
@@ -7,11 +7,10 @@ use Rattle.nr_reading.specs.declared.event.Question.{Question}
 use Rattle.nr_formatter.specs.Conditions.{answered}
 use Rattle.nr_formatter.proofs.HearingFalls.{falls-control}
 use Rattle.nr_engine.specs.State.{State, plainly}
-use Rattle.nr_engine.specs.Machine.{step}
 use Rattle.nr_engine.specs.Measures.{IsWithin}
 use Rattle.nr_engine.specs.Holding.{Made, Shape, Stands, at}
-use Rattle.nr_engine.specs.Running.{Makes, MakesInPlace}
-use Rattle.nr_engine.proofs.Gliding.{Glides, glides-by}
+use Rattle.nr_engine.specs.Running.{MakesInPlace}
+use Rattle.nr_engine.proofs.Gliding.{glides-by}
 use Rattle.nr_engine.proofs.LevelText.{made_glided}
 use Rattle.nr_engine.proofs.NextMoves.{kind-hear, step-hear}
 

@@ -1,10 +1,9 @@
 -- The newline that ends a text line, where it comes next of the newest level.
-use Rattle.std.proofs.Common.{◌≡◌, ℕ, ◌+◌, ◌*◌, ◌≤◌, true, false, List, [], ◌∷◌, length, None, Option, refl, sym, ap, ◌∙◌, subst, arith}
+use Rattle.std.proofs.Common.{◌≡◌, ℕ, ◌+◌, ◌*◌, ◌≤◌, true, false, List, [], ◌∷◌, length, Option, refl, sym, ap, ◌∙◌, subst, arith}
 use Rattle.std.proofs.lemmas.Bool.{eq-eqb}
 use Rattle.nr_units.specs.Supply.{Supply}
-use Rattle.nr_store.specs.Stored.{Stored, Level, Read, Reading, shown}
-use Rattle.nr_store.specs.Windows.{rest_of, left_times, levels_behind, run_left}
-use Rattle.nr_store.specs.Laws.{left_times-run}
+use Rattle.nr_store.specs.Stored.{Level, Read, Reading, shown}
+use Rattle.nr_store.specs.Windows.{rest_of, levels_behind}
 use Rattle.nr_store.specs.declared.element.Element.{Element}
 use Rattle.nr_store.specs.declared.element.Element.TheVariants as elements
 use Rattle.nr_store.specs.declared.shown.Shown.TheVariants as shows
@@ -26,7 +25,6 @@ use Rattle.nr_formatter.specs.Weights.{owed_by_event, owed_by_task, weight_of_ag
 use Rattle.nr_formatter.specs.declared.formatter.Formatter.{Formatter}
 use Rattle.nr_formatter.specs.declared.tasks.After.TheVariants as afters
 use Rattle.nr_formatter.specs.declared.tasks.Resume.{Resume}
-use Rattle.nr_formatter.specs.declared.tasks.Task.{Task}
 use Rattle.nr_formatter.specs.declared.tasks.Task.TheVariants as tasks
 use Rattle.nr_formatter.proofs.LineEnds.{line_flows}
 use Rattle.nr_formatter.proofs.PlainText.{ends_word, in_line, weight-gap}

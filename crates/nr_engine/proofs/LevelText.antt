@@ -1,15 +1,14 @@
 -- Bytes of the newest level in a text line that has begun: two moves a plain byte, and two or three the blank behind them.
-use Rattle.std.proofs.Common.{◌≡◌, ℕ, zero, suc, ◌+◌, ◌*◌, ◌<◌, ◌≤◌, true, false, List, [], ◌∷◌, ◌++◌, length, map, drop, Option, refl, sym, ap, ◌∙◌, subst, arith, length-append, drop_at, take-append-drop}
+use Rattle.std.proofs.Common.{◌≡◌, ℕ, ◌+◌, ◌*◌, ◌<◌, ◌≤◌, true, false, List, [], ◌∷◌, ◌++◌, length, map, drop, Option, refl, sym, ap, ◌∙◌, subst, arith, length-append, drop_at}
 use Rattle.std.specs.Prelude.{◌==◌}
 use Rattle.std.proofs.lemmas.Bool.{eq-eqb}
-use Rattle.std.proofs.lemmas.List.{length-map, nil_from_length}
+use Rattle.std.proofs.lemmas.List.{length-map}
 use Rattle.std.proofs.lemmas.List.Sums.{sum_by-cons}
 use Rattle.nr_units.specs.Supply.{Supply}
 use Rattle.nr_fill.specs.Pieces.{line_cells}
 use Rattle.nr_fill.specs.Runs.{run_cell}
-use Rattle.nr_store.specs.Stored.{Stored, Level, Read, Mark, Reading, shown, level_charge}
-use Rattle.nr_store.specs.Windows.{rest_of, left_times, levels_behind, run_left}
-use Rattle.nr_store.specs.Laws.{left_times-run}
+use Rattle.nr_store.specs.Stored.{Level, Read, Mark, Reading, shown, level_charge}
+use Rattle.nr_store.specs.Windows.{rest_of, levels_behind, run_left}
 use Rattle.nr_store.specs.declared.element.Element.{Element}
 use Rattle.nr_store.specs.declared.element.Element.TheVariants as elements
 use Rattle.nr_store.specs.declared.shown.Shown.{Shown}
@@ -44,7 +43,6 @@ use Rattle.nr_engine.proofs.NextMoves.{step-read, kind-read}
 use Rattle.nr_engine.proofs.PlainText.{ArePlain, escape, first_plain, newline, others_plain}
 use Rattle.nr_engine.proofs.RereadCells.{items_fewer}
 use Rattle.nr_engine.proofs.Standing.{wrote_nothing}
-use Rattle.nr_engine.proofs.Travelling.{makes_none}
 use Rattle.nr_engine.proofs.Working.{holds_of}
 
 -- with so much left of the newest level's text

@@ -24,13 +24,12 @@ use Rattle.nr_formatter.proofs.PlainText.{in_line}
 use Rattle.nr_engine.specs.State.{State}
 use Rattle.nr_engine.specs.Machine.{step}
 use Rattle.nr_engine.specs.Measures.{IsWithin}
-use Rattle.nr_engine.specs.Answer.{Goes}
 use Rattle.nr_engine.specs.Holding.{Made, Shape, Stands, at, weight, worth}
 use Rattle.nr_engine.specs.Running.{LongestLine, Makes, MakesInPlace, PutsOfLevel}
 use Rattle.nr_engine.proofs.CellBytes.{glides_byte, no_escape, no_newline}
 use Rattle.nr_engine.proofs.Gliding.{Glides, made_of, told}
 use Rattle.nr_engine.proofs.LevelNewlines.{makes_ended, makes_line}
-use Rattle.nr_engine.proofs.LevelText.{Showing, at_text, goes_byte, level_gone, level_shape, line_there, made_glided, makes_flows, makes_gap, makes_text, one_left, reads_byte, showing, within_text}
+use Rattle.nr_engine.proofs.LevelText.{Showing, at_text, goes_byte, level_gone, line_there, made_glided, makes_flows, makes_gap, makes_text, one_left, reads_byte, showing, within_text}
 use Rattle.nr_engine.proofs.PlainText.{ArePlain}
 use Rattle.nr_engine.proofs.RereadCells.{items_fewer}
 use Rattle.nr_engine.proofs.TextAtHand.{rest_of as bytes_behind}

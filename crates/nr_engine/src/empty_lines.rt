@@ -78,7 +78,7 @@ impl Engine {
         if self.formatter.store.is_reading() {
             return self.read_levels();
         }
-        let run = self.read_run(input);
+        let run = self.read_source(input);
         match self.formatter.event {
             Event::Empty => run + self.put_empty_lines(input),
             Event::Request => run + self.obey_lines(input),

@@ -96,7 +96,7 @@ impl Engine {
     }
 
     /// What levels bring is read; requests of it that only set take effect, and conditions are judged. Tells how many moves that was.
-    #[inline(never)]
+    #[inline(always)]
     pub(crate) fn read_levels(&mut self) -> u128
         ensures reads { MakesInPlace result (shape self.old) (shape self.new) }
         ensures few { result ≤ 4096 * (65541 * 4096 + 3) }

@@ -1,5 +1,6 @@
 // Runs of bytes that stand for themselves, read in one call.
 ghost use Rattle.std.specs.Prelude.{◌≡◌, ◌≢◌, ◌+◌, ◌-◌, ◌<◌, ◌≤◌, ◌↔◌, IsTrue, length, map, take, slice_index, All, None, is_none, true, false};
+ghost use Rattle.nr_settings.specs.Indents.{margins_of};
 ghost use Rattle.nr_fill.specs.Pieces.{ends_sentence, in_word, line_cells, text_cells};
 ghost use Rattle.nr_fill.specs.Runs.{EndsWord, IsPlain, add_run, add_word, run_behind, run_cell};
 
@@ -7,6 +8,7 @@ use crate::line::{Line, WordState};
 use crate::margins::Margins;
 use crate::piece::Join;
 use crate::words::ends_sentence;
+use nr_settings::Indents;
 use nr_units::cell::Cell;
 
 /// Whether the byte is a cell of a word, behind which no line may be cut, wherever it stands in a text line's midst.
@@ -71,21 +73,23 @@ impl Line {
     }
 
     /// Reads a front of these bytes as `put_run` would, and behind it a blank as `end_word` and `widen_gap` would: where
-    /// `ends` says that a blank ends a word, no word and no title was being read, and the piece passes no limit.
-    pub fn put_word(&mut self, margins: Margins, under: bool, ends: bool, bytes: &[u8]) -> WordRun
+    /// `ends` says that a blank ends a word, no word and no title was being read, and the piece passes no limit. The margins are looked
+    /// up only where the line may take them.
+    #[inline(always)]
+    pub fn put_word(&mut self, indents: &Indents, under: bool, ends: bool, bytes: &[u8]) -> WordRun
         ensures front { result.count ≤ length bytes.now }
         ensures plain { All IsPlain (take result.count bytes.now) }
-        ensures run { result.ended ≡ false → self.new ≡ record self.old { collected = add_run margins under (take result.count bytes.now) self.old.collected } }
-        ensures word { result.ended ≡ true → self.new ≡ record self.old { collected = add_word margins under (take result.count bytes.now) self.old.collected } }
+        ensures run { result.ended ≡ false → self.new ≡ record self.old { collected = add_run (margins_of indents.now) under (take result.count bytes.now) self.old.collected } }
+        ensures word { result.ended ≡ true → self.new ≡ record self.old { collected = add_word (margins_of indents.now) under (take result.count bytes.now) self.old.collected } }
         ensures ends { result.ended ≡ true → EndsWord ends result.count bytes.now self.old.collected }
         ensures within { 0 < result.count → line_cells self.new.collected ≤ self.new.limit }
         ensures stops { result.ended ≡ false → result.count < length bytes.now → IsPlain (slice_index bytes.now result.count) → text_cells self.new.collected ≡ self.new.limit }
         ensures longest { result.ended ≡ false → self.old.collected.title ≡ None → EndsWord ends result.count bytes.now self.old.collected → text_cells self.new.collected ≡ self.new.limit }
     {
         if ends && self.word.is_none() && self.title.is_none() {
-            return self.put_new_word(margins, under, bytes);
+            return self.put_new_word(indents, under, bytes);
         }
-        let count = self.put_run(margins, under, bytes);
+        let count = self.put_run(indents.margins(), under, bytes);
         WordRun {
             count,
             ended: false,
@@ -93,13 +97,14 @@ impl Line {
     }
 
     /// The same where a blank ends a word, and no word and no title is being read.
-    fn put_new_word(&mut self, margins: Margins, under: bool, bytes: &[u8]) -> WordRun
+    #[inline(always)]
+    fn put_new_word(&mut self, indents: &Indents, under: bool, bytes: &[u8]) -> WordRun
         requires word { self.old.collected.word ≡ None }
         requires title { self.old.collected.title ≡ None }
         ensures front { result.count ≤ length bytes.now }
         ensures plain { All IsPlain (take result.count bytes.now) }
-        ensures run { result.ended ≡ false → self.new ≡ record self.old { collected = add_run margins under (take result.count bytes.now) self.old.collected } }
-        ensures word { result.ended ≡ true → self.new ≡ record self.old { collected = add_word margins under (take result.count bytes.now) self.old.collected } }
+        ensures run { result.ended ≡ false → self.new ≡ record self.old { collected = add_run (margins_of indents.now) under (take result.count bytes.now) self.old.collected } }
+        ensures word { result.ended ≡ true → self.new ≡ record self.old { collected = add_word (margins_of indents.now) under (take result.count bytes.now) self.old.collected } }
         ensures ends { result.ended ≡ true → EndsWord true result.count bytes.now self.old.collected }
         ensures within { 0 < result.count → line_cells self.new.collected ≤ self.new.limit }
         ensures stops { result.ended ≡ false → result.count < length bytes.now → IsPlain (slice_index bytes.now result.count) → text_cells self.new.collected ≡ self.new.limit }
@@ -119,7 +124,7 @@ impl Line {
             under,
         });
         self.margins = if self.pieces == 0 {
-            margins
+            indents.margins()
         } else {
             self.margins
         };

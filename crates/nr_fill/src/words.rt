@@ -311,7 +311,7 @@ impl Line {
     }
 
     /// The word, where there is one, becomes pieces of the line. It fails where they would pass the limit.
-    #[inline]
+    #[inline(always)]
     pub fn end_word(&mut self) -> Result<(), LineCells>
         ensures result { result ≡ afforded (record self.old { collected = end_word self.old.collected }) }
         ensures ok { OnOk result (self.new ≡ record self.old { collected = end_word self.old.collected }) }

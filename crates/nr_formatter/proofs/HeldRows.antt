@@ -1,9 +1,9 @@
 -- What is held of a row that goes into a diversion, once more cells came.
-use Rattle.std.proofs.Common.{◌≡◌, ℕ, ◌+◌, ◌-◌, ◌^◌, ◌<◌, ◌≤◌, min, ◌&&◌, Bool, true, false, if◌then◌else◌, List, [], ◌∷◌, ◌++◌, length, map, take, replicate, Result, Err, refl, ap, ap₂, sym, ◌∙◌, append_assoc, subst, arith, length-append, inl, inr}
+use Rattle.std.proofs.Common.{◌≡◌, ℕ, ◌+◌, ◌-◌, ◌^◌, ◌<◌, min, ◌&&◌, Bool, true, false, if◌then◌else◌, List, [], ◌∷◌, ◌++◌, length, map, take, replicate, Result, Err, refl, ap, ap₂, sym, ◌∙◌, append_assoc, subst, arith, length-append, inl, inr}
 use Rattle.std.specs.List.{list_any}
 use Rattle.std.specs.Prelude.{◌==◌, get_or}
 use Rattle.std.proofs.lemmas.Bool.{cases_lt, eqb-true, ne_eqb, or_parts}
-use Rattle.std.proofs.lemmas.List.{append-nil, length-replicate, map-append, replicate-append-replicate, replicate_more, take-append-le, take_all, take_more}
+use Rattle.std.proofs.lemmas.List.{append-nil, length-replicate, map-append, replicate-append-replicate, replicate_more, take_all, take_more}
 use Rattle.nr_units.specs.Cells.{blank, is_blank, trimmed}
 use Rattle.nr_units.specs.declared.cell.Cell.{Cell}
 use Rattle.nr_store.specs.declared.element.Element.TheVariants as elements

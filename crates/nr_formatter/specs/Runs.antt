@@ -97,7 +97,6 @@ BehindWord f gaps.Reads g = (fits_line (collected f) ≡ true) × (g ≡ f)
 -- how they are read: a blank ends a word where lines are filled, no break was asked for, and there is no hyphenation word
 abbrev pub manner_of : Formatter → Manner
 manner_of f = record {
-  margins = margins f;
   under = is_under f.settings.fonts;
   ends = is_filling f && (not f.breaks && not (nat_lt 0 (length f.store.words)));
 }

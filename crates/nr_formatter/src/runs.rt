@@ -12,7 +12,6 @@ ghost use Rattle.nr_formatter.specs.Runs.{reads_next, is_in_line, run_put, gaps_
 
 use crate::formatter::Formatter;
 use crate::tasks::{After, Task};
-use nr_fill::margins::Margins;
 use nr_input::Event;
 use nr_store::{Element, Rest};
 
@@ -33,8 +32,6 @@ pub enum Gap {
 /// How words and the blanks behind them are read.
 #[derive(Clone, Copy)]
 pub struct Manner {
-    /// Those of a line that begins now.
-    pub margins: Margins,
     /// Cells are underlined.
     pub under: bool,
     /// A blank does nothing but end a word and widen the gap, unless text for a stop is being read.
@@ -217,7 +214,6 @@ impl Formatter {
         ensures { result ≡ manner_of self.now }
     {
         Manner {
-            margins: self.settings.indents.margins(),
             under: self.settings.fonts.is_under(),
             ends: self.settings.filling.is_filling() && (!self.breaks && !self.store.has_words()),
         }
@@ -230,9 +226,10 @@ impl Formatter {
         requires { manner ≡ manner_of self.old }
         ensures { PutsWord bytes.now self.old result self.new }
     {
+        let indents = &self.settings.indents;
         let run = self
             .line
-            .put_word(manner.margins, manner.under, manner.ends, bytes);
+            .put_word(indents, manner.under, manner.ends, bytes);
         let count = run.count;
         if run.ended {
             return WordPut {

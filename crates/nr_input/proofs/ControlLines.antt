@@ -27,13 +27,13 @@ use Rattle.nr_input.specs.Acting.{Acted, act, done, meaning_in, behind_meaning, 
 use Rattle.nr_input.specs.Refusals.{Called, called, acted, answer}
 use Rattle.nr_input.specs.AtHand.{ComeNext}
 use Rattle.nr_input.specs.Coming.{Coming, Reached, HoldsComing}
-use Rattle.nr_input.specs.Moving.{Situation, Stands, situation, move, Goes, GoesBy}
+use Rattle.nr_input.specs.Moving.{Situation, Stands, situation, move, Goes, GoesBy, burst_past}
 use Rattle.nr_input.specs.Runs.{HasRead, PaysAll, moves, told_last, behind_run, inside_behind, passed_run}
 use Rattle.nr_input.specs.Weights.{Pays, byte_worth, diversions_in}
 use Rattle.nr_input.proofs.Putting.{Quietly}
 use Rattle.nr_input.proofs.Refusals.{acted-ok}
 use Rattle.nr_input.proofs.Rows.{Goings, at_source, source_goings, moves-row, goes-row, told-row, quiet-row}
-use Rattle.nr_input.proofs.RowsRead.{begins_there, source_looked, source_read, source_pays, looked_pays, burst_some}
+use Rattle.nr_input.proofs.RowsRead.{begins_there, source_looked, source_read, source_pays, looked_pays, burst_some, some_taken}
 use Rattle.nr_input.proofs.Spending.{act_pays}
 
 -- ---- moves behind moves that tell nothing
@@ -248,10 +248,13 @@ silent_or e = inr (λ is. let wrong : ⊥ = cc in wrong)
 
 -- ---- all of it
 
--- Behind the three bytes of a name a move that tells e leads to w and r2, and then so many moves over the other bytes on.
-module _ {K : Type 0} (v w : Stored K) (r r2 : Reader) (bs : List ℕ) (h1 : Half) (e : Event) (name : HasMet 4 (map fronts.Byte bs) r.half (quiet 3 h1)) (due : h1.reading.due ≡ dues.Seek) where
+-- Behind the m moves and t bytes of a name a move that tells e leads to w and r2, and then so many moves over the other bytes on.
+module _ {K : Type 0} (v w : Stored K) (r r2 : Reader) (bs : List ℕ) (m t : ℕ) (h1 : Half) (e : Event) (name : HasMet m (map fronts.Byte bs) r.half (quiet t h1)) (many : 0 < t) (due : h1.reading.due ≡ dues.Seek) where
   abbrev named : Reader
   named = record r { half = h1; burst = 0 }
+
+  none_more : (k : ℕ) → k ≡ 0 → t + k ≡ t
+  none_more k none = omega (arith, none)
 
   module _ (seek : called w r2 (Ok e) ≡ acted dues.Seek v named) where
     burst_is : r2.burst ≡ 0
@@ -262,69 +265,73 @@ module _ {K : Type 0} (v w : Stored K) (r r2 : Reader) (bs : List ℕ) (h1 : Hal
 
     -- ---- what they cost
 
-    name_paid : (last : ℕ) (q : Reached) → PaysAll 5 v q r e w (passed_run last 3 q) r2
+    name_paid : (last : ℕ) (q : Reached) → PaysAll (1 + m) v q r e w (passed_run last t q) r2
     name_paid last q =
-        let there = passed_run last 3 q in
-        pays_then 1 4 v v w q there there r named r2 e
-        (source_pays 4 (map fronts.Byte bs) v q r (quiet 3 h1) name last there (omega arith) refl)
+        let there = passed_run last t q in
+        pays_then 1 m v v w q there there r named r2 e
+        (source_pays m (map fronts.Byte bs) v q r (quiet t h1) name last there many refl)
         (seek_pays v w named r2 e due seek there)
 
-    silently_paid : (last : ℕ) (q : Reached) → e ≡ events.Nothing → PaysAll 5 v q r events.Nothing w (passed_run last 3 q) r2
-    silently_paid last q silent = subst (λ (x : Event). PaysAll 5 v q r x w (passed_run last 3 q) r2) silent (name_paid last q)
+    silently_paid : (last : ℕ) (q : Reached) → e ≡ events.Nothing → PaysAll (1 + m) v q r events.Nothing w (passed_run last t q) r2
+    silently_paid last q silent = subst (λ (x : Event). PaysAll (1 + m) v q r x w (passed_run last t q) r2) silent (name_paid last q)
 
-    line_paid : (n last : ℕ) (p : Spot) (q q' : Reached) → e ≡ events.Nothing → HasMet n (map fronts.Byte (drop 3 bs)) r2.half p → 0 < p.taken
-        → q' ≡ passed_run last (3 + p.taken) q → PaysAll (n + 5) v q r p.event w q' (record r2 { half = p.half })
+    line_paid : (n last : ℕ) (p : Spot) (q q' : Reached) → e ≡ events.Nothing → HasMet n (map fronts.Byte (drop t bs)) r2.half p → 0 < p.taken
+        → q' ≡ passed_run last (t + p.taken) q → PaysAll (n + (1 + m)) v q r p.event w q' (record r2 { half = p.half })
     line_paid n last p q q' silent met some is =
-        let there = passed_run last 3 q in
+        let there = passed_run last t q in
         let behind : Reader = record r2 { half = p.half; burst = 0 } in
-        let line : PaysAll n w there r2 p.event w q' behind = source_pays n (map fronts.Byte (drop 3 bs)) w there r2 p met last q' some (is ∙ sym (passed_on 3 p.taken last last q)) in
-        subst (λ (b : ℕ). PaysAll (n + 5) v q r p.event w q' (record r2 { half = p.half; burst = b })) (sym burst_is)
-        (pays_then n 5 v w w q there q' r r2 behind p.event (silently_paid last q silent) line)
+        let line : PaysAll n w there r2 p.event w q' behind = source_pays n (map fronts.Byte (drop t bs)) w there r2 p met last q' some (is ∙ sym (passed_on t p.taken last last q)) in
+        subst (λ (b : ℕ). PaysAll (n + (1 + m)) v q r p.event w q' (record r2 { half = p.half; burst = b })) (sym burst_is)
+        (pays_then n (1 + m) v w w q there q' r r2 behind p.event (silently_paid last q silent) line)
 
-    looked_paid : (n last : ℕ) (p : Spot) (q q' : Reached) → e ≡ events.Nothing → HasMet n (map fronts.Byte (drop 3 bs)) r2.half p → p.taken ≡ 0
-        → q' ≡ passed_run last 3 q → PaysAll (n + 5) v q r p.event w q' (record r2 { half = p.half })
+    looked_paid : (n last : ℕ) (p : Spot) (q q' : Reached) → e ≡ events.Nothing → HasMet n (map fronts.Byte (drop t bs)) r2.half p → p.taken ≡ 0
+        → q' ≡ passed_run last t q → PaysAll (n + (1 + m)) v q r p.event w q' (record r2 { half = p.half })
     looked_paid n last p q q' silent met none is =
-        let there = passed_run last 3 q in
-        subst (λ (x : Reached). PaysAll (n + 5) v q r p.event w x (record r2 { half = p.half })) (sym is)
-        (pays_then n 5 v w w q there there r r2 (record r2 { half = p.half }) p.event (silently_paid last q silent)
-        (looked_pays n (map fronts.Byte (drop 3 bs)) w there r2 p met none))
+        let there = passed_run last t q in
+        subst (λ (x : Reached). PaysAll (n + (1 + m)) v q r p.event w x (record r2 { half = p.half })) (sym is)
+        (pays_then n (1 + m) v w w q there there r r2 (record r2 { half = p.half }) p.event (silently_paid last q silent)
+        (looked_pays n (map fronts.Byte (drop t bs)) w there r2 p met none))
 
     -- whatever was told of the name
-    pub all_paid : (line : Run) (h3 : Half) → (e ≡ events.Nothing → HasMet line.moves (map fronts.Byte (drop 3 bs)) r2.half (spot line h3)) → ((e ≡ events.Nothing → ⊥) → h3 ≡ r2.half)
-        → ((e ≡ events.Nothing → ⊥) → line ≡ record { taken = 0; moves = 0; event = e }) → (last : ℕ) (q q' : Reached) → q' ≡ passed_run last (3 + line.taken) q → PaysAll (5 + line.moves) v q r line.event w q' (record r2 { half = h3 })
+    pub all_paid : (line : Run) (h3 : Half) → (e ≡ events.Nothing → HasMet line.moves (map fronts.Byte (drop t bs)) r2.half (spot line h3)) → ((e ≡ events.Nothing → ⊥) → h3 ≡ r2.half)
+        → ((e ≡ events.Nothing → ⊥) → line ≡ record { taken = 0; moves = 0; event = e }) → (last : ℕ) (q q' : Reached) → q' ≡ passed_run last (t + line.taken) q → PaysAll (m + 1 + line.moves) v q r line.event w q' (record r2 { half = h3 })
     all_paid line h3 met left none last q q' is = elim (silent_or e) [
       | inl silent ↦
-          let count : line.moves + 5 ≡ 5 + line.moves = omega arith in
+          let count : line.moves + (1 + m) ≡ m + 1 + line.moves = omega arith in
           subst (λ n. PaysAll n v q r line.event w q' (record r2 { half = h3 })) count
           (elim (cases_lt 0 line.taken) [
             | inl some ↦ line_paid line.moves last (spot line h3) q q' silent (met silent) some is
             | inr few ↦
                 let zero_taken : line.taken ≡ 0 = omega (arith, few) in
-                looked_paid line.moves last (spot line h3) q q' silent (met silent) zero_taken (is ∙ ap (λ k. passed_run last (3 + k) q) zero_taken)
+                looked_paid line.moves last (spot line h3) q q' silent (met silent) zero_taken (is ∙ ap (λ k. passed_run last k q) (none_more line.taken zero_taken))
           ])
       | inr other ↦
           let nothing : line ≡ record { taken = 0; moves = 0; event = e } = none other in
-          let there : q' ≡ passed_run last 3 q = is ∙ ap (λ (l : Run). passed_run last (3 + l.taken) q) nothing in
-          subst (λ (l : Run). PaysAll (5 + l.moves) v q r l.event w q' (record r2 { half = h3 })) (sym nothing)
-          (subst (λ (h : Half). PaysAll 5 v q r e w q' (record r2 { half = h })) (sym (left other))
-          (subst (λ (x : Reached). PaysAll 5 v q r e w x r2) (sym there) (name_paid last q)))
+          let there : q' ≡ passed_run last t q = is ∙ ap (λ k. passed_run last k q) (none_more line.taken (ap (λ (l : Run). l.taken) nothing)) in
+          let count : 1 + m ≡ m + 1 + 0 = omega arith in
+          subst (λ (l : Run). PaysAll (m + 1 + l.moves) v q r l.event w q' (record r2 { half = h3 })) (sym nothing)
+          (subst (λ n. PaysAll n v q r e w q' (record r2 { half = h3 })) count
+          (subst (λ (h : Half). PaysAll (1 + m) v q r e w q' (record r2 { half = h })) (sym (left other))
+          (subst (λ (x : Reached). PaysAll (1 + m) v q r e w x r2) (sym there) (name_paid last q))))
     ]
 
     -- ---- where they lead
 
-    module _ (c : Coming) (levels : v.levels ≡ []) (next : ComeNext bs c) (long : 3 ≤ length bs) where
-      row_leads : Quietly 4 (situation v c r) (situation v (behind_run 3 c) named)
+    module _ (c : Coming) (levels : v.levels ≡ []) (next : ComeNext bs c) (long : t ≤ length bs) where
+      row_leads : Quietly m (situation v c r) (situation v (behind_run t c) named)
       row_leads =
           let fs = map fronts.Byte bs in
-          let there : at_source v c r (quiet 3 h1) ≡ situation v (behind_run 3 c) named = ap (λ (n : ℕ). situation v (behind_run 3 c) (record r { half = h1; burst = n })) (burst_some c.taken 2 r.burst) in
-          subst (λ t. Quietly 4 (situation v c r) t) there
-          (subst (λ s. Quietly 4 s (at_source v c r (quiet 3 h1))) (begins_there v c r bs levels next)
-          (row_quietly 4 3 fs r.half h1 (at_source v c r) (source_goings v c r bs levels next) name))
+          let some = some_taken t (λ none. omega (arith, none, many)) in
+          let burst : burst_past c.taken (c.taken + t) r.burst ≡ 0 = ap (λ k. burst_past c.taken (c.taken + k) r.burst) some.1 ∙ burst_some c.taken some.0 r.burst in
+          let there : at_source v c r (quiet t h1) ≡ situation v (behind_run t c) named = ap (λ (n : ℕ). situation v (behind_run t c) (record r { half = h1; burst = n })) burst in
+          subst (λ x. Quietly m (situation v c r) x) there
+          (subst (λ s. Quietly m s (at_source v c r (quiet t h1))) (begins_there v c r bs levels next)
+          (row_quietly m t fs r.half h1 (at_source v c r) (source_goings v c r bs levels next) name))
 
-      name_read : (q : Reached) (supply : Option Supply) → HoldsComing (behind_run 3 c) q supply → HasRead 5 (situation v c r) e w r2 q supply
+      name_read : (q : Reached) (supply : Option Supply) → HoldsComing (behind_run t c) q supply → HasRead (1 + m) (situation v c r) e w r2 q supply
       name_read q supply holds =
-          then_read 1 4 (situation v c r) (situation v (behind_run 3 c) named) e w r2 q supply row_leads
-          (done_read v w (behind_run 3 c) named r2 e (waits v w named r2 e due seek) act_is q supply holds)
+          then_read 1 m (situation v c r) (situation v (behind_run t c) named) e w r2 q supply row_leads
+          (done_read v w (behind_run t c) named r2 e (waits v w named r2 e due seek) act_is q supply holds)
 
       same_levels : (m : Meaning) → (behind_meaning m v).levels ≡ v.levels
       same_levels meanings.Text = refl
@@ -333,43 +340,45 @@ module _ {K : Type 0} (v w : Stored K) (r r2 : Reader) (bs : List ℕ) (h1 : Hal
       levels_there : w.levels ≡ []
       levels_there = ap (λ (x : Stored K). x.levels) (stored_is v w named r2 e due seek) ∙ same_levels (meaning_in v named) ∙ levels
 
-      leads_quietly : e ≡ events.Nothing → Quietly 5 (situation v c r) (situation w (behind_run 3 c) r2)
+      leads_quietly : e ≡ events.Nothing → Quietly (1 + m) (situation v c r) (situation w (behind_run t c) r2)
       leads_quietly silent =
-          quietly_add 1 4 (situation v c r) (situation v (behind_run 3 c) named) (situation w (behind_run 3 c) r2) row_leads (done_quietly v w (behind_run 3 c) named r2 e (waits v w named r2 e due seek) act_is silent)
+          quietly_add 1 m (situation v c r) (situation v (behind_run t c) named) (situation w (behind_run t c) r2) row_leads (done_quietly v w (behind_run t c) named r2 e (waits v w named r2 e due seek) act_is silent)
 
-      line_read : (n : ℕ) (p : Spot) (q : Reached) (supply : Option Supply) → e ≡ events.Nothing → HasMet n (map fronts.Byte (drop 3 bs)) r2.half p → 0 < p.taken
-          → HoldsComing (behind_run (3 + p.taken) c) q supply → HasRead (n + 5) (situation v c r) p.event w (record r2 { half = p.half }) q supply
+      line_read : (n : ℕ) (p : Spot) (q : Reached) (supply : Option Supply) → e ≡ events.Nothing → HasMet n (map fronts.Byte (drop t bs)) r2.half p → 0 < p.taken
+          → HoldsComing (behind_run (t + p.taken) c) q supply → HasRead (n + (1 + m)) (situation v c r) p.event w (record r2 { half = p.half }) q supply
       line_read n p q supply silent met some holds =
           let behind : Reader = record r2 { half = p.half; burst = 0 } in
-          subst (λ (b : ℕ). HasRead (n + 5) (situation v c r) p.event w (record r2 { half = p.half; burst = b }) q supply) (sym burst_is)
-          (then_read n 5 (situation v c r) (situation w (behind_run 3 c) r2) p.event w behind q supply (leads_quietly silent)
-          (source_read w (behind_run 3 c) r2 (drop 3 bs) levels_there (come_behind 3 bs c long next) n p q supply some met
-          (subst (λ (d : Coming). HoldsComing d q supply) (sym (run_on 3 p.taken c some)) holds)))
+          subst (λ (b : ℕ). HasRead (n + (1 + m)) (situation v c r) p.event w (record r2 { half = p.half; burst = b }) q supply) (sym burst_is)
+          (then_read n (1 + m) (situation v c r) (situation w (behind_run t c) r2) p.event w behind q supply (leads_quietly silent)
+          (source_read w (behind_run t c) r2 (drop t bs) levels_there (come_behind t bs c long next) n p q supply some met
+          (subst (λ (d : Coming). HoldsComing d q supply) (sym (run_on t p.taken c some)) holds)))
 
       -- none of the other bytes was taken
-      line_looked : (n : ℕ) (p : Spot) (q : Reached) (supply : Option Supply) → e ≡ events.Nothing → HasMet n (map fronts.Byte (drop 3 bs)) r2.half p → p.taken ≡ 0
-          → HoldsComing (behind_run 3 c) q supply → HasRead (n + 5) (situation v c r) p.event w (record r2 { half = p.half }) q supply
+      line_looked : (n : ℕ) (p : Spot) (q : Reached) (supply : Option Supply) → e ≡ events.Nothing → HasMet n (map fronts.Byte (drop t bs)) r2.half p → p.taken ≡ 0
+          → HoldsComing (behind_run t c) q supply → HasRead (n + (1 + m)) (situation v c r) p.event w (record r2 { half = p.half }) q supply
       line_looked n p q supply silent met none holds =
-          then_read n 5 (situation v c r) (situation w (behind_run 3 c) r2) p.event w (record r2 { half = p.half }) q supply (leads_quietly silent)
-          (source_looked w (behind_run 3 c) r2 (drop 3 bs) levels_there (come_behind 3 bs c long next) n p q supply none met holds)
+          then_read n (1 + m) (situation v c r) (situation w (behind_run t c) r2) p.event w (record r2 { half = p.half }) q supply (leads_quietly silent)
+          (source_looked w (behind_run t c) r2 (drop t bs) levels_there (come_behind t bs c long next) n p q supply none met holds)
 
-      pub all_read : (line : Run) (h3 : Half) → (e ≡ events.Nothing → HasMet line.moves (map fronts.Byte (drop 3 bs)) r2.half (spot line h3)) → ((e ≡ events.Nothing → ⊥) → h3 ≡ r2.half)
-          → ((e ≡ events.Nothing → ⊥) → line ≡ record { taken = 0; moves = 0; event = e }) → (q : Reached) (supply : Option Supply) → HoldsComing (behind_run (3 + line.taken) c) q supply
-          → HasRead (5 + line.moves) (situation v c r) line.event w (record r2 { half = h3 }) q supply
+      pub all_read : (line : Run) (h3 : Half) → (e ≡ events.Nothing → HasMet line.moves (map fronts.Byte (drop t bs)) r2.half (spot line h3)) → ((e ≡ events.Nothing → ⊥) → h3 ≡ r2.half)
+          → ((e ≡ events.Nothing → ⊥) → line ≡ record { taken = 0; moves = 0; event = e }) → (q : Reached) (supply : Option Supply) → HoldsComing (behind_run (t + line.taken) c) q supply
+          → HasRead (m + 1 + line.moves) (situation v c r) line.event w (record r2 { half = h3 }) q supply
       all_read line h3 met left none q supply holds = elim (silent_or e) [
         | inl silent ↦
-            let count : line.moves + 5 ≡ 5 + line.moves = omega arith in
+            let count : line.moves + (1 + m) ≡ m + 1 + line.moves = omega arith in
             subst (λ n. HasRead n (situation v c r) line.event w (record r2 { half = h3 }) q supply) count
             (elim (cases_lt 0 line.taken) [
               | inl some ↦ line_read line.moves (spot line h3) q supply silent (met silent) some holds
               | inr few ↦
                   let zero_taken : line.taken ≡ 0 = omega (arith, few) in
                   line_looked line.moves (spot line h3) q supply silent (met silent) zero_taken
-                  (subst (λ k. HoldsComing (behind_run (3 + k) c) q supply) zero_taken holds)
+                  (subst (λ k. HoldsComing (behind_run k c) q supply) (none_more line.taken zero_taken) holds)
             ])
         | inr other ↦
             let nothing : line ≡ record { taken = 0; moves = 0; event = e } = none other in
-            subst (λ (l : Run). HasRead (5 + l.moves) (situation v c r) l.event w (record r2 { half = h3 }) q supply) (sym nothing)
-            (subst (λ (h : Half). HasRead 5 (situation v c r) e w (record r2 { half = h }) q supply) (sym (left other))
-            (name_read q supply (subst (λ (l : Run). HoldsComing (behind_run (3 + l.taken) c) q supply) nothing holds)))
+            let count : 1 + m ≡ m + 1 + 0 = omega arith in
+            subst (λ (l : Run). HasRead (m + 1 + l.moves) (situation v c r) l.event w (record r2 { half = h3 }) q supply) (sym nothing)
+            (subst (λ n. HasRead n (situation v c r) e w (record r2 { half = h3 }) q supply) count
+            (subst (λ (h : Half). HasRead (1 + m) (situation v c r) e w (record r2 { half = h }) q supply) (sym (left other))
+            (name_read q supply (subst (λ k. HoldsComing (behind_run k c) q supply) (none_more line.taken (ap (λ (l : Run). l.taken) nothing)) holds))))
       ]

@@ -1,12 +1,18 @@
 mod Due
 mod Hearing
 mod Refusals
+pub mod BodyBytes
+pub mod BodyLines
+pub mod CommentLines
 pub mod ControlLines
 pub mod Costs
+pub mod Digits
+pub mod DroppedLines
 pub mod Interpolated
 pub mod Items
 pub mod LevelLines
 pub mod LevelParts
+pub mod LevelRows
 pub mod LimitsStay
 pub mod Longest
 pub mod MacroBytes

@@ -29,7 +29,7 @@ use Rattle.nr_input.specs.MacroLines.{is_before_argument, is_before_argument_in,
 
 -- ---- one byte
 
-abbrev Meets : ℕ → Half → Half → Bool → Type 0
+abbrev pub Meets : ℕ → Half → Half → Bool → Type 0
 Meets b h k takes = meet (fronts.Byte b) h ≡ record { half = k; event = events.Nothing; takes = takes }
 
 -- a byte is one move more
@@ -52,7 +52,7 @@ pub record IsIdle (d : Due) (asks : List Ask) (e : Escape) : Type 0 where
   pub asks_none : asks ≡ []
   pub escape : e ≡ escapes.Plain
 
-idle : (d : Due) (asks : List Ask) (e : Escape) → reads_next_at d asks e ≡ true → IsIdle d asks e
+pub idle : (d : Due) (asks : List Ask) (e : Escape) → reads_next_at d asks e ≡ true → IsIdle d asks e
 idle dues.Look [] escapes.Plain is = record { due = refl; asks_none = refl; escape = refl }
 idle dues.Look [] escapes.Begun is = absurd (let wrong : false ≡ true = is in cc)
 idle dues.Look [] escapes.Comment is = absurd (let wrong : false ≡ true = is in cc)
@@ -99,13 +99,13 @@ spaces_passed bs h k is few all =
 -- ---- what an argument begins with
 
 -- nothing is half read, in this mode
-abbrev half_in : Mode → Half → Half
+abbrev pub half_in : Mode → Half → Half
 half_in m h = half_at (at m escapes.Plain h.reading.continued h.reading.no_break) h.signs [] h.delimited h.notes
 
 abbrev with_reading : Mode → Escape → Due → List Ask → Half → Half
 with_reading m e d asks h = half_at (record { mode = m; escape = e; due = d; continued = h.reading.continued; no_break = h.reading.no_break }) h.signs asks h.delimited h.notes
 
-is_half_in : (m : Mode) (h : Half) → h.reading.mode ≡ m → IsIdle h.reading.due h.asks h.reading.escape → h ≡ half_in m h
+pub is_half_in : (m : Mode) (h : Half) → h.reading.mode ≡ m → IsIdle h.reading.due h.asks h.reading.escape → h ≡ half_in m h
 is_half_in m h mode i =
     ap (λ (x : Mode). with_reading x h.reading.escape h.reading.due h.asks h) mode
     ∙ ap (λ (x : Escape). with_reading m x h.reading.due h.asks h) i.escape

@@ -1,6 +1,6 @@
 -- The arguments of a macro in a line of the source, part by part, as moves of the machine that reads and what they cost.
 use Rattle.std.specs.Prelude.{map, drop, take, slice_index, not}
-use Rattle.std.proofs.Common.{◌≡◌, ◌==◌, ℕ, zero, suc, ◌+◌, ◌-◌, ◌*◌, ◌<◌, ◌≤◌, Bool, true, false, List, [], ◌∷◌, length, All, Option, Some, Result, Ok, Err, inl, inr, refl, ap, ap₂, sym, ◌∙◌, subst, length-drop, arith}
+use Rattle.std.proofs.Common.{◌≡◌, ◌==◌, ℕ, zero, suc, ◌+◌, ◌-◌, ◌*◌, ◌<◌, ◌≤◌, Bool, true, false, List, [], length, All, Option, Some, Ok, Err, inl, inr, refl, ap, ap₂, sym, ◌∙◌, subst, length-drop, arith}
 use Rattle.std.proofs.lemmas.Bool.{cases_lt}
 use Rattle.std.proofs.lemmas.List.{length-map, length-take, get_or-take, take-take, take_all}
 use Rattle.nr_units.specs.Supply.{Supply, Faults, Never, After, Anytime, MayGiveAll}
@@ -18,13 +18,13 @@ use Rattle.nr_input.specs.declared.reader.Reader.{Reader}
 use Rattle.nr_input.specs.declared.place.Ahead.TheVariants.{Unseen}
 use Rattle.nr_input.specs.declared.refusal.Refusal.{Refusal}
 use Rattle.nr_input.specs.declared.target.Target.TheVariants.{Argument}
-use Rattle.nr_input.specs.Acting.{Acted, act, is_look}
+use Rattle.nr_input.specs.Acting.{act, is_look}
 use Rattle.nr_input.specs.Refusals.{called, acted, answer}
 use Rattle.nr_input.specs.AtHand.{ComeNext}
 use Rattle.nr_input.specs.Coming.{Coming, Reached, HoldsComing}
-use Rattle.nr_input.specs.Limits.{Limits, limits_of}
+use Rattle.nr_input.specs.Limits.{limits_of}
 use Rattle.nr_input.specs.MacroLines.{ReadsOn, reached_behind}
-use Rattle.nr_input.specs.Moving.{Situation, situation}
+use Rattle.nr_input.specs.Moving.{situation}
 use Rattle.nr_input.specs.Runs.{HasRead, PaysAll, behind_run, inside_behind, passed_run}
 use Rattle.nr_input.specs.Targets.{with_more}
 use Rattle.nr_input.specs.Weights.{newline_left, diversions_in}
@@ -35,7 +35,7 @@ use Rattle.nr_input.proofs.LimitsStay.{act_stays, with_more-limits}
 use Rattle.nr_input.proofs.PuttingRead.{source_added, source_added_pays}
 use Rattle.nr_input.proofs.Refusals.{called-ok, called-err}
 use Rattle.nr_input.proofs.Rows.{reads_nothing}
-use Rattle.nr_input.proofs.RowsRead.{behind_none, source_looked, source_read, looked_pays, source_pays, some_taken}
+use Rattle.nr_input.proofs.RowsRead.{behind_none, source_looked, source_read, looked_pays, source_pays}
 use Rattle.nr_input.proofs.Spending.{act_pays}
 use Rattle.nr_input.proofs.Targets.{levels-with_more, nothing_added}
 
@@ -178,7 +178,7 @@ module _ {K : Type 0} (n t : ℕ) (bs : List ℕ) (v : Stored K) (r : Reader) (k
 
 -- it is done, and opens no level
 module _ {K : Type 0} (bs : List ℕ) (v w : Stored K) (r s : Reader) (waits : is_look r.half.reading.due ≡ false) (is : called w s (Ok events.Nothing) ≡ acted r.half.reading.due v r)
-    (levels : w.levels ≡ v.levels) (burst : s.burst ≡ r.burst) (building : w.building ≡ v.building) (limits : limits_of w s ≡ limits_of v r) where
+    (levels : w.levels ≡ v.levels) (burst : s.burst ≡ r.burst) (diversions : diversions_in w.building ≡ diversions_in v.building) (limits : limits_of w s ≡ limits_of v r) where
   pub reads_due : ReadsOn 1 0 bs v r w s
   reads_due = record {
     within = omega arith;
@@ -188,7 +188,7 @@ module _ {K : Type 0} (bs : List ℕ) (v w : Stored K) (r s : Reader) (waits : i
     reads = λ none still c p supply next holds. done_read v w c r s events.Nothing waits is p supply (subst (λ (d : Coming). HoldsComing d p supply) (behind_none c) holds);
     pays = λ still p.
         pays_at 1 v w p p (reached_behind 0 bs p) r s events.Nothing (reached_none bs p) refl
-        (pays_once v w p p r s events.Nothing refl (ap diversions_in building) (act_pays v w p r s events.Nothing (λ look. let wrong : true ≡ false = sym (ap is_look look) ∙ waits in cc) is));
+        (pays_once v w p p r s events.Nothing refl diversions (act_pays v w p r s events.Nothing (λ look. let wrong : true ≡ false = sym (ap is_look look) ∙ waits in cc) is));
   }
 
 module _ {K : Type 0} (bs : List ℕ) (v w : Stored K) (r s : Reader) where
@@ -200,7 +200,7 @@ module _ {K : Type 0} (bs : List ℕ) (v w : Stored K) (r s : Reader) where
         let leads = called-ok (answer (dues.Put b) v r) a.stored a.reader a.event v w r s e is in
         let quietly : called w s (Ok events.Nothing) ≡ acted (dues.Put b) v r = subst (λ (x : Event). called w s (Ok x) ≡ acted (dues.Put b) v r) leads.answer is in
         reads_due bs v w r s (ap is_look due) (subst (λ (d : Due). called w s (Ok events.Nothing) ≡ acted d v r) (sym due) quietly)
-        (ap (λ (x : Stored K). x.levels) leads.stored) (ap (λ (x : Reader). x.burst) leads.reader) (ap (λ (x : Stored K). x.building) leads.stored) (act_stays v w r s (dues.Put b) (Ok e) is)
+        (ap (λ (x : Stored K). x.levels) leads.stored) (ap (λ (x : Reader). x.burst) leads.reader) (ap (λ (x : Stored K). diversions_in x.building) leads.stored) (act_stays v w r s (dues.Put b) (Ok e) is)
 
     -- it finds no room
     pub put_left : (e : Refusal) → called w s (Err e) ≡ acted (dues.Put b) v r → ReadsOn 0 0 bs v r w s
@@ -216,7 +216,7 @@ module _ {K : Type 0} (bs : List ℕ) (v w : Stored K) (r s : Reader) where
       let a = act dues.EndArgument v r in
       let leads = called-ok (answer dues.EndArgument v r) a.stored a.reader a.event v w r s events.Nothing is in
       reads_due bs v w r s (ap is_look due) (subst (λ (d : Due). called w s (Ok events.Nothing) ≡ acted d v r) (sym due) is)
-      (ap (λ (x : Stored K). x.levels) leads.stored) (ap (λ (x : Reader). x.burst) leads.reader) (ap (λ (x : Stored K). x.building) leads.stored) (act_stays v w r s dues.EndArgument (Ok events.Nothing) is)
+      (ap (λ (x : Stored K). x.levels) leads.stored) (ap (λ (x : Reader). x.burst) leads.reader) (ap (λ (x : Stored K). diversions_in x.building) leads.stored) (act_stays v w r s dues.EndArgument (Ok events.Nothing) is)
 
 -- ---- bytes that are added
 

@@ -1,6 +1,6 @@
 -- What is stored once bytes were added to an argument, or to a text that is being defined.
 use Rattle.std.specs.Prelude.{map, slice_index}
-use Rattle.std.proofs.Common.{◌≡◌, ℕ, suc, ◌<◌, ◌≤◌, ◌==◌, true, List, [], ◌∷◌, ◌++◌, length, take, inl, inr, sum_by, refl, ap, sym, ◌∙◌, append_assoc, length-append, arith}
+use Rattle.std.proofs.Common.{◌≡◌, ℕ, suc, ◌+◌, ◌<◌, ◌≤◌, ◌==◌, true, List, [], ◌∷◌, ◌++◌, length, take, inl, inr, sum_by, refl, ap, sym, ◌∙◌, append_assoc, length-append, arith}
 use Rattle.std.proofs.Math.Seq.{take-suc}
 use Rattle.std.proofs.lemmas.Bool.{cases_Bool}
 use Rattle.std.proofs.lemmas.List.{append-nil, length-map, length-take, map-append}
@@ -105,8 +105,15 @@ longer-le xs ys (b ∷ bs) fewer =
     let cost = λ (d : Built). weight d.text in
     omega (arith, fewer, sum_by-cons cost (longer xs b) bs, sum_by-cons cost (longer ys b) bs, length-append b.text xs, length-append b.text ys)
 
+-- elements more cost no more than as many
+pub longer-bound : (xs : List Element) (bs : List Built) → sum_by (λ (b : Built). weight b.text) (on_newest (longer xs) bs) ≤ sum_by (λ (b : Built). weight b.text) bs + length xs
+longer-bound xs [] = omega arith
+longer-bound xs (b ∷ bs) =
+    let cost = λ (d : Built). weight d.text in
+    omega (arith, sum_by-cons cost (longer xs b) bs, sum_by-cons cost b bs, length-append b.text xs)
+
 -- more bytes are charged no less
-charge_of-le : {K : Type 0} (t : Target) (xs ys : List ℕ) (v : Stored K) → length xs ≤ length ys → charge_of (with_more t xs v) ≤ charge_of (with_more t ys v)
+pub charge_of-le : {K : Type 0} (t : Target) (xs ys : List ℕ) (v : Stored K) → length xs ≤ length ys → charge_of (with_more t xs v) ≤ charge_of (with_more t ys v)
 charge_of-le Argument xs ys v fewer = let less = gathered_len-le xs ys v.gathered fewer in omega (arith, less)
 charge_of-le Text xs ys v fewer =
     let less = longer-le (map elements.Byte xs) (map elements.Byte ys) v.building (omega (arith, fewer, length-map xs elements.Byte, length-map ys elements.Byte)) in

@@ -1,8 +1,12 @@
 pub mod Acting
 pub mod AtHand
+pub mod BodyLines
 pub mod Coming
+pub mod CommentLines
+pub mod DroppedLines
 pub mod Hearing
 pub mod Interpolations
+pub mod LevelRows
 pub mod Laws
 pub mod Levels
 pub mod Limits

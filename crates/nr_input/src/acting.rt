@@ -75,6 +75,8 @@ impl Reader {
     ghost use Rattle.std.specs.Prelude.{true, Ok};
     ghost use Rattle.nr_store.specs.Stored.{stepped};
     ghost use Rattle.nr_input.specs.Acting.{name_in, adding_byte, naming, behind_definition, has_text, expanded, splicing_name, splicing_bytes, meaning_in, is_look, then_due};
+    ghost use Rattle.nr_input.specs.LevelRows.{behind_name};
+    ghost use Rattle.nr_reading.specs.Seeking.{sought_event};
     ghost use Rattle.nr_input.specs.Refusals.{expanding_answer, storing_answer, splicing_answer, called, reader_by, answered, acted_by, acted};
 
     /// The limit of splices is asked.
@@ -274,15 +276,28 @@ impl Reader {
         self.half.reading.due = Due::Look;
     }
 
-    // What the name that was read means.
-    fn meaning<K: Copy>(&self, store: &Store<K>) -> Meaning
+    /// What the name that was read means.
+    pub(crate) fn meaning<K: Copy>(&self, store: &Store<K>) -> Meaning
         ensures { result ≡ meaning_in store.now self.now }
     {
-        let name = self.name();
-        if name.is_empty() {
+        let spelled = &self.half.notes.name;
+        if spelled.bad || spelled.bytes.is_empty() {
             return Meaning::Unknown;
         }
-        store.lookup(name)
+        store.lookup(spelled.bytes)
+    }
+
+    /// What the name of a control line means is taken. Answers what is told of it.
+    #[inline(always)]
+    pub(crate) fn take_meaning(&mut self, meaning: Meaning) -> Event
+        ensures reader { self.new ≡ behind_name meaning self.old }
+        ensures told { result ≡ sought_event (calls_of meaning) }
+    {
+        let calls = calls_of(meaning);
+        self.half.reading.due = Due::Look;
+        self.half.seek(calls);
+        self.request = request_of(meaning, self.request);
+        calls.event()
     }
 
     /// The name of a control line is looked up. Answers what is told of it.
@@ -291,14 +306,10 @@ impl Reader {
         ensures { called store.new self.new (Ok result) ≡ acted Due.Seek store.old self.old }
     {
         let meaning = self.meaning(store);
-        let calls = calls_of(meaning);
         if matches!(meaning, Meaning::Text) {
             store.begin_arguments();
         }
-        self.half.reading.due = Due::Look;
-        self.half.seek(calls);
-        self.request = request_of(meaning, self.request);
-        calls.event()
+        self.take_meaning(meaning)
     }
 
     /// Nothing is due: the item in front is looked at.

@@ -44,7 +44,7 @@ fn add_plain<K: Copy>(target: Target, store: &mut Store<K>, bytes: &[u8]) -> usi
 }
 
 /// Adds a front of these bytes, each of which stands for itself, as far as they find room. Answers how many.
-#[inline]
+#[inline(always)]
 pub(crate) fn add_front<K: Copy>(
     target: Target,
     half: &Half,
@@ -76,9 +76,9 @@ fn ending_of(mode: Mode) -> u8
     }
 }
 
-// Whether a byte stands for itself before such an ending.
+/// Whether a byte stands for itself before such an ending.
 #[inline(always)]
-fn is_plain(ending: u8, byte: u8) -> bool
+pub(crate) fn is_plain(ending: u8, byte: u8) -> bool
     ensures plain { result ≡ true → IsPlain ending byte }
     ensures other { result ≡ false → ¬ IsPlain ending byte }
 {

@@ -11,11 +11,12 @@ ghost use Rattle.nr_input.specs.Moving.{situation};
 ghost use Rattle.nr_input.specs.Runs.{HasRead, PaysAll, ReadsSome, IsLongest, IsLongestInLevel};
 
 use super::at_hand::window;
+use super::comment_lines::read_unnamed_line;
 use super::level_lines::read_level_line;
 use super::macro_lines::read_macro_line;
 use super::place::Place;
 use super::reader::Reader;
-use super::runs::{Row, read_run, read_source};
+use super::runs::{ByteRow, read_run};
 use nr_reading::{Due, Event, Half, Mode, Run};
 use nr_store::Store;
 use nr_units::source::Source;
@@ -51,7 +52,7 @@ fn read_named_line<K: Copy, R: Source>(
     ensures read { IfSome result (λ run. (c : Coming) → HoldsComing c place.old (R.supply source.old) → HasRead run.moves (situation store.old c reader.old) run.event store.new reader.new place.new (R.supply source.new)) }
     ensures pays { IfSome result (λ run. PaysAll run.moves store.old place.old reader.old run.event store.new place.new reader.new) }
     ensures some { IfSome result (λ run. 0 < run.moves) }
-    ensures few { IfSome result (λ run. run.moves ≤ 32774) }
+    ensures few { IfSome result (λ run. run.moves ≤ 32775) }
     ensures within { IfSome result (λ run. run.taken < 2 ^ 40) }
     ensures limits { limits_of store.new reader.new ≡ limits_of store.old reader.old }
     ensures failures { R.failures source.new ≡ R.failures source.old }
@@ -62,19 +63,22 @@ fn read_named_line<K: Copy, R: Source>(
     ensures source { result ≡ None → source.new ≡ source.old }
 {
     let bytes = window(place, store, source);
-    let row = Row::Bytes(bytes);
-    if !matches!(reader.half.reading.due, Due::Look) || !reader.half.meet_name(&row) {
+    let row = ByteRow(bytes);
+    if !matches!(reader.half.reading.due, Due::Look) {
         return None;
     }
+    let Some(name) = reader.half.meet_name(&row) else {
+        return None;
+    };
     reader.burst = 0;
     let told = reader.seek(store);
-    let line = meet_behind_name(&mut reader.half, told, &bytes[3..]);
-    let taken = 3 + line.taken;
+    let line = meet_behind_name(&mut reader.half, told, &bytes[name.taken..]);
+    let taken = name.taken + line.taken;
     place.pass_run(bytes[taken - 1], taken);
     source.skip(taken);
     Some(Run {
         taken,
-        moves: 5 + line.moves,
+        moves: name.moves + 1 + line.moves,
         event: line.event,
     })
 }
@@ -136,7 +140,7 @@ fn read_beginning<K: Copy, R: Source>(
 {
     match read_control_line(place, reader, store, source) {
         Some(run) => run,
-        None => read_source(place, reader, store, source),
+        None => read_unnamed_line(place, reader, store, source),
     }
 }
 
@@ -151,7 +155,7 @@ pub fn read_next<K: Copy, R: Source>(
 ) -> Run
     ensures read { (c : Coming) → HoldsComing c place.old (R.supply source.old) → HasRead result.moves (situation store.old c reader.old) result.event store.new reader.new place.new (R.supply source.new) }
     ensures pays { PaysAll result.moves store.old place.old reader.old result.event store.new place.new reader.new }
-    ensures few { result.moves ≤ 65541 }
+    ensures few { result.moves ≤ 65542 }
     ensures limits { limits_of store.new reader.new ≡ limits_of store.old reader.old }
     ensures some { store.old.levels ≡ [] → is_unseen place.old.ahead ≡ true → ReadsSome (R.at_hand source.old) result.moves place.old reader.old }
     ensures longest { store.old.levels ≡ [] → is_unseen place.old.ahead ≡ true → reader.old.half.reading.mode ≢ modes.Start → IsLongest (R.at_hand source.old) result.moves place.old reader.old result.event store.new place.new reader.new }

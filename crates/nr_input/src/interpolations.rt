@@ -1,5 +1,6 @@
 //! Interpolations that are read at once: where all that they bring is only met or added, no level is opened for it.
-ghost use Rattle.std.specs.Prelude.{◌≡◌, ◌+◌, ◌*◌, ◌<◌, ◌≤◌, Option, length, true};
+ghost use Rattle.std.specs.Prelude.{◌≡◌, ◌+◌, ◌*◌, ◌<◌, ◌≤◌, ◌∷◌, [], Option, IfSome, length, true};
+ghost use Rattle.nr_units.specs.NumberText.{number_text};
 ghost use Rattle.nr_units.specs.Supply.{Supply};
 ghost use Rattle.nr_store.specs.Stored.{charge_of, reading_bytes};
 ghost use Rattle.nr_store.specs.Windows.{left_times};
@@ -13,11 +14,11 @@ ghost use Rattle.nr_input.specs.Runs.{HasRead, PaysAll, PaysMany};
 
 use super::adding::add_front;
 use super::reader::Reader;
-use super::runs::Row;
+use super::runs::ByteRow;
 use super::target::Target;
 use nr_reading::{Due, Event, Half, Mode, Run, Sign};
 use nr_store::Store;
-use nr_units::format_number;
+use nr_units::{Format, format_number};
 
 /// The most bytes of an interpolation that is read at once.
 const LONGEST: usize = 64;
@@ -35,6 +36,21 @@ pub struct Moved {
 #[inline(always)]
 fn copies(half: &Half) -> bool {
     !matches!(half.reading.mode, Mode::Text | Mode::Start)
+}
+
+// The digit that is all of a number's text, where that is one of 0 to 9 in Arabic.
+#[inline(always)]
+fn lone_digit(number: i32, format: Format) -> Option<u8>
+    ensures { IfSome result (λ digit. number_text format number ≡ digit ∷ []) }
+{
+    let value = number.unsigned_abs();
+    if number < 0 || value > 9 {
+        return None;
+    }
+    match format {
+        Format::Arabic { places } if places <= 1 => Some(b'0' + value as u8),
+        _ => None,
+    }
 }
 
 impl Reader {
@@ -64,7 +80,7 @@ impl Reader {
         ensures limits { limits_of store.new self.new ≡ limits_of store.old self.old }
     {
         let Some(target) = Target::of(&self.half) else {
-            return self.half.meet_run(&Row::Bytes(bytes));
+            return self.half.meet_run(&ByteRow(bytes));
         };
         let taken = add_front(target, &self.half, store, bytes);
         Run {
@@ -76,7 +92,7 @@ impl Reader {
 
     // Bytes are spliced and read. Where that is all that their level brings, none is opened; else it is opened behind those that were
     // read. No move where a limit is near.
-    #[inline(never)]
+    #[inline(always)]
     fn splice_read<K: Copy>(&mut self, bytes: &[u8], store: &mut Store<K>) -> Moved
         requires due { IsSplice bytes.now store.old self.old }
         ensures read { (c : Coming) (p : Reached) (supply : Option Supply) → HoldsComing c p supply → HasRead result.moves (situation store.old c self.old) result.event store.new self.new p supply }
@@ -110,7 +126,7 @@ impl Reader {
     }
 
     // An argument is spliced.
-    #[inline(always)]
+    #[inline(never)]
     fn read_argument<K: Copy>(&mut self, n: u8, store: &mut Store<K>) -> Moved
         requires due { self.old.half.reading.due ≡ dues.Argument n }
         ensures read { (c : Coming) (p : Reached) (supply : Option Supply) → HoldsComing c p supply → HasRead result.moves (situation store.old c self.old) result.event store.new self.new p supply }
@@ -134,7 +150,7 @@ impl Reader {
     }
 
     // A register is spliced.
-    #[inline(always)]
+    #[inline(never)]
     fn read_register<K: Copy>(&mut self, store: &mut Store<K>) -> Moved
         requires due { self.old.half.reading.due ≡ dues.Register signs.None }
         ensures read { (c : Coming) (p : Reached) (supply : Option Supply) → HoldsComing c p supply → HasRead result.moves (situation store.old c self.old) result.event store.new self.new p supply }
@@ -145,6 +161,9 @@ impl Reader {
         ensures store { result.moves ≡ 0 → store.new ≡ store.old }
     {
         let register = store.register(self.half.notes.asked);
+        if let Some(digit) = lone_digit(register.value, register.format) {
+            return self.splice_read(&[digit], store);
+        }
         let text = format_number(i64::from(register.value), register.format);
         self.splice_read(text.as_slice(), store)
     }

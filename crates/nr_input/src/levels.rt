@@ -3,10 +3,8 @@ ghost use Rattle.std.specs.Prelude.{◌≡◌, ℕ, ◌*◌, ◌<◌, ◌≤◌,
 ghost use Rattle.nr_units.specs.Supply.{Supply};
 ghost use Rattle.nr_reading.specs.declared.event.Event.TheVariants as events;
 ghost use Rattle.nr_reading.specs.declared.mode.Due.TheVariants as dues;
-ghost use Rattle.nr_store.specs.Stored.{shown};
 ghost use Rattle.nr_store.specs.Windows.{rest_of};
 ghost use Rattle.nr_store.specs.declared.element.Element.TheVariants as elements;
-ghost use Rattle.nr_store.specs.declared.shown.Shown.TheVariants as shows;
 ghost use Rattle.nr_input.specs.declared.reader.Reader.{Reader as ReaderValue};
 ghost use Rattle.nr_input.specs.Coming.{Coming, Reached, HoldsComing};
 ghost use Rattle.nr_input.specs.Levels.{may_act};
@@ -16,15 +14,15 @@ ghost use Rattle.nr_input.specs.Runs.{HasRead, PaysAll, PaysMany, StopsInLevel, 
 
 use super::adding::add_level_front;
 use super::interpolations::Moved;
-use super::level_lines::read_level_line;
+use super::level_rows::read_rows;
 use super::reader::Reader;
 use super::runs::read_level;
 use super::target::Target;
 use nr_reading::{Due, Event, Mode, Run};
-use nr_store::{Sight, Store};
+use nr_store::Store;
 
 /// The most rows, ends of levels and dues in one call.
-const MOST_PARTS: u32 = 4000;
+const MOST_PARTS: u32 = 800;
 
 impl Reader {
     // What is due may be done at once: no blank of a line's beginning is told by it, and there may be a splice more.
@@ -80,27 +78,30 @@ fn act<K: Copy>(reader: &mut Reader, store: &mut Store<K>) -> Moved
     do_due(reader, store)
 }
 
-// Whether the end of the newest level comes next.
-#[inline(always)]
-fn ends<K: Copy>(store: &Store<K>) -> bool
-    ensures { result ≡ true → shown store.now.levels ≡ shows.End }
-{
-    matches!(store.look(), Sight::End)
-}
-
 // The end of the newest level is taken, if it comes next: it does nothing to what is half read. Tells whether it was.
 #[inline(always)]
-fn end_level<K: Copy>(store: &mut Store<K>, mode: &mut K) -> bool
+fn end_level<K: Copy>(store: &mut Store<K>) -> bool
     ensures read { result ≡ true → (c : Coming) (p : Reached) (r : ReaderValue) (supply : Option Supply) → r.half.reading.due ≡ dues.Look → HoldsComing c p supply → HasRead 1 (situation store.old c r) events.Nothing store.new r p supply }
     ensures pays { result ≡ true → (p : Reached) (r : ReaderValue) → r.half.reading.due ≡ dues.Look → PaysMany 1 store.old p r events.Nothing store.new p r }
     ensures limits { (r : ReaderValue) → limits_of store.new r ≡ limits_of store.old r }
     ensures left { result ≡ false → store.new ≡ store.old }
 {
-    if !ends(store) {
-        return false;
+    store.take_end()
+}
+
+// The same. Answers how many moves that was.
+#[inline(always)]
+fn read_end<K: Copy>(store: &mut Store<K>) -> usize
+    ensures read { (c : Coming) (p : Reached) (r : ReaderValue) (supply : Option Supply) → r.half.reading.due ≡ dues.Look → HoldsComing c p supply → HasRead result (situation store.old c r) events.Nothing store.new r p supply }
+    ensures pays { (p : Reached) (r : ReaderValue) → r.half.reading.due ≡ dues.Look → PaysMany result store.old p r events.Nothing store.new p r }
+    ensures few { result ≤ 1 }
+    ensures limits { (r : ReaderValue) → limits_of store.new r ≡ limits_of store.old r }
+    ensures left { result ≡ 0 → store.new ≡ store.old }
+{
+    if end_level(store) {
+        return 1;
     }
-    store.take(mode);
-    true
+    0
 }
 
 // The bytes in front of the newest level that stand for themselves are added, where they are read for an argument of a macro or for a
@@ -119,26 +120,21 @@ fn add_front<K: Copy>(reader: &Reader, store: &mut Store<K>) -> usize
     }
 }
 
-// The items in front of the newest level are read, those of a control line with its name.
+// The items in front of the newest level are added, and then read.
 #[inline(always)]
-fn read_front<K: Copy>(reader: &mut Reader, store: &mut Store<K>) -> Run
+fn read_added<K: Copy>(reader: &mut Reader, store: &mut Store<K>) -> Run
     ensures read { (c : Coming) (p : Reached) (supply : Option Supply) → HoldsComing c p supply → HasRead result.moves (situation store.old c reader.old) result.event store.new reader.new p supply }
     ensures pays { (p : Reached) → PaysMany result.moves store.old p reader.old result.event store.new p reader.new }
     ensures few { result.moves ≤ 66048 }
     ensures limits { limits_of store.new reader.new ≡ limits_of store.old reader.old }
     ensures longest { IsLongestInLevel result.moves store.old reader.old result.event store.new reader.new }
 {
-    match reader.half.reading.mode {
-        Mode::Start => read_level_line(reader, store),
-        _ => {
-            let added = add_front(reader, store);
-            let run = read_level(reader, store);
-            Run {
-                taken: added + run.taken,
-                moves: 2 * added + run.moves,
-                event: run.event,
-            }
-        }
+    let added = add_front(reader, store);
+    let run = read_level(reader, store);
+    Run {
+        taken: added + run.taken,
+        moves: 2 * added + run.moves,
+        event: run.event,
     }
 }
 
@@ -152,9 +148,9 @@ fn made_none(run: Run, reader: &Reader) -> bool
     run.moves == 0 && matches!(run.event, Event::Nothing) && reader.looks()
 }
 
-// What comes next of the levels: what is due, items that lie in a row, or the end of a level.
+// The same, or the end of the level.
 #[inline(always)]
-fn read_part<K: Copy>(reader: &mut Reader, store: &mut Store<K>, mode: &mut K) -> Moved
+fn read_copied<K: Copy>(reader: &mut Reader, store: &mut Store<K>) -> Moved
     ensures read { (c : Coming) (p : Reached) (supply : Option Supply) → HoldsComing c p supply → HasRead result.moves (situation store.old c reader.old) result.event store.new reader.new p supply }
     ensures pays { (p : Reached) → PaysMany result.moves store.old p reader.old result.event store.new p reader.new }
     ensures few { result.moves ≤ 66048 }
@@ -162,11 +158,8 @@ fn read_part<K: Copy>(reader: &mut Reader, store: &mut Store<K>, mode: &mut K) -
     ensures some { (b : ℕ) → slice_get (rest_of store.old.levels) 0 ≡ Some (elements.Byte b) → reader.old.half.reading.due ≡ dues.Look → 0 < result.moves }
     ensures stops { result.moves ≡ 0 → StopsInLevel 0 result.event store.new reader.new }
 {
-    if !matches!(reader.half.reading.due, Due::Look) {
-        return act(reader, store);
-    }
-    let run = read_front(reader, store);
-    if made_none(run, reader) && end_level(store, mode) {
+    let run = read_added(reader, store);
+    if made_none(run, reader) && end_level(store) {
         return Moved {
             moves: 1,
             event: Event::Nothing,
@@ -178,20 +171,60 @@ fn read_part<K: Copy>(reader: &mut Reader, store: &mut Store<K>, mode: &mut K) -
     }
 }
 
-/// What levels bring is read, up to what tells something and to a text line: control lines, the lines of requests, conditions, strings
-/// and arguments with what is spliced into them, ends of levels, and what is due. The mode behind a sprung text is left; `mode` is of
-/// no account.
-#[inline(never)]
-pub fn read_levels<K: Copy>(reader: &mut Reader, store: &mut Store<K>, mode: &mut K) -> Moved
+// The items in front of the newest level are read with the names of control lines, or its end is taken.
+#[inline(always)]
+fn read_row<K: Copy>(reader: &mut Reader, store: &mut Store<K>) -> Moved
+    requires due { reader.old.half.reading.due ≡ dues.Look }
     ensures read { (c : Coming) (p : Reached) (supply : Option Supply) → HoldsComing c p supply → HasRead result.moves (situation store.old c reader.old) result.event store.new reader.new p supply }
     ensures pays { (p : Reached) → PaysMany result.moves store.old p reader.old result.event store.new p reader.new }
-    ensures few { result.moves ≤ 65541 * 4096 }
+    ensures few { result.moves ≤ 327684 }
+    ensures limits { limits_of store.new reader.new ≡ limits_of store.old reader.old }
+    ensures some { (b : ℕ) → slice_get (rest_of store.old.levels) 0 ≡ Some (elements.Byte b) → reader.old.half.reading.due ≡ dues.Look → 0 < result.moves }
+    ensures stops { result.moves ≡ 0 → StopsInLevel 0 result.event store.new reader.new }
+{
+    let Some(front) = read_rows(reader, store) else {
+        return Moved {
+            moves: read_end(store),
+            event: Event::Nothing,
+        };
+    };
+    Moved {
+        moves: front.moves,
+        event: front.event,
+    }
+}
+
+// What comes next of the levels: what is due, items that lie in a row, or the end of a level.
+#[inline(always)]
+fn read_part<K: Copy>(reader: &mut Reader, store: &mut Store<K>) -> Moved
+    ensures read { (c : Coming) (p : Reached) (supply : Option Supply) → HoldsComing c p supply → HasRead result.moves (situation store.old c reader.old) result.event store.new reader.new p supply }
+    ensures pays { (p : Reached) → PaysMany result.moves store.old p reader.old result.event store.new p reader.new }
+    ensures few { result.moves ≤ 327684 }
+    ensures limits { limits_of store.new reader.new ≡ limits_of store.old reader.old }
+    ensures some { (b : ℕ) → slice_get (rest_of store.old.levels) 0 ≡ Some (elements.Byte b) → reader.old.half.reading.due ≡ dues.Look → 0 < result.moves }
+    ensures stops { result.moves ≡ 0 → StopsInLevel 0 result.event store.new reader.new }
+{
+    if !matches!(reader.half.reading.due, Due::Look) {
+        return act(reader, store);
+    }
+    match reader.half.reading.mode {
+        Mode::Word | Mode::Quoted | Mode::StringText | Mode::Body => read_copied(reader, store),
+        _ => read_row(reader, store),
+    }
+}
+
+// What levels bring is read, up to what tells something and to a text line.
+#[inline(never)]
+fn read_lines<K: Copy>(reader: &mut Reader, store: &mut Store<K>) -> Moved
+    ensures read { (c : Coming) (p : Reached) (supply : Option Supply) → HoldsComing c p supply → HasRead result.moves (situation store.old c reader.old) result.event store.new reader.new p supply }
+    ensures pays { (p : Reached) → PaysMany result.moves store.old p reader.old result.event store.new p reader.new }
+    ensures few { result.moves ≤ 327684 * 800 }
     ensures limits { limits_of store.new reader.new ≡ limits_of store.old reader.old }
     ensures longest { IsLongestUpToText result.moves store.old reader.old result.event store.new reader.new }
 {
     let mut moves = 0;
     for _ in 0..MOST_PARTS {
-        let part = read_part(reader, store, mode);
+        let part = read_part(reader, store);
         moves += part.moves;
         if part.moves == 0 || !matches!(part.event, Event::Nothing) {
             return Moved {
@@ -210,4 +243,71 @@ pub fn read_levels<K: Copy>(reader: &mut Reader, store: &mut Store<K>, mode: &mu
         moves,
         event: Event::Nothing,
     }
+}
+
+// What comes next of the newest level in a text line is read: its items, and what is due behind them.
+#[inline(never)]
+fn read_text<K: Copy>(reader: &mut Reader, store: &mut Store<K>) -> Moved
+    ensures read { (c : Coming) (p : Reached) (supply : Option Supply) → HoldsComing c p supply → HasRead result.moves (situation store.old c reader.old) result.event store.new reader.new p supply }
+    ensures pays { (p : Reached) → PaysMany result.moves store.old p reader.old result.event store.new p reader.new }
+    ensures few { result.moves ≤ 65537 }
+    ensures limits { limits_of store.new reader.new ≡ limits_of store.old reader.old }
+    ensures some { (b : ℕ) → slice_get (rest_of store.old.levels) 0 ≡ Some (elements.Byte b) → reader.old.half.reading.due ≡ dues.Look → 0 < result.moves }
+    ensures stops { result.moves ≡ 0 → StopsInLevel 0 result.event store.new reader.new }
+{
+    let run = read_level(reader, store);
+    if !matches!(run.event, Event::Nothing) || reader.looks() {
+        return Moved {
+            moves: run.moves,
+            event: run.event,
+        };
+    }
+    let done = do_due(reader, store);
+    Moved {
+        moves: run.moves + done.moves,
+        event: done.event,
+    }
+}
+
+// The same, and what comes behind the text line.
+#[inline(always)]
+fn read_text_on<K: Copy>(reader: &mut Reader, store: &mut Store<K>) -> Moved
+    ensures read { (c : Coming) (p : Reached) (supply : Option Supply) → HoldsComing c p supply → HasRead result.moves (situation store.old c reader.old) result.event store.new reader.new p supply }
+    ensures pays { (p : Reached) → PaysMany result.moves store.old p reader.old result.event store.new p reader.new }
+    ensures few { result.moves ≤ 65541 * 4096 }
+    ensures limits { limits_of store.new reader.new ≡ limits_of store.old reader.old }
+    ensures longest { IsLongestUpToText result.moves store.old reader.old result.event store.new reader.new }
+{
+    let text = read_text(reader, store);
+    if text.moves == 0 || !matches!(text.event, Event::Nothing) || reader.half.is_in_text() {
+        return text;
+    }
+    let lines = read_lines(reader, store);
+    Moved {
+        moves: text.moves + lines.moves,
+        event: lines.event,
+    }
+}
+
+/// What levels bring is read, up to what tells something and to a text line: control lines, the lines of requests, conditions, strings
+/// and arguments with what is spliced into them, ends of levels, and what is due. In a text line that has begun, the items up to what is
+/// due are read, or the end of its level. The mode behind a sprung text is left; `_mode` is of no account.
+#[inline(always)]
+pub fn read_levels<K: Copy>(reader: &mut Reader, store: &mut Store<K>, _mode: &mut K) -> Moved
+    ensures read { (c : Coming) (p : Reached) (supply : Option Supply) → HoldsComing c p supply → HasRead result.moves (situation store.old c reader.old) result.event store.new reader.new p supply }
+    ensures pays { (p : Reached) → PaysMany result.moves store.old p reader.old result.event store.new p reader.new }
+    ensures few { result.moves ≤ 65541 * 4096 }
+    ensures limits { limits_of store.new reader.new ≡ limits_of store.old reader.old }
+    ensures longest { IsLongestUpToText result.moves store.old reader.old result.event store.new reader.new }
+{
+    if !reader.half.is_in_text() {
+        return read_lines(reader, store);
+    }
+    if end_level(store) {
+        return Moved {
+            moves: 1,
+            event: Event::Nothing,
+        };
+    }
+    read_text_on(reader, store)
 }

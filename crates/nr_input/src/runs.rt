@@ -1,13 +1,16 @@
 //! Many moves over items that lie in a row.
 ghost use Rattle.std.specs.Prelude.{◌≡◌, ℕ, ◌<◌, ◌≤◌, [], length, map, slice_get, nat_lt, true, false, Option, None, Some, IfSome};
 ghost use Rattle.nr_units.specs.Supply.{Supply};
+ghost use Rattle.nr_reading.specs.declared.event.Event.TheVariants as events;
 ghost use Rattle.nr_reading.specs.declared.front.Front.TheVariants as variants;
+ghost use Rattle.nr_reading.specs.declared.mode.Due.TheVariants as dues;
+ghost use Rattle.nr_reading.specs.Runs.{HasMet, spot};
 ghost use Rattle.nr_store.specs.Windows.{elements_in};
 ghost use Rattle.nr_input.specs.AtHand.{is_unseen};
 ghost use Rattle.nr_input.specs.Coming.{Coming, Reached, HoldsComing, element_front, has_failed};
 ghost use Rattle.nr_input.specs.Limits.{limits_of};
 ghost use Rattle.nr_input.specs.Moving.{situation};
-ghost use Rattle.nr_input.specs.Rows.{fronts_in};
+ghost use Rattle.nr_input.specs.Rows.{byte_fronts, element_fronts};
 ghost use Rattle.nr_input.specs.Runs.{HasRead, PaysAll, IsLongest, IsLongestInLevel};
 
 use super::adding::{add_from_level, add_from_source};
@@ -15,62 +18,60 @@ use super::at_hand::window;
 use super::place::Place;
 use super::reader::Reader;
 use super::target::Target;
-use nr_reading::{Items, Run};
+use nr_reading::{Half, Items, Run};
 use nr_store::{Element, Rest, Store};
 use nr_units::source::Source;
 
-/// Items in a row. It is one type, so that what reads rows is there once.
+/// Bytes in a row.
 #[derive(Clone, Copy)]
-pub(crate) enum Row<'a> {
-    /// Bytes.
-    Bytes(&'a [u8]),
-    /// Elements of a text.
-    Elements(&'a [Element]),
-}
+pub(crate) struct ByteRow<'a>(pub(crate) &'a [u8]);
 
-impl<'a> Items for Row<'a> {
-    ghost fronts = { fronts_in };
+/// Elements of a text in a row.
+#[derive(Clone, Copy)]
+pub(crate) struct ElementRow<'a>(pub(crate) &'a [Element]);
+
+impl<'a> Items for ByteRow<'a> {
+    ghost fronts = { byte_fronts };
 
     #[inline(always)]
     fn count(&self) -> usize {
-        match self {
-            Row::Bytes(bytes) => bytes.len(),
-            Row::Elements(elements) => elements.len(),
-        }
+        self.0.len()
     }
 
     #[inline(always)]
     fn byte(&self, n: usize) -> Option<u8> {
-        match self {
-            Row::Bytes(bytes) => Some(bytes[n]),
-            Row::Elements(elements) => byte_at(elements, n),
-        }
+        Some(self.0[n])
     }
 }
 
-// The n-th element, where it is a byte.
-#[inline(always)]
-fn byte_at(elements: &[Element], n: usize) -> Option<u8>
-    requires { n < length elements.now }
-    ensures value { IfSome result (λ byte. slice_get (map element_front elements.now) n ≡ Some (variants.Byte byte)) }
-    ensures other { result ≡ None → (byte : ℕ) → slice_get (map element_front elements.now) n ≡ Some (variants.Byte byte) → ⊥ }
-{
-    match elements[n] {
-        Element::Byte(byte) => Some(byte),
-        _ => None,
-    }
-}
+impl<'a> Items for ElementRow<'a> {
+    ghost fronts = { element_fronts };
 
-impl<'a> Row<'a> {
-    /// What is left of a level.
     #[inline(always)]
-    pub(crate) fn of(rest: Rest<'a>) -> Self
-        ensures { fronts_in result ≡ map element_front (elements_in rest.entry) }
-    {
-        match rest {
-            Rest::Text(elements) => Row::Elements(elements),
-            Rest::Bytes(bytes) => Row::Bytes(bytes),
+    fn count(&self) -> usize {
+        self.0.len()
+    }
+
+    #[inline(always)]
+    fn byte(&self, n: usize) -> Option<u8> {
+        match self.0[n] {
+            Element::Byte(byte) => Some(byte),
+            _ => None,
         }
+    }
+}
+
+// What is left of a level is met, as `Half::meet_run` says.
+#[inline(always)]
+fn meet_level(half: &mut Half, rest: Rest<'_>) -> Run
+    ensures met { HasMet result.moves (map element_front (elements_in rest.entry)) half.old (spot result half.new) }
+    ensures few { result.moves ≤ 65536 }
+    ensures longest { result.event ≡ events.Nothing → half.new.reading.due ≡ dues.Look → result.moves < 65536
+        → (byte : ℕ) → slice_get (map element_front (elements_in rest.entry)) result.taken ≡ Some (variants.Byte byte) → ⊥ }
+{
+    match rest {
+        Rest::Text(elements) => half.meet_run(&ElementRow(elements)),
+        Rest::Bytes(bytes) => half.meet_run(&ByteRow(bytes)),
     }
 }
 
@@ -84,8 +85,7 @@ pub(crate) fn read_level<K: Copy>(reader: &mut Reader, store: &mut Store<K>) -> 
     ensures limits { limits_of store.new reader.new ≡ limits_of store.old reader.old }
     ensures longest { IsLongestInLevel result.moves store.old reader.old result.event store.new reader.new }
 {
-    let row = Row::of(store.rest());
-    let run = reader.half.meet_run(&row);
+    let run = meet_level(&mut reader.half, store.rest());
     store.skip(run.taken as u32);
     run
 }
@@ -107,7 +107,7 @@ pub(crate) fn read_source<K: Copy, R: Source>(
     ensures unfailed { has_failed place.old.ahead ≡ false → has_failed place.new.ahead ≡ false }
 {
     let bytes = window(place, store, source);
-    let run = reader.half.meet_run(&Row::Bytes(bytes));
+    let run = reader.half.meet_run(&ByteRow(bytes));
     if run.taken == 0 {
         return run;
     }

@@ -157,6 +157,7 @@ fn rotate_last<T: Copy>(elements: &mut [T], slots: &mut [Slot], used: u32, index
 
 // Moves the text at `index` behind all others, into the elements that end at `used`. Where the text that lies last is
 // as long, the two change places.
+#[inline(never)]
 fn move_last<T: Copy>(elements: &mut [T], slots: &mut [Slot], used: u32, index: usize)
     requires packed { IsPacked (length elements.old) slots.old used }
     requires within { index < length slots.old }
@@ -176,8 +177,8 @@ fn move_last<T: Copy>(elements: &mut [T], slots: &mut [Slot], used: u32, index: 
     rotate_last(elements, slots, used, index);
 }
 
-// The same in vectors.
-#[inline]
+// The same in vectors: at once where the text lies there or has no elements.
+#[inline(always)]
 pub(crate) fn bring_last<T: Copy>(
     elements: &mut Vec<T>,
     slots: &mut Vec<Slot>,
@@ -196,5 +197,13 @@ pub(crate) fn bring_last<T: Copy>(
     ensures elements_room { vec_capacity elements.new ≡ vec_capacity elements.old }
     ensures slots_room { vec_capacity slots.new ≡ vec_capacity slots.old }
 {
+    let Slot { start, len, .. } = slots[index];
+    if len == 0 {
+        slots[index].start = used;
+        return;
+    }
+    if start + len == used {
+        return;
+    }
     move_last(elements.as_mut_slice(), slots.as_mut_slice(), used, index);
 }

@@ -1,5 +1,6 @@
 -- The name of a control line, met at once.
-use Rattle.std.specs.Prelude.{slice_get, ◌==◌, ◌||◌, not, nat_le}
+use Rattle.std.specs.Prelude.{slice_get, ◌==◌, ◌||◌, nat_le}
+use Rattle.std.specs.Int.{from_bool}
 use Rattle.std.proofs.lemmas.Bool.{leb-false, ne_eqb}
 use Rattle.std.proofs.Common.{◌≡◌, ℕ, ◌+◌, ◌<◌, ◌≤◌, Bool, true, false, List, [], length, Some, refl, sym, subst, ap, ◌∙◌, arith}
 use Rattle.nr_reading.specs.declared.event.Event.TheVariants as events
@@ -10,15 +11,16 @@ use Rattle.nr_reading.specs.declared.mode.Due.TheVariants as dues
 use Rattle.nr_reading.specs.declared.mode.Escape.TheVariants as escapes
 use Rattle.nr_reading.specs.declared.mode.Mode.TheVariants as modes
 use Rattle.nr_reading.specs.declared.mode.Signs.{Signs}
+use Rattle.nr_reading.specs.declared.spelled.Spelled.{Spelled}
 use Rattle.nr_reading.specs.declared.notes.Notes.{Notes}
-use Rattle.nr_reading.specs.ControlNames.{goes_on_name, behind_name}
+use Rattle.nr_reading.specs.ControlNames.{IsSign, NameEnds, goes_on_name, behind_name}
 use Rattle.nr_reading.specs.Delimiting.{Texts}
 use Rattle.nr_reading.specs.Meeting.{reads_next}
 use Rattle.nr_reading.specs.Rows.{LeadsOn}
 use Rattle.nr_reading.specs.Spelling.{ends_name, is_blank, nothing_spelled, spelled}
 use Rattle.nr_reading.proofs.Asked.{half_at}
 use Rattle.nr_reading.proofs.PlainBytes.{neither}
-use Rattle.nr_reading.proofs.Rows.{MeetsByte, standing, stays, taken_more, left_more}
+use Rattle.nr_reading.proofs.Rows.{MeetsByte, standing, stays, taken_more, left_more, recount, apart_from}
 use Rattle.nr_reading.proofs.Weighing.{at}
 
 -- a byte that goes on a name
@@ -44,11 +46,6 @@ apart_blank b is =
 pub goes_on : (b : ℕ) → goes_on_name b ≡ true → GoesOn b
 goes_on b is = let two = neither (ends_name b) (b == 92) is in record { ends = two.0; blank = apart_blank b two.0; escape = two.1 }
 
--- the control character, or the no-break one
-abbrev pub IsSign : ℕ → Bool → Signs → Type 0
-IsSign b false s = (b == s.control) ≡ true
-IsSign b true s = ((b == s.control) ≡ false) × ((b == s.no_break) ≡ true)
-
 -- the byte is met, and nothing told
 abbrev Meets : ℕ → Half → Half → Bool → Type 0
 Meets b h k takes = MeetsByte b h k events.Nothing takes
@@ -61,44 +58,79 @@ module _ (c : Bool) (s : Signs) (d : Texts) (o : Notes) where
   meets_before : (b : ℕ) (n : Bool) → GoesOn b → Meets b (half_at (at modes.Control escapes.Plain c n) s [] d o) (half_at (at modes.Name escapes.Plain c n) s [] d o) false
   meets_before b n byte = rw (byte.escape, byte.blank) refl
 
-  meets_first : (b : ℕ) (n : Bool) → s.long ≡ false → GoesOn b
+  meets_first : (b : ℕ) (n long : Bool) → s.long ≡ long → GoesOn b
       → Meets b (half_at (at modes.Name escapes.Plain c n) s [] d (record o { name = nothing_spelled })) (half_at (at modes.Name escapes.Plain c n) s [] d (record o { name = spelled b nothing_spelled })) true
-  meets_first b n short byte = rw (byte.escape, byte.ends, short) refl
+  meets_first b n false is byte = rw (byte.escape, byte.ends, is) refl
+  meets_first b n true is byte = rw (byte.escape, byte.ends, is) refl
 
   meets_second : (a b : ℕ) (n : Bool) → s.long ≡ false → GoesOn b
       → Meets b (half_at (at modes.Name escapes.Plain c n) s [] d (record o { name = spelled a nothing_spelled }))
       (half_at (record (at modes.Name escapes.Plain c n) { due = dues.Seek }) s [] d (record o { name = spelled b (spelled a nothing_spelled) })) true
   meets_second a b n short byte = rw (byte.escape, byte.ends, short) refl
 
--- the sign and the two bytes that come at a place of a row
-pub met-name : (fs : List Front) (place n : ℕ) (h : Half) (sign a b : ℕ) (quiets : Bool) → h.reading.mode ≡ modes.Start → reads_next h ≡ true → h.signs.long ≡ false
-    → place + 3 ≤ length fs → slice_get fs place ≡ Some (fronts.Byte sign) → slice_get fs (place + 1) ≡ Some (fronts.Byte a) → slice_get fs (place + 2) ≡ Some (fronts.Byte b)
-    → IsSign sign quiets h.signs → goes_on_name a ≡ true → goes_on_name b ≡ true → LeadsOn fs place n h (place + 3) (n + 4) (behind_name quiets a b h)
-met-name fs place n h sign a b quiets start next short long first second third is goes_a goes_b =
-    let c = h.reading.continued in
-    let s = h.signs in
-    let d = h.delimited in
-    let o = h.notes in
-    let h0 : Half = half_at (at modes.Start escapes.Plain c h.reading.no_break) s [] d o in
-    let h1 : Half = half_at (at modes.Control escapes.Plain c quiets) s [] d (record o { name = nothing_spelled }) in
-    let h2 : Half = half_at (at modes.Name escapes.Plain c quiets) s [] d (record o { name = nothing_spelled }) in
-    let h3 : Half = half_at (at modes.Name escapes.Plain c quiets) s [] d (record o { name = spelled a nothing_spelled }) in
-    let h4 : Half = half_at (record (at modes.Name escapes.Plain c quiets) { due = dues.Seek }) s [] d (record o { name = spelled b (spelled a nothing_spelled) }) in
-    let is_h : h ≡ h0 = standing modes.Start h start next in
-    let on_a = goes_on a goes_a in
-    let on_b = goes_on b goes_b in
-    let m1 = taken_more fs place n place n sign h0 h0 h1 (stays fs place n h0) (omega (arith, long)) refl first (meets_sign c s d o sign h.reading.no_break quiets is) in
-    let m2 = left_more fs place n (place + 1) (n + 1) a h0 h1 h2 m1 (omega (arith, long)) refl second (meets_before c s d (record o { name = nothing_spelled }) a quiets on_a) in
-    let m3 = taken_more fs place n (place + 1) (n + 1 + 1) a h0 h2 h3 m2 (omega (arith, long)) refl second (meets_first c s d o a quiets short on_a) in
-    let at_third : place + 1 + 1 ≡ place + 2 = omega arith in
-    let m4 = taken_more fs place n (place + 1 + 1) (n + 1 + 1 + 1) b h0 h3 h4 m3 (omega (arith, long)) refl (ap (slice_get fs) at_third ∙ third) (meets_second c s d o a b quiets short on_b) in
-    let same : behind_name quiets a b h ≡ h4 = ap (behind_name quiets a b) is_h in
-    let to : place + 1 + 1 + 1 ≡ place + 3 = omega arith in
-    let moves : n + 1 + 1 + 1 + 1 ≡ n + 4 = omega arith in
-    let there : LeadsOn fs place n h0 (place + 3) (n + 4) h4 = subst (λ m. LeadsOn fs place n h0 (place + 3) m h4) moves (subst (λ t. LeadsOn fs place n h0 t (n + 1 + 1 + 1 + 1) h4) to m4) in
-    subst (λ (k : Half). LeadsOn fs place n h (place + 3) (n + 4) k) (sym same) (subst (λ (k : Half). LeadsOn fs place n k (place + 3) (n + 4) h4) (sym is_h) there)
+  meets_another : (b : ℕ) (n : Bool) (name : Spelled) → s.long ≡ true → GoesOn b
+      → Meets b (half_at (at modes.Name escapes.Plain c n) s [] d (record o { name = name })) (half_at (at modes.Name escapes.Plain c n) s [] d (record o { name = spelled b name })) true
+  meets_another b n name long byte = rw (byte.escape, byte.ends, long) refl
 
--- the sign is one of the two
-pub is_sign : (b : ℕ) (s : Signs) (x : Bool) → (b == s.control) ≡ x → (x ≡ false → (b == s.no_break) ≡ true) → IsSign b (not x) s
-is_sign b s true is other = is
-is_sign b s false is other = (is, other refl)
+  meets_end : (b : ℕ) (n : Bool) (name : Spelled) → ends_name b ≡ true
+      → Meets b (half_at (at modes.Name escapes.Plain c n) s [] d (record o { name = name })) (half_at (record (at modes.Name escapes.Plain c n) { due = dues.Seek }) s [] d (record o { name = name })) false
+  meets_end b n name ends = rw (apart_from ends_name b 92 ends refl, ends) refl
+
+-- the sign and the first byte of the name that come at a place of a row
+module _ (fs : List Front) (place n : ℕ) (h : Half) (sign a : ℕ) (quiets : Bool) (start : h.reading.mode ≡ modes.Start) (next : reads_next h ≡ true) (within : place + 3 ≤ length fs)
+    (first : slice_get fs place ≡ Some (fronts.Byte sign)) (second : slice_get fs (place + 1) ≡ Some (fronts.Byte a)) (is : IsSign sign quiets h.signs) (goes_a : goes_on_name a ≡ true) where
+  abbrev before : Half
+  before = half_at (at modes.Start escapes.Plain h.reading.continued h.reading.no_break) h.signs [] h.delimited h.notes
+
+  abbrev naming : Spelled → Half
+  naming name = half_at (at modes.Name escapes.Plain h.reading.continued quiets) h.signs [] h.delimited (record h.notes { name = name })
+
+  same : h ≡ before
+  same = standing modes.Start h start next
+
+  begun : LeadsOn fs place n h (place + 1 + 1) (n + 1 + 1 + 1) (naming (spelled a nothing_spelled))
+  begun =
+      let c = h.reading.continued in
+      let s = h.signs in
+      let d = h.delimited in
+      let o = h.notes in
+      let controlled : Half = half_at (at modes.Control escapes.Plain c quiets) s [] d (record o { name = nothing_spelled }) in
+      let on_a = goes_on a goes_a in
+      let here = subst (λ (k : Half). LeadsOn fs place n h place n k) same (stays fs place n h) in
+      let one = taken_more fs place n place n sign h before controlled here (omega (arith, within)) refl first (meets_sign c s d o sign h.reading.no_break quiets is) in
+      let two = left_more fs place n (place + 1) (n + 1) a h controlled (naming nothing_spelled) one (omega (arith, within)) refl second (meets_before c s d (record o { name = nothing_spelled }) a quiets on_a) in
+      taken_more fs place n (place + 1) (n + 1 + 1) a h (naming nothing_spelled) (naming (spelled a nothing_spelled)) two (omega (arith, within)) refl second (meets_first c s d o a quiets s.long refl on_a)
+
+  -- the same, for the machine as it was
+  named : (to moves to' moves' : ℕ) (name : Spelled) → to ≡ to' → moves ≡ moves' → LeadsOn fs place n h to moves (behind_name quiets name before) → LeadsOn fs place n h to' moves' (behind_name quiets name h)
+  named to moves to' moves' name place_is count leads =
+      subst (λ (k : Half). LeadsOn fs place n h to' moves' (behind_name quiets name k)) (sym same) (recount fs place n to to' moves moves' h (behind_name quiets name before) leads place_is count)
+
+  -- a name of one byte
+  pub met-lone : (b : ℕ) → slice_get fs (place + 2) ≡ Some (fronts.Byte b) → ends_name b ≡ true → LeadsOn fs place n h (place + 2) (n + 4) (behind_name quiets (spelled a nothing_spelled) h)
+  met-lone b third ends =
+      let name = spelled a nothing_spelled in
+      let at_third : place + 1 + 1 ≡ place + 2 = omega arith in
+      named (place + 1 + 1) (n + 1 + 1 + 1 + 1) (place + 2) (n + 4) name at_third (omega arith)
+      (left_more fs place n (place + 1 + 1) (n + 1 + 1 + 1) b h (naming name) (behind_name quiets name before) begun (omega (arith, within)) refl (ap (slice_get fs) at_third ∙ third)
+      (meets_end h.reading.continued h.signs h.delimited h.notes b quiets name ends))
+
+  -- a name of two, where names are long with the byte that ends it
+  pub met-pair : (b : ℕ) (long : Bool) → h.signs.long ≡ long → slice_get fs (place + 2) ≡ Some (fronts.Byte b) → goes_on_name b ≡ true → (long ≡ true → NameEnds fs (place + 3))
+      → LeadsOn fs place n h (place + 3) (n + (4 + from_bool long)) (behind_name quiets (spelled b (spelled a nothing_spelled)) h)
+  met-pair b false short third goes_b ends =
+      let name = spelled b (spelled a nothing_spelled) in
+      let at_third : place + 1 + 1 ≡ place + 2 = omega arith in
+      named (place + 1 + 1 + 1) (n + 1 + 1 + 1 + 1) (place + 3) (n + (4 + 0)) name (omega arith) (omega arith)
+      (taken_more fs place n (place + 1 + 1) (n + 1 + 1 + 1) b h (naming (spelled a nothing_spelled)) (behind_name quiets name before) begun (omega (arith, within)) refl (ap (slice_get fs) at_third ∙ third)
+      (meets_second h.reading.continued h.signs h.delimited h.notes a b quiets short (goes_on b goes_b)))
+  met-pair b true long third goes_b ends =
+      let name = spelled b (spelled a nothing_spelled) in
+      let at_third : place + 1 + 1 ≡ place + 2 = omega arith in
+      let at_end : place + 1 + 1 + 1 ≡ place + 3 = omega arith in
+      let end = ends refl in
+      let two = taken_more fs place n (place + 1 + 1) (n + 1 + 1 + 1) b h (naming (spelled a nothing_spelled)) (naming name) begun (omega (arith, within)) refl (ap (slice_get fs) at_third ∙ third)
+      (meets_another h.reading.continued h.signs h.delimited h.notes b quiets (spelled a nothing_spelled) long (goes_on b goes_b)) in
+      named (place + 1 + 1 + 1) (n + 1 + 1 + 1 + 1 + 1) (place + 3) (n + (4 + 1)) name at_end (omega arith)
+      (left_more fs place n (place + 1 + 1 + 1) (n + 1 + 1 + 1 + 1) end.byte h (naming name) (behind_name quiets name before) two (omega (arith, end.within)) refl (ap (slice_get fs) at_end ∙ end.stands)
+      (meets_end h.reading.continued h.signs h.delimited h.notes end.byte quiets name end.ends))

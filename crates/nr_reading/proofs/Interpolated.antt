@@ -23,6 +23,7 @@ use Rattle.nr_reading.specs.declared.notes.Notes.{Notes}
 use Rattle.nr_reading.specs.Asking.{begun_ask, at_stage, with_byte, is_given, due_of, event_of}
 use Rattle.nr_reading.specs.Delimiting.{Texts}
 use Rattle.nr_reading.specs.Interpolations.{interpolates_in, interpolates, is_lone_name, is_named, begun, named}
+use Rattle.nr_reading.specs.LineBeginnings.{text_begun}
 use Rattle.nr_reading.specs.Meeting.{meet, reads_plainly, reads_plainly_at}
 use Rattle.nr_reading.specs.Modes.{is_direct, reads_name}
 use Rattle.nr_reading.specs.Passing.{is_plain, quiet}
@@ -108,6 +109,13 @@ module _ (c n : Bool) (s : Signs) (d : Texts) (o : Notes) where
   string_asked modes.Start is = refl
   string_asked m is = copied_string m (not-true (is_direct m) is)
 
+  font_asked : (m : Mode) → m ≡ modes.Text → Tells 102 (escaped_half m) (asking_half m (begun_ask kinds.Font)) events.Nothing
+  font_asked m is = rw is refl
+
+  -- at a line's beginning it begins the text first
+  font_begins : (m : Mode) → m ≡ modes.Start → meet (fronts.Byte 102) (escaped_half m) ≡ record { half = half_at (at modes.Text escapes.Begun false n) s [] d o; event = events.Nothing; takes = false }
+  font_begins m is = rw is refl
+
   -- ---- what is asked for
 
   -- the number of an argument
@@ -127,24 +135,28 @@ module _ (c n : Bool) (s : Signs) (d : Texts) (o : Notes) where
   -- a name of one byte
   lone_ends : (k : Kind) (b : ℕ) (m : Mode) → is_named k ≡ true → IsLone b → Tells b (asking_half m (begun_ask k)) (named k (b ∷ []) (plain_half m)) (event_of k (b ∷ []))
   lone_ends kinds.String b m is byte = rw (byte.escape, byte.newline, byte.two, byte.bracket, byte.plus, byte.minus) refl
+  lone_ends kinds.Font b m is byte = rw (byte.escape, byte.newline, byte.two, byte.bracket, byte.plus, byte.minus) refl
   lone_ends (kinds.Register s) b m is byte = rw (byte.escape, byte.newline, byte.two, byte.bracket, byte.plus, byte.minus) refl
   lone_ends k b m is byte = absurd (let wrong : false ≡ true = is in cc)
 
   -- one of two
   two_begin : (k : Kind) (m : Mode) → is_named k ≡ true → Tells 40 (asking_half m (begun_ask k)) (asking_half m (at_stage stages.Two (begun_ask k))) events.Nothing
   two_begin kinds.String m is = refl
+  two_begin kinds.Font m is = refl
   two_begin (kinds.Register s) m is = refl
   two_begin k m is = absurd (let wrong : false ≡ true = is in cc)
 
   first_read : (k : Kind) (a : ℕ) (m : Mode) → is_named k ≡ true → IsApart a
       → Tells a (asking_half m (at_stage stages.Two (begun_ask k))) (asking_half m (with_byte a (at_stage stages.Two (begun_ask k)))) events.Nothing
   first_read kinds.String a m is byte = rw (byte.escape, byte.newline) refl
+  first_read kinds.Font a m is byte = rw (byte.escape, byte.newline) refl
   first_read (kinds.Register s) a m is byte = rw (byte.escape, byte.newline) refl
   first_read k a m is byte = absurd (let wrong : false ≡ true = is in cc)
 
   second_ends : (k : Kind) (a b : ℕ) (m : Mode) → is_named k ≡ true → IsApart b
       → Tells b (asking_half m (with_byte a (at_stage stages.Two (begun_ask k)))) (named k (a ∷ b ∷ []) (plain_half m)) (event_of k (a ∷ b ∷ []))
   second_ends kinds.String a b m is byte = rw (byte.escape, byte.newline) refl
+  second_ends kinds.Font a b m is byte = rw (byte.escape, byte.newline) refl
   second_ends (kinds.Register s) a b m is byte = rw (byte.escape, byte.newline) refl
   second_ends k a b m is byte = absurd (let wrong : false ≡ true = is in cc)
 
@@ -155,6 +167,14 @@ tells_more : (k taken b : ℕ) (fs : List Front) (h j new : Half) (e : Event) �
     → HasMet (k + 1) fs h (record { taken = taken + 1; half = new; event = e })
 tells_more k taken b fs h j new e has within look some tells =
     met_counted k taken 1 b fs h j new (record { event = e; takes = true }) has within look some (sym tells) (pays_for (fronts.Byte b) j new (record { event = e; takes = true }) (sym tells) look) refl
+
+-- one byte is looked at, and left
+left_once : (k taken b : ℕ) (fs : List Front) (h j new : Half) → HasMet k fs h (quiet taken j) → taken < length fs → j.reading.due ≡ dues.Look → slice_get fs taken ≡ Some (fronts.Byte b)
+    → meet (fronts.Byte b) j ≡ record { half = new; event = events.Nothing; takes = false } → HasMet (k + 1) fs h (quiet taken new)
+left_once k taken b fs h j new has within look some left =
+    let none : taken + 0 ≡ taken = omega arith in
+    subst (λ t. HasMet (k + 1) fs h (quiet t new)) none
+    (met_counted k taken 0 b fs h j new (record { event = events.Nothing; takes = false }) has within look some (sym left) (pays_for (fronts.Byte b) j new (record { event = events.Nothing; takes = false }) (sym left) look) refl)
 
 -- where so many items, that many moves, were met behind a place, and the last told this
 abbrev pub MetBehind : List Front → ℕ → ℕ → Half → Half → Event → Type 0
@@ -223,6 +243,25 @@ module _ (fs : List Front) (place : ℕ) (j : Half) (is : interpolates j ≡ tru
       → (h : Half) (m : ℕ) → HasMet m fs h (quiet place j) → HasMet (m + 2) fs h (quiet (place + 2) (begun kinds.String j))
   string_met within first second = asked kinds.String 42 within first second (string_asked c n j.signs j.delimited j.notes j.reading.mode in_mode)
 
+  pub font_met : j.reading.mode ≡ modes.Text → place + 1 < length fs → slice_get fs place ≡ Some (fronts.Byte 92) → slice_get fs (place + 1) ≡ Some (fronts.Byte 102)
+      → (h : Half) (m : ℕ) → HasMet m fs h (quiet place j) → HasMet (m + 2) fs h (quiet (place + 2) (begun kinds.Font j))
+  font_met text within first second = asked kinds.Font 102 within first second (font_asked c n j.signs j.delimited j.notes j.reading.mode text)
+
+  -- a font escape whose name is one byte, where it begins the text of a line
+  pub font_begun : j.reading.mode ≡ modes.Start → (b : ℕ) → place + 2 < length fs → slice_get fs place ≡ Some (fronts.Byte 92) → slice_get fs (place + 1) ≡ Some (fronts.Byte 102) → slice_get fs (place + 2) ≡ Some (fronts.Byte b) → IsLone b
+      → (h : Half) (m : ℕ) → HasMet m fs h (quiet place j) → HasMet (m + 4) fs h (record { taken = place + 3; half = named kinds.Font (b ∷ []) (text_begun j); event = events.Font })
+  font_begun start b within first second third byte = λ h m has.
+      let began : Half = escaped_half false n j.signs j.delimited j.notes modes.Text in
+      let waits : Half = asking_half false n j.signs j.delimited j.notes modes.Text (begun_ask kinds.Font) in
+      let ended : Half = named kinds.Font (b ∷ []) (plain_half false n j.signs j.delimited j.notes modes.Text) in
+      let at_b : place + 1 + 1 ≡ place + 2 = omega arith in
+      let one = tells_more m place 92 fs h there escaped_there events.Nothing (subst (λ (x : Half). HasMet m fs h (quiet place x)) j_is has) (omega (arith, within)) refl first (backslash c n j.signs j.delimited j.notes j.reading.mode in_mode) in
+      let two = left_once (m + 1) (place + 1) 102 fs h escaped_there began one (omega (arith, within)) refl second (font_begins c n j.signs j.delimited j.notes j.reading.mode start) in
+      let three = tells_more (m + 1 + 1) (place + 1) 102 fs h began waits events.Nothing two (omega (arith, within)) refl second (font_asked false n j.signs j.delimited j.notes modes.Text refl) in
+      let four = tells_more (m + 1 + 1 + 1) (place + 1 + 1) b fs h waits ended events.Font three (omega (arith, within)) refl (ap (slice_get fs) at_b ∙ third) (lone_ends false n j.signs j.delimited j.notes kinds.Font b modes.Text refl byte) in
+      recount (m + 1 + 1 + 1 + 1) (m + 4) (place + 1 + 1 + 1) (place + 3) ended (named kinds.Font (b ∷ []) (text_begun j)) events.Font fs h four (omega arith) (omega arith)
+      (ap (λ (x : Half). named kinds.Font (b ∷ []) (text_begun x)) (sym j_is))
+
   -- one item more of it, where this was asked
   ask_more : (k k' : Kind) (before b : ℕ) → place + before < length fs → slice_get fs (place + before) ≡ Some (fronts.Byte b) → Tells b (asking_there (begun_ask k)) (asking_there (begun_ask k')) events.Nothing
       → (h : Half) (m : ℕ) → HasMet (m + before) fs h (quiet (place + before) (begun k j)) → HasMet (m + (before + 1)) fs h (quiet (place + (before + 1)) (begun k' j))
@@ -281,6 +320,7 @@ module _ (fs : List Front) (place : ℕ) (j : Half) (is : interpolates j ≡ tru
 -- where nothing is told behind a name something is due
 pub named_waits : (k : Kind) (name : List ℕ) → is_named k ≡ true → event_of k name ≡ events.Nothing → due_of k name ≡ dues.Look → ⊥
 named_waits kinds.String name is silent look = let wrong : ⊥ = cc in wrong
+named_waits kinds.Font name is silent look = let wrong : ⊥ = cc in wrong
 named_waits (kinds.Register s) name is silent look = by (is_given name) silent look
   where
     by : (given : Bool) → (if given then events.Given else events.Nothing) ≡ events.Nothing → (if given then dues.Look else dues.Register s) ≡ dues.Look → ⊥

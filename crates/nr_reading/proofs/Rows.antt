@@ -10,6 +10,7 @@ use Rattle.nr_reading.specs.declared.event.Event.TheVariants as events
 use Rattle.nr_reading.specs.declared.front.Front.{Front}
 use Rattle.nr_reading.specs.declared.front.Front.TheVariants as fronts
 use Rattle.nr_reading.specs.declared.half.Half.{Half}
+use Rattle.nr_reading.specs.declared.half.Seen.{Seen}
 use Rattle.nr_reading.specs.declared.mode.Due.{Due}
 use Rattle.nr_reading.specs.declared.mode.Due.TheVariants as dues
 use Rattle.nr_reading.specs.declared.mode.Escape.{Escape}
@@ -19,7 +20,7 @@ use Rattle.nr_reading.specs.declared.mode.Mode.TheVariants as modes
 use Rattle.nr_reading.specs.declared.mode.Signs.{Signs}
 use Rattle.nr_reading.specs.declared.notes.Notes.{Notes}
 use Rattle.nr_reading.specs.declared.runs.Run.{Run}
-use Rattle.nr_reading.specs.Meeting.{meet, reads_next, reads_next_at, reads_plainly}
+use Rattle.nr_reading.specs.Meeting.{meet, met, reads_next, reads_next_at, reads_plainly}
 use Rattle.nr_reading.specs.Passing.{quiet}
 use Rattle.nr_reading.specs.Delimiting.{Texts}
 use Rattle.nr_reading.specs.Rows.{LeadsOn, MeetsRest, drops_blank}
@@ -95,6 +96,20 @@ module _ (fs : List Front) (from made : ℕ) where
         few = omega (arith, few);
         longest = λ silent due. absurd (stops silent due);
       })
+
+  -- one place is led to from another
+  pub leads_behind : (to moves to' moves' : ℕ) (old mid new : Half) → LeadsOn fs from made old to moves mid → LeadsOn fs to moves mid to' moves' new → LeadsOn fs from made old to' moves' new
+  leads_behind to moves to' moves' old mid new leads more = record { met = λ h has. more.met h (leads.met h has) }
+
+  -- a byte that was met leads on, where it tells nothing
+  pub leads_met : (to moves more b : ℕ) (old mid now new : Half) (seen : Seen) → LeadsOn fs from made old to moves mid → now ≡ mid → to < length fs → mid.reading.due ≡ dues.Look → slice_get fs to ≡ Some (fronts.Byte b)
+      → met new seen ≡ meet (fronts.Byte b) now → more ≡ from_bool seen.takes → seen.event ≡ events.Nothing → LeadsOn fs from made old (to + more) (moves + 1) new
+  leads_met to moves more b old mid now new seen leads same within look some meets is silent =
+      let meets_mid = meets ∙ ap (meet (fronts.Byte b)) same in
+      record {
+        met = λ h has. subst (λ e. HasMet (moves + 1) fs h (record { taken = to + more; half = new; event = e })) silent
+            (met_counted moves to more b fs h mid new seen (leads.met h has) within look some meets_mid (pays_for (fronts.Byte b) mid new seen meets_mid look) is);
+      }
 
   -- behind a place that was led to the rest is met
   pub rest_behind : (to moves : ℕ) (old mid new : Half) (run : Run) → LeadsOn fs from made old to moves mid → MeetsRest fs to moves mid run new → MeetsRest fs from made old run new

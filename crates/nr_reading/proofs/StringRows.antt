@@ -1,6 +1,7 @@
 -- The definitions of strings in a row of items.
 use Rattle.std.specs.Prelude.{slice_get, ◌==◌}
-use Rattle.std.proofs.Common.{◌≡◌, ℕ, ◌+◌, ◌<◌, true, false, List, [], length, Some, refl, sym, subst, arith}
+use Rattle.std.specs.Int.{from_bool}
+use Rattle.std.proofs.Common.{◌≡◌, ℕ, ◌+◌, ◌<◌, Bool, true, false, List, [], length, Some, refl, sym, subst, ap, ◌∙◌, arith}
 use Rattle.nr_reading.specs.declared.event.Event.TheVariants as events
 use Rattle.nr_reading.specs.declared.front.Front.{Front}
 use Rattle.nr_reading.specs.declared.front.Front.TheVariants as fronts
@@ -9,17 +10,17 @@ use Rattle.nr_reading.specs.declared.mode.Due.TheVariants as dues
 use Rattle.nr_reading.specs.declared.mode.Escape.TheVariants as escapes
 use Rattle.nr_reading.specs.declared.mode.Mode.TheVariants as modes
 use Rattle.nr_reading.specs.declared.spelled.Spelled.{Spelled}
-use Rattle.nr_reading.specs.ControlNames.{goes_on_name}
+use Rattle.nr_reading.specs.ControlNames.{NameEnds, goes_on_name}
 use Rattle.nr_reading.specs.Meeting.{reads_next}
 use Rattle.nr_reading.specs.Rows.{LeadsOn}
 use Rattle.nr_reading.specs.Spelling.{is_blank, ends_name, nothing_spelled, spelled}
 use Rattle.nr_reading.specs.StringRows.{behind_name}
 use Rattle.nr_reading.proofs.Asked.{half_at}
 use Rattle.nr_reading.proofs.ControlNames.{goes_on}
-use Rattle.nr_reading.proofs.Rows.{MeetsByte, standing, taken_more, left_more}
+use Rattle.nr_reading.proofs.Rows.{MeetsByte, standing, taken_more, left_more, recount, apart_from}
 use Rattle.nr_reading.proofs.Weighing.{at}
 
-module _ (fs : List Front) (from made to moves : ℕ) (old h : Half) (leads : LeadsOn fs from made old to moves h) (mode : h.reading.mode ≡ modes.StringBefore) (next : reads_next h ≡ true) (short : h.signs.long ≡ false)
+module _ (fs : List Front) (from made to moves : ℕ) (old h : Half) (leads : LeadsOn fs from made old to moves h) (mode : h.reading.mode ≡ modes.StringBefore) (next : reads_next h ≡ true)
     (a b : ℕ) (within : to + 1 < length fs) (first : slice_get fs to ≡ Some (fronts.Byte a)) (second : slice_get fs (to + 1) ≡ Some (fronts.Byte b)) (goes_a : goes_on_name a ≡ true) where
   abbrev there : Half
   there = half_at (at modes.StringBefore escapes.Plain h.reading.continued h.reading.no_break) h.signs [] h.delimited h.notes
@@ -30,12 +31,17 @@ module _ (fs : List Front) (from made to moves : ℕ) (old h : Half) (leads : Le
   same : h ≡ there
   same = standing modes.StringBefore h mode next
 
+  -- whether names are long or not
+  meets_first : (long : Bool) → h.signs.long ≡ long → MeetsByte a (naming nothing_spelled) (naming (spelled a nothing_spelled)) events.Nothing true
+  meets_first false is = let on_a = goes_on a goes_a in rw (on_a.escape, on_a.ends, is) refl
+  meets_first true is = let on_a = goes_on a goes_a in rw (on_a.escape, on_a.ends, is) refl
+
   -- the first byte
   begun : LeadsOn fs from made old (to + 1) (moves + 1 + 1) (naming (spelled a nothing_spelled))
   begun =
       let on_a = goes_on a goes_a in
       let one = left_more fs from made to moves a old there (naming nothing_spelled) (subst (λ (x : Half). LeadsOn fs from made old to moves x) same leads) (omega (arith, within)) refl first (rw (on_a.escape, on_a.blank) refl) in
-      taken_more fs from made to (moves + 1) a old (naming nothing_spelled) (naming (spelled a nothing_spelled)) one (omega (arith, within)) refl first (rw (on_a.escape, on_a.ends, short) refl)
+      taken_more fs from made to (moves + 1) a old (naming nothing_spelled) (naming (spelled a nothing_spelled)) one (omega (arith, within)) refl first (meets_first h.signs.long refl)
 
   -- a name of one byte
   pub lone_named : (b == 92) ≡ false → ends_name b ≡ true → LeadsOn fs from made old (to + 1) (moves + 1 + 1 + 1) (behind_name (spelled a nothing_spelled) h)
@@ -43,12 +49,25 @@ module _ (fs : List Front) (from made to moves : ℕ) (old h : Half) (leads : Le
       subst (λ (x : Half). LeadsOn fs from made old (to + 1) (moves + 1 + 1 + 1) (behind_name (spelled a nothing_spelled) x)) (sym same)
       (left_more fs from made (to + 1) (moves + 1 + 1) b old (naming (spelled a nothing_spelled)) (behind_name (spelled a nothing_spelled) there) begun within refl second (rw (plain, ends) refl))
 
-  -- a name of two
-  pub pair_named : goes_on_name b ≡ true → LeadsOn fs from made old (to + 1 + 1) (moves + 1 + 1 + 1) (behind_name (spelled b (spelled a nothing_spelled)) h)
-  pair_named goes_b =
+  -- a name of two, where names are long with the byte that ends it
+  pub pair_named : (long : Bool) → h.signs.long ≡ long → goes_on_name b ≡ true → (long ≡ true → NameEnds fs (to + 2))
+      → LeadsOn fs from made old (to + 2) (moves + (3 + from_bool long)) (behind_name (spelled b (spelled a nothing_spelled)) h)
+  pair_named false short goes_b ends =
       let on_b = goes_on b goes_b in
-      subst (λ (x : Half). LeadsOn fs from made old (to + 1 + 1) (moves + 1 + 1 + 1) (behind_name (spelled b (spelled a nothing_spelled)) x)) (sym same)
-      (taken_more fs from made (to + 1) (moves + 1 + 1) b old (naming (spelled a nothing_spelled)) (behind_name (spelled b (spelled a nothing_spelled)) there) begun within refl second (rw (on_b.escape, on_b.ends, short) refl))
+      let name = spelled b (spelled a nothing_spelled) in
+      subst (λ (x : Half). LeadsOn fs from made old (to + 2) (moves + (3 + 0)) (behind_name name x)) (sym same)
+      (recount fs from made (to + 1 + 1) (to + 2) (moves + 1 + 1 + 1) (moves + (3 + 0)) old (behind_name name there)
+      (taken_more fs from made (to + 1) (moves + 1 + 1) b old (naming (spelled a nothing_spelled)) (behind_name name there) begun within refl second (rw (on_b.escape, on_b.ends, short) refl)) (omega arith) (omega arith))
+  pair_named true long goes_b ends =
+      let on_b = goes_on b goes_b in
+      let name = spelled b (spelled a nothing_spelled) in
+      let at_end : to + 1 + 1 ≡ to + 2 = omega arith in
+      let end = ends refl in
+      let two = taken_more fs from made (to + 1) (moves + 1 + 1) b old (naming (spelled a nothing_spelled)) (naming name) begun within refl second (rw (on_b.escape, on_b.ends, long) refl) in
+      subst (λ (x : Half). LeadsOn fs from made old (to + 2) (moves + (3 + 1)) (behind_name name x)) (sym same)
+      (recount fs from made (to + 1 + 1) (to + 2) (moves + 1 + 1 + 1 + 1) (moves + (3 + 1)) old (behind_name name there)
+      (left_more fs from made (to + 1 + 1) (moves + 1 + 1 + 1) end.byte old (naming name) (behind_name name there) two (omega (arith, end.within)) refl (ap (slice_get fs) at_end ∙ end.stands)
+      (rw (apart_from ends_name end.byte 92 end.ends refl, end.ends) refl)) at_end (omega arith))
 
 -- ---- the text
 

@@ -1,17 +1,33 @@
 -- The name of a control line, met at once (CSTR 54, 1.1).
-use Rattle.std.specs.Prelude.{ℕ, ◌==◌, ◌||◌, not, Bool}
+use Rattle.std.specs.Prelude.{◌≡◌, ℕ, ◌<◌, ◌==◌, ◌||◌, not, Bool, true, false, List, length, slice_get, Some}
+use Rattle.nr_reading.specs.declared.front.Front.{Front}
+use Rattle.nr_reading.specs.declared.front.Front.TheVariants as fronts
 use Rattle.nr_reading.specs.declared.half.Half.{Half}
 use Rattle.nr_reading.specs.declared.mode.Due.TheVariants as dues
 use Rattle.nr_reading.specs.declared.mode.Mode.TheVariants as modes
-use Rattle.nr_reading.specs.Spelling.{ends_name, nothing_spelled, spelled}
+use Rattle.nr_reading.specs.declared.mode.Signs.{Signs}
+use Rattle.nr_reading.specs.declared.spelled.Spelled.{Spelled}
+use Rattle.nr_reading.specs.Spelling.{ends_name}
 
 -- the byte goes on a name, and begins no escape
 abbrev pub goes_on_name : ℕ → Bool
 goes_on_name b = not (ends_name b || (b == 92))
 
--- behind the control character and a name of two bytes, which is to be looked up
-abbrev pub behind_name : Bool → ℕ → ℕ → Half → Half
-behind_name no_break first second h = record h {
+-- the byte is the control character, or the no-break one
+abbrev pub IsSign : ℕ → Bool → Signs → Type 0
+IsSign b false s = (b == s.control) ≡ true
+IsSign b true s = ((b == s.control) ≡ false) × ((b == s.no_break) ≡ true)
+
+-- a byte that ends a name stands at a place of a row
+pub record NameEnds (fs : List Front) (place : ℕ) : Type 0 where
+  pub byte : ℕ
+  pub within : place < length fs
+  pub stands : slice_get fs place ≡ Some (fronts.Byte byte)
+  pub ends : ends_name byte ≡ true
+
+-- behind the control character and a name, which is to be looked up
+abbrev pub behind_name : Bool → Spelled → Half → Half
+behind_name no_break name h = record h {
   reading = record h.reading { mode = modes.Name; due = dues.Seek; no_break = no_break };
-  notes = record h.notes { name = spelled second (spelled first nothing_spelled) };
+  notes = record h.notes { name = name };
 }

@@ -1,4 +1,4 @@
--- Interpolations that stand whole in a row of items (CSTR 54, 7.2, 7.3, 8; the groff manual, Copy Mode).
+-- Interpolations and font escapes that stand whole in a row of items (CSTR 54, 2, 7.2, 7.3, 8; the groff manual, Copy Mode).
 use Rattle.std.specs.Prelude.{ℕ, ◌==◌, ◌&&◌, ◌||◌, not, Bool, true, false, List, [], ◌∷◌}
 use Rattle.nr_reading.specs.declared.ask.Kind.{Kind}
 use Rattle.nr_reading.specs.declared.ask.Kind.TheVariants as kinds
@@ -23,9 +23,10 @@ interpolates h = reads_plainly h && interpolates_in h.reading.mode h.signs
 abbrev pub is_lone_name : ℕ → Bool
 is_lone_name b = not ((b == 92) || (b == 10) || (b == 40) || (b == 91) || (b == 43) || (b == 45))
 
--- the escape asks for a name, of a string or a register
+-- the escape asks for a name, of a string, a register or a font
 abbrev pub is_named : Kind → Bool
 is_named kinds.String = true
+is_named kinds.Font = true
 is_named (kinds.Register s) = true
 is_named k = false
 

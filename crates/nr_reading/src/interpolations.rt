@@ -1,4 +1,4 @@
-//! Interpolations that stand whole in a row, met at once.
+//! Interpolations and font escapes that stand whole in a row, met at once.
 ghost use Rattle.std.specs.Prelude.{◌≡◌, ◌+◌, ◌<◌, ◌≤◌, ℕ, length, slice_get, Some, None, IfSome, true};
 ghost use Rattle.nr_reading.specs.declared.ask.Kind.TheVariants as kinds;
 ghost use Rattle.nr_reading.specs.declared.ask.Sign.TheVariants as signs;
@@ -6,7 +6,8 @@ ghost use Rattle.nr_reading.specs.declared.event.Event.TheVariants as events;
 ghost use Rattle.nr_reading.specs.declared.front.Front.TheVariants as variants;
 ghost use Rattle.nr_reading.specs.declared.half.Half.{Half as HalfRead};
 ghost use Rattle.nr_reading.specs.declared.mode.Due.TheVariants as dues;
-ghost use Rattle.nr_reading.specs.Asking.{event_of};
+ghost use Rattle.nr_reading.specs.declared.mode.Mode.TheVariants as modes;
+ghost use Rattle.nr_reading.specs.Asking.{due_of, event_of};
 ghost use Rattle.nr_reading.specs.Interpolations.{interpolates, is_lone_name, is_named, begun, named};
 ghost use Rattle.nr_reading.specs.Passing.{quiet};
 ghost use Rattle.nr_reading.specs.Runs.{HasMet};
@@ -59,7 +60,21 @@ impl Half {
         self.reads_plainly() && begins
     }
 
-    // What is due behind the name of a string or a register. Answers what is told.
+    // What is due behind the name of a register. Answers what is told.
+    #[inline(always)]
+    fn end_register(&mut self, sign: Sign, name: Name) -> Event
+        ensures half { self.new ≡ record self.old { reading = record self.old.reading { due = due_of (kinds.Register sign) name } } }
+        ensures event { result ≡ event_of (kinds.Register sign) name }
+    {
+        if is_given(name.as_bytes()) {
+            self.reading.due = Due::Look;
+            return Event::Given;
+        }
+        self.reading.due = Due::Register(sign);
+        Event::Nothing
+    }
+
+    // What is due behind the name of a string, a register or a font. Answers what is told.
     #[inline(always)]
     fn end_name(&mut self, kind: Kind, name: Name) -> Event
         requires kind { is_named kind ≡ true }
@@ -67,16 +82,17 @@ impl Half {
         ensures event { result ≡ event_of kind name }
     {
         self.notes.asked = name;
-        let Kind::Register(sign) = kind else {
-            self.reading.due = Due::Splice;
-            return Event::Nothing;
-        };
-        if is_given(name.as_bytes()) {
-            self.reading.due = Due::Look;
-            return Event::Given;
+        match kind {
+            Kind::Font => {
+                self.reading.due = Due::Look;
+                Event::Font
+            }
+            Kind::Register(sign) => self.end_register(sign, name),
+            _ => {
+                self.reading.due = Due::Splice;
+                Event::Nothing
+            }
         }
-        self.reading.due = Due::Register(sign);
-        Event::Nothing
     }
 
     // The name was read, in so many items of the interpolation.
@@ -94,7 +110,7 @@ impl Half {
         }
     }
 
-    // The name of a string or a register is met, behind so many items of its interpolation, which begins at a place. None where the
+    // The name of a string, a register or a font is met, behind so many items of its escape, which begins at a place. None where the
     // row has not all of it.
     #[inline(always)]
     fn meet_named<I: Items>(
@@ -187,8 +203,63 @@ impl Half {
         }
     }
 
-    /// An interpolation `\$N`, `\nX`, `\n(XX` or `\*X`, `\*(XX`, with a sign or not, is met at once that begins at this place of a row,
-    /// with a `\`. None where the row has not all of it, or it isn't one of these.
+    // A font escape is met at the beginning of a line, whose text begins with it. None where its name is not one byte.
+    #[inline(always)]
+    fn begin_font<I: Items>(&mut self, items: &I, place: usize) -> Option<Run>
+        requires plain { interpolates self.old ≡ true }
+        requires due { self.old.reading.due ≡ dues.Look }
+        requires start { self.old.reading.mode ≡ modes.Start }
+        requires within { place + 1 < length (I.fronts items.now) }
+        requires backslash { slice_get (I.fronts items.now) place ≡ Some (variants.Byte 92) }
+        requires font { slice_get (I.fronts items.now) (place + 1) ≡ Some (variants.Byte 102) }
+        ensures met { IfSome result (λ run. (h : HalfRead) (n : ℕ) → HasMet n (I.fronts items.now) h (quiet place self.old) →
+            HasMet (n + run.moves) (I.fronts items.now) h (record { taken = place + run.taken; half = self.new; event = run.event })) }
+        ensures few { IfSome result (λ run. run.moves ≤ 6) }
+        ensures taken { IfSome result (λ run. run.taken ≤ run.moves) }
+        ensures within { IfSome result (λ run. place + run.taken ≤ length (I.fronts items.now)) }
+        ensures due { IfSome result (λ run. run.event ≡ events.Nothing → self.new.reading.due ≡ dues.Look → ⊥) }
+        ensures left { result ≡ None → self.new ≡ self.old }
+    {
+        let Some(name) = byte_at(items, place, 2) else {
+            return None;
+        };
+        if !is_lone_name(name) {
+            return None;
+        }
+        self.begin_text();
+        let event = self.end_name(Kind::Font, Name::of(&[name]));
+        Some(Run {
+            taken: 3,
+            moves: 4,
+            event,
+        })
+    }
+
+    // A font escape is met in the midst of a text line or at the beginning of a line, and none elsewhere.
+    #[inline(always)]
+    fn meet_font<I: Items>(&mut self, items: &I, place: usize) -> Option<Run>
+        requires plain { interpolates self.old ≡ true }
+        requires due { self.old.reading.due ≡ dues.Look }
+        requires within { place + 1 < length (I.fronts items.now) }
+        requires backslash { slice_get (I.fronts items.now) place ≡ Some (variants.Byte 92) }
+        requires font { slice_get (I.fronts items.now) (place + 1) ≡ Some (variants.Byte 102) }
+        ensures met { IfSome result (λ run. (h : HalfRead) (n : ℕ) → HasMet n (I.fronts items.now) h (quiet place self.old) →
+            HasMet (n + run.moves) (I.fronts items.now) h (record { taken = place + run.taken; half = self.new; event = run.event })) }
+        ensures few { IfSome result (λ run. run.moves ≤ 6) }
+        ensures taken { IfSome result (λ run. run.taken ≤ run.moves) }
+        ensures within { IfSome result (λ run. place + run.taken ≤ length (I.fronts items.now)) }
+        ensures due { IfSome result (λ run. run.event ≡ events.Nothing → self.new.reading.due ≡ dues.Look → ⊥) }
+        ensures left { result ≡ None → self.new ≡ self.old }
+    {
+        match self.reading.mode {
+            Mode::Text => self.meet_named(items, place, 2, Kind::Font),
+            Mode::Start => self.begin_font(items, place),
+            _ => None,
+        }
+    }
+
+    /// An interpolation `\$N`, `\nX`, `\n(XX` or `\*X`, `\*(XX`, with a sign or not, or in a text line a font escape `\fX`, `\f(XX`, is met
+    /// at once that begins at this place of a row, with a `\`. None where the row has not all of it, or it isn't one of these.
     #[inline(always)]
     pub(crate) fn meet_interpolation<I: Items>(&mut self, items: &I, place: usize) -> Option<Run>
         requires due { self.old.reading.due ≡ dues.Look }
@@ -197,7 +268,7 @@ impl Half {
         ensures met { IfSome result (λ run. (h : HalfRead) (n : ℕ) → HasMet n (I.fronts items.now) h (quiet place self.old) →
             HasMet (n + run.moves) (I.fronts items.now) h (record { taken = place + run.taken; half = self.new; event = run.event })) }
         ensures few { IfSome result (λ run. run.moves ≤ 6) }
-        ensures taken { IfSome result (λ run. run.taken ≡ run.moves) }
+        ensures taken { IfSome result (λ run. run.taken ≤ run.moves) }
         ensures within { IfSome result (λ run. place + run.taken ≤ length (I.fronts items.now)) }
         ensures due { IfSome result (λ run. run.event ≡ events.Nothing → self.new.reading.due ≡ dues.Look → ⊥) }
         ensures left { result ≡ None → self.new ≡ self.old }
@@ -209,6 +280,7 @@ impl Half {
             Some(b'$') => self.meet_number(items, place),
             Some(b'n') => self.meet_register(items, place),
             Some(b'*') => self.meet_named(items, place, 2, Kind::String),
+            Some(b'f') => self.meet_font(items, place),
             _ => None,
         }
     }

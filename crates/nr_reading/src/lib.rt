@@ -52,6 +52,7 @@ mod titles;
 pub use answers::Answers;
 pub use ask::{Ask, Kind, Sign, Stage};
 pub use asks::Asks;
+pub use control_names::MetName;
 pub use delimited::Delimited;
 pub use event::{Event, Question};
 pub use front::Front;

@@ -21,37 +21,45 @@ impl Half {
 
     /// The items behind a line's beginning are met: the name of a control line, or the first byte of its text, and else one after another.
     #[inline(never)]
-    pub(crate) fn meet_beginning<I: Items>(&mut self, items: &I, from: usize, made: usize) -> Run
+    pub(crate) fn meet_beginning<I: Items>(
+        &mut self,
+        items: &I,
+        from: usize,
+        made: usize,
+        run: &mut Run,
+    )
         requires mode { self.old.reading.mode ≡ modes.Start }
         requires next { reads_next self.old ≡ true }
         requires few { made ≤ 65000 }
-        ensures { MeetsRest (I.fronts items.now) from made self.old result self.new }
+        ensures { MeetsRest (I.fronts items.now) from made self.old run.new self.new }
     {
         if from >= items.count() {
-            return Run {
+            *run = Run {
                 taken: from,
                 moves: made,
                 event: Event::Nothing,
             };
+            return;
         }
-        if self.meet_name_at(items, from) {
-            return Run {
-                taken: from + 3,
-                moves: made + 4,
+        if let Some(name) = self.meet_name_at(items, from) {
+            *run = Run {
+                taken: from + name.taken,
+                moves: made + name.moves,
                 event: Event::Nothing,
             };
+            return;
         }
         let Some(byte) = items.byte(from) else {
-            return self.meet_more(items, from, made);
+            return self.meet_more(items, from, made, run);
         };
         if !self.begins_text(byte) {
-            return self.meet_more(items, from, made);
+            return self.meet_more(items, from, made, run);
         }
         self.begin_text();
-        Run {
+        *run = Run {
             taken: from + 1,
             moves: made + 1,
             event: Event::Byte(byte),
-        }
+        };
     }
 }

@@ -15,39 +15,39 @@ use super::spelled::is_blank;
 impl Half {
     /// An accepted part is met: its blanks, and what begins a line behind them.
     #[inline(never)]
-    pub(crate) fn meet_accepted<I: Items>(&mut self, items: &I) -> Run
+    pub(crate) fn meet_accepted<I: Items>(&mut self, items: &I, run: &mut Run)
         requires mode { self.old.reading.mode ≡ modes.Accepted }
         requires next { reads_next self.old ≡ true }
-        ensures { MeetsRest (I.fronts items.now) 0 0 self.old result self.new }
+        ensures { MeetsRest (I.fronts items.now) 0 0 self.old run.new self.new }
     {
         let place = self.pass_first_blanks(items);
         let Some(byte) = byte_of(items, place) else {
-            return self.meet_rest(items, place, place);
+            return self.meet_rest(items, place, place, run);
         };
         if !is_plain(byte) || is_blank(byte) {
-            return self.meet_more(items, place, place);
+            return self.meet_more(items, place, place, run);
         }
         self.reading.mode = Mode::Start;
-        self.meet_beginning(items, place, place + 1)
+        self.meet_beginning(items, place, place + 1, run)
     }
 
     /// A rejected part is met, in which so many braces are open, and what begins a line behind it.
     #[inline(never)]
-    pub(crate) fn meet_rejected<I: Items>(&mut self, items: &I, count: u64) -> Run
+    pub(crate) fn meet_rejected<I: Items>(&mut self, items: &I, count: u64, run: &mut Run)
         requires mode { self.old.reading.mode ≡ modes.Skip count }
         requires next { reads_next self.old ≡ true }
-        ensures { MeetsRest (I.fronts items.now) 0 0 self.old result self.new }
+        ensures { MeetsRest (I.fronts items.now) 0 0 self.old run.new self.new }
     {
         let end = near(items, 0);
         let mut level = count;
         let mut place = 0;
         while place < end {
             let Some(byte) = items.byte(place) else {
-                return self.meet_more(items, place, place);
+                return self.meet_more(items, place, place, run);
             };
             if byte == b'\\' {
                 let Some(behind) = byte_of(items, place + 1) else {
-                    return self.meet_more(items, place, place);
+                    return self.meet_more(items, place, place, run);
                 };
                 level = braces(behind, level);
                 self.reading.mode = Mode::Skip(level);
@@ -56,10 +56,10 @@ impl Half {
             }
             if byte == b'\n' && level == 0 {
                 self.reading.mode = Mode::Start;
-                return self.meet_beginning(items, place + 1, place + 1);
+                return self.meet_beginning(items, place + 1, place + 1, run);
             }
             place += 1;
         }
-        self.meet_more(items, place, place)
+        self.meet_more(items, place, place, run)
     }
 }

@@ -1,7 +1,8 @@
 //! Bytes that are met many at once.
-ghost use Rattle.std.specs.Prelude.{◌≡◌, ◌≤◌, ◌+◌, length, true};
+ghost use Rattle.std.specs.Prelude.{◌≡◌, ◌≤◌, ◌+◌, ◌-◌, ℕ, length, true};
 ghost use Rattle.nr_reading.specs.declared.mode.Due.TheVariants as dues;
 ghost use Rattle.nr_reading.specs.Passing.{GoesOn, is_plain, drops_plain, passes_plain};
+ghost use Rattle.nr_reading.specs.Rows.{LeadsOn};
 
 use super::half::Half;
 use super::mode::{Escape, Mode};
@@ -61,6 +62,54 @@ impl Half {
             }
         }
         most
+    }
+
+    // Whether a comment is being read.
+    #[inline(always)]
+    fn is_in_comment(&self) -> bool
+        ensures { result ≡ true → passes_plain self.now ≡ true }
+    {
+        match self.reading.escape {
+            Escape::Comment => self.asks.is_empty(),
+            Escape::Plain | Escape::Begun => false,
+        }
+    }
+
+    // Bytes that do nothing are passed over from one place of a row on, before another. The result is where they end.
+    #[inline(never)]
+    fn pass_between<I: Items>(&self, items: &I, from: usize, to: usize) -> usize
+        requires passes { passes_plain self.now ≡ true }
+        requires due { self.now.reading.due ≡ dues.Look }
+        requires front { from ≤ to }
+        requires within { to ≤ length (I.fronts items.now) }
+        ensures leads { (n : ℕ) → LeadsOn (I.fronts items.now) from n self.now result (n + (result - from)) self.now }
+        ensures front { from ≤ result }
+        ensures within { result ≤ to }
+    {
+        for place in from..to {
+            match items.byte(place) {
+                Some(byte) if is_plain(byte) => {}
+                _ => return place,
+            }
+        }
+        to
+    }
+
+    /// The bytes of a comment are passed over from a place of a row on, so many at most. The result is where they end: there, where
+    /// no comment is being read.
+    #[inline(always)]
+    pub(crate) fn pass_comment<I: Items>(&self, items: &I, from: usize, most: usize) -> usize
+        requires due { self.now.reading.due ≡ dues.Look }
+        requires within { from ≤ length (I.fronts items.now) }
+        ensures leads { (n : ℕ) → LeadsOn (I.fronts items.now) from n self.now result (n + (result - from)) self.now }
+        ensures front { from ≤ result }
+        ensures most { result ≤ from + most }
+    {
+        if !self.is_in_comment() {
+            return from;
+        }
+        let count = most.min(items.count() - from);
+        self.pass_between(items, from, from + count)
     }
 
     /// Bytes that do nothing are passed over from the beginning of a row on, so many at most. The result is how many.

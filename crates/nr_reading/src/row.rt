@@ -72,34 +72,41 @@ impl Half {
 
     /// What stands at a place of a row is met: an interpolation that stands whole there at once, and else the items one after another.
     #[inline(never)]
-    pub(crate) fn meet_escape<I: Items>(&mut self, items: &I, from: usize, made: usize) -> Run
+    pub(crate) fn meet_escape<I: Items>(
+        &mut self,
+        items: &I,
+        from: usize,
+        made: usize,
+        run: &mut Run,
+    )
         requires due { self.old.reading.due ≡ dues.Look }
         requires few { made ≤ 65536 }
-        ensures { MeetsRest (I.fronts items.now) from made self.old result self.new }
+        ensures { MeetsRest (I.fronts items.now) from made self.old run.new self.new }
     {
         let Some(byte) = byte_of(items, from) else {
-            return self.meet_more(items, from, made);
+            return self.meet_more(items, from, made, run);
         };
-        if let Some(run) = self.meet_whole(items, byte, from, made) {
-            return run;
+        if let Some(whole) = self.meet_whole(items, byte, from, made) {
+            *run = whole;
+            return;
         }
-        self.meet_more(items, from, made)
+        self.meet_more(items, from, made, run)
     }
 
     /// The same, but where the row ends there.
     #[inline(always)]
-    pub(crate) fn meet_rest<I: Items>(&mut self, items: &I, from: usize, made: usize) -> Run
+    pub(crate) fn meet_rest<I: Items>(&mut self, items: &I, from: usize, made: usize, run: &mut Run)
         requires due { self.old.reading.due ≡ dues.Look }
         requires few { made ≤ 65536 }
-        ensures { MeetsRest (I.fronts items.now) from made self.old result self.new }
+        ensures { MeetsRest (I.fronts items.now) from made self.old run.new self.new }
     {
         if from < items.count() {
-            return self.meet_escape(items, from, made);
+            return self.meet_escape(items, from, made, run);
         }
-        Run {
+        *run = Run {
             taken: from,
             moves: made,
             event: Event::Nothing,
-        }
+        };
     }
 }

@@ -52,14 +52,15 @@ impl Half {
         ensures longest { result.event ≡ events.Nothing → self.new.reading.due ≡ dues.Look → result.moves < 65536
             → (byte : ℕ) → slice_get (I.fronts items.now) result.taken ≡ Some (variants.Byte byte) → ⊥ }
     {
-        if items.count() == 0 {
-            return Run {
-                taken: 0,
-                moves: 0,
-                event: Event::Nothing,
-            };
+        let mut run = Run {
+            taken: 0,
+            moves: 0,
+            event: Event::Nothing,
+        };
+        if items.count() > 0 {
+            self.meet_items(items, &mut run);
         }
-        self.meet_items(items)
+        run
     }
 
     // Behind so many items and moves, the interpolation that begins with this byte, if it stands whole in the row.
@@ -92,10 +93,10 @@ impl Half {
 
     /// The items behind a place of a row, to which so many moves led, are met one after another.
     #[inline(never)]
-    pub(crate) fn meet_more<I: Items>(&mut self, items: &I, from: usize, made: usize) -> Run
+    pub(crate) fn meet_more<I: Items>(&mut self, items: &I, from: usize, made: usize, run: &mut Run)
         requires due { self.old.reading.due ≡ dues.Look }
         requires few { made ≤ 65536 }
-        ensures { MeetsRest (I.fronts items.now) from made self.old result self.new }
+        ensures { MeetsRest (I.fronts items.now) from made self.old run.new self.new }
     {
         let mut taken = from;
         let mut moves = made;
@@ -103,83 +104,89 @@ impl Half {
             let Some(byte) = items.byte(taken) else {
                 break;
             };
-            if let Some(run) = self.meet_whole(items, byte, taken, moves) {
-                return run;
+            if let Some(whole) = self.meet_whole(items, byte, taken, moves) {
+                *run = whole;
+                return;
             }
             let seen = self.meet_byte(byte);
             moves += 1;
             taken += usize::from(seen.takes);
             if !matches!(seen.event, Event::Nothing) || !matches!(self.reading.due, Due::Look) {
-                return Run {
+                *run = Run {
                     taken,
                     moves,
                     event: seen.event,
                 };
+                return;
             }
+            let end = self.pass_comment(items, taken, LONGEST - moves);
+            moves += end - taken;
+            taken = end;
         }
-        Run {
+        *run = Run {
             taken,
             moves,
             event: Event::Nothing,
-        }
+        };
     }
 
     // The items of a row are met: first those that do little, then one after another.
     #[inline(never)]
-    fn meet_others<I: Items>(&mut self, items: &I) -> Run
+    fn meet_others<I: Items>(&mut self, items: &I, run: &mut Run)
         requires due { self.old.reading.due ≡ dues.Look }
-        ensures { MeetsRest (I.fronts items.now) 0 0 self.old result self.new }
+        ensures { MeetsRest (I.fronts items.now) 0 0 self.old run.new self.new }
     {
         let taken = self.meet_plain(items, LONGEST);
-        self.meet_more(items, taken, taken)
+        self.meet_more(items, taken, taken, run)
     }
 
     // The items of a row are met in the loop of the mode, where it has one.
     #[inline(always)]
-    fn meet_in_mode<I: Items>(&mut self, items: &I) -> Run
+    fn meet_in_mode<I: Items>(&mut self, items: &I, run: &mut Run)
         requires next { reads_next self.old ≡ true }
-        ensures { MeetsRest (I.fronts items.now) 0 0 self.old result self.new }
+        ensures { MeetsRest (I.fronts items.now) 0 0 self.old run.new self.new }
     {
         match self.reading.mode {
-            Mode::Start => self.meet_beginning(items, 0, 0),
-            Mode::Text => self.meet_more(items, 0, 0),
-            Mode::Condition => self.meet_condition(items),
-            Mode::Number(depth) => self.meet_tested(items, 0, 0, depth),
-            Mode::First(delimiter) => self.meet_first_string(items, 0, 0, delimiter),
-            Mode::Second(delimiter) => self.meet_second_string(items, 0, 0, delimiter),
-            Mode::RequestBlanks => self.meet_request(items),
-            Mode::RequestLine => self.meet_arguments(items, 0, 0),
-            Mode::Accepted => self.meet_accepted(items),
-            Mode::Skip(count) => self.meet_rejected(items, count),
-            Mode::MacroBlanks => self.meet_call(items),
-            Mode::MacroGap => self.meet_gap(items),
-            Mode::Word => self.meet_word(items),
-            Mode::Quoted => self.meet_quoted(items, 0, 0),
-            Mode::StringBefore => self.meet_string(items),
-            Mode::StringBlanks => self.meet_string_blanks(items, 0, 0),
-            Mode::StringText => self.meet_string_text(items),
-            _ => self.meet_others(items),
+            Mode::Start => self.meet_beginning(items, 0, 0, run),
+            Mode::Text => self.meet_more(items, 0, 0, run),
+            Mode::Condition => self.meet_condition(items, run),
+            Mode::Number(depth) => self.meet_tested(items, 0, 0, depth, run),
+            Mode::First(delimiter) => self.meet_first_string(items, 0, 0, delimiter, run),
+            Mode::Second(delimiter) => self.meet_second_string(items, 0, 0, delimiter, run),
+            Mode::RequestBlanks => self.meet_request(items, run),
+            Mode::RequestLine => self.meet_arguments(items, 0, 0, run),
+            Mode::Accepted => self.meet_accepted(items, run),
+            Mode::Skip(count) => self.meet_rejected(items, count, run),
+            Mode::MacroBlanks => self.meet_call(items, run),
+            Mode::MacroGap => self.meet_gap(items, run),
+            Mode::Word => self.meet_word(items, run),
+            Mode::Quoted => self.meet_quoted(items, 0, 0, run),
+            Mode::StringBefore => self.meet_string(items, run),
+            Mode::StringBlanks => self.meet_string_blanks(items, 0, 0, run),
+            Mode::StringText => self.meet_string_text(items, run),
+            _ => self.meet_others(items, run),
         }
     }
 
-    // The same of a row that is not empty.
+    // The items of a row are met, as `meet_run` says; `run` is where that ends.
     #[inline(never)]
-    fn meet_items<I: Items>(&mut self, items: &I) -> Run
-        ensures met { HasMet result.moves (I.fronts items.now) self.old (spot result self.new) }
-        ensures few { result.moves ≤ 65536 }
-        ensures longest { result.event ≡ events.Nothing → self.new.reading.due ≡ dues.Look → result.moves < 65536
-            → (byte : ℕ) → slice_get (I.fronts items.now) result.taken ≡ Some (variants.Byte byte) → ⊥ }
+    fn meet_items<I: Items>(&mut self, items: &I, run: &mut Run)
+        ensures met { HasMet run.new.moves (I.fronts items.now) self.old (spot run.new self.new) }
+        ensures few { run.new.moves ≤ 65536 }
+        ensures longest { run.new.event ≡ events.Nothing → self.new.reading.due ≡ dues.Look → run.new.moves < 65536
+            → (byte : ℕ) → slice_get (I.fronts items.now) run.new.taken ≡ Some (variants.Byte byte) → ⊥ }
     {
         if !matches!(self.reading.due, Due::Look) {
-            return Run {
+            *run = Run {
                 taken: 0,
                 moves: 0,
                 event: Event::Nothing,
             };
+            return;
         }
         if self.reads_plainly() {
-            return self.meet_in_mode(items);
+            return self.meet_in_mode(items, run);
         }
-        self.meet_others(items)
+        self.meet_others(items, run)
     }
 }

@@ -5,7 +5,7 @@ ghost use Rattle.nr_reading.specs.Meeting.{reads_next};
 ghost use Rattle.nr_reading.specs.Rows.{MeetsRest};
 ghost use Rattle.nr_reading.specs.StringRows.{behind_name};
 
-use super::control_names::goes_on_name;
+use super::control_names::{goes_on_name, name_ends};
 use super::event::Event;
 use super::half::Half;
 use super::mode::{Due, Mode};
@@ -25,31 +25,35 @@ impl Half {
 
     /// The definition of a string is met from the blanks before its name on.
     #[inline(never)]
-    pub(crate) fn meet_string<I: Items>(&mut self, items: &I) -> Run
+    pub(crate) fn meet_string<I: Items>(&mut self, items: &I, run: &mut Run)
         requires mode { self.old.reading.mode ≡ modes.StringBefore }
         requires next { reads_next self.old ≡ true }
-        ensures { MeetsRest (I.fronts items.now) 0 0 self.old result self.new }
+        ensures { MeetsRest (I.fronts items.now) 0 0 self.old run.new self.new }
     {
         let place = self.pass_first_blanks(items);
         let Some(first) = byte_of(items, place) else {
-            return self.meet_rest(items, place, place);
+            return self.meet_rest(items, place, place, run);
         };
-        if self.signs.long || !goes_on_name(first) {
-            return self.meet_escape(items, place, place);
+        if !goes_on_name(first) {
+            return self.meet_escape(items, place, place, run);
         }
         let Some(second) = byte_of(items, place + 1) else {
-            return self.meet_more(items, place, place);
+            return self.meet_more(items, place, place, run);
         };
         if second == b'\\' {
-            return self.meet_more(items, place, place);
+            return self.meet_more(items, place, place, run);
         }
         let lone = Spelled::new().with(first);
         if ends_name(second) {
             self.take_string_name(lone);
-            return self.meet_string_blanks(items, place + 1, place + 3);
+            return self.meet_string_blanks(items, place + 1, place + 3, run);
+        }
+        let long = self.signs.long;
+        if long && !name_ends(items, place + 2) {
+            return self.meet_more(items, place, place, run);
         }
         self.take_string_name(lone.with(second));
-        self.meet_string_blanks(items, place + 2, place + 3)
+        self.meet_string_blanks(items, place + 2, place + 3 + usize::from(long), run)
     }
 
     /// It is met from the blanks before its text on.
@@ -59,64 +63,67 @@ impl Half {
         items: &I,
         from: usize,
         made: usize,
-    ) -> Run
+        run: &mut Run,
+    )
         requires mode { self.old.reading.mode ≡ modes.StringBlanks }
         requires next { reads_next self.old ≡ true }
         requires within { from ≤ length (I.fronts items.now) }
         requires few { made ≤ 16384 }
-        ensures { MeetsRest (I.fronts items.now) from made self.old result self.new }
+        ensures { MeetsRest (I.fronts items.now) from made self.old run.new self.new }
     {
         let place = self.pass_blanks(items, from, near(items, from));
         let moves = made + (place - from);
         let Some(byte) = byte_of(items, place) else {
-            return self.meet_rest(items, place, moves);
+            return self.meet_rest(items, place, moves, run);
         };
         if byte == b'\\' || is_blank(byte) {
-            return self.meet_escape(items, place, moves);
+            return self.meet_escape(items, place, moves, run);
         }
         self.reading.mode = Mode::StringText;
         self.reading.due = Due::Begin;
         if byte == b'"' {
-            return Run {
+            *run = Run {
                 taken: place + 1,
                 moves: moves + 1,
                 event: Event::Nothing,
             };
+            return;
         }
-        Run {
+        *run = Run {
             taken: place,
             moves: moves + 1,
             event: Event::Nothing,
-        }
+        };
     }
 
     /// A byte of its text is met, or the newline.
     #[inline(never)]
-    pub(crate) fn meet_string_text<I: Items>(&mut self, items: &I) -> Run
+    pub(crate) fn meet_string_text<I: Items>(&mut self, items: &I, run: &mut Run)
         requires mode { self.old.reading.mode ≡ modes.StringText }
         requires next { reads_next self.old ≡ true }
-        ensures { MeetsRest (I.fronts items.now) 0 0 self.old result self.new }
+        ensures { MeetsRest (I.fronts items.now) 0 0 self.old run.new self.new }
     {
         let Some(byte) = byte_of(items, 0) else {
-            return self.meet_rest(items, 0, 0);
+            return self.meet_rest(items, 0, 0, run);
         };
         if byte == b'\\' {
-            return self.meet_escape(items, 0, 0);
+            return self.meet_escape(items, 0, 0, run);
         }
         if byte == b'\n' {
             self.reading.mode = Mode::Start;
             self.reading.due = Due::Define;
-            return Run {
+            *run = Run {
                 taken: 1,
                 moves: 1,
                 event: Event::Nothing,
             };
+            return;
         }
         self.reading.due = Due::Add(byte);
-        Run {
+        *run = Run {
             taken: 1,
             moves: 1,
             event: Event::Nothing,
-        }
+        };
     }
 }

@@ -1,5 +1,5 @@
 -- Digits, and a scale's letter behind them, are the longest front that is an expression, and their value is its.
-use Rattle.std.specs.Prelude.{Bool, IfSome, nat_eq, nat_le, nat_lt, unwrap_or}
+use Rattle.std.specs.Prelude.{Bool, IfSome, nat_eq, nat_lt, unwrap_or}
 use Rattle.std.specs.Ordering.{int_eq}
 use Rattle.std.proofs.Common.{◌≡◌, ℕ, zero, suc, ◌+◌, ◌-◌, ◌*◌, ◌/◌, ◌<◌, ◌≤◌, true, false, Option, None, Some, List, [], ◌∷◌, length, drop, get_or, ℤ, pos, unsigned_abs, arith, refl, ap, sym, subst, ◌∙◌}
 use Rattle.std.proofs.Math.Seq.{drop-cons}
@@ -72,6 +72,12 @@ begins_text = record {
 from_start : (c : Ctx) (text : List ℕ) (i n : ℕ) → ReadsDigits text i n → read_of c text ≡ read_on c (behind_digits start i n) i nothing_read (drop i text)
 unfolding read_of
 from_start c text i n reads = reads.known c start begins_text 0 i nothing_read (omega arith)
+
+-- no bytes have no value
+pub no_bytes : (c : Ctx) (text : List ℕ) → length text ≡ 0 → (read_of c text).value ≡ None
+unfolding read_of
+no_bytes c [] none = refl
+no_bytes c (b ∷ bs) none = absurd (omega (arith, none))
 
 -- ---- the value
 

@@ -36,6 +36,9 @@ pub(crate) fn value_of(argument: &[u8], scale: Scale, v: Height, here: i64) -> O
     ensures value { result ≡ value_of scale v here argument.now }
     ensures range { IfSome result (λ n. unsigned_abs n ≤ 2147483647) }
 {
+    if argument.is_empty() {
+        return None;
+    }
     if let Some(n) = plain_value(argument, scale, v) {
         return Some(n);
     }

@@ -23,6 +23,11 @@ pub ok_of : {E : Type 0} (r : Result (Unit {0}) E) (P : Type 0) → (IsErr r →
 ok_of (Ok u) P not_err was_ok = was_ok
 ok_of (Err e) P not_err was_ok = absurd (not_err refl)
 
+-- no items are none
+pub no_items : {T : Type 0} (xs : List T) → length xs ≡ 0 → xs ≡ []
+no_items [] none = refl
+no_items (x ∷ xs) none = absurd (omega (arith, none))
+
 module _ (p : Texts Element) (id : ℕ) (is_open : IsOpen p id) where
   abbrev pub with_more : List Element → Texts Element
   with_more xs = with_text p id (text p id ++ xs)

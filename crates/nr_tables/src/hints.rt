@@ -4,7 +4,7 @@ ghost use Rattle.std.specs.Prelude.{◌<◌};
 use nr_units::Name;
 
 /// How many kinds of names there are.
-const KINDS: usize = 256;
+const KINDS: usize = 512;
 
 /// The place of one name of each kind. It may be wrong: whoever asks looks at the name there.
 #[derive(Drop)]
@@ -12,21 +12,27 @@ pub(crate) struct Hints {
     places: [u16; KINDS],
 }
 
-// The kind of a name, by its first two bytes and its length.
-fn kind_of(name: &Name) -> usize
-    ensures { result < 256 }
-{
-    let bytes = name.as_bytes();
-    if bytes.is_empty() {
-        return 0;
-    }
-    let first = usize::from(bytes[0]);
-    let second = if bytes.len() > 1 {
-        usize::from(bytes[1])
+// A place as it is kept: the greatest that can be, where it is higher.
+fn low_place(at: usize) -> u16 {
+    at.min(usize::from(u16::MAX)) as u16
+}
+
+// One place further, from a place on.
+fn place_behind(place: u16, from: u16) -> u16 {
+    if place >= from {
+        place.saturating_add(1)
     } else {
-        0
-    };
-    (31 * first + second + bytes.len()) % KINDS
+        place
+    }
+}
+
+// One place before, behind a place.
+fn place_before(place: u16, gone: u16) -> u16 {
+    if place > gone {
+        place.saturating_sub(1)
+    } else {
+        place
+    }
 }
 
 impl Hints {
@@ -38,7 +44,7 @@ impl Hints {
     /// Where the name may stand.
     #[inline]
     pub(crate) fn place(&self, name: &Name) -> usize {
-        usize::from(self.places[kind_of(name)])
+        usize::from(self.places[usize::from(name.kind())])
     }
 
     /// A new name stands here among so many, and those from here on one place further.
@@ -46,24 +52,22 @@ impl Hints {
         if at.saturating_add(1) < names {
             self.move_on(at);
         }
-        self.places[kind_of(name)] = at.min(usize::from(u16::MAX)) as u16;
+        self.places[usize::from(name.kind())] = low_place(at);
     }
 
     // The names from here on stand one place further.
     fn move_on(&mut self, at: usize) {
+        let at = low_place(at);
         for kind in 0..KINDS {
-            if usize::from(self.places[kind]) >= at {
-                self.places[kind] = self.places[kind].saturating_add(1);
-            }
+            self.places[kind] = place_behind(self.places[kind], at);
         }
     }
 
     /// The name that stood here is gone, and those behind it stand one place before.
     pub(crate) fn closed(&mut self, at: usize) {
+        let at = low_place(at);
         for kind in 0..KINDS {
-            if usize::from(self.places[kind]) > at {
-                self.places[kind] = self.places[kind].saturating_sub(1);
-            }
+            self.places[kind] = place_before(self.places[kind], at);
         }
     }
 }

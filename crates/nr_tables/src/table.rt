@@ -46,7 +46,7 @@ fn place_of<V: Copy>(row: &[Entry<V>], name: Name) -> Result<usize, usize>
 }
 
 // The same, where the name may stand at a place that is looked at first.
-#[inline]
+#[inline(always)]
 fn place_near<V: Copy>(row: &[Entry<V>], near: usize, name: Name) -> Result<usize, usize>
     requires { IsSorted row.now }
     ensures { MatchResult result (IsFound row.now name) (IsMissed row.now name) }
@@ -108,10 +108,24 @@ impl<V: Copy> Table<V> {
     }
 
     /// What has this name.
+    #[inline(always)]
     pub fn get(&self, name: Name) -> Option<V>
         ensures { result ≡ find name self.now.entries }
     {
-        match place_near(self.entries.as_slice(), self.hints.place(&name), name) {
+        let near = self.hints.place(&name);
+        let row = self.entries.as_slice();
+        if near < row.len() && row[near].name.is_same_short(&name) {
+            return Some(row[near].value);
+        }
+        self.look_up(near, name)
+    }
+
+    // The same, where no name of at most two bytes is at the place that is looked at first.
+    #[inline(never)]
+    fn look_up(&self, near: usize, name: Name) -> Option<V>
+        ensures { result ≡ find name self.now.entries }
+    {
+        match place_near(self.entries.as_slice(), near, name) {
             Ok(place) => {
                 let entry = self.entries.get(place);
                 Some(entry.value)

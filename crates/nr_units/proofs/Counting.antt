@@ -1,5 +1,5 @@
 -- The count of failed calls tells each call that failed from one that did not.
-use Rattle.std.proofs.Common.{◌≡◌, ◌≢◌, ℕ, arith}
+use Rattle.std.proofs.Common.{◌≢◌, ℕ, arith}
 use Rattle.nr_units.specs.Failures.{next_count}
 
 -- the next count is another one

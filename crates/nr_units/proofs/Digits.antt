@@ -1,10 +1,10 @@
 -- Decimal digits with zeros in front.
-use Rattle.std.proofs.Common.{◌≡◌, ℕ, zero, suc, ◌+◌, ◌-◌, ◌^◌, ◌<◌, ◌≤◌, min, max, List, ◌++◌, length, get_or, replicate, arith, refl, ap, ◌∙◌, length-append}
+use Rattle.std.proofs.Common.{◌≡◌, ℕ, zero, suc, ◌+◌, ◌-◌, ◌^◌, ◌<◌, ◌≤◌, min, max, List, ◌++◌, length, get_or, replicate, arith, refl, ap, sym, ◌∙◌, length-append}
 use Rattle.std.proofs.lemmas.List.{length-replicate}
 use Rattle.std.specs.Fmt.{decimal}
 use Rattle.std.specs.Str.Parse.{AllDigits, digits_value}
-use Rattle.std.proofs.lemmas.Fmt.{decimal_is_IsNumeral, decimal_digit, first_decimal}
-use Rattle.nr_units.specs.NumberText.{IsArabic}
+use Rattle.std.proofs.lemmas.Fmt.{decimal_is_IsNumeral, decimal_digit, decimal_nonempty, first_decimal}
+use Rattle.nr_units.specs.NumberText.{IsArabic, arabic_text}
 
 -- zeros in front are digits and change no value
 pub AllDigits-zeros : (k : ℕ) (ds : List ℕ) → AllDigits 10 ds → AllDigits 10 (replicate k 48 ++ ds)
@@ -38,3 +38,10 @@ arabic places n k fits is_k =
       filled = omega (arith, len);
       no_more = no_more-zeros k (min 9 places) n (decimal n) is_k (length-decimal_zero n) (λ h. first_decimal n h fits);
     }
+
+-- one place asks for no zero
+pub no_zeros : (places n : ℕ) → places ≤ 1 → n < 2 ^ 64 → 0 ≡ min 9 places - length (decimal n)
+no_zeros places n few fits = let some = decimal_nonempty n fits in omega arith
+
+pub arabic_text_plain : (places n : ℕ) → places ≤ 1 → n < 2 ^ 64 → arabic_text places n ≡ decimal n
+arabic_text_plain places n few fits = ap (λ k. replicate k 48 ++ decimal n) (sym (no_zeros places n few fits))

@@ -1,5 +1,4 @@
 -- The order of names is total, and tells the same where two names are the same.
-use Rattle.std.proofs.Common.{◌≡◌, ◌∙◌}
 use Rattle.std.specs.Cmp.{IsTotalOrder}
 use Rattle.std.proofs.lemmas.Cmp.{nat_list_cmp_total}
 use Rattle.nr_units.specs.Names.{name_order}

@@ -1,5 +1,5 @@
 -- Names of requests, macros, strings and registers.
-use Rattle.std.specs.Prelude.{◌≡◌, ℕ, ◌-◌, ◌≤◌, List, ◌++◌, length, drop, replicate}
+use Rattle.std.specs.Prelude.{◌≡◌, ℕ, ◌+◌, ◌-◌, ◌*◌, ◌%◌, ◌≤◌, List, ◌++◌, length, drop, replicate, slice_index}
 use Rattle.std.specs.declared.cmp.Ordering.{Ordering}
 use Rattle.std.specs.Ordering.{nat_cmp}
 use Rattle.std.specs.Cmp.Lexicographic.{slice_cmp}
@@ -11,6 +11,10 @@ IsName bytes = length bytes ≤ 32
 -- the order of names: by the first byte in which they differ, and a front before what it is a front of
 abbrev pub name_order : List ℕ → List ℕ → Ordering
 name_order = slice_cmp nat_cmp
+
+-- the kind of a name, of 512, by its first two bytes; a byte that it has not counts as 0
+abbrev pub kind_of_name : List ℕ → ℕ
+kind_of_name bytes = (45 * slice_index bytes 0 + slice_index bytes 1) % 512
 
 -- a name as it lies in memory: its bytes, and zeros behind them to 32
 abbrev pub padded : List ℕ → List ℕ

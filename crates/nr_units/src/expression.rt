@@ -26,6 +26,19 @@ pub struct Read {
     pub used: usize,
 }
 
+impl Read {
+    /// So many bytes with this value.
+    pub(crate) fn of(value: Option<i32>, used: usize) -> Read
+        ensures { result ≡ record { value = value; used = used } }
+    {
+        let value = match value {
+            Some(value) => Some(i64::from(value)),
+            None => None,
+        };
+        Read { value, used }
+    }
+}
+
 // What `read_expr` answers, where no byte that it looks at opens a parenthesis.
 //
 // The outermost level is all that is kept, and no room for what waits at parentheses.
@@ -50,11 +63,9 @@ fn read_outermost(text: &[u8], ctx: &Ctx) -> Option<Read>
         if matches!(symbol, Symbol::Open) {
             return None;
         }
-        longest = level.noted(symbol, ctx, at, longest);
-        let Some(next) = level.step(symbol, ctx) else {
+        if !level.take(symbol, ctx, at, &mut longest) {
             return Some(level.read(ctx, at, longest));
-        };
-        level = next;
+        }
     }
     Some(level.read(ctx, text.len(), longest))
 }

@@ -375,8 +375,8 @@ impl Level {
 }
 
 impl Level {
-    ghost use Rattle.std.specs.Prelude.{[]};
-    ghost use Rattle.nr_units.specs.Scan.{with_digit, in_mode, level_value, on_level, outermost, after_symbol};
+    ghost use Rattle.std.specs.Prelude.{[], true, false, None};
+    ghost use Rattle.nr_units.specs.Scan.{with_digit, with_mark, in_mode, level_value, on_level, outermost, after_symbol};
     ghost use Rattle.nr_units.specs.Scanner.{read_at, noted};
     ghost use Rattle.nr_units.specs.declared.symbols.Symbol.TheVariants.{Open};
 
@@ -413,30 +413,57 @@ impl Level {
         }
     }
 
+    /// Takes a symbol that opens no parenthesis, outside parentheses, behind `at` bytes, and notes the longest expression
+    /// before it. Answers whether an expression may go on so; where none does, it is unchanged.
+    #[inline(never)]
+    pub(crate) fn take(&mut self, symbol: Symbol, ctx: &Ctx, at: usize, longest: &mut Read) -> bool
+        requires { symbol ≡ Open → ⊥ }
+        ensures taken { result ≡ true → after_symbol ctx.now (outermost self.old) symbol ≡ Some (outermost self.new) }
+        ensures stuck { result ≡ false → after_symbol ctx.now (outermost self.old) symbol ≡ None }
+        ensures same { result ≡ false → self.new ≡ self.old }
+        ensures noted { longest.new ≡ noted (level_value ctx.now self.old) symbol at longest.old }
+    {
+        if let Symbol::Mark(operator) = symbol {
+            return self.take_mark(operator, ctx, at, longest);
+        }
+        let Some(next) = self.step(symbol, ctx) else {
+            return false;
+        };
+        *self = next;
+        true
+    }
+
+    /// The same with an operator's byte, which may also be a sign or the end of a longer operator.
+    #[inline(always)]
+    fn take_mark(&mut self, operator: Operator, ctx: &Ctx, at: usize, longest: &mut Read) -> bool
+        ensures taken { result ≡ true → with_mark ctx.now operator self.old ≡ Some self.new }
+        ensures stuck { result ≡ false → with_mark ctx.now operator self.old ≡ None }
+        ensures same { result ≡ false → self.new ≡ self.old }
+        ensures noted { longest.new ≡ read_at (level_value ctx.now self.old) at longest.old }
+    {
+        if let Mode::Before(_) = self.mode {
+            let Some(next) = self.with_mark(operator, ctx) else {
+                return false;
+            };
+            *self = next;
+            return true;
+        }
+        let Some(value) = self.value(ctx) else {
+            return false;
+        };
+        *longest = Read::of(value, at);
+        self.waiting = Waiting::behind(value, operator);
+        self.mode = Mode::Before(Behind::AnOperator);
+        true
+    }
+
     /// The longest expression among the bytes so far, of which there are `at`: all of them, or the one given.
     pub(crate) fn read(self, ctx: &Ctx, at: usize, longest: Read) -> Read
         ensures { result ≡ read_at (level_value ctx.now self) at longest }
     {
         match self.value(ctx) {
-            Some(Some(value)) => Read {
-                value: Some(i64::from(value)),
-                used: at,
-            },
-            Some(None) => Read {
-                value: None,
-                used: at,
-            },
+            Some(value) => Read::of(value, at),
             None => longest,
-        }
-    }
-
-    /// The same before an operator; before another symbol the one given.
-    pub(crate) fn noted(self, symbol: Symbol, ctx: &Ctx, at: usize, longest: Read) -> Read
-        ensures { result ≡ noted (level_value ctx.now self) symbol at longest }
-    {
-        match symbol {
-            Symbol::Mark(_) => self.read(ctx, at, longest),
-            _ => longest,
         }
     }
 }

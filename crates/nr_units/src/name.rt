@@ -1,9 +1,9 @@
 //! Names of requests, macros, strings and registers.
-ghost use Rattle.std.specs.Prelude.{◌≡◌, ◌==◌, ◌<◌, ◌≤◌, ◌∷◌, ◌++◌, [], length, nat_eq, Some, refl};
+ghost use Rattle.std.specs.Prelude.{◌≡◌, ◌==◌, ◌<◌, ◌≤◌, ◌∷◌, ◌++◌, ◌↔◌, [], length, nat_eq, IsTrue, Some, refl};
 ghost use Rattle.std.specs.Ordering.{nat_cmp};
 ghost use Rattle.std.specs.Cmp.{partial_equiv_from_equiv};
 ghost use Rattle.std.specs.Cmp.Lexicographic.{pointwise, slice_cmp, nat_list_eq_equiv, nat_list_cmp_total, texts_po, texts_ties};
-ghost use Rattle.nr_units.specs.Names.{name_order};
+ghost use Rattle.nr_units.specs.Names.{name_order, kind_of_name};
 
 use std::cmp::Ordering;
 use std::marker::Model;
@@ -108,6 +108,26 @@ impl Name {
         ensures at_most { length result.now ≤ 32 }
     {
         &self.bytes[..usize::from(self.len)]
+    }
+
+    /// Its kind, of 512, by its first two bytes. Names of two letters are spread over the kinds.
+    #[inline]
+    pub fn kind(&self) -> u16
+        ensures value { result ≡ kind_of_name self.now }
+        ensures few { result < 512 }
+    {
+        ((45 * u32::from(self.bytes[0]) + u32::from(self.bytes[1])) % 512) as u16
+    }
+
+    /// Whether both are one name of at most two bytes.
+    #[inline]
+    pub fn is_same_short(&self, other: &Name) -> bool
+        ensures { IsTrue result ↔ ((length self.now ≤ 2) × (self.now ≡ other.now)) }
+    {
+        self.len <= 2
+            && self.len == other.len
+            && self.bytes[0] == other.bytes[0]
+            && self.bytes[1] == other.bytes[1]
     }
 
     /// How it stands to another name in the order of names, which is total: by the first byte in which

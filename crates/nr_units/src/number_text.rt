@@ -1,5 +1,6 @@
 //! The texts of numbers.
-ghost use Rattle.std.specs.Prelude.{◌≡◌, ◌+◌, ◌-◌, ◌<◌, ◌≤◌, ◌++◌, ◌^◌, length, replicate};
+ghost use Rattle.std.specs.Prelude.{◌≡◌, ◌+◌, ◌-◌, ◌<◌, ◌≤◌, ◌++◌, ◌^◌, ◌/◌, ◌%◌, ◌∷◌, [], length, replicate};
+ghost use Rattle.std.specs.Fmt.{decimal};
 ghost use Rattle.arrayvec.specs.ArrayVec.{array_vec_len};
 ghost use Rattle.nr_units.specs.NumberText.{IsArabic, IsRoman, IsAlphabetic, Appends, roman_digit, IsNumberText, arabic_text, roman_text, alphabetic_text, number_text};
 
@@ -54,8 +55,48 @@ fn push_times(text: &mut Text, byte: u8, times: usize)
     }
 }
 
+/// Adds the two digits of a number below 100.
+#[inline(always)]
+fn push_pair(text: &mut Text, n: u64)
+    requires room { array_vec_len text.old + 2 ≤ 32 }
+    requires range { n < 100 }
+    ensures { text.new.items ≡ text.old.items ++ (48 + n / 10) ∷ (48 + n % 10) ∷ [] }
+{
+    text.push(b'0' + (n / 10) as u8);
+    text.push(b'0' + (n % 10) as u8);
+}
+
+/// Adds the decimal digits of a number below 100.
+#[inline(always)]
+fn push_short(text: &mut Text, n: u64)
+    requires room { array_vec_len text.old + 2 ≤ 32 }
+    requires range { n < 100 }
+    ensures value { text.new.items ≡ text.old.items ++ decimal n }
+    ensures short { array_vec_len text.new ≤ array_vec_len text.old + 2 }
+{
+    if n >= 10 {
+        return push_pair(text, n);
+    }
+    text.push(b'0' + n as u8);
+}
+
+/// Adds the decimal digits of a number below 10000.
+#[inline(always)]
+fn push_few(text: &mut Text, n: u64)
+    requires room { array_vec_len text.old + 4 ≤ 32 }
+    requires range { n < 10000 }
+    ensures value { text.new.items ≡ text.old.items ++ decimal n }
+    ensures short { array_vec_len text.new ≤ array_vec_len text.old + 4 }
+{
+    if n < 100 {
+        return push_short(text, n);
+    }
+    push_short(text, n / 100);
+    push_pair(text, n % 100);
+}
+
 /// Adds the decimal digits of `n`, with zeros in front for so many places.
-fn push_arabic(text: &mut Text, n: u64, places: u8)
+fn push_padded(text: &mut Text, n: u64, places: u8)
     requires room { array_vec_len text.old ≤ 1 }
     requires range { n ≤ 2 ^ 63 }
     ensures appends { Appends text.old.items text.new.items (IsArabic places n) }
@@ -67,6 +108,21 @@ fn push_arabic(text: &mut Text, n: u64, places: u8)
     let places = usize::from(places).min(9);
     push_times(text, b'0', places.saturating_sub(digits.len()));
     push_all(text, digits);
+}
+
+/// The same, at once where no zeros stand in front of few digits.
+#[inline]
+fn push_arabic(text: &mut Text, n: u64, places: u8)
+    requires room { array_vec_len text.old ≤ 1 }
+    requires range { n ≤ 2 ^ 63 }
+    ensures appends { Appends text.old.items text.new.items (IsArabic places n) }
+    ensures short { array_vec_len text.new ≤ array_vec_len text.old + 19 }
+    ensures computed { text.new.items ≡ text.old.items ++ arabic_text places n }
+{
+    if n < 10000 && places <= 1 {
+        return push_few(text, n);
+    }
+    push_padded(text, n, places);
 }
 
 /// Adds a roman digit, by its letters for one, five and ten.

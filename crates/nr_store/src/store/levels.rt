@@ -1,10 +1,11 @@
 // Levels: texts that are being read.
-ghost use Rattle.std.specs.Prelude.{◌≡◌, ◌+◌, ◌<◌, ◌≤◌, nat_lt, length, true, OnOk, OnErr, is_some, None, Some};
+ghost use Rattle.std.specs.Prelude.{◌≡◌, ◌+◌, ◌<◌, ◌≤◌, nat_lt, length, true, false, OnOk, OnErr, is_some, None, Some};
 ghost use Rattle.nr_tables.specs.Named.{find};
 ghost use Rattle.nr_levels.specs.Levels.{argument};
 ghost use Rattle.nr_store.specs.Stored.{charge_of, checked, words, entered, reading_bytes, shown, left, dropped, emptied};
 ghost use Rattle.nr_store.specs.Windows.{elements_in, rest_of, left_times};
 ghost use Rattle.nr_store.specs.Sights.{Shows, shown_with};
+ghost use Rattle.nr_store.specs.declared.shown.Shown.TheVariants as shows;
 
 use crate::element::Element;
 use crate::refusal::Refusal;
@@ -121,7 +122,7 @@ impl<K: Copy> Store<K> {
     }
 
     /// What comes next of the levels, which stays there.
-    #[inline]
+    #[inline(always)]
     pub fn look(&self) -> Sight
         ensures { Shows result (shown self.now.levels) }
     {
@@ -174,6 +175,31 @@ impl<K: Copy> Store<K> {
                 self.charge -= own + self.levels.close();
                 Sight::End
             }
+        }
+    }
+
+    /// Takes the end of the newest level, as `take` does, if it comes next. Tells whether it came.
+    #[inline(always)]
+    pub fn take_end(&mut self) -> bool
+        ensures came { result ≡ true → shown self.old.levels ≡ shows.End }
+        ensures is { result ≡ true → self.new ≡ left self.old.levels self.old }
+        ensures stays { result ≡ false → self.new ≡ self.old }
+    {
+        match self.levels.front() {
+            Next::End => {
+                self.charge -= self.levels.close();
+                true
+            }
+            Next::Text(id, place) => {
+                if (place as usize) < self.pool.len(id) {
+                    return false;
+                }
+                let share = lone_share(&self.pool, id);
+                self.pool.release(id);
+                self.charge -= share + self.levels.close();
+                true
+            }
+            _ => false,
         }
     }
 

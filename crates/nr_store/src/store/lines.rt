@@ -66,7 +66,8 @@ fn fill<T: Single>(block: &mut [Element], more: &[T])
 }
 
 // Adds elements to a text, a block at a time.
-pub(super) fn append_all<T: Single>(pool: &mut Pool<Element>, id: Id, more: &[T])
+#[inline(never)]
+fn append_blocks<T: Single>(pool: &mut Pool<Element>, id: Id, more: &[T])
     requires is_open { IsOpen pool.old id }
     requires room { used pool.old + length more.now ≤ pool.old.capacity }
     ensures { pool.new ≡ with_text pool.old id (text pool.old id ++ map T.single more.now) }
@@ -79,6 +80,23 @@ pub(super) fn append_all<T: Single>(pool: &mut Pool<Element>, id: Id, more: &[T]
         let _ = pool.append_slice(id, &block[..count]);
         done += count;
     }
+}
+
+// The same, at once where it is one element or none.
+#[inline(always)]
+pub(super) fn append_all<T: Single>(pool: &mut Pool<Element>, id: Id, more: &[T])
+    requires is_open { IsOpen pool.old id }
+    requires room { used pool.old + length more.now ≤ pool.old.capacity }
+    ensures { pool.new ≡ with_text pool.old id (text pool.old id ++ map T.single more.now) }
+{
+    if more.is_empty() {
+        return;
+    }
+    if more.len() == 1 {
+        let _ = pool.append(id, more[0].element());
+        return;
+    }
+    append_blocks(pool, id, more);
 }
 
 // Adds a line to a text.

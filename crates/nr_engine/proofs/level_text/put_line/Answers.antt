@@ -1,7 +1,5 @@
-use Rattle.std.proofs.Common.{◌≡◌, ◌<◌, length, subst, sym, arith}
+use Rattle.std.proofs.Common.{◌≡◌, ◌<◌, length, arith}
 use Rattle.std.specs.Prelude.{slice_index}
-use Rattle.nr_formatter.specs.declared.formatter.Formatter.{Formatter}
-use Rattle.nr_engine.specs.Running.{LongestLine, LongestWords, PutsOfLevel}
 use Rattle.nr_engine.proofs.LevelWords.{level_ended, level_line}
 use Rattle.nr_engine.proofs.level_text.put_line.Goals as goal
 

@@ -1,17 +1,14 @@
 use Rattle.std.specs.Prelude.{slice_index}
-use Rattle.std.proofs.Common.{◌≡◌, ◌+◌, ◌-◌, ◌<◌, ◌≤◌, length, length-drop, take, drop, map, ap, ◌∙◌, subst, arith}
+use Rattle.std.proofs.Common.{◌≡◌, ◌+◌, ◌-◌, ◌<◌, ◌≤◌, length, length-drop, take, drop, map, refl, ap, subst, arith}
 use Rattle.std.proofs.lemmas.List.{length-map, take_all}
 use Rattle.nr_reading.specs.declared.front.Front.TheVariants as fronts
 use Rattle.nr_reading.specs.Runs.{HasMet, spot}
 use Rattle.nr_reading.specs.declared.half.Half.{Half}
 use Rattle.std.proofs.Common.{Ok}
 use Rattle.nr_reading.specs.declared.mode.Due.TheVariants as dues
-use Rattle.nr_input.specs.declared.reader.Reader.{Reader}
-use Rattle.nr_input.specs.Limits.{limits_of}
 use Rattle.nr_input.proofs.LimitsStay.{act_stays}
 use Rattle.nr_input.proofs.ControlLines.{all_read, all_paid}
 use Rattle.nr_input.proofs.RowsRead.{holds_past}
-use Rattle.nr_input.proofs.control_lines.read_named_line.Goals.{then-not-matches-via-then-not-matches, then-not-matches-via-else-not-matches+then-not-meet_name}
 use Rattle.nr_input.proofs.control_lines.read_named_line.Goals as goal
 
 pub returns-clause-read : goal.returns-clause-read
@@ -23,15 +20,17 @@ returns-clause-read g c = λ k holds.
     let r2 = c.seek-told.new.self in
     let line = c.meet_behind_name-line.result in
     let h3 = c.meet_behind_name-line.new.half in
-    let name = c.meet_name.ensures.met c.if-not-meet_name.false in
-    let long : 3 ≤ length bs = omega (arith, name.within, length-map bs fronts.Byte) in
-    let some : 0 < length bs = omega (arith, long) in
+    let m = c.in-Some.name.moves in
+    let t = c.in-Some.name.taken in
+    let name = c.in-Some.ensures.met in
+    let long : t ≤ length bs = omega (arith, name.within, length-map bs fronts.Byte) in
+    let some : 0 < length bs = omega (arith, long, c.in-Some.ensures.some) in
     let next = c.window-bytes.ensures.next some k holds in
-    let rest : take (length bs - 3) (drop 3 bs) ≡ drop 3 bs = take_all (length bs - 3) (drop 3 bs) (omega (arith, length-drop 3 bs)) in
-    let front : 3 + line.taken ≤ length bs = let within = c.meet_behind_name-line.ensures.within in omega (arith, within, long, ap length rest, length-drop 3 bs) in
-    let many : 0 < 3 + line.taken = omega arith in
-    let there = holds_past (3 + line.taken) bs k c.args.place.now c.pass_run.new.self _ _ many front (c.window-bytes.ensures.unseen some) next holds c.skip.ensures.skips c.pass_run.ensures in
-    all_read c.args.store.now c.seek-told.new.store r r2 bs h1 e name (c.meet_name.ensures.due c.if-not-meet_name.false) c.seek-told.ensures k (c.window-bytes.ensures.levels some) next long line h3
+    let rest : take (length bs - t) (drop t bs) ≡ drop t bs = take_all (length bs - t) (drop t bs) (omega (arith, length-drop t bs)) in
+    let front : t + line.taken ≤ length bs = let within = c.meet_behind_name-line.ensures.within in omega (arith, within, long, ap length rest, length-drop t bs) in
+    let many : 0 < t + line.taken = omega (arith, c.in-Some.ensures.some) in
+    let there = holds_past (t + line.taken) bs k c.args.place.now c.pass_run.new.self _ _ many front (c.window-bytes.ensures.unseen some) next holds c.skip.ensures.skips c.pass_run.ensures in
+    all_read c.args.store.now c.seek-told.new.store r r2 bs m t h1 e name c.in-Some.ensures.some c.in-Some.ensures.due c.seek-told.ensures k (c.window-bytes.ensures.levels some) next long line h3
     (λ silent. subst (λ ys. HasMet line.moves (map fronts.Byte ys) r2.half (spot line h3)) rest (c.meet_behind_name-line.ensures.met silent))
     c.meet_behind_name-line.ensures.left c.meet_behind_name-line.ensures.none c.pass_run.new.self _ there
 
@@ -44,23 +43,19 @@ returns-clause-pays g c =
     let r2 = c.seek-told.new.self in
     let line = c.meet_behind_name-line.result in
     let h3 = c.meet_behind_name-line.new.half in
-    let name = c.meet_name.ensures.met c.if-not-meet_name.false in
-    let rest : take (length bs - 3) (drop 3 bs) ≡ drop 3 bs = take_all (length bs - 3) (drop 3 bs) (omega (arith, length-drop 3 bs)) in
-    all_paid c.args.store.now c.seek-told.new.store r r2 bs h1 e name (c.meet_name.ensures.due c.if-not-meet_name.false) c.seek-told.ensures line h3
+    let m = c.in-Some.name.moves in
+    let t = c.in-Some.name.taken in
+    let name = c.in-Some.ensures.met in
+    let rest : take (length bs - t) (drop t bs) ≡ drop t bs = take_all (length bs - t) (drop t bs) (omega (arith, length-drop t bs)) in
+    all_paid c.args.store.now c.seek-told.new.store r r2 bs m t h1 e name c.in-Some.ensures.some c.in-Some.ensures.due c.seek-told.ensures line h3
     (λ silent. subst (λ ys. HasMet line.moves (map fronts.Byte ys) r2.half (spot line h3)) rest (c.meet_behind_name-line.ensures.met silent))
-    c.meet_behind_name-line.ensures.left c.meet_behind_name-line.ensures.none (slice_index bs (3 + line.taken - 1)) c.args.place.now c.pass_run.new.self c.pass_run.ensures
+    c.meet_behind_name-line.ensures.left c.meet_behind_name-line.ensures.none (slice_index bs (t + line.taken - 1)) c.args.place.now c.pass_run.new.self c.pass_run.ensures
 
-pub returns-then-not-matches-clause-reader : goal.returns-then-not-matches-clause-reader
-returns-then-not-matches-clause-reader g c = λ none. elim c.then-not-matches.branch [
-  | then-not-matches-via-then-not-matches w ↦ w.reader-is
-  | then-not-matches-via-else-not-matches+then-not-meet_name w ↦ w.reader-is ∙ ap (λ (h : Half). record c.args.reader.now { half = h }) (w.meet_name.ensures.left w.if-not-meet_name.true)
-]
+pub returns-in_default-meet_name-clause-reader : goal.returns-in_default-meet_name-clause-reader
+returns-in_default-meet_name-clause-reader g c = λ none. ap (λ (h : Half). record c.args.reader.now { half = h }) (c.in_default-meet_name.ensures.left refl)
 
-pub returns-then-not-matches-clause-limits : goal.returns-then-not-matches-clause-limits
-returns-then-not-matches-clause-limits g c = elim c.then-not-matches.branch [
-  | then-not-matches-via-then-not-matches w ↦ ap (λ (r : Reader). limits_of c.args.store.now r) w.reader-is
-  | then-not-matches-via-else-not-matches+then-not-meet_name w ↦ ap (λ (r : Reader). limits_of c.args.store.now r) w.reader-is
-]
+pub returns-in_default-meet_name-clause-limits : goal.returns-in_default-meet_name-clause-limits
+returns-in_default-meet_name-clause-limits g c = refl
 
 pub returns-clause-limits : goal.returns-clause-limits
 returns-clause-limits g c =

@@ -10,23 +10,25 @@ use Rattle.nr_input.proofs.RowsRead.{level_read, level_pays}
 use Rattle.nr_input.proofs.level_lines.read_name.Goals as goal
 
 pub returns-clause-read : goal.returns-clause-read
-returns-clause-read g c = λ yes k p supply holds.
+returns-clause-read g c = λ k p supply holds.
     let v = c.args.store.now in
     let r = c.args.reader.now in
-    let named = quiet 3 c.meet_name.new.self in
-    let met : HasMet 4 (map element_front (rest_of v.levels)) r.half named = subst (λ fs. HasMet 4 fs r.half named) (c.of-row.ensures ∙ ap (map element_front) c.rest.ensures) (c.meet_name.ensures.met c.if-not-meet_name.false) in
-    rw c.skip.ensures (level_read v k r p supply 4 named met holds)
+    let name = c.in-Some.name in
+    let named = quiet name.taken c.meet_name.new.half in
+    let met : HasMet name.moves (map element_front (rest_of v.levels)) r.half named = subst (λ fs. HasMet name.moves fs r.half named) (ap (map element_front) c.rest.ensures) c.in-Some.ensures.met in
+    rw c.skip.ensures (level_read v k r p supply name.moves named met holds)
 
 pub returns-clause-pays : goal.returns-clause-pays
-returns-clause-pays g c = λ yes p.
+returns-clause-pays g c = λ p.
     let v = c.args.store.now in
     let r = c.args.reader.now in
-    let named = quiet 3 c.meet_name.new.self in
-    let met : HasMet 4 (map element_front (rest_of v.levels)) r.half named = subst (λ fs. HasMet 4 fs r.half named) (c.of-row.ensures ∙ ap (map element_front) c.rest.ensures) (c.meet_name.ensures.met c.if-not-meet_name.false) in
-    level_pays 4 v c.skip.new.self p r named met c.skip.ensures
+    let name = c.in-Some.name in
+    let named = quiet name.taken c.meet_name.new.half in
+    let met : HasMet name.moves (map element_front (rest_of v.levels)) r.half named = subst (λ fs. HasMet name.moves fs r.half named) (ap (map element_front) c.rest.ensures) c.in-Some.ensures.met in
+    level_pays name.moves v c.skip.new.self p r named met c.skip.ensures
 
 pub returns-clause-limits : goal.returns-clause-limits
 returns-clause-limits g c =
     let v = c.args.store.now in
     let r = c.args.reader.now in
-    ap (λ (w : Stored _). limits_of w r) c.skip.ensures ∙ left_times-limits 3 v r
+    ap (λ (w : Stored _). limits_of w r) c.skip.ensures ∙ left_times-limits c.in-Some.name.taken v r

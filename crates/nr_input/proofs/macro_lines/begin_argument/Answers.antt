@@ -1,8 +1,4 @@
-use Rattle.std.proofs.Common.{◌≡◌, ◌+◌, ◌<◌, length, map, subst, sym, get_or, arith}
-use Rattle.nr_reading.specs.declared.front.Front.TheVariants as fronts
-use Rattle.nr_reading.specs.declared.half.Half.{Half}
-use Rattle.nr_reading.specs.Passing.{quiet}
-use Rattle.nr_reading.specs.Runs.{HasMet}
+use Rattle.std.proofs.Common.{◌<◌, length, arith}
 use Rattle.nr_input.proofs.MacroBytes.{spaces_passed, begun_met}
 use Rattle.nr_input.proofs.macro_lines.begin_argument.Goals as goal
 

@@ -1,4 +1,4 @@
-use Rattle.std.proofs.Common.{◌≡◌, ◌+◌, ◌*◌, ◌≤◌}
+use Rattle.std.proofs.Common.{◌+◌, ◌*◌, ◌≤◌}
 use Rattle.nr_input.specs.MacroLines.{ReadsOn}
 use Rattle.nr_input.proofs.macro_lines.read_arguments.Given as goal
 

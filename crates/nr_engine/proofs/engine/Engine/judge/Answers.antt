@@ -1,4 +1,4 @@
-use Rattle.std.proofs.Common.{◌≡◌, sym, ◌∙◌}
+use Rattle.std.proofs.Common.{sym, ◌∙◌}
 use Rattle.nr_engine.specs.Holding.{shape}
 use Rattle.nr_engine.proofs.Judged.{makes_judged, none_of}
 use Rattle.nr_engine.proofs.engine.Engine.judge.Goals as goal

@@ -7,10 +7,10 @@ returns-then-is_reading-clause-reads g c = reading_in_place c.read_levels.result
 
 pub returns-in-Empty-clause-reads : goal.returns-in-Empty-clause-reads
 returns-in-Empty-clause-reads g c =
-    reading-add c.read_run-run.result c.put_empty_lines.result (shape c.args.self.now) (shape c.read_run-run.new.self) (shape c.put_empty_lines.new.self)
-    _ _ _ _ _ _ c.read_run-run.ensures.reads c.put_empty_lines.ensures.reads
+    reading-add c.read_source-run.result c.put_empty_lines.result (shape c.args.self.now) (shape c.read_source-run.new.self) (shape c.put_empty_lines.new.self)
+    _ _ _ _ _ _ c.read_source-run.ensures.reads c.put_empty_lines.ensures.reads
 
 pub returns-in-Request-clause-reads : goal.returns-in-Request-clause-reads
 returns-in-Request-clause-reads g c =
-    reading-add c.read_run-run.result c.obey_lines.result (shape c.args.self.now) (shape c.read_run-run.new.self) (shape c.obey_lines.new.self)
-    _ _ _ _ _ _ c.read_run-run.ensures.reads c.obey_lines.ensures.reads
+    reading-add c.read_source-run.result c.obey_lines.result (shape c.args.self.now) (shape c.read_source-run.new.self) (shape c.obey_lines.new.self)
+    _ _ _ _ _ _ c.read_source-run.ensures.reads c.obey_lines.ensures.reads

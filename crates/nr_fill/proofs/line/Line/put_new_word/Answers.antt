@@ -1,5 +1,6 @@
 use Rattle.std.proofs.Common.{◌≡◌, ◌+◌, ◌-◌, ◌<◌, ◌≤◌, List, [], ◌∷◌, ◌++◌, length, map, take, drop, get_or, None, true, false, ◌&&◌, if◌then◌else◌, All, ap, sym, subst, ◌∙◌, refl, arith, length-append}
 use Rattle.std.proofs.lemmas.List.{length-map, length-take, nil_from_length, take_all, drop_all}
+use Rattle.nr_settings.specs.Indents.{margins_of}
 use Rattle.nr_fill.specs.Cut.{pieces_width}
 use Rattle.nr_fill.specs.Lined.{Lined}
 use Rattle.nr_fill.specs.Pieces.{Collected, Piece, begins_line, ends_sentence, is_nil, text_cells}
@@ -85,14 +86,14 @@ returns-clause-word c = λ some.
     let now = c.args.self.now.collected in
     let word : now.word ≡ None = ap (λ (v : Lined). v.collected.word) (sym c.self.view_is) ∙ rw none refl in
     let begins : begins_line now ≡ (is_nil s.row.pieces && true) = ap (λ (v : Lined). begins_line v.collected) (sym c.self.view_is) ∙ rw (none, before) refl in
-    let margins : c.if-self-eq0.self ≡ (if begins_line now then c.args.margins else now.margins) = rw begins (elim c.if-self-eq0.branch [
-      | then-self-eq0 w ↦ rw (nil_from_length s.row.pieces (omega arith)) w.self-is
+    let margins : c.if-self-eq0.self ≡ (if begins_line now then margins_of c.args.indents.now else now.margins) = rw begins (elim c.if-self-eq0.branch [
+      | then-self-eq0 w ↦ rw (nil_from_length s.row.pieces (omega arith)) (w.self-is ∙ w.margins-self-inside.ensures)
       | else-self-eq0 w ↦ rw (some_pieces s.row.pieces (omega arith)) (w.self-is ∙ ap (λ (v : Lined). v.collected.margins) c.self.view_is)
     ]) in
     let sentence : c.ends_sentence-self-inside.result ≡ ends_sentence (run_cell c.args.under (get_or (take count bytes) (length (take count bytes) - 1) 0)) =
     c.ends_sentence-self-inside.ensures ∙ ap (λ b. ends_sentence (run_cell c.args.under b)) last_at in
     rw (c.close.ensures, c.push_plain-count.ensures.cells, last, front_is, whole, behind, none, untitled, margins, sentence, ← c.self.view_is) (rw before refl)
-    ∙ ap (λ (k : Collected). record c.args.self.now { collected = k }) (sym (add_word-none c.args.margins c.args.under (take count bytes) now word (omega (arith, long))))
+    ∙ ap (λ (k : Collected). record c.args.self.now { collected = k }) (sym (add_word-none (margins_of c.args.indents.now) c.args.under (take count bytes) now word (omega (arith, long))))
 
 pub returns-then-count-near-clause-plain : goal.returns-then-count-near-clause-plain
 returns-then-count-near-clause-plain c =
@@ -127,11 +128,11 @@ returns-then-count-near-clause-run c = λ goes_on.
     let last_at = last_front count m bytes c.push_plain-count.ensures.front some in
     let now = c.args.self.now.collected in
     let begins : begins_line now ≡ (is_nil s.row.pieces && true) = ap (λ (v : Lined). begins_line v.collected) (sym c.self.view_is) ∙ rw (none, before) refl in
-    let margins : c.if-self-eq0.self ≡ (if begins_line now then c.args.margins else now.margins) = rw begins (elim c.if-self-eq0.branch [
-      | then-self-eq0 w ↦ rw (nil_from_length s.row.pieces (omega arith)) w.self-is
+    let margins : c.if-self-eq0.self ≡ (if begins_line now then margins_of c.args.indents.now else now.margins) = rw begins (elim c.if-self-eq0.branch [
+      | then-self-eq0 w ↦ rw (nil_from_length s.row.pieces (omega arith)) (w.self-is ∙ w.margins-self-inside.ensures)
       | else-self-eq0 w ↦ rw (some_pieces s.row.pieces (omega arith)) (w.self-is ∙ ap (λ (v : Lined). v.collected.margins) c.self.view_is)
     ]) in
     let sentence : c.ends_sentence-self-inside.result ≡ ends_sentence (run_cell c.args.under (get_or (take count bytes) (length (take count bytes) - 1) 0)) =
     c.ends_sentence-self-inside.ensures ∙ ap (λ b. ends_sentence (run_cell c.args.under b)) last_at in
     rw (c.new.ensures, c.push_plain-count.ensures.cells, last, front_is, behind, untitled, margins, sentence, ← c.self.view_is) (rw before refl)
-    ∙ ap (λ (k : Collected). record c.args.self.now { collected = k }) (sym (add_run-none c.args.margins c.args.under (take count bytes) now c.requires.word (omega (arith, long, some))))
+    ∙ ap (λ (k : Collected). record c.args.self.now { collected = k }) (sym (add_run-none (margins_of c.args.indents.now) c.args.under (take count bytes) now c.requires.word (omega (arith, long, some))))

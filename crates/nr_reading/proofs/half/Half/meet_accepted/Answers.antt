@@ -11,7 +11,7 @@ returns g c =
     let h = c.args.self.now in
     let place = c.pass_first_blanks-place.result in
     let new : Half = record h { reading = record h.reading { mode = modes.Start } } in
-    rest_behind fs 0 0 place (place + 1) h new c.meet_beginning.new.self c.meet_beginning.result
+    rest_behind fs 0 0 place (place + 1) h new c.meet_beginning.new.self c.meet_beginning.new.run
     (left_more fs 0 0 place place c.in-Some.byte h h new c.pass_first_blanks-place.ensures.leads c.in-Some.ensures.within (looks h c.requires.next) c.in-Some.ensures.value
     (meet-part_begins c.in-Some.byte h c.requires.mode c.requires.next (sym c.is_plain.ensures ∙ c.if-not-is_plain.false) (sym c.is_blank.ensures ∙ c.if-is_blank.false)))
     c.meet_beginning.ensures

@@ -12,7 +12,7 @@ pub returns-then-byte-eq34 : goal.returns-then-byte-eq34
 returns-then-byte-eq34 g c =
     let fs = g.I.Items.fronts c.args.items.now in
     let h = c.args.self.now in
-    rest_behind fs c.args.from c.args.made (c.args.from + 1) (c.args.made + 1) h (in_mode modes.Quoted h) c.meet_quoted.new.self c.meet_quoted.result
+    rest_behind fs c.args.from c.args.made (c.args.from + 1) (c.args.made + 1) h (in_mode modes.Quoted h) c.meet_quoted.new.self c.meet_quoted.new.run
     (taken_more fs c.args.from c.args.made c.args.from c.args.made 34 h h (in_mode modes.Quoted h) (stays fs c.args.from c.args.made h) c.in-Some.ensures.within (looks h c.requires.next)
     (c.in-Some.ensures.value ∙ ap (λ b. Some (fronts.Byte b)) c.if-byte-eq34.true) (meet-opening_quote h c.requires.mode c.requires.next))
     c.meet_quoted.ensures

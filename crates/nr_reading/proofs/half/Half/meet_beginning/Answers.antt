@@ -13,21 +13,21 @@ returns-then-from-count g c =
     let fs = g.I.Items.fronts c.args.items.now in
     ends_here fs c.args.from c.args.made c.args.from c.args.made c.args.self.now c.args.self.now (stays fs c.args.from c.args.made c.args.self.now) (omega arith) (omega arith)
 
-pub returns-then-meet_name_at : goal.returns-then-meet_name_at
-returns-then-meet_name_at g c = record {
-  met = (c.meet_name_at.ensures.met c.if-meet_name_at.true c.args.made).met;
-  few = omega arith;
-  longest = λ silent due. let is = c.meet_name_at.ensures.due c.if-meet_name_at.true in let wrong = sym is ∙ due in absurd cc;
+pub returns-in-Some : goal.returns-in-Some
+returns-in-Some g c = record {
+  met = (c.in-Some.ensures.met c.args.made).met;
+  few = omega (arith, c.in-Some.ensures.few);
+  longest = λ silent due. let wrong = sym c.in-Some.ensures.due ∙ due in absurd cc;
 }
 
 pub returns : goal.returns
 returns g c =
     let fs = g.I.Items.fronts c.args.items.now in
     let h = c.meet_name_at.new.self in
-    let same = c.meet_name_at.ensures.left c.if-meet_name_at.false in
+    let same = c.meet_name_at.ensures.left c.in_default.is in
     let mode = ap (λ (k : Half). k.reading.mode) same ∙ c.requires.mode in
     let next = ap reads_next same ∙ c.requires.next in
-    subst (λ (k : Half). MeetsRest fs c.args.from c.args.made c.args.self.now (record { taken = c.args.from + 1; moves = c.args.made + 1; event = events.Byte c.in-Some.byte }) k) (sym c.begin_text.ensures)
-    (taken_last fs c.args.from c.args.made c.args.from c.args.made c.in-Some.byte c.args.self.now h (text_begun h) (events.Byte c.in-Some.byte)
-    (subst (λ (k : Half). LeadsOn fs c.args.from c.args.made c.args.self.now c.args.from c.args.made k) (sym same) (stays fs c.args.from c.args.made c.args.self.now)) (omega arith) (looks h next) c.in-Some.ensures.value
-    (meet-text c.in-Some.byte h mode next (sym c.begins_text.ensures ∙ c.if-not-begins_text.false)) (omega arith) (λ silent due. let wrong : ⊥ = cc in wrong))
+    subst (λ (k : Half). MeetsRest fs c.args.from c.args.made c.args.self.now (record { taken = c.args.from + 1; moves = c.args.made + 1; event = events.Byte c.in-Some-byte.byte }) k) (sym c.begin_text.ensures)
+    (taken_last fs c.args.from c.args.made c.args.from c.args.made c.in-Some-byte.byte c.args.self.now h (text_begun h) (events.Byte c.in-Some-byte.byte)
+    (subst (λ (k : Half). LeadsOn fs c.args.from c.args.made c.args.self.now c.args.from c.args.made k) (sym same) (stays fs c.args.from c.args.made c.args.self.now)) (omega arith) (looks h next) c.in-Some-byte.ensures.value
+    (meet-text c.in-Some-byte.byte h mode next (sym c.begins_text.ensures ∙ c.if-not-begins_text.false)) (omega arith) (λ silent due. let wrong : ⊥ = cc in wrong))

@@ -31,7 +31,7 @@ returns-then-byte-delimiter g c =
     let place = c.loop-place.place in
     let moves = c.args.made + (place - c.args.from) in
     let new : Half = record k { reading = record k.reading { mode = modes.Second c.args.delimiter } } in
-    rest_behind fs c.args.from c.args.made (place + 1) (moves + 1) c.args.self.now new c.meet_second_string.new.self c.meet_second_string.result
+    rest_behind fs c.args.from c.args.made (place + 1) (moves + 1) c.args.self.now new c.meet_second_string.new.self c.meet_second_string.new.run
     (taken_more fs c.args.from c.args.made place moves c.in-Some.byte c.args.self.now k new i.leads (omega arith) (looks k i.next) c.in-Some.ensures.value
     (meet-first_end c.in-Some.byte c.args.delimiter k i.mode i.next (sym c.is_plain.ensures ∙ c.if-not-is_plain.false) (eq-eqb c.in-Some.byte c.args.delimiter c.if-byte-delimiter.true)))
     c.meet_second_string.ensures

@@ -1,6 +1,7 @@
-use Rattle.std.proofs.Common.{sym, ◌∙◌}
+use Rattle.std.proofs.Common.{◌+◌, sym, ◌∙◌, arith}
 use Rattle.std.proofs.lemmas.Bool.{false≢true}
-use Rattle.nr_reading.proofs.Rows.{nothing_met, looking_next}
+use Rattle.std.proofs.lemmas.Option.{IfSome_then}
+use Rattle.nr_reading.proofs.Rows.{nothing_met, looking_next, recount}
 use Rattle.nr_reading.proofs.half.Half.meet_name.Goals.{in-Start, in_default}
 use Rattle.nr_reading.proofs.half.Half.meet_name.Goals as goal
 
@@ -11,5 +12,8 @@ pub meet_name_at-requires-clause-next : goal.meet_name_at-requires-clause-next
 meet_name_at-requires-clause-next g c = looking_next c.args.self.now c.requires.due (sym c.reads_plainly.ensures ∙ c.if-not-reads_plainly.false)
 
 pub returns-clause-met : goal.returns-clause-met
-returns-clause-met g c = λ is.
-    (c.meet_name_at.ensures.met is 0).met c.args.self.now (nothing_met (g.I.Items.fronts c.args.items.now) c.args.self.now)
+returns-clause-met g c =
+    let fs = g.I.Items.fronts c.args.items.now in
+    let h = c.args.self.now in
+    IfSome_then c.meet_name_at.result c.meet_name_at.ensures.met
+    (λ name leads. (recount fs 0 0 (0 + name.taken) name.taken (0 + name.moves) name.moves h c.meet_name_at.new.self (leads 0) (omega arith) (omega arith)).met h (nothing_met fs h))

@@ -1,22 +1,32 @@
-use Rattle.std.specs.Prelude.{◌==◌}
-use Rattle.std.proofs.Common.{◌+◌, not, refl, subst, sym, ◌∙◌, arith}
-use Rattle.std.proofs.lemmas.Bool.{eq-eqb, false≢true}
-use Rattle.nr_reading.specs.declared.half.Half.{Half}
-use Rattle.nr_reading.specs.Rows.{LeadsOn}
-use Rattle.nr_reading.proofs.ControlNames.{met-name, is_sign}
-use Rattle.nr_reading.proofs.half.Half.meet_name_at.Goals.{else-no_break-via-then-no_break+else-sign-self, else-no_break-via-else-no_break}
+use Rattle.std.proofs.Common.{◌≡◌, ◌+◌, ◌≤◌, true, length, refl, sym, ◌∙◌, arith}
+use Rattle.std.proofs.lemmas.Bool.{false≢true, ne_eqb}
+use Rattle.nr_reading.specs.ControlNames.{NameEnds, goes_on_name}
+use Rattle.nr_reading.proofs.ControlNames.{met-lone, met-pair}
+use Rattle.nr_reading.proofs.half.Half.meet_name_at.Goals.{else-long-via-then-long+else-not-name_ends, else-long-via-else-long}
 use Rattle.nr_reading.proofs.half.Half.meet_name_at.Goals as goal
 
-pub returns-clause-met : goal.returns-clause-met
-returns-clause-met g c = λ is n.
+pub returns-then-ends_name-clause-met : goal.returns-then-ends_name-clause-met
+returns-then-ends_name-clause-met g c = λ n.
     let fs = g.I.Items.fronts c.args.items.now in
     let h = c.args.self.now in
     let place = c.args.place in
-    subst (λ (k : Half). LeadsOn fs place n h (place + 3) (n + 4) k) (sym c.take_name.ensures)
-    (met-name fs place n h c.in-Some.sign c.in-Some-byte.first c.in-Some-byte-2.second (not (c.in-Some.sign == h.signs.control)) c.requires.mode c.requires.next c.if-self.false
-    (omega (arith, c.if-count-lt3.false, c.if-place-count.false, c.count.ensures, c.count-else-count-lt3.ensures)) c.in-Some.ensures.value c.in-Some-byte.ensures.value c.in-Some-byte-2.ensures.value
-    (elim c.else-no_break.branch [
-      | else-no_break-via-then-no_break+else-sign-self w ↦ is_sign c.in-Some.sign h.signs (c.in-Some.sign == h.signs.control) refl (λ e. eq-eqb c.in-Some.sign h.signs.no_break w.if-sign-self.false)
-      | else-no_break-via-else-no_break w ↦ is_sign c.in-Some.sign h.signs (c.in-Some.sign == h.signs.control) refl (λ e. absurd (false≢true (sym e ∙ eq-eqb c.in-Some.sign h.signs.control w.if-no_break.false)))
-    ])
-    (sym c.goes_on_name.ensures ∙ c.if-not-goes_on_name.false) (sym c.goes_on_name-else-not-goes_on_name.ensures ∙ c.if-not-goes_on_name-2.false))
+    let within : place + 3 ≤ length fs = omega (arith, c.if-count-lt3.false, c.if-place-count.false, c.count.ensures, c.count-else-count-lt3.ensures) in
+    rw c.take_name.ensures
+    (met-lone fs place n h c.in-Some.sign c.in-Some-byte.first c.in-Some-sign_of.no_break c.requires.mode c.requires.next within c.in-Some.ensures.value c.in-Some-byte.ensures.value c.in-Some-sign_of.ensures
+    (sym c.goes_on_name.ensures ∙ c.if-not-goes_on_name.false) c.in-Some-byte-2.second c.in-Some-byte-2.ensures.value (sym c.ends_name.ensures ∙ c.if-ends_name.true))
+
+pub returns-clause-met : goal.returns-clause-met
+returns-clause-met g c = λ n.
+    let fs = g.I.Items.fronts c.args.items.now in
+    let h = c.args.self.now in
+    let place = c.args.place in
+    let second = c.in-Some-byte-2.second in
+    let within : place + 3 ≤ length fs = omega (arith, c.if-count-lt3.false, c.if-place-count.false, c.count.ensures, c.count-else-count-lt3.ensures) in
+    let goes : goes_on_name second ≡ true = rw (sym c.ends_name.ensures ∙ c.if-ends_name.false, ne_eqb second 92 c.if-second-eq92.false) refl in
+    let ends : h.signs.long ≡ true → NameEnds fs (place + 3) = λ is. elim c.else-long.branch [
+      | else-long-via-then-long+else-not-name_ends w ↦ w.name_ends.ensures w.if-not-name_ends.false
+      | else-long-via-else-long w ↦ absurd (false≢true (sym w.if-long.false ∙ is))
+    ] in
+    rw (c.push.ensures, c.take_name-2.ensures, c.from.ensures)
+    (met-pair fs place n h c.in-Some.sign c.in-Some-byte.first c.in-Some-sign_of.no_break c.requires.mode c.requires.next within c.in-Some.ensures.value c.in-Some-byte.ensures.value c.in-Some-sign_of.ensures
+    (sym c.goes_on_name.ensures ∙ c.if-not-goes_on_name.false) second h.signs.long refl c.in-Some-byte-2.ensures.value goes ends)

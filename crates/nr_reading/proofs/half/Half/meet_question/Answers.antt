@@ -10,7 +10,7 @@ returns-then-begins_number g c =
     let fs = g.I.Items.fronts c.args.items.now in
     let h = c.args.self.now in
     let new : Half = record h { reading = record h.reading { mode = modes.Number 0 }; notes = c.note.new.self } in
-    rest_behind fs c.args.from c.args.made c.args.from (c.args.made + 1) h new c.meet_tested.new.self c.meet_tested.result
+    rest_behind fs c.args.from c.args.made c.args.from (c.args.made + 1) h new c.meet_tested.new.self c.meet_tested.new.run
     (left_more fs c.args.from c.args.made c.args.from c.args.made c.in-Some.byte h h new (stays fs c.args.from c.args.made h) c.in-Some.ensures.within (looks h c.requires.next) c.in-Some.ensures.value
     (meet-number_begins c.in-Some.byte c.note.new.self h c.requires.mode c.requires.next (sym c.begins_number.ensures ∙ c.if-begins_number.true) c.note.ensures))
     c.meet_tested.ensures
@@ -20,7 +20,7 @@ returns g c =
     let fs = g.I.Items.fronts c.args.items.now in
     let h = c.args.self.now in
     let new : Half = record h { reading = record h.reading { mode = modes.First c.in-Some.byte }; notes = c.note-2.new.self } in
-    rest_behind fs c.args.from c.args.made (c.args.from + 1) (c.args.made + 1) h new c.meet_first_string.new.self c.meet_first_string.result
+    rest_behind fs c.args.from c.args.made (c.args.from + 1) (c.args.made + 1) h new c.meet_first_string.new.self c.meet_first_string.new.run
     (taken_more fs c.args.from c.args.made c.args.from c.args.made c.in-Some.byte h h new (stays fs c.args.from c.args.made h) c.in-Some.ensures.within (looks h c.requires.next) c.in-Some.ensures.value
     (meet-delimiter c.in-Some.byte c.note-2.new.self h c.requires.mode c.requires.next (sym c.begins_number.ensures ∙ c.if-begins_number.false) (sym c.delimits.ensures ∙ c.if-not-delimits.false) c.note-2.ensures))
     c.meet_first_string.ensures

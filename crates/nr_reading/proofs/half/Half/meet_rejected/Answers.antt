@@ -34,7 +34,7 @@ returns-then-level-eq0 g c =
     let i = c.loop-place.invariant in
     let place = c.loop-place.place in
     let new : Half = record k { reading = record k.reading { mode = modes.Start } } in
-    rest_behind fs 0 0 (place + 1) (place + 1) c.args.self.now new c.meet_beginning.new.self c.meet_beginning.result
+    rest_behind fs 0 0 (place + 1) (place + 1) c.args.self.now new c.meet_beginning.new.self c.meet_beginning.new.run
     (taken_more fs 0 0 place place 10 c.args.self.now k new i.leads (omega arith) (looks k i.next) (c.in-Some.ensures.value ∙ ap (λ b. Some (fronts.Byte b)) c.if-byte-eq10.true)
     (meet-rejected_end c.loop-place.level k i.mode i.next c.if-level-eq0.true))
     c.meet_beginning.ensures

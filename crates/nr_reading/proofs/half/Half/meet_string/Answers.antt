@@ -1,13 +1,15 @@
+use Rattle.std.specs.Int.{from_bool}
 use Rattle.std.proofs.Common.{◌≡◌, ◌+◌, true, refl, sym, subst, ap, ◌∙◌, arith}
-use Rattle.std.proofs.lemmas.Bool.{ne_eqb}
+use Rattle.std.proofs.lemmas.Bool.{false≢true, ne_eqb}
 use Rattle.nr_reading.specs.declared.half.Half.{Half}
 use Rattle.nr_reading.specs.declared.spelled.Spelled.{Spelled}
-use Rattle.nr_reading.specs.ControlNames.{goes_on_name}
+use Rattle.nr_reading.specs.ControlNames.{NameEnds, goes_on_name}
 use Rattle.nr_reading.specs.Rows.{LeadsOn}
 use Rattle.nr_reading.specs.Spelling.{nothing_spelled, spelled}
 use Rattle.nr_reading.specs.StringRows.{behind_name}
 use Rattle.nr_reading.proofs.Rows.{recount, rest_behind}
 use Rattle.nr_reading.proofs.StringRows.{lone_named, pair_named}
+use Rattle.nr_reading.proofs.half.Half.meet_string.Goals.{else-long-via-then-long+else-not-name_ends, else-long-via-else-long}
 use Rattle.nr_reading.proofs.half.Half.meet_string.Goals as goal
 
 pub returns-then-ends_name : goal.returns-then-ends_name
@@ -18,10 +20,10 @@ returns-then-ends_name g c =
     let first = c.in-Some.first in
     let name : c.with-lone.result ≡ spelled first nothing_spelled = c.with-lone.ensures ∙ ap (spelled first) c.new.ensures in
     let mid : c.take_string_name.new.self ≡ behind_name (spelled first nothing_spelled) h = c.take_string_name.ensures ∙ ap (λ (n : Spelled). behind_name n h) name in
-    rest_behind fs 0 0 (place + 1) (place + 3) h c.take_string_name.new.self c.meet_string_blanks.new.self c.meet_string_blanks.result
+    rest_behind fs 0 0 (place + 1) (place + 3) h c.take_string_name.new.self c.meet_string_blanks.new.self c.meet_string_blanks.new.run
     (subst (λ (k : Half). LeadsOn fs 0 0 h (place + 1) (place + 3) k) (sym mid)
     (recount fs 0 0 (place + 1) (place + 1) (place + 1 + 1 + 1) (place + 3) h (behind_name (spelled first nothing_spelled) h)
-    (lone_named fs 0 0 place place h h c.pass_first_blanks-place.ensures.leads c.requires.mode c.requires.next c.if-self.false first c.in-Some-byte_of.second c.in-Some-byte_of.ensures.within c.in-Some.ensures.value c.in-Some-byte_of.ensures.value
+    (lone_named fs 0 0 place place h h c.pass_first_blanks-place.ensures.leads c.requires.mode c.requires.next first c.in-Some-byte_of.second c.in-Some-byte_of.ensures.within c.in-Some.ensures.value c.in-Some-byte_of.ensures.value
     (sym c.goes_on_name.ensures ∙ c.if-not-goes_on_name.false) (ne_eqb c.in-Some-byte_of.second 92 c.if-second-eq92.false) (sym c.ends_name.ensures ∙ c.if-ends_name.true))
     refl (omega arith)))
     c.meet_string_blanks.ensures
@@ -36,10 +38,15 @@ returns g c =
     let name : c.with.result ≡ spelled second (spelled first nothing_spelled) = c.with.ensures ∙ ap (spelled second) (c.with-lone.ensures ∙ ap (spelled first) c.new.ensures) in
     let mid : c.take_string_name-2.new.self ≡ behind_name (spelled second (spelled first nothing_spelled)) h = c.take_string_name-2.ensures ∙ ap (λ (n : Spelled). behind_name n h) name in
     let goes : goes_on_name second ≡ true = rw (sym c.ends_name.ensures ∙ c.if-ends_name.false, ne_eqb second 92 c.if-second-eq92.false) refl in
-    rest_behind fs 0 0 (place + 2) (place + 3) h c.take_string_name-2.new.self c.meet_string_blanks-2.new.self c.meet_string_blanks-2.result
-    (subst (λ (k : Half). LeadsOn fs 0 0 h (place + 2) (place + 3) k) (sym mid)
-    (recount fs 0 0 (place + 1 + 1) (place + 2) (place + 1 + 1 + 1) (place + 3) h (behind_name (spelled second (spelled first nothing_spelled)) h)
-    (pair_named fs 0 0 place place h h c.pass_first_blanks-place.ensures.leads c.requires.mode c.requires.next c.if-self.false first second c.in-Some-byte_of.ensures.within c.in-Some.ensures.value c.in-Some-byte_of.ensures.value
-    (sym c.goes_on_name.ensures ∙ c.if-not-goes_on_name.false) goes)
-    (omega arith) (omega arith)))
+    let moves = place + 3 + c.from.result in
+    let ends : h.signs.long ≡ true → NameEnds fs (place + 2) = λ is. elim c.else-long.branch [
+      | else-long-via-then-long+else-not-name_ends w ↦ w.name_ends.ensures w.if-not-name_ends.false
+      | else-long-via-else-long w ↦ absurd (false≢true (sym w.if-long.false ∙ is))
+    ] in
+    rest_behind fs 0 0 (place + 2) moves h c.take_string_name-2.new.self c.meet_string_blanks-2.new.self c.meet_string_blanks-2.new.run
+    (subst (λ (k : Half). LeadsOn fs 0 0 h (place + 2) moves k) (sym mid)
+    (recount fs 0 0 (place + 2) (place + 2) (place + (3 + from_bool h.signs.long)) moves h (behind_name (spelled second (spelled first nothing_spelled)) h)
+    (pair_named fs 0 0 place place h h c.pass_first_blanks-place.ensures.leads c.requires.mode c.requires.next first second c.in-Some-byte_of.ensures.within c.in-Some.ensures.value c.in-Some-byte_of.ensures.value
+    (sym c.goes_on_name.ensures ∙ c.if-not-goes_on_name.false) h.signs.long refl goes ends)
+    refl (omega (arith, c.from.ensures))))
     c.meet_string_blanks-2.ensures

@@ -27,11 +27,11 @@ returns-in_default g c =
     let fs = g.I.Items.fronts c.args.items.now in
     let h = c.args.self.now in
     let place = c.pass_blanks-place.result in
-    rest_behind fs c.args.from c.args.made place (c.args.made + (place - c.args.from)) h h c.meet_rest.new.self c.meet_rest.result (c.pass_blanks-place.ensures.leads c.args.made) c.meet_rest.ensures
+    rest_behind fs c.args.from c.args.made place (c.args.made + (place - c.args.from)) h h c.meet_rest.new.self c.meet_rest.new.run (c.pass_blanks-place.ensures.leads c.args.made) c.meet_rest.ensures
 
 pub returns-then-byte-eq92 : goal.returns-then-byte-eq92
 returns-then-byte-eq92 g c =
     let fs = g.I.Items.fronts c.args.items.now in
     let h = c.args.self.now in
     let place = c.pass_blanks-place.result in
-    rest_behind fs c.args.from c.args.made place (c.args.made + (place - c.args.from)) h h c.meet_escape.new.self c.meet_escape.result (c.pass_blanks-place.ensures.leads c.args.made) c.meet_escape.ensures
+    rest_behind fs c.args.from c.args.made place (c.args.made + (place - c.args.from)) h h c.meet_escape.new.self c.meet_escape.new.run (c.pass_blanks-place.ensures.leads c.args.made) c.meet_escape.ensures

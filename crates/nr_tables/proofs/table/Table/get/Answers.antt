@@ -1,20 +1,15 @@
-use Rattle.std.proofs.Common.{Some, ap, sym, ◌∙◌}
-use Rattle.std.proofs.lemmas.Option.{get_or_from_slice_get}
+use Rattle.std.proofs.Common.{List, Some, get_or, ap, sym, ◌∙◌, arith}
 use Rattle.nr_tables.specs.Named.{find}
-use Rattle.nr_tables.specs.Rows.{Table}
+use Rattle.nr_tables.specs.Rows.{Table, IsFound}
 use Rattle.nr_tables.specs.declared.table.Entry.{Entry}
-use Rattle.nr_tables.proofs.Rows.{found_is, find_none, not_in}
+use Rattle.nr_tables.proofs.Rows.{found_is, key_read}
 use Rattle.nr_tables.proofs.table.Table.get.Goals as goal
 
-pub returns-in-Ok : goal.returns-in-Ok
-returns-in-Ok g c =
+pub returns-then-is_same_short : goal.returns-then-is_same_short
+returns-then-is_same_short g c =
     let row = c.self.inside.entries.items in
-    let found = rw c.as_slice.ensures.value at c.in-Ok.ensures in
-    let here = get_or_from_slice_get row c.in-Ok.place c.get-entry.result c.get-entry.result c.get-entry.ensures in
-    sym (sym (ap (λ (t : Table _). find c.args.name t.entries) c.self.view_is) ∙ found_is row c.args.name c.in-Ok.place c.get-entry.result c.self.invariant found ∙ ap (λ (e : Entry _). Some e.value) here)
-
-pub returns-in-Err : goal.returns-in-Err
-returns-in-Err g c =
-    let row = c.self.inside.entries.items in
-    let missed = rw c.as_slice.ensures.value at c.in-Err.ensures in
-    sym (sym (ap (λ (t : Table _). find c.args.name t.entries) c.self.view_is) ∙ find_none row c.args.name (not_in row c.args.name _ missed))
+    let e = c.index-row-near.result in
+    let same = c.is_same_short.ensures.0 c.if-is_same_short.true in
+    let found : IsFound c.as_slice-row.result.now c.args.name c.place-near.result = record { inside = omega arith; here = λ d. key_read c.as_slice-row.result.now c.place-near.result e d (omega arith) ∙ same.1 } in
+    let is = rw c.as_slice-row.ensures.value at found in
+    sym (sym (ap (λ (t : Table _). find c.args.name t.entries) c.self.view_is) ∙ found_is row c.args.name c.place-near.result c.index-row-near-then-is_same_short.result c.self.invariant is ∙ ap (λ (es : List (Entry _)). Some (get_or es c.place-near.result c.index-row-near-then-is_same_short.result).value) (sym c.as_slice-row.ensures.value))

@@ -1,0 +1,34 @@
+-- Lines of a definition, read at once of the bytes that come next of the source (CSTR 54, 7.1).
+use Rattle.std.specs.Prelude.{◌≡◌, ◌≢◌, ℕ, suc, ◌<◌, ◌≤◌, ◌==◌, ◌&&◌, Bool, false, List, length, take, slice_index}
+use Rattle.nr_reading.specs.declared.half.Half.{Half}
+use Rattle.nr_reading.specs.declared.mode.Mode.{Mode}
+use Rattle.nr_reading.specs.declared.mode.Mode.TheVariants as modes
+use Rattle.nr_reading.specs.declared.notes.Defining.{Defining}
+use Rattle.nr_reading.specs.Definitions.{last_line}
+use Rattle.nr_reading.specs.Meeting.{reads_next}
+
+-- by whether the lines are kept
+abbrev pub is_in_body_in : Bool → Mode → Half → Bool
+is_in_body_in keeps modes.Body h = keeps && reads_next h
+is_in_body_in keeps (modes.BodyStart held) h = (held == 0) && (keeps && reads_next h)
+is_in_body_in keeps m h = false
+
+-- the next item is read in a line of a definition that is kept, or at its beginning, behind no part of an escape
+abbrev pub is_in_body : Half → Bool
+is_in_body h = is_in_body_in h.notes.defining.keeps h.reading.mode h
+
+-- The first n of these bytes stand for themselves in a line of a definition: no `\` is among them, and a newline at their end only.
+pub record IsLine (n : ℕ) (bs : List ℕ) : Type 0 where
+  pub within : n ≤ length bs
+  pub escape : (k : ℕ) → k < n → slice_index bs k ≢ 92
+  pub line : (k : ℕ) → suc k < n → slice_index bs k ≢ 10
+
+-- There is a second byte, and it is not that of the line that ends the definition.
+pub record IsOther (bs : List ℕ) (d : Defining) : Type 0 where
+  pub some : 1 < length bs
+  pub other : slice_index bs 1 ≢ slice_index (last_line d) 1
+
+-- Such bytes, which at the beginning of a line don't begin like the line that ends the definition: behind a dot the second shows so.
+pub record IsOwn (n : ℕ) (bs : List ℕ) (m : Mode) (d : Defining) : Type 0 where
+  pub text : IsLine n bs
+  pub begins : m ≡ modes.BodyStart 0 → 0 < length (take n bs) → slice_index (take n bs) 0 ≡ 46 → IsOther (take n bs) d

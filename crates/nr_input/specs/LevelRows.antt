@@ -1,0 +1,23 @@
+-- Rows of the newest level, in which the names of control lines are looked up.
+use Rattle.std.specs.Prelude.{Bool, true, false}
+use Rattle.nr_store.specs.Stored.{Stored, ungathered}
+use Rattle.nr_store.specs.declared.named.Meaning.{Meaning}
+use Rattle.nr_store.specs.declared.named.Meaning.TheVariants as meanings
+use Rattle.nr_reading.specs.declared.mode.Due.TheVariants as dues
+use Rattle.nr_reading.specs.Seeking.{sought}
+use Rattle.nr_input.specs.declared.reader.Reader.{Reader}
+use Rattle.nr_input.specs.Acting.{calls_of, next, request_of}
+
+-- what is half read behind a name that means this
+abbrev pub behind_name : Meaning → Reader → Reader
+behind_name m r = record r { half = sought (calls_of m) (next dues.Look r.half); request = request_of m r.request }
+
+-- a text has the name
+abbrev pub is_text : Meaning → Bool
+is_text meanings.Text = true
+is_text m = false
+
+-- with no arguments read yet, where those of a macro begin
+abbrev pub begun_by : {K : Type 0} → Bool → Stored K → Stored K
+begun_by true v = ungathered v
+begun_by false v = v
