@@ -5,8 +5,7 @@ use Rattle.std.proofs.Math.Seq.{drop-cons, drop-nil}
 use Rattle.std.proofs.lemmas.List.{append_assoc, drop-append-le, drop-map, length-map, map-append, take_rest}
 use Rattle.nr_units.specs.Supply.{Supply}
 use Rattle.nr_fill.specs.Pieces.{line_cells}
-use Rattle.nr_store.specs.Laws.{left_times-run}
-use Rattle.nr_store.specs.Stored.{Level, Mark, Read, Reading, Stored, shown}
+use Rattle.nr_store.specs.Stored.{Level, Mark, Read, Reading, Shared, shown}
 use Rattle.nr_store.specs.Windows.{levels_behind, rest_of, run_left}
 use Rattle.nr_store.specs.declared.element.Element.{Element}
 use Rattle.nr_store.specs.declared.element.Element.TheVariants as elements
@@ -25,7 +24,7 @@ use Rattle.nr_engine.specs.State.{State}
 use Rattle.nr_engine.specs.Machine.{step}
 use Rattle.nr_engine.specs.Measures.{IsWithin}
 use Rattle.nr_engine.specs.Holding.{Made, Shape, Stands, at, weight, worth}
-use Rattle.nr_engine.specs.Running.{LongestLine, Makes, MakesInPlace, PutsOfLevel}
+use Rattle.nr_engine.specs.Running.{LongestLine, Makes, MakesInPlace, PutsOfLevel, with_levels}
 use Rattle.nr_engine.proofs.CellBytes.{glides_byte, no_escape, no_newline}
 use Rattle.nr_engine.proofs.Gliding.{Glides, made_of, told}
 use Rattle.nr_engine.proofs.LevelNewlines.{makes_ended, makes_line}
@@ -100,25 +99,22 @@ levels_on t n [] = refl
 levels_on t n (Mark mode ∷ ls) = refl
 levels_on t n (Read l ∷ ls) = ap (λ r. Read (record l { rest = r }) ∷ ls) (drop_on t n l.rest)
 
-run_on : (t n : ℕ) (v : Stored Resume) → run_left n (run_left t v) ≡ run_left (t + n) v
-run_on t n v = ap (λ ls. record v { levels = ls }) (levels_on t n v.levels)
-
 rest_behind : (t : ℕ) (levels : List (Level Resume)) → rest_of (levels_behind t levels) ≡ drop t (rest_of levels)
 rest_behind t [] = sym (drop-nil t)
 rest_behind t (Mark mode ∷ ls) = sym (drop-nil t)
 rest_behind t (Read l ∷ ls) = refl
 
 -- bytes that come next, behind the first t of them
-rest_there : (t : ℕ) (bs : List ℕ) (v : Stored Resume) → t ≤ length bs → map elements.Byte bs ≡ take (length bs) (rest_of v.levels)
-    → map elements.Byte (drop t bs) ++ drop (length bs) (rest_of v.levels) ≡ rest_of (run_left t v).levels
-rest_there t bs v front next =
-    let rest : List Element = rest_of v.levels in
+rest_there : (t : ℕ) (bs : List ℕ) (ls : List (Level Resume)) → t ≤ length bs → map elements.Byte bs ≡ take (length bs) (rest_of ls)
+    → map elements.Byte (drop t bs) ++ drop (length bs) (rest_of ls) ≡ rest_of (levels_behind t ls)
+rest_there t bs ls front next =
+    let rest : List Element = rest_of ls in
     let zs : List Element = drop (length bs) rest in
     let within : t ≤ length (map elements.Byte bs) = omega (arith, front, length-map bs elements.Byte) in
     ap (λ xs. xs ++ zs) (sym (drop-map elements.Byte t bs))
     ∙ sym (drop-append-le t (map elements.Byte bs) zs within)
     ∙ ap (drop t) (ap (λ xs. xs ++ zs) next ∙ take-append-drop (length bs) rest)
-    ∙ sym (rest_behind t v.levels)
+    ∙ sym (rest_behind t ls)
 
 -- what comes next is shown
 shows_first : (levels : List (Level Resume)) (x : Element) (xs : List Element) → x ∷ xs ≡ rest_of levels → shown levels ≡ shows.Item x
@@ -128,17 +124,26 @@ shows_first (Read l ∷ ls) x xs is = ap (λ r. shown (Read (record l { rest = r
 
 -- ---- one turn
 
+-- nothing is taken of the levels
+levels_there : (ls : List (Level Resume)) → levels_behind 0 ls ≡ ls
+levels_there [] = refl
+levels_there (Mark mode ∷ ls) = refl
+levels_there (Read l ∷ ls) = refl
+
+-- no move was made
+puts_none : (e : Shape) (ls : List (Level Resume)) (ts : List Shared) (f : Formatter) (supply : Option Supply)
+    → Makes 0 (record e { formatter = with_levels ls ts f }) (record e { formatter = with_levels (levels_behind 0 ls) ts f }) supply supply
+puts_none e ls ts f supply =
+    let there : Shape = record e { formatter = with_levels ls ts f } in
+    subst (λ vs. Makes 0 there (record e { formatter = with_levels vs ts f }) supply supply) (sym (levels_there ls)) (makes_none there supply)
+
 -- nothing was put
 pub none_of_level : (bs : List ℕ) (f : Formatter) → PutsOfLevel bs 0 0 f f
 none_of_level bs f = record {
   front = omega arith;
   most = omega arith;
   store = refl;
-  makes = λ e next. record {
-    makes = λ supply.
-        subst (λ v. Makes 0 (record e { formatter = f }) (record e { formatter = record f { store = v } }) supply supply) (left_times-run 0 f.store (omega arith)) (makes_none (record e { formatter = f }) supply);
-    place = refl;
-  };
+  makes = λ e ls ts next. record { makes = puts_none e ls ts f; place = refl };
 }
 
 -- the formatter behind so many elements of the newest level
@@ -148,45 +153,42 @@ behind t g = record g { store = run_left t g.store }
 -- n more of these bytes were put in k moves
 abbrev pub Steps : List ℕ → ℕ → ℕ → ℕ → Formatter → Formatter → Type 0
 Steps bs t n k g h =
-    (e : Shape) (zs : List Element) (supply : Option Supply) → map elements.Byte (drop t bs) ++ zs ≡ rest_of (run_left t g.store).levels
-    → Makes k (record e { formatter = behind t g }) (record e { formatter = record h { store = run_left n (run_left t g.store) } }) supply supply
+    (e : Shape) (ls : List (Level Resume)) (ts : List Shared) (zs : List Element) (supply : Option Supply) → map elements.Byte (drop t bs) ++ zs ≡ rest_of ls
+    → Makes k (record e { formatter = with_levels ls ts g }) (record e { formatter = with_levels (levels_behind n ls) ts h }) supply supply
 
 puts_on : (t m n k : ℕ) (bs : List ℕ) (f g h : Formatter) → PutsOfLevel bs t m f g → t + n ≤ length bs → k ≤ 5 * n → h.store ≡ g.store → Steps bs t n k g h → PutsOfLevel bs (t + n) (m + k) f h
 puts_on t m n k bs f g h puts front few store steps = record {
   front = front;
   most = omega (arith, puts.most, few);
   store = store ∙ puts.store;
-  makes = λ e next.
-      let before : Shape = record e { formatter = f } in
-      let between : Shape = record e { formatter = behind t g } in
-      let after : Shape = record e { formatter = record h { store = run_left n (run_left t g.store) } } in
-      let first : MakesInPlace m before between = subst (λ v. MakesInPlace m before (record e { formatter = record g { store = run_left t v } })) (sym puts.store) (puts.makes e next) in
-      let there = ap (λ v. rest_of (run_left t v).levels) (sym puts.store) in
+  makes = λ e ls ts next.
+      let before : Shape = record e { formatter = with_levels ls ts f } in
+      let between : Shape = record e { formatter = with_levels (levels_behind t ls) ts g } in
+      let after : Shape = record e { formatter = with_levels (levels_behind n (levels_behind t ls)) ts h } in
       let second : MakesInPlace k between after = record {
-        makes = λ supply. steps e (drop (length bs) (rest_of f.store.levels)) supply (rest_there t bs f.store puts.front next ∙ there);
+        makes = λ supply. steps e (levels_behind t ls) ts (drop (length bs) (rest_of ls)) supply (rest_there t bs ls puts.front next);
         place = refl;
       }
       in
-      subst (λ v. MakesInPlace (m + k) before (record e { formatter = record h { store = v } })) (run_on t n g.store ∙ ap (run_left (t + n)) puts.store) (in_place-add m k before between after first second);
+      subst (λ vs. MakesInPlace (m + k) before (record e { formatter = with_levels vs ts h })) (levels_on t n ls)
+      (in_place-add m k before between after (puts.makes e ls ts next) second);
 }
 
 -- a run of plain bytes
 run_steps : (t n : ℕ) (bs : List ℕ) (g : Formatter) → is_in_line g ≡ true → n ≤ length (drop t bs) → ArePlain (take n (drop t bs))
     → (0 < n → line_cells (collected (run_put (take n (drop t bs)) g)) ≤ g.line.limit) → Steps bs t n (2 * n) g (run_put (take n (drop t bs)) g)
-run_steps t zero bs g line front plain fits = λ e zs supply next.
-    let there : Shape = record e { formatter = behind t g } in
-    subst (λ v. Makes 0 there (record e { formatter = record g { store = v } }) supply supply) (left_times-run 0 (run_left t g.store) (omega arith)) (makes_none there supply)
-run_steps t (suc n) bs g line front plain fits = λ e zs supply next.
-    let there : Shape = record e { formatter = behind t g } in
+run_steps t zero bs g line front plain fits = λ e ls ts zs supply next. puts_none e ls ts g supply
+run_steps t (suc n) bs g line front plain fits = λ e ls ts zs supply next.
+    let there : Shape = record e { formatter = with_levels ls ts g } in
     let xs : List ℕ = take (suc n) (drop t bs) in
     let ys : List ℕ = drop (suc n) (drop t bs) in
     let count : length xs ≡ suc n = length-take-le (suc n) (drop t bs) front in
-    let all : map elements.Byte xs ++ (map elements.Byte ys ++ zs) ≡ rest_of there.formatter.store.levels =
+    let all : map elements.Byte xs ++ (map elements.Byte ys ++ zs) ≡ rest_of ls =
     sym (append_assoc (map elements.Byte xs) (map elements.Byte ys) zs)
     ∙ ap (λ vs. vs ++ zs) (sym (map-append elements.Byte xs ys))
     ∙ ap (λ vs. map elements.Byte vs ++ zs) (take-append-drop (suc n) (drop t bs))
     ∙ next in
-    subst (λ k. Makes (2 * k) there (record e { formatter = record (run_put xs g) { store = run_left k (run_left t g.store) } }) supply supply) count
+    subst (λ k. Makes (2 * k) there (record e { formatter = with_levels (levels_behind k ls) ts (run_put xs g) }) supply supply) count
     (makes_text xs (map elements.Byte ys ++ zs) there supply (omega (arith, count)) line plain all (fits (omega arith)))
 
 -- behind the first t bytes comes a run
@@ -201,30 +203,30 @@ level_run t m n bs f g h puts line front plain is fits =
     (run_steps t n bs g line few (subst (λ xs. ArePlain (take n xs)) whole plain) (λ some. subst (λ (x : Formatter). line_cells (collected x) ≤ x.line.limit) put (fits some))))
 
 -- the byte behind the first t is shown
-shows_next : (t b : ℕ) (bs : List ℕ) (zs : List Element) (v : Stored Resume) → t < length bs → slice_index bs t ≡ b → map elements.Byte (drop t bs) ++ zs ≡ rest_of v.levels
-    → shown v.levels ≡ shows.Item (elements.Byte b)
-shows_next t b bs zs v below is next =
-    shows_first v.levels (elements.Byte b) (map elements.Byte (drop (suc t) bs) ++ zs)
+shows_next : (t b : ℕ) (bs : List ℕ) (zs : List Element) (ls : List (Level Resume)) → t < length bs → slice_index bs t ≡ b → map elements.Byte (drop t bs) ++ zs ≡ rest_of ls
+    → shown ls ≡ shows.Item (elements.Byte b)
+shows_next t b bs zs ls below is next =
+    shows_first ls (elements.Byte b) (map elements.Byte (drop (suc t) bs) ++ zs)
     (ap (λ c. elements.Byte c ∷ (map elements.Byte (drop (suc t) bs) ++ zs)) (sym is) ∙ ap (λ xs. map elements.Byte xs ++ zs) (sym (drop-cons bs t 0 below)) ∙ next)
 
 -- and behind it comes a blank
 module _ (t m : ℕ) (bs : List ℕ) (f g : Formatter) (puts : PutsOfLevel bs t m f g) (line : is_in_line g ≡ true) (below : t < length bs) (blank : slice_index bs t ≡ 32) (gap : IsGap g) where
-  gap_there : IsGap (behind t g)
-  gap_there = record { plain = gap.plain; within = gap.within }
+  gap_there : (ls : List (Level Resume)) (ts : List Shared) → IsGap (with_levels ls ts g)
+  gap_there ls ts = record { plain = gap.plain; within = gap.within }
 
   -- the line is full then
   pub level_flows : (h : Formatter) → h ≡ gap_flows g → PutsOfLevel bs (t + 1) (m + 2) f h
   level_flows h is =
       subst (λ (x : Formatter). PutsOfLevel bs (t + 1) (m + 2) f x) (sym is)
       (puts_on t m 1 2 bs f g (gap_flows g) puts (omega (arith, below)) (omega arith) refl
-      (λ e zs supply next. makes_flows (record e { formatter = behind t g }) supply line gap_there (shows_next t 32 bs zs (run_left t g.store) below blank next)))
+      (λ e ls ts zs supply next. makes_flows (record e { formatter = with_levels ls ts g }) supply line (gap_there ls ts) (shows_next t 32 bs zs ls below blank next)))
 
   -- or it is not
   pub level_gap : (h : Formatter) → fits_line (gapped (collected g)) ≡ true → h ≡ gap_put g → PutsOfLevel bs (t + 1) (m + 3) f h
   level_gap h fits is =
       subst (λ (x : Formatter). PutsOfLevel bs (t + 1) (m + 3) f x) (sym is)
       (puts_on t m 1 3 bs f g (gap_put g) puts (omega (arith, below)) (omega arith) refl
-      (λ e zs supply next. makes_gap (record e { formatter = behind t g }) supply line gap_there (shows_next t 32 bs zs (run_left t g.store) below blank next) fits))
+      (λ e ls ts zs supply next. makes_gap (record e { formatter = with_levels ls ts g }) supply line (gap_there ls ts) (shows_next t 32 bs zs ls below blank next) fits))
 
 -- and behind it comes a byte that goes to the word and does not end it
 pub level_byte : (t m b : ℕ) (bs : List ℕ) (f g h : Formatter) → PutsOfLevel bs t m f g → t < length bs → slice_index bs t ≡ b → IsCellByte b g → h ≡ byte_put b g
@@ -232,29 +234,28 @@ pub level_byte : (t m b : ℕ) (bs : List ℕ) (f g h : Formatter) → PutsOfLev
 level_byte t m b bs f g h puts below is byte put =
     subst (λ (x : Formatter). PutsOfLevel bs (t + 1) (m + 2) f x) (sym put)
     (puts_on t m 1 2 bs f g (byte_put b g) puts (omega (arith, below)) (omega arith) refl
-    (λ e zs supply next.
-    let there : Shape = record e { formatter = behind t g } in
-    makes_byte b there supply (record { line = byte.line; goes = byte.goes; within = byte.within })
-    (showing there.formatter.store.levels (elements.Byte b) (shows_next t b bs zs (run_left t g.store) below is next))))
+    (λ e ls ts zs supply next.
+    makes_byte b (record e { formatter = with_levels ls ts g }) supply (record { line = byte.line; goes = byte.goes; within = byte.within })
+    (showing ls (elements.Byte b) (shows_next t b bs zs ls below is next))))
 
 -- and behind it comes the newline that ends its line
 module _ (t m : ℕ) (bs : List ℕ) (f g : Formatter) (puts : PutsOfLevel bs t m f g) (below : t < length bs) (is : slice_index bs t ≡ 10) (newline : IsNewline g) where
-  newline_there : IsNewline (behind t g)
-  newline_there = record { line = newline.line; plain = newline.plain; trap = newline.trap; underlined = newline.underlined; within = newline.within }
+  newline_there : (ls : List (Level Resume)) (ts : List Shared) → IsNewline (with_levels ls ts g)
+  newline_there ls ts = record { line = newline.line; plain = newline.plain; trap = newline.trap; underlined = newline.underlined; within = newline.within }
 
   -- the line is full then
   pub level_ended : (h : Formatter) → h ≡ newline_flows g → PutsOfLevel bs (t + 1) (m + 2) f h
   level_ended h ended =
       subst (λ (x : Formatter). PutsOfLevel bs (t + 1) (m + 2) f x) (sym ended)
       (puts_on t m 1 2 bs f g (newline_flows g) puts (omega (arith, below)) (omega arith) refl
-      (λ e zs supply next. makes_ended (record e { formatter = behind t g }) supply newline_there (shows_next t 10 bs zs (run_left t g.store) below is next)))
+      (λ e ls ts zs supply next. makes_ended (record e { formatter = with_levels ls ts g }) supply (newline_there ls ts) (shows_next t 10 bs zs ls below is next)))
 
   -- or it is not
   pub level_line : (h : Formatter) → fits_line (line_gapped (collected g)) ≡ true → h ≡ newline_put g → PutsOfLevel bs (t + 1) (m + 5) f h
   level_line h fits put =
       subst (λ (x : Formatter). PutsOfLevel bs (t + 1) (m + 5) f x) (sym put)
       (puts_on t m 1 5 bs f g (newline_put g) puts (omega (arith, below)) (omega arith) refl
-      (λ e zs supply next. makes_line (record e { formatter = behind t g }) supply newline_there (shows_next t 10 bs zs (run_left t g.store) below is next) fits))
+      (λ e ls ts zs supply next. makes_line (record e { formatter = with_levels ls ts g }) supply (newline_there ls ts) (shows_next t 10 bs zs ls below is next) fits))
 
 -- ---- as many as could be
 

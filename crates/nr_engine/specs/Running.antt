@@ -19,8 +19,8 @@ use Rattle.nr_formatter.specs.declared.formatter.Formatter.{Formatter}
 use Rattle.nr_formatter.specs.declared.tasks.Resume.{Resume}
 use Rattle.nr_page.specs.Sheet.{Holds as HoldsPage}
 use Rattle.nr_page.specs.declared.selection.PageRange.{PageRange}
-use Rattle.nr_store.specs.Stored.{Stored as StoredOf, charge_of}
-use Rattle.nr_store.specs.Windows.{rest_of, run_left}
+use Rattle.nr_store.specs.Stored.{Level, Shared, Stored as StoredOf, charge_of}
+use Rattle.nr_store.specs.Windows.{levels_behind, rest_of, run_left}
 use Rattle.nr_store.specs.declared.element.Element.TheVariants as elements
 use Rattle.nr_engine.specs.State.{State, Choice, choices, formatter_at_first}
 use Rattle.nr_engine.specs.Machine.{choose, state_after}
@@ -108,13 +108,17 @@ pub record PutsText (bs : List ℕ) (taken moves : ℕ) (f g : Formatter) : Type
 
 -- ---- text of the newest level
 
--- So many of these bytes were put, up to five moves each, wherever they come next of the newest level.
+-- the formatter with these levels, and the texts of these levels
+abbrev pub with_levels : List (Level Resume) → List Shared → Formatter → Formatter
+with_levels ls ts f = record f { store = record f.store { levels = ls; texts = ts } }
+
+-- So many of these bytes were put, up to five moves each, whatever levels there are of which they come next.
 pub record PutsOfLevel (bs : List ℕ) (taken moves : ℕ) (f g : Formatter) : Type 0 where
   pub front : taken ≤ length bs
   pub most : moves ≤ 5 * taken
   pub store : g.store ≡ f.store
-  pub makes : (e : Shape) → map elements.Byte bs ≡ take (length bs) (rest_of f.store.levels)
-      → MakesInPlace moves (record e { formatter = f }) (record e { formatter = record g { store = run_left taken f.store } })
+  pub makes : (e : Shape) (ls : List (Level Resume)) (ts : List Shared) → map elements.Byte bs ≡ take (length bs) (rest_of ls)
+      → MakesInPlace moves (record e { formatter = with_levels ls ts f }) (record e { formatter = with_levels (levels_behind taken ls) ts g })
 
 -- ---- how much was put
 

@@ -23,7 +23,10 @@ returns-clause-puts c =
     let h = (goal.at.returns-clause-puts c).After-skip in
     let e : Shape = shape c.args.self.now in
     let line = c.put_line-line in
-    subst (λ v. MakesInPlace line.result.moves e (record e { formatter = record line.new.formatter { store = v } })) (sym (left h)) (line.ensures.puts.makes e c.copy_level-count.ensures.front.are)
+    let store = c.args.self.now.formatter.store in
+    let there = ap (run_left line.result.taken) line.ensures.puts.store ∙ sym (left h) in
+    subst (λ v. MakesInPlace line.result.moves e (record e { formatter = record line.new.formatter { store = v } })) there
+    (line.ensures.puts.makes e store.levels store.texts c.copy_level-count.ensures.front.are)
 
 pub returns-clause-longest : goal.returns-clause-longest
 returns-clause-longest c =
