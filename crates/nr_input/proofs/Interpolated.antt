@@ -30,7 +30,7 @@ use Rattle.nr_input.specs.declared.told.Told.TheVariants as tells
 use Rattle.nr_input.specs.declared.refusal.Refusal.{Refusal}
 use Rattle.nr_input.specs.Acting.{Acted, expanded, is_look}
 use Rattle.nr_input.specs.Coming.{Coming, Reached, HoldsComing, element_front}
-use Rattle.nr_input.specs.Interpolations.{IsSplice}
+use Rattle.nr_input.specs.Interpolations.{HasRoom, IsSplice}
 use Rattle.nr_input.specs.Moving.{Situation, situation, met_at, move, Goes}
 use Rattle.nr_input.specs.Refusals.{called, acted, acted_by, splicing_by, splicing_answer}
 use Rattle.nr_input.specs.Runs.{HasRead, PaysAll, moves, told_last}
@@ -79,12 +79,6 @@ pub pays_nothing : {K : Type 0} (v : Stored K) (p : Reached) (r : Reader) → Pa
 pays_nothing v p r = record { limit = refl; diversions = refl; most = refl; pays = λ worth enough. omega arith; tells = refl }
 
 -- ---- a level is opened
-
--- a level of these bytes may be opened
-pub record HasRoom {K : Type 0} (bytes : List ℕ) (v : Stored K) (r : Reader) : Type 0 where
-  pub charge : charge_of v + (32 + length bytes) ≤ v.limit
-  pub depth : length v.levels < v.deepest
-  pub burst : r.burst < r.most
 
 -- what it is charged
 pub charge-reading : {K : Type 0} (bytes : List ℕ) (v : Stored K) → charge_of (reading_bytes bytes v) ≡ charge_of v + (32 + length bytes)

@@ -54,9 +54,9 @@ fn lone_digit(number: i32, format: Format) -> Option<u8>
 }
 
 impl Reader {
-    // Whether a level of so many bytes may be opened, and as many bytes be stored of it before its end.
+    /// Whether a level of so many bytes may be opened, and as many bytes be stored of it before its end.
     #[inline(always)]
-    fn may_splice<K: Copy>(&self, len: usize, store: &Store<K>) -> bool
+    pub(crate) fn may_splice<K: Copy>(&self, len: usize, store: &Store<K>) -> bool
         ensures few { result ≡ true → len ≤ 64 }
         ensures burst { result ≡ true → self.now.burst < self.now.most }
         ensures charge { result ≡ true → charge_of store.now + (32 + 2 * len) ≤ store.now.limit }

@@ -78,9 +78,9 @@ fn act<K: Copy>(reader: &mut Reader, store: &mut Store<K>) -> Moved
     do_due(reader, store)
 }
 
-// The end of the newest level is taken, if it comes next: it does nothing to what is half read. Tells whether it was.
+/// The end of the newest level is taken, if it comes next: it does nothing to what is half read. Tells whether it was.
 #[inline(always)]
-fn end_level<K: Copy>(store: &mut Store<K>) -> bool
+pub(crate) fn end_level<K: Copy>(store: &mut Store<K>) -> bool
     ensures read { result ≡ true → (c : Coming) (p : Reached) (r : ReaderValue) (supply : Option Supply) → r.half.reading.due ≡ dues.Look → HoldsComing c p supply → HasRead 1 (situation store.old c r) events.Nothing store.new r p supply }
     ensures pays { result ≡ true → (p : Reached) (r : ReaderValue) → r.half.reading.due ≡ dues.Look → PaysMany 1 store.old p r events.Nothing store.new p r }
     ensures limits { (r : ReaderValue) → limits_of store.new r ≡ limits_of store.old r }

@@ -3,7 +3,7 @@
 //!
 //! It stands on nr_units, nr_pool, nr_levels, nr_tables, nr_store and nr_reading. To read: `refusal`, `told`;
 //! `place`, `reader`; `acting`, `moving`; `splicing`, `setting`; then many moves at once: `at_hand`, `target`,
-//! `adding`, `runs`, `level_lines`, `interpolations`, `levels`, `macro_lines`,
+//! `adding`, `runs`, `level_lines`, `interpolations`, `levels`, `text_parts`, `macro_lines`,
 //! `body_lines`, `comment_lines`, `dropped_lines`, `control_lines`.
 #![tactic(auto)]
 
@@ -26,6 +26,7 @@ mod runs;
 mod setting;
 mod splicing;
 mod target;
+mod text_parts;
 mod told;
 
 pub use at_hand::{take_window, window};
@@ -41,4 +42,5 @@ pub use reader::Reader;
 pub use refusal::Refusal;
 pub use runs::read_run;
 pub use splicing::Definition;
+pub use text_parts::read_text_part;
 pub use told::{Heard, Told};

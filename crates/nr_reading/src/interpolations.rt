@@ -10,7 +10,7 @@ ghost use Rattle.nr_reading.specs.declared.mode.Mode.TheVariants as modes;
 ghost use Rattle.nr_reading.specs.Asking.{due_of, event_of};
 ghost use Rattle.nr_reading.specs.Interpolations.{interpolates, is_lone_name, is_named, begun, named};
 ghost use Rattle.nr_reading.specs.Passing.{quiet};
-ghost use Rattle.nr_reading.specs.Runs.{HasMet};
+ghost use Rattle.nr_reading.specs.Runs.{HasMet, spot};
 
 use super::ask::{Kind, Sign, is_given};
 use super::event::Event;
@@ -281,6 +281,22 @@ impl Half {
             Some(b'n') => self.meet_register(items, place),
             Some(b'*') => self.meet_named(items, place, 2, Kind::String),
             Some(b'f') => self.meet_font(items, place),
+            _ => None,
+        }
+    }
+
+    /// The interpolation or font escape that a row begins with is met, as `meet_interpolation` says, where an item is looked at next.
+    #[inline(always)]
+    pub fn meet_front<I: Items>(&mut self, items: &I) -> Option<Run>
+        ensures met { IfSome result (λ run. HasMet run.moves (I.fronts items.now) self.old (spot run self.new)) }
+        ensures few { IfSome result (λ run. run.moves ≤ 6) }
+        ensures left { result ≡ None → self.new ≡ self.old }
+    {
+        if !matches!(self.reading.due, Due::Look) || items.count() == 0 {
+            return None;
+        }
+        match items.byte(0) {
+            Some(b'\\') => self.meet_interpolation(items, 0),
             _ => None,
         }
     }

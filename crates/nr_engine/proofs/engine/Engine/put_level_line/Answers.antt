@@ -1,7 +1,9 @@
 use Rattle.std.proofs.Common.{◌≡◌, ◌≤◌, List, ℕ, length, take, sym, ap, ◌∙◌, subst, arith}
 use Rattle.std.proofs.lemmas.List.{length-take}
 use Rattle.nr_store.specs.Laws.{left_times-run}
-use Rattle.nr_store.specs.Windows.{left_times, rest_of, run_left}
+use Rattle.nr_store.specs.Stored.{Stored}
+use Rattle.nr_store.specs.Windows.{left_times, levels_behind, rest_of, run_left}
+use Rattle.nr_formatter.specs.declared.tasks.Resume.{Resume}
 use Rattle.nr_formatter.proofs.LevelRuns.{front_few}
 use Rattle.nr_engine.specs.Holding.{Shape, shape}
 use Rattle.nr_engine.specs.Running.{LongestLine, MakesInPlace}
@@ -24,7 +26,7 @@ returns-clause-puts c =
     let e : Shape = shape c.args.self.now in
     let line = c.put_line-line in
     let store = c.args.self.now.formatter.store in
-    let there = ap (run_left line.result.taken) line.ensures.puts.store ∙ sym (left h) in
+    let there = ap (λ (v : Stored Resume). record v { levels = levels_behind line.result.taken store.levels; texts = store.texts }) line.ensures.puts.store ∙ sym (left h) in
     subst (λ v. MakesInPlace line.result.moves e (record e { formatter = record line.new.formatter { store = v } })) there
     (line.ensures.puts.makes e store.levels store.texts c.copy_level-count.ensures.front.are)
 

@@ -6,7 +6,8 @@ use Rattle.nr_reading.specs.declared.event.Event.TheVariants as events
 use Rattle.nr_input.specs.Limits.{limits_of}
 use Rattle.nr_input.specs.Moving.{situation}
 use Rattle.nr_input.specs.Runs.{HasRead, PaysMany}
-use Rattle.nr_input.proofs.Interpolated.{HasRoom, entered_bytes, spliced_read, spliced_pays, whole_read, whole_pays}
+use Rattle.nr_input.specs.Interpolations.{HasRoom}
+use Rattle.nr_input.proofs.Interpolated.{entered_bytes, spliced_read, spliced_pays, whole_read, whole_pays}
 use Rattle.nr_input.proofs.LevelParts.{many_of_all}
 use Rattle.nr_input.proofs.LimitsStay.{left_times-limits}
 use Rattle.nr_input.proofs.Taking.{due_look}
