@@ -23,6 +23,7 @@ mod ReadRuns
 mod RereadCells
 mod Selected
 mod Spending
+mod SplicedText
 mod Standing
 mod Starting
 mod TextAtHand

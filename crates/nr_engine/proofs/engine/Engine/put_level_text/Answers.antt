@@ -2,24 +2,24 @@ use Rattle.std.proofs.Common.{◌+◌, sym, ◌∙◌, arith}
 use Rattle.nr_engine.specs.Holding.{Shape, shape}
 use Rattle.nr_engine.specs.Running.{MakesInPlace}
 use Rattle.nr_engine.proofs.Travelling.{in_place-add}
-use Rattle.nr_engine.proofs.engine.Engine.put_level_text.Goals.{After-read_levels_once}
+use Rattle.nr_engine.proofs.engine.Engine.put_level_text.Goals.{After-read_level_part}
 use Rattle.nr_engine.proofs.engine.Engine.put_level_text.Goals as goal
 
 -- one part more
-part : (c : After-read_levels_once) → MakesInPlace (c.loop.moves + (c.put_level_line.result + c.read_levels_once.result)) (shape c.args.self.now) (shape c.read_levels_once.new.self)
+part : (c : After-read_level_part) → MakesInPlace (c.loop.moves + (c.put_level_line.result + c.read_level_part.result)) (shape c.args.self.now) (shape c.read_level_part.new.self)
 part c =
     let e : Shape = shape c.loop.self in
     let f : Shape = shape c.put_level_line.new.self in
-    let g : Shape = shape c.read_levels_once.new.self in
-    in_place-add c.loop.moves (c.put_level_line.result + c.read_levels_once.result) (shape c.args.self.now) e g c.loop.invariant.puts
-    (in_place-add c.put_level_line.result c.read_levels_once.result e f g c.put_level_line.ensures.puts c.read_levels_once.ensures.reads)
+    let g : Shape = shape c.read_level_part.new.self in
+    in_place-add c.loop.moves (c.put_level_line.result + c.read_level_part.result) (shape c.args.self.now) e g c.loop.invariant.puts
+    (in_place-add c.put_level_line.result c.read_level_part.result e f g c.put_level_line.ensures.puts c.read_level_part.ensures.reads)
 
 pub returns-then-next-eq0-clause-puts : goal.returns-then-next-eq0-clause-puts
-returns-then-next-eq0-clause-puts c = part ((goal.at.returns-then-next-eq0-clause-puts c).After-read_levels_once)
+returns-then-next-eq0-clause-puts c = part ((goal.at.returns-then-next-eq0-clause-puts c).After-read_level_part)
 
 pub loop-preserved : goal.loop-preserved
 loop-preserved c = record {
-  puts = part ((goal.at.loop-preserved c).After-read_levels_once);
+  puts = part ((goal.at.loop-preserved c).After-read_level_part);
   line = sym c.is_in_line.ensures ∙ c.if-not-is_in_line.false;
-  few = omega (arith, c.loop.invariant.few, c.put_level_line.ensures.few, c.read_levels_once.ensures.few);
+  few = omega (arith, c.loop.invariant.few, c.put_level_line.ensures.few, c.read_level_part.ensures.few);
 }
