@@ -22,15 +22,14 @@ use Rattle.nr_reading.specs.declared.mode.Signs.{Signs}
 use Rattle.nr_reading.specs.declared.notes.Notes.{Notes}
 use Rattle.nr_reading.specs.Asking.{begun_ask, at_stage, with_byte, is_given, due_of, event_of}
 use Rattle.nr_reading.specs.Delimiting.{Texts}
+use Rattle.nr_reading.specs.Flows.{Origin, Reaches}
 use Rattle.nr_reading.specs.Interpolations.{interpolates_in, interpolates, is_lone_name, is_named, begun, named}
 use Rattle.nr_reading.specs.LineBeginnings.{text_begun}
 use Rattle.nr_reading.specs.Meeting.{meet, reads_plainly, reads_plainly_at}
 use Rattle.nr_reading.specs.Modes.{is_direct, reads_name}
 use Rattle.nr_reading.specs.Passing.{is_plain, quiet}
-use Rattle.nr_reading.specs.Runs.{HasMet}
 use Rattle.nr_reading.proofs.Asked.{half_at}
-use Rattle.nr_reading.proofs.Moving.{met_counted}
-use Rattle.nr_reading.proofs.Paying.{pays_for}
+use Rattle.nr_reading.proofs.Reaching.{reached_counted}
 use Rattle.nr_reading.proofs.PlainBytes.{neither}
 use Rattle.nr_reading.proofs.Weighing.{at}
 
@@ -163,22 +162,22 @@ module _ (c n : Bool) (s : Signs) (d : Texts) (o : Notes) where
 -- ---- in a row
 
 -- one byte more
-tells_more : (k taken b : ℕ) (fs : List Front) (h j new : Half) (e : Event) → HasMet k fs h (quiet taken j) → taken < length fs → j.reading.due ≡ dues.Look → slice_get fs taken ≡ Some (fronts.Byte b) → Tells b j new e
-    → HasMet (k + 1) fs h (record { taken = taken + 1; half = new; event = e })
+tells_more : (k taken b : ℕ) (fs : List Front) (h : Origin) (j new : Half) (e : Event) → Reaches k fs h (quiet taken j) → taken < length fs → j.reading.due ≡ dues.Look → slice_get fs taken ≡ Some (fronts.Byte b) → Tells b j new e
+    → Reaches (k + 1) fs h (record { taken = taken + 1; half = new; event = e })
 tells_more k taken b fs h j new e has within look some tells =
-    met_counted k taken 1 b fs h j new (record { event = e; takes = true }) has within look some (sym tells) (pays_for (fronts.Byte b) j new (record { event = e; takes = true }) (sym tells) look) refl
+    reached_counted k taken 1 b fs h j new (record { event = e; takes = true }) has within look some (sym tells) refl
 
 -- one byte is looked at, and left
-left_once : (k taken b : ℕ) (fs : List Front) (h j new : Half) → HasMet k fs h (quiet taken j) → taken < length fs → j.reading.due ≡ dues.Look → slice_get fs taken ≡ Some (fronts.Byte b)
-    → meet (fronts.Byte b) j ≡ record { half = new; event = events.Nothing; takes = false } → HasMet (k + 1) fs h (quiet taken new)
+left_once : (k taken b : ℕ) (fs : List Front) (h : Origin) (j new : Half) → Reaches k fs h (quiet taken j) → taken < length fs → j.reading.due ≡ dues.Look → slice_get fs taken ≡ Some (fronts.Byte b)
+    → meet (fronts.Byte b) j ≡ record { half = new; event = events.Nothing; takes = false } → Reaches (k + 1) fs h (quiet taken new)
 left_once k taken b fs h j new has within look some left =
     let none : taken + 0 ≡ taken = omega arith in
-    subst (λ t. HasMet (k + 1) fs h (quiet t new)) none
-    (met_counted k taken 0 b fs h j new (record { event = events.Nothing; takes = false }) has within look some (sym left) (pays_for (fronts.Byte b) j new (record { event = events.Nothing; takes = false }) (sym left) look) refl)
+    subst (λ t. Reaches (k + 1) fs h (quiet t new)) none
+    (reached_counted k taken 0 b fs h j new (record { event = events.Nothing; takes = false }) has within look some (sym left) refl)
 
 -- where so many items, that many moves, were met behind a place, and the last told this
 abbrev pub MetBehind : List Front → ℕ → ℕ → Half → Half → Event → Type 0
-MetBehind fs place count old new e = (h : Half) (k : ℕ) → HasMet k fs h (quiet place old) → HasMet (k + count) fs h (record { taken = place + count; half = new; event = e })
+MetBehind fs place count old new e = (x : Origin) (k : ℕ) → Reaches k fs x (quiet place old) → Reaches (k + count) fs x (record { taken = place + count; half = new; event = e })
 
 -- with nothing asked and nothing due
 plainly : (h : Half) → interpolates h ≡ true → h.reading.due ≡ dues.Look
@@ -196,10 +195,10 @@ plainly h is look =
     by (a ∷ asks) e x plain look = absurd (let wrong : false ≡ true = plain in cc)
 
 -- the same, counted otherwise, and with what is half read said otherwise
-recount : (x x' y y' : ℕ) (p p' : Half) (e : Event) (fs : List Front) (h : Half) → HasMet x fs h (record { taken = y; half = p; event = e }) → x ≡ x' → y ≡ y' → p ≡ p' → HasMet x' fs h (record { taken = y'; half = p'; event = e })
+recount : (x x' y y' : ℕ) (p p' : Half) (e : Event) (fs : List Front) (h : Origin) → Reaches x fs h (record { taken = y; half = p; event = e }) → x ≡ x' → y ≡ y' → p ≡ p' → Reaches x' fs h (record { taken = y'; half = p'; event = e })
 recount x x' y y' p p' e fs h has count taken half =
-    subst (λ n. HasMet n fs h (record { taken = y'; half = p'; event = e })) count
-    (subst (λ n. HasMet x fs h (record { taken = n; half = p'; event = e })) taken (subst (λ (q : Half). HasMet x fs h (record { taken = y; half = q; event = e })) half has))
+    subst (λ n. Reaches n fs h (record { taken = y'; half = p'; event = e })) count
+    (subst (λ n. Reaches x fs h (record { taken = n; half = p'; event = e })) taken (subst (λ (q : Half). Reaches x fs h (record { taken = y; half = q; event = e })) half has))
 
 module _ (fs : List Front) (place : ℕ) (j : Half) (is : interpolates j ≡ true) (look : j.reading.due ≡ dues.Look) where
   abbrev c : Bool
@@ -225,37 +224,37 @@ module _ (fs : List Front) (place : ℕ) (j : Half) (is : interpolates j ≡ tru
 
   -- the `\` and the byte behind it
   asked : (k : Kind) (b : ℕ) → place + 1 < length fs → slice_get fs place ≡ Some (fronts.Byte 92) → slice_get fs (place + 1) ≡ Some (fronts.Byte b) → Tells b escaped_there (asking_there (begun_ask k)) events.Nothing
-      → (h : Half) (m : ℕ) → HasMet m fs h (quiet place j) → HasMet (m + 2) fs h (quiet (place + 2) (begun k j))
+      → (h : Origin) (m : ℕ) → Reaches m fs h (quiet place j) → Reaches (m + 2) fs h (quiet (place + 2) (begun k j))
   asked k b within first second tells = λ h m has.
-      let one = tells_more m place 92 fs h there escaped_there events.Nothing (subst (λ (x : Half). HasMet m fs h (quiet place x)) j_is has) (omega (arith, within)) refl first (backslash c n j.signs j.delimited j.notes j.reading.mode in_mode) in
+      let one = tells_more m place 92 fs h there escaped_there events.Nothing (subst (λ (x : Half). Reaches m fs h (quiet place x)) j_is has) (omega (arith, within)) refl first (backslash c n j.signs j.delimited j.notes j.reading.mode in_mode) in
       let two = tells_more (m + 1) (place + 1) b fs h escaped_there (asking_there (begun_ask k)) events.Nothing one within refl second tells in
       recount (m + 1 + 1) (m + 2) (place + 1 + 1) (place + 2) (asking_there (begun_ask k)) (begun k j) events.Nothing fs h two (omega arith) (omega arith) (ap (begun k) (sym j_is))
 
   pub argument_met : place + 1 < length fs → slice_get fs place ≡ Some (fronts.Byte 92) → slice_get fs (place + 1) ≡ Some (fronts.Byte 36)
-      → (h : Half) (m : ℕ) → HasMet m fs h (quiet place j) → HasMet (m + 2) fs h (quiet (place + 2) (begun kinds.Argument j))
+      → (h : Origin) (m : ℕ) → Reaches m fs h (quiet place j) → Reaches (m + 2) fs h (quiet (place + 2) (begun kinds.Argument j))
   argument_met within first second = asked kinds.Argument 36 within first second (argument_asked c n j.signs j.delimited j.notes j.reading.mode in_mode)
 
   pub register_met : place + 1 < length fs → slice_get fs place ≡ Some (fronts.Byte 92) → slice_get fs (place + 1) ≡ Some (fronts.Byte 110)
-      → (h : Half) (m : ℕ) → HasMet m fs h (quiet place j) → HasMet (m + 2) fs h (quiet (place + 2) (begun (kinds.Register signs.None) j))
+      → (h : Origin) (m : ℕ) → Reaches m fs h (quiet place j) → Reaches (m + 2) fs h (quiet (place + 2) (begun (kinds.Register signs.None) j))
   register_met within first second = asked (kinds.Register signs.None) 110 within first second (register_asked c n j.signs j.delimited j.notes j.reading.mode in_mode)
 
   pub string_met : place + 1 < length fs → slice_get fs place ≡ Some (fronts.Byte 92) → slice_get fs (place + 1) ≡ Some (fronts.Byte 42)
-      → (h : Half) (m : ℕ) → HasMet m fs h (quiet place j) → HasMet (m + 2) fs h (quiet (place + 2) (begun kinds.String j))
+      → (h : Origin) (m : ℕ) → Reaches m fs h (quiet place j) → Reaches (m + 2) fs h (quiet (place + 2) (begun kinds.String j))
   string_met within first second = asked kinds.String 42 within first second (string_asked c n j.signs j.delimited j.notes j.reading.mode in_mode)
 
   pub font_met : j.reading.mode ≡ modes.Text → place + 1 < length fs → slice_get fs place ≡ Some (fronts.Byte 92) → slice_get fs (place + 1) ≡ Some (fronts.Byte 102)
-      → (h : Half) (m : ℕ) → HasMet m fs h (quiet place j) → HasMet (m + 2) fs h (quiet (place + 2) (begun kinds.Font j))
+      → (h : Origin) (m : ℕ) → Reaches m fs h (quiet place j) → Reaches (m + 2) fs h (quiet (place + 2) (begun kinds.Font j))
   font_met text within first second = asked kinds.Font 102 within first second (font_asked c n j.signs j.delimited j.notes j.reading.mode text)
 
   -- a font escape whose name is one byte, where it begins the text of a line
   pub font_begun : j.reading.mode ≡ modes.Start → (b : ℕ) → place + 2 < length fs → slice_get fs place ≡ Some (fronts.Byte 92) → slice_get fs (place + 1) ≡ Some (fronts.Byte 102) → slice_get fs (place + 2) ≡ Some (fronts.Byte b) → IsLone b
-      → (h : Half) (m : ℕ) → HasMet m fs h (quiet place j) → HasMet (m + 4) fs h (record { taken = place + 3; half = named kinds.Font (b ∷ []) (text_begun j); event = events.Font })
+      → (h : Origin) (m : ℕ) → Reaches m fs h (quiet place j) → Reaches (m + 4) fs h (record { taken = place + 3; half = named kinds.Font (b ∷ []) (text_begun j); event = events.Font })
   font_begun start b within first second third byte = λ h m has.
       let began : Half = escaped_half false n j.signs j.delimited j.notes modes.Text in
       let waits : Half = asking_half false n j.signs j.delimited j.notes modes.Text (begun_ask kinds.Font) in
       let ended : Half = named kinds.Font (b ∷ []) (plain_half false n j.signs j.delimited j.notes modes.Text) in
       let at_b : place + 1 + 1 ≡ place + 2 = omega arith in
-      let one = tells_more m place 92 fs h there escaped_there events.Nothing (subst (λ (x : Half). HasMet m fs h (quiet place x)) j_is has) (omega (arith, within)) refl first (backslash c n j.signs j.delimited j.notes j.reading.mode in_mode) in
+      let one = tells_more m place 92 fs h there escaped_there events.Nothing (subst (λ (x : Half). Reaches m fs h (quiet place x)) j_is has) (omega (arith, within)) refl first (backslash c n j.signs j.delimited j.notes j.reading.mode in_mode) in
       let two = left_once (m + 1) (place + 1) 102 fs h escaped_there began one (omega (arith, within)) refl second (font_begins c n j.signs j.delimited j.notes j.reading.mode start) in
       let three = tells_more (m + 1 + 1) (place + 1) 102 fs h began waits events.Nothing two (omega (arith, within)) refl second (font_asked false n j.signs j.delimited j.notes modes.Text refl) in
       let four = tells_more (m + 1 + 1 + 1) (place + 1 + 1) b fs h waits ended events.Font three (omega (arith, within)) refl (ap (slice_get fs) at_b ∙ third) (lone_ends false n j.signs j.delimited j.notes kinds.Font b modes.Text refl byte) in
@@ -264,38 +263,38 @@ module _ (fs : List Front) (place : ℕ) (j : Half) (is : interpolates j ≡ tru
 
   -- one item more of it, where this was asked
   ask_more : (k k' : Kind) (before b : ℕ) → place + before < length fs → slice_get fs (place + before) ≡ Some (fronts.Byte b) → Tells b (asking_there (begun_ask k)) (asking_there (begun_ask k')) events.Nothing
-      → (h : Half) (m : ℕ) → HasMet (m + before) fs h (quiet (place + before) (begun k j)) → HasMet (m + (before + 1)) fs h (quiet (place + (before + 1)) (begun k' j))
+      → (h : Origin) (m : ℕ) → Reaches (m + before) fs h (quiet (place + before) (begun k j)) → Reaches (m + (before + 1)) fs h (quiet (place + (before + 1)) (begun k' j))
   ask_more k k' before b within next tells = λ h m has.
       let one = tells_more (m + before) (place + before) b fs h (asking_there (begun_ask k)) (asking_there (begun_ask k')) events.Nothing
-      (subst (λ (x : Half). HasMet (m + before) fs h (quiet (place + before) x)) (ap (begun k) j_is) has) within refl next tells in
+      (subst (λ (x : Half). Reaches (m + before) fs h (quiet (place + before) x)) (ap (begun k) j_is) has) within refl next tells in
       recount (m + before + 1) (m + (before + 1)) (place + before + 1) (place + (before + 1)) (asking_there (begun_ask k')) (begun k' j) events.Nothing fs h one (omega arith) (omega arith) (ap (begun k') (sym j_is))
 
   pub plus_met : place + 2 < length fs → slice_get fs (place + 2) ≡ Some (fronts.Byte 43)
-      → (h : Half) (m : ℕ) → HasMet (m + 2) fs h (quiet (place + 2) (begun (kinds.Register signs.None) j)) → HasMet (m + 3) fs h (quiet (place + 3) (begun (kinds.Register signs.Plus) j))
+      → (h : Origin) (m : ℕ) → Reaches (m + 2) fs h (quiet (place + 2) (begun (kinds.Register signs.None) j)) → Reaches (m + 3) fs h (quiet (place + 3) (begun (kinds.Register signs.Plus) j))
   plus_met within next = ask_more (kinds.Register signs.None) (kinds.Register signs.Plus) 2 43 within next (plus_read c n j.signs j.delimited j.notes j.reading.mode)
 
   pub minus_met : place + 2 < length fs → slice_get fs (place + 2) ≡ Some (fronts.Byte 45)
-      → (h : Half) (m : ℕ) → HasMet (m + 2) fs h (quiet (place + 2) (begun (kinds.Register signs.None) j)) → HasMet (m + 3) fs h (quiet (place + 3) (begun (kinds.Register signs.Minus) j))
+      → (h : Origin) (m : ℕ) → Reaches (m + 2) fs h (quiet (place + 2) (begun (kinds.Register signs.None) j)) → Reaches (m + 3) fs h (quiet (place + 3) (begun (kinds.Register signs.Minus) j))
   minus_met within next = ask_more (kinds.Register signs.None) (kinds.Register signs.Minus) 2 45 within next (minus_read c n j.signs j.delimited j.notes j.reading.mode)
 
   pub number_met : (b : ℕ) → place + 2 < length fs → slice_get fs (place + 2) ≡ Some (fronts.Byte b) → 49 ≤ b → b ≤ 57
-      → (h : Half) (m : ℕ) → HasMet (m + 2) fs h (quiet (place + 2) (begun kinds.Argument j)) → HasMet (m + 3) fs h (quiet (place + 3) (record j { reading = record j.reading { due = dues.Argument (b - 49) } }))
+      → (h : Origin) (m : ℕ) → Reaches (m + 2) fs h (quiet (place + 2) (begun kinds.Argument j)) → Reaches (m + 3) fs h (quiet (place + 3) (record j { reading = record j.reading { due = dues.Argument (b - 49) } }))
   number_met b within next least most = λ h m has.
       let ended : Half = record there { reading = record there.reading { due = dues.Argument (b - 49) } } in
       let one = tells_more (m + 2) (place + 2) b fs h (asking_there (begun_ask kinds.Argument)) ended events.Nothing
-      (subst (λ (x : Half). HasMet (m + 2) fs h (quiet (place + 2) x)) (ap (begun kinds.Argument) j_is) has) within refl next
+      (subst (λ (x : Half). Reaches (m + 2) fs h (quiet (place + 2) x)) (ap (begun kinds.Argument) j_is) has) within refl next
       (number_ends c n j.signs j.delimited j.notes b j.reading.mode least most) in
       recount (m + 2 + 1) (m + 3) (place + 2 + 1) (place + 3) ended _ events.Nothing fs h one (omega arith) (omega arith)
       (ap (λ (x : Half). let y : Half = record x { reading = record x.reading { due = dues.Argument (b - 49) } } in y) (sym j_is))
 
   -- a name
   module _ (k : Kind) (before : ℕ) (kind : is_named k ≡ true) where
-    begun_there : (h : Half) (m : ℕ) → HasMet (m + before) fs h (quiet (place + before) (begun k j)) → HasMet (m + before) fs h (quiet (place + before) (asking_there (begun_ask k)))
-    begun_there h m has = subst (λ (x : Half). HasMet (m + before) fs h (quiet (place + before) x)) (ap (begun k) j_is) has
+    begun_there : (h : Origin) (m : ℕ) → Reaches (m + before) fs h (quiet (place + before) (begun k j)) → Reaches (m + before) fs h (quiet (place + before) (asking_there (begun_ask k)))
+    begun_there h m has = subst (λ (x : Half). Reaches (m + before) fs h (quiet (place + before) x)) (ap (begun k) j_is) has
 
     pub lone_met : (b : ℕ) → place + before < length fs → slice_get fs (place + before) ≡ Some (fronts.Byte b) → IsLone b
-        → (h : Half) (m : ℕ) → HasMet (m + before) fs h (quiet (place + before) (begun k j))
-        → HasMet (m + (before + 1)) fs h (record { taken = place + (before + 1); half = named k (b ∷ []) j; event = event_of k (b ∷ []) })
+        → (h : Origin) (m : ℕ) → Reaches (m + before) fs h (quiet (place + before) (begun k j))
+        → Reaches (m + (before + 1)) fs h (record { taken = place + (before + 1); half = named k (b ∷ []) j; event = event_of k (b ∷ []) })
     lone_met b within next byte = λ h m has.
         let one = tells_more (m + before) (place + before) b fs h (asking_there (begun_ask k)) (named k (b ∷ []) there) (event_of k (b ∷ [])) (begun_there h m has) within refl next
         (lone_ends c n j.signs j.delimited j.notes k b j.reading.mode kind byte) in
@@ -303,8 +302,8 @@ module _ (fs : List Front) (place : ℕ) (j : Half) (is : interpolates j ≡ tru
         (ap (named k (b ∷ [])) (sym j_is))
 
     pub pair_met : (a b : ℕ) → place + (before + 2) < length fs → slice_get fs (place + before) ≡ Some (fronts.Byte 40) → slice_get fs (place + (before + 1)) ≡ Some (fronts.Byte a) → slice_get fs (place + (before + 2)) ≡ Some (fronts.Byte b) → IsApart a → IsApart b
-        → (h : Half) (m : ℕ) → HasMet (m + before) fs h (quiet (place + before) (begun k j))
-        → HasMet (m + (before + 3)) fs h (record { taken = place + (before + 3); half = named k (a ∷ b ∷ []) j; event = event_of k (a ∷ b ∷ []) })
+        → (h : Origin) (m : ℕ) → Reaches (m + before) fs h (quiet (place + before) (begun k j))
+        → Reaches (m + (before + 3)) fs h (record { taken = place + (before + 3); half = named k (a ∷ b ∷ []) j; event = event_of k (a ∷ b ∷ []) })
     pair_met a b within first second third apart_a apart_b = λ h m has.
         let x1 = asking_there (at_stage stages.Two (begun_ask k)) in
         let x2 = asking_there (with_byte a (at_stage stages.Two (begun_ask k))) in

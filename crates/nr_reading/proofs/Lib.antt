@@ -16,6 +16,7 @@ pub mod Weighing
 pub mod Stacked
 pub mod Moving
 pub mod PlainBytes
+pub mod Reaching
 pub mod Rows
 pub mod LineRows
 pub mod ConditionRows

@@ -16,27 +16,24 @@ use Rattle.nr_reading.specs.declared.mode.Mode.TheVariants as modes
 use Rattle.nr_reading.specs.declared.mode.Signs.{Signs}
 use Rattle.nr_reading.specs.declared.notes.Notes.{Notes}
 use Rattle.nr_reading.specs.Delimiting.{Texts}
-use Rattle.nr_reading.specs.Meeting.{meet, meet_by}
+use Rattle.nr_reading.specs.Meeting.{Met, meet, meet_by}
 use Rattle.nr_reading.specs.Modes.{is_direct}
 use Rattle.nr_reading.specs.Nesting.{is_none}
-use Rattle.nr_reading.specs.Passing.{is_plain, drops_plain, passes_by, passes_plain, quiet, GoesOn}
+use Rattle.nr_reading.specs.Passing.{is_plain, drops_plain, passes_by, passes_plain, quiet}
+use Rattle.nr_reading.specs.Rows.{GoesOn}
+use Rattle.nr_reading.specs.Runs.{behind_met}
+use Rattle.nr_reading.specs.Flows.{Meets, Reaches}
 use Rattle.nr_reading.proofs.Asked.{half_at}
-use Rattle.nr_reading.proofs.Moving.{met_more}
-use Rattle.nr_reading.proofs.Paying.{pays_for}
 use Rattle.nr_reading.proofs.Weighing.{at}
 
 -- ---- from the first item of a row to a place
-
--- the byte is taken, and tells nothing
-abbrev taking : Seen
-taking = record { event = events.Nothing; takes = true }
 
 -- one byte more is taken
 pub goes_more : (fs : List Front) (to b : ℕ) (old half new : Half) → GoesOn fs to old half → to < length fs → slice_get fs to ≡ Some (fronts.Byte b) → half.reading.due ≡ dues.Look → new.reading.due ≡ half.reading.due
     → meet (fronts.Byte b) half ≡ record { half = new; event = events.Nothing; takes = true } → GoesOn fs (to + 1) old new
 goes_more fs to b old half new goes within some look same is = record {
   due = same ∙ goes.due;
-  met = met_more to fs old (quiet to half) (fronts.Byte b) new taking goes.met (record { some = within; due = look; event = refl }) some refl (sym is) (pays_for (fronts.Byte b) half new taking (sym is) look);
+  met = λ x has. subst (λ (m : Met). Reaches (to + 1) fs x (behind_met m to)) is (Meets to b fs x (quiet to half) (goes.met x has) (record { some = within; due = look; event = refl }) some);
 }
 
 -- ---- one plain byte

@@ -23,12 +23,12 @@ use Rattle.nr_reading.specs.declared.runs.Run.{Run}
 use Rattle.nr_reading.specs.Meeting.{meet, met, reads_next, reads_next_at, reads_plainly}
 use Rattle.nr_reading.specs.Passing.{quiet}
 use Rattle.nr_reading.specs.Delimiting.{Texts}
+use Rattle.nr_reading.specs.Flows.{Begins, Origin, Reaches, origin}
 use Rattle.nr_reading.specs.Rows.{LeadsOn, MeetsRest, drops_blank}
 use Rattle.nr_reading.specs.Spelling.{is_blank}
 use Rattle.nr_reading.specs.Runs.{HasMet, spot}
 use Rattle.nr_reading.proofs.Asked.{half_at}
-use Rattle.nr_reading.proofs.Moving.{met_counted}
-use Rattle.nr_reading.proofs.Paying.{pays_for}
+use Rattle.nr_reading.proofs.Reaching.{closed, met_of, reached_counted}
 use Rattle.nr_reading.proofs.Weighing.{at}
 
 -- the byte in front does this
@@ -63,10 +63,9 @@ module _ (fs : List Front) (from made : ℕ) where
 
   -- one byte more, which is taken or left, whatever it tells
   one_more : (to moves b : ℕ) (old mid new : Half) (e : Event) (takes : Bool) (more : ℕ) → LeadsOn fs from made old to moves mid → to < length fs → mid.reading.due ≡ dues.Look → slice_get fs to ≡ Some (fronts.Byte b) → MeetsByte b mid new e takes
-      → more ≡ from_bool takes → (h : Half) → HasMet made fs h (quiet from old) → HasMet (moves + 1) fs h (record { taken = to + more; half = new; event = e })
+      → more ≡ from_bool takes → (h : Origin) → Reaches made fs h (quiet from old) → Reaches (moves + 1) fs h (record { taken = to + more; half = new; event = e })
   one_more to moves b old mid new e takes more leads within look some meets is h has =
-      met_counted moves to more b fs h mid new (record { event = e; takes = takes }) (leads.met h has) within look some (sym meets)
-      (pays_for (fronts.Byte b) mid new (record { event = e; takes = takes }) (sym meets) look) is
+      reached_counted moves to more b fs h mid new (record { event = e; takes = takes }) (leads.met h has) within look some (sym meets) is
 
   pub taken_more : (to moves b : ℕ) (old mid new : Half) → LeadsOn fs from made old to moves mid → to < length fs → mid.reading.due ≡ dues.Look → slice_get fs to ≡ Some (fronts.Byte b) → MeetsByte b mid new events.Nothing true
       → LeadsOn fs from made old (to + 1) (moves + 1) new
@@ -107,8 +106,8 @@ module _ (fs : List Front) (from made : ℕ) where
   leads_met to moves more b old mid now new seen leads same within look some meets is silent =
       let meets_mid = meets ∙ ap (meet (fronts.Byte b)) same in
       record {
-        met = λ h has. subst (λ e. HasMet (moves + 1) fs h (record { taken = to + more; half = new; event = e })) silent
-            (met_counted moves to more b fs h mid new seen (leads.met h has) within look some meets_mid (pays_for (fronts.Byte b) mid new seen meets_mid look) is);
+        met = λ h has. subst (λ e. Reaches (moves + 1) fs h (record { taken = to + more; half = new; event = e })) silent
+            (reached_counted moves to more b fs h mid new seen (leads.met h has) within look some meets_mid is);
       }
 
   -- behind a place that was led to the rest is met
@@ -128,7 +127,7 @@ pub told : (e : Event) (h : Half) → (e ≡ events.Nothing → ⊥) → e ≡ e
 told e h is silent due = is silent
 
 pub met_here : (fs : List Front) (h new : Half) (run : Run) → MeetsRest fs 0 0 h run new → HasMet run.moves fs h (spot run new)
-met_here fs h new run rest = rest.met h (nothing_met fs h)
+met_here fs h new run rest = met_of (rest.met (origin h closed) (Begins fs h closed)) refl
 
 -- with nothing due, and no part of an escape half read
 pub looking_next : (h : Half) → h.reading.due ≡ dues.Look → reads_plainly h ≡ true → reads_next h ≡ true

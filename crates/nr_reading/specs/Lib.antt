@@ -10,6 +10,7 @@ pub mod Delimiting
 pub mod InArgument
 pub mod InDefinition
 pub mod InText
+pub mod Flows
 pub mod Interpolations
 pub mod Keeping
 pub mod LineBeginnings

@@ -9,19 +9,25 @@ use Rattle.nr_reading.specs.declared.mode.Mode.{Mode}
 use Rattle.nr_reading.specs.declared.mode.Mode.TheVariants as modes
 use Rattle.nr_reading.specs.declared.notes.Condition.{Condition}
 use Rattle.nr_reading.specs.declared.runs.Run.{Run}
+use Rattle.nr_reading.specs.Flows.{Brought, Origin, Outside, Reaches}
 use Rattle.nr_reading.specs.Passing.{quiet}
-use Rattle.nr_reading.specs.Runs.{spot, HasMet}
+use Rattle.nr_reading.specs.Runs.{spot}
 
 -- where so many moves led to one place of a row, so many lead on to another, and nothing is told on the way
 pub record LeadsOn (fs : List Front) (from made : ℕ) (old : Half) (to moves : ℕ) (new : Half) : Type 0 where
-  pub met : (h : Half) → HasMet made fs h (quiet from old) → HasMet moves fs h (quiet to new)
+  pub met : (x : Origin) → Reaches made fs x (quiet from old) → Reaches moves fs x (quiet to new)
 
 -- Where so many moves led to a place, this run leads on. Bytes are left only where something was told, something is due, or the
 -- most moves of a run were made.
 pub record MeetsRest (fs : List Front) (from made : ℕ) (old : Half) (run : Run) (new : Half) : Type 0 where
-  pub met : (h : Half) → HasMet made fs h (quiet from old) → HasMet run.moves fs h (spot run new)
+  pub met : (x : Origin) → Reaches made fs x (quiet from old) → Reaches run.moves fs x (spot run new)
   pub few : run.moves ≤ 65536
   pub longest : run.event ≡ events.Nothing → new.reading.due ≡ dues.Look → run.moves < 65536 → (byte : ℕ) → slice_get fs run.taken ≡ Some (fronts.Byte byte) → ⊥
+
+-- from the first item of a row to a place each move takes an item, and tells nothing
+pub record GoesOn (fs : List Front) (to : ℕ) (old new : Half) : Type 0 where
+  pub due : new.reading.due ≡ old.reading.due
+  pub met : (x : Origin) → Reaches 0 fs x (quiet 0 old) → Reaches to fs x (quiet to new)
 
 -- In these modes a blank does nothing; before a condition it does nothing where no `!` came.
 abbrev pub drops_blank : Mode → Condition → Bool
@@ -32,3 +38,16 @@ drops_blank modes.StringBlanks c = true
 drops_blank modes.Accepted c = true
 drops_blank modes.Condition c = not c.negated
 drops_blank m c = false
+
+-- ---- where something is brought from outside
+
+-- where so many moves led to one place of a row, so many lead on to another, with this brought on the way; nothing is told on the way
+pub record FlowsOn (fs : List Front) (o : Outside) (from made : ℕ) (b : Brought) (old : Half) (to moves : ℕ) (b' : Brought) (new : Half) : Type 0 where
+  pub met : (h : Half) → Reaches made fs (record { half = h; outside = o; brought = b }) (quiet from old) → Reaches moves fs (record { half = h; outside = o; brought = b' }) (quiet to new)
+
+-- Where so many moves led to a place, this run leads on, with this brought on the way. Bytes are left only where something was told,
+-- something is due, or the most moves of a run were made.
+pub record FlowsRest (fs : List Front) (o : Outside) (from made : ℕ) (b : Brought) (old : Half) (run : Run) (b' : Brought) (new : Half) : Type 0 where
+  pub met : (h : Half) → Reaches made fs (record { half = h; outside = o; brought = b }) (quiet from old) → Reaches run.moves fs (record { half = h; outside = o; brought = b' }) (spot run new)
+  pub few : run.moves ≤ 65536
+  pub longest : run.event ≡ events.Nothing → new.reading.due ≡ dues.Look → run.moves < 65536 → (byte : ℕ) → slice_get fs run.taken ≡ Some (fronts.Byte byte) → ⊥

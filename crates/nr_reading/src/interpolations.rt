@@ -4,10 +4,10 @@ ghost use Rattle.nr_reading.specs.declared.ask.Kind.TheVariants as kinds;
 ghost use Rattle.nr_reading.specs.declared.ask.Sign.TheVariants as signs;
 ghost use Rattle.nr_reading.specs.declared.event.Event.TheVariants as events;
 ghost use Rattle.nr_reading.specs.declared.front.Front.TheVariants as variants;
-ghost use Rattle.nr_reading.specs.declared.half.Half.{Half as HalfRead};
 ghost use Rattle.nr_reading.specs.declared.mode.Due.TheVariants as dues;
 ghost use Rattle.nr_reading.specs.declared.mode.Mode.TheVariants as modes;
 ghost use Rattle.nr_reading.specs.Asking.{due_of, event_of};
+ghost use Rattle.nr_reading.specs.Flows.{Origin, Reaches};
 ghost use Rattle.nr_reading.specs.Interpolations.{interpolates, is_lone_name, is_named, begun, named};
 ghost use Rattle.nr_reading.specs.Passing.{quiet};
 ghost use Rattle.nr_reading.specs.Runs.{HasMet, spot};
@@ -125,8 +125,8 @@ impl Half {
         requires kind { is_named kind ≡ true }
         requires few { before ≤ 3 }
         requires within { place < length (I.fronts items.now) }
-        ensures met { IfSome result (λ run. (h : HalfRead) (n : ℕ) → HasMet (n + before) (I.fronts items.now) h (quiet (place + before) (begun kind self.old)) →
-            HasMet (n + run.moves) (I.fronts items.now) h (record { taken = place + run.taken; half = self.new; event = run.event })) }
+        ensures met { IfSome result (λ run. (x : Origin) (n : ℕ) → Reaches (n + before) (I.fronts items.now) x (quiet (place + before) (begun kind self.old)) →
+            Reaches (n + run.moves) (I.fronts items.now) x (record { taken = place + run.taken; half = self.new; event = run.event })) }
         ensures few { IfSome result (λ run. run.moves ≤ 6) }
         ensures taken { IfSome result (λ run. run.taken ≡ run.moves) }
         ensures within { IfSome result (λ run. place + run.taken ≤ length (I.fronts items.now)) }
@@ -160,8 +160,8 @@ impl Half {
         requires plain { interpolates self.old ≡ true }
         requires due { self.old.reading.due ≡ dues.Look }
         requires within { place < length (I.fronts items.now) }
-        ensures met { IfSome result (λ run. (h : HalfRead) (n : ℕ) → HasMet (n + 2) (I.fronts items.now) h (quiet (place + 2) (begun kinds.Argument self.old)) →
-            HasMet (n + run.moves) (I.fronts items.now) h (record { taken = place + run.taken; half = self.new; event = run.event })) }
+        ensures met { IfSome result (λ run. (x : Origin) (n : ℕ) → Reaches (n + 2) (I.fronts items.now) x (quiet (place + 2) (begun kinds.Argument self.old)) →
+            Reaches (n + run.moves) (I.fronts items.now) x (record { taken = place + run.taken; half = self.new; event = run.event })) }
         ensures few { IfSome result (λ run. run.moves ≤ 6) }
         ensures taken { IfSome result (λ run. run.taken ≡ run.moves) }
         ensures within { IfSome result (λ run. place + run.taken ≤ length (I.fronts items.now)) }
@@ -188,8 +188,8 @@ impl Half {
         requires plain { interpolates self.old ≡ true }
         requires due { self.old.reading.due ≡ dues.Look }
         requires within { place < length (I.fronts items.now) }
-        ensures met { IfSome result (λ run. (h : HalfRead) (n : ℕ) → HasMet (n + 2) (I.fronts items.now) h (quiet (place + 2) (begun (kinds.Register signs.None) self.old)) →
-            HasMet (n + run.moves) (I.fronts items.now) h (record { taken = place + run.taken; half = self.new; event = run.event })) }
+        ensures met { IfSome result (λ run. (x : Origin) (n : ℕ) → Reaches (n + 2) (I.fronts items.now) x (quiet (place + 2) (begun (kinds.Register signs.None) self.old)) →
+            Reaches (n + run.moves) (I.fronts items.now) x (record { taken = place + run.taken; half = self.new; event = run.event })) }
         ensures few { IfSome result (λ run. run.moves ≤ 6) }
         ensures taken { IfSome result (λ run. run.taken ≡ run.moves) }
         ensures within { IfSome result (λ run. place + run.taken ≤ length (I.fronts items.now)) }
@@ -212,8 +212,8 @@ impl Half {
         requires within { place + 1 < length (I.fronts items.now) }
         requires backslash { slice_get (I.fronts items.now) place ≡ Some (variants.Byte 92) }
         requires font { slice_get (I.fronts items.now) (place + 1) ≡ Some (variants.Byte 102) }
-        ensures met { IfSome result (λ run. (h : HalfRead) (n : ℕ) → HasMet n (I.fronts items.now) h (quiet place self.old) →
-            HasMet (n + run.moves) (I.fronts items.now) h (record { taken = place + run.taken; half = self.new; event = run.event })) }
+        ensures met { IfSome result (λ run. (x : Origin) (n : ℕ) → Reaches n (I.fronts items.now) x (quiet place self.old) →
+            Reaches (n + run.moves) (I.fronts items.now) x (record { taken = place + run.taken; half = self.new; event = run.event })) }
         ensures few { IfSome result (λ run. run.moves ≤ 6) }
         ensures taken { IfSome result (λ run. run.taken ≤ run.moves) }
         ensures within { IfSome result (λ run. place + run.taken ≤ length (I.fronts items.now)) }
@@ -243,8 +243,8 @@ impl Half {
         requires within { place + 1 < length (I.fronts items.now) }
         requires backslash { slice_get (I.fronts items.now) place ≡ Some (variants.Byte 92) }
         requires font { slice_get (I.fronts items.now) (place + 1) ≡ Some (variants.Byte 102) }
-        ensures met { IfSome result (λ run. (h : HalfRead) (n : ℕ) → HasMet n (I.fronts items.now) h (quiet place self.old) →
-            HasMet (n + run.moves) (I.fronts items.now) h (record { taken = place + run.taken; half = self.new; event = run.event })) }
+        ensures met { IfSome result (λ run. (x : Origin) (n : ℕ) → Reaches n (I.fronts items.now) x (quiet place self.old) →
+            Reaches (n + run.moves) (I.fronts items.now) x (record { taken = place + run.taken; half = self.new; event = run.event })) }
         ensures few { IfSome result (λ run. run.moves ≤ 6) }
         ensures taken { IfSome result (λ run. run.taken ≤ run.moves) }
         ensures within { IfSome result (λ run. place + run.taken ≤ length (I.fronts items.now)) }
@@ -265,8 +265,8 @@ impl Half {
         requires due { self.old.reading.due ≡ dues.Look }
         requires within { place < length (I.fronts items.now) }
         requires backslash { slice_get (I.fronts items.now) place ≡ Some (variants.Byte 92) }
-        ensures met { IfSome result (λ run. (h : HalfRead) (n : ℕ) → HasMet n (I.fronts items.now) h (quiet place self.old) →
-            HasMet (n + run.moves) (I.fronts items.now) h (record { taken = place + run.taken; half = self.new; event = run.event })) }
+        ensures met { IfSome result (λ run. (x : Origin) (n : ℕ) → Reaches n (I.fronts items.now) x (quiet place self.old) →
+            Reaches (n + run.moves) (I.fronts items.now) x (record { taken = place + run.taken; half = self.new; event = run.event })) }
         ensures few { IfSome result (λ run. run.moves ≤ 6) }
         ensures taken { IfSome result (λ run. run.taken ≤ run.moves) }
         ensures within { IfSome result (λ run. place + run.taken ≤ length (I.fronts items.now)) }

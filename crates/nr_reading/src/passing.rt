@@ -1,8 +1,8 @@
 //! Bytes that are met many at once.
 ghost use Rattle.std.specs.Prelude.{◌≡◌, ◌≤◌, ◌+◌, ◌-◌, ℕ, length, true};
 ghost use Rattle.nr_reading.specs.declared.mode.Due.TheVariants as dues;
-ghost use Rattle.nr_reading.specs.Passing.{GoesOn, is_plain, drops_plain, passes_plain};
-ghost use Rattle.nr_reading.specs.Rows.{LeadsOn};
+ghost use Rattle.nr_reading.specs.Passing.{is_plain, drops_plain, passes_plain};
+ghost use Rattle.nr_reading.specs.Rows.{GoesOn, LeadsOn};
 
 use super::half::Half;
 use super::mode::{Escape, Mode};

@@ -1,7 +1,8 @@
-use Rattle.std.proofs.Common.{◌≡◌, ◌+◌, subst, arith}
+use Rattle.std.proofs.Common.{◌≡◌, ◌+◌, refl, subst, arith}
 use Rattle.std.proofs.lemmas.Option.{IfSome_then}
 use Rattle.nr_reading.specs.Runs.{HasMet, spot}
-use Rattle.nr_reading.proofs.Rows.{nothing_met}
+use Rattle.nr_reading.specs.Flows.{Begins, origin}
+use Rattle.nr_reading.proofs.Reaching.{closed, met_of}
 use Rattle.nr_reading.proofs.half.Half.meet_front.Goals as goal
 
 pub returns-in-Some-eq92-clause-met : goal.returns-in-Some-eq92-clause-met
@@ -14,4 +15,4 @@ returns-in-Some-eq92-clause-met g c =
     let moves : 0 + run.moves ≡ run.moves = omega arith in
     let taken : 0 + run.taken ≡ run.taken = omega arith in
     subst (λ n. HasMet n fs h (spot run new)) moves
-    (subst (λ t. HasMet (0 + run.moves) fs h (record { taken = t; half = new; event = run.event })) taken (met h 0 (nothing_met fs h))))
+    (subst (λ t. HasMet (0 + run.moves) fs h (record { taken = t; half = new; event = run.event })) taken (met_of (met (origin h closed) 0 (Begins fs h closed)) refl)))

@@ -1,7 +1,9 @@
-use Rattle.std.proofs.Common.{◌+◌, sym, ◌∙◌, arith}
+use Rattle.std.proofs.Common.{◌+◌, refl, sym, ◌∙◌, arith}
 use Rattle.std.proofs.lemmas.Bool.{false≢true}
 use Rattle.std.proofs.lemmas.Option.{IfSome_then}
-use Rattle.nr_reading.proofs.Rows.{nothing_met, looking_next, recount}
+use Rattle.nr_reading.specs.Flows.{Begins, origin}
+use Rattle.nr_reading.proofs.Reaching.{closed, met_of}
+use Rattle.nr_reading.proofs.Rows.{looking_next, recount}
 use Rattle.nr_reading.proofs.half.Half.meet_name.Goals.{in-Start, in_default}
 use Rattle.nr_reading.proofs.half.Half.meet_name.Goals as goal
 
@@ -16,4 +18,4 @@ returns-clause-met g c =
     let fs = g.I.Items.fronts c.args.items.now in
     let h = c.args.self.now in
     IfSome_then c.meet_name_at.result c.meet_name_at.ensures.met
-    (λ name leads. (recount fs 0 0 (0 + name.taken) name.taken (0 + name.moves) name.moves h c.meet_name_at.new.self (leads 0) (omega arith) (omega arith)).met h (nothing_met fs h))
+    (λ name leads. met_of ((recount fs 0 0 (0 + name.taken) name.taken (0 + name.moves) name.moves h c.meet_name_at.new.self (leads 0) (omega arith) (omega arith)).met (origin h closed) (Begins fs h closed)) refl)
