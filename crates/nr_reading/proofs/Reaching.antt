@@ -42,6 +42,6 @@ met_of (Meets n b fs x p reached may some) shut =
     let m : Met = meet (fronts.Byte b) p.half in
     let seen : Seen = record { event = m.event; takes = m.takes } in
     met_more n fs x.half p (fronts.Byte b) m.half seen (met_of reached shut) may some refl refl (pays_for (fronts.Byte b) p.half m.half seen refl may.due)
-met_of (Splices n m bytes fs x p new reached may met_all look) shut = absurd (false≢true (sym shut ∙ may.answers))
-met_of (Seeks n called fs x p reached may) shut = absurd (false≢true (sym shut ∙ may.answers))
+met_of (Splices n m bytes fs x p new reached may met_all look) shut = absurd (false≢true (sym shut ∙ may.admits.answers))
+met_of (Seeks n called fs x p reached may) shut = absurd (false≢true (sym shut ∙ may.calls.answers))
 met_of (Judges n found fs x p reached may) shut = absurd (false≢true (sym shut ∙ may.answers))

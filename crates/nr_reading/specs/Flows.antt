@@ -1,6 +1,6 @@
 -- Rows of items met with what comes from outside where it is asked for: bytes that an interpolation brings are met where it stands, the
 -- name of a control line is looked up, and what is found of two strings is judged.
-use Rattle.std.specs.Prelude.{◌≡◌, ◌≢◌, ℕ, ◌+◌, ◌≤◌, ◌<◌, Bool, true, List, length, map, slice_get, Option, Some, None}
+use Rattle.std.specs.Prelude.{◌≡◌, ◌≢◌, ℕ, ◌+◌, ◌≤◌, ◌<◌, Bool, true, List, [], ◌∷◌, length, map, slice_get, Option, Some, None}
 use Rattle.nr_reading.specs.declared.ask.Sign.TheVariants as signs
 use Rattle.nr_reading.specs.declared.event.Event.TheVariants as events
 use Rattle.nr_reading.specs.declared.front.Front.{Front}
@@ -18,7 +18,7 @@ use Rattle.nr_reading.specs.Seeking.{sought}
 use Rattle.nr_reading.specs.Spelling.{name_of}
 
 -- What is outside of a row: whether it answers, the bytes of each argument, the text of each register, and what each name calls. So
--- many splices more may be made, each of a level that may be charged this.
+-- many splices may be made, each of a level that may be charged so much.
 pub record Outside : Type 0 where
   pub answers : Bool
   pub argument : ℕ → List ℕ
@@ -27,13 +27,25 @@ pub record Outside : Type 0 where
   pub splices : ℕ
   pub room : ℕ
 
--- what was brought: so many splices, and the name that was looked up last
+-- what was brought: so many splices, and the names that were looked up, the latest first
 pub record Brought : Type 0 where
   pub splices : ℕ
-  pub called : Option (List ℕ)
+  pub called : List (List ℕ)
 
 abbrev pub nothing_brought : Brought
-nothing_brought = record { splices = 0; called = None }
+nothing_brought = record { splices = 0; called = [] }
+
+abbrev pub one_splice_more : Brought → Brought
+one_splice_more b = record b { splices = b.splices + 1 }
+
+abbrev pub one_call_more : List ℕ → Brought → Brought
+one_call_more name b = record b { called = name ∷ b.called }
+
+-- a splice more of so many bytes is allowed
+pub record Admits (count : ℕ) (o : Outside) (b : Brought) : Type 0 where
+  pub answers : o.answers ≡ true
+  pub more : b.splices < o.splices
+  pub room : 32 + count ≤ o.room
 
 -- where a row is met from: what is half read there, what is outside, and what was brought of it since
 pub record Origin : Type 0 where
@@ -45,10 +57,10 @@ abbrev pub origin : Half → Outside → Origin
 origin h o = record { half = h; outside = o; brought = nothing_brought }
 
 abbrev pub with_splice : Origin → Origin
-with_splice x = record x { brought = record x.brought { splices = x.brought.splices + 1 } }
+with_splice x = record x { brought = one_splice_more x.brought }
 
 abbrev pub with_call : List ℕ → Origin → Origin
-with_call name x = record x { brought = record x.brought { called = Some name } }
+with_call name x = record x { brought = one_call_more name x.brought }
 
 -- with an item looked at next
 abbrev pub looking : Half → Half
@@ -62,20 +74,22 @@ brings d asked o = None
 
 -- these bytes may be spliced
 pub record MayBring (bytes : List ℕ) (x : Origin) (p : Spot) : Type 0 where
-  pub answers : x.outside.answers ≡ true
   pub silent : p.event ≡ events.Nothing
   pub are : brings p.half.reading.due p.half.notes.asked x.outside ≡ Some bytes
-  pub more : x.brought.splices < x.outside.splices
-  pub room : length bytes ≤ x.outside.room
+  pub admits : Admits (length bytes) x.outside x.brought
 
--- the name may be looked up: it calls no macro, of which more would be done, and nothing that is told
-pub record MaySeek (called : Calls) (x : Origin) (p : Spot) : Type 0 where
-  pub answers : x.outside.answers ≡ true
-  pub silent : p.event ≡ events.Nothing
-  pub due : p.half.reading.due ≡ dues.Seek
-  pub is : called ≡ x.outside.calls (name_of p.half.notes.name)
+-- the name calls this, which is no macro, of which more would be done, and nothing that is told
+pub record CallsQuietly (called : Calls) (name : List ℕ) (o : Outside) : Type 0 where
+  pub answers : o.answers ≡ true
+  pub is : called ≡ o.calls name
   pub no_macro : called ≢ calls.Macro
   pub no_title : called ≢ calls.Title
+
+-- the name may be looked up
+pub record MaySeek (called : Calls) (x : Origin) (p : Spot) : Type 0 where
+  pub silent : p.event ≡ events.Nothing
+  pub due : p.half.reading.due ≡ dues.Seek
+  pub calls : CallsQuietly called (name_of p.half.notes.name) x.outside
 
 -- what was found of two strings may be judged
 pub record MayJudge (found : Bool) (x : Origin) (p : Spot) : Type 0 where

@@ -1,5 +1,5 @@
 -- Rows of items, met from a place on in the loops of the modes.
-use Rattle.std.specs.Prelude.{◌≡◌, ℕ, ◌<◌, ◌≤◌, not, Bool, true, false, List, slice_get, Some}
+use Rattle.std.specs.Prelude.{◌≡◌, ℕ, ◌+◌, ◌<◌, ◌≤◌, not, Bool, true, false, List, length, map, slice_get, Some}
 use Rattle.nr_reading.specs.declared.event.Event.TheVariants as events
 use Rattle.nr_reading.specs.declared.front.Front.{Front}
 use Rattle.nr_reading.specs.declared.front.Front.TheVariants as fronts
@@ -9,9 +9,10 @@ use Rattle.nr_reading.specs.declared.mode.Mode.{Mode}
 use Rattle.nr_reading.specs.declared.mode.Mode.TheVariants as modes
 use Rattle.nr_reading.specs.declared.notes.Condition.{Condition}
 use Rattle.nr_reading.specs.declared.runs.Run.{Run}
-use Rattle.nr_reading.specs.Flows.{Brought, Origin, Outside, Reaches}
+use Rattle.nr_reading.specs.Flows.{Admits, Brought, Origin, Outside, Reaches, brings, looking, one_splice_more}
+use Rattle.nr_reading.specs.Meeting.{reads_next}
 use Rattle.nr_reading.specs.Passing.{quiet}
-use Rattle.nr_reading.specs.Runs.{spot}
+use Rattle.nr_reading.specs.Runs.{HasMet, spot}
 
 -- where so many moves led to one place of a row, so many lead on to another, and nothing is told on the way
 pub record LeadsOn (fs : List Front) (from made : ℕ) (old : Half) (to moves : ℕ) (new : Half) : Type 0 where
@@ -51,3 +52,20 @@ pub record FlowsRest (fs : List Front) (o : Outside) (from made : ℕ) (b : Brou
   pub met : (h : Half) → Reaches made fs (record { half = h; outside = o; brought = b }) (quiet from old) → Reaches run.moves fs (record { half = h; outside = o; brought = b' }) (spot run new)
   pub few : run.moves ≤ 65536
   pub longest : run.event ≡ events.Nothing → new.reading.due ≡ dues.Look → run.moves < 65536 → (byte : ℕ) → slice_get fs run.taken ≡ Some (fronts.Byte byte) → ⊥
+
+-- What is due was spliced, and all of its bytes were met in so many moves, with one to splice them and one for the end of their level.
+pub record HasBrought (moves : ℕ) (old : Half) (o : Outside) (b : Brought) (new : Half) (b' : Brought) : Type 0 where
+  pub bytes : List ℕ
+  pub are : brings old.reading.due old.notes.asked o ≡ Some bytes
+  pub admits : Admits (length bytes) o b
+  pub met : ℕ
+  pub count : moves ≡ met + 2
+  pub all : HasMet met (map fronts.Byte bytes) (looking old) (quiet (length bytes) new)
+  pub next : reads_next new ≡ true
+  pub brought : b' ≡ one_splice_more b
+
+-- An escape was met from a place of a row on: either the row goes on behind it and what it brought, in a mode's loop, or it stops there.
+abbrev pub AfterFlow : Bool → List Front → Outside → ℕ → ℕ → Brought → Half → Run → Brought → Half → Type 0
+AfterFlow true fs o from made b old run b' new =
+    FlowsOn fs o from made b old run.taken run.moves b' new × (reads_next new ≡ true) × (from < run.taken) × (run.taken ≤ length fs) × (run.moves ≤ made + 73) × (made ≤ 30000)
+AfterFlow false fs o from made b old run b' new = FlowsRest fs o from made b old run b' new
