@@ -10,3 +10,8 @@ delimits b = is_plain b && not (is_blank b || (b == 33) || (b == 111) || (b == 1
 -- a number ends before the byte, where so many parentheses are open
 abbrev pub ends_number : ℕ → ℕ → Bool
 ends_number b depth = (b == 10) || ((depth == 0) && (is_blank b || (b == 92)))
+
+-- how many parentheses are open behind bytes of a number, if it does not end in them and no escape begins there
+abbrev pub depth_behind : List ℕ → ℕ → Option ℕ
+depth_behind [] depth = Some depth
+depth_behind (b ∷ bs) depth = if (b == 92) || ends_number b depth then None else depth_behind bs (parentheses b depth)

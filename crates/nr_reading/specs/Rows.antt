@@ -53,6 +53,16 @@ pub record FlowsRest (fs : List Front) (o : Outside) (from made : ℕ) (b : Brou
   pub few : run.moves ≤ 65536
   pub longest : run.event ≡ events.Nothing → new.reading.due ≡ dues.Look → run.moves < 65536 → (byte : ℕ) → slice_get fs run.taken ≡ Some (fronts.Byte byte) → ⊥
 
+-- the modes in which bytes that are brought are met at once, and the mode behind them
+abbrev pub KeepsMode : Mode → Mode → Type 0
+KeepsMode modes.RequestBlanks m = m ≡ modes.RequestLine
+KeepsMode modes.RequestLine m = m ≡ modes.RequestLine
+KeepsMode modes.Condition m = (depth : ℕ) × (m ≡ modes.Number depth)
+KeepsMode (modes.Number d) m = (depth : ℕ) × (m ≡ modes.Number depth)
+KeepsMode (modes.First delimiter) m = m ≡ modes.First delimiter
+KeepsMode (modes.Second delimiter) m = m ≡ modes.Second delimiter
+KeepsMode k m = ⊥
+
 -- What is due was spliced, and all of its bytes were met in so many moves, with one to splice them and one for the end of their level.
 pub record HasBrought (moves : ℕ) (old : Half) (o : Outside) (b : Brought) (new : Half) (b' : Brought) : Type 0 where
   pub bytes : List ℕ

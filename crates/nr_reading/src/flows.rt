@@ -1,18 +1,20 @@
 //! Interpolations whose bytes are met where they stand in a row.
-ghost use Rattle.std.specs.Prelude.{◌≡◌, ◌+◌, ◌<◌, ◌≤◌, length, map, slice_get, Some, None, IfSome, true, false};
+ghost use Rattle.std.specs.Prelude.{◌≡◌, ◌+◌, ◌<◌, ◌≤◌, All, length, map, slice_get, Some, None, IfSome, true, false};
 ghost use Rattle.nr_reading.specs.declared.event.Event.TheVariants as events;
 ghost use Rattle.nr_reading.specs.declared.front.Front.TheVariants as variants;
 ghost use Rattle.nr_reading.specs.declared.mode.Due.TheVariants as dues;
 ghost use Rattle.nr_reading.specs.declared.mode.Mode.TheVariants as modes;
 ghost use Rattle.nr_reading.specs.Meeting.{reads_next, reads_plainly};
-ghost use Rattle.nr_reading.specs.Passing.{quiet};
-ghost use Rattle.nr_reading.specs.Rows.{AfterFlow, HasBrought};
+ghost use Rattle.nr_reading.specs.ConditionRows.{depth_behind};
+ghost use Rattle.nr_reading.specs.Passing.{is_plain, quiet};
+ghost use Rattle.nr_reading.specs.Rows.{AfterFlow, HasBrought, KeepsMode};
 ghost use Rattle.nr_reading.specs.Runs.{HasMet};
 
 use super::ask::Sign;
 use super::brings::Brings;
 use super::condition_rows::ends_number;
 use super::conditions::{begins_number, parentheses};
+use super::event::Event;
 use super::half::Half;
 use super::mode::{Due, Mode};
 use super::passing::is_plain;
@@ -26,7 +28,7 @@ const LONGEST: usize = 30_000;
 // Whether each of these bytes begins no escape, and ends no line.
 #[inline(always)]
 fn are_plain(bytes: &[u8]) -> bool
-    ensures { result ≡ all_plain bytes.now }
+    ensures { result ≡ true → All (λ byte. is_plain byte ≡ true) bytes.now }
 {
     for byte in bytes {
         if !is_plain(*byte) {
@@ -39,7 +41,7 @@ fn are_plain(bytes: &[u8]) -> bool
 // How many parentheses are open behind these bytes of a number. None where it ends in them, or an escape begins.
 #[inline(always)]
 fn depth_behind(bytes: &[u8], depth: u64) -> Option<u64>
-    ensures { IfSome result (λ level. GoesOnNumber bytes.now depth level) }
+    ensures { result ≡ depth_behind bytes.now depth }
 {
     let mut level = depth;
     for byte in bytes {
@@ -59,6 +61,7 @@ impl Half {
         requires next { reads_next self.old ≡ true }
         ensures met { IfSome result (λ moves. HasMet moves (map variants.Byte bytes.now) self.old (quiet (length bytes.now) self.new)) }
         ensures next { IfSome result (λ moves. reads_next self.new ≡ true) }
+        ensures mode { IfSome result (λ moves. KeepsMode self.old.reading.mode self.new.reading.mode) }
         ensures few { IfSome result (λ moves. moves ≤ length bytes.now + 1) }
         ensures left { result ≡ None → self.new ≡ self.old }
     {
@@ -78,13 +81,11 @@ impl Half {
         requires next { reads_next self.old ≡ true }
         ensures met { IfSome result (λ moves. HasMet moves (map variants.Byte bytes.now) self.old (quiet (length bytes.now) self.new)) }
         ensures next { IfSome result (λ moves. reads_next self.new ≡ true) }
+        ensures mode { IfSome result (λ moves. KeepsMode self.old.reading.mode self.new.reading.mode) }
         ensures few { IfSome result (λ moves. moves ≤ length bytes.now + 1) }
         ensures left { result ≡ None → self.new ≡ self.old }
     {
-        if bytes.is_empty() {
-            return Some(0);
-        }
-        if is_blank(bytes[0]) || !are_plain(bytes) {
+        if bytes.is_empty() || is_blank(bytes[0]) || !are_plain(bytes) {
             return None;
         }
         self.reading.mode = Mode::RequestLine;
@@ -102,6 +103,7 @@ impl Half {
         requires next { reads_next self.old ≡ true }
         ensures met { IfSome result (λ moves. HasMet moves (map variants.Byte bytes.now) self.old (quiet (length bytes.now) self.new)) }
         ensures next { IfSome result (λ moves. reads_next self.new ≡ true) }
+        ensures mode { IfSome result (λ moves. KeepsMode self.old.reading.mode self.new.reading.mode) }
         ensures few { IfSome result (λ moves. moves ≤ length bytes.now + 1) }
         ensures left { result ≡ None → self.new ≡ self.old }
     {
@@ -122,6 +124,7 @@ impl Half {
         requires next { reads_next self.old ≡ true }
         ensures met { IfSome result (λ moves. HasMet moves (map variants.Byte bytes.now) self.old (quiet (length bytes.now) self.new)) }
         ensures next { IfSome result (λ moves. reads_next self.new ≡ true) }
+        ensures mode { IfSome result (λ moves. KeepsMode self.old.reading.mode self.new.reading.mode) }
         ensures few { IfSome result (λ moves. moves ≤ length bytes.now + 1) }
         ensures left { result ≡ None → self.new ≡ self.old }
     {
@@ -146,6 +149,7 @@ impl Half {
         requires next { reads_next self.old ≡ true }
         ensures met { IfSome result (λ moves. HasMet moves (map variants.Byte bytes.now) self.old (quiet (length bytes.now) self.new)) }
         ensures next { IfSome result (λ moves. reads_next self.new ≡ true) }
+        ensures mode { IfSome result (λ moves. KeepsMode self.old.reading.mode self.new.reading.mode) }
         ensures few { IfSome result (λ moves. moves ≤ length bytes.now + 1) }
         ensures left { result ≡ None → self.new ≡ self.old }
     {
@@ -165,6 +169,7 @@ impl Half {
         requires next { reads_next self.old ≡ true }
         ensures met { IfSome result (λ moves. HasMet moves (map variants.Byte bytes.now) self.old (quiet (length bytes.now) self.new)) }
         ensures next { IfSome result (λ moves. reads_next self.new ≡ true) }
+        ensures mode { IfSome result (λ moves. KeepsMode self.old.reading.mode self.new.reading.mode) }
         ensures few { IfSome result (λ moves. moves ≤ length bytes.now + 1) }
         ensures left { result ≡ None → self.new ≡ self.old }
     {
@@ -183,6 +188,7 @@ impl Half {
         requires next { reads_next self.old ≡ true }
         ensures met { IfSome result (λ moves. HasMet moves (map variants.Byte bytes.now) self.old (quiet (length bytes.now) self.new)) }
         ensures next { IfSome result (λ moves. reads_next self.new ≡ true) }
+        ensures mode { IfSome result (λ moves. KeepsMode self.old.reading.mode self.new.reading.mode) }
         ensures few { IfSome result (λ moves. moves ≤ length bytes.now + 1) }
         ensures left { result ≡ None → self.new ≡ self.old }
     {
@@ -202,6 +208,7 @@ impl Half {
     fn bring<B: Brings>(&mut self, brings: &mut B) -> Option<usize>
         requires plain { reads_plainly self.old ≡ true }
         ensures brings { IfSome result (λ moves. HasBrought moves self.old (B.outside brings.old) (B.brought brings.old) self.new (B.brought brings.new)) }
+        ensures mode { IfSome result (λ moves. KeepsMode self.old.reading.mode self.new.reading.mode) }
         ensures few { IfSome result (λ moves. moves ≤ 67) }
         ensures outside { B.outside brings.new ≡ B.outside brings.old }
         ensures left { result ≡ None → self.new ≡ self.old }
@@ -243,6 +250,7 @@ impl Half {
         requires within { from < length (I.fronts items.now) }
         requires backslash { slice_get (I.fronts items.now) from ≡ Some (variants.Byte 92) }
         ensures flows { AfterFlow result (I.fronts items.now) (B.outside brings.old) from made (B.brought brings.old) self.old run.new (B.brought brings.new) self.new }
+        ensures mode { result ≡ true → KeepsMode self.old.reading.mode self.new.reading.mode }
         ensures outside { B.outside brings.new ≡ B.outside brings.old }
     {
         let Some(whole) = self.meet_whole(items, b'\\', from, made) else {
@@ -250,7 +258,7 @@ impl Half {
             return false;
         };
         *run = whole;
-        if made > LONGEST || !matches!(whole.event, super::event::Event::Nothing) {
+        if made > LONGEST || !matches!(whole.event, Event::Nothing) {
             return false;
         }
         let Some(moves) = self.bring(brings) else {

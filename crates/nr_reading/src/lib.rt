@@ -5,6 +5,7 @@
 //! `control`, `strings`, `definitions`, `conditions`, `skipping`; `reader`, which puts them together, and
 //! `half`, where an item is met; `seeking`, `conditionals` and `setting`, what comes from outside; `runs`, many
 //! items at once, with `passing`, `control_names`, `interpolations`, `request_lines`, `arguments` and `defined_texts`;
+//! `brings`, what comes from outside of a row, and `flows`, where it is met;
 //! `row` and a file for each group of modes whose rows have loops of their own, `line_rows`, `condition_rows`,
 //! `request_rows`, `part_rows`, `argument_rows`, `string_rows`.
 #![tactic(auto)]
@@ -14,6 +15,7 @@ mod argument_rows;
 mod arguments;
 mod ask;
 mod asks;
+mod brings;
 mod condition_rows;
 mod conditionals;
 mod conditions;
@@ -24,6 +26,7 @@ mod definitions;
 mod delimited;
 mod escape;
 mod event;
+mod flows;
 mod front;
 mod half;
 mod interpolations;
@@ -52,6 +55,7 @@ mod titles;
 pub use answers::Answers;
 pub use ask::{Ask, Kind, Sign, Stage};
 pub use asks::Asks;
+pub use brings::Brings;
 pub use control_names::MetName;
 pub use delimited::Delimited;
 pub use event::{Event, Question};

@@ -5,9 +5,11 @@ ghost use Rattle.nr_reading.specs.declared.front.Front.{Front as FrontItem};
 ghost use Rattle.nr_reading.specs.declared.front.Front.TheVariants as variants;
 ghost use Rattle.nr_reading.specs.declared.mode.Due.TheVariants as dues;
 ghost use Rattle.nr_reading.specs.Meeting.{reads_next};
-ghost use Rattle.nr_reading.specs.Rows.{MeetsRest};
-ghost use Rattle.nr_reading.specs.Runs.{HasMet, spot};
+ghost use Rattle.nr_reading.specs.Flows.{Reaches, nothing_brought};
+ghost use Rattle.nr_reading.specs.Rows.{FlowsRest, MeetsRest};
+ghost use Rattle.nr_reading.specs.Runs.{spot};
 
+use super::brings::Brings;
 use super::event::Event;
 use super::half::Half;
 use super::mode::{Due, Mode};
@@ -46,8 +48,10 @@ impl Half {
     /// Bytes are met, up to the first item that is none, the first that tells something, or behind which something is due;
     /// in 65,536 moves at most.
     #[inline(always)]
-    pub fn meet_run<I: Items>(&mut self, items: &I) -> Run
-        ensures met { HasMet result.moves (I.fronts items.now) self.old (spot result self.new) }
+    pub fn meet_run<I: Items, B: Brings>(&mut self, items: &I, brings: &mut B) -> Run
+        requires none { B.brought brings.old ≡ nothing_brought }
+        ensures reaches { Reaches result.moves (I.fronts items.now) (record { half = self.old; outside = B.outside brings.old; brought = B.brought brings.new }) (spot result self.new) }
+        ensures outside { B.outside brings.new ≡ B.outside brings.old }
         ensures few { result.moves ≤ 65536 }
         ensures longest { result.event ≡ events.Nothing → self.new.reading.due ≡ dues.Look → result.moves < 65536
             → (byte : ℕ) → slice_get (I.fronts items.now) result.taken ≡ Some (variants.Byte byte) → ⊥ }
@@ -58,7 +62,7 @@ impl Half {
             event: Event::Nothing,
         };
         if items.count() > 0 {
-            self.meet_items(items, &mut run);
+            self.meet_items(items, brings, &mut run);
         }
         run
     }
@@ -142,26 +146,27 @@ impl Half {
 
     // The items of a row are met in the loop of the mode, where it has one.
     #[inline(always)]
-    fn meet_in_mode<I: Items>(&mut self, items: &I, run: &mut Run)
+    fn meet_in_mode<I: Items, B: Brings>(&mut self, items: &I, brings: &mut B, run: &mut Run)
         requires next { reads_next self.old ≡ true }
-        ensures { MeetsRest (I.fronts items.now) 0 0 self.old run.new self.new }
+        ensures flows { FlowsRest (I.fronts items.now) (B.outside brings.old) 0 0 (B.brought brings.old) self.old run.new (B.brought brings.new) self.new }
+        ensures outside { B.outside brings.new ≡ B.outside brings.old }
     {
         match self.reading.mode {
-            Mode::Start => self.meet_beginning(items, 0, 0, run),
+            Mode::Start => self.meet_beginning(items, 0, 0, brings, run),
             Mode::Text => self.meet_more(items, 0, 0, run),
-            Mode::Condition => self.meet_condition(items, run),
-            Mode::Number(depth) => self.meet_tested(items, 0, 0, depth, run),
-            Mode::First(delimiter) => self.meet_first_string(items, 0, 0, delimiter, run),
-            Mode::Second(delimiter) => self.meet_second_string(items, 0, 0, delimiter, run),
-            Mode::RequestBlanks => self.meet_request(items, run),
-            Mode::RequestLine => self.meet_arguments(items, 0, 0, run),
-            Mode::Accepted => self.meet_accepted(items, run),
-            Mode::Skip(count) => self.meet_rejected(items, count, run),
+            Mode::Condition => self.meet_condition(items, 0, 0, brings, run),
+            Mode::Number(depth) => self.meet_tested(items, 0, 0, depth, brings, run),
+            Mode::First(delimiter) => self.meet_first_string(items, 0, 0, delimiter, brings, run),
+            Mode::Second(delimiter) => self.meet_second_string(items, 0, 0, delimiter, brings, run),
+            Mode::RequestBlanks => self.meet_request(items, 0, 0, brings, run),
+            Mode::RequestLine => self.meet_arguments(items, 0, 0, brings, run),
+            Mode::Accepted => self.meet_accepted(items, 0, 0, brings, run),
+            Mode::Skip(count) => self.meet_rejected(items, 0, 0, count, brings, run),
             Mode::MacroBlanks => self.meet_call(items, run),
             Mode::MacroGap => self.meet_gap(items, run),
             Mode::Word => self.meet_word(items, run),
             Mode::Quoted => self.meet_quoted(items, 0, 0, run),
-            Mode::StringBefore => self.meet_string(items, run),
+            Mode::StringBefore => self.meet_string(items, 0, 0, run),
             Mode::StringBlanks => self.meet_string_blanks(items, 0, 0, run),
             Mode::StringText => self.meet_string_text(items, run),
             _ => self.meet_others(items, run),
@@ -170,8 +175,10 @@ impl Half {
 
     // The items of a row are met, as `meet_run` says; `run` is where that ends.
     #[inline(never)]
-    fn meet_items<I: Items>(&mut self, items: &I, run: &mut Run)
-        ensures met { HasMet run.new.moves (I.fronts items.now) self.old (spot run.new self.new) }
+    fn meet_items<I: Items, B: Brings>(&mut self, items: &I, brings: &mut B, run: &mut Run)
+        requires none { B.brought brings.old ≡ nothing_brought }
+        ensures reaches { Reaches run.new.moves (I.fronts items.now) (record { half = self.old; outside = B.outside brings.old; brought = B.brought brings.new }) (spot run.new self.new) }
+        ensures outside { B.outside brings.new ≡ B.outside brings.old }
         ensures few { run.new.moves ≤ 65536 }
         ensures longest { run.new.event ≡ events.Nothing → self.new.reading.due ≡ dues.Look → run.new.moves < 65536
             → (byte : ℕ) → slice_get (I.fronts items.now) run.new.taken ≡ Some (variants.Byte byte) → ⊥ }
@@ -185,7 +192,7 @@ impl Half {
             return;
         }
         if self.reads_plainly() {
-            return self.meet_in_mode(items, run);
+            return self.meet_in_mode(items, brings, run);
         }
         self.meet_others(items, run)
     }

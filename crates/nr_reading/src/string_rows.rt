@@ -25,35 +25,38 @@ impl Half {
 
     /// The definition of a string is met from the blanks before its name on.
     #[inline(never)]
-    pub(crate) fn meet_string<I: Items>(&mut self, items: &I, run: &mut Run)
+    pub(crate) fn meet_string<I: Items>(&mut self, items: &I, from: usize, made: usize, run: &mut Run)
         requires mode { self.old.reading.mode ≡ modes.StringBefore }
         requires next { reads_next self.old ≡ true }
-        ensures { MeetsRest (I.fronts items.now) 0 0 self.old run.new self.new }
+        requires within { from ≤ length (I.fronts items.now) }
+        requires few { made ≤ 16384 }
+        ensures { MeetsRest (I.fronts items.now) from made self.old run.new self.new }
     {
-        let place = self.pass_first_blanks(items);
+        let place = self.pass_blanks(items, from, near(items, from));
+        let moves = made + (place - from);
         let Some(first) = byte_of(items, place) else {
-            return self.meet_rest(items, place, place, run);
+            return self.meet_rest(items, place, moves, run);
         };
         if !goes_on_name(first) {
-            return self.meet_escape(items, place, place, run);
+            return self.meet_escape(items, place, moves, run);
         }
         let Some(second) = byte_of(items, place + 1) else {
-            return self.meet_more(items, place, place, run);
+            return self.meet_more(items, place, moves, run);
         };
         if second == b'\\' {
-            return self.meet_more(items, place, place, run);
+            return self.meet_more(items, place, moves, run);
         }
         let lone = Spelled::new().with(first);
         if ends_name(second) {
             self.take_string_name(lone);
-            return self.meet_string_blanks(items, place + 1, place + 3, run);
+            return self.meet_string_blanks(items, place + 1, moves + 3, run);
         }
         let long = self.signs.long;
         if long && !name_ends(items, place + 2) {
-            return self.meet_more(items, place, place, run);
+            return self.meet_more(items, place, moves, run);
         }
         self.take_string_name(lone.with(second));
-        self.meet_string_blanks(items, place + 2, place + 3 + usize::from(long), run)
+        self.meet_string_blanks(items, place + 2, moves + 3 + usize::from(long), run)
     }
 
     /// It is met from the blanks before its text on.
@@ -68,7 +71,7 @@ impl Half {
         requires mode { self.old.reading.mode ≡ modes.StringBlanks }
         requires next { reads_next self.old ≡ true }
         requires within { from ≤ length (I.fronts items.now) }
-        requires few { made ≤ 16384 }
+        requires few { made ≤ 32768 }
         ensures { MeetsRest (I.fronts items.now) from made self.old run.new self.new }
     {
         let place = self.pass_blanks(items, from, near(items, from));
