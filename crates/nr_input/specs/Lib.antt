@@ -1,6 +1,7 @@
 pub mod Acting
 pub mod AtHand
 pub mod BodyLines
+pub mod Bringing
 pub mod Coming
 pub mod CommentLines
 pub mod DroppedLines

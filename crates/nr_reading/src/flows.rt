@@ -207,12 +207,12 @@ impl Half {
     #[inline(always)]
     fn bring<B: Brings>(&mut self, brings: &mut B) -> Option<usize>
         requires plain { reads_plainly self.old ≡ true }
-        ensures brings { IfSome result (λ moves. HasBrought moves self.old (B.outside brings.old) (B.brought brings.old) self.new (B.brought brings.new)) }
+        ensures brings { IfSome result (λ moves. HasBrought moves self.old (B.outside brings.old) (B.splices brings.old) self.new (B.splices brings.new)) }
         ensures mode { IfSome result (λ moves. KeepsMode self.old.reading.mode self.new.reading.mode) }
         ensures few { IfSome result (λ moves. moves ≤ 67) }
         ensures outside { B.outside brings.new ≡ B.outside brings.old }
         ensures left { result ≡ None → self.new ≡ self.old }
-        ensures none { result ≡ None → B.brought brings.new ≡ B.brought brings.old }
+        ensures none { result ≡ None → B.splices brings.new ≡ B.splices brings.old }
     {
         let due = self.reading.due;
         self.reading.due = Due::Look;
@@ -249,7 +249,7 @@ impl Half {
         requires few { made ≤ 65536 }
         requires within { from < length (I.fronts items.now) }
         requires backslash { slice_get (I.fronts items.now) from ≡ Some (variants.Byte 92) }
-        ensures flows { AfterFlow result (I.fronts items.now) (B.outside brings.old) from made (B.brought brings.old) self.old run.new (B.brought brings.new) self.new }
+        ensures flows { AfterFlow result (I.fronts items.now) (B.outside brings.old) from made (B.splices brings.old) self.old run.new (B.splices brings.new) self.new }
         ensures mode { result ≡ true → KeepsMode self.old.reading.mode self.new.reading.mode }
         ensures outside { B.outside brings.new ≡ B.outside brings.old }
     {

@@ -1,0 +1,121 @@
+//! What comes from outside of a row of items.
+ghost use Rattle.std.specs.Prelude.{◌≡◌, ◌-◌, ◌<◌, ◌≤◌, length, true, false};
+ghost use Rattle.nr_store.specs.Stored.{charge_of};
+ghost use Rattle.nr_reading.specs.Flows.{Brought, Outside, nothing_brought};
+ghost use Rattle.nr_reading.specs.Spelling.{name_of};
+ghost use Rattle.nr_input.specs.Bringing.{meaning_under};
+ghost use Rattle.nr_input.specs.Rows.{brought_by, nothing_outside, outside_by, something_of};
+
+use super::acting::calls_of;
+use super::interpolations::{LONGEST, lone_digit};
+use arrayvec::ArrayVec;
+use nr_reading::{Brings, Calls, Spelled};
+use nr_store::{Meaning, Request, Store};
+use nr_units::{Name, format_number};
+
+/// Nothing.
+pub(crate) struct BringsNothing;
+
+impl Brings for BringsNothing {
+    ghost outside = { λ nothing. nothing_outside };
+    ghost brought = { λ nothing. nothing_brought };
+
+    #[inline(always)]
+    fn calls(&mut self, _name: &Spelled) -> Option<Calls> {
+        None
+    }
+
+    #[inline(always)]
+    fn argument(&self, _n: u8) -> Option<&[u8]> {
+        None
+    }
+
+    #[inline(always)]
+    fn register(&self, _name: Name) -> Option<ArrayVec<u8, 32>> {
+        None
+    }
+
+    #[inline(always)]
+    fn count(&mut self) {}
+}
+
+/// What a store has, and a reader may splice.
+pub(crate) struct Bringing<'a, K: Copy> {
+    /// Arguments, registers and names.
+    pub(crate) store: &'a Store<K>,
+    /// How many splices more may be made.
+    pub(crate) splices: u64,
+    /// The request that was called last.
+    pub(crate) request: Request,
+}
+
+impl<'a, K: Copy> Bringing<'a, K> {
+    // Whether a level of so many bytes may be opened.
+    #[inline(always)]
+    fn admits(&self, len: usize) -> bool
+        ensures few { result ≡ true → len ≤ 64 }
+        ensures splices { result ≡ true → 0 < self.now.splices }
+        ensures charge { result ≡ true → charge_of self.now.store + (32 + len) ≤ self.now.store.limit }
+        ensures depth { result ≡ true → length self.now.store.levels < self.now.store.deepest }
+    {
+        len <= LONGEST && self.splices > 0 && self.store.admits(32 + len)
+    }
+
+    // What a name means.
+    #[inline(always)]
+    fn meaning(&self, name: &Spelled) -> Meaning
+        ensures { result ≡ meaning_under (name_of name.now) self.now.store }
+    {
+        if name.bad || name.bytes.is_empty() {
+            return Meaning::Unknown;
+        }
+        self.store.lookup(name.bytes)
+    }
+}
+
+impl<'a, K: Copy> Brings for Bringing<'a, K> {
+    ghost outside = { outside_by };
+    ghost brought = { brought_by };
+
+    #[inline(always)]
+    fn calls(&mut self, name: &Spelled) -> Option<Calls> {
+        let meaning = self.meaning(name);
+        let calls = calls_of(meaning);
+        match calls {
+            Calls::Macro | Calls::Title => return None,
+            _ => {}
+        }
+        if let Meaning::Request(request) = meaning {
+            self.request = request;
+        }
+        Some(calls)
+    }
+
+    #[inline(always)]
+    fn argument(&self, n: u8) -> Option<&[u8]> {
+        let bytes = self.store.argument(usize::from(n));
+        if !self.admits(bytes.len()) {
+            return None;
+        }
+        Some(bytes)
+    }
+
+    #[inline(always)]
+    fn register(&self, name: Name) -> Option<ArrayVec<u8, 32>> {
+        if !self.admits(32) {
+            return None;
+        }
+        let register = self.store.register(name);
+        if let Some(digit) = lone_digit(register.value, register.format) {
+            let mut text = ArrayVec::new();
+            text.push(digit);
+            return Some(text);
+        }
+        Some(format_number(i64::from(register.value), register.format))
+    }
+
+    #[inline(always)]
+    fn count(&mut self) {
+        self.splices -= 1;
+    }
+}
