@@ -23,8 +23,8 @@ fn calls_of_request(request: Request) -> Calls
     }
 }
 
-// What a name calls.
-fn calls_of(meaning: Meaning) -> Calls
+/// What a name calls.
+pub(crate) fn calls_of(meaning: Meaning) -> Calls
     ensures { result ≡ calls_of meaning }
 {
     match meaning {

@@ -1,16 +1,14 @@
 //! What comes from outside of a row of items.
-ghost use Rattle.std.specs.Prelude.{◌≡◌, ◌-◌, ◌<◌, ◌≤◌, length, true, false};
+ghost use Rattle.std.specs.Prelude.{◌≡◌, ◌+◌, ◌<◌, ◌≤◌, length, true};
 ghost use Rattle.nr_store.specs.Stored.{charge_of};
-ghost use Rattle.nr_reading.specs.Flows.{Brought, Outside, nothing_brought};
 ghost use Rattle.nr_reading.specs.Spelling.{name_of};
-ghost use Rattle.nr_input.specs.Bringing.{meaning_under};
-ghost use Rattle.nr_input.specs.Rows.{brought_by, nothing_outside, outside_by, something_of};
+ghost use Rattle.nr_input.specs.Bringing.{meaning_under, nothing_outside, outside_from};
 
 use super::acting::calls_of;
 use super::interpolations::{LONGEST, lone_digit};
 use arrayvec::ArrayVec;
 use nr_reading::{Brings, Calls, Spelled};
-use nr_store::{Meaning, Request, Store};
+use nr_store::{Meaning, Store};
 use nr_units::{Name, format_number};
 
 /// Nothing.
@@ -18,10 +16,10 @@ pub(crate) struct BringsNothing;
 
 impl Brings for BringsNothing {
     ghost outside = { λ nothing. nothing_outside };
-    ghost brought = { λ nothing. nothing_brought };
+    ghost splices = { λ nothing. 0 };
 
     #[inline(always)]
-    fn calls(&mut self, _name: &Spelled) -> Option<Calls> {
+    fn calls(&self, _name: &Spelled) -> Option<Calls> {
         None
     }
 
@@ -43,10 +41,10 @@ impl Brings for BringsNothing {
 pub(crate) struct Bringing<'a, K: Copy> {
     /// Arguments, registers and names.
     pub(crate) store: &'a Store<K>,
-    /// How many splices more may be made.
+    /// How many splices may be made.
+    pub(crate) most: u64,
+    /// How many were made.
     pub(crate) splices: u64,
-    /// The request that was called last.
-    pub(crate) request: Request,
 }
 
 impl<'a, K: Copy> Bringing<'a, K> {
@@ -54,17 +52,17 @@ impl<'a, K: Copy> Bringing<'a, K> {
     #[inline(always)]
     fn admits(&self, len: usize) -> bool
         ensures few { result ≡ true → len ≤ 64 }
-        ensures splices { result ≡ true → 0 < self.now.splices }
-        ensures charge { result ≡ true → charge_of self.now.store + (32 + len) ≤ self.now.store.limit }
-        ensures depth { result ≡ true → length self.now.store.levels < self.now.store.deepest }
+        ensures splices { result ≡ true → self.now.splices < self.now.most }
+        ensures charge { result ≡ true → charge_of self.now.store.now + (32 + len) ≤ self.now.store.now.limit }
+        ensures depth { result ≡ true → length self.now.store.now.levels < self.now.store.now.deepest }
     {
-        len <= LONGEST && self.splices > 0 && self.store.admits(32 + len)
+        len <= LONGEST && self.splices < self.most && self.store.admits(32 + len)
     }
 
     // What a name means.
     #[inline(always)]
     fn meaning(&self, name: &Spelled) -> Meaning
-        ensures { result ≡ meaning_under (name_of name.now) self.now.store }
+        ensures { result ≡ meaning_under (name_of name.now) self.now.store.now }
     {
         if name.bad || name.bytes.is_empty() {
             return Meaning::Unknown;
@@ -74,21 +72,15 @@ impl<'a, K: Copy> Bringing<'a, K> {
 }
 
 impl<'a, K: Copy> Brings for Bringing<'a, K> {
-    ghost outside = { outside_by };
-    ghost brought = { brought_by };
+    ghost outside = { λ s. outside_from s.store.now s.most };
+    ghost splices = { λ s. s.splices };
 
     #[inline(always)]
-    fn calls(&mut self, name: &Spelled) -> Option<Calls> {
-        let meaning = self.meaning(name);
-        let calls = calls_of(meaning);
-        match calls {
-            Calls::Macro | Calls::Title => return None,
-            _ => {}
+    fn calls(&self, name: &Spelled) -> Option<Calls> {
+        match calls_of(self.meaning(name)) {
+            Calls::Macro | Calls::Title => None,
+            calls => Some(calls),
         }
-        if let Meaning::Request(request) = meaning {
-            self.request = request;
-        }
-        Some(calls)
     }
 
     #[inline(always)]
@@ -116,6 +108,6 @@ impl<'a, K: Copy> Brings for Bringing<'a, K> {
 
     #[inline(always)]
     fn count(&mut self) {
-        self.splices -= 1;
+        self.splices += 1;
     }
 }

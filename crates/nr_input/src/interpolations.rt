@@ -13,6 +13,7 @@ ghost use Rattle.nr_input.specs.Moving.{situation};
 ghost use Rattle.nr_input.specs.Runs.{HasRead, PaysAll, PaysMany};
 
 use super::adding::add_front;
+use super::bringing::BringsNothing;
 use super::reader::Reader;
 use super::runs::ByteRow;
 use super::target::Target;
@@ -21,7 +22,7 @@ use nr_store::Store;
 use nr_units::{Format, format_number};
 
 /// The most bytes of an interpolation that is read at once.
-const LONGEST: usize = 64;
+pub(crate) const LONGEST: usize = 64;
 
 /// Many moves.
 #[derive(Clone, Copy)]
@@ -38,9 +39,9 @@ fn copies(half: &Half) -> bool {
     !matches!(half.reading.mode, Mode::Text | Mode::Start)
 }
 
-// The digit that is all of a number's text, where that is one of 0 to 9 in Arabic.
+/// The digit that is all of a number's text, where that is one of 0 to 9 in Arabic.
 #[inline(always)]
-fn lone_digit(number: i32, format: Format) -> Option<u8>
+pub(crate) fn lone_digit(number: i32, format: Format) -> Option<u8>
     ensures { IfSome result (λ digit. number_text format number ≡ digit ∷ []) }
 {
     let value = number.unsigned_abs();
@@ -80,7 +81,7 @@ impl Reader {
         ensures limits { limits_of store.new self.new ≡ limits_of store.old self.old }
     {
         let Some(target) = Target::of(&self.half) else {
-            return self.half.meet_run(&ByteRow(bytes));
+            return self.half.meet_run(&ByteRow(bytes), &mut BringsNothing);
         };
         let taken = add_front(target, &self.half, store, bytes);
         Run {

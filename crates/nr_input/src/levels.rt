@@ -14,7 +14,6 @@ ghost use Rattle.nr_input.specs.Runs.{HasRead, PaysAll, PaysMany, StopsInLevel, 
 
 use super::adding::add_level_front;
 use super::interpolations::Moved;
-use super::level_lines::read_level_line;
 use super::reader::Reader;
 use super::runs::read_level;
 use super::target::Target;
@@ -115,7 +114,7 @@ fn read_front<K: Copy>(reader: &mut Reader, store: &mut Store<K>) -> Run
     ensures longest { IsLongestInLevel result.moves store.old reader.old result.event store.new reader.new }
 {
     match reader.half.reading.mode {
-        Mode::Start => read_level_line(reader, store),
+        Mode::Start => read_level(reader, store),
         _ => {
             let added = add_front(reader, store);
             let run = read_level(reader, store);

@@ -11,6 +11,7 @@ mod acting;
 mod adding;
 mod at_hand;
 mod body_lines;
+mod bringing;
 mod comment_lines;
 mod control_lines;
 mod dropped_lines;

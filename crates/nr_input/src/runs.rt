@@ -4,7 +4,8 @@ ghost use Rattle.nr_units.specs.Supply.{Supply};
 ghost use Rattle.nr_reading.specs.declared.event.Event.TheVariants as events;
 ghost use Rattle.nr_reading.specs.declared.front.Front.TheVariants as variants;
 ghost use Rattle.nr_reading.specs.declared.mode.Due.TheVariants as dues;
-ghost use Rattle.nr_reading.specs.Runs.{HasMet, spot};
+ghost use Rattle.nr_reading.specs.Flows.{Reaches};
+ghost use Rattle.nr_reading.specs.Runs.{spot};
 ghost use Rattle.nr_store.specs.Windows.{elements_in};
 ghost use Rattle.nr_input.specs.AtHand.{is_unseen};
 ghost use Rattle.nr_input.specs.Coming.{Coming, Reached, HoldsComing, element_front, has_failed};
@@ -15,10 +16,11 @@ ghost use Rattle.nr_input.specs.Runs.{HasRead, PaysAll, IsLongest, IsLongestInLe
 
 use super::adding::{add_from_level, add_from_source};
 use super::at_hand::window;
+use super::bringing::{Bringing, BringsNothing};
 use super::place::Place;
 use super::reader::Reader;
 use super::target::Target;
-use nr_reading::{Half, Items, Run};
+use nr_reading::{Brings, Half, Items, Run};
 use nr_store::{Element, Rest, Store};
 use nr_units::source::Source;
 
@@ -63,15 +65,16 @@ impl<'a> Items for ElementRow<'a> {
 
 // What is left of a level is met, as `Half::meet_run` says.
 #[inline(always)]
-fn meet_level(half: &mut Half, rest: Rest<'_>) -> Run
-    ensures met { HasMet result.moves (map element_front (elements_in rest.entry)) half.old (spot result half.new) }
+fn meet_level<B: Brings>(half: &mut Half, rest: Rest<'_>, brings: &mut B) -> Run
+    requires none { B.splices brings.old ≡ 0 }
+    ensures reaches { Reaches result.moves (map element_front (elements_in rest.entry)) (record { half = half.old; outside = B.outside brings.old; splices = B.splices brings.new }) (spot result half.new) }
     ensures few { result.moves ≤ 65536 }
     ensures longest { result.event ≡ events.Nothing → half.new.reading.due ≡ dues.Look → result.moves < 65536
         → (byte : ℕ) → slice_get (map element_front (elements_in rest.entry)) result.taken ≡ Some (variants.Byte byte) → ⊥ }
 {
     match rest {
-        Rest::Text(elements) => half.meet_run(&ElementRow(elements)),
-        Rest::Bytes(bytes) => half.meet_run(&ByteRow(bytes)),
+        Rest::Text(elements) => half.meet_run(&ElementRow(elements), brings),
+        Rest::Bytes(bytes) => half.meet_run(&ByteRow(bytes), brings),
     }
 }
 
@@ -85,7 +88,13 @@ pub(crate) fn read_level<K: Copy>(reader: &mut Reader, store: &mut Store<K>) -> 
     ensures limits { limits_of store.new reader.new ≡ limits_of store.old reader.old }
     ensures longest { IsLongestInLevel result.moves store.old reader.old result.event store.new reader.new }
 {
-    let run = meet_level(&mut reader.half, store.rest());
+    let mut brings = Bringing {
+        store,
+        most: reader.most.saturating_sub(reader.burst),
+        splices: 0,
+    };
+    let run = meet_level(&mut reader.half, store.rest(), &mut brings);
+    reader.burst += brings.splices;
     store.skip(run.taken as u32);
     run
 }
@@ -107,7 +116,7 @@ pub(crate) fn read_source<K: Copy, R: Source>(
     ensures unfailed { has_failed place.old.ahead ≡ false → has_failed place.new.ahead ≡ false }
 {
     let bytes = window(place, store, source);
-    let run = reader.half.meet_run(&ByteRow(bytes));
+    let run = reader.half.meet_run(&ByteRow(bytes), &mut BringsNothing);
     if run.taken == 0 {
         return run;
     }
