@@ -34,8 +34,8 @@ pub(crate) fn calls_of(meaning: Meaning) -> Calls
     }
 }
 
-// The request that is called, if one is.
-fn request_of(meaning: Meaning, old: Request) -> Request
+/// The request that is called, if one is.
+pub(crate) fn request_of(meaning: Meaning, old: Request) -> Request
     ensures { result ≡ request_of meaning old }
 {
     match meaning {

@@ -1,14 +1,15 @@
 //! What comes from outside of a row of items.
 ghost use Rattle.std.specs.Prelude.{◌≡◌, ◌+◌, ◌<◌, ◌≤◌, length, true};
 ghost use Rattle.nr_store.specs.Stored.{charge_of};
+ghost use Rattle.nr_reading.specs.Flows.{nothing_brought};
 ghost use Rattle.nr_reading.specs.Spelling.{name_of};
-ghost use Rattle.nr_input.specs.Bringing.{meaning_under, nothing_outside, outside_from};
+ghost use Rattle.nr_input.specs.Bringing.{meaning_under, nothing_outside, outside_from, request_behind};
 
-use super::acting::calls_of;
+use super::acting::{calls_of, request_of};
 use super::interpolations::{LONGEST, lone_digit};
 use arrayvec::ArrayVec;
 use nr_reading::{Brings, Calls, Spelled};
-use nr_store::{Meaning, Store};
+use nr_store::{Meaning, Request, Store};
 use nr_units::{Name, format_number};
 
 /// Nothing.
@@ -16,10 +17,10 @@ pub(crate) struct BringsNothing;
 
 impl Brings for BringsNothing {
     ghost outside = { λ nothing. nothing_outside };
-    ghost splices = { λ nothing. 0 };
+    ghost brought = { λ nothing. nothing_brought };
 
     #[inline(always)]
-    fn calls(&self, _name: &Spelled) -> Option<Calls> {
+    fn calls(&mut self, _name: &Spelled) -> Option<Calls> {
         None
     }
 
@@ -45,6 +46,13 @@ pub(crate) struct Bringing<'a, K: Copy> {
     pub(crate) most: u64,
     /// How many were made.
     pub(crate) splices: u64,
+    /// The name that was looked up, if one was.
+    pub(crate) called: Option<Name>,
+    /// The request that was called before.
+    pub(crate) before: Request,
+    /// The request that was called last.
+    pub(crate) request: Request,
+    ghost request_is: { request ≡ request_behind called store.now before },
 }
 
 impl<'a, K: Copy> Bringing<'a, K> {
@@ -73,14 +81,21 @@ impl<'a, K: Copy> Bringing<'a, K> {
 
 impl<'a, K: Copy> Brings for Bringing<'a, K> {
     ghost outside = { λ s. outside_from s.store.now s.most };
-    ghost splices = { λ s. s.splices };
+    ghost brought = { λ s. record { splices = s.splices; called = s.called } };
 
     #[inline(always)]
-    fn calls(&self, name: &Spelled) -> Option<Calls> {
-        match calls_of(self.meaning(name)) {
-            Calls::Macro | Calls::Title => None,
-            calls => Some(calls),
+    fn calls(&mut self, name: &Spelled) -> Option<Calls> {
+        if self.called.is_some() {
+            return None;
         }
+        let meaning = self.meaning(name);
+        let calls = calls_of(meaning);
+        if matches!(calls, Calls::Macro | Calls::Title) {
+            return None;
+        }
+        self.called = Some(name.name());
+        self.request = request_of(meaning, self.request);
+        Some(calls)
     }
 
     #[inline(always)]

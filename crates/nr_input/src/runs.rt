@@ -4,7 +4,7 @@ ghost use Rattle.nr_units.specs.Supply.{Supply};
 ghost use Rattle.nr_reading.specs.declared.event.Event.TheVariants as events;
 ghost use Rattle.nr_reading.specs.declared.front.Front.TheVariants as variants;
 ghost use Rattle.nr_reading.specs.declared.mode.Due.TheVariants as dues;
-ghost use Rattle.nr_reading.specs.Flows.{Reaches};
+ghost use Rattle.nr_reading.specs.Flows.{Reaches, nothing_brought};
 ghost use Rattle.nr_reading.specs.Runs.{spot};
 ghost use Rattle.nr_store.specs.Windows.{elements_in};
 ghost use Rattle.nr_input.specs.AtHand.{is_unseen};
@@ -66,8 +66,8 @@ impl<'a> Items for ElementRow<'a> {
 // What is left of a level is met, as `Half::meet_run` says.
 #[inline(always)]
 fn meet_level<B: Brings>(half: &mut Half, rest: Rest<'_>, brings: &mut B) -> Run
-    requires none { B.splices brings.old ≡ 0 }
-    ensures reaches { Reaches result.moves (map element_front (elements_in rest.entry)) (record { half = half.old; outside = B.outside brings.old; splices = B.splices brings.new }) (spot result half.new) }
+    requires none { B.brought brings.old ≡ nothing_brought }
+    ensures reaches { Reaches result.moves (map element_front (elements_in rest.entry)) (record { half = half.old; outside = B.outside brings.old; brought = B.brought brings.new }) (spot result half.new) }
     ensures few { result.moves ≤ 65536 }
     ensures longest { result.event ≡ events.Nothing → half.new.reading.due ≡ dues.Look → result.moves < 65536
         → (byte : ℕ) → slice_get (map element_front (elements_in rest.entry)) result.taken ≡ Some (variants.Byte byte) → ⊥ }
@@ -92,9 +92,13 @@ pub(crate) fn read_level<K: Copy>(reader: &mut Reader, store: &mut Store<K>) -> 
         store,
         most: reader.most.saturating_sub(reader.burst),
         splices: 0,
+        called: None,
+        before: reader.request,
+        request: reader.request,
     };
     let run = meet_level(&mut reader.half, store.rest(), &mut brings);
     reader.burst += brings.splices;
+    reader.request = brings.request;
     store.skip(run.taken as u32);
     run
 }

@@ -27,23 +27,37 @@ pub record Outside : Type 0 where
   pub splices : ℕ
   pub room : ℕ
 
--- a splice more of so many bytes is allowed behind so many splices
-pub record Admits (count : ℕ) (o : Outside) (splices : ℕ) : Type 0 where
+-- what was brought: so many splices, and the name that was looked up, if one was
+pub record Brought : Type 0 where
+  pub splices : ℕ
+  pub called : Option (List ℕ)
+
+abbrev pub nothing_brought : Brought
+nothing_brought = record { splices = 0; called = None }
+
+abbrev pub one_splice_more : Brought → Brought
+one_splice_more b = record b { splices = b.splices + 1 }
+
+-- a splice more of so many bytes is allowed
+pub record Admits (count : ℕ) (o : Outside) (b : Brought) : Type 0 where
   pub answers : o.answers ≡ true
-  pub more : splices < o.splices
+  pub more : b.splices < o.splices
   pub room : 32 + count ≤ o.room
 
--- where a row is met from: what is half read there, what is outside, and how many splices were brought of it since
+-- where a row is met from: what is half read there, what is outside, and what was brought of it since
 pub record Origin : Type 0 where
   pub half : Half
   pub outside : Outside
-  pub splices : ℕ
+  pub brought : Brought
 
 abbrev pub origin : Half → Outside → Origin
-origin h o = record { half = h; outside = o; splices = 0 }
+origin h o = record { half = h; outside = o; brought = nothing_brought }
 
 abbrev pub with_splice : Origin → Origin
-with_splice x = record x { splices = x.splices + 1 }
+with_splice x = record x { brought = one_splice_more x.brought }
+
+abbrev pub with_call : List ℕ → Origin → Origin
+with_call name x = record x { brought = record x.brought { called = Some name } }
 
 -- with an item looked at next
 abbrev pub looking : Half → Half
@@ -59,7 +73,7 @@ brings d asked o = None
 pub record MayBring (bytes : List ℕ) (x : Origin) (p : Spot) : Type 0 where
   pub silent : p.event ≡ events.Nothing
   pub are : brings p.half.reading.due p.half.notes.asked x.outside ≡ Some bytes
-  pub admits : Admits (length bytes) x.outside x.splices
+  pub admits : Admits (length bytes) x.outside x.brought
 
 -- the name calls this, which is no macro, of which more would be done, and nothing that is told
 pub record CallsQuietly (called : Calls) (name : List ℕ) (o : Outside) : Type 0 where
@@ -68,11 +82,12 @@ pub record CallsQuietly (called : Calls) (name : List ℕ) (o : Outside) : Type 
   pub no_macro : called ≢ calls.Macro
   pub no_title : called ≢ calls.Title
 
--- the name may be looked up
+-- the name may be looked up, as the first of the row
 pub record MaySeek (called : Calls) (x : Origin) (p : Spot) : Type 0 where
   pub silent : p.event ≡ events.Nothing
   pub due : p.half.reading.due ≡ dues.Seek
   pub calls : CallsQuietly called (name_of p.half.notes.name) x.outside
+  pub first : x.brought.called ≡ None
 
 -- what was found of two strings may be judged
 pub record MayJudge (found : Bool) (x : Origin) (p : Spot) : Type 0 where
@@ -90,6 +105,6 @@ pub data Reaches : ℕ → List Front → Origin → Spot → Type 0 where
       → HasMet m (map fronts.Byte bytes) (looking p.half) (quiet (length bytes) new) → new.reading.due ≡ dues.Look
       → Reaches (n + (m + 2)) fs (with_splice x) (quiet p.taken new)
   Seeks : (n : ℕ) (called : Calls) (fs : List Front) (x : Origin) (p : Spot) → Reaches n fs x p → MaySeek called x p
-      → Reaches (n + 1) fs x (quiet p.taken (sought called (looking p.half)))
+      → Reaches (n + 1) fs (with_call (name_of p.half.notes.name) x) (quiet p.taken (sought called (looking p.half)))
   Judges : (n : ℕ) (found : Bool) (fs : List Front) (x : Origin) (p : Spot) → Reaches n fs x p → MayJudge found x p
       → Reaches (n + 1) fs x (quiet p.taken (judged found (looking p.half)))

@@ -9,7 +9,7 @@ use Rattle.nr_reading.specs.declared.mode.Mode.{Mode}
 use Rattle.nr_reading.specs.declared.mode.Mode.TheVariants as modes
 use Rattle.nr_reading.specs.declared.notes.Condition.{Condition}
 use Rattle.nr_reading.specs.declared.runs.Run.{Run}
-use Rattle.nr_reading.specs.Flows.{Admits, Origin, Outside, Reaches, brings, looking}
+use Rattle.nr_reading.specs.Flows.{Admits, Brought, Origin, Outside, Reaches, brings, looking, one_splice_more}
 use Rattle.nr_reading.specs.Meeting.{reads_next}
 use Rattle.nr_reading.specs.Passing.{quiet}
 use Rattle.nr_reading.specs.Runs.{HasMet, spot}
@@ -42,14 +42,14 @@ drops_blank m c = false
 
 -- ---- where something is brought from outside
 
--- where so many moves led to one place of a row, so many lead on to another, with so many splices on the way; nothing is told on the way
-pub record FlowsOn (fs : List Front) (o : Outside) (from made s : ℕ) (old : Half) (to moves : ℕ) (s' : ℕ) (new : Half) : Type 0 where
-  pub met : (h : Half) → Reaches made fs (record { half = h; outside = o; splices = s }) (quiet from old) → Reaches moves fs (record { half = h; outside = o; splices = s' }) (quiet to new)
+-- where so many moves led to one place of a row, so many lead on to another, with this brought on the way; nothing is told on the way
+pub record FlowsOn (fs : List Front) (o : Outside) (from made : ℕ) (b : Brought) (old : Half) (to moves : ℕ) (s' : ℕ) (new : Half) : Type 0 where
+  pub met : (h : Half) → Reaches made fs (record { half = h; outside = o; brought = b }) (quiet from old) → Reaches moves fs (record { half = h; outside = o; brought = b' }) (quiet to new)
 
--- Where so many moves led to a place, this run leads on, with so many splices on the way. Bytes are left only where something was told,
+-- Where so many moves led to a place, this run leads on, with this brought on the way. Bytes are left only where something was told,
 -- something is due, or the most moves of a run were made.
-pub record FlowsRest (fs : List Front) (o : Outside) (from made s : ℕ) (old : Half) (run : Run) (s' : ℕ) (new : Half) : Type 0 where
-  pub met : (h : Half) → Reaches made fs (record { half = h; outside = o; splices = s }) (quiet from old) → Reaches run.moves fs (record { half = h; outside = o; splices = s' }) (spot run new)
+pub record FlowsRest (fs : List Front) (o : Outside) (from made : ℕ) (b : Brought) (old : Half) (run : Run) (b' : Brought) (new : Half) : Type 0 where
+  pub met : (h : Half) → Reaches made fs (record { half = h; outside = o; brought = b }) (quiet from old) → Reaches run.moves fs (record { half = h; outside = o; brought = b' }) (spot run new)
   pub few : run.moves ≤ 65536
   pub longest : run.event ≡ events.Nothing → new.reading.due ≡ dues.Look → run.moves < 65536 → (byte : ℕ) → slice_get fs run.taken ≡ Some (fronts.Byte byte) → ⊥
 
@@ -64,18 +64,18 @@ KeepsMode (modes.Second delimiter) m = m ≡ modes.Second delimiter
 KeepsMode k m = ⊥
 
 -- What is due was spliced, and all of its bytes were met in so many moves, with one to splice them and one for the end of their level.
-pub record HasBrought (moves : ℕ) (old : Half) (o : Outside) (s : ℕ) (new : Half) (s' : ℕ) : Type 0 where
+pub record HasBrought (moves : ℕ) (old : Half) (o : Outside) (b : Brought) (new : Half) (b' : Brought) : Type 0 where
   pub bytes : List ℕ
   pub are : brings old.reading.due old.notes.asked o ≡ Some bytes
-  pub admits : Admits (length bytes) o s
+  pub admits : Admits (length bytes) o b
   pub met : ℕ
   pub count : moves ≡ met + 2
   pub all : HasMet met (map fronts.Byte bytes) (looking old) (quiet (length bytes) new)
   pub next : reads_next new ≡ true
-  pub brought : s' ≡ s + 1
+  pub brought : b' ≡ one_splice_more b
 
 -- An escape was met from a place of a row on: either the row goes on behind it and what it brought, in a mode's loop, or it stops there.
-abbrev pub AfterFlow : Bool → List Front → Outside → ℕ → ℕ → ℕ → Half → Run → ℕ → Half → Type 0
-AfterFlow true fs o from made s old run s' new =
-    FlowsOn fs o from made s old run.taken run.moves s' new × (reads_next new ≡ true) × (from < run.taken) × (run.taken ≤ length fs) × (run.moves ≤ made + 73) × (made ≤ 30000)
-AfterFlow false fs o from made s old run s' new = FlowsRest fs o from made s old run s' new
+abbrev pub AfterFlow : Bool → List Front → Outside → ℕ → ℕ → Brought → Half → Run → Brought → Half → Type 0
+AfterFlow true fs o from made b old run b' new =
+    FlowsOn fs o from made b old run.taken run.moves b' new × (reads_next new ≡ true) × (from < run.taken) × (run.taken ≤ length fs) × (run.moves ≤ made + 73) × (made ≤ 30000)
+AfterFlow false fs o from made b old run b' new = FlowsRest fs o from made b old run b' new

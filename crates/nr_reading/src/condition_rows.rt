@@ -47,7 +47,7 @@ impl Half {
         requires next { reads_next self.old ≡ true }
         requires within { from ≤ length (I.fronts items.now) }
         requires few { made ≤ 32768 }
-        ensures flows { FlowsRest (I.fronts items.now) (B.outside brings.old) from made (B.splices brings.old) self.old run.new (B.splices brings.new) self.new }
+        ensures flows { FlowsRest (I.fronts items.now) (B.outside brings.old) from made (B.brought brings.old) self.old run.new (B.brought brings.new) self.new }
         ensures outside { B.outside brings.new ≡ B.outside brings.old }
     {
         if self.notes.condition.negated {
@@ -68,7 +68,7 @@ impl Half {
         requires mode { self.old.reading.mode ≡ modes.Condition }
         requires next { reads_next self.old ≡ true }
         requires few { made ≤ 16384 }
-        ensures flows { FlowsRest (I.fronts items.now) (B.outside brings.old) from made (B.splices brings.old) self.old run.new (B.splices brings.new) self.new }
+        ensures flows { FlowsRest (I.fronts items.now) (B.outside brings.old) from made (B.brought brings.old) self.old run.new (B.brought brings.new) self.new }
         ensures outside { B.outside brings.new ≡ B.outside brings.old }
     {
         let Some(byte) = byte_of(items, from) else {
@@ -98,7 +98,7 @@ impl Half {
         requires within { from < length (I.fronts items.now) }
         requires few { made ≤ 32768 }
         requires backslash { slice_get (I.fronts items.now) from ≡ Some (variants.Byte 92) }
-        ensures flows { FlowsRest (I.fronts items.now) (B.outside brings.old) from made (B.splices brings.old) self.old run.new (B.splices brings.new) self.new }
+        ensures flows { FlowsRest (I.fronts items.now) (B.outside brings.old) from made (B.brought brings.old) self.old run.new (B.brought brings.new) self.new }
         ensures outside { B.outside brings.new ≡ B.outside brings.old }
     {
         if !self.flow(items, from, made, brings, run) {
@@ -136,7 +136,7 @@ impl Half {
         requires next { reads_next self.old ≡ true }
         requires within { from ≤ length (I.fronts items.now) }
         requires few { made ≤ 32768 }
-        ensures flows { FlowsRest (I.fronts items.now) (B.outside brings.old) from made (B.splices brings.old) self.old run.new (B.splices brings.new) self.new }
+        ensures flows { FlowsRest (I.fronts items.now) (B.outside brings.old) from made (B.brought brings.old) self.old run.new (B.brought brings.new) self.new }
         ensures outside { B.outside brings.new ≡ B.outside brings.old }
     {
         let end = near(items, from);
@@ -189,7 +189,7 @@ impl Half {
         requires next { reads_next self.old ≡ true }
         requires within { from ≤ length (I.fronts items.now) }
         requires few { made ≤ 32768 }
-        ensures flows { FlowsRest (I.fronts items.now) (B.outside brings.old) from made (B.splices brings.old) self.old run.new (B.splices brings.new) self.new }
+        ensures flows { FlowsRest (I.fronts items.now) (B.outside brings.old) from made (B.brought brings.old) self.old run.new (B.brought brings.new) self.new }
         ensures outside { B.outside brings.new ≡ B.outside brings.old }
     {
         let end = near(items, from);
@@ -236,7 +236,7 @@ impl Half {
         requires next { reads_next self.old ≡ true }
         requires within { from ≤ length (I.fronts items.now) }
         requires few { made ≤ 49152 }
-        ensures flows { FlowsRest (I.fronts items.now) (B.outside brings.old) from made (B.splices brings.old) self.old run.new (B.splices brings.new) self.new }
+        ensures flows { FlowsRest (I.fronts items.now) (B.outside brings.old) from made (B.brought brings.old) self.old run.new (B.brought brings.new) self.new }
         ensures outside { B.outside brings.new ≡ B.outside brings.old }
     {
         let end = near(items, from);

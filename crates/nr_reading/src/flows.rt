@@ -1,5 +1,5 @@
 //! Interpolations whose bytes are met where they stand in a row.
-ghost use Rattle.std.specs.Prelude.{◌≡◌, ◌+◌, ◌<◌, ◌≤◌, All, length, map, slice_get, Some, None, IfSome, true, false};
+ghost use Rattle.std.specs.Prelude.{◌≡◌, ◌≢◌, ◌+◌, ◌<◌, ◌≤◌, All, length, map, slice_get, Some, None, IfSome, true, false};
 ghost use Rattle.nr_reading.specs.declared.event.Event.TheVariants as events;
 ghost use Rattle.nr_reading.specs.declared.front.Front.TheVariants as variants;
 ghost use Rattle.nr_reading.specs.declared.mode.Due.TheVariants as dues;
@@ -32,6 +32,19 @@ fn are_plain(bytes: &[u8]) -> bool
 {
     for byte in bytes {
         if !is_plain(*byte) {
+            return false;
+        }
+    }
+    true
+}
+
+// Whether each of these bytes is so, and none is the delimiter.
+#[inline(always)]
+fn are_plain_in(bytes: &[u8], delimiter: u8) -> bool
+    ensures { result ≡ true → All (λ byte. (is_plain byte ≡ true) × (byte ≢ delimiter)) bytes.now }
+{
+    for byte in bytes {
+        if !is_plain(*byte) || *byte == delimiter {
             return false;
         }
     }
@@ -153,7 +166,7 @@ impl Half {
         ensures few { IfSome result (λ moves. moves ≤ length bytes.now + 1) }
         ensures left { result ≡ None → self.new ≡ self.old }
     {
-        if !are_plain(bytes) || bytes.contains(&delimiter) {
+        if !are_plain_in(bytes, delimiter) {
             return None;
         }
         for byte in bytes {
@@ -173,7 +186,7 @@ impl Half {
         ensures few { IfSome result (λ moves. moves ≤ length bytes.now + 1) }
         ensures left { result ≡ None → self.new ≡ self.old }
     {
-        if !are_plain(bytes) || bytes.contains(&delimiter) {
+        if !are_plain_in(bytes, delimiter) {
             return None;
         }
         for byte in bytes {
@@ -207,12 +220,12 @@ impl Half {
     #[inline(always)]
     fn bring<B: Brings>(&mut self, brings: &mut B) -> Option<usize>
         requires plain { reads_plainly self.old ≡ true }
-        ensures brings { IfSome result (λ moves. HasBrought moves self.old (B.outside brings.old) (B.splices brings.old) self.new (B.splices brings.new)) }
+        ensures brings { IfSome result (λ moves. HasBrought moves self.old (B.outside brings.old) (B.brought brings.old) self.new (B.brought brings.new)) }
         ensures mode { IfSome result (λ moves. KeepsMode self.old.reading.mode self.new.reading.mode) }
         ensures few { IfSome result (λ moves. moves ≤ 67) }
         ensures outside { B.outside brings.new ≡ B.outside brings.old }
         ensures left { result ≡ None → self.new ≡ self.old }
-        ensures none { result ≡ None → B.splices brings.new ≡ B.splices brings.old }
+        ensures none { result ≡ None → B.brought brings.new ≡ B.brought brings.old }
     {
         let due = self.reading.due;
         self.reading.due = Due::Look;
@@ -249,7 +262,7 @@ impl Half {
         requires few { made ≤ 65536 }
         requires within { from < length (I.fronts items.now) }
         requires backslash { slice_get (I.fronts items.now) from ≡ Some (variants.Byte 92) }
-        ensures flows { AfterFlow result (I.fronts items.now) (B.outside brings.old) from made (B.splices brings.old) self.old run.new (B.splices brings.new) self.new }
+        ensures flows { AfterFlow result (I.fronts items.now) (B.outside brings.old) from made (B.brought brings.old) self.old run.new (B.brought brings.new) self.new }
         ensures mode { result ≡ true → KeepsMode self.old.reading.mode self.new.reading.mode }
         ensures outside { B.outside brings.new ≡ B.outside brings.old }
     {

@@ -35,7 +35,7 @@ impl Half {
         requires mode { self.old.reading.mode ≡ modes.Start }
         requires next { reads_next self.old ≡ true }
         requires few { made ≤ 24577 }
-        ensures flows { FlowsRest (I.fronts items.now) (B.outside brings.old) from made (B.splices brings.old) self.old run.new (B.splices brings.new) self.new }
+        ensures flows { FlowsRest (I.fronts items.now) (B.outside brings.old) from made (B.brought brings.old) self.old run.new (B.brought brings.new) self.new }
         ensures outside { B.outside brings.new ≡ B.outside brings.old }
     {
         if from >= items.count() {
@@ -85,7 +85,7 @@ impl Half {
         requires plain { reads_plainly self.old ≡ true }
         requires within { from ≤ length (I.fronts items.now) }
         requires few { made ≤ 24600 }
-        ensures flows { FlowsRest (I.fronts items.now) (B.outside brings.old) from made (B.splices brings.old) (sought calls (looking self.old)) run.new (B.splices brings.new) self.new }
+        ensures flows { FlowsRest (I.fronts items.now) (B.outside brings.old) from made (B.brought brings.old) (sought calls (looking self.old)) run.new (B.brought brings.new) self.new }
         ensures outside { B.outside brings.new ≡ B.outside brings.old }
     {
         self.reading.due = Due::Look;

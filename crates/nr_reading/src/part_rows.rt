@@ -21,7 +21,7 @@ impl Half {
         requires next { reads_next self.old ≡ true }
         requires within { from ≤ length (I.fronts items.now) }
         requires few { made ≤ 16384 }
-        ensures flows { FlowsRest (I.fronts items.now) (B.outside brings.old) from made (B.splices brings.old) self.old run.new (B.splices brings.new) self.new }
+        ensures flows { FlowsRest (I.fronts items.now) (B.outside brings.old) from made (B.brought brings.old) self.old run.new (B.brought brings.new) self.new }
         ensures outside { B.outside brings.new ≡ B.outside brings.old }
     {
         let place = self.pass_blanks(items, from, near(items, from));
@@ -43,7 +43,7 @@ impl Half {
         requires next { reads_next self.old ≡ true }
         requires within { from ≤ length (I.fronts items.now) }
         requires few { made ≤ 16384 }
-        ensures flows { FlowsRest (I.fronts items.now) (B.outside brings.old) from made (B.splices brings.old) self.old run.new (B.splices brings.new) self.new }
+        ensures flows { FlowsRest (I.fronts items.now) (B.outside brings.old) from made (B.brought brings.old) self.old run.new (B.brought brings.new) self.new }
         ensures outside { B.outside brings.new ≡ B.outside brings.old }
     {
         let end = near(items, from);

@@ -5,7 +5,7 @@ ghost use Rattle.nr_reading.specs.declared.front.Front.{Front as FrontItem};
 ghost use Rattle.nr_reading.specs.declared.front.Front.TheVariants as variants;
 ghost use Rattle.nr_reading.specs.declared.mode.Due.TheVariants as dues;
 ghost use Rattle.nr_reading.specs.Meeting.{reads_next};
-ghost use Rattle.nr_reading.specs.Flows.{Reaches};
+ghost use Rattle.nr_reading.specs.Flows.{Reaches, nothing_brought};
 ghost use Rattle.nr_reading.specs.Rows.{FlowsRest, MeetsRest};
 ghost use Rattle.nr_reading.specs.Runs.{spot};
 
@@ -49,8 +49,8 @@ impl Half {
     /// in 65,536 moves at most.
     #[inline(always)]
     pub fn meet_run<I: Items, B: Brings>(&mut self, items: &I, brings: &mut B) -> Run
-        requires none { B.splices brings.old ≡ 0 }
-        ensures reaches { Reaches result.moves (I.fronts items.now) (record { half = self.old; outside = B.outside brings.old; splices = B.splices brings.new }) (spot result self.new) }
+        requires none { B.brought brings.old ≡ nothing_brought }
+        ensures reaches { Reaches result.moves (I.fronts items.now) (record { half = self.old; outside = B.outside brings.old; brought = B.brought brings.new }) (spot result self.new) }
         ensures outside { B.outside brings.new ≡ B.outside brings.old }
         ensures few { result.moves ≤ 65536 }
         ensures longest { result.event ≡ events.Nothing → self.new.reading.due ≡ dues.Look → result.moves < 65536
@@ -148,7 +148,7 @@ impl Half {
     #[inline(always)]
     fn meet_in_mode<I: Items, B: Brings>(&mut self, items: &I, brings: &mut B, run: &mut Run)
         requires next { reads_next self.old ≡ true }
-        ensures flows { FlowsRest (I.fronts items.now) (B.outside brings.old) 0 0 (B.splices brings.old) self.old run.new (B.splices brings.new) self.new }
+        ensures flows { FlowsRest (I.fronts items.now) (B.outside brings.old) 0 0 (B.brought brings.old) self.old run.new (B.brought brings.new) self.new }
         ensures outside { B.outside brings.new ≡ B.outside brings.old }
     {
         match self.reading.mode {
@@ -176,8 +176,8 @@ impl Half {
     // The items of a row are met, as `meet_run` says; `run` is where that ends.
     #[inline(never)]
     fn meet_items<I: Items, B: Brings>(&mut self, items: &I, brings: &mut B, run: &mut Run)
-        requires none { B.splices brings.old ≡ 0 }
-        ensures reaches { Reaches run.new.moves (I.fronts items.now) (record { half = self.old; outside = B.outside brings.old; splices = B.splices brings.new }) (spot run.new self.new) }
+        requires none { B.brought brings.old ≡ nothing_brought }
+        ensures reaches { Reaches run.new.moves (I.fronts items.now) (record { half = self.old; outside = B.outside brings.old; brought = B.brought brings.new }) (spot run.new self.new) }
         ensures outside { B.outside brings.new ≡ B.outside brings.old }
         ensures few { run.new.moves ≤ 65536 }
         ensures longest { run.new.event ≡ events.Nothing → self.new.reading.due ≡ dues.Look → run.new.moves < 65536
