@@ -63,7 +63,13 @@ pub fn read_text_part<K: Copy>(reader: &mut Reader, store: &mut Store<K>) -> Mov
     ensures few { result.moves ≤ 6 }
     ensures limits { limits_of store.new reader.new ≡ limits_of store.old reader.old }
 {
-    if reader.looks() && end_level(store) {
+    if !reader.looks() {
+        return Moved {
+            moves: 0,
+            event: Event::Nothing,
+        };
+    }
+    if end_level(store) {
         return Moved {
             moves: 1,
             event: Event::Nothing,
