@@ -10,7 +10,7 @@ use Rattle.nr_engine.proofs.engine.Engine.put_bytes.Goals as goal
 pub returns-then-is_in_line-clause-puts : goal.returns-then-is_in_line-clause-puts
 returns-then-is_in_line-clause-puts c =
     let words = c.put_begun-words in
-    put_whole c.args.bytes.now (shape c.args.self.now) c.requires.may c.requires.next c.fit_memory.ensures words.result.taken words.result.moves words.new.formatter words.ensures
+    put_whole c.args.bytes.now (shape c.args.self.now) c.requires.may c.requires.next c.fit_memory.ensures words.result.taken words.result.moves words.new.formatter words.ensures.puts
     c.if-words-bytes.true (sym c.is_in_line.ensures ∙ c.if-is_in_line.true) c.fit_memory-2.ensures
 
 pub returns-clause-puts : goal.returns-clause-puts
@@ -19,10 +19,10 @@ returns-clause-puts c =
     let bytes = c.args.bytes.now in
     let v = c.args.self.now.formatter.store in
     let g = words.new.formatter in
-    let store = words.ensures.store in
+    let store = words.ensures.puts.store in
     let may = c.requires.may in
     let charge = may.room.charge in
     let depth = may.room.depth in
     let entered = entered_bytes bytes v c.enter_bytes.new.self c.enter_bytes.result charge depth c.enter_bytes.ensures.answer c.enter_bytes.ensures.ok in
-    put_opened bytes (shape c.args.self.now) may c.requires.next c.fit_memory.ensures words.result.taken words.result.moves g words.ensures c.skip.new.self
+    put_opened bytes (shape c.args.self.now) may c.requires.next c.fit_memory.ensures words.result.taken words.result.moves g words.ensures.puts c.skip.new.self
     (c.skip.ensures ∙ ap (λ (x : Stored Resume). left_times words.result.taken x) entered)
