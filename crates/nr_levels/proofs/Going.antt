@@ -5,14 +5,14 @@ use Rattle.std.proofs.lemmas.List.{drop-drop, length-drop}
 use Rattle.std.proofs.lemmas.Bool.Decides.{nat_tests}
 use Rattle.nr_levels.specs.Levels.{Source, Text, Own, Mark, Open, Levels, front, front_of, behind, advanced, HasNext, HasMark, resumed}
 use Rattle.nr_levels.specs.Further.{further, further_on, Reaches, NewestReaches}
-use Rattle.nr_levels.specs.Frames.{part, source_of, resume_of, open_of, opens_of, mode_of, modes_behind, modes_in, levels_of, ReadsBelow, IsBare, IsStacked, AreLevels, MarkHasMode, AreModes}
+use Rattle.nr_levels.specs.Frames.{part, source_of, resume_of, open_of, opens_of, mode_of, modes_behind, modes_in, mode_count, levels_of, ReadsBelow, IsBare, IsStacked, AreLevels, MarkHasMode, AreModes}
 use Rattle.nr_levels.specs.Moving.{gone_on, newest_gone_on, MayGoOn, NewestMayGoOn}
 use Rattle.nr_levels.specs.declared.frame.Span.{Span}
 use Rattle.nr_levels.specs.declared.frame.Frame.{Frame}
 use Rattle.nr_levels.specs.declared.frame.Front.TheVariants as fronts
 use Rattle.nr_levels.specs.declared.frame.Reads.{Reads}
 use Rattle.nr_levels.specs.declared.frame.Reads.TheVariants as reads
-use Rattle.nr_levels.proofs.Stacked.{has_next_own}
+use Rattle.nr_levels.proofs.Stacked.{has_next_own, cons_of, front_is}
 use Rattle.nr_levels.proofs.Pushing.{length_part}
 
 -- ---- where it leads
@@ -80,6 +80,16 @@ pub may_go_once : {K : Type 0} → (fs : List Frame) (ms : List K) (xs : List �
 may_go_once [] ms xs ps now room most v view h = absurd (subst (λ (w : Levels _). HasNext (front_of w.levels)) (sym view) h)
 may_go_once (f ∷ fs) ms xs ps now room most v view h = next_by xs f.reads (mode_of f.has_mode ms) (subst (λ (w : Levels _). HasNext (front_of w.levels)) (sym view) h)
 
+-- the modes are those of the frames still
+pub gone_modes : {K : Type 0} → (n : ℕ) (fs : List Frame) (ms : List K) (mode_room most : ℕ) → AreModes fs ms mode_room most → AreModes (newest_gone_on n fs) ms mode_room most
+gone_modes n [] ms mode_room most h = h
+gone_modes n (f ∷ fs) ms mode_room most h = record { each = h.each; marks = (mark f.reads f.has_mode h.marks.0, h.marks.1); suffice = h.suffice }
+  where
+    mark : (r : Reads) (has : Bool) → MarkHasMode r has → MarkHasMode (gone_on n r) has
+    mark (reads.Text id place) has is = is
+    mark (reads.Own s) has is = is
+    mark reads.Mark has is = is
+
 -- ---- a mode that comes next
 
 own_has_none : (K : Type 0) → (bs : List ℕ) → HasMark {K = K} (Some (front (Own bs))) → ⊥
@@ -140,3 +150,18 @@ module _ {K : Type 0} (xs : List ℕ) (ps : List Span) (now : Span) (room most p
       mark_bare xs (reads.Text id place) mode h bare = absurd h
       mark_bare xs (reads.Own s) mode h bare = absurd (own_has_none _ (part xs s) h)
       mark_bare xs reads.Mark mode h bare = bare
+
+has_mark : {K : Type 0} → (xs : List ℕ) (has : Bool) (ms : List K) → has ≡ true → 0 < length ms → HasMark (Some (front (source_of xs reads.Mark (mode_of has ms))))
+has_mark xs true [] is some = absurd (omega arith)
+has_mark xs true (m ∷ ms) is some = tt
+has_mark xs false ms is some = let no : ⊥ = cc in absurd no
+
+-- a mode comes next where the newest frame's end was taken
+pub mark_comes : {K : Type 0} → (fs : List Frame) (ms : List K) (xs : List ℕ) (ps : List Span) (now : Span) (room most mode_room : ℕ) (v : Levels K) (f : Frame)
+    → levels_of fs ms xs ps now room most ≡ v → slice_get fs 0 ≡ Some f → f.reads ≡ reads.Mark → AreModes fs ms mode_room most → HasMark (front_of v.levels)
+mark_comes fs ms xs ps now room most mode_room v f view top is modes =
+    let parted : AreModes (f ∷ drop 1 fs) ms mode_room most = subst (λ gs. AreModes gs ms mode_room most) (cons_of fs f top) modes in
+    let has : f.has_mode ≡ true = subst (λ r. MarkHasMode r f.has_mode) is parted.marks.0 in
+    let all = parted.each in
+    let one = ap modes_in has in
+    subst HasMark (sym (front_is fs ms xs ps now room most v f reads.Mark view top is)) (has_mark xs f.has_mode ms has (omega arith))

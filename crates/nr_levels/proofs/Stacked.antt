@@ -6,7 +6,7 @@ use Rattle.std.proofs.lemmas.Bool.{cases_lt}
 use Rattle.std.proofs.lemmas.List.Sums.{sum_by-cons}
 use Rattle.std.proofs.lemmas.Option.{get_or_from_slice_get}
 use Rattle.nr_levels.specs.Levels.{Source, Own, Mark, Open, Levels, total, front, front_of, marks, closed, HasNext, HasEnd}
-use Rattle.nr_levels.specs.Frames.{part, arguments_of, source_of, resume_of, open_of, opens_of, mode_of, modes_behind, modes_in, mode_count, levels_of, EndBy, AreBelow, ReadsBelow, reader, readers, IsStacked, AreLevels, AreModes}
+use Rattle.nr_levels.specs.Frames.{part, arguments_of, source_of, resume_of, open_of, opens_of, mode_of, modes_behind, modes_in, mode_count, levels_of, EndBy, AreBelow, ReadsBelow, reader, readers, IsStacked, AreLevels, MarkHasMode, AreModes}
 use Rattle.nr_levels.specs.Windows.{left_in, rest_of}
 use Rattle.nr_levels.specs.declared.frame.Span.{Span}
 use Rattle.nr_levels.specs.declared.frame.Frame.{Frame}
@@ -156,6 +156,11 @@ pub left_is : {K : Type 0} → (fs : List Frame) (ms : List K) (xs : List ℕ) (
 left_is fs ms xs ps now room most v f r view top is =
     ap (λ (w : Levels _). rest_of w.levels) (sym view) ∙ ap (λ gs. rest_of (opens_of xs ps gs ms)) (cons_of fs f top) ∙ ap (λ t. left_in (source_of xs t (mode_of f.has_mode ms))) is
 
+-- nothing where its end was taken
+pub left_none : {K : Type 0} → (xs : List ℕ) (mode : Option K) → left_in (source_of xs reads.Mark mode) ≡ Own []
+left_none xs (Some mode) = refl
+left_none xs None = refl
+
 -- the newest frame is on the others
 pub newest_on : (fs : List Frame) (ps : List Span) (now : Span) (h : ℕ) (f : Frame) → IsStacked ps fs now h → slice_get fs 0 ≡ Some f → IsStacked ps (f ∷ drop 1 fs) now h
 newest_on fs ps now h f stacked top = subst (λ gs. IsStacked ps gs now h) (cons_of fs f top) stacked
@@ -282,6 +287,34 @@ module _ (fs : List Frame) (xs : List ℕ) (ps : List Span) (now : Span) (room m
       ∙ sym (ap (λ o. record { levels = marks o (arguments_of xs ps f.old) ++ opens_of xs ps (drop 1 fs) ms; arguments = arguments_of xs ps f.old; room = room; most = most }) (end_resumes xs f.reads m (subst HasEnd here end)))
       ∙ sym (ap (λ has. record { levels = marks (resume_of f.reads (mode_of has (m ∷ ms))) (arguments_of xs ps f.old) ++ opens_of xs ps (drop 1 fs) (modes_behind has (m ∷ ms)); arguments = arguments_of xs ps f.old; room = room; most = most }) some)
       ∙ whole (m ∷ ms) v view
+
+-- the modes of the frames below the newest, and of one whose end was taken
+module _ {K : Type 0} (fs : List Frame) (ms : List K) (mode_room most : ℕ) (f : Frame) (top : slice_get fs 0 ≡ Some f) (h : AreModes fs ms mode_room most) where
+  parted : AreModes (f ∷ drop 1 fs) ms mode_room most
+  parted = subst (λ gs. AreModes gs ms mode_room most) (cons_of fs f top) h
+
+  pub modes_below : f.has_mode ≡ false → AreModes (drop 1 fs) ms mode_room most
+  modes_below none =
+      let all = parted.each in
+      let no = ap modes_in none in
+      record { each = omega arith; marks = parted.marks.1; suffice = h.suffice }
+
+  pub modes_marked : (g : Frame) → g.has_mode ≡ true → f.has_mode ≡ true → AreModes (g ∷ drop 1 fs) ms mode_room most
+  modes_marked g has some =
+      let all = parted.each in
+      let same = ap modes_in (has ∙ sym some) in
+      record { each = omega arith; marks = (mark g.reads has, parted.marks.1); suffice = h.suffice }
+    where
+      mark : (r : Reads) {b : Bool} → b ≡ true → MarkHasMode r b
+      mark (reads.Text id place) is = tt
+      mark (reads.Own s) is = tt
+      mark reads.Mark is = is
+
+  pub mode_there : f.has_mode ≡ true → 0 < length ms
+  mode_there some =
+      let all = parted.each in
+      let one = ap modes_in some in
+      omega arith
 
 -- with no levels the arguments may be forgotten
 pub forgotten : {K : Type 0} → (fs : List Frame) (ms : List K) (xs : List ℕ) (ps : List Span) (now : Span) (room most place_room : ℕ) (v : Levels K) → levels_of fs ms xs ps now room most ≡ v → v.levels ≡ [] → AreLevels fs xs ps now room most place_room
