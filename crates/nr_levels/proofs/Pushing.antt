@@ -9,7 +9,7 @@ use Rattle.nr_levels.specs.Frames.{part, arguments_of, source_of, resume_of, ope
 use Rattle.nr_levels.specs.declared.frame.Span.{Span}
 use Rattle.nr_levels.specs.declared.frame.Frame.{Frame}
 use Rattle.nr_levels.specs.declared.frame.Reads.{Reads}
-use Rattle.nr_levels.proofs.Stacked.{same_levels, same_arguments, same_stack, same_below, end_by_more, stacked_total, stacked_places, readers_deep, readers_total, length-opens_of}
+use Rattle.nr_levels.proofs.Stacked.{same_levels, same_arguments, same_stack, same_below, end_by_more, stacked_total, stacked_places, readers_deep, readers_total, length-opens_of, modes_deep}
 
 -- items that are the same, with the same room
 pub items_are : {T : Type 0} (v w : Items T) → v.items ≡ w.items → v.room ≡ w.room → v ≡ w
@@ -35,6 +35,21 @@ has_room fs ms xs ps now room most place_room v more charge h view paid fits dee
     let top = h.top in
     let suffice = h.places_suffice in
     record { bytes_fit = omega arith; places_fit = omega arith }
+
+-- there is room for its frame, and for its mode
+pub more_frames : {K : Type 0} → (fs : List Frame) (ms : List K) (xs : List ℕ) (ps : List Span) (now : Span) (room most : ℕ) (v : Levels K) → levels_of fs ms xs ps now room most ≡ v → length v.levels < v.most → length fs < most
+more_frames fs ms xs ps now room most v view deep =
+    let same_most : most ≡ v.most = ap (λ (w : Levels _). w.most) view in
+    let long : length (opens_of xs ps fs ms) ≡ length v.levels = ap (λ (w : Levels _). length w.levels) view in
+    let each = length-opens_of xs ps fs ms in
+    omega arith
+
+pub more_modes : {K : Type 0} → (fs : List Frame) (ms : List K) (mode_room most : ℕ) → AreModes fs ms mode_room most → length fs < most → length ms < mode_room
+more_modes fs ms mode_room most h deep =
+    let each = h.each in
+    let few = modes_deep fs in
+    let suffice = h.suffice in
+    omega arith
 
 -- a level more, over rows that go on from the old ones
 module _ (fs : List Frame) (xs ys : List ℕ) (ps qs : List Span) (now inforce : Span) (room most place_room : ℕ) (r : Reads) (charge : ℕ) (has : Bool)

@@ -33,14 +33,14 @@ pub struct Levels<K: Copy> {
 
 impl<K: Copy> Model for Levels<K> {
     ghost use Rattle.nr_levels.specs.Levels.{Levels};
-    ghost use Rattle.std.specs.Prelude.{◌×◌};
     ghost use Rattle.nr_levels.specs.Frames.{levels_of, AreLevels, AreModes};
 
     ghost Value = { Levels K };
 
     ghost view = { λ s. levels_of s.frames.items s.modes.items s.bytes.items s.places.items s.in_force s.bytes.room s.frames.room };
 
-    ghost invariant = { λ s. AreLevels s.frames.items s.bytes.items s.places.items s.in_force s.bytes.room s.frames.room s.places.room × AreModes s.frames.items s.modes.items s.modes.room s.frames.room };
+    ghost invariant = { λ s. (AreLevels s.frames.items s.bytes.items s.places.items s.in_force s.bytes.room s.frames.room s.places.room)
+        × (AreModes s.frames.items s.modes.items s.modes.room s.frames.room) };
 }
 
 // Keeps a mode, if there is one. Tells whether there is.

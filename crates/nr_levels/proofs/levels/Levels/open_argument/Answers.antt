@@ -1,7 +1,7 @@
 use Rattle.std.proofs.Common.{None, refl, arith}
 use Rattle.nr_levels.specs.Frames.{part}
 use Rattle.nr_levels.specs.declared.frame.Reads.TheVariants as reads
-use Rattle.nr_levels.proofs.Pushing.{pushed_stands, modes_more, end_at}
+use Rattle.nr_levels.proofs.Pushing.{more_frames, pushed_stands, modes_more, end_at}
 use Rattle.nr_levels.proofs.levels.Levels.open_argument.Goals as goal
 
 pub invariant_of-self : goal.invariant_of-self
@@ -13,3 +13,6 @@ invariant_of-self g c =
     (pushed_stands s.frames.items s.bytes.items s.bytes.items s.places.items s.places.items s.in_force s.in_force s.bytes.room s.frames.room s.places.room (reads.Own _) c.args.charge false c.self.invariant.0 refl refl (omega arith)
     (omega arith) (omega arith) below tt c.self.invariant.0.top c.self.invariant.0.now (omega arith) (omega arith),
     modes_more _ s.frames.items s.modes.items s.modes.items s.modes.room s.frames.room tt refl c.self.invariant.1)
+
+pub push-requires : goal.push-requires
+push-requires g c = more_frames _ _ _ _ _ _ _ _ c.self.view_is c.requires.room

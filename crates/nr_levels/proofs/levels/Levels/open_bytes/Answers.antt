@@ -5,7 +5,7 @@ use Rattle.nr_levels.specs.Frames.{levels_of}
 use Rattle.nr_levels.specs.declared.frame.Frame.{Frame}
 use Rattle.nr_levels.specs.declared.frame.Reads.TheVariants as reads
 use Rattle.nr_levels.proofs.Stacked.{same_arguments}
-use Rattle.nr_levels.proofs.Pushing.{items_are, has_room, pushed_is, pushed_stands, modes_more, same_start, more_below, part_last}
+use Rattle.nr_levels.proofs.Pushing.{items_are, has_room, pushed_is, more_frames, pushed_stands, modes_more, same_start, more_below, part_last}
 use Rattle.nr_levels.proofs.levels.Levels.open_bytes.Goals as goal
 
 pub extend-requires : goal.extend-requires
@@ -41,3 +41,6 @@ returns g c =
     ∙ ap₂ (λ bs os. deeper (Own bs) os c.args.charge None (levels_of s.frames.items s.modes.items xs s.places.items s.in_force s.bytes.room s.frames.room))
     (part_last xs c.args.bytes.now (record { first = length xs; last = length ys }) refl refl) same
     ∙ ap (λ (v : Levels _). deeper (Own c.args.bytes.now) v.arguments c.args.charge None v) c.self.view_is
+
+pub push-requires : goal.push-requires
+push-requires g c = more_frames _ _ _ _ _ _ _ _ c.self.view_is c.requires.room

@@ -5,7 +5,7 @@ use Rattle.nr_levels.specs.Levels.{Text, deeper}
 use Rattle.nr_levels.specs.Frames.{part, levels_of, spans_from, EndBy}
 use Rattle.nr_levels.specs.declared.frame.Frame.{Frame}
 use Rattle.nr_levels.specs.declared.frame.Reads.TheVariants as reads
-use Rattle.nr_levels.proofs.Pushing.{items_are, has_room, pushed_is, pushed_stands, modes_more, same_start, part_new, spans_end, length-spans_from, spans_cut}
+use Rattle.nr_levels.proofs.Pushing.{items_are, has_room, pushed_is, more_frames, pushed_stands, modes_more, same_start, part_new, spans_end, length-spans_from, spans_cut}
 use Rattle.nr_levels.proofs.levels.Levels.open_call.Goals as goal
 
 pub extend-requires : goal.extend-requires
@@ -74,3 +74,6 @@ returns g c =
     ∙ ap (λ os. deeper (Text c.args.id 0) os c.args.charge None (levels_of s.frames.items s.modes.items xs s.places.items s.in_force s.bytes.room s.frames.room))
     (ap (map (part ys)) (part_new s.places.items spans now refl refl) ∙ spans_cut xs c.args.bytes.now (length xs) c.args.lens.now refl (omega arith))
     ∙ ap (deeper (Text c.args.id 0) _ c.args.charge None) c.self.view_is
+
+pub push-requires : goal.push-requires
+push-requires g c = more_frames _ _ _ _ _ _ _ _ c.self.view_is c.requires.room
