@@ -1,7 +1,7 @@
 -- Lemmas on frames that go on.
-use Rattle.std.proofs.Common.{◌≡◌, ℕ, zero, suc, Bool, true, false, ◌==◌, ◌+◌, ◌<◌, List, [], ◌∷◌, length, take, drop, Option, Some, None, refl, ap, ap₂, sym, ◌∙◌, subst, arith}
+use Rattle.std.proofs.Common.{◌≡◌, ℕ, Bool, true, false, ◌==◌, ◌+◌, ◌<◌, List, [], ◌∷◌, length, take, drop, Option, Some, None, refl, ap, ap₂, sym, ◌∙◌, subst, arith}
 use Rattle.std.specs.List.{slice_get}
-use Rattle.std.proofs.lemmas.List.{drop-drop, length-drop}
+use Rattle.std.proofs.lemmas.List.{drop-drop, drop_all, length-drop}
 use Rattle.std.proofs.lemmas.Bool.Decides.{nat_tests}
 use Rattle.nr_levels.specs.Levels.{Source, Text, Own, Mark, Open, Levels, front, front_of, behind, advanced, HasNext, HasMark, resumed}
 use Rattle.nr_levels.specs.Further.{further, further_on, Reaches, NewestReaches}
@@ -26,11 +26,7 @@ gone_source : {K : Type 0} → (n : ℕ) (xs : List ℕ) (r : Reads) (mode : Opt
 gone_source n xs (reads.Text id place) mode = refl
 gone_source n xs (reads.Own s) mode = sym (ap Own (drop-drop n s.first (take s.last xs)))
 gone_source n xs reads.Mark (Some mode) = refl
-gone_source n xs reads.Mark None = sym (ap Own (drop-nil n))
-  where
-    drop-nil : (n : ℕ) → drop n ([] : List ℕ) ≡ []
-    drop-nil zero = refl
-    drop-nil (suc n) = refl
+gone_source n xs reads.Mark None = sym (ap Own (drop_all n [] (omega arith)))
 
 -- the newest level is so many elements further on
 pub gone_further : {K : Type 0} → (fs : List Frame) (ms : List K) (xs : List ℕ) (ps : List Span) (now : Span) (room most n : ℕ) (v : Levels K)

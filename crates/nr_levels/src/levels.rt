@@ -318,17 +318,17 @@ impl<K: Copy> Levels<K> {
         self.bytes.truncate(height as usize);
         self.places.truncate(old.last as usize);
         self.in_force = old;
-        if !frame.has_mode {
-            self.frames.pop();
+        if frame.has_mode {
+            self.frames.set_top(Frame {
+                reads: Reads::Mark,
+                old,
+                charge: 0,
+                height,
+                has_mode: true,
+            });
             return charge;
         }
-        self.frames.set_top(Frame {
-            reads: Reads::Mark,
-            old,
-            charge: 0,
-            height,
-            has_mode: true,
-        });
+        self.frames.pop();
         charge
     }
 
