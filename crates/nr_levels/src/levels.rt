@@ -186,6 +186,7 @@ impl<K: Copy> Levels<K> {
     }
 
     /// Opens a level that reads a text, with no arguments in force, and with a mode to resume behind its end.
+    #[inline(always)]
     pub fn open_text(&mut self, id: Id, charge: u32, resume: Option<K>)
         requires room { length self.old.levels < self.old.most }
         requires paid { 16 ≤ charge }
