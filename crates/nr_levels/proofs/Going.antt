@@ -104,7 +104,7 @@ mark_front xs (reads.Own s) mode h = absurd (own_has_none _ (part xs s) h)
 mark_front xs reads.Mark mode h = refl
 
 -- the newest level's mode is taken: it is the newest mode
-module _ {K : Type 0} (xs : List ℕ) (ps : List Span) (now : Span) (room most place_room mode_room : ℕ) (v : Levels K) where
+module _ {K : Type 0} (xs : List ℕ) (ps : List Span) (now : Span) (room most mode_room : ℕ) (v : Levels K) where
   newest_has : (f : Frame) (fs : List Frame) (ms : List K) → levels_of (f ∷ fs) ms xs ps now room most ≡ v → HasMark (front_of v.levels) → AreModes (f ∷ fs) ms mode_room most → f.has_mode ≡ true
   newest_has f fs ms view mark modes =
       mark_has xs f.reads f.has_mode (mode_of f.has_mode ms) (subst (λ (w : Levels _). HasMark (front_of w.levels)) (sym view) mark) modes.marks.0
@@ -112,8 +112,8 @@ module _ {K : Type 0} (xs : List ℕ) (ps : List Span) (now : Span) (room most p
   pub some_mode : (fs : List Frame) (ms : List K) → levels_of fs ms xs ps now room most ≡ v → HasMark (front_of v.levels) → AreModes fs ms mode_room most → (0 < length fs) × (0 < length ms)
   some_mode [] ms view mark modes = absurd (subst (λ (w : Levels _). HasMark (front_of w.levels)) (sym view) mark)
   some_mode (f ∷ fs) ms view mark modes =
-      let one = ap modes_in (newest_has f fs ms view mark modes) in
-      let each = modes.each in
+      let one : modes_in f.has_mode ≡ 1 = ap modes_in (newest_has f fs ms view mark modes) in
+      let each : modes_in f.has_mode + mode_count fs ≡ length ms = modes.each in
       (omega arith, omega arith)
 
   pub front_mode : (fs : List Frame) (ms : List K) (mode : K) → levels_of fs ms xs ps now room most ≡ v → HasMark (front_of v.levels) → AreModes fs ms mode_room most → slice_get ms 0 ≡ Some mode → front_of v.levels ≡ Some (fronts.Resume mode)
@@ -131,21 +131,30 @@ module _ {K : Type 0} (xs : List ℕ) (ps : List Span) (now : Span) (room most p
   pub modes_stand : (fs : List Frame) (ms : List K) → levels_of fs ms xs ps now room most ≡ v → HasMark (front_of v.levels) → AreModes fs ms mode_room most → AreModes (drop 1 fs) (drop 1 ms) mode_room most
   modes_stand [] ms view mark modes = absurd (subst (λ (w : Levels _). HasMark (front_of w.levels)) (sym view) mark)
   modes_stand (f ∷ fs) ms view mark modes =
-      let one = ap modes_in (newest_has f fs ms view mark modes) in
-      let each = modes.each in
+      let one : modes_in f.has_mode ≡ 1 = ap modes_in (newest_has f fs ms view mark modes) in
+      let each : modes_in f.has_mode + mode_count fs ≡ length ms = modes.each in
       record { each = omega (arith, length-drop 1 ms); marks = modes.marks.1; suffice = modes.suffice }
 
-  pub levels_stand : (fs : List Frame) (ms : List K) → levels_of fs ms xs ps now room most ≡ v → HasMark (front_of v.levels) → AreLevels fs xs ps now room most place_room → AreLevels (drop 1 fs) xs ps now room most place_room
-  levels_stand [] ms view mark h = absurd (subst (λ (w : Levels _). HasMark (front_of w.levels)) (sym view) mark)
-  levels_stand (f ∷ fs) ms view mark h =
-      let on = h.stacked.0 in
-      let bare = mark_bare xs f.reads (mode_of f.has_mode ms) (subst (λ (w : Levels _). HasMark (front_of w.levels)) (sym view) mark) on.bare in
-      record { stacked = rw (sym bare.0, sym bare.1) h.stacked.1; now = h.now; top = h.top; places_suffice = h.places_suffice; places_small = h.places_small; small = h.small }
-    where
-      mark_bare : (xs : List ℕ) (r : Reads) (mode : Option K) → HasMark (Some (front (source_of xs r mode))) → IsBare r f.old now f.height (length xs) → (f.old ≡ now) × (f.height ≡ length xs)
-      mark_bare xs (reads.Text id place) mode h bare = absurd h
-      mark_bare xs (reads.Own s) mode h bare = absurd (own_has_none _ (part xs s) h)
-      mark_bare xs reads.Mark mode h bare = bare
+mark_bare : {K : Type 0} → (xs : List ℕ) (r : Reads) (mode : Option K) (old now : Span) (low h : ℕ) → HasMark (Some (front (source_of xs r mode))) → IsBare r old now low h → (old ≡ now) × (low ≡ h)
+mark_bare xs (reads.Text id place) mode old now low h mark bare = absurd mark
+mark_bare xs (reads.Own s) mode old now low h mark bare = absurd (own_has_none _ (part xs s) mark)
+mark_bare xs reads.Mark mode old now low h mark bare = bare
+
+-- what is always true stays where its frame is taken away
+pub levels_stand : {K : Type 0} → (fs : List Frame) (ms : List K) (xs : List ℕ) (ps : List Span) (now : Span) (room most place_room : ℕ) (v : Levels K)
+    → levels_of fs ms xs ps now room most ≡ v → HasMark (front_of v.levels) → AreLevels fs xs ps now room most place_room → AreLevels (drop 1 fs) xs ps now room most place_room
+levels_stand [] ms xs ps now room most place_room v view mark h = absurd (subst (λ (w : Levels _). HasMark (front_of w.levels)) (sym view) mark)
+levels_stand (f ∷ fs) ms xs ps now room most place_room v view mark h =
+    let stacked = h.stacked in
+    let bare = mark_bare xs f.reads (mode_of f.has_mode ms) f.old now f.height (length xs) (subst (λ (w : Levels _). HasMark (front_of w.levels)) (sym view) mark) stacked.0.bare in
+    record {
+      stacked = subst (λ s. IsStacked ps fs s (length xs)) bare.0 (subst (IsStacked ps fs f.old) bare.1 stacked.1);
+      now = h.now;
+      top = h.top;
+      places_suffice = h.places_suffice;
+      places_small = h.places_small;
+      small = h.small;
+    }
 
 has_mark : {K : Type 0} → (xs : List ℕ) (has : Bool) (ms : List K) → has ≡ true → 0 < length ms → HasMark (Some (front (source_of xs reads.Mark (mode_of has ms))))
 has_mark xs true [] is some = absurd (omega arith)
@@ -158,6 +167,6 @@ pub mark_comes : {K : Type 0} → (fs : List Frame) (ms : List K) (xs : List ℕ
 mark_comes fs ms xs ps now room most mode_room v f view top is modes =
     let parted : AreModes (f ∷ drop 1 fs) ms mode_room most = subst (λ gs. AreModes gs ms mode_room most) (cons_of fs f top) modes in
     let has : f.has_mode ≡ true = subst (λ r. MarkHasMode r f.has_mode) is parted.marks.0 in
-    let all = parted.each in
-    let one = ap modes_in has in
+    let all : modes_in f.has_mode + mode_count (drop 1 fs) ≡ length ms = parted.each in
+    let one : modes_in f.has_mode ≡ 1 = ap modes_in has in
     subst HasMark (sym (front_is fs ms xs ps now room most v f reads.Mark view top is)) (has_mark xs f.has_mode ms has (omega arith))

@@ -295,25 +295,25 @@ module _ {K : Type 0} (fs : List Frame) (ms : List K) (mode_room most : ℕ) (f 
 
   pub modes_below : f.has_mode ≡ false → AreModes (drop 1 fs) ms mode_room most
   modes_below none =
-      let all = parted.each in
-      let no = ap modes_in none in
+      let all : modes_in f.has_mode + mode_count (drop 1 fs) ≡ length ms = parted.each in
+      let no : modes_in f.has_mode ≡ 0 = ap modes_in none in
       record { each = omega arith; marks = parted.marks.1; suffice = h.suffice }
 
   pub modes_marked : (g : Frame) → g.has_mode ≡ true → f.has_mode ≡ true → AreModes (g ∷ drop 1 fs) ms mode_room most
   modes_marked g has some =
-      let all = parted.each in
-      let same = ap modes_in (has ∙ sym some) in
-      record { each = omega arith; marks = (mark g.reads has, parted.marks.1); suffice = h.suffice }
+      let all : modes_in f.has_mode + mode_count (drop 1 fs) ≡ length ms = parted.each in
+      let same : modes_in g.has_mode ≡ modes_in f.has_mode = ap modes_in (has ∙ sym some) in
+      record { each = omega arith; marks = (mark g.reads g.has_mode has, parted.marks.1); suffice = h.suffice }
     where
-      mark : (r : Reads) {b : Bool} → b ≡ true → MarkHasMode r b
-      mark (reads.Text id place) is = tt
-      mark (reads.Own s) is = tt
-      mark reads.Mark is = is
+      mark : (r : Reads) (b : Bool) → b ≡ true → MarkHasMode r b
+      mark (reads.Text id place) b is = tt
+      mark (reads.Own s) b is = tt
+      mark reads.Mark b is = is
 
   pub mode_there : f.has_mode ≡ true → 0 < length ms
   mode_there some =
-      let all = parted.each in
-      let one = ap modes_in some in
+      let all : modes_in f.has_mode + mode_count (drop 1 fs) ≡ length ms = parted.each in
+      let one : modes_in f.has_mode ≡ 1 = ap modes_in some in
       omega arith
 
 -- with no levels the arguments may be forgotten

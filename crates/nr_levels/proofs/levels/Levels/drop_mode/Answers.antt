@@ -10,7 +10,7 @@ pop-requires-2 g c = (some_mode _ _ _ _ _ _ _ _ _ c.self.view_is c.requires c.se
 pub invariant_of-self : goal.invariant_of-self
 invariant_of-self g c =
     rw (c.pop.ensures, c.pop-2.ensures)
-    (levels_stand _ _ _ _ _ _ _ _ _ _ c.self.view_is c.requires c.self.invariant.0, modes_stand _ _ _ _ _ _ _ _ _ c.self.view_is c.requires c.self.invariant.1)
+    (levels_stand _ _ _ _ _ _ _ _ _ c.self.view_is c.requires c.self.invariant.0, modes_stand _ _ _ _ _ _ _ _ _ c.self.view_is c.requires c.self.invariant.1)
 
 pub returns : goal.returns
 returns g c = rw (c.pop.ensures, c.pop-2.ensures) (mode_dropped _ _ _ _ _ _ _ _ _ c.self.view_is c.requires c.self.invariant.1)
