@@ -36,6 +36,10 @@ has_room fs ms xs ps now room most place_room v more charge h view paid fits dee
     let suffice = h.places_suffice in
     record { bytes_fit = omega arith; places_fit = omega arith }
 
+-- there are as many frames as levels
+pub depth_is : {K : Type 0} → (fs : List Frame) (ms : List K) (xs : List ℕ) (ps : List Span) (now : Span) (room most : ℕ) (v : Levels K) → levels_of fs ms xs ps now room most ≡ v → length fs ≡ length v.levels
+depth_is fs ms xs ps now room most v view = sym (length-opens_of xs ps fs ms) ∙ ap (λ (w : Levels _). length w.levels) view
+
 -- there is room for its frame, and for its mode
 pub more_frames : {K : Type 0} → (fs : List Frame) (ms : List K) (xs : List ℕ) (ps : List Span) (now : Span) (room most : ℕ) (v : Levels K) → levels_of fs ms xs ps now room most ≡ v → length v.levels < v.most → length fs < most
 more_frames fs ms xs ps now room most v view deep =
