@@ -1,9 +1,9 @@
 // The name list: what names stand for, removed and renamed.
-ghost use Rattle.std.specs.Prelude.{◌≡◌, ◌^◌, ◌<◌, ◌≤◌, None};
+ghost use Rattle.std.specs.Prelude.{◌≡◌, ◌^◌, ◌<◌, ◌≤◌, None, Some, IfSome};
 ghost use Rattle.nr_pool.specs.Texts.{IsOpen, text};
 ghost use Rattle.nr_tables.specs.Named.{find, is_same};
 ghost use Rattle.nr_store.specs.Senses.{text_id};
-ghost use Rattle.nr_store.specs.Stored.{charge_of, meaning_of, share, removed, renamed, moved};
+ghost use Rattle.nr_store.specs.Stored.{charge_of, meaning_of, share, removed, renamed, moved, words};
 ghost use Rattle.nr_store.specs.Holders.{lone};
 
 use crate::element::Element;
@@ -51,6 +51,18 @@ impl<K: Copy> Store<K> {
             Sense::Request(request) => Meaning::Request(request),
             Sense::Text(_) => Meaning::Text,
         }
+    }
+
+    /// The text of a name, if it has one.
+    #[inline]
+    pub fn text(&self, name: Name) -> Option<&[Element]>
+        ensures text { IfSome result (λ text. words (find name self.now.names) ≡ Some text.now) }
+        ensures none { result ≡ None → words (find name self.now.names) ≡ None }
+    {
+        let Some(id) = text_in(&self.names, name) else {
+            return None;
+        };
+        Some(self.pool.text(id))
     }
 
     /// Takes a name away (CSTR 54, `.rm`). Levels go on reading its text.
