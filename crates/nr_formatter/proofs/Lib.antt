@@ -13,7 +13,6 @@ pub mod HearingFalls
 pub mod HeldRows
 pub mod InputFalls
 pub mod Judging
-pub mod LevelRuns
 pub mod LimitsStay
 pub mod LineEnds
 pub mod LineFalls

@@ -1,9 +1,7 @@
 -- Runs of bytes that stand for themselves, in a text line that has begun.
-use Rattle.std.specs.Prelude.{◌≡◌, ◌≢◌, ◌≤◌, ◌<◌, ℕ, Bool, true, false, not, ◌&&◌, nat_lt, List, length, map, take, get_or, slice_index, All, is_none, None}
+use Rattle.std.specs.Prelude.{◌≡◌, ◌≤◌, ◌<◌, ℕ, Bool, true, false, not, ◌&&◌, nat_lt, List, length, take, slice_index, All, is_none, None}
 use Rattle.nr_fill.specs.Pieces.{Collected, begins_line, end_word, line_cells, one_blank_more, text_cells}
 use Rattle.nr_fill.specs.Runs.{IsPlain, add_run}
-use Rattle.nr_store.specs.declared.element.Element.{Element}
-use Rattle.nr_store.specs.declared.element.Element.TheVariants as elements
 use Rattle.nr_reading.specs.InText.{is_in_text}
 use Rattle.nr_reading.specs.Rereading.{is_rereading}
 use Rattle.nr_reading.specs.declared.event.Event.{Event}
@@ -41,19 +39,6 @@ pub record IsInLine (f : Formatter) : Type 0 where
 -- the bytes one after another, each a cell of the word
 abbrev pub run_put : List ℕ → Formatter → Formatter
 run_put bs f = with_collected (add_run (margins f) (is_under f.settings.fonts) bs (collected f)) f
-
--- ---- bytes of the newest level
-
--- a byte that begins no escape
-abbrev pub IsCopied : Element → Type 0
-IsCopied (elements.Byte b) = b ≢ 92
-IsCopied x = ⊥
-
--- Bytes that are a front of some elements: up to 64, and up to one that is no byte or begins an escape.
-pub record IsFront (bs : List ℕ) (xs : List Element) : Type 0 where
-  pub are : map elements.Byte bs ≡ take (length bs) xs
-  pub few : length bs ≤ 64
-  pub ends : length bs < 64 → IsCopied (get_or xs (length bs) (elements.Byte 92)) → ⊥
 
 -- ---- a blank behind a word
 

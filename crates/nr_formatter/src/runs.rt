@@ -1,22 +1,16 @@
 //! Runs of bytes that stand for themselves, in a text line that has begun.
-ghost use Rattle.std.specs.Prelude.{◌≡◌, ◌<◌, ◌≤◌, false, length, take, map, get_or, slice_index};
+ghost use Rattle.std.specs.Prelude.{◌≡◌, ◌<◌, ◌≤◌, false, length, take, slice_index};
 ghost use Rattle.nr_fill.specs.Pieces.{begins_line, line_cells, text_cells};
 ghost use Rattle.nr_fill.specs.Runs.{IsPlain};
-ghost use Rattle.nr_store.specs.Windows.{rest_of};
-ghost use Rattle.nr_store.specs.declared.element.Element.TheVariants as elements;
 ghost use Rattle.nr_formatter.specs.Access.{collected};
 ghost use Rattle.nr_formatter.specs.declared.runs.Gap.TheVariants as gaps;
 ghost use Rattle.nr_formatter.specs.LineBeginnings.{is_at_text, AfterBeginning};
 ghost use Rattle.nr_formatter.specs.LineEnds.{IsNewline, AfterNewline};
-ghost use Rattle.nr_formatter.specs.Runs.{reads_next, is_in_line, run_put, gaps_plainly, IsGap, BehindWord, AfterGap, IsCopied, IsFront, PutsWord, is_rereading_line, manner_of};
+ghost use Rattle.nr_formatter.specs.Runs.{reads_next, is_in_line, run_put, gaps_plainly, IsGap, BehindWord, AfterGap, PutsWord, is_rereading_line, manner_of};
 
 use crate::formatter::Formatter;
 use crate::tasks::{After, Task};
 use nr_input::Event;
-use nr_store::{Element, Rest};
-
-/// How many bytes of a level are copied in one call, at most.
-pub const LONGEST_FRONT: usize = 64;
 
 /// What became of a blank or a newline behind a word.
 #[derive(Clone, Copy)]
@@ -45,49 +39,6 @@ pub struct WordPut {
     pub count: usize,
     /// What became of a blank behind them.
     pub gap: Gap,
-}
-
-/// Copies the bytes that this text begins with, up to an element that is no byte or a `\`. Tells how many it copied.
-#[inline(always)]
-fn copy_text(text: &[Element], bytes: &mut [u8]) -> usize
-    requires room { length text.now ≤ length bytes.old }
-    ensures front { result ≤ length text.now }
-    ensures room { length bytes.new ≡ length bytes.old }
-    ensures copied { map elements.Byte (take result bytes.new) ≡ take result text.now }
-    ensures stops { IsCopied (get_or text.now result (elements.Byte 92)) → ⊥ }
-{
-    let mut count = 0;
-    for element in text {
-        let Element::Byte(byte) = *element else {
-            return count;
-        };
-        if byte == b'\\' {
-            return count;
-        }
-        bytes[count] = byte;
-        count += 1;
-    }
-    count
-}
-
-/// Copies these bytes, up to a `\`. Tells how many it copied.
-#[inline(always)]
-fn copy_bytes(own: &[u8], bytes: &mut [u8]) -> usize
-    requires room { length own.now ≤ length bytes.old }
-    ensures front { result ≤ length own.now }
-    ensures room { length bytes.new ≡ length bytes.old }
-    ensures copied { take result bytes.new ≡ take result own.now }
-    ensures stops { get_or own.now result 92 ≡ 92 }
-{
-    let mut count = 0;
-    for byte in own {
-        if *byte == b'\\' {
-            return count;
-        }
-        bytes[count] = *byte;
-        count += 1;
-    }
-    count
 }
 
 impl Formatter {
@@ -139,21 +90,6 @@ impl Formatter {
         }
         half.begin_text();
         true
-    }
-
-    /// Copies the bytes that come next of the newest level, up to an element that is no byte or a `\`, and 64 at most. Tells how many
-    /// it copied.
-    #[inline(always)]
-    pub fn copy_level(&self, bytes: &mut [u8]) -> usize
-        requires room { length bytes.old ≡ 64 }
-        ensures room { length bytes.new ≡ 64 }
-        ensures most { result ≤ 64 }
-        ensures front { IsFront (take result bytes.new) (rest_of self.now.store.levels) }
-    {
-        match self.store.rest() {
-            Rest::Text(text) => copy_text(&text[..text.len().min(LONGEST_FRONT)], bytes),
-            Rest::Bytes(own) => copy_bytes(&own[..own.len().min(LONGEST_FRONT)], bytes),
-        }
     }
 
     /// Whether a blank does nothing but end the word and widen the gap.

@@ -18,9 +18,12 @@ use Rattle.nr_store.specs.declared.refusal.Refusal.TheVariants as stores
 use Rattle.nr_reading.specs.declared.event.Event.{Event}
 use Rattle.nr_reading.specs.declared.event.Event.TheVariants as events
 use Rattle.nr_reading.specs.declared.front.Front.TheVariants as fronts
+use Rattle.nr_reading.specs.declared.half.Half.{Half}
 use Rattle.nr_reading.specs.declared.mode.Due.TheVariants as dues
 use Rattle.nr_reading.specs.InArgument.{ending_of, IsPlain}
+use Rattle.nr_reading.specs.KeptBytes.{HasKept}
 use Rattle.nr_reading.specs.Meeting.{Met, meet, silent}
+use Rattle.nr_reading.specs.Passing as passing
 use Rattle.nr_reading.specs.Runs.{Spot, HasMet}
 use Rattle.nr_reading.proofs.Marks.{meet-mark}
 use Rattle.nr_input.specs.declared.reader.Reader.{Reader}
@@ -30,7 +33,7 @@ use Rattle.nr_input.specs.declared.told.Told.TheVariants as tells
 use Rattle.nr_input.specs.declared.refusal.Refusal.{Refusal}
 use Rattle.nr_input.specs.Acting.{Acted, expanded, is_look}
 use Rattle.nr_input.specs.Coming.{Coming, Reached, HoldsComing, element_front}
-use Rattle.nr_input.specs.Interpolations.{IsSplice}
+use Rattle.nr_input.specs.Interpolations.{HasRoom, IsSplice}
 use Rattle.nr_input.specs.Moving.{Situation, situation, met_at, move, Goes}
 use Rattle.nr_input.specs.Refusals.{called, acted, acted_by, splicing_by, splicing_answer}
 use Rattle.nr_input.specs.Runs.{HasRead, PaysAll, moves, told_last}
@@ -79,12 +82,6 @@ pub pays_nothing : {K : Type 0} (v : Stored K) (p : Reached) (r : Reader) → Pa
 pays_nothing v p r = record { limit = refl; diversions = refl; most = refl; pays = λ worth enough. omega arith; tells = refl }
 
 -- ---- a level is opened
-
--- a level of these bytes may be opened
-pub record HasRoom {K : Type 0} (bytes : List ℕ) (v : Stored K) (r : Reader) : Type 0 where
-  pub charge : charge_of v + (32 + length bytes) ≤ v.limit
-  pub depth : length v.levels < v.deepest
-  pub burst : r.burst < r.most
 
 -- what it is charged
 pub charge-reading : {K : Type 0} (bytes : List ℕ) (v : Stored K) → charge_of (reading_bytes bytes v) ≡ charge_of v + (32 + length bytes)
@@ -207,6 +204,16 @@ module _ {K : Type 0} (n m : ℕ) (bytes : List ℕ) (v w : Stored K) (r r2 : Re
         subst (λ k. PaysAll k v p r events.Nothing w p r2) same
         (pays_then 1 (m + 1) v (left_times n (reading_bytes bytes w)) w p p p r r2 r2 events.Nothing first (end_pays n bytes w r2 all due p))
 
+-- ---- the same reader
+
+module _ {K : Type 0} (n m : ℕ) (bytes : List ℕ) (v w : Stored K) (s r r2 : Reader) (e : Event) (same : s ≡ r) where
+  pub read_same : ((c : Coming) (p : Reached) (supply : Option Supply) → HoldsComing c p supply → HasRead m (situation (reading_bytes bytes v) c s) e (left_times n (reading_bytes bytes w)) r2 p supply)
+      → (c : Coming) (p : Reached) (supply : Option Supply) → HoldsComing c p supply → HasRead m (situation (reading_bytes bytes v) c r) e (left_times n (reading_bytes bytes w)) r2 p supply
+  read_same reads c p supply holds = subst (λ (x : Reader). HasRead m (situation (reading_bytes bytes v) c x) e (left_times n (reading_bytes bytes w)) r2 p supply) same (reads c p supply holds)
+
+  pub pays_same : ((p : Reached) → PaysAll m (reading_bytes bytes v) p s e (left_times n (reading_bytes bytes w)) p r2) → (p : Reached) → PaysAll m (reading_bytes bytes v) p r e (left_times n (reading_bytes bytes w)) p r2
+  pays_same pays p = subst (λ (x : Reader). PaysAll m (reading_bytes bytes v) p x e (left_times n (reading_bytes bytes w)) p r2) same (pays p)
+
 -- ---- its bytes are met
 
 module _ {K : Type 0} (m : ℕ) (bytes : List ℕ) (v : Stored K) (r : Reader) (p : Spot) (met : HasMet m (map fronts.Byte bytes) r.half p) where
@@ -223,6 +230,22 @@ module _ {K : Type 0} (m : ℕ) (bytes : List ℕ) (v : Stored K) (r : Reader) (
   pub met_within : p.taken ≤ length bytes
   met_within = omega (arith, met.within, length-map bytes fronts.Byte)
 
+-- ---- all of them are met where they lie
+
+module _ {K : Type 0} (m : ℕ) (bytes : List ℕ) (v : Stored K) (r : Reader) (new : Half) (splice : IsSplice bytes v r) (room : HasRoom bytes v r) (kept : HasKept m bytes (expanded r).half new) where
+  abbrev reader_behind : Reader
+  reader_behind = record (expanded r) { half = new }
+
+  pub kept_read : (c : Coming) (q : Reached) (supply : Option Supply) → HoldsComing c q supply → HasRead (m + 2) (situation v c r) events.Nothing v reader_behind q supply
+  kept_read =
+      let p = passing.quiet (length bytes) new in
+      whole_read (length bytes) m bytes v v r reader_behind events.Nothing splice room (met_read m bytes v (expanded r) p kept.met) (met_pays m bytes v (expanded r) p kept.met) refl refl kept.due
+
+  pub kept_pays : (q : Reached) → PaysAll (m + 2) v q r events.Nothing v q reader_behind
+  kept_pays =
+      let p = passing.quiet (length bytes) new in
+      whole_pays (length bytes) m bytes v v r reader_behind events.Nothing splice room (met_read m bytes v (expanded r) p kept.met) (met_pays m bytes v (expanded r) p kept.met) refl refl kept.due
+
 -- ---- they are added
 
 gathered_len-most : (xs : List ℕ) (g : Gathered) → gathered_len (with_bytes xs g) ≤ gathered_len g + length xs
@@ -237,7 +260,7 @@ longer-most xs (b ∷ bs) =
     let cost = λ (d : Built). weight d.text in omega (arith, sum_by-cons cost (longer xs b) bs, sum_by-cons cost b bs, length-append b.text xs)
 
 -- what they are charged
-charge-more : {K : Type 0} (t : Target) (bs : List ℕ) (v : Stored K) → charge_of (with_more t bs v) ≤ charge_of v + length bs
+pub charge-more : {K : Type 0} (t : Target) (bs : List ℕ) (v : Stored K) → charge_of (with_more t bs v) ≤ charge_of v + length bs
 charge-more Argument bs v = let most = gathered_len-most bs v.gathered in omega (arith, most)
 charge-more Text bs v = let most = longer-most (map elements.Byte bs) v.building in omega (arith, most, length-map bs elements.Byte)
 

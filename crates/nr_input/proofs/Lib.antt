@@ -1,6 +1,7 @@
 mod Due
 mod Hearing
 mod Refusals
+pub mod BegunTargets
 pub mod BodyBytes
 pub mod BodyLines
 pub mod CommentLines
@@ -23,6 +24,10 @@ pub mod PuttingRead
 pub mod Rows
 pub mod RowsRead
 pub mod Spending
+pub mod SplicesLie
 pub mod Staying
 pub mod Taking
 pub mod Targets
+pub mod TextBytes
+pub mod TextGathered
+pub mod TextLeft

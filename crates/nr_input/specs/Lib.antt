@@ -1,9 +1,11 @@
 pub mod Acting
 pub mod AtHand
+pub mod Beginnings
 pub mod BodyLines
 pub mod Coming
 pub mod CommentLines
 pub mod DroppedLines
+pub mod Gathering
 pub mod Hearing
 pub mod Interpolations
 pub mod LevelRows

@@ -7,14 +7,14 @@ ghost use Rattle.nr_store.specs.Windows.{left_times};
 ghost use Rattle.nr_reading.specs.declared.ask.Sign.TheVariants as signs;
 ghost use Rattle.nr_reading.specs.declared.mode.Due.TheVariants as dues;
 ghost use Rattle.nr_input.specs.Coming.{Coming, Reached, HoldsComing};
-ghost use Rattle.nr_input.specs.Interpolations.{IsSplice};
+ghost use Rattle.nr_input.specs.Interpolations.{IsSplice, stepping};
 ghost use Rattle.nr_input.specs.Limits.{limits_of};
 ghost use Rattle.nr_input.specs.Moving.{situation};
 ghost use Rattle.nr_input.specs.Runs.{HasRead, PaysAll, PaysMany};
 
 use super::adding::add_front;
+use super::levels::read_added;
 use super::reader::Reader;
-use super::runs::ByteRow;
 use super::target::Target;
 use nr_reading::{Due, Event, Half, Mode, Run, Sign};
 use nr_store::Store;
@@ -40,7 +40,7 @@ fn copies(half: &Half) -> bool {
 
 // The digit that is all of a number's text, where that is one of 0 to 9 in Arabic.
 #[inline(always)]
-fn lone_digit(number: i32, format: Format) -> Option<u8>
+pub(crate) fn lone_digit(number: i32, format: Format) -> Option<u8>
     ensures { IfSome result (λ digit. number_text format number ≡ digit ∷ []) }
 {
     let value = number.unsigned_abs();
@@ -56,7 +56,7 @@ fn lone_digit(number: i32, format: Format) -> Option<u8>
 impl Reader {
     // Whether a level of so many bytes may be opened, and as many bytes be stored of it before its end.
     #[inline(always)]
-    fn may_splice<K: Copy>(&self, len: usize, store: &Store<K>) -> bool
+    pub(crate) fn may_splice<K: Copy>(&self, len: usize, store: &Store<K>) -> bool
         ensures few { result ≡ true → len ≤ 64 }
         ensures burst { result ≡ true → self.now.burst < self.now.most }
         ensures charge { result ≡ true → charge_of store.now + (32 + 2 * len) ≤ store.now.limit }
@@ -68,19 +68,20 @@ impl Reader {
     // Bytes are read as those of a level that brings them: how many, and in how many moves.
     #[inline(always)]
     fn read_bytes<K: Copy>(&mut self, bytes: &[u8], store: &mut Store<K>) -> Run
+        requires few { length bytes.now ≤ 64 }
         requires room { charge_of store.old + (32 + 2 * length bytes.now) ≤ store.old.limit }
         ensures read { (c : Coming) (p : Reached) (supply : Option Supply) → HoldsComing c p supply →
             HasRead result.moves (situation (reading_bytes bytes.now store.old) c self.old) result.event (left_times result.taken (reading_bytes bytes.now store.new)) self.new p supply }
         ensures pays { (p : Reached) → PaysAll result.moves (reading_bytes bytes.now store.old) p self.old result.event (left_times result.taken (reading_bytes bytes.now store.new)) p self.new }
         ensures within { result.taken ≤ length bytes.now }
-        ensures few { result.moves ≤ 65536 }
+        ensures few { result.moves ≤ 131074 }
         ensures levels { store.new.levels ≡ store.old.levels }
         ensures deepest { store.new.deepest ≡ store.old.deepest }
         ensures room { charge_of store.new + (32 + length bytes.now) ≤ store.new.limit }
         ensures limits { limits_of store.new self.new ≡ limits_of store.old self.old }
     {
         let Some(target) = Target::of(&self.half) else {
-            return self.half.meet_run(&ByteRow(bytes));
+            return self.meet_bytes(bytes, store);
         };
         let taken = add_front(target, &self.half, store, bytes);
         Run {
@@ -97,7 +98,7 @@ impl Reader {
         requires due { IsSplice bytes.now store.old self.old }
         ensures read { (c : Coming) (p : Reached) (supply : Option Supply) → HoldsComing c p supply → HasRead result.moves (situation store.old c self.old) result.event store.new self.new p supply }
         ensures pays { (p : Reached) → PaysMany result.moves store.old p self.old result.event store.new p self.new }
-        ensures few { result.moves ≤ 65538 }
+        ensures few { result.moves ≤ 131076 }
         ensures limits { limits_of store.new self.new ≡ limits_of store.old self.old }
         ensures reader { result.moves ≡ 0 → self.new ≡ self.old }
         ensures store { result.moves ≡ 0 → store.new ≡ store.old }
@@ -110,6 +111,12 @@ impl Reader {
         }
         self.burst += 1;
         self.half.reading.due = Due::Look;
+        if let Some(moves) = self.half.keep_bytes(bytes) {
+            return Moved {
+                moves: moves + 2,
+                event: Event::Nothing,
+            };
+        }
         let run = self.read_bytes(bytes, store);
         if run.taken == bytes.len() && matches!(run.event, Event::Nothing) && self.looks() {
             return Moved {
@@ -125,13 +132,35 @@ impl Reader {
         }
     }
 
+    // The same, and where no level was opened the items in front of the newest level behind it.
+    #[inline(always)]
+    fn splice_on<K: Copy>(&mut self, bytes: &[u8], store: &mut Store<K>) -> Moved
+        requires due { IsSplice bytes.now store.old self.old }
+        ensures read { (c : Coming) (p : Reached) (supply : Option Supply) → HoldsComing c p supply → HasRead result.moves (situation store.old c self.old) result.event store.new self.new p supply }
+        ensures pays { (p : Reached) → PaysMany result.moves store.old p self.old result.event store.new p self.new }
+        ensures few { result.moves ≤ 197124 }
+        ensures limits { limits_of store.new self.new ≡ limits_of store.old self.old }
+        ensures reader { result.moves ≡ 0 → self.new ≡ self.old }
+        ensures store { result.moves ≡ 0 → store.new ≡ store.old }
+    {
+        let spliced = self.splice_read(bytes, store);
+        if spliced.moves == 0 || !matches!(spliced.event, Event::Nothing) || !self.looks() {
+            return spliced;
+        }
+        let row = read_added(self, store);
+        Moved {
+            moves: spliced.moves + row.moves,
+            event: row.event,
+        }
+    }
+
     // An argument is spliced.
     #[inline(never)]
     fn read_argument<K: Copy>(&mut self, n: u8, store: &mut Store<K>) -> Moved
         requires due { self.old.half.reading.due ≡ dues.Argument n }
         ensures read { (c : Coming) (p : Reached) (supply : Option Supply) → HoldsComing c p supply → HasRead result.moves (situation store.old c self.old) result.event store.new self.new p supply }
         ensures pays { (p : Reached) → PaysMany result.moves store.old p self.old result.event store.new p self.new }
-        ensures few { result.moves ≤ 65538 }
+        ensures few { result.moves ≤ 197124 }
         ensures limits { limits_of store.new self.new ≡ limits_of store.old self.old }
         ensures reader { result.moves ≡ 0 → self.new ≡ self.old }
         ensures store { result.moves ≡ 0 → store.new ≡ store.old }
@@ -146,7 +175,7 @@ impl Reader {
         }
         let mut chunk = [0; LONGEST];
         chunk[..len].copy_from_slice(bytes);
-        self.splice_read(&chunk[..len], store)
+        self.splice_on(&chunk[..len], store)
     }
 
     // A register is spliced.
@@ -155,17 +184,35 @@ impl Reader {
         requires due { self.old.half.reading.due ≡ dues.Register signs.None }
         ensures read { (c : Coming) (p : Reached) (supply : Option Supply) → HoldsComing c p supply → HasRead result.moves (situation store.old c self.old) result.event store.new self.new p supply }
         ensures pays { (p : Reached) → PaysMany result.moves store.old p self.old result.event store.new p self.new }
-        ensures few { result.moves ≤ 65538 }
+        ensures few { result.moves ≤ 197124 }
         ensures limits { limits_of store.new self.new ≡ limits_of store.old self.old }
         ensures reader { result.moves ≡ 0 → self.new ≡ self.old }
         ensures store { result.moves ≡ 0 → store.new ≡ store.old }
     {
         let register = store.register(self.half.notes.asked);
         if let Some(digit) = lone_digit(register.value, register.format) {
-            return self.splice_read(&[digit], store);
+            return self.splice_on(&[digit], store);
         }
         let text = format_number(i64::from(register.value), register.format);
-        self.splice_read(text.as_slice(), store)
+        self.splice_on(text.as_slice(), store)
+    }
+
+    // A register's step is added or taken away, and the register is spliced.
+    #[inline(never)]
+    fn read_stepped<K: Copy>(&mut self, up: bool, store: &mut Store<K>) -> Moved
+        requires due { self.old.half.reading.due ≡ dues.Register (stepping up) }
+        ensures read { (c : Coming) (p : Reached) (supply : Option Supply) → HoldsComing c p supply → HasRead result.moves (situation store.old c self.old) result.event store.new self.new p supply }
+        ensures pays { (p : Reached) → PaysMany result.moves store.old p self.old result.event store.new p self.new }
+        ensures few { result.moves ≤ 197125 }
+        ensures some { 0 < result.moves }
+        ensures limits { limits_of store.new self.new ≡ limits_of store.old self.old }
+    {
+        let _ = self.step(up, store);
+        let spliced = self.read_register(store);
+        Moved {
+            moves: spliced.moves + 1,
+            event: spliced.event,
+        }
     }
 
     /// An argument or a register is spliced where that is due and bytes are copied, and read. No move where that is not due or a limit
@@ -174,7 +221,7 @@ impl Reader {
     pub(crate) fn interpolate_at_once<K: Copy>(&mut self, store: &mut Store<K>) -> Moved
         ensures read { (c : Coming) (p : Reached) (supply : Option Supply) → HoldsComing c p supply → HasRead result.moves (situation store.old c self.old) result.event store.new self.new p supply }
         ensures pays { (p : Reached) → PaysMany result.moves store.old p self.old result.event store.new p self.new }
-        ensures few { result.moves ≤ 65538 }
+        ensures few { result.moves ≤ 197125 }
         ensures limits { limits_of store.new self.new ≡ limits_of store.old self.old }
         ensures reader { result.moves ≡ 0 → self.new ≡ self.old }
         ensures store { result.moves ≡ 0 → store.new ≡ store.old }
@@ -183,6 +230,8 @@ impl Reader {
         match due {
             Due::Argument(n) if copies(&self.half) => self.read_argument(n, store),
             Due::Register(Sign::None) if copies(&self.half) => self.read_register(store),
+            Due::Register(Sign::Plus) if copies(&self.half) => self.read_stepped(true, store),
+            Due::Register(Sign::Minus) if copies(&self.half) => self.read_stepped(false, store),
             _ => Moved {
                 moves: 0,
                 event: Event::Nothing,

@@ -31,7 +31,7 @@ struct Met {
 }
 
 /// Items in a row, of which those in front can be left out.
-trait Tail: Items + Copy {
+pub(crate) trait Tail: Items + Copy {
     /// What is behind so many items.
     fn behind(self, n: usize) -> Self
         requires { n ≤ length (Self.fronts self) }

@@ -3,17 +3,19 @@
 //!
 //! It stands on nr_units, nr_pool, nr_levels, nr_tables, nr_store and nr_reading. To read: `refusal`, `told`;
 //! `place`, `reader`; `acting`, `moving`; `splicing`, `setting`; then many moves at once: `at_hand`, `target`,
-//! `adding`, `runs`, `level_lines`, `level_rows`, `interpolations`, `levels`, `macro_lines`, `body_lines`,
+//! `adding`, `runs`, `level_lines`, `level_rows`, `beginnings`, `interpolations`, `levels`, `macro_lines`, `body_lines`,
 //! `comment_lines`, `dropped_lines`, `control_lines`.
 #![tactic(auto)]
 
 mod acting;
 mod adding;
 mod at_hand;
+mod beginnings;
 mod body_lines;
 mod comment_lines;
 mod control_lines;
 mod dropped_lines;
+mod gathering;
 mod interpolations;
 mod level_lines;
 mod level_rows;
@@ -25,6 +27,7 @@ mod reader;
 mod refusal;
 mod runs;
 mod setting;
+mod splices;
 mod splicing;
 mod target;
 mod told;
@@ -33,6 +36,7 @@ pub use at_hand::{take_window, window};
 pub use body_lines::read_body_lines;
 pub use control_lines::{read_control_line, read_next};
 pub use dropped_lines::read_dropped_line;
+pub use gathering::{Gathered, gather, leave};
 pub use interpolations::Moved;
 pub use levels::read_levels;
 pub use moving::advance;
