@@ -30,7 +30,7 @@ use Rattle.nr_engine.proofs.Travelling.{in_place-add, in_place-none}
 -- what differs is put in
 pub further_is : (f : Formatter) (v : Stored Resume) (r : Reader) → IsFurther f v r
     → record f {
-      store = record f.store { levels = v.levels; texts = v.texts };
+      store = record f.store { levels = v.levels; texts = v.texts; arguments = v.arguments };
       reader = record f.reader { half = record f.reader.half { notes = record f.reader.half.notes { asked = r.half.notes.asked } }; burst = r.burst };
     } ≡ with_read v r f
 further_is f v r is =
@@ -47,21 +47,21 @@ further_here f = record { stored = refl; reader = refl }
 -- another formatter has the same
 pub further_of : (f g : Formatter) (v : Stored Resume) (r : Reader) → g.store ≡ f.store → g.reader ≡ f.reader → IsFurther f v r → IsFurther g v r
 further_of f g v r store reader is = record {
-  stored = is.stored ∙ ap (λ (x : Stored Resume). record x { levels = v.levels; texts = v.texts }) (sym store);
+  stored = is.stored ∙ ap (λ (x : Stored Resume). record x { levels = v.levels; texts = v.texts; arguments = v.arguments }) (sym store);
   reader = is.reader ∙ ap (λ (x : Reader). record x { half = record x.half { notes = record x.half.notes { asked = r.half.notes.asked } }; burst = r.burst }) (sym reader);
 }
 
 -- behind moves that lead to more
 pub further_led : (f : Formatter) (n : ℕ) (v : Stored Resume) (r : Reader) (w : Stored Resume) (q : Reader) → IsFurther f v r → LeadsInText n v r w q → IsFurther f w q
 further_led f n v r w q is leads = record {
-  stored = leads.stored ∙ ap (λ (x : Stored Resume). record x { levels = w.levels; texts = w.texts }) is.stored;
+  stored = leads.stored ∙ ap (λ (x : Stored Resume). record x { levels = w.levels; texts = w.texts; arguments = w.arguments }) is.stored;
   reader = leads.reader ∙ ap (λ (x : Reader). record x { half = record x.half { notes = record x.half.notes { asked = q.half.notes.asked } }; burst = q.burst }) is.reader;
 }
 
 -- behind a byte
 further_left : (f : Formatter) (v : Stored Resume) (r : Reader) → IsFurther f v r → IsFurther f (run_left 1 v) r
 further_left f v r is = record {
-  stored = ap (λ (x : Stored Resume). record x { levels = levels_behind 1 v.levels; texts = v.texts }) is.stored;
+  stored = ap (λ (x : Stored Resume). record x { levels = levels_behind 1 v.levels; texts = v.texts; arguments = v.arguments }) is.stored;
   reader = is.reader;
 }
 

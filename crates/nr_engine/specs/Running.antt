@@ -118,10 +118,10 @@ pub record PutsText (bs : List ℕ) (taken moves : ℕ) (f g : Formatter) : Type
 abbrev pub with_read : StoredOf Resume → Reader → Formatter → Formatter
 with_read v r f = record f { store = v; reader = r }
 
--- Of what the formatter stores and reads only the levels and their texts are others here, the name that was asked for last, and how often
--- was spliced.
+-- Of what the formatter stores and reads only the levels and their texts are others here, the arguments in force, the name that was asked
+-- for last, and how often was spliced.
 pub record IsFurther (f : Formatter) (v : StoredOf Resume) (r : Reader) : Type 0 where
-  pub stored : v ≡ record f.store { levels = v.levels; texts = v.texts }
+  pub stored : v ≡ record f.store { levels = v.levels; texts = v.texts; arguments = v.arguments }
   pub reader : r ≡ record f.reader { half = record f.reader.half { notes = record f.reader.half.notes { asked = r.half.notes.asked } }; burst = r.burst }
 
 -- Wherever these bytes come of levels, with moves that lead to each, they lead from one formatter to the other, in so many moves besides

@@ -1,6 +1,6 @@
 //! Requests that only set, acted on as soon as their line was read: many moves at once.
-ghost use Rattle.std.specs.Prelude.{◌≡◌, true};
-ghost use Rattle.nr_formatter.specs.Obeying.{only_sets, breaks_first, breaks_idly, may_obey, obeyed, moves_obeying};
+ghost use Rattle.std.specs.Prelude.{◌≡◌, true, false};
+ghost use Rattle.nr_formatter.specs.Obeying.{only_sets, is_nr, breaks_first, breaks_idly, may_obey, obeyed, moves_obeying};
 ghost use Rattle.nr_formatter.specs.Requests.{act};
 
 use crate::formatter::Formatter;
@@ -23,6 +23,7 @@ fn only_sets(request: Request) -> bool
             | Request::Ft
             | Request::Hy
             | Request::In
+            | Request::It
             | Request::Lc
             | Request::Ll
             | Request::Lt
@@ -42,6 +43,14 @@ fn only_sets(request: Request) -> bool
     )
 }
 
+/// `.nr`, which only sets, and may be refused.
+#[inline]
+fn is_nr(request: Request) -> bool
+    ensures { result ≡ is_nr request }
+{
+    matches!(request, Request::Nr)
+}
+
 impl Formatter {
     /// Such a request takes effect.
     #[inline(never)]
@@ -56,6 +65,7 @@ impl Formatter {
             Request::Ft => self.ft(),
             Request::Hy => self.hy(),
             Request::In => self.in_(),
+            Request::It => self.it(),
             Request::Lc => self.lc(),
             Request::Ll => self.ll(),
             Request::Lt => self.lt(),
@@ -94,18 +104,41 @@ impl Formatter {
         self.line.is_empty() && !self.begins_first_page(Then::Act(request))
     }
 
-    /// Whether no macro springs, and all that the request does is to set.
+    /// Whether no macro springs, and all that the request does is to set, never refused.
     #[inline]
-    fn may_obey(&self, request: Request, breaks: bool) -> bool
+    fn sets_freely(&self, request: Request, breaks: bool) -> bool
         requires request { request ≡ self.now.reader.request }
         requires breaks { breaks ≡ breaks_first self.now }
-        ensures may { result ≡ may_obey self.now }
+        ensures may { result ≡ true → may_obey self.now ≡ true }
         ensures sets { result ≡ true → only_sets request ≡ true }
+        ensures other { is_nr request ≡ false → result ≡ may_obey self.now }
     {
         self.springs.is_none() && (only_sets(request) && (!breaks || self.breaks_idly(request)))
     }
 
-    /// The request whose line was read takes effect, if it only sets and its break does nothing. Tells how many moves that was.
+    /// `.nr` takes effect, if no macro springs and it is not refused. Tells how many moves that was.
+    #[inline(never)]
+    fn obey_nr(&mut self) -> u32
+        requires request { is_nr self.old.reader.request ≡ true }
+        ensures moves { result ≡ moves_obeying self.old }
+        ensures is { self.new ≡ obeyed self.old }
+    {
+        if self.springs.is_some() {
+            return 0;
+        }
+        let (event, task) = (self.event, self.task);
+        self.event = Event::Nothing;
+        self.task = Task::Act(Request::Nr);
+        if self.nr().is_err() {
+            self.event = event;
+            self.task = task;
+            return 0;
+        }
+        2
+    }
+
+    /// The request whose line was read takes effect, if it only sets, is not refused, and its break does nothing. Tells how many
+    /// moves that was.
     #[inline]
     pub fn obey(&mut self) -> u32
         ensures moves { result ≡ moves_obeying self.old }
@@ -113,8 +146,8 @@ impl Formatter {
     {
         let request = self.reader.request();
         let breaks = self.breaks_first(request);
-        if !self.may_obey(request, breaks) {
-            return 0;
+        if !self.sets_freely(request, breaks) {
+            return if is_nr(request) { self.obey_nr() } else { 0 };
         }
         self.event = Event::Nothing;
         self.task = Task::Act(request);

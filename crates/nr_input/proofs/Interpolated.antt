@@ -8,7 +8,7 @@ use Rattle.std.proofs.lemmas.List.Sums.{sum_by-cons}
 use Rattle.nr_units.specs.Supply.{Supply}
 use Rattle.nr_levels.specs.Gathered.{Gathered, gathered_len, with_bytes}
 use Rattle.nr_levels.specs.Laws.{with_bytes-full, with_bytes-more}
-use Rattle.nr_store.specs.Stored.{Stored, Built, Level, Read, charge_of, checked, level_charge, text_charge, own_text, reading_bytes, weight, longer, on_newest}
+use Rattle.nr_store.specs.Stored.{Stored, Built, Level, Read, Shared, charge_of, checked, level_charge, text_charge, own_text, reading, reading_bytes, weight, longer, on_newest}
 use Rattle.nr_store.specs.Windows.{rest_of, left_times}
 use Rattle.nr_store.specs.Laws.{left_times-run}
 use Rattle.nr_store.specs.declared.element.Element.{Element}
@@ -89,34 +89,35 @@ charge-reading {K} bytes v =
     let level : Level K = Read (record { rest = map elements.Byte bytes; old = v.arguments; charge = 32 + length bytes; resume = None }) in
     omega (arith, sum_by-cons level_charge level v.levels, sum_by-cons text_charge own_text v.texts)
 
-abbrev opening : Bool → Bool → Result (Unit {0}) stored.Refusal
-opening charged deep = if charged then Err stores.Stored else (if deep then Err stores.Depth else Ok tt)
-
 -- whether it is, by the tests that it meets
 allowed : (charged deep : Bool) (r : Reader) → charged ≡ false → deep ≡ false → nat_le r.most r.burst ≡ false
     → splicing_by (if charged then Err stores.Stored else (if deep then Err stores.Depth else Ok true)) r ≡ Ok tt
 allowed charged deep r few shallow less = rw (few, shallow, less) refl
 
+pub splicing-fits : {K : Type 0} (w : Stored K) (r : Reader) → charge_of w ≤ w.limit → length w.levels ≤ w.deepest → r.burst < r.most → splicing_answer true w r ≡ Ok tt
+splicing-fits w r charge depth burst =
+    allowed (nat_lt w.limit (charge_of w)) (nat_lt w.deepest (length w.levels)) r (le-ltb w.limit (charge_of w) charge) (le-ltb w.deepest (length w.levels) depth) (lt-leb r.most r.burst burst)
+
 pub splicing-allowed : {K : Type 0} (bytes : List ℕ) (v : Stored K) (r : Reader) → HasRoom bytes v r → splicing_answer true (reading_bytes bytes v) r ≡ Ok tt
 splicing-allowed bytes v r room =
-    let w = reading_bytes bytes v in
     let is = charge-reading bytes v in
     let charge = room.charge in
     let depth = room.depth in
-    allowed (nat_lt w.limit (charge_of w)) (nat_lt w.deepest (length w.levels)) r (le-ltb w.limit (charge_of w) (omega (arith, is, charge))) (le-ltb w.deepest (length w.levels) (omega (arith, depth)))
-    (lt-leb r.most r.burst room.burst)
+    splicing-fits (reading_bytes bytes v) r (omega (arith, is, charge)) (omega (arith, depth)) room.burst
 
 -- the same, as the program opens it
-opens_by : (charged deep : Bool) → charged ≡ false → deep ≡ false → opening charged deep ≡ Ok tt
-opens_by charged deep few shallow = rw (few, shallow) refl
+opens_by : {X : Type 0} (charged deep : Bool) (x : X) → charged ≡ false → deep ≡ false → (if charged then Err stores.Stored else (if deep then Err stores.Depth else Ok x)) ≡ Ok x
+opens_by charged deep x few shallow = rw (few, shallow) refl
+
+pub checked-ok : {K X : Type 0} (y : Stored K) (x : X) → charge_of y ≤ y.limit → length y.levels ≤ y.deepest → checked y x ≡ Ok x
+checked-ok y x charge depth = opens_by (nat_lt y.limit (charge_of y)) (nat_lt y.deepest (length y.levels)) x (le-ltb y.limit (charge_of y) charge) (le-ltb y.deepest (length y.levels) depth)
 
 pub entered_bytes : {K : Type 0} (bytes : List ℕ) (w u : Stored K) (x : Result (Unit {0}) stored.Refusal) → charge_of w + (32 + length bytes) ≤ w.limit → length w.levels < w.deepest
     → x ≡ checked (reading_bytes bytes w) tt → OnOk x (u ≡ reading_bytes bytes w) → u ≡ reading_bytes bytes w
 entered_bytes bytes w u x charge depth is ok =
     let y = reading_bytes bytes w in
     let charged = charge-reading bytes w in
-    let opens : checked y tt ≡ Ok tt =
-    opens_by (nat_lt y.limit (charge_of y)) (nat_lt y.deepest (length y.levels)) (le-ltb y.limit (charge_of y) (omega (arith, charged, charge))) (le-ltb y.deepest (length y.levels) (omega (arith, depth))) in
+    let opens : checked y tt ≡ Ok tt = checked-ok y tt (omega (arith, charged, charge)) (omega (arith, depth)) in
     subst (λ (z : Result (Unit {0}) stored.Refusal). OnOk z (u ≡ y)) (is ∙ opens) ok
 
 module _ {K : Type 0} (bytes : List ℕ) (v : Stored K) (r : Reader) (splice : IsSplice bytes v r) (room : HasRoom bytes v r) where
@@ -134,45 +135,52 @@ module _ {K : Type 0} (bytes : List ℕ) (v : Stored K) (r : Reader) (splice : I
 
 -- ---- its end is taken
 
--- all of the text was read
-all_left : {K : Type 0} (n : ℕ) (bytes : List ℕ) (v : Stored K) → n ≡ length bytes
-    → left_times n (reading_bytes bytes v) ≡ record (reading_bytes bytes v) { levels = Read (record { rest = []; old = v.arguments; charge = 32 + length bytes; resume = None }) ∷ v.levels }
-all_left {K} n bytes v all =
-    let few : n ≤ length (rest_of (reading_bytes bytes v).levels) = omega (arith, all, length-map bytes elements.Byte) in
-    let none : drop n (map elements.Byte bytes) ≡ [] = drop_all n (map elements.Byte bytes) (omega (arith, all, length-map bytes elements.Byte)) in
-    left_times-run n (reading_bytes bytes v) few
-    ∙ ap (λ (xs : List Element). let l : Level K = Read (record { rest = xs; old = v.arguments; charge = 32 + length bytes; resume = None }) in record (reading_bytes bytes v) { levels = l ∷ v.levels }) none
+-- with a level of bytes, whatever is in force in it and it is charged
+abbrev pub level_of : {K : Type 0} → List ℕ → List (List ℕ) → ℕ → Shared → Stored K → Stored K
+level_of bytes arguments charge shared v = reading (map elements.Byte bytes) arguments charge None shared v
 
-module _ {K : Type 0} (n : ℕ) (bytes : List ℕ) (v : Stored K) (r : Reader) (all : n ≡ length bytes) (due : r.half.reading.due ≡ dues.Look) where
+module _ {K : Type 0} (n : ℕ) (bytes : List ℕ) (arguments : List (List ℕ)) (charge : ℕ) (shared : Shared) (v : Stored K) (all : n ≡ length bytes) where
+  abbrev level : Stored K
+  level = level_of bytes arguments charge shared v
+
   abbrev emptied : Stored K
-  emptied = record (reading_bytes bytes v) { levels = Read (record { rest = []; old = v.arguments; charge = 32 + length bytes; resume = None }) ∷ v.levels }
+  emptied = record level { levels = Read (record { rest = []; old = v.arguments; charge = charge; resume = None }) ∷ v.levels }
 
-  end_taken : (c : Coming) → move (situation emptied c r) ≡ quiet (situation v c r)
-  end_taken c =
-      let s = situation emptied c r in
-      let looks : move s ≡ met_at (meet fronts.Mark r.half) s = rw due refl in
-      let taken : met_at (silent r.half) s ≡ quiet (situation v c r) = rw (eq-eqb c.taken c.taken refl) refl in
-      looks ∙ ap (λ (m : Met). met_at m s) (meet-mark r.half) ∙ taken
+  -- all of the text was read
+  all_left : left_times n level ≡ emptied
+  all_left =
+      let few : n ≤ length (rest_of level.levels) = omega (arith, all, length-map bytes elements.Byte) in
+      let none : drop n (map elements.Byte bytes) ≡ [] = drop_all n (map elements.Byte bytes) (omega (arith, all, length-map bytes elements.Byte)) in
+      left_times-run n level few
+      ∙ ap (λ (xs : List Element). let l : Level K = Read (record { rest = xs; old = v.arguments; charge = charge; resume = None }) in record level { levels = l ∷ v.levels }) none
 
-  end_goes : (c : Coming) → Goes (situation emptied c r)
-  end_goes c = rw due tt
+  module _ (r : Reader) (due : r.half.reading.due ≡ dues.Look) where
+    end_taken : (c : Coming) → move (situation emptied c r) ≡ quiet (situation v c r)
+    end_taken c =
+        let s = situation emptied c r in
+        let looks : move s ≡ met_at (meet fronts.Mark r.half) s = rw due refl in
+        let taken : met_at (silent r.half) s ≡ quiet (situation v c r) = rw (eq-eqb c.taken c.taken refl) refl in
+        looks ∙ ap (λ (m : Met). met_at m s) (meet-mark r.half) ∙ taken
 
-  pub end_quietly : (c : Coming) → Quietly 1 (situation (left_times n (reading_bytes bytes v)) c r) (situation v c r)
-  end_quietly c =
-      subst (λ (w : Stored K). Quietly 1 (situation w c r) (situation v c r)) (sym (all_left n bytes v all))
-      (one_more 0 (situation emptied c r) (situation emptied c r) (situation v c r) (no_moves (situation emptied c r)) (end_goes c) (end_taken c))
+    end_goes : (c : Coming) → Goes (situation emptied c r)
+    end_goes c = rw due tt
 
-  pub end_pays : (q : Reached) → PaysAll 1 (left_times n (reading_bytes bytes v)) q r events.Nothing v q r
-  end_pays q =
-      let level : Level K = Read (record { rest = []; old = v.arguments; charge = 32 + length bytes; resume = None }) in
-      subst (λ (w : Stored K). PaysAll 1 w q r events.Nothing v q r) (sym (all_left n bytes v all))
-      (record {
-        limit = refl;
-        diversions = refl;
-        most = refl;
-        pays = λ worth enough. omega (arith, sum_by-cons items_in level v.levels);
-        tells = refl;
-      })
+    pub end_quietly : (c : Coming) → Quietly 1 (situation (left_times n level) c r) (situation v c r)
+    end_quietly c =
+        subst (λ (w : Stored K). Quietly 1 (situation w c r) (situation v c r)) (sym all_left)
+        (one_more 0 (situation emptied c r) (situation emptied c r) (situation v c r) (no_moves (situation emptied c r)) (end_goes c) (end_taken c))
+
+    pub end_pays : (q : Reached) → PaysAll 1 (left_times n level) q r events.Nothing v q r
+    end_pays q =
+        let ended : Level K = Read (record { rest = []; old = v.arguments; charge = charge; resume = None }) in
+        subst (λ (w : Stored K). PaysAll 1 w q r events.Nothing v q r) (sym all_left)
+        (record {
+          limit = refl;
+          diversions = refl;
+          most = refl;
+          pays = λ worth enough. omega (arith, sum_by-cons items_in ended v.levels);
+          tells = refl;
+        })
 
 -- ---- a level is opened, its bytes are read, and its end is taken, or not
 
@@ -194,7 +202,7 @@ module _ {K : Type 0} (n m : ℕ) (bytes : List ℕ) (v w : Stored K) (r r2 : Re
         let same : 1 + (m + 1) ≡ m + 2 = omega arith in
         subst (λ k. HasRead k (situation v c r) events.Nothing w r2 p supply) same
         (has_read_quietly (1 + (m + 1)) (situation v c r) (situation w led.coming r2) w r2 p supply
-        (quietly_add 1 (m + 1) (situation v c r) (situation (left_times n (reading_bytes bytes w)) led.coming r2) (situation w led.coming r2) led.quietly (end_quietly n bytes w r2 all due led.coming))
+        (quietly_add 1 (m + 1) (situation v c r) (situation (left_times n (reading_bytes bytes w)) led.coming r2) (situation w led.coming r2) led.quietly (end_quietly n bytes w.arguments (32 + length bytes) own_text w all r2 due led.coming))
         (record { stored = refl; reader = refl; coming = led.holds }))
 
     pub whole_pays : (p : Reached) → PaysAll (m + 2) v p r events.Nothing w p r2
@@ -202,7 +210,7 @@ module _ {K : Type 0} (n m : ℕ) (bytes : List ℕ) (v w : Stored K) (r r2 : Re
         let first = subst (λ (x : Event). PaysAll (m + 1) v p r x (left_times n (reading_bytes bytes w)) p r2) told (spliced_pays p) in
         let same : 1 + (m + 1) ≡ m + 2 = omega arith in
         subst (λ k. PaysAll k v p r events.Nothing w p r2) same
-        (pays_then 1 (m + 1) v (left_times n (reading_bytes bytes w)) w p p p r r2 r2 events.Nothing first (end_pays n bytes w r2 all due p))
+        (pays_then 1 (m + 1) v (left_times n (reading_bytes bytes w)) w p p p r r2 r2 events.Nothing first (end_pays n bytes w.arguments (32 + length bytes) own_text w all r2 due p))
 
 -- ---- the same reader
 

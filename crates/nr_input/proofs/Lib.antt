@@ -31,3 +31,4 @@ pub mod Targets
 pub mod TextBytes
 pub mod TextGathered
 pub mod TextLeft
+pub mod TextOpened

@@ -1,19 +1,17 @@
 -- Bytes of a text line that come one after another, with what is spliced between them.
 use Rattle.std.specs.Prelude.{slice_get, slice_index}
-use Rattle.std.proofs.Common.{◌≡◌, ℕ, zero, suc, ◌+◌, ◌<◌, ◌≤◌, Bool, true, false, List, [], ◌∷◌, ◌++◌, length, drop, Option, None, Some, refl, ap, sym, ◌∙◌, subst, arith}
+use Rattle.std.proofs.Common.{◌≡◌, ℕ, zero, suc, ◌+◌, ◌<◌, ◌≤◌, Bool, true, false, List, [], ◌∷◌, ◌++◌, length, drop, None, Some, refl, ap, sym, ◌∙◌, subst, arith}
 use Rattle.std.proofs.lemmas.List.{append_assoc, append-nil}
-use Rattle.nr_units.specs.Supply.{Supply}
-use Rattle.nr_store.specs.Stored.{Stored, Level, Read, Reading, Mark, charge_of, left, left_of, shown, shown_of}
+use Rattle.nr_store.specs.Stored.{Stored, Level, Read, Reading, Mark, left, left_of, shown, shown_of}
 use Rattle.nr_store.specs.Windows.{rest_of, left_times}
 use Rattle.nr_store.specs.declared.element.Element.{Element}
 use Rattle.nr_store.specs.declared.element.Element.TheVariants as elements
 use Rattle.nr_store.specs.declared.shown.Shown.TheVariants as shows
 use Rattle.nr_reading.specs.declared.event.Event.TheVariants as events
 use Rattle.nr_input.specs.declared.reader.Reader.{Reader}
-use Rattle.nr_input.specs.Coming.{Coming, Reached, HoldsComing}
 use Rattle.nr_input.specs.Gathering.{LeadsInText, Brings, Leaves}
 use Rattle.nr_input.specs.Moving.{situation}
-use Rattle.nr_input.specs.Runs.{HasRead, PaysAll}
+use Rattle.nr_input.specs.Runs.{PaysAll}
 use Rattle.nr_input.proofs.ControlLines.{pays_then}
 use Rattle.nr_input.proofs.Interpolated.{pays_nothing, read_then}
 use Rattle.nr_input.proofs.LevelRows.{rest-left_times}
@@ -39,7 +37,7 @@ leads_add m n v w x r q s first second =
     record {
       reads = λ c p supply holds. read_then n m (situation v c r) events.Nothing w x q s p p supply supply (first.reads c p supply holds) (λ d here. second.reads d p supply here);
       pays = λ p. subst (λ k. PaysAll k v p r events.Nothing x p s) same (pays_then n m v w x p p p r q s events.Nothing (first.pays p) (second.pays p));
-      stored = second.stored ∙ ap (λ (y : Stored _). record y { levels = x.levels; texts = x.texts }) first.stored;
+      stored = second.stored ∙ ap (λ (y : Stored _). record y { levels = x.levels; texts = x.texts; arguments = x.arguments }) first.stored;
       reader = second.reader ∙ ap (λ (y : Reader). record y { half = record y.half { notes = record y.half.notes { asked = s.half.notes.asked } }; burst = s.burst }) first.reader;
       charge = λ fits. second.charge (first.charge fits);
       depth = λ fits. second.depth (first.depth fits);

@@ -1,15 +1,14 @@
 -- What is gathered of a text line, as moves of the machine that reads.
 use Rattle.std.specs.Prelude.{map, slice_get, slice_index}
 use Rattle.std.specs.Option.{option_map}
-use Rattle.std.proofs.Common.{◌≡◌, ℕ, zero, suc, ◌+◌, ◌-◌, ◌*◌, ◌<◌, ◌≤◌, Bool, true, false, List, [], ◌∷◌, ◌++◌, length, take, drop, get_or, Option, None, Some, inl, inr, refl, ap, ap₂, sym, ◌∙◌, subst, length-append, length-drop, arith}
+use Rattle.std.proofs.Common.{◌≡◌, ℕ, zero, suc, ◌+◌, ◌-◌, ◌*◌, ◌<◌, ◌≤◌, true, List, [], ◌∷◌, ◌++◌, length, take, drop, get_or, Option, None, Some, inl, inr, refl, ap, ap₂, sym, ◌∙◌, subst, length-append, length-drop, arith, Bool, false}
 use Rattle.std.proofs.Math.Seq.{take-append_seam, drop-append_seam}
 use Rattle.std.proofs.lemmas.Bool.{cases_lt}
 use Rattle.std.proofs.lemmas.List.{drop-append-le, get_or_append_left, get_or-append-add, length-map, length-take, length-take-le, take-append-le, take_all}
 use Rattle.std.proofs.lemmas.Option.{slice_get-get_or, slice_get-map, slice_get_past, slice_get_within}
-use Rattle.nr_units.specs.Supply.{Supply}
 use Rattle.nr_levels.specs.Levels.{argument}
 use Rattle.nr_tables.specs.Named.{find}
-use Rattle.nr_store.specs.Stored.{Stored, Level, Read, Mark, charge_of, reading_bytes, register_of}
+use Rattle.nr_store.specs.Stored.{Stored, Level, Read, Mark, charge_of, register_of, words}
 use Rattle.nr_store.specs.Windows.{rest_of, left_times, levels_behind, run_left}
 use Rattle.nr_store.specs.Laws.{left_times-run}
 use Rattle.nr_store.specs.declared.element.Element.{Element}
@@ -22,33 +21,37 @@ use Rattle.nr_reading.specs.declared.half.Half.{Half}
 use Rattle.nr_reading.specs.declared.mode.Due.{Due}
 use Rattle.nr_reading.specs.declared.mode.Due.TheVariants as dues
 use Rattle.nr_reading.specs.Interpolations.{AsksOnly}
-use Rattle.nr_reading.specs.Runs.{Spot, HasMet}
+use Rattle.nr_reading.specs.Runs.{HasMet}
 use Rattle.nr_input.specs.declared.gathering.Gathered.{Gathered}
 use Rattle.nr_input.specs.declared.reader.Reader.{Reader}
 use Rattle.nr_input.specs.declared.splices.Splice.{Splice}
 use Rattle.nr_input.specs.Acting.{expanded, register_text}
-use Rattle.nr_input.specs.Coming.{Coming, Reached, HoldsComing, element_front}
+use Rattle.nr_input.specs.Coming.{element_front}
 use Rattle.nr_input.specs.Gathering.{AreBytes, AreGathered, AreItems, EndsRun, IsGathering, IsSpliced, LeadsInText, Leaves, StopsGathering, bytes_before, last_asked, own_bytes, passed, spliced}
-use Rattle.nr_input.specs.Interpolations.{HasRoom, IsSplice, MaySplice}
+use Rattle.nr_input.specs.Interpolations.{HasRoom, MaySplice, OpensLevel, brings_text, opened, opened_due}
 use Rattle.nr_input.specs.Moving.{situation}
 use Rattle.nr_input.specs.Runs.{PaysAll}
 use Rattle.nr_input.proofs.ControlLines.{pays_then}
-use Rattle.nr_input.proofs.Interpolated.{charge-reading, end_pays, end_quietly, opened_pays, opened_quietly, read_then}
+use Rattle.nr_input.proofs.Interpolated.{read_then}
 use Rattle.nr_input.proofs.LevelRows.{left_times-add, rest-left_times, row_behind}
 use Rattle.nr_input.proofs.Putting.{has_read_quietly}
 use Rattle.nr_input.proofs.PuttingLevel.{charge-behind}
 use Rattle.nr_input.proofs.RowsRead.{level_read, level_pays, taken-le}
 use Rattle.nr_input.proofs.SplicesLie.{last_asked-more}
 use Rattle.nr_input.proofs.TextBytes.{AreNext, leaves_all, leaves_nothing, leaves_on, slice_get-drop}
+use Rattle.nr_input.proofs.TextOpened.{charge-opened, deepest-opened, depth-opened, ended_leads, limit-opened, opens_pays, opens_quietly, stored-opened}
 use Rattle.nr_input.proofs.TextLeft.{next_within, own_next, spliced_none, take_split}
 
 -- ---- what is to be spliced
 
-pub argument_splice : {K : Type 0} (n : ℕ) (bytes : List ℕ) (v : Stored K) (r : Reader) → r.half.reading.due ≡ dues.Argument n → bytes ≡ argument v.arguments n → IsSplice bytes v r
-argument_splice n bytes v r due is = record { waits = rw due refl; acts = rw (due, is) refl; answers = rw (due, is) refl }
+pub argument_splice : {K : Type 0} (n : ℕ) (bytes : List ℕ) (v : Stored K) (r : Reader) → r.half.reading.due ≡ dues.Argument n → bytes ≡ argument v.arguments n → OpensLevel bytes v r
+argument_splice n bytes v r due is = record { waits = rw due refl; acts = rw (due, is) refl; answers = rw (due, is) refl; text = λ wrong. absurd (let no : false ≡ true = sym (ap brings_text due) ∙ wrong in cc) }
 
-pub register_splice : {K : Type 0} (bytes : List ℕ) (v : Stored K) (r : Reader) → r.half.reading.due ≡ dues.Register signs.None → bytes ≡ register_text (register_of (find r.half.notes.asked v.registers)) → IsSplice bytes v r
-register_splice bytes v r due is = record { waits = rw due refl; acts = rw (due, is) refl; answers = rw (due, is) refl }
+pub register_splice : {K : Type 0} (bytes : List ℕ) (v : Stored K) (r : Reader) → r.half.reading.due ≡ dues.Register signs.None → bytes ≡ register_text (register_of (find r.half.notes.asked v.registers)) → OpensLevel bytes v r
+register_splice bytes v r due is = record { waits = rw due refl; acts = rw (due, is) refl; answers = rw (due, is) refl; text = λ wrong. absurd (let no : false ≡ true = sym (ap brings_text due) ∙ wrong in cc) }
+
+pub string_splice : {K : Type 0} (bytes : List ℕ) (v : Stored K) (r : Reader) → r.half.reading.due ≡ dues.Splice → words (find r.half.notes.asked v.names) ≡ Some (map elements.Byte bytes) → OpensLevel bytes v r
+string_splice bytes v r due is = record { waits = rw due refl; acts = rw (due, is) refl; answers = rw (due, is) refl; text = λ named. is }
 
 depth-behind : {K : Type 0} (n : ℕ) (levels : List (Level K)) → length (levels_behind n levels) ≡ length levels
 depth-behind n [] = refl
@@ -65,6 +68,9 @@ module _ {K : Type 0} (n : ℕ) (bytes : List ℕ) (v : Stored K) (r : Reader) (
 
   pub register_may : r.half.reading.due ≡ dues.Register signs.None → bytes ≡ register_text (register_of (find r.half.notes.asked v.registers)) → MaySplice bytes (left_times n v) r
   register_may due is = subst (λ (w : Stored K). MaySplice bytes w r) (sym (left_times-run n v few)) (record { splice = register_splice bytes (run_left n v) r due is; room = room_behind })
+
+  pub string_may : r.half.reading.due ≡ dues.Splice → words (find r.half.notes.asked v.names) ≡ Some (map elements.Byte bytes) → MaySplice bytes (left_times n v) r
+  string_may due is = subst (λ (w : Stored K). MaySplice bytes w r) (sym (left_times-run n v few)) (record { splice = string_splice bytes (run_left n v) r due is; room = room_behind })
 
 -- ---- an escape leads into a level of bytes
 
@@ -84,7 +90,13 @@ module _ {K : Type 0} (n : ℕ) (own : List ℕ) (x : Stored K) (q : Reader) (t 
       ap (λ (g : Half). record q { half = record g { reading = record g.reading { due = dues.Look } }; burst = q.burst + 1 }) asks
       ∙ ap (λ (d : Due). record q { half = record q.half { reading = record q.half.reading { due = d }; notes = record q.half.notes { asked = h.notes.asked } }; burst = q.burst + 1 }) (sym look)
 
-  pub escape_leads : LeadsInText (n + 1) x q (reading_bytes own there) (expanded due)
+  abbrev named : Bool
+  named = brings_text h.reading.due
+
+  abbrev level_due : Stored K
+  level_due = opened_due own there due
+
+  pub escape_leads : LeadsInText (n + 1) x q level_due (expanded due)
   escape_leads =
       let same : 1 + n ≡ n + 1 = omega arith in
       let room = may.room in
@@ -92,34 +104,19 @@ module _ {K : Type 0} (n : ℕ) (own : List ℕ) (x : Stored K) (q : Reader) (t 
       let depth = room.depth in
       record {
         reads = λ c p supply holds.
-            read_then 1 n (situation x c q) events.Nothing there (reading_bytes own there) due (expanded due) p p supply supply (level_read x c q p supply n (record { taken = t; half = h; event = events.Nothing }) met holds)
-            (λ d here. has_read_quietly 1 (situation there d due) (situation (reading_bytes own there) d (expanded due)) (reading_bytes own there) (expanded due) p supply (opened_quietly own there due may.splice room d)
+            read_then 1 n (situation x c q) events.Nothing there level_due due (expanded due) p p supply supply (level_read x c q p supply n (record { taken = t; half = h; event = events.Nothing }) met holds)
+            (λ d here. has_read_quietly 1 (situation there d due) (situation level_due d (expanded due)) level_due (expanded due) p supply (opens_quietly own there due may.splice room d)
             (record { stored = refl; reader = refl; coming = here }));
         pays = λ p.
-            subst (λ k. PaysAll k x p q events.Nothing (reading_bytes own there) p (expanded due)) same
-            (pays_then 1 n x there (reading_bytes own there) p p p q due (expanded due) events.Nothing (level_pays n x there p q (record { taken = t; half = h; event = events.Nothing }) met refl)
-            (opened_pays own there due may.splice room p));
-        stored = subst (λ (w : Stored K). reading_bytes own w ≡ record x { levels = (reading_bytes own w).levels; texts = (reading_bytes own w).texts }) (sym (left_times-run t x met_within)) refl;
+            subst (λ k. PaysAll k x p q events.Nothing level_due p (expanded due)) same
+            (pays_then 1 n x there level_due p p p q due (expanded due) events.Nothing (level_pays n x there p q (record { taken = t; half = h; event = events.Nothing }) met refl)
+            (opens_pays own there due may.splice room p));
+        stored = subst (λ (w : Stored K). opened_due own w due ≡ record x { levels = (opened_due own w due).levels; texts = (opened_due own w due).texts; arguments = (opened_due own w due).arguments }) (sym (left_times-run t x met_within))
+            (stored-opened named own h.notes.asked (run_left t x));
         reader = expanded_is;
-        charge = λ fits. omega (arith, charge, charge-reading own there);
-        depth = λ fits. omega (arith, depth);
+        charge = λ fits. omega (arith, charge, charge-opened named own h.notes.asked there, limit-opened named own h.notes.asked there);
+        depth = λ fits. omega (arith, depth, depth-opened named own h.notes.asked there, deepest-opened named own h.notes.asked there);
       }
-
--- its end is taken
-ended_leads : {K : Type 0} (own : List ℕ) (w : Stored K) (q : Reader) → q.half.reading.due ≡ dues.Look → charge_of w + (32 + length own) ≤ w.limit → length w.levels < w.deepest
-    → LeadsInText 1 (left_times (length own) (reading_bytes own w)) q w q
-ended_leads {K} own w q look charge depth =
-    let n = length own in
-    let few : n ≤ length (rest_of (reading_bytes own w).levels) = omega (arith, length-map own elements.Byte) in
-    record {
-      reads = λ c p supply holds.
-          has_read_quietly 1 (situation (left_times n (reading_bytes own w)) c q) (situation w c q) w q p supply (end_quietly n own w q refl look c) (record { stored = refl; reader = refl; coming = holds });
-      pays = λ p. end_pays n own w q refl look p;
-      stored = subst (λ (u : Stored K). w ≡ record u { levels = w.levels; texts = w.texts }) (sym (left_times-run n (reading_bytes own w) few)) refl;
-      reader = refl;
-      charge = λ fits. omega (arith, charge);
-      depth = λ fits. omega (arith, depth);
-    }
 
 -- ---- a run of bytes of the level is gathered
 
@@ -173,8 +170,9 @@ spliced_kept {K} k s old next bytes cs items more v r is run =
       short = is.short;
       within = omega (arith, within, length-append bytes cs);
       there = is.there;
-      opens = subst (λ bs. Leaves true s.moves (take s.before (bytes ++ cs)) v r (reading_bytes bs there) (spliced (k + 1) s.asked r)) (sym (own_kept s bytes cs within))
-          (subst (λ bs. Leaves true s.moves bs v r (reading_bytes (own_bytes s bytes) there) (spliced (k + 1) s.asked r)) (sym (take-append-le s.before bytes cs (omega (arith, within)))) is.opens);
+      opens = subst (λ bs. Leaves true s.moves (take s.before (bytes ++ cs)) v r (opened s.named bs s.asked there) (spliced (k + 1) s.asked r)) (sym (own_kept s bytes cs within))
+          (subst (λ bs. Leaves true s.moves bs v r (opened s.named (own_bytes s bytes) s.asked there) (spliced (k + 1) s.asked r)) (sym (take-append-le s.before bytes cs (omega (arith, within)))) is.opens);
+      text = λ named. is.text named ∙ ap (λ bs. Some (map elements.Byte bs)) (sym (own_kept s bytes cs within));
       ends = subst (λ bs. Leaves true (s.moves + 1) bs v r there (spliced (k + 1) s.asked r)) (sym (take-append-le (s.before + s.count) bytes cs within)) is.ends;
       charge = is.charge;
       depth = is.depth;
@@ -228,15 +226,18 @@ more_seam : (xs : List Splice) (y : Splice) → slice_get (xs ++ y ∷ []) (leng
 more_seam [] y = refl
 more_seam (x ∷ xs) y = more_seam xs y
 
-module _ {K : Type 0} (bytes : List ℕ) (items moves : ℕ) (splices : List Splice) (v : Stored K) (r : Reader) (gathered : AreGathered bytes items moves splices v r) (t m : ℕ) (own asked : List ℕ) where
+module _ {K : Type 0} (bytes : List ℕ) (items moves : ℕ) (splices : List Splice) (v : Stored K) (r : Reader) (gathered : AreGathered bytes items moves splices v r) (t m : ℕ) (own asked : List ℕ) (named : Bool) where
   abbrev made : Splice
-  made = record { behind = items + t; before = length bytes; count = length own; moves = moves + m + 1; asked = asked }
+  made = record { behind = items + t; before = length bytes; count = length own; moves = moves + m + 1; asked = asked; named = named }
 
   abbrev made_splices : List Splice
   made_splices = splices ++ made ∷ []
 
   abbrev level : Stored K
   level = left_times (items + t) v
+
+  abbrev opened_level : Stored K
+  opened_level = opened named own asked level
 
   abbrev behind : Reader
   behind = spliced (length splices + 1) asked r
@@ -262,20 +263,20 @@ module _ {K : Type 0} (bytes : List ℕ) (items moves : ℕ) (splices : List Spl
         (λ none. let wrong : Some made ≡ None = sym is_now ∙ none in cc)
   ]
 
-  module _ (leads : LeadsInText (m + 1) (left_times items v) (reader bytes items moves splices v r gathered) (reading_bytes own level) behind) (look : r.half.reading.due ≡ dues.Look) (charge : charge_of level + (32 + length own) ≤ level.limit)
+  module _ (leads : LeadsInText (m + 1) (left_times items v) (reader bytes items moves splices v r gathered) opened_level behind) (text : named ≡ true → words (find asked v.names) ≡ Some (map elements.Byte own)) (look : r.half.reading.due ≡ dues.Look) (charge : charge_of level + (32 + length own) ≤ level.limit)
       (depth : length level.levels < level.deepest) (burst : r.burst + length splices < r.most) (less : length splices < 8) (few : t ≤ 6) (cheap : m ≤ 6) (there : items + t ≤ length (rest_of v.levels)) (fits : length bytes + length own ≤ 4096) where
-    opened : Leaves true (moves + m + 1) bytes v r (reading_bytes own level) behind
-    opened =
+    opened_there : Leaves true (moves + m + 1) bytes v r opened_level behind
+    opened_there =
         let same : moves + (m + 1) ≡ moves + m + 1 = omega arith in
-        subst (λ k. Leaves true k bytes v r (reading_bytes own level) behind) same (leaves_on moves (m + 1) bytes v (left_times items v) (reading_bytes own level) r (reader bytes items moves splices v r gathered) behind gathered.whole leads)
+        subst (λ k. Leaves true k bytes v r opened_level behind) same (leaves_on moves (m + 1) bytes v (left_times items v) opened_level r (reader bytes items moves splices v r gathered) behind gathered.whole leads)
 
-    own_all : AreNext own (reading_bytes own level).levels
-    own_all = subst (λ xs. AreNext xs (reading_bytes own level).levels) (take_all (length own) own (omega arith)) (own_next (length own) own level)
+    own_all : AreNext own opened_level.levels
+    own_all = subst (λ xs. AreNext xs opened_level.levels) (take_all (length own) own (omega arith)) (own_next (length own) named own asked level)
 
     ended : Leaves true (moves + m + 1 + 1) (bytes ++ own) v r level behind
     ended =
-        leaves_on (moves + m + 1) 1 (bytes ++ own) v (left_times (length own) (reading_bytes own level)) level r behind behind (leaves_all (moves + m + 1) own bytes v (reading_bytes own level) r behind opened own_all)
-        (ended_leads own level behind look charge depth)
+        leaves_on (moves + m + 1) 1 (bytes ++ own) v (left_times (length own) opened_level) level r behind behind (leaves_all (moves + m + 1) own bytes v opened_level r behind opened_there own_all)
+        (ended_leads named own asked level behind look (omega (arith, charge)) (omega (arith, depth)))
 
     made_last : IsSpliced (length splices) made None (bytes ++ own) (items + t) v r
     made_last =
@@ -288,8 +289,9 @@ module _ {K : Type 0} (bytes : List ℕ) (items moves : ℕ) (splices : List Spl
           short = omega (arith, short, few);
           within = omega (arith, length-append bytes own);
           there = there;
-          opens = subst (λ bs. Leaves true (moves + m + 1) (take (length bytes) (bytes ++ own)) v r (reading_bytes bs level) behind) (sym own_is)
-              (subst (λ bs. Leaves true (moves + m + 1) bs v r (reading_bytes own level) behind) (sym (take-append_seam bytes own)) opened);
+          opens = subst (λ bs. Leaves true (moves + m + 1) (take (length bytes) (bytes ++ own)) v r (opened named bs asked level) behind) (sym own_is)
+              (subst (λ bs. Leaves true (moves + m + 1) bs v r opened_level behind) (sym (take-append_seam bytes own)) opened_there);
+          text = λ is. text is ∙ ap (λ bs. Some (map elements.Byte bs)) (sym own_is);
           ends = subst (λ bs. Leaves true (moves + m + 1 + 1) bs v r level behind) (sym all) ended;
           charge = charge;
           depth = depth;
@@ -368,17 +370,19 @@ module _ {K : Type 0} (bytes : List ℕ) (items moves : ℕ) (splices : List Spl
       ∙ ap (λ (z : Reader). record z { half = record z.half { notes = record z.half.notes { asked = name } }; burst = z.burst + 1 }) is
       ∙ ap (λ (k : ℕ). record r { half = record r.half { notes = record r.half.notes { asked = name } }; burst = k }) count
 
-  pub escape_gathered : AreGathered (bytes ++ own) (items + t) (moves + n + 2) (splices ++ record { behind = items + t; before = length bytes; count = length own; moves = moves + n + 1; asked = h.notes.asked } ∷ []) v r
+  pub escape_gathered : AreGathered (bytes ++ own) (items + t) (moves + n + 2) (splices ++ record { behind = items + t; before = length bytes; count = length own; moves = moves + n + 1; asked = h.notes.asked; named = brings_text h.reading.due } ∷ []) v r
   escape_gathered =
-      let leads : LeadsInText (n + 1) start q (reading_bytes own (left_times t start)) (expanded (record q { half = h })) = escape_leads n own start q t h met_there asks look may_there in
-      let here : LeadsInText (n + 1) start (spliced (length splices) (last_asked splices r.half.notes.asked) r) (reading_bytes own (left_times (items + t) v)) (spliced (length splices + 1) h.notes.asked r) =
-      subst (λ (z : Reader). LeadsInText (n + 1) start z (reading_bytes own (left_times (items + t) v)) (spliced (length splices + 1) h.notes.asked r)) is
-      (subst (λ (z : Reader). LeadsInText (n + 1) start q (reading_bytes own (left_times (items + t) v)) z) behind_is (subst (λ (w : Stored K). LeadsInText (n + 1) start q (reading_bytes own w) (expanded (record q { half = h }))) at_level leads)) in
+      let leads : LeadsInText (n + 1) start q (opened_due own (left_times t start) (record q { half = h })) (expanded (record q { half = h })) = escape_leads n own start q t h met_there asks look may_there in
+      let here : LeadsInText (n + 1) start (spliced (length splices) (last_asked splices r.half.notes.asked) r) (opened_due own (left_times (items + t) v) (record q { half = h })) (spliced (length splices + 1) h.notes.asked r) =
+      subst (λ (z : Reader). LeadsInText (n + 1) start z (opened_due own (left_times (items + t) v) (record q { half = h })) (spliced (length splices + 1) h.notes.asked r)) is
+      (subst (λ (z : Reader). LeadsInText (n + 1) start q (opened_due own (left_times (items + t) v) (record q { half = h })) z) behind_is (subst (λ (w : Stored K). LeadsInText (n + 1) start q (opened_due own w (record q { half = h })) (expanded (record q { half = h }))) at_level leads)) in
       let room = (may (items + t) taken_within).room in
       let spent = room.burst in
+      let names_are = ap (λ (w : Stored K). w.names) (left_times-run (items + t) v taken_within) in
+      let text : brings_text h.reading.due ≡ true → words (find h.notes.asked v.names) ≡ Some (map elements.Byte own) = λ named. ap (λ ns. words (find h.notes.asked ns)) (sym names_are) ∙ (may (items + t) taken_within).splice.text named in
       let burst_is = ap (λ (z : Reader). z.burst) is in
       let most_is = ap (λ (z : Reader). z.most) is in
-      splice_gathered bytes items moves splices v r gathered t n own h.notes.asked here (sym (ap (λ (z : Reader). z.half.reading.due) is) ∙ look) room.charge room.depth (omega (arith, spent, burst_is, most_is)) less taken_few few taken_within fits
+      splice_gathered bytes items moves splices v r gathered t n own h.notes.asked (brings_text h.reading.due) here text (sym (ap (λ (z : Reader). z.half.reading.due) is) ∙ look) room.charge room.depth (omega (arith, spent, burst_is, most_is)) less taken_few few taken_within fits
 
 -- ---- as the program has it
 
@@ -405,6 +409,16 @@ byte_at None b is = absurd (let wrong : None ≡ Some (fronts.Byte b) = is in cc
 byte_at (Some (elements.Byte x)) b is = let shows : Some (fronts.Byte x) ≡ Some (fronts.Byte b) = is in (let same : x ≡ b = cc in ap (λ y. Some (elements.Byte y)) same)
 byte_at (Some (elements.Cell x)) b is = absurd (let wrong : Some (fronts.Cell x) ≡ Some (fronts.Byte b) = is in cc)
 byte_at (Some (elements.LineEnd x)) b is = absurd (let wrong : Some (fronts.LineEnd x) ≡ Some (fronts.Byte b) = is in cc)
+
+-- a text whose elements show these bytes
+pub all_bytes : (bytes : List ℕ) (text : List Element) → AreBytes bytes (map element_front text) → length bytes ≡ length text → text ≡ map elements.Byte bytes
+all_bytes [] [] are same = refl
+all_bytes [] (x ∷ xs) are same = absurd (omega (arith, same))
+all_bytes (b ∷ bs) [] are same = absurd (omega (arith, same))
+all_bytes (b ∷ bs) (x ∷ xs) are same =
+    let first : Some x ≡ Some (elements.Byte b) = byte_at (Some x) b (are 0 (omega arith)) in
+    let is : x ≡ elements.Byte b = cc in
+    ap₂ (λ (y : Element) (ys : List Element). y ∷ ys) is (all_bytes bs xs (λ n less. are (suc n) (omega (arith, less))) (omega (arith, same)))
 
 -- a row of the level from an item on
 row_at : (items n : ℕ) (fs : List Front) (rest : List Element) → fs ≡ drop items (map element_front rest) → slice_get fs n ≡ option_map element_front (slice_get rest (items + n))

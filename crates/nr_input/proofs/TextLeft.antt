@@ -1,18 +1,20 @@
 -- What is taken of the bytes that were gathered, as moves of the machine that reads.
-use Rattle.std.specs.Prelude.{map, slice_get, slice_index}
+use Rattle.std.specs.Prelude.{slice_get, slice_index}
 use Rattle.std.specs.Option.{option_map}
-use Rattle.std.proofs.Common.{◌≡◌, ℕ, zero, suc, ◌+◌, ◌-◌, ◌*◌, ◌<◌, ◌≤◌, Bool, true, false, List, [], ◌∷◌, ◌++◌, length, take, drop, get_or, Option, None, Some, IfSome, refl, ap, sym, ◌∙◌, subst, length-drop, arith}
+use Rattle.std.proofs.Common.{◌≡◌, ℕ, zero, suc, ◌+◌, ◌-◌, ◌<◌, ◌≤◌, false, List, [], ◌∷◌, ◌++◌, length, take, drop, get_or, Option, None, Some, IfSome, refl, ap, sym, ◌∙◌, subst, length-drop, arith, Bool}
 use Rattle.std.proofs.lemmas.List.{get_or-drop, get_or-take, length-map, length-take, take-append-drop, take-append-le}
 use Rattle.std.proofs.lemmas.Option.{slice_get-get_or, slice_get-map, slice_get_within}
-use Rattle.nr_store.specs.Stored.{Stored, Level, reading_bytes}
+use Rattle.nr_store.specs.Stored.{Stored, Level}
 use Rattle.nr_store.specs.Windows.{rest_of, left_times}
 use Rattle.nr_store.specs.declared.element.Element.{Element}
 use Rattle.nr_store.specs.declared.element.Element.TheVariants as elements
 use Rattle.nr_input.specs.declared.reader.Reader.{Reader}
 use Rattle.nr_input.specs.declared.splices.Splice.{Splice}
 use Rattle.nr_input.specs.Gathering.{AreGathered, AreItems, IsSpliced, Leaves, bytes_before, own_bytes, spliced}
+use Rattle.nr_input.specs.Interpolations.{opened}
 use Rattle.nr_input.proofs.LevelRows.{rest-left_times}
 use Rattle.nr_input.proofs.TextBytes.{AreNext, leaves_level, leaves_some, slice_get-drop}
+use Rattle.nr_input.proofs.TextOpened.{rest-opened}
 
 -- ---- lists
 
@@ -41,11 +43,12 @@ next_within [] levels next = omega arith
 next_within (c ∷ cs) levels next = let less = slice_get_within (rest_of levels) (length cs) _ (next (length cs) (omega arith)) in omega (arith, less)
 
 -- those of a level of bytes
-pub own_next : {K : Type 0} (n : ℕ) (own : List ℕ) (w : Stored K) → AreNext (take n own) (reading_bytes own w).levels
-own_next n own w = λ k less.
+pub own_next : {K : Type 0} (n : ℕ) (named : Bool) (own name : List ℕ) (w : Stored K) → AreNext (take n own) (opened named own name w).levels
+own_next n named own name w = λ k less.
     let short : k < n = omega (arith, less, length-take n own) in
     let within : k < length own = omega (arith, less, length-take n own) in
-    slice_get-map elements.Byte own k ∙ ap (option_map elements.Byte) (slice_get-get_or own k 0 within) ∙ ap (λ b. Some (elements.Byte b)) (sym (get_or-take n own k 0 short))
+    ap (λ (xs : List Element). slice_get xs k) (rest-opened named own name w)
+    ∙ slice_get-map elements.Byte own k ∙ ap (option_map elements.Byte) (slice_get-get_or own k 0 within) ∙ ap (λ b. Some (elements.Byte b)) (sym (get_or-take n own k 0 short))
 
 -- up to the next splice
 pub up_to : (taken : ℕ) (next : Option Splice) (bytes : List ℕ) → IfSome next (λ (s : Splice). taken ≤ s.before) → taken ≤ length bytes → taken ≤ bytes_before next (length bytes)
@@ -114,18 +117,18 @@ module _ {K : Type 0} (bytes : List ℕ) (items taken : ℕ) (v : Stored K) (r :
           let ys = drop s.before bytes in
           sym (ap (take part) (sym (take-append-drop s.count ys)) ∙ take-append-le part own (drop s.count ys) (omega (arith, before, begun, own_long)))
 
-      pub within_left : Leaves false s.moves (take taken bytes) v r (left_times part (reading_bytes own behind)) reader
+      pub within_left : Leaves false s.moves (take taken bytes) v r (left_times part (opened s.named own s.asked behind)) reader
       within_left =
           let count : length (take part own) ≡ part = ap length part_is ∙ count_taken s.before taken bytes (omega (arith, begun)) within in
           let some : 0 < length (take part own) = omega (arith, count, begun) in
           let same : s.before + part ≡ taken = omega (arith, begun) in
           let all : take s.before bytes ++ take part own ≡ take taken bytes = ap (λ ys. take s.before bytes ++ ys) part_is ∙ take_split s.before part bytes ∙ ap (λ n. take n bytes) same in
-          subst (λ bs. Leaves false s.moves bs v r (left_times part (reading_bytes own behind)) reader) all
-          (subst (λ n. Leaves false s.moves (take s.before bytes ++ take part own) v r (left_times n (reading_bytes own behind)) reader) count
-          (leaves_some s.moves (take part own) (take s.before bytes) v (reading_bytes own behind) r reader some is.opens (own_next part own behind)))
+          subst (λ bs. Leaves false s.moves bs v r (left_times part (opened s.named own s.asked behind)) reader) all
+          (subst (λ n. Leaves false s.moves (take s.before bytes ++ take part own) v r (left_times n (opened s.named own s.asked behind)) reader) count
+          (leaves_some s.moves (take part own) (take s.before bytes) v (opened s.named own s.asked behind) r reader some is.opens (own_next part s.named own s.asked behind)))
 
-      pub within_within : part ≤ length (rest_of (reading_bytes own behind).levels)
-      within_within = omega (arith, before, begun, own_long, length-map own elements.Byte)
+      pub within_within : part ≤ length (rest_of (opened s.named own s.asked behind).levels)
+      within_within = omega (arith, before, begun, own_long, ap length (rest-opened s.named own s.asked behind), length-map own elements.Byte)
 
 -- ---- the splice that was begun last
 
@@ -138,7 +141,6 @@ pub begun_last : {K : Type 0} (n : ℕ) (s : Splice) (bytes : List ℕ) (items m
 begun_last {K} n s bytes items moves splices v r some is gathered =
     let same : suc (n - 1) ≡ n = one_before n some in
     subst (λ (k : ℕ). IsSpliced (n - 1) s (slice_get splices k) bytes items v r) same (gathered.each (n - 1) s is)
-
 
 -- no more were spliced than may be
 pub burst_within : {K : Type 0} (bytes : List ℕ) (items moves : ℕ) (splices : List Splice) (v : Stored K) (r : Reader) → AreGathered bytes items moves splices v r → 0 < length splices → r.burst + length splices ≤ r.most

@@ -1,8 +1,9 @@
--- The bytes that a text line of levels brings, with those of the arguments and registers that are spliced between them (CSTR 54, 7.2,
--- 7.3, 8).
-use Rattle.std.specs.Prelude.{◌≡◌, ℕ, suc, ◌+◌, ◌*◌, ◌<◌, ◌≤◌, Bool, true, false, List, [], ◌∷◌, ◌++◌, length, take, drop, slice_get, slice_index, Option, None, Some}
+-- The bytes that a text line of levels brings, with those of the arguments, registers and strings that are spliced between them (CSTR
+-- 54, 7.2, 7.3, 8).
+use Rattle.std.specs.Prelude.{◌≡◌, ℕ, suc, ◌+◌, ◌*◌, ◌<◌, ◌≤◌, Bool, true, false, List, [], ◌∷◌, ◌++◌, length, map, take, drop, slice_get, slice_index, Option, None, Some}
 use Rattle.nr_units.specs.Supply.{Supply}
-use Rattle.nr_store.specs.Stored.{Stored, charge_of, left, reading_bytes, shown}
+use Rattle.nr_tables.specs.Named.{find}
+use Rattle.nr_store.specs.Stored.{Stored, charge_of, left, shown, words}
 use Rattle.nr_store.specs.Windows.{rest_of, left_times}
 use Rattle.nr_store.specs.declared.element.Element.{Element}
 use Rattle.nr_store.specs.declared.element.Element.TheVariants as elements
@@ -14,15 +15,16 @@ use Rattle.nr_input.specs.declared.gathering.Gathered.{Gathered}
 use Rattle.nr_input.specs.declared.reader.Reader.{Reader}
 use Rattle.nr_input.specs.declared.splices.Splice.{Splice}
 use Rattle.nr_input.specs.Coming.{Coming, Reached, HoldsComing}
+use Rattle.nr_input.specs.Interpolations.{opened}
 use Rattle.nr_input.specs.Moving.{situation}
 use Rattle.nr_input.specs.Runs.{HasRead, PaysAll}
 
--- n moves of a text line tell nothing and take nothing of the source: only the levels are others then, the name that was asked for
--- last, and how often was spliced
+-- n moves of a text line tell nothing and take nothing of the source: only the levels are others then, with the arguments in force,
+-- the name that was asked for last, and how often was spliced
 pub record LeadsInText {K : Type 0} (n : ℕ) (v : Stored K) (r : Reader) (w : Stored K) (q : Reader) : Type 0 where
   pub reads : (c : Coming) (p : Reached) (supply : Option Supply) → HoldsComing c p supply → HasRead n (situation v c r) events.Nothing w q p supply
   pub pays : (p : Reached) → PaysAll n v p r events.Nothing w p q
-  pub stored : w ≡ record v { levels = w.levels; texts = w.texts }
+  pub stored : w ≡ record v { levels = w.levels; texts = w.texts; arguments = w.arguments }
   pub reader : q ≡ record r { half = record r.half { notes = record r.half.notes { asked = q.half.notes.asked } }; burst = q.burst }
   pub charge : charge_of v ≤ v.limit → charge_of w ≤ w.limit
   pub depth : length v.levels ≤ v.deepest → length w.levels ≤ w.deepest
@@ -77,7 +79,8 @@ pub record IsSpliced {K : Type 0} (k : ℕ) (s : Splice) (next : Option Splice) 
   pub short : s.behind ≤ s.before + 6 * (k + 1)
   pub within : s.before + s.count ≤ length bytes
   pub there : s.behind ≤ length (rest_of v.levels)
-  pub opens : Leaves true s.moves (take s.before bytes) v r (reading_bytes (own_bytes s bytes) (left_times s.behind v)) (spliced (k + 1) s.asked r)
+  pub opens : Leaves true s.moves (take s.before bytes) v r (opened s.named (own_bytes s bytes) s.asked (left_times s.behind v)) (spliced (k + 1) s.asked r)
+  pub text : s.named ≡ true → words (find s.asked v.names) ≡ Some (map elements.Byte (own_bytes s bytes))
   pub ends : Leaves true (s.moves + 1) (take (s.before + s.count) bytes) v r (left_times s.behind v) (spliced (k + 1) s.asked r)
   pub charge : charge_of (left_times s.behind v) + (32 + s.count) ≤ (left_times s.behind v).limit
   pub depth : length (left_times s.behind v).levels < (left_times s.behind v).deepest
@@ -114,13 +117,13 @@ nothing_gathered = record { items = 0; count = 0; ends = false; moves = 0; splic
 abbrev pub passed : ℕ → Gathered → Gathered
 passed n g = record g { items = g.items + n; count = g.count + n }
 
--- with so many bytes more that are spliced, whose escape has so many items and was met in so many moves
-abbrev pub with_splice : ℕ → ℕ → ℕ → List ℕ → Gathered → Gathered
-with_splice items moves count asked g = record g {
+-- with so many bytes more that are spliced, whose escape has so many items and was met in so many moves; whether they are this name's text
+abbrev pub with_splice : ℕ → ℕ → ℕ → List ℕ → Bool → Gathered → Gathered
+with_splice items moves count asked named g = record g {
   items = g.items + items;
   count = g.count + count;
   moves = g.moves + moves + 2;
-  splices = g.splices ++ record { behind = g.items + items; before = g.count; count = count; moves = g.moves + moves + 1; asked = asked } ∷ [];
+  splices = g.splices ++ record { behind = g.items + items; before = g.count; count = count; moves = g.moves + moves + 1; asked = asked; named = named } ∷ [];
 }
 
 -- these bytes are items of a row, in front

@@ -1,10 +1,14 @@
 -- Interpolations that are read at once.
-use Rattle.std.specs.Prelude.{◌≡◌, ℕ, ◌+◌, ◌<◌, ◌≤◌, Bool, false, true, List, length}
-use Rattle.nr_store.specs.Stored.{Stored, charge_of, reading_bytes}
+use Rattle.std.specs.Prelude.{◌≡◌, ℕ, ◌+◌, ◌<◌, ◌≤◌, Bool, false, true, List, length, map, None, Some}
+use Rattle.nr_tables.specs.Named.{find}
+use Rattle.nr_store.specs.Stored.{Stored, charge_of, entered, reading_bytes, words}
+use Rattle.nr_store.specs.declared.element.Element.TheVariants as elements
 use Rattle.nr_reading.specs.declared.ask.Sign.{Sign}
 use Rattle.nr_reading.specs.declared.ask.Sign.TheVariants as signs
+use Rattle.nr_reading.specs.declared.mode.Due.{Due}
+use Rattle.nr_reading.specs.declared.mode.Due.TheVariants as dues
 use Rattle.nr_input.specs.declared.reader.Reader.{Reader}
-use Rattle.nr_input.specs.Acting.{act, is_look, splicing_bytes}
+use Rattle.nr_input.specs.Acting.{act, is_look, splicing, splicing_bytes}
 use Rattle.nr_input.specs.Refusals.{answer, splicing_answer}
 
 -- what is due is to splice these bytes
@@ -24,7 +28,30 @@ pub record HasRoom {K : Type 0} (bytes : List ℕ) (v : Stored K) (r : Reader) :
   pub depth : length v.levels < v.deepest
   pub burst : r.burst < r.most
 
+-- ---- levels of bytes that are gathered
+
+-- with a level of these bytes: of this name's text, which they are then, and no arguments in force; or of their own
+abbrev pub opened : {K : Type 0} → Bool → List ℕ → List ℕ → Stored K → Stored K
+opened false bytes name v = reading_bytes bytes v
+opened true bytes name v = entered name (Some (map elements.Byte bytes)) None v
+
+-- whether what is due is to splice the text of the name that was asked for
+abbrev pub brings_text : Due → Bool
+brings_text dues.Splice = true
+brings_text d = false
+
+-- the same with a level of the bytes that are due
+abbrev pub opened_due : {K : Type 0} → List ℕ → Stored K → Reader → Stored K
+opened_due bytes v r = opened (brings_text r.half.reading.due) bytes r.half.notes.asked v
+
+-- what is due is to open a level of these bytes
+pub record OpensLevel {K : Type 0} (bytes : List ℕ) (v : Stored K) (r : Reader) : Type 0 where
+  pub waits : is_look r.half.reading.due ≡ false
+  pub acts : act r.half.reading.due v r ≡ splicing true (opened_due bytes v r) r
+  pub answers : answer r.half.reading.due v r ≡ splicing_answer true (opened_due bytes v r) r
+  pub text : brings_text r.half.reading.due ≡ true → words (find r.half.notes.asked v.names) ≡ Some (map elements.Byte bytes)
+
 -- these bytes are to be spliced, and a level of them may be opened
 pub record MaySplice {K : Type 0} (bytes : List ℕ) (v : Stored K) (r : Reader) : Type 0 where
-  pub splice : IsSplice bytes v r
+  pub splice : OpensLevel bytes v r
   pub room : HasRoom bytes v r

@@ -1,34 +1,28 @@
-//! The bytes of a text line of levels, gathered with those of the arguments and registers that are spliced between them.
+//! The bytes of a text line of levels, gathered with those of the arguments, registers and strings that are spliced between them.
 ghost use Rattle.std.specs.Prelude.{◌≡◌, ℕ, ◌+◌, ◌-◌, ◌<◌, ◌≤◌, ◌^◌, [], length, map, take, drop, slice_get, false, true, Option, None, Some, IfSome};
 ghost use Rattle.nr_tables.specs.Named.{find};
-ghost use Rattle.nr_store.specs.Stored.{charge_of, reading_bytes, register_of, shown};
+ghost use Rattle.nr_store.specs.Stored.{charge_of, shown, words};
 ghost use Rattle.nr_store.specs.Windows.{rest_of, left_times};
 ghost use Rattle.nr_store.specs.declared.element.Element.TheVariants as elements;
 ghost use Rattle.nr_store.specs.declared.shown.Shown.TheVariants as shows;
-ghost use Rattle.nr_reading.specs.declared.ask.Sign.TheVariants as signs;
 ghost use Rattle.nr_reading.specs.declared.event.Event.TheVariants as events;
 ghost use Rattle.nr_reading.specs.declared.front.Front.TheVariants as variants;
-ghost use Rattle.nr_reading.specs.declared.mode.Due.TheVariants as dues;
 ghost use Rattle.nr_reading.specs.Interpolations.{AsksOnly};
 ghost use Rattle.nr_reading.specs.InText.{is_in_text};
 ghost use Rattle.nr_reading.specs.Runs.{HasMet};
 ghost use Rattle.nr_input.specs.declared.reader.Reader.{Reader as ReaderValue};
-ghost use Rattle.nr_input.specs.Acting.{expanded, register_text};
 ghost use Rattle.nr_input.specs.Coming.{element_front};
 ghost use Rattle.nr_input.specs.Gathering.{AreBytes, AreGathered, EndsRun, IsGathered, IsGathering, Leaves, StopsGathering, last_asked, nothing_gathered, own_bytes, passed, spliced, with_splice};
-ghost use Rattle.nr_input.specs.Interpolations.{MaySplice};
+ghost use Rattle.nr_input.specs.Interpolations.{MaySplice, opened};
 
-use super::interpolations::lone_digit;
+use super::interpolations::LONGEST;
 use super::level_rows::Tail;
 use super::reader::Reader;
 use super::runs::{ByteRow, ElementRow};
 use super::splices::{MOST, Splice, Splices};
-use nr_reading::{Due, Event, Items, Sign};
+use nr_reading::{Due, Event, Items};
 use nr_store::{Rest, Store};
-use nr_units::{Name, format_number};
-
-/// The most bytes of an argument or a register whose bytes are gathered.
-const LONGEST: usize = 64;
+use nr_units::Name;
 
 /// The most bytes that are gathered.
 const LONGEST_CHUNK: usize = 4096;
@@ -44,7 +38,7 @@ pub struct Gathered {
     pub ends: bool,
     /// How many moves lead behind the items, besides those that the bytes are put in.
     moves: usize,
-    /// The arguments and registers whose bytes are among them.
+    /// The arguments, registers and strings whose bytes are among them.
     splices: Splices,
 }
 
@@ -85,14 +79,15 @@ impl Gathered {
         self.count += count;
     }
 
-    // An argument or a register of so many bytes more, whose escape has so many items and was met in so many moves.
+    // So many bytes more that are spliced, whose escape has so many items and was met in so many moves: those of this name's text, or of
+    // an argument or a register.
     #[inline(always)]
-    fn add(&mut self, items: usize, moves: usize, count: usize, asked: Name)
+    fn add(&mut self, items: usize, moves: usize, count: usize, asked: Name, named: bool)
         requires few { length self.old.splices < 8 }
         requires items { self.old.items + items < 2 ^ 63 }
         requires count { self.old.count + count < 2 ^ 63 }
         requires moves { self.old.moves + moves + 2 < 2 ^ 63 }
-        ensures { self.new ≡ with_splice items moves count asked self.old }
+        ensures { self.new ≡ with_splice items moves count asked named self.old }
     {
         self.splices.push(Splice {
             behind: self.items + items,
@@ -100,6 +95,7 @@ impl Gathered {
             count,
             moves: self.moves + moves + 1,
             asked,
+            named,
         });
         self.items += items;
         self.count += count;
@@ -109,7 +105,7 @@ impl Gathered {
 
 // The bytes in front of a row that begin no escape and are no newline are put into the chunk, as many as it holds. Answers how many.
 #[inline(always)]
-fn copy_run<I: Items>(row: &I, chunk: &mut [u8]) -> usize
+pub(super) fn copy_run<I: Items>(row: &I, chunk: &mut [u8]) -> usize
     ensures holds { result ≤ length chunk.old }
     ensures front { result ≤ length (I.fronts row.now) }
     ensures bytes { AreBytes (take result chunk.new) (I.fronts row.now) }
@@ -137,71 +133,6 @@ fn begins<I: Items>(row: &I, byte: u8) -> bool
 }
 
 impl Reader {
-    // The bytes of an argument that is to be spliced are put into the chunk.
-    #[inline(always)]
-    fn copy_argument<K: Copy>(&self, n: u8, store: &Store<K>, chunk: &mut [u8]) -> Option<usize>
-        requires due { self.now.half.reading.due ≡ dues.Argument n }
-        requires holds { 64 ≤ length chunk.old }
-        ensures may { IfSome result (λ count. (n : ℕ) → n ≤ length (rest_of store.now.levels) → MaySplice (take count chunk.new) (left_times n store.now) self.now) }
-        ensures within { IfSome result (λ count. count ≤ length chunk.new) }
-    {
-        let bytes = store.argument(usize::from(n));
-        let len = bytes.len();
-        if !self.may_splice(len, store) {
-            return None;
-        }
-        chunk[..len].copy_from_slice(bytes);
-        Some(len)
-    }
-
-    // The text of a register that is to be spliced is put into the chunk.
-    #[inline(always)]
-    fn copy_text<K: Copy>(&self, text: &[u8], store: &Store<K>, chunk: &mut [u8]) -> Option<usize>
-        requires due { self.now.half.reading.due ≡ dues.Register signs.None }
-        requires text { text.now ≡ register_text (register_of (find self.now.half.notes.asked store.now.registers)) }
-        requires holds { 64 ≤ length chunk.old }
-        ensures may { IfSome result (λ count. (n : ℕ) → n ≤ length (rest_of store.now.levels) → MaySplice (take count chunk.new) (left_times n store.now) self.now) }
-        ensures within { IfSome result (λ count. count ≤ length chunk.new) }
-    {
-        let len = text.len();
-        if !self.may_splice(len, store) {
-            return None;
-        }
-        chunk[..len].copy_from_slice(text);
-        Some(len)
-    }
-
-    // The same of the register that was asked for.
-    #[inline(always)]
-    fn copy_register<K: Copy>(&self, store: &Store<K>, chunk: &mut [u8]) -> Option<usize>
-        requires due { self.now.half.reading.due ≡ dues.Register signs.None }
-        requires holds { 64 ≤ length chunk.old }
-        ensures may { IfSome result (λ count. (n : ℕ) → n ≤ length (rest_of store.now.levels) → MaySplice (take count chunk.new) (left_times n store.now) self.now) }
-        ensures within { IfSome result (λ count. count ≤ length chunk.new) }
-    {
-        let register = store.register(self.half.notes.asked);
-        if let Some(digit) = lone_digit(register.value, register.format) {
-            return self.copy_text(&[digit], store, chunk);
-        }
-        let text = format_number(i64::from(register.value), register.format);
-        self.copy_text(text.as_slice(), store, chunk)
-    }
-
-    // The bytes of an argument or a register are put into the chunk, of 64 bytes or more, where that is to be spliced, has 64 at most, and
-    // no limit is near. Tells how many.
-    #[inline(always)]
-    fn copy_splice<K: Copy>(&self, store: &Store<K>, chunk: &mut [u8]) -> Option<usize>
-        requires holds { 64 ≤ length chunk.old }
-        ensures may { IfSome result (λ count. (n : ℕ) → n ≤ length (rest_of store.now.levels) → MaySplice (take count chunk.new) (left_times n store.now) self.now) }
-        ensures within { IfSome result (λ count. count ≤ length chunk.new) }
-    {
-        match self.half.reading.due {
-            Due::Argument(n) => self.copy_argument(n, store, chunk),
-            Due::Register(Sign::None) => self.copy_register(store, chunk),
-            _ => None,
-        }
-    }
-
     // So many splices more are counted, and this name was asked for last.
     #[inline(always)]
     fn pass_splices(&mut self, count: usize, asked: Name)
@@ -222,16 +153,6 @@ impl Reader {
             self.pass_splices(splices.len(), splice.asked);
         }
     }
-
-    // The splice is counted, and what it brings is read next. One more must be allowed.
-    #[inline(always)]
-    fn begin_splice(&mut self)
-        requires burst { self.old.burst < self.old.most }
-        ensures { self.new ≡ expanded self.old }
-    {
-        self.burst += 1;
-        self.half.reading.due = Due::Look;
-    }
 }
 
 // An escape that was met, and the bytes that it brings.
@@ -246,7 +167,7 @@ struct Met {
 }
 
 // The escape that a row begins with is met, and the bytes that it brings are put into the chunk, of 64 bytes or more, where they are those
-// of an argument or of a register: they are to be spliced then. Else what is half read stays.
+// of an argument, a register or a string: they are to be spliced then. Else what is half read stays.
 #[inline(always)]
 fn meet_splice<K: Copy, I: Items>(
     reader: &mut Reader,
@@ -283,7 +204,7 @@ fn meet_splice<K: Copy, I: Items>(
 }
 
 // The escape that a row begins with is met, and the bytes that it brings are put behind those that were gathered, where they are those
-// of an argument or of a register. Answers how many items it has: 0 where it is none of these.
+// of an argument, a register or a string. Answers how many items it has: 0 where it is none of these.
 #[inline(always)]
 fn gather_escape<K: Copy, I: Items>(
     reader: &mut Reader,
@@ -313,7 +234,14 @@ fn gather_escape<K: Copy, I: Items>(
     let Some(met) = meet_splice(reader, store, row, &mut chunk[gathered.count..]) else {
         return 0;
     };
-    gathered.add(met.taken, met.moves, met.count, reader.half.notes.asked);
+    let named = reader.brings_text();
+    gathered.add(
+        met.taken,
+        met.moves,
+        met.count,
+        reader.half.notes.asked,
+        named,
+    );
     reader.begin_splice();
     met.taken
 }
@@ -433,8 +361,8 @@ fn gather_row<K: Copy, I: Tail>(
     gathered.ends = begins(&rest, b'\n');
 }
 
-/// Gathers the bytes that come next of the newest level into the chunk, with those of the arguments and registers that are spliced
-/// between them: up to a newline, and as many as there is room for. Nothing is taken.
+/// Gathers the bytes that come next of the newest level into the chunk, with those of the arguments, registers and strings that are
+/// spliced between them: up to a newline, and as many as there is room for. Nothing is taken.
 pub fn gather<K: Copy>(
     reader: &mut Reader,
     store: &Store<K>,
@@ -458,7 +386,24 @@ pub fn gather<K: Copy>(
     }
 }
 
-// A level of the bytes that a splice brings is opened, and so many of those that were gathered are taken.
+// A level of the bytes that a splice brings is opened.
+#[inline(always)]
+fn open_splice<K: Copy>(store: &mut Store<K>, bytes: &[u8], splice: &Splice)
+    requires within { splice.now.before + splice.now.count ≤ length bytes.now }
+    requires charge { charge_of store.old + (32 + splice.now.count) ≤ store.old.limit }
+    requires depth { length store.old.levels < store.old.deepest }
+    requires text { splice.now.named ≡ true → words (find splice.now.asked store.old.names) ≡ Some (map elements.Byte (own_bytes splice.now bytes.now)) }
+    ensures { store.new ≡ opened splice.now.named (own_bytes splice.now bytes.now) splice.now.asked store.old }
+{
+    if splice.named {
+        let _ = store.enter(splice.asked);
+        return;
+    }
+    let own = &bytes[splice.before..splice.before + splice.count];
+    let _ = store.enter_bytes(own);
+}
+
+// It is, and so many of those that were gathered are taken.
 #[inline(always)]
 fn enter_splice<K: Copy>(store: &mut Store<K>, bytes: &[u8], splice: &Splice, taken: usize)
     requires few { length bytes.now ≤ 4096 }
@@ -467,15 +412,15 @@ fn enter_splice<K: Copy>(store: &mut Store<K>, bytes: &[u8], splice: &Splice, ta
     requires part { taken ≤ splice.now.before + splice.now.count }
     requires charge { charge_of store.old + (32 + splice.now.count) ≤ store.old.limit }
     requires depth { length store.old.levels < store.old.deepest }
-    ensures { store.new ≡ left_times (taken - splice.now.before) (reading_bytes (own_bytes splice.now bytes.now) store.old) }
+    requires text { splice.now.named ≡ true → words (find splice.now.asked store.old.names) ≡ Some (map elements.Byte (own_bytes splice.now bytes.now)) }
+    ensures { store.new ≡ left_times (taken - splice.now.before) (opened splice.now.named (own_bytes splice.now bytes.now) splice.now.asked store.old) }
 {
-    let own = &bytes[splice.before..splice.before + splice.count];
-    let _ = store.enter_bytes(own);
+    open_splice(store, bytes, splice);
     store.skip((taken - splice.before) as u32);
 }
 
-// So many of the bytes that were gathered are taken, and nothing behind the last of them: where an argument or a register brings it, a
-// level is opened for that.
+// So many of the bytes that were gathered are taken, and nothing behind the last of them: where an argument, a register or a string
+// brings it, a level is opened for that.
 #[inline(never)]
 fn leave_part<K: Copy>(
     reader: &mut Reader,

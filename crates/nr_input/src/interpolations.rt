@@ -1,27 +1,31 @@
 //! Interpolations that are read at once: where all that they bring is only met or added, no level is opened for it.
-ghost use Rattle.std.specs.Prelude.{◌≡◌, ◌+◌, ◌*◌, ◌<◌, ◌≤◌, ◌∷◌, [], Option, IfSome, length, true};
+ghost use Rattle.std.specs.Prelude.{◌≡◌, ℕ, ◌+◌, ◌*◌, ◌<◌, ◌≤◌, ◌∷◌, [], Option, IfSome, length, take, true};
 ghost use Rattle.nr_units.specs.NumberText.{number_text};
 ghost use Rattle.nr_units.specs.Supply.{Supply};
-ghost use Rattle.nr_store.specs.Stored.{charge_of, reading_bytes};
-ghost use Rattle.nr_store.specs.Windows.{left_times};
+ghost use Rattle.nr_tables.specs.Named.{find};
+ghost use Rattle.nr_store.specs.Stored.{charge_of, reading_bytes, register_of};
+ghost use Rattle.nr_store.specs.Windows.{rest_of, left_times};
 ghost use Rattle.nr_reading.specs.declared.ask.Sign.TheVariants as signs;
 ghost use Rattle.nr_reading.specs.declared.mode.Due.TheVariants as dues;
+ghost use Rattle.nr_input.specs.Acting.{expanded, register_text};
 ghost use Rattle.nr_input.specs.Coming.{Coming, Reached, HoldsComing};
-ghost use Rattle.nr_input.specs.Interpolations.{IsSplice, stepping};
+ghost use Rattle.nr_input.specs.Interpolations.{IsSplice, MaySplice, brings_text, stepping};
 ghost use Rattle.nr_input.specs.Limits.{limits_of};
 ghost use Rattle.nr_input.specs.Moving.{situation};
 ghost use Rattle.nr_input.specs.Runs.{HasRead, PaysAll, PaysMany};
 
 use super::adding::add_front;
+use super::gathering::copy_run;
 use super::levels::read_added;
 use super::reader::Reader;
+use super::runs::ElementRow;
 use super::target::Target;
 use nr_reading::{Due, Event, Half, Mode, Run, Sign};
 use nr_store::Store;
 use nr_units::{Format, format_number};
 
 /// The most bytes of an interpolation that is read at once.
-const LONGEST: usize = 64;
+pub(crate) const LONGEST: usize = 64;
 
 /// Many moves.
 #[derive(Clone, Copy)]
@@ -40,7 +44,7 @@ fn copies(half: &Half) -> bool {
 
 // The digit that is all of a number's text, where that is one of 0 to 9 in Arabic.
 #[inline(always)]
-pub(crate) fn lone_digit(number: i32, format: Format) -> Option<u8>
+fn lone_digit(number: i32, format: Format) -> Option<u8>
     ensures { IfSome result (λ digit. number_text format number ≡ digit ∷ []) }
 {
     let value = number.unsigned_abs();
@@ -56,7 +60,7 @@ pub(crate) fn lone_digit(number: i32, format: Format) -> Option<u8>
 impl Reader {
     // Whether a level of so many bytes may be opened, and as many bytes be stored of it before its end.
     #[inline(always)]
-    pub(crate) fn may_splice<K: Copy>(&self, len: usize, store: &Store<K>) -> bool
+    fn may_splice<K: Copy>(&self, len: usize, store: &Store<K>) -> bool
         ensures few { result ≡ true → len ≤ 64 }
         ensures burst { result ≡ true → self.now.burst < self.now.most }
         ensures charge { result ≡ true → charge_of store.now + (32 + 2 * len) ≤ store.now.limit }
@@ -237,5 +241,107 @@ impl Reader {
                 event: Event::Nothing,
             },
         }
+    }
+
+    // The bytes of an argument that is to be spliced are put into the chunk.
+    #[inline(always)]
+    fn copy_argument<K: Copy>(&self, n: u8, store: &Store<K>, chunk: &mut [u8]) -> Option<usize>
+        requires due { self.now.half.reading.due ≡ dues.Argument n }
+        requires holds { 64 ≤ length chunk.old }
+        ensures may { IfSome result (λ count. (n : ℕ) → n ≤ length (rest_of store.now.levels) → MaySplice (take count chunk.new) (left_times n store.now) self.now) }
+        ensures within { IfSome result (λ count. count ≤ length chunk.new) }
+    {
+        let bytes = store.argument(usize::from(n));
+        let len = bytes.len();
+        if !self.may_splice(len, store) {
+            return None;
+        }
+        chunk[..len].copy_from_slice(bytes);
+        Some(len)
+    }
+
+    // The text of a register that is to be spliced is put into the chunk.
+    #[inline(always)]
+    fn copy_text<K: Copy>(&self, text: &[u8], store: &Store<K>, chunk: &mut [u8]) -> Option<usize>
+        requires due { self.now.half.reading.due ≡ dues.Register signs.None }
+        requires text { text.now ≡ register_text (register_of (find self.now.half.notes.asked store.now.registers)) }
+        requires holds { 64 ≤ length chunk.old }
+        ensures may { IfSome result (λ count. (n : ℕ) → n ≤ length (rest_of store.now.levels) → MaySplice (take count chunk.new) (left_times n store.now) self.now) }
+        ensures within { IfSome result (λ count. count ≤ length chunk.new) }
+    {
+        let len = text.len();
+        if !self.may_splice(len, store) {
+            return None;
+        }
+        chunk[..len].copy_from_slice(text);
+        Some(len)
+    }
+
+    // The same of the register that was asked for.
+    #[inline(always)]
+    fn copy_register<K: Copy>(&self, store: &Store<K>, chunk: &mut [u8]) -> Option<usize>
+        requires due { self.now.half.reading.due ≡ dues.Register signs.None }
+        requires holds { 64 ≤ length chunk.old }
+        ensures may { IfSome result (λ count. (n : ℕ) → n ≤ length (rest_of store.now.levels) → MaySplice (take count chunk.new) (left_times n store.now) self.now) }
+        ensures within { IfSome result (λ count. count ≤ length chunk.new) }
+    {
+        let register = store.register(self.half.notes.asked);
+        if let Some(digit) = lone_digit(register.value, register.format) {
+            return self.copy_text(&[digit], store, chunk);
+        }
+        let text = format_number(i64::from(register.value), register.format);
+        self.copy_text(text.as_slice(), store, chunk)
+    }
+
+    // The text of the name that was asked for is put into the chunk, where it is bytes alone, and neither a `\` nor a newline is among them.
+    #[inline(always)]
+    fn copy_string<K: Copy>(&self, store: &Store<K>, chunk: &mut [u8]) -> Option<usize>
+        requires due { self.now.half.reading.due ≡ dues.Splice }
+        requires holds { 64 ≤ length chunk.old }
+        ensures may { IfSome result (λ count. (n : ℕ) → n ≤ length (rest_of store.now.levels) → MaySplice (take count chunk.new) (left_times n store.now) self.now) }
+        ensures within { IfSome result (λ count. count ≤ length chunk.new) }
+    {
+        let Some(text) = store.text(self.half.notes.asked) else {
+            return None;
+        };
+        let len = text.len();
+        if !self.may_splice(len, store) || copy_run(&ElementRow(text), chunk) < len {
+            return None;
+        }
+        Some(len)
+    }
+
+    /// The bytes of an argument, a register or a string are put into the chunk, of 64 bytes or more, where that is to be spliced, has 64 at
+    /// most, and no limit is near. Tells how many.
+    #[inline(always)]
+    pub(crate) fn copy_splice<K: Copy>(&self, store: &Store<K>, chunk: &mut [u8]) -> Option<usize>
+        requires holds { 64 ≤ length chunk.old }
+        ensures may { IfSome result (λ count. (n : ℕ) → n ≤ length (rest_of store.now.levels) → MaySplice (take count chunk.new) (left_times n store.now) self.now) }
+        ensures within { IfSome result (λ count. count ≤ length chunk.new) }
+    {
+        match self.half.reading.due {
+            Due::Argument(n) => self.copy_argument(n, store, chunk),
+            Due::Register(Sign::None) => self.copy_register(store, chunk),
+            Due::Splice => self.copy_string(store, chunk),
+            _ => None,
+        }
+    }
+
+    /// Whether what is due is to splice the text of the name that was asked for.
+    #[inline(always)]
+    pub(crate) fn brings_text(&self) -> bool
+        ensures { result ≡ brings_text self.now.half.reading.due }
+    {
+        matches!(self.half.reading.due, Due::Splice)
+    }
+
+    /// The splice is counted, and what it brings is read next. One more must be allowed.
+    #[inline(always)]
+    pub(crate) fn begin_splice(&mut self)
+        requires burst { self.old.burst < self.old.most }
+        ensures { self.new ≡ expanded self.old }
+    {
+        self.burst += 1;
+        self.half.reading.due = Due::Look;
     }
 }

@@ -1,4 +1,4 @@
-//! The arguments and registers whose bytes were gathered.
+//! The arguments, registers and strings whose bytes were gathered.
 ghost use Rattle.std.specs.Prelude.{◌≡◌, ℕ, List, ◌<◌, ◌≤◌, ◌++◌, ◌∷◌, [], length, slice_get, Some, None, IfSome};
 ghost use Rattle.nr_input.specs.Gathering.{last_asked};
 
@@ -8,7 +8,7 @@ use std::marker::Model;
 /// How many there may be.
 pub(crate) const MOST: usize = 8;
 
-/// An argument or a register whose bytes were gathered.
+/// An argument, a register or a string whose bytes were gathered.
 #[derive(Clone, Copy)]
 pub(crate) struct Splice {
     /// How many items of the newest level there are up to the end of its escape.
@@ -21,6 +21,8 @@ pub(crate) struct Splice {
     pub(crate) moves: usize,
     /// The name that is asked for last then.
     pub(crate) asked: Name,
+    /// Whether they are the text of that name.
+    pub(crate) named: bool,
 }
 
 /// Those of one gathering, eight at most. Clauses see them as a list.
@@ -53,6 +55,7 @@ impl Splices {
                 count: 0,
                 moves: 0,
                 asked: Name::new(),
+                named: false,
             }; MOST],
             len: 0,
         }

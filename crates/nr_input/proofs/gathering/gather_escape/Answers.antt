@@ -1,5 +1,4 @@
-use Rattle.std.specs.Prelude.{map, slice_get}
-use Rattle.std.proofs.Common.{◌≡◌, ℕ, ◌+◌, ◌-◌, ◌<◌, ◌≤◌, ◌++◌, ◌∷◌, [], length, take, drop, List, inl, inr, ap, sym, ◌∙◌, subst, length-drop, arith}
+use Rattle.std.proofs.Common.{◌≡◌, ℕ, ◌+◌, ◌-◌, ◌<◌, ◌≤◌, ◌++◌, ◌∷◌, [], length, take, drop, inl, inr, ap, ◌∙◌, subst, length-drop, arith}
 use Rattle.std.proofs.lemmas.Bool.{cases_lt}
 use Rattle.std.proofs.lemmas.List.{length-take, length-take-le}
 use Rattle.nr_units.proofs.Copying.{front_put}
@@ -10,7 +9,7 @@ use Rattle.nr_input.specs.declared.reader.Reader.{Reader}
 use Rattle.nr_input.specs.declared.splices.Splice.{Splice}
 use Rattle.nr_input.specs.Acting.{expanded}
 use Rattle.nr_input.specs.Gathering.{AreGathered}
-use Rattle.nr_input.specs.Interpolations.{MaySplice}
+use Rattle.nr_input.specs.Interpolations.{MaySplice, brings_text}
 use Rattle.nr_input.proofs.RowsRead.{taken-le}
 use Rattle.nr_input.proofs.TextGathered.{behind_is, behind_made, escape_gathered}
 use Rattle.nr_input.proofs.gathering.gather_escape.Goals as goal
@@ -34,6 +33,7 @@ returns-clause-gathered g c = λ r old.
     let v = c.args.store.now in
     let q = c.args.reader.now in
     let h = c.meet_splice.new.reader.half in
+    let named = brings_text h.reading.due in
     let met = c.in-Some.met in
     let own = take met.count part in
     let due_is : c.meet_splice.new.reader ≡ record q { half = h } = c.in-Some.ensures.reader in
@@ -54,11 +54,11 @@ returns-clause-gathered g c = λ r old.
     let look = (in_text q.half c.requires.text).due in
     let made = escape_gathered bytes gathered.items gathered.moves gathered.splices v r q old.gathered old.reader look met.moves met.taken own h _ c.requires.row c.in-Some.ensures.met c.in-Some.ensures.asks may c.in-Some.ensures.few less fits in
     let counted = subst (λ k. AreGathered (bytes ++ own) (gathered.items + met.taken) (gathered.moves + met.moves + 2)
-    (gathered.splices ++ record { behind = gathered.items + met.taken; before = gathered.count; count = k; moves = gathered.moves + met.moves + 1; asked = h.notes.asked } ∷ []) v r) own_long
+    (gathered.splices ++ record { behind = gathered.items + met.taken; before = gathered.count; count = k; moves = gathered.moves + met.moves + 1; asked = h.notes.asked; named = named } ∷ []) v r) own_long
     (subst (λ k. AreGathered (bytes ++ own) (gathered.items + met.taken) (gathered.moves + met.moves + 2)
-    (gathered.splices ++ record { behind = gathered.items + met.taken; before = k; count = length own; moves = gathered.moves + met.moves + 1; asked = h.notes.asked } ∷ []) v r) long made) in
-    let splice : Splice = record { behind = gathered.items + met.taken; before = gathered.count; count = met.count; moves = gathered.moves + met.moves + 1; asked = h.notes.asked } in
-    rw (c.add.ensures, c.begin_splice.ensures)
+    (gathered.splices ++ record { behind = gathered.items + met.taken; before = k; count = length own; moves = gathered.moves + met.moves + 1; asked = h.notes.asked; named = named } ∷ []) v r) long made) in
+    let splice : Splice = record { behind = gathered.items + met.taken; before = gathered.count; count = met.count; moves = gathered.moves + met.moves + 1; asked = h.notes.asked; named = named } in
+    rw (c.add.ensures, c.begin_splice.ensures, c.brings_text-named.ensures)
     (record {
       gathered = rw (front_put gathered.count (length chunk - gathered.count) met.count chunk part here within) counted;
       reader = ap expanded due_is

@@ -1,5 +1,5 @@
 use Rattle.std.specs.Prelude.{map}
-use Rattle.std.proofs.Common.{◌≡◌, ◌+◌, drop, length, refl, ap, sym, ◌∙◌, arith}
+use Rattle.std.proofs.Common.{◌≡◌, ◌+◌, drop, refl, ap, ◌∙◌, arith}
 use Rattle.nr_store.specs.Windows.{rest_of}
 use Rattle.nr_input.specs.Coming.{element_front}
 use Rattle.nr_input.specs.declared.gathering.Gathered.{Gathered}

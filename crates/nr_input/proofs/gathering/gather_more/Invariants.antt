@@ -1,5 +1,5 @@
 use Rattle.std.specs.Prelude.{map}
-use Rattle.std.proofs.Common.{◌≡◌, ◌≤◌, Bool, true, drop, length, take}
+use Rattle.std.proofs.Common.{◌≡◌, ◌≤◌, true, drop, length, take}
 use Rattle.nr_store.specs.Windows.{rest_of}
 use Rattle.nr_reading.specs.InText.{is_in_text}
 use Rattle.nr_input.specs.Coming.{element_front}

@@ -1,9 +1,9 @@
 use Rattle.std.specs.Prelude.{map}
-use Rattle.std.proofs.Common.{◌≡◌, ◌+◌, drop, length, take, refl, ap, sym, arith}
+use Rattle.std.proofs.Common.{◌≡◌, drop, take, refl, ap, sym, arith}
 use Rattle.std.proofs.lemmas.List.{length-take-le}
 use Rattle.nr_store.specs.Windows.{rest_of}
 use Rattle.nr_input.specs.Coming.{element_front}
-use Rattle.nr_input.specs.Gathering.{IsGathering, nothing_gathered}
+use Rattle.nr_input.specs.Gathering.{IsGathering}
 use Rattle.nr_input.specs.declared.gathering.Gathered.{Gathered}
 use Rattle.nr_input.proofs.TextGathered.{first_byte, nothing_is, run_copied, run_stops}
 use Rattle.nr_input.proofs.TextLeft.{spliced_none}

@@ -1,8 +1,3 @@
-use Rattle.std.specs.Prelude.{slice_get}
-use Rattle.std.proofs.Common.{◌≡◌, ℕ, ◌+◌, ◌-◌, ◌<◌, ◌≤◌, length, take, List, Some, arith, sym, ◌∙◌, subst}
-use Rattle.std.proofs.lemmas.Option.{slice_get-get_or}
-use Rattle.nr_input.specs.declared.splices.Splice.{Splice}
-use Rattle.nr_input.specs.Gathering.{AreGathered}
 use Rattle.nr_input.proofs.TextBytes.{shown_behind}
 use Rattle.nr_input.proofs.TextLeft.{burst_within}
 use Rattle.nr_input.proofs.gathering.leave.Goals as goal

@@ -1,12 +1,11 @@
 use Rattle.std.specs.Prelude.{slice_get}
-use Rattle.std.proofs.Common.{◌≡◌, ℕ, suc, ◌+◌, ◌-◌, ◌*◌, ◌<◌, ◌≤◌, false, length, take, List, Option, Some, IfSome, arith, rules, refl, ap, sym, ◌∙◌, subst}
-use Rattle.nr_store.specs.Stored.{Stored, reading_bytes}
-use Rattle.nr_store.specs.Windows.{rest_of, left_times}
-use Rattle.nr_input.specs.declared.reader.Reader.{Reader}
+use Rattle.std.proofs.Common.{◌≡◌, ℕ, ◌+◌, ◌-◌, ◌<◌, ◌≤◌, false, length, take, List, Option, Some, IfSome, arith, subst}
+use Rattle.nr_store.specs.Windows.{left_times}
+use Rattle.nr_store.specs.Laws.{left_times-run}
 use Rattle.nr_input.specs.declared.splices.Splice.{Splice}
-use Rattle.nr_input.specs.Gathering.{IsSpliced, Leaves, bytes_before, own_bytes, spliced}
-use Rattle.nr_input.proofs.Interpolated.{entered_bytes}
-use Rattle.nr_input.proofs.TextLeft.{first_left, first_within, up_to, begun_last, one_before, behind_left, behind_within, within_left, within_within}
+use Rattle.nr_input.specs.Gathering.{Leaves, bytes_before, own_bytes, spliced}
+use Rattle.nr_input.specs.Interpolations.{opened}
+use Rattle.nr_input.proofs.TextLeft.{first_left, first_within, up_to, begun_last, one_before, behind_left, behind_within, within_left}
 use Rattle.nr_input.proofs.gathering.leave_part.Goals as goal
 
 first_few : (n taken : ℕ) (splices : List Splice) (bytes : List ℕ) → n ≡ 0 → IfSome (slice_get splices n) (λ (s : Splice). taken ≤ s.before) → taken ≤ length bytes → taken ≤ bytes_before (slice_get splices 0) (length bytes)
@@ -114,6 +113,7 @@ enter_splice-requires g c =
       part = omega (arith, past);
       charge = rw c.skip-2.ensures is.charge;
       depth = rw c.skip-2.ensures is.depth;
+      text = λ named. rw (c.skip-2.ensures, left_times-run s.behind c.args.store.now is.there) (is.text named);
     }
 
 pub returns-clause-leaves : goal.returns-clause-leaves
@@ -131,7 +131,7 @@ returns-clause-leaves g c =
     let begun = begun_before n taken s splices c.if-begun-eq0.false c.at-splice.ensures c.begun-begun.ensures.begun in
     let past = c.if-end-taken.false in
     rw (c.enter_splice.ensures, c.skip-2.ensures, c.pass_splices.ensures)
-    (subst (λ j. Leaves false s.moves (take taken bytes) v r (left_times (taken - s.before) (reading_bytes (own_bytes s bytes) (left_times s.behind v))) (spliced j s.asked r)) same
+    (subst (λ j. Leaves false s.moves (take taken bytes) v r (left_times (taken - s.before) (opened s.named (own_bytes s bytes) s.asked (left_times s.behind v))) (spliced j s.asked r)) same
     (within_left bytes c.args.gathered.now.items taken v r c.requires.within (n - 1) s next is begun (omega (arith, past))))
 
 pub returns-clause-few : goal.returns-clause-few
