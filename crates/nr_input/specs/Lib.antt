@@ -4,6 +4,7 @@ pub mod BodyLines
 pub mod Coming
 pub mod CommentLines
 pub mod DroppedLines
+pub mod Gathering
 pub mod Hearing
 pub mod Interpolations
 pub mod LevelRows
