@@ -4,7 +4,7 @@ use Rattle.nr_units.specs.Items.{Items}
 use Rattle.nr_levels.specs.declared.frame.Reads.{Reads}
 use Rattle.nr_levels.specs.Moving.{newest_gone_on}
 use Rattle.nr_levels.proofs.Reversed.{new_top, top_is, some_frame}
-use Rattle.nr_levels.proofs.stack.Stack+Frame+K.go_on.Goals as goal
+use Rattle.nr_levels.proofs.stack.Stack+Frame.go_on.Goals as goal
 
 pub returns : goal.returns
 returns g c =
