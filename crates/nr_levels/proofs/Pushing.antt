@@ -96,8 +96,9 @@ module _ (fs : List Frame) (xs ys : List ℕ) (ps qs : List Span) (now inforce :
       }
 
 -- the modes are those of the frames still, with one frame more
-pub modes_more : {K : Type 0} → (f : Frame) (fs : List Frame) (ms ns : List K) (mode_room most : ℕ) → MarkHasMode f.reads f.has_mode → length ns ≡ modes_in f.has_mode + length ms → AreModes fs ms mode_room most → AreModes (f ∷ fs) ns mode_room most
-modes_more f fs ms ns mode_room most mark longer h =
+pub modes_more : {K : Type 0} → (r : Reads) (has : Bool) (old : Span) (charge height : ℕ) (fs : List Frame) (ms ns : List K) (mode_room most : ℕ) → MarkHasMode r has → length ns ≡ modes_in has + length ms → AreModes fs ms mode_room most
+    → AreModes (record { reads = r; old = old; charge = charge; height = height; has_mode = has } ∷ fs) ns mode_room most
+modes_more r has old charge height fs ms ns mode_room most mark longer h =
     let each = h.each in
     record { each = omega arith; marks = (mark, h.marks); suffice = h.suffice }
 

@@ -1,4 +1,4 @@
-use Rattle.std.proofs.Common.{◌∙◌, ap, ap₂, ◌∷◌, take, drop, refl}
+use Rattle.std.proofs.Common.{◌∙◌, ap, ap₂, ◌∷◌, take, drop, true, refl}
 use Rattle.nr_units.specs.Items.{Items}
 use Rattle.nr_levels.specs.Frames.{levels_of}
 use Rattle.nr_levels.specs.declared.frame.Frame.{Frame}

@@ -1,4 +1,4 @@
-use Rattle.std.proofs.Common.{None, ◌≡◌, ◌++◌, ◌∷◌, ℕ, length, refl, ap, ap₂, ◌∙◌, length-append, arith}
+use Rattle.std.proofs.Common.{None, false, ◌≡◌, ◌++◌, ◌∷◌, ℕ, length, refl, ap, ap₂, ◌∙◌, length-append, arith}
 use Rattle.nr_units.specs.Items.{Items}
 use Rattle.nr_levels.specs.Levels.{Levels, Own, deeper}
 use Rattle.nr_levels.specs.Frames.{levels_of}
@@ -19,11 +19,12 @@ invariant_of-self g c =
     let s = c.self.inside in
     let all = length-append s.bytes.items c.args.bytes.now in
     let paid = c.requires.paid in
-    rw (c.push.ensures, c.len-last.ensures.value, c.extend.ensures.items, c.extend.ensures.room, c.len-first.ensures.value)
-    (pushed_stands s.frames.items s.bytes.items (s.bytes.items ++ c.args.bytes.now) s.places.items s.places.items s.in_force s.in_force s.bytes.room s.frames.room s.places.room
-    (reads.Own (record { first = length s.bytes.items; last = length (s.bytes.items ++ c.args.bytes.now) })) c.args.charge false c.self.invariant.0 (same_start s.bytes.items c.args.bytes.now) refl (omega arith)
-    (omega arith) (omega arith) (omega arith) tt c.self.invariant.0.top (more_below s.places.items (length s.bytes.items) _ s.in_force (omega arith) c.self.invariant.0.now) (omega arith) (omega arith),
-    modes_more _ s.frames.items s.modes.items s.modes.items s.modes.room s.frames.room tt refl c.self.invariant.1)
+    rw (c.push.ensures, c.len-last.ensures.value, c.extend.ensures.items, c.extend.ensures.room, c.len-first.ensures.value) (
+      pushed_stands s.frames.items s.bytes.items (s.bytes.items ++ c.args.bytes.now) s.places.items s.places.items s.in_force s.in_force s.bytes.room s.frames.room s.places.room
+          (reads.Own (record { first = length s.bytes.items; last = length (s.bytes.items ++ c.args.bytes.now) })) c.args.charge false c.self.invariant.0 (same_start s.bytes.items c.args.bytes.now) refl (omega arith)
+          (omega arith) (omega arith) (omega arith) tt c.self.invariant.0.top (more_below s.places.items (length s.bytes.items) _ s.in_force (omega arith) c.self.invariant.0.now) (omega arith) (omega arith),
+      modes_more (reads.Own _) false s.in_force c.args.charge _ s.frames.items s.modes.items s.modes.items s.modes.room s.frames.room tt (omega arith) c.self.invariant.1,
+    )
 
 pub returns : goal.returns
 returns g c =

@@ -1,4 +1,4 @@
-use Rattle.std.proofs.Common.{None, ◌≡◌, ◌++◌, ◌∷◌, ℕ, length, map, refl, ap, ap₂, sym, ◌∙◌, length-append, subst, arith}
+use Rattle.std.proofs.Common.{None, false, ◌≡◌, ◌++◌, ◌∷◌, ℕ, length, map, refl, ap, ap₂, sym, ◌∙◌, length-append, subst, arith}
 use Rattle.nr_units.specs.Items.{Items}
 use Rattle.nr_levels.specs.declared.frame.Span.{Span}
 use Rattle.nr_levels.specs.Levels.{Text, deeper}
@@ -45,11 +45,12 @@ invariant_of-self g c =
     let lens = c.requires.lens in
     let paid = c.requires.paid in
     let below = subst (EndBy (length ys)) (sym (part_new s.places.items spans (record { first = length s.places.items; last = length qs }) refl refl)) (spans_end (length s.bytes.items) c.args.lens.now (length ys) (omega arith)) in
-    rw (c.push.ensures, c.len-last.ensures.value, c.push_spans.ensures, c.extend.ensures.items, c.extend.ensures.room, c.len-first.ensures.value, c.len-height.ensures.value)
-    (pushed_stands s.frames.items s.bytes.items ys s.places.items qs s.in_force (record { first = length s.places.items; last = length qs }) s.bytes.room s.frames.room s.places.room
-    (reads.Text c.args.id 0) c.args.charge false c.self.invariant.0 (same_start s.bytes.items c.args.bytes.now) (same_start s.places.items spans) (omega arith)
-    (omega arith) (omega arith) tt tt refl (record { within = omega arith; below = below }) (omega arith) (omega arith),
-    modes_more _ s.frames.items s.modes.items s.modes.items s.modes.room s.frames.room tt refl c.self.invariant.1)
+    rw (c.push.ensures, c.len-last.ensures.value, c.push_spans.ensures, c.extend.ensures.items, c.extend.ensures.room, c.len-first.ensures.value, c.len-height.ensures.value) (
+      pushed_stands s.frames.items s.bytes.items ys s.places.items qs s.in_force (record { first = length s.places.items; last = length qs }) s.bytes.room s.frames.room s.places.room
+          (reads.Text c.args.id 0) c.args.charge false c.self.invariant.0 (same_start s.bytes.items c.args.bytes.now) (same_start s.places.items spans) (omega arith)
+          (omega arith) (omega arith) tt tt refl (record { within = omega arith; below = below }) (omega arith) (omega arith),
+      modes_more (reads.Text c.args.id 0) false s.in_force c.args.charge _ s.frames.items s.modes.items s.modes.items s.modes.room s.frames.room tt (omega arith) c.self.invariant.1,
+    )
 
 pub returns : goal.returns
 returns g c =
