@@ -76,16 +76,6 @@ pub may_go_once : {K : Type 0} → (fs : List Frame) (ms : List K) (xs : List �
 may_go_once [] ms xs ps now room most v view h = absurd (subst (λ (w : Levels _). HasNext (front_of w.levels)) (sym view) h)
 may_go_once (f ∷ fs) ms xs ps now room most v view h = next_by xs f.reads (mode_of f.has_mode ms) (subst (λ (w : Levels _). HasNext (front_of w.levels)) (sym view) h)
 
--- the modes are those of the frames still
-pub gone_modes : {K : Type 0} → (n : ℕ) (fs : List Frame) (ms : List K) (mode_room most : ℕ) → AreModes fs ms mode_room most → AreModes (newest_gone_on n fs) ms mode_room most
-gone_modes n [] ms mode_room most h = h
-gone_modes n (f ∷ fs) ms mode_room most h = record { each = h.each; marks = (mark f.reads f.has_mode h.marks.0, h.marks.1); suffice = h.suffice }
-  where
-    mark : (r : Reads) (has : Bool) → MarkHasMode r has → MarkHasMode (gone_on n r) has
-    mark (reads.Text id place) has is = is
-    mark (reads.Own s) has is = is
-    mark reads.Mark has is = is
-
 -- ---- a mode that comes next
 
 own_has_none : (K : Type 0) → (bs : List ℕ) → HasMark {K = K} (Some (front (Own bs))) → ⊥

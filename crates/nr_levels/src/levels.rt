@@ -15,9 +15,10 @@ use nr_rooms::FixedVec;
 use std::alloc::{AllocError, Global};
 use std::marker::Model;
 
-/// The levels that are open, the newest first, with room for a number of them that stays. Bytes that a level brings lie on a stack, and
-/// so do the places of arguments: a level's end takes away what came with it, and nothing is ever moved. The modes lie on one of their own. Each call
-/// takes constant time, and that of a copy of the bytes that it is given; `new` is the only one that allocates.
+/// The levels that are open, the newest first, with room for a number of them that stays. Bytes that a level brings
+/// lie on a stack, and so do the places of arguments: a level's end takes away what came with it, and nothing is ever
+/// moved. The modes to resume lie on a stack of their own. Each call takes constant time, and that of a copy of the
+/// bytes that it is given; `new` is the only one that allocates.
 ///
 /// A level whose end was taken stays while the mode behind it is still to be resumed.
 #[derive(Drop)]
