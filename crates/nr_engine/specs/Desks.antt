@@ -11,6 +11,7 @@ sizes_of b = record {
   names = b.stored / 48 + 57;
   drafts = b.stored / 48 + 1;
   frames = b.depth;
+  modes = b.depth;
   bytes = b.stored;
   places = 9 * min b.depth (b.stored / 16);
   gathering = b.stored;
@@ -28,5 +29,5 @@ sizes_of b = record {
 -- the elements of all slices
 abbrev pub sum_of : Sizes → ℕ
 sum_of s =
-    s.elements + s.slots + s.names + s.drafts + s.frames + s.bytes + s.places + s.gathering
+    s.elements + s.slots + s.names + s.drafts + s.frames + s.modes + s.bytes + s.places + s.gathering
     + s.registers + s.traps + s.words + s.cells + s.pieces + s.row + s.page_cells + s.page_texts + s.page_rows

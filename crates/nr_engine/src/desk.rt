@@ -25,6 +25,7 @@ pub fn sizes(limits: Limits) -> Sizes
         names: store.names,
         drafts: store.drafts,
         frames: store.frames,
+        modes: store.modes,
         bytes: store.bytes,
         places: store.places,
         gathering: store.gathering,

@@ -8,6 +8,7 @@ pub struct Sizes {
     pub names: usize,
     pub drafts: usize,
     pub frames: usize,
+    pub modes: usize,
     pub bytes: usize,
     pub places: usize,
     pub gathering: usize,

@@ -1,15 +1,15 @@
 -- Lemmas on a level more.
-use Rattle.std.proofs.Common.{◌≡◌, ℕ, zero, suc, ◌+◌, ◌*◌, ◌-◌, ◌<◌, ◌≤◌, List, [], ◌∷◌, ◌++◌, length, map, take, drop, get_or, sum, Option, refl, ap, ap₂, sym, ◌∙◌, inl, inr, append_assoc, length-append, arith}
+use Rattle.std.proofs.Common.{◌≡◌, ℕ, Bool, zero, suc, ◌+◌, ◌*◌, ◌-◌, ◌<◌, ◌≤◌, List, [], ◌∷◌, ◌++◌, length, map, take, drop, get_or, sum, refl, ap, ap₂, sym, ◌∙◌, inl, inr, append_assoc, length-append, arith}
 use Rattle.std.proofs.lemmas.List.{drop_at, take_all, take-append-le, get_or-map, get_or_past, length-take, length-drop, length-map, take-append-drop}
 use Rattle.std.proofs.lemmas.List.Sums.{sum_by-cons}
 use Rattle.std.proofs.lemmas.Bool.{cases_lt}
 use Rattle.nr_units.specs.Items.{Items}
 use Rattle.nr_levels.specs.Levels.{Levels, total, deeper, cut, argument}
-use Rattle.nr_levels.specs.Frames.{part, arguments_of, source_of, open_of, levels_of, EndBy, AreBelow, ReadsBelow, IsBare, reader, AreLevels, spans_from, no_span}
+use Rattle.nr_levels.specs.Frames.{part, arguments_of, source_of, resume_of, opens_of, mode_of, modes_behind, levels_of, EndBy, AreBelow, ReadsBelow, IsBare, reader, AreLevels, MarkHasMode, modes_in, AreModes, spans_from, no_span}
 use Rattle.nr_levels.specs.declared.frame.Span.{Span}
 use Rattle.nr_levels.specs.declared.frame.Frame.{Frame}
 use Rattle.nr_levels.specs.declared.frame.Reads.{Reads}
-use Rattle.nr_levels.proofs.Stacked.{same_levels, same_arguments, same_stack, same_below, end_by_more, stacked_total, stacked_places, readers_deep, readers_total}
+use Rattle.nr_levels.proofs.Stacked.{same_levels, same_arguments, same_stack, same_below, end_by_more, stacked_total, stacked_places, readers_deep, readers_total, length-opens_of, modes_deep}
 
 -- items that are the same, with the same room
 pub items_are : {T : Type 0} (v w : Items T) → v.items ≡ w.items → v.room ≡ w.room → v ≡ w
@@ -20,33 +20,54 @@ pub record HasRoom (bytes : List ℕ) (places : List Span) (more room count most
   pub bytes_fit : length bytes + more ≤ room
   pub places_fit : length places + 9 ≤ place_room
 
-pub has_room : {K : Type 0} → (fs : List (Frame K)) (xs : List ℕ) (ps : List Span) (now : Span) (room most place_room : ℕ) (v : Levels K) (more charge : ℕ) → AreLevels fs xs ps now room most place_room → levels_of fs xs ps now room most ≡ v
+pub has_room : {K : Type 0} → (fs : List Frame) (ms : List K) (xs : List ℕ) (ps : List Span) (now : Span) (room most place_room : ℕ) (v : Levels K) (more charge : ℕ) → AreLevels fs xs ps now room most place_room → levels_of fs ms xs ps now room most ≡ v
     → 16 + more ≤ charge → total v.levels + charge ≤ v.room → length v.levels < v.most → HasRoom xs ps more room (length fs) most place_room
-has_room fs xs ps now room most place_room v more charge h view paid fits deep =
-    let all = stacked_total xs ps ps fs now (length xs) h.stacked in
+has_room fs ms xs ps now room most place_room v more charge h view paid fits deep =
+    let all = stacked_total xs ps ps fs ms now (length xs) h.stacked in
     let few = stacked_places ps fs now (length xs) h.stacked in
     let less = readers_deep fs in
-    let read = readers_total xs ps ps fs now (length xs) h.stacked in
-    let is : total (map (open_of xs ps) fs) ≡ total v.levels = ap (λ (w : Levels _). total w.levels) view in
+    let read = readers_total xs ps ps fs ms now (length xs) h.stacked in
+    let is : total (opens_of xs ps fs ms) ≡ total v.levels = ap (λ (w : Levels _). total w.levels) view in
     let same_room : room ≡ v.room = ap (λ (w : Levels _). w.room) view in
     let same_most : most ≡ v.most = ap (λ (w : Levels _). w.most) view in
-    let long : length (map (open_of xs ps) fs) ≡ length v.levels = ap (λ (w : Levels _). length w.levels) view in
-    let mapped = length-map fs (open_of xs ps) in
+    let long : length (opens_of xs ps fs ms) ≡ length v.levels = ap (λ (w : Levels _). length w.levels) view in
+    let mapped = length-opens_of xs ps fs ms in
     let top = h.top in
     let suffice = h.places_suffice in
     record { bytes_fit = omega arith; places_fit = omega arith }
 
--- a level more, over rows that go on from the old ones
-module _ {K : Type 0} (fs : List (Frame K)) (xs ys : List ℕ) (ps qs : List Span) (now inforce : Span) (room most place_room : ℕ) (r : Reads K) (charge : ℕ) (resume : Option K)
-    (h : AreLevels fs xs ps now room most place_room) (bytes : take (length xs) ys ≡ take (length xs) xs) (places : take (length ps) qs ≡ take (length ps) ps) (longer : length ps ≤ length qs) where
-  abbrev pub pushed : Frame K
-  pushed = record { reads = r; old = now; charge = charge; height = length xs; resume = resume }
+-- there are as many frames as levels
+pub depth_is : {K : Type 0} → (fs : List Frame) (ms : List K) (xs : List ℕ) (ps : List Span) (now : Span) (room most : ℕ) (v : Levels K) → levels_of fs ms xs ps now room most ≡ v → length fs ≡ length v.levels
+depth_is fs ms xs ps now room most v view = sym (length-opens_of xs ps fs ms) ∙ ap (λ (w : Levels _). length w.levels) view
 
-  pub pushed_is : levels_of (pushed ∷ fs) ys qs inforce room most ≡ deeper (source_of ys r) (arguments_of ys qs inforce) charge resume (levels_of fs xs ps now room most)
-  pushed_is =
+-- there is room for its frame, and for its mode
+pub more_frames : {K : Type 0} → (fs : List Frame) (ms : List K) (xs : List ℕ) (ps : List Span) (now : Span) (room most : ℕ) (v : Levels K) → levels_of fs ms xs ps now room most ≡ v → length v.levels < v.most → length fs < most
+more_frames fs ms xs ps now room most v view deep =
+    let same_most : most ≡ v.most = ap (λ (w : Levels _). w.most) view in
+    let long : length (opens_of xs ps fs ms) ≡ length v.levels = ap (λ (w : Levels _). length w.levels) view in
+    let each = length-opens_of xs ps fs ms in
+    omega arith
+
+pub more_modes : {K : Type 0} → (fs : List Frame) (ms : List K) (mode_room most : ℕ) → AreModes fs ms mode_room most → length fs < most → length ms < mode_room
+more_modes fs ms mode_room most h deep =
+    let each = h.each in
+    let few = modes_deep fs in
+    let suffice = h.suffice in
+    omega arith
+
+-- a level more, over rows that go on from the old ones
+module _ (fs : List Frame) (xs ys : List ℕ) (ps qs : List Span) (now inforce : Span) (room most place_room : ℕ) (r : Reads) (charge : ℕ) (has : Bool)
+    (h : AreLevels fs xs ps now room most place_room) (bytes : take (length xs) ys ≡ take (length xs) xs) (places : take (length ps) qs ≡ take (length ps) ps) (longer : length ps ≤ length qs) where
+  abbrev pub pushed : Frame
+  pushed = record { reads = r; old = now; charge = charge; height = length xs; has_mode = has }
+
+  -- with these modes
+  pub pushed_is : {K : Type 0} (ms : List K) → levels_of (pushed ∷ fs) ms ys qs inforce room most
+      ≡ deeper (source_of ys r (mode_of has ms)) (arguments_of ys qs inforce) charge (resume_of r (mode_of has ms)) (levels_of fs (modes_behind has ms) xs ps now room most)
+  pushed_is ms =
       let top = h.top in
-      ap₂ (λ ls os. record { levels = record { source = source_of ys r; old = os; charge = charge; resume = resume } ∷ ls; arguments = arguments_of ys qs inforce; room = room; most = most })
-      (same_levels ys xs qs ps (length xs) (length ps) fs now (length xs) bytes places (omega arith) (omega arith) h.stacked)
+      ap₂ (λ ls os. record { levels = record { source = source_of ys r (mode_of has ms); old = os; charge = charge; resume = resume_of r (mode_of has ms) } ∷ ls; arguments = arguments_of ys qs inforce; room = room; most = most })
+      (same_levels ys xs qs ps (length xs) (length ps) fs (modes_behind has ms) now (length xs) bytes places (omega arith) (omega arith) h.stacked)
       (same_arguments ys xs qs ps (length xs) (length ps) now bytes places (omega arith) h.now)
 
   pub pushed_stands : length ys ≤ charge + length xs → length xs ≤ length ys → ReadsBelow (length ys) r → IsBare r now inforce (length xs) (length ys) → inforce.last ≡ length qs → AreBelow qs (length ys) inforce → length qs ≤ length ps + 9 * reader r → 16 * reader r ≤ charge
@@ -73,6 +94,13 @@ module _ {K : Type 0} (fs : List (Frame K)) (xs ys : List ℕ) (ps qs : List Spa
         places_small = h.places_small;
         small = h.small;
       }
+
+-- the modes are those of the frames still, with one frame more
+pub modes_more : {K : Type 0} → (r : Reads) (has : Bool) (old : Span) (charge height : ℕ) (fs : List Frame) (ms ns : List K) (mode_room most : ℕ) → MarkHasMode r has → length ns ≡ modes_in has + length ms → AreModes fs ms mode_room most
+    → AreModes (record { reads = r; old = old; charge = charge; height = height; has_mode = has } ∷ fs) ns mode_room most
+modes_more r has old charge height fs ms ns mode_room most mark longer h =
+    let each = h.each in
+    record { each = omega arith; marks = (mark, h.marks); suffice = h.suffice }
 
 pub more_below : (ps : List Span) (h k : ℕ) (s : Span) → h ≤ k → AreBelow ps h s → AreBelow ps k s
 more_below ps h k s le below = record { within = below.within; below = end_by_more h k (part ps s) le below.below }

@@ -29,6 +29,6 @@ top_is xs n y is value =
     ∙ ap (λ x. x ∷ drop 1 (reverse xs)) (sym value)
 
 -- a row whose first frame may go on has one
-pub some_frame : {K : Type 0} (n : ℕ) (frames : List (Frame K)) → NewestMayGoOn n frames → 0 < length frames
+pub some_frame : (n : ℕ) (frames : List Frame) → NewestMayGoOn n frames → 0 < length frames
 some_frame n [] may = absurd may
 some_frame n (f ∷ fs) may = omega arith

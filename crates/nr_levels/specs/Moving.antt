@@ -18,28 +18,22 @@ Comes nexts.End front = front ≡ Some fronts.End
 Comes nexts.Resume front = HasMark front
 
 -- what a frame reads, so many elements further on
-abbrev pub gone_on : {K : Type 0} → ℕ → Reads K → Reads K
+abbrev pub gone_on : ℕ → Reads → Reads
 gone_on n (reads.Text id place) = reads.Text id (place + n)
 gone_on n (reads.Own s) = reads.Own (record s { first = s.first + n })
-gone_on n (reads.Mark mode) = reads.Mark mode
+gone_on n reads.Mark = reads.Mark
 
 -- it has so many
-abbrev pub MayGoOn : {K : Type 0} → ℕ → Reads K → Type 0
+abbrev pub MayGoOn : ℕ → Reads → Type 0
 MayGoOn n (reads.Text id place) = 0 < n → place + n < 2 ^ 32
 MayGoOn n (reads.Own s) = n ≤ s.last - s.first
-MayGoOn n (reads.Mark mode) = Unit {0}
+MayGoOn n reads.Mark = Unit {0}
 
 -- the newest frame, so many elements further on
-abbrev pub newest_gone_on : {K : Type 0} → ℕ → List (Frame K) → List (Frame K)
+abbrev pub newest_gone_on : ℕ → List Frame → List Frame
 newest_gone_on n [] = []
 newest_gone_on n (f ∷ fs) = record f { reads = gone_on n f.reads } ∷ fs
 
-abbrev pub NewestMayGoOn : {K : Type 0} → ℕ → List (Frame K) → Type 0
+abbrev pub NewestMayGoOn : ℕ → List Frame → Type 0
 NewestMayGoOn n [] = ⊥
 NewestMayGoOn n (f ∷ fs) = MayGoOn n f.reads
-
--- the mode that a frame still has to resume
-abbrev pub mode_of : {K : Type 0} → Reads K → Option K
-mode_of (reads.Text id place) = None
-mode_of (reads.Own s) = None
-mode_of (reads.Mark mode) = Some mode

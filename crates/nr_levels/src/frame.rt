@@ -11,11 +11,6 @@ pub struct Span {
 }
 
 impl Span {
-    /// A part to fill new slices with.
-    pub const fn blank() -> Span {
-        Span { first: 0, last: 0 }
-    }
-
     // Without so many of its first places.
     pub(crate) fn behind(self, n: u32) -> Span
         requires { n ≤ self.last - self.first }
@@ -30,17 +25,17 @@ impl Span {
 
 // What a level reads, and how far it has come.
 #[derive(Clone, Copy, Drop)]
-pub(crate) enum Reads<K> {
+pub(crate) enum Reads {
     // A text of a pool, from this place on.
     Text(Id, u32),
     // A part of the bytes that the levels keep.
     Own(Span),
-    // Nothing: its end was taken, and this mode is still to be resumed.
-    Mark(K),
+    // Nothing: its end was taken, and its mode is still to be resumed.
+    Mark,
 }
 
-impl<K: Copy> Reads<K> {
-    ghost use Rattle.nr_levels.specs.Moving.{gone_on, MayGoOn, mode_of};
+impl Reads {
+    ghost use Rattle.nr_levels.specs.Moving.{gone_on, MayGoOn};
 
     // So many elements further on.
     #[inline]
@@ -51,58 +46,23 @@ impl<K: Copy> Reads<K> {
         match self {
             Reads::Text(_, place) => *place += n,
             Reads::Own(span) => *span = span.behind(n),
-            Reads::Mark(_) => {}
-        }
-    }
-
-    // The mode that is to be resumed.
-    pub(crate) fn mode(&self) -> Option<K>
-        ensures { result ≡ mode_of self.now }
-    {
-        match self {
-            Reads::Mark(mode) => Some(*mode),
-            _ => None,
+            Reads::Mark => {}
         }
     }
 }
 
-/// A level, with a mode of `K` to resume behind its end.
+/// A level, but for the mode that is resumed behind its end: the levels keep it.
 //
 // The arguments in force before it are a part of the row of places, and below `height` lie the bytes that were kept
 // before it.
 #[derive(Clone, Copy, Drop)]
-pub struct Frame<K> {
-    pub(crate) reads: Reads<K>,
+pub struct Frame {
+    pub(crate) reads: Reads,
     pub(crate) old: Span,
     pub(crate) charge: u32,
     pub(crate) height: u32,
-    pub(crate) resume: Option<K>,
-}
-
-impl<K: Copy> Frame<K> {
-    /// A frame to fill new slices with.
-    pub const fn blank() -> Frame<K> {
-        Frame {
-            reads: Reads::Own(Span::blank()),
-            old: Span::blank(),
-            charge: 0,
-            height: 0,
-            resume: None,
-        }
-    }
-
-    // The frame, reading this.
-    pub(crate) fn with(self, reads: Reads<K>) -> Frame<K>
-        ensures { result ≡ record self { reads = reads } }
-    {
-        Frame {
-            reads,
-            old: self.old,
-            charge: self.charge,
-            height: self.height,
-            resume: self.resume,
-        }
-    }
+    // Whether one of the modes that are kept is its own.
+    pub(crate) has_mode: bool,
 }
 
 /// What the newest level gives next, a mode left where it lies.

@@ -1,6 +1,7 @@
 //! The levels that are open, and the bytes and arguments that they keep.
 ghost use Rattle.std.specs.Prelude.{◌≡◌, ◌+◌, ◌*◌, ◌/◌, ◌^◌, ◌<◌, ◌≤◌, [], length, min, sum, nat_le, Some, None, IfOk};
 ghost use Rattle.nr_levels.specs.Levels.{Text, Own, total, front_of, advanced, HasNext, HasEnd, HasMark, deeper, closed, charge_of_newest, resumed, argument, cut};
+ghost use Rattle.nr_levels.specs.Frames.{mode_of, modes_behind, modes_in};
 ghost use Rattle.nr_levels.specs.Further.{further_on, NewestReaches};
 ghost use Rattle.nr_levels.specs.Windows.{source_in, rest_of};
 ghost use Rattle.nr_levels.specs.Moving.{Comes};
@@ -14,14 +15,17 @@ use nr_rooms::FixedVec;
 use std::alloc::{AllocError, Global};
 use std::marker::Model;
 
-/// The levels that are open, the newest first, with room for a number of them that stays. Bytes that a level brings lie on a stack, and
-/// so do the places of arguments: a level's end takes away what came with it, and nothing is ever moved. Each call
-/// takes constant time, and that of a copy of the bytes that it is given; `new` is the only one that allocates.
+/// The levels that are open, the newest first, with room for a number of them that stays. Bytes that a level brings
+/// lie on a stack, and so do the places of arguments: a level's end takes away what came with it, and nothing is ever
+/// moved. The modes to resume lie on a stack of their own. Each call takes constant time, and that of a copy of the
+/// bytes that it is given; `new` is the only one that allocates.
 ///
 /// A level whose end was taken stays while the mode behind it is still to be resumed.
 #[derive(Drop)]
 pub struct Levels<K: Copy> {
-    frames: Stack<Frame<K>>,
+    frames: Stack<Frame>,
+    // The modes of the frames that have one.
+    modes: Stack<K>,
     bytes: FixedVec<u8>,
     places: FixedVec<Span>,
     // The arguments in force, in `places`.
@@ -30,13 +34,32 @@ pub struct Levels<K: Copy> {
 
 impl<K: Copy> Model for Levels<K> {
     ghost use Rattle.nr_levels.specs.Levels.{Levels};
-    ghost use Rattle.nr_levels.specs.Frames.{levels_of, AreLevels};
+    ghost use Rattle.nr_levels.specs.Frames.{levels_of, AreLevels, AreModes};
 
     ghost Value = { Levels K };
 
-    ghost view = { λ s. levels_of s.frames.items s.bytes.items s.places.items s.in_force s.bytes.room s.frames.room };
+    ghost view = { λ s. levels_of s.frames.items s.modes.items s.bytes.items s.places.items s.in_force s.bytes.room s.frames.room };
 
-    ghost invariant = { λ s. AreLevels s.frames.items s.bytes.items s.places.items s.in_force s.bytes.room s.frames.room s.places.room };
+    ghost invariant = { λ s. (AreLevels s.frames.items s.bytes.items s.places.items s.in_force s.bytes.room s.frames.room s.places.room)
+        × (AreModes s.frames.items s.modes.items s.modes.room s.frames.room) };
+}
+
+// Keeps a mode, if there is one. Tells whether there is.
+#[inline(always)]
+fn keep<K: Copy>(modes: &mut Stack<K>, mode: Option<K>) -> bool
+    requires { length modes.old.items < modes.old.room }
+    ensures mode { mode_of result modes.new.items ≡ mode }
+    ensures rest { modes_behind result modes.new.items ≡ modes.old.items }
+    ensures count { length modes.new.items ≡ modes_in result + length modes.old.items }
+    ensures room { modes.new.room ≡ modes.old.room }
+{
+    match mode {
+        Some(mode) => {
+            modes.push(mode);
+            true
+        }
+        None => false,
+    }
 }
 
 impl<K: Copy> Levels<K> {
@@ -48,6 +71,7 @@ impl<K: Copy> Levels<K> {
     {
         Ok(Levels {
             frames: Stack::new(alloc, most)?,
+            modes: Stack::new(alloc, most)?,
             bytes: FixedVec::new(alloc, room)?,
             places: FixedVec::new(alloc, 9 * most.min(room / 16))?,
             in_force: Span { first: 0, last: 0 },
@@ -59,6 +83,7 @@ impl<K: Copy> Levels<K> {
         ensures { self.new ≡ record self.old { levels = []; arguments = [] } }
     {
         self.frames.clear();
+        self.modes.clear();
         self.bytes.clear();
         self.places.clear();
         self.in_force = Span { first: 0, last: 0 };
@@ -97,7 +122,7 @@ impl<K: Copy> Levels<K> {
                 }
                 Next::Byte(self.bytes.get(span.first as usize))
             }
-            Reads::Mark(_) => Next::Resume,
+            Reads::Mark => Next::Resume,
         }
     }
 
@@ -117,7 +142,7 @@ impl<K: Copy> Levels<K> {
                 }
                 Rest::Bytes(&self.bytes.as_slice()[span.first as usize..span.last as usize])
             }
-            Reads::Mark(_) => Rest::Bytes(&[]),
+            Reads::Mark => Rest::Bytes(&[]),
         }
     }
 
@@ -127,9 +152,7 @@ impl<K: Copy> Levels<K> {
         ensures mode { front_of self.old.levels ≡ Some (fronts.Resume mode.new) }
         ensures rest { self.new ≡ resumed self.old.levels self.old }
     {
-        if let Some(next) = self.frames.at(0).reads.mode() {
-            *mode = next;
-        }
+        *mode = self.modes.get(0);
         self.drop_mode();
     }
 
@@ -139,6 +162,7 @@ impl<K: Copy> Levels<K> {
         ensures { self.new ≡ resumed self.old.levels self.old }
     {
         self.frames.pop();
+        self.modes.pop();
     }
 
     /// The newest level goes on behind the element that it gave.
@@ -163,20 +187,22 @@ impl<K: Copy> Levels<K> {
     }
 
     /// Opens a level that reads a text, with no arguments in force, and with a mode to resume behind its end.
+    #[inline(always)]
     pub fn open_text(&mut self, id: Id, charge: u32, resume: Option<K>)
         requires room { length self.old.levels < self.old.most }
         requires paid { 16 ≤ charge }
         requires bytes { total self.old.levels + charge ≤ self.old.room }
         ensures { self.new ≡ deeper (Text id 0) [] charge resume self.old }
     {
-        let frame = Frame {
+        let has_mode = keep(&mut self.modes, resume);
+        let height = self.bytes.len() as u32;
+        self.frames.push(Frame {
             reads: Reads::Text(id, 0),
             old: self.in_force,
             charge,
-            height: self.bytes.len() as u32,
-            resume,
-        };
-        self.frames.push(frame);
+            height,
+            has_mode,
+        });
         let top = self.places.len() as u32;
         self.in_force = Span {
             first: top,
@@ -200,7 +226,7 @@ impl<K: Copy> Levels<K> {
             old: self.in_force,
             charge,
             height,
-            resume: None,
+            has_mode: false,
         });
         self.bytes.extend(bytes);
         push_spans(&mut self.places, height, lens);
@@ -223,7 +249,7 @@ impl<K: Copy> Levels<K> {
             old: self.in_force,
             charge,
             height: first,
-            resume: None,
+            has_mode: false,
         });
     }
 
@@ -272,7 +298,7 @@ impl<K: Copy> Levels<K> {
             old: self.in_force,
             charge,
             height,
-            resume: None,
+            has_mode: false,
         });
     }
 
@@ -294,17 +320,17 @@ impl<K: Copy> Levels<K> {
         self.bytes.truncate(height as usize);
         self.places.truncate(old.last as usize);
         self.in_force = old;
-        let Some(mode) = frame.resume else {
-            self.frames.pop();
+        if frame.has_mode {
+            self.frames.set_top(Frame {
+                reads: Reads::Mark,
+                old,
+                charge: 0,
+                height,
+                has_mode: true,
+            });
             return charge;
-        };
-        self.frames.set_top(Frame {
-            reads: Reads::Mark(mode),
-            old,
-            charge: 0,
-            height,
-            resume: None,
-        });
+        }
+        self.frames.pop();
         charge
     }
 

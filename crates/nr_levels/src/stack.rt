@@ -124,7 +124,7 @@ impl<T: Copy> Stack<T> {
     }
 }
 
-impl<K: Copy> Stack<Frame<K>> {
+impl Stack<Frame> {
     ghost use Rattle.nr_levels.specs.Moving.{newest_gone_on, NewestMayGoOn};
 
     /// What came last reads so many elements further on.

@@ -14,6 +14,8 @@ pub struct Room {
     pub drafts: usize,
     /// The levels.
     pub frames: usize,
+    /// The modes that are resumed behind levels.
+    pub modes: usize,
     /// The bytes that levels bring.
     pub bytes: usize,
     /// The places of arguments.
@@ -38,6 +40,7 @@ impl Room {
           names = limit / 48 + 1 + 56;
           drafts = limit / 48 + 1;
           frames = deepest;
+          modes = deepest;
           bytes = limit;
           places = 9 * min deepest (limit / 16);
           gathering = limit;
@@ -54,6 +57,7 @@ impl Room {
             names: limit / 48 + 1 + 56,
             drafts: limit / 48 + 1,
             frames: deepest,
+            modes: deepest,
             bytes: limit,
             places: 9 * deepest.min(limit / 16),
             gathering: limit,

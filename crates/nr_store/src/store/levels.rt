@@ -37,6 +37,7 @@ impl<K: Copy> Store<K> {
     }
 
     // Opens a level that reads the text of a name, with no arguments in force.
+    #[inline(always)]
     fn open(&mut self, name: Name, resume: Option<K>) -> Result<bool, Refusal>
         ensures answer { let text = words (find name self.old.names) in
             result ≡ checked (entered name text resume self.old) (is_some text) }

@@ -9,7 +9,7 @@ use Rattle.nr_levels.proofs.levels.Levels.argument_bytes.Goals as goal
 pub slice_bounds-result-end-2 : goal.slice_bounds-result-end-2
 slice_bounds-result-end-2 g c =
     let s = c.self.inside in
-    let below = end_at _ (part s.places.items s.in_force) c.args.n c.self.invariant.now.below in
+    let below = end_at _ (part s.places.items s.in_force) c.args.n c.self.invariant.0.now.below in
     omega (arith, below, ap (λ (t : Span). t.last) c.span_of-span.ensures, ap length c.as_slice.ensures.value)
 
 pub returns : goal.returns

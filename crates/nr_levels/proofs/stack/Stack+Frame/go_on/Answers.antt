@@ -4,10 +4,10 @@ use Rattle.nr_units.specs.Items.{Items}
 use Rattle.nr_levels.specs.declared.frame.Reads.{Reads}
 use Rattle.nr_levels.specs.Moving.{newest_gone_on}
 use Rattle.nr_levels.proofs.Reversed.{new_top, top_is, some_frame}
-use Rattle.nr_levels.proofs.stack.Stack+Frame+K.go_on.Goals as goal
+use Rattle.nr_levels.proofs.stack.Stack+Frame.go_on.Goals as goal
 
 pub returns : goal.returns
-returns g c =
+returns c =
     let s = c.self.inside in
     let xs = s.items.items in
     let n = c.args.n in
@@ -17,5 +17,5 @@ returns g c =
     let frame = some_frame n _ c.requires in
     let is : last + 1 ≡ length xs = omega (arith, c.len-last.ensures, s.items.ok.0, length-reverse xs) in
     ap (λ (ys : List _). record { items = ys; room = s.room })
-    (new_top xs last _ is ∙ ap (λ (r : Reads _). record f { reads = r } ∷ drop 1 (reverse xs)) c.go_on.ensures ∙ ap (newest_gone_on n) (sym (top_is xs last f is c.index_mut.ensures.value)))
+    (new_top xs last _ is ∙ ap (λ (r : Reads). record f { reads = r } ∷ drop 1 (reverse xs)) c.go_on.ensures ∙ ap (newest_gone_on n) (sym (top_is xs last f is c.index_mut.ensures.value)))
     ∙ ap (λ (w : Items _). record { items = newest_gone_on n w.items; room = w.room }) c.self.view_is
