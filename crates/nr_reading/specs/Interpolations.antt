@@ -1,5 +1,5 @@
 -- Interpolations and font escapes that stand whole in a row of items (CSTR 54, 2, 7.2, 7.3, 8; the groff manual, Copy Mode).
-use Rattle.std.specs.Prelude.{ℕ, ◌==◌, ◌&&◌, ◌||◌, not, Bool, true, false, List, [], ◌∷◌}
+use Rattle.std.specs.Prelude.{◌≡◌, ℕ, ◌==◌, ◌&&◌, ◌||◌, not, Bool, true, false, List, [], ◌∷◌}
 use Rattle.nr_reading.specs.declared.ask.Kind.{Kind}
 use Rattle.nr_reading.specs.declared.ask.Kind.TheVariants as kinds
 use Rattle.nr_reading.specs.declared.half.Half.{Half}
@@ -40,3 +40,7 @@ named k name h = record h {
   reading = record h.reading { due = due_of k name };
   notes = record h.notes { asked = name };
 }
+
+-- what is due is another, and the name that was asked for last; nothing else of what is half read
+abbrev pub AsksOnly : Half → Half → Type 0
+AsksOnly h g = g ≡ record h { reading = record h.reading { due = g.reading.due }; notes = record h.notes { asked = g.notes.asked } }

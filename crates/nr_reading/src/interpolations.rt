@@ -8,9 +8,9 @@ ghost use Rattle.nr_reading.specs.declared.half.Half.{Half as HalfRead};
 ghost use Rattle.nr_reading.specs.declared.mode.Due.TheVariants as dues;
 ghost use Rattle.nr_reading.specs.declared.mode.Mode.TheVariants as modes;
 ghost use Rattle.nr_reading.specs.Asking.{due_of, event_of};
-ghost use Rattle.nr_reading.specs.Interpolations.{interpolates, is_lone_name, is_named, begun, named};
+ghost use Rattle.nr_reading.specs.Interpolations.{AsksOnly, interpolates, is_lone_name, is_named, begun, named};
 ghost use Rattle.nr_reading.specs.Passing.{quiet};
-ghost use Rattle.nr_reading.specs.Runs.{HasMet};
+ghost use Rattle.nr_reading.specs.Runs.{HasMet, spot};
 
 use super::ask::{Kind, Sign, is_given};
 use super::event::Event;
@@ -131,6 +131,7 @@ impl Half {
         ensures taken { IfSome result (λ run. run.taken ≡ run.moves) }
         ensures within { IfSome result (λ run. place + run.taken ≤ length (I.fronts items.now)) }
         ensures due { IfSome result (λ run. run.event ≡ events.Nothing → self.new.reading.due ≡ dues.Look → ⊥) }
+        ensures text { self.old.reading.mode ≡ modes.Text → AsksOnly self.old self.new }
         ensures left { result ≡ None → self.new ≡ self.old }
     {
         let Some(first) = byte_at(items, place, before) else {
@@ -166,6 +167,7 @@ impl Half {
         ensures taken { IfSome result (λ run. run.taken ≡ run.moves) }
         ensures within { IfSome result (λ run. place + run.taken ≤ length (I.fronts items.now)) }
         ensures due { IfSome result (λ run. run.event ≡ events.Nothing → self.new.reading.due ≡ dues.Look → ⊥) }
+        ensures text { self.old.reading.mode ≡ modes.Text → AsksOnly self.old self.new }
         ensures left { result ≡ None → self.new ≡ self.old }
     {
         let Some(byte) = byte_at(items, place, 2) else {
@@ -194,6 +196,7 @@ impl Half {
         ensures taken { IfSome result (λ run. run.taken ≡ run.moves) }
         ensures within { IfSome result (λ run. place + run.taken ≤ length (I.fronts items.now)) }
         ensures due { IfSome result (λ run. run.event ≡ events.Nothing → self.new.reading.due ≡ dues.Look → ⊥) }
+        ensures text { self.old.reading.mode ≡ modes.Text → AsksOnly self.old self.new }
         ensures left { result ≡ None → self.new ≡ self.old }
     {
         match byte_at(items, place, 2) {
@@ -218,6 +221,7 @@ impl Half {
         ensures taken { IfSome result (λ run. run.taken ≤ run.moves) }
         ensures within { IfSome result (λ run. place + run.taken ≤ length (I.fronts items.now)) }
         ensures due { IfSome result (λ run. run.event ≡ events.Nothing → self.new.reading.due ≡ dues.Look → ⊥) }
+        ensures text { self.old.reading.mode ≡ modes.Text → AsksOnly self.old self.new }
         ensures left { result ≡ None → self.new ≡ self.old }
     {
         let Some(name) = byte_at(items, place, 2) else {
@@ -249,6 +253,7 @@ impl Half {
         ensures taken { IfSome result (λ run. run.taken ≤ run.moves) }
         ensures within { IfSome result (λ run. place + run.taken ≤ length (I.fronts items.now)) }
         ensures due { IfSome result (λ run. run.event ≡ events.Nothing → self.new.reading.due ≡ dues.Look → ⊥) }
+        ensures text { self.old.reading.mode ≡ modes.Text → AsksOnly self.old self.new }
         ensures left { result ≡ None → self.new ≡ self.old }
     {
         match self.reading.mode {
@@ -271,6 +276,7 @@ impl Half {
         ensures taken { IfSome result (λ run. run.taken ≤ run.moves) }
         ensures within { IfSome result (λ run. place + run.taken ≤ length (I.fronts items.now)) }
         ensures due { IfSome result (λ run. run.event ≡ events.Nothing → self.new.reading.due ≡ dues.Look → ⊥) }
+        ensures text { self.old.reading.mode ≡ modes.Text → AsksOnly self.old self.new }
         ensures left { result ≡ None → self.new ≡ self.old }
     {
         if !self.interpolates() {
@@ -281,6 +287,23 @@ impl Half {
             Some(b'n') => self.meet_register(items, place),
             Some(b'*') => self.meet_named(items, place, 2, Kind::String),
             Some(b'f') => self.meet_font(items, place),
+            _ => None,
+        }
+    }
+
+    /// The interpolation or font escape that a row begins with is met, as `meet_interpolation` says, where an item is looked at next.
+    #[inline(always)]
+    pub fn meet_front<I: Items>(&mut self, items: &I) -> Option<Run>
+        ensures met { IfSome result (λ run. HasMet run.moves (I.fronts items.now) self.old (spot run self.new)) }
+        ensures few { IfSome result (λ run. run.moves ≤ 6) }
+        ensures text { self.old.reading.mode ≡ modes.Text → AsksOnly self.old self.new }
+        ensures left { result ≡ None → self.new ≡ self.old }
+    {
+        if !matches!(self.reading.due, Due::Look) || items.count() == 0 {
+            return None;
+        }
+        match items.byte(0) {
+            Some(b'\\') => self.meet_interpolation(items, 0),
             _ => None,
         }
     }
