@@ -232,8 +232,8 @@ impl Reader {
         }
     }
 
-    // A register's step is added or taken away; it is spliced next.
-    fn step<K: Copy>(&mut self, up: bool, store: &mut Store<K>) -> Result<Event, Refusal>
+    /// A register's step is added or taken away; it is spliced next.
+    pub(crate) fn step<K: Copy>(&mut self, up: bool, store: &mut Store<K>) -> Result<Event, Refusal>
         ensures { called store.new self.new result
             ≡ called (stepped self.old.half.notes.asked up store.old) (then_due (Due.Register Sign.None) self.old) (Ok Event.Nothing) }
     {

@@ -7,12 +7,13 @@ ghost use Rattle.nr_store.specs.Windows.{left_times};
 ghost use Rattle.nr_reading.specs.declared.ask.Sign.TheVariants as signs;
 ghost use Rattle.nr_reading.specs.declared.mode.Due.TheVariants as dues;
 ghost use Rattle.nr_input.specs.Coming.{Coming, Reached, HoldsComing};
-ghost use Rattle.nr_input.specs.Interpolations.{IsSplice};
+ghost use Rattle.nr_input.specs.Interpolations.{IsSplice, stepping};
 ghost use Rattle.nr_input.specs.Limits.{limits_of};
 ghost use Rattle.nr_input.specs.Moving.{situation};
 ghost use Rattle.nr_input.specs.Runs.{HasRead, PaysAll, PaysMany};
 
 use super::adding::add_front;
+use super::levels::read_added;
 use super::reader::Reader;
 use super::runs::ByteRow;
 use super::target::Target;
@@ -125,13 +126,35 @@ impl Reader {
         }
     }
 
+    // The same, and where no level was opened the items in front of the newest level behind it.
+    #[inline(always)]
+    fn splice_on<K: Copy>(&mut self, bytes: &[u8], store: &mut Store<K>) -> Moved
+        requires due { IsSplice bytes.now store.old self.old }
+        ensures read { (c : Coming) (p : Reached) (supply : Option Supply) → HoldsComing c p supply → HasRead result.moves (situation store.old c self.old) result.event store.new self.new p supply }
+        ensures pays { (p : Reached) → PaysMany result.moves store.old p self.old result.event store.new p self.new }
+        ensures few { result.moves ≤ 131586 }
+        ensures limits { limits_of store.new self.new ≡ limits_of store.old self.old }
+        ensures reader { result.moves ≡ 0 → self.new ≡ self.old }
+        ensures store { result.moves ≡ 0 → store.new ≡ store.old }
+    {
+        let spliced = self.splice_read(bytes, store);
+        if spliced.moves == 0 || !matches!(spliced.event, Event::Nothing) || !self.looks() {
+            return spliced;
+        }
+        let row = read_added(self, store);
+        Moved {
+            moves: spliced.moves + row.moves,
+            event: row.event,
+        }
+    }
+
     // An argument is spliced.
     #[inline(never)]
     fn read_argument<K: Copy>(&mut self, n: u8, store: &mut Store<K>) -> Moved
         requires due { self.old.half.reading.due ≡ dues.Argument n }
         ensures read { (c : Coming) (p : Reached) (supply : Option Supply) → HoldsComing c p supply → HasRead result.moves (situation store.old c self.old) result.event store.new self.new p supply }
         ensures pays { (p : Reached) → PaysMany result.moves store.old p self.old result.event store.new p self.new }
-        ensures few { result.moves ≤ 65538 }
+        ensures few { result.moves ≤ 131586 }
         ensures limits { limits_of store.new self.new ≡ limits_of store.old self.old }
         ensures reader { result.moves ≡ 0 → self.new ≡ self.old }
         ensures store { result.moves ≡ 0 → store.new ≡ store.old }
@@ -146,7 +169,7 @@ impl Reader {
         }
         let mut chunk = [0; LONGEST];
         chunk[..len].copy_from_slice(bytes);
-        self.splice_read(&chunk[..len], store)
+        self.splice_on(&chunk[..len], store)
     }
 
     // A register is spliced.
@@ -155,17 +178,35 @@ impl Reader {
         requires due { self.old.half.reading.due ≡ dues.Register signs.None }
         ensures read { (c : Coming) (p : Reached) (supply : Option Supply) → HoldsComing c p supply → HasRead result.moves (situation store.old c self.old) result.event store.new self.new p supply }
         ensures pays { (p : Reached) → PaysMany result.moves store.old p self.old result.event store.new p self.new }
-        ensures few { result.moves ≤ 65538 }
+        ensures few { result.moves ≤ 131586 }
         ensures limits { limits_of store.new self.new ≡ limits_of store.old self.old }
         ensures reader { result.moves ≡ 0 → self.new ≡ self.old }
         ensures store { result.moves ≡ 0 → store.new ≡ store.old }
     {
         let register = store.register(self.half.notes.asked);
         if let Some(digit) = lone_digit(register.value, register.format) {
-            return self.splice_read(&[digit], store);
+            return self.splice_on(&[digit], store);
         }
         let text = format_number(i64::from(register.value), register.format);
-        self.splice_read(text.as_slice(), store)
+        self.splice_on(text.as_slice(), store)
+    }
+
+    // A register's step is added or taken away, and the register is spliced.
+    #[inline(never)]
+    fn read_stepped<K: Copy>(&mut self, up: bool, store: &mut Store<K>) -> Moved
+        requires due { self.old.half.reading.due ≡ dues.Register (stepping up) }
+        ensures read { (c : Coming) (p : Reached) (supply : Option Supply) → HoldsComing c p supply → HasRead result.moves (situation store.old c self.old) result.event store.new self.new p supply }
+        ensures pays { (p : Reached) → PaysMany result.moves store.old p self.old result.event store.new p self.new }
+        ensures few { result.moves ≤ 131587 }
+        ensures some { 0 < result.moves }
+        ensures limits { limits_of store.new self.new ≡ limits_of store.old self.old }
+    {
+        let _ = self.step(up, store);
+        let spliced = self.read_register(store);
+        Moved {
+            moves: spliced.moves + 1,
+            event: spliced.event,
+        }
     }
 
     /// An argument or a register is spliced where that is due and bytes are copied, and read. No move where that is not due or a limit
@@ -174,7 +215,7 @@ impl Reader {
     pub(crate) fn interpolate_at_once<K: Copy>(&mut self, store: &mut Store<K>) -> Moved
         ensures read { (c : Coming) (p : Reached) (supply : Option Supply) → HoldsComing c p supply → HasRead result.moves (situation store.old c self.old) result.event store.new self.new p supply }
         ensures pays { (p : Reached) → PaysMany result.moves store.old p self.old result.event store.new p self.new }
-        ensures few { result.moves ≤ 65538 }
+        ensures few { result.moves ≤ 131587 }
         ensures limits { limits_of store.new self.new ≡ limits_of store.old self.old }
         ensures reader { result.moves ≡ 0 → self.new ≡ self.old }
         ensures store { result.moves ≡ 0 → store.new ≡ store.old }
@@ -183,6 +224,8 @@ impl Reader {
         match due {
             Due::Argument(n) if copies(&self.half) => self.read_argument(n, store),
             Due::Register(Sign::None) if copies(&self.half) => self.read_register(store),
+            Due::Register(Sign::Plus) if copies(&self.half) => self.read_stepped(true, store),
+            Due::Register(Sign::Minus) if copies(&self.half) => self.read_stepped(false, store),
             _ => Moved {
                 moves: 0,
                 event: Event::Nothing,
