@@ -237,7 +237,7 @@ longer-most xs (b ∷ bs) =
     let cost = λ (d : Built). weight d.text in omega (arith, sum_by-cons cost (longer xs b) bs, sum_by-cons cost b bs, length-append b.text xs)
 
 -- what they are charged
-charge-more : {K : Type 0} (t : Target) (bs : List ℕ) (v : Stored K) → charge_of (with_more t bs v) ≤ charge_of v + length bs
+pub charge-more : {K : Type 0} (t : Target) (bs : List ℕ) (v : Stored K) → charge_of (with_more t bs v) ≤ charge_of v + length bs
 charge-more Argument bs v = let most = gathered_len-most bs v.gathered in omega (arith, most)
 charge-more Text bs v = let most = longer-most (map elements.Byte bs) v.building in omega (arith, most, length-map bs elements.Byte)
 

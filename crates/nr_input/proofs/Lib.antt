@@ -1,6 +1,7 @@
 mod Due
 mod Hearing
 mod Refusals
+pub mod BegunTargets
 pub mod BodyBytes
 pub mod BodyLines
 pub mod CommentLines

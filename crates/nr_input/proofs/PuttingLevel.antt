@@ -147,7 +147,7 @@ level_added_pays t n bytes v w q r few is =
 
 -- ---- how many of them are added
 
-charge-behind : {K : Type 0} (n : ℕ) (levels : List (Level K)) → sum_by level_charge (levels_behind n levels) ≡ sum_by level_charge levels
+pub charge-behind : {K : Type 0} (n : ℕ) (levels : List (Level K)) → sum_by level_charge (levels_behind n levels) ≡ sum_by level_charge levels
 charge-behind n [] = refl
 charge-behind n (Mark mode ∷ ls) = refl
 charge-behind n (Read l ∷ ls) = charge-rest l ls l.rest (drop n l.rest)

@@ -1,5 +1,6 @@
 pub mod Acting
 pub mod AtHand
+pub mod Beginnings
 pub mod BodyLines
 pub mod Coming
 pub mod CommentLines

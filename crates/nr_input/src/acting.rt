@@ -100,8 +100,8 @@ impl Reader {
         self.half.notes.name.name()
     }
 
-    // A string's text begins.
-    fn begin<K: Copy>(&mut self, store: &mut Store<K>) -> Result<Event, Refusal>
+    /// A string's text begins.
+    pub(crate) fn begin<K: Copy>(&mut self, store: &mut Store<K>) -> Result<Event, Refusal>
         ensures { called store.new self.new result ≡ acted Due.Begin store.old self.old }
     {
         let begun = if self.half.notes.defining.appends {

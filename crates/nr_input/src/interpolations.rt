@@ -15,7 +15,6 @@ ghost use Rattle.nr_input.specs.Runs.{HasRead, PaysAll, PaysMany};
 use super::adding::add_front;
 use super::levels::read_added;
 use super::reader::Reader;
-use super::runs::ByteRow;
 use super::target::Target;
 use nr_reading::{Due, Event, Half, Mode, Run, Sign};
 use nr_store::Store;
@@ -69,19 +68,20 @@ impl Reader {
     // Bytes are read as those of a level that brings them: how many, and in how many moves.
     #[inline(always)]
     fn read_bytes<K: Copy>(&mut self, bytes: &[u8], store: &mut Store<K>) -> Run
+        requires few { length bytes.now ≤ 64 }
         requires room { charge_of store.old + (32 + 2 * length bytes.now) ≤ store.old.limit }
         ensures read { (c : Coming) (p : Reached) (supply : Option Supply) → HoldsComing c p supply →
             HasRead result.moves (situation (reading_bytes bytes.now store.old) c self.old) result.event (left_times result.taken (reading_bytes bytes.now store.new)) self.new p supply }
         ensures pays { (p : Reached) → PaysAll result.moves (reading_bytes bytes.now store.old) p self.old result.event (left_times result.taken (reading_bytes bytes.now store.new)) p self.new }
         ensures within { result.taken ≤ length bytes.now }
-        ensures few { result.moves ≤ 65536 }
+        ensures few { result.moves ≤ 131074 }
         ensures levels { store.new.levels ≡ store.old.levels }
         ensures deepest { store.new.deepest ≡ store.old.deepest }
         ensures room { charge_of store.new + (32 + length bytes.now) ≤ store.new.limit }
         ensures limits { limits_of store.new self.new ≡ limits_of store.old self.old }
     {
         let Some(target) = Target::of(&self.half) else {
-            return self.half.meet_run(&ByteRow(bytes));
+            return self.meet_bytes(bytes, store);
         };
         let taken = add_front(target, &self.half, store, bytes);
         Run {
@@ -98,7 +98,7 @@ impl Reader {
         requires due { IsSplice bytes.now store.old self.old }
         ensures read { (c : Coming) (p : Reached) (supply : Option Supply) → HoldsComing c p supply → HasRead result.moves (situation store.old c self.old) result.event store.new self.new p supply }
         ensures pays { (p : Reached) → PaysMany result.moves store.old p self.old result.event store.new p self.new }
-        ensures few { result.moves ≤ 65538 }
+        ensures few { result.moves ≤ 131076 }
         ensures limits { limits_of store.new self.new ≡ limits_of store.old self.old }
         ensures reader { result.moves ≡ 0 → self.new ≡ self.old }
         ensures store { result.moves ≡ 0 → store.new ≡ store.old }
@@ -132,7 +132,7 @@ impl Reader {
         requires due { IsSplice bytes.now store.old self.old }
         ensures read { (c : Coming) (p : Reached) (supply : Option Supply) → HoldsComing c p supply → HasRead result.moves (situation store.old c self.old) result.event store.new self.new p supply }
         ensures pays { (p : Reached) → PaysMany result.moves store.old p self.old result.event store.new p self.new }
-        ensures few { result.moves ≤ 131586 }
+        ensures few { result.moves ≤ 197124 }
         ensures limits { limits_of store.new self.new ≡ limits_of store.old self.old }
         ensures reader { result.moves ≡ 0 → self.new ≡ self.old }
         ensures store { result.moves ≡ 0 → store.new ≡ store.old }
@@ -154,7 +154,7 @@ impl Reader {
         requires due { self.old.half.reading.due ≡ dues.Argument n }
         ensures read { (c : Coming) (p : Reached) (supply : Option Supply) → HoldsComing c p supply → HasRead result.moves (situation store.old c self.old) result.event store.new self.new p supply }
         ensures pays { (p : Reached) → PaysMany result.moves store.old p self.old result.event store.new p self.new }
-        ensures few { result.moves ≤ 131586 }
+        ensures few { result.moves ≤ 197124 }
         ensures limits { limits_of store.new self.new ≡ limits_of store.old self.old }
         ensures reader { result.moves ≡ 0 → self.new ≡ self.old }
         ensures store { result.moves ≡ 0 → store.new ≡ store.old }
@@ -178,7 +178,7 @@ impl Reader {
         requires due { self.old.half.reading.due ≡ dues.Register signs.None }
         ensures read { (c : Coming) (p : Reached) (supply : Option Supply) → HoldsComing c p supply → HasRead result.moves (situation store.old c self.old) result.event store.new self.new p supply }
         ensures pays { (p : Reached) → PaysMany result.moves store.old p self.old result.event store.new p self.new }
-        ensures few { result.moves ≤ 131586 }
+        ensures few { result.moves ≤ 197124 }
         ensures limits { limits_of store.new self.new ≡ limits_of store.old self.old }
         ensures reader { result.moves ≡ 0 → self.new ≡ self.old }
         ensures store { result.moves ≡ 0 → store.new ≡ store.old }
@@ -197,7 +197,7 @@ impl Reader {
         requires due { self.old.half.reading.due ≡ dues.Register (stepping up) }
         ensures read { (c : Coming) (p : Reached) (supply : Option Supply) → HoldsComing c p supply → HasRead result.moves (situation store.old c self.old) result.event store.new self.new p supply }
         ensures pays { (p : Reached) → PaysMany result.moves store.old p self.old result.event store.new p self.new }
-        ensures few { result.moves ≤ 131587 }
+        ensures few { result.moves ≤ 197125 }
         ensures some { 0 < result.moves }
         ensures limits { limits_of store.new self.new ≡ limits_of store.old self.old }
     {
@@ -215,7 +215,7 @@ impl Reader {
     pub(crate) fn interpolate_at_once<K: Copy>(&mut self, store: &mut Store<K>) -> Moved
         ensures read { (c : Coming) (p : Reached) (supply : Option Supply) → HoldsComing c p supply → HasRead result.moves (situation store.old c self.old) result.event store.new self.new p supply }
         ensures pays { (p : Reached) → PaysMany result.moves store.old p self.old result.event store.new p self.new }
-        ensures few { result.moves ≤ 131587 }
+        ensures few { result.moves ≤ 197125 }
         ensures limits { limits_of store.new self.new ≡ limits_of store.old self.old }
         ensures reader { result.moves ≡ 0 → self.new ≡ self.old }
         ensures store { result.moves ≡ 0 → store.new ≡ store.old }

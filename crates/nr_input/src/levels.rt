@@ -67,7 +67,7 @@ fn do_due<K: Copy>(reader: &mut Reader, store: &mut Store<K>) -> Moved
 fn act<K: Copy>(reader: &mut Reader, store: &mut Store<K>) -> Moved
     ensures read { (c : Coming) (p : Reached) (supply : Option Supply) → HoldsComing c p supply → HasRead result.moves (situation store.old c reader.old) result.event store.new reader.new p supply }
     ensures pays { (p : Reached) → PaysMany result.moves store.old p reader.old result.event store.new p reader.new }
-    ensures few { result.moves ≤ 131587 }
+    ensures few { result.moves ≤ 197125 }
     ensures limits { limits_of store.new reader.new ≡ limits_of store.old reader.old }
     ensures left { result.moves ≡ 0 → reader.new ≡ reader.old }
 {

@@ -3,13 +3,14 @@
 //!
 //! It stands on nr_units, nr_pool, nr_levels, nr_tables, nr_store and nr_reading. To read: `refusal`, `told`;
 //! `place`, `reader`; `acting`, `moving`; `splicing`, `setting`; then many moves at once: `at_hand`, `target`,
-//! `adding`, `runs`, `level_lines`, `level_rows`, `interpolations`, `levels`, `macro_lines`, `body_lines`,
+//! `adding`, `runs`, `level_lines`, `level_rows`, `beginnings`, `interpolations`, `levels`, `macro_lines`, `body_lines`,
 //! `comment_lines`, `dropped_lines`, `control_lines`.
 #![tactic(auto)]
 
 mod acting;
 mod adding;
 mod at_hand;
+mod beginnings;
 mod body_lines;
 mod comment_lines;
 mod control_lines;
