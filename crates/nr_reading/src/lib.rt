@@ -28,6 +28,7 @@ mod front;
 mod half;
 mod interpolations;
 mod kept;
+mod kept_bytes;
 mod line_rows;
 mod mode;
 mod notes;
