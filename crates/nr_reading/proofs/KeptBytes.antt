@@ -1,20 +1,18 @@
 -- Bytes that are met where they lie.
 use Rattle.std.specs.Prelude.{slice_get, map, drop, All, ◌==◌, ◌&&◌, ◌||◌, not}
 use Rattle.std.specs.Option.{option_map}
-use Rattle.std.proofs.Common.{◌≡◌, ℕ, ◌+◌, ◌<◌, Bool, true, false, List, [], ◌∷◌, length, get_or, Some, refl, sym, ap, ◌∙◌, add-one, arith}
+use Rattle.std.proofs.Common.{◌≡◌, ℕ, ◌+◌, ◌<◌, ◌≤◌, Bool, true, false, List, ◌∷◌, length, take, get_or, Some, refl, sym, subst, ap, ◌∙◌, add-one, arith}
 use Rattle.std.proofs.Math.Seq.{drop-cons}
 use Rattle.std.proofs.lemmas.Bool.{ne_eqb}
-use Rattle.std.proofs.lemmas.List.{length-map}
+use Rattle.std.proofs.lemmas.List.{length-map, take_all}
 use Rattle.std.proofs.lemmas.Option.{slice_get-map, slice_get-get_or}
 use Rattle.nr_reading.specs.declared.event.Event.TheVariants as events
 use Rattle.nr_reading.specs.declared.front.Front.TheVariants as fronts
 use Rattle.nr_reading.specs.declared.half.Half.{Half}
-use Rattle.nr_reading.specs.declared.mode.Mode.{Mode}
-use Rattle.nr_reading.specs.declared.mode.Mode.TheVariants as modes
 use Rattle.nr_reading.specs.ConditionRows.{ends_number}
 use Rattle.nr_reading.specs.Conditions.{parentheses}
 use Rattle.nr_reading.specs.InArgument.{IsPlain}
-use Rattle.nr_reading.specs.KeptBytes.{are_in_number, HasKept, IsKept}
+use Rattle.nr_reading.specs.KeptBytes.{are_in_number, HasKept}
 use Rattle.nr_reading.specs.Meeting.{reads_next}
 use Rattle.nr_reading.specs.Passing.{is_plain}
 use Rattle.nr_reading.specs.Rows.{LeadsOn}
@@ -63,6 +61,10 @@ all_begun bytes old mid new some next meets leads then =
 
 -- ---- plain bytes
 
+-- as many are plain as there are
+pub all_plain : (ending : ℕ) (bytes : List ℕ) (count : ℕ) → All (IsPlain ending) (take count bytes) → length bytes ≤ count → All (IsPlain ending) bytes
+all_plain ending bytes count plain all = subst (All (IsPlain ending)) (take_all count bytes all) plain
+
 pub plain_is : (ending b : ℕ) → IsPlain ending b → is_plain b ≡ true
 plain_is ending b plain = rw (ne_eqb b 92 plain.2, ne_eqb b 10 plain.1) refl
 
@@ -94,16 +96,3 @@ in_number bytes i level within are =
     let b = get_or bytes i 0 in
     let parts = split (b == 92) (ends_number b level) (are_in_number (drop (i + 1) bytes) (parentheses b level)) (sym (in_number-drop bytes i level within) ∙ are) in
     record { escape = parts.0; ends = parts.1; rest = parts.2 }
-
--- ---- other modes
-
--- in none of these modes
-pub kept_by_none : (m : Mode) (bytes : List ℕ) → (m ≡ modes.RequestLine → ⊥) → (m ≡ modes.RequestBlanks → ⊥) → (m ≡ modes.Condition → ⊥) → ((d : ℕ) → m ≡ modes.Number d → ⊥) → ((d : ℕ) → m ≡ modes.First d → ⊥) → ((d : ℕ) → m ≡ modes.Second d → ⊥)
-    → IsKept m bytes → ⊥
-kept_by_none modes.RequestLine bytes a b c d e f is = a refl
-kept_by_none modes.RequestBlanks bytes a b c d e f is = b refl
-kept_by_none modes.Condition bytes a b c d e f is = c refl
-kept_by_none (modes.Number n) bytes a b c d e f is = d n refl
-kept_by_none (modes.First n) bytes a b c d e f is = e n refl
-kept_by_none (modes.Second n) bytes a b c d e f is = f n refl
-kept_by_none m bytes a b c d e f is = is

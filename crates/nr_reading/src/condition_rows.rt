@@ -29,7 +29,7 @@ fn delimits(byte: u8) -> bool
             || byte == b'n')
 }
 
-// A number ends before the byte, where so many parentheses are open.
+/// A number ends before the byte, where so many parentheses are open.
 #[inline(always)]
 pub(crate) fn ends_number(byte: u8, depth: u64) -> bool
     ensures { result ≡ ends_number byte depth }

@@ -1,4 +1,4 @@
-use Rattle.std.proofs.Common.{◌+◌, get_or, length, subst, map, refl, sym, ◌∙◌, arith}
+use Rattle.std.proofs.Common.{◌+◌, get_or, subst, map, arith}
 use Rattle.std.proofs.lemmas.List.Elements.{All-get_or}
 use Rattle.nr_reading.specs.declared.front.Front.TheVariants as fronts
 use Rattle.nr_reading.specs.declared.half.Half.{Half}
