@@ -210,6 +210,16 @@ module _ {K : Type 0} (n m : ℕ) (bytes : List ℕ) (v w : Stored K) (r r2 : Re
         subst (λ k. PaysAll k v p r events.Nothing w p r2) same
         (pays_then 1 (m + 1) v (left_times n (reading_bytes bytes w)) w p p p r r2 r2 events.Nothing first (end_pays n bytes w r2 all due p))
 
+-- ---- the same reader
+
+module _ {K : Type 0} (n m : ℕ) (bytes : List ℕ) (v w : Stored K) (s r r2 : Reader) (e : Event) (same : s ≡ r) where
+  pub read_same : ((c : Coming) (p : Reached) (supply : Option Supply) → HoldsComing c p supply → HasRead m (situation (reading_bytes bytes v) c s) e (left_times n (reading_bytes bytes w)) r2 p supply)
+      → (c : Coming) (p : Reached) (supply : Option Supply) → HoldsComing c p supply → HasRead m (situation (reading_bytes bytes v) c r) e (left_times n (reading_bytes bytes w)) r2 p supply
+  read_same reads c p supply holds = subst (λ (x : Reader). HasRead m (situation (reading_bytes bytes v) c x) e (left_times n (reading_bytes bytes w)) r2 p supply) same (reads c p supply holds)
+
+  pub pays_same : ((p : Reached) → PaysAll m (reading_bytes bytes v) p s e (left_times n (reading_bytes bytes w)) p r2) → (p : Reached) → PaysAll m (reading_bytes bytes v) p r e (left_times n (reading_bytes bytes w)) p r2
+  pays_same pays p = subst (λ (x : Reader). PaysAll m (reading_bytes bytes v) p x e (left_times n (reading_bytes bytes w)) p r2) same (pays p)
+
 -- ---- its bytes are met
 
 module _ {K : Type 0} (m : ℕ) (bytes : List ℕ) (v : Stored K) (r : Reader) (p : Spot) (met : HasMet m (map fronts.Byte bytes) r.half p) where
