@@ -21,7 +21,7 @@ use Rattle.nr_reading.proofs.Rows.{MeetsByte, looks, nothing_met, stays, taken_m
 -- ---- a row of bytes
 
 -- the byte at a place
-pub byte_at : (bytes : List ℕ) (i : ℕ) → i < length bytes → slice_get (map fronts.Byte bytes) i ≡ Some (fronts.Byte (get_or bytes i 0))
+byte_at : (bytes : List ℕ) (i : ℕ) → i < length bytes → slice_get (map fronts.Byte bytes) i ≡ Some (fronts.Byte (get_or bytes i 0))
 byte_at bytes i within = slice_get-map fronts.Byte bytes i ∙ ap (option_map fronts.Byte) (slice_get-get_or bytes i 0 within)
 
 -- one byte more is taken

@@ -1,4 +1,4 @@
--- Bytes that a request's line, a condition's number or one of its strings takes (CSTR 54, 16).
+-- Bytes that a request's line, a condition's number or one of its strings takes.
 use Rattle.std.specs.Prelude.{◌≡◌, ℕ, ◌+◌, ◌≤◌, ◌==◌, ◌&&◌, ◌||◌, not, Bool, true, false, List, [], ◌∷◌, All, length, map}
 use Rattle.nr_reading.specs.declared.front.Front.TheVariants as fronts
 use Rattle.nr_reading.specs.declared.half.Half.{Half}
