@@ -26,3 +26,4 @@ pub mod StringRows
 pub mod ControlNames
 pub mod RequestLines
 pub mod Interpolated
+pub mod KeptBytes

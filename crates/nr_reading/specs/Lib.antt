@@ -12,6 +12,7 @@ pub mod InDefinition
 pub mod InText
 pub mod Interpolations
 pub mod Keeping
+pub mod KeptBytes
 pub mod LineBeginnings
 pub mod Meeting
 pub mod Modes

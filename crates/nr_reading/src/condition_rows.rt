@@ -29,9 +29,9 @@ fn delimits(byte: u8) -> bool
             || byte == b'n')
 }
 
-// A number ends before the byte, where so many parentheses are open.
+/// A number ends before the byte, where so many parentheses are open.
 #[inline(always)]
-fn ends_number(byte: u8, depth: u64) -> bool
+pub(crate) fn ends_number(byte: u8, depth: u64) -> bool
     ensures { result ≡ ends_number byte depth }
 {
     byte == b'\n' || (depth == 0 && (is_blank(byte) || byte == b'\\'))

@@ -6,7 +6,7 @@
 //! `half`, where an item is met; `seeking`, `conditionals` and `setting`, what comes from outside; `runs`, many
 //! items at once, with `passing`, `control_names`, `interpolations`, `request_lines`, `arguments` and `defined_texts`;
 //! `row` and a file for each group of modes whose rows have loops of their own, `line_rows`, `condition_rows`,
-//! `request_rows`, `part_rows`, `argument_rows`, `string_rows`.
+//! `request_rows`, `part_rows`, `argument_rows`, `string_rows`; and `kept_bytes`, where few bytes are met with no row.
 #![tactic(auto)]
 
 mod answers;
@@ -28,6 +28,7 @@ mod front;
 mod half;
 mod interpolations;
 mod kept;
+mod kept_bytes;
 mod line_rows;
 mod mode;
 mod notes;
