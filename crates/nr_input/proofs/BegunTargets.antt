@@ -1,12 +1,12 @@
 -- Arguments and texts of strings that begin with spliced bytes, as moves of the machine that reads: their level stands open while they
 -- are added.
 use Rattle.std.specs.Prelude.{map, nat_lt}
-use Rattle.std.proofs.Common.{inl, inr, ◌≡◌, ℕ, ◌+◌, ◌-◌, ◌*◌, ◌<◌, ◌≤◌, Bool, true, false, List, [], ◌∷◌, length, take, drop, All, Option, None, Result, Ok, Err, sum_by, refl, ap, ap₂, sym, ◌∙◌, subst, arith, if◌then◌else◌}
+use Rattle.std.proofs.Common.{inl, inr, ◌≡◌, ℕ, ◌+◌, ◌-◌, ◌*◌, ◌≤◌, Bool, true, false, List, [], ◌∷◌, length, take, drop, All, Option, None, Result, Ok, Err, refl, ap, ap₂, sym, ◌∙◌, subst, arith, if◌then◌else◌}
 use Rattle.std.proofs.lemmas.Bool.{cases_lt, le-ltb}
 use Rattle.std.proofs.lemmas.List.{length-map, length-drop, length-take, take_all, drop-map}
 use Rattle.std.proofs.lemmas.List.Sums.{sum_by-cons}
 use Rattle.nr_units.specs.Supply.{Supply}
-use Rattle.nr_store.specs.Stored.{Stored, Built, afforded, begun, charge_of, gathering, level_charge, reading_bytes, weight}
+use Rattle.nr_store.specs.Stored.{Stored, Built, begun, charge_of, gathering, reading_bytes, weight}
 use Rattle.nr_store.specs.Windows.{rest_of, left_times, run_left}
 use Rattle.nr_store.specs.Laws.{left_times-run}
 use Rattle.nr_store.specs.declared.element.Element.TheVariants as elements
@@ -28,13 +28,13 @@ use Rattle.nr_input.specs.Runs.{HasRead, PaysAll}
 use Rattle.nr_input.specs.Targets.{is_read_for, with_more}
 use Rattle.nr_input.specs.Weights.{diversions_in, diversions_of}
 use Rattle.nr_input.proofs.ControlLines.{done_read, pays_once}
-use Rattle.nr_input.proofs.Interpolated.{charge-reading, charge-more, pays_nothing}
+use Rattle.nr_input.proofs.Interpolated.{charge-reading, charge-more}
 use Rattle.nr_input.proofs.LevelRows.{left_times-add, rest-left_times}
 use Rattle.nr_input.proofs.PuttingLevel.{AreFront, charge-behind, level_added, level_added_pays}
 use Rattle.nr_input.proofs.Refusals.{acted-ok}
 use Rattle.nr_input.proofs.Rows.{reads_nothing}
 use Rattle.nr_input.proofs.Spending.{act_pays}
-use Rattle.nr_input.proofs.Targets.{limit-with_more, with_more-none}
+use Rattle.nr_input.proofs.Targets.{with_more-none}
 
 -- ---- behind t of the bytes that a level brings
 

@@ -1,6 +1,5 @@
-use Rattle.std.proofs.Common.{◌≡◌, ℕ, zero, suc, ◌≤◌, length, take, List, [], ◌∷◌, refl, sym, ap, ◌∙◌, subst, arith, true, false}
-use Rattle.nr_input.specs.Coming.{Coming}
-use Rattle.nr_input.specs.Gathering.{Brings, LeadsInText, Leaves}
+use Rattle.std.proofs.Common.{◌≡◌, ℕ, zero, suc, take, List, [], ◌∷◌, refl, sym, subst}
+use Rattle.nr_input.specs.Gathering.{Brings}
 use Rattle.nr_input.specs.Moving.{situation}
 use Rattle.nr_input.proofs.Interpolated.{pays_nothing}
 use Rattle.nr_input.proofs.Rows.{reads_nothing}

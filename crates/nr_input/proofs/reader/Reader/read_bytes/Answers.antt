@@ -1,14 +1,5 @@
-use Rattle.nr_reading.specs.Runs.{spot}
-use Rattle.nr_input.proofs.Interpolated.{met_read, met_pays, added_read, added_pays, added_room}
+use Rattle.nr_input.proofs.Interpolated.{added_read, added_pays, added_room}
 use Rattle.nr_input.proofs.reader.Reader.read_bytes.Goals as goal
-
-pub returns-in_default-clause-read : goal.returns-in_default-clause-read
-returns-in_default-clause-read g c =
-    let run = c.meet_run.result in met_read run.moves c.args.bytes.now c.args.store.now c.args.self.now (spot run c.meet_run.new.self) c.meet_run.ensures.met
-
-pub returns-in_default-clause-pays : goal.returns-in_default-clause-pays
-returns-in_default-clause-pays g c =
-    let run = c.meet_run.result in met_pays run.moves c.args.bytes.now c.args.store.now c.args.self.now (spot run c.meet_run.new.self) c.meet_run.ensures.met
 
 pub returns-clause-read : goal.returns-clause-read
 returns-clause-read g c =

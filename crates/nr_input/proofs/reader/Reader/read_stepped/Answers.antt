@@ -1,5 +1,5 @@
 use Rattle.std.proofs.Common.{◌≡◌, ◌+◌, Bool, true, false, refl, sym, ap, ap₂, ◌∙◌, subst, arith}
-use Rattle.std.specs.Prelude.{Option, Result, Ok, nat_le}
+use Rattle.std.specs.Prelude.{Option, Result, Ok}
 use Rattle.nr_units.specs.Supply.{Supply}
 use Rattle.nr_store.specs.Stored.{Stored, stepped}
 use Rattle.nr_reading.specs.declared.ask.Sign.TheVariants as signs
