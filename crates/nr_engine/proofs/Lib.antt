@@ -2,6 +2,7 @@ mod Bursts
 mod CellBytes
 mod Choosing
 mod EmptyLines
+mod Flows
 mod Gliding
 mod Going
 mod Judged

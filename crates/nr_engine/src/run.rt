@@ -52,6 +52,7 @@ impl Engine {
             page: Page::new(alloc, limits.cells())?,
             select: Select::all(),
             resumed: Resume::blank(),
+            gathered: Gathered::new(),
         })
     }
 
@@ -70,6 +71,7 @@ impl Engine {
         self.page.clear();
         self.select = select.copied();
         self.resumed = Resume::blank();
+        self.gathered = Gathered::new();
     }
 
     /// The number of the first page, if a register holds it.
