@@ -93,7 +93,7 @@ fits_left f v r fits = record {
 -- ---- bytes one after another
 
 -- a byte is taken
-left_is : (v : Stored Resume) (b : ℕ) → shown v.levels ≡ shows.Item (elements.Byte b) → left v.levels v ≡ run_left 1 v
+pub left_is : (v : Stored Resume) (b : ℕ) → shown v.levels ≡ shows.Item (elements.Byte b) → left v.levels v ≡ run_left 1 v
 left_is v b is = left_times-run 1 v (one_left v.levels (elements.Byte b) (showing v.levels (elements.Byte b) is))
 
 -- these come, and then those

@@ -6,6 +6,7 @@ mod Flows
 mod Gliding
 mod Going
 mod Judged
+mod LevelLines
 mod LevelNewlines
 mod LevelText
 mod LevelWords

@@ -1,5 +1,5 @@
 //! Words of levels: many moves in one call.
-ghost use Rattle.std.specs.Prelude.{◌≡◌, ◌+◌, ◌*◌, ◌≤◌, true};
+ghost use Rattle.std.specs.Prelude.{◌≡◌, ◌+◌, ◌*◌, ◌≤◌, length, true};
 ghost use Rattle.nr_store.specs.Stored.{shown};
 ghost use Rattle.nr_store.specs.declared.element.Element.TheVariants as elements;
 ghost use Rattle.nr_store.specs.declared.shown.Shown.TheVariants as shows;
@@ -49,6 +49,9 @@ fn put_gathered(formatter: &mut Formatter, bytes: &[u8], gathered: &Gathered) ->
     ensures few { result ≤ 709 }
     ensures longest { LongestOfLevels formatter.old.store formatter.old.reader formatter.new }
 {
+    if bytes.is_empty() && !gathered.ends {
+        return 0;
+    }
     formatter.fit_memory();
     let words = put_line_words(formatter, bytes);
     let goes = formatter.is_in_line();

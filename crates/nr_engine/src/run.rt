@@ -13,7 +13,7 @@ use nr_fill::line::Line;
 use nr_fill::out::Out;
 use nr_formatter::formatter::Formatter;
 use nr_formatter::tasks::Resume;
-use nr_input::Place;
+use nr_input::{Gathered, Place};
 use nr_options::{Limits, Options};
 use nr_page::Select;
 use nr_page::page::Page;
