@@ -5,8 +5,12 @@ use Rattle.nr_store.specs.Stored.{Stored, shown}
 use Rattle.nr_store.specs.Windows.{left_times, run_left}
 use Rattle.nr_store.specs.declared.element.Element.TheVariants as elements
 use Rattle.nr_store.specs.declared.shown.Shown.TheVariants as shows
-use Rattle.nr_input.specs.Gathering.{Leaves}
+use Rattle.nr_input.specs.Gathering.{IsGathered, LeadsInText, Leaves}
+use Rattle.nr_input.specs.Moving.{situation}
+use Rattle.nr_input.specs.declared.gathering.Gathered.{Gathered}
 use Rattle.nr_input.specs.declared.reader.Reader.{Reader}
+use Rattle.nr_input.proofs.Interpolated.{pays_nothing}
+use Rattle.nr_input.proofs.Rows.{reads_nothing}
 use Rattle.nr_formatter.specs.Access.{collected}
 use Rattle.nr_formatter.specs.Limits.{FitsMemory}
 use Rattle.nr_formatter.specs.LineEnds.{IsNewline, line_gapped, newline_flows, newline_put}
@@ -14,7 +18,7 @@ use Rattle.nr_formatter.specs.Lines.{fits_line}
 use Rattle.nr_formatter.specs.Runs.{is_in_line}
 use Rattle.nr_formatter.specs.declared.formatter.Formatter.{Formatter}
 use Rattle.nr_formatter.specs.declared.tasks.Resume.{Resume}
-use Rattle.nr_engine.specs.Running.{EndsLine, IsFurther, LongestWords, MakesInPlace, MakesInText, PutsOfFlow, with_read}
+use Rattle.nr_engine.specs.Running.{EndsLine, IsFurther, LongestOfLevels, LongestWords, MakesInPlace, MakesInText, PutsOfFlow, with_read}
 use Rattle.nr_engine.proofs.Flows.{fits_brought, further_brought, further_here, further_is, further_led, further_of, leads_on, left_is, text-add, text_none}
 use Rattle.nr_engine.proofs.LevelNewlines.{makes_ended, makes_line}
 use Rattle.nr_engine.proofs.LinesAtHand.{before_out, flows_out, line_before}
@@ -88,6 +92,95 @@ words_further bs taken f v r is words =
 -- nor does it whether the line goes on
 pub line_back : (f : Formatter) (v : Stored Resume) (r : Reader) → IsFurther f v r → is_in_line (with_read v r f) ≡ true → is_in_line f ≡ true
 line_back f v r is line = subst (λ (x : Formatter). is_in_line x ≡ true) (sym (further_is f v r is)) line
+
+-- the bytes that were gathered are those still
+pub gathered_still : (bs : List ℕ) (f g : Formatter) (gathered : Gathered) → g.store ≡ f.store → g.reader ≡ f.reader → IsGathered bs f.store f.reader gathered → IsGathered bs g.store g.reader gathered
+gathered_still bs f g gathered store reader are =
+    subst (λ (x : Stored Resume). IsGathered bs x g.reader gathered) (sym store) (subst (λ (x : Reader). IsGathered bs f.store x gathered) (sym reader) are)
+
+-- none of them were put
+leads_nothing : (v : Stored Resume) (r : Reader) → LeadsInText 0 v r v r
+leads_nothing v r = record {
+  reads = λ c p supply holds. reads_nothing (situation v c r) v r p supply (record { stored = refl; reader = refl; coming = holds });
+  pays = λ p. pays_nothing v p r;
+  stored = refl;
+  reader = refl;
+  charge = λ fits. fits;
+  depth = λ fits. fits;
+}
+
+pub longest_none : (bs : List ℕ) (f : Formatter) (gathered : Gathered) → IsGathered bs f.store f.reader gathered → length bs ≡ 0 → gathered.ends ≡ false → LongestOfLevels f.store f.reader f
+longest_none bs f gathered are none stops = record {
+  bytes = bs;
+  gathered = gathered;
+  are = are;
+  taken = 0;
+  goes = false;
+  moves = 0;
+  there = f.store;
+  reader = f.reader;
+  leaves = record {
+    before = 0;
+    behind = 0;
+    there = f.store;
+    reader = f.reader;
+    counted = refl;
+    brings = (refl, refl, refl);
+    leads = leads_nothing f.store f.reader;
+    stays = λ goes. (refl, refl, refl);
+  };
+  newlines = 0;
+  left = left_times-run 0 f.store (omega arith);
+  words = record { stops = λ below line plain. absurd (omega (arith, none, below)); blank = λ below line is gap. absurd (omega (arith, none, below)) };
+  newline = λ all ends newline. absurd (let wrong : true ≡ false = sym ends ∙ stops in cc);
+}
+
+module _ (bs : List ℕ) (taken moves besides : ℕ) (goes : Bool) (f g : Formatter) (w : Stored Resume) (q : Reader) (gathered : Gathered) (are : IsGathered bs f.store f.reader gathered)
+    (puts : PutsOfFlow bs taken moves f g) (leaves : Leaves goes besides (take taken bs) g.store g.reader w q) where
+  -- no newline behind them was put
+  pub longest_left : LongestWords bs taken g → (taken ≡ length bs → gathered.ends ≡ true → IsNewline (with_read w q g) → ⊥) → LongestOfLevels f.store f.reader (with_read w q g)
+  longest_left words newline =
+      let from = leaves_of bs taken besides goes f g w q puts.store puts.reader leaves in
+      record {
+        bytes = bs;
+        gathered = gathered;
+        are = are;
+        taken = taken;
+        goes = goes;
+        moves = besides;
+        there = w;
+        reader = q;
+        leaves = from;
+        newlines = 0;
+        left = left_times-run 0 w (omega arith);
+        words = words_further bs taken g w q (left_further bs taken moves besides goes f g w q puts from) words;
+        newline = newline;
+      }
+
+  -- all were put, and then a newline
+  pub longest_ended : (h : Formatter) → taken ≡ length bs → EndsLine (with_read w q g) h → LongestOfLevels f.store f.reader h
+  longest_ended h all ends = record {
+    bytes = bs;
+    gathered = gathered;
+    are = are;
+    taken = taken;
+    goes = goes;
+    moves = besides;
+    there = w;
+    reader = q;
+    leaves = leaves_of bs taken besides goes f g w q puts.store puts.reader leaves;
+    newlines = ends.newlines;
+    left = ends.left;
+    words = record { stops = λ below line plain. absurd (omega (arith, all, below)); blank = λ below line is gap. absurd (omega (arith, all, below)) };
+    newline = λ all ends_so newline. ends.newline newline;
+  }
+
+  -- the line does not go on, so none comes
+  pub no_newline : goes ≡ is_in_line g → goes ≡ false → IsNewline (with_read w q g) → ⊥
+  no_newline is stops newline =
+      let line = line_back g w q (left_further bs taken moves besides goes f g w q puts (leaves_of bs taken besides goes f g w q puts.store puts.reader leaves)) newline.line in
+      let wrong : true ≡ false = sym line ∙ sym is ∙ stops in
+      cc
 
 -- ---- the newline
 

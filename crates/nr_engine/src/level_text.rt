@@ -29,13 +29,17 @@ fn put_level_newline(formatter: &mut Formatter) -> usize
     ensures few { result ≤ 5 }
     ensures ends { EndsLine formatter.old formatter.new }
 {
-    let moves = match formatter.put_newline() {
-        Gap::Left => return 0,
-        Gap::Flows => 2,
-        Gap::Reads => 5,
-    };
-    formatter.store.skip(1);
-    moves
+    match formatter.put_newline() {
+        Gap::Left => 0,
+        Gap::Flows => {
+            formatter.store.skip(1);
+            2
+        }
+        Gap::Reads => {
+            formatter.store.skip(1);
+            5
+        }
+    }
 }
 
 /// Puts the words that the gathered bytes begin with, in a text line that has begun, and the newline behind them, and takes them. Tells
@@ -65,10 +69,10 @@ fn put_gathered(formatter: &mut Formatter, bytes: &[u8], gathered: &Gathered) ->
     );
     formatter.fit_memory();
     let moves = words.moves + besides;
-    if !goes || !gathered.ends || words.taken < bytes.len() {
-        return moves;
+    if goes && gathered.ends && words.taken == bytes.len() {
+        return moves + put_level_newline(formatter);
     }
-    moves + put_level_newline(formatter)
+    moves
 }
 
 impl Engine {
