@@ -10,7 +10,7 @@ use Rattle.nr_input.specs.Gathering.{Brings, IsGathered, Leaves}
 use Rattle.nr_input.specs.Runs.{passed_run}
 use Rattle.nr_input.specs.declared.gathering.Gathered.{Gathered}
 use Rattle.nr_input.specs.declared.reader.Reader.{Reader}
-use Rattle.nr_fill.specs.Pieces.{text_cells}
+use Rattle.nr_fill.specs.Pieces.{line_cells, text_cells}
 use Rattle.nr_fill.specs.Rows.{IsRow}
 use Rattle.nr_fill.specs.Runs.{IsPlain}
 use Rattle.nr_formatter.specs.Access.{collected}

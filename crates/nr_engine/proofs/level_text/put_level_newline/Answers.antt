@@ -26,9 +26,9 @@ returns-in-Flows-clause-ends c =
 pub returns-in-Reads-clause-puts : goal.returns-in-Reads-clause-puts
 returns-in-Reads-clause-puts c =
     let is = c.in-Reads.ensures.is in
-    text_line c.args.formatter.now c.put_newline.new.self c.skip.new.self is.0 c.requires.next c.skip.ensures is.2 is.1
+    text_line c.args.formatter.now c.put_newline.new.self c.skip-in-Reads.new.self is.0 c.requires.next c.skip-in-Reads.ensures is.2 is.1
 
 pub returns-in-Reads-clause-ends : goal.returns-in-Reads-clause-ends
 returns-in-Reads-clause-ends c =
     let is = c.in-Reads.ensures.is in
-    ended_line c.args.formatter.now c.put_newline.new.self c.skip.new.self is.0 c.requires.next c.skip.ensures is.2
+    ended_line c.args.formatter.now c.put_newline.new.self c.skip-in-Reads.new.self is.0 c.requires.next c.skip-in-Reads.ensures is.2
