@@ -1,6 +1,31 @@
-use Rattle.std.proofs.Common.{◌≡◌}
-use Rattle.nr_engine.specs.Holding.{shape}
+use Rattle.std.proofs.Common.{◌≡◌, ◌≤◌, true, length, take, sym, subst, arith}
+use Rattle.std.proofs.lemmas.List.{length-take}
+use Rattle.nr_input.specs.Gathering.{IsGathered}
+use Rattle.nr_input.specs.declared.reader.Reader.{Reader}
+use Rattle.nr_formatter.specs.Runs.{is_in_line}
+use Rattle.nr_engine.specs.Holding.{Shape, shape}
+use Rattle.nr_engine.specs.Running.{LongestOfLevels, MakesInPlace}
 use Rattle.nr_engine.proofs.engine.Engine.put_level_line.Goals as goal
 
+pub put_gathered-requires : goal.put_gathered-requires
+put_gathered-requires c =
+    let f = c.args.self.now.formatter in
+    let left = c.gather.ensures.left in
+    let bytes = take c.gather.new.gathered.count c.gather.new.bytes in
+    record {
+      line = subst (λ (x : Reader). is_in_line (record f { reader = x }) ≡ true) (sym left) c.requires.line;
+      gathered = subst (λ (x : Reader). IsGathered bytes f.store x c.gather.new.gathered) (sym left) c.gather.ensures.gathered;
+      few = ?;
+    }
+
 pub returns-clause-puts : goal.returns-clause-puts
-returns-clause-puts c = c.put_gathered.ensures.puts (shape c.args.self.now)
+returns-clause-puts c =
+    let e : Shape = shape c.args.self.now in
+    let f = c.args.self.now.formatter in
+    let n = c.put_gathered.result in
+    subst (λ (x : Reader). MakesInPlace n (record e { formatter = record f { reader = x } }) (record e { formatter = c.put_gathered.new.formatter })) c.gather.ensures.left (c.put_gathered.ensures.puts e)
+
+pub returns-clause-longest : goal.returns-clause-longest
+returns-clause-longest c =
+    let f = c.args.self.now.formatter in
+    subst (λ (x : Reader). LongestOfLevels f.store x c.put_gathered.new.formatter) c.gather.ensures.left c.put_gathered.ensures.longest
