@@ -1,5 +1,5 @@
 -- Words that come of levels, put and taken, with the newline that ends their line.
-use Rattle.std.proofs.Common.{◌≡◌, ℕ, ◌+◌, ◌≤◌, Bool, true, false, List, length, take, refl, sym, ap, ◌∙◌, subst, arith}
+use Rattle.std.proofs.Common.{◌≡◌, ℕ, ◌+◌, Bool, true, false, List, length, take, refl, sym, ap, ◌∙◌, subst, arith}
 use Rattle.nr_store.specs.Laws.{left_times-run}
 use Rattle.nr_store.specs.Stored.{Stored, shown}
 use Rattle.nr_store.specs.Windows.{left_times, run_left}
@@ -19,7 +19,7 @@ use Rattle.nr_formatter.specs.Runs.{is_in_line}
 use Rattle.nr_formatter.specs.declared.formatter.Formatter.{Formatter}
 use Rattle.nr_formatter.specs.declared.tasks.Resume.{Resume}
 use Rattle.nr_engine.specs.Running.{EndsLine, IsFurther, LongestOfLevels, LongestWords, MakesInPlace, MakesInText, PutsOfFlow, with_read}
-use Rattle.nr_engine.proofs.Flows.{fits_brought, further_brought, further_here, further_is, further_led, further_of, leads_on, left_is, text-add, text_none}
+use Rattle.nr_engine.proofs.Flows.{fits_brought, further_brought, further_here, further_is, further_led, further_of, leads_on, left_is, text-add}
 use Rattle.nr_engine.proofs.LevelNewlines.{makes_ended, makes_line}
 use Rattle.nr_engine.proofs.LinesAtHand.{before_out, flows_out, line_before}
 

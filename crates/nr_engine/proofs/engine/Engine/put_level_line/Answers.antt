@@ -1,5 +1,4 @@
-use Rattle.std.proofs.Common.{◌≡◌, ◌≤◌, true, length, take, sym, subst, arith}
-use Rattle.std.proofs.lemmas.List.{length-take}
+use Rattle.std.proofs.Common.{◌≡◌, true, take, sym, subst}
 use Rattle.nr_input.specs.Gathering.{IsGathered}
 use Rattle.nr_input.specs.declared.reader.Reader.{Reader}
 use Rattle.nr_formatter.specs.Runs.{is_in_line}
@@ -7,16 +6,13 @@ use Rattle.nr_engine.specs.Holding.{Shape, shape}
 use Rattle.nr_engine.specs.Running.{LongestOfLevels, MakesInPlace}
 use Rattle.nr_engine.proofs.engine.Engine.put_level_line.Goals as goal
 
-pub put_gathered-requires : goal.put_gathered-requires
-put_gathered-requires c =
-    let f = c.args.self.now.formatter in
-    let left = c.gather.ensures.left in
-    let bytes = take c.gather.new.gathered.count c.gather.new.bytes in
-    record {
-      line = subst (λ (x : Reader). is_in_line (record f { reader = x }) ≡ true) (sym left) c.requires.line;
-      gathered = subst (λ (x : Reader). IsGathered bytes f.store x c.gather.new.gathered) (sym left) c.gather.ensures.gathered;
-      few = ?;
-    }
+pub put_gathered-requires-clause-line : goal.put_gathered-requires-clause-line
+put_gathered-requires-clause-line c = subst (λ (x : Reader). is_in_line (record c.args.self.now.formatter { reader = x }) ≡ true) (sym c.gather.ensures.left) c.requires.line
+
+pub put_gathered-requires-clause-gathered : goal.put_gathered-requires-clause-gathered
+put_gathered-requires-clause-gathered c =
+    let bytes = take c.gather.new.gathered.count c.gather.new.chunk in
+    subst (λ (x : Reader). IsGathered bytes c.args.self.now.formatter.store x c.gather.new.gathered) (sym c.gather.ensures.left) c.gather.ensures.gathered
 
 pub returns-clause-puts : goal.returns-clause-puts
 returns-clause-puts c =
