@@ -1,12 +1,12 @@
 -- Words that come of levels, in a text line that has begun.
 use Rattle.std.proofs.Common.{◌≡◌, ℕ, zero, suc, ◌+◌, ◌*◌, ◌<◌, ◌≤◌, true, List, [], ◌∷◌, length, take, drop, Option, refl, sym, ap, ◌∙◌, subst, arith, length-drop, length-take-le}
-use Rattle.std.specs.Prelude.{get_or, slice_index}
+use Rattle.std.specs.Prelude.{slice_index}
 use Rattle.std.proofs.Math.Seq.{drop-cons, take-add}
 use Rattle.std.proofs.lemmas.List.{take_rest}
 use Rattle.nr_units.specs.Supply.{Supply}
 use Rattle.nr_fill.specs.Pieces.{line_cells}
 use Rattle.nr_fill.specs.Runs.{IsPlain}
-use Rattle.nr_store.specs.Stored.{Level, Read, Reading, Stored, shown}
+use Rattle.nr_store.specs.Stored.{Level, Read, Reading, Stored}
 use Rattle.nr_store.specs.Windows.{levels_behind, rest_of}
 use Rattle.nr_store.specs.declared.element.Element.{Element}
 use Rattle.nr_store.specs.declared.element.Element.TheVariants as elements
@@ -29,7 +29,7 @@ use Rattle.nr_engine.specs.Running.{Flows, IsFurther, Makes, PutsOfFlow, with_re
 use Rattle.nr_engine.proofs.CellBytes.{glides_byte, no_escape, no_newline}
 use Rattle.nr_engine.proofs.Flows.{Puts, flows-add, flows_none, flows_one, further_is, line_further}
 use Rattle.nr_engine.proofs.Gliding.{Glides, made_of, told}
-use Rattle.nr_engine.proofs.LevelText.{Showing, at_text, goes_byte, level_gone, line_there, made_glided, makes_flows, makes_gap, makes_text, one_left, reads_byte, showing, within_text}
+use Rattle.nr_engine.proofs.LevelText.{Showing, at_text, goes_byte, level_gone, line_there, made_glided, makes_flows, makes_gap, makes_plain, one_left, reads_byte, showing, within_text}
 use Rattle.nr_engine.proofs.PlainText.{ArePlain, first_plain, others_plain}
 use Rattle.nr_engine.proofs.RereadCells.{items_fewer}
 use Rattle.nr_engine.proofs.TextAtHand.{rest_of as bytes_behind, turn_line}
@@ -90,13 +90,11 @@ makes_byte b e supply byte there = record {
 -- ---- one byte, wherever it comes of levels
 
 -- a plain byte
-puts_plain : (b : ℕ) (f : Formatter) → is_in_line f ≡ true → ArePlain (b ∷ []) → line_cells (collected (run_put (b ∷ []) f)) ≤ f.line.limit → Puts b 2 f (run_put (b ∷ []) f)
-puts_plain b f line plain fits = λ v r is shows e.
-    let there = showing v.levels (elements.Byte b) shows in
-    record {
-      makes = λ supply. makes_text (b ∷ []) there.xs (record e { formatter = with_read v r f }) supply (omega arith) (line_further f v r is line) plain (sym (ap rest_of there.is)) fits;
-      place = refl;
-    }
+puts_plain : (b : ℕ) (f : Formatter) → is_in_line f ≡ true → IsPlain b → line_cells (collected (run_put (b ∷ []) f)) ≤ f.line.limit → Puts b 2 f (run_put (b ∷ []) f)
+puts_plain b f line plain fits = λ v r is shows e. record {
+  makes = λ supply. makes_plain b (record e { formatter = with_read v r f }) supply (line_further f v r is line) plain fits (showing v.levels (elements.Byte b) shows);
+  place = refl;
+}
 
 -- a blank that does nothing but end its word
 gap_further : (f : Formatter) (v : Stored Resume) (r : Reader) → IsFurther f v r → IsGap f → IsGap (with_read v r f)
@@ -124,10 +122,6 @@ puts_cell b f byte = λ v r is shows e. record {
 
 -- ---- plain bytes
 
-plain_one : (b : ℕ) → IsPlain b → (k d : ℕ) → k < length (b ∷ []) → IsPlain (get_or (b ∷ []) k d)
-plain_one b is zero d below = is
-plain_one b is (suc k) d below = absurd (omega (arith, below))
-
 first_fits : (b : ℕ) (bs : List ℕ) (f : Formatter) → line_cells (collected (run_put (b ∷ bs) f)) ≤ f.line.limit → line_cells (collected (run_put (b ∷ []) f)) ≤ f.line.limit
 first_fits b bs f fits =
     omega (
@@ -140,12 +134,11 @@ first_fits b bs f fits =
 flows_run : (bs : List ℕ) (f : Formatter) → is_in_line f ≡ true → ArePlain bs → (0 < length bs → line_cells (collected (run_put bs f)) ≤ f.line.limit) → Flows bs (2 * length bs) f (run_put bs f)
 flows_run [] f line plain fits = flows_none f
 flows_run (b ∷ bs) f line plain fits =
-    let first : ArePlain (b ∷ []) = plain_one b (first_plain b bs plain) in
     let fits_one = first_fits b bs f (fits (omega arith)) in
     let g : Formatter = run_put (b ∷ []) f in
     let count : 2 + 2 * length bs ≡ 2 * length (b ∷ bs) = omega arith in
     subst (λ n. Flows (b ∷ bs) n f (run_put (b ∷ bs) f)) count
-    (flows-add (b ∷ []) bs 2 (2 * length bs) f g (run_put (b ∷ bs) f) refl refl (λ within. fits_one) (flows_one b 2 f g line (puts_plain b f line first fits_one))
+    (flows-add (b ∷ []) bs 2 (2 * length bs) f g (run_put (b ∷ bs) f) refl refl (λ within. fits_one) (flows_one b 2 f g line (puts_plain b f line (first_plain b bs plain) fits_one))
     (flows_run bs g (turn_line (b ∷ []) f g line refl) (others_plain b bs plain) (λ some. fits (omega arith))))
 
 -- ---- one turn
