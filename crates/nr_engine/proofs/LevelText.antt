@@ -1,12 +1,11 @@
--- Bytes of the newest level in a text line that has begun: two moves a plain byte, and two or three the blank behind them.
-use Rattle.std.proofs.Common.{◌≡◌, ℕ, ◌+◌, ◌*◌, ◌<◌, ◌≤◌, true, false, List, [], ◌∷◌, ◌++◌, length, map, drop, Option, refl, sym, ap, ◌∙◌, subst, arith, length-append, drop_at}
+-- A byte of the newest level in a text line that has begun: two moves a plain byte, and two or three a blank behind a word.
+use Rattle.std.proofs.Common.{◌≡◌, ℕ, ◌+◌, ◌*◌, ◌≤◌, true, false, List, [], ◌∷◌, length, Option, refl, sym, ap, ◌∙◌, subst, arith}
 use Rattle.std.specs.Prelude.{◌==◌}
 use Rattle.std.proofs.lemmas.Bool.{eq-eqb}
-use Rattle.std.proofs.lemmas.List.{length-map}
 use Rattle.std.proofs.lemmas.List.Sums.{sum_by-cons}
 use Rattle.nr_units.specs.Supply.{Supply}
 use Rattle.nr_fill.specs.Pieces.{line_cells}
-use Rattle.nr_fill.specs.Runs.{run_cell}
+use Rattle.nr_fill.specs.Runs.{IsPlain}
 use Rattle.nr_store.specs.Stored.{Level, Read, Mark, Reading, shown, level_charge}
 use Rattle.nr_store.specs.Windows.{rest_of, levels_behind, run_left}
 use Rattle.nr_store.specs.declared.element.Element.{Element}
@@ -31,16 +30,16 @@ use Rattle.nr_formatter.specs.declared.formatter.Formatter.{Formatter}
 use Rattle.nr_formatter.specs.declared.tasks.After.TheVariants as afters
 use Rattle.nr_formatter.specs.declared.tasks.Resume.{Resume}
 use Rattle.nr_formatter.specs.declared.tasks.Task.TheVariants as tasks
-use Rattle.nr_formatter.proofs.PlainText.{begun-cell, in_line, line_cells-run, weight-gap, weight-run}
+use Rattle.nr_formatter.proofs.PlainText.{in_line, weight-gap, weight-run}
 use Rattle.nr_engine.specs.State.{State}
 use Rattle.nr_engine.specs.Machine.{step, read, situation_of, with_situation}
 use Rattle.nr_engine.specs.Measures.{IsWithin}
 use Rattle.nr_engine.specs.Answer.{Goes, GoesBy}
 use Rattle.nr_engine.specs.Holding.{Shape, at, Stands, Holds, Made, weight, worth}
 use Rattle.nr_engine.specs.Running.{Makes}
-use Rattle.nr_engine.proofs.Gliding.{Glides, glides-add, glides_plain, glides_flows, glides_gap, made_of, told, within_flows, within_gap}
+use Rattle.nr_engine.proofs.Gliding.{Glides, glides_plain, glides_flows, glides_gap, made_of, told, within_flows, within_gap}
 use Rattle.nr_engine.proofs.NextMoves.{step-read, kind-read}
-use Rattle.nr_engine.proofs.PlainText.{ArePlain, escape, first_plain, newline, others_plain}
+use Rattle.nr_engine.proofs.PlainText.{escape, newline}
 use Rattle.nr_engine.proofs.RereadCells.{items_fewer}
 use Rattle.nr_engine.proofs.Standing.{wrote_nothing}
 use Rattle.nr_engine.proofs.Working.{holds_of}
@@ -77,20 +76,11 @@ module _ (l : Reading Resume) (ls : List (Level Resume)) (b : ℕ) (xs : List El
       let reads = kind-read (at_text l ls (elements.Byte b ∷ xs) s) chosen line.springs line.event line.task in
       subst (λ k. GoesBy k (at_text l ls (elements.Byte b ∷ xs) s)) (sym reads) (sees_byte (in_text s.formatter.reader.half line.half))
 
--- ---- a run
+-- ---- what stays
 
 module _ (l : Reading Resume) (ls : List (Level Resume)) where
   pub line_there : (xs : List Element) (s : State) → IsInLine s.formatter → IsInLine (at_text l ls xs s).formatter
   line_there xs s line = record { springs = line.springs; event = line.event; task = line.task; half = line.half; begun = line.begun }
-
-  line_behind : (b : ℕ) (xs : List Element) (s : State) → IsInLine s.formatter → IsInLine (made_of (run_put (b ∷ [])) (at_text l ls xs s)).formatter
-  line_behind b xs s line = record {
-    springs = line.springs;
-    event = line.event;
-    task = line.task;
-    half = line.half;
-    begun = begun-cell (margins s.formatter) (run_cell (is_under s.formatter.settings.fonts) b) (collected s.formatter);
-  }
 
   -- what is left of a text is charged nothing
   pub within_text : (xs ys : List Element) (bs : List ℕ) (s : State) → IsWithin (at_text l ls xs s) → line_cells (collected (run_put bs s.formatter)) ≤ s.formatter.line.limit
@@ -104,31 +94,6 @@ module _ (l : Reading Resume) (ls : List (Level Resume)) where
     };
     page = w.page;
   }
-
-  fits_first : (b : ℕ) (bs : List ℕ) (s : State) → line_cells (collected (run_put (b ∷ bs) s.formatter)) ≤ s.formatter.line.limit → line_cells (collected (run_put (b ∷ []) s.formatter)) ≤ s.formatter.line.limit
-  fits_first b bs s fits =
-      omega (
-        arith,
-        fits,
-        line_cells-run (margins s.formatter) (is_under s.formatter.settings.fonts) b bs (collected s.formatter),
-        line_cells-run (margins s.formatter) (is_under s.formatter.settings.fonts) b [] (collected s.formatter),
-      )
-
-  glides_text : (bs : List ℕ) (zs : List Element) (s : State) → s.chosen ≡ [] → IsInLine s.formatter → ArePlain bs → IsWithin (at_text l ls (map elements.Byte bs ++ zs) s)
-      → line_cells (collected (run_put bs s.formatter)) ≤ s.formatter.line.limit
-      → Glides (at_text l ls (map elements.Byte bs ++ zs) s) (2 * length bs) (made_of (run_put bs) (at_text l ls zs s))
-  glides_text [] zs s chosen line plain within fits = record { runs = λ m below. absurd (omega (arith, below)); leads = refl }
-  glides_text (b ∷ bs) zs s chosen line plain within fits =
-      let rest : List Element = map elements.Byte bs ++ zs in
-      let first = first_plain b bs plain in
-      let behind : State = made_of (run_put (b ∷ [])) (at_text l ls rest s) in
-      let within_one = within_text (elements.Byte b ∷ rest) rest (b ∷ []) s within (fits_first b bs s fits) in
-      let one = glides_plain (at_text l ls (elements.Byte b ∷ rest) s) (at_text l ls rest s) b chosen (line_there rest s line) (goes_byte l ls b rest s chosen line)
-      (reads_byte l ls b rest s chosen line (newline b first) (escape b first)) first within_one in
-      let more = glides_text bs zs behind chosen (line_behind b rest s line) (others_plain b bs plain) within_one fits in
-      let count : 2 + 2 * length bs ≡ 2 * length (b ∷ bs) = omega arith in
-      subst (λ n. Glides (at_text l ls (elements.Byte b ∷ rest) s) n (made_of (run_put (b ∷ bs)) (at_text l ls zs s))) count
-      (glides-add (at_text l ls (elements.Byte b ∷ rest) s) 2 (2 * length bs) behind (made_of (run_put (b ∷ bs)) (at_text l ls zs s)) one more)
 
 -- ---- the engine
 
@@ -144,60 +109,7 @@ made_glided n e f g supply held s h is within glides =
       wrote = wrote_nothing (at e s) _ held (ap (λ t. t.pages) glides.leads);
     }
 
--- the newest level behind so many elements, which were these bytes, each a cell of the word
-abbrev level_run_put : List ℕ → Formatter → Formatter
-level_run_put bs f = run_put bs (record f { store = run_left (length bs) f.store })
-
-abbrev pub level_shape : List ℕ → Shape → Shape
-level_shape bs e = record e { formatter = level_run_put bs e.formatter }
-
-level_spends : (bs : List ℕ) (e : Shape) → length bs ≤ length (rest_of e.formatter.store.levels)
-    → weight (level_shape bs e) + 2 * length bs + worth e * e.place.taken ≤ weight e + worth e * e.place.taken
-unfolding weights.weight weights.steps_left weights.owed
-level_spends bs e few =
-    omega (arith, few, items_fewer (length bs) e.formatter.store.levels few, weight-run (margins e.formatter) (is_under e.formatter.settings.fonts) bs (collected e.formatter))
-
-module _ (bs : List ℕ) (zs : List Element) (e : Shape) (supply : Option Supply) (held : Option (List ℕ)) (s : State) (h : Stands [] supply s e) (is : is_in_line e.formatter ≡ true) (plain : ArePlain bs)
-    (fits : line_cells (collected (run_put bs e.formatter)) ≤ e.formatter.line.limit) where
-  made_text : (l : Reading Resume) (ls : List (Level Resume)) → e.formatter.store.levels ≡ Read l ∷ ls → map elements.Byte bs ++ zs ≡ l.rest
-      → Made [] (at e s) (2 * length bs) (level_shape bs e) supply held held
-  made_text l ls levels_is rest_is =
-      let xs : List Element = map elements.Byte bs ++ zs in
-      let start : at_text l ls xs (at e s) ≡ at e s =
-      ap (λ r. at_text l ls r (at e s)) rest_is
-      ∙ ap (λ v. record (at e s) { formatter = record e.formatter { store = record e.formatter.store { levels = v } } }) (sym levels_is) in
-      let within = subst IsWithin (sym start) h.within in
-      let end : State = made_of (run_put bs) (at_text l ls zs (at e s)) in
-      let glides : Glides (at e s) (2 * length bs) end =
-      subst (λ t. Glides t (2 * length bs) end) start (glides_text l ls bs zs (at e s) h.chosen_is (in_line e.formatter is) plain within fits) in
-      let left : drop (length bs) l.rest ≡ zs = ap (drop (length bs)) (sym rest_is) ∙ drop_at (map elements.Byte bs) zs (length bs) (length-map bs elements.Byte) in
-      let formatter_is : level_run_put bs e.formatter ≡ end.formatter =
-      ap (λ v. run_put bs (record e.formatter { store = record e.formatter.store { levels = v } })) (ap (levels_behind (length bs)) levels_is ∙ ap (λ r. Read (record l { rest = r }) ∷ ls) left) in
-      made_glided (2 * length bs) e end.formatter (level_run_put bs e.formatter) supply held s h formatter_is (within_text l ls xs zs bs (at e s) within fits) glides
-
-  -- nothing is left to be read of a level
-  made_no_text : 0 < length bs → map elements.Byte bs ++ zs ≡ [] → Made [] (at e s) (2 * length bs) (level_shape bs e) supply held held
-  made_no_text some none = absurd (let all = ap length none in omega (arith, some, all, length-append (map elements.Byte bs) zs, length-map bs elements.Byte))
-
-  made_by : (levels : List (Level Resume)) → e.formatter.store.levels ≡ levels → 0 < length bs → map elements.Byte bs ++ zs ≡ rest_of levels
-      → Made [] (at e s) (2 * length bs) (level_shape bs e) supply held held
-  made_by [] levels_is some rest_is = made_no_text some rest_is
-  made_by (Mark mode ∷ ls) levels_is some rest_is = made_no_text some rest_is
-  made_by (Read l ∷ ls) levels_is some rest_is = made_text l ls levels_is rest_is
-
--- plain bytes that come next of the newest level, in a line that has begun
-pub makes_text : (bs : List ℕ) (zs : List Element) (e : Shape) (supply : Option Supply) → 0 < length bs → is_in_line e.formatter ≡ true → ArePlain bs
-    → map elements.Byte bs ++ zs ≡ rest_of e.formatter.store.levels → line_cells (collected (run_put bs e.formatter)) ≤ e.formatter.line.limit
-    → Makes (2 * length bs) e (level_shape bs e) supply supply
-makes_text bs zs e supply some is plain rest_is fits = record {
-  makes = λ held s h. made_by bs zs e supply held s h is plain fits e.formatter.store.levels refl some rest_is;
-  limit = refl;
-  most = refl;
-  limits = refl;
-  spends = level_spends bs e (let all = ap length rest_is in omega (arith, all, length-append (map elements.Byte bs) zs, length-map bs elements.Byte));
-}
-
--- ---- a blank behind a word
+-- ---- an element is taken
 
 -- behind an element of the newest level, with this made of the formatter
 abbrev pub level_gone : (Formatter → Formatter) → Shape → Shape
@@ -224,6 +136,58 @@ showing (Read l ∷ ls) x is = showing_in l.rest l ls x refl is
 -- so one element is left
 pub one_left : (levels : List (Level Resume)) (x : Element) → Showing levels x → 1 ≤ length (rest_of levels)
 one_left levels x there = subst (λ v. 1 ≤ length (rest_of v)) (sym there.is) (omega arith)
+
+-- ---- a plain byte
+
+module _ (b : ℕ) (e : Shape) (supply : Option Supply) (held : Option (List ℕ)) (s : State) (h : Stands [] supply s e) (is : is_in_line e.formatter ≡ true) (plain : IsPlain b)
+    (fits : line_cells (collected (run_put (b ∷ []) e.formatter)) ≤ e.formatter.line.limit)
+    (l : Reading Resume) (ls : List (Level Resume)) (xs : List Element) (levels_is : e.formatter.store.levels ≡ Read (record l { rest = elements.Byte b ∷ xs }) ∷ ls) where
+  abbrev from : State
+  from = at_text l ls (elements.Byte b ∷ xs) (at e s)
+
+  abbrev behind : State
+  behind = at_text l ls xs (at e s)
+
+  from_is : from ≡ at e s
+  from_is = ap (λ v. record (at e s) { formatter = record e.formatter { store = record e.formatter.store { levels = v } } }) (sym levels_is)
+
+  line : IsInLine e.formatter
+  line = in_line e.formatter is
+
+  within_put : IsWithin (made_of (run_put (b ∷ [])) behind)
+  within_put = within_text l ls (elements.Byte b ∷ xs) xs (b ∷ []) (at e s) (subst IsWithin (sym from_is) h.within) fits
+
+  glides_put : Glides from 2 (made_of (run_put (b ∷ [])) behind)
+  glides_put =
+      glides_plain from behind b h.chosen_is (line_there l ls xs (at e s) line) (goes_byte l ls b xs (at e s) h.chosen_is line)
+      (reads_byte l ls b xs (at e s) h.chosen_is line (newline b plain) (escape b plain)) plain within_put
+
+  put_is : (level_gone (run_put (b ∷ [])) e).formatter ≡ run_put (b ∷ []) behind.formatter
+  put_is = ap (λ v. run_put (b ∷ []) (record e.formatter { store = record e.formatter.store { levels = v } })) (ap (levels_behind 1) levels_is)
+
+  made_plain : Made [] (at e s) 2 (level_gone (run_put (b ∷ [])) e) supply held held
+  made_plain =
+      made_glided 2 e (run_put (b ∷ []) behind.formatter) (level_gone (run_put (b ∷ [])) e).formatter supply held s h put_is within_put
+      (subst (λ t. Glides t 2 (made_of (run_put (b ∷ [])) behind)) from_is glides_put)
+
+plain_spends : (b : ℕ) (e : Shape) → 1 ≤ length (rest_of e.formatter.store.levels)
+    → weight (level_gone (run_put (b ∷ [])) e) + 2 + worth e * e.place.taken ≤ weight e + worth e * e.place.taken
+unfolding weights.weight weights.steps_left weights.owed
+plain_spends b e few =
+    omega (arith, items_fewer 1 e.formatter.store.levels few, weight-run (margins e.formatter) (is_under e.formatter.settings.fonts) (b ∷ []) (collected e.formatter))
+
+-- a plain byte that comes next of the newest level, in a line that has begun
+pub makes_plain : (b : ℕ) (e : Shape) (supply : Option Supply) → is_in_line e.formatter ≡ true → IsPlain b → line_cells (collected (run_put (b ∷ []) e.formatter)) ≤ e.formatter.line.limit
+    → Showing e.formatter.store.levels (elements.Byte b) → Makes 2 e (level_gone (run_put (b ∷ [])) e) supply supply
+makes_plain b e supply is plain fits shows = record {
+  makes = λ held s h. made_plain b e supply held s h is plain fits shows.l shows.ls shows.xs shows.is;
+  limit = refl;
+  most = refl;
+  limits = refl;
+  spends = plain_spends b e (one_left e.formatter.store.levels (elements.Byte b) shows);
+}
+
+-- ---- a blank behind a word
 
 module _ (e : Shape) (supply : Option Supply) (held : Option (List ℕ)) (s : State) (h : Stands [] supply s e) (is : is_in_line e.formatter ≡ true) (gap : IsGap e.formatter)
     (l : Reading Resume) (ls : List (Level Resume)) (xs : List Element) (levels_is : e.formatter.store.levels ≡ Read (record l { rest = elements.Byte 32 ∷ xs }) ∷ ls) where

@@ -1,39 +1,38 @@
--- Words that come next of the newest level, in a text line that has begun.
-use Rattle.std.proofs.Common.{◌≡◌, ℕ, zero, suc, ◌+◌, ◌*◌, ◌<◌, ◌≤◌, true, List, [], ◌∷◌, ◌++◌, length, map, take, drop, Option, refl, sym, ap, ◌∙◌, subst, arith, length-drop, length-take-le, take-append-drop}
+-- Words that come of levels, in a text line that has begun.
+use Rattle.std.proofs.Common.{◌≡◌, ℕ, zero, suc, ◌+◌, ◌*◌, ◌<◌, ◌≤◌, true, List, [], ◌∷◌, length, take, drop, Option, refl, sym, ap, ◌∙◌, subst, arith, length-drop, length-take-le}
 use Rattle.std.specs.Prelude.{slice_index}
-use Rattle.std.proofs.Math.Seq.{drop-cons, drop-nil}
-use Rattle.std.proofs.lemmas.List.{append_assoc, drop-append-le, drop-map, length-map, map-append, take_rest}
+use Rattle.std.proofs.Math.Seq.{drop-cons, take-add}
+use Rattle.std.proofs.lemmas.List.{take_rest}
 use Rattle.nr_units.specs.Supply.{Supply}
 use Rattle.nr_fill.specs.Pieces.{line_cells}
-use Rattle.nr_store.specs.Laws.{left_times-run}
-use Rattle.nr_store.specs.Stored.{Level, Mark, Read, Reading, Stored, shown}
-use Rattle.nr_store.specs.Windows.{levels_behind, rest_of, run_left}
+use Rattle.nr_fill.specs.Runs.{IsPlain}
+use Rattle.nr_store.specs.Stored.{Level, Read, Reading, Stored}
+use Rattle.nr_store.specs.Windows.{levels_behind, rest_of}
 use Rattle.nr_store.specs.declared.element.Element.{Element}
 use Rattle.nr_store.specs.declared.element.Element.TheVariants as elements
-use Rattle.nr_store.specs.declared.shown.Shown.TheVariants as shows
-use Rattle.nr_formatter.specs.Access.{collected}
+use Rattle.nr_settings.specs.Fonts.{is_under}
+use Rattle.nr_input.specs.declared.reader.Reader.{Reader}
+use Rattle.nr_formatter.specs.Access.{collected, margins}
 use Rattle.nr_formatter.specs.CellBytes.{IsCellByte, byte_put}
-use Rattle.nr_formatter.specs.LineEnds.{IsNewline, line_gapped, newline_flows, newline_put}
 use Rattle.nr_formatter.specs.Lines.{fits_line}
 use Rattle.nr_formatter.specs.Runs.{IsGap, IsInLine, gap_flows, gap_put, gapped, is_in_line, run_put}
 use Rattle.nr_formatter.specs.Weights as weights
 use Rattle.nr_formatter.specs.declared.formatter.Formatter.{Formatter}
 use Rattle.nr_formatter.specs.declared.tasks.Resume.{Resume}
 use Rattle.nr_formatter.proofs.CellBytes.{CellByte, cell_byte, weight-byte}
-use Rattle.nr_formatter.proofs.PlainText.{in_line}
+use Rattle.nr_formatter.proofs.PlainText.{in_line, line_cells-run}
 use Rattle.nr_engine.specs.State.{State}
 use Rattle.nr_engine.specs.Machine.{step}
 use Rattle.nr_engine.specs.Measures.{IsWithin}
 use Rattle.nr_engine.specs.Holding.{Made, Shape, Stands, at, weight, worth}
-use Rattle.nr_engine.specs.Running.{LongestLine, Makes, MakesInPlace, PutsOfLevel}
+use Rattle.nr_engine.specs.Running.{Flows, IsFurther, Makes, PutsOfFlow, with_read}
 use Rattle.nr_engine.proofs.CellBytes.{glides_byte, no_escape, no_newline}
+use Rattle.nr_engine.proofs.Flows.{Puts, flows-add, flows_none, flows_one, further_is, line_further}
 use Rattle.nr_engine.proofs.Gliding.{Glides, made_of, told}
-use Rattle.nr_engine.proofs.LevelNewlines.{makes_ended, makes_line}
-use Rattle.nr_engine.proofs.LevelText.{Showing, at_text, goes_byte, level_gone, line_there, made_glided, makes_flows, makes_gap, makes_text, one_left, reads_byte, showing, within_text}
-use Rattle.nr_engine.proofs.PlainText.{ArePlain}
+use Rattle.nr_engine.proofs.LevelText.{Showing, at_text, goes_byte, level_gone, line_there, made_glided, makes_flows, makes_gap, makes_plain, one_left, reads_byte, showing, within_text}
+use Rattle.nr_engine.proofs.PlainText.{ArePlain, first_plain, others_plain}
 use Rattle.nr_engine.proofs.RereadCells.{items_fewer}
-use Rattle.nr_engine.proofs.TextAtHand.{rest_of as bytes_behind}
-use Rattle.nr_engine.proofs.Travelling.{in_place-add, makes_none}
+use Rattle.nr_engine.proofs.TextAtHand.{rest_of as bytes_behind, turn_line}
 
 -- ---- a byte that goes to the word and does not end it
 
@@ -88,193 +87,135 @@ makes_byte b e supply byte there = record {
   spends = byte_spends b e (one_left e.formatter.store.levels (elements.Byte b) there);
 }
 
--- ---- what is left of the newest level
+-- ---- one byte, wherever it comes of levels
 
-drop_on : (t n : ℕ) (xs : List Element) → drop n (drop t xs) ≡ drop (t + n) xs
-drop_on zero n xs = let count : n ≡ 0 + n = omega arith in ap (λ k. drop k xs) count
-drop_on (suc t) n [] = drop-nil n ∙ sym (drop-nil (suc t + n))
-drop_on (suc t) n (x ∷ xs) = let count : suc (t + n) ≡ suc t + n = omega arith in drop_on t n xs ∙ ap (λ k. drop k (x ∷ xs)) count
+-- a plain byte
+puts_plain : (b : ℕ) (f : Formatter) → is_in_line f ≡ true → IsPlain b → line_cells (collected (run_put (b ∷ []) f)) ≤ f.line.limit → Puts b 2 f (run_put (b ∷ []) f)
+puts_plain b f line plain fits = λ v r is shows e. record {
+  makes = λ supply. makes_plain b (record e { formatter = with_read v r f }) supply (line_further f v r is line) plain fits (showing v.levels (elements.Byte b) shows);
+  place = refl;
+}
 
-levels_on : (t n : ℕ) (levels : List (Level Resume)) → levels_behind n (levels_behind t levels) ≡ levels_behind (t + n) levels
-levels_on t n [] = refl
-levels_on t n (Mark mode ∷ ls) = refl
-levels_on t n (Read l ∷ ls) = ap (λ r. Read (record l { rest = r }) ∷ ls) (drop_on t n l.rest)
+-- a blank that does nothing but end its word
+gap_further : (f : Formatter) (v : Stored Resume) (r : Reader) → IsFurther f v r → IsGap f → IsGap (with_read v r f)
+gap_further f v r is gap = subst IsGap (further_is f v r is) (record { plain = gap.plain; within = gap.within })
 
-run_on : (t n : ℕ) (v : Stored Resume) → run_left n (run_left t v) ≡ run_left (t + n) v
-run_on t n v = ap (λ ls. record v { levels = ls }) (levels_on t n v.levels)
+puts_flows : (f : Formatter) → is_in_line f ≡ true → IsGap f → Puts 32 2 f (gap_flows f)
+puts_flows f line gap = λ v r is shows e. record {
+  makes = λ supply. makes_flows (record e { formatter = with_read v r f }) supply (line_further f v r is line) (gap_further f v r is gap) shows;
+  place = refl;
+}
 
-rest_behind : (t : ℕ) (levels : List (Level Resume)) → rest_of (levels_behind t levels) ≡ drop t (rest_of levels)
-rest_behind t [] = sym (drop-nil t)
-rest_behind t (Mark mode ∷ ls) = sym (drop-nil t)
-rest_behind t (Read l ∷ ls) = refl
+puts_gap : (f : Formatter) → is_in_line f ≡ true → IsGap f → fits_line (gapped (collected f)) ≡ true → Puts 32 3 f (gap_put f)
+puts_gap f line gap fits = λ v r is shows e. record {
+  makes = λ supply. makes_gap (record e { formatter = with_read v r f }) supply (line_further f v r is line) (gap_further f v r is gap) shows fits;
+  place = refl;
+}
 
--- bytes that come next, behind the first t of them
-rest_there : (t : ℕ) (bs : List ℕ) (v : Stored Resume) → t ≤ length bs → map elements.Byte bs ≡ take (length bs) (rest_of v.levels)
-    → map elements.Byte (drop t bs) ++ drop (length bs) (rest_of v.levels) ≡ rest_of (run_left t v).levels
-rest_there t bs v front next =
-    let rest : List Element = rest_of v.levels in
-    let zs : List Element = drop (length bs) rest in
-    let within : t ≤ length (map elements.Byte bs) = omega (arith, front, length-map bs elements.Byte) in
-    ap (λ xs. xs ++ zs) (sym (drop-map elements.Byte t bs))
-    ∙ sym (drop-append-le t (map elements.Byte bs) zs within)
-    ∙ ap (drop t) (ap (λ xs. xs ++ zs) next ∙ take-append-drop (length bs) rest)
-    ∙ sym (rest_behind t v.levels)
+-- a byte that goes to the word and does not end it
+puts_cell : (b : ℕ) (f : Formatter) → IsCellByte b f → Puts b 2 f (byte_put b f)
+puts_cell b f byte = λ v r is shows e. record {
+  makes = λ supply.
+      makes_byte b (record e { formatter = with_read v r f }) supply (record { line = line_further f v r is byte.line; goes = byte.goes; within = byte.within }) (showing v.levels (elements.Byte b) shows);
+  place = refl;
+}
 
--- what comes next is shown
-shows_first : (levels : List (Level Resume)) (x : Element) (xs : List Element) → x ∷ xs ≡ rest_of levels → shown levels ≡ shows.Item x
-shows_first [] x xs is = absurd (let wrong : x ∷ xs ≡ [] = is in cc)
-shows_first (Mark mode ∷ ls) x xs is = absurd (let wrong : x ∷ xs ≡ [] = is in cc)
-shows_first (Read l ∷ ls) x xs is = ap (λ r. shown (Read (record l { rest = r }) ∷ ls)) (sym is)
+-- ---- plain bytes
+
+first_fits : (b : ℕ) (bs : List ℕ) (f : Formatter) → line_cells (collected (run_put (b ∷ bs) f)) ≤ f.line.limit → line_cells (collected (run_put (b ∷ []) f)) ≤ f.line.limit
+first_fits b bs f fits =
+    omega (
+      arith,
+      fits,
+      line_cells-run (margins f) (is_under f.settings.fonts) b bs (collected f),
+      line_cells-run (margins f) (is_under f.settings.fonts) b [] (collected f),
+    )
+
+flows_run : (bs : List ℕ) (f : Formatter) → is_in_line f ≡ true → ArePlain bs → (0 < length bs → line_cells (collected (run_put bs f)) ≤ f.line.limit) → Flows bs (2 * length bs) f (run_put bs f)
+flows_run [] f line plain fits = flows_none f
+flows_run (b ∷ bs) f line plain fits =
+    let fits_one = first_fits b bs f (fits (omega arith)) in
+    let g : Formatter = run_put (b ∷ []) f in
+    let count : 2 + 2 * length bs ≡ 2 * length (b ∷ bs) = omega arith in
+    subst (λ n. Flows (b ∷ bs) n f (run_put (b ∷ bs) f)) count
+    (flows-add (b ∷ []) bs 2 (2 * length bs) f g (run_put (b ∷ bs) f) refl refl (λ within. fits_one) (flows_one b 2 f g line (puts_plain b f line (first_plain b bs plain) fits_one))
+    (flows_run bs g (turn_line (b ∷ []) f g line refl) (others_plain b bs plain) (λ some. fits (omega arith))))
 
 -- ---- one turn
 
 -- nothing was put
-pub none_of_level : (bs : List ℕ) (f : Formatter) → PutsOfLevel bs 0 0 f f
-none_of_level bs f = record {
+pub none_of_flow : (bs : List ℕ) (f : Formatter) → PutsOfFlow bs 0 0 f f
+none_of_flow bs f = record {
   front = omega arith;
   most = omega arith;
   store = refl;
-  makes = λ e next. record {
-    makes = λ supply.
-        subst (λ v. Makes 0 (record e { formatter = f }) (record e { formatter = record f { store = v } }) supply supply) (left_times-run 0 f.store (omega arith)) (makes_none (record e { formatter = f }) supply);
-    place = refl;
-  };
+  reader = refl;
+  within = λ fits. fits;
+  makes = flows_none f;
 }
-
--- the formatter behind so many elements of the newest level
-abbrev pub behind : ℕ → Formatter → Formatter
-behind t g = record g { store = run_left t g.store }
 
 -- n more of these bytes were put in k moves
-abbrev pub Steps : List ℕ → ℕ → ℕ → ℕ → Formatter → Formatter → Type 0
-Steps bs t n k g h =
-    (e : Shape) (zs : List Element) (supply : Option Supply) → map elements.Byte (drop t bs) ++ zs ≡ rest_of (run_left t g.store).levels
-    → Makes k (record e { formatter = behind t g }) (record e { formatter = record h { store = run_left n (run_left t g.store) } }) supply supply
-
-puts_on : (t m n k : ℕ) (bs : List ℕ) (f g h : Formatter) → PutsOfLevel bs t m f g → t + n ≤ length bs → k ≤ 5 * n → h.store ≡ g.store → Steps bs t n k g h → PutsOfLevel bs (t + n) (m + k) f h
-puts_on t m n k bs f g h puts front few store steps = record {
-  front = front;
-  most = omega (arith, puts.most, few);
-  store = store ∙ puts.store;
-  makes = λ e next.
-      let before : Shape = record e { formatter = f } in
-      let between : Shape = record e { formatter = behind t g } in
-      let after : Shape = record e { formatter = record h { store = run_left n (run_left t g.store) } } in
-      let first : MakesInPlace m before between = subst (λ v. MakesInPlace m before (record e { formatter = record g { store = run_left t v } })) (sym puts.store) (puts.makes e next) in
-      let there = ap (λ v. rest_of (run_left t v).levels) (sym puts.store) in
-      let second : MakesInPlace k between after = record {
-        makes = λ supply. steps e (drop (length bs) (rest_of f.store.levels)) supply (rest_there t bs f.store puts.front next ∙ there);
-        place = refl;
-      }
-      in
-      subst (λ v. MakesInPlace (m + k) before (record e { formatter = record h { store = v } })) (run_on t n g.store ∙ ap (run_left (t + n)) puts.store) (in_place-add m k before between after first second);
-}
-
--- a run of plain bytes
-run_steps : (t n : ℕ) (bs : List ℕ) (g : Formatter) → is_in_line g ≡ true → n ≤ length (drop t bs) → ArePlain (take n (drop t bs))
-    → (0 < n → line_cells (collected (run_put (take n (drop t bs)) g)) ≤ g.line.limit) → Steps bs t n (2 * n) g (run_put (take n (drop t bs)) g)
-run_steps t zero bs g line front plain fits = λ e zs supply next.
-    let there : Shape = record e { formatter = behind t g } in
-    subst (λ v. Makes 0 there (record e { formatter = record g { store = v } }) supply supply) (left_times-run 0 (run_left t g.store) (omega arith)) (makes_none there supply)
-run_steps t (suc n) bs g line front plain fits = λ e zs supply next.
-    let there : Shape = record e { formatter = behind t g } in
-    let xs : List ℕ = take (suc n) (drop t bs) in
-    let ys : List ℕ = drop (suc n) (drop t bs) in
-    let count : length xs ≡ suc n = length-take-le (suc n) (drop t bs) front in
-    let all : map elements.Byte xs ++ (map elements.Byte ys ++ zs) ≡ rest_of there.formatter.store.levels =
-    sym (append_assoc (map elements.Byte xs) (map elements.Byte ys) zs)
-    ∙ ap (λ vs. vs ++ zs) (sym (map-append elements.Byte xs ys))
-    ∙ ap (λ vs. map elements.Byte vs ++ zs) (take-append-drop (suc n) (drop t bs))
-    ∙ next in
-    subst (λ k. Makes (2 * k) there (record e { formatter = record (run_put xs g) { store = run_left k (run_left t g.store) } }) supply supply) count
-    (makes_text xs (map elements.Byte ys ++ zs) there supply (omega (arith, count)) line plain all (fits (omega arith)))
+module _ (t m n k : ℕ) (bs : List ℕ) (f g h : Formatter) (puts : PutsOfFlow bs t m f g) (front : t + n ≤ length bs) (few : k ≤ 5 * n) (store : h.store ≡ g.store) (reader : h.reader ≡ g.reader)
+    (within : line_cells (collected g) ≤ g.line.limit → line_cells (collected h) ≤ h.line.limit) where
+  flow_on : Flows (take n (drop t bs)) k g h → PutsOfFlow bs (t + n) (m + k) f h
+  flow_on flows = record {
+    front = front;
+    most = omega (arith, puts.most, few);
+    store = store ∙ puts.store;
+    reader = reader ∙ puts.reader;
+    within = λ fits. within (puts.within fits);
+    makes =
+        subst (λ xs. Flows xs (m + k) f h) (sym (take-add t n bs))
+        (flows-add (take t bs) (take n (drop t bs)) m k f g h puts.store puts.reader puts.within puts.makes flows);
+  }
 
 -- behind the first t bytes comes a run
-pub level_run : (t m n : ℕ) (bs : List ℕ) (f g h : Formatter) → PutsOfLevel bs t m f g → is_in_line g ≡ true → n ≤ length (bytes_behind t bs) → ArePlain (take n (bytes_behind t bs))
-    → h ≡ run_put (take n (bytes_behind t bs)) g → (0 < n → line_cells (collected h) ≤ h.line.limit) → PutsOfLevel bs (t + n) (m + 2 * n) f h
-level_run t m n bs f g h puts line front plain is fits =
+run_within : (n : ℕ) (xs : List ℕ) (g : Formatter) → (0 < n → line_cells (collected (run_put (take n xs) g)) ≤ g.line.limit) → line_cells (collected g) ≤ g.line.limit
+    → line_cells (collected (run_put (take n xs) g)) ≤ g.line.limit
+run_within zero xs g fits within = within
+run_within (suc n) xs g fits within = fits (omega arith)
+
+pub flow_run : (t m n : ℕ) (bs : List ℕ) (f g h : Formatter) → PutsOfFlow bs t m f g → is_in_line g ≡ true → n ≤ length (bytes_behind t bs) → ArePlain (take n (bytes_behind t bs))
+    → h ≡ run_put (take n (bytes_behind t bs)) g → (0 < n → line_cells (collected h) ≤ h.line.limit) → PutsOfFlow bs (t + n) (m + 2 * n) f h
+flow_run t m n bs f g h puts line front plain is fits =
     let whole : bytes_behind t bs ≡ drop t bs = take_rest bs t in
     let few : n ≤ length (drop t bs) = subst (λ xs. n ≤ length xs) whole front in
-    let put : h ≡ run_put (take n (drop t bs)) g = is ∙ ap (λ xs. run_put (take n xs) g) whole in
-    subst (λ (x : Formatter). PutsOfLevel bs (t + n) (m + 2 * n) f x) (sym put)
-    (puts_on t m n (2 * n) bs f g (run_put (take n (drop t bs)) g) puts (omega (arith, few, puts.front, length-drop t bs)) (omega arith) refl
-    (run_steps t n bs g line few (subst (λ xs. ArePlain (take n xs)) whole plain) (λ some. subst (λ (x : Formatter). line_cells (collected x) ≤ x.line.limit) put (fits some))))
+    let xs : List ℕ = take n (drop t bs) in
+    let count : length xs ≡ n = length-take-le n (drop t bs) few in
+    let put : h ≡ run_put xs g = is ∙ ap (λ ys. run_put (take n ys) g) whole in
+    let fits_put : 0 < n → line_cells (collected (run_put xs g)) ≤ g.line.limit = λ some. subst (λ (x : Formatter). line_cells (collected x) ≤ x.line.limit) put (fits some) in
+    let flows = flows_run xs g line (subst (λ ys. ArePlain (take n ys)) whole plain) (λ some. fits_put (omega (arith, some, count))) in
+    subst (λ (x : Formatter). PutsOfFlow bs (t + n) (m + 2 * n) f x) (sym put)
+    (flow_on t m n (2 * n) bs f g (run_put xs g) puts (omega (arith, few, puts.front, length-drop t bs)) (omega arith) refl refl (run_within n (drop t bs) g fits_put)
+    (subst (λ k. Flows xs (2 * k) g (run_put xs g)) count flows))
 
--- the byte behind the first t is shown
-shows_next : (t b : ℕ) (bs : List ℕ) (zs : List Element) (v : Stored Resume) → t < length bs → slice_index bs t ≡ b → map elements.Byte (drop t bs) ++ zs ≡ rest_of v.levels
-    → shown v.levels ≡ shows.Item (elements.Byte b)
-shows_next t b bs zs v below is next =
-    shows_first v.levels (elements.Byte b) (map elements.Byte (drop (suc t) bs) ++ zs)
-    (ap (λ c. elements.Byte c ∷ (map elements.Byte (drop (suc t) bs) ++ zs)) (sym is) ∙ ap (λ xs. map elements.Byte xs ++ zs) (sym (drop-cons bs t 0 below)) ∙ next)
+-- behind the first t bytes comes this one
+one_behind : (t b : ℕ) (bs : List ℕ) → t < length bs → slice_index bs t ≡ b → take 1 (drop t bs) ≡ b ∷ []
+one_behind t b bs below is = ap (take 1) (drop-cons bs t 0 below) ∙ ap (λ c. c ∷ []) is
+
+module _ (t m b k : ℕ) (bs : List ℕ) (f g h : Formatter) (puts : PutsOfFlow bs t m f g) (line : is_in_line g ≡ true) (below : t < length bs) (is : slice_index bs t ≡ b) (few : k ≤ 5) where
+  flow_one : h.store ≡ g.store → h.reader ≡ g.reader → line_cells (collected h) ≤ h.line.limit → Puts b k g h → PutsOfFlow bs (t + 1) (m + k) f h
+  flow_one store reader fits put =
+      flow_on t m 1 k bs f g h puts (omega (arith, below)) (omega (arith, few)) store reader (λ within. fits)
+      (subst (λ xs. Flows xs k g h) (sym (one_behind t b bs below is)) (flows_one b k g h line put))
 
 -- and behind it comes a blank
-module _ (t m : ℕ) (bs : List ℕ) (f g : Formatter) (puts : PutsOfLevel bs t m f g) (line : is_in_line g ≡ true) (below : t < length bs) (blank : slice_index bs t ≡ 32) (gap : IsGap g) where
-  gap_there : IsGap (behind t g)
-  gap_there = record { plain = gap.plain; within = gap.within }
-
+module _ (t m : ℕ) (bs : List ℕ) (f g : Formatter) (puts : PutsOfFlow bs t m f g) (line : is_in_line g ≡ true) (below : t < length bs) (blank : slice_index bs t ≡ 32) (gap : IsGap g) where
   -- the line is full then
-  pub level_flows : (h : Formatter) → h ≡ gap_flows g → PutsOfLevel bs (t + 1) (m + 2) f h
-  level_flows h is =
-      subst (λ (x : Formatter). PutsOfLevel bs (t + 1) (m + 2) f x) (sym is)
-      (puts_on t m 1 2 bs f g (gap_flows g) puts (omega (arith, below)) (omega arith) refl
-      (λ e zs supply next. makes_flows (record e { formatter = behind t g }) supply line gap_there (shows_next t 32 bs zs (run_left t g.store) below blank next)))
+  pub flow_flows : (h : Formatter) → h ≡ gap_flows g → PutsOfFlow bs (t + 1) (m + 2) f h
+  flow_flows h is =
+      subst (λ (x : Formatter). PutsOfFlow bs (t + 1) (m + 2) f x) (sym is)
+      (flow_one t m 32 2 bs f g (gap_flows g) puts line below blank (omega arith) refl refl gap.within (puts_flows g line gap))
 
   -- or it is not
-  pub level_gap : (h : Formatter) → fits_line (gapped (collected g)) ≡ true → h ≡ gap_put g → PutsOfLevel bs (t + 1) (m + 3) f h
-  level_gap h fits is =
-      subst (λ (x : Formatter). PutsOfLevel bs (t + 1) (m + 3) f x) (sym is)
-      (puts_on t m 1 3 bs f g (gap_put g) puts (omega (arith, below)) (omega arith) refl
-      (λ e zs supply next. makes_gap (record e { formatter = behind t g }) supply line gap_there (shows_next t 32 bs zs (run_left t g.store) below blank next) fits))
+  pub flow_gap : (h : Formatter) → fits_line (gapped (collected g)) ≡ true → h ≡ gap_put g → PutsOfFlow bs (t + 1) (m + 3) f h
+  flow_gap h fits is =
+      subst (λ (x : Formatter). PutsOfFlow bs (t + 1) (m + 3) f x) (sym is)
+      (flow_one t m 32 3 bs f g (gap_put g) puts line below blank (omega arith) refl refl gap.within (puts_gap g line gap fits))
 
 -- and behind it comes a byte that goes to the word and does not end it
-pub level_byte : (t m b : ℕ) (bs : List ℕ) (f g h : Formatter) → PutsOfLevel bs t m f g → t < length bs → slice_index bs t ≡ b → IsCellByte b g → h ≡ byte_put b g
-    → PutsOfLevel bs (t + 1) (m + 2) f h
-level_byte t m b bs f g h puts below is byte put =
-    subst (λ (x : Formatter). PutsOfLevel bs (t + 1) (m + 2) f x) (sym put)
-    (puts_on t m 1 2 bs f g (byte_put b g) puts (omega (arith, below)) (omega arith) refl
-    (λ e zs supply next.
-    let there : Shape = record e { formatter = behind t g } in
-    makes_byte b there supply (record { line = byte.line; goes = byte.goes; within = byte.within })
-    (showing there.formatter.store.levels (elements.Byte b) (shows_next t b bs zs (run_left t g.store) below is next))))
-
--- and behind it comes the newline that ends its line
-module _ (t m : ℕ) (bs : List ℕ) (f g : Formatter) (puts : PutsOfLevel bs t m f g) (below : t < length bs) (is : slice_index bs t ≡ 10) (newline : IsNewline g) where
-  newline_there : IsNewline (behind t g)
-  newline_there = record { line = newline.line; plain = newline.plain; trap = newline.trap; underlined = newline.underlined; within = newline.within }
-
-  -- the line is full then
-  pub level_ended : (h : Formatter) → h ≡ newline_flows g → PutsOfLevel bs (t + 1) (m + 2) f h
-  level_ended h ended =
-      subst (λ (x : Formatter). PutsOfLevel bs (t + 1) (m + 2) f x) (sym ended)
-      (puts_on t m 1 2 bs f g (newline_flows g) puts (omega (arith, below)) (omega arith) refl
-      (λ e zs supply next. makes_ended (record e { formatter = behind t g }) supply newline_there (shows_next t 10 bs zs (run_left t g.store) below is next)))
-
-  -- or it is not
-  pub level_line : (h : Formatter) → fits_line (line_gapped (collected g)) ≡ true → h ≡ newline_put g → PutsOfLevel bs (t + 1) (m + 5) f h
-  level_line h fits put =
-      subst (λ (x : Formatter). PutsOfLevel bs (t + 1) (m + 5) f x) (sym put)
-      (puts_on t m 1 5 bs f g (newline_put g) puts (omega (arith, below)) (omega arith) refl
-      (λ e zs supply next. makes_line (record e { formatter = behind t g }) supply newline_there (shows_next t 10 bs zs (run_left t g.store) below is next) fits))
-
--- ---- as many as could be
-
--- what was taken of the level does not matter
-pub longest_left : (bs : List ℕ) (t : ℕ) (g : Formatter) → LongestLine bs t g → LongestLine bs t (behind t g)
-longest_left bs t g h = record {
-  words = record {
-    stops = h.words.stops;
-    blank = λ below line is gap. h.words.blank below line is (record { plain = gap.plain; within = gap.within });
-  };
-  newline = λ below is newline.
-      h.newline below is (record { line = newline.line; plain = newline.plain; trap = newline.trap; underlined = newline.underlined; within = newline.within });
-}
-
--- no bytes were there
-pub longest_none : (bs : List ℕ) (f : Formatter) → length bs ≡ 0 → LongestLine bs 0 f
-longest_none bs f none = record {
-  words = record {
-    stops = λ below line plain. absurd (omega (arith, none, below));
-    blank = λ below line is gap. absurd (omega (arith, none, below));
-  };
-  newline = λ below is newline. absurd (omega (arith, none, below));
-}
+pub flow_byte : (t m b : ℕ) (bs : List ℕ) (f g h : Formatter) → PutsOfFlow bs t m f g → t < length bs → slice_index bs t ≡ b → IsCellByte b g → h ≡ byte_put b g
+    → PutsOfFlow bs (t + 1) (m + 2) f h
+flow_byte t m b bs f g h puts below is byte put =
+    subst (λ (x : Formatter). PutsOfFlow bs (t + 1) (m + 2) f x) (sym put)
+    (flow_one t m b 2 bs f g (byte_put b g) puts byte.line below is (omega arith) refl refl byte.within (puts_cell b g byte))

@@ -2,9 +2,11 @@ mod Bursts
 mod CellBytes
 mod Choosing
 mod EmptyLines
+mod Flows
 mod Gliding
 mod Going
 mod Judged
+mod LevelLines
 mod LevelNewlines
 mod LevelText
 mod LevelWords

@@ -1,27 +1,29 @@
 -- What the options do to the engine, and a whole run of it.
-use Rattle.std.specs.Prelude.{◌≡◌, ℕ, ◌+◌, ◌-◌, ◌*◌, ◌≤◌, ◌<◌, List, [], length, map, take, drop, slice_index, Option, Result, Ok, Err, OnOk, true, false}
+use Rattle.std.specs.Prelude.{◌≡◌, ℕ, ◌+◌, ◌-◌, ◌*◌, ◌≤◌, ◌<◌, Bool, List, [], length, take, drop, slice_index, Option, Result, Ok, Err, OnOk, true, false}
 use Rattle.std.specs.Option.{option_map}
 use Rattle.nr_units.specs.Supply.{Supply, skipped}
 use Rattle.nr_options.specs.Limits.{Bounds}
 use Rattle.nr_options.specs.declared.options.Options.{Options}
 use Rattle.nr_input.specs.AtHand.{ComeNext, is_unseen}
 use Rattle.nr_input.specs.Coming.{Coming, HoldsComing, has_failed, nothing_reached}
+use Rattle.nr_input.specs.Gathering.{Brings, IsGathered, Leaves}
 use Rattle.nr_input.specs.Runs.{passed_run}
-use Rattle.nr_fill.specs.Pieces.{text_cells}
+use Rattle.nr_input.specs.declared.gathering.Gathered.{Gathered}
+use Rattle.nr_input.specs.declared.reader.Reader.{Reader}
+use Rattle.nr_fill.specs.Pieces.{line_cells, text_cells}
 use Rattle.nr_fill.specs.Rows.{IsRow}
 use Rattle.nr_fill.specs.Runs.{IsPlain}
 use Rattle.nr_formatter.specs.Access.{collected}
-use Rattle.nr_formatter.specs.Limits.{IsWithin}
+use Rattle.nr_formatter.specs.Limits.{FitsMemory, IsWithin}
 use Rattle.nr_formatter.specs.LineBeginnings.{BeginsText, is_at_text}
 use Rattle.nr_formatter.specs.LineEnds.{IsNewline}
-use Rattle.nr_formatter.specs.Runs.{IsFront, IsGap, is_in_line}
+use Rattle.nr_formatter.specs.Runs.{IsGap, is_in_line}
 use Rattle.nr_formatter.specs.declared.formatter.Formatter.{Formatter}
 use Rattle.nr_formatter.specs.declared.tasks.Resume.{Resume}
 use Rattle.nr_page.specs.Sheet.{Holds as HoldsPage}
 use Rattle.nr_page.specs.declared.selection.PageRange.{PageRange}
 use Rattle.nr_store.specs.Stored.{Stored as StoredOf, charge_of}
-use Rattle.nr_store.specs.Windows.{rest_of, run_left}
-use Rattle.nr_store.specs.declared.element.Element.TheVariants as elements
+use Rattle.nr_store.specs.Windows.{run_left}
 use Rattle.nr_engine.specs.State.{State, Choice, choices, formatter_at_first}
 use Rattle.nr_engine.specs.Machine.{choose, state_after}
 use Rattle.nr_engine.specs.Answer.{stops_reading, stops_writing}
@@ -67,6 +69,10 @@ pub record MakesInPlace (n : ℕ) (e f : Shape) : Type 0 where
   pub makes : (supply : Option Supply) → Makes n e f supply supply
   pub place : f.place ≡ e.place
 
+-- the same, whatever the engine has besides the formatter
+abbrev pub MakesInText : ℕ → Formatter → Formatter → Type 0
+MakesInText n f g = (e : Shape) → MakesInPlace n (record e { formatter = f }) (record e { formatter = g })
+
 -- n moves were made and no call of the source failed in them; `old` and `new` count its failed calls before and after
 pub record MakesReading (n : ℕ) (e f : Shape) (supply supply' : Option Supply) (old new : ℕ) : Type 0 where
   pub makes : Makes n e f supply supply'
@@ -106,15 +112,33 @@ pub record PutsText (bs : List ℕ) (taken moves : ℕ) (f g : Formatter) : Type
   pub saves : (e : Shape) (supply : Option Supply) → unburst e.formatter ≡ unburst f → HasNext bs e supply → 0 < taken
       → Saves 20 moves e (taken_shape bs taken g e)
 
--- ---- text of the newest level
+-- ---- text of levels
 
--- So many of these bytes were put, up to five moves each, wherever they come next of the newest level.
-pub record PutsOfLevel (bs : List ℕ) (taken moves : ℕ) (f g : Formatter) : Type 0 where
+-- the formatter with this stored and read
+abbrev pub with_read : StoredOf Resume → Reader → Formatter → Formatter
+with_read v r f = record f { store = v; reader = r }
+
+-- Of what the formatter stores and reads only the levels and their texts are others here, the name that was asked for last, and how often
+-- was spliced.
+pub record IsFurther (f : Formatter) (v : StoredOf Resume) (r : Reader) : Type 0 where
+  pub stored : v ≡ record f.store { levels = v.levels; texts = v.texts }
+  pub reader : r ≡ record f.reader { half = record f.reader.half { notes = record f.reader.half.notes { asked = r.half.notes.asked } }; burst = r.burst }
+
+-- Wherever these bytes come of levels, with moves that lead to each, they lead from one formatter to the other, in so many moves besides
+-- those.
+abbrev pub Flows : List ℕ → ℕ → Formatter → Formatter → Type 0
+Flows bs moves f g =
+    (n : ℕ) (v : StoredOf Resume) (r : Reader) (w : StoredOf Resume) (q : Reader) → IsFurther f v r → FitsMemory (with_read v r f) → Brings n bs v r w q
+    → MakesInText (moves + n) (with_read v r f) (with_read w q g)
+
+-- So many of these bytes were put, up to five moves each, wherever they come of levels.
+pub record PutsOfFlow (bs : List ℕ) (taken moves : ℕ) (f g : Formatter) : Type 0 where
   pub front : taken ≤ length bs
   pub most : moves ≤ 5 * taken
   pub store : g.store ≡ f.store
-  pub makes : (e : Shape) → map elements.Byte bs ≡ take (length bs) (rest_of f.store.levels)
-      → MakesInPlace moves (record e { formatter = f }) (record e { formatter = record g { store = run_left taken f.store } })
+  pub reader : g.reader ≡ f.reader
+  pub within : line_cells (collected f) ≤ f.line.limit → line_cells (collected g) ≤ g.line.limit
+  pub makes : Flows (take taken bs) moves f g
 
 -- ---- how much was put
 
@@ -124,19 +148,28 @@ pub record LongestWords (bs : List ℕ) (taken : ℕ) (f : Formatter) : Type 0 w
   pub stops : taken < length bs → is_in_line f ≡ true → IsPlain (slice_index bs taken) → text_cells (collected f) ≡ f.line.limit
   pub blank : taken < length bs → is_in_line f ≡ true → slice_index bs taken ≡ 32 → IsGap f → ⊥
 
--- The same up to the end of a line: nor is it a newline that does nothing but end its line.
-pub record LongestLine (bs : List ℕ) (taken : ℕ) (f : Formatter) : Type 0 where
-  pub words : LongestWords bs taken f
-  pub newline : taken < length bs → slice_index bs taken ≡ 10 → IsNewline f → ⊥
+-- A newline that came next of the newest level was taken, or no other comes next that does nothing but end its line.
+pub record EndsLine (f g : Formatter) : Type 0 where
+  pub newlines : ℕ
+  pub left : g.store ≡ run_left newlines f.store
+  pub newline : IsNewline g → ⊥
 
--- The same of the bytes that come next of the newest level: of all up to an element that is no byte or begins an escape, or of 64.
--- Those that were put were taken.
-pub record LongestOfLevel (v : StoredOf Resume) (f : Formatter) : Type 0 where
+-- The same of all the bytes that could be gathered of the levels: those that were put were taken, and where those are all and a newline
+-- ends them, that does not come next where it does nothing but end its line.
+pub record LongestOfLevels (v : StoredOf Resume) (r : Reader) (f : Formatter) : Type 0 where
   pub bytes : List ℕ
-  pub front : IsFront bytes (rest_of v.levels)
+  pub gathered : Gathered
+  pub are : IsGathered bytes v r gathered
   pub taken : ℕ
-  pub left : f.store ≡ run_left taken v
-  pub longest : LongestLine bytes taken f
+  pub goes : Bool
+  pub moves : ℕ
+  pub there : StoredOf Resume
+  pub reader : Reader
+  pub leaves : Leaves goes moves (take taken bytes) v r there reader
+  pub newlines : ℕ
+  pub left : f.store ≡ run_left newlines there
+  pub words : LongestWords bytes taken f
+  pub newline : taken ≡ length bytes → gathered.ends ≡ true → IsNewline f → ⊥
 
 -- As many of these bytes were put as could be, two to five moves each: what comes next is none of a line's words, no newline that
 -- does nothing but end its line, and at a line's beginning no text that is put.

@@ -5,7 +5,7 @@ use crate::outcome::{Measure, Outcome, Stop};
 use nr_fill::out::Out;
 use nr_formatter::formatter::Formatter;
 use nr_formatter::tasks::{Resume, Task};
-use nr_input::{Event, Heard, Place, Refusal};
+use nr_input::{Event, Gathered, Heard, Place, Refusal};
 use nr_page::Select;
 use nr_page::page::Page;
 use nr_store::Request;
@@ -28,6 +28,8 @@ pub struct Engine {
     pub(crate) select: Select,
     /// What was under way where the text was sprung whose mark was taken last.
     pub(crate) resumed: Resume,
+    /// What was gathered of levels last.
+    pub(crate) gathered: Gathered,
     ghost has_row: { page.limit ≤ row.room },
 }
 

@@ -1,60 +1,100 @@
-//! Words of the newest level: many moves in one call.
-ghost use Rattle.std.specs.Prelude.{◌≡◌, ◌+◌, ◌*◌, ◌<◌, ◌≤◌, ◌^◌, length, true};
+//! Words of levels: many moves in one call.
+ghost use Rattle.std.specs.Prelude.{◌≡◌, ◌+◌, ◌*◌, ◌≤◌, length, true};
+ghost use Rattle.nr_store.specs.Stored.{shown};
+ghost use Rattle.nr_store.specs.declared.element.Element.TheVariants as elements;
+ghost use Rattle.nr_store.specs.declared.shown.Shown.TheVariants as shows;
+ghost use Rattle.nr_input.specs.Gathering.{IsGathered};
 ghost use Rattle.nr_formatter.specs.Runs.{is_in_line};
 ghost use Rattle.nr_engine.specs.Holding.{shape};
-ghost use Rattle.nr_engine.specs.Running.{LongestLine, LongestOfLevel, MakesInPlace, PutsOfLevel};
+ghost use Rattle.nr_engine.specs.Running.{EndsLine, LongestOfLevels, MakesInPlace, MakesInText};
 
 use crate::engine::Engine;
-use crate::plain_text::{Words, put_line_words};
+use crate::plain_text::put_line_words;
 use nr_formatter::formatter::Formatter;
-use nr_formatter::runs::{Gap, LONGEST_FRONT};
+use nr_formatter::runs::Gap;
+use nr_input::Gathered;
 
 /// The most words, newlines and interpolations of a text in one call.
 const MOST_PARTS: u32 = 4096;
 
-/// Puts the words that these bytes begin with, as `put_line_words`, and the newline behind them where it does nothing but end the line.
+/// How many bytes of levels are gathered at once, at most.
+const LONGEST_LINE: usize = 128;
+
+/// Reads the newline that comes next of the newest level where it does nothing but end the text line, and tells how many moves that
+/// was.
 #[inline(always)]
-fn put_line(formatter: &mut Formatter, bytes: &[u8]) -> Words
-    requires line { is_in_line formatter.old ≡ true }
-    requires few { length bytes.now < 2 ^ 40 }
-    ensures puts { PutsOfLevel bytes.now result.taken result.moves formatter.old formatter.new }
-    ensures longest { LongestLine bytes.now result.taken formatter.new }
+fn put_level_newline(formatter: &mut Formatter) -> usize
+    requires next { shown formatter.old.store.levels ≡ shows.Item (elements.Byte 10) }
+    ensures puts { MakesInText result formatter.old formatter.new }
+    ensures few { result ≤ 5 }
+    ensures ends { EndsLine formatter.old formatter.new }
 {
-    let words = put_line_words(formatter, bytes);
-    if words.taken == bytes.len() || bytes[words.taken] != b'\n' {
-        return words;
-    }
     match formatter.put_newline() {
-        Gap::Left => words,
-        Gap::Flows => Words {
-            taken: words.taken + 1,
-            moves: words.moves + 2,
-        },
-        Gap::Reads => Words {
-            taken: words.taken + 1,
-            moves: words.moves + 5,
-        },
+        Gap::Left => 0,
+        Gap::Flows => {
+            formatter.store.skip(1);
+            2
+        }
+        Gap::Reads => {
+            formatter.store.skip(1);
+            5
+        }
     }
 }
 
+/// Puts the words that the gathered bytes begin with, in a text line that has begun, and the newline behind them, and takes them. Tells
+/// how many moves that was.
+#[inline(always)]
+fn put_gathered(formatter: &mut Formatter, bytes: &[u8], gathered: &Gathered) -> usize
+    requires line { is_in_line formatter.old ≡ true }
+    requires gathered { IsGathered bytes.now formatter.old.store formatter.old.reader gathered.now }
+    requires few { length bytes.now ≤ 128 }
+    ensures puts { MakesInText result formatter.old formatter.new }
+    ensures few { result ≤ 709 }
+    ensures longest { LongestOfLevels formatter.old.store formatter.old.reader formatter.new }
+{
+    if bytes.is_empty() && !gathered.ends {
+        return 0;
+    }
+    formatter.fit_memory();
+    let words = put_line_words(formatter, bytes);
+    let goes = formatter.is_in_line();
+    let besides = nr_input::leave(
+        &mut formatter.reader,
+        &mut formatter.store,
+        bytes,
+        gathered,
+        words.taken,
+        goes,
+    );
+    formatter.fit_memory();
+    let moves = words.moves + besides;
+    if goes && gathered.ends && words.taken == bytes.len() {
+        return moves + put_level_newline(formatter);
+    }
+    moves
+}
+
 impl Engine {
-    /// Reads and puts the words that come next of the newest level, in a text line that has begun, with the blanks behind them and the
-    /// newline, and tells how many moves that was.
+    /// Reads and puts the words that come next of levels, in a text line that has begun, with the blanks behind them and the newline, and
+    /// tells how many moves that was.
     #[inline(always)]
     fn put_level_line(&mut self) -> u128
         requires line { is_in_line self.old.formatter ≡ true }
         ensures puts { MakesInPlace result (shape self.old) (shape self.new) }
-        ensures few { result ≤ 320 }
-        ensures longest { LongestOfLevel self.old.formatter.store self.new.formatter }
+        ensures few { result ≤ 709 }
+        ensures longest { LongestOfLevels self.old.formatter.store self.old.formatter.reader self.new.formatter }
     {
-        let mut bytes = [0; LONGEST_FRONT];
-        let count = self.formatter.copy_level(&mut bytes);
-        if count == 0 {
-            return 0;
-        }
-        let line = put_line(&mut self.formatter, &bytes[..count]);
-        self.formatter.store.skip(line.taken as u32);
-        line.moves as u128
+        let mut bytes = [0; LONGEST_LINE];
+        let formatter = &mut self.formatter;
+        nr_input::gather(
+            &mut formatter.reader,
+            &formatter.store,
+            &mut bytes,
+            &mut self.gathered,
+        );
+        let count = self.gathered.count;
+        put_gathered(&mut self.formatter, &bytes[..count], &self.gathered) as u128
     }
 
     /// Reads and puts the text of levels, in a text line that has begun, as long as it is in such a line, and tells how many moves
@@ -63,7 +103,7 @@ impl Engine {
     pub(crate) fn put_level_text(&mut self) -> u128
         requires line { is_in_line self.old.formatter ≡ true }
         ensures puts { MakesInPlace result (shape self.old) (shape self.new) }
-        ensures few { result ≤ 4096 * (65541 * 4096 + 320) }
+        ensures few { result ≤ 4096 * (65541 * 4096 + 709) }
     {
         let mut moves = 0u128;
         for _ in 0..MOST_PARTS {

@@ -5,7 +5,7 @@ ghost use Rattle.nr_formatter.specs.LineBeginnings.{is_at_text, BeginsText};
 ghost use Rattle.nr_formatter.specs.Runs.{is_in_line};
 ghost use Rattle.nr_engine.specs.Holding.{shape};
 ghost use Rattle.nr_engine.specs.LineBeginnings.{may_take, Begins, PutsMost};
-ghost use Rattle.nr_engine.specs.Running.{MakesReading, Longest, LongestWords, PutsOfLevel, PutsText};
+ghost use Rattle.nr_engine.specs.Running.{MakesReading, Longest, LongestWords, PutsOfFlow, PutsText};
 
 use crate::engine::Engine;
 use nr_formatter::formatter::Formatter;
@@ -26,7 +26,7 @@ pub(crate) fn put_line_words(formatter: &mut Formatter, bytes: &[u8]) -> Words
     requires line { is_in_line formatter.old ≡ true }
     requires few { length bytes.now < 2 ^ 40 }
     ensures puts { PutsText bytes.now result.taken result.moves formatter.old formatter.new }
-    ensures level { PutsOfLevel bytes.now result.taken result.moves formatter.old formatter.new }
+    ensures flow { PutsOfFlow bytes.now result.taken result.moves formatter.old formatter.new }
     ensures longest { LongestWords bytes.now result.taken formatter.new }
     ensures line { is_at_text formatter.new ≡ true → is_in_line formatter.new ≡ true }
 {

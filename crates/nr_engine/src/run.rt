@@ -13,7 +13,7 @@ use nr_fill::line::Line;
 use nr_fill::out::Out;
 use nr_formatter::formatter::Formatter;
 use nr_formatter::tasks::Resume;
-use nr_input::Place;
+use nr_input::{Gathered, Place};
 use nr_options::{Limits, Options};
 use nr_page::Select;
 use nr_page::page::Page;
@@ -52,6 +52,7 @@ impl Engine {
             page: Page::new(alloc, limits.cells())?,
             select: Select::all(),
             resumed: Resume::blank(),
+            gathered: Gathered::new(),
         })
     }
 
@@ -70,6 +71,7 @@ impl Engine {
         self.page.clear();
         self.select = select.copied();
         self.resumed = Resume::blank();
+        self.gathered = Gathered::new();
     }
 
     /// The number of the first page, if a register holds it.

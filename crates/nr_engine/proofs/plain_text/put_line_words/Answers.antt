@@ -2,10 +2,10 @@ use Rattle.std.proofs.Common.{◌≡◌, ◌+◌, ◌*◌, ◌<◌, true, length
 use Rattle.std.specs.Prelude.{slice_index}
 use Rattle.nr_formatter.specs.Runs.{is_in_line, manner_of, run_put}
 use Rattle.nr_formatter.specs.declared.formatter.Formatter.{Formatter}
-use Rattle.nr_engine.specs.Running.{PutsOfLevel, PutsText}
+use Rattle.nr_engine.specs.Running.{PutsOfFlow, PutsText}
 use Rattle.nr_engine.proofs.TextAtHand.{index_rest, length_rest, rest_of, turn_flows, turn_gap, turn_line, turn_on, turn_run}
 use Rattle.nr_engine.proofs.CellBytes.{byte_on, turn_byte}
-use Rattle.nr_engine.proofs.LevelWords.{level_byte, level_flows, level_gap, level_run, none_of_level}
+use Rattle.nr_engine.proofs.LevelWords.{flow_byte, flow_flows, flow_gap, flow_run, none_of_flow}
 use Rattle.nr_engine.proofs.plain_text.put_line_words.Goals.{After-put_word-word, then-taken-bytes-via-then-taken-bytes, then-taken-bytes-via-else-taken-bytes+then-not-put_cell_byte}
 use Rattle.nr_engine.proofs.plain_text.put_line_words.Goals as goal
 
@@ -22,13 +22,13 @@ run c =
     turn_run c.loop-formatter.taken c.loop-formatter.moves c.put_word-word.result.count c.args.bytes.now c.args.formatter.now c.loop-formatter.formatter (word_put c)
     now.puts now.line put.front put.plain refl put.within
 
-run_of_level : (c : After-put_word-word)
-    → PutsOfLevel c.args.bytes.now (c.loop-formatter.taken + c.put_word-word.result.count) (c.loop-formatter.moves + 2 * c.put_word-word.result.count) c.args.formatter.now (word_put c)
-run_of_level c =
+run_of_flow : (c : After-put_word-word)
+    → PutsOfFlow c.args.bytes.now (c.loop-formatter.taken + c.put_word-word.result.count) (c.loop-formatter.moves + 2 * c.put_word-word.result.count) c.args.formatter.now (word_put c)
+run_of_flow c =
     let now = c.loop-formatter.invariant in
     let put = c.put_word-word.ensures in
-    level_run c.loop-formatter.taken c.loop-formatter.moves c.put_word-word.result.count c.args.bytes.now c.args.formatter.now c.loop-formatter.formatter (word_put c)
-    now.level now.line put.front put.plain refl put.within
+    flow_run c.loop-formatter.taken c.loop-formatter.moves c.put_word-word.result.count c.args.bytes.now c.args.formatter.now c.loop-formatter.formatter (word_put c)
+    now.flow now.line put.front put.plain refl put.within
 
 -- in a line that has begun
 line : (c : After-put_word-word) → is_in_line (word_put c) ≡ true
@@ -56,7 +56,7 @@ loop-formatter-init c = record {
     makes = λ e supply is has some. absurd (omega (arith, some));
     saves = λ e supply is has some. absurd (omega (arith, some));
   };
-  level = none_of_level c.args.bytes.now c.args.formatter.now;
+  flow = none_of_flow c.args.bytes.now c.args.formatter.now;
 }
 
 pub loop-formatter-preserved : goal.loop-formatter-preserved
@@ -75,7 +75,7 @@ loop-formatter-preserved c =
       line = turn_on t m bs f (word_put h) (run h) (line h) b.0 b.1 gap.0 g gap.2;
       manner = c.loop-formatter.invariant.manner ∙ ap manner_of (sym gap.2);
       puts = turn_gap t m bs f (word_put h) (run h) (line h) b.0 b.1 gap.0 g gap.1 gap.2;
-      level = level_gap t m bs f (word_put h) (run_of_level h) (line h) b.0 b.1 gap.0 g gap.1 gap.2;
+      flow = flow_gap t m bs f (word_put h) (run_of_flow h) (line h) b.0 b.1 gap.0 g gap.1 gap.2;
     }
 
 pub put_cell_byte-requires : goal.put_cell_byte-requires
@@ -112,13 +112,13 @@ loop-formatter-preserved-in-Left c =
     let new = c.put_cell_byte.new.self in
     let cell = c.if-not-put_cell_byte.ensures in
     let here : PutsText bs t m f g = subst (λ (x : Formatter). PutsText bs t m f x) (sym put.gap) (run h) in
-    let level : PutsOfLevel bs t m f g = subst (λ (x : Formatter). PutsOfLevel bs t m f x) (sym put.gap) (run_of_level h) in
+    let flow : PutsOfFlow bs t m f g = subst (λ (x : Formatter). PutsOfFlow bs t m f x) (sym put.gap) (run_of_flow h) in
     let below : t < length bs = omega (arith, here.front, c.if-taken-bytes.false) in
     record {
       line = byte_on t m (slice_index bs t) bs f g here below refl cell.0 new cell.1;
       manner = c.loop-formatter.invariant.manner ∙ ap manner_of (sym put.gap) ∙ ap manner_of (sym cell.1);
       puts = turn_byte t m (slice_index bs t) bs f g here below refl cell.0 new cell.1;
-      level = level_byte t m (slice_index bs t) bs f g new level below refl cell.0 cell.1;
+      flow = flow_byte t m (slice_index bs t) bs f g new flow below refl cell.0 cell.1;
     }
 
 pub returns-in-Flows-clause-puts : goal.returns-in-Flows-clause-puts
@@ -138,33 +138,33 @@ returns-then-taken-bytes-2-clause-puts c =
     turn_gap (c.loop-formatter.taken + c.put_word-word.result.count) (c.loop-formatter.moves + 2 * c.put_word-word.result.count) c.args.bytes.now c.args.formatter.now (word_put h) (run h) (line h)
     b.0 b.1 put.gap.0 c.put_word-word.new.self put.gap.1 put.gap.2
 
-pub returns-then-taken-bytes-2-clause-level : goal.returns-then-taken-bytes-2-clause-level
-returns-then-taken-bytes-2-clause-level c =
-    let h = (goal.at.returns-then-taken-bytes-2-clause-level c).After-put_word-word in
+pub returns-then-taken-bytes-2-clause-flow : goal.returns-then-taken-bytes-2-clause-flow
+returns-then-taken-bytes-2-clause-flow c =
+    let h = (goal.at.returns-then-taken-bytes-2-clause-flow c).After-put_word-word in
     let put = rw c.in-Reads.is at c.put_word-word.ensures in
     let b = blank h (put.below refl) (put.blank refl) in
-    level_gap (c.loop-formatter.taken + c.put_word-word.result.count) (c.loop-formatter.moves + 2 * c.put_word-word.result.count) c.args.bytes.now c.args.formatter.now (word_put h) (run_of_level h) (line h)
+    flow_gap (c.loop-formatter.taken + c.put_word-word.result.count) (c.loop-formatter.moves + 2 * c.put_word-word.result.count) c.args.bytes.now c.args.formatter.now (word_put h) (run_of_flow h) (line h)
     b.0 b.1 put.gap.0 c.put_word-word.new.self put.gap.1 put.gap.2
 
-pub returns-in-Flows-clause-level : goal.returns-in-Flows-clause-level
-returns-in-Flows-clause-level c =
-    let h = (goal.at.returns-in-Flows-clause-level c).After-put_word-word in
+pub returns-in-Flows-clause-flow : goal.returns-in-Flows-clause-flow
+returns-in-Flows-clause-flow c =
+    let h = (goal.at.returns-in-Flows-clause-flow c).After-put_word-word in
     let put = rw c.in-Flows.is at c.put_word-word.ensures in
     let b = blank h (put.below refl) (put.blank refl) in
-    level_flows (c.loop-formatter.taken + c.put_word-word.result.count) (c.loop-formatter.moves + 2 * c.put_word-word.result.count) c.args.bytes.now c.args.formatter.now (word_put h) (run_of_level h) (line h)
+    flow_flows (c.loop-formatter.taken + c.put_word-word.result.count) (c.loop-formatter.moves + 2 * c.put_word-word.result.count) c.args.bytes.now c.args.formatter.now (word_put h) (run_of_flow h) (line h)
     b.0 b.1 put.gap.0 c.put_word-word.new.self put.gap.1
 
-pub returns-then-taken-bytes-clause-level : goal.returns-then-taken-bytes-clause-level
-returns-then-taken-bytes-clause-level c =
-    let h = (goal.at.returns-then-taken-bytes-clause-level c).After-put_word-word in
+pub returns-then-taken-bytes-clause-flow : goal.returns-then-taken-bytes-clause-flow
+returns-then-taken-bytes-clause-flow c =
+    let h = (goal.at.returns-then-taken-bytes-clause-flow c).After-put_word-word in
     let put = rw c.in-Left.is at c.put_word-word.ensures in
     let n = c.put_word-word.result.count in
     let t = c.loop-formatter.taken + n in
     let m = c.loop-formatter.moves + 2 * n in
     let bs = c.args.bytes.now in
     let f = c.args.formatter.now in
-    let here : PutsOfLevel bs t m f c.put_word-word.new.self = subst (λ (x : Formatter). PutsOfLevel bs t m f x) (sym put.gap) (run_of_level h) in
+    let here : PutsOfFlow bs t m f c.put_word-word.new.self = subst (λ (x : Formatter). PutsOfFlow bs t m f x) (sym put.gap) (run_of_flow h) in
     elim c.then-taken-bytes.branch [
-      | then-taken-bytes-via-then-taken-bytes w ↦ subst (λ (x : Formatter). PutsOfLevel bs t m f x) (sym w.formatter-is) here
-      | then-taken-bytes-via-else-taken-bytes+then-not-put_cell_byte w ↦ subst (λ (x : Formatter). PutsOfLevel bs t m f x) (sym (w.formatter-is ∙ w.if-not-put_cell_byte.ensures)) here
+      | then-taken-bytes-via-then-taken-bytes w ↦ subst (λ (x : Formatter). PutsOfFlow bs t m f x) (sym w.formatter-is) here
+      | then-taken-bytes-via-else-taken-bytes+then-not-put_cell_byte w ↦ subst (λ (x : Formatter). PutsOfFlow bs t m f x) (sym (w.formatter-is ∙ w.if-not-put_cell_byte.ensures)) here
     ]

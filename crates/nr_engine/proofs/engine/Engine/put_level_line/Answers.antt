@@ -1,53 +1,27 @@
-use Rattle.std.proofs.Common.{◌≡◌, ◌≤◌, List, ℕ, length, take, sym, ap, ◌∙◌, subst, arith}
-use Rattle.std.proofs.lemmas.List.{length-take}
-use Rattle.nr_store.specs.Laws.{left_times-run}
-use Rattle.nr_store.specs.Windows.{left_times, rest_of, run_left}
-use Rattle.nr_formatter.proofs.LevelRuns.{front_few}
+use Rattle.std.proofs.Common.{◌≡◌, true, take, sym, subst}
+use Rattle.nr_input.specs.Gathering.{IsGathered}
+use Rattle.nr_input.specs.declared.reader.Reader.{Reader}
+use Rattle.nr_formatter.specs.Runs.{is_in_line}
 use Rattle.nr_engine.specs.Holding.{Shape, shape}
-use Rattle.nr_engine.specs.Running.{LongestLine, MakesInPlace}
-use Rattle.nr_engine.proofs.LevelWords.{longest_left, longest_none}
-use Rattle.nr_engine.proofs.engine.Engine.put_level_line.Goals.{After-skip}
+use Rattle.nr_engine.specs.Running.{LongestOfLevels, MakesInPlace}
 use Rattle.nr_engine.proofs.engine.Engine.put_level_line.Goals as goal
 
--- those that were put were taken
-left : (c : After-skip) → c.skip.new.self ≡ run_left c.put_line-line.result.taken c.args.self.now.formatter.store
-left c =
-    let store = c.args.self.now.formatter.store in
-    let taken = c.put_line-line.result.taken in
-    let level = c.put_line-line.ensures.puts in
-    let few : taken ≤ length (rest_of store.levels) = omega (arith, level.front, front_few _ _ c.copy_level-count.ensures.front) in
-    c.skip.ensures ∙ ap (left_times taken) level.store ∙ left_times-run taken store few
+pub put_gathered-requires-clause-line : goal.put_gathered-requires-clause-line
+put_gathered-requires-clause-line c = subst (λ (x : Reader). is_in_line (record c.args.self.now.formatter { reader = x }) ≡ true) (sym c.gather.ensures.left) c.requires.line
+
+pub put_gathered-requires-clause-gathered : goal.put_gathered-requires-clause-gathered
+put_gathered-requires-clause-gathered c =
+    let bytes = take c.gather.new.gathered.count c.gather.new.chunk in
+    subst (λ (x : Reader). IsGathered bytes c.args.self.now.formatter.store x c.gather.new.gathered) (sym c.gather.ensures.left) c.gather.ensures.gathered
 
 pub returns-clause-puts : goal.returns-clause-puts
 returns-clause-puts c =
-    let h = (goal.at.returns-clause-puts c).After-skip in
     let e : Shape = shape c.args.self.now in
-    let line = c.put_line-line in
-    subst (λ v. MakesInPlace line.result.moves e (record e { formatter = record line.new.formatter { store = v } })) (sym (left h)) (line.ensures.puts.makes e c.copy_level-count.ensures.front.are)
+    let f = c.args.self.now.formatter in
+    let n = c.put_gathered.result in
+    subst (λ (x : Reader). MakesInPlace n (record e { formatter = record f { reader = x } }) (record e { formatter = c.put_gathered.new.formatter })) c.gather.ensures.left (c.put_gathered.ensures.puts e)
 
 pub returns-clause-longest : goal.returns-clause-longest
 returns-clause-longest c =
-    let h = (goal.at.returns-clause-longest c).After-skip in
-    let line = c.put_line-line in
-    let g = line.new.formatter in
-    let bytes : List ℕ = take c.copy_level-count.result c.copy_level-count.new.bytes in
-    let there = left h ∙ ap (run_left line.result.taken) (sym line.ensures.puts.store) in
-    record {
-      bytes = bytes;
-      front = c.copy_level-count.ensures.front;
-      taken = line.result.taken;
-      left = left h;
-      longest = subst (λ v. LongestLine bytes line.result.taken (record g { store = v })) (sym there) (longest_left bytes line.result.taken g line.ensures.longest);
-    }
-
-pub returns-then-count-eq0-clause-longest : goal.returns-then-count-eq0-clause-longest
-returns-then-count-eq0-clause-longest c =
-    let bytes : List ℕ = take c.copy_level-count.result c.copy_level-count.new.bytes in
-    let store = c.args.self.now.formatter.store in
-    record {
-      bytes = bytes;
-      front = c.copy_level-count.ensures.front;
-      taken = 0;
-      left = left_times-run 0 store (omega arith);
-      longest = longest_none bytes c.args.self.now.formatter (omega (arith, c.if-count-eq0.true, length-take c.copy_level-count.result c.copy_level-count.new.bytes));
-    }
+    let f = c.args.self.now.formatter in
+    subst (λ (x : Reader). LongestOfLevels f.store x c.put_gathered.new.formatter) c.gather.ensures.left c.put_gathered.ensures.longest
