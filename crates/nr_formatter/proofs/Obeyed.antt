@@ -3,7 +3,7 @@ use Rattle.std.specs.Prelude.{if◌then◌else◌}
 use Rattle.std.proofs.Common.{◌≡◌, Bool, true, false, refl, ap, ◌∙◌, subst, arith}
 use Rattle.nr_reading.specs.declared.event.Event.TheVariants as events
 use Rattle.nr_store.specs.declared.request.Request.{Request}
-use Rattle.nr_store.specs.declared.request.Request.TheVariants.{Ad, Br, Ce, Fi, Ft, Hy, In, Lc, Ll, Lt, Na, Nf, Nh, Ns, Pc, Pl, Po, Rs, Ta, Tc, Ti, Ul, Vs}
+use Rattle.nr_store.specs.declared.request.Request.TheVariants.{Ad, Br, Ce, Fi, Ft, Hy, In, It, Lc, Ll, Lt, Na, Nf, Nh, Ns, Pc, Pl, Po, Rs, Ta, Tc, Ti, Ul, Vs}
 use Rattle.nr_formatter.specs.Limits.{limits_of}
 use Rattle.nr_formatter.specs.Lines.{break_done}
 use Rattle.nr_formatter.specs.Moves.{heard_for, task_requested}
@@ -20,8 +20,9 @@ use Rattle.nr_formatter.proofs.LimitsStay.{either-limits}
 use Rattle.nr_formatter.proofs.LineFalls.{falls-break_done}
 use Rattle.nr_formatter.proofs.RequestFalls.{falls-act}
 
--- only the settings change, and the input is read on
-pub act-sets : (r : Request) (f : Formatter) → only_sets r ≡ true → act r f ≡ to_read (record f { settings = (act r f).settings })
+-- only the settings and the input line trap change, and the input is read on
+pub act-sets : (r : Request) (f : Formatter) → only_sets r ≡ true
+    → act r f ≡ to_read (record f { settings = (act r f).settings; input_trap = (act r f).input_trap })
 act-sets Ad f is = refl
 act-sets Br f is = refl
 act-sets Ce f is = refl
@@ -29,6 +30,7 @@ act-sets Fi f is = refl
 act-sets Ft f is = refl
 act-sets Hy f is = refl
 act-sets In f is = refl
+act-sets It f is = refl
 act-sets Lc f is = refl
 act-sets Ll f is = refl
 act-sets Lt f is = refl

@@ -2,7 +2,7 @@
 use Rattle.std.specs.Prelude.{ℕ, Bool, true, false, not, ◌&&◌, ◌||◌, if◌then◌else◌, is_none}
 use Rattle.nr_fill.specs.Pieces.{begins_line}
 use Rattle.nr_store.specs.declared.request.Request.{Request}
-use Rattle.nr_store.specs.declared.request.Request.TheVariants.{Ad, Br, Ce, Fi, Ft, Hy, In, Lc, Ll, Lt, Na, Nf, Nh, Ns, Pc, Pl, Po, Rs, Ta, Tc, Ti, Ul, Vs}
+use Rattle.nr_store.specs.declared.request.Request.TheVariants.{Ad, Br, Ce, Fi, Ft, Hy, In, It, Lc, Ll, Lt, Na, Nf, Nh, Ns, Pc, Pl, Po, Rs, Ta, Tc, Ti, Ul, Vs}
 use Rattle.nr_formatter.specs.Access.{collected}
 use Rattle.nr_formatter.specs.Lines.{break_done}
 use Rattle.nr_formatter.specs.Moves.{heard_for}
@@ -21,6 +21,7 @@ only_sets Fi = true
 only_sets Ft = true
 only_sets Hy = true
 only_sets In = true
+only_sets It = true
 only_sets Lc = true
 only_sets Ll = true
 only_sets Lt = true

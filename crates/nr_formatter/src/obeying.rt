@@ -23,6 +23,7 @@ fn only_sets(request: Request) -> bool
             | Request::Ft
             | Request::Hy
             | Request::In
+            | Request::It
             | Request::Lc
             | Request::Ll
             | Request::Lt
@@ -56,6 +57,7 @@ impl Formatter {
             Request::Ft => self.ft(),
             Request::Hy => self.hy(),
             Request::In => self.in_(),
+            Request::It => self.it(),
             Request::Lc => self.lc(),
             Request::Ll => self.ll(),
             Request::Lt => self.lt(),
