@@ -1,12 +1,14 @@
--- The request whose line was read, taken effect at once: it is heard, its break does nothing, and it only sets.
-use Rattle.std.specs.Prelude.{ℕ, Bool, true, false, not, ◌&&◌, ◌||◌, if◌then◌else◌, is_none}
+-- The request whose line was read, taken effect at once: it is heard, its break does nothing, and it only sets, or is `.nr` and not
+-- refused.
+use Rattle.std.specs.Prelude.{ℕ, Bool, true, false, not, ◌&&◌, ◌||◌, if◌then◌else◌, is_none, is_ok}
 use Rattle.nr_fill.specs.Pieces.{begins_line}
 use Rattle.nr_store.specs.declared.request.Request.{Request}
-use Rattle.nr_store.specs.declared.request.Request.TheVariants.{Ad, Br, Ce, Fi, Ft, Hy, In, It, Lc, Ll, Lt, Na, Nf, Nh, Ns, Pc, Pl, Po, Rs, Ta, Tc, Ti, Ul, Vs}
+use Rattle.nr_store.specs.declared.request.Request.TheVariants.{Ad, Br, Ce, Fi, Ft, Hy, In, It, Lc, Ll, Lt, Na, Nf, Nh, Nr, Ns, Pc, Pl, Po, Rs, Ta, Tc, Ti, Ul, Vs}
 use Rattle.nr_formatter.specs.Access.{collected}
 use Rattle.nr_formatter.specs.Lines.{break_done}
 use Rattle.nr_formatter.specs.Moves.{heard_for}
 use Rattle.nr_formatter.specs.Pages.{begins_first_page}
+use Rattle.nr_formatter.specs.Registers.{nr_checked}
 use Rattle.nr_formatter.specs.Requests.{act, breaks}
 use Rattle.nr_formatter.specs.declared.formatter.Formatter.{Formatter}
 use Rattle.nr_formatter.specs.declared.tasks.Task.TheVariants as tasks
@@ -40,6 +42,14 @@ only_sets Ul = true
 only_sets Vs = true
 only_sets r = false
 
+abbrev pub is_nr : Request → Bool
+is_nr Nr = true
+is_nr r = false
+
+-- whether all that the request does is to set, and it is made: `.nr` is where its register may be stored
+abbrev pub may_set : Request → Formatter → Bool
+may_set r f = only_sets r || (is_nr r && is_ok (nr_checked f))
+
 -- the request breaks before it takes effect
 abbrev pub breaks_first : Formatter → Bool
 breaks_first f = breaks f.reader.request && not f.reader.half.reading.no_break
@@ -48,15 +58,15 @@ breaks_first f = breaks f.reader.request && not f.reader.half.reading.no_break
 abbrev pub breaks_idly : Formatter → Bool
 breaks_idly f = begins_line (collected f) && not (begins_first_page (thens.Act f.reader.request) f)
 
--- no macro springs, and all that the request does is to set
-abbrev pub may_obey : Formatter → Bool
-may_obey f = is_none f.springs && (only_sets f.reader.request && (not (breaks_first f) || breaks_idly f))
-
 -- its line was heard, and the break is done if it has one
 abbrev pub behind_break : Formatter → Formatter
 behind_break f =
     if breaks_first f then break_done (thens.Act f.reader.request) (heard_for (tasks.Break (thens.Act f.reader.request)) f)
     else heard_for (tasks.Act f.reader.request) f
+
+-- no macro springs, and all that the request does is to set
+abbrev pub may_obey : Formatter → Bool
+may_obey f = is_none f.springs && (may_set f.reader.request (behind_break f) && (not (breaks_first f) || breaks_idly f))
 
 -- behind such a request; any other is not obeyed yet
 abbrev pub obeyed : Formatter → Formatter

@@ -5,7 +5,8 @@ use Rattle.nr_units.specs.declared.number_text.Format.TheVariants.{Arabic}
 use Rattle.nr_units.specs.NumberText.{number_text}
 use Rattle.nr_tables.specs.Named.{find}
 use Rattle.nr_store.specs.declared.element.Diversion.{Diversion}
-use Rattle.nr_store.specs.Stored.{charge_of, greatest, is_held, reading_bytes, register_of, registered, formatted, unregistered}
+use Rattle.nr_store.specs.Stored.{afforded, charge_of, greatest, is_held, reading_bytes, register_of, registered, formatted, unregistered}
+use Rattle.nr_store.specs.declared.refusal.StoredBytes.{StoredBytes}
 use Rattle.nr_settings.specs.Arguments.{name_in}
 use Rattle.nr_settings.specs.Numbers.{applied}
 use Rattle.nr_settings.specs.Registers as lines
@@ -118,6 +119,14 @@ register_set_by (Some r) name n step f = if is_held n then given_set r n f else 
 abbrev pub register_set : List ℕ → ℤ → Option ℤ → Formatter → Formatter
 register_set name n step f = register_set_by (given_named name) name n step f
 
+-- what comes of that: a given register takes its value, and any other where it may be stored
+abbrev pub set_checked_by : Option GivenRegister → List ℕ → ℤ → Option ℤ → Formatter → Result (Unit {0}) StoredBytes
+set_checked_by None name n step f = afforded (registered name n step f.store) tt
+set_checked_by (Some r) name n step f = Ok tt
+
+abbrev pub set_checked : List ℕ → ℤ → Option ℤ → Formatter → Result (Unit {0}) StoredBytes
+set_checked name n step f = set_checked_by (given_named name) name n step f
+
 abbrev pub register_value_by : Option GivenRegister → List ℕ → Formatter → ℤ
 register_value_by None name f = (register_of (find name f.store.registers)).value
 register_value_by (Some r) name f = given_value r f
@@ -135,6 +144,14 @@ register_changed (Some c) f = register_set c.name (applied c.change (register_va
 
 abbrev pub nr : Formatter → Formatter
 nr f = register_changed (lines.nr (line f) (long f) (spacing f)) (to_read f)
+
+-- what comes of it
+abbrev pub change_checked : Option RegisterChange → Formatter → Result (Unit {0}) StoredBytes
+change_checked None f = Ok tt
+change_checked (Some c) f = set_checked c.name (applied c.change (register_value c.name f)) c.step f
+
+abbrev pub nr_checked : Formatter → Result (Unit {0}) StoredBytes
+nr_checked f = change_checked (lines.nr (line f) (long f) (spacing f)) (to_read f)
 
 -- `.af R c`
 abbrev pub given_formatted : GivenRegister → Format → Given → Given

@@ -1,6 +1,6 @@
 //! Requests that only set, acted on as soon as their line was read: many moves at once.
-ghost use Rattle.std.specs.Prelude.{◌≡◌, true};
-ghost use Rattle.nr_formatter.specs.Obeying.{only_sets, breaks_first, breaks_idly, may_obey, obeyed, moves_obeying};
+ghost use Rattle.std.specs.Prelude.{◌≡◌, true, false};
+ghost use Rattle.nr_formatter.specs.Obeying.{only_sets, is_nr, breaks_first, breaks_idly, may_obey, obeyed, moves_obeying};
 ghost use Rattle.nr_formatter.specs.Requests.{act};
 
 use crate::formatter::Formatter;
@@ -41,6 +41,14 @@ fn only_sets(request: Request) -> bool
             | Request::Ul
             | Request::Vs
     )
+}
+
+/// `.nr`, which only sets, and may be refused.
+#[inline]
+fn is_nr(request: Request) -> bool
+    ensures { result ≡ is_nr request }
+{
+    matches!(request, Request::Nr)
 }
 
 impl Formatter {
@@ -100,6 +108,7 @@ impl Formatter {
     #[inline]
     fn may_obey(&self, request: Request, breaks: bool) -> bool
         requires request { request ≡ self.now.reader.request }
+        requires other { is_nr request ≡ false }
         requires breaks { breaks ≡ breaks_first self.now }
         ensures may { result ≡ may_obey self.now }
         ensures sets { result ≡ true → only_sets request ≡ true }
@@ -107,13 +116,38 @@ impl Formatter {
         self.springs.is_none() && (only_sets(request) && (!breaks || self.breaks_idly(request)))
     }
 
-    /// The request whose line was read takes effect, if it only sets and its break does nothing. Tells how many moves that was.
+    /// `.nr` takes effect, if no macro springs and it is not refused. Tells how many moves that was.
+    #[inline(never)]
+    fn obey_nr(&mut self) -> u32
+        requires request { is_nr self.old.reader.request ≡ true }
+        ensures moves { result ≡ moves_obeying self.old }
+        ensures is { self.new ≡ obeyed self.old }
+    {
+        if self.springs.is_some() {
+            return 0;
+        }
+        let (event, task) = (self.event, self.task);
+        self.event = Event::Nothing;
+        self.task = Task::Act(Request::Nr);
+        if self.nr().is_err() {
+            self.event = event;
+            self.task = task;
+            return 0;
+        }
+        2
+    }
+
+    /// The request whose line was read takes effect, if it only sets, is not refused, and its break does nothing. Tells how many
+    /// moves that was.
     #[inline]
     pub fn obey(&mut self) -> u32
         ensures moves { result ≡ moves_obeying self.old }
         ensures is { self.new ≡ obeyed self.old }
     {
         let request = self.reader.request();
+        if is_nr(request) {
+            return self.obey_nr();
+        }
         let breaks = self.breaks_first(request);
         if !self.may_obey(request, breaks) {
             return 0;

@@ -1,13 +1,13 @@
 //! Registers. (CSTR 54, section 8)
-ghost use Rattle.std.specs.Prelude.{◌≡◌, ◌<◌, ◌^◌, [], OnOk, None, Some, unsigned_abs};
+ghost use Rattle.std.specs.Prelude.{◌≡◌, ◌<◌, ◌^◌, [], OnOk, OnErr, None, Some, unsigned_abs};
 ghost use Rattle.nr_store.specs.Stored.{afforded};
 ghost use Rattle.nr_reading.specs.declared.event.Event.TheVariants as events;
 ghost use Rattle.nr_input.specs.Weights.{Splices};
 ghost use Rattle.nr_formatter.specs.Access.{diversion};
 ghost use Rattle.nr_formatter.specs.Limits.{IsWithin, limits_of};
-ghost use Rattle.nr_formatter.specs.Places.{place_in};
+ghost use Rattle.nr_formatter.specs.Places.{place_in, to_read};
 ghost use Rattle.nr_formatter.specs.Given.{given_named};
-ghost use Rattle.nr_formatter.specs.Registers.{spliced, splice_checked, distance, given_value, given_format, given_formatted, name_of, given_by, given_register, register_set_by, register_set, register_value, nr, formatted_by, af, rr, mk};
+ghost use Rattle.nr_formatter.specs.Registers.{spliced, splice_checked, distance, given_value, given_format, given_formatted, name_of, given_by, given_register, register_set_by, register_set, set_checked, register_value, nr, nr_checked, formatted_by, af, rr, mk};
 ghost use Rattle.nr_formatter.specs.Weights.{Falls};
 
 use crate::formatter::Formatter;
@@ -183,8 +183,10 @@ impl Formatter {
         value: i64,
         step: Option<i32>,
     ) -> Result<(), StoredBytes>
+        ensures answer { result ≡ set_checked name value step self.old }
         ensures result { IsWithin self.old → result ≡ afforded (register_set name value step self.old).store tt }
         ensures ok { OnOk result (self.new ≡ register_set name value step self.old) }
+        ensures err { OnErr result (self.new ≡ self.old) }
         ensures limits { limits_of self.new ≡ limits_of self.old }
     {
         match GivenRegister::of(name.as_bytes()) {
@@ -198,8 +200,10 @@ impl Formatter {
 
     /// `.nr R ±N M`: a register's value and step.
     pub(crate) fn nr(&mut self) -> Result<(), StoredBytes>
+        ensures answer { result ≡ nr_checked self.old }
         ensures result { IsWithin self.old → result ≡ afforded (nr self.old).store tt }
         ensures ok { OnOk result (self.new ≡ nr self.old) }
+        ensures err { OnErr result (self.new ≡ to_read self.old) }
         ensures limits { limits_of self.new ≡ limits_of self.old }
     {
         self.task = Task::Read;
