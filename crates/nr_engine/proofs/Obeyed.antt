@@ -10,14 +10,14 @@ use Rattle.nr_store.specs.declared.request.Request.TheVariants as requests
 use Rattle.nr_formatter.specs.Access.{collected}
 use Rattle.nr_formatter.specs.Lines.{break_done}
 use Rattle.nr_formatter.specs.Moves.{heard_for, task_requested}
-use Rattle.nr_formatter.specs.Obeying.{breaks_first, breaks_idly, may_obey, moves_obeying, obeyed, only_sets}
+use Rattle.nr_formatter.specs.Obeying.{behind_break, breaks_first, breaks_idly, may_obey, may_set, moves_obeying, obeyed}
 use Rattle.nr_formatter.specs.Pages.{begins_first_page}
 use Rattle.nr_formatter.specs.Requests.{act}
 use Rattle.nr_formatter.specs.declared.formatter.Formatter.{Formatter}
 use Rattle.nr_formatter.specs.declared.tasks.Task.{Task}
 use Rattle.nr_formatter.specs.declared.tasks.Task.TheVariants as tasks
 use Rattle.nr_formatter.specs.declared.tasks.Then.TheVariants as thens
-use Rattle.nr_formatter.proofs.Obeyed.{act-sets, falls-obeyed, obeyed-limits}
+use Rattle.nr_formatter.proofs.Obeyed.{falls-obeyed, obeyed-limits, sets-act}
 use Rattle.nr_engine.specs.State.{State, plainly}
 use Rattle.nr_engine.specs.Machine as machine
 use Rattle.nr_engine.specs.Machine.{work}
@@ -69,19 +69,16 @@ breaks s r chosen springs idle task pieces word page within =
     (within_kept s s.coming (break_done (thens.Act r) s.formatter) refl refl within.formatter.burst within)
 
 -- none of these is `.ex`
-acts_plainly : (r : Request) (s : State) → only_sets r ≡ true → machine.act r s ≡ plainly (act r) s
+acts_plainly : (r : Request) (s : State) → may_set r s.formatter ≡ true → machine.act r s ≡ plainly (act r) s
 acts_plainly requests.Ex s is = absurd (let wrong : false ≡ true = is in cc)
 acts_plainly r s is = refl
 
--- what is stored, the line and what is half read stay
-within_set : (r : Request) (s : State) → only_sets r ≡ true → IsWithin s → IsWithin (with_formatter (act r s.formatter) s)
-within_set r s sets within =
-    let same = act-sets r s.formatter sets in
-    let reader : (act r s.formatter).reader ≡ s.formatter.reader = ap (λ (f : Formatter). f.reader) same in
-    within_kept s s.coming (act r s.formatter) (ap (λ (f : Formatter). f.store) same) (ap (λ (f : Formatter). f.line) same) (rw reader within.formatter.burst) within
+-- nothing comes to be above its limit
+within_set : (r : Request) (s : State) → may_set r s.formatter ≡ true → IsWithin s → IsWithin (with_formatter (act r s.formatter) s)
+within_set r s sets within = record { formatter = (sets-act r s.formatter sets).within within.formatter; page = within.page }
 
 -- the request takes effect
-acts : (s : State) (r : Request) → only_sets r ≡ true → s.chosen ≡ [] → s.formatter.springs ≡ None → s.formatter.event ≡ events.Nothing → s.formatter.task ≡ tasks.Act r → IsWithin s
+acts : (s : State) (r : Request) → may_set r s.formatter ≡ true → s.chosen ≡ [] → s.formatter.springs ≡ None → s.formatter.event ≡ events.Nothing → s.formatter.task ≡ tasks.Act r → IsWithin s
     → Glides s 1 (with_formatter (act r s.formatter) s)
 acts s r sets chosen springs idle task within =
     glides-by (act r) s (kind-work s (tasks.Act r) chosen springs idle task)
@@ -89,7 +86,7 @@ acts s r sets chosen springs idle task within =
 
 -- ---- all of them
 
-module _ (s : State) (chosen : s.chosen ≡ []) (request : s.formatter.event ≡ events.Request) (springs : s.formatter.springs ≡ None) (sets : only_sets s.formatter.reader.request ≡ true) (within : IsWithin s) where
+module _ (s : State) (chosen : s.chosen ≡ []) (request : s.formatter.event ≡ events.Request) (springs : s.formatter.springs ≡ None) (sets : may_set s.formatter.reader.request (behind_break s.formatter) ≡ true) (within : IsWithin s) where
   abbrev r : Request
   r = s.formatter.reader.request
 
@@ -99,12 +96,19 @@ module _ (s : State) (chosen : s.chosen ≡ []) (request : s.formatter.event ≡
   abbrev breaking : Formatter
   breaking = heard_for (tasks.Break (thens.Act r)) s.formatter
 
+  -- the formatter that acts
+  abbrev behind_by_break : Bool → Formatter
+  behind_by_break b = if b then break_done (thens.Act r) breaking else acting
+
+  sets_by : (b : Bool) → breaks_first s.formatter ≡ b → may_set r (behind_by_break b) ≡ true
+  sets_by b first = subst (λ (x : Bool). may_set r (behind_by_break x) ≡ true) first sets
+
   -- without a break
   glides_set : breaks_first s.formatter ≡ false → Glides s 2 (with_formatter (act r acting) s)
   glides_set first =
       let task : task_requested s.formatter ≡ tasks.Act r = rw first refl in
       glides-add s 1 1 (with_formatter acting s) (with_formatter (act r acting) s) (hears s (tasks.Act r) chosen springs request task within)
-      (acts (with_formatter acting s) r sets chosen springs refl refl (within_kept s s.coming acting refl refl within.formatter.burst within))
+      (acts (with_formatter acting s) r (sets_by false first) chosen springs refl refl (within_kept s s.coming acting refl refl within.formatter.burst within))
 
   -- behind one
   glides_broken : breaks_first s.formatter ≡ true → breaks_idly s.formatter ≡ true → Glides s 3 (with_formatter (act r (break_done (thens.Act r) breaking)) s)
@@ -116,11 +120,11 @@ module _ (s : State) (chosen : s.chosen ≡ []) (request : s.formatter.event ≡
       glides-add s 2 1 (with_formatter broken s) (with_formatter (act r broken) s)
       (glides-add s 1 1 (with_formatter breaking s) (with_formatter broken s) (hears s (tasks.Break (thens.Act r)) chosen springs request task within)
       (breaks (with_formatter breaking s) r chosen springs refl refl none.0 none.1 (not_of (begins_first_page (thens.Act r) s.formatter) parts.1) (within_kept s s.coming breaking refl refl within.formatter.burst within)))
-      (acts (with_formatter broken s) r sets chosen springs refl refl (within_kept s s.coming broken refl refl within.formatter.burst within))
+      (acts (with_formatter broken s) r (sets_by true first) chosen springs refl refl (within_kept s s.coming broken refl refl within.formatter.burst within))
 
   -- the formatter behind it, and how many moves that is
   abbrev set_by : Bool → Formatter
-  set_by b = act r (if b then break_done (thens.Act r) breaking else acting)
+  set_by b = act r (behind_by_break b)
 
   abbrev moves_by : Bool → ℕ
   moves_by b = if b then 3 else 2
@@ -129,9 +133,9 @@ module _ (s : State) (chosen : s.chosen ≡ []) (request : s.formatter.event ≡
   glides_by_break true first idly = glides_broken first idly
   glides_by_break false first idly = glides_set first
 
-  within_by : (b : Bool) → IsWithin (with_formatter (set_by b) s)
-  within_by true = within_set r (with_formatter (break_done (thens.Act r) breaking) s) sets (within_kept s s.coming (break_done (thens.Act r) breaking) refl refl within.formatter.burst within)
-  within_by false = within_set r (with_formatter acting s) sets (within_kept s s.coming acting refl refl within.formatter.burst within)
+  within_by : (b : Bool) → breaks_first s.formatter ≡ b → IsWithin (with_formatter (set_by b) s)
+  within_by true first = within_set r (with_formatter (break_done (thens.Act r) breaking) s) (sets_by true first) (within_kept s s.coming (break_done (thens.Act r) breaking) refl refl within.formatter.burst within)
+  within_by false first = within_set r (with_formatter acting s) (sets_by false first) (within_kept s s.coming acting refl refl within.formatter.burst within)
 
 -- what the engine is then
 abbrev pub obeyed_shape : Formatter → Shape → Shape
@@ -140,13 +144,13 @@ obeyed_shape f e = record e { formatter = f }
 -- what may be obeyed, part by part
 record MayObey (f : Formatter) : Type 0 where
   springs : f.springs ≡ None
-  sets : only_sets f.reader.request ≡ true
+  sets : may_set f.reader.request (behind_break f) ≡ true
   idly : (not (breaks_first f) || breaks_idly f) ≡ true
 
 may_parts : (f : Formatter) → may_obey f ≡ true → MayObey f
 may_parts f may =
-    let first = and_parts (is_none f.springs) (only_sets f.reader.request && (not (breaks_first f) || breaks_idly f)) may in
-    let second = and_parts (only_sets f.reader.request) (not (breaks_first f) || breaks_idly f) first.1 in
+    let first = and_parts (is_none f.springs) (may_set f.reader.request (behind_break f) && (not (breaks_first f) || breaks_idly f)) may in
+    let second = and_parts (may_set f.reader.request (behind_break f)) (not (breaks_first f) || breaks_idly f) first.1 in
     record { springs = none_of f.springs first.0; sets = second.0; idly = second.1 }
 
 made_set : (e : Shape) (supply : Option Supply) (held : Option (List ℕ)) (s : State) → Stands [] supply s e → e.formatter.event ≡ events.Request → may_obey e.formatter ≡ true
@@ -156,7 +160,7 @@ made_set e supply held s h request may =
     let parts = may_parts f may in
     let b : Bool = breaks_first f in
     let glides = glides_by_break (at e s) h.chosen_is request parts.springs parts.sets h.within b refl parts.idly in
-    let within = within_by (at e s) h.chosen_is request parts.springs parts.sets h.within b in
+    let within = within_by (at e s) h.chosen_is request parts.springs parts.sets h.within b refl in
     let g : Formatter = set_by (at e s) h.chosen_is request parts.springs parts.sets h.within b in
     let is : obeyed f ≡ g = rw may refl in
     let holds : Holds [] supply (with_formatter g (at e s)) (obeyed_shape g e) =
@@ -204,14 +208,10 @@ event_behind : (b : Bool) (f : Formatter) → (behind_by b f).event ≡ events.N
 event_behind true f = refl
 event_behind false f = refl
 
-reads_behind : (b : Bool) (f : Formatter) → only_sets f.reader.request ≡ true → f.springs ≡ None → ReadsNext (act f.reader.request (behind_by b f))
+reads_behind : (b : Bool) (f : Formatter) → may_set f.reader.request (behind_by b f) ≡ true → f.springs ≡ None → ReadsNext (act f.reader.request (behind_by b f))
 reads_behind b f sets springs =
-    let same = act-sets f.reader.request (behind_by b f) sets in
-    record {
-      springs = ap (λ (g : Formatter). g.springs) same ∙ springs_behind b f ∙ springs;
-      event = ap (λ (g : Formatter). g.event) same ∙ event_behind b f;
-      task = ap (λ (g : Formatter). g.task) same;
-    }
+    let act = sets-act f.reader.request (behind_by b f) sets in
+    record { springs = act.springs ∙ springs_behind b f ∙ springs; event = act.event ∙ event_behind b f; task = act.task }
 
 reads_by : (m : Bool) (f : Formatter) → may_obey f ≡ m → 0 < moves_obeying f → ReadsNext (obeyed f)
 reads_by false f may some =

@@ -12,7 +12,8 @@ use nr_units::source::Source;
 const MOST_LINES: u32 = 4096;
 
 impl Engine {
-    /// The request whose line was read takes effect, if it only sets and its break does nothing. Tells how many moves that was.
+    /// The request whose line was read takes effect, if it only sets, is not refused, and its break does nothing. Tells how many
+    /// moves that was.
     #[inline(always)]
     fn obey(&mut self) -> u128
         requires request { self.old.formatter.event ≡ events.Request }
@@ -44,9 +45,9 @@ impl Engine {
         run.moves as u128
     }
 
-    /// The request whose line was read takes effect, if it only sets and its break does nothing, and so do those of the lines that
-    /// the source has at hand behind it, up to what is no such request: of a control line that is one the name and the line are
-    /// read. Tells how many moves that was.
+    /// The request whose line was read takes effect, if it only sets, is not refused, and its break does nothing, and so do those of
+    /// the lines that the source has at hand behind it, up to what is no such request: of a control line that is one the name and
+    /// the line are read. Tells how many moves that was.
     #[inline(never)]
     pub(crate) fn obey_lines<R: Source>(&mut self, input: &mut R) -> u128
         requires request { self.old.formatter.event ≡ events.Request }

@@ -90,8 +90,8 @@ stays-given_set given.Height n f = record { springs = refl; event = refl; task =
 stays-given_set given.Width n f = record { springs = refl; event = refl; task = refl; limits = refl; within = within_kept f _ refl refl refl }
 stays-given_set r n f = stays-same f
 
-fits_by : (b : Bool) (v : Stored Resume) → nat_lt v.limit (charge_of v) ≡ b → is_ok (afforded v tt) ≡ true → charge_of v ≤ v.limit
-fits_by true v above ok = absurd (let wrong : false ≡ true = (let e : is_ok (afforded v tt) ≡ false = rw above refl in sym e ∙ ok) in cc)
+fits_by : (b : Bool) (v : Stored Resume) → nat_lt v.limit (charge_of v) ≡ b → is_ok (afforded v (tt {0})) ≡ true → charge_of v ≤ v.limit
+fits_by true v above ok = absurd (let wrong : false ≡ true = (let e : is_ok (afforded v (tt {0})) ≡ false = rw above refl in sym e ∙ ok) in cc)
 fits_by false v above ok = omega (arith, above)
 
 written-depth : (x : Option Register) (name : List ℕ) (v : Stored Resume) → length v.levels ≤ v.deepest → length (written x name v).levels ≤ (written x name v).deepest

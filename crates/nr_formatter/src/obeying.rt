@@ -104,14 +104,14 @@ impl Formatter {
         self.line.is_empty() && !self.begins_first_page(Then::Act(request))
     }
 
-    /// Whether no macro springs, and all that the request does is to set.
+    /// Whether no macro springs, and all that the request does is to set, never refused.
     #[inline]
-    fn may_obey(&self, request: Request, breaks: bool) -> bool
+    fn sets_freely(&self, request: Request, breaks: bool) -> bool
         requires request { request ≡ self.now.reader.request }
-        requires other { is_nr request ≡ false }
         requires breaks { breaks ≡ breaks_first self.now }
-        ensures may { result ≡ may_obey self.now }
+        ensures may { result ≡ true → may_obey self.now ≡ true }
         ensures sets { result ≡ true → only_sets request ≡ true }
+        ensures other { is_nr request ≡ false → result ≡ may_obey self.now }
     {
         self.springs.is_none() && (only_sets(request) && (!breaks || self.breaks_idly(request)))
     }
@@ -145,12 +145,9 @@ impl Formatter {
         ensures is { self.new ≡ obeyed self.old }
     {
         let request = self.reader.request();
-        if is_nr(request) {
-            return self.obey_nr();
-        }
         let breaks = self.breaks_first(request);
-        if !self.may_obey(request, breaks) {
-            return 0;
+        if !self.sets_freely(request, breaks) {
+            return if is_nr(request) { self.obey_nr() } else { 0 };
         }
         self.event = Event::Nothing;
         self.task = Task::Act(request);
