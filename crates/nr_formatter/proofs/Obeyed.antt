@@ -1,7 +1,7 @@
 -- Requests that only set: what they leave as it was, and what may still come behind them.
 use Rattle.std.specs.Prelude.{◌&&◌, ◌||◌, if◌then◌else◌, is_ok, nat_lt, length}
 use Rattle.std.proofs.Common.{◌≡◌, ℕ, ◌≤◌, List, Bool, true, false, Option, None, Some, Result, Ok, Err, ℤ, refl, ap, sym, ◌∙◌, subst, arith}
-use Rattle.std.proofs.lemmas.Bool.{and_parts}
+use Rattle.std.proofs.lemmas.Bool.{and_parts, ltb-false}
 use Rattle.nr_reading.specs.declared.event.Event.TheVariants as events
 use Rattle.nr_store.specs.declared.request.Request.{Request}
 use Rattle.nr_store.specs.declared.request.Request.TheVariants.{Ad, Br, Ce, Fi, Ft, Hy, In, It, Lc, Ll, Lt, Na, Nf, Nh, Nr, Ns, Pc, Pl, Po, Rs, Ta, Tc, Ti, Ul, Vs}
@@ -92,7 +92,7 @@ stays-given_set r n f = stays-same f
 
 fits_by : (b : Bool) (v : Stored Resume) → nat_lt v.limit (charge_of v) ≡ b → is_ok (afforded v (tt {0})) ≡ true → charge_of v ≤ v.limit
 fits_by true v above ok = absurd (let wrong : false ≡ true = (let e : is_ok (afforded v (tt {0})) ≡ false = rw above refl in sym e ∙ ok) in cc)
-fits_by false v above ok = omega (arith, above)
+fits_by false v above ok = ltb-false v.limit (charge_of v) above
 
 written-depth : (x : Option Register) (name : List ℕ) (v : Stored Resume) → length v.levels ≤ v.deepest → length (written x name v).levels ≤ (written x name v).deepest
 written-depth None name v h = h
