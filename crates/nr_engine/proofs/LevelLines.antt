@@ -5,12 +5,10 @@ use Rattle.nr_store.specs.Stored.{Stored, shown}
 use Rattle.nr_store.specs.Windows.{left_times, rest_of, run_left}
 use Rattle.nr_store.specs.declared.element.Element.TheVariants as elements
 use Rattle.nr_store.specs.declared.shown.Shown.TheVariants as shows
-use Rattle.nr_input.specs.Gathering.{IsGathered, LeadsInText, Leaves, StopsGathering}
-use Rattle.nr_input.specs.Moving.{situation}
+use Rattle.nr_input.specs.Gathering.{IsGathered, Leaves, StopsGathering}
 use Rattle.nr_input.specs.declared.gathering.Gathered.{Gathered}
 use Rattle.nr_input.specs.declared.reader.Reader.{Reader}
-use Rattle.nr_input.proofs.Interpolated.{pays_nothing}
-use Rattle.nr_input.proofs.Rows.{reads_nothing}
+use Rattle.nr_input.proofs.TextBytes.{stays_there}
 use Rattle.nr_formatter.specs.Access.{collected}
 use Rattle.nr_formatter.specs.Limits.{FitsMemory}
 use Rattle.nr_formatter.specs.LineEnds.{IsNewline, line_gapped, newline_flows, newline_put}
@@ -98,17 +96,6 @@ pub gathered_still : (bs : List ℕ) (f g : Formatter) (gathered : Gathered) →
 gathered_still bs f g gathered store reader are =
     subst (λ (x : Stored Resume). IsGathered bs x g.reader gathered) (sym store) (subst (λ (x : Reader). IsGathered bs f.store x gathered) (sym reader) are)
 
--- none of them were put
-leads_nothing : (v : Stored Resume) (r : Reader) → LeadsInText 0 v r v r
-leads_nothing v r = record {
-  reads = λ c p supply holds. reads_nothing (situation v c r) v r p supply (record { stored = refl; reader = refl; coming = holds });
-  pays = λ p. pays_nothing v p r;
-  stored = refl;
-  reader = refl;
-  charge = λ fits. fits;
-  depth = λ fits. fits;
-}
-
 pub longest_none : (bs : List ℕ) (f : Formatter) (gathered : Gathered) → IsGathered bs f.store f.reader gathered → StopsGathering (rest_of f.store.levels) gathered.items gathered.count → length bs ≡ 0 → gathered.ends ≡ false
     → LongestOfLevels f.store f.reader f
 longest_none bs f gathered are most none stops = record {
@@ -128,7 +115,7 @@ longest_none bs f gathered are most none stops = record {
     reader = f.reader;
     counted = refl;
     brings = (refl, refl, refl);
-    leads = leads_nothing f.store f.reader;
+    leads = stays_there f.store f.reader;
     stays = λ goes. (refl, refl, refl);
   };
   newlines = 0;
