@@ -65,7 +65,8 @@ impl Formatter {
     }
 
     /// The font that was asked for.
-    fn set_font(&mut self)
+    #[inline]
+    pub fn set_font(&mut self)
         ensures { self.new ≡ font_set self.old }
     {
         self.settings.fonts.set(self.reader.asked().as_bytes());

@@ -131,6 +131,7 @@ impl Half {
         ensures taken { IfSome result (λ run. run.taken ≡ run.moves) }
         ensures within { IfSome result (λ run. place + run.taken ≤ length (I.fronts items.now)) }
         ensures due { IfSome result (λ run. run.event ≡ events.Nothing → self.new.reading.due ≡ dues.Look → ⊥) }
+        ensures font { IfSome result (λ run. kind ≡ kinds.Font → run.event ≡ events.Font) }
         ensures text { self.old.reading.mode ≡ modes.Text → AsksOnly self.old self.new }
         ensures left { result ≡ None → self.new ≡ self.old }
     {
@@ -221,6 +222,8 @@ impl Half {
         ensures taken { IfSome result (λ run. run.taken ≤ run.moves) }
         ensures within { IfSome result (λ run. place + run.taken ≤ length (I.fronts items.now)) }
         ensures due { IfSome result (λ run. run.event ≡ events.Nothing → self.new.reading.due ≡ dues.Look → ⊥) }
+        ensures font { IfSome result (λ run. run.event ≡ events.Font) }
+        ensures most { IfSome result (λ run. run.moves ≤ run.taken + 1) }
         ensures text { self.old.reading.mode ≡ modes.Text → AsksOnly self.old self.new }
         ensures left { result ≡ None → self.new ≡ self.old }
     {
@@ -253,6 +256,8 @@ impl Half {
         ensures taken { IfSome result (λ run. run.taken ≤ run.moves) }
         ensures within { IfSome result (λ run. place + run.taken ≤ length (I.fronts items.now)) }
         ensures due { IfSome result (λ run. run.event ≡ events.Nothing → self.new.reading.due ≡ dues.Look → ⊥) }
+        ensures font { IfSome result (λ run. run.event ≡ events.Font) }
+        ensures most { IfSome result (λ run. run.moves ≤ run.taken + 1) }
         ensures text { self.old.reading.mode ≡ modes.Text → AsksOnly self.old self.new }
         ensures left { result ≡ None → self.new ≡ self.old }
     {
@@ -287,6 +292,26 @@ impl Half {
             Some(b'n') => self.meet_register(items, place),
             Some(b'*') => self.meet_named(items, place, 2, Kind::String),
             Some(b'f') => self.meet_font(items, place),
+            _ => None,
+        }
+    }
+
+    /// The font escape that a row begins with is met where an item is looked at next: `\fX` or `\f(XX` in the midst of a text line, `\fX` at the
+    /// beginning of a line. None where the row has not all of it, or it begins otherwise.
+    #[inline(always)]
+    pub fn meet_front_font<I: Items>(&mut self, items: &I) -> Option<Run>
+        ensures met { IfSome result (λ run. HasMet run.moves (I.fronts items.now) self.old (spot run self.new)) }
+        ensures font { IfSome result (λ run. run.event ≡ events.Font) }
+        ensures few { IfSome result (λ run. run.moves ≤ 6) }
+        ensures taken { IfSome result (λ run. run.taken ≤ run.moves) }
+        ensures most { IfSome result (λ run. run.moves ≤ run.taken + 1) }
+        ensures left { result ≡ None → self.new ≡ self.old }
+    {
+        if !matches!(self.reading.due, Due::Look) || items.count() < 2 || !self.interpolates() {
+            return None;
+        }
+        match (items.byte(0), items.byte(1)) {
+            (Some(b'\\'), Some(b'f')) => self.meet_font(items, 0),
             _ => None,
         }
     }

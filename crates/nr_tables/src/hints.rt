@@ -19,20 +19,12 @@ fn low_place(at: usize) -> u16 {
 
 // One place further, from a place on.
 fn place_behind(place: u16, from: u16) -> u16 {
-    if place >= from {
-        place.saturating_add(1)
-    } else {
-        place
-    }
+    place.saturating_add(u16::from(place >= from))
 }
 
 // One place before, behind a place.
 fn place_before(place: u16, gone: u16) -> u16 {
-    if place > gone {
-        place.saturating_sub(1)
-    } else {
-        place
-    }
+    place.saturating_sub(u16::from(place > gone))
 }
 
 impl Hints {

@@ -1,0 +1,24 @@
+//! Font escapes in the text of the source.
+ghost use Rattle.std.specs.Prelude.{◌≡◌, ◌+◌, ◌≤◌, map, Option, None, Some, IfSome};
+ghost use Rattle.nr_reading.specs.declared.event.Event.TheVariants as events;
+ghost use Rattle.nr_reading.specs.declared.front.Front.TheVariants as variants;
+ghost use Rattle.nr_reading.specs.Runs.{HasMet, spot};
+
+use super::reader::Reader;
+use super::runs::ByteRow;
+use nr_reading::Run;
+
+/// The font escape that these bytes begin with is met, where an item is looked at next: `\fX` or `\f(XX` in the midst of a text line, `\fX`
+/// at the beginning of a line. None where the bytes have not all of it, or begin otherwise. The bytes are not taken yet.
+#[inline(always)]
+pub fn meet_font(reader: &mut Reader, bytes: &[u8]) -> Option<Run>
+    ensures met { IfSome result (λ run. HasMet run.moves (map variants.Byte bytes.now) reader.old.half (spot run reader.new.half)) }
+    ensures font { IfSome result (λ run. run.event ≡ events.Font) }
+    ensures few { IfSome result (λ run. run.moves ≤ 6) }
+    ensures taken { IfSome result (λ run. run.taken ≤ run.moves) }
+    ensures most { IfSome result (λ run. run.moves ≤ run.taken + 1) }
+    ensures reader { reader.new ≡ record reader.old { half = reader.new.half } }
+    ensures left { result ≡ None → reader.new ≡ reader.old }
+{
+    reader.half.meet_front_font(&ByteRow(bytes))
+}
