@@ -21,7 +21,7 @@ use std::io::{BufWriter, Read, Write};
 use std::rt::{Env, Files};
 
 /// The bytes of the buffer of the output.
-const OUTPUT_SIZE: usize = 65_536;
+const OUTPUT_SIZE: usize = 8_192;
 
 /// Runs the program in a system: over its words, its files and these streams. Gives its status.
 pub fn run_program<R: Env + Files, I: Read + Copy + Drop, W: Write + Drop, E: Write + Drop>(
