@@ -76,8 +76,9 @@ pub fn lay_line<R: CellRow>(slots: &[PieceSlot], cells: &[Cell], extra: Extra, r
     let mut gap = 1;
     let others = &slots[1..];
     for slot in others {
+        let blanks = blanks_of(slot.join, extra, gap);
         let len = slot.len as usize;
-        row.add_behind_copies(Cell::blank(), blanks_of(slot.join, extra, gap), &cells[taken..], len);
+        row.add_behind_copies(Cell::blank(), blanks, &cells[taken..], len);
         gap = gap_behind(slot.join, gap);
         taken += len;
     }
