@@ -24,10 +24,11 @@ pub trait CellRow {
         ensures items { (Holds self.new).items ≡ (Holds self.old).items ++ take n cells.now }
         ensures room { (Holds self.new).room ≡ (Holds self.old).room };
 
-    /// Adds n copies of a cell.
-    fn add_copies(&mut self, cell: Cell, n: usize)
-        requires { length (Holds self.old).items + n ≤ (Holds self.old).room }
-        ensures items { (Holds self.new).items ≡ (Holds self.old).items ++ replicate n cell }
+    /// Adds copies of a cell, and behind them the first n of these cells.
+    fn add_behind_copies(&mut self, cell: Cell, copies: usize, cells: &[Cell], n: usize)
+        requires front { n ≤ length cells.now }
+        requires room { length (Holds self.old).items + copies + n ≤ (Holds self.old).room }
+        ensures items { (Holds self.new).items ≡ (Holds self.old).items ++ replicate copies cell ++ take n cells.now }
         ensures room { (Holds self.new).room ≡ (Holds self.old).room };
 }
 
@@ -40,8 +41,8 @@ impl CellRow for FixedVec<Cell> {
     }
 
     #[inline(always)]
-    fn add_copies(&mut self, cell: Cell, n: usize) {
-        self.extend_copies(cell, n);
+    fn add_behind_copies(&mut self, cell: Cell, copies: usize, cells: &[Cell], n: usize) {
+        self.extend_behind_copies(cell, copies, cells, n);
     }
 }
 
@@ -54,8 +55,9 @@ impl CellRow for SliceVec<'_, Cell> {
     }
 
     #[inline(always)]
-    fn add_copies(&mut self, cell: Cell, n: usize) {
-        self.extend_copies(cell, n);
+    fn add_behind_copies(&mut self, cell: Cell, copies: usize, cells: &[Cell], n: usize) {
+        self.extend_copies(cell, copies);
+        self.extend_front(cells, n);
     }
 }
 
@@ -74,9 +76,10 @@ pub fn lay_line<R: CellRow>(slots: &[PieceSlot], cells: &[Cell], extra: Extra, r
     let mut gap = 1;
     let others = &slots[1..];
     for slot in others {
-        row.add_copies(Cell::blank(), blanks_of(slot.join, extra, gap));
+        let blanks = blanks_of(slot.join, extra, gap);
+        let len = slot.len as usize;
+        row.add_behind_copies(Cell::blank(), blanks, &cells[taken..], len);
         gap = gap_behind(slot.join, gap);
-        row.add_front(&cells[taken..], slot.len as usize);
-        taken += slot.len as usize;
+        taken += len;
     }
 }

@@ -159,6 +159,32 @@ impl<T: Copy> FixedVec<T> {
         self.len = len + n;
     }
 
+    /// Adds copies of an item, and behind them the first n of these items. A few more of both are written than are added where
+    /// there are places for them, as with `extend_front`.
+    #[inline(always)]
+    pub fn extend_behind_copies(&mut self, item: T, copies: usize, more: &[T], n: usize)
+        requires front { n ≤ length more.now }
+        requires room { length self.old.items + copies + n ≤ self.old.room }
+        ensures items { self.new.items ≡ self.old.items ++ replicate copies item ++ take n more.now }
+        ensures room { self.new.room ≡ self.old.room }
+    {
+        let len = self.len;
+        if copies <= CHUNK
+            && n <= CHUNK
+            && more.len() >= CHUNK
+            && self.slots.len() - len >= 2 * CHUNK
+        {
+            let slots = self.slots.as_mut_slice();
+            let near = &mut slots[len..len + 2 * CHUNK];
+            near[..CHUNK].copy_from_slice(&[item; CHUNK]);
+            near[copies..copies + CHUNK].copy_from_slice(&more[..CHUNK]);
+            self.len = len + copies + n;
+            return;
+        }
+        self.extend_copies(item, copies);
+        self.extend(&more[..n]);
+    }
+
     /// Puts an item before the one at a place, or at the end.
     #[inline]
     pub fn insert(&mut self, place: usize, item: T)
