@@ -1,6 +1,7 @@
 -- Conditions in a row of items.
 use Rattle.std.specs.Prelude.{◌==◌}
-use Rattle.std.proofs.Common.{◌≡◌, ℕ, Bool, true, false, refl, sym, subst}
+use Rattle.std.proofs.Common.{◌≡◌, ℕ, Bool, true, false, inl, inr, refl, sym, subst}
+use Rattle.std.proofs.lemmas.Bool.{cases_Bool}
 use Rattle.nr_reading.specs.declared.event.Event.TheVariants as events
 use Rattle.nr_reading.specs.declared.event.Question.TheVariants as questions
 use Rattle.nr_reading.specs.declared.half.Half.{Half}
@@ -9,7 +10,7 @@ use Rattle.nr_reading.specs.declared.mode.Mode.{Mode}
 use Rattle.nr_reading.specs.declared.mode.Mode.TheVariants as modes
 use Rattle.nr_reading.specs.Notes.{Note}
 use Rattle.nr_reading.specs.declared.notes.Notes.{Notes}
-use Rattle.nr_reading.specs.ConditionRows.{delimits, ends_number}
+use Rattle.nr_reading.specs.ConditionRows.{delimits, ends_number, is_digit_or_relation}
 use Rattle.nr_reading.specs.Conditions.{begins_number, parentheses}
 use Rattle.nr_reading.specs.Meeting.{reads_next}
 use Rattle.nr_reading.specs.Notes as notes
@@ -53,6 +54,18 @@ meet-number_byte b depth left o h mode next plain goes is_left is =
     subst (λ d. MeetsByte b h (record h { reading = record h.reading { mode = modes.Number d }; notes = o }) events.Nothing true) (sym is_left)
     (subst (λ (x : Notes). MeetsByte b h (record h { reading = record h.reading { mode = modes.Number (parentheses b depth) }; notes = x }) events.Nothing true) (sym is)
     (subst (λ (k : Half). MeetsByte b k (going (modes.Number (parentheses b depth)) (notes.Line b) k) events.Nothing true) (sym (standing (modes.Number depth) h mode next)) (rw (plain, goes) refl)))
+
+-- a digit, or one of `:;<=>`
+pub meet-number_digit : (b depth : ℕ) (o : Notes) (h : Half) → h.reading.mode ≡ modes.Number depth → reads_next h ≡ true → is_digit_or_relation b ≡ true → o ≡ noted (notes.Line b) h.notes → MeetsByte b h (record h { notes = o }) events.Nothing true
+meet-number_digit b depth o h mode next is_one is =
+    let apart : (c : ℕ) → is_digit_or_relation c ≡ false → (b == c) ≡ false = λ c. apart_from is_digit_or_relation b c is_one in
+    let goes : ends_number b depth ≡ false = elim (cases_Bool (depth == 0)) [
+      | inl outside ↦ rw (outside, apart 10 refl, apart 32 refl, apart 9 refl, apart 92 refl) refl
+      | inr inside ↦ rw (inside, apart 10 refl) refl
+    ] in
+    let left : depth ≡ parentheses b depth = rw (apart 40 refl, apart 41 refl) refl in
+    subst (λ m. MeetsByte b h (record h { reading = record h.reading { mode = m }; notes = o }) events.Nothing true) (sym mode)
+    (meet-number_byte b depth depth o h mode next (apart 92 refl) goes left is)
 
 pub meet-number_end : (b depth : ℕ) (h : Half) → h.reading.mode ≡ modes.Number depth → reads_next h ≡ true → (b == 92) ≡ false → ends_number b depth ≡ true
     → MeetsByte b h (record h { reading = record h.reading { mode = modes.Skip 0 } }) (events.Judge questions.Number) false

@@ -1,20 +1,21 @@
 -- The parts behind conditions in a row of items.
 use Rattle.std.specs.Prelude.{◌==◌, slice_get}
-use Rattle.std.proofs.Common.{◌≡◌, ℕ, ◌+◌, ◌<◌, Bool, true, false, List, [], length, Some, refl, sym, subst, arith}
-use Rattle.std.proofs.lemmas.Bool.{eqb-true}
+use Rattle.std.proofs.Common.{◌≡◌, ℕ, ◌+◌, ◌<◌, Bool, true, false, List, [], length, Some, Option, refl, sym, subst, ap, arith}
+use Rattle.std.proofs.lemmas.Bool.{eqb-true, and_parts}
 use Rattle.nr_reading.specs.declared.event.Event.TheVariants as events
 use Rattle.nr_reading.specs.declared.front.Front.{Front}
 use Rattle.nr_reading.specs.declared.front.Front.TheVariants as fronts
 use Rattle.nr_reading.specs.declared.half.Half.{Half}
 use Rattle.nr_reading.specs.declared.mode.Escape.TheVariants as escapes
 use Rattle.nr_reading.specs.declared.mode.Mode.TheVariants as modes
+use Rattle.nr_reading.specs.Braces.{is_byte, opens_at}
 use Rattle.nr_reading.specs.Meeting.{reads_next}
 use Rattle.nr_reading.specs.Passing.{is_plain}
 use Rattle.nr_reading.specs.Rows.{LeadsOn}
 use Rattle.nr_reading.specs.Skipping.{braces}
 use Rattle.nr_reading.specs.Spelling.{is_blank}
 use Rattle.nr_reading.proofs.Asked.{half_at}
-use Rattle.nr_reading.proofs.Rows.{MeetsByte, standing, apart_from, taken_more}
+use Rattle.nr_reading.proofs.Rows.{MeetsByte, standing, looks, stays, recount, apart_from, taken_more, left_more}
 use Rattle.nr_reading.proofs.Weighing.{at}
 
 -- behind the blanks a line begins
@@ -22,6 +23,30 @@ pub meet-part_begins : (b : ℕ) (h : Half) → h.reading.mode ≡ modes.Accepte
 meet-part_begins b h mode next plain other =
     let apart : (c : ℕ) → is_plain c ≡ false → (b == c) ≡ false = λ c. apart_from is_plain b c plain in
     subst (λ (k : Half). MeetsByte b k (record k { reading = record k.reading { mode = modes.Start } }) events.Nothing false) (sym (standing modes.Accepted h mode next)) (rw (other, apart 10 refl, apart 92 refl) refl)
+
+byte_stands : (b : ℕ) (o : Option Front) → is_byte b o ≡ true → o ≡ Some (fronts.Byte b)
+byte_stands b (Some (fronts.Byte c)) is = ap (λ n. Some (fronts.Byte n)) (eqb-true c b is)
+byte_stands b o is = absurd (let wrong : false ≡ true = is in cc)
+
+-- the two bytes of an opening brace
+pub brace_stands : (place : ℕ) (fs : List Front) → opens_at place fs ≡ true → (slice_get fs place ≡ Some (fronts.Byte 92)) × (slice_get fs (place + 1) ≡ Some (fronts.Byte 123))
+brace_stands place fs is =
+    let two = and_parts (is_byte 92 (slice_get fs place)) (is_byte 123 (slice_get fs (place + 1))) is in
+    (byte_stands 92 (slice_get fs place) two.0, byte_stands 123 (slice_get fs (place + 1)) two.1)
+
+-- `\{`, and behind it a line begins
+pub opened : (fs : List Front) (place b : ℕ) (h : Half) → h.reading.mode ≡ modes.Accepted → reads_next h ≡ true → place + 2 < length fs → slice_get fs place ≡ Some (fronts.Byte 92) → slice_get fs (place + 1) ≡ Some (fronts.Byte 123)
+    → slice_get fs (place + 2) ≡ Some (fronts.Byte b) → is_plain b ≡ true → is_blank b ≡ false → LeadsOn fs place place h (place + 2) (place + 3) (record h { reading = record h.reading { mode = modes.Start } })
+opened fs place b h mode next within first second third plain other =
+    let k : Half = half_at (at modes.Accepted escapes.Plain h.reading.continued h.reading.no_break) h.signs [] h.delimited h.notes in
+    let begun : Half = half_at (at modes.Accepted escapes.Begun h.reading.continued h.reading.no_break) h.signs [] h.delimited h.notes in
+    let same : h ≡ k = standing modes.Accepted h mode next in
+    let here : LeadsOn fs place place h place place k = subst (λ (x : Half). LeadsOn fs place place h place place x) same (stays fs place place h) in
+    let one = taken_more fs place place place place 92 h k begun here (omega (arith, within)) refl first refl in
+    let two = taken_more fs place place (place + 1) (place + 1) 123 h begun k one (omega (arith, within)) refl second refl in
+    let behind = recount fs place place (place + 1 + 1) (place + 2) (place + 1 + 1) (place + 2) h h (subst (λ (x : Half). LeadsOn fs place place h (place + 1 + 1) (place + 1 + 1) x) (sym same) two) (omega arith) (omega arith) in
+    let three = left_more fs place place (place + 2) (place + 2) b h h (record h { reading = record h.reading { mode = modes.Start } }) behind within (looks h next) third (meet-part_begins b h mode next plain other) in
+    recount fs place place (place + 2) (place + 2) (place + 2 + 1) (place + 3) h (record h { reading = record h.reading { mode = modes.Start } }) three refl (omega arith)
 
 -- ---- a rejected part
 

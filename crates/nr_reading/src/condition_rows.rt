@@ -1,7 +1,7 @@
 //! Conditions in a row of items.
 ghost use Rattle.std.specs.Prelude.{◌≡◌, ◌+◌, ◌≤◌, length, true};
 ghost use Rattle.nr_reading.specs.declared.mode.Mode.TheVariants as modes;
-ghost use Rattle.nr_reading.specs.ConditionRows.{delimits, ends_number};
+ghost use Rattle.nr_reading.specs.ConditionRows.{delimits, ends_number, is_digit_or_relation};
 ghost use Rattle.nr_reading.specs.Meeting.{reads_next};
 ghost use Rattle.nr_reading.specs.Rows.{MeetsRest};
 
@@ -35,6 +35,14 @@ pub(crate) fn ends_number(byte: u8, depth: u64) -> bool
     ensures { result ≡ ends_number byte depth }
 {
     byte == b'\n' || (depth == 0 && (is_blank(byte) || byte == b'\\'))
+}
+
+// The byte is a digit, or one of `:;<=>`: it ends no number, begins no escape, and is no parenthesis.
+#[inline(always)]
+fn is_digit_or_relation(byte: u8) -> bool
+    ensures { result ≡ is_digit_or_relation byte }
+{
+    byte >= b'0' && byte <= b'>'
 }
 
 impl Half {
@@ -103,6 +111,10 @@ impl Half {
             let Some(byte) = items.byte(place) else {
                 return self.meet_rest(items, place, moves, run);
             };
+            if is_digit_or_relation(byte) {
+                self.notes.note(Jot::Line(byte));
+                continue;
+            }
             if byte == b'\\' {
                 return self.meet_escape(items, place, moves, run);
             }

@@ -1,6 +1,7 @@
 //! The parts behind conditions in a row of items.
-ghost use Rattle.std.specs.Prelude.{◌≡◌, true};
+ghost use Rattle.std.specs.Prelude.{◌≡◌, ◌≤◌, true};
 ghost use Rattle.nr_reading.specs.declared.mode.Mode.TheVariants as modes;
+ghost use Rattle.nr_reading.specs.Braces.{opens_at};
 ghost use Rattle.nr_reading.specs.Meeting.{reads_next};
 ghost use Rattle.nr_reading.specs.Rows.{MeetsRest};
 
@@ -12,8 +13,16 @@ use super::runs::{Items, Run};
 use super::skipping::braces;
 use super::spelled::is_blank;
 
+// Whether an opening brace, `\{`, stands at a place of a row.
+#[inline(always)]
+fn opens<I: Items>(items: &I, place: usize) -> bool
+    ensures { result ≡ opens_at place (I.fronts items.now) }
+{
+    matches!(byte_of(items, place), Some(b'\\')) && matches!(byte_of(items, place + 1), Some(b'{'))
+}
+
 impl Half {
-    /// An accepted part is met: its blanks, and what begins a line behind them.
+    /// An accepted part is met: its blanks, an opening brace behind them, and what begins a line there.
     #[inline(never)]
     pub(crate) fn meet_accepted<I: Items>(&mut self, items: &I, run: &mut Run)
         requires mode { self.old.reading.mode ≡ modes.Accepted }
@@ -25,10 +34,32 @@ impl Half {
             return self.meet_rest(items, place, place, run);
         };
         if !is_plain(byte) || is_blank(byte) {
-            return self.meet_more(items, place, place, run);
+            return self.meet_opened(items, place, run);
         }
         self.reading.mode = Mode::Start;
         self.meet_beginning(items, place, place + 1, run)
+    }
+
+    // What stands at a place of an accepted part is met, to which as many moves led: an opening brace with what begins a line behind it,
+    // and else one item after another.
+    #[inline(always)]
+    fn meet_opened<I: Items>(&mut self, items: &I, place: usize, run: &mut Run)
+        requires mode { self.old.reading.mode ≡ modes.Accepted }
+        requires next { reads_next self.old ≡ true }
+        requires few { place ≤ 8192 }
+        ensures { MeetsRest (I.fronts items.now) place place self.old run.new self.new }
+    {
+        if !opens(items, place) {
+            return self.meet_more(items, place, place, run);
+        }
+        let Some(byte) = byte_of(items, place + 2) else {
+            return self.meet_more(items, place, place, run);
+        };
+        if !is_plain(byte) || is_blank(byte) {
+            return self.meet_more(items, place, place, run);
+        }
+        self.reading.mode = Mode::Start;
+        self.meet_beginning(items, place + 2, place + 3, run)
     }
 
     /// A rejected part is met, in which so many braces are open, and what begins a line behind it.

@@ -1,5 +1,5 @@
 //! Places of a row of items, and the blanks that do nothing there.
-ghost use Rattle.std.specs.Prelude.{◌≡◌, ◌+◌, ◌-◌, ◌^◌, ◌<◌, ◌≤◌, ℕ, length, slice_get, Some, IfSome, true};
+ghost use Rattle.std.specs.Prelude.{◌≡◌, ◌+◌, ◌-◌, ◌^◌, ◌<◌, ◌≤◌, ℕ, length, slice_get, Some, None, IfSome, true};
 ghost use Rattle.nr_reading.specs.declared.front.Front.TheVariants as variants;
 ghost use Rattle.nr_reading.specs.declared.mode.Due.TheVariants as dues;
 ghost use Rattle.nr_reading.specs.Meeting.{reads_next};
@@ -30,6 +30,7 @@ pub(crate) fn byte_of<I: Items>(items: &I, place: usize) -> Option<u8>
     ensures value { IfSome result (λ byte. slice_get (I.fronts items.now) place ≡ Some (variants.Byte byte)) }
     ensures within { IfSome result (λ byte. place < length (I.fronts items.now)) }
     ensures fits { IfSome result (λ byte. place < 2 ^ 64 - 1) }
+    ensures other { result ≡ None → (byte : ℕ) → slice_get (I.fronts items.now) place ≡ Some (variants.Byte byte) → ⊥ }
 {
     if place < items.count() {
         return items.byte(place);
