@@ -1,5 +1,5 @@
 -- What it does to the slots and the elements to move one text behind all others.
-use Rattle.std.proofs.Common.{◌≡◌, ◌≢◌, ℕ, ◌+◌, ◌-◌, ◌<◌, ◌≤◌, ◌⊎◌, min, ltb, leb, cond, true, false, List, ◌++◌, length, map, take, drop, set, get_or, sum, refl, sym, ap, ap₂, ◌∙◌, inl, inr, arith, rules}
+use Rattle.std.proofs.Common.{◌≡◌, ◌≢◌, ℕ, ◌+◌, ◌-◌, ◌<◌, ◌≤◌, ◌⊎◌, min, ltb, leb, true, false, List, ◌++◌, length, map, take, drop, set, get_or, sum, refl, sym, ap, ap₂, ◌∙◌, inl, inr, arith, rules}
 use Rattle.std.proofs.lemmas.List.{get_or-map, get_or_past, length-map, length-set, places, get_or_default, take_all, drop_all, append-nil}
 use Rattle.std.proofs.lemmas.List.Edits.{map_over_more}
 use Rattle.std.proofs.lemmas.List.Sums.{sum-map}

@@ -263,7 +263,13 @@ pub(crate) fn remove_text<T: Copy>(
         holders: 0,
     };
     if len > 0 && start + len < used {
-        close_gap(elements.as_mut_slice(), slots.as_mut_slice(), used, start, len);
+        close_gap(
+            elements.as_mut_slice(),
+            slots.as_mut_slice(),
+            used,
+            start,
+            len,
+        );
     }
     len
 }
