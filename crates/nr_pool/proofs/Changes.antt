@@ -1,5 +1,5 @@
 -- What each change of a pool keeps true of its slots.
-use Rattle.std.proofs.Common.{◌≡◌, ℕ, ◌+◌, ◌-◌, ◌<◌, ◌≤◌, List, length, set, arith}
+use Rattle.std.proofs.Common.{◌≡◌, ℕ, ◌+◌, ◌<◌, ◌≤◌, List, length, set, arith}
 use Rattle.std.proofs.lemmas.List.{length-set}
 use Rattle.nr_pool.specs.Texts.{Texts, IsOpen}
 use Rattle.nr_pool.specs.Places.{slot_at, texts_of, IsPacked}
@@ -7,7 +7,7 @@ use Rattle.nr_pool.specs.Spares.{HasSpares}
 use Rattle.nr_pool.specs.Rooms.{IsKept}
 use Rattle.nr_pool.specs.declared.slot.Slot.{Slot}
 use Rattle.nr_pool.proofs.Places.{IsExtended, found, set_last, set_same}
-use Rattle.nr_pool.proofs.Spares.{spares_set, spares_open, spares_close}
+use Rattle.nr_pool.proofs.Spares.{spares_set, spares_open}
 
 -- the texts are packed, and each slot with no text is among the spare ones
 pub record IsPool (capacity : ℕ) (slots : List Slot) (used count first : ℕ) : Type 0 where
@@ -38,16 +38,6 @@ module _ {T : Type 0} (E : List T) (slots : List Slot) (n count first : ℕ) (p 
       record {
         packed = set_same (length E) n slots i new packed f.within len (λ _. start) (λ none. absurd (omega arith));
         spares = spares_set slots i new count first f.within f.held held spares;
-      }
-
-  -- the text that lies last is removed
-  pub after_close : (slot_at slots i).start + (slot_at slots i).len ≡ n → new.start ≡ first → new.len ≡ 0 → new.holders ≡ 0 → IsPool (length E) (set slots i new) (n - (slot_at slots i).len) (count + 1) i
-  after_close last start len none =
-      let f = found E slots n p i id packed view at is_open in
-      let room = packed.room in
-      record {
-        packed = set_last (length E) n slots i new (n - (slot_at slots i).len) packed f.within last (omega arith) (omega arith) (λ some. absurd (omega arith)) (λ _. len);
-        spares = spares_close slots count first i new spares f.within f.held none start;
       }
 
 -- a text is opened

@@ -182,7 +182,7 @@ view_set E F slots news i v same_length at_i others =
     ])
 
 -- the pool with another entry at one number
-rewritten : {T : Type 0} (E F : List T) (slots news : List Slot) (p : Texts T) (i id : ℕ) (v : Held T) → texts_of E slots ≡ p → i ≡ id → length F ≡ length E
+pub rewritten : {T : Type 0} (E F : List T) (slots news : List Slot) (p : Texts T) (i id : ℕ) (v : Held T) → texts_of E slots ≡ p → i ≡ id → length F ≡ length E
     → length news ≡ length slots → held_of F (slot_at news i) ≡ v → ((j : ℕ) → j ≢ i → held_of F (slot_at news j) ≡ held_of E (slot_at slots j))
     → texts_of F news ≡ with_entry p id v
 rewritten E F slots news p i id v view at same_length lengths here others =

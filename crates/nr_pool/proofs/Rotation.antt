@@ -1,28 +1,24 @@
 -- What it does to the slots and the elements to move one text behind all others.
-use Rattle.std.proofs.Common.{◌≡◌, ◌≢◌, ℕ, ◌+◌, ◌-◌, ◌<◌, ◌≤◌, ◌⊎◌, min, ltb, leb, cond, true, false, List, ◌++◌, length, map, take, drop, set, get_or, sum, refl, sym, ap, ap₂, ◌∙◌, inl, inr, arith, rules}
+use Rattle.std.proofs.Common.{◌≡◌, ◌≢◌, ℕ, ◌+◌, ◌-◌, ◌<◌, ◌≤◌, ◌⊎◌, min, ltb, leb, true, false, List, ◌++◌, length, map, take, drop, set, get_or, sum, refl, sym, ap, ap₂, ◌∙◌, inl, inr, arith, rules}
 use Rattle.std.proofs.lemmas.List.{get_or-map, get_or_past, length-map, length-set, places, get_or_default, take_all, drop_all, append-nil}
 use Rattle.std.proofs.lemmas.List.Edits.{map_over_more}
 use Rattle.std.proofs.lemmas.List.Sums.{sum-map}
 use Rattle.std.proofs.lemmas.Bool.{cases_lt, cases_Bool, cond-true, cond-false, and_parts, and_cases, ltb-true, ltb-false, leb-true, leb-false}
 use borrow.Rule.Slice.PartMut.{put_mid}
 use Rattle.nr_pool.specs.Texts.{Held}
-use Rattle.nr_pool.specs.Places.{blank_slot, slot_at, held_of, texts_of, is_behind, IsPacked}
+use Rattle.nr_pool.specs.Places.{blank_slot, slot_at, held_of, texts_of, is_behind, shifted, IsPacked}
 use Rattle.nr_pool.specs.Spares.{HasSpares}
 use Rattle.nr_pool.specs.declared.slot.Slot.{Slot}
 use Rattle.nr_pool.proofs.Places.{same_map, same_part, same_slot, written_at}
 use Rattle.nr_pool.proofs.Spares.{spares_same}
 
--- a text with elements, from e on, begins n further down
-abbrev pub shifted : ℕ → ℕ → Slot → Slot
-shifted e n s = cond (is_behind e s) (record s { start = s.start - n }) s
-
 -- t is s, n further down if it has elements and began at e or behind
-record IsMoved (e n : ℕ) (s t : Slot) : Type 0 where
-  len : t.len ≡ s.len
-  holders : t.holders ≡ s.holders
-  nothing : s.len ≡ 0 → t.start ≡ s.start
-  low : s.start < e → t.start ≡ s.start
-  high : 0 < s.len → e ≤ s.start → t.start ≡ s.start - n
+pub record IsMoved (e n : ℕ) (s t : Slot) : Type 0 where
+  pub len : t.len ≡ s.len
+  pub holders : t.holders ≡ s.holders
+  pub nothing : s.len ≡ 0 → t.start ≡ s.start
+  pub low : s.start < e → t.start ≡ s.start
+  pub high : 0 < s.len → e ≤ s.start → t.start ≡ s.start - n
 
 moved_by_shift : (e n : ℕ) (s : Slot) → IsMoved e n s (shifted e n s)
 moved_by_shift e n s = elim (cases_Bool (is_behind e s)) [
@@ -50,7 +46,7 @@ record IsLast (n u : ℕ) (s t : Slot) : Type 0 where
   holders : t.holders ≡ s.holders
   start : t.start ≡ u - n
 
-moved_at : (e n : ℕ) (slots : List Slot) (j : ℕ) → IsMoved e n (slot_at slots j) (slot_at (map (shifted e n) slots) j)
+pub moved_at : (e n : ℕ) (slots : List Slot) (j : ℕ) → IsMoved e n (slot_at slots j) (slot_at (map (shifted e n) slots) j)
 moved_at e n slots j = elim (cases_lt j (length slots)) [
   | inl below ↦ rw (get_or-map (shifted e n) slots j blank_slot blank_slot below) (moved_by_shift e n (slot_at slots j))
   | inr past ↦
@@ -65,25 +61,45 @@ rotated_at u slots i new n e within last j = elim (written_at (map (shifted e n)
   | inr h ↦ inr (h.0, rw h.1 (moved_at e n slots j))
 ]
 
--- a text that does not go to the end lies before the one that does, or behind it and then goes n down
-record IsBefore (e n u : ℕ) (moving s t : Slot) : Type 0 where
-  len : t.len ≡ s.len
-  start : t.start ≡ s.start
-  below : s.start + s.len ≤ moving.start
+-- a text that stays in its part lies before the one that doesn't, or behind it and then goes n down
+pub record IsBefore (e n u : ℕ) (moving s t : Slot) : Type 0 where
+  pub len : t.len ≡ s.len
+  pub start : t.start ≡ s.start
+  pub below : s.start + s.len ≤ moving.start
 
-record IsBehind (e n u : ℕ) (moving s t : Slot) : Type 0 where
-  len : t.len ≡ s.len
-  start : t.start + n ≡ s.start
-  above : e ≤ s.start
-  inside : s.start + s.len ≤ u
+pub record IsBehind (e n u : ℕ) (moving s t : Slot) : Type 0 where
+  pub len : t.len ≡ s.len
+  pub start : t.start + n ≡ s.start
+  pub above : e ≤ s.start
+  pub inside : s.start + s.len ≤ u
 
-side_of : (capacity u : ℕ) (slots : List Slot) (i : ℕ) (n e : ℕ) → IsPacked capacity slots u → n ≡ (slot_at slots i).len → 0 < n → e ≡ (slot_at slots i).start + n
+pub side_of : (capacity u : ℕ) (slots : List Slot) (i : ℕ) (n e : ℕ) → IsPacked capacity slots u → n ≡ (slot_at slots i).len → 0 < n → e ≡ (slot_at slots i).start + n
     → (j : ℕ) (t : Slot) → j ≢ i → IsMoved e n (slot_at slots j) t → 0 < t.len → IsBefore e n u (slot_at slots i) (slot_at slots j) t ⊎ IsBehind e n u (slot_at slots i) (slot_at slots j) t
 side_of capacity u slots i n e packed n_is nonempty e_is j t other moved some =
     let len = moved.len in
     elim (cases_lt (slot_at slots j).start e) [
       | inl low ↦ inl record { len = moved.len; start = moved.low low; below = packed.apart i j (λ q. other (sym q)) (omega arith) (omega arith) (omega arith) }
       | inr high ↦ inr record { len = moved.len; start = let start = moved.high (omega arith) high in omega arith; above = high; inside = packed.inside j (omega arith) }
+    ]
+
+-- two others lie apart as before
+pub apart_moved : (capacity u : ℕ) (slots : List Slot) (i : ℕ) (n e : ℕ) → IsPacked capacity slots u → n ≡ (slot_at slots i).len → 0 < n → e ≡ (slot_at slots i).start + n
+    → (b c : ℕ) (s t : Slot) → b ≢ c → b ≢ i → c ≢ i → IsMoved e n (slot_at slots b) s → IsMoved e n (slot_at slots c) t → 0 < s.len → 0 < t.len → t.start < s.start + s.len
+    → t.start + t.len ≤ s.start
+apart_moved capacity u slots i n e packed n_is nonempty e_is b c s t ne other_b other_c moved_b moved_c some_b some_c begins =
+    let side = side_of capacity u slots i n e packed n_is nonempty e_is in
+    let lb = moved_b.len in
+    let lc = moved_c.len in
+    let old = packed.apart b c ne (omega arith) (omega arith) in
+    elim (side b s other_b moved_b some_b) [
+      | inl x ↦ let m = x.start in let w = x.below in elim (side c t other_c moved_c some_c) [
+        | inl y ↦ let o = y.start in let v = y.below in let q = old (omega arith) in omega arith
+        | inr y ↦ let o = y.start in let v = y.above in absurd (omega arith)
+      ]
+      | inr x ↦ let m = x.start in let w = x.above in elim (side c t other_c moved_c some_c) [
+        | inl y ↦ let o = y.start in let v = y.below in omega arith
+        | inr y ↦ let o = y.start in let v = y.above in let q = old (omega arith) in omega arith
+      ]
     ]
 
 -- the slots still lie apart and fill the same part
@@ -128,20 +144,7 @@ packed_by_shift capacity u slots i new n e packed within n_is nonempty e_is last
             | inl before ↦ let t = k.1.start in let l = before.len in let m = before.start in let w = before.below in absurd (omega arith)
             | inr behind ↦ let t = k.1.start in let l = behind.len in let m = behind.start in let w = behind.inside in absurd (omega arith)
           ]
-          | inr k ↦
-              let lb = h.1.len in
-              let lc = k.1.len in
-              let old = packed.apart b c ne (omega arith) (omega arith) in
-              elim (side b (slot_at news b) h.0 h.1 some_b) [
-                | inl x ↦ let m = x.start in let w = x.below in elim (side c (slot_at news c) k.0 k.1 some_c) [
-                  | inl y ↦ let o = y.start in let v = y.below in let q = old (omega arith) in omega arith
-                  | inr y ↦ let o = y.start in let v = y.above in absurd (omega arith)
-                ]
-                | inr x ↦ let m = x.start in let w = x.above in elim (side c (slot_at news c) k.0 k.1 some_c) [
-                  | inl y ↦ let o = y.start in let v = y.below in omega arith
-                  | inr y ↦ let o = y.start in let v = y.above in let q = old (omega arith) in omega arith
-                ]
-              ]
+          | inr k ↦ apart_moved capacity u slots i n e packed n_is nonempty e_is b c (slot_at news b) (slot_at news c) ne h.0 k.0 h.1 k.1 some_b some_c begins
         ]
       ];
     }

@@ -1,5 +1,5 @@
 -- Where the texts of a pool lie among its elements.
-use Rattle.std.specs.Prelude.{◌≡◌, ◌≢◌, ℕ, ◌+◌, ◌^◌, ◌<◌, ◌≤◌, ◌&&◌, nat_lt, nat_le, Bool, List, map, length, take, drop, sum_by, slice_index_or}
+use Rattle.std.specs.Prelude.{◌≡◌, ◌≢◌, ℕ, ◌+◌, ◌-◌, ◌^◌, ◌<◌, ◌≤◌, ◌&&◌, nat_lt, nat_le, Bool, if◌then◌else◌, List, map, length, take, drop, sum_by, slice_index_or}
 use Rattle.nr_pool.specs.declared.slot.Slot.{Slot}
 use Rattle.nr_pool.specs.Texts.{Held, Texts}
 
@@ -22,6 +22,10 @@ texts_of elements slots = record { capacity = length elements; texts = map (held
 -- the text of a slot has elements, and begins at an end or behind it
 abbrev pub is_behind : ℕ → Slot → Bool
 is_behind end s = nat_lt 0 s.len && nat_le end s.start
+
+-- a slot, n further down if its text has elements and begins at an end or behind it
+abbrev pub shifted : ℕ → ℕ → Slot → Slot
+shifted end n s = if is_behind end s then record s { start = s.start - n } else s
 
 -- the texts lie in the first `used` elements, apart from one another, and fill them
 pub record IsPacked (capacity : ℕ) (slots : List Slot) (used : ℕ) : Type 0 where

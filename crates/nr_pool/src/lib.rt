@@ -9,7 +9,7 @@ ghost use Rattle.nr_pool.specs.Rooms.{written};
 ghost use Rattle.nr_pool.specs.Texts.{IsOpen, text, holders, used, no_text, opened, with_text, with_holders, without_text, released};
 
 pub use crate::slot::Slot;
-use crate::slot::{bring_last, spare_of};
+use crate::slot::{bring_last, remove_text, spare_of};
 use nr_rooms::lengthen;
 use std::alloc::{AllocError, Global};
 use std::marker::Model;
@@ -41,11 +41,12 @@ impl Model for Id {
 /// happens to other texts; the `Id` of a removed text may be given again. Beside each text stands how many hold it, which
 /// only `open`, `hold`, `release` and `close` change.
 ///
-/// A call that makes a text longer or shorter, or removes it, first brings its elements behind those of all
-/// other texts: in constant time where they lie there or there are none; else in one pass over the slots that
-/// have had a text since all were removed, and as many steps as it has elements where the text that lies last is as long,
-/// for then the two change places; else in such a pass and one rotation of the elements from the text on. Beside that it
-/// takes constant time, and that of a copy of the elements that it is given.
+/// A call that makes a text longer or shorter first brings its elements behind those of all other texts: in constant time
+/// where they lie there or there are none; else in one pass over the slots that have had a text since all were removed, and
+/// as many steps as it has elements where the text that lies last is as long, for then the two change places; else in such
+/// a pass and one rotation of the elements from the text on. A call that removes a text takes constant time where it lies
+/// last or has no elements; else such a pass, and one move of the elements behind it. Beside that each takes constant time,
+/// and that of a copy of the elements that it is given.
 #[derive(Drop)]
 pub struct Pool<T: Copy> {
     // The elements of the texts lie at the front. What lies behind them is of no account.
@@ -185,14 +186,14 @@ impl<T: Copy> Pool<T> {
         ensures keeps { (other : ℕ) → other ≢ id → IsOpen self.old other → IsOpen self.new other }
     {
         let index = id.index as usize;
-        bring_last(&mut self.elements, &mut self.slots, self.used, index);
-        let slot = &mut self.slots[index];
-        self.used -= slot.len;
-        *slot = Slot {
-            start: self.first_spare,
-            len: 0,
-            holders: 0,
-        };
+        let len = remove_text(
+            &mut self.elements,
+            &mut self.slots,
+            self.used,
+            index,
+            self.first_spare,
+        );
+        self.used -= len;
         self.first_spare = id.index;
         self.spares += 1;
     }

@@ -1,6 +1,8 @@
 //! Where the texts of a pool lie.
-ghost use Rattle.std.specs.Prelude.{◌≡◌, ◌≢◌, ℕ, ◌+◌, ◌-◌, ◌^◌, ◌<◌, ◌≤◌, ◌⊎◌, [], ◌∷◌, ◌++◌, length, take, drop, IfSome, None, vec_len, vec_capacity};
-ghost use Rattle.nr_pool.specs.Places.{texts_of, slot_at, blank_slot, is_behind, IsPacked};
+ghost use Rattle.std.specs.Prelude.{◌≡◌, ◌≢◌, ℕ, ◌+◌, ◌-◌, ◌^◌, ◌<◌, ◌≤◌, ◌⊎◌, [], ◌∷◌, ◌++◌, length, map, take, drop, IfSome, None, vec_len, vec_capacity};
+ghost use Rattle.std.specs.List.{SameBelow, CopiedTo};
+ghost use Rattle.nr_pool.specs.Texts.{without_text};
+ghost use Rattle.nr_pool.specs.Places.{texts_of, slot_at, blank_slot, is_behind, shifted, IsPacked};
 ghost use Rattle.nr_pool.specs.Spares.{HasSpares};
 ghost use Rattle.nr_pool.specs.Exchange.{LiesAt, IsSwapped, IsExchanged};
 
@@ -126,6 +128,20 @@ fn rotate<T: Copy>(part: &mut [T], n: usize)
     }
 }
 
+// The texts that begin at `end` or behind it begin n further down.
+#[inline(always)]
+fn shift_behind(slots: &mut [Slot], end: u32, n: u32)
+    requires { n ≤ end }
+    ensures { slots.new ≡ map (shifted end n) slots.old }
+{
+    for i in 0..slots.len() {
+        let slot = &mut slots[i];
+        if slot.is_behind(end) {
+            slot.start -= n;
+        }
+    }
+}
+
 // Moves the text at `index` behind all others: the elements from it on are rotated, and the texts behind it begin earlier.
 fn rotate_last<T: Copy>(elements: &mut [T], slots: &mut [Slot], used: u32, index: usize)
     requires packed { IsPacked (length elements.old) slots.old used }
@@ -146,12 +162,7 @@ fn rotate_last<T: Copy>(elements: &mut [T], slots: &mut [Slot], used: u32, index
         return;
     }
     rotate(&mut elements[start as usize..used as usize], len as usize);
-    for i in 0..slots.len() {
-        let slot = &mut slots[i];
-        if slot.is_behind(end) {
-            slot.start -= len;
-        }
-    }
+    shift_behind(slots, end, len);
     slots[index].start = used - len;
 }
 
@@ -206,4 +217,59 @@ pub(crate) fn bring_last<T: Copy>(
         return;
     }
     move_last(elements.as_mut_slice(), slots.as_mut_slice(), used, index);
+}
+
+// Closes a gap of n elements that begins at `start`: what lies behind it moves to the front.
+#[inline(never)]
+fn close_gap<T: Copy>(elements: &mut [T], slots: &mut [Slot], used: u32, start: u32, n: u32)
+    requires gap { start + n ≤ used }
+    requires used { used ≤ length elements.old }
+    ensures len { length elements.new ≡ length elements.old }
+    ensures before { SameBelow elements.old elements.new start }
+    ensures behind { CopiedTo elements.old elements.new (start + n) start (used - (start + n)) }
+    ensures slots { slots.new ≡ map (shifted (start + n) n) slots.old }
+{
+    let end = start + n;
+    elements.copy_within(end as usize..used as usize, start as usize);
+    shift_behind(slots, end, n);
+}
+
+// Removes the text at `index`, and gives how many elements it had. Its slot is the first spare one now, before `next`.
+#[inline(always)]
+pub(crate) fn remove_text<T: Copy>(
+    elements: &mut Vec<T>,
+    slots: &mut Vec<Slot>,
+    used: u32,
+    index: usize,
+    next: u32,
+) -> u32
+    requires packed { IsPacked (length elements.old.items) slots.old.items used }
+    requires within { index < length slots.old.items }
+    requires held { 0 < (slot_at slots.old.items index).holders }
+    ensures len { result ≡ (slot_at slots.old.items index).len }
+    ensures within { result ≤ used }
+    ensures packed { IsPacked (length elements.new.items) slots.new.items (used - result) }
+    ensures spares { (count : ℕ) → HasSpares slots.old.items count next → HasSpares slots.new.items (count + 1) index }
+    ensures removed { texts_of elements.new.items slots.new.items ≡ without_text (texts_of elements.old.items slots.old.items) index }
+    ensures elements { length elements.new.items ≡ length elements.old.items }
+    ensures slots { length slots.new.items ≡ length slots.old.items }
+    ensures elements_room { vec_capacity elements.new ≡ vec_capacity elements.old }
+    ensures slots_room { vec_capacity slots.new ≡ vec_capacity slots.old }
+{
+    let Slot { start, len, .. } = slots[index];
+    slots[index] = Slot {
+        start: next,
+        len: 0,
+        holders: 0,
+    };
+    if len > 0 && start + len < used {
+        close_gap(
+            elements.as_mut_slice(),
+            slots.as_mut_slice(),
+            used,
+            start,
+            len,
+        );
+    }
+    len
 }
