@@ -1,4 +1,5 @@
 pub mod Asking
+pub mod Braces
 pub mod Conditionals
 pub mod Conditions
 pub mod ConditionRows

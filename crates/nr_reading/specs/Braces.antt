@@ -1,0 +1,13 @@
+-- A closing brace that a row of items begins with.
+use Rattle.std.specs.Prelude.{ℕ, ◌==◌, ◌&&◌, Bool, false, List, slice_get, Option, None, Some}
+use Rattle.nr_reading.specs.declared.front.Front.{Front}
+use Rattle.nr_reading.specs.declared.front.Front.TheVariants as fronts
+
+-- the item is this byte
+abbrev pub is_byte : ℕ → Option Front → Bool
+is_byte b (Some (fronts.Byte c)) = c == b
+is_byte b f = false
+
+-- the first two items are `\` and `}`
+abbrev pub begins_with_brace : List Front → Bool
+begins_with_brace fs = is_byte 92 (slice_get fs 0) && is_byte 125 (slice_get fs 1)
