@@ -2,7 +2,7 @@
 use Rattle.std.specs.Prelude.{◌==◌, ◌&&◌, map, slice_get}
 use Rattle.std.specs.Option.{option_map}
 use Rattle.std.proofs.Common.{◌≡◌, ℕ, zero, suc, ◌+◌, ◌<◌, ◌≤◌, Bool, true, false, List, length, drop, Option, None, Some, refl, ap, sym, ◌∙◌, subst, arith}
-use Rattle.std.proofs.lemmas.Bool.{and_parts, eqb-true}
+use Rattle.std.proofs.lemmas.Bool.{and_from, and_parts, eq-eqb, eqb-true}
 use Rattle.std.proofs.lemmas.List.{length-map}
 use Rattle.std.proofs.lemmas.Option.{slice_get-map, slice_get_within}
 use Rattle.nr_store.specs.Stored.{Stored, charge_of}
@@ -40,26 +40,24 @@ byte_is b (Some (fronts.Byte c)) is = ap (λ n. Some (fronts.Byte n)) (eqb-true 
 byte_is b (Some f) is = absurd (let wrong : false ≡ true = is in cc)
 
 module _ (items : ℕ) (fs : List Front) (rest : List Element) (row : fs ≡ drop items (map element_front rest)) where
-  front_at : (n : ℕ) → slice_get fs n ≡ option_map element_front (slice_get rest (items + n))
-  front_at n = row_at items n fs rest row
+  pub byte_shown : (n b : ℕ) → is_byte b (slice_get fs n) ≡ true → slice_get rest (items + n) ≡ Some (elements.Byte b)
+  byte_shown n b is = byte_at (slice_get rest (items + n)) b (sym (row_at items n fs rest row) ∙ byte_is b (slice_get fs n) is)
 
-  shows_at : (n b : ℕ) → slice_get fs n ≡ Some (fronts.Byte b) → slice_get rest (items + n) ≡ Some (elements.Byte b)
-  shows_at n b is = byte_at (slice_get rest (items + n)) b (sym (front_at n) ∙ is)
+  pub shown_byte : (n b : ℕ) → slice_get rest (items + n) ≡ Some (elements.Byte b) → is_byte b (slice_get fs n) ≡ true
+  shown_byte n b is = rw (row_at items n fs rest row, is) (eq-eqb b b refl)
 
   pub has_brace : begins_with_brace fs ≡ true → HasBrace items rest
   has_brace begins =
       let both = and_parts (is_byte 92 (slice_get fs 0)) (is_byte 125 (slice_get fs 1)) begins in
-      let here : items + 0 ≡ items = omega arith in
-      let next : items + 1 ≡ suc items = omega arith in
-      (ap (slice_get rest) (sym here) ∙ shows_at 0 92 (byte_is 92 (slice_get fs 0) both.0), ap (slice_get rest) (sym next) ∙ shows_at 1 125 (byte_is 125 (slice_get fs 1) both.1))
+      let here : items ≡ items + 0 = omega arith in
+      let next : suc items ≡ items + 1 = omega arith in
+      (ap (slice_get rest) here ∙ byte_shown 0 92 both.0, ap (slice_get rest) next ∙ byte_shown 1 125 both.1)
 
   pub brace_begins : HasBrace items rest → begins_with_brace fs ≡ true
   brace_begins brace =
       let here : items + 0 ≡ items = omega arith in
       let next : items + 1 ≡ suc items = omega arith in
-      let first : slice_get fs 0 ≡ Some (fronts.Byte 92) = front_at 0 ∙ ap (λ k. option_map element_front (slice_get rest k)) here ∙ ap (option_map element_front) brace.0 in
-      let second : slice_get fs 1 ≡ Some (fronts.Byte 125) = front_at 1 ∙ ap (λ k. option_map element_front (slice_get rest k)) next ∙ ap (option_map element_front) brace.1 in
-      rw (first, second) refl
+      and_from (is_byte 92 (slice_get fs 0)) (is_byte 125 (slice_get fs 1)) (shown_byte 0 92 (ap (slice_get rest) here ∙ brace.0)) (shown_byte 1 125 (ap (slice_get rest) next ∙ brace.1))
 
 -- ---- what is half read is as before behind it
 
@@ -133,7 +131,3 @@ module _ {K : Type 0} (bytes : List ℕ) (items moves : ℕ) (splices : List Spl
   pub behind_within : (closes : Bool) → (closes ≡ true → HasBrace items (rest_of v.levels)) → items + brace_items closes ≤ length (rest_of v.levels)
   behind_within true brace = let within = slice_get_within (rest_of v.levels) (suc items) (elements.Byte 125) (brace refl).1 in omega (arith, within)
   behind_within false brace = let within = gathered.there in omega (arith, within)
-
-pub few_items : (closes : Bool) → brace_items closes ≤ 2
-few_items true = omega arith
-few_items false = omega arith

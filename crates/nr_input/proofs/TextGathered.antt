@@ -424,11 +424,6 @@ all_bytes (b ∷ bs) (x ∷ xs) are same =
 pub row_at : (items n : ℕ) (fs : List Front) (rest : List Element) → fs ≡ drop items (map element_front rest) → slice_get fs n ≡ option_map element_front (slice_get rest (items + n))
 row_at items n fs rest row = ap (λ (xs : List Front). slice_get xs n) row ∙ slice_get-drop items n (map element_front rest) ∙ slice_get-map element_front rest (items + n)
 
-pub first_byte : (items b : ℕ) (fs : List Front) (rest : List Element) → fs ≡ drop items (map element_front rest) → slice_get fs 0 ≡ Some (fronts.Byte b) → slice_get rest items ≡ Some (elements.Byte b)
-first_byte items b fs rest row is =
-    let same : items ≡ items + 0 = omega arith in
-    ap (slice_get rest) same ∙ byte_at (slice_get rest (items + 0)) b (sym (row_at items 0 fs rest row) ∙ is)
-
 module _ {K : Type 0} (g : Gathered) (n : ℕ) (old new : List ℕ) (fs : List Front) (v : Stored K) (row : fs ≡ drop g.items (map element_front (rest_of v.levels))) where
   -- a run was copied
   pub run_copied : (r q : Reader) → IsGathering (take g.count old) v r q g → take g.count new ≡ take g.count old → AreBytes (take n (drop g.count new)) fs → g.count + n ≤ length new → length new ≤ 4096

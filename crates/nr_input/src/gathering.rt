@@ -7,6 +7,7 @@ ghost use Rattle.nr_store.specs.declared.element.Element.TheVariants as elements
 ghost use Rattle.nr_store.specs.declared.shown.Shown.TheVariants as shows;
 ghost use Rattle.nr_reading.specs.declared.event.Event.TheVariants as events;
 ghost use Rattle.nr_reading.specs.declared.front.Front.TheVariants as variants;
+ghost use Rattle.nr_reading.specs.Braces.{is_byte};
 ghost use Rattle.nr_reading.specs.Interpolations.{AsksOnly};
 ghost use Rattle.nr_reading.specs.InText.{is_in_text};
 ghost use Rattle.nr_reading.specs.Runs.{HasMet};
@@ -139,8 +140,7 @@ pub(super) fn copy_run<I: Items>(row: &I, chunk: &mut [u8]) -> usize
 // Whether a row has this byte behind so many items.
 #[inline(always)]
 fn has_byte<I: Items>(row: &I, place: usize, byte: u8) -> bool
-    ensures is { result ≡ true → slice_get (I.fronts row.now) place ≡ Some (variants.Byte byte) }
-    ensures other { result ≡ false → slice_get (I.fronts row.now) place ≡ Some (variants.Byte byte) → ⊥ }
+    ensures { result ≡ is_byte byte (slice_get (I.fronts row.now) place) }
 {
     place < row.count() && row.byte(place) == Some(byte)
 }

@@ -1,7 +1,7 @@
 use Rattle.std.proofs.Common.{◌≡◌, ◌+◌, take, arith}
 use Rattle.std.proofs.lemmas.List.{take_all}
 use Rattle.nr_input.specs.Gathering.{brace_items}
-use Rattle.nr_input.proofs.TextBraces.{behind_within, few_items, leaves_behind}
+use Rattle.nr_input.proofs.TextBraces.{behind_within, leaves_behind}
 use Rattle.nr_input.proofs.TextBytes.{shown_behind}
 use Rattle.nr_input.proofs.TextLeft.{burst_within}
 use Rattle.nr_input.proofs.gathering.leave.Goals as goal
