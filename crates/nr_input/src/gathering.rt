@@ -145,6 +145,17 @@ fn has_byte<I: Items>(row: &I, place: usize, byte: u8) -> bool
     place < row.count() && row.byte(place) == Some(byte)
 }
 
+// Whether a newline is in front of a row, or with `closes` behind the `\}` that it begins with.
+#[inline(always)]
+fn has_newline<I: Items>(row: &I, closes: bool) -> bool
+    ensures { result ≡ is_byte 10 (slice_get (I.fronts row.now) (brace_items closes)) }
+{
+    if closes {
+        return has_byte(row, 2, b'\n');
+    }
+    has_byte(row, 0, b'\n')
+}
+
 impl Reader {
     // So many splices more are counted, and this name was asked for last.
     #[inline(always)]
@@ -372,7 +383,7 @@ fn gather_row<K: Copy, I: Tail>(
     let count = gather_run(&row, chunk, gathered);
     let rest = gather_escapes(reader, store, row.behind(count), chunk, gathered);
     gathered.closes = reader.half.meets_brace(&rest);
-    gathered.ends = has_byte(&rest, gathered.brace(), b'\n');
+    gathered.ends = has_newline(&rest, gathered.closes);
 }
 
 /// Gathers the bytes that come next of the newest level into the chunk, with those of the arguments, registers and strings that are

@@ -3,7 +3,7 @@ use Rattle.std.proofs.Common.{◌∙◌, ◌≡◌, drop, take, refl, ap, sym, a
 use Rattle.std.proofs.lemmas.List.{length-take-le}
 use Rattle.nr_store.specs.Windows.{rest_of}
 use Rattle.nr_input.specs.Coming.{element_front}
-use Rattle.nr_input.specs.Gathering.{IsGathering}
+use Rattle.nr_input.specs.Gathering.{IsGathering, brace_items}
 use Rattle.nr_input.specs.declared.gathering.Gathered.{Gathered}
 use Rattle.nr_input.proofs.TextBraces.{brace_begins, byte_shown, has_brace, shown_byte}
 use Rattle.nr_input.proofs.TextGathered.{nothing_is, run_copied, run_stops}
@@ -47,7 +47,7 @@ returns-clause-gathered g c =
       count = sym (length-take-le there.count chunk c.gather_escapes-rest.ensures.count);
       gathered = c.gather_escapes-rest.ensures.gathered;
       closes = λ yes. has_brace there.items fs rest row (sym c.meets_brace-gathered.ensures.brace ∙ yes);
-      ends = λ yes. rw⁻¹ c.brace.ensures (byte_shown there.items fs rest row c.brace.result 10 (sym c.has_byte-gathered.ensures ∙ yes));
+      ends = λ yes. byte_shown there.items fs rest row (brace_items c.meets_brace-gathered.result) 10 (sym c.has_newline-gathered.ensures ∙ yes);
     }
 
 pub returns-clause-most : goal.returns-clause-most
@@ -59,5 +59,5 @@ returns-clause-most g c =
     record {
       stops = c.gather_escapes-rest.ensures.stops;
       closes = λ brace. c.meets_brace-gathered.ensures.brace ∙ brace_begins there.items fs rest row brace;
-      ends = λ shown. c.has_byte-gathered.ensures ∙ shown_byte there.items fs rest row c.brace.result 10 (rw c.brace.ensures shown);
+      ends = λ shown. c.has_newline-gathered.ensures ∙ shown_byte there.items fs rest row (brace_items c.meets_brace-gathered.result) 10 shown;
     }
