@@ -33,18 +33,22 @@ use Rattle.nr_input.proofs.TextGathered.{byte_at, depth-behind, row_at}
 
 -- ---- the row shows it where the level does
 
+-- an item that is a byte
 byte_is : (b : ℕ) (f : Option Front) → is_byte b f ≡ true → f ≡ Some (fronts.Byte b)
 byte_is b None is = absurd (let wrong : false ≡ true = is in cc)
 byte_is b (Some (fronts.Byte c)) is = ap (λ n. Some (fronts.Byte n)) (eqb-true c b is)
 byte_is b (Some f) is = absurd (let wrong : false ≡ true = is in cc)
 
 module _ (items : ℕ) (fs : List Front) (rest : List Element) (row : fs ≡ drop items (map element_front rest)) where
+  -- a byte of the row is one of the level
   pub byte_shown : (n b : ℕ) → is_byte b (slice_get fs n) ≡ true → slice_get rest (items + n) ≡ Some (elements.Byte b)
   byte_shown n b is = byte_at (slice_get rest (items + n)) b (sym (row_at items n fs rest row) ∙ byte_is b (slice_get fs n) is)
 
+  -- and a byte of the level one of the row
   pub shown_byte : (n b : ℕ) → slice_get rest (items + n) ≡ Some (elements.Byte b) → is_byte b (slice_get fs n) ≡ true
   shown_byte n b is = rw (row_at items n fs rest row, is) (eq-eqb b b refl)
 
+  -- so it is with the brace
   pub has_brace : begins_with_brace fs ≡ true → HasBrace items rest
   has_brace begins =
       let both = and_parts (is_byte 92 (slice_get fs 0)) (is_byte 125 (slice_get fs 1)) begins in
@@ -60,17 +64,20 @@ module _ (items : ℕ) (fs : List Front) (rest : List Element) (row : fs ≡ dro
 
 -- ---- what is half read is as before behind it
 
--- an escape begins, and ends again
+-- what is half read, with this part of an escape
 abbrev with_escape : Escape → Half → Half
 with_escape e h = record h { reading = record h.reading { escape = e } }
 
+-- an escape begins
 begins : (h : Half) → IsInText h → MeetsByte 92 h (with_escape escapes.Begun h) events.Nothing true
 begins h is = rw (is.asks, is.mode, is.escape) refl
 
+-- and ends again
 ends : (h : Half) → IsInText h → MeetsByte 125 (with_escape escapes.Begun h) (with_escape escapes.Plain h) events.Nothing true
 ends h is = rw (is.asks, is.mode) refl
 
-pub brace_met : (fs : List Front) (h : Half) → IsInText h → slice_get fs 0 ≡ Some (fronts.Byte 92) → slice_get fs 1 ≡ Some (fronts.Byte 125) → HasMet 2 fs h (quiet 2 h)
+-- both are met
+brace_met : (fs : List Front) (h : Half) → IsInText h → slice_get fs 0 ≡ Some (fronts.Byte 92) → slice_get fs 1 ≡ Some (fronts.Byte 125) → HasMet 2 fs h (quiet 2 h)
 brace_met fs h is first second =
     let within = slice_get_within fs 1 (fronts.Byte 125) second in
     let one = taken_more fs 0 0 0 0 92 h h (with_escape escapes.Begun h) (stays fs 0 0 h) (omega (arith, within)) is.due first (begins h is) in
@@ -80,6 +87,7 @@ brace_met fs h is first second =
 -- ---- it is taken in two moves
 
 module _ {K : Type 0} (x : Stored K) (q : Reader) (text : is_in_text q.half ≡ true) (brace : HasBrace 0 (rest_of x.levels)) where
+  -- the level has both
   brace_within : 2 ≤ length (rest_of x.levels)
   brace_within = let within = slice_get_within (rest_of x.levels) 1 (elements.Byte 125) brace.1 in omega (arith, within)
 
@@ -89,6 +97,7 @@ module _ {K : Type 0} (x : Stored K) (q : Reader) (text : is_in_text q.half ≡ 
       brace_met fs q.half (in_text q.half text) (slice_get-map element_front (rest_of x.levels) 0 ∙ ap (option_map element_front) brace.0)
       (slice_get-map element_front (rest_of x.levels) 1 ∙ ap (option_map element_front) brace.1)
 
+  -- the moves tell nothing
   brace_leads : LeadsInText 2 x q (left_times 2 x) q
   brace_leads =
       let run = left_times-run 2 x brace_within in
@@ -101,6 +110,8 @@ module _ {K : Type 0} (x : Stored K) (q : Reader) (text : is_in_text q.half ≡ 
         depth = λ fits. subst (λ (w : Stored K). length w.levels ≤ w.deepest) (sym run) (omega (arith, fits, depth-behind 2 x.levels));
       }
 
+-- ---- what was gathered is left behind it
+
 module _ {K : Type 0} (bytes : List ℕ) (items moves : ℕ) (splices : List Splice) (v : Stored K) (r : Reader) (gathered : AreGathered bytes items moves splices v r) (text : is_in_text r.half ≡ true) where
   abbrev reader : Reader
   reader = spliced (length splices) (last_asked splices r.half.notes.asked) r
@@ -108,7 +119,7 @@ module _ {K : Type 0} (bytes : List ℕ) (items moves : ℕ) (splices : List Spl
   abbrev behind : ℕ → Stored K
   behind n = left_times (items + n) v
 
-  -- what was gathered is left behind it
+  -- where it stands behind the bytes
   brace_leaves : HasBrace items (rest_of v.levels) → Leaves true (moves + 2) bytes v r (behind 2) reader
   brace_leaves brace =
       let there = rest-left_times items v gathered.there in
@@ -119,7 +130,7 @@ module _ {K : Type 0} (bytes : List ℕ) (items moves : ℕ) (splices : List Spl
       (leaves_on moves 2 bytes v (left_times items v) (left_times 2 (left_times items v)) r reader reader gathered.whole
       (brace_leads (left_times items v) reader text (shown 0 ∙ ap (slice_get (rest_of v.levels)) here ∙ brace.0, shown 1 ∙ ap (slice_get (rest_of v.levels)) next ∙ brace.1)))
 
-  -- the same, where it may stand behind them
+  -- whether it does or not
   pub leaves_behind : (closes : Bool) → (closes ≡ true → HasBrace items (rest_of v.levels)) → Leaves true (moves + brace_items closes) bytes v r (behind (brace_items closes)) reader
   leaves_behind true brace = brace_leaves (brace refl)
   leaves_behind false brace =
@@ -127,6 +138,7 @@ module _ {K : Type 0} (bytes : List ℕ) (items moves : ℕ) (splices : List Spl
       let same : items ≡ items + 0 = omega arith in
       subst (λ n. Leaves true n bytes v r (behind 0) reader) count (subst (λ n. Leaves true moves bytes v r (left_times n v) reader) same gathered.whole)
 
+  -- the level has as many items
   pub behind_within : (closes : Bool) → (closes ≡ true → HasBrace items (rest_of v.levels)) → items + brace_items closes ≤ length (rest_of v.levels)
   behind_within true brace = let within = slice_get_within (rest_of v.levels) (suc items) (elements.Byte 125) (brace refl).1 in omega (arith, within)
   behind_within false brace = let within = gathered.there in omega (arith, within)
