@@ -5,7 +5,7 @@ use Rattle.nr_store.specs.Stored.{Stored, shown}
 use Rattle.nr_store.specs.Windows.{left_times, rest_of, run_left}
 use Rattle.nr_store.specs.declared.element.Element.TheVariants as elements
 use Rattle.nr_store.specs.declared.shown.Shown.TheVariants as shows
-use Rattle.nr_input.specs.Gathering.{IsGathered, Leaves, StopsGathering}
+use Rattle.nr_input.specs.Gathering.{GathersMost, IsGathered, Leaves}
 use Rattle.nr_input.specs.declared.gathering.Gathered.{Gathered}
 use Rattle.nr_input.specs.declared.reader.Reader.{Reader}
 use Rattle.nr_input.proofs.TextBytes.{stays_there}
@@ -96,7 +96,7 @@ pub gathered_still : (bs : List ℕ) (f g : Formatter) (gathered : Gathered) →
 gathered_still bs f g gathered store reader are =
     subst (λ (x : Stored Resume). IsGathered bs x g.reader gathered) (sym store) (subst (λ (x : Reader). IsGathered bs f.store x gathered) (sym reader) are)
 
-pub longest_none : (bs : List ℕ) (f : Formatter) (gathered : Gathered) → IsGathered bs f.store f.reader gathered → StopsGathering (rest_of f.store.levels) gathered.items gathered.count → length bs ≡ 0 → gathered.ends ≡ false
+pub longest_none : (bs : List ℕ) (f : Formatter) (gathered : Gathered) → IsGathered bs f.store f.reader gathered → GathersMost (rest_of f.store.levels) gathered → length bs ≡ 0 → gathered.ends ≡ false
     → LongestOfLevels f.store f.reader f
 longest_none bs f gathered are most none stops = record {
   bytes = bs;
@@ -125,7 +125,7 @@ longest_none bs f gathered are most none stops = record {
 }
 
 module _ (bs : List ℕ) (taken moves besides : ℕ) (goes : Bool) (f g : Formatter) (w : Stored Resume) (q : Reader) (gathered : Gathered) (are : IsGathered bs f.store f.reader gathered)
-    (most : StopsGathering (rest_of f.store.levels) gathered.items gathered.count)
+    (most : GathersMost (rest_of f.store.levels) gathered)
     (puts : PutsOfFlow bs taken moves f g) (leaves : Leaves goes besides (take taken bs) g.store g.reader w q) where
   -- no newline behind them was put
   pub longest_left : LongestWords bs taken g → (taken ≡ length bs → gathered.ends ≡ true → IsNewline (with_read w q g) → ⊥) → LongestOfLevels f.store f.reader (with_read w q g)

@@ -6,7 +6,7 @@ use Rattle.nr_options.specs.Limits.{Bounds}
 use Rattle.nr_options.specs.declared.options.Options.{Options}
 use Rattle.nr_input.specs.AtHand.{ComeNext, is_unseen}
 use Rattle.nr_input.specs.Coming.{Coming, HoldsComing, has_failed, nothing_reached}
-use Rattle.nr_input.specs.Gathering.{Brings, IsGathered, Leaves, StopsGathering}
+use Rattle.nr_input.specs.Gathering.{Brings, GathersMost, IsGathered, Leaves}
 use Rattle.nr_input.specs.Runs.{passed_run}
 use Rattle.nr_input.specs.declared.gathering.Gathered.{Gathered}
 use Rattle.nr_input.specs.declared.reader.Reader.{Reader}
@@ -160,7 +160,7 @@ pub record LongestOfLevels (v : StoredOf Resume) (r : Reader) (f : Formatter) : 
   pub bytes : List ℕ
   pub gathered : Gathered
   pub are : IsGathered bytes v r gathered
-  pub most : StopsGathering (rest_of v.levels) gathered.items gathered.count
+  pub most : GathersMost (rest_of v.levels) gathered
   pub taken : ℕ
   pub goes : Bool
   pub moves : ℕ

@@ -4,7 +4,7 @@ ghost use Rattle.nr_store.specs.Stored.{shown};
 ghost use Rattle.nr_store.specs.Windows.{rest_of};
 ghost use Rattle.nr_store.specs.declared.element.Element.TheVariants as elements;
 ghost use Rattle.nr_store.specs.declared.shown.Shown.TheVariants as shows;
-ghost use Rattle.nr_input.specs.Gathering.{IsGathered, StopsGathering};
+ghost use Rattle.nr_input.specs.Gathering.{GathersMost, IsGathered};
 ghost use Rattle.nr_formatter.specs.Runs.{is_in_line};
 ghost use Rattle.nr_engine.specs.Holding.{shape};
 ghost use Rattle.nr_engine.specs.Running.{EndsLine, LongestOfLevels, MakesInPlace, MakesInText};
@@ -49,10 +49,10 @@ fn put_level_newline(formatter: &mut Formatter) -> usize
 fn put_gathered(formatter: &mut Formatter, bytes: &[u8], gathered: &Gathered) -> usize
     requires line { is_in_line formatter.old ≡ true }
     requires gathered { IsGathered bytes.now formatter.old.store formatter.old.reader gathered.now }
-    requires most { StopsGathering (rest_of formatter.old.store.levels) gathered.now.items gathered.now.count }
+    requires most { GathersMost (rest_of formatter.old.store.levels) gathered.now }
     requires few { length bytes.now ≤ 128 }
     ensures puts { MakesInText result formatter.old formatter.new }
-    ensures few { result ≤ 709 }
+    ensures few { result ≤ 711 }
     ensures longest { LongestOfLevels formatter.old.store formatter.old.reader formatter.new }
 {
     if bytes.is_empty() && !gathered.ends {
@@ -84,7 +84,7 @@ impl Engine {
     fn put_level_line(&mut self) -> u128
         requires line { is_in_line self.old.formatter ≡ true }
         ensures puts { MakesInPlace result (shape self.old) (shape self.new) }
-        ensures few { result ≤ 709 }
+        ensures few { result ≤ 711 }
         ensures longest { LongestOfLevels self.old.formatter.store self.old.formatter.reader self.new.formatter }
     {
         let mut bytes = [0; LONGEST_LINE];
@@ -105,7 +105,7 @@ impl Engine {
     pub(crate) fn put_level_text(&mut self) -> u128
         requires line { is_in_line self.old.formatter ≡ true }
         ensures puts { MakesInPlace result (shape self.old) (shape self.new) }
-        ensures few { result ≤ 4096 * (65541 * 4096 + 709) }
+        ensures few { result ≤ 4096 * (65541 * 4096 + 711) }
     {
         let mut moves = 0u128;
         for _ in 0..MOST_PARTS {

@@ -28,6 +28,7 @@ pub mod SplicesLie
 pub mod Staying
 pub mod Taking
 pub mod Targets
+pub mod TextBraces
 pub mod TextBytes
 pub mod TextGathered
 pub mod TextLeft

@@ -53,7 +53,7 @@ register_splice bytes v r due is = record { waits = rw due refl; acts = rw (due,
 pub string_splice : {K : Type 0} (bytes : List ℕ) (v : Stored K) (r : Reader) → r.half.reading.due ≡ dues.Splice → words (find r.half.notes.asked v.names) ≡ Some (map elements.Byte bytes) → OpensLevel bytes v r
 string_splice bytes v r due is = record { waits = rw due refl; acts = rw (due, is) refl; answers = rw (due, is) refl; text = λ named. is }
 
-depth-behind : {K : Type 0} (n : ℕ) (levels : List (Level K)) → length (levels_behind n levels) ≡ length levels
+pub depth-behind : {K : Type 0} (n : ℕ) (levels : List (Level K)) → length (levels_behind n levels) ≡ length levels
 depth-behind n [] = refl
 depth-behind n (Read l ∷ ls) = refl
 depth-behind n (Mark mode ∷ ls) = refl
@@ -404,7 +404,7 @@ nothing_is v r = record {
 }
 
 -- an element that shows a byte is that byte
-byte_at : (o : Option Element) (b : ℕ) → option_map element_front o ≡ Some (fronts.Byte b) → o ≡ Some (elements.Byte b)
+pub byte_at : (o : Option Element) (b : ℕ) → option_map element_front o ≡ Some (fronts.Byte b) → o ≡ Some (elements.Byte b)
 byte_at None b is = absurd (let wrong : None ≡ Some (fronts.Byte b) = is in cc)
 byte_at (Some (elements.Byte x)) b is = let shows : Some (fronts.Byte x) ≡ Some (fronts.Byte b) = is in (let same : x ≡ b = cc in ap (λ y. Some (elements.Byte y)) same)
 byte_at (Some (elements.Cell x)) b is = absurd (let wrong : Some (fronts.Cell x) ≡ Some (fronts.Byte b) = is in cc)
@@ -421,13 +421,8 @@ all_bytes (b ∷ bs) (x ∷ xs) are same =
     ap₂ (λ (y : Element) (ys : List Element). y ∷ ys) is (all_bytes bs xs (λ n less. are (suc n) (omega (arith, less))) (omega (arith, same)))
 
 -- a row of the level from an item on
-row_at : (items n : ℕ) (fs : List Front) (rest : List Element) → fs ≡ drop items (map element_front rest) → slice_get fs n ≡ option_map element_front (slice_get rest (items + n))
+pub row_at : (items n : ℕ) (fs : List Front) (rest : List Element) → fs ≡ drop items (map element_front rest) → slice_get fs n ≡ option_map element_front (slice_get rest (items + n))
 row_at items n fs rest row = ap (λ (xs : List Front). slice_get xs n) row ∙ slice_get-drop items n (map element_front rest) ∙ slice_get-map element_front rest (items + n)
-
-pub first_byte : (items b : ℕ) (fs : List Front) (rest : List Element) → fs ≡ drop items (map element_front rest) → slice_get fs 0 ≡ Some (fronts.Byte b) → slice_get rest items ≡ Some (elements.Byte b)
-first_byte items b fs rest row is =
-    let same : items ≡ items + 0 = omega arith in
-    ap (slice_get rest) same ∙ byte_at (slice_get rest (items + 0)) b (sym (row_at items 0 fs rest row) ∙ is)
 
 module _ {K : Type 0} (g : Gathered) (n : ℕ) (old new : List ℕ) (fs : List Front) (v : Stored K) (row : fs ≡ drop g.items (map element_front (rest_of v.levels))) where
   -- a run was copied

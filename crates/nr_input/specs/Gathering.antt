@@ -98,11 +98,21 @@ pub record AreGathered {K : Type 0} (bytes : List ℕ) (items moves : ℕ) (spli
   pub first : AreItems 0 0 (slice_get splices 0) bytes items (rest_of v.levels)
   pub each : (k : ℕ) (s : Splice) → slice_get splices k ≡ Some s → IsSpliced k s (slice_get splices (suc k)) bytes items v r
 
--- these bytes were gathered
+-- `\}` stands in a level, behind so many of its items
+abbrev pub HasBrace : ℕ → List Element → Type 0
+HasBrace items rest = (slice_get rest items ≡ Some (elements.Byte 92)) × (slice_get rest (suc items) ≡ Some (elements.Byte 125))
+
+-- how many items that is, where it stands there
+abbrev pub brace_items : Bool → ℕ
+brace_items true = 2
+brace_items false = 0
+
+-- These bytes were gathered. Where it closes, `\}` stands behind them; where it ends, a newline behind that.
 pub record IsGathered {K : Type 0} (bytes : List ℕ) (v : Stored K) (r : Reader) (g : Gathered) : Type 0 where
   pub count : g.count ≡ length bytes
   pub gathered : AreGathered bytes g.items g.moves g.splices v r
-  pub ends : g.ends ≡ true → slice_get (rest_of v.levels) g.items ≡ Some (elements.Byte 10)
+  pub closes : g.closes ≡ true → HasBrace g.items (rest_of v.levels)
+  pub ends : g.ends ≡ true → slice_get (rest_of v.levels) (g.items + brace_items g.closes) ≡ Some (elements.Byte 10)
 
 -- and the reader is where that many were spliced
 pub record IsGathering {K : Type 0} (bytes : List ℕ) (v : Stored K) (r q : Reader) (g : Gathered) : Type 0 where
@@ -111,7 +121,7 @@ pub record IsGathering {K : Type 0} (bytes : List ℕ) (v : Stored K) (r q : Rea
 
 -- nothing
 abbrev pub nothing_gathered : Gathered
-nothing_gathered = record { items = 0; count = 0; ends = false; moves = 0; splices = [] }
+nothing_gathered = record { items = 0; count = 0; closes = false; ends = false; moves = 0; splices = [] }
 
 -- with so many bytes of the level more
 abbrev pub passed : ℕ → Gathered → Gathered
@@ -137,3 +147,9 @@ EndsRun item = (b : ℕ) → item ≡ Some (fronts.Byte b) → (b ≡ 10 → ⊥
 -- As many were gathered as could be: behind the items that were met the level shows no byte but a newline or a `\`, or 64 bytes were.
 abbrev pub StopsGathering : List Element → ℕ → ℕ → Type 0
 StopsGathering rest items count = (b : ℕ) → slice_get rest items ≡ Some (elements.Byte b) → (b ≡ 10 → ⊥) → (b ≡ 92 → ⊥) → 64 ≤ count
+
+-- The same, and a `\}` that stands behind them was not left, nor the newline behind that.
+pub record GathersMost (rest : List Element) (g : Gathered) : Type 0 where
+  pub stops : StopsGathering rest g.items g.count
+  pub closes : HasBrace g.items rest → g.closes ≡ true
+  pub ends : slice_get rest (g.items + brace_items g.closes) ≡ Some (elements.Byte 10) → g.ends ≡ true

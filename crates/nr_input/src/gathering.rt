@@ -7,12 +7,13 @@ ghost use Rattle.nr_store.specs.declared.element.Element.TheVariants as elements
 ghost use Rattle.nr_store.specs.declared.shown.Shown.TheVariants as shows;
 ghost use Rattle.nr_reading.specs.declared.event.Event.TheVariants as events;
 ghost use Rattle.nr_reading.specs.declared.front.Front.TheVariants as variants;
+ghost use Rattle.nr_reading.specs.Braces.{is_byte};
 ghost use Rattle.nr_reading.specs.Interpolations.{AsksOnly};
 ghost use Rattle.nr_reading.specs.InText.{is_in_text};
 ghost use Rattle.nr_reading.specs.Runs.{HasMet};
 ghost use Rattle.nr_input.specs.declared.reader.Reader.{Reader as ReaderValue};
 ghost use Rattle.nr_input.specs.Coming.{element_front};
-ghost use Rattle.nr_input.specs.Gathering.{AreBytes, AreGathered, EndsRun, IsGathered, IsGathering, Leaves, StopsGathering, last_asked, nothing_gathered, own_bytes, passed, spliced, with_splice};
+ghost use Rattle.nr_input.specs.Gathering.{AreBytes, AreGathered, EndsRun, GathersMost, IsGathered, IsGathering, Leaves, StopsGathering, brace_items, last_asked, nothing_gathered, own_bytes, passed, spliced, with_splice};
 ghost use Rattle.nr_input.specs.Interpolations.{MaySplice, opened};
 
 use super::interpolations::LONGEST;
@@ -34,7 +35,9 @@ pub struct Gathered {
     pub items: usize,
     /// How many bytes.
     pub count: usize,
-    /// Whether a newline comes behind them.
+    /// Whether `\}` comes behind them, which does nothing.
+    pub closes: bool,
+    /// Whether a newline comes behind that.
     pub ends: bool,
     /// How many moves lead behind the items, besides those that the bytes are put in.
     moves: usize,
@@ -50,6 +53,7 @@ impl Gathered {
         Gathered {
             items: 0,
             count: 0,
+            closes: false,
             ends: false,
             moves: 0,
             splices: Splices::new(),
@@ -63,6 +67,7 @@ impl Gathered {
     {
         self.items = 0;
         self.count = 0;
+        self.closes = false;
         self.ends = false;
         self.moves = 0;
         self.splices.clear();
@@ -101,6 +106,14 @@ impl Gathered {
         self.count += count;
         self.moves += moves + 2;
     }
+
+    // How many items `\}` has behind them, each of which is a move: 0 where it does not come.
+    #[inline(always)]
+    fn brace(&self) -> usize
+        ensures { result ≡ brace_items self.now.closes }
+    {
+        if self.closes { 2 } else { 0 }
+    }
 }
 
 // The bytes in front of a row that begin no escape and are no newline are put into the chunk, as many as it holds. Answers how many.
@@ -124,12 +137,23 @@ pub(super) fn copy_run<I: Items>(row: &I, chunk: &mut [u8]) -> usize
     most
 }
 
-// Whether a row begins with this byte.
+// Whether a row has this byte behind so many items.
 #[inline(always)]
-fn begins<I: Items>(row: &I, byte: u8) -> bool
-    ensures { result ≡ true → slice_get (I.fronts row.now) 0 ≡ Some (variants.Byte byte) }
+fn has_byte<I: Items>(row: &I, place: usize, byte: u8) -> bool
+    ensures { result ≡ is_byte byte (slice_get (I.fronts row.now) place) }
 {
-    row.count() > 0 && row.byte(0) == Some(byte)
+    place < row.count() && row.byte(place) == Some(byte)
+}
+
+// Whether a newline is in front of a row, or with `closes` behind the `\}` that it begins with.
+#[inline(always)]
+fn has_newline<I: Items>(row: &I, closes: bool) -> bool
+    ensures { result ≡ is_byte 10 (slice_get (I.fronts row.now) (brace_items closes)) }
+{
+    if closes {
+        return has_byte(row, 2, b'\n');
+    }
+    has_byte(row, 0, b'\n')
 }
 
 impl Reader {
@@ -325,7 +349,7 @@ fn gather_escapes<K: Copy, I: Tail>(
     ensures stops { StopsGathering (rest_of store.now.levels) gathered.new.items gathered.new.count }
     ensures left { reader.new ≡ reader.old }
 {
-    if !begins(&row, b'\\') {
+    if !has_byte(&row, 0, b'\\') {
         return row;
     }
     let burst = reader.burst;
@@ -353,16 +377,17 @@ fn gather_row<K: Copy, I: Tail>(
     ensures gathered { IsGathered (take gathered.new.count chunk.new) store.now reader.old gathered.new }
     ensures within { gathered.new.count ≤ length chunk.new }
     ensures holds { length chunk.new ≡ length chunk.old }
-    ensures most { StopsGathering (rest_of store.now.levels) gathered.new.items gathered.new.count }
+    ensures most { GathersMost (rest_of store.now.levels) gathered.new }
     ensures left { reader.new ≡ reader.old }
 {
     let count = gather_run(&row, chunk, gathered);
     let rest = gather_escapes(reader, store, row.behind(count), chunk, gathered);
-    gathered.ends = begins(&rest, b'\n');
+    gathered.closes = reader.half.meets_brace(&rest);
+    gathered.ends = has_newline(&rest, gathered.closes);
 }
 
 /// Gathers the bytes that come next of the newest level into the chunk, with those of the arguments, registers and strings that are
-/// spliced between them: up to a newline, and as many as there is room for. Nothing is taken.
+/// spliced between them: up to a newline or the `\}` before it, and as many as there is room for. Nothing is taken.
 pub fn gather<K: Copy>(
     reader: &mut Reader,
     store: &Store<K>,
@@ -374,7 +399,7 @@ pub fn gather<K: Copy>(
     ensures gathered { IsGathered (take gathered.new.count chunk.new) store.now reader.old gathered.new }
     ensures within { gathered.new.count ≤ length chunk.new }
     ensures room { length chunk.new ≡ length chunk.old }
-    ensures most { StopsGathering (rest_of store.now.levels) gathered.new.items gathered.new.count }
+    ensures most { GathersMost (rest_of store.now.levels) gathered.new }
     ensures left { reader.new ≡ reader.old }
 {
     let most = chunk.len().min(LONGEST_CHUNK);
@@ -451,8 +476,8 @@ fn leave_part<K: Copy>(
     splice.moves
 }
 
-/// So many of the bytes that were gathered are taken, with what is spliced between them, and with `goes` what is spliced behind them, up
-/// to what comes next. Answers how many moves that was besides those that the bytes are put in.
+/// So many of the bytes that were gathered are taken, with what is spliced between them, and with `goes` what is spliced behind them and
+/// the `\}` that does nothing, up to what comes next. Answers how many moves that was besides those that the bytes are put in.
 #[inline(always)]
 pub fn leave<K: Copy>(
     reader: &mut Reader,
@@ -467,12 +492,13 @@ pub fn leave<K: Copy>(
     requires within { taken ≤ length bytes.now }
     ensures leaves { Leaves goes result (take taken bytes.now) store.old reader.old store.new reader.new }
     ensures next { goes ≡ true → gathered.now.ends ≡ true → taken ≡ length bytes.now → shown store.new.levels ≡ shows.Item (elements.Byte 10) }
-    ensures few { result ≤ 64 }
+    ensures few { result ≤ 66 }
 {
     if !goes || taken < gathered.count {
         return leave_part(reader, store, bytes, gathered, taken);
     }
-    store.skip(gathered.items as u32);
+    let brace = gathered.brace();
+    store.skip((gathered.items + brace) as u32);
     reader.pass_all(&gathered.splices);
-    gathered.moves
+    gathered.moves + brace
 }

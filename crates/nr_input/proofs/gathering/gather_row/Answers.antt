@@ -1,11 +1,12 @@
 use Rattle.std.specs.Prelude.{map}
-use Rattle.std.proofs.Common.{◌≡◌, drop, take, refl, ap, sym, arith}
+use Rattle.std.proofs.Common.{◌∙◌, ◌≡◌, drop, take, refl, ap, sym, arith}
 use Rattle.std.proofs.lemmas.List.{length-take-le}
 use Rattle.nr_store.specs.Windows.{rest_of}
 use Rattle.nr_input.specs.Coming.{element_front}
-use Rattle.nr_input.specs.Gathering.{IsGathering}
+use Rattle.nr_input.specs.Gathering.{IsGathering, brace_items}
 use Rattle.nr_input.specs.declared.gathering.Gathered.{Gathered}
-use Rattle.nr_input.proofs.TextGathered.{first_byte, nothing_is, run_copied, run_stops}
+use Rattle.nr_input.proofs.TextBraces.{brace_begins, byte_shown, has_brace, shown_byte}
+use Rattle.nr_input.proofs.TextGathered.{nothing_is, run_copied, run_stops}
 use Rattle.nr_input.proofs.TextLeft.{spliced_none}
 use Rattle.nr_input.proofs.gathering.gather_row.Goals as goal
 
@@ -40,8 +41,23 @@ returns-clause-gathered g c =
     let rest = rest_of c.args.store.now.levels in
     let there = c.gather_escapes-rest.new.gathered in
     let chunk = c.gather_escapes-rest.new.chunk in
+    let fs = g.I.Items.fronts c.gather_escapes-rest.result in
+    let row = c.gather_escapes-rest.ensures.row in
     record {
       count = sym (length-take-le there.count chunk c.gather_escapes-rest.ensures.count);
       gathered = c.gather_escapes-rest.ensures.gathered;
-      ends = λ yes. first_byte there.items 10 (g.I.Items.fronts c.gather_escapes-rest.result) rest c.gather_escapes-rest.ensures.row (c.begins-gathered.ensures yes);
+      closes = λ yes. has_brace there.items fs rest row (sym c.meets_brace-gathered.ensures.brace ∙ yes);
+      ends = λ yes. byte_shown there.items fs rest row (brace_items c.meets_brace-gathered.result) 10 (sym c.has_newline-gathered.ensures ∙ yes);
+    }
+
+pub returns-clause-most : goal.returns-clause-most
+returns-clause-most g c =
+    let rest = rest_of c.args.store.now.levels in
+    let there = c.gather_escapes-rest.new.gathered in
+    let fs = g.I.Items.fronts c.gather_escapes-rest.result in
+    let row = c.gather_escapes-rest.ensures.row in
+    record {
+      stops = c.gather_escapes-rest.ensures.stops;
+      closes = λ brace. c.meets_brace-gathered.ensures.brace ∙ brace_begins there.items fs rest row brace;
+      ends = λ shown. c.has_newline-gathered.ensures ∙ shown_byte there.items fs rest row (brace_items c.meets_brace-gathered.result) 10 shown;
     }

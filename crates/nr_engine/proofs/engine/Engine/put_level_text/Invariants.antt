@@ -8,5 +8,5 @@ abbrev pub invariant-loop : goal.invariant-loop
 invariant-loop l = record {
   puts : MakesInPlace l.moves (shape l.fn.self) (shape l.self);
   line : is_in_line l.self.formatter ≡ true;
-  few : l.moves ≤ (65541 * 4096 + 709) * l.counter;
+  few : l.moves ≤ (65541 * 4096 + 711) * l.counter;
 }
