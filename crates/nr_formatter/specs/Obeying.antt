@@ -1,5 +1,4 @@
--- The request whose line was read, taken effect at once: it is heard, its break does nothing, and it only sets, or is `.nr` and not
--- refused.
+-- The request whose line was read, taken effect at once: it is heard, its break does nothing, it only sets, and it is not refused.
 use Rattle.std.specs.Prelude.{ℕ, Bool, true, false, not, ◌&&◌, ◌||◌, if◌then◌else◌, is_none, is_ok}
 use Rattle.nr_fill.specs.Pieces.{begins_line}
 use Rattle.nr_store.specs.declared.request.Request.{Request}
@@ -42,11 +41,12 @@ only_sets Ul = true
 only_sets Vs = true
 only_sets r = false
 
+-- this sets too, and may be refused
 abbrev pub is_nr : Request → Bool
 is_nr Nr = true
 is_nr r = false
 
--- whether all that the request does is to set, and it is made: `.nr` is where its register may be stored
+-- whether all that the request does is to set, and it is not refused: `.nr` is where its register would be above the limit
 abbrev pub may_set : Request → Formatter → Bool
 may_set r f = only_sets r || (is_nr r && is_ok (nr_checked f))
 
