@@ -51,6 +51,9 @@ is_spacing Ne = true
 is_spacing Sp = true
 is_spacing r = false
 
+abbrev pub sets_or_spaces : Request → Bool
+sets_or_spaces r = only_sets r || is_spacing r
+
 -- this sets too, and may be refused
 abbrev pub is_nr : Request → Bool
 is_nr Nr = true

@@ -1,6 +1,6 @@
 //! Requests that only set or make space, acted on as soon as their line was read: many moves at once.
-ghost use Rattle.std.specs.Prelude.{◌≡◌, ◌≤◌, ◌||◌, true, false};
-ghost use Rattle.nr_formatter.specs.Obeying.{only_sets, is_spacing, is_nr, breaks_first, breaks_idly, behind_space, moves_spacing, may_obey, obeyed, moves_obeying};
+ghost use Rattle.std.specs.Prelude.{◌≡◌, ◌≤◌, true, false};
+ghost use Rattle.nr_formatter.specs.Obeying.{sets_or_spaces, is_nr, breaks_first, breaks_idly, behind_space, moves_spacing, may_obey, obeyed, moves_obeying};
 ghost use Rattle.nr_formatter.specs.Requests.{act};
 
 use crate::formatter::Formatter;
@@ -13,7 +13,7 @@ use nr_store::Request;
 /// A request that sets, has the input read on or makes space, and does nothing else.
 #[inline]
 fn sets_or_spaces(request: Request) -> bool
-    ensures { result ≡ (only_sets request || is_spacing request) }
+    ensures { result ≡ sets_or_spaces request }
 {
     matches!(
         request,
@@ -58,7 +58,7 @@ impl Formatter {
     /// Such a request takes effect.
     #[inline(never)]
     fn set(&mut self, request: Request)
-        requires { (only_sets request || is_spacing request) ≡ true }
+        requires { sets_or_spaces request ≡ true }
         ensures { self.new ≡ act request self.old }
     {
         match request {
@@ -115,7 +115,7 @@ impl Formatter {
         requires request { request ≡ self.now.reader.request }
         requires breaks { breaks ≡ breaks_first self.now }
         ensures may { result ≡ true → may_obey self.now ≡ true }
-        ensures sets { result ≡ true → (only_sets request || is_spacing request) ≡ true }
+        ensures sets { result ≡ true → sets_or_spaces request ≡ true }
         ensures other { is_nr request ≡ false → result ≡ may_obey self.now }
     {
         self.springs.is_none()
@@ -148,6 +148,7 @@ impl Formatter {
     fn make_space(&mut self) -> u32
         ensures moves { result ≡ moves_spacing self.old }
         ensures is { self.new ≡ behind_space self.old }
+        ensures few { result ≤ 1 }
     {
         let Task::Space(distance) = self.task else {
             return 0;
