@@ -12,4 +12,4 @@ returns-clause-obeys c =
     rw c.obey.ensures.is (subst (λ (n : ℕ). MakesInPlace n (shape c.args.self.now) (obeyed_shape (obeyed f) (shape c.args.self.now))) same (makes_obeyed (shape c.args.self.now) c.requires.request))
 
 pub returns-clause-next : goal.returns-clause-next
-returns-clause-next c = λ some. rw c.obey.ensures.is (reads_obeyed c.args.self.now.formatter (subst (λ (n : ℕ). 0 < n) (c.from.ensures ∙ c.obey.ensures.moves) some))
+returns-clause-next c = λ sets some. rw c.obey.ensures.is (reads_obeyed c.args.self.now.formatter sets (subst (λ (n : ℕ). 0 < n) (c.from.ensures ∙ c.obey.ensures.moves) some))
