@@ -102,6 +102,20 @@ impl Engine {
         }
     }
 
+    /// What was told behind text is done, if it is a request that only sets or makes space, or a condition to be judged, and what
+    /// levels bring behind it is read. Tells how many moves that was.
+    #[inline(always)]
+    pub(crate) fn answer_behind(&mut self) -> u128
+        ensures answers { MakesInPlace result (shape self.old) (shape self.new) }
+        ensures few { result ≤ 4 + 4096 * (65541 * 4096 + 4) }
+    {
+        let answered = self.answer();
+        if answered == 0 {
+            return 0;
+        }
+        answered + self.read_levels()
+    }
+
     /// What levels bring is read; requests of it that only set or make space take effect, and conditions are judged. Tells how many
     /// moves that was.
     #[inline(always)]

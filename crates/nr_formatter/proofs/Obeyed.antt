@@ -1,4 +1,4 @@
--- Requests that only set: what they leave as it was, and what may still come behind them.
+-- Requests that only set or make space: what they leave as it was, and what may still come behind them.
 use Rattle.std.specs.Prelude.{suc, ◌+◌, ◌-◌, not, ◌&&◌, ◌||◌, if◌then◌else◌, int_lt, is_ok, length, nat_lt, pos, negsuc}
 use Rattle.std.proofs.Common.{◌≡◌, ℕ, ◌≤◌, List, Bool, true, false, Option, None, Some, Result, Ok, Err, ℤ, refl, ap, sym, ◌∙◌, subst, arith}
 use Rattle.std.proofs.lemmas.Bool.{and_parts, ltb-false}
