@@ -1,11 +1,10 @@
 -- Requests that only set or make space: what they leave as it was, and what may still come behind them.
 use Rattle.std.specs.Prelude.{suc, ◌+◌, ◌-◌, not, ◌&&◌, ◌||◌, if◌then◌else◌, int_lt, is_ok, length, nat_lt, pos, negsuc}
-use Rattle.std.proofs.Common.{◌≡◌, ℕ, ◌≤◌, List, Bool, true, false, Option, None, Some, Result, Ok, Err, ℤ, refl, ap, sym, ◌∙◌, subst, arith}
+use Rattle.std.proofs.Common.{◌≡◌, ℕ, ◌≤◌, List, Bool, true, false, Option, None, Some, ℤ, refl, ap, sym, ◌∙◌, subst, arith}
 use Rattle.std.proofs.lemmas.Bool.{and_parts, ltb-false}
 use Rattle.nr_reading.specs.declared.event.Event.TheVariants as events
 use Rattle.nr_store.specs.declared.request.Request.{Request}
 use Rattle.nr_store.specs.declared.request.Request.TheVariants.{Ad, Br, Ce, Fi, Ft, Hy, In, It, Lc, Ll, Lt, Na, Ne, Nf, Nh, Nr, Ns, Pc, Pl, Po, Rs, Sp, Ta, Tc, Ti, Ul, Vs}
-use Rattle.nr_store.specs.declared.refusal.StoredBytes.{StoredBytes}
 use Rattle.nr_store.specs.declared.register.Register.{Register}
 use Rattle.nr_store.specs.Stored.{Stored, afforded, charge_of, is_held, register_of, registered, set_to, written}
 use Rattle.nr_settings.specs.Numbers.{applied}
@@ -19,7 +18,7 @@ use Rattle.nr_formatter.specs.declared.tasks.Resume.{Resume}
 use Rattle.nr_formatter.specs.Access.{line, long, spacing}
 use Rattle.nr_formatter.specs.Given.{given_named}
 use Rattle.nr_formatter.specs.Limits.{IsWithin, limits_of}
-use Rattle.nr_formatter.specs.Registers.{change_checked, given_set, nr, nr_checked, register_changed, register_set_by, register_value, set_checked_by}
+use Rattle.nr_formatter.specs.Registers.{change_checked, given_set, nr_checked, register_changed, register_set_by, register_value, set_checked_by}
 use Rattle.nr_formatter.specs.Lines.{break_done}
 use Rattle.nr_formatter.specs.Moves.{heard_for, task_requested}
 use Rattle.nr_formatter.specs.Obeying.{acted, behind_break, behind_space, breaks_first, is_nr, is_spacing, may_act, may_obey, may_set, may_space, moves_obeying, moves_spacing, obeyed, only_sets, space_made}
