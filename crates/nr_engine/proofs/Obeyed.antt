@@ -1,7 +1,7 @@
 -- Requests that only set or make space: what was read is heard, the break does nothing, the request takes effect, and its space is
 -- made.
 use Rattle.std.specs.Prelude.{◌+◌, ◌&&◌, ◌||◌, not, if◌then◌else◌, is_none}
-use Rattle.std.proofs.Common.{◌≡◌, ℕ, ◌<◌, Bool, true, false, List, [], Option, None, Some, refl, sym, ap, ◌∙◌, subst, arith}
+use Rattle.std.proofs.Common.{◌≡◌, ℕ, ◌<◌, ◌≤◌, Bool, true, false, List, [], Option, None, Some, refl, sym, ap, ◌∙◌, subst, arith}
 use Rattle.std.proofs.lemmas.Bool.{and_parts}
 use Rattle.nr_units.specs.Supply.{Supply}
 use Rattle.nr_fill.specs.Pieces.{begins_line, is_nil}
@@ -178,7 +178,7 @@ module _ (s : State) (chosen : s.chosen ≡ []) (request : s.formatter.event ≡
   within_behind_break false = within_kept s s.coming acting refl refl within.formatter.burst within
 
   -- the request took effect
-  after : State
+  abbrev after : State
   after = with_formatter (acted s.formatter) s
 
   within_after : IsWithin after
@@ -260,6 +260,16 @@ makes_by true e supply may request =
 -- the request whose line was read, if it only sets or makes space
 pub makes_obeyed : (e : Shape) → e.formatter.event ≡ events.Request → MakesInPlace (moves_obeying e.formatter) e (obeyed_shape (obeyed e.formatter) e)
 makes_obeyed e request = record { makes = λ supply. makes_by (may_obey e.formatter) e supply refl request; place = refl }
+
+few_by : (may first space : Bool) → (if may then (if first then 3 else 2) + (if space then 1 else 0) else 0) ≤ 4
+few_by true true true = omega arith
+few_by true true false = omega arith
+few_by true false true = omega arith
+few_by true false false = omega arith
+few_by false first space = omega arith
+
+pub moves_obeying-le : (f : Formatter) → moves_obeying f ≤ 4
+moves_obeying-le f = few_by (may_obey f) (breaks_first f) (may_space (acted f).task (acted f))
 
 -- ---- what comes next
 
