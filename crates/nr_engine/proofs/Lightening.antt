@@ -28,12 +28,6 @@ falls-line height f none is =
     let left : weight_of_agenda f.event tasks.Read f.step ≡ 4 = rw none refl in
     falls-kept 5 0 f (to_read f) (record { levels = refl; limit = refl; burst = refl; most = refl }) (omega arith) (omega arith)
 
--- there is no space
-pub falls-spaceless : (n : ℕ) (f : Formatter) → f.event ≡ events.Nothing → f.task ≡ tasks.Space n → Falls 1 0 f (to_read f)
-falls-spaceless n f none is =
-    let left : weight_of_agenda f.event tasks.Read f.step ≡ 4 = rw none refl in
-    falls-task tasks.Read 9 f (rw (none, is) refl) (omega arith) refl
-
 -- nothing is being ejected
 pub falls-unejecting : (e : Ejected) (f : Formatter) → f.event ≡ events.Nothing → f.task ≡ tasks.Eject e → Falls 1 0 f (record f { task = task_ejected e })
 falls-unejecting ejecteds.Request f none is =

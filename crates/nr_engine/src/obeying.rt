@@ -1,6 +1,7 @@
-//! Requests that only set: many moves in one call.
-ghost use Rattle.std.specs.Prelude.{◌≡◌, ◌+◌, ◌*◌, ◌<◌, ◌≤◌};
+//! Requests that only set or make space: many moves in one call.
+ghost use Rattle.std.specs.Prelude.{◌≡◌, ◌+◌, ◌*◌, ◌<◌, ◌≤◌, false};
 ghost use Rattle.nr_reading.specs.declared.event.Event.TheVariants as events;
+ghost use Rattle.nr_formatter.specs.Obeying.{is_spacing};
 ghost use Rattle.nr_engine.specs.Holding.{shape, ReadsNext};
 ghost use Rattle.nr_engine.specs.Running.{MakesInPlace, MakesReading};
 
@@ -12,14 +13,14 @@ use nr_units::source::Source;
 const MOST_LINES: u32 = 4096;
 
 impl Engine {
-    /// The request whose line was read takes effect, if it only sets, is not refused, and its break does nothing. Tells how many
-    /// moves that was.
+    /// The request whose line was read takes effect, if it only sets or makes space, is not refused, and its break does nothing.
+    /// Tells how many moves that was.
     #[inline(always)]
     fn obey(&mut self) -> u128
         requires request { self.old.formatter.event ≡ events.Request }
         ensures obeys { MakesInPlace result (shape self.old) (shape self.new) }
-        ensures few { result ≤ 3 }
-        ensures next { 0 < result → ReadsNext self.new.formatter }
+        ensures few { result ≤ 4 }
+        ensures next { is_spacing self.old.formatter.reader.request ≡ false → 0 < result → ReadsNext self.new.formatter }
     {
         u128::from(self.formatter.obey())
     }
@@ -45,14 +46,14 @@ impl Engine {
         run.moves as u128
     }
 
-    /// The request whose line was read takes effect, if it only sets, is not refused, and its break does nothing, and so do those of
-    /// the lines that the source has at hand behind it, up to what is no such request: of a control line that is one the name and
-    /// the line are read. Tells how many moves that was.
+    /// The request whose line was read takes effect, if it only sets or makes space, is not refused, and its break does nothing, and
+    /// so do those of the lines that the source has at hand behind it, up to what is no such request, or behind which the input is
+    /// not read next: of a control line that is one the name and the line are read. Tells how many moves that was.
     #[inline(never)]
     pub(crate) fn obey_lines<R: Source>(&mut self, input: &mut R) -> u128
         requires request { self.old.formatter.event ≡ events.Request }
         ensures reads { MakesReading result (shape self.old) (shape self.new) (R.supply input.old) (R.supply input.new) (R.failures input.old) (R.failures input.new) }
-        ensures few { result ≤ 4096 * 65539 }
+        ensures few { result ≤ 4096 * 65540 }
     {
         let mut moves = 0u128;
         for _ in 0..MOST_LINES {
@@ -60,7 +61,11 @@ impl Engine {
             if obeyed == 0 {
                 return moves;
             }
-            moves += obeyed + self.read_control_line(input);
+            moves += obeyed;
+            if !self.reads_next() {
+                return moves;
+            }
+            moves += self.read_control_line(input);
             match self.formatter.event {
                 Event::Request => {}
                 _ => return moves,
@@ -83,11 +88,12 @@ impl Engine {
         1
     }
 
-    /// What was told is done, if it is a request that only sets or a condition to be judged. Tells how many moves that was.
+    /// What was told is done, if it is a request that only sets or makes space, or a condition to be judged. Tells how many moves
+    /// that was.
     #[inline(always)]
     fn answer(&mut self) -> u128
         ensures answers { MakesInPlace result (shape self.old) (shape self.new) }
-        ensures few { result ≤ 3 }
+        ensures few { result ≤ 4 }
     {
         match self.formatter.event {
             Event::Request => self.obey(),
@@ -96,11 +102,26 @@ impl Engine {
         }
     }
 
-    /// What levels bring is read; requests of it that only set take effect, and conditions are judged. Tells how many moves that was.
+    /// What was told behind text is done, if it is a request that only sets or makes space, or a condition to be judged, and what
+    /// levels bring behind it is read. Tells how many moves that was.
+    #[inline(always)]
+    pub(crate) fn answer_behind(&mut self) -> u128
+        ensures answers { MakesInPlace result (shape self.old) (shape self.new) }
+        ensures few { result ≤ 4 + 4096 * (65541 * 4096 + 4) }
+    {
+        let answered = self.answer();
+        if answered == 0 {
+            return 0;
+        }
+        answered + self.read_levels()
+    }
+
+    /// What levels bring is read; requests of it that only set or make space take effect, and conditions are judged. Tells how many
+    /// moves that was.
     #[inline(always)]
     pub(crate) fn read_levels(&mut self) -> u128
         ensures reads { MakesInPlace result (shape self.old) (shape self.new) }
-        ensures few { result ≤ 4096 * (65541 * 4096 + 3) }
+        ensures few { result ≤ 4096 * (65541 * 4096 + 4) }
     {
         let mut moves = 0u128;
         for _ in 0..MOST_LINES {

@@ -152,15 +152,15 @@ impl Engine {
         self.put_source_text(input)
     }
 
-    /// Behind text of the source, what can be read there without anything being done, and empty lines behind it. Tells how
-    /// many moves that was.
+    /// Behind text: of levels what was told is answered, and what they bring behind it is read; of the source what can be read
+    /// there without anything being done, and empty lines behind it. Tells how many moves that was.
     #[inline(always)]
     fn read_behind<R: Source>(&mut self, input: &mut R) -> u128
         ensures reads { MakesReading result (shape self.old) (shape self.new) (R.supply input.old) (R.supply input.new) (R.failures input.old) (R.failures input.new) }
         ensures few { result < 2 ^ 67 }
     {
         if self.formatter.store.is_reading() {
-            return 0;
+            return self.answer_behind();
         }
         self.read_lines(input)
     }

@@ -1,15 +1,15 @@
--- Requests that only set: what they leave as it was, and what may still come behind them.
-use Rattle.std.specs.Prelude.{◌&&◌, ◌||◌, if◌then◌else◌, is_ok, nat_lt, length}
-use Rattle.std.proofs.Common.{◌≡◌, ℕ, ◌≤◌, List, Bool, true, false, Option, None, Some, Result, Ok, Err, ℤ, refl, ap, sym, ◌∙◌, subst, arith}
+-- Requests that only set or make space: what they leave as it was, and what may still come behind them.
+use Rattle.std.specs.Prelude.{suc, ◌+◌, ◌-◌, not, ◌&&◌, ◌||◌, if◌then◌else◌, int_lt, is_ok, length, nat_lt, pos, negsuc}
+use Rattle.std.proofs.Common.{◌≡◌, ℕ, ◌≤◌, List, Bool, true, false, Option, None, Some, ℤ, refl, ap, sym, ◌∙◌, subst, arith}
 use Rattle.std.proofs.lemmas.Bool.{and_parts, ltb-false}
 use Rattle.nr_reading.specs.declared.event.Event.TheVariants as events
 use Rattle.nr_store.specs.declared.request.Request.{Request}
-use Rattle.nr_store.specs.declared.request.Request.TheVariants.{Ad, Br, Ce, Fi, Ft, Hy, In, It, Lc, Ll, Lt, Na, Nf, Nh, Nr, Ns, Pc, Pl, Po, Rs, Ta, Tc, Ti, Ul, Vs}
-use Rattle.nr_store.specs.declared.refusal.StoredBytes.{StoredBytes}
+use Rattle.nr_store.specs.declared.request.Request.TheVariants.{Ad, Br, Ce, Fi, Ft, Hy, In, It, Lc, Ll, Lt, Na, Ne, Nf, Nh, Nr, Ns, Pc, Pl, Po, Rs, Sp, Ta, Tc, Ti, Ul, Vs}
 use Rattle.nr_store.specs.declared.register.Register.{Register}
 use Rattle.nr_store.specs.Stored.{Stored, afforded, charge_of, is_held, register_of, registered, set_to, written}
 use Rattle.nr_settings.specs.Numbers.{applied}
 use Rattle.nr_settings.specs.Registers as lines
+use Rattle.nr_settings.specs.Spacing as space_lines
 use Rattle.nr_settings.specs.declared.registers.RegisterChange.{RegisterChange}
 use Rattle.nr_tables.specs.Named.{find}
 use Rattle.nr_formatter.specs.declared.given.GivenRegister.{GivenRegister}
@@ -18,20 +18,24 @@ use Rattle.nr_formatter.specs.declared.tasks.Resume.{Resume}
 use Rattle.nr_formatter.specs.Access.{line, long, spacing}
 use Rattle.nr_formatter.specs.Given.{given_named}
 use Rattle.nr_formatter.specs.Limits.{IsWithin, limits_of}
-use Rattle.nr_formatter.specs.Registers.{change_checked, given_set, nr, nr_checked, register_changed, register_set_by, register_value, set_checked_by}
+use Rattle.nr_formatter.specs.Registers.{change_checked, given_set, nr_checked, register_changed, register_set_by, register_value, set_checked_by}
 use Rattle.nr_formatter.specs.Lines.{break_done}
 use Rattle.nr_formatter.specs.Moves.{heard_for, task_requested}
-use Rattle.nr_formatter.specs.Obeying.{behind_break, breaks_first, is_nr, may_obey, may_set, moves_obeying, obeyed, only_sets}
-use Rattle.nr_formatter.specs.Places.{to_read}
+use Rattle.nr_formatter.specs.Obeying.{acted, behind_break, behind_space, breaks_first, is_nr, is_spacing, may_act, may_obey, may_set, may_space, moves_obeying, moves_spacing, obeyed, only_sets, space_made}
+use Rattle.nr_formatter.specs.Pages.{moved_to}
+use Rattle.nr_formatter.specs.Places.{distance_below, outlet, present_place, to_read}
 use Rattle.nr_formatter.specs.Requests.{act}
+use Rattle.nr_formatter.specs.Spacing.{has_room, is_on_page, is_spaceless, ne, needed, sp_by, spaced, spaced_up}
 use Rattle.nr_formatter.specs.Weights.{Falls}
 use Rattle.nr_formatter.specs.declared.formatter.Formatter.{Formatter}
+use Rattle.nr_formatter.specs.declared.tasks.Task.{Task}
 use Rattle.nr_formatter.specs.declared.tasks.Task.TheVariants as tasks
 use Rattle.nr_formatter.specs.declared.tasks.Then.TheVariants as thens
 use Rattle.nr_formatter.proofs.Falling.{falls-then}
 use Rattle.nr_formatter.proofs.HearingFalls.{falls-control}
 use Rattle.nr_formatter.proofs.LimitsStay.{either-limits, store-limits, written-limits}
 use Rattle.nr_formatter.proofs.LineFalls.{falls-break_done}
+use Rattle.nr_formatter.proofs.PageFalls.{falls-spaced, falls-spaceless}
 use Rattle.nr_formatter.proofs.RequestFalls.{falls-act}
 
 -- only the settings and the input line trap change, and the input is read on
@@ -146,35 +150,135 @@ sets-by false r f sets may = let parts = and_parts (is_nr r) (is_ok (nr_checked 
 pub sets-act : (r : Request) (f : Formatter) → may_set r f ≡ true → Sets f (act r f)
 sets-act r f may = sets-by (only_sets r) r f refl may
 
--- and the limits stay
+-- ---- `.ne` and `.sp`
+
+-- what a place on the page and a macro that springs leave as it was
+record Keeps (f g : Formatter) : Type 0 where
+  event : g.event ≡ f.event
+  store : g.store ≡ f.store
+  line : g.line ≡ f.line
+  reader : g.reader ≡ f.reader
+
+keeps-if : (b : Bool) (f g : Formatter) → Keeps f g → Keeps f (if b then g else f)
+keeps-if true f g keeps = keeps
+keeps-if false f g keeps = record { event = refl; store = refl; line = refl; reader = refl }
+
+-- what is to be done behind a request: the input is read, or so much space is made and the request springs no macro
+pub data Leaves (f g : Formatter) : Type 0 where
+  Reads : g.task ≡ tasks.Read → Leaves f g
+  Spaces : (n : ℕ) → g.task ≡ tasks.Space n → g.springs ≡ f.springs → Leaves f g
+
+-- what a request that sets or makes space leaves as it was, where it is made, and what is to be done then
+pub record Acts (f g : Formatter) : Type 0 where
+  pub event : g.event ≡ f.event
+  pub limits : limits_of g ≡ limits_of f
+  pub within : IsWithin f → IsWithin g
+  pub leaves : Leaves f g
+
+acts-read : (f g : Formatter) → Keeps f g → Acts f (to_read g)
+acts-read f g keeps = record {
+  event = keeps.event;
+  limits = rw (keeps.store, keeps.line, keeps.reader) refl;
+  within = within_kept f (to_read g) keeps.store keeps.line keeps.reader;
+  leaves = Reads refl;
+}
+
+acts-ne : (f : Formatter) → Acts f (ne f)
+acts-ne f =
+    let below = distance_below f.paper.place f in
+    let n = space_lines.ne (line f) (spacing f) (present_place f) in
+    acts-read f (needed below n f)
+    (keeps-if (has_room (outlet f) && int_lt (pos below) n) f (moved_to (f.paper.place + below) f) (record { event = refl; store = refl; line = refl; reader = refl }))
+
+acts-sp_by : (n : ℤ) (f : Formatter) → Acts f (sp_by n f)
+acts-sp_by (pos n) f =
+    record { event = refl; limits = refl; within = within_kept f (record f { task = tasks.Space n }) refl refl refl; leaves = Spaces n refl refl }
+acts-sp_by (negsuc n) f =
+    acts-read f (spaced_up (suc n) f)
+    (keeps-if (is_on_page (outlet f) && not f.settings.pages.no_space) f (record f { paper = record f.paper { place = f.paper.place - suc n } }) (record { event = refl; store = refl; line = refl; reader = refl }))
+
+acts-spacing : (r : Request) (f : Formatter) → is_spacing r ≡ true → Acts f (act r f)
+acts-spacing Ne f is = acts-ne f
+acts-spacing Sp f is = acts-sp_by (space_lines.sp (line f) (spacing f) (present_place f)) f
+acts-spacing r f is = absurd (let wrong : false ≡ true = is in cc)
+
+acts-by : (b : Bool) (r : Request) (f : Formatter) → may_set r f ≡ b → (b || is_spacing r) ≡ true → Acts f (act r f)
+acts-by true r f sets may = let stays = sets-act r f sets in record { event = stays.event; limits = stays.limits; within = stays.within; leaves = Reads stays.task }
+acts-by false r f sets may = acts-spacing r f may
+
+pub acts-act : (r : Request) (f : Formatter) → may_act r f ≡ true → Acts f (act r f)
+acts-act r f may = acts-by (may_set r f) r f refl may
+
+-- ---- the formatter that acts
+
+-- behind a break or without one
+abbrev pub behind_by : Bool → Formatter → Formatter
+behind_by first f =
+    if first then break_done (thens.Act f.reader.request) (heard_for (tasks.Break (thens.Act f.reader.request)) f)
+    else heard_for (tasks.Act f.reader.request) f
+
+pub springs_behind : (first : Bool) (f : Formatter) → (behind_by first f).springs ≡ f.springs
+springs_behind true f = refl
+springs_behind false f = refl
+
+pub event_behind : (first : Bool) (f : Formatter) → (behind_by first f).event ≡ events.Nothing
+event_behind true f = refl
+event_behind false f = refl
+
+-- ---- space that is made
+
+pub within-spaced : (spaceless : Bool) (n : ℕ) (f : Formatter) → IsWithin f → IsWithin (if spaceless then to_read f else spaced n f)
+within-spaced true n f within = within_kept f (to_read f) refl refl refl within
+within-spaced false n f within = within_kept f (spaced n f) refl refl refl within
+
+space-limits : (t : Task) (f : Formatter) → limits_of (if may_space t f then space_made t f else f) ≡ limits_of f
+space-limits (tasks.Space n) f =
+    either-limits (may_space (tasks.Space n) f) f (space_made (tasks.Space n) f) f (either-limits (is_spaceless n f) f (to_read f) (spaced n f) refl refl) refl
+space-limits t f = refl
+
+falls-space_by : (may spaceless : Bool) (n : ℕ) (f : Formatter) → f.event ≡ events.Nothing → f.task ≡ tasks.Space n
+    → Falls (if may then 1 else 0) 0 f (if may then (if spaceless then to_read f else spaced n f) else f)
+falls-space_by true true n f idle is = falls-spaceless n f idle is
+falls-space_by true false n f idle is = falls-spaced n f idle is
+falls-space_by false spaceless n f idle is = record { limit = refl; most = refl; falls = λ p. omega arith }
+
+falls-space : (t : Task) (f : Formatter) → f.event ≡ events.Nothing → f.task ≡ t → Falls (if may_space t f then 1 else 0) 0 f (if may_space t f then space_made t f else f)
+falls-space (tasks.Space n) f idle is = falls-space_by (may_space (tasks.Space n) f) (is_spaceless n f) n f idle is
+falls-space t f idle is = record { limit = refl; most = refl; falls = λ p. omega arith }
+
+-- ---- all of it
+
+-- the limits stay
 behind_break-limits : (f : Formatter) → limits_of (behind_break f) ≡ limits_of f
 behind_break-limits f =
     let r = f.reader.request in
     either-limits (breaks_first f) f (break_done (thens.Act r) (heard_for (tasks.Break (thens.Act r)) f)) (heard_for (tasks.Act r) f) refl refl
 
-pub obeyed-limits : (f : Formatter) → may_set f.reader.request (behind_break f) ≡ true → may_obey f ≡ true → limits_of (obeyed f) ≡ limits_of f
-obeyed-limits f sets may =
-    let there : obeyed f ≡ act f.reader.request (behind_break f) = rw may refl in
-    ap limits_of there ∙ (sets-act f.reader.request (behind_break f) sets).limits ∙ behind_break-limits f
+pub obeyed-limits : (f : Formatter) → may_act f.reader.request (behind_break f) ≡ true → may_obey f ≡ true → limits_of (obeyed f) ≡ limits_of f
+obeyed-limits f acts may =
+    let there : obeyed f ≡ behind_space (acted f) = rw may refl in
+    ap limits_of there ∙ space-limits (acted f).task (acted f) ∙ (acts-act f.reader.request (behind_break f) acts).limits ∙ behind_break-limits f
 
 -- each move takes off one
-falls-obeyed_by : (may first : Bool) (f : Formatter) → breaks_first f ≡ first → f.event ≡ events.Request
-    → Falls (if may then (if first then 3 else 2) else 0) 0 f
-    (if may then act f.reader.request (if first then break_done (thens.Act f.reader.request) (heard_for (tasks.Break (thens.Act f.reader.request)) f) else heard_for (tasks.Act f.reader.request) f) else f)
-falls-obeyed_by false first f b is = record { limit = refl; most = refl; falls = λ p. omega arith }
-falls-obeyed_by true true f b is =
+falls-acted : (first : Bool) (f : Formatter) → breaks_first f ≡ first → f.event ≡ events.Request → Falls (if first then 3 else 2) 0 f (act f.reader.request (behind_by first f))
+falls-acted true f b is =
     let r = f.reader.request in
     let task : task_requested f ≡ tasks.Break (thens.Act r) = rw b refl in
     let g : Formatter = heard_for (tasks.Break (thens.Act r)) f in
     let h : Formatter = break_done (thens.Act r) g in
     let hears : Falls 1 0 f g = subst (λ t. Falls 1 0 f (heard_for t f)) task (falls-control events.Request f is (λ e. let wrong : ⊥ = cc in wrong)) in
     falls-then 2 0 1 0 f h (act r h) (falls-then 1 0 1 0 f g h hears (falls-break_done (thens.Act r) g refl refl)) (falls-act r h refl refl)
-falls-obeyed_by true false f b is =
+falls-acted false f b is =
     let r = f.reader.request in
     let task : task_requested f ≡ tasks.Act r = rw b refl in
     let g : Formatter = heard_for (tasks.Act r) f in
     let hears : Falls 1 0 f g = subst (λ t. Falls 1 0 f (heard_for t f)) task (falls-control events.Request f is (λ e. let wrong : ⊥ = cc in wrong)) in
     falls-then 1 0 1 0 f g (act r g) hears (falls-act r g refl refl)
 
-pub falls-obeyed : (f : Formatter) → f.event ≡ events.Request → Falls (moves_obeying f) 0 f (obeyed f)
-falls-obeyed f is = falls-obeyed_by (may_obey f) (breaks_first f) f refl is
+pub falls-obeyed : (f : Formatter) → f.event ≡ events.Request → may_act f.reader.request (behind_break f) ≡ true → may_obey f ≡ true → Falls (moves_obeying f) 0 f (obeyed f)
+falls-obeyed f is acts may =
+    let idle : (acted f).event ≡ events.Nothing = (acts-act f.reader.request (behind_break f) acts).event ∙ event_behind (breaks_first f) f in
+    let moves : ℕ = if breaks_first f then 3 else 2 in
+    let falls : Falls (moves + moves_spacing (acted f)) 0 f (behind_space (acted f)) =
+    falls-then moves 0 (moves_spacing (acted f)) 0 f (acted f) (behind_space (acted f)) (falls-acted (breaks_first f) f refl is) (falls-space (acted f).task (acted f) idle refl) in
+    rw may falls

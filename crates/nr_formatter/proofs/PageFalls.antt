@@ -12,11 +12,12 @@ use Rattle.nr_formatter.specs.declared.tasks.Ejected.TheVariants as ejecteds
 use Rattle.nr_formatter.specs.declared.tasks.Step.{Step}
 use Rattle.nr_formatter.specs.declared.tasks.Task.{Task}
 use Rattle.nr_formatter.specs.declared.tasks.Task.TheVariants as tasks
-use Rattle.nr_formatter.specs.Places.{is_open, page_outlet}
+use Rattle.nr_formatter.specs.Places.{is_open, page_outlet, to_read}
 use Rattle.nr_formatter.specs.Pages.{line_placed, page_begun, page_ended, task_begun, task_ejected, task_ended}
 use Rattle.nr_formatter.specs.Spacing.{spaced}
 use Rattle.nr_formatter.specs.Weights.{Falls, steps_left, owed, owed_by_task, weight_of_agenda, weight_of_outlet, weight_of_task}
 use Rattle.nr_formatter.proofs.Falling.{falls-kept, weight_of_agenda-le, weight_of_name-le, weight_of_outlet-le}
+use Rattle.nr_formatter.proofs.TaskFalls.{falls-task}
 
 -- ---- what is placed
 
@@ -35,6 +36,12 @@ falls-spaced n f none space =
     let left : weight_of_agenda g.event g.task g.step ≡ 4 = rw none refl in
     falls-kept 1 0 f g (record { levels = refl; limit = refl; burst = refl; most = refl }) (omega arith)
     (omega (arith, weight_of_name-le g.springs, weight_of_outlet-le (page_outlet g.paper.state g.paper.place g.settings.pages.page_length)))
+
+-- there is no space
+pub falls-spaceless : (n : ℕ) (f : Formatter) → f.event ≡ events.Nothing → f.task ≡ tasks.Space n → Falls 1 0 f (to_read f)
+falls-spaceless n f none is =
+    let left : weight_of_agenda f.event tasks.Read f.step ≡ 4 = rw none refl in
+    falls-task tasks.Read 9 f (rw (none, is) refl) (omega arith) refl
 
 -- ---- beginning
 

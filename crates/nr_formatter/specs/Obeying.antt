@@ -1,16 +1,19 @@
--- The request whose line was read, taken effect at once: it is heard, its break does nothing, and it only sets, or is `.nr` and not
--- refused.
-use Rattle.std.specs.Prelude.{ℕ, Bool, true, false, not, ◌&&◌, ◌||◌, if◌then◌else◌, is_none, is_ok}
+-- The request whose line was read, taken effect at once: it is heard, its break does nothing, it only sets or makes space, and it is
+-- not refused.
+use Rattle.std.specs.Prelude.{ℕ, ◌+◌, Bool, true, false, not, ◌&&◌, ◌||◌, if◌then◌else◌, is_none, is_ok}
 use Rattle.nr_fill.specs.Pieces.{begins_line}
 use Rattle.nr_store.specs.declared.request.Request.{Request}
-use Rattle.nr_store.specs.declared.request.Request.TheVariants.{Ad, Br, Ce, Fi, Ft, Hy, In, It, Lc, Ll, Lt, Na, Nf, Nh, Nr, Ns, Pc, Pl, Po, Rs, Ta, Tc, Ti, Ul, Vs}
+use Rattle.nr_store.specs.declared.request.Request.TheVariants.{Ad, Br, Ce, Fi, Ft, Hy, In, It, Lc, Ll, Lt, Na, Ne, Nf, Nh, Nr, Ns, Pc, Pl, Po, Rs, Sp, Ta, Tc, Ti, Ul, Vs}
 use Rattle.nr_formatter.specs.Access.{collected}
 use Rattle.nr_formatter.specs.Lines.{break_done}
 use Rattle.nr_formatter.specs.Moves.{heard_for}
 use Rattle.nr_formatter.specs.Pages.{begins_first_page}
+use Rattle.nr_formatter.specs.Places.{outlet, to_read}
 use Rattle.nr_formatter.specs.Registers.{nr_checked}
 use Rattle.nr_formatter.specs.Requests.{act, breaks}
+use Rattle.nr_formatter.specs.Spacing.{has_room, is_spaceless, spaced}
 use Rattle.nr_formatter.specs.declared.formatter.Formatter.{Formatter}
+use Rattle.nr_formatter.specs.declared.tasks.Task.{Task}
 use Rattle.nr_formatter.specs.declared.tasks.Task.TheVariants as tasks
 use Rattle.nr_formatter.specs.declared.tasks.Then.TheVariants as thens
 
@@ -42,13 +45,27 @@ only_sets Ul = true
 only_sets Vs = true
 only_sets r = false
 
+-- these go down or up the page, and do nothing else
+abbrev pub is_spacing : Request → Bool
+is_spacing Ne = true
+is_spacing Sp = true
+is_spacing r = false
+
+abbrev pub sets_or_spaces : Request → Bool
+sets_or_spaces r = only_sets r || is_spacing r
+
+-- this sets too, and may be refused
 abbrev pub is_nr : Request → Bool
 is_nr Nr = true
 is_nr r = false
 
--- whether all that the request does is to set, and it is made: `.nr` is where its register may be stored
+-- whether all that the request does is to set, and it is not refused: `.nr` is where its register would be above the limit
 abbrev pub may_set : Request → Formatter → Bool
 may_set r f = only_sets r || (is_nr r && is_ok (nr_checked f))
+
+-- whether all that the request does is to set or to make space, and it is not refused
+abbrev pub may_act : Request → Formatter → Bool
+may_act r f = may_set r f || is_spacing r
 
 -- the request breaks before it takes effect
 abbrev pub breaks_first : Formatter → Bool
@@ -64,14 +81,35 @@ behind_break f =
     if breaks_first f then break_done (thens.Act f.reader.request) (heard_for (tasks.Break (thens.Act f.reader.request)) f)
     else heard_for (tasks.Act f.reader.request) f
 
--- no macro springs, and all that the request does is to set
+-- and it took effect; space that it asks for is still to be made
+abbrev pub acted : Formatter → Formatter
+acted f = act f.reader.request (behind_break f)
+
+-- space is to be made, and there is none or the open page has room
+abbrev pub may_space : Task → Formatter → Bool
+may_space (tasks.Space n) f = is_spaceless n f || has_room (outlet f)
+may_space t f = false
+
+abbrev pub space_made : Task → Formatter → Formatter
+space_made (tasks.Space n) f = if is_spaceless n f then to_read f else spaced n f
+space_made t f = f
+
+-- behind such space; any other is not made yet
+abbrev pub behind_space : Formatter → Formatter
+behind_space f = if may_space f.task f then space_made f.task f else f
+
+-- how many moves that is
+abbrev pub moves_spacing : Formatter → ℕ
+moves_spacing f = if may_space f.task f then 1 else 0
+
+-- no macro springs, and all that the request does is to set or to make space
 abbrev pub may_obey : Formatter → Bool
-may_obey f = is_none f.springs && (may_set f.reader.request (behind_break f) && (not (breaks_first f) || breaks_idly f))
+may_obey f = is_none f.springs && (may_act f.reader.request (behind_break f) && (not (breaks_first f) || breaks_idly f))
 
 -- behind such a request; any other is not obeyed yet
 abbrev pub obeyed : Formatter → Formatter
-obeyed f = if may_obey f then act f.reader.request (behind_break f) else f
+obeyed f = if may_obey f then behind_space (acted f) else f
 
 -- how many moves that is
 abbrev pub moves_obeying : Formatter → ℕ
-moves_obeying f = if may_obey f then (if breaks_first f then 3 else 2) else 0
+moves_obeying f = if may_obey f then (if breaks_first f then 3 else 2) + moves_spacing (acted f) else 0

@@ -119,7 +119,7 @@ register_set_by (Some r) name n step f = if is_held n then given_set r n f else 
 abbrev pub register_set : List ℕ → ℤ → Option ℤ → Formatter → Formatter
 register_set name n step f = register_set_by (given_named name) name n step f
 
--- what comes of that: a given register takes its value, and any other where it may be stored
+-- what setting it answers: a given register is never refused, and any other where it would be stored above the limit
 abbrev pub set_checked_by : Option GivenRegister → List ℕ → ℤ → Option ℤ → Formatter → Result (Unit {0}) StoredBytes
 set_checked_by None name n step f = afforded (registered name n step f.store) tt
 set_checked_by (Some r) name n step f = Ok tt
@@ -145,7 +145,7 @@ register_changed (Some c) f = register_set c.name (applied c.change (register_va
 abbrev pub nr : Formatter → Formatter
 nr f = register_changed (lines.nr (line f) (long f) (spacing f)) (to_read f)
 
--- what comes of it
+-- what `.nr` answers: refused, where its register would be stored above the limit
 abbrev pub change_checked : Option RegisterChange → Formatter → Result (Unit {0}) StoredBytes
 change_checked None f = Ok tt
 change_checked (Some c) f = set_checked c.name (applied c.change (register_value c.name f)) c.step f

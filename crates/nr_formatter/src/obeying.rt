@@ -1,18 +1,19 @@
-//! Requests that only set, acted on as soon as their line was read: many moves at once.
-ghost use Rattle.std.specs.Prelude.{◌≡◌, true, false};
-ghost use Rattle.nr_formatter.specs.Obeying.{only_sets, is_nr, breaks_first, breaks_idly, may_obey, obeyed, moves_obeying};
+//! Requests that only set or make space, acted on as soon as their line was read: many moves at once.
+ghost use Rattle.std.specs.Prelude.{◌≡◌, ◌≤◌, true, false};
+ghost use Rattle.nr_formatter.specs.Obeying.{sets_or_spaces, is_nr, breaks_first, breaks_idly, behind_space, moves_spacing, may_obey, obeyed, moves_obeying};
 ghost use Rattle.nr_formatter.specs.Requests.{act};
 
 use crate::formatter::Formatter;
+use crate::paper::Outlet;
 use crate::requests::breaks;
 use crate::tasks::{Task, Then};
 use nr_input::Event;
 use nr_store::Request;
 
-/// A request that sets, or has the input read on, and does nothing else.
+/// A request that sets, has the input read on or makes space, and does nothing else.
 #[inline]
-fn only_sets(request: Request) -> bool
-    ensures { result ≡ only_sets request }
+fn sets_or_spaces(request: Request) -> bool
+    ensures { result ≡ sets_or_spaces request }
 {
     matches!(
         request,
@@ -28,6 +29,7 @@ fn only_sets(request: Request) -> bool
             | Request::Ll
             | Request::Lt
             | Request::Na
+            | Request::Ne
             | Request::Nf
             | Request::Nh
             | Request::Ns
@@ -35,6 +37,7 @@ fn only_sets(request: Request) -> bool
             | Request::Pl
             | Request::Po
             | Request::Rs
+            | Request::Sp
             | Request::Ta
             | Request::Tc
             | Request::Ti
@@ -55,7 +58,7 @@ impl Formatter {
     /// Such a request takes effect.
     #[inline(never)]
     fn set(&mut self, request: Request)
-        requires { only_sets request ≡ true }
+        requires { sets_or_spaces request ≡ true }
         ensures { self.new ≡ act request self.old }
     {
         match request {
@@ -70,6 +73,7 @@ impl Formatter {
             Request::Ll => self.ll(),
             Request::Lt => self.lt(),
             Request::Na => self.na(),
+            Request::Ne => self.ne(),
             Request::Nf => self.nf(),
             Request::Nh => self.nh(),
             Request::Ns => self.ns(),
@@ -77,6 +81,7 @@ impl Formatter {
             Request::Pl => self.pl(),
             Request::Po => self.po(),
             Request::Rs => self.rs(),
+            Request::Sp => self.sp(),
             Request::Ta => self.ta(),
             Request::Tc => self.tc(),
             Request::Ti => self.ti(),
@@ -104,16 +109,17 @@ impl Formatter {
         self.line.is_empty() && !self.begins_first_page(Then::Act(request))
     }
 
-    /// Whether no macro springs, and all that the request does is to set, never refused.
+    /// Whether no macro springs, and all that the request does is to set or to make space, never refused.
     #[inline]
-    fn sets_freely(&self, request: Request, breaks: bool) -> bool
+    fn acts_freely(&self, request: Request, breaks: bool) -> bool
         requires request { request ≡ self.now.reader.request }
         requires breaks { breaks ≡ breaks_first self.now }
         ensures may { result ≡ true → may_obey self.now ≡ true }
-        ensures sets { result ≡ true → only_sets request ≡ true }
+        ensures sets { result ≡ true → sets_or_spaces request ≡ true }
         ensures other { is_nr request ≡ false → result ≡ may_obey self.now }
     {
-        self.springs.is_none() && (only_sets(request) && (!breaks || self.breaks_idly(request)))
+        self.springs.is_none()
+            && (sets_or_spaces(request) && (!breaks || self.breaks_idly(request)))
     }
 
     /// `.nr` takes effect, if no macro springs and it is not refused. Tells how many moves that was.
@@ -137,8 +143,29 @@ impl Formatter {
         2
     }
 
-    /// The request whose line was read takes effect, if it only sets, is not refused, and its break does nothing. Tells how many
-    /// moves that was.
+    /// Space that is to be made is made, if there is none or the open page has room. Tells how many moves that was.
+    #[inline(always)]
+    fn make_space(&mut self) -> u32
+        ensures moves { result ≡ moves_spacing self.old }
+        ensures is { self.new ≡ behind_space self.old }
+        ensures few { result ≤ 1 }
+    {
+        let Task::Space(distance) = self.task else {
+            return 0;
+        };
+        if self.is_spaceless(distance) {
+            self.task = Task::Read;
+            return 1;
+        }
+        if !matches!(self.outlet(), Outlet::Room) {
+            return 0;
+        }
+        self.space_down(distance);
+        1
+    }
+
+    /// The request whose line was read takes effect, if it only sets or makes space, is not refused, and its break does nothing; its
+    /// space is made, if there is none or the open page has room. Tells how many moves that was.
     #[inline]
     pub fn obey(&mut self) -> u32
         ensures moves { result ≡ moves_obeying self.old }
@@ -146,17 +173,17 @@ impl Formatter {
     {
         let request = self.reader.request();
         let breaks = self.breaks_first(request);
-        if !self.sets_freely(request, breaks) {
+        if !self.acts_freely(request, breaks) {
             return if is_nr(request) { self.obey_nr() } else { 0 };
         }
         self.event = Event::Nothing;
         self.task = Task::Act(request);
         if !breaks {
             self.set(request);
-            return 2;
+            return 2 + self.make_space();
         }
         self.break_done(Then::Act(request));
         self.set(request);
-        3
+        3 + self.make_space()
     }
 }

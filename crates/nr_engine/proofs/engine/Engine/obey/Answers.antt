@@ -1,8 +1,8 @@
-use Rattle.std.proofs.Common.{◌≡◌, ◌<◌, ℕ, subst, sym, ◌∙◌}
+use Rattle.std.proofs.Common.{◌≡◌, ◌<◌, ◌≤◌, ℕ, subst, sym, ◌∙◌}
 use Rattle.nr_engine.specs.Holding.{shape}
 use Rattle.nr_formatter.specs.Obeying.{moves_obeying, obeyed}
 use Rattle.nr_engine.specs.Running.{MakesInPlace}
-use Rattle.nr_engine.proofs.Obeyed.{makes_obeyed, obeyed_shape, reads_obeyed}
+use Rattle.nr_engine.proofs.Obeyed.{makes_obeyed, moves_obeying-le, obeyed_shape, reads_obeyed}
 use Rattle.nr_engine.proofs.engine.Engine.obey.Goals as goal
 
 pub returns-clause-obeys : goal.returns-clause-obeys
@@ -12,4 +12,7 @@ returns-clause-obeys c =
     rw c.obey.ensures.is (subst (λ (n : ℕ). MakesInPlace n (shape c.args.self.now) (obeyed_shape (obeyed f) (shape c.args.self.now))) same (makes_obeyed (shape c.args.self.now) c.requires.request))
 
 pub returns-clause-next : goal.returns-clause-next
-returns-clause-next c = λ some. rw c.obey.ensures.is (reads_obeyed c.args.self.now.formatter (subst (λ (n : ℕ). 0 < n) (c.from.ensures ∙ c.obey.ensures.moves) some))
+returns-clause-next c = λ sets some. rw c.obey.ensures.is (reads_obeyed c.args.self.now.formatter sets (subst (λ (n : ℕ). 0 < n) (c.from.ensures ∙ c.obey.ensures.moves) some))
+
+pub returns-clause-few : goal.returns-clause-few
+returns-clause-few c = subst (λ (n : ℕ). n ≤ 4) (sym (c.from.ensures ∙ c.obey.ensures.moves)) (moves_obeying-le c.args.self.now.formatter)

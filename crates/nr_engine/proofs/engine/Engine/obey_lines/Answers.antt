@@ -11,9 +11,6 @@ loop-init g c = record {
   few = omega arith;
 }
 
-pub obey-obeyed-requires : goal.obey-obeyed-requires
-obey-obeyed-requires g c = record { request = c.loop.invariant.request }
-
 pub returns-then-obeyed-eq0-clause-reads : goal.returns-then-obeyed-eq0-clause-reads
 returns-then-obeyed-eq0-clause-reads g c =
     let e : Shape = shape c.args.self.now in
@@ -23,27 +20,28 @@ returns-then-obeyed-eq0-clause-reads g c =
     (reading-add c.loop.moves c.obey-obeyed.result e (shape c.loop.self) f _ _ _ _ _ _ c.loop.invariant.reads
     (reading_in_place c.obey-obeyed.result (shape c.loop.self) f _ _ c.obey-obeyed.ensures.obeys))
 
-pub returns-then-obeyed-eq0-clause-few : goal.returns-then-obeyed-eq0-clause-few
-returns-then-obeyed-eq0-clause-few g c = omega (arith, c.loop.invariant.few, c.loop-test.true)
-
-pub overflow_add-moves-in-loop : goal.overflow_add-moves-in-loop
-overflow_add-moves-in-loop g c = omega (arith, c.loop.invariant.few, c.loop-test.true, c.obey-obeyed.ensures.few, c.read_control_line.ensures.few)
+pub returns-then-not-reads_next-clause-reads : goal.returns-then-not-reads_next-clause-reads
+returns-then-not-reads_next-clause-reads g c =
+    reading-add c.loop.moves c.obey-obeyed.result (shape c.args.self.now) (shape c.loop.self) (shape c.obey-obeyed.new.self) _ _ _ _ _ _ c.loop.invariant.reads
+    (reading_in_place c.obey-obeyed.result (shape c.loop.self) (shape c.obey-obeyed.new.self) _ _ c.obey-obeyed.ensures.obeys)
 
 pub loop-preserved : goal.loop-preserved
 loop-preserved g c = record {
-  reads = reading-add c.loop.moves (c.obey-obeyed.result + c.read_control_line.result) (shape c.args.self.now) (shape c.loop.self) (shape c.read_control_line.new.self) _ _ _ _ _ _ c.loop.invariant.reads
-      (reading-add c.obey-obeyed.result c.read_control_line.result (shape c.loop.self) (shape c.obey-obeyed.new.self) (shape c.read_control_line.new.self) _ _ _ _ _ _
-      (reading_in_place c.obey-obeyed.result (shape c.loop.self) (shape c.obey-obeyed.new.self) _ _ c.obey-obeyed.ensures.obeys) c.read_control_line.ensures.reads);
+  reads = reading-add (c.loop.moves + c.obey-obeyed.result) c.read_control_line-moves.result (shape c.args.self.now) (shape c.obey-obeyed.new.self) (shape c.read_control_line-moves.new.self) _ _ _ _ _ _
+      (reading-add c.loop.moves c.obey-obeyed.result (shape c.args.self.now) (shape c.loop.self) (shape c.obey-obeyed.new.self) _ _ _ _ _ _ c.loop.invariant.reads
+      (reading_in_place c.obey-obeyed.result (shape c.loop.self) (shape c.obey-obeyed.new.self) _ _ c.obey-obeyed.ensures.obeys))
+      c.read_control_line-moves.ensures.reads;
   request = c.in-Request.is;
-  few = omega (arith, c.loop.invariant.few, c.obey-obeyed.ensures.few, c.read_control_line.ensures.few);
+  few = omega (arith, c.loop.invariant.few, c.obey-obeyed.ensures.few, c.read_control_line-moves.ensures.few);
 }
 
 pub returns-in_default : goal.returns-in_default
 returns-in_default g c = record {
-  reads = reading-add c.loop.moves (c.obey-obeyed.result + c.read_control_line.result) (shape c.args.self.now) (shape c.loop.self) (shape c.read_control_line.new.self) _ _ _ _ _ _ c.loop.invariant.reads
-      (reading-add c.obey-obeyed.result c.read_control_line.result (shape c.loop.self) (shape c.obey-obeyed.new.self) (shape c.read_control_line.new.self) _ _ _ _ _ _
-      (reading_in_place c.obey-obeyed.result (shape c.loop.self) (shape c.obey-obeyed.new.self) _ _ c.obey-obeyed.ensures.obeys) c.read_control_line.ensures.reads);
-  few = omega (arith, c.loop.invariant.few, c.loop-test.true, c.obey-obeyed.ensures.few, c.read_control_line.ensures.few);
+  reads = reading-add (c.loop.moves + c.obey-obeyed.result) c.read_control_line-moves.result (shape c.args.self.now) (shape c.obey-obeyed.new.self) (shape c.read_control_line-moves.new.self) _ _ _ _ _ _
+      (reading-add c.loop.moves c.obey-obeyed.result (shape c.args.self.now) (shape c.loop.self) (shape c.obey-obeyed.new.self) _ _ _ _ _ _ c.loop.invariant.reads
+      (reading_in_place c.obey-obeyed.result (shape c.loop.self) (shape c.obey-obeyed.new.self) _ _ c.obey-obeyed.ensures.obeys))
+      c.read_control_line-moves.ensures.reads;
+  few = omega (arith, c.loop.invariant.few, c.loop-test.true, c.obey-obeyed.ensures.few, c.read_control_line-moves.ensures.few);
 }
 
 pub returns-clause-reads : goal.returns-clause-reads

@@ -8,5 +8,5 @@ abbrev pub invariant-loop : goal.invariant-loop
 invariant-loop g l = record {
   reads : MakesReading l.moves (shape l.fn.self) (shape l.self) (g.R.Source.supply l.fn.input) (g.R.Source.supply l.input) (g.R.Source.failures l.fn.input) (g.R.Source.failures l.input);
   request : l.self.formatter.event ≡ events.Request;
-  few : l.moves ≤ 65539 * l.counter;
+  few : l.moves ≤ 65540 * l.counter;
 }

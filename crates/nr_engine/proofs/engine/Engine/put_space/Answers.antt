@@ -1,5 +1,5 @@
 use Rattle.std.proofs.Common.{refl, rules}
-use Rattle.nr_engine.proofs.Lightening.{falls-spaceless}
+use Rattle.nr_formatter.proofs.PageFalls.{falls-spaceless}
 use Rattle.nr_engine.proofs.engine.Engine.put_space.Goals as goal
 
 pub returns-then-is_spaceless-clause-works : goal.returns-then-is_spaceless-clause-works

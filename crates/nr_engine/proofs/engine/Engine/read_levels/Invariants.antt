@@ -6,5 +6,5 @@ use Rattle.nr_engine.proofs.engine.Engine.read_levels.Given as goal
 abbrev pub invariant-loop : goal.invariant-loop
 invariant-loop l = record {
   reads : MakesInPlace l.moves (shape l.fn.self) (shape l.self);
-  few : l.moves ≤ (65541 * 4096 + 3) * l.counter;
+  few : l.moves ≤ (65541 * 4096 + 4) * l.counter;
 }
