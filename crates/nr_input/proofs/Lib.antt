@@ -9,7 +9,7 @@ pub mod ControlLines
 pub mod Costs
 pub mod Digits
 pub mod DroppedLines
-pub mod Fonts
+pub mod FontEscapes
 pub mod Interpolated
 pub mod Items
 pub mod LevelLines

@@ -1,5 +1,5 @@
 //! Font escapes in the text of the source.
-ghost use Rattle.std.specs.Prelude.{◌≡◌, ◌+◌, ◌≤◌, ◌<◌, true, map, Option, None, Some, IfSome};
+ghost use Rattle.std.specs.Prelude.{◌≡◌, ◌+◌, ◌≤◌, true, map, Option, None, Some, IfSome};
 ghost use Rattle.nr_reading.specs.declared.event.Event.TheVariants as events;
 ghost use Rattle.nr_reading.specs.declared.front.Front.TheVariants as variants;
 ghost use Rattle.nr_reading.specs.declared.mode.Mode.TheVariants as modes;
@@ -19,7 +19,7 @@ use nr_reading::Run;
 pub fn meet_font(reader: &mut Reader, bytes: &[u8]) -> Option<Run>
     ensures met { IfSome result (λ run. HasMet run.moves (map variants.Byte bytes.now) reader.old.half (spot run reader.new.half)) }
     ensures font { IfSome result (λ run. run.event ≡ events.Font) }
-    ensures some { IfSome result (λ run. 0 < run.taken) }
+    ensures least { IfSome result (λ run. 3 ≤ run.taken) }
     ensures few { IfSome result (λ run. run.moves ≤ 6) }
     ensures in_line { reader.old.half.reading.mode ≡ modes.Text → IfSome result (λ run. run.moves ≡ run.taken) }
     ensures at_start { reader.old.half.reading.mode ≡ modes.Start → IfSome result (λ run. run.moves ≡ run.taken + 1) }

@@ -130,7 +130,7 @@ impl Half {
         requires within { place < length (I.fronts items.now) }
         ensures met { IfSome result (λ run. (h : HalfRead) (n : ℕ) → HasMet (n + before) (I.fronts items.now) h (quiet (place + before) (begun kind self.old)) →
             HasMet (n + run.moves) (I.fronts items.now) h (record { taken = place + run.taken; half = self.new; event = run.event })) }
-        ensures some { IfSome result (λ run. 0 < run.taken) }
+        ensures least { IfSome result (λ run. before < run.taken) }
         ensures few { IfSome result (λ run. run.moves ≤ 6) }
         ensures taken { IfSome result (λ run. run.taken ≡ run.moves) }
         ensures within { IfSome result (λ run. place + run.taken ≤ length (I.fronts items.now)) }
@@ -224,7 +224,7 @@ impl Half {
         requires font { slice_get (I.fronts items.now) (place + 1) ≡ Some (variants.Byte 102) }
         ensures met { IfSome result (λ run. (h : HalfRead) (n : ℕ) → HasMet n (I.fronts items.now) h (quiet place self.old) →
             HasMet (n + run.moves) (I.fronts items.now) h (record { taken = place + run.taken; half = self.new; event = run.event })) }
-        ensures some { IfSome result (λ run. 0 < run.taken) }
+        ensures least { IfSome result (λ run. 3 ≤ run.taken) }
         ensures few { IfSome result (λ run. run.moves ≤ 6) }
         ensures taken { IfSome result (λ run. run.moves ≡ run.taken + 1) }
         ensures within { IfSome result (λ run. place + run.taken ≤ length (I.fronts items.now)) }
@@ -260,7 +260,7 @@ impl Half {
         requires font { slice_get (I.fronts items.now) (place + 1) ≡ Some (variants.Byte 102) }
         ensures met { IfSome result (λ run. (h : HalfRead) (n : ℕ) → HasMet n (I.fronts items.now) h (quiet place self.old) →
             HasMet (n + run.moves) (I.fronts items.now) h (record { taken = place + run.taken; half = self.new; event = run.event })) }
-        ensures some { IfSome result (λ run. 0 < run.taken) }
+        ensures least { IfSome result (λ run. 3 ≤ run.taken) }
         ensures few { IfSome result (λ run. run.moves ≤ 6) }
         ensures taken { IfSome result (λ run. run.taken ≤ run.moves) }
         ensures within { IfSome result (λ run. place + run.taken ≤ length (I.fronts items.now)) }
@@ -314,7 +314,7 @@ impl Half {
     pub fn meet_front_font<I: Items>(&mut self, items: &I) -> Option<Run>
         ensures met { IfSome result (λ run. HasMet run.moves (I.fronts items.now) self.old (spot run self.new)) }
         ensures font { IfSome result (λ run. run.event ≡ events.Font) }
-        ensures some { IfSome result (λ run. 0 < run.taken) }
+        ensures least { IfSome result (λ run. 3 ≤ run.taken) }
         ensures few { IfSome result (λ run. run.moves ≤ 6) }
         ensures in_line { self.old.reading.mode ≡ modes.Text → IfSome result (λ run. run.moves ≡ run.taken) }
         ensures at_start { self.old.reading.mode ≡ modes.Start → IfSome result (λ run. run.moves ≡ run.taken + 1) }

@@ -1,5 +1,5 @@
 use Rattle.std.specs.Prelude.{slice_index}
-use Rattle.nr_input.proofs.Fonts.{is_font}
+use Rattle.nr_input.proofs.FontEscapes.{is_font}
 use Rattle.nr_input.proofs.fonts.meet_font.Goals as goal
 
 pub returns-clause-longest : goal.returns-clause-longest
