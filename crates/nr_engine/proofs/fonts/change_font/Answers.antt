@@ -1,13 +1,10 @@
-use Rattle.std.proofs.Common.{◌≡◌, ℕ, ◌+◌, ◌≤◌, List, sym, ap, ◌∙◌, subst, arith}
-use Rattle.nr_reading.specs.declared.half.Half.{Half}
-use Rattle.nr_reading.specs.declared.runs.Run.{Run}
+use Rattle.std.proofs.Common.{◌≡◌, ◌+◌, sym, ap, ◌∙◌, subst, arith}
 use Rattle.nr_reading.proofs.InText.{in_text}
 use Rattle.nr_input.specs.declared.reader.Reader.{Reader}
 use Rattle.nr_formatter.specs.Moves.{font_set}
 use Rattle.nr_formatter.specs.Runs.{is_in_line}
 use Rattle.nr_formatter.specs.declared.formatter.Formatter.{Formatter}
 use Rattle.nr_formatter.proofs.PlainText.{in_line}
-use Rattle.nr_engine.specs.Fonts.{PutsFont}
 use Rattle.nr_engine.specs.Running.{PutsText}
 use Rattle.nr_engine.proofs.FontEscapes.{font_put, line_font, puts_font, text_reads}
 use Rattle.nr_engine.proofs.fonts.change_font.Goals as goal
