@@ -3,6 +3,7 @@ mod CellBytes
 mod Choosing
 mod EmptyLines
 mod Flows
+mod FontEscapes
 mod Gliding
 mod Going
 mod Judged

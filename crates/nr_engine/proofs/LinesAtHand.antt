@@ -7,6 +7,7 @@ use Rattle.std.proofs.lemmas.List.{get_or-drop}
 use Rattle.nr_units.specs.Supply.{Supply, skipped}
 use Rattle.nr_fill.specs.Pieces.{begins_line, text_cells}
 use Rattle.nr_fill.specs.Runs.{IsPlain}
+use Rattle.nr_reading.specs.Interpolations.{interpolates}
 use Rattle.nr_reading.specs.LineBeginnings.{IsBeforeLine, is_at_text as reads_text}
 use Rattle.nr_reading.specs.declared.event.Event.{Event}
 use Rattle.nr_reading.specs.declared.event.Event.TheVariants as events
@@ -14,6 +15,7 @@ use Rattle.nr_reading.specs.declared.mode.Mode.TheVariants as modes
 use Rattle.nr_reading.proofs.InText.{ended_text, in_text}
 use Rattle.nr_input.specs.AtHand.{ComeNext}
 use Rattle.nr_input.specs.Coming.{Coming, HoldsComing}
+use Rattle.nr_input.specs.Fonts.{BeginsFont}
 use Rattle.nr_formatter.specs.Access.{collected}
 use Rattle.nr_formatter.specs.LineBeginnings.{BeginsText, is_at_text, text_begun}
 use Rattle.nr_formatter.specs.LineEnds.{IsNewline, line_gapped, newline_flows, newline_put}
@@ -160,6 +162,10 @@ goes_first bs f n k h takes puts =
     let moves : k ≡ 0 + k = omega arith in
     subst (λ i. PutsText bs i (0 + k) f h) count (subst (λ j. PutsText bs n j f h) moves puts)
 
+-- all of it was put
+pub goes_put : (t m : ℕ) (bs : List ℕ) (f g : Formatter) → PutsText bs t m f g → GoesOn bs t m f g
+goes_put t m bs f g before n k h takes puts = puts_on t m n k bs f g h before puts
+
 -- a line's text begins there
 pub goes_begun : (t m : ℕ) (bs : List ℕ) (f g h : Formatter) → 0 < t → PutsText bs t m f g → is_at_text g ≡ true → IsBeforeLine g.reader.half → BeginsText (drop t bs) g → h ≡ text_begun g
     → GoesOn bs t m f h
@@ -186,26 +192,37 @@ words_behind t n bs f longest =
       blank = λ below line blank. longest.blank (omega (arith, left, below)) line (sym same ∙ blank);
     }
 
--- behind the words of a line comes no plain newline
-pub longest_line : (bs : List ℕ) (t m : ℕ) (f : Formatter) → 2 * t ≤ m → m ≤ 5 * t → LongestWords bs t f → (is_at_text f ≡ true → is_in_line f ≡ true)
-    → (t < length bs → slice_index bs t ≡ 10 → IsNewline f → ⊥) → Longest bs t m f
-longest_line bs t m f least most words line newline = record {
+-- behind the words of a line comes no plain newline, and no font escape
+pub longest_line : (bs : List ℕ) (t m : ℕ) (f : Formatter) → t ≤ m → m ≤ 5 * t → LongestWords bs t f → (is_at_text f ≡ true → is_in_line f ≡ true)
+    → (t < length bs → slice_index bs t ≡ 10 → IsNewline f → ⊥) → (is_in_line f ≡ true → BeginsFont (drop t bs) → ⊥) → Longest bs t m f
+longest_line bs t m f least most words line newline font = record {
   least = least;
   most = most;
   words = words;
   newline = newline;
   begins = λ at out begins. let wrong : true ≡ false = sym (line at) ∙ out in cc;
+  font = λ at plain begins. font (line at) begins;
 }
 
 -- no line goes on, and none begins
-pub longest_out : (bs : List ℕ) (t m : ℕ) (f : Formatter) → 2 * t ≤ m → m ≤ 5 * t → (is_in_line f ≡ true → ⊥) → (is_at_text f ≡ true → BeginsText (drop t bs) f → ⊥) → Longest bs t m f
-longest_out bs t m f least most out begins = record {
+pub longest_out : (bs : List ℕ) (t m : ℕ) (f : Formatter) → t ≤ m → m ≤ 5 * t → (is_in_line f ≡ true → ⊥) → (is_at_text f ≡ true → BeginsText (drop t bs) f → ⊥)
+    → (is_at_text f ≡ true → interpolates f.reader.half ≡ true → BeginsFont (drop t bs) → ⊥) → Longest bs t m f
+longest_out bs t m f least most out begins font = record {
   least = least;
   most = most;
   words = record { stops = λ below line. absurd (out line); blank = λ below line. absurd (out line) };
   newline = λ below is newline. out newline.line;
   begins = λ at no. begins at;
+  font = font;
 }
+
+-- where no `\` comes next no font escape does
+pub no_font : (t : ℕ) (bs : List ℕ) → (t < length bs → slice_index bs t ≡ 92 → ⊥) → BeginsFont (drop t bs) → ⊥
+no_font t bs other begins =
+    let left : length (drop t bs) ≡ length bs - t = length-drop t bs in
+    let some = begins.some in
+    let same : t + 0 ≡ t = omega arith in
+    other (omega (arith, left, some)) (ap (slice_index bs) (sym same) ∙ sym (get_or-drop t bs 0 0) ∙ begins.backslash)
 
 idle_task : (e : Event) (t : Task) → reads_next e t ≡ true → t ≡ tasks.Read
 idle_task events.Nothing tasks.Read is = refl

@@ -1,6 +1,7 @@
 pub mod Answer
 pub mod Desks
 pub mod EmptyLines
+pub mod Fonts
 pub mod Holding
 pub mod Limits
 pub mod LineBeginnings

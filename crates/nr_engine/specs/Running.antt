@@ -4,8 +4,10 @@ use Rattle.std.specs.Option.{option_map}
 use Rattle.nr_units.specs.Supply.{Supply, skipped}
 use Rattle.nr_options.specs.Limits.{Bounds}
 use Rattle.nr_options.specs.declared.options.Options.{Options}
+use Rattle.nr_reading.specs.Interpolations.{interpolates}
 use Rattle.nr_input.specs.AtHand.{ComeNext, is_unseen}
 use Rattle.nr_input.specs.Coming.{Coming, HoldsComing, has_failed, nothing_reached}
+use Rattle.nr_input.specs.Fonts.{BeginsFont}
 use Rattle.nr_input.specs.Gathering.{Brings, GathersMost, IsGathered, Leaves}
 use Rattle.nr_input.specs.Runs.{passed_run}
 use Rattle.nr_input.specs.declared.gathering.Gathered.{Gathered}
@@ -99,11 +101,11 @@ pub record HasNext (bs : List ℕ) (e : Shape) (supply : Option Supply) : Type 0
   pub unseen : is_unseen e.place.ahead ≡ true
   pub next : (c : Coming) → HoldsComing c e.place supply → ComeNext bs c
 
--- So many of these bytes were put, two to five moves each, whatever the engine has besides the formatter, and 20 moves more are
+-- So many of these bytes were put, one to five moves each, whatever the engine has besides the formatter, and 20 moves more are
 -- paid. What was spliced before them does not matter.
 pub record PutsText (bs : List ℕ) (taken moves : ℕ) (f g : Formatter) : Type 0 where
   pub front : taken ≤ length bs
-  pub least : 2 * taken ≤ moves
+  pub least : taken ≤ moves
   pub most : moves ≤ 5 * taken
   pub none : taken ≡ 0 → g ≡ f
   pub store : g.store ≡ f.store
@@ -172,14 +174,15 @@ pub record LongestOfLevels (v : StoredOf Resume) (r : Reader) (f : Formatter) : 
   pub words : LongestWords bytes taken f
   pub newline : taken ≡ length bytes → gathered.ends ≡ true → IsNewline f → ⊥
 
--- As many of these bytes were put as could be, two to five moves each: what comes next is none of a line's words, no newline that
--- does nothing but end its line, and at a line's beginning no text that is put.
+-- As many of these bytes were put as could be, one to five moves each: what comes next is none of a line's words, no newline that
+-- does nothing but end its line, at a line's beginning no text that is put, and no font escape whose name is one byte.
 pub record Longest (bs : List ℕ) (taken moves : ℕ) (f : Formatter) : Type 0 where
-  pub least : 2 * taken ≤ moves
+  pub least : taken ≤ moves
   pub most : moves ≤ 5 * taken
   pub words : LongestWords bs taken f
   pub newline : taken < length bs → slice_index bs taken ≡ 10 → IsNewline f → ⊥
   pub begins : is_at_text f ≡ true → is_in_line f ≡ false → BeginsText (drop taken bs) f → ⊥
+  pub font : is_at_text f ≡ true → interpolates f.reader.half ≡ true → BeginsFont (drop taken bs) → ⊥
 
 -- all choices took effect, each as a move, or the run stops at one
 abbrev pub AfterChoices : Option Supply → State → ℕ → Shape → Option (List ℕ) → Result (Unit {0}) Outcome → Type 0

@@ -2,8 +2,8 @@
 //!
 //! It stands on nr_formatter, nr_page, nr_options and the crates below them. To read: `outcome`, `lengths`,
 //! `desk`; `engine`; its moves in `pages`, `lines`, `breaks`, `titles`, `rooms`, `diverted`, `spacing`,
-//! `ejecting`; many moves at once in `reading`, `plain_text`, `level_text`, `rereading`, `empty_lines`,
-//! `obeying`; `run`, with `format`.
+//! `ejecting`; many moves at once in `reading`, `plain_text`, `fonts`, `level_text`, `rereading`,
+//! `empty_lines`, `obeying`; `run`, with `format`.
 #![tactic(auto)]
 
 mod breaks;
@@ -12,6 +12,7 @@ mod diverted;
 mod ejecting;
 mod empty_lines;
 mod engine;
+mod fonts;
 mod lengths;
 mod level_text;
 mod lines;

@@ -8,6 +8,7 @@ ghost use Rattle.nr_engine.specs.LineBeginnings.{may_take, Begins, PutsMost};
 ghost use Rattle.nr_engine.specs.Running.{MakesReading, Longest, LongestWords, PutsOfFlow, PutsText};
 
 use crate::engine::Engine;
+use crate::fonts::{begin_font, put_font};
 use nr_formatter::formatter::Formatter;
 use nr_formatter::runs::Gap;
 use nr_units::source::Source;
@@ -62,8 +63,8 @@ pub(crate) fn put_line_words(formatter: &mut Formatter, bytes: &[u8]) -> Words
     }
 }
 
-/// Puts the text that these bytes begin with, in a text line that has begun: its words, and behind the newline that ends it and does
-/// nothing else, where it begins with a byte that is put, the next line's.
+/// Puts the text that these bytes begin with, in a text line that has begun: its words and font escapes, and behind the newline that ends
+/// it and does nothing else, where it begins with a byte that is put or with a font escape, the next line's.
 #[inline(always)]
 fn put_words(formatter: &mut Formatter, bytes: &[u8]) -> Words
     requires line { is_in_line formatter.old ≡ true }
@@ -77,8 +78,17 @@ fn put_words(formatter: &mut Formatter, bytes: &[u8]) -> Words
         let line = put_line_words(formatter, &bytes[taken..]);
         taken += line.taken;
         moves += line.moves;
-        if taken == bytes.len() || bytes[taken] != b'\n' {
+        if taken == bytes.len() {
             return Words { taken, moves };
+        }
+        if bytes[taken] != b'\n' {
+            let font = put_font(formatter, &bytes[taken..]);
+            if font == 0 {
+                return Words { taken, moves };
+            }
+            taken += font;
+            moves += font + 1;
+            continue;
         }
         match formatter.put_newline() {
             Gap::Left => return Words { taken, moves },
@@ -93,7 +103,12 @@ fn put_words(formatter: &mut Formatter, bytes: &[u8]) -> Words
         taken += 1;
         moves += 5;
         if !formatter.begin_text(&bytes[taken..]) {
-            return Words { taken, moves };
+            let font = begin_font(formatter, &bytes[taken..]);
+            if font == 0 {
+                return Words { taken, moves };
+            }
+            taken += font;
+            moves += font + 2;
         }
     }
 }

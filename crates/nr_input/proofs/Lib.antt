@@ -9,6 +9,7 @@ pub mod ControlLines
 pub mod Costs
 pub mod Digits
 pub mod DroppedLines
+pub mod FontEscapes
 pub mod Interpolated
 pub mod Items
 pub mod LevelLines

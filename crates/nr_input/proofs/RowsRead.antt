@@ -156,8 +156,9 @@ module _ {K : Type 0} (n : ℕ) (fs : List Front) (v : Stored K) (q : Reached) (
     tells = met.tells;
   }
 
-  source_paid : (k last : ℕ) → p.taken ≡ suc k → PaysAll n v q r p.event v (passed_run last (suc k) q) (record r { half = p.half; burst = 0 })
-  source_paid k last many = record {
+  -- each byte but the first pays 256 moves more
+  source_paid : (more k last : ℕ) → more ≤ 256 * k → p.taken ≡ suc k → PaysAll (n + more) v q r p.event v (passed_run last (suc k) q) (record r { half = p.half; burst = 0 })
+  source_paid more k last less many = record {
     limit = refl;
     diversions = refl;
     most = refl;
@@ -168,6 +169,7 @@ module _ {K : Type 0} (n : ℕ) (fs : List Front) (v : Stored K) (q : Reached) (
           paid,
           many,
           enough,
+          less,
           worth_more worth q.taken k,
           pays_each worth k (omega (arith, enough)),
           newline_left-le (not (last == 10)),
@@ -175,10 +177,23 @@ module _ {K : Type 0} (n : ℕ) (fs : List Front) (v : Stored K) (q : Reached) (
     tells = met.tells;
   }
 
+  -- where the first of them was taken, and maybe others
+  source_more : (more k last : ℕ) (q' : Reached) → more ≤ 256 * k → p.taken ≡ suc k → q' ≡ passed_run last p.taken q → PaysAll (n + more) v q r p.event v q' (record r { half = p.half; burst = 0 })
+  source_more more k last q' less many is =
+      subst (λ x. PaysAll (n + more) v q r p.event v x (record r { half = p.half; burst = 0 })) (ap (λ j. passed_run last j q) (sym many) ∙ sym is) (source_paid more k last less many)
+
   pub source_pays : (last : ℕ) (q' : Reached) → 0 < p.taken → q' ≡ passed_run last p.taken q → PaysAll n v q r p.event v q' (record r { half = p.half; burst = 0 })
   source_pays last q' some is =
       let many = some_taken p.taken (λ e. omega (arith, e, some)) in
-      subst (λ x. PaysAll n v q r p.event v x (record r { half = p.half; burst = 0 })) (ap (λ k. passed_run last k q) (sym many.1) ∙ sym is) (source_paid many.0 last many.1)
+      let none : n + 0 ≡ n = omega arith in
+      subst (λ m. PaysAll m v q r p.event v q' (record r { half = p.half; burst = 0 })) none (source_more 0 many.0 last q' (omega arith) many.1 is)
+
+  -- behind two bytes or more 20 moves more are paid
+  pub source_saves : (last : ℕ) (q' : Reached) → 1 < p.taken → q' ≡ passed_run last p.taken q → PaysAll (n + 20) v q r p.event v q' (record r { half = p.half; burst = 0 })
+  source_saves last q' some is =
+      let many = some_taken p.taken (λ e. omega (arith, e, some)) in
+      let two = many.1 in
+      source_more 20 many.0 last q' (omega (arith, two, some)) many.1 is
 
 -- none was taken, whether there was one or not
 pub none_taken : {K : Type 0} (bs : List ℕ) (v : Stored K) (c : Coming) (r : Reader) (n : ℕ) (p : Spot) (q : Reached) (supply : Option Supply) → (0 < length bs → v.levels ≡ []) → (0 < length bs → ComeNext bs c)

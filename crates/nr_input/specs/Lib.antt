@@ -5,6 +5,7 @@ pub mod BodyLines
 pub mod Coming
 pub mod CommentLines
 pub mod DroppedLines
+pub mod Fonts
 pub mod Gathering
 pub mod Hearing
 pub mod Interpolations

@@ -1,8 +1,13 @@
 //! Font escapes in the text of the source.
-ghost use Rattle.std.specs.Prelude.{◌≡◌, ◌+◌, ◌≤◌, map, Option, None, Some, IfSome};
+ghost use Rattle.std.specs.Prelude.{◌≡◌, ◌+◌, ◌≤◌, true, map, Option, None, Some, IfSome};
 ghost use Rattle.nr_reading.specs.declared.event.Event.TheVariants as events;
 ghost use Rattle.nr_reading.specs.declared.front.Front.TheVariants as variants;
+ghost use Rattle.nr_reading.specs.declared.mode.Mode.TheVariants as modes;
+ghost use Rattle.nr_reading.specs.InText.{is_in_text};
+ghost use Rattle.nr_reading.specs.Interpolations.{interpolates};
+ghost use Rattle.nr_reading.specs.LineBeginnings.{is_at_text};
 ghost use Rattle.nr_reading.specs.Runs.{HasMet, spot};
+ghost use Rattle.nr_input.specs.Fonts.{BeginsFont};
 
 use super::reader::Reader;
 use super::runs::ByteRow;
@@ -14,11 +19,14 @@ use nr_reading::Run;
 pub fn meet_font(reader: &mut Reader, bytes: &[u8]) -> Option<Run>
     ensures met { IfSome result (λ run. HasMet run.moves (map variants.Byte bytes.now) reader.old.half (spot run reader.new.half)) }
     ensures font { IfSome result (λ run. run.event ≡ events.Font) }
+    ensures least { IfSome result (λ run. 3 ≤ run.taken) }
     ensures few { IfSome result (λ run. run.moves ≤ 6) }
-    ensures taken { IfSome result (λ run. run.taken ≤ run.moves) }
-    ensures most { IfSome result (λ run. run.moves ≤ run.taken + 1) }
+    ensures in_line { reader.old.half.reading.mode ≡ modes.Text → IfSome result (λ run. run.moves ≡ run.taken) }
+    ensures at_start { reader.old.half.reading.mode ≡ modes.Start → IfSome result (λ run. run.moves ≡ run.taken + 1) }
+    ensures behind { IfSome result (λ run. is_in_text reader.new.half ≡ true) }
     ensures reader { reader.new ≡ record reader.old { half = reader.new.half } }
     ensures left { result ≡ None → reader.new ≡ reader.old }
+    ensures longest { result ≡ None → is_at_text reader.old.half ≡ true → interpolates reader.old.half ≡ true → BeginsFont bytes.now → ⊥ }
 {
     reader.half.meet_front_font(&ByteRow(bytes))
 }

@@ -22,6 +22,7 @@ use Rattle.nr_reading.specs.declared.mode.Signs.{Signs}
 use Rattle.nr_reading.specs.declared.notes.Notes.{Notes}
 use Rattle.nr_reading.specs.Asking.{begun_ask, at_stage, with_byte, is_given, due_of, event_of}
 use Rattle.nr_reading.specs.Delimiting.{Texts}
+use Rattle.nr_reading.specs.InText.{is_in_text, is_in_text_at}
 use Rattle.nr_reading.specs.Interpolations.{interpolates_in, interpolates, is_lone_name, is_named, begun, named}
 use Rattle.nr_reading.specs.LineBeginnings.{text_begun}
 use Rattle.nr_reading.specs.Meeting.{meet, reads_plainly, reads_plainly_at}
@@ -327,3 +328,22 @@ named_waits (kinds.Register s) name is silent look = by (is_given name) silent l
     by true silent look = let wrong : ⊥ = cc in wrong
     by false silent look = let wrong : ⊥ = cc in wrong
 named_waits k name is silent look = let wrong : false ≡ true = is in cc
+
+-- ---- behind the name of a font
+
+-- nothing of an escape is half read in text
+reads_text : (asks : List Ask) (e : Escape) → reads_plainly_at asks e ≡ true → is_in_text_at modes.Text e dues.Look asks ≡ true
+reads_text [] escapes.Plain is = refl
+reads_text asks e is = absurd (let wrong : false ≡ true = is in cc)
+
+-- the next item is read in the midst of the text line
+pub font_behind : (k : Kind) (name : List ℕ) (h : Half) → interpolates h ≡ true → k ≡ kinds.Font → h.reading.mode ≡ modes.Text → is_in_text (named k name h) ≡ true
+font_behind k name h plain font text =
+    let both = and_parts (reads_plainly h) (interpolates_in h.reading.mode h.signs) plain in
+    rw (font, text) (reads_text h.asks h.reading.escape both.0)
+
+-- and so where the text began with it
+pub font_begun_behind : (name : List ℕ) (h : Half) → interpolates h ≡ true → is_in_text (named kinds.Font name (text_begun h)) ≡ true
+font_begun_behind name h plain =
+    let both = and_parts (reads_plainly h) (interpolates_in h.reading.mode h.signs) plain in
+    reads_text h.asks h.reading.escape both.0

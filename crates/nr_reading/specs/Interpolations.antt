@@ -1,7 +1,9 @@
 -- Interpolations and font escapes that stand whole in a row of items (CSTR 54, 2, 7.2, 7.3, 8; the groff manual, Copy Mode).
-use Rattle.std.specs.Prelude.{◌≡◌, ℕ, ◌==◌, ◌&&◌, ◌||◌, not, Bool, true, false, List, [], ◌∷◌}
+use Rattle.std.specs.Prelude.{◌≡◌, ℕ, ◌==◌, ◌&&◌, ◌||◌, not, Bool, true, false, List, [], ◌∷◌, slice_get, Some}
 use Rattle.nr_reading.specs.declared.ask.Kind.{Kind}
 use Rattle.nr_reading.specs.declared.ask.Kind.TheVariants as kinds
+use Rattle.nr_reading.specs.declared.front.Front.{Front}
+use Rattle.nr_reading.specs.declared.front.Front.TheVariants as fronts
 use Rattle.nr_reading.specs.declared.half.Half.{Half}
 use Rattle.nr_reading.specs.declared.mode.Mode.{Mode}
 use Rattle.nr_reading.specs.declared.mode.Mode.TheVariants as modes
@@ -44,3 +46,10 @@ named k name h = record h {
 -- what is due is another, and the name that was asked for last; nothing else of what is half read
 abbrev pub AsksOnly : Half → Half → Type 0
 AsksOnly h g = g ≡ record h { reading = record h.reading { due = g.reading.due }; notes = record h.notes { asked = g.notes.asked } }
+
+-- A font escape stands in front of the row, and its name is this byte.
+pub record IsFont (byte : ℕ) (fs : List Front) : Type 0 where
+  pub backslash : slice_get fs 0 ≡ Some (fronts.Byte 92)
+  pub letter : slice_get fs 1 ≡ Some (fronts.Byte 102)
+  pub name : slice_get fs 2 ≡ Some (fronts.Byte byte)
+  pub lone : is_lone_name byte ≡ true

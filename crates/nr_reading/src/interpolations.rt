@@ -8,7 +8,9 @@ ghost use Rattle.nr_reading.specs.declared.half.Half.{Half as HalfRead};
 ghost use Rattle.nr_reading.specs.declared.mode.Due.TheVariants as dues;
 ghost use Rattle.nr_reading.specs.declared.mode.Mode.TheVariants as modes;
 ghost use Rattle.nr_reading.specs.Asking.{due_of, event_of};
-ghost use Rattle.nr_reading.specs.Interpolations.{AsksOnly, interpolates, is_lone_name, is_named, begun, named};
+ghost use Rattle.nr_reading.specs.InText.{is_in_text};
+ghost use Rattle.nr_reading.specs.Interpolations.{AsksOnly, IsFont, interpolates, is_lone_name, is_named, begun, named};
+ghost use Rattle.nr_reading.specs.LineBeginnings.{is_at_text};
 ghost use Rattle.nr_reading.specs.Passing.{quiet};
 ghost use Rattle.nr_reading.specs.Runs.{HasMet, spot};
 
@@ -39,6 +41,7 @@ fn byte_at<I: Items>(items: &I, place: usize, behind: usize) -> Option<u8>
     requires { place < length (I.fronts items.now) }
     ensures value { IfSome result (λ byte. slice_get (I.fronts items.now) (place + behind) ≡ Some (variants.Byte byte)) }
     ensures within { IfSome result (λ byte. place + behind < length (I.fronts items.now)) }
+    ensures other { result ≡ None → (byte : ℕ) → slice_get (I.fronts items.now) (place + behind) ≡ Some (variants.Byte byte) → ⊥ }
 {
     if behind < items.count() - place {
         return items.byte(place + behind);
@@ -127,13 +130,16 @@ impl Half {
         requires within { place < length (I.fronts items.now) }
         ensures met { IfSome result (λ run. (h : HalfRead) (n : ℕ) → HasMet (n + before) (I.fronts items.now) h (quiet (place + before) (begun kind self.old)) →
             HasMet (n + run.moves) (I.fronts items.now) h (record { taken = place + run.taken; half = self.new; event = run.event })) }
+        ensures least { IfSome result (λ run. before < run.taken) }
         ensures few { IfSome result (λ run. run.moves ≤ 6) }
         ensures taken { IfSome result (λ run. run.taken ≡ run.moves) }
         ensures within { IfSome result (λ run. place + run.taken ≤ length (I.fronts items.now)) }
         ensures due { IfSome result (λ run. run.event ≡ events.Nothing → self.new.reading.due ≡ dues.Look → ⊥) }
         ensures font { IfSome result (λ run. kind ≡ kinds.Font → run.event ≡ events.Font) }
         ensures text { self.old.reading.mode ≡ modes.Text → AsksOnly self.old self.new }
+        ensures behind { IfSome result (λ run. kind ≡ kinds.Font → self.old.reading.mode ≡ modes.Text → is_in_text self.new ≡ true) }
         ensures left { result ≡ None → self.new ≡ self.old }
+        ensures longest { result ≡ None → (name : ℕ) → slice_get (I.fronts items.now) (place + before) ≡ Some (variants.Byte name) → is_lone_name name ≡ true → ⊥ }
     {
         let Some(first) = byte_at(items, place, before) else {
             return None;
@@ -218,14 +224,16 @@ impl Half {
         requires font { slice_get (I.fronts items.now) (place + 1) ≡ Some (variants.Byte 102) }
         ensures met { IfSome result (λ run. (h : HalfRead) (n : ℕ) → HasMet n (I.fronts items.now) h (quiet place self.old) →
             HasMet (n + run.moves) (I.fronts items.now) h (record { taken = place + run.taken; half = self.new; event = run.event })) }
+        ensures least { IfSome result (λ run. 3 ≤ run.taken) }
         ensures few { IfSome result (λ run. run.moves ≤ 6) }
-        ensures taken { IfSome result (λ run. run.taken ≤ run.moves) }
+        ensures taken { IfSome result (λ run. run.moves ≡ run.taken + 1) }
         ensures within { IfSome result (λ run. place + run.taken ≤ length (I.fronts items.now)) }
         ensures due { IfSome result (λ run. run.event ≡ events.Nothing → self.new.reading.due ≡ dues.Look → ⊥) }
         ensures font { IfSome result (λ run. run.event ≡ events.Font) }
-        ensures most { IfSome result (λ run. run.moves ≤ run.taken + 1) }
         ensures text { self.old.reading.mode ≡ modes.Text → AsksOnly self.old self.new }
+        ensures behind { IfSome result (λ run. is_in_text self.new ≡ true) }
         ensures left { result ≡ None → self.new ≡ self.old }
+        ensures longest { result ≡ None → (name : ℕ) → slice_get (I.fronts items.now) (place + 2) ≡ Some (variants.Byte name) → is_lone_name name ≡ true → ⊥ }
     {
         let Some(name) = byte_at(items, place, 2) else {
             return None;
@@ -252,14 +260,18 @@ impl Half {
         requires font { slice_get (I.fronts items.now) (place + 1) ≡ Some (variants.Byte 102) }
         ensures met { IfSome result (λ run. (h : HalfRead) (n : ℕ) → HasMet n (I.fronts items.now) h (quiet place self.old) →
             HasMet (n + run.moves) (I.fronts items.now) h (record { taken = place + run.taken; half = self.new; event = run.event })) }
+        ensures least { IfSome result (λ run. 3 ≤ run.taken) }
         ensures few { IfSome result (λ run. run.moves ≤ 6) }
         ensures taken { IfSome result (λ run. run.taken ≤ run.moves) }
         ensures within { IfSome result (λ run. place + run.taken ≤ length (I.fronts items.now)) }
         ensures due { IfSome result (λ run. run.event ≡ events.Nothing → self.new.reading.due ≡ dues.Look → ⊥) }
         ensures font { IfSome result (λ run. run.event ≡ events.Font) }
-        ensures most { IfSome result (λ run. run.moves ≤ run.taken + 1) }
+        ensures in_line { self.old.reading.mode ≡ modes.Text → IfSome result (λ run. run.moves ≡ run.taken) }
+        ensures at_start { self.old.reading.mode ≡ modes.Start → IfSome result (λ run. run.moves ≡ run.taken + 1) }
         ensures text { self.old.reading.mode ≡ modes.Text → AsksOnly self.old self.new }
+        ensures behind { IfSome result (λ run. is_in_text self.new ≡ true) }
         ensures left { result ≡ None → self.new ≡ self.old }
+        ensures longest { result ≡ None → is_at_text self.old ≡ true → (name : ℕ) → slice_get (I.fronts items.now) (place + 2) ≡ Some (variants.Byte name) → is_lone_name name ≡ true → ⊥ }
     {
         match self.reading.mode {
             Mode::Text => self.meet_named(items, place, 2, Kind::Font),
@@ -302,10 +314,13 @@ impl Half {
     pub fn meet_front_font<I: Items>(&mut self, items: &I) -> Option<Run>
         ensures met { IfSome result (λ run. HasMet run.moves (I.fronts items.now) self.old (spot run self.new)) }
         ensures font { IfSome result (λ run. run.event ≡ events.Font) }
+        ensures least { IfSome result (λ run. 3 ≤ run.taken) }
         ensures few { IfSome result (λ run. run.moves ≤ 6) }
-        ensures taken { IfSome result (λ run. run.taken ≤ run.moves) }
-        ensures most { IfSome result (λ run. run.moves ≤ run.taken + 1) }
+        ensures in_line { self.old.reading.mode ≡ modes.Text → IfSome result (λ run. run.moves ≡ run.taken) }
+        ensures at_start { self.old.reading.mode ≡ modes.Start → IfSome result (λ run. run.moves ≡ run.taken + 1) }
+        ensures behind { IfSome result (λ run. is_in_text self.new ≡ true) }
         ensures left { result ≡ None → self.new ≡ self.old }
+        ensures longest { result ≡ None → is_at_text self.old ≡ true → interpolates self.old ≡ true → (byte : ℕ) → IsFont byte (I.fronts items.now) → ⊥ }
     {
         if !matches!(self.reading.due, Due::Look) || items.count() < 2 || !self.interpolates() {
             return None;
