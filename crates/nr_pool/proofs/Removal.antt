@@ -4,11 +4,12 @@ use Rattle.std.specs.List.{SameBelow, CopiedTo}
 use Rattle.std.proofs.lemmas.List.{length-map, length-set, get_or-set_same, map-set, take_at}
 use Rattle.std.proofs.lemmas.List.Sums.{sum-map, sum_by-set}
 use Rattle.std.proofs.lemmas.Bool.{cases_lt}
-use Rattle.nr_pool.specs.Texts.{no_text, without_text}
+use Rattle.nr_pool.specs.Texts.{Held, no_text, IsOpen, without_text}
 use Rattle.nr_pool.specs.Places.{blank_slot, slot_at, held_of, texts_of, shifted, IsPacked}
-use Rattle.nr_pool.specs.Spares.{HasSpares}
+use Rattle.nr_pool.specs.Exchange.{IsExchanged}
+use Rattle.nr_pool.specs.Removal.{spare_before, IsRemoved}
 use Rattle.nr_pool.specs.declared.slot.Slot.{Slot}
-use Rattle.nr_pool.proofs.Places.{same_map, same_part, same_slot, slot_is, written_at, rewritten, removed, set_last, set_same}
+use Rattle.nr_pool.proofs.Places.{same_map, same_part, same_slot, written_at, entry_is, found, rewritten, removed, set_last, set_same}
 use Rattle.nr_pool.proofs.Rotation.{IsMoved, moved_at, side_of, apart_moved}
 use Rattle.nr_pool.proofs.Spares.{spares_close, spares_same}
 
@@ -16,15 +17,18 @@ use Rattle.nr_pool.proofs.Spares.{spares_close, spares_same}
 
 module _ (capacity u : ℕ) (slots : List Slot) (i n e : ℕ) (new : Slot) (packed : IsPacked capacity slots u) (within : i < length slots) (n_is : n ≡ (slot_at slots i).len) (some : 0 < n)
     (e_is : e ≡ (slot_at slots i).start + n) (none : new.len ≡ 0) where
+  -- the slots then
   abbrev closed : List Slot
   closed = set (map (shifted e n) slots) i new
 
+  -- what stands at each number
   closed_at : (j : ℕ) → ((j ≡ i) × (slot_at closed j ≡ new)) ⊎ ((j ≢ i) × IsMoved e n (slot_at slots j) (slot_at closed j))
   closed_at j = elim (written_at (map (shifted e n) slots) i new (omega (arith, length-map slots (shifted e n))) j) [
     | inl h ↦ inl h
     | inr h ↦ inr (h.0, rw h.1 (moved_at e n slots j))
   ]
 
+  -- they fill n elements less
   filled_closed : sum_by (λ (s : Slot). s.len) closed ≡ u - n
   filled_closed =
       let shifts = map (shifted e n) slots in
@@ -35,6 +39,7 @@ module _ (capacity u : ℕ) (slots : List Slot) (i n e : ℕ) (new : Slot) (pack
       let here = (moved_at e n slots i).len in
       omega arith
 
+  -- and lie apart
   pub packed_closed : IsPacked capacity closed (u - n)
   packed_closed =
       let here = packed.inside i (omega arith) in
@@ -70,12 +75,15 @@ pub record IsClosed {T : Type 0} (E F : List T) (a n u : ℕ) : Type 0 where
   pub before : SameBelow E F a
   pub behind : CopiedTo E F (a + n) a (u - (a + n))
 
--- each other text is what it was
+-- ---- each other text is what it was
+
 module _ {T : Type 0} (E F : List T) (u : ℕ) (slots : List Slot) (i n e : ℕ) (new : Slot) (packed : IsPacked (length E) slots u) (within : i < length slots) (n_is : n ≡ (slot_at slots i).len) (some : 0 < n)
     (e_is : e ≡ (slot_at slots i).start + n) (none : new.len ≡ 0) (unheld : new.holders ≡ 0) (moved : IsClosed E F (slot_at slots i).start n u) where
+  -- the slots then
   abbrev news : List Slot
   news = closed (length E) u slots i n e new packed within n_is some e_is none
 
+  -- what the other slots stand for
   others : (j : ℕ) → j ≢ i → held_of F (slot_at news j) ≡ held_of E (slot_at slots j)
   others j other =
       let s = slot_at slots j in
@@ -107,6 +115,7 @@ module _ {T : Type 0} (E F : List T) (u : ℕ) (slots : List Slot) (i n e : ℕ)
             ])
       ]
 
+  -- the text at i is none now
   pub texts_closed : texts_of F news ≡ without_text (texts_of E slots) i
   texts_closed =
       let here : held_of F (slot_at news i) ≡ no_text =
@@ -115,64 +124,68 @@ module _ {T : Type 0} (E F : List T) (u : ℕ) (slots : List Slot) (i n e : ℕ)
 
 -- ---- the text is removed
 
--- its n elements are gone, its slot is the first of the spare ones, and nothing else has changed
-pub record IsRemoved {T : Type 0} (E F : List T) (slots news : List Slot) (u n i next : ℕ) : Type 0 where
-  pub packed : IsPacked (length F) news (u - n)
-  pub spares : (count : ℕ) → HasSpares slots count next → HasSpares news (count + 1) i
-  pub texts : texts_of F news ≡ without_text (texts_of E slots) i
+module _ {T : Type 0} (E : List T) (slots : List Slot) (u i next : ℕ) (packed : IsPacked (length E) slots u) (within : i < length slots) (held : 0 < (slot_at slots i).holders) where
+  -- where others lie behind it, which move
+  pub gap_removed : (F : List T) (news : List Slot) → 0 < (slot_at slots i).len → IsClosed E F (slot_at slots i).start (slot_at slots i).len u
+      → news ≡ map (shifted ((slot_at slots i).start + (slot_at slots i).len) (slot_at slots i).len) (set slots i (spare_before next)) → IsRemoved E F slots news u i next
+  gap_removed F news some closing news_is =
+      let new = spare_before next in
+      let n = (slot_at slots i).len in
+      let e = (slot_at slots i).start + n in
+      let emptied = set slots i new in
+      let short : (j : ℕ) → (slot_at emptied j).holders ≡ 0 → (slot_at emptied j).len ≡ 0 = λ j. elim (written_at slots i new within j) [
+        | inl h ↦ rw h.1 (λ _. refl)
+        | inr h ↦ rw h.1 (packed.empty j)
+      ] in
+      rw news_is record {
+        packed = rw (closing.same_length, map-set (shifted e n) slots i new) (packed_closed (length E) u slots i n e new packed within refl some refl refl);
+        spares = λ count spares.
+            spares_same emptied (map (shifted e n) emptied) (count + 1) i (length-map emptied (shifted e n)) (λ j.
+            let moved = moved_at e n emptied j in
+            record { taken = ap (λ h. min h 1) moved.holders; next = λ none. moved.nothing (short j none) }) (spares_close slots count next i new spares within held refl refl);
+        texts = rw (map-set (shifted e n) slots i new) (texts_closed E F u slots i n e new packed within refl some refl refl refl closing);
+      }
 
-abbrev pub spare_before : ℕ → Slot
-spare_before next = record { start = next; len = 0; holders = 0 }
+  -- where none do, or it has no elements
+  pub last_removed : ((slot_at slots i).len ≡ 0) ⊎ (u ≤ (slot_at slots i).start + (slot_at slots i).len) → IsRemoved E E slots (set slots i (spare_before next)) u i next
+  last_removed last =
+      let new = spare_before next in
+      let n = (slot_at slots i).len in
+      let room = packed.room in
+      record {
+        packed = elim (cases_lt 0 n) [
+          | inl some ↦
+              let inside = packed.inside i some in
+              let behind : u ≤ (slot_at slots i).start + n = elim last [ inl none ↦ absurd (omega arith) | inr h ↦ h ] in
+              set_last (length E) u slots i new (u - n) packed within (omega arith) (omega arith) (omega arith) (λ long. absurd (omega arith)) (λ _. refl)
+          | inr none ↦
+              let nothing : u ≡ u - n = omega arith in
+              subst (λ m. IsPacked (length E) (set slots i new) m) nothing (set_same (length E) u slots i new packed within (omega arith) (λ long. absurd (omega arith)) (λ _. refl))
+        ];
+        spares = λ count spares. spares_close slots count next i new spares within held refl refl;
+        texts = removed E slots (texts_of E slots) i i new refl refl refl refl;
+      }
 
--- where other elements lie behind it, which vectors then show
-pub gap_removed : {T : Type 0} (E shown F : List T) (slots now news : List Slot) (u i next m k : ℕ) (s : Slot) → IsPacked (length E) slots u → i < length slots → 0 < (slot_at slots i).holders → s ≡ get_or slots i s → 0 < s.len
-    → shown ≡ E → length shown ≡ m → now ≡ set slots i (spare_before next) → length now ≡ k → IsClosed shown F s.start s.len u → news ≡ map (shifted (s.start + s.len) s.len) now
-    → IsRemoved E (take m (F ++ drop (length F) E)) slots (take k (news ++ drop (length news) (set slots i (spare_before next)))) u s.len i next
-gap_removed E shown F slots now news u i next m k s packed within held at some shown_is long now_is many closing news_is =
-    let new = spare_before next in
-    let e = s.start + s.len in
-    let n = s.len in
-    let emptied = set slots i new in
-    let s_is = slot_is slots i s at within in
-    let n_is : n ≡ (slot_at slots i).len = ap (λ (t : Slot). t.len) s_is in
-    let e_is : e ≡ (slot_at slots i).start + n = ap (λ (t : Slot). t.start + n) s_is in
-    let closed_here : IsClosed E F (slot_at slots i).start n u = subst (λ a. IsClosed E F a n u) (ap (λ (t : Slot). t.start) s_is) (subst (λ xs. IsClosed xs F s.start n u) shown_is closing) in
-    let shifts : news ≡ map (shifted e n) emptied = news_is ∙ ap (map (shifted e n)) now_is in
-    let F_is : take m (F ++ drop (length F) E) ≡ F = take_at F (drop (length F) E) m (closing.same_length ∙ long) in
-    let news_are : take k (news ++ drop (length news) emptied) ≡ map (shifted e n) emptied =
-    take_at news (drop (length news) emptied) k (ap length news_is ∙ length-map now (shifted e n) ∙ many) ∙ shifts in
-    let short : (j : ℕ) → (slot_at emptied j).holders ≡ 0 → (slot_at emptied j).len ≡ 0 = λ j. elim (written_at slots i new within j) [
-      | inl h ↦ rw h.1 (λ _. refl)
-      | inr h ↦ rw h.1 (packed.empty j)
-    ] in
-    rw (F_is, news_are) record {
-      packed = rw (closed_here.same_length, map-set (shifted e n) slots i new) (packed_closed (length E) u slots i n e new packed within n_is some e_is refl);
-      spares = λ count spares.
-          spares_same emptied (map (shifted e n) emptied) (count + 1) i (length-map emptied (shifted e n)) (λ j.
-          let moved = moved_at e n emptied j in
-          record { taken = ap (λ h. min h 1) moved.holders; next = λ none. moved.nothing (short j none) }) (spares_close slots count next i new spares within held refl refl);
-      texts = rw (map-set (shifted e n) slots i new) (texts_closed E F u slots i n e new packed within n_is some e_is refl refl closed_here);
-    }
-
--- where none do
-pub last_removed : {T : Type 0} (E : List T) (slots : List Slot) (u i next : ℕ) (s : Slot) → IsPacked (length E) slots u → i < length slots → 0 < (slot_at slots i).holders → s ≡ get_or slots i s → (s.len ≡ 0) ⊎ (u ≤ s.start + s.len)
-    → IsRemoved E E slots (set slots i (spare_before next)) u s.len i next
-last_removed E slots u i next s packed within held at last =
-    let new = spare_before next in
-    let s_is = slot_is slots i s at within in
-    let len_is : s.len ≡ (slot_at slots i).len = ap (λ (t : Slot). t.len) s_is in
-    let start_is : s.start ≡ (slot_at slots i).start = ap (λ (t : Slot). t.start) s_is in
-    let room = packed.room in
+-- where it has changed places with the text that lay last
+pub exchanged_removed : {T : Type 0} (E F : List T) (slots mid : List Slot) (u i next : ℕ) → IsPacked (length E) slots u → 0 < (slot_at slots i).holders → IsExchanged E F slots mid u i
+    → IsRemoved E F slots (set mid i (spare_before next)) u i next
+exchanged_removed E F slots mid u i next packed held exchanged =
+    let p = texts_of E slots in
+    let holders_is = ap (λ (t : Held _). t.holders) (entry_is E slots i) in
+    let is_open : IsOpen p i = omega arith in
+    let old = found E slots u p i i packed refl refl is_open in
+    let now = found F mid u p i i exchanged.packed exchanged.same refl is_open in
+    let last = exchanged.last in
+    let gone = last_removed F mid u i next exchanged.packed now.within now.held (inr (omega arith)) in
     record {
-      packed = elim (cases_lt 0 s.len) [
-        | inl some ↦
-            let inside = packed.inside i (omega arith) in
-            let behind : u ≤ s.start + s.len = elim last [ inl none ↦ absurd (omega arith) | inr h ↦ h ] in
-            set_last (length E) u slots i new (u - s.len) packed within (omega arith) (omega arith) (omega arith) (λ long. absurd (omega arith)) (λ _. refl)
-        | inr none ↦
-            let nothing : u ≡ u - s.len = omega arith in
-            subst (λ m. IsPacked (length E) (set slots i new) m) nothing (set_same (length E) u slots i new packed within (omega arith) (λ long. absurd (omega arith)) (λ _. refl))
-      ];
-      spares = λ count spares. spares_close slots count next i new spares within held refl refl;
-      texts = removed E slots (texts_of E slots) i i new refl refl refl refl;
+      packed = subst (λ n. IsPacked (length F) (set mid i (spare_before next)) (u - n)) (sym now.len_is ∙ old.len_is) gone.packed;
+      spares = λ count spares. gone.spares count (exchanged.spares count next spares);
+      texts = gone.texts ∙ ap (λ q. without_text q i) exchanged.same;
     }
+
+-- as vectors show it
+pub shown_removed : {T : Type 0} (E shown F : List T) (slots now news : List Slot) (u i next m k : ℕ) → shown ≡ E → now ≡ slots → length F ≡ m → length news ≡ k → IsRemoved shown F now news u i next
+    → IsRemoved E (take m (F ++ drop (length F) E)) slots (take k (news ++ drop (length news) slots)) u i next
+shown_removed E shown F slots now news u i next m k shown_is now_is long many gone =
+    rw (take_at F (drop (length F) E) m long, take_at news (drop (length news) slots) k many)
+    (subst (λ xs. IsRemoved xs F slots news u i next) shown_is (subst (λ xs. IsRemoved shown F xs news u i next) now_is gone))

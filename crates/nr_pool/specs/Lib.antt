@@ -4,3 +4,4 @@ pub mod Spares
 pub mod Rooms
 pub mod Laws
 pub mod Exchange
+pub mod Removal

@@ -45,8 +45,9 @@ impl Model for Id {
 /// where they lie there or there are none; else in one pass over the slots that have had a text since all were removed, and
 /// as many steps as it has elements where the text that lies last is as long, for then the two change places; else in such
 /// a pass and one rotation of the elements from the text on. A call that removes a text takes constant time where it lies
-/// last or has no elements; else such a pass, and one move of the elements behind it. Beside that each takes constant time,
-/// and that of a copy of the elements that it is given.
+/// last or has no elements; else such passes, and as many steps as it has elements where more than 64 lie behind it and
+/// the text that lies last is as long; else one move of the elements behind it. Beside that each takes constant time, and
+/// that of a copy of the elements that it is given.
 #[derive(Drop)]
 pub struct Pool<T: Copy> {
     // The elements of the texts lie at the front. What lies behind them is of no account.

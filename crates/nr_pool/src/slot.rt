@@ -1,15 +1,17 @@
 //! Where the texts of a pool lie.
 ghost use Rattle.std.specs.Prelude.{◌≡◌, ◌≢◌, ℕ, ◌+◌, ◌-◌, ◌^◌, ◌<◌, ◌≤◌, ◌⊎◌, [], ◌∷◌, ◌++◌, length, map, take, drop, IfSome, None, vec_len, vec_capacity};
-ghost use Rattle.std.specs.List.{SameBelow, CopiedTo};
-ghost use Rattle.nr_pool.specs.Texts.{without_text};
 ghost use Rattle.nr_pool.specs.Places.{texts_of, slot_at, blank_slot, is_behind, shifted, IsPacked};
 ghost use Rattle.nr_pool.specs.Spares.{HasSpares};
 ghost use Rattle.nr_pool.specs.Exchange.{LiesAt, IsSwapped, IsExchanged};
+ghost use Rattle.nr_pool.specs.Removal.{spare_before, IsRemoved};
 
 /// How many elements are moved one by one, and among how many.
 const FEW: usize = 8;
 
 const SHORT: usize = 64;
+
+/// How many elements behind a text that is removed move to the front in any case.
+const MUCH: u32 = 64;
 
 /// What a `Pool` keeps for one text: 12 bytes.
 #[derive(Clone, Copy, Drop)]
@@ -29,6 +31,18 @@ impl Slot {
     {
         Slot {
             start: 0,
+            len: 0,
+            holders: 0,
+        }
+    }
+
+    // A slot with no text, before `next` among the spare ones.
+    #[inline(always)]
+    fn spare(next: u32) -> Slot
+        ensures { result ≡ spare_before next }
+    {
+        Slot {
+            start: next,
             len: 0,
             holders: 0,
         }
@@ -128,7 +142,7 @@ fn rotate<T: Copy>(part: &mut [T], n: usize)
     }
 }
 
-// The texts that begin at `end` or behind it begin n further down.
+// The texts with elements that begin at `end` or behind it begin n further down.
 #[inline(always)]
 fn shift_behind(slots: &mut [Slot], end: u32, n: u32)
     requires { n ≤ end }
@@ -219,22 +233,38 @@ pub(crate) fn bring_last<T: Copy>(
     move_last(elements.as_mut_slice(), slots.as_mut_slice(), used, index);
 }
 
-// Closes a gap of n elements that begins at `start`: what lies behind it moves to the front.
+// Removes the text at `index`, behind which others lie; its slot is the first spare one then, before `next`. What lies
+// behind it moves to the front. Where that is much and the text that lies last is as long, the two change places first,
+// so that nothing else moves.
 #[inline(never)]
-fn close_gap<T: Copy>(elements: &mut [T], slots: &mut [Slot], used: u32, start: u32, n: u32)
-    requires gap { start + n ≤ used }
-    requires used { used ≤ length elements.old }
-    ensures len { length elements.new ≡ length elements.old }
-    ensures before { SameBelow elements.old elements.new start }
-    ensures behind { CopiedTo elements.old elements.new (start + n) start (used - (start + n)) }
-    ensures slots { slots.new ≡ map (shifted (start + n) n) slots.old }
+fn remove_before_others<T: Copy>(
+    elements: &mut [T],
+    slots: &mut [Slot],
+    used: u32,
+    index: usize,
+    next: u32,
+)
+    requires packed { IsPacked (length elements.old) slots.old used }
+    requires within { index < length slots.old }
+    requires held { 0 < (slot_at slots.old index).holders }
+    requires before { let s = slot_at slots.old index in (0 < s.len) × (s.start + s.len ≢ used) }
+    ensures { IsRemoved elements.old elements.new slots.old slots.new used index next }
 {
-    let end = start + n;
+    let Slot { start, len, .. } = slots[index];
+    let end = start + len;
+    if used - end > MUCH {
+        if let Some(last) = text_at(slots, used - len, len) {
+            exchange(elements, slots, used, index, last);
+            slots[index] = Slot::spare(next);
+            return;
+        }
+    }
+    slots[index] = Slot::spare(next);
     elements.copy_within(end as usize..used as usize, start as usize);
-    shift_behind(slots, end, n);
+    shift_behind(slots, end, len);
 }
 
-// Removes the text at `index`, and gives how many elements it had. Its slot is the first spare one now, before `next`.
+// The same in vectors, at once where no others lie behind it or it has no elements. It gives how many it had.
 #[inline(always)]
 pub(crate) fn remove_text<T: Copy>(
     elements: &mut Vec<T>,
@@ -246,30 +276,25 @@ pub(crate) fn remove_text<T: Copy>(
     requires packed { IsPacked (length elements.old.items) slots.old.items used }
     requires within { index < length slots.old.items }
     requires held { 0 < (slot_at slots.old.items index).holders }
+    ensures removed { IsRemoved elements.old.items elements.new.items slots.old.items slots.new.items used index next }
     ensures len { result ≡ (slot_at slots.old.items index).len }
     ensures within { result ≤ used }
-    ensures packed { IsPacked (length elements.new.items) slots.new.items (used - result) }
-    ensures spares { (count : ℕ) → HasSpares slots.old.items count next → HasSpares slots.new.items (count + 1) index }
-    ensures removed { texts_of elements.new.items slots.new.items ≡ without_text (texts_of elements.old.items slots.old.items) index }
     ensures elements { length elements.new.items ≡ length elements.old.items }
     ensures slots { length slots.new.items ≡ length slots.old.items }
     ensures elements_room { vec_capacity elements.new ≡ vec_capacity elements.old }
     ensures slots_room { vec_capacity slots.new ≡ vec_capacity slots.old }
 {
     let Slot { start, len, .. } = slots[index];
-    slots[index] = Slot {
-        start: next,
-        len: 0,
-        holders: 0,
-    };
-    if len > 0 && start + len < used {
-        close_gap(
-            elements.as_mut_slice(),
-            slots.as_mut_slice(),
-            used,
-            start,
-            len,
-        );
+    if len == 0 || start + len == used {
+        slots[index] = Slot::spare(next);
+        return len;
     }
+    remove_before_others(
+        elements.as_mut_slice(),
+        slots.as_mut_slice(),
+        used,
+        index,
+        next,
+    );
     len
 }

@@ -10,8 +10,8 @@ invariant_of-self g c =
     let gone = c.remove_text-len.ensures in
     let kept = c.self.invariant.0 in (
       record {
-        packed = gone.packed;
-        spares = gone.spares _ kept.spares;
+        packed = rw gone.len gone.removed.packed;
+        spares = gone.removed.spares _ kept.spares;
         elements_within = omega (arith, gone.elements, kept.elements_within);
         slots_within = omega (arith, gone.slots, kept.slots_within);
         elements_fit = kept.elements_fit;
@@ -26,7 +26,7 @@ returns-clause-closed g c =
     let texts = texts_of s.elements.items s.slots.items in
     let one : IsOpen c.args.self.now c.args.id = omega arith in
     let is_open = open_in s.capacity s.most _ texts c.self.view_is _ one in
-    lifted s.capacity s.most _ texts c.self.view_is _ _ no_text (within_of_open texts _ is_open) (c.remove_text-len.ensures.removed ∙ ap (without_text texts) c.id.view_is)
+    lifted s.capacity s.most _ texts c.self.view_is _ _ no_text (within_of_open texts _ is_open) (c.remove_text-len.ensures.removed.texts ∙ ap (without_text texts) c.id.view_is)
 
 pub returns-clause-keeps : goal.returns-clause-keeps
 returns-clause-keeps g c = λ other apart is_open. open_after_removal c.args.self.now _ _ other (returns-clause-closed g c) apart is_open
