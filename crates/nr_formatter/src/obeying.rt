@@ -55,11 +55,35 @@ fn is_nr(request: Request) -> bool
 }
 
 impl Formatter {
-    /// Such a request takes effect.
+    /// Space that is to be made is made, if there is none or the open page has room. Tells how many moves that was.
+    #[inline(always)]
+    fn make_space(&mut self) -> u32
+        ensures moves { result ≡ moves_spacing self.old }
+        ensures is { self.new ≡ behind_space self.old }
+        ensures few { result ≤ 1 }
+    {
+        let Task::Space(distance) = self.task else {
+            return 0;
+        };
+        if self.is_spaceless(distance) {
+            self.task = Task::Read;
+            return 1;
+        }
+        if !matches!(self.outlet(), Outlet::Room) {
+            return 0;
+        }
+        self.space_down(distance);
+        1
+    }
+
+    /// Such a request takes effect, and its space is made, if there is none or the open page has room. Tells how many moves the
+    /// space was.
     #[inline(never)]
-    fn set(&mut self, request: Request)
+    fn set_or_space(&mut self, request: Request) -> u32
         requires { sets_or_spaces request ≡ true }
-        ensures { self.new ≡ act request self.old }
+        ensures moves { result ≡ moves_spacing (act request self.old) }
+        ensures is { self.new ≡ behind_space (act request self.old) }
+        ensures few { result ≤ 1 }
     {
         match request {
             Request::Ad => self.ad(),
@@ -81,7 +105,10 @@ impl Formatter {
             Request::Pl => self.pl(),
             Request::Po => self.po(),
             Request::Rs => self.rs(),
-            Request::Sp => self.sp(),
+            Request::Sp => {
+                self.sp();
+                return self.make_space();
+            }
             Request::Ta => self.ta(),
             Request::Tc => self.tc(),
             Request::Ti => self.ti(),
@@ -89,6 +116,7 @@ impl Formatter {
             Request::Vs => self.vs(),
             _ => self.task = Task::Read,
         }
+        0
     }
 
     /// Whether the request breaks before it takes effect.
@@ -143,27 +171,6 @@ impl Formatter {
         2
     }
 
-    /// Space that is to be made is made, if there is none or the open page has room. Tells how many moves that was.
-    #[inline(always)]
-    fn make_space(&mut self) -> u32
-        ensures moves { result ≡ moves_spacing self.old }
-        ensures is { self.new ≡ behind_space self.old }
-        ensures few { result ≤ 1 }
-    {
-        let Task::Space(distance) = self.task else {
-            return 0;
-        };
-        if self.is_spaceless(distance) {
-            self.task = Task::Read;
-            return 1;
-        }
-        if !matches!(self.outlet(), Outlet::Room) {
-            return 0;
-        }
-        self.space_down(distance);
-        1
-    }
-
     /// The request whose line was read takes effect, if it only sets or makes space, is not refused, and its break does nothing; its
     /// space is made, if there is none or the open page has room. Tells how many moves that was.
     #[inline]
@@ -179,11 +186,9 @@ impl Formatter {
         self.event = Event::Nothing;
         self.task = Task::Act(request);
         if !breaks {
-            self.set(request);
-            return 2 + self.make_space();
+            return 2 + self.set_or_space(request);
         }
         self.break_done(Then::Act(request));
-        self.set(request);
-        3 + self.make_space()
+        3 + self.set_or_space(request)
     }
 }
