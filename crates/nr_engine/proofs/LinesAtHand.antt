@@ -1,5 +1,5 @@
 -- Lines of the source that are at hand: the newline that ends one, and the text of the next behind it.
-use Rattle.std.proofs.Common.{◌≡◌, ◌≢◌, ℕ, zero, suc, ◌+◌, ◌-◌, ◌*◌, ◌<◌, ◌≤◌, true, false, List, [], ◌∷◌, length, drop, Option, refl, sym, ap, ◌∙◌, subst, arith, length-drop}
+use Rattle.std.proofs.Common.{◌≡◌, ◌≢◌, ℕ, zero, suc, ◌+◌, ◌-◌, ◌*◌, ◌<◌, ◌≤◌, Bool, true, false, List, [], ◌∷◌, length, drop, Option, refl, sym, ap, ◌∙◌, subst, arith, length-drop}
 use Rattle.std.specs.Prelude.{◌&&◌, is_none, not, slice_index}
 use Rattle.std.specs.Option.{option_map}
 use Rattle.std.proofs.lemmas.Bool.{and_parts}
@@ -7,6 +7,7 @@ use Rattle.std.proofs.lemmas.List.{get_or-drop}
 use Rattle.nr_units.specs.Supply.{Supply, skipped}
 use Rattle.nr_fill.specs.Pieces.{begins_line, text_cells}
 use Rattle.nr_fill.specs.Runs.{IsPlain}
+use Rattle.nr_reading.specs.InText.{is_in_text}
 use Rattle.nr_reading.specs.Interpolations.{interpolates}
 use Rattle.nr_reading.specs.LineBeginnings.{IsBeforeLine, is_at_text as reads_text}
 use Rattle.nr_reading.specs.declared.event.Event.{Event}
@@ -194,7 +195,7 @@ words_behind t n bs f longest =
 
 -- behind the words of a line comes no plain newline, and no font escape
 pub longest_line : (bs : List ℕ) (t m : ℕ) (f : Formatter) → t ≤ m → m ≤ 5 * t → LongestWords bs t f → (is_at_text f ≡ true → is_in_line f ≡ true)
-    → (t < length bs → slice_index bs t ≡ 10 → IsNewline f → ⊥) → (is_in_line f ≡ true → BeginsFont (drop t bs) → ⊥) → Longest bs t m f
+    → (t < length bs → slice_index bs t ≡ 10 → IsNewline f → ⊥) → (is_in_line f ≡ true → BeginsFont (is_in_text f.reader.half) (drop t bs) → ⊥) → Longest bs t m f
 longest_line bs t m f least most words line newline font = record {
   least = least;
   most = most;
@@ -206,7 +207,7 @@ longest_line bs t m f least most words line newline font = record {
 
 -- no line goes on, and none begins
 pub longest_out : (bs : List ℕ) (t m : ℕ) (f : Formatter) → t ≤ m → m ≤ 5 * t → (is_in_line f ≡ true → ⊥) → (is_at_text f ≡ true → BeginsText (drop t bs) f → ⊥)
-    → (is_at_text f ≡ true → interpolates f.reader.half ≡ true → BeginsFont (drop t bs) → ⊥) → Longest bs t m f
+    → (is_at_text f ≡ true → interpolates f.reader.half ≡ true → BeginsFont (is_in_text f.reader.half) (drop t bs) → ⊥) → Longest bs t m f
 longest_out bs t m f least most out begins font = record {
   least = least;
   most = most;
@@ -217,8 +218,8 @@ longest_out bs t m f least most out begins font = record {
 }
 
 -- where no `\` comes next no font escape does
-pub no_font : (t : ℕ) (bs : List ℕ) → (t < length bs → slice_index bs t ≡ 92 → ⊥) → BeginsFont (drop t bs) → ⊥
-no_font t bs other begins =
+pub no_font : (t : ℕ) (bs : List ℕ) (in_line : Bool) → (t < length bs → slice_index bs t ≡ 92 → ⊥) → BeginsFont in_line (drop t bs) → ⊥
+no_font t bs in_line other begins =
     let left : length (drop t bs) ≡ length bs - t = length-drop t bs in
     let some = begins.some in
     let same : t + 0 ≡ t = omega arith in

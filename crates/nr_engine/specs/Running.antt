@@ -4,6 +4,7 @@ use Rattle.std.specs.Option.{option_map}
 use Rattle.nr_units.specs.Supply.{Supply, skipped}
 use Rattle.nr_options.specs.Limits.{Bounds}
 use Rattle.nr_options.specs.declared.options.Options.{Options}
+use Rattle.nr_reading.specs.InText.{is_in_text}
 use Rattle.nr_reading.specs.Interpolations.{interpolates}
 use Rattle.nr_input.specs.AtHand.{ComeNext, is_unseen}
 use Rattle.nr_input.specs.Coming.{Coming, HoldsComing, has_failed, nothing_reached}
@@ -175,14 +176,14 @@ pub record LongestOfLevels (v : StoredOf Resume) (r : Reader) (f : Formatter) : 
   pub newline : taken ≡ length bytes → gathered.ends ≡ true → IsNewline f → ⊥
 
 -- As many of these bytes were put as could be, one to five moves each: what comes next is none of a line's words, no newline that
--- does nothing but end its line, at a line's beginning no text that is put, and no font escape whose name is one byte.
+-- does nothing but end its line, at a line's beginning no text that is put, and no font escape with its name.
 pub record Longest (bs : List ℕ) (taken moves : ℕ) (f : Formatter) : Type 0 where
   pub least : taken ≤ moves
   pub most : moves ≤ 5 * taken
   pub words : LongestWords bs taken f
   pub newline : taken < length bs → slice_index bs taken ≡ 10 → IsNewline f → ⊥
   pub begins : is_at_text f ≡ true → is_in_line f ≡ false → BeginsText (drop taken bs) f → ⊥
-  pub font : is_at_text f ≡ true → interpolates f.reader.half ≡ true → BeginsFont (drop taken bs) → ⊥
+  pub font : is_at_text f ≡ true → interpolates f.reader.half ≡ true → BeginsFont (is_in_text f.reader.half) (drop taken bs) → ⊥
 
 -- all choices took effect, each as a move, or the run stops at one
 abbrev pub AfterChoices : Option Supply → State → ℕ → Shape → Option (List ℕ) → Result (Unit {0}) Outcome → Type 0

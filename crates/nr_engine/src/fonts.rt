@@ -1,5 +1,6 @@
 //! Font escapes in the text of the source: many moves in one call.
-ghost use Rattle.std.specs.Prelude.{◌≡◌, ◌+◌, ◌<◌, ◌^◌, true, false, length};
+ghost use Rattle.std.specs.Prelude.{◌≡◌, ◌+◌, Bool, true, false};
+ghost use Rattle.nr_reading.specs.InText.{is_in_text};
 ghost use Rattle.nr_reading.specs.Interpolations.{interpolates};
 ghost use Rattle.nr_reading.specs.LineBeginnings.{IsBeforeLine};
 ghost use Rattle.nr_input.specs.Fonts.{BeginsFont};
@@ -12,7 +13,7 @@ use nr_formatter::formatter::Formatter;
 /// Whether the bytes begin with `\f` and have another byte behind it.
 #[inline(always)]
 fn begins_font(bytes: &[u8]) -> bool
-    ensures { result ≡ false → BeginsFont bytes.now → ⊥ }
+    ensures { result ≡ false → (in_line : Bool) → BeginsFont in_line bytes.now → ⊥ }
 {
     bytes.len() > 2 && bytes[0] == b'\\' && bytes[1] == b'f'
 }
@@ -24,7 +25,7 @@ fn change_font(formatter: &mut Formatter, bytes: &[u8]) -> usize
     requires text { is_at_text formatter.old ≡ true }
     ensures in_line { is_in_line formatter.old ≡ true → PutsFont bytes.now result (result + 1) formatter.old formatter.new }
     ensures at_start { IsBeforeLine formatter.old.reader.half → PutsFont bytes.now result (result + 2) formatter.old formatter.new }
-    ensures longest { result ≡ 0 → interpolates formatter.old.reader.half ≡ true → BeginsFont bytes.now → ⊥ }
+    ensures longest { result ≡ 0 → interpolates formatter.old.reader.half ≡ true → BeginsFont (is_in_text formatter.old.reader.half) bytes.now → ⊥ }
 {
     match nr_input::meet_font(&mut formatter.reader, bytes) {
         Some(run) => {
@@ -39,7 +40,7 @@ fn change_font(formatter: &mut Formatter, bytes: &[u8]) -> usize
 #[inline(always)]
 pub(crate) fn put_font(formatter: &mut Formatter, bytes: &[u8]) -> usize
     ensures puts { PutsFont bytes.now result (result + 1) formatter.old formatter.new }
-    ensures longest { result ≡ 0 → is_in_line formatter.old ≡ true → BeginsFont bytes.now → ⊥ }
+    ensures longest { result ≡ 0 → is_in_line formatter.old ≡ true → BeginsFont (is_in_text formatter.old.reader.half) bytes.now → ⊥ }
 {
     if !begins_font(bytes) || !formatter.is_in_line() {
         return 0;
@@ -53,7 +54,7 @@ pub(crate) fn begin_font(formatter: &mut Formatter, bytes: &[u8]) -> usize
     requires text { is_at_text formatter.old ≡ true }
     requires start { IsBeforeLine formatter.old.reader.half }
     ensures puts { PutsFont bytes.now result (result + 2) formatter.old formatter.new }
-    ensures longest { result ≡ 0 → interpolates formatter.old.reader.half ≡ true → BeginsFont bytes.now → ⊥ }
+    ensures longest { result ≡ 0 → interpolates formatter.old.reader.half ≡ true → BeginsFont (is_in_text formatter.old.reader.half) bytes.now → ⊥ }
 {
     if !begins_font(bytes) {
         return 0;

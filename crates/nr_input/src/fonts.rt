@@ -26,7 +26,7 @@ pub fn meet_font(reader: &mut Reader, bytes: &[u8]) -> Option<Run>
     ensures behind { IfSome result (λ run. is_in_text reader.new.half ≡ true) }
     ensures reader { reader.new ≡ record reader.old { half = reader.new.half } }
     ensures left { result ≡ None → reader.new ≡ reader.old }
-    ensures longest { result ≡ None → is_at_text reader.old.half ≡ true → interpolates reader.old.half ≡ true → BeginsFont bytes.now → ⊥ }
+    ensures longest { result ≡ None → is_at_text reader.old.half ≡ true → interpolates reader.old.half ≡ true → BeginsFont (is_in_text reader.old.half) bytes.now → ⊥ }
 {
     reader.half.meet_front_font(&ByteRow(bytes))
 }

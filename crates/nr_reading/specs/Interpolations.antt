@@ -1,5 +1,5 @@
 -- Interpolations and font escapes that stand whole in a row of items (CSTR 54, 2, 7.2, 7.3, 8; the groff manual, Copy Mode).
-use Rattle.std.specs.Prelude.{◌≡◌, ℕ, ◌==◌, ◌&&◌, ◌||◌, not, Bool, true, false, List, [], ◌∷◌, slice_get, Some}
+use Rattle.std.specs.Prelude.{◌≡◌, ℕ, ◌+◌, ◌==◌, ◌&&◌, ◌||◌, not, Bool, true, false, List, [], ◌∷◌, slice_get, Some}
 use Rattle.nr_reading.specs.declared.ask.Kind.{Kind}
 use Rattle.nr_reading.specs.declared.ask.Kind.TheVariants as kinds
 use Rattle.nr_reading.specs.declared.front.Front.{Front}
@@ -11,6 +11,7 @@ use Rattle.nr_reading.specs.declared.mode.Signs.{Signs}
 use Rattle.nr_reading.specs.Asking.{begun_ask, due_of}
 use Rattle.nr_reading.specs.Meeting.{reads_plainly}
 use Rattle.nr_reading.specs.Modes.{is_direct}
+use Rattle.nr_reading.specs.Passing.{is_plain}
 
 -- a `\` begins an escape there, at a line's beginning where it is no control character; `\$`, `\n` and `\*` interpolate
 abbrev pub interpolates_in : Mode → Signs → Bool
@@ -47,9 +48,14 @@ named k name h = record h {
 abbrev pub AsksOnly : Half → Half → Type 0
 AsksOnly h g = g ≡ record h { reading = record h.reading { due = g.reading.due }; notes = record h.notes { asked = g.notes.asked } }
 
--- A font escape stands in front of the row, and its name is this byte.
-pub record IsFont (byte : ℕ) (fs : List Front) : Type 0 where
+-- A name stands there in the row: one byte, or in the midst of a line two behind `(`, where an escape begins at neither.
+pub data IsName (in_line : Bool) (fs : List Front) (place : ℕ) : Type 0 where
+  Lone : (byte : ℕ) → slice_get fs place ≡ Some (fronts.Byte byte) → is_lone_name byte ≡ true → IsName in_line fs place
+  Pair : (one two : ℕ) → in_line ≡ true → slice_get fs place ≡ Some (fronts.Byte 40) → slice_get fs (place + 1) ≡ Some (fronts.Byte one) → slice_get fs (place + 2) ≡ Some (fronts.Byte two)
+      → is_plain one ≡ true → is_plain two ≡ true → IsName in_line fs place
+
+-- A font escape stands in front of the row, with its name.
+pub record IsFont (in_line : Bool) (fs : List Front) : Type 0 where
   pub backslash : slice_get fs 0 ≡ Some (fronts.Byte 92)
   pub letter : slice_get fs 1 ≡ Some (fronts.Byte 102)
-  pub name : slice_get fs 2 ≡ Some (fronts.Byte byte)
-  pub lone : is_lone_name byte ≡ true
+  pub name : IsName in_line fs 2

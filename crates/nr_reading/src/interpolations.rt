@@ -9,9 +9,9 @@ ghost use Rattle.nr_reading.specs.declared.mode.Due.TheVariants as dues;
 ghost use Rattle.nr_reading.specs.declared.mode.Mode.TheVariants as modes;
 ghost use Rattle.nr_reading.specs.Asking.{due_of, event_of};
 ghost use Rattle.nr_reading.specs.InText.{is_in_text};
-ghost use Rattle.nr_reading.specs.Interpolations.{AsksOnly, IsFont, interpolates, is_lone_name, is_named, begun, named};
+ghost use Rattle.nr_reading.specs.Interpolations.{AsksOnly, IsFont, IsName, interpolates, is_lone_name, is_named, begun, named};
 ghost use Rattle.nr_reading.specs.LineBeginnings.{is_at_text};
-ghost use Rattle.nr_reading.specs.Passing.{quiet};
+ghost use Rattle.nr_reading.specs.Passing.{is_plain, quiet};
 ghost use Rattle.nr_reading.specs.Runs.{HasMet, spot};
 
 use super::ask::{Kind, Sign, is_given};
@@ -139,7 +139,9 @@ impl Half {
         ensures text { self.old.reading.mode ≡ modes.Text → AsksOnly self.old self.new }
         ensures behind { IfSome result (λ run. kind ≡ kinds.Font → self.old.reading.mode ≡ modes.Text → is_in_text self.new ≡ true) }
         ensures left { result ≡ None → self.new ≡ self.old }
-        ensures longest { result ≡ None → (name : ℕ) → slice_get (I.fronts items.now) (place + before) ≡ Some (variants.Byte name) → is_lone_name name ≡ true → ⊥ }
+        ensures lone { result ≡ None → (name : ℕ) → slice_get (I.fronts items.now) (place + before) ≡ Some (variants.Byte name) → is_lone_name name ≡ true → ⊥ }
+        ensures pair { result ≡ None → (one two : ℕ) → slice_get (I.fronts items.now) (place + before) ≡ Some (variants.Byte 40) → slice_get (I.fronts items.now) (place + (before + 1)) ≡ Some (variants.Byte one) →
+            slice_get (I.fronts items.now) (place + (before + 2)) ≡ Some (variants.Byte two) → is_plain one ≡ true → is_plain two ≡ true → ⊥ }
     {
         let Some(first) = byte_at(items, place, before) else {
             return None;
@@ -233,7 +235,7 @@ impl Half {
         ensures text { self.old.reading.mode ≡ modes.Text → AsksOnly self.old self.new }
         ensures behind { IfSome result (λ run. is_in_text self.new ≡ true) }
         ensures left { result ≡ None → self.new ≡ self.old }
-        ensures longest { result ≡ None → (name : ℕ) → slice_get (I.fronts items.now) (place + 2) ≡ Some (variants.Byte name) → is_lone_name name ≡ true → ⊥ }
+        ensures lone { result ≡ None → (name : ℕ) → slice_get (I.fronts items.now) (place + 2) ≡ Some (variants.Byte name) → is_lone_name name ≡ true → ⊥ }
     {
         let Some(name) = byte_at(items, place, 2) else {
             return None;
@@ -271,7 +273,7 @@ impl Half {
         ensures text { self.old.reading.mode ≡ modes.Text → AsksOnly self.old self.new }
         ensures behind { IfSome result (λ run. is_in_text self.new ≡ true) }
         ensures left { result ≡ None → self.new ≡ self.old }
-        ensures longest { result ≡ None → is_at_text self.old ≡ true → (name : ℕ) → slice_get (I.fronts items.now) (place + 2) ≡ Some (variants.Byte name) → is_lone_name name ≡ true → ⊥ }
+        ensures longest { result ≡ None → is_at_text self.old ≡ true → IsName (is_in_text self.old) (I.fronts items.now) (place + 2) → ⊥ }
     {
         match self.reading.mode {
             Mode::Text => self.meet_named(items, place, 2, Kind::Font),
@@ -320,7 +322,7 @@ impl Half {
         ensures at_start { self.old.reading.mode ≡ modes.Start → IfSome result (λ run. run.moves ≡ run.taken + 1) }
         ensures behind { IfSome result (λ run. is_in_text self.new ≡ true) }
         ensures left { result ≡ None → self.new ≡ self.old }
-        ensures longest { result ≡ None → is_at_text self.old ≡ true → interpolates self.old ≡ true → (byte : ℕ) → IsFont byte (I.fronts items.now) → ⊥ }
+        ensures longest { result ≡ None → is_at_text self.old ≡ true → interpolates self.old ≡ true → IsFont (is_in_text self.old) (I.fronts items.now) → ⊥ }
     {
         if !matches!(self.reading.due, Due::Look) || items.count() < 2 || !self.interpolates() {
             return None;

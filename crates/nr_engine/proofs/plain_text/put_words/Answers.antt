@@ -1,6 +1,7 @@
 use Rattle.std.proofs.Common.{◌≡◌, ℕ, ◌+◌, ◌<◌, List, length, drop, refl, sym, ap, ◌∙◌, subst, arith}
 use Rattle.std.specs.Prelude.{slice_index}
 use Rattle.std.proofs.lemmas.List.{take_rest}
+use Rattle.nr_reading.specs.InText.{is_in_text}
 use Rattle.nr_reading.specs.Interpolations.{interpolates}
 use Rattle.nr_reading.specs.LineBeginnings.{IsBeforeLine}
 use Rattle.nr_input.specs.Fonts.{BeginsFont}
@@ -9,7 +10,7 @@ use Rattle.nr_formatter.specs.Runs.{is_in_line}
 use Rattle.nr_formatter.specs.declared.formatter.Formatter.{Formatter}
 use Rattle.nr_engine.specs.Running.{Longest, LongestWords, PutsText}
 use Rattle.nr_engine.proofs.LineBeginnings.{begun_line}
-use Rattle.nr_engine.proofs.TextAtHand.{puts_on}
+use Rattle.nr_engine.proofs.TextAtHand.{puts_on, rest_of}
 use Rattle.nr_engine.proofs.LinesAtHand.{before_out, flows_away, flows_out, goes_begun, goes_first, goes_put, line_at_text, line_before, line_ends, line_flows, longest_line, longest_out, no_font, takes_longest, words_behind}
 use Rattle.nr_engine.proofs.plain_text.put_words.Goals.{After-put_line_words-line}
 use Rattle.nr_engine.proofs.plain_text.put_words.Goals as goal
@@ -56,7 +57,7 @@ pub returns-then-taken-bytes-clause-longest : goal.returns-then-taken-bytes-clau
 returns-then-taken-bytes-clause-longest c =
     let h = (goal.at.returns-then-taken-bytes-clause-longest c).After-put_line_words-line in
     longest_line (all h) (taken h) (moves h) (behind h) (puts h).least (puts h).most (words h) c.put_line_words-line.ensures.line
-    (λ below is newline. omega (arith, below, c.if-taken-bytes.true)) (λ line. no_font (taken h) (all h) (λ below is. omega (arith, below, c.if-taken-bytes.true)))
+    (λ below is newline. omega (arith, below, c.if-taken-bytes.true)) (λ line. no_font (taken h) (all h) (is_in_text (behind h).reader.half) (λ below is. omega (arith, below, c.if-taken-bytes.true)))
 
 pub returns-in-Left-clause-puts : goal.returns-in-Left-clause-puts
 returns-in-Left-clause-puts c =
@@ -68,7 +69,7 @@ returns-in-Left-clause-longest c =
     let h = (goal.at.returns-in-Left-clause-longest c).After-put_line_words-line in
     subst (λ (x : Formatter). Longest (all h) (taken h) (moves h) x) (sym c.in-Left.ensures.is)
     (longest_line (all h) (taken h) (moves h) (behind h) (puts h).least (puts h).most (words h) c.put_line_words-line.ensures.line (λ below is. c.in-Left.ensures.left refl)
-    (λ line. no_font (taken h) (all h) (λ below is. omega (arith, is, c.if-bytes-taken-ne10.false))))
+    (λ line. no_font (taken h) (all h) (is_in_text (behind h).reader.half) (λ below is. omega (arith, is, c.if-bytes-taken-ne10.false))))
 
 pub returns-in-Flows-clause-puts : goal.returns-in-Flows-clause-puts
 returns-in-Flows-clause-puts c =
@@ -111,7 +112,7 @@ returns-then-font-eq0-clause-longest c =
     subst (λ (x : Formatter). Longest (all h) (taken h) (moves h) x) (sym (c.put_font-font.ensures.puts.left none))
     (longest_line (all h) (taken h) (moves h) (behind h) (puts h).least (puts h).most (words h) c.put_line_words-line.ensures.line
     (λ below newline. omega (arith, newline, c.if-bytes-taken-ne10.true))
-    (λ line begins. c.put_font-font.ensures.longest none line (subst BeginsFont (sym (take_rest (all h) (taken h))) begins)))
+    (λ line begins. c.put_font-font.ensures.longest none line (subst (BeginsFont (is_in_text (behind h).reader.half)) (sym (take_rest (all h) (taken h))) begins)))
 
 pub loop-taken-preserved-then-bytes-taken-ne10 : goal.loop-taken-preserved-then-bytes-taken-ne10
 loop-taken-preserved-then-bytes-taken-ne10 c =
@@ -149,7 +150,9 @@ returns-then-font-eq0-2-clause-longest c =
     subst (λ (x : Formatter). Longest (all h) (taken h + 1) (moves h + 5) x) (sym (c.begin_font-font.ensures.puts.left none ∙ text.1))
     (longest_out (all h) (taken h + 1) (moves h + 5) g (omega (arith, (puts h).least)) (omega (arith, (puts h).most)) (before_out g (line_before (behind h) g reads.0 reads.2))
     (λ at begins. text.0 (subst (λ xs. BeginsText xs g) (sym (take_rest (all h) (taken h + 1))) begins))
-    (λ at plain begins. c.begin_font-font.ensures.longest none (ap (λ (x : Formatter). interpolates x.reader.half) text.1 ∙ plain) (subst BeginsFont (sym (take_rest (all h) (taken h + 1))) begins)))
+    (λ at plain begins. c.begin_font-font.ensures.longest none (ap (λ (x : Formatter). interpolates x.reader.half) text.1 ∙ plain)
+    (subst (λ (x : Formatter). BeginsFont (is_in_text x.reader.half) (rest_of (taken h + 1) (all h))) (sym text.1)
+    (subst (BeginsFont (is_in_text g.reader.half)) (sym (take_rest (all h) (taken h + 1))) begins))))
 
 pub loop-taken-preserved-then-not-begin_text : goal.loop-taken-preserved-then-not-begin_text
 loop-taken-preserved-then-not-begin_text c =
