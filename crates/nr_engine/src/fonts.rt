@@ -20,6 +20,7 @@ fn begins_font(bytes: &[u8]) -> bool
 
 /// The font escape that these bytes begin with is read, and its font set: a move a byte and one to set it, and at the beginning of a
 /// line one more, which begins its text. Tells how many bytes it has: 0 where none was read.
+#[cold]
 #[inline(never)]
 fn change_font(formatter: &mut Formatter, bytes: &[u8]) -> usize
     requires text { is_at_text formatter.old ≡ true }
