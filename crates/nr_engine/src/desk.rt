@@ -79,6 +79,13 @@ impl Desk {
         })
     }
 
+    /// The lengths of all vectors that the desk holds, as these tell.
+    pub fn memory(&self) -> Sizes
+        ensures { result ≡ sizes_of self.now }
+    {
+        self.engine.memory()
+    }
+
     /// An empty working space under the desk's limits.
     pub fn lend(&mut self) -> Work<'_>
         ensures same_desk { result.desk.ghost_name ≡ self.entry.ghost_name }
