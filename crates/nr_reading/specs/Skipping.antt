@@ -16,10 +16,6 @@ use Rattle.nr_reading.specs.Steps.{to, go, leave, tell, leave_telling}
 use Rattle.nr_reading.specs.Text.{begin_escape, start}
 use Rattle.nr_reading.specs.TextEscapes.{plain}
 
-abbrev pub is_begun : Escape → Bool
-is_begun escapes.Begun = true
-is_begun e = false
-
 -- ---- accepted
 
 -- Blanks and `\{` are skipped; a newline right there ends the line without effect; what follows else is the beginning of a line.
