@@ -8,7 +8,6 @@ use nr_engine::{Buffered, Desk, Limits, ToWriter};
 use nr_units::source::next_count;
 use nr_words::{Input, MacroFile};
 use std::alloc::{AllocError, Global};
-use std::cell::Cell;
 use std::io;
 use std::io::ErrorKind;
 
@@ -17,7 +16,7 @@ use std::io::ErrorKind;
 struct Shelf<'a> {
     texts: &'a [(&'a str, Page<'a>)],
     standard: Page<'a>,
-    opened: Cell<usize>,
+    opened: usize,
 }
 
 fn is_path(path: &str, file: MacroFile<'_>) -> bool {
@@ -28,13 +27,15 @@ fn is_path(path: &str, file: MacroFile<'_>) -> bool {
 }
 
 impl<'b, 'a> Opener<'b> for Shelf<'a> {
-    ghost use Rattle.std.specs.Prelude.{⊤};
+    ghost use Rattle.std.specs.Prelude.{⊤, None};
 
     type Text = Buffered<'b, Page<'a>>;
 
     ghost may_come = { λ shelf reading opening. ⊤ };
 
-    fn open(&self, input: Input<'_>, buffer: &'b mut [u8]) -> io::Result<Self::Text> {
+    ghost asked = { λ shelf. None };
+
+    fn open(&mut self, input: Input<'_>, buffer: &'b mut [u8]) -> io::Result<Self::Text> {
         for (path, page) in self.texts {
             let found = match input {
                 Input::Macros(file) => is_path(path, file),
@@ -42,12 +43,12 @@ impl<'b, 'a> Opener<'b> for Shelf<'a> {
                 Input::Standard => false,
             };
             if found {
-                self.opened.set(self.opened.get().wrapping_add(1));
+                self.opened = self.opened.wrapping_add(1);
                 return Ok(Buffered::over(*page, buffer));
             }
         }
         if matches!(input, Input::Standard) {
-            self.opened.set(self.opened.get().wrapping_add(1));
+            self.opened = self.opened.wrapping_add(1);
             return Ok(Buffered::over(self.standard, buffer));
         }
         Err(io::Error::from(ErrorKind::NotFound))
@@ -283,10 +284,10 @@ struct Ran {
 }
 
 fn run<M: Memory>(alloc: Global, memory: &mut M, words: &[&str]) -> Ran {
-    let shelf = Shelf {
+    let mut shelf = Shelf {
         texts: &TEXTS,
         standard: Page::Bytes(b".pl 1v\nin\n"),
-        opened: Cell::new(0),
+        opened: 0,
     };
     let mut buffers = Vec::new(alloc);
     let mut output = Vec::new(alloc);
@@ -296,7 +297,7 @@ fn run<M: Memory>(alloc: Global, memory: &mut M, words: &[&str]) -> Ran {
     let status = run_words(
         memory,
         words,
-        &shelf,
+        &mut shelf,
         &mut buffers,
         &mut to_output,
         &mut errors,
@@ -305,7 +306,7 @@ fn run<M: Memory>(alloc: Global, memory: &mut M, words: &[&str]) -> Ran {
         status,
         output,
         line,
-        opened: shelf.opened.get(),
+        opened: shelf.opened,
     }
 }
 

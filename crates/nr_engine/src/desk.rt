@@ -79,9 +79,10 @@ impl Desk {
         })
     }
 
-    /// The lengths of all vectors that the desk holds, as these tell.
+    /// The lengths of the vectors that hold a run's memory, as these tell. They never change.
     pub fn memory(&self) -> Sizes
-        ensures { result ≡ sizes_of self.now }
+        ensures sizes { result ≡ sizes_of self.now }
+        ensures bound { sum_of result ≤ 4 * self.now.stored + 4 * self.now.depth + 6 * self.now.cells + 8192 }
     {
         self.engine.memory()
     }
