@@ -4,7 +4,7 @@
 //! program runs them. Those with faults of their own are tests, and so are runs of the program nroff over words and
 //! texts in memory.
 //!
-//! It stands on nr_units, nr_engine and nr_tbl; its tests stand on nr_command, nr_words and nr_command_line too. To
+//! It stands on nr_units, nr_rooms, nr_engine and nr_tbl; its tests stand on nr_command, nr_words and nr_command_line too. To
 //! read: this file, `limits`, `tables`; then the tests: `whole`, `row`, and the others in any order.
 #![tactic(auto)]
 

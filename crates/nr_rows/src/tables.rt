@@ -3,6 +3,7 @@
 use super::formatted;
 use nr_engine::{Buffered, Desk, Outcome};
 use nr_tbl::{Complaint, Report, convert, pending_size};
+use nr_rooms::FixedVec;
 use nr_units::fakes::{Script, Slate};
 use nr_units::slice_vec::SliceVec;
 use std::alloc::{AllocError, Global};
@@ -106,7 +107,7 @@ fn gives<R: Files + AllocGlobal + Print>(
     let file = fs::open(rt, format!(in rt.alloc(); "{name}.roff")?)?;
     let mut formats = vec![in rt.alloc(); 0u8; limits.formats]?;
     let mut row = vec![in rt.alloc(); 0u8; limits.row]?;
-    let mut pending = vec![in rt.alloc(); 0u8; pending_size(limits.formats, limits.row)]?;
+    let mut pending = FixedVec::new(rt.alloc(), pending_size(limits.formats, limits.row))?;
     let mut printed = vec![in rt.alloc(); 0u8; pages.len()]?;
     let mut turned = Slate::over(&mut turner.turned);
     let mut complaints = SliceVec::over(&mut turner.complaints);

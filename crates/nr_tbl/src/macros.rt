@@ -4,7 +4,7 @@ ghost use Rattle.std.specs.Prelude.{◌≡◌, ◌+◌, ◌≤◌, ◌++◌, len
 ghost use Rattle.nr_tbl.specs.Macros.{macros};
 
 use super::drawing::DRAWING;
-use nr_units::slice_vec::SliceVec;
+use nr_rooms::FixedVec;
 
 /// The macros by which a table is read, measured and ended.
 static MACROS: [u8; 7796] = *b"\
@@ -460,7 +460,7 @@ a b ccc\n\
 ";
 
 /// Puts the macros behind what goes out: at most 16128 bytes.
-pub(crate) fn put_macros(out: &mut SliceVec<'_, u8>)
+pub(crate) fn put_macros(out: &mut FixedVec<u8>)
     requires { length out.old.items + 16128 ≤ out.old.room }
     ensures items { out.new.items ≡ out.old.items ++ macros }
     ensures few { length out.new.items ≤ length out.old.items + 16128 }

@@ -8,6 +8,7 @@ ghost use Rattle.nr_tbl.specs.Running as specs;
 
 use super::complaint::{Complaint, Kind};
 use super::reader::Reader;
+use nr_rooms::FixedVec;
 use nr_units::sink::Sink;
 use nr_units::slice_vec::SliceVec;
 use nr_units::source::{Fault, Source};
@@ -88,7 +89,7 @@ fn note(wrong: Option<Kind>, at: u64, complaints: &mut SliceVec<'_, Complaint>, 
     complaints.push(Complaint { kind, at });
 }
 
-/// The least length of the slice for what goes out, where so many bytes of options and formats and of a row are kept.
+/// The least room for what goes out, where so many bytes of options and formats and of a row are kept.
 pub fn pending_size(formats: usize, row: usize) -> usize
     requires formats { formats ≤ 2 ^ 30 }
     requires row { row ≤ 2 ^ 30 }
@@ -98,7 +99,7 @@ pub fn pending_size(formats: usize, row: usize) -> usize
 }
 
 /// All that is pending goes out.
-fn put_pending<W: Sink>(out: &mut SliceVec<'_, u8>, output: &mut W) -> Result<(), Fault>
+fn put_pending<W: Sink>(out: &mut FixedVec<u8>, output: &mut W) -> Result<(), Fault>
     ensures ok { OnOk result (Appends (W.held output.old) (W.held output.new) out.old.items) }
     ensures err { specs.FrontAtErr result (W.held output.old) (W.held output.new) out.old.items }
     ensures empty { OnOk result (out.new.items ≡ []) }
@@ -111,7 +112,7 @@ fn put_pending<W: Sink>(out: &mut SliceVec<'_, u8>, output: &mut W) -> Result<()
 }
 
 /// Room is made for what one turn says, so many bytes at most: where there is none, all that is pending goes out.
-fn make_room<W: Sink>(most: usize, out: &mut SliceVec<'_, u8>, output: &mut W) -> Result<(), Fault>
+fn make_room<W: Sink>(most: usize, out: &mut FixedVec<u8>, output: &mut W) -> Result<(), Fault>
     requires { most ≤ out.old.room }
     ensures ok { OnOk result (specs.Flushes (W.held output.old) (W.held output.new) out.old.items out.new.items) }
     ensures err { specs.FrontAtErr result (W.held output.old) (W.held output.new) out.old.items }
@@ -129,7 +130,7 @@ fn make_room<W: Sink>(most: usize, out: &mut SliceVec<'_, u8>, output: &mut W) -
 fn take_passing<R: Source>(
     reader: &Reader<'_>,
     input: &mut R,
-    out: &mut SliceVec<'_, u8>,
+    out: &mut FixedVec<u8>,
     most: u64,
 ) -> u64
     requires { length out.old.items + 16384 ≤ out.old.room }
@@ -151,7 +152,7 @@ fn take_passing<R: Source>(
 fn make_turn<R: Source>(
     reader: &mut Reader<'_>,
     input: &mut R,
-    out: &mut SliceVec<'_, u8>,
+    out: &mut FixedVec<u8>,
     most: u64,
 ) -> Turn
     requires room { length out.old.items + 10 * most_of reader.old ≤ out.old.room }
@@ -191,9 +192,10 @@ fn make_turn<R: Source>(
 }
 
 /// The rest goes out, and the run has ended so.
-fn ended<W: Sink>(out: &mut SliceVec<'_, u8>, output: &mut W, outcome: Outcome) -> Outcome
+fn ended<W: Sink>(out: &mut FixedVec<u8>, output: &mut W, outcome: Outcome) -> Outcome
     ensures ends { specs.EndsAs outcome result (W.held output.old) (W.held output.new) out.old.items }
     ensures failures { specs.is_write_fault outcome ≡ false → W.failures output.new ≡ put_counted_if (specs.is_write_fault result) (W.failures output.old) }
+    ensures room { out.new.room ≡ out.old.room }
 {
     match put_pending(out, output) {
         Ok(()) => outcome,
@@ -208,7 +210,7 @@ fn run<R: Source, W: Sink>(
     reader: &mut Reader<'_>,
     input: &mut R,
     output: &mut W,
-    out: &mut SliceVec<'_, u8>,
+    out: &mut FixedVec<u8>,
     complaints: &mut SliceVec<'_, Complaint>,
     tally: &mut Tally,
 ) -> Outcome
@@ -222,6 +224,7 @@ fn run<R: Source, W: Sink>(
     ensures read_faults { specs.TellsReads result (R.failures input.old) (R.failures input.new) }
     ensures write_faults { W.failures output.new ≡ put_counted_if (specs.is_write_fault result) (W.failures output.old) }
     ensures kept { complaints.new.room ≡ complaints.old.room }
+    ensures held { out.new.room ≡ out.old.room }
 {
     let mut taken = 0;
     while taken < TOO_MANY {
@@ -254,7 +257,8 @@ fn run<R: Source, W: Sink>(
 /// not flushed. Nothing is allocated.
 ///
 /// The lengths of `formats` and `row` are the limits on the bytes of a table's options and formats, and of the fields of
-/// a row. `line` is the line's length in cells, by which a table is told that is surely wider. What the slices and `complaints` held is of no account.
+/// a row. `line` is the line's length in cells, by which a table is told that is surely wider. What the slices,
+/// `complaints` and `pending` held is of no account. `pending` is what is to go out: room beyond the least makes fewer writes.
 ///
 /// What goes out is one function of the bytes that came, however they came. At a read fault, and where the
 /// input is too long, it is that of the bytes before, but for what is half read; at a write fault a front of it.
@@ -271,16 +275,17 @@ pub fn convert<R: Source, W: Sink>(
     row: &mut [u8],
     line: usize,
     complaints: &mut SliceVec<'_, Complaint>,
-    pending: &mut [u8],
+    pending: &mut FixedVec<u8>,
 ) -> Report
     requires formats { length formats.old ≤ 2 ^ 30 }
     requires row { length row.old ≤ 2 ^ 30 }
-    requires pending { specs.pending_size (length formats.old) (length row.old) ≤ length pending.old }
+    requires pending { specs.pending_size (length formats.old) (length row.old) ≤ pending.old.room }
     ensures ran { specs.Ran (length formats.old) (length row.old) line (R.supply input.old) (R.supply input.new) (W.held output.old) (W.held output.new) (specs.account result.steps complaints.new result.missed) result.outcome }
     // A read fault is told only where the source failed once, and then always, but where the output fails too.
     ensures read_faults { specs.TellsReads result.outcome (R.failures input.old) (R.failures input.new) }
     ensures write_faults { W.failures output.new ≡ put_counted_if (specs.is_write_fault result.outcome) (W.failures output.old) }
     ensures room { complaints.new.room ≡ complaints.old.room }
+    ensures pending { pending.new.room ≡ pending.old.room }
 {
     let most = pending_size(formats.len(), row.len());
     let mut tally = Tally {
@@ -288,14 +293,14 @@ pub fn convert<R: Source, W: Sink>(
         missed: false,
     };
     let mut reader = Reader::over(formats, row, line);
-    let mut out = SliceVec::over(pending);
+    pending.clear();
     complaints.clear();
     let outcome = run(
         most,
         &mut reader,
         input,
         output,
-        &mut out,
+        pending,
         complaints,
         &mut tally,
     );
