@@ -7,7 +7,7 @@ use super::drawing::DRAWING;
 use nr_rooms::FixedVec;
 
 /// The macros by which a table is read, measured and ended.
-static MACROS: [u8; 7796] = *b"\
+static MACROS: [u8; 7816] = *b"\
 .de *.\n\
 ..\n\
 .de *begin\n\
@@ -90,8 +90,11 @@ static MACROS: [u8; 7796] = *b"\
 .nr *z\\\\n(*K,\\\\n(*c 1\n\
 ..\n\
 .de *width\n\
-.nr *m\\\\n(*c \\\\$1n\n\
-.nr *m\\\\n(*c \\\\n[*m\\\\n(*c]+12/24*24\n\
+.nr *t \\\\n(.l\n\
+.ll 1n\n\
+.ll 0+(\\\\$1)\n\
+.nr *m\\\\n(*c \\\\n(.l+12/24*24\n\
+.ll \\\\n(*tu\n\
 ..\n\
 .de *gap\n\
 .if \\\\$1+1>\\\\n[*%\\\\n(*c] .nr *%\\\\n(*c \\\\$1+1\n\
