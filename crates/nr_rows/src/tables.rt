@@ -130,7 +130,7 @@ fn gives<R: Files + AllocGlobal + Print>(
     Ok(good)
 }
 
-/// How a run ended, as the list says it: `Done`, or its complaints, as `BadFormat at 22, OpenTable at 30`.
+/// How a run ended, as the list says it: `Done`, or its complaints, as `BadFormat on line 3, OpenTable on line 4`.
 fn end_of(
     alloc: Global,
     report: Report,
@@ -145,7 +145,7 @@ fn end_of(
         if !ended.is_empty() {
             ended.push_str(", ")?;
         }
-        let told = format!(in alloc; "{:?} at {}", complaint.kind, complaint.at)?;
+        let told = format!(in alloc; "{:?} on line {}", complaint.kind, complaint.line)?;
         ended.push_str(&told)?;
     }
     if ended.is_empty() {

@@ -6,7 +6,7 @@ ghost use Rattle.nr_tbl.specs.Reading.{first_page, found, most as most_of};
 ghost use Rattle.nr_tbl.specs.declared.complaint.Complaint.{Complaint as ComplaintValue};
 ghost use Rattle.nr_tbl.specs.Running as specs;
 
-use super::complaint::{Complaint, Kind};
+use super::complaint::{Complaint, Kind, Place};
 use super::reader::Reader;
 use nr_rooms::FixedVec;
 use nr_units::sink::Sink;
@@ -49,10 +49,12 @@ pub struct Report {
 /// What one turn came to.
 #[derive(Clone, Copy)]
 enum Turn {
-    /// So many bytes were taken, in so many steps, and this was found wrong with the last of them. More may come.
+    /// So many bytes of one line were taken, in so many steps. The last ends the line or doesn't, and this was found wrong
+    /// with it. More may come.
     Took {
         bytes: u64,
         steps: u64,
+        newline: bool,
         wrong: Option<Kind>,
     },
     /// The input has ended, in so many steps, and this was found wrong.
@@ -73,9 +75,9 @@ struct Tally {
     missed: bool,
 }
 
-/// Keeps what was found wrong behind so many bytes, if anything was and there is room for it.
-fn note(wrong: Option<Kind>, at: u64, complaints: &mut SliceVec<'_, Complaint>, tally: &mut Tally)
-    ensures notes { (all : List ComplaintValue) → specs.Keeps all complaints.old tally.old.missed → specs.Keeps (all ++ found wrong at) complaints.new tally.new.missed }
+/// Keeps what was found wrong on this line, if anything was and there is room for it.
+fn note(wrong: Option<Kind>, line: u64, complaints: &mut SliceVec<'_, Complaint>, tally: &mut Tally)
+    ensures notes { (all : List ComplaintValue) → specs.Keeps all complaints.old tally.old.missed → specs.Keeps (all ++ found wrong line) complaints.new tally.new.missed }
     ensures room { complaints.new.room ≡ complaints.old.room }
     ensures steps { tally.new.steps ≡ tally.old.steps }
 {
@@ -86,7 +88,7 @@ fn note(wrong: Option<Kind>, at: u64, complaints: &mut SliceVec<'_, Complaint>, 
         tally.missed = true;
         return;
     }
-    complaints.push(Complaint { kind, at });
+    complaints.push(Complaint { kind, line });
 }
 
 /// The least room for what goes out, where so many bytes of options and formats and of a row are kept.
@@ -134,7 +136,7 @@ fn take_passing<R: Source>(
     most: u64,
 ) -> u64
     requires { length out.old.items + 16384 ≤ out.old.room }
-    ensures took { specs.Took (R.supply input.old) (R.supply input.new) reader.now reader.now out.old.items out.new.items result result None }
+    ensures took { specs.Took (R.supply input.old) (R.supply input.new) reader.now reader.now out.old.items out.new.items result result false None }
     ensures few { result ≤ most }
     ensures grown { length out.new.items ≤ length out.old.items + result }
     ensures failures { R.failures input.new ≡ R.failures input.old }
@@ -168,6 +170,7 @@ fn make_turn<R: Source>(
         return Turn::Took {
             bytes: count,
             steps: count,
+            newline: false,
             wrong: None,
         };
     }
@@ -177,6 +180,7 @@ fn make_turn<R: Source>(
             Turn::Took {
                 bytes: 1,
                 steps,
+                newline: byte == b'\n',
                 wrong: reader.complaint(),
             }
         }
@@ -227,6 +231,7 @@ fn run<R: Source, W: Sink>(
     ensures held { out.new.room ≡ out.old.room }
 {
     let mut taken = 0;
+    let mut place = Place::first();
     while taken < TOO_MANY {
         match make_room(most, out, output) {
             Ok(()) => {}
@@ -236,15 +241,17 @@ fn run<R: Source, W: Sink>(
             Turn::Took {
                 bytes,
                 steps,
+                newline,
                 wrong,
             } => {
                 taken += bytes;
+                place = place.taken_to(newline);
                 tally.steps += steps;
-                note(wrong, taken, complaints, tally);
+                note(wrong, place.line, complaints, tally);
             }
             Turn::End { steps, wrong } => {
                 tally.steps += steps;
-                note(wrong, taken, complaints, tally);
+                note(wrong, place.line, complaints, tally);
                 return ended(out, output, Outcome::Done);
             }
             Turn::ReadFault => return ended(out, output, Outcome::ReadFault { at: taken }),
@@ -263,8 +270,8 @@ fn run<R: Source, W: Sink>(
 /// What goes out is one function of the bytes that came, however they came. At a read fault, and where the
 /// input is too long, it is that of the bytes before, but for what is half read; at a write fault a front of it.
 ///
-/// `complaints` holds then what was wrong with the tables of the bytes that came, in the order of the input, as many
-/// as there is room for.
+/// `complaints` holds then what was wrong with the tables of the bytes that came, each with its line, in the order of the
+/// input, as many as there is room for.
 ///
 /// In a step a byte that came, or the end, meets what is half read of the page, or a byte passes as it is. There are
 /// at most ten for each byte, and ten for the end.
