@@ -3,6 +3,7 @@
 use super::formatted;
 use nr_engine::{Buffered, Desk, Outcome};
 use nr_tbl::{Complaint, Report, convert, pending_size};
+use nr_rooms::FixedVec;
 use nr_units::fakes::{Script, Slate};
 use nr_units::slice_vec::SliceVec;
 use std::alloc::{AllocError, Global};
@@ -106,7 +107,7 @@ fn gives<R: Files + AllocGlobal + Print>(
     let file = fs::open(rt, format!(in rt.alloc(); "{name}.roff")?)?;
     let mut formats = vec![in rt.alloc(); 0u8; limits.formats]?;
     let mut row = vec![in rt.alloc(); 0u8; limits.row]?;
-    let mut pending = vec![in rt.alloc(); 0u8; pending_size(limits.formats, limits.row)]?;
+    let mut pending = FixedVec::new(rt.alloc(), pending_size(limits.formats, limits.row))?;
     let mut printed = vec![in rt.alloc(); 0u8; pages.len()]?;
     let mut turned = Slate::over(&mut turner.turned);
     let mut complaints = SliceVec::over(&mut turner.complaints);
@@ -129,7 +130,7 @@ fn gives<R: Files + AllocGlobal + Print>(
     Ok(good)
 }
 
-/// How a run ended, as the list says it: `Done`, or its complaints, as `BadFormat at 22, OpenTable at 30`.
+/// How a run ended, as the list says it: `Done`, or its complaints, as `BadFormat on line 3, OpenTable on line 4`.
 fn end_of(
     alloc: Global,
     report: Report,
@@ -144,7 +145,7 @@ fn end_of(
         if !ended.is_empty() {
             ended.push_str(", ")?;
         }
-        let told = format!(in alloc; "{:?} at {}", complaint.kind, complaint.at)?;
+        let told = format!(in alloc; "{:?} on line {}", complaint.kind, complaint.line)?;
         ended.push_str(&told)?;
     }
     if ended.is_empty() {
