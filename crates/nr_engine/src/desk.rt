@@ -62,7 +62,7 @@ impl Model for Desk {
     ghost invariant = { λ d. limits_of (shape d.engine) ≡ limits_under d.limits };
 }
 
-/// An empty working space, lent by a desk.
+/// A working space, lent by a desk for one run. `format` empties it.
 #[derive(Drop)]
 pub struct Work<'a> {
     pub(crate) desk: &'a mut Desk,
@@ -87,7 +87,7 @@ impl Desk {
         self.engine.memory()
     }
 
-    /// An empty working space under the desk's limits.
+    /// The working space of one run, under the desk's limits.
     pub fn lend(&mut self) -> Work<'_>
         ensures same_desk { result.desk.ghost_name ≡ self.entry.ghost_name }
         ensures limits { result.desk.now ≡ self.old }
