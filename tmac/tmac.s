@@ -23,13 +23,14 @@
 .\"   1 if the title comes again, )aside 1 on a page without header and footer, )abstract
 .\"   )top first place below the header, )first 1 for a header on page 1, )begun
 .\"   )kind of a display   )keep depth of keeps, )float 1 in one that floats
-.\"   )waits1 .. floating keeps )keep1 ..: )shown were printed of )kept
+.\"   )wait1 .. heights of the floating keeps )keep1 ..: of )kept )shown were printed,
+.\"   )floating 1 meanwhile
 .\"   )marks numbers of notes in the text, )mark in notes   )raw notes not set yet, with
 .\"   )room kept for them, )noted height of the set ones of this page, )later of the next
 .\"   )italics 1 while text is in italics, )centred 1 while lines are centred
 .\"   )row 1 while a line is kept aside for the page's end, )rows its height
 .\"   )head height of a table's head
-.\" Private texts: )title )abstract-text, )kept-text, )keepN, )raw-notes, )notes, )notes-later,
+.\" Private texts: )title )abstract-text, )kept-text, )keepN, )raw-notes, )notes, )notes-later, )notes-over,
 .\"   )line (kept aside), )contents, )head-text, )oh )eh )of )ef titles
 .cp 0
 .ds REFERENCES References
@@ -202,7 +203,7 @@
 .\}
 'bp
 .)place
-.if \\n[)kept]>\\n[)shown] .)floats
+.if !\\n[)floating] .if \\n[)kept]>\\n[)shown] .)floats
 .if \\n[)head] .)print-head
 .if \\n[)row] .)back
 ..
@@ -242,15 +243,18 @@
 .if \\n[)aside] .)end-aside
 .)last
 ..
+.\" ends the page, and those that are needed for what waits
 .de )last
-.if \\n[)later]+\\n[)kept]-\\n[)shown] \{\
-.rs
-.bp
-.ie \\n[)later] \{\
+.if \\n(nl \{\
 .rs
 .bp
 .\}
-.el .rs
+.if \\n[)later]+\\n[)noted]+\\n[)kept]-\\n[)shown] \{\
+.if !\\n(nl \{\
+.bp
+.rs
+.bp
+.\}
 .)last
 .\}
 ..
@@ -772,7 +776,7 @@
 .KE
 .\}
 .)reset
-.sp \\n(DDu
+.if \\n(.d .sp \\n(DDu
 .ns
 .nr )behind \\n(.d
 .\}
@@ -879,8 +883,10 @@
 ..
 .\" those that waited, at the page's top: the first in any case
 .de )floats
+.nr )floating 1
 .nr )w 1
 .)next-float
+.nr )floating 0
 ..
 .de )next-float
 .nr )i \\n[)shown]+1
@@ -1034,16 +1040,33 @@
 'in \\n[)n-in]u
 .rm )new-notes
 ..
-.\" notes below a rule
+.\" notes below a rule; what has no room is for the next page, before the notes that wait
 .de )print-notes
 .nr )n-in \\n(.i
 'in 0
 .nr )noted 0
+.nr )n-vs \\n(.v
+.vs 40u
 .lt \\n(LTu
 .tl \a\l'11n'\a\a\a
+.wh -\\n(FMu )catch
 .)notes
+.if '\\n(.z')notes-over' .)end-catch
+.ch )catch
 .rm )notes
+.vs \\n[)n-vs]u
 'in \\n[)n-in]u
+..
+.de )catch
+.di )notes-over
+..
+.de )end-catch
+.nr )over \\n(.d
+.if \\n[)later] .)notes-later
+.di
+.rm )notes-later
+.rn )notes-over )notes-later
+.nr )later +\\n[)over]
 ..
 .\" ---- boxes
 .de B1
@@ -1167,7 +1190,7 @@
 .br
 .nr )head 0
 .if \\n[)t-fill] .fi
-.sp \\n(DDu
+.if \\n(.d .sp \\n(DDu
 .ns
 .nr )behind \\n(.d
 ..
@@ -1214,7 +1237,7 @@
 .)equation
 .in 0
 .if \\n()w .)put-number
-.sp \\n(DDu
+.if \\n(.d .sp \\n(DDu
 .ns
 ..
 .de )put-number
@@ -1234,7 +1257,7 @@
 .de PE
 .br
 .if \\n[)p-fill] .fi
-.sp \\n(DDu
+.if \\n(.d .sp \\n(DDu
 .ns
 ..
 .de PF
@@ -1300,8 +1323,7 @@
 .)finish
 .)last
 .nr )first 1
-.rs
-.bp 1
+.pn 1
 .af PN i
 .nr PN 1
 .PX \\$1
