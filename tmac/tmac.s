@@ -29,7 +29,8 @@
 .\"   )room kept for them, )noted height of the set ones of this page, )later of the next
 .\"   )italics 1 while text is in italics, )centred 1 while lines are centred
 .\"   )row 1 while a line is kept aside for the page's end, )rows its height
-.\"   )head height of a table's head
+.\"   )in-table 1 in a table, whose paragraphs leave its lines as they are, )head height of
+.\"   its head
 .\" Private texts: )title )abstract-text, )kept-text, )keepN, )raw-notes, )notes, )notes-later, )notes-over,
 .\"   )line (kept aside), )contents, )head-text, )oh )eh )of )ef titles
 .cp 0
@@ -415,6 +416,11 @@
 .\" settings that each of them begins with
 .de )reset
 .br
+.ft R
+.nr )italics 0
+.if !\\n[)in-table] .)reset-lines
+..
+.de )reset-lines
 .if \\n[)cover]<2 .)before-text
 .ce 0
 .nr )centred 0
@@ -424,8 +430,6 @@
 .el .if \\n(VS .vs \\n(VSp
 .ll \\n(LLu-\\n[)right]u-\\n[)pright]u
 .in \\n[)left]u+\\n[)pleft]u
-.ft R
-.nr )italics 0
 .TA
 .if \\n[)raw] .if !\\n[)keep] .if '\\n(.z'' .)set-now
 ..
@@ -471,7 +475,7 @@
 ..
 .de XP
 .)start \\n(PI 0
-.ti -\\n(PIu
+.if !\\n[)in-table] .ti -\\n(PIu
 ..
 .\" paragraph with a tag, whose blanks stay as they are
 .de IP
@@ -479,7 +483,8 @@
 .if \\n(.$>1 .nr )width \\$2n
 .)start \\n[)width] 0
 .nr )w \w\a\\$1\a
-.if \\n()w .)tag "\\$1"
+.ie \\n[)in-table] \&\\$1\ \c
+.el .if \\n()w .)tag "\\$1"
 ..
 .de )tag
 .ti -\\n[)width]u
@@ -626,6 +631,27 @@
 .sp 3
 .if \\n(.$ \&\\$1 \\$2 \\$3 \\$4 \\$5 \\$6 \\$7 \\$8 \\$9
 ..
+.\" addresses
+.de MH
+Bell Laboratories
+Murray Hill, New Jersey 07974
+..
+.de HO
+Bell Laboratories
+Holmdel, New Jersey 07733
+..
+.de WH
+Bell Laboratories
+Whippany, New Jersey 07981
+..
+.de IH
+Bell Laboratories
+Naperville, Illinois 60540
+..
+.de PY
+Bell Laboratories
+Piscataway, New Jersey 08854
+..
 .\" of Berkeley: the title of a chapter
 .de CT
 .)finish
@@ -736,12 +762,12 @@
 .br
 .it
 .di
-.nr )w \\n(.i
+.nr )right-in \\n(.i
 .nr )o \\n(.l-\\n(dl
 .if \\n()o<0 .nr )o 0
 .in \\n()ou
 .)block
-.in \\n()wu
+.in \\n[)right-in]u
 ..
 .de DS
 .if \\n[)kind] .DE
@@ -848,10 +874,10 @@
 .nr )note-height 0
 .if \\n[)raw] .)set
 .)need \\n[)height]+\\n[)note-height]
-.nr )e \\n(.i
+.nr )keep-in \\n(.i
 .in 0
 .)kept-text
-.in \\n()eu
+.in \\n[)keep-in]u
 .rm )kept-text
 .if \\n[)note-height] .)allot
 .if \\n[)kept-space] .ns
@@ -884,7 +910,7 @@
 .\" those that waited, at the page's top: the first in any case
 .de )floats
 .nr )floating 1
-.nr )w 1
+.nr )force 1
 .)next-float
 .nr )floating 0
 ..
@@ -892,15 +918,15 @@
 .nr )i \\n[)shown]+1
 .nr )o \\n(.t
 .if !\\n(nl .nr )o -\\n(HM
-.if \\n()w .nr )o \\n[)wait\\n()i]
-.nr )w 0
+.if \\n[)force] .nr )o \\n[)wait\\n()i]
+.nr )force 0
 .if \\n()o>=\\n[)wait\\n()i] \{\
 .nr )shown \\n()i
-.nr )e \\n(.i
+.nr )float-in \\n(.i
 'in 0
-.)keep\\n()i
-.rm )keep\\n()i
-'in \\n()eu
+.)keep\\n[)shown]
+.rm )keep\\n[)shown]
+'in \\n[)float-in]u
 .if \\n[)kept]>\\n[)shown] .)next-float
 .\}
 ..
@@ -960,6 +986,7 @@
 .nr )n-centred \\n[)centred]
 .nr )n-italics \\n[)italics]
 .nr )n-kind \\n[)kind]
+.nr )n-keep-in \\n[)keep-in]
 .nr )n-LL \\n(LL
 .nr )n-PI \\n(PI
 .nr )n-PD \\n(PD
@@ -987,6 +1014,7 @@
 .nr PD \\n[)n-PD]
 .nr VS \\n[)n-VS]
 .nr )kind \\n[)n-kind]
+.nr )keep-in \\n[)n-keep-in]
 .vs \\n[)n-vs]u
 .)margins-before
 .ll \\n[)n-ll]u
@@ -1100,11 +1128,11 @@
 .)need \\n[)height]+\\n[)note-height]+120u
 .in \\n[)box-in]u
 .ll \\n[)box-ll]u
-.nr )w \\n(.l-\\n(.i-2n
+.nr )box-w \\n(.l-\\n(.i-2n
 .nr )box-v \\n(.v
 .vs 40u
 .)box-rule
-.)box-bars \\n[)box-in] \\n()w \\n[)height]
+.)box-bars \\n[)box-in] \\n[)box-w] \\n[)height]
 .in 0
 .)box
 .in \\n[)box-in]u
@@ -1118,7 +1146,7 @@
 .\}
 ..
 .de )box-rule
-\&+\l'\\n()wu-'+
+\&+\l'\\n[)box-w]u-'+
 ..
 .\" the bars, at an indent, so far apart, so high; the text is put over them. In a
 .\" diversion they wait till that is printed, and they stand on one page only
@@ -1155,6 +1183,7 @@
 .if \\n[)raw] .if !\\n[)keep] .)set-now
 .nr )t-fill \\n(.u
 .sp \\n(DDu
+.nr )in-table 1
 .nf
 .if '\\$1'H' .)begin-head
 ..
@@ -1167,27 +1196,28 @@
 .br
 .di
 .nr )in-head 0
-.nr )w \\n(dn
-.if \\n()w .)end-head
+.nr )head-height \\n(dn
+.if \\n(dn .)end-head
 .\}
 ..
 .de )end-head
-.)need \\n()w+40u
-.nr )e \\n(.i
+.)need \\n[)head-height]+40u
+.nr )head-in \\n(.i
 .in 0
 .)head-text
-.in \\n()eu
-.if '\\n(.z'' .if \\n()w<(\\n(.p-\\n(HM-\\n(FM-80u) .nr )head \\n()w
+.in \\n[)head-in]u
+.if '\\n(.z'' .if \\n[)head-height]<(\\n(.p-\\n(HM-\\n(FM-80u) .nr )head \\n[)head-height]
 ..
 .de )print-head
-.nr )e \\n(.i
+.nr )head-in \\n(.i
 'in 0
 .)head-text
-'in \\n()eu
+'in \\n[)head-in]u
 ..
 .de TE
 .TH
 .br
+.nr )in-table 0
 .nr )head 0
 .if \\n[)t-fill] .fi
 .if \\n(.d .sp \\n(DDu
@@ -1218,10 +1248,10 @@
 .br
 .di
 .nr )in-equation 0
-.nr )w \w\a\\*[)e-number]\a
+.nr )e-number-width \w\a\\*[)e-number]\a
 .nr )e-width \\n(dl
 .nr )height \\n(dn
-.if \\n(dl:\\n()w .)put-equation
+.if \\n(dl:\\n[)e-number-width] .)put-equation
 .in \\n[)e-in]u
 .if \\n[)e-fill] .fi
 .\}
@@ -1229,21 +1259,21 @@
 .de )put-equation
 .sp \\n(DDu
 .)need \\n[)height]+80u
-.nr )o \\n[)e-in]
-.if \\n[)e-kind]=1 .nr )o +\\n(DI
-.if \\n[)e-kind]=2 .nr )o +(\\n(.l-\\n[)e-in]-\\n[)e-width]/2)
-.if \\n()o<0 .nr )o 0
-.in \\n()ou
+.nr )e-at \\n[)e-in]
+.if \\n[)e-kind]=1 .nr )e-at +\\n(DI
+.if \\n[)e-kind]=2 .nr )e-at +(\\n(.l-\\n[)e-in]-\\n[)e-width]/2)
+.if \\n[)e-at]<0 .nr )e-at 0
+.in \\n[)e-at]u
 .)equation
 .in 0
-.if \\n()w .)put-number
+.if \\n[)e-number-width] .)put-number
 .if \\n(.d .sp \\n(DDu
 .ns
 ..
 .de )put-number
-.nr )i \\n(.l-\\n()w
+.nr )i \\n(.l-\\n[)e-number-width]
 .if \\n()i<0 .nr )i 0
-.if '\\n(.z'' .if \\n[)height] .if \\n()o+\\n[)e-width]+1n<=\\n()i 'sp -1
+.if '\\n(.z'' .if \\n[)height] .if \\n[)e-at]+\\n[)e-width]+1n<=\\n()i 'sp -1
 .rs
 \&\h'\\n()iu'\\*[)e-number]
 ..
@@ -1291,19 +1321,20 @@
 .if \\n[)entry] \{\
 .nr )entry 0
 .br
-.nr )i \\n(.i+\\n(.n
+.nr )entry-end \\n(.i+\\n(.n
 .di
 .nf
 .in 0
 .ll \\n(LLu
-.nr )w \w\a\\*[)number]\a
+.nr )number-width \w\a\\*[)number]\a
+.nr )entry-height \\n(dn
 .ne \\n(dnu+1v
 .)entry-text
-.if \\n(dn .if \\n()w 'sp -1
+.if \\n[)entry-height] .if \\n[)number-width] 'sp -1
 .rs
-.nr )o \\n(LL-\\n()i-\\n()w-2n
+.nr )o \\n(LL-\\n[)entry-end]-\\n[)number-width]-2n
 .if \\n()o<0 .nr )o 0
-.if \\n()w \h'\\n()iu'\ \l'\\n()ou.'\ \\*[)number]
+.if \\n[)number-width] \h'\\n[)entry-end]u'\ \l'\\n()ou.'\ \\*[)number]
 .\}
 ..
 .de PX
