@@ -23,13 +23,15 @@
 .\"   1 if the title comes again, )aside 1 on a page without header and footer, )abstract
 .\"   )top first place below the header, )first 1 for a header on page 1, )begun
 .\"   )kind of a display   )keep depth of keeps, )float 1 in one that floats
-.\"   )waits1 .. floating keeps )keep1 ..: )shown were printed of )kept
+.\"   )wait1 .. heights of the floating keeps )keep1 ..: of )kept )shown were printed,
+.\"   )floating 1 meanwhile
 .\"   )marks numbers of notes in the text, )mark in notes   )raw notes not set yet, with
 .\"   )room kept for them, )noted height of the set ones of this page, )later of the next
 .\"   )italics 1 while text is in italics, )centred 1 while lines are centred
 .\"   )row 1 while a line is kept aside for the page's end, )rows its height
-.\"   )head height of a table's head
-.\" Private texts: )title )abstract-text, )kept-text, )keepN, )raw-notes, )notes, )notes-later,
+.\"   )in-table 1 in a table, whose paragraphs leave its lines as they are, )head height of
+.\"   its head
+.\" Private texts: )title )abstract-text, )kept-text, )keepN, )raw-notes, )notes, )notes-later, )notes-over,
 .\"   )line (kept aside), )contents, )head-text, )oh )eh )of )ef titles
 .cp 0
 .ds REFERENCES References
@@ -202,7 +204,7 @@
 .\}
 'bp
 .)place
-.if \\n[)kept]>\\n[)shown] .)floats
+.if !\\n[)floating] .if \\n[)kept]>\\n[)shown] .)floats
 .if \\n[)head] .)print-head
 .if \\n[)row] .)back
 ..
@@ -242,15 +244,18 @@
 .if \\n[)aside] .)end-aside
 .)last
 ..
+.\" ends the page, and those that are needed for what waits
 .de )last
-.if \\n[)later]+\\n[)kept]-\\n[)shown] \{\
-.rs
-.bp
-.ie \\n[)later] \{\
+.if \\n(nl \{\
 .rs
 .bp
 .\}
-.el .rs
+.if \\n[)later]+\\n[)noted]+\\n[)kept]-\\n[)shown] \{\
+.if !\\n(nl \{\
+.bp
+.rs
+.bp
+.\}
 .)last
 .\}
 ..
@@ -411,6 +416,11 @@
 .\" settings that each of them begins with
 .de )reset
 .br
+.ft R
+.nr )italics 0
+.if !\\n[)in-table] .)reset-lines
+..
+.de )reset-lines
 .if \\n[)cover]<2 .)before-text
 .ce 0
 .nr )centred 0
@@ -420,8 +430,6 @@
 .el .if \\n(VS .vs \\n(VSp
 .ll \\n(LLu-\\n[)right]u-\\n[)pright]u
 .in \\n[)left]u+\\n[)pleft]u
-.ft R
-.nr )italics 0
 .TA
 .if \\n[)raw] .if !\\n[)keep] .if '\\n(.z'' .)set-now
 ..
@@ -467,7 +475,7 @@
 ..
 .de XP
 .)start \\n(PI 0
-.ti -\\n(PIu
+.if !\\n[)in-table] .ti -\\n(PIu
 ..
 .\" paragraph with a tag, whose blanks stay as they are
 .de IP
@@ -475,7 +483,8 @@
 .if \\n(.$>1 .nr )width \\$2n
 .)start \\n[)width] 0
 .nr )w \w\a\\$1\a
-.if \\n()w .)tag "\\$1"
+.ie \\n[)in-table] \&\\$1\ \c
+.el .if \\n()w .)tag "\\$1"
 ..
 .de )tag
 .ti -\\n[)width]u
@@ -622,6 +631,27 @@
 .sp 3
 .if \\n(.$ \&\\$1 \\$2 \\$3 \\$4 \\$5 \\$6 \\$7 \\$8 \\$9
 ..
+.\" addresses
+.de MH
+Bell Laboratories
+Murray Hill, New Jersey 07974
+..
+.de HO
+Bell Laboratories
+Holmdel, New Jersey 07733
+..
+.de WH
+Bell Laboratories
+Whippany, New Jersey 07981
+..
+.de IH
+Bell Laboratories
+Naperville, Illinois 60540
+..
+.de PY
+Bell Laboratories
+Piscataway, New Jersey 08854
+..
 .\" of Berkeley: the title of a chapter
 .de CT
 .)finish
@@ -732,12 +762,12 @@
 .br
 .it
 .di
-.nr )w \\n(.i
+.nr )right-in \\n(.i
 .nr )o \\n(.l-\\n(dl
 .if \\n()o<0 .nr )o 0
 .in \\n()ou
 .)block
-.in \\n()wu
+.in \\n[)right-in]u
 ..
 .de DS
 .if \\n[)kind] .DE
@@ -772,7 +802,7 @@
 .KE
 .\}
 .)reset
-.sp \\n(DDu
+.if \\n(.d .sp \\n(DDu
 .ns
 .nr )behind \\n(.d
 .\}
@@ -844,10 +874,10 @@
 .nr )note-height 0
 .if \\n[)raw] .)set
 .)need \\n[)height]+\\n[)note-height]
-.nr )e \\n(.i
+.nr )keep-in \\n(.i
 .in 0
 .)kept-text
-.in \\n()eu
+.in \\n[)keep-in]u
 .rm )kept-text
 .if \\n[)note-height] .)allot
 .if \\n[)kept-space] .ns
@@ -879,22 +909,24 @@
 ..
 .\" those that waited, at the page's top: the first in any case
 .de )floats
-.nr )w 1
+.nr )floating 1
+.nr )force 1
 .)next-float
+.nr )floating 0
 ..
 .de )next-float
 .nr )i \\n[)shown]+1
 .nr )o \\n(.t
 .if !\\n(nl .nr )o -\\n(HM
-.if \\n()w .nr )o \\n[)wait\\n()i]
-.nr )w 0
+.if \\n[)force] .nr )o \\n[)wait\\n()i]
+.nr )force 0
 .if \\n()o>=\\n[)wait\\n()i] \{\
 .nr )shown \\n()i
-.nr )e \\n(.i
+.nr )float-in \\n(.i
 'in 0
-.)keep\\n()i
-.rm )keep\\n()i
-'in \\n()eu
+.)keep\\n[)shown]
+.rm )keep\\n[)shown]
+'in \\n[)float-in]u
 .if \\n[)kept]>\\n[)shown] .)next-float
 .\}
 ..
@@ -954,6 +986,7 @@
 .nr )n-centred \\n[)centred]
 .nr )n-italics \\n[)italics]
 .nr )n-kind \\n[)kind]
+.nr )n-keep-in \\n[)keep-in]
 .nr )n-LL \\n(LL
 .nr )n-PI \\n(PI
 .nr )n-PD \\n(PD
@@ -981,6 +1014,7 @@
 .nr PD \\n[)n-PD]
 .nr VS \\n[)n-VS]
 .nr )kind \\n[)n-kind]
+.nr )keep-in \\n[)n-keep-in]
 .vs \\n[)n-vs]u
 .)margins-before
 .ll \\n[)n-ll]u
@@ -1034,16 +1068,33 @@
 'in \\n[)n-in]u
 .rm )new-notes
 ..
-.\" notes below a rule
+.\" notes below a rule; what has no room is for the next page, before the notes that wait
 .de )print-notes
 .nr )n-in \\n(.i
 'in 0
 .nr )noted 0
+.nr )n-vs \\n(.v
+.vs 40u
 .lt \\n(LTu
 .tl \a\l'11n'\a\a\a
+.wh -\\n(FMu )catch
 .)notes
+.if '\\n(.z')notes-over' .)end-catch
+.ch )catch
 .rm )notes
+.vs \\n[)n-vs]u
 'in \\n[)n-in]u
+..
+.de )catch
+.di )notes-over
+..
+.de )end-catch
+.nr )over \\n(.d
+.if \\n[)later] .)notes-later
+.di
+.rm )notes-later
+.rn )notes-over )notes-later
+.nr )later +\\n[)over]
 ..
 .\" ---- boxes
 .de B1
@@ -1077,11 +1128,11 @@
 .)need \\n[)height]+\\n[)note-height]+120u
 .in \\n[)box-in]u
 .ll \\n[)box-ll]u
-.nr )w \\n(.l-\\n(.i-2n
+.nr )box-w \\n(.l-\\n(.i-2n
 .nr )box-v \\n(.v
 .vs 40u
 .)box-rule
-.)box-bars \\n[)box-in] \\n()w \\n[)height]
+.)box-bars \\n[)box-in] \\n[)box-w] \\n[)height]
 .in 0
 .)box
 .in \\n[)box-in]u
@@ -1095,7 +1146,7 @@
 .\}
 ..
 .de )box-rule
-\&+\l'\\n()wu-'+
+\&+\l'\\n[)box-w]u-'+
 ..
 .\" the bars, at an indent, so far apart, so high; the text is put over them. In a
 .\" diversion they wait till that is printed, and they stand on one page only
@@ -1132,6 +1183,7 @@
 .if \\n[)raw] .if !\\n[)keep] .)set-now
 .nr )t-fill \\n(.u
 .sp \\n(DDu
+.nr )in-table 1
 .nf
 .if '\\$1'H' .)begin-head
 ..
@@ -1144,30 +1196,31 @@
 .br
 .di
 .nr )in-head 0
-.nr )w \\n(dn
-.if \\n()w .)end-head
+.nr )head-height \\n(dn
+.if \\n(dn .)end-head
 .\}
 ..
 .de )end-head
-.)need \\n()w+40u
-.nr )e \\n(.i
+.)need \\n[)head-height]+40u
+.nr )head-in \\n(.i
 .in 0
 .)head-text
-.in \\n()eu
-.if '\\n(.z'' .if \\n()w<(\\n(.p-\\n(HM-\\n(FM-80u) .nr )head \\n()w
+.in \\n[)head-in]u
+.if '\\n(.z'' .if \\n[)head-height]<(\\n(.p-\\n(HM-\\n(FM-80u) .nr )head \\n[)head-height]
 ..
 .de )print-head
-.nr )e \\n(.i
+.nr )head-in \\n(.i
 'in 0
 .)head-text
-'in \\n()eu
+'in \\n[)head-in]u
 ..
 .de TE
 .TH
 .br
+.nr )in-table 0
 .nr )head 0
 .if \\n[)t-fill] .fi
-.sp \\n(DDu
+.if \\n(.d .sp \\n(DDu
 .ns
 .nr )behind \\n(.d
 ..
@@ -1195,10 +1248,10 @@
 .br
 .di
 .nr )in-equation 0
-.nr )w \w\a\\*[)e-number]\a
+.nr )e-number-width \w\a\\*[)e-number]\a
 .nr )e-width \\n(dl
 .nr )height \\n(dn
-.if \\n(dl:\\n()w .)put-equation
+.if \\n(dl:\\n[)e-number-width] .)put-equation
 .in \\n[)e-in]u
 .if \\n[)e-fill] .fi
 .\}
@@ -1206,21 +1259,21 @@
 .de )put-equation
 .sp \\n(DDu
 .)need \\n[)height]+80u
-.nr )o \\n[)e-in]
-.if \\n[)e-kind]=1 .nr )o +\\n(DI
-.if \\n[)e-kind]=2 .nr )o +(\\n(.l-\\n[)e-in]-\\n[)e-width]/2)
-.if \\n()o<0 .nr )o 0
-.in \\n()ou
+.nr )e-at \\n[)e-in]
+.if \\n[)e-kind]=1 .nr )e-at +\\n(DI
+.if \\n[)e-kind]=2 .nr )e-at +(\\n(.l-\\n[)e-in]-\\n[)e-width]/2)
+.if \\n[)e-at]<0 .nr )e-at 0
+.in \\n[)e-at]u
 .)equation
 .in 0
-.if \\n()w .)put-number
-.sp \\n(DDu
+.if \\n[)e-number-width] .)put-number
+.if \\n(.d .sp \\n(DDu
 .ns
 ..
 .de )put-number
-.nr )i \\n(.l-\\n()w
+.nr )i \\n(.l-\\n[)e-number-width]
 .if \\n()i<0 .nr )i 0
-.if '\\n(.z'' .if \\n[)height] .if \\n()o+\\n[)e-width]+1n<=\\n()i 'sp -1
+.if '\\n(.z'' .if \\n[)height] .if \\n[)e-at]+\\n[)e-width]+1n<=\\n()i 'sp -1
 .rs
 \&\h'\\n()iu'\\*[)e-number]
 ..
@@ -1234,7 +1287,7 @@
 .de PE
 .br
 .if \\n[)p-fill] .fi
-.sp \\n(DDu
+.if \\n(.d .sp \\n(DDu
 .ns
 ..
 .de PF
@@ -1268,19 +1321,20 @@
 .if \\n[)entry] \{\
 .nr )entry 0
 .br
-.nr )i \\n(.i+\\n(.n
+.nr )entry-end \\n(.i+\\n(.n
 .di
 .nf
 .in 0
 .ll \\n(LLu
-.nr )w \w\a\\*[)number]\a
+.nr )number-width \w\a\\*[)number]\a
+.nr )entry-height \\n(dn
 .ne \\n(dnu+1v
 .)entry-text
-.if \\n(dn .if \\n()w 'sp -1
+.if \\n[)entry-height] .if \\n[)number-width] 'sp -1
 .rs
-.nr )o \\n(LL-\\n()i-\\n()w-2n
+.nr )o \\n(LL-\\n[)entry-end]-\\n[)number-width]-2n
 .if \\n()o<0 .nr )o 0
-.if \\n()w \h'\\n()iu'\ \l'\\n()ou.'\ \\*[)number]
+.if \\n[)number-width] \h'\\n[)entry-end]u'\ \l'\\n()ou.'\ \\*[)number]
 .\}
 ..
 .de PX
@@ -1300,8 +1354,7 @@
 .)finish
 .)last
 .nr )first 1
-.rs
-.bp 1
+.pn 1
 .af PN i
 .nr PN 1
 .PX \\$1
