@@ -1,5 +1,5 @@
 -- Texts that are opened one after the other.
-use Rattle.std.proofs.Common.{◌≡◌, ℕ, ◌+◌, ◌≤◌, List, [], ◌∷◌, ◌++◌, length, take, drop, Option, Some, None, slice_get, Result, Ok, Err, IsOk, is_ok, if◌then◌else◌, zero, suc, refl, sym, ap, ◌∙◌, append_assoc, append-nil, add-one, arith}
+use Rattle.std.proofs.Common.{◌≡◌, ℕ, ◌+◌, ◌≤◌, List, [], ◌∷◌, ◌++◌, length, take, drop, Option, Some, None, slice_get, Result, Ok, Err, IsOk, is_ok, if◌then◌else◌, zero, suc, refl, ap, ◌∙◌, append_assoc, add-one, arith}
 use Rattle.std.specs.List.{AllZip}
 use Rattle.nr_command.specs.Opening.{Asks}
 use Rattle.std.proofs.lemmas.List.{take_all}
@@ -40,11 +40,6 @@ pub take-none : {A : Type 0} (xs : List A) (n : ℕ) → slice_get xs n ≡ None
 take-none [] n e = take_all n [] (omega arith)
 take-none (y ∷ xs) zero e = cc
 take-none (y ∷ xs) (suc n) e = ap (λ l. y ∷ l) (take-none xs n e)
-
--- nothing more was asked for
-pub Asks-none : {A : Type 0} (asked : Option (List A)) → Asks asked asked []
-Asks-none None = tt
-Asks-none (Some xs) = sym (append-nil xs)
 
 -- some were asked for, and then some more
 pub Asks-then : {A : Type 0} (a b c : Option (List A)) (xs ys : List A) → Asks a b xs → Asks b c ys → Asks a c (xs ++ ys)

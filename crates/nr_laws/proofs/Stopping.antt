@@ -1,6 +1,6 @@
 -- A run stops in one way, but for faults that no one tells beforehand.
 use Rattle.std.specs.Prelude.{nat_le}
-use Rattle.std.proofs.Common.{◌≡◌, ℕ, Bool, true, false, if◌then◌else◌, None, Some, Result, Ok, Err, refl, sym, subst, ◌∙◌, arith}
+use Rattle.std.proofs.Common.{◌≡◌, Bool, true, false, if◌then◌else◌, None, Some, Result, Ok, Err, refl, sym, subst, ◌∙◌, arith}
 use Rattle.nr_units.specs.Supply.{Faults, Never, After, Anytime, MayFail, MayGive}
 use Rattle.nr_store.specs.Stored.{Stored, shown, afforded, checked}
 use Rattle.nr_store.specs.declared.refusal.Refusal as stored
@@ -11,7 +11,7 @@ use Rattle.nr_store.specs.declared.shown.Shown.TheVariants as shows
 use Rattle.nr_input.specs.Coming.{Coming, MayLook, RefusesLook}
 use Rattle.nr_input.specs.Moving.{Situation, looks, answer_at}
 use Rattle.nr_input.specs.Moving as input
-use Rattle.nr_input.specs.Refusals.{Asking, Nothing, Bytes, Splice, Refused, answer_to, storing_by, splicing_by, refusal_of, asking}
+use Rattle.nr_input.specs.Refusals.{Asking, Nothing, Bytes, Splice, Refused, answer_to, storing_by, splicing_by, asking}
 use Rattle.nr_input.specs.declared.reader.Reader.{Reader}
 use Rattle.nr_input.specs.declared.refusal.Refusal.{Refusal}
 use Rattle.nr_input.specs.declared.refusal.Refusal.TheVariants as refusals
