@@ -101,6 +101,7 @@
 .\" what the first page fixes
 .de )begin
 .nr )begun 1
+.if !\\n(PO .nr PO \\n(.o
 .if !\\n(LT .nr LT \\n(LL
 .if !\\n(FL .nr FL \\n(LL*5/6
 .if !\\n(VS .nr VS \\n(PS+2
