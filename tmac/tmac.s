@@ -19,18 +19,19 @@
 .\" Private names begin with ")". Registers:
 .\"   )left )right margins of .RS and .QS, )pleft )pright those of a paragraph in
 .\"   them, )width that of tags, )depth with )left1, )left2 .. the ones before
-.\"   )cover 1 while its parts are set apart, 2 behind them, )report 1 after .RP, )again
-.\"   1 if the title comes again, )aside 1 on a page without header and footer, )abstract
-.\"   )top first place below the header, )first 1 for a header on page 1, )begun
-.\"   )kind of a display   )keep depth of keeps, )float 1 in one that floats
-.\"   )wait1 .. heights of the floating keeps )keep1 ..: of )kept )shown were printed,
-.\"   )floating 1 meanwhile
+.\"   )cover 1 while its parts are set apart, 2 behind them, )titling 1 in the title,
+.\"   )abstract 1 in it, )report 1 after .RP, )again 1 if the title comes again
+.\"   )begun 1 from the first page on, )first 1 for a header on it, )aside 1 on a page
+.\"   without header and footer, )top the first place below the header
+.\"   )kind of a display   )keep depth of keeps, )boxed 1 in a box
+.\"   )float 1 in a keep that floats: of )kept )shown were printed, )wait1 .. are the
+.\"   heights of )keep1 .., )floating 1 while they are printed
 .\"   )marks numbers of notes in the text, )mark in notes   )raw notes not set yet, with
 .\"   )room kept for them, )noted height of the set ones of this page, )later of the next
 .\"   )italics 1 while text is in italics, )centred 1 while lines are centred
 .\"   )row 1 while a line is kept aside for the page's end, )rows its height
 .\"   )in-table 1 in a table, whose paragraphs leave its lines as they are, )head height of
-.\"   its head
+.\"   its head   )level of a heading, )style and )sn 1 for numbers without a point
 .\" Private texts: )title )abstract-text, )kept-text, )keepN, )raw-notes, )notes, )notes-later, )notes-over,
 .\"   )line (kept aside), )contents, )head-text, )oh )eh )of )ef titles
 .cp 0
@@ -304,6 +305,13 @@
 .if \\n[)cover]=1 .if !'\\n(.z'' .di
 .ce 0
 .nr )centred 0
+.if \\n[)titling] \{\
+.nr )titling 0
+.rn nf )title-nf
+.rn )nf nf
+.rn fi )title-fi
+.rn )fi fi
+.\}
 .)ad \\*[)adjust]
 .if \\n[)ragged] .)na
 .fi
@@ -324,7 +332,20 @@
 .in \\n(LLu/12u
 .ll \\n(LLu-(\\n(LLu/12u)
 .)ad c
+.nr )titling 1
+.rn nf )nf
+.rn )title-nf nf
+.rn fi )fi
+.rn )title-fi fi
 .\}
+..
+.\" lines of the title as they are stand in the middle too
+.de )title-nf
+.br
+.ce 10000
+..
+.de )title-fi
+.ce 0
 ..
 .de AU
 .)part
