@@ -566,6 +566,7 @@
 ..
 .\" ---- headings
 .de )heading
+.if \\n[)abstract] .AE
 .)finish
 .ne 3v+\\n[HORPHANS]v+\\n(PDu
 .sp
