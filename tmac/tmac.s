@@ -56,8 +56,10 @@
 .ds U "\(dq
 .ds - \(em
 .ds * [\\n+[)marks]]
-.ds { ^
+.ds {
 .ds }
+.ds <
+.ds >
 .ds CH -\\n(PN-
 .ds )oh \a\\*(LH\a\\*(CH\a\\*(RH\a
 .ds )eh \a\\*(LH\a\\*(CH\a\\*(RH\a
@@ -635,6 +637,21 @@
 .if '\\$1'SN-STYLE' .el .nr )style 0
 .if '\\$1'SN' .ie '\\$2'SN-NO-DOT' .nr )sn 1
 .if '\\$1'SN' .el .nr )sn 0
+..
+.\" of later groff: the text of a heading, and an entry of the contents
+.de XN
+\&\\$1 \\$2 \\$3 \\$4 \\$5 \\$6 \\$7 \\$8 \\$9
+.)join "\\$1" "\\$2" "\\$3" "\\$4" "\\$5" "\\$6" "\\$7" "\\$8" "\\$9"
+.XS
+\\*[SN]\0 \\*[)joined]
+.XE
+..
+.de XH
+\&\\$2 \\$3 \\$4 \\$5 \\$6 \\$7 \\$8 \\$9
+.)join "\\$2" "\\$3" "\\$4" "\\$5" "\\$6" "\\$7" "\\$8" "\\$9"
+.XS
+\\*[)joined]
+.XE
 ..
 .\" of the Bell Laboratories
 .de SC
