@@ -450,7 +450,7 @@
 .nr )centred 0
 .ul 0
 .fi
-.ie \\n(VS>999 .vs \\n(VSp/1000
+.ie \\n(VS>999 .vs \\n(VSp/1000u
 .el .if \\n(VS .vs \\n(VSp
 .ll \\n(LLu-\\n[)right]u-\\n[)pright]u
 .in \\n[)left]u+\\n[)pleft]u
