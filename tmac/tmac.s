@@ -23,7 +23,8 @@
 .\"   )abstract 1 in it, )report 1 after .RP, )again 1 if the title comes again
 .\"   )begun 1 from the first page on, )first 1 for a header on it, )aside 1 on a page
 .\"   without header and footer, )top the first place below the header
-.\"   )kind of a display   )keep depth of keeps, )boxed 1 in a box
+.\"   )kind of a display   )keep depth of keeps, )keeping that of the one that is set apart
+.\"   )boxed depth of boxes, )box-keep that of keeps around them
 .\"   )float 1 in a keep that floats: of )kept )shown were printed, )wait1 .. are the
 .\"   heights of )keep1 .., )floating 1 while they are printed
 .\"   )marks numbers of notes in the text, )mark in notes   )raw notes not set yet, with
@@ -240,16 +241,40 @@
 .\" end: what is open is closed, what waits for the next page gets one
 .de )end
 .if \\n[)cover]=1 .)print-cover
-.if \\n[)kind] .DE
-.if \\n[)boxed] .B2
-.if \\n[)keep] .KE
+.)close
 .br
 .if \\n[)raw] .)set-now
 .if \\n[)aside] .)end-aside
 .)last
 ..
+.\" what was begun and has no end ends, from the inside
+.de )close
+.)close-inner
+.if \\n[)closed] .)close
+.if \\n[)kind] .DE
+..
+.de )close-inner
+.nr )closed 1
+.ie '\\n(.z')equation' .)end-equation
+.el .ie '\\n(.z')head-text' .)end-head
+.el .ie '\\n(.z')block' .)end-block
+.el .ie '\\n(.z')box' .)end-box
+.el .ie '\\n(.z')kept-text' .)end-keep
+.el .ie '\\n(.z')entry-text' .)end-entry
+.el .nr )closed 0
+..
+.\" the same of what was begun inside this
+.de )close-to
+.if !'\\n(.z'\\$1' \{\
+.)close-inner
+.if \\n[)closed] .)close-to \\$1
+.\}
+..
 .\" ends the page, and those that are needed for what waits
 .de )last
+.if '\\n(.z'' .)last-pages
+..
+.de )last-pages
 .if \\n(nl \{\
 .rs
 .bp
@@ -305,6 +330,12 @@
 .de )close-part
 .br
 .if \\n[)cover]=1 .if !'\\n(.z'' .di
+.if \\n[)abstract] \{\
+.nr )abstract 0
+.nr )left 0
+.nr )right 0
+.nr )has-abstract 1
+.\}
 .ce 0
 .nr )centred 0
 .if \\n[)titling] \{\
@@ -365,7 +396,7 @@
 .de AB
 .)close-part
 .nr )cover 1
-.di )abstract-text
+.da )abstract-text
 .nr )abstract \\n(LL/12
 .nr )left \\n[)abstract]
 .nr )right \\n[)abstract]
@@ -379,17 +410,9 @@
 .ti +\\n(PIu
 ..
 .de AE
-.if \\n[)abstract] \{\
-.br
-.nr )abstract 0
-.nr )left 0
-.nr )right 0
-.nr )has-abstract 1
-.)print-cover
-.\}
+.if \\n[)abstract] .)print-cover
 ..
 .de )print-cover
-.if \\n[)abstract] .AE
 .if \\n[)cover]=1 .)print-parts
 ..
 .de )print-parts
@@ -469,6 +492,7 @@
 ..
 .\" begins one with margins of its own
 .de )start
+.if \\n[)in-equation] .EN
 .if \\n[)kind] .DE
 .nr )pleft \\$1
 .nr )pright \\$2
@@ -568,6 +592,7 @@
 ..
 .\" ---- headings
 .de )heading
+.if \\n[)in-equation] .EN
 .if \\n[)abstract] .AE
 .)finish
 .ne 3v+\\n[HORPHANS]v+\\n(PDu
@@ -801,8 +826,11 @@ Piscataway, New Jersey 08854
 .it 1 )right-put
 ..
 .de )right-put
+.it 1 )right-put
+.if '\\n(.z')block' \{\
 .)right-end
 .)right-line
+.\}
 ..
 .de )right-end
 .br
@@ -837,9 +865,11 @@ Piscataway, New Jersey 08854
 .el .)indent-display "\\$1"
 ..
 .de DE
-.if \\n[)kind]=2 .)block-end
-.if \\n[)kind]=3 .)right-end
-.if \\n[)kind] \{\
+.if \\n[)kind]>1 .)close-to )block
+.if '\\n(.z')block' .)end-block
+.if \\n[)kind] .)end-display
+..
+.de )end-display
 .br
 .nr )kind 0
 .)plain
@@ -851,7 +881,6 @@ Piscataway, New Jersey 08854
 .if \\n(.d .sp \\n(DDu
 .ns
 .nr )behind \\n(.d
-.\}
 ..
 .de )plain
 .ce 0
@@ -859,13 +888,17 @@ Piscataway, New Jersey 08854
 .in \\n[)left]u+\\n[)pleft]u
 .fi
 ..
-.de )block-end
+.de )end-block
+.ie \\n[)kind]=3 .)right-end
+.el \{\
 .br
 .di
 .nr )o \\n(.l-\\n(dl/2
 .if \\n()o<0 .nr )o 0
 .in \\n()ou
 .)block
+.\}
+.nr )kind 1
 ..
 .\" ---- keeps: set apart, then placed where they fit, with their notes; the register *+
 .\" tells how much less room the tables in it take than their parts together
@@ -874,14 +907,15 @@ Piscataway, New Jersey 08854
 .if \\n[)cover]<2 .)reset
 .if \\n[)raw] .if !\\n[)keep] .)set-now
 .nr )keep +1
-.if \\n[)keep]=1 \{\
+.if '\\n(.z'' \{\
+.nr )keeping \\n[)keep]
 .nr *+ 0
 .di )kept-text
 .\}
 ..
 .de KF
-.ie \\n[)keep] .KS
-.el .)begin-float
+.ie '\\n(.z'' .)begin-float
+.el .KS
 ..
 .\" a floating one: the line under way waits meanwhile
 .de )begin-float
@@ -899,6 +933,7 @@ Piscataway, New Jersey 08854
 .nr )pright 0
 .nr )width \\n(PI
 .nr )keep 1
+.nr )keeping 1
 .nr *+ 0
 .di )kept-text
 .)reset
@@ -906,14 +941,22 @@ Piscataway, New Jersey 08854
 .de KE
 .br
 .if \\n[)kind] .if !\\n[)kept-display] .DE
-.if \\n[)keep]=1 \{\
+.if \\n[)keep] .ie \\n[)keep]=\\n[)keeping] \{\
+.)close-to )kept-text
+.if '\\n(.z')kept-text' .)end-keep
+.\}
+.el .nr )keep -1
+..
+.de )end-keep
+.br
 .di
+.nr )keep \\n[)keeping]
+.nr )keeping 0
 .nr )kept-space \\n(dn=\\n[)behind]
 .nr )height \\n(dn-\\n(*+
 .if \\n(*+ .nr )height +1v
 .ie \\n[)float] .)end-float
 .el .)put-keep
-.\}
 .if \\n[)keep] .nr )keep -1
 ..
 .de )put-keep
@@ -1033,6 +1076,9 @@ Piscataway, New Jersey 08854
 .nr )n-italics \\n[)italics]
 .nr )n-kind \\n[)kind]
 .nr )n-keep-in \\n[)keep-in]
+.nr )n-keep \\n[)keep]
+.nr )n-keeping \\n[)keeping]
+.nr )n-boxed \\n[)boxed]
 .nr )n-LL \\n(LL
 .nr )n-PI \\n(PI
 .nr )n-PD \\n(PD
@@ -1044,13 +1090,15 @@ Piscataway, New Jersey 08854
 .nr )left 0
 .nr )right 0
 .nr )kind 0
+.nr )keep 0
+.nr )boxed 0
 .nr )raw 0
 .nr )second-note 0
 .if \\n[)noted] .nr )second-note 1
 .rn )raw-notes )set-notes
 .di )new-notes
 .)set-notes
-.if \\n[)kind] .DE
+.)close
 .br
 .di
 .rm )set-notes
@@ -1061,6 +1109,9 @@ Piscataway, New Jersey 08854
 .nr VS \\n[)n-VS]
 .nr )kind \\n[)n-kind]
 .nr )keep-in \\n[)n-keep-in]
+.nr )keep \\n[)n-keep]
+.nr )keeping \\n[)n-keeping]
+.nr )boxed \\n[)n-boxed]
 .vs \\n[)n-vs]u
 .)margins-before
 .ll \\n[)n-ll]u
@@ -1147,7 +1198,11 @@ Piscataway, New Jersey 08854
 .br
 .if \\n[)cover]<2 .)reset
 .if \\n[)raw] .if !\\n[)keep] .)set-now
-.nr )boxed 1
+.nr )boxed +1
+.if \\n[)boxed]=1 .)begin-box
+..
+.de )begin-box
+.nr )box-keep \\n[)keep]
 .nr )keep +1
 .nr )box-in \\n(.i
 .nr )box-ll \\n(.l
@@ -1160,10 +1215,15 @@ Piscataway, New Jersey 08854
 .de B2
 .if \\n[)kind] .DE
 .br
-.if \\n[)boxed] \{\
+.if \\n[)boxed]=1 .)close-to )box
+.ie \\n[)boxed]>1 .nr )boxed -1
+.el .if '\\n(.z')box' .)end-box
+..
+.de )end-box
+.br
 .di
 .nr )boxed 0
-.nr )keep -1
+.nr )keep \\n[)box-keep]
 .nr )left -1n
 .nr )right -1n
 .nr )height \\n(dn
@@ -1189,7 +1249,6 @@ Piscataway, New Jersey 08854
 .rm )box
 .if \\n[)box-fill] .fi
 .if \\n[)note-height] .)allot
-.\}
 ..
 .de )box-rule
 \&+\l'\\n[)box-w]u-'+
@@ -1238,15 +1297,17 @@ Piscataway, New Jersey 08854
 .di )head-text
 ..
 .de TH
-.if \\n[)in-head] \{\
+.if \\n[)in-head] .)close-to )head-text
+.if '\\n(.z')head-text' .)end-head
+..
+.de )end-head
 .br
 .di
 .nr )in-head 0
 .nr )head-height \\n(dn
-.if \\n(dn .)end-head
-.\}
+.if \\n(dn .)put-head
 ..
-.de )end-head
+.de )put-head
 .)need \\n[)head-height]+40u
 .nr )head-in \\n(.i
 .in 0
@@ -1274,6 +1335,7 @@ Piscataway, New Jersey 08854
 ..
 .\" ---- equations and pictures: what stands between, set apart
 .de EQ
+.if \\n[)in-equation] .EN
 .br
 .if \\n[)cover]<2 .)reset
 .if \\n[)raw] .if !\\n[)keep] .if '\\n(.z'' .)set-now
@@ -1290,7 +1352,10 @@ Piscataway, New Jersey 08854
 .di )equation
 ..
 .de EN
-.if \\n[)in-equation] \{\
+.if \\n[)in-equation] .)close-to )equation
+.if '\\n(.z')equation' .)end-equation
+..
+.de )end-equation
 .br
 .di
 .nr )in-equation 0
@@ -1300,7 +1365,6 @@ Piscataway, New Jersey 08854
 .if \\n(dl:\\n[)e-number-width] .)put-equation
 .in \\n[)e-in]u
 .if \\n[)e-fill] .fi
-.\}
 ..
 .de )put-equation
 .sp \\n(DDu
@@ -1396,7 +1460,7 @@ Piscataway, New Jersey 08854
 .)finish
 ..
 .de TC
-.if \\n[)kind] .DE
+.)close
 .)finish
 .)last
 .nr )first 1
