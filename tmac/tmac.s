@@ -328,6 +328,7 @@
 .el .)reset
 ..
 .de )close-part
+.if \\n[)abstract] .)close
 .br
 .if \\n[)cover]=1 .if !'\\n(.z'' .di
 .if \\n[)abstract] \{\
