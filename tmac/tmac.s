@@ -942,6 +942,16 @@ Piscataway, New Jersey 08854
 .de KE
 .br
 .if \\n[)kind] .if !\\n[)kept-display] .DE
+.nr )o \\n[)box-keep]+1
+.ie \\n[)boxed]=0:(\\n[)keep]>\\n()o) .)pop-keep
+.el .if \\n[)box-keep] \{\
+.nr )boxed 1
+.B2
+.)pop-keep
+.\}
+..
+.\" ends a keep: a box that was begun in it has ended, and one around it stays
+.de )pop-keep
 .if \\n[)keep] .ie \\n[)keep]=\\n[)keeping] \{\
 .)close-to )kept-text
 .if '\\n(.z')kept-text' .)end-keep
