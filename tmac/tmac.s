@@ -19,18 +19,20 @@
 .\" Private names begin with ")". Registers:
 .\"   )left )right margins of .RS and .QS, )pleft )pright those of a paragraph in
 .\"   them, )width that of tags, )depth with )left1, )left2 .. the ones before
-.\"   )cover 1 while its parts are set apart, 2 behind them, )report 1 after .RP, )again
-.\"   1 if the title comes again, )aside 1 on a page without header and footer, )abstract
-.\"   )top first place below the header, )first 1 for a header on page 1, )begun
-.\"   )kind of a display   )keep depth of keeps, )float 1 in one that floats
-.\"   )wait1 .. heights of the floating keeps )keep1 ..: of )kept )shown were printed,
-.\"   )floating 1 meanwhile
+.\"   )cover 1 while its parts are set apart, 2 behind them, )titling 1 in the title,
+.\"   )abstract 1 in it, )report 1 after .RP, )again 1 if the title comes again
+.\"   )begun 1 from the first page on, )first 1 for a header on it, )aside 1 on a page
+.\"   without header and footer, )top the first place below the header
+.\"   )kind of a display   )keep depth of keeps, )keeping that of the one that is set apart
+.\"   )boxed depth of boxes, )box-keep that of keeps around them
+.\"   )float 1 in a keep that floats: of )kept )shown were printed, )wait1 .. are the
+.\"   heights of )keep1 .., )floating 1 while they are printed
 .\"   )marks numbers of notes in the text, )mark in notes   )raw notes not set yet, with
 .\"   )room kept for them, )noted height of the set ones of this page, )later of the next
 .\"   )italics 1 while text is in italics, )centred 1 while lines are centred
 .\"   )row 1 while a line is kept aside for the page's end, )rows its height
 .\"   )in-table 1 in a table, whose paragraphs leave its lines as they are, )head height of
-.\"   its head
+.\"   its head   )level of a heading, )style and )sn 1 for numbers without a point
 .\" Private texts: )title )abstract-text, )kept-text, )keepN, )raw-notes, )notes, )notes-later, )notes-over,
 .\"   )line (kept aside), )contents, )head-text, )oh )eh )of )ef titles
 .cp 0
@@ -55,8 +57,10 @@
 .ds U "\(dq
 .ds - \(em
 .ds * [\\n+[)marks]]
-.ds { ^
+.ds {
 .ds }
+.ds <
+.ds >
 .ds CH -\\n(PN-
 .ds )oh \a\\*(LH\a\\*(CH\a\\*(RH\a
 .ds )eh \a\\*(LH\a\\*(CH\a\\*(RH\a
@@ -101,6 +105,7 @@
 .\" what the first page fixes
 .de )begin
 .nr )begun 1
+.if !\\n(PO .nr PO \\n(.o
 .if !\\n(LT .nr LT \\n(LL
 .if !\\n(FL .nr FL \\n(LL*5/6
 .if !\\n(VS .nr VS \\n(PS+2
@@ -236,16 +241,40 @@
 .\" end: what is open is closed, what waits for the next page gets one
 .de )end
 .if \\n[)cover]=1 .)print-cover
-.if \\n[)kind] .DE
-.if \\n[)boxed] .B2
-.if \\n[)keep] .KE
+.)close
 .br
 .if \\n[)raw] .)set-now
 .if \\n[)aside] .)end-aside
 .)last
 ..
+.\" what was begun and has no end ends, from the inside
+.de )close
+.)close-inner
+.if \\n[)closed] .)close
+.if \\n[)kind] .DE
+..
+.de )close-inner
+.nr )closed 1
+.ie '\\n(.z')equation' .)end-equation
+.el .ie '\\n(.z')head-text' .)end-head
+.el .ie '\\n(.z')block' .)end-block
+.el .ie '\\n(.z')box' .)end-box
+.el .ie '\\n(.z')kept-text' .)end-keep
+.el .ie '\\n(.z')entry-text' .)end-entry
+.el .nr )closed 0
+..
+.\" the same of what was begun inside this
+.de )close-to
+.if !'\\n(.z'\\$1' \{\
+.)close-inner
+.if \\n[)closed] .)close-to \\$1
+.\}
+..
 .\" ends the page, and those that are needed for what waits
 .de )last
+.if '\\n(.z'' .)last-pages
+..
+.de )last-pages
 .if \\n(nl \{\
 .rs
 .bp
@@ -299,10 +328,24 @@
 .el .)reset
 ..
 .de )close-part
+.if \\n[)abstract] .)close
 .br
 .if \\n[)cover]=1 .if !'\\n(.z'' .di
+.if \\n[)abstract] \{\
+.nr )abstract 0
+.nr )left 0
+.nr )right 0
+.nr )has-abstract 1
+.\}
 .ce 0
 .nr )centred 0
+.if \\n[)titling] \{\
+.nr )titling 0
+.rn nf )title-nf
+.rn )nf nf
+.rn fi )title-fi
+.rn )fi fi
+.\}
 .)ad \\*[)adjust]
 .if \\n[)ragged] .)na
 .fi
@@ -323,7 +366,20 @@
 .in \\n(LLu/12u
 .ll \\n(LLu-(\\n(LLu/12u)
 .)ad c
+.nr )titling 1
+.rn nf )nf
+.rn )title-nf nf
+.rn fi )fi
+.rn )title-fi fi
 .\}
+..
+.\" lines of the title as they are stand in the middle too
+.de )title-nf
+.br
+.ce 10000
+..
+.de )title-fi
+.ce 0
 ..
 .de AU
 .)part
@@ -341,7 +397,7 @@
 .de AB
 .)close-part
 .nr )cover 1
-.di )abstract-text
+.da )abstract-text
 .nr )abstract \\n(LL/12
 .nr )left \\n[)abstract]
 .nr )right \\n[)abstract]
@@ -355,17 +411,9 @@
 .ti +\\n(PIu
 ..
 .de AE
-.if \\n[)abstract] \{\
-.br
-.nr )abstract 0
-.nr )left 0
-.nr )right 0
-.nr )has-abstract 1
-.)print-cover
-.\}
+.if \\n[)abstract] .)print-cover
 ..
 .de )print-cover
-.if \\n[)abstract] .AE
 .if \\n[)cover]=1 .)print-parts
 ..
 .de )print-parts
@@ -426,7 +474,7 @@
 .nr )centred 0
 .ul 0
 .fi
-.ie \\n(VS>999 .vs \\n(VSp/1000
+.ie \\n(VS>999 .vs \\n(VSp/1000u
 .el .if \\n(VS .vs \\n(VSp
 .ll \\n(LLu-\\n[)right]u-\\n[)pright]u
 .in \\n[)left]u+\\n[)pleft]u
@@ -445,6 +493,7 @@
 ..
 .\" begins one with margins of its own
 .de )start
+.if \\n[)in-equation] .EN
 .if \\n[)kind] .DE
 .nr )pleft \\$1
 .nr )pright \\$2
@@ -544,6 +593,8 @@
 ..
 .\" ---- headings
 .de )heading
+.if \\n[)in-equation] .EN
+.if \\n[)abstract] .AE
 .)finish
 .ne 3v+\\n[HORPHANS]v+\\n(PDu
 .sp
@@ -613,6 +664,21 @@
 .if '\\$1'SN' .ie '\\$2'SN-NO-DOT' .nr )sn 1
 .if '\\$1'SN' .el .nr )sn 0
 ..
+.\" of later groff: the text of a heading, and an entry of the contents
+.de XN
+\&\\$1 \\$2 \\$3 \\$4 \\$5 \\$6 \\$7 \\$8 \\$9
+.)join "\\$1" "\\$2" "\\$3" "\\$4" "\\$5" "\\$6" "\\$7" "\\$8" "\\$9"
+.XS
+\\*[SN]\0 \\*[)joined]
+.XE
+..
+.de XH
+\&\\$2 \\$3 \\$4 \\$5 \\$6 \\$7 \\$8 \\$9
+.)join "\\$2" "\\$3" "\\$4" "\\$5" "\\$6" "\\$7" "\\$8" "\\$9"
+.XS
+\\*[)joined]
+.XE
+..
 .\" of the Bell Laboratories
 .de SC
 .nr )bell 1
@@ -659,48 +725,54 @@ Piscataway, New Jersey 08854
 .)centre
 .I
 ..
-.\" ---- fonts: a word, what stands behind it, before it; more words behind them
-.de )more
-\&\\$1 \\$2 \\$3 \\$4 \\$5 \\$6
-..
+.\" ---- fonts: a word, what stands behind it, before it; of more words all
 .de B
-.ie \\n(.$ \&\\$3\fB\\$1\fP\\$2
+.if \\n(.$>3 .)join "\\$1" "\\$2" "\\$3" "\\$4" "\\$5" "\\$6" "\\$7" "\\$8" "\\$9"
+.ie \\n(.$>3 \&\fB\\*[)joined]\fP
+.el .ie \\n(.$ \&\\$3\fB\\$1\fP\\$2
 .el \{\
 .ft B
 .nr )italics 0
 .\}
-.if \\n(.$>3 .)more "\\$4" "\\$5" "\\$6" "\\$7" "\\$8" "\\$9"
 ..
 .de I
-.ie \\n(.$ \&\\$3\fI\\$1\fP\\$2
+.if \\n(.$>3 .)join "\\$1" "\\$2" "\\$3" "\\$4" "\\$5" "\\$6" "\\$7" "\\$8" "\\$9"
+.ie \\n(.$>3 \&\fI\\*[)joined]\fP
+.el .ie \\n(.$ \&\\$3\fI\\$1\fP\\$2
 .el \{\
 .ft I
 .nr )italics 1
 .\}
-.if \\n(.$>3 .)more "\\$4" "\\$5" "\\$6" "\\$7" "\\$8" "\\$9"
 ..
 .de R
-.ie \\n(.$ \&\\$3\fR\\$1\fP\\$2
+.if \\n(.$>3 .)join "\\$1" "\\$2" "\\$3" "\\$4" "\\$5" "\\$6" "\\$7" "\\$8" "\\$9"
+.ie \\n(.$>3 \&\fR\\*[)joined]\fP
+.el .ie \\n(.$ \&\\$3\fR\\$1\fP\\$2
 .el \{\
 .ft R
 .nr )italics 0
 .\}
-.if \\n(.$>3 .)more "\\$4" "\\$5" "\\$6" "\\$7" "\\$8" "\\$9"
 ..
 .de CW
-.ie \\n(.$ .R "\\$1" "\\$2" "\\$3" "\\$4" "\\$5" "\\$6" "\\$7" "\\$8" "\\$9"
+.if \\n(.$>3 .)join "\\$1" "\\$2" "\\$3" "\\$4" "\\$5" "\\$6" "\\$7" "\\$8" "\\$9"
+.ie \\n(.$>3 \&\fR\\*[)joined]\fP
+.el .ie \\n(.$ \&\\$3\fR\\$1\fP\\$2
 .el .R
 ..
 .de BI
-.ie \\n(.$ .I "\\$1" "\\$2" "\\$3" "\\$4" "\\$5" "\\$6" "\\$7" "\\$8" "\\$9"
+.if \\n(.$>3 .)join "\\$1" "\\$2" "\\$3" "\\$4" "\\$5" "\\$6" "\\$7" "\\$8" "\\$9"
+.ie \\n(.$>3 \&\fI\\*[)joined]\fP
+.el .ie \\n(.$ \&\\$3\fI\\$1\fP\\$2
 .el .I
 ..
 .de UL
-.if \\n(.$ .I "\\$1" "\\$2" "\\$3" "\\$4" "\\$5" "\\$6" "\\$7" "\\$8" "\\$9"
+.if \\n(.$>2 .)join "\\$1" "\\$2" "\\$3" "\\$4" "\\$5" "\\$6" "\\$7" "\\$8" "\\$9"
+.ie \\n(.$>2 \&\fI\\*[)joined]\fP
+.el .if \\n(.$ \&\fI\\$1\fP\\$2
 ..
 .de BX
-\&[\\$1]\\$2
-.if \\n(.$>2 .)more "\\$3" "\\$4" "\\$5" "\\$6" "\\$7" "\\$8"
+.)join "\\$1" "\\$2" "\\$3" "\\$4" "\\$5" "\\$6" "\\$7" "\\$8" "\\$9"
+\&[\\*[)joined]]
 ..
 .de UX
 \&UNIX\\$1\\*[)unix]
@@ -755,8 +827,11 @@ Piscataway, New Jersey 08854
 .it 1 )right-put
 ..
 .de )right-put
+.it 1 )right-put
+.if '\\n(.z')block' \{\
 .)right-end
 .)right-line
+.\}
 ..
 .de )right-end
 .br
@@ -791,9 +866,11 @@ Piscataway, New Jersey 08854
 .el .)indent-display "\\$1"
 ..
 .de DE
-.if \\n[)kind]=2 .)block-end
-.if \\n[)kind]=3 .)right-end
-.if \\n[)kind] \{\
+.if \\n[)kind]>1 .)close-to )block
+.if '\\n(.z')block' .)end-block
+.if \\n[)kind] .)end-display
+..
+.de )end-display
 .br
 .nr )kind 0
 .)plain
@@ -805,7 +882,6 @@ Piscataway, New Jersey 08854
 .if \\n(.d .sp \\n(DDu
 .ns
 .nr )behind \\n(.d
-.\}
 ..
 .de )plain
 .ce 0
@@ -813,13 +889,17 @@ Piscataway, New Jersey 08854
 .in \\n[)left]u+\\n[)pleft]u
 .fi
 ..
-.de )block-end
+.de )end-block
+.ie \\n[)kind]=3 .)right-end
+.el \{\
 .br
 .di
 .nr )o \\n(.l-\\n(dl/2
 .if \\n()o<0 .nr )o 0
 .in \\n()ou
 .)block
+.\}
+.nr )kind 1
 ..
 .\" ---- keeps: set apart, then placed where they fit, with their notes; the register *+
 .\" tells how much less room the tables in it take than their parts together
@@ -828,14 +908,15 @@ Piscataway, New Jersey 08854
 .if \\n[)cover]<2 .)reset
 .if \\n[)raw] .if !\\n[)keep] .)set-now
 .nr )keep +1
-.if \\n[)keep]=1 \{\
+.if '\\n(.z'' \{\
+.nr )keeping \\n[)keep]
 .nr *+ 0
 .di )kept-text
 .\}
 ..
 .de KF
-.ie \\n[)keep] .KS
-.el .)begin-float
+.ie '\\n(.z'' .)begin-float
+.el .KS
 ..
 .\" a floating one: the line under way waits meanwhile
 .de )begin-float
@@ -853,6 +934,7 @@ Piscataway, New Jersey 08854
 .nr )pright 0
 .nr )width \\n(PI
 .nr )keep 1
+.nr )keeping 1
 .nr *+ 0
 .di )kept-text
 .)reset
@@ -860,14 +942,32 @@ Piscataway, New Jersey 08854
 .de KE
 .br
 .if \\n[)kind] .if !\\n[)kept-display] .DE
-.if \\n[)keep]=1 \{\
+.nr )o \\n[)box-keep]+1
+.ie \\n[)boxed]=0:(\\n[)keep]>\\n()o) .)pop-keep
+.el .if \\n[)box-keep] \{\
+.nr )boxed 1
+.B2
+.)pop-keep
+.\}
+..
+.\" ends a keep: a box that was begun in it has ended, and one around it stays
+.de )pop-keep
+.if \\n[)keep] .ie \\n[)keep]=\\n[)keeping] \{\
+.)close-to )kept-text
+.if '\\n(.z')kept-text' .)end-keep
+.\}
+.el .nr )keep -1
+..
+.de )end-keep
+.br
 .di
+.nr )keep \\n[)keeping]
+.nr )keeping 0
 .nr )kept-space \\n(dn=\\n[)behind]
 .nr )height \\n(dn-\\n(*+
 .if \\n(*+ .nr )height +1v
 .ie \\n[)float] .)end-float
 .el .)put-keep
-.\}
 .if \\n[)keep] .nr )keep -1
 ..
 .de )put-keep
@@ -987,6 +1087,9 @@ Piscataway, New Jersey 08854
 .nr )n-italics \\n[)italics]
 .nr )n-kind \\n[)kind]
 .nr )n-keep-in \\n[)keep-in]
+.nr )n-keep \\n[)keep]
+.nr )n-keeping \\n[)keeping]
+.nr )n-boxed \\n[)boxed]
 .nr )n-LL \\n(LL
 .nr )n-PI \\n(PI
 .nr )n-PD \\n(PD
@@ -998,13 +1101,15 @@ Piscataway, New Jersey 08854
 .nr )left 0
 .nr )right 0
 .nr )kind 0
+.nr )keep 0
+.nr )boxed 0
 .nr )raw 0
 .nr )second-note 0
 .if \\n[)noted] .nr )second-note 1
 .rn )raw-notes )set-notes
 .di )new-notes
 .)set-notes
-.if \\n[)kind] .DE
+.)close
 .br
 .di
 .rm )set-notes
@@ -1015,6 +1120,9 @@ Piscataway, New Jersey 08854
 .nr VS \\n[)n-VS]
 .nr )kind \\n[)n-kind]
 .nr )keep-in \\n[)n-keep-in]
+.nr )keep \\n[)n-keep]
+.nr )keeping \\n[)n-keeping]
+.nr )boxed \\n[)n-boxed]
 .vs \\n[)n-vs]u
 .)margins-before
 .ll \\n[)n-ll]u
@@ -1101,7 +1209,11 @@ Piscataway, New Jersey 08854
 .br
 .if \\n[)cover]<2 .)reset
 .if \\n[)raw] .if !\\n[)keep] .)set-now
-.nr )boxed 1
+.nr )boxed +1
+.if \\n[)boxed]=1 .)begin-box
+..
+.de )begin-box
+.nr )box-keep \\n[)keep]
 .nr )keep +1
 .nr )box-in \\n(.i
 .nr )box-ll \\n(.l
@@ -1114,10 +1226,15 @@ Piscataway, New Jersey 08854
 .de B2
 .if \\n[)kind] .DE
 .br
-.if \\n[)boxed] \{\
+.if \\n[)boxed]=1 .)close-to )box
+.ie \\n[)boxed]>1 .nr )boxed -1
+.el .if '\\n(.z')box' .)end-box
+..
+.de )end-box
+.br
 .di
 .nr )boxed 0
-.nr )keep -1
+.nr )keep \\n[)box-keep]
 .nr )left -1n
 .nr )right -1n
 .nr )height \\n(dn
@@ -1143,7 +1260,6 @@ Piscataway, New Jersey 08854
 .rm )box
 .if \\n[)box-fill] .fi
 .if \\n[)note-height] .)allot
-.\}
 ..
 .de )box-rule
 \&+\l'\\n[)box-w]u-'+
@@ -1192,15 +1308,17 @@ Piscataway, New Jersey 08854
 .di )head-text
 ..
 .de TH
-.if \\n[)in-head] \{\
+.if \\n[)in-head] .)close-to )head-text
+.if '\\n(.z')head-text' .)end-head
+..
+.de )end-head
 .br
 .di
 .nr )in-head 0
 .nr )head-height \\n(dn
-.if \\n(dn .)end-head
-.\}
+.if \\n(dn .)put-head
 ..
-.de )end-head
+.de )put-head
 .)need \\n[)head-height]+40u
 .nr )head-in \\n(.i
 .in 0
@@ -1228,6 +1346,7 @@ Piscataway, New Jersey 08854
 ..
 .\" ---- equations and pictures: what stands between, set apart
 .de EQ
+.if \\n[)in-equation] .EN
 .br
 .if \\n[)cover]<2 .)reset
 .if \\n[)raw] .if !\\n[)keep] .if '\\n(.z'' .)set-now
@@ -1244,7 +1363,10 @@ Piscataway, New Jersey 08854
 .di )equation
 ..
 .de EN
-.if \\n[)in-equation] \{\
+.if \\n[)in-equation] .)close-to )equation
+.if '\\n(.z')equation' .)end-equation
+..
+.de )end-equation
 .br
 .di
 .nr )in-equation 0
@@ -1254,7 +1376,6 @@ Piscataway, New Jersey 08854
 .if \\n(dl:\\n[)e-number-width] .)put-equation
 .in \\n[)e-in]u
 .if \\n[)e-fill] .fi
-.\}
 ..
 .de )put-equation
 .sp \\n(DDu
@@ -1350,7 +1471,7 @@ Piscataway, New Jersey 08854
 .)finish
 ..
 .de TC
-.if \\n[)kind] .DE
+.)close
 .)finish
 .)last
 .nr )first 1
