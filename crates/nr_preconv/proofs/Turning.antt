@@ -10,7 +10,7 @@ use Rattle.nr_units.proofs.Fronts.{AppendsFront-append, AppendsFront-after}
 use Rattle.nr_preconv.specs.declared.reader.Reader.{Reader}
 use Rattle.nr_preconv.specs.declared.running.Outcome.{Outcome}
 use Rattle.nr_preconv.specs.declared.running.Outcome.TheVariants.{Done, ReadFault, TooLong, WriteFault}
-use Rattle.nr_preconv.specs.Reading.{Told, first_reader, read, fed, pending_heard, finished, converted, steps_of, told, IsPlainFront}
+use Rattle.nr_preconv.specs.Reading.{Told, first_reader, read, fed, pending_heard, finished, converted, steps_of, told, Passes}
 use Rattle.nr_preconv.specs.Running.{Comes, Ends, Flushes, Took, Stands, IsCut, IsBroken, Ran, EndsAs}
 use Rattle.nr_preconv.proofs.Reading.{fed-append_reader, fed-append_bytes, fed-append_steps}
 use Rattle.nr_preconv.proofs.Steps.{fed_quick, steps_of_quick}
@@ -71,16 +71,16 @@ Comes-skip (Some q) (Some t) window n l o s =
 
 -- ---- plain bytes are taken
 
-pub Took-plain : (a b : Option Supply) (window : List ℕ) (most n : ℕ) (r : Reader) (pending left : List ℕ)
+pub Took-plain : (a b : Option Supply) (window : List ℕ) (most n : ℕ) (r s : Reader) (pending left : List ℕ)
     → n ≤ length (take most window) → n ≤ most → n ≤ length window → Offers a window → Skips a n b
-    → IsPlainFront n (take most window) r → left ≡ pending ++ take n window → Took a b r r pending left n n
-Took-plain a b window most n r pending left l m k o s plain out =
+    → Passes n (take most window) r s → left ≡ pending ++ take n window → Took a b r s pending left n n
+Took-plain a b window most n r s pending left l m k o skips plain out =
     let front : take n (take most window) ≡ take n window = take-take n most window m in
-    let told_so : fed r (take n window) ≡ told r (take n window) n =
-    (let P : List ℕ → Type 0 = λ xs. fed r xs ≡ told r xs n in subst P front plain) in
+    let told_so : fed r (take n window) ≡ told s (take n window) n =
+    (let P : List ℕ → Type 0 = λ xs. fed r xs ≡ told s xs n in subst P front plain) in
     record {
       bytes = take n window;
-      came = Comes-skip a b window n k o s;
+      came = Comes-skip a b window n k o skips;
       count = omega (arith, length-take n window);
       reader = sym (ap (λ (t : Told). t.reader) told_so);
       out = out ∙ ap (λ (xs : List ℕ). pending ++ xs) (sym (ap (λ (t : Told). t.bytes) told_so));

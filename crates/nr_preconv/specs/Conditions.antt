@@ -9,11 +9,8 @@ use Rattle.nr_preconv.specs.declared.half.Asked.TheVariants.{Defined, Always, Ne
 use Rattle.nr_preconv.specs.Numbers.{is_within}
 use Rattle.nr_preconv.specs.Beginnings.{is_known}
 use Rattle.nr_preconv.specs.Half.{Met, taken, left}
+use Rattle.nr_preconv.specs.Hyphens.{saying}
 use Rattle.nr_preconv.specs.Escapes.{with_byte}
-
--- a byte goes out as it is, and the line goes on so
-abbrev pub saying : ℕ → Line → Half → Met
-saying b line h = taken (Byte b) (record h { line = line })
 
 abbrev pub is_gap : ℕ → Bool
 is_gap b = (b == 32) || (b == 9)

@@ -1,4 +1,5 @@
 -- Escapes (the groff manual, Escapes; groff(7)): which go out as they are, which become others, and which are dropped.
+use Prim.Native.Char.{code}
 use Rattle.std.specs.Prelude.{ℕ, List, [], ◌∷◌, ◌++◌, length, Bool, true, false, not, ◌==◌, ◌&&◌, ◌||◌, nat_lt, if◌then◌else◌, Option, None, Some}
 use Rattle.nr_preconv.specs.declared.said.Said.{Said}
 use Rattle.nr_preconv.specs.declared.said.Said.TheVariants as says
@@ -7,11 +8,13 @@ use Rattle.nr_preconv.specs.declared.half.Line.{Line}
 use Rattle.nr_preconv.specs.declared.half.Line.TheVariants as lines
 use Rattle.nr_preconv.specs.declared.half.Escape.{Escape}
 use Rattle.nr_preconv.specs.declared.half.Escape.TheVariants as escapes
+use Rattle.nr_preconv.specs.declared.half.Before.TheVariants.{Other}
 use Rattle.nr_preconv.specs.declared.half.Kind.{Kind}
 use Rattle.nr_preconv.specs.declared.half.Kind.TheVariants as kinds
-use Rattle.nr_preconv.specs.declared.words.Class.TheVariants.{Other}
+use Rattle.nr_preconv.specs.declared.words.Class.TheVariants as classes
 use Rattle.nr_preconv.specs.declared.words.Told.{Told}
-use Rattle.nr_preconv.specs.Half.{Met, taken, left, character_said, is_beginning, is_text, takes_brace}
+use Rattle.nr_preconv.specs.Half.{Met, taken, left, character_said, is_beginning, is_text, takes_brace, without_escape, in_text, abandoned}
+use Rattle.nr_preconv.specs.Hyphens.{is_letter, placed, leaving_hyphens, may_hang, is_hang, behind_hyphen}
 use Rattle.nr_preconv.specs.Glyphs.{is_pair, is_native, glyph_code, code_of, font_of}
 use Rattle.nr_preconv.specs.Words.{met_words, begins_word}
 
@@ -27,15 +30,8 @@ keeping b h = record h { kept = with_byte b h.kept }
 abbrev pub spelling : ℕ → Half → Half
 spelling b h = record h { spelled = with_byte b h.spelled }
 
-abbrev pub without_escape : Half → Half
-without_escape h = record h { escape = escapes.Plain; kept = []; spelled = [] }
-
 abbrev pub going_on : ℕ → Escape → Half → Met
 going_on b escape h = taken says.Nothing (record (keeping b h) { escape = escape })
-
--- the text of a line has begun
-abbrev pub in_text : Half → Half
-in_text h = if is_beginning h.line then record h { line = lines.Text } else h
 
 -- it has ended, and this is said for it
 abbrev pub ended : Said → Half → Met
@@ -43,7 +39,7 @@ ended said h = taken said (in_text (without_escape h))
 
 -- it goes out as it was kept
 abbrev pub ended_kept : Half → Met
-ended_kept h = ended (says.Kept h.kept) h
+ended_kept h = ended (says.Kept h.kept) (placed false h)
 
 abbrev pub ends_with : ℕ → Half → Met
 ends_with b h = ended_kept (keeping b h)
@@ -52,14 +48,10 @@ ends_with b h = ended_kept (keeping b h)
 abbrev pub dropped : Half → Met
 dropped h = ended (if is_beginning h.line then says.Escape 38 else says.Nothing) h
 
--- it is none: what was kept goes out, and the character that comes is read anew
-abbrev pub abandoned : Half → Met
-abandoned h = left (says.Kept h.kept) (in_text (without_escape h))
-
 -- ---- behind the backslash
 
 abbrev pub comment : Said → Half → Met
-comment said h = taken said (record (without_escape h) { line = lines.Comment })
+comment said h = taken said (record (without_escape h) { before = Other; line = lines.Comment })
 
 -- where nothing has begun behind a condition, a newline behind a backslash is dropped
 abbrev pub hidden_by : Line → Said → Said
@@ -78,12 +70,27 @@ brace h =
 
 -- a blank that is no gap: in a control line it must not end a word
 abbrev pub blank : Half → Met
-blank h = ended (says.Escape (if is_text h.line then 32 else 48)) h
+blank h = ended (says.Escape (if is_text h.line then 32 else 48)) (placed false h)
 
 abbrev pub skip : Half → Met
 skip h = taken says.Nothing (record h { kept = []; escape = escapes.Skip })
 
--- by the byte behind the backslash: ( [ f m M F n s N C Z , / ) : ~ $ {
+-- an escape with a number or a text: \h at the beginning of a line may make it hang
+abbrev pub is_measured : ℕ → Bool
+is_measured b =
+    (b == code "h") || (b == code "v") || (b == code "w") || (b == code "l") || (b == code "L") || (b == code "D") || (b == code "b")
+    || (b == code "o") || (b == code "x")
+
+abbrev pub measured : ℕ → Half → Met
+measured b h =
+    if (b == code "h") && may_hang h then going_on b (escapes.Delimiter kinds.Hang) (leaving_hyphens h) else ends_with b (leaving_hyphens h)
+
+-- so far to the left the line begins
+abbrev pub hang : Half → Met
+hang h =
+    if is_hang h.spelled then taken (says.Hang h.spelled) (record (without_escape h) { line = lines.Text; before = Other }) else ended_kept h
+
+-- by the byte behind the backslash: ( [ f m M F n * s N C Z , / ) : ~ $ {
 abbrev pub letter : ℕ → Half → Met
 letter b h =
     if b == 40 then going_on b (escapes.Pair kinds.Glyph) h else
@@ -91,6 +98,7 @@ letter b h =
     if b == 102 then going_on b (escapes.Target kinds.Font) h else
     if (b == 109) || (b == 77) || (b == 70) then going_on b (escapes.Target kinds.Dropped) h else
     if b == 110 then going_on b (escapes.Target kinds.Register) h else
+    if b == 42 then going_on b (escapes.Target kinds.Text) h else
     if b == 115 then going_on b (escapes.Target kinds.Size) h else
     if b == 78 then going_on b (escapes.Delimiter kinds.Code) h else
     if b == 67 then going_on b (escapes.Delimiter kinds.Glyph) h else
@@ -98,7 +106,8 @@ letter b h =
     if (b == 44) || (b == 47) || (b == 41) || (b == 58) then dropped h else
     if (b == 32) || (b == 126) then blank h else
     if b == 36 then going_on b escapes.Argument h else
-    if b == 123 then brace h else ends_with b h
+    if b == 123 then brace h else
+    if is_measured b then measured b h else ends_with b h
 
 -- the line goes on before the escape is read: a word begins, or a condition is a number
 abbrev pub waits : Line → Bool
@@ -110,7 +119,7 @@ abbrev pub word_made : Told → Half → Met
 word_made told h = left told.said (record h { line = lines.Words told.words })
 
 abbrev pub made_way : Line → Half → Met
-made_way (lines.Words words) h = word_made (met_words Other says.Nothing words) h
+made_way (lines.Words words) h = word_made (met_words classes.Other says.Nothing words) h
 made_way lines.Condition h = left says.Nothing (record h { line = lines.Number })
 made_way line h = left says.Nothing h
 
@@ -131,8 +140,8 @@ behind_backslash b h =
 
 abbrev pub argument : ℕ → Half → Met
 argument b h =
-    if b == 42 then ended (says.Arguments (nat_lt 2 (length h.kept))) h else
-    if b == 64 then ended (says.QuotedArguments (nat_lt 2 (length h.kept))) h else
+    if b == 42 then ended (says.Arguments (nat_lt 2 (length h.kept))) (placed false h) else
+    if b == 64 then ended (says.QuotedArguments (nat_lt 2 (length h.kept))) (placed false h) else
     if b == 10 then abandoned h else ends_with b h
 
 -- ---- names
@@ -144,7 +153,7 @@ is_delimited escape = false
 
 abbrev pub character : Option ℕ → Half → Met
 character None h = if is_delimited h.escape then dropped h else ended_kept h
-character (Some code) h = ended (character_said h.line code) h
+character (Some c) h = ended (character_said h.line c) (placed (is_letter c) h)
 
 abbrev pub is_translation : Line → Bool
 is_translation lines.Translation = true
@@ -155,20 +164,22 @@ abbrev pub glyph : Half → Met
 glyph h =
     if is_native h.spelled && not (is_delimited h.escape) then ended_kept h else
     if is_pair 42 87 h.spelled && is_translation h.line then ended_kept (record h { dashes = true }) else
-    if is_pair 42 87 h.spelled && h.dashes then ended (says.Escape 45) h else
+    if is_pair 42 87 h.spelled && h.dashes then ended (says.Escape 45) (placed false h) else
     character (glyph_code h.spelled) h
 
-abbrev pub code : Half → Met
-code h = character (code_of h.spelled) h
+abbrev pub numbered : Half → Met
+numbered h = character (code_of h.spelled) h
 
 -- The register `.g` is 1. Sizes and colours are dropped.
 abbrev pub named : Kind → Half → Met
 named kinds.Glyph h = glyph h
-named kinds.Code h = code h
+named kinds.Code h = numbered h
 named kinds.Font h = ended (says.Font (font_of h.spelled)) h
-named kinds.Register h = if is_pair 46 103 h.spelled then ended (says.Byte 49) h else ended_kept h
+named kinds.Register h = if is_pair 46 103 h.spelled then ended (says.Byte 49) (placed false h) else ended_kept h
 named kinds.Size h = dropped h
 named kinds.Dropped h = dropped h
+named kinds.Text h = ended_kept h
+named kinds.Hang h = hang h
 
 -- a name of one byte; the language has sizes of one digit
 abbrev pub named_once : Kind → Half → Met
@@ -201,9 +212,15 @@ paired kind h = if length h.spelled == 2 then named kind h else taken says.Nothi
 abbrev pub pair : Kind → ℕ → Half → Met
 pair kind b h = if b == 10 then abandoned h else paired kind (spelling b (keeping b h))
 
+-- what hangs by an escape in another is read as it stands
+abbrev pub is_hang_kind : Kind → Bool
+is_hang_kind kinds.Hang = true
+is_hang_kind kind = false
+
 abbrev pub spelled_up_to : ℕ → Kind → ℕ → Half → Met
 spelled_up_to end kind b h =
     if b == 10 then abandoned h else
+    if (b == code "\\") && is_hang_kind kind then abandoned h else
     if b == end then named kind (keeping b h) else taken says.Nothing (spelling b (keeping b h))
 
 abbrev pub delimiter : Kind → ℕ → Half → Met
@@ -230,6 +247,7 @@ in_part (escapes.Delimiter kind) b h = delimiter kind b h
 in_part (escapes.Delimited kind end) b h = spelled_up_to end kind b h
 in_part escapes.Skip b h = skip_from b h
 in_part (escapes.Skipped end) b h = skipped end b h
+in_part escapes.Hyphen b h = behind_hyphen b h
 
 -- an escape that is longer than what is kept goes out
 abbrev pub in_escape : ℕ → Half → Met

@@ -46,8 +46,8 @@ word_text code = text_in WORDS code
 -- ---- characters
 
 -- a letter of Latin-1 beyond ASCII
-abbrev pub is_letter : ℕ → Bool
-is_letter code = (code == 170) || (code == 181) || (code == 186) || is_within 192 214 code || is_within 216 246 code || is_within 248 255 code
+abbrev pub is_latin_letter : ℕ → Bool
+is_latin_letter code = (code == 170) || (code == 181) || (code == 186) || is_within 192 214 code || is_within 216 246 code || is_within 248 255 code
 
 -- a mark on the character before it, or a sign without width: it shows nothing
 abbrev pub is_mark : ℕ → Bool
@@ -113,4 +113,4 @@ beyond_like code =
 abbrev pub likeness : Bool → ℕ → List ℕ
 likeness eight_bit code =
     if nat_lt code 128 then ascii_like code else
-    if eight_bit && nat_lt code 256 && is_letter code then code ∷ [] else beyond_like code
+    if eight_bit && nat_lt code 256 && is_latin_letter code then code ∷ [] else beyond_like code

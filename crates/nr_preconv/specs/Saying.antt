@@ -1,7 +1,7 @@
 -- What goes out.
-use Rattle.std.specs.Prelude.{ℕ, List, [], ◌∷◌, Bool, true, false, codes}
+use Rattle.std.specs.Prelude.{ℕ, List, [], ◌∷◌, ◌++◌, Bool, true, false, codes}
 use Rattle.nr_preconv.specs.declared.said.Said.{Said}
-use Rattle.nr_preconv.specs.declared.said.Said.TheVariants.{Nothing, Byte, Kept, Escape, Font, Quotes, Comment, Character, Arguments, QuotedArguments}
+use Rattle.nr_preconv.specs.declared.said.Said.TheVariants.{Nothing, Byte, Kept, Hang, Escape, Font, Quotes, Comment, Character, Arguments, QuotedArguments}
 use Rattle.nr_preconv.specs.Likeness.{likeness}
 
 -- the nine arguments of a macro: where they are replaced, or once a definition was read; as they are, or each between quotes
@@ -16,6 +16,7 @@ abbrev pub bytes_of : Bool → Said → List ℕ
 bytes_of eight_bit Nothing = []
 bytes_of eight_bit (Byte b) = b ∷ []
 bytes_of eight_bit (Kept name) = name
+bytes_of eight_bit (Hang number) = codes ".ti " ++ number ++ codes "\n\\&"
 bytes_of eight_bit (Escape b) = 92 ∷ b ∷ []
 bytes_of eight_bit (Font letter) = 92 ∷ 102 ∷ letter ∷ []
 bytes_of eight_bit Quotes = codes "\"\""

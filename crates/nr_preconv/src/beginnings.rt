@@ -24,12 +24,18 @@ pub(crate) enum Opens {
     Else,
     /// A translation of characters.
     Translation,
+    /// The title of a manual page.
+    Title,
+    /// A table.
+    Table,
+    /// Its end.
+    TableEnd,
     /// Words in a font, or in two.
     Words(Fonts),
 }
 
 /// The names that are of account here.
-static OPENING: [(u8, u8, Opens); 20] = [
+static OPENING: [(u8, u8, Opens); 23] = [
     (b'.', b' ', Opens::End),
     (b'd', b'e', Opens::Definition),
     (b'a', b'm', Opens::Definition),
@@ -38,6 +44,9 @@ static OPENING: [(u8, u8, Opens); 20] = [
     (b'i', b'e', Opens::Condition),
     (b'e', b'l', Opens::Else),
     (b't', b'r', Opens::Translation),
+    (b'T', b'H', Opens::Title),
+    (b'T', b'S', Opens::Table),
+    (b'T', b'E', Opens::TableEnd),
     (b'B', b' ', Opens::Words(Fonts::One)),
     (b'I', b' ', Opens::Words(Fonts::One)),
     (b'S', b'M', Opens::Words(Fonts::One)),

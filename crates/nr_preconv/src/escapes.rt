@@ -1,12 +1,24 @@
 //! Escapes.
 ghost use Rattle.std.specs.Prelude.{◌≡◌};
-ghost use Rattle.nr_preconv.specs.Half.{met};
+ghost use Rattle.nr_preconv.specs.Half.{abandoned, met, without_escape};
+ghost use Rattle.nr_preconv.specs.Hyphens.{may_hang};
 ghost use Rattle.nr_preconv.specs.Escapes as specs;
 
 use super::glyphs::{code_of, font_of, glyph_code, is_native, is_pair};
-use super::half::{Escape, Half, Kind, Line, Seen};
+use super::half::{Before, Escape, Half, Kind, Line, Seen};
+use super::hyphens::{is_hang, is_letter};
 use super::said::Said;
 use nr_units::Name;
+
+/// The letter of an escape with a number or a text.
+fn is_measured(byte: u8) -> bool
+    ensures { result ≡ specs.is_measured byte }
+{
+    matches!(
+        byte,
+        b'h' | b'v' | b'w' | b'l' | b'L' | b'D' | b'b' | b'o' | b'x'
+    )
+}
 
 impl Half {
     /// One more byte of an escape, or of a name in it, is kept where there is room.
@@ -27,8 +39,8 @@ impl Half {
     }
 
     /// No escape is half read any more.
-    fn forget(&mut self)
-        ensures { self.new ≡ specs.without_escape self.old }
+    pub(crate) fn forget(&mut self)
+        ensures { self.new ≡ without_escape self.old }
     {
         self.escape = Escape::Plain;
         self.kept = Name::new();
@@ -59,6 +71,7 @@ impl Half {
     fn ended_kept(&mut self) -> Seen
         ensures { met self.new result ≡ specs.ended_kept self.old }
     {
+        self.places(false);
         let kept = self.kept;
         self.ended(Said::Kept(kept))
     }
@@ -85,7 +98,7 @@ impl Half {
 
     /// It is none: what was kept goes out, and the character that comes is read anew.
     pub(crate) fn abandoned(&mut self) -> Seen
-        ensures { met self.new result ≡ specs.abandoned self.old }
+        ensures { met self.new result ≡ abandoned self.old }
     {
         let kept = self.kept;
         let ended = self.ended(Said::Kept(kept));
@@ -97,6 +110,7 @@ impl Half {
         ensures { met self.new result ≡ specs.comment said self.old }
     {
         self.forget();
+        self.before = Before::Other;
         self.line = Line::Comment;
         Seen::taken(said)
     }
@@ -131,6 +145,7 @@ impl Half {
         ensures { met self.new result ≡ specs.blank self.old }
     {
         let byte = if self.line.is_text() { b' ' } else { b'0' };
+        self.places(false);
         self.ended(Said::Escape(byte))
     }
 
@@ -153,6 +168,7 @@ impl Half {
             b'f' => self.goes_on(byte, Escape::Target(Kind::Font)),
             b'm' | b'M' | b'F' => self.goes_on(byte, Escape::Target(Kind::Dropped)),
             b'n' => self.goes_on(byte, Escape::Target(Kind::Register)),
+            b'*' => self.goes_on(byte, Escape::Target(Kind::Text)),
             b's' => self.goes_on(byte, Escape::Target(Kind::Size)),
             b'N' => self.goes_on(byte, Escape::Delimiter(Kind::Code)),
             b'C' => self.goes_on(byte, Escape::Delimiter(Kind::Glyph)),
@@ -161,8 +177,42 @@ impl Half {
             b' ' | b'~' => self.blank(),
             b'$' => self.goes_on(byte, Escape::Argument),
             b'{' => self.brace(),
+            _ if is_measured(byte) => self.measured(byte),
             _ => self.ends_with(byte),
         }
+    }
+
+    /// Such a letter. By `\h` at the beginning of a line it may hang.
+    fn measured(&mut self, byte: u8) -> Seen
+        ensures { met self.new result ≡ specs.measured byte self.old }
+    {
+        let hangs = byte == b'h' && self.may_hang();
+        self.leaves_hyphens();
+        if hangs {
+            return self.goes_on(byte, Escape::Delimiter(Kind::Hang));
+        }
+        self.ends_with(byte)
+    }
+
+    /// A text line may hang behind a title, and in no table, where the line before has ended.
+    fn may_hang(&self) -> bool
+        ensures { result ≡ may_hang self.now }
+    {
+        self.turns_hyphens() && matches!(self.line, Line::Start | Line::Braced)
+    }
+
+    /// How far to the left a line begins, if that is a number of cells.
+    fn hang(&mut self) -> Seen
+        ensures { met self.new result ≡ specs.hang self.old }
+    {
+        let number = self.spelled;
+        if !is_hang(number.as_bytes()) {
+            return self.ended_kept();
+        }
+        self.forget();
+        self.line = Line::Text;
+        self.before = Before::Other;
+        Seen::taken(Said::Hang(number))
     }
 
     /// Whether the line must go on before an escape is read.
@@ -221,8 +271,14 @@ impl Half {
     {
         let doubled = self.kept.len() > 2;
         match byte {
-            b'*' => self.ended(Said::Arguments(doubled)),
-            b'@' => self.ended(Said::QuotedArguments(doubled)),
+            b'*' => {
+                self.places(false);
+                self.ended(Said::Arguments(doubled))
+            }
+            b'@' => {
+                self.places(false);
+                self.ended(Said::QuotedArguments(doubled))
+            }
             b'\n' => self.abandoned(),
             _ => self.ends_with(byte),
         }
@@ -236,6 +292,7 @@ impl Half {
         match code {
             Some(code) => {
                 let said = self.line.character(code);
+                self.places(is_letter(code));
                 self.ended(said)
             }
             None if self.escape.is_delimited() => self.dropped(),
@@ -257,6 +314,7 @@ impl Half {
                 return self.ended_kept();
             }
             if self.dashes {
+                self.places(false);
                 return self.ended(Said::Escape(b'-'));
             }
         }
@@ -264,8 +322,8 @@ impl Half {
     }
 
     /// A character by its number.
-    fn code(&mut self) -> Seen
-        ensures { met self.new result ≡ specs.code self.old }
+    fn numbered(&mut self) -> Seen
+        ensures { met self.new result ≡ specs.numbered self.old }
     {
         let name = self.spelled;
         self.character(code_of(name.as_bytes()))
@@ -278,10 +336,14 @@ impl Half {
         let name = self.spelled;
         match kind {
             Kind::Glyph => self.glyph(),
-            Kind::Code => self.code(),
+            Kind::Code => self.numbered(),
             Kind::Font => self.ended(Said::Font(font_of(name.as_bytes()))),
-            Kind::Register if is_pair(name.as_bytes(), b'.', b'g') => self.ended(Said::Byte(b'1')),
-            Kind::Register => self.ended_kept(),
+            Kind::Register if is_pair(name.as_bytes(), b'.', b'g') => {
+                self.places(false);
+                self.ended(Said::Byte(b'1'))
+            }
+            Kind::Register | Kind::Text => self.ended_kept(),
+            Kind::Hang => self.hang(),
             Kind::Size | Kind::Dropped => self.dropped(),
         }
     }
@@ -332,6 +394,9 @@ impl Half {
         ensures { met self.new result ≡ specs.spelled_up_to end kind byte self.old }
     {
         if byte == b'\n' {
+            return self.abandoned();
+        }
+        if byte == b'\\' && matches!(kind, Kind::Hang) {
             return self.abandoned();
         }
         self.keep(byte);
@@ -394,6 +459,7 @@ impl Half {
             Escape::Delimited(kind, end) => self.spelled_up_to(end, kind, byte),
             Escape::Skip => self.skip_from(byte),
             Escape::Skipped(end) => self.skipped(end, byte),
+            Escape::Hyphen => self.behind_hyphen(byte),
         }
     }
 }

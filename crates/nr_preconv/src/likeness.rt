@@ -1,13 +1,13 @@
 //! What a character looks like.
 ghost use Rattle.std.specs.Prelude.{◌≡◌, ◌+◌, ◌≤◌, ◌<◌, ◌++◌, length};
-ghost use Rattle.nr_preconv.specs.Likeness.{ascii_like, before_nul, beyond_like, box_like, code_told, hex_digit, is_blank, is_letter, is_mark, letter_in, likeness, plain_letter, sign_like, sign_text, text_in, word_text};
+ghost use Rattle.nr_preconv.specs.Likeness.{ascii_like, before_nul, beyond_like, box_like, code_told, hex_digit, is_blank, is_latin_letter, is_mark, letter_in, likeness, plain_letter, sign_like, sign_text, text_in, word_text};
 
 use super::signs::{LATIN, LATIN_ADDITIONAL, SIGNS, WORDS};
 use nr_units::slice_vec::SliceVec;
 
 /// A letter of Latin-1 beyond ASCII.
-fn is_letter(code: u32) -> bool
-    ensures { result ≡ is_letter code }
+pub(crate) fn is_latin_letter(code: u32) -> bool
+    ensures { result ≡ is_latin_letter code }
 {
     matches!(code, 0xAA | 0xB5 | 0xBA | 0xC0..=0xD6 | 0xD8..=0xF6 | 0xF8..=0xFF)
 }
@@ -209,7 +209,7 @@ pub(crate) fn put_likeness(code: u32, eight_bit: bool, out: &mut SliceVec<'_, u8
 {
     if code < 128 {
         put_ascii(code as u8, out);
-    } else if eight_bit && code < 256 && is_letter(code) {
+    } else if eight_bit && code < 256 && is_latin_letter(code) {
         out.push(code as u8);
     } else {
         put_beyond(code, out);

@@ -15,6 +15,8 @@ pub(crate) enum Said {
     Byte(u8),
     /// What was kept.
     Kept(Name),
+    /// `.ti` and this number, as a line, and the beginning of a text line.
+    Hang(Name),
     /// `\` and this byte.
     Escape(u8),
     /// `\f` and this letter.
@@ -58,6 +60,11 @@ pub(crate) fn say(said: Said, eight_bit: bool, out: &mut SliceVec<'_, u8>)
         Said::Nothing => {}
         Said::Byte(byte) => out.push(byte),
         Said::Kept(name) => out.extend(name.as_bytes()),
+        Said::Hang(number) => {
+            out.extend(b".ti ");
+            out.extend(number.as_bytes());
+            out.extend(b"\n\\&");
+        }
         Said::Escape(byte) => out.extend(&[b'\\', byte]),
         Said::Font(letter) => out.extend(&[b'\\', b'f', letter]),
         Said::Quotes => out.extend(b"\"\""),
