@@ -18,12 +18,13 @@ use Rattle.nr_preconv.specs.declared.reader.Pending.TheVariants as pendings
 use Rattle.nr_preconv.specs.Half.{Met, taken, is_plain}
 use Rattle.nr_preconv.specs.Hyphens.{turns_hyphens, in_text}
 use Rattle.nr_preconv.specs.Words.{goes_on_at, goes_on_with, begins_word, class_of, met_at}
-use Rattle.nr_preconv.specs.Saying.{bytes_of}
+use Rattle.nr_preconv.specs.Saying.{bytes_of, sent}
 use Rattle.nr_preconv.specs.Escapes.{in_escape}
 use Rattle.nr_preconv.specs.Lines.{is_control, at_start, in_words, in_line_at, in_line, takes_escape, passing}
 use Rattle.nr_preconv.specs.Meeting.{meet, plain_byte, beginning, is_raw, is_as_is_at, is_as_is}
 use Rattle.nr_preconv.specs.Reading.{Told, told, behind, then_told, heard, heard_in, with_half, pending_with, strays, fresh, heard_behind, heard_byte, read, fed, Passes, is_lead, stray}
 use Rattle.nr_preconv.proofs.Reading.{behind-none, fed-append}
+use Rattle.nr_preconv.proofs.Sent.{sent_is, ascii-goes}
 
 pub and-first : (x y : Bool) → (x && y) ≡ true → x ≡ true
 and-first true y h = refl
@@ -106,11 +107,12 @@ as_is_meets b h back plain p =
     ∙ ap (λ (x : Bool). if x && takes_escape h.line then beginning h else in_line b h) back
     ∙ met-eq (in_line b h) (says.Byte b) true is.said is.takes
 
-pub heard_byte_taken : (b : ℕ) (r : Reader) (h : Half) → meet (comings.Byte b) r.half ≡ taken (says.Byte b) h
+pub heard_byte_taken : (b : ℕ) (r : Reader) (h : Half) → nat_lt b 127 ≡ true → meet (comings.Byte b) r.half ≡ taken (says.Byte b) h
     → heard (comings.Byte b) r ≡ told (with_half h r) (b ∷ []) 1
 unfolding heard
-heard_byte_taken b r h e =
+heard_byte_taken b r h ascii e =
     ap (λ (m : Met). behind (bytes_of r.eight_bit m.said) 1 (if m.takes then told (with_half m.half r) [] 0 else heard_in 5 (comings.Byte b) (with_half m.half r))) e
+    ∙ ap (λ (x : ℕ). told (with_half h r) (x ∷ []) 1) (sent_is r.eight_bit b (ascii-goes r.eight_bit b ascii))
 
 -- where nothing is pending, nothing is heard of it
 none_heard : (p : Pending) (r : Reader) → p ≡ pendings.Nothing → r.pending ≡ p → pending_with pendings.Nothing r ≡ r
@@ -127,16 +129,16 @@ nothing_pending b r e =
 pub read_as_is : (b : ℕ) (r : Reader) → r.pending ≡ pendings.Nothing → is_raw r.half.line ≡ false → is_as_is b r.half ≡ true
     → read b r ≡ told (with_half (in_line b r.half).half r) (b ∷ []) 1
 read_as_is b r none cooked p =
-    let ascii = nat_lt b 128 in
+    let ascii = nat_lt b 127 in
     let back = not (b == 92) in
     let plain = is_plain r.half.escape in
     let at = is_as_is_at r.half.line b r.half in
     let three = and-first (ascii && back && plain) at p in
     let two = and-first (ascii && back) plain three in
-    ap (λ (x : Bool). if x then told (with_half (passing b r.half) r) (b ∷ []) 1 else heard_byte b r) cooked
+    ap (λ (x : Bool). if x then told (with_half (passing b r.half) r) (sent r.eight_bit b ∷ []) 1 else heard_byte b r) cooked
     ∙ nothing_pending b r none
     ∙ ap (λ (x : Bool). if x then heard (comings.Byte b) r else (if is_lead b then told (pending_with (pendings.One b) r) [] 0 else stray b r)) (and-first ascii back two)
-    ∙ heard_byte_taken b r (in_line b r.half).half
+    ∙ heard_byte_taken b r (in_line b r.half).half (and-first ascii back two)
     (as_is_meets b r.half (is_not (b == 92) (and-second ascii back two)) (and-second (ascii && back) plain three) (and-second (ascii && back && plain) at p))
 
 pub Passes-more : (r s t : Reader) (bs : List ℕ) (i : ℕ) → Passes i bs r s → i < length bs

@@ -58,18 +58,18 @@ text_meets b back =
 
 goes_meets : (starts : Bool) (b : ℕ) → goes_on starts b ≡ true → meet (comings.Byte b) (half_at starts) ≡ taken (says.Byte b) (half_at (b == 10))
 goes_meets true b g =
-    start_meets b (is_not (b == 92) (and-second (nat_lt b 128) (not (b == 92)) (and-first _ (not (is_control b)) g)))
-    (is_not (is_control b) (and-second (nat_lt b 128 && not (b == 92)) (not (is_control b)) g))
+    start_meets b (is_not (b == 92) (and-second (nat_lt b 127) (not (b == 92)) (and-first _ (not (is_control b)) g)))
+    (is_not (is_control b) (and-second (nat_lt b 127 && not (b == 92)) (not (is_control b)) g))
 goes_meets false b g =
-    text_meets b (is_not (b == 92) (and-second (nat_lt b 128) (not (b == 92)) (and-first (nat_lt b 128 && not (b == 92)) true g)))
+    text_meets b (is_not (b == 92) (and-second (nat_lt b 127) (not (b == 92)) (and-first (nat_lt b 127 && not (b == 92)) true g)))
 
 read_going : (e starts : Bool) (b : ℕ) → goes_on starts b ≡ true → fresh b (reader_at e starts) ≡ told (reader_at e (b == 10)) (b ∷ []) 1
 unfolding reader_at
 read_going e starts b g =
-    let ascii : nat_lt b 128 ≡ true = and-first (nat_lt b 128) (not (b == 92)) (and-first (nat_lt b 128 && not (b == 92)) (not (starts && is_control b)) g) in
+    let ascii : nat_lt b 127 ≡ true = and-first (nat_lt b 127) (not (b == 92)) (and-first (nat_lt b 127 && not (b == 92)) (not (starts && is_control b)) g) in
     let r = reader_at e starts in
     ap (λ (x : Bool). if x then heard (comings.Byte b) r else (if is_lead b then told (pending_with (pendings.One b) r) [] 0 else stray b r)) ascii
-    ∙ heard_byte_taken b r (half_at (b == 10)) (goes_meets starts b g)
+    ∙ heard_byte_taken b r (half_at (b == 10)) ascii (goes_meets starts b g)
 
 read_on : (e starts : Bool) (b : ℕ) → goes_on starts b ≡ true → read b (reader_at e starts) ≡ told (reader_at e (b == 10)) (b ∷ []) 1
 unfolding reader_at half_at

@@ -15,7 +15,8 @@ use Rattle.nr_preconv.specs.declared.words.Class.TheVariants as classes
 use Rattle.nr_preconv.specs.declared.words.Told.{Told}
 use Rattle.nr_preconv.specs.Half.{Met, taken, left, character_said, is_beginning, is_text, takes_brace, without_escape, in_text, abandoned}
 use Rattle.nr_preconv.specs.Hyphens.{is_letter, placed, leaving_hyphens, may_hang, is_hang, behind_hyphen}
-use Rattle.nr_preconv.specs.Glyphs.{is_pair, is_native, glyph_code, code_of, font_of}
+use Rattle.nr_preconv.specs.Glyphs.{is_pair, is_native, is_struck, glyph_code, code_of, font_of}
+use Rattle.nr_preconv.specs.Numbers.{is_number}
 use Rattle.nr_preconv.specs.Words.{met_words, begins_word}
 
 -- ---- how an escape goes on and ends
@@ -90,23 +91,39 @@ abbrev pub hang : Half → Met
 hang h =
     if is_hang h.spelled then taken (says.Hang h.spelled) (record (without_escape h) { line = lines.Text; before = Other }) else ended_kept h
 
--- by the byte behind the backslash: ( [ f m M F n * s N C Z , / ) : ~ $ {
+-- a name that is dropped: colours, families, devices
+abbrev pub is_unnamed : ℕ → Bool
+is_unnamed b =
+    (b == code "m") || (b == code "M") || (b == code "F") || (b == code "O") || (b == code "V") || (b == code "Y")
+
+-- a text that is dropped: the height and slant of letters, devices, new registers
+abbrev pub is_skipped : ℕ → Bool
+is_skipped b = (b == code "H") || (b == code "R") || (b == code "S") || (b == code "X") || (b == code "Z")
+
+-- what stands in \?..\? is for diversions that are read again
+abbrev pub embed : Half → Met
+embed h = taken says.Nothing (record h { kept = []; escape = escapes.Embedded false })
+
+-- by the byte behind the backslash
 abbrev pub letter : ℕ → Half → Met
 letter b h =
     if b == 40 then going_on b (escapes.Pair kinds.Glyph) h else
     if b == 91 then going_on b (escapes.Bracket kinds.Glyph) h else
     if b == 102 then going_on b (escapes.Target kinds.Font) h else
-    if (b == 109) || (b == 77) || (b == 70) then going_on b (escapes.Target kinds.Dropped) h else
     if b == 110 then going_on b (escapes.Target kinds.Register) h else
     if b == 42 then going_on b (escapes.Target kinds.Text) h else
     if b == 115 then going_on b (escapes.Target kinds.Size) h else
     if b == 78 then going_on b (escapes.Delimiter kinds.Code) h else
     if b == 67 then going_on b (escapes.Delimiter kinds.Glyph) h else
-    if b == 90 then skip h else
+    if b == 65 then going_on b (escapes.Delimiter kinds.Identifier) h else
+    if b == 66 then going_on b (escapes.Delimiter kinds.Number) h else
+    if b == 63 then embed h else
     if (b == 44) || (b == 47) || (b == 41) || (b == 58) then dropped h else
     if (b == 32) || (b == 126) then blank h else
     if b == 36 then going_on b escapes.Argument h else
     if b == 123 then brace h else
+    if is_unnamed b then going_on b (escapes.Target kinds.Dropped) h else
+    if is_skipped b then skip h else
     if is_measured b then measured b h else ends_with b h
 
 -- the line goes on before the escape is read: a word begins, or a condition is a number
@@ -127,12 +144,21 @@ abbrev pub is_start : Line → Bool
 is_start lines.Start = true
 is_start line = false
 
--- in a definition an escape may have several backslashes
+abbrev pub is_stored : Line → Bool
+is_stored lines.Stored = true
+is_stored line = false
+
+abbrev pub is_text_line : Line → Bool
+is_text_line lines.Text = true
+is_text_line line = false
+
+-- In a definition, and in the text of a string, an escape may have several backslashes. In a text line a note hides its newline.
 abbrev pub behind_backslash : ℕ → Half → Met
 behind_backslash b h =
     if b == 10 then newline_hidden h else
-    if (b == 92) && h.defining then going_on b escapes.Begun h else
+    if (b == 92) && (h.defining || is_stored h.line) then going_on b escapes.Begun h else
     if b == 34 then comment (says.Kept (with_byte b h.kept)) h else
+    if (b == 35) && is_text_line h.line then taken says.Nothing (record h { escape = escapes.Note }) else
     if b == 35 then comment (says.Comment (is_start h.line)) h else
     if waits h.line then made_way h.line h else letter b h
 
@@ -155,6 +181,10 @@ abbrev pub character : Option ℕ → Half → Met
 character None h = if is_delimited h.escape then dropped h else ended_kept h
 character (Some c) h = ended (character_said h.line c) (placed (is_letter c) h)
 
+abbrev pub struck : Option ℕ → Half → Met
+struck None h = character None h
+struck (Some c) h = ended (says.Struck c) (placed false h)
+
 abbrev pub is_translation : Line → Bool
 is_translation lines.Translation = true
 is_translation line = false
@@ -165,10 +195,13 @@ glyph h =
     if is_native h.spelled && not (is_delimited h.escape) then ended_kept h else
     if is_pair 42 87 h.spelled && is_translation h.line then ended_kept (record h { dashes = true }) else
     if is_pair 42 87 h.spelled && h.dashes then ended (says.Escape 45) (placed false h) else
-    character (glyph_code h.spelled) h
+    if is_struck h.spelled then struck (glyph_code h.spelled) h else character (glyph_code h.spelled) h
 
 abbrev pub numbered : Half → Met
 numbered h = character (code_of h.spelled) h
+
+abbrev pub tested : Bool → Half → Met
+tested holds h = ended (says.Byte (if holds then code "1" else code "0")) (placed false h)
 
 -- The register `.g` is 1. Sizes and colours are dropped.
 abbrev pub named : Kind → Half → Met
@@ -178,6 +211,8 @@ named kinds.Font h = ended (says.Font (font_of h.spelled)) h
 named kinds.Register h = if is_pair 46 103 h.spelled then ended (says.Byte 49) (placed false h) else ended_kept h
 named kinds.Size h = dropped h
 named kinds.Dropped h = dropped h
+named kinds.Identifier h = tested (not (length h.spelled == 0)) h
+named kinds.Number h = tested (is_number h.spelled) h
 named kinds.Text h = ended_kept h
 named kinds.Hang h = hang h
 
@@ -226,13 +261,31 @@ spelled_up_to end kind b h =
 abbrev pub delimiter : Kind → ℕ → Half → Met
 delimiter kind b h = if b == 10 then abandoned h else going_on b (escapes.Delimited kind b) h
 
--- ---- what \Z has between its delimiters is dropped
+-- ---- names between brackets, in which others may be
+
+abbrev pub bracketed : Kind → ℕ → Half → Met
+bracketed kind b h = if b == code "[" then going_on b (escapes.Nested kind) h else spelled_up_to 93 kind b h
+
+abbrev pub nested : Kind → ℕ → Half → Met
+nested kind b h =
+    if b == code "\n" then abandoned h else
+    if b == code "]" then going_on b (escapes.Bracket kind) h else taken says.Nothing (keeping b h)
+
+-- ---- texts that are dropped
 
 abbrev pub skipped : ℕ → ℕ → Half → Met
 skipped end b h = if b == 10 then abandoned h else if b == end then dropped h else taken says.Nothing h
 
 abbrev pub skip_from : ℕ → Half → Met
 skip_from b h = if b == 10 then abandoned h else taken says.Nothing (record h { escape = escapes.Skipped b })
+
+abbrev pub embedded : Bool → ℕ → Half → Met
+embedded backslash b h =
+    if b == code "\n" then abandoned h else
+    if backslash && (b == code "?") then dropped h else taken says.Nothing (record h { escape = escapes.Embedded (b == code "\\") })
+
+abbrev pub noted : ℕ → Half → Met
+noted b h = if b == code "\n" then newline_hidden h else taken says.Nothing h
 
 -- ---- by the part that was read
 
@@ -242,11 +295,14 @@ in_part escapes.Begun b h = behind_backslash b h
 in_part escapes.Argument b h = argument b h
 in_part (escapes.Target kind) b h = target kind b h
 in_part (escapes.Pair kind) b h = pair kind b h
-in_part (escapes.Bracket kind) b h = spelled_up_to 93 kind b h
+in_part (escapes.Bracket kind) b h = bracketed kind b h
+in_part (escapes.Nested kind) b h = nested kind b h
 in_part (escapes.Delimiter kind) b h = delimiter kind b h
 in_part (escapes.Delimited kind end) b h = spelled_up_to end kind b h
 in_part escapes.Skip b h = skip_from b h
 in_part (escapes.Skipped end) b h = skipped end b h
+in_part (escapes.Embedded backslash) b h = embedded backslash b h
+in_part escapes.Note b h = noted b h
 in_part escapes.Hyphen b h = behind_hyphen b h
 
 -- an escape that is longer than what is kept goes out

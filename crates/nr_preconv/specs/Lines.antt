@@ -71,6 +71,8 @@ line_of opens.TableEnd ignores = lines.Request
 line_of opens.Ignored ignores = if ignores then lines.Ignored dots.Other else lines.Request
 line_of opens.Condition ignores = lines.Condition
 line_of opens.Else ignores = lines.Part
+line_of opens.Nop ignores = lines.Part
+line_of opens.Stored ignores = lines.Stored
 line_of opens.Translation ignores = lines.Translation
 line_of (opens.Words fonts) ignores = lines.Words (first_words fonts)
 

@@ -30,6 +30,8 @@ abbrev pub wide_by : Escape → ℕ → Half → Met
 wide_by escapes.Plain c h = wide_in_line c h
 wide_by escapes.Skip c h = taken Nothing h
 wide_by (escapes.Skipped end) c h = taken Nothing h
+wide_by (escapes.Embedded backslash) c h = taken Nothing h
+wide_by escapes.Note c h = taken Nothing h
 wide_by escape c h = abandoned h
 
 abbrev pub meet_wide : ℕ → Half → Met
@@ -49,7 +51,7 @@ is_as_is_at (lines.Words words) b h = not (b == code "\n") && not (b == code "-"
 is_as_is_at line b h = false
 
 abbrev pub is_as_is : ℕ → Half → Bool
-is_as_is b h = nat_lt b 128 && not (b == code "\\") && is_plain h.escape && is_as_is_at h.line b h
+is_as_is b h = nat_lt b 127 && not (b == code "\\") && is_plain h.escape && is_as_is_at h.line b h
 
 -- ---- comments and ignored lines: bytes pass as they are
 

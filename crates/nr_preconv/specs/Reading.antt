@@ -9,7 +9,7 @@ use Rattle.nr_preconv.specs.declared.reader.Reader.{Reader}
 use Rattle.nr_preconv.specs.declared.reader.Pending.{Pending}
 use Rattle.nr_preconv.specs.declared.reader.Pending.TheVariants.{Nothing, One, Two, Three}
 use Rattle.nr_preconv.specs.Numbers.{is_within}
-use Rattle.nr_preconv.specs.Saying.{bytes_of}
+use Rattle.nr_preconv.specs.Saying.{bytes_of, sent, all_sent}
 use Rattle.nr_preconv.specs.Half.{first_half}
 use Rattle.nr_preconv.specs.Lines.{passing}
 use Rattle.nr_preconv.specs.Meeting.{meet, is_raw}
@@ -88,7 +88,7 @@ pending_heard r = strays r.pending (pending_with Nothing r)
 
 abbrev pub fresh : ℕ → Reader → Told
 fresh b r =
-    if nat_lt b 128 then heard (Byte b) r else
+    if nat_lt b 127 then heard (Byte b) r else
     if is_lead b then told (pending_with (One b) r) [] 0 else stray b r
 
 abbrev pub apart : ℕ → Reader → Told
@@ -117,7 +117,7 @@ heard_byte b r = heard_behind r.pending b r
 -- ---- a byte, and the end
 
 abbrev pub read : ℕ → Reader → Told
-read b r = if is_raw r.half.line then told (with_half (passing b r.half) r) (b ∷ []) 1 else heard_byte b r
+read b r = if is_raw r.half.line then told (with_half (passing b r.half) r) (sent r.eight_bit b ∷ []) 1 else heard_byte b r
 
 -- a name that is half read
 abbrev pub name_left : Line → List ℕ → List ℕ
@@ -127,11 +127,11 @@ name_left (lines.Asked asked) name = name
 name_left line name = []
 
 -- what is half read at the end goes out as it is
-abbrev pub ended : Half → List ℕ
-ended h = h.kept ++ name_left h.line h.name
+abbrev pub ended : Reader → List ℕ
+ended r = all_sent r.eight_bit r.half.kept ++ all_sent r.eight_bit (name_left r.half.line r.half.name)
 
 abbrev pub finished : Reader → List ℕ
-finished r = (pending_heard r).bytes ++ ended (pending_heard r).reader.half
+finished r = (pending_heard r).bytes ++ ended (pending_heard r).reader
 
 -- ---- many bytes
 

@@ -4,9 +4,10 @@ ghost use Rattle.nr_preconv.specs.Half.{abandoned, met, without_escape};
 ghost use Rattle.nr_preconv.specs.Hyphens.{may_hang};
 ghost use Rattle.nr_preconv.specs.Escapes as specs;
 
-use super::glyphs::{code_of, font_of, glyph_code, is_native, is_pair};
+use super::glyphs::{code_of, font_of, glyph_code, is_native, is_pair, is_struck};
 use super::half::{Before, Escape, Half, Kind, Line, Seen};
 use super::hyphens::{is_hang, is_letter};
+use super::numbers::is_number;
 use super::said::Said;
 use nr_units::Name;
 
@@ -18,6 +19,20 @@ fn is_measured(byte: u8) -> bool
         byte,
         b'h' | b'v' | b'w' | b'l' | b'L' | b'D' | b'b' | b'o' | b'x'
     )
+}
+
+/// The letter of an escape with a name that is dropped: colours, families, devices.
+fn is_unnamed(byte: u8) -> bool
+    ensures { result ≡ specs.is_unnamed byte }
+{
+    matches!(byte, b'm' | b'M' | b'F' | b'O' | b'V' | b'Y')
+}
+
+/// The letter of an escape with a text that is dropped: letters' height and slant, devices, new registers.
+fn is_skipped(byte: u8) -> bool
+    ensures { result ≡ specs.is_skipped byte }
+{
+    matches!(byte, b'H' | b'R' | b'S' | b'X' | b'Z')
 }
 
 impl Half {
@@ -149,12 +164,21 @@ impl Half {
         self.ended(Said::Escape(byte))
     }
 
-    /// `\Z` begins.
+    /// An escape that is dropped with a text begins.
     fn skip(&mut self) -> Seen
         ensures { met self.new result ≡ specs.skip self.old }
     {
         self.kept = Name::new();
         self.escape = Escape::Skip;
+        Seen::taken(Said::Nothing)
+    }
+
+    /// `\?` begins.
+    fn embed(&mut self) -> Seen
+        ensures { met self.new result ≡ specs.embed self.old }
+    {
+        self.kept = Name::new();
+        self.escape = Escape::Embedded(false);
         Seen::taken(Said::Nothing)
     }
 
@@ -166,17 +190,20 @@ impl Half {
             b'(' => self.goes_on(byte, Escape::Pair(Kind::Glyph)),
             b'[' => self.goes_on(byte, Escape::Bracket(Kind::Glyph)),
             b'f' => self.goes_on(byte, Escape::Target(Kind::Font)),
-            b'm' | b'M' | b'F' => self.goes_on(byte, Escape::Target(Kind::Dropped)),
             b'n' => self.goes_on(byte, Escape::Target(Kind::Register)),
             b'*' => self.goes_on(byte, Escape::Target(Kind::Text)),
             b's' => self.goes_on(byte, Escape::Target(Kind::Size)),
             b'N' => self.goes_on(byte, Escape::Delimiter(Kind::Code)),
             b'C' => self.goes_on(byte, Escape::Delimiter(Kind::Glyph)),
-            b'Z' => self.skip(),
+            b'A' => self.goes_on(byte, Escape::Delimiter(Kind::Identifier)),
+            b'B' => self.goes_on(byte, Escape::Delimiter(Kind::Number)),
+            b'?' => self.embed(),
             b',' | b'/' | b')' | b':' => self.dropped(),
             b' ' | b'~' => self.blank(),
             b'$' => self.goes_on(byte, Escape::Argument),
             b'{' => self.brace(),
+            _ if is_unnamed(byte) => self.goes_on(byte, Escape::Target(Kind::Dropped)),
+            _ if is_skipped(byte) => self.skip(),
             _ if is_measured(byte) => self.measured(byte),
             _ => self.ends_with(byte),
         }
@@ -250,11 +277,18 @@ impl Half {
     {
         match byte {
             b'\n' => self.newline_hidden(),
-            b'\\' if self.defining => self.goes_on(byte, Escape::Begun),
+            b'\\' if self.defining || matches!(self.line, Line::Stored) => self.goes_on(
+                byte,
+                Escape::Begun,
+            ),
             b'"' => {
                 self.keep(byte);
                 let kept = self.kept;
                 self.comment(Said::Kept(kept))
+            }
+            b'#' if matches!(self.line, Line::Text) => {
+                self.escape = Escape::Note;
+                Seen::taken(Said::Nothing)
             }
             b'#' => {
                 let alone = matches!(self.line, Line::Start);
@@ -300,6 +334,19 @@ impl Half {
         }
     }
 
+    /// This character, if there is one, with a stroke through it.
+    fn struck(&mut self, code: Option<u32>) -> Seen
+        ensures { met self.new result ≡ specs.struck code self.old }
+    {
+        match code {
+            Some(code) => {
+                self.places(false);
+                self.ended(Said::Struck(code))
+            }
+            None => self.character(None),
+        }
+    }
+
     /// A character by its name.
     fn glyph(&mut self) -> Seen
         ensures { met self.new result ≡ specs.glyph self.old }
@@ -317,6 +364,9 @@ impl Half {
                 self.places(false);
                 return self.ended(Said::Escape(b'-'));
             }
+        }
+        if is_struck(name.as_bytes()) {
+            return self.struck(glyph_code(name.as_bytes()));
         }
         self.character(glyph_code(name.as_bytes()))
     }
@@ -344,8 +394,18 @@ impl Half {
             }
             Kind::Register | Kind::Text => self.ended_kept(),
             Kind::Hang => self.hang(),
+            Kind::Identifier => self.tested(!name.is_empty()),
+            Kind::Number => self.tested(is_number(name.as_bytes())),
             Kind::Size | Kind::Dropped => self.dropped(),
         }
+    }
+
+    /// What a test comes to.
+    fn tested(&mut self, holds: bool) -> Seen
+        ensures { met self.new result ≡ specs.tested holds self.old }
+    {
+        self.places(false);
+        self.ended(Said::Byte(if holds { b'1' } else { b'0' }))
     }
 
     /// A name of one byte.
@@ -407,6 +467,30 @@ impl Half {
         Seen::taken(Said::Nothing)
     }
 
+    /// A byte of a name between brackets.
+    fn bracketed(&mut self, kind: Kind, byte: u8) -> Seen
+        ensures { met self.new result ≡ specs.bracketed kind byte self.old }
+    {
+        if byte == b'[' {
+            return self.goes_on(byte, Escape::Nested(kind));
+        }
+        self.spelled_up_to(b']', kind, byte)
+    }
+
+    /// A byte of one in it.
+    fn nested(&mut self, kind: Kind, byte: u8) -> Seen
+        ensures { met self.new result ≡ specs.nested kind byte self.old }
+    {
+        if byte == b'\n' {
+            return self.abandoned();
+        }
+        if byte == b']' {
+            return self.goes_on(byte, Escape::Bracket(kind));
+        }
+        self.keep(byte);
+        Seen::taken(Said::Nothing)
+    }
+
     /// The delimiter of a name.
     fn delimiter(&mut self, kind: Kind, byte: u8) -> Seen
         ensures { met self.new result ≡ specs.delimiter kind byte self.old }
@@ -417,7 +501,7 @@ impl Half {
         self.goes_on(byte, Escape::Delimited(kind, byte))
     }
 
-    /// A byte in `\Z`.
+    /// A byte of a text that is dropped.
     fn skipped(&mut self, end: u8, byte: u8) -> Seen
         ensures { met self.new result ≡ specs.skipped end byte self.old }
     {
@@ -430,7 +514,31 @@ impl Half {
         Seen::taken(Said::Nothing)
     }
 
-    /// The delimiter of `\Z`.
+    /// A byte in `\?..\?`.
+    fn embedded(&mut self, backslash: bool, byte: u8) -> Seen
+        ensures { met self.new result ≡ specs.embedded backslash byte self.old }
+    {
+        if byte == b'\n' {
+            return self.abandoned();
+        }
+        if backslash && byte == b'?' {
+            return self.dropped();
+        }
+        self.escape = Escape::Embedded(byte == b'\\');
+        Seen::taken(Said::Nothing)
+    }
+
+    /// A byte of a note, whose newline is hidden.
+    fn noted(&mut self, byte: u8) -> Seen
+        ensures { met self.new result ≡ specs.noted byte self.old }
+    {
+        if byte == b'\n' {
+            return self.newline_hidden();
+        }
+        Seen::taken(Said::Nothing)
+    }
+
+    /// The delimiter of a text that is dropped.
     fn skip_from(&mut self, byte: u8) -> Seen
         ensures { met self.new result ≡ specs.skip_from byte self.old }
     {
@@ -454,11 +562,14 @@ impl Half {
             Escape::Argument => self.argument(byte),
             Escape::Target(kind) => self.target(kind, byte),
             Escape::Pair(kind) => self.pair(kind, byte),
-            Escape::Bracket(kind) => self.spelled_up_to(b']', kind, byte),
+            Escape::Bracket(kind) => self.bracketed(kind, byte),
+            Escape::Nested(kind) => self.nested(kind, byte),
             Escape::Delimiter(kind) => self.delimiter(kind, byte),
             Escape::Delimited(kind, end) => self.spelled_up_to(end, kind, byte),
             Escape::Skip => self.skip_from(byte),
             Escape::Skipped(end) => self.skipped(end, byte),
+            Escape::Embedded(backslash) => self.embedded(backslash, byte),
+            Escape::Note => self.noted(byte),
             Escape::Hyphen => self.behind_hyphen(byte),
         }
     }

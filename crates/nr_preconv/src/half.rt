@@ -21,6 +21,8 @@ pub(crate) enum Line {
     Text,
     /// In the rest of a control line.
     Request,
+    /// In the text of a string, which may have two backslashes for one.
+    Stored,
     /// In a line of `.tr`.
     Translation,
     /// Among the words of a font macro's line.
@@ -93,6 +95,8 @@ pub(crate) enum Escape {
     Pair(Kind),
     /// `[` and a part of a name.
     Bracket(Kind),
+    /// The same behind another `[`.
+    Nested(Kind),
     /// The letter of an escape with a delimited name.
     Delimiter(Kind),
     /// Its delimiter and a part of the name.
@@ -101,6 +105,10 @@ pub(crate) enum Escape {
     Skip,
     /// `\\Z` and its delimiter.
     Skipped(u8),
+    /// `\\?`, and whether a backslash came behind it.
+    Embedded(bool),
+    /// `\\#` in a text line.
+    Note,
     /// No escape, but a hyphen behind a letter.
     Hyphen,
 }
@@ -122,6 +130,10 @@ pub(crate) enum Kind {
     Dropped,
     /// A string.
     Text,
+    /// A name that is tested.
+    Identifier,
+    /// A number that is tested.
+    Number,
     /// How far a text line begins to the left.
     Hang,
 }

@@ -105,7 +105,8 @@ impl Half {
             Opens::Ignored if byte == b'\n' && !self.conditional => Line::Ignored(Dots::Other),
             Opens::Ignored => Line::Request,
             Opens::Condition => Line::Condition,
-            Opens::Else => Line::Part,
+            Opens::Else | Opens::Nop => Line::Part,
+            Opens::Stored => Line::Stored,
             Opens::Translation => Line::Translation,
             Opens::Words(fonts) => Line::Words(Words::new(fonts)),
         };
@@ -217,7 +218,7 @@ impl Half {
             Line::Asked(asked) => self.in_asked(asked, byte),
             Line::Part | Line::Braced => self.at_part(byte),
             Line::Text => self.in_text(byte),
-            Line::Request | Line::Translation => self.in_rest(byte),
+            Line::Request | Line::Stored | Line::Translation => self.in_rest(byte),
             Line::Comment | Line::Ignored(_) => {
                 self.passes(byte);
                 Seen::taken(Said::Byte(byte))

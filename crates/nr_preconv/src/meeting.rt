@@ -38,7 +38,9 @@ impl Half {
     {
         match self.escape {
             Escape::Plain => self.wide_in_line(code),
-            Escape::Skip | Escape::Skipped(_) => Seen::taken(Said::Nothing),
+            Escape::Skip | Escape::Skipped(_) | Escape::Embedded(_) | Escape::Note => {
+                Seen::taken(Said::Nothing)
+            }
             _ => self.abandoned(),
         }
     }
@@ -57,7 +59,7 @@ impl Half {
     pub(crate) fn takes_as_is(&self, byte: u8) -> bool
         ensures { result ≡ specs.is_as_is byte self.now }
     {
-        if byte >= 128 || byte == b'\\' || !matches!(self.escape, Escape::Plain) {
+        if byte >= 127 || byte == b'\\' || !matches!(self.escape, Escape::Plain) {
             return false;
         }
         match self.line {

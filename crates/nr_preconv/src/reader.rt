@@ -4,7 +4,7 @@ ghost use Rattle.nr_preconv.specs.declared.reader.Pending.TheVariants.{Nothing};
 ghost use Rattle.nr_preconv.specs.Reading as specs;
 
 use super::half::{Coming, Half, Line};
-use super::said::say;
+use super::said::{may_go_out, put_sent, say, sent};
 use nr_units::slice_vec::SliceVec;
 
 /// What was read of a character of several bytes.
@@ -161,7 +161,7 @@ impl Reader {
         ensures quick { result ≤ 6 }
         ensures room { out.new.room ≡ out.old.room }
     {
-        if byte < 128 {
+        if byte < 127 {
             return self.hear(Coming::Byte(byte), out);
         }
         if is_lead(byte) {
@@ -250,7 +250,7 @@ impl Reader {
     {
         if self.half.is_raw() {
             self.half.passes(byte);
-            out.push(byte);
+            out.push(sent(self.eight_bit, byte));
             return 1;
         }
         self.hear_byte(byte, out)
@@ -266,9 +266,9 @@ impl Reader {
         ensures room { out.new.room ≡ out.old.room }
     {
         let steps = self.hear_pending(out);
-        out.extend(self.half.kept.as_bytes());
+        put_sent(self.half.kept.as_bytes(), self.eight_bit, out);
         if matches!(self.half.line, Line::Control | Line::Name | Line::Asked(_)) {
-            out.extend(self.half.name.as_bytes());
+            put_sent(self.half.name.as_bytes(), self.eight_bit, out);
         }
         steps
     }
@@ -281,6 +281,9 @@ impl Reader {
         ensures pending { self.new.pending ≡ Nothing }
     {
         if self.half.is_raw() {
+            if !may_go_out(self.eight_bit, byte) {
+                return false;
+            }
             self.half.passes(byte);
             return true;
         }
