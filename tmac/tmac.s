@@ -1271,6 +1271,7 @@ Piscataway, New Jersey 08854
 .el \!.)box-bars \\$1 \\$2 \\$3
 ..
 .de )draw-bars
+.if !\\n(nl 'sp
 .if \\$3 .if \\n(.t>(\\$3+40) \{\
 .nr )i \\n(.i
 .nr )o \\n(.u
