@@ -1,6 +1,7 @@
 -- Texts that are opened one after the other.
-use Rattle.std.proofs.Common.{◌≡◌, ℕ, ◌+◌, ◌≤◌, List, [], ◌∷◌, ◌++◌, length, take, drop, Option, Some, None, slice_get, Result, Ok, Err, IsOk, is_ok, if◌then◌else◌, zero, suc, refl, ap, ◌∙◌, add-one, arith}
+use Rattle.std.proofs.Common.{◌≡◌, ℕ, ◌+◌, ◌≤◌, List, [], ◌∷◌, ◌++◌, length, take, drop, Option, Some, None, slice_get, Result, Ok, Err, IsOk, is_ok, if◌then◌else◌, zero, suc, refl, ap, ◌∙◌, append_assoc, add-one, arith}
 use Rattle.std.specs.List.{AllZip}
+use Rattle.nr_command.specs.Opening.{Asks}
 use Rattle.std.proofs.lemmas.List.{take_all}
 
 -- a fact of two lists, place by place, with one more item each
@@ -39,3 +40,10 @@ pub take-none : {A : Type 0} (xs : List A) (n : ℕ) → slice_get xs n ≡ None
 take-none [] n e = take_all n [] (omega arith)
 take-none (y ∷ xs) zero e = cc
 take-none (y ∷ xs) (suc n) e = ap (λ l. y ∷ l) (take-none xs n e)
+
+-- some were asked for, and then some more
+pub Asks-then : {A : Type 0} (a b c : Option (List A)) (xs ys : List A) → Asks a b xs → Asks b c ys → Asks a c (xs ++ ys)
+Asks-then None b c xs ys p q = tt
+Asks-then (Some x) None c xs ys p q = absurd p
+Asks-then (Some x) (Some y) None xs ys p q = absurd q
+Asks-then (Some x) (Some y) (Some z) xs ys p q = q ∙ ap (λ l. l ++ ys) p ∙ append_assoc x xs ys

@@ -1,8 +1,8 @@
 -- The texts of the system.
-use Rattle.std.specs.Prelude.{◌≡◌, ℕ, List, Option, Result, Ok, IfOk, ⊤}
+use Rattle.std.specs.Prelude.{◌≡◌, ℕ, ◌<◌, List, [], ◌∷◌, length, Option, Result, Ok, Err, IfOk, ◌⊎◌, ⊤}
 use Rattle.nr_units.specs.Supply.{reader_supply}
-use Rattle.nr_words.specs.Inputs.{Reading, ReadsMacros, ReadsFile, ReadsStandard}
-use Rattle.nr_command.specs.Opening.{Opening, Opens}
+use Rattle.nr_words.specs.Inputs.{Reading, ReadsMacros, ReadsFile, ReadsStandard, macro_path}
+use Rattle.nr_command.specs.Opening.{Opening, Opens, Asks}
 use Rattle.nr_command.specs.declared.disk.Text.{Text}
 use Rattle.nr_command.specs.declared.disk.Text.TheVariants.{File, Standard}
 
@@ -21,6 +21,17 @@ abbrev pub IsText : {F I E : Type 0} → I → Reading → Result (Text F I) E �
 IsText standard ReadsStandard result = result ≡ Ok (Standard standard)
 IsText standard (ReadsFile name) result = IfOk result IsFile
 IsText standard (ReadsMacros folder name) result = IfOk result IsFile
+
+-- the paths of a text
+abbrev pub paths_of : Reading → List (List ℕ)
+paths_of (ReadsMacros folder name) = macro_path folder name ∷ []
+paths_of (ReadsFile name) = name ∷ []
+paths_of ReadsStandard = []
+
+-- Its path was asked for, or it can't be opened and no path was.
+abbrev pub AsksPath : {F I E : Type 0} → Option (List (List ℕ)) → Option (List (List ℕ)) → Reading → Result (Text F I) E → Type 0
+AsksPath asked asked' reading (Ok text) = Asks asked asked' (paths_of reading)
+AsksPath asked asked' reading (Err error) = Asks asked asked' (paths_of reading) ⊎ Asks asked asked' []
 
 -- What may come of opening a text: standard input is always open, and of a file nothing is known.
 abbrev pub MayCome : Option (List ℕ) → Reading → Opening → Type 0

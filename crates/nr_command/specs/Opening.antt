@@ -1,5 +1,5 @@
 -- Texts that are opened, and one that can't be.
-use Rattle.std.specs.Prelude.{◌≡◌, ℕ, List, ◌∷◌, ◌++◌, Option, Result, Ok, Err, codes}
+use Rattle.std.specs.Prelude.{◌≡◌, ℕ, List, [], ◌∷◌, ◌++◌, Option, None, Some, Result, Ok, Err, ⊤, codes}
 use Rattle.std.specs.List.{AllZip}
 use Rattle.nr_units.specs.Supply.{Supply}
 use Rattle.nr_words.specs.Inputs.{Reading, ReadsMacros, ReadsFile, ReadsStandard, macro_path}
@@ -18,14 +18,21 @@ opening_of supply (Err error) = Refuses
 abbrev pub AreOpen : (Reading → Opening → Type 0) → List Reading → List (Option Supply) → Type 0
 AreOpen may_come readings given = AllZip (λ reading supply. may_come reading (Opens supply)) readings given
 
--- the first of these texts that can't be opened; those before it were
-pub record IsFirstRefused (may_come : Reading → Opening → Type 0) (readings : List Reading) (reading : Reading) : Type 0 where
+-- what was asked for, where that is known, grew by these, in this order
+abbrev pub Asks : {A : Type 0} → Option (List A) → Option (List A) → List A → Type 0
+Asks None new more = ⊤
+Asks (Some xs) None more = ⊥
+Asks (Some xs) (Some ys) more = ys ≡ xs ++ more
+
+-- The first of these texts that can't be opened; those before it were. What was asked for grew by these and it.
+pub record IsFirstRefused (may_come : Reading → Opening → Type 0) (asked asked' : Option (List Reading)) (readings : List Reading) (reading : Reading) : Type 0 where
   pub before : List Reading
   pub rest : List Reading
   pub readings_are : readings ≡ before ++ reading ∷ rest
   pub given : List (Option Supply)
   pub opened : AreOpen may_come before given
   pub refused : may_come reading Refuses
+  pub tried : Asks asked asked' (before ++ reading ∷ [])
 
 -- what a text is called
 abbrev pub name_of : Reading → List ℕ

@@ -1,4 +1,6 @@
 // The files of the system, and its standard input.
+ghost use Rattle.std.specs.Prelude.{ℕ, List, [], ◌∷◌, Option};
+ghost use Rattle.nr_command.specs.Opening.{Asks};
 
 use super::opening::Opener;
 use arrayvec::ArrayString;
@@ -34,25 +36,66 @@ impl<F: Read, I: Read> Read for Text<F, I> {
     }
 }
 
-/// The files of the system, by their paths, and its standard input.
+/// Where files are opened by their paths.
+pub trait Paths {
+    /// A file that is open.
+    type File: Read + Drop;
+
+    /// The paths that it was asked to open, in that order, where they are known.
+    ghost asked: { Self → Option (List (List ℕ)) };
+
+    /// Opens the file of that path.
+    fn open(&mut self, path: &str) -> io::Result<Self::File>
+        ensures { Asks (asked self.old) (asked self.new) (path.now ∷ []) };
+}
+
+/// The files of a system.
 #[derive(Drop)]
-pub struct Disk<'r, R, I> {
+pub struct Tree<'r, R> {
     files: &'r R,
+}
+
+impl<'r, R: Files> Tree<'r, R> {
+    /// These files.
+    pub fn new(files: &'r R) -> Self {
+        Tree { files }
+    }
+}
+
+impl<R: Files> Paths for Tree<'_, R> {
+    ghost use Rattle.std.specs.Prelude.{None};
+
+    type File = R::File;
+
+    ghost asked = { λ tree. None };
+
+    fn open(&mut self, path: &str) -> io::Result<R::File> {
+        fs::open(self.files, path)
+    }
+}
+
+/// Files by their paths, and standard input.
+#[derive(Drop)]
+pub struct Disk<P, I> {
+    paths: P,
     standard: I,
 }
 
-impl<'r, R: Files, I: Read + Copy + Drop> Disk<'r, R, I> {
+impl<P: Paths, I: Read + Copy + Drop> Disk<P, I> {
+    ghost use Rattle.std.specs.Prelude.{◌≡◌, IfOk};
     ghost use Rattle.nr_words.specs.Inputs.{reading_of};
-    ghost use Rattle.nr_command.specs.Disk.{IsText};
+    ghost use Rattle.nr_command.specs.Disk.{AsksPath, IsFile, IsText};
 
     /// These files, and this for each time that standard input is read.
-    pub fn new(files: &'r R, standard: I) -> Self {
-        Disk { files, standard }
+    pub fn new(paths: P, standard: I) -> Self {
+        Disk { paths, standard }
     }
 
     /// The text of that name.
-    fn text(&self, input: Input<'_>) -> io::Result<Text<R::File, I>>
-        ensures { IsText self.now.standard (reading_of input.entry) result }
+    fn text(&mut self, input: Input<'_>) -> io::Result<Text<P::File, I>>
+        ensures text { IsText self.old.standard (reading_of input.entry) result }
+        ensures asked { AsksPath (P.asked self.old.paths) (P.asked self.new.paths) (reading_of input.entry) result }
+        ensures same { self.new.standard ≡ self.old.standard }
     {
         match input {
             Input::Macros(file) => {
@@ -60,22 +103,37 @@ impl<'r, R: Files, I: Read + Copy + Drop> Disk<'r, R, I> {
                 if write!(path, "{file}").is_err() {
                     return Err(io::Error::from(ErrorKind::InvalidFilename));
                 }
-                Ok(Text::File(fs::open(self.files, path.as_str())?))
+                self.file(path.as_str())
             }
-            Input::File(name) => Ok(Text::File(fs::open(self.files, name)?)),
+            Input::File(name) => self.file(name),
             Input::Standard => Ok(Text::Standard(self.standard)),
+        }
+    }
+
+    /// The file of that path.
+    fn file(&mut self, path: &str) -> io::Result<Text<P::File, I>>
+        ensures file { IfOk result IsFile }
+        ensures asked { Asks (P.asked self.old.paths) (P.asked self.new.paths) (path.now ∷ []) }
+        ensures same { self.new.standard ≡ self.old.standard }
+    {
+        match self.paths.open(path) {
+            Ok(file) => Ok(Text::File(file)),
+            Err(error) => Err(error),
         }
     }
 }
 
-impl<'b, R: Files, I: Read + Copy + Drop> Opener<'b> for Disk<'_, R, I> {
+impl<'b, P: Paths + Drop, I: Read + Copy + Drop> Opener<'b> for Disk<P, I> {
+    ghost use Rattle.std.specs.Prelude.{None};
     ghost use Rattle.nr_command.specs.Disk.{MayCome};
 
-    type Text = Buffered<'b, Text<R::File, I>>;
+    type Text = Buffered<'b, Text<P::File, I>>;
 
     ghost may_come = { λ disk. MayCome (I.remaining disk.standard) };
 
-    fn open(&self, input: Input<'_>, buffer: &'b mut [u8]) -> io::Result<Self::Text> {
+    ghost asked = { λ disk. None };
+
+    fn open(&mut self, input: Input<'_>, buffer: &'b mut [u8]) -> io::Result<Self::Text> {
         match self.text(input) {
             Ok(text) => Ok(Buffered::over(text, buffer)),
             Err(error) => Err(error),

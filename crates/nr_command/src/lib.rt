@@ -12,7 +12,7 @@ mod opening;
 mod program;
 mod running;
 
-pub use disk::{Disk, Text};
+pub use disk::{Disk, Paths, Text, Tree};
 pub use faults::fault_line;
 pub use memory::{Heap, Memory};
 pub use opening::{BUFFER_SIZE, NotRun, Opener, open_texts, text_count, unopened_line};

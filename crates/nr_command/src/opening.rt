@@ -1,11 +1,11 @@
 // The texts that a job reads, opened before any of them is read.
-ghost use Rattle.std.specs.Prelude.{◌≡◌, ℕ, map, length, IfOk, IfErr, OnOk, OnErr};
+ghost use Rattle.std.specs.Prelude.{◌≡◌, ℕ, List, [], ◌∷◌, Option, map, length, IfOk, IfErr, OnOk, OnErr};
 ghost use Rattle.std.specs.Io.KnownBytes.{Appends};
 ghost use Rattle.nr_units.specs.Failures.{counted_if, put_counted};
 ghost use Rattle.nr_units.specs.Held.{AppendsFront};
 ghost use Rattle.nr_words.specs.Inputs.{Reading, macro_path, readings, reading_of};
 ghost use Rattle.nr_words.specs.Taking.{asked_of};
-ghost use Rattle.nr_command.specs.Opening.{AreOpen, Opening, name_of, opening_of, unopened_text};
+ghost use Rattle.nr_command.specs.Opening.{AreOpen, Asks, Opening, name_of, opening_of, unopened_text};
 ghost use Rattle.nr_command.specs.Jobs.{IsRefused, lacks_memory};
 
 use super::memory::Memory;
@@ -26,15 +26,20 @@ pub trait Opener<'b> {
     /// What may come of opening a text.
     ghost may_come: { Self → Reading → Opening → Type 0 };
 
+    /// The texts that it was asked to open, in that order, where they are known.
+    ghost asked: { Self → Option (List Reading) };
+
     /// Opens a text. Nothing of it is read yet.
-    fn open(&self, input: Input<'_>, buffer: &'b mut [u8]) -> io::Result<Self::Text>
-        ensures { may_come self.now (reading_of input.entry) (opening_of Self.Text.supply result) };
+    fn open(&mut self, input: Input<'_>, buffer: &'b mut [u8]) -> io::Result<Self::Text>
+        ensures comes { may_come self.old (reading_of input.entry) (opening_of Self.Text.supply result) }
+        ensures stays { (reading : Reading) → (opening : Opening) → may_come self.new reading opening → may_come self.old reading opening }
+        ensures asked { Asks (asked self.old) (asked self.new) (reading_of input.entry ∷ []) };
 }
 
 /// Why a job is not run.
 #[derive(Clone, Copy, Debug, Error)]
 pub enum NotRun<'a> {
-    /// This text can't be opened. Those before it were, and none behind it.
+    /// This text can't be opened. Those before it were, and none behind it was asked for.
     #[error("cannot open {}", Name(.0))]
     CannotOpen(Input<'a>),
     /// There was not enough memory.
@@ -75,16 +80,17 @@ pub fn text_count(job: &Job<'_>) -> usize
     if job.reads_input { named + 1 } else { named }
 }
 
-/// Opens the texts that a job reads, one after the other in the order in which they are read, up to the
-/// first that can't be, each over the next 16 KiB of the buffers as far as there are so many.
+/// Opens the texts that a job reads, each once, in the order in which they are read, up to the first that
+/// can't be, each over the next 16 KiB of the buffers as far as there are so many.
 pub fn open_texts<'a, 'b, O: Opener<'b>, M: Memory>(
     memory: &mut M,
-    opener: &O,
+    opener: &mut O,
     job: &Job<'a>,
     buffers: &'b mut [u8],
 ) -> Result<Vec<O::Text>, NotRun<'a>>
-    ensures all { IfOk result (λ texts. AreOpen (O.may_come opener.now) (readings (asked_of job.now)) (map O.Text.supply texts.items)) }
-    ensures refused { IfErr result (λ why. IsRefused (O.may_come opener.now) (readings (asked_of job.now)) why) }
+    ensures all { IfOk result (λ texts. AreOpen (O.may_come opener.old) (readings (asked_of job.now)) (map O.Text.supply texts.items)) }
+    ensures asked { OnOk result (Asks (O.asked opener.old) (O.asked opener.new) (readings (asked_of job.now))) }
+    ensures refused { IfErr result (λ why. IsRefused (O.may_come opener.old) (O.asked opener.old) (O.asked opener.new) (readings (asked_of job.now)) why) }
     ensures memory { M.refusals memory.new ≡ counted_if (lacks_memory result) (M.refusals memory.old) }
 {
     let mut texts = memory.room(text_count(job))?;

@@ -9,7 +9,7 @@ ghost use Rattle.nr_words.specs.Words.{Complaint, IsAnswer};
 ghost use Rattle.nr_command.specs.Faults.{Tells};
 ghost use Rattle.nr_command.specs.Jobs.{Comes, Ends, lacks_memory, line_of_end, status_of_end};
 
-use super::disk::Disk;
+use super::disk::{Disk, Tree};
 use super::memory::{Heap, Memory};
 use super::opening::{BUFFER_SIZE, NotRun, Opener, open_texts, text_count, unopened_line};
 use super::running::{out_of_memory, run_desk, tell};
@@ -44,11 +44,11 @@ pub fn run_program<R: Env + Files, I: Read + Copy + Drop, W: Write + Drop, E: Wr
     let mut output = ToWriter::over(output);
     let mut memory = Heap::new(alloc);
     let mut buffers = Vec::new(alloc);
-    let disk = Disk::new(system, input);
+    let mut disk = Disk::new(Tree::new(system), input);
     run_words(
         &mut memory,
         &words,
-        &disk,
+        &mut disk,
         &mut buffers,
         &mut output,
         &mut errors,
@@ -71,13 +71,13 @@ fn borrowed(words: &[String], alloc: Global) -> Result<Vec<&str>, AllocError>
 /// can't be opened, the first of which is told; 5 where memory was refused, which is told; and else that
 /// of `run_over`.
 ///
-/// The words are read before any memory is taken or a text is opened. The buffers of the texts, which
-/// come to stand in `buffers`, are taken before a text is opened; all texts are opened in the order in
-/// which they are read, before the desk is taken; and that is taken before the first byte is read.
+/// No clause says in which order memory is taken and texts are opened: first the buffers of the texts,
+/// which come to stand in `buffers`; then the texts are opened; then the desk is taken; and then the
+/// first byte is read.
 pub fn run_words<'b, M: Memory, O: Opener<'b>, W: Sink, E: Sink>(
     memory: &mut M,
     words: &[&str],
-    opener: &O,
+    opener: &mut O,
     buffers: &'b mut Vec<u8>,
     output: &mut W,
     errors: &mut E,
@@ -86,10 +86,12 @@ pub fn run_words<'b, M: Memory, O: Opener<'b>, W: Sink, E: Sink>(
         × Tells (E.held errors.old) (E.held errors.new) (E.failures errors.old) (E.failures errors.new) (usage_text complaint.case complaint.word) }
     ensures usage { result ≡ 2 → (complaint : Complaint) × IsAnswer (texts words.now) (Err complaint) }
     ensures unwritten { result ≡ 2 → output.new ≡ output.old }
+    ensures unopened { result ≡ 2 → opener.new ≡ opener.old }
 
     // Else the words ask for a job, and it comes to its end.
     ensures ran { result ≢ 2 → (job : Job) × IsAnswer (texts words.now) (Ok (asked_of job))
-        × Comes O.Text.supply O.Text.failures (O.may_come opener.now) job (W.held output.old) (W.held output.new) (W.failures output.old) (W.failures output.new) (W.passed_on output.new)
+        × Comes O.Text.supply O.Text.failures (O.may_come opener.old) (O.asked opener.old) (O.asked opener.new) job
+        (W.held output.old) (W.held output.new) (W.failures output.old) (W.failures output.new) (W.passed_on output.new)
         (E.held errors.old) (E.held errors.new) (E.failures errors.old) (E.failures errors.new) result }
     ensures quiet { result ≡ 0 → errors.new ≡ errors.old }
 
@@ -116,12 +118,13 @@ fn refuse_word<E: Sink>(usage: &Usage<'_>, errors: &mut E) -> u8
 fn run_job<'b, M: Memory, O: Opener<'b>, W: Sink, E: Sink>(
     memory: &mut M,
     job: &Job<'_>,
-    opener: &O,
+    opener: &mut O,
     buffers: &'b mut Vec<u8>,
     output: &mut W,
     errors: &mut E,
 ) -> u8
-    ensures ran { Comes O.Text.supply O.Text.failures (O.may_come opener.now) job.now (W.held output.old) (W.held output.new) (W.failures output.old) (W.failures output.new) (W.passed_on output.new)
+    ensures ran { Comes O.Text.supply O.Text.failures (O.may_come opener.old) (O.asked opener.old) (O.asked opener.new) job.now
+        (W.held output.old) (W.held output.new) (W.failures output.old) (W.failures output.new) (W.passed_on output.new)
         (E.held errors.old) (E.held errors.new) (E.failures errors.old) (E.failures errors.new) result }
     ensures not_bad { result ≢ 2 }
     ensures quiet { result ≡ 0 → errors.new ≡ errors.old }
@@ -137,11 +140,12 @@ fn run_job<'b, M: Memory, O: Opener<'b>, W: Sink, E: Sink>(
 fn outcome_of<'a, 'b, M: Memory, O: Opener<'b>, W: Sink>(
     memory: &mut M,
     job: &Job<'a>,
-    opener: &O,
+    opener: &mut O,
     buffers: &'b mut Vec<u8>,
     output: &mut W,
 ) -> Result<Outcome, NotRun<'a>>
-    ensures ends { Ends O.Text.supply O.Text.failures (O.may_come opener.now) job.now (W.held output.old) (W.held output.new) (W.failures output.old) (W.failures output.new) (W.passed_on output.new) result }
+    ensures ends { Ends O.Text.supply O.Text.failures (O.may_come opener.old) (O.asked opener.old) (O.asked opener.new) job.now
+        (W.held output.old) (W.held output.new) (W.failures output.old) (W.failures output.new) (W.passed_on output.new) result }
     ensures memory { M.refusals memory.new ≡ counted_if (lacks_memory result) (M.refusals memory.old) }
 {
     let len = text_count(job).saturating_mul(BUFFER_SIZE);

@@ -45,7 +45,8 @@ pub fn run_over<R: Source, W: Sink, E: Sink>(
     }
 }
 
-/// Formats the input within the desk, and flushes the output.
+/// Formats the input within the desk, and flushes the output; that it does so behind a write fault too no
+/// clause says.
 pub(crate) fn run_desk<R: Source, W: Sink>(
     desk: &mut Desk,
     options: &Options,

@@ -200,20 +200,9 @@ at_text f is =
 pub text_reads : (f : Formatter) → is_at_text f ≡ true → ReadsNext f
 text_reads f is = let text = at_text f is in record { springs = text.springs; event = text.event; task = text.task }
 
--- there an item is looked at, and no part of an escape is half read
-pub text_half : (f : Formatter) → is_at_text f ≡ true → reads_text f.reader.half ≡ true
-text_half f is = (at_text f is).half
-
 -- behind the escape the line goes on
 pub line_font : (h : Half) (f : Formatter) → is_at_text f ≡ true → is_in_text h ≡ true → is_in_line (font_put h f) ≡ true
 line_font h f is half = let text = at_text f is in rw (text.springs, text.task, half, text.begun) refl
-
--- a line that has begun is at text
-pub line_is_text : (f : Formatter) → is_in_line f ≡ true → is_at_text f ≡ true
-line_is_text f is =
-    let line = in_line f is in
-    let half = in_text f.reader.half line.half in
-    rw (line.springs, line.event, line.task, half.mode, half.escape, half.due, half.asks, line.begun) refl
 
 -- in which an escape is read
 pub line_interpolates : (f : Formatter) → is_in_line f ≡ true → interpolates f.reader.half ≡ true

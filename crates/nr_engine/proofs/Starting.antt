@@ -25,12 +25,6 @@ use Rattle.nr_engine.specs.declared.outcome.Outcome.{Outcome}
 use Rattle.nr_engine.proofs.Standing.{state_after-add, halts_after, answers}
 use Rattle.nr_engine.proofs.Travelling.{worth_same}
 
--- what it is made of
-pub formatter_is_first : (b : Bounds) (f : Formatter) (store : Stored Resume) (line : Lined) (stored depth cells expansions : ℕ) → f ≡ first_formatter store line expansions
-    → store ≡ nothing request_names stored depth → line ≡ record { collected = nothing_collected; limit = cells }
-    → stored ≡ b.stored → depth ≡ b.depth → cells ≡ b.cells → expansions ≡ b.expansions → f ≡ formatter_at_first b
-formatter_is_first b f store line stored depth cells expansions is store_is line_is s d c x = rw (is, store_is, line_is, s, d, c, x) refl
-
 no_charge : (b : Bounds) → charge_of (formatter_at_first b).store ≡ 0
 no_charge b = refl
 

@@ -1,4 +1,4 @@
--- How long the slices of a desk are.
+-- How long the vectors of a desk are.
 use Rattle.std.specs.Prelude.{ℕ, ◌+◌, ◌*◌, ◌/◌, min}
 use Rattle.nr_options.specs.Limits.{Bounds}
 use Rattle.nr_engine.specs.declared.lengths.Sizes.{Sizes}
@@ -26,7 +26,7 @@ sizes_of b = record {
   page_rows = b.cells / 2;
 }
 
--- the elements of all slices
+-- the elements of all vectors
 abbrev pub sum_of : Sizes → ℕ
 sum_of s =
     s.elements + s.slots + s.names + s.drafts + s.frames + s.modes + s.bytes + s.places + s.gathering

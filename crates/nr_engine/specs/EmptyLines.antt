@@ -1,4 +1,5 @@
 -- Empty lines that are at hand: three moves for the one that was read, and four for each behind it.
+use Prim.Native.Char.{code}
 use Rattle.std.specs.Prelude.{◌≡◌, ◌≢◌, ℕ, ◌+◌, ◌*◌, ◌<◌, ◌≤◌, ◌^◌, true, List, length, replicate, slice_index, Option}
 use Rattle.nr_units.specs.Supply.{Supply}
 use Rattle.nr_formatter.specs.EmptyLines.{is_at_line, lines_below}
@@ -22,4 +23,4 @@ pub record NewlinesAtHand (bs : List ℕ) (n : ℕ) (e : Shape) (supply : Option
 pub record WentDown (bs : List ℕ) (n made : ℕ) (f : Formatter) : Type 0 where
   pub left : lines_below f ≡ 0 → made ≡ 0
   pub moves : 0 < lines_below f → made ≡ 3 + 4 * n
-  pub longest : is_at_line f.reader.half ≡ true → n + 1 < lines_below f → n < length bs → slice_index bs n ≢ 10
+  pub longest : is_at_line f.reader.half ≡ true → n + 1 < lines_below f → n < length bs → slice_index bs n ≢ code "\n"

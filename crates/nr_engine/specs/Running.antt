@@ -1,4 +1,5 @@
 -- What the options do to the engine, and a whole run of it.
+use Prim.Native.Char.{code}
 use Rattle.std.specs.Prelude.{◌≡◌, ℕ, ◌+◌, ◌-◌, ◌*◌, ◌≤◌, ◌<◌, Bool, List, [], length, take, drop, slice_index, Option, Result, Ok, Err, OnOk, true, false}
 use Rattle.std.specs.Option.{option_map}
 use Rattle.nr_units.specs.Supply.{Supply, skipped}
@@ -149,7 +150,7 @@ pub record PutsOfFlow (bs : List ℕ) (taken moves : ℕ) (f g : Formatter) : Ty
 -- byte nor a blank that does nothing but end its word.
 pub record LongestWords (bs : List ℕ) (taken : ℕ) (f : Formatter) : Type 0 where
   pub stops : taken < length bs → is_in_line f ≡ true → IsPlain (slice_index bs taken) → text_cells (collected f) ≡ f.line.limit
-  pub blank : taken < length bs → is_in_line f ≡ true → slice_index bs taken ≡ 32 → IsGap f → ⊥
+  pub blank : taken < length bs → is_in_line f ≡ true → slice_index bs taken ≡ code " " → IsGap f → ⊥
 
 -- A newline that came next of the newest level was taken, or no other comes next that does nothing but end its line.
 pub record EndsLine (f g : Formatter) : Type 0 where
@@ -181,7 +182,7 @@ pub record Longest (bs : List ℕ) (taken moves : ℕ) (f : Formatter) : Type 0 
   pub least : taken ≤ moves
   pub most : moves ≤ 5 * taken
   pub words : LongestWords bs taken f
-  pub newline : taken < length bs → slice_index bs taken ≡ 10 → IsNewline f → ⊥
+  pub newline : taken < length bs → slice_index bs taken ≡ code "\n" → IsNewline f → ⊥
   pub begins : is_at_text f ≡ true → is_in_line f ≡ false → BeginsText (drop taken bs) f → ⊥
   pub font : is_at_text f ≡ true → interpolates f.reader.half ≡ true → BeginsFont (is_in_text f.reader.half) (drop taken bs) → ⊥
 

@@ -62,7 +62,7 @@ impl Model for Desk {
     ghost invariant = { λ d. limits_of (shape d.engine) ≡ limits_under d.limits };
 }
 
-/// An empty working space, lent by a desk.
+/// A working space, lent by a desk for one run. `format` empties it.
 #[derive(Drop)]
 pub struct Work<'a> {
     pub(crate) desk: &'a mut Desk,
@@ -79,7 +79,15 @@ impl Desk {
         })
     }
 
-    /// An empty working space under the desk's limits.
+    /// The lengths of the vectors that hold a run's memory, as these tell. They never change.
+    pub fn memory(&self) -> Sizes
+        ensures sizes { result ≡ sizes_of self.now }
+        ensures bound { sum_of result ≤ 4 * self.now.stored + 4 * self.now.depth + 6 * self.now.cells + 8192 }
+    {
+        self.engine.memory()
+    }
+
+    /// The working space of one run, under the desk's limits.
     pub fn lend(&mut self) -> Work<'_>
         ensures same_desk { result.desk.ghost_name ≡ self.entry.ghost_name }
         ensures limits { result.desk.now ≡ self.old }

@@ -1,6 +1,7 @@
 //! The state of a run, kept in the memory that it is lent, and its moves.
-ghost use Rattle.std.specs.Prelude.{◌≤◌};
+ghost use Rattle.std.specs.Prelude.{◌≡◌, ◌+◌};
 
+use crate::lengths::Sizes;
 use crate::outcome::{Measure, Outcome, Stop};
 use nr_fill::out::Out;
 use nr_formatter::formatter::Formatter;
@@ -30,7 +31,7 @@ pub struct Engine {
     pub(crate) resumed: Resume,
     /// What was gathered of levels last.
     pub(crate) gathered: Gathered,
-    ghost has_row: { page.limit ≤ row.room },
+    ghost has_row: { row.room ≡ page.limit + 4096 },
 }
 
 impl Engine {
@@ -51,7 +52,37 @@ impl Engine {
     ghost use Rattle.nr_engine.specs.Machine.{told as told_formatter, act as act_request, work as work_state, hear as hear_event};
     ghost use Rattle.nr_engine.specs.Answer.{refused, fails_writing, stops_writing};
     ghost use Rattle.nr_engine.specs.Holding.{shape, ReadsNext, IsUnderWay, IsAtWork, WorksQuietly, Acts, ActsQuietly, Exits, Moves, TellsRead, TellsSource};
-    ghost use Rattle.nr_engine.specs.Limits.{limits_of};
+    ghost use Rattle.nr_engine.specs.Limits.{limits_of, limits_under};
+    ghost use Rattle.nr_engine.specs.Desks.{sizes_of};
+    ghost use Rattle.nr_options.specs.Limits.{Bounds};
+
+    /// The lengths of all vectors, as these tell.
+    pub(crate) fn memory(&self) -> Sizes
+        ensures { (b : Bounds) → limits_of (shape self.now) ≡ limits_under b → result ≡ sizes_of b }
+    {
+        let store = self.formatter.store.memory();
+        let page = self.page.memory();
+        Sizes {
+            elements: store.elements,
+            slots: store.slots,
+            names: store.names,
+            drafts: store.drafts,
+            frames: store.frames,
+            modes: store.modes,
+            bytes: store.bytes,
+            places: store.places,
+            gathering: store.gathering,
+            registers: store.registers,
+            traps: store.traps,
+            words: store.words,
+            cells: self.formatter.line.cell_memory(),
+            pieces: self.formatter.line.piece_memory(),
+            row: self.row.memory(),
+            page_cells: page.cells,
+            page_texts: page.texts,
+            page_rows: page.rows,
+        }
+    }
 
     /// The next move would pass this limit.
     pub(crate) fn passed(&self, which: Measure) -> Outcome

@@ -1,6 +1,6 @@
-//! The lengths of the slices of a working space.
+//! The lengths of the vectors of a working space.
 
-/// The lengths of the slices of a working space, in elements.
+/// The lengths of the vectors of a working space, in elements.
 #[derive(Clone, Copy)]
 pub struct Sizes {
     pub elements: usize,

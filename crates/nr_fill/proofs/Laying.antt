@@ -79,6 +79,7 @@ is_laid_longer more n h all long fits = record {
   read_within = omega arith;
   cells_within = omega arith;
   slots_within = h.slots_within;
+  same_rooms = h.same_rooms;
   is_small = h.is_small;
 }
 
@@ -272,6 +273,7 @@ is_laid_removed {slots} {cells} n k h k_is within =
       read_within = omega (arith, h.read_within, length-drop k cells);
       cells_within = omega (arith, h.cells_within, length-drop k cells);
       slots_within = omega (arith, h.slots_within, length-drop n slots);
+      same_rooms = h.same_rooms;
       is_small = h.is_small;
     }
 
@@ -297,6 +299,7 @@ is_laid_opened {slots} n k h is = record {
   read_within = h.read_within;
   cells_within = h.cells_within;
   slots_within = omega (arith, h.slots_within, length-take n slots);
+  same_rooms = h.same_rooms;
   is_small = h.is_small;
 }
 

@@ -101,7 +101,7 @@ are_small {row} {pieces = pieces} h =
     let low = h.pieces_within in
     let small = widths_small h in
     record {
-      room = h.room;
+      room = omega (arith, h.room);
       small = h.is_small;
       text = omega (arith, h.within);
       parted = omega arith;

@@ -32,4 +32,5 @@ pub record IsLaid (slots : List PieceSlot) (cells : List Cell) (slot_room cell_r
   pub read_within : read ≤ length cells
   pub cells_within : length cells ≤ cell_room
   pub slots_within : length slots ≤ cell_room
+  pub same_rooms : slot_room ≡ cell_room
   pub is_small : cell_room < 2 ^ 32

@@ -1,4 +1,5 @@
 -- The collected line: its pieces, and the word that is being read. (CSTR 54, section 4; on break points section 13.)
+use Prim.Native.Char.{code}
 use Rattle.std.specs.Prelude.{ℕ, ◌+◌, ◌-◌, min, Bool, true, false, ◌&&◌, ◌||◌, ◌==◌, not, nat_lt, if◌then◌else◌, List, [], ◌∷◌, ◌++◌, length, take, drop, sum_by, replicate, Option, None, Some, is_none}
 use Rattle.std.specs.Option.{option_map}
 use Rattle.std.specs.List.{flat_map}
@@ -178,7 +179,7 @@ hyphenated place c = in_word (point_at place) c
 
 -- `.`, `?` or `!`
 abbrev pub ends_sentence : Cell → Bool
-ends_sentence c = c.byte == 46 || (c.byte == 63 || c.byte == 33)
+ends_sentence c = c.byte == code "." || (c.byte == code "?" || c.byte == code "!")
 
 -- more cells of the piece that is being read
 abbrev pub append : List Cell → Word → Word

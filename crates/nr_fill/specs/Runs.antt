@@ -1,4 +1,5 @@
 -- Runs of bytes that stand for themselves.
+use Prim.Native.Char.{code}
 use Rattle.std.specs.Prelude.{◌≡◌, ℕ, ◌<◌, ◌≢◌, Bool, true, List, [], ◌∷◌, length, map, slice_index, None}
 use Rattle.nr_units.specs.declared.cell.Cell.{Cell}
 use Rattle.nr_settings.specs.declared.indents.Margins.{Margins}
@@ -7,7 +8,7 @@ use Rattle.nr_fill.specs.Pieces.{Collected, Word, add_cell, append, end_word, on
 
 -- a byte that prints, but for the blank, `-` and `\`
 abbrev pub IsPlain : ℕ → Type 0
-IsPlain b = (32 < b) × (b ≢ 45) × (b ≢ 92) × (b ≢ 127)
+IsPlain b = (32 < b) × (b ≢ code "-") × (b ≢ code "\\") × (b ≢ 127)
 
 abbrev pub run_cell : Bool → ℕ → Cell
 run_cell under b = record { byte = b; under = under }
@@ -29,6 +30,6 @@ add_word margins under bs c = one_blank_more (end_word (add_run margins under bs
 pub record EndsWord (ends : Bool) (n : ℕ) (bs : List ℕ) (c : Collected) : Type 0 where
   pub some : 0 < n
   pub within : n < length bs
-  pub blank : slice_index bs n ≡ 32
+  pub blank : slice_index bs n ≡ code " "
   pub ends_is : ends ≡ true
   pub word : c.word ≡ None

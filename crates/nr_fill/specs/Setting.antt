@@ -1,4 +1,5 @@
 -- Setting a line: where its cells stand in the row. (CSTR 54, sections 4.1 and 4.2; on indents section 6.)
+use Prim.Native.Char.{code}
 use Rattle.std.specs.Prelude.{ℕ, ◌+◌, ◌-◌, ◌/◌, Bool, false, ◌&&◌, nat_lt, if◌then◌else◌, List, ◌++◌, length, take, drop, replicate}
 use Rattle.nr_units.specs.Cells.{blank, trimmed}
 use Rattle.nr_units.specs.declared.cell.Cell.{Cell}
@@ -13,7 +14,7 @@ use Rattle.nr_fill.specs.Spreading.{gaps, no_extra, shared, other_turn, cells_in
 
 -- the hyphen that a cut at a soft point prints
 abbrev pub hyphen : Cell
-hyphen = record { byte = 45; under = false }
+hyphen = record { byte = code "-"; under = false }
 
 abbrev pub hyphens : ℕ → List Cell
 hyphens n = replicate n hyphen

@@ -74,7 +74,3 @@ title_or_empty (Some t) = t
 -- the row of a title, so far from its beginning
 abbrev pub titled_row : ℕ → ℕ → Option Title → List Cell
 titled_row offset line t = replicate offset blank ++ title_row line (title_or_empty t)
-
--- the title as it is placed
-abbrev pub set_title_row : ℕ → ℕ → Option Title → List Cell
-set_title_row offset line t = trimmed (titled_row offset line t)

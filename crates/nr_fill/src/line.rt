@@ -93,6 +93,20 @@ impl Line {
         }
     }
 
+    /// How many cells there is memory for, as their vector tells.
+    pub fn cell_memory(&self) -> usize
+        ensures { result ≡ self.now.limit }
+    {
+        self.row.cell_memory()
+    }
+
+    /// How many pieces there is memory for, as their vector tells.
+    pub fn piece_memory(&self) -> usize
+        ensures { result ≡ self.now.limit }
+    {
+        self.row.piece_memory()
+    }
+
     /// A line with nothing collected: `AllocError` where there is no memory for it. `limit` is what its measure may come to.
     /// No other call allocates.
     pub fn new(alloc: Global, limit: usize) -> Result<Line, AllocError>

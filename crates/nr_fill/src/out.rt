@@ -54,6 +54,13 @@ impl Out {
         })
     }
 
+    /// How many cells there is memory for, as their vector tells.
+    pub fn memory(&self) -> usize
+        ensures { result ≡ self.now.room }
+    {
+        self.cells.memory()
+    }
+
     /// The row without the blanks at its end, where there was room for it.
     pub fn row(&self) -> Option<&[Cell]>
         ensures { (cells : List CellValue) → IsRow cells self.now →

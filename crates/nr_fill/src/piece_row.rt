@@ -46,6 +46,7 @@ impl PieceRow {
     /// No pieces and no cells, and room for so many of each: `AllocError` where there is no memory for them.
     pub(crate) fn new(alloc: Global, cells: usize, pieces: usize) -> Result<PieceRow, AllocError>
         requires small { cells < 2 ^ 32 }
+        requires same { pieces ≡ cells }
         ensures { IfOk result (λ made. made ≡ record { pieces = []; last = []; title = []; room = min pieces cells }) }
     {
         Ok(PieceRow {
@@ -64,6 +65,20 @@ impl PieceRow {
         self.slots.clear();
         self.pieced = 0;
         self.read = 0;
+    }
+
+    /// How many cells there is memory for, as their vector tells.
+    pub(crate) fn cell_memory(&self) -> usize
+        ensures { result ≡ self.now.room }
+    {
+        self.cells.memory()
+    }
+
+    /// How many pieces there is memory for, as their vector tells.
+    pub(crate) fn piece_memory(&self) -> usize
+        ensures { result ≡ self.now.room }
+    {
+        self.slots.memory()
     }
 
     /// How many pieces there are.

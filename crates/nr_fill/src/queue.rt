@@ -21,14 +21,14 @@ pub(crate) struct Queue<T: Copy> {
 }
 
 impl<T: Copy> Model for Queue<T> {
-    ghost use Rattle.std.specs.Prelude.{◌≤◌, take, drop, vec_len, vec_capacity};
+    ghost use Rattle.std.specs.Prelude.{◌≡◌, ◌≤◌, take, drop, vec_len, vec_capacity};
     ghost use Rattle.nr_units.specs.Items.{Items};
 
     ghost Value = { Items T };
 
     ghost view = { λ q. record { items = drop q.start (take q.end q.slots.items); room = q.room } };
 
-    ghost invariant = { λ q. (q.start ≤ q.end) × ((q.end ≤ vec_len q.slots) × ((vec_len q.slots ≤ q.room) × (q.room ≤ vec_capacity q.slots))) };
+    ghost invariant = { λ q. (q.start ≤ q.end) × ((q.end ≤ vec_len q.slots) × ((vec_len q.slots ≤ q.room) × (vec_capacity q.slots ≡ q.room))) };
 }
 
 /// Where items stand in a vector.
@@ -50,7 +50,7 @@ fn make_room<T: Copy>(slots: &mut Vec<T>, room: usize, span: Span, n: usize, ite
     ensures ordered { result.start ≤ result.end }
     ensures free { result.end + n ≤ vec_len slots.new }
     ensures held { vec_len slots.new ≤ room }
-    ensures capacity { room ≤ vec_capacity slots.new }
+    ensures capacity { vec_capacity slots.new ≡ vec_capacity slots.old }
 {
     if n <= slots.len() - span.end {
         return span;
@@ -71,7 +71,7 @@ fn move_to_front<T: Copy>(slots: &mut Vec<T>, room: usize, span: Span, n: usize,
     ensures ordered { result.start ≤ result.end }
     ensures free { result.end + n ≤ vec_len slots.new }
     ensures held { vec_len slots.new ≤ room }
-    ensures capacity { room ≤ vec_capacity slots.new }
+    ensures capacity { vec_capacity slots.new ≡ vec_capacity slots.old }
 {
     slots.copy_within(span.start..span.end, 0);
     let end = span.end - span.start;
@@ -126,6 +126,13 @@ impl<T: Copy> Queue<T> {
             end: 0,
             room,
         })
+    }
+
+    /// How many items there is memory for, as its vector tells.
+    pub(crate) fn memory(&self) -> usize
+        ensures { result ≡ self.now.room }
+    {
+        self.slots.capacity()
     }
 
     #[inline]

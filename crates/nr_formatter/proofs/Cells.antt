@@ -33,7 +33,4 @@ blanks_more n v = added-added (replicate n blank_cell) (blank_cell ∷ []) v ∙
 
 -- ---- the steps of the loop
 
-pub blanks_kept : {K : Type 0} (n : ℕ) (v now new : Stored K) → now ≡ blanks n v → new ≡ added (blank_cell ∷ []) now → new ≡ blanks (n + 1) v
-blanks_kept n v now new h i = i ∙ (ap (added (blank_cell ∷ [])) h ∙ blanks_more n v)
-
 -- ---- a cell behind them

@@ -54,11 +54,6 @@ store-limits f v same = ap (λ (l : StoredLimits). record (limits_of f) { stored
 pub input-limits : (f : Formatter) (v : Stored Resume) (r : Reader) → input.limits_of v r ≡ input.limits_of f.store f.reader → limits_of (record f { store = v; reader = r }) ≡ limits_of f
 input-limits f v r same = ap (λ (l : input.Limits). record (limits_of f) { stored = l.stored; depth = l.depth; expansions = l.expansions }) same
 
--- where a call leads to y, or leaves z
-pub on_either : {A B E : Type 0} (g : A → B) (r : Result (Unit {0}) E) (x y z : A) → OnOk r (x ≡ y) → OnErr r (x ≡ z) → g y ≡ g z → g x ≡ g z
-on_either g (Ok u) x y z ok err same = ap g ok ∙ same
-on_either g (Err e) x y z ok err same = ap g err
-
 -- ---- what is stored
 
 named-limits : (building : List Built) (name : List ℕ) (v : Stored Resume) → stored_limits (named_newest building name v) ≡ stored_limits v

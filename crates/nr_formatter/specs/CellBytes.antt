@@ -1,5 +1,6 @@
 -- Bytes in the midst of a text line that go to its word and do not end it: a hyphen, a blank where lines are not filled, a tab where no
 -- text for a stop is read.
+use Prim.Native.Char.{code}
 use Rattle.std.specs.Prelude.{◌≡◌, ◌≤◌, ℕ, Bool, true, false, not, ◌==◌, if◌then◌else◌, unwrap_or}
 use Rattle.nr_fill.specs.declared.piece.Behind.TheVariants.{Hyphen}
 use Rattle.nr_fill.specs.Pieces.{Collected, add_blank, add_cell, line_cells}
@@ -11,13 +12,13 @@ use Rattle.nr_formatter.specs.declared.formatter.Formatter.{Formatter}
 
 -- such a byte
 abbrev pub goes_to_word : ℕ → Formatter → Bool
-goes_to_word b f = if b == 32 then not (is_filling f) else (if b == 9 then not (reads_a_field f) else b == 45)
+goes_to_word b f = if b == code " " then not (is_filling f) else (if b == code "\t" then not (reads_a_field f) else b == code "-")
 
 -- what is collected behind it
 abbrev pub byte_added : ℕ → Formatter → Collected
 byte_added b f =
-    if b == 32 then add_blank (margins f) (collected f)
-    else (if b == 9 then tabbed (margins f) f.settings.tabs.stops (not f.settings.filling.fill) (cell (unwrap_or f.settings.tabs.tab 32) f) (collected f)
+    if b == code " " then add_blank (margins f) (collected f)
+    else (if b == code "\t" then tabbed (margins f) f.settings.tabs.stops (not f.settings.filling.fill) (cell (unwrap_or f.settings.tabs.tab (code " ")) f) (collected f)
     else add_cell (margins f) Hyphen (cell b f) (collected f))
 
 abbrev pub byte_put : ℕ → Formatter → Formatter

@@ -1,4 +1,5 @@
 -- Empty lines, many at once: each is a break at which nothing is collected, and the space of one line.
+use Prim.Native.Char.{code}
 use Rattle.std.specs.Prelude.{◌≡◌, ℕ, ◌+◌, ◌-◌, ◌*◌, ◌/◌, Bool, false, not, ◌&&◌, ◌==◌, if◌then◌else◌, is_none, List, []}
 use Rattle.nr_fill.specs.Pieces.{begins_line}
 use Rattle.nr_reading.specs.declared.event.Event.TheVariants as events
@@ -46,7 +47,7 @@ is_at_line_by m e d asks = false
 
 -- a newline is no control character
 abbrev pub ends_lines : Signs → Bool
-ends_lines s = not (s.control == 10) && not (s.no_break == 10)
+ends_lines s = not (s.control == code "\n") && not (s.no_break == code "\n")
 
 -- the next item is read at the beginning of a line, behind no part of an escape
 abbrev pub is_at_line : Half → Bool
@@ -58,5 +59,5 @@ pub record IsAtLine (h : Half) : Type 0 where
   pub escape : h.reading.escape ≡ escapes.Plain
   pub due : h.reading.due ≡ dues.Look
   pub asks : h.asks ≡ []
-  pub control : (h.signs.control == 10) ≡ false
-  pub no_break : (h.signs.no_break == 10) ≡ false
+  pub control : (h.signs.control == code "\n") ≡ false
+  pub no_break : (h.signs.no_break == code "\n") ≡ false

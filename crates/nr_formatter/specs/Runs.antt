@@ -1,4 +1,5 @@
 -- Runs of bytes that stand for themselves, in a text line that has begun.
+use Prim.Native.Char.{code}
 use Rattle.std.specs.Prelude.{◌≡◌, ◌≤◌, ◌<◌, ℕ, Bool, true, false, not, ◌&&◌, nat_lt, List, length, take, slice_index, All, is_none, None}
 use Rattle.nr_fill.specs.Pieces.{Collected, begins_line, end_word, line_cells, one_blank_more, text_cells}
 use Rattle.nr_fill.specs.Runs.{IsPlain, add_run}
@@ -98,9 +99,9 @@ pub record PutsWord (bs : List ℕ) (f : Formatter) (word : WordPut) (g : Format
   pub within : 0 < word.count → line_cells (collected (run_put (take word.count bs) f)) ≤ f.line.limit
   pub gap : AfterGap (run_put (take word.count bs) f) word.gap g
   pub below : is_read word.gap ≡ true → word.count < length bs
-  pub blank : is_read word.gap ≡ true → slice_index bs word.count ≡ 32
+  pub blank : is_read word.gap ≡ true → slice_index bs word.count ≡ code " "
   pub stops : is_read word.gap ≡ false → word.count < length bs → IsPlain (slice_index bs word.count) → text_cells (collected g) ≡ g.line.limit
-  pub left : is_read word.gap ≡ false → word.count < length bs → slice_index bs word.count ≡ 32 → IsGap g → ⊥
+  pub left : is_read word.gap ≡ false → word.count < length bs → slice_index bs word.count ≡ code " " → IsGap g → ⊥
 
 -- ---- a diverted line that is read again
 

@@ -1,4 +1,5 @@
 -- What is read of a text line goes into the collected line. (CSTR 54, sections 4, 9, 10, 11 and 13.)
+use Prim.Native.Char.{code}
 use Rattle.std.specs.Prelude.{ℕ, Bool, not, ◌||◌, ◌==◌, if◌then◌else◌, Option, None, Some, is_none, unwrap_or}
 use Rattle.nr_units.specs.declared.cell.Cell.{Cell}
 use Rattle.nr_fill.specs.declared.piece.Behind.{Behind}
@@ -40,7 +41,7 @@ put x behind f = to_word (λ m. add_cell m behind x) f
 
 -- a `-` has a break point behind it
 abbrev pub behind_of : ℕ → Behind
-behind_of byte = if byte == 45 then Hyphen else Letter
+behind_of byte = if byte == code "-" then Hyphen else Letter
 
 abbrev pub character : ℕ → Formatter → Formatter
 character b f = put (cell b f) (behind_of b) f
@@ -74,12 +75,12 @@ blank f = if not (is_filling f) then blank_cell f else (if reads_a_field f then 
 unfoldable pub tab : Option ℕ → Formatter → Formatter
 tab filler f =
     if reads_a_field f then field_ended f
-    else to_word (λ m. tabbed m f.settings.tabs.stops (not f.settings.filling.fill) (cell (unwrap_or filler 32) f)) f
+    else to_word (λ m. tabbed m f.settings.tabs.stops (not f.settings.filling.fill) (cell (unwrap_or filler (code " ")) f)) f
 
 unfoldable pub text_byte : ℕ → Formatter → Formatter
 text_byte b f =
-    if b == 32 then blank f
-    else (if b == 9 then tab f.settings.tabs.tab f
+    if b == code " " then blank f
+    else (if b == code "\t" then tab f.settings.tabs.tab f
     else (if b == 1 then tab f.settings.tabs.leader f
     else (if prints b then character b f else done f)))
 
@@ -87,14 +88,14 @@ text_byte b f =
 
 -- `\(hy`
 abbrev pub hyphen : Formatter → Formatter
-hyphen f = put (cell 45 f) Hyphen f
+hyphen f = put (cell (code "-") f) Hyphen f
 
 -- `\(em`: two cells; a break point stands behind the second
 abbrev pub dash : Formatter → Formatter
-dash f = record (letter 45 f) { task = tasks.Dash }
+dash f = record (letter (code "-") f) { task = tasks.Dash }
 
 abbrev pub dash_end : Formatter → Formatter
-dash_end f = record (put (cell 45 f) Dash f) { task = tasks.Read }
+dash_end f = record (put (cell (code "-") f) Dash f) { task = tasks.Read }
 
 -- the second cell of a dash, in a text line or in a title
 abbrev pub finish_dash : Formatter → Formatter
@@ -116,7 +117,7 @@ cells b n f = to_word (λ m. add_cells m (cell b f) n) f
 
 -- `\h` and `\l`
 abbrev pub horizontal : Formatter → Formatter
-horizontal f = cells 32 (motion_cells f) f
+horizontal f = cells (code " ") (motion_cells f) f
 
 abbrev pub ruled : Formatter → Formatter
 ruled f = cells (rule_cells f).byte (rule_cells f).cells f
@@ -170,7 +171,7 @@ text events.Lead f = blank_cell f
 text (events.Byte b) f = text_byte b f
 text (events.Cell x) f = put x Letter f
 text (events.Plain b) f = letter b f
-text events.Fixed f = letter 32 f
+text events.Fixed f = letter (code " ") f
 text events.Tab f = tab f.settings.tabs.tab f
 text events.Leader f = tab f.settings.tabs.leader f
 text events.Special f = special f

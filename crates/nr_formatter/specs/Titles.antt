@@ -1,4 +1,5 @@
 -- Titles of three parts. (CSTR 54, section 14.)
+use Prim.Native.Char.{code}
 use Rattle.std.specs.Prelude.{ℕ, ◌/◌, Bool, true, false, ◌==◌, if◌then◌else◌, List, [], ◌∷◌, map, replicate, Option, None, Some}
 use Rattle.std.specs.List.{fold}
 use Rattle.nr_units.specs.declared.cell.Cell.{Cell}
@@ -61,20 +62,20 @@ title_byte b f = if is_number_character b f.settings.pages.number_character then
 -- `\(hy`, `\(em` and their kin; any other name prints nothing. The second cell of a dash follows.
 abbrev pub title_special : Option Special → Formatter → Formatter
 title_special None f = done f
-title_special (Some specials.Dash) f = record (titled (cell 45 f ∷ []) f) { task = tasks.Dash }
+title_special (Some specials.Dash) f = record (titled (cell (code "-") f ∷ []) f) { task = tasks.Dash }
 title_special (Some s) f = titled (cell (byte_of s) f ∷ []) f
 
 abbrev pub title_dash_end : Formatter → Formatter
-title_dash_end f = record (titled (cell 45 f ∷ []) f) { task = tasks.Read }
+title_dash_end f = record (titled (cell (code "-") f ∷ []) f) { task = tasks.Read }
 
 -- What an event does in a title. A tab, a leader, `\c`, `\p`, `\%` do nothing.
 abbrev pub title : Event → Formatter → Formatter
 title (events.Byte b) f = titled (title_byte b f) f
 title (events.Plain b) f = titled (printed b f) f
-title events.Fixed f = titled (cell 32 f ∷ []) f
+title events.Fixed f = titled (cell (code " ") f ∷ []) f
 title (events.Cell x) f = titled (x ∷ []) f
 title events.Special f = title_special (special_of (asked f)) f
-title events.Horizontal f = titled (replicate (motion_cells f) (cell 32 f)) f
+title events.Horizontal f = titled (replicate (motion_cells f) (cell (code " ") f)) f
 title events.Rule f = titled (replicate (rule_cells f).cells (cell (rule_cells f).byte f)) f
 title e f = done f
 

@@ -89,10 +89,6 @@ beginning_defines {K} (Ok x) d name ending v w r s is =
     rw (stored, read) (record { levels = levels.0; limit = levels.1; burst = refl; most = refl; costs = defining_costs r.half name ending (keeps d) })
 beginning_defines {K} (Err e) d name ending v w r s is = let answers = ap (λ (y : Called K (Result (Unit {0}) StoredBytes)). y.answer) is in let wrong : ⊥ = cc in absurd wrong
 
-pub lines_define : {K : Type 0} (d : Definition) (name ending : List ℕ) (v w : Stored K) (r s : Reader)
-    → called w s (Ok tt) ≡ defining_lines d name ending v r → Defines v r w s
-lines_define d name ending v w r s is = beginning_defines (base_answer d name v) d name ending v w r s is
-
 -- ---- splices
 
 splices : {K : Type 0} (v w : Stored K) (r : Reader) (k : Half) → Opens v w → r.burst < r.most → weight_of_half k + 178 * (blanks_owed k - blanks_owed r.half) ≤ weight_of_half r.half + 188

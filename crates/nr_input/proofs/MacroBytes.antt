@@ -67,10 +67,6 @@ before_idle m h is = absurd (let wrong : false ≡ true = is in cc)
 pub idle_before : (h : Half) → is_before_argument h ≡ true → IsIdle h.reading.due h.asks h.reading.escape
 idle_before h is = before_idle h.reading.mode h is
 
--- in the blanks before the arguments
-pub in_gap : Half → Half
-in_gap h = record h { reading = record h.reading { mode = modes.MacroGap } }
-
 space_by : (m : Mode) (h : Half) → is_before_argument_in m h ≡ true → h.reading.mode ≡ m → h.asks ≡ [] → h.reading.escape ≡ escapes.Plain
     → meet (fronts.Byte 32) h ≡ record { half = record h { reading = record h.reading { escape = escapes.Plain } }; event = events.Nothing; takes = true }
 space_by modes.MacroBlanks h is mode none escape = rw (none, mode, escape) refl

@@ -38,14 +38,6 @@ AreFront bs xs = map elements.Byte bs ≡ take (length bs) xs
 pub front_within : (bs : List ℕ) (xs : List Element) → AreFront bs xs → length bs ≤ length xs
 front_within bs xs front = let long = ap length front in omega (arith, long, length-map bs elements.Byte, length-take (length bs) xs)
 
--- bytes that a level has as its own, with others behind them
-pub own_front : (n : ℕ) (own ys post : List ℕ) (rest : List Element) → ys ≡ take n own → n ≤ length own → map elements.Byte own ≡ rest → map elements.Byte (take n (ys ++ post)) ≡ take n rest
-own_front zero own ys post rest copied within is = refl
-own_front (suc n) own ys post rest copied within is =
-    let long : length ys ≡ suc n = ap length copied ∙ length-take-le (suc n) own within in
-    ap (map elements.Byte) (take-append-le (suc n) ys post (omega (arith, long)) ∙ take_all (suc n) ys (omega (arith, long)) ∙ copied)
-    ∙ sym (take-map elements.Byte (suc n) own) ∙ ap (take (suc n)) is
-
 -- how much is left of a text is not charged
 charge-rest : {K : Type 0} (l : Reading K) (ls : List (Level K)) (xs ys : List Element) → sum_by level_charge (Read (record l { rest = ys }) ∷ ls) ≡ sum_by level_charge (Read (record l { rest = xs }) ∷ ls)
 charge-rest l ls xs ys = sum_by-cons level_charge (Read (record l { rest = ys })) ls ∙ sym (sum_by-cons level_charge (Read (record l { rest = xs })) ls)

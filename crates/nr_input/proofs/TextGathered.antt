@@ -448,13 +448,6 @@ module _ {K : Type 0} (g : Gathered) (n : ℕ) (old new : List ℕ) (fs : List F
     | inr past ↦ omega (arith, past, room)
   ]
 
--- more bytes change nothing
-pub stops_on : (rest : List Element) (items more count larger : ℕ) → StopsGathering rest items count → more ≡ items + 0 → count ≤ larger → StopsGathering rest more larger
-stops_on rest items more count larger stops same less = λ b is other escape.
-    let place : more ≡ items = omega (arith, same) in
-    let enough = stops b (ap (slice_get rest) (sym place) ∙ is) other escape in
-    omega (arith, enough, less)
-
 -- the reader as it was
 pub put_back : (k : ℕ) (name : List ℕ) (r q : Reader) → q ≡ spliced k name r → record q { half = record q.half { notes = record q.half.notes { asked = r.half.notes.asked } }; burst = r.burst } ≡ r
 put_back k name r q is = ap (λ (z : Reader). record z { half = record z.half { notes = record z.half.notes { asked = r.half.notes.asked } }; burst = r.burst }) is

@@ -1,4 +1,5 @@
 -- Lines of a definition, read at once of the bytes that come next of the source (CSTR 54, 7.1).
+use Prim.Native.Char.{code}
 use Rattle.std.specs.Prelude.{◌≡◌, ◌≢◌, ℕ, suc, ◌<◌, ◌≤◌, ◌==◌, ◌&&◌, Bool, false, List, length, take, slice_index}
 use Rattle.nr_reading.specs.declared.half.Half.{Half}
 use Rattle.nr_reading.specs.declared.mode.Mode.{Mode}
@@ -20,8 +21,8 @@ is_in_body h = is_in_body_in h.notes.defining.keeps h.reading.mode h
 -- The first n of these bytes stand for themselves in a line of a definition: no `\` is among them, and a newline at their end only.
 pub record IsLine (n : ℕ) (bs : List ℕ) : Type 0 where
   pub within : n ≤ length bs
-  pub escape : (k : ℕ) → k < n → slice_index bs k ≢ 92
-  pub line : (k : ℕ) → suc k < n → slice_index bs k ≢ 10
+  pub escape : (k : ℕ) → k < n → slice_index bs k ≢ code "\\"
+  pub line : (k : ℕ) → suc k < n → slice_index bs k ≢ code "\n"
 
 -- There is a second byte, and it is not that of the line that ends the definition.
 pub record IsOther (bs : List ℕ) (d : Defining) : Type 0 where
@@ -31,4 +32,4 @@ pub record IsOther (bs : List ℕ) (d : Defining) : Type 0 where
 -- Such bytes, which at the beginning of a line don't begin like the line that ends the definition: behind a dot the second shows so.
 pub record IsOwn (n : ℕ) (bs : List ℕ) (m : Mode) (d : Defining) : Type 0 where
   pub text : IsLine n bs
-  pub begins : m ≡ modes.BodyStart 0 → 0 < length (take n bs) → slice_index (take n bs) 0 ≡ 46 → IsOther (take n bs) d
+  pub begins : m ≡ modes.BodyStart 0 → 0 < length (take n bs) → slice_index (take n bs) 0 ≡ code "." → IsOther (take n bs) d

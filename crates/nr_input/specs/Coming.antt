@@ -1,4 +1,5 @@
 -- The bytes of the source that are to come, item by item, and how the program stands before them.
+use Prim.Native.Char.{code}
 use Rattle.std.specs.Prelude.{◌≡◌, ℕ, ◌+◌, ◌≤◌, ◌^◌, Bool, true, false, not, ◌==◌, ◌&&◌, if◌then◌else◌, List, [], ◌∷◌, Option, Some, Result, Ok, Err, ⊤}
 use Rattle.nr_units.specs.Supply.{Supply, Never, MayFail, MayGive, one_later}
 use Rattle.nr_store.specs.declared.element.Element.{Element}
@@ -33,7 +34,7 @@ emptied c = record { supply = record { bytes = []; faults = Never }; taken = c.t
 -- what the source has in front: a byte, the newline that is added, or nothing
 abbrev pub front_of : List ℕ → Bool → Front
 front_of (b ∷ bs) inside = fronts.Byte b
-front_of [] true = fronts.Byte 10
+front_of [] true = fronts.Byte (code "\n")
 front_of [] false = fronts.Over
 
 abbrev pub element_front : Element → Front
@@ -49,7 +50,7 @@ front (shows.Item x) c = element_front x
 front (shows.Resume k) c = fronts.Resume
 
 abbrev pub behind_front_of : List ℕ → Coming → Coming
-behind_front_of (b ∷ bs) c = record { supply = record { bytes = bs; faults = one_later c.supply.faults }; taken = c.taken + 1; inside = not (b == 10) }
+behind_front_of (b ∷ bs) c = record { supply = record { bytes = bs; faults = one_later c.supply.faults }; taken = c.taken + 1; inside = not (b == code "\n") }
 behind_front_of [] c = record c { inside = false }
 
 -- what is to come of the source behind the item in front of the list
@@ -135,12 +136,12 @@ is_ready s ahead = true
 -- what the source has in front, once it was looked at
 abbrev pub seen_front : Ahead → Bool → Front
 seen_front (Byte b) inside = fronts.Byte b
-seen_front End inside = if inside then fronts.Byte 10 else fronts.Over
+seen_front End inside = if inside then fronts.Byte (code "\n") else fronts.Over
 seen_front a inside = fronts.Over
 
 -- behind it
 abbrev pub passed_by : Ahead → Reached → Reached
-passed_by (Byte b) p = record { ahead = Unseen; taken = p.taken + 1; inside = not (b == 10) }
+passed_by (Byte b) p = record { ahead = Unseen; taken = p.taken + 1; inside = not (b == code "\n") }
 passed_by End p = record p { inside = false }
 passed_by a p = p
 

@@ -1,4 +1,5 @@
 -- Comments that are lines of their own, read at once of the bytes that come next of the source (CSTR 54, 10.7).
+use Prim.Native.Char.{code}
 use Rattle.std.specs.Prelude.{◌≡◌, ◌≢◌, ℕ, ◌+◌, ◌≤◌, ◌==◌, not, Bool, true, false, List, All, length, take, drop, slice_index}
 use Rattle.nr_reading.specs.declared.half.Half.{Half}
 use Rattle.nr_reading.specs.declared.mode.Mode.{Mode}
@@ -20,10 +21,10 @@ is_at_start h = is_at_start_in h.reading.mode h
 pub record IsComment (count : ℕ) (bs : List ℕ) (s : Signs) : Type 0 where
   pub within : count + 4 ≤ length bs
   pub sign : begins_control (slice_index bs 0) s ≡ true
-  pub escape : slice_index bs 1 ≡ 92
-  pub quote : slice_index bs 2 ≡ 34
-  pub text : All (λ b. b ≢ 10) (take count (drop 3 bs))
-  pub newline : slice_index (drop 3 bs) count ≡ 10
+  pub escape : slice_index bs 1 ≡ code "\\"
+  pub quote : slice_index bs 2 ≡ code "\""
+  pub text : All (λ b. b ≢ code "\n") (take count (drop 3 bs))
+  pub newline : slice_index (drop 3 bs) count ≡ code "\n"
 
 -- behind such a line that begins with this byte: its name is empty
 abbrev pub commented : ℕ → Half → Half

@@ -1,5 +1,6 @@
 -- The bytes that a text line of levels brings, with those of the arguments, registers and strings that are spliced between them (CSTR
 -- 54, 7.2, 7.3, 8).
+use Prim.Native.Char.{code}
 use Rattle.std.specs.Prelude.{◌≡◌, ℕ, suc, ◌+◌, ◌*◌, ◌<◌, ◌≤◌, Bool, true, false, List, [], ◌∷◌, ◌++◌, length, map, take, drop, slice_get, slice_index, Option, None, Some}
 use Rattle.nr_units.specs.Supply.{Supply}
 use Rattle.nr_tables.specs.Named.{find}
@@ -100,7 +101,7 @@ pub record AreGathered {K : Type 0} (bytes : List ℕ) (items moves : ℕ) (spli
 
 -- `\}` stands in a level, behind so many of its items
 abbrev pub HasBrace : ℕ → List Element → Type 0
-HasBrace items rest = (slice_get rest items ≡ Some (elements.Byte 92)) × (slice_get rest (suc items) ≡ Some (elements.Byte 125))
+HasBrace items rest = (slice_get rest items ≡ Some (elements.Byte (code "\\"))) × (slice_get rest (suc items) ≡ Some (elements.Byte (code "}")))
 
 -- how many items that is, where it stands there
 abbrev pub brace_items : Bool → ℕ
@@ -112,7 +113,7 @@ pub record IsGathered {K : Type 0} (bytes : List ℕ) (v : Stored K) (r : Reader
   pub count : g.count ≡ length bytes
   pub gathered : AreGathered bytes g.items g.moves g.splices v r
   pub closes : g.closes ≡ true → HasBrace g.items (rest_of v.levels)
-  pub ends : g.ends ≡ true → slice_get (rest_of v.levels) (g.items + brace_items g.closes) ≡ Some (elements.Byte 10)
+  pub ends : g.ends ≡ true → slice_get (rest_of v.levels) (g.items + brace_items g.closes) ≡ Some (elements.Byte (code "\n"))
 
 -- and the reader is where that many were spliced
 pub record IsGathering {K : Type 0} (bytes : List ℕ) (v : Stored K) (r q : Reader) (g : Gathered) : Type 0 where
@@ -142,14 +143,14 @@ AreBytes bytes row = (n : ℕ) → n < length bytes → slice_get row n ≡ Some
 
 -- no item that goes on so: none, no byte, a newline, or a `\`
 abbrev pub EndsRun : Option Front → Type 0
-EndsRun item = (b : ℕ) → item ≡ Some (fronts.Byte b) → (b ≡ 10 → ⊥) → (b ≡ 92 → ⊥) → ⊥
+EndsRun item = (b : ℕ) → item ≡ Some (fronts.Byte b) → (b ≡ code "\n" → ⊥) → (b ≡ code "\\" → ⊥) → ⊥
 
 -- As many were gathered as could be: behind the items that were met the level shows no byte but a newline or a `\`, or 64 bytes were.
 abbrev pub StopsGathering : List Element → ℕ → ℕ → Type 0
-StopsGathering rest items count = (b : ℕ) → slice_get rest items ≡ Some (elements.Byte b) → (b ≡ 10 → ⊥) → (b ≡ 92 → ⊥) → 64 ≤ count
+StopsGathering rest items count = (b : ℕ) → slice_get rest items ≡ Some (elements.Byte b) → (b ≡ code "\n" → ⊥) → (b ≡ code "\\" → ⊥) → 64 ≤ count
 
 -- The same, and a `\}` that stands behind them was not left, nor the newline behind that.
 pub record GathersMost (rest : List Element) (g : Gathered) : Type 0 where
   pub stops : StopsGathering rest g.items g.count
   pub closes : HasBrace g.items rest → g.closes ≡ true
-  pub ends : slice_get rest (g.items + brace_items g.closes) ≡ Some (elements.Byte 10) → g.ends ≡ true
+  pub ends : slice_get rest (g.items + brace_items g.closes) ≡ Some (elements.Byte (code "\n")) → g.ends ≡ true

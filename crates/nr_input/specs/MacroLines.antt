@@ -1,4 +1,5 @@
 -- The arguments of a macro, read at once of the bytes that come next of the source (CSTR 54, 7.3).
+use Prim.Native.Char.{code}
 use Rattle.std.specs.Prelude.{◌≡◌, ℕ, ◌+◌, ◌≤◌, ◌==◌, Bool, false, if◌then◌else◌, List, [], length, Option}
 use Rattle.nr_units.specs.Supply.{Supply}
 use Rattle.nr_store.specs.Stored.{Stored}
@@ -33,8 +34,8 @@ blanks_left m = 0
 -- Behind the byte that an argument begins with, or a quote before it, or behind the newline that ends the line.
 abbrev pub begun_with : ℕ → Half → Half
 begun_with b h =
-    if b == 10 then record h { reading = record h.reading { mode = modes.Start; due = dues.Call } }
-    else (if b == 34 then record h { reading = record h.reading { mode = modes.Quoted } }
+    if b == code "\n" then record h { reading = record h.reading { mode = modes.Start; due = dues.Call } }
+    else (if b == code "\"" then record h { reading = record h.reading { mode = modes.Quoted } }
     else record h { reading = record h.reading { mode = modes.Word; due = dues.Put b } })
 
 -- where an argument has ended

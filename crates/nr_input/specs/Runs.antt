@@ -1,4 +1,5 @@
 -- Many moves of the machine that reads, of which only the last may tell something.
+use Prim.Native.Char.{code}
 use Rattle.std.specs.Prelude.{◌≡◌, ℕ, zero, suc, ◌+◌, ◌-◌, ◌*◌, ◌^◌, ◌<◌, ◌≤◌, ◌==◌, Bool, true, false, not, List, [], ◌∷◌, length, slice_get, slice_index, Option, Some}
 use Rattle.nr_units.specs.Supply.{Supply, skipped}
 use Rattle.nr_store.specs.Stored.{Stored, charge_of}
@@ -100,7 +101,7 @@ pub record IsLongestUpToText {K : Type 0} (n : ℕ) (v : Stored K) (r : Reader) 
 -- the last of so many bytes is no newline
 abbrev pub inside_behind : ℕ → List ℕ → Bool → Bool
 inside_behind zero bs inside = inside
-inside_behind (suc n) bs inside = not (slice_index bs n == 10)
+inside_behind (suc n) bs inside = not (slice_index bs n == code "\n")
 
 -- behind the next n bytes
 abbrev pub behind_run : ℕ → Coming → Coming

@@ -17,6 +17,7 @@ pub mod PlainPages
 pub mod PlainReads
 pub mod PlainStates
 pub mod PlainWorks
+pub mod SourceFaults
 pub mod StepLimits
 pub mod Stopping
 pub mod StoreLimits

@@ -4,7 +4,7 @@ use Rattle.std.proofs.lemmas.Grind.{flat_map-append}
 use Rattle.std.proofs.Common.{◌≡◌, ℕ, zero, suc, ◌+◌, ◌<◌, ◌≤◌, true, false, List, [], ◌∷◌, ◌++◌, Option, None, Some, refl, ap, sym, subst, ◌∙◌, append-nil, append_assoc, arith, inl, inr}
 use Rattle.std.specs.Io.KnownBytes.{Appends}
 use Rattle.nr_units.specs.Held.{AppendsFront}
-use Rattle.nr_units.specs.Supply.{Supply}
+use Rattle.nr_units.specs.Supply.{Supply, Faults}
 use Rattle.nr_options.specs.Limits.{Bounds}
 use Rattle.nr_options.specs.declared.options.Options.{Options}
 use Rattle.nr_engine.specs.State.{State, Ended, start}
@@ -14,11 +14,12 @@ use Rattle.nr_engine.specs.Answer.{Kind, Over, kind, Goes, Runs, Stops, Writes, 
 use Rattle.nr_engine.specs.declared.outcome.Outcome.{Outcome}
 use Rattle.nr_engine.specs.declared.outcome.Outcome.TheVariants.{Done, Limit, ReadFault, TooLong, WriteFault}
 use Rattle.nr_laws.specs.Limited.{state_under}
-use Rattle.nr_laws.specs.Laws.{IsFrontOf, AtLeast, is_unfaulted, nothing_allowed, unlimited, unlimited_text, AnswersWith, LimitsOnlyStop, NoLimitAsked, LimitsCut, LimitsCutOutput, DoneIsWhole, OneWhole, WiderLimits, OneAnswer}
+use Rattle.nr_laws.specs.Laws.{IsFrontOf, AtLeast, is_settled, is_limit, nothing_allowed, unlimited, unlimited_text, AnswersWith, LimitsOnlyStop, NoLimitAsked, LimitsCut, LimitsCutOutput, DoneIsWhole, OneWhole, WiderLimits, LimitsUnmet, OneAnswer}
 use Rattle.nr_laws.proofs.Growing.{text-grows, state_after-add}
 use Rattle.nr_laws.proofs.Over.{over-step}
 use Rattle.nr_laws.proofs.StepLimits.{step-under, state_after-under}
-use Rattle.nr_laws.proofs.Stopping.{goes-stops, stops-one}
+use Rattle.nr_laws.proofs.SourceFaults.{settled_after}
+use Rattle.nr_laws.proofs.Stopping.{goes-stops, stops-one, stops-under}
 use Rattle.nr_laws.proofs.Wider.{goes-wider}
 
 front-trans : (a b c : List ℕ) → IsFrontOf a b → IsFrontOf b c → IsFrontOf a c
@@ -34,9 +35,9 @@ wrote s TooLong out told w = w
 wrote s (ReadFault at) out told w = w
 wrote s WriteFault out told w = (let e : true ≡ false = told in cc)
 
-unfaulted-writes : (o : Outcome) → is_unfaulted o ≡ true → is_write_fault o ≡ false
-unfaulted-writes WriteFault told = (let e : false ≡ true = told in cc)
-unfaulted-writes o told = refl
+settled-writes : (f : Faults) (o : Outcome) → is_settled f o ≡ true → is_write_fault o ≡ false
+settled-writes f WriteFault told = (let e : false ≡ true = told in cc)
+settled-writes f o told = refl
 
 text-one : (pages : List Ended) (page : Ended) → text (pages ++ page ∷ []) ≡ text pages ++ bytes_of page
 text-one pages page = flat_map-append bytes_of pages (page ∷ []) ∙ ap (λ z. text pages ++ z) (append-nil (bytes_of page))
@@ -120,13 +121,13 @@ one_whole options supply x y v w =
     ∙ after_over options supply w.moves v.moves w.over ∙ sym w.whole_is
 
 -- under wider limits the run does not stop earlier
-no_earlier : (b b' : Bounds) (options : Options) (supply : Supply) (n n' : ℕ) (o' : Outcome) → AtLeast b b' → is_unfaulted o' ≡ true → Runs n (start b options supply) → Runs n' (start b' options supply)
+no_earlier : (b b' : Bounds) (options : Options) (supply : Supply) (n n' : ℕ) (o' : Outcome) → AtLeast b b' → is_settled supply.faults o' ≡ true → Runs n (start b options supply) → Runs n' (start b' options supply)
     → Stops (state_after n' (start b' options supply)) o' → n' < n → ⊥
 no_earlier b b' options supply n n' o' h told runs runs' stops less =
     let t = unlimited options supply n' in
     let e = at b options supply n' in
     let e' = at b' options supply n' in
-    goes-stops (state_under b' t) o' told (goes-wider b b' t h (subst Goes e (runs n' less))) (subst (λ (s : State). Stops s o') e' stops)
+    goes-stops (state_under b' t) o' (settled_after o' n' (start nothing_allowed options supply) told) (goes-wider b b' t h (subst Goes e (runs n' less))) (subst (λ (s : State). Stops s o') e' stops)
 
 -- what went out, a page of which a fault broke off among it, is a front of what goes out without limits where the run goes as far
 front_at : (b : Bounds) (options : Options) (supply : Supply) (n m : ℕ) (o : Outcome) (out : List ℕ) → AnswersWith b options supply n o out → n ≤ m
@@ -147,7 +148,7 @@ wider_limits b b' options supply n n' o o' out out' h a a' told' =
       | inl less ↦ absurd (no_earlier b b' options supply (n + 1) n' o' h told' (runs_on n s a.runs goes) a'.runs a'.stops less)
       | inr more ↦ omega arith
     ] in x) in
-    subst (IsFrontOf out) (sym (text_at b' options supply n' o' out' a' (unfaulted-writes o' told'))) (front_at b options supply n n' o out a far further)
+    subst (IsFrontOf out) (sym (text_at b' options supply n' o' out' a' (settled-writes supply.faults o' told'))) (front_at b options supply n n' o out a far further)
 
 at_least_itself : (b : Bounds) → AtLeast b b
 at_least_itself b = record { stored = omega arith; depth = omega arith; cells = omega arith; expansions = omega arith }
@@ -158,6 +159,30 @@ one_answer b options supply n n' o o' out out' a a' told told' =
     let second = no_earlier b b options supply n' n o (at_least_itself b) told a'.runs a.runs a.stops in
     let e : n ≡ n' = elim (cases_lt n' n) [ inl x ↦ absurd (first x) | inr x ↦ elim (cases_lt n n') [ inl y ↦ absurd (second y) | inr y ↦ omega arith ] ] in (
       e,
-      stops-one (state_after n' (start b options supply)) o o' told told' (subst (λ k. Stops (state_after k (start b options supply)) o) e a.stops) a'.stops,
-      text_at b options supply n o out a (unfaulted-writes o told) ∙ ap (unlimited_text options supply) e ∙ sym (text_at b options supply n' o' out' a' (unfaulted-writes o' told')),
+      stops-one (state_after n' (start b options supply)) o o' (settled_after o n' (start b options supply) told) (settled_after o' n' (start b options supply) told') (subst (λ k. Stops (state_after k (start b options supply)) o) e a.stops) a'.stops,
+      text_at b options supply n o out a (settled-writes supply.faults o told) ∙ ap (unlimited_text options supply) e ∙ sym (text_at b options supply n' o' out' a' (settled-writes supply.faults o' told')),
+    )
+
+-- where no limit stops the run under narrower limits, that under wider ones does not go on
+no_later : (b b' : Bounds) (options : Options) (supply : Supply) (n n' : ℕ) (o : Outcome) → is_limit o ≡ false → is_settled supply.faults o ≡ true → Runs n' (start b' options supply)
+    → Stops (state_after n (start b options supply)) o → n < n' → ⊥
+no_later b b' options supply n n' o unmet told runs' stops less =
+    let t = unlimited options supply n in
+    let told_there = settled_after o n (start nothing_allowed options supply) told in
+    goes-stops (state_under b' t) o told_there (subst Goes (at b' options supply n) (runs' n less))
+    (stops-under b b' t o unmet told_there (subst (λ (s : State). Stops s o) (at b options supply n) stops))
+
+pub limits_unmet : LimitsUnmet
+limits_unmet b b' options supply n n' o o' out out' h a a' unmet told told' =
+    let e : n ≡ n' = elim (cases_lt n' n) [
+      | inl x ↦ absurd (no_earlier b b' options supply n n' o' h told' a.runs a'.runs a'.stops x)
+      | inr x ↦ elim (cases_lt n n') [ inl y ↦ absurd (no_later b b' options supply n n' o unmet told a'.runs a.stops y) | inr y ↦ omega arith ]
+    ] in
+    let t = unlimited options supply n in
+    let told_there = λ (q : Outcome) (is : is_settled supply.faults q ≡ true). settled_after q n (start nothing_allowed options supply) is in
+    let first = stops-under b b' t o unmet (told_there o told) (subst (λ (s : State). Stops s o) (at b options supply n) a.stops) in
+    let second = subst (λ (s : State). Stops s o') (at b' options supply n) (subst (λ k. Stops (state_after k (start b' options supply)) o') (sym e) a'.stops) in (
+      e,
+      stops-one (state_under b' t) o o' (told_there o told) (told_there o' told') first second,
+      text_at b options supply n o out a (settled-writes supply.faults o told) ∙ ap (unlimited_text options supply) e ∙ sym (text_at b' options supply n' o' out' a' (settled-writes supply.faults o' told')),
     )

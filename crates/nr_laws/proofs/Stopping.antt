@@ -1,11 +1,18 @@
--- A run stops in one way, but for faults.
-use Rattle.std.proofs.Common.{◌≡◌, Bool, true, false, None, Some, Result, Ok, Err, refl, sym, subst, ◌∙◌}
-use Rattle.nr_store.specs.Stored.{shown}
+-- A run stops in one way, but for faults that no one tells beforehand.
+use Rattle.std.specs.Prelude.{nat_le}
+use Rattle.std.proofs.Common.{◌≡◌, Bool, true, false, if◌then◌else◌, None, Some, Result, Ok, Err, refl, sym, subst, ◌∙◌, arith}
+use Rattle.nr_units.specs.Supply.{Faults, Never, After, Anytime, MayFail, MayGive}
+use Rattle.nr_store.specs.Stored.{Stored, shown, afforded, checked}
+use Rattle.nr_store.specs.declared.refusal.Refusal as stored
+use Rattle.nr_store.specs.declared.refusal.Refusal.TheVariants as stores
+use Rattle.nr_store.specs.declared.refusal.StoredBytes.{StoredBytes}
 use Rattle.nr_store.specs.declared.shown.Shown.{Shown}
 use Rattle.nr_store.specs.declared.shown.Shown.TheVariants as shows
 use Rattle.nr_input.specs.Coming.{Coming, MayLook, RefusesLook}
 use Rattle.nr_input.specs.Moving.{Situation, looks, answer_at}
 use Rattle.nr_input.specs.Moving as input
+use Rattle.nr_input.specs.Refusals.{Asking, Nothing, Bytes, Splice, Refused, answer_to, storing_by, splicing_by, asking}
+use Rattle.nr_input.specs.declared.reader.Reader.{Reader}
 use Rattle.nr_input.specs.declared.refusal.Refusal.{Refusal}
 use Rattle.nr_input.specs.declared.refusal.Refusal.TheVariants as refusals
 use Rattle.nr_formatter.specs.declared.tasks.Resume.{Resume}
@@ -16,7 +23,9 @@ use Rattle.nr_engine.specs.declared.outcome.Measure.TheVariants as measures
 use Rattle.nr_engine.specs.declared.outcome.Outcome.{Outcome}
 use Rattle.nr_engine.specs.declared.outcome.Outcome.TheVariants.{Done, Limit, ReadFault, TooLong, WriteFault}
 use Rattle.nr_engine.specs.Answer.{Kind, Reads, Works, Over, kind, Goes, GoesBy, IsRefusal, PassesBy, Stops}
-use Rattle.nr_laws.specs.Laws.{is_unfaulted}
+use Rattle.nr_options.specs.Limits.{Bounds}
+use Rattle.nr_laws.specs.Laws.{are_told, is_settled, is_limit}
+use Rattle.nr_laws.specs.Limited.{state_under}
 
 -- ---- a look refuses nothing for a limit
 
@@ -49,6 +58,38 @@ not_long refusals.Depth ForDepth e = cc
 not_long refusals.Expansions ForExpansions e = cc
 not_long refusals.ReadFault l e = elim l [ ]
 not_long refusals.TooLong l e = elim l [ ]
+
+not_fault : (r : Refusal) → ForLimit r → r ≡ refusals.ReadFault → ⊥
+not_fault refusals.Stored ForStored e = cc
+not_fault refusals.Depth ForDepth e = cc
+not_fault refusals.Expansions ForExpansions e = cc
+not_fault refusals.ReadFault l e = elim l [ ]
+not_fault refusals.TooLong l e = elim l [ ]
+
+-- ---- what is due is refused for a limit alone
+
+storing : (x : Result (Unit {0}) StoredBytes) (e : Refusal) → storing_by x ≡ Err e → ForLimit e
+storing (Ok x) e is = cc
+storing (Err s) e is = (let same : refusals.Stored ≡ e = cc in subst ForLimit same ForStored)
+
+expanding : (c : Bool) (a : Result (Unit {0}) Refusal) (e : Refusal) → (if c then Err refusals.Expansions else Ok tt) ≡ a → a ≡ Err e → ForLimit e
+expanding true a e is err = (let same : refusals.Expansions ≡ e = cc in subst ForLimit same ForExpansions)
+expanding false a e is err = cc
+
+splicing : (x : Result Bool stored.Refusal) (r : Reader) (e : Refusal) → splicing_by x r ≡ Err e → ForLimit e
+splicing (Ok true) r e is = expanding (nat_le r.most r.burst) (splicing_by (Ok true) r) e refl is
+splicing (Ok false) r e is = cc
+splicing (Err stores.Stored) r e is = (let same : refusals.Stored ≡ e = cc in subst ForLimit same ForStored)
+splicing (Err stores.Depth) r e is = (let same : refusals.Depth ≡ e = cc in subst ForLimit same ForDepth)
+
+answering : (a : Asking) (new : Stored Resume) (r : Reader) (e : Refusal) → answer_to a new r ≡ Err e → ForLimit e
+answering Nothing new r e is = cc
+answering Bytes new r e is = storing (afforded new tt) e is
+answering (Splice is_text) new r e is = splicing (checked new is_text) r e is
+answering Refused new r e is = (let same : refusals.Expansions ≡ e = cc in subst ForLimit same ForExpansions)
+
+answer_for_limit : (q : Situation Resume) (e : Refusal) → answer_at q ≡ Err e → ForLimit e
+answer_for_limit q e is = answering (asking q.reader.half.reading.due q.stored q.reader) (input.acting q).stored q.reader e is
 
 same_limit : (m m' : Measure) (r : Refusal) → IsRefusal m r → IsRefusal m' r → m ≡ m'
 same_limit measures.Stored measures.Stored r a b = refl
@@ -87,6 +128,36 @@ long_goes : (c : Bool) (q : Situation Resume) → input.GoesBy c q → input.Ref
 long_goes true q goes h = long_look (shown q.stored.levels) q.coming goes h
 long_goes false q goes h = ok_or (answer_at q) refusals.TooLong goes h
 
+-- a source of which it is told when it fails gives or fails, and not both
+gives_or : (f : Faults) → are_told f ≡ true → MayGive f → MayFail f → ⊥
+gives_or Never told gives fails = fails
+gives_or (After n) told gives fails = absurd (omega arith)
+gives_or Anytime told gives fails = (let e : false ≡ true = told in cc)
+
+fault_look : (s : Shown Resume) (c : Coming) → are_told c.supply.faults ≡ true → MayLook s c → RefusesLook s c refusals.ReadFault → ⊥
+fault_look shows.Nothing c told goes h = gives_or c.supply.faults told goes.0 h
+fault_look shows.End c told goes h = h
+fault_look (shows.Item x) c told goes h = h
+fault_look (shows.Resume k) c told goes h = h
+
+fault_goes : (c : Bool) (q : Situation Resume) → are_told q.coming.supply.faults ≡ true → input.GoesBy c q → input.RefusesBy c q refusals.ReadFault → ⊥
+fault_goes true q told goes h = fault_look (shown q.stored.levels) q.coming told goes h
+fault_goes false q told goes h = ok_or (answer_at q) refusals.ReadFault goes h
+
+fault_long_look : (s : Shown Resume) (c : Coming) → are_told c.supply.faults ≡ true → RefusesLook s c refusals.TooLong → RefusesLook s c refusals.ReadFault → ⊥
+fault_long_look shows.Nothing c told a h = gives_or c.supply.faults told a.0 h
+fault_long_look shows.End c told a h = h
+fault_long_look (shows.Item x) c told a h = h
+fault_long_look (shows.Resume k) c told a h = h
+
+fault_long : (c : Bool) (q : Situation Resume) → are_told q.coming.supply.faults ≡ true → input.RefusesBy c q refusals.TooLong → input.RefusesBy c q refusals.ReadFault → ⊥
+fault_long true q told a h = fault_long_look (shown q.stored.levels) q.coming told a h
+fault_long false q told a h = (let e : refusals.TooLong ≡ refusals.ReadFault = one_refusal (answer_at q) refusals.TooLong refusals.ReadFault a h in cc)
+
+limit_fault : (c : Bool) (q : Situation Resume) (r : Refusal) → ForLimit r → input.RefusesBy c q r → input.RefusesBy c q refusals.ReadFault → ⊥
+limit_fault true q r l a b = no_sight (shown q.stored.levels) q.coming r l a
+limit_fault false q r l a b = not_fault r l (one_refusal (answer_at q) r refusals.ReadFault a b)
+
 limit_long : (c : Bool) (q : Situation Resume) (r : Refusal) → ForLimit r → input.RefusesBy c q r → input.RefusesBy c q refusals.TooLong → ⊥
 limit_long true q r l a b = no_sight (shown q.stored.levels) q.coming r l a
 limit_long false q r l a b = not_long r l (one_refusal (answer_at q) r refusals.TooLong a b)
@@ -98,21 +169,22 @@ limit_limit false q m m' r r' is is' a b =
 
 -- ---- a move is made, or the run stops
 
-goes_by : (k : Kind) (s : State) (o : Outcome) → kind s ≡ k → is_unfaulted o ≡ true → GoesBy k s → Stops s o → ⊥
+goes_by : (k : Kind) (s : State) (o : Outcome) → kind s ≡ k → is_settled s.coming.supply.faults o ≡ true → GoesBy k s → Stops s o → ⊥
 goes_by Reads s Done is told goes stops = (let e : Reads ≡ Over = sym is ∙ stops in cc)
 goes_by Reads s (Limit which at) is told goes stops =
     let p : PassesBy Reads s which = subst (λ k. PassesBy k s which) is stops.0 in
     limit_goes (looks (situation_of s)) (situation_of s) p.0 (for_limit which p.0 p.2) goes p.1
 goes_by Reads s TooLong is told goes stops = long_goes (looks (situation_of s)) (situation_of s) goes stops.1
+goes_by Reads s (ReadFault at) is told goes stops = fault_goes (looks (situation_of s)) (situation_of s) told goes stops.1
 goes_by Works s Done is told goes stops = (let e : Works ≡ Over = sym is ∙ stops in cc)
 goes_by Works s (Limit which at) is told goes stops =
     let p : PassesBy Works s which = subst (λ k. PassesBy k s which) is stops.0 in (let e : None ≡ Some which = sym goes ∙ p in cc)
 goes_by Works s TooLong is told goes stops = (let e : Works ≡ Reads = sym is ∙ stops.0 in cc)
+goes_by Works s (ReadFault at) is told goes stops = (let e : Works ≡ Reads = sym is ∙ stops.0 in cc)
 goes_by Over s o is told goes stops = goes
-goes_by k s (ReadFault at) is told goes stops = (let e : false ≡ true = told in cc)
 goes_by k s WriteFault is told goes stops = (let e : false ≡ true = told in cc)
 
-pub goes-stops : (s : State) (o : Outcome) → is_unfaulted o ≡ true → Goes s → Stops s o → ⊥
+pub goes-stops : (s : State) (o : Outcome) → is_settled s.coming.supply.faults o ≡ true → Goes s → Stops s o → ⊥
 goes-stops s o told goes stops = goes_by (kind s) s o refl told goes stops
 
 -- ---- the run stops in one way
@@ -132,18 +204,43 @@ long_limits Reads s m is p h = limit_long (looks (situation_of s)) (situation_of
 long_limits Works s m is p h = cc
 long_limits Over s m is p h = p
 
-pub stops-one : (s : State) (o o' : Outcome) → is_unfaulted o ≡ true → is_unfaulted o' ≡ true → Stops s o → Stops s o' → o ≡ o'
-stops-one s (ReadFault at) o' told told' a b = (let e : false ≡ true = told in cc)
+fault_limits : (k : Kind) (s : State) (m : Measure) → k ≡ Reads → PassesBy k s m → input.Refuses (situation_of s) refusals.ReadFault → ⊥
+fault_limits Reads s m is p h = limit_fault (looks (situation_of s)) (situation_of s) p.0 (for_limit m p.0 p.2) p.1 h
+fault_limits Works s m is p h = cc
+fault_limits Over s m is p h = p
+
+pub stops-one : (s : State) (o o' : Outcome) → is_settled s.coming.supply.faults o ≡ true → is_settled s.coming.supply.faults o' ≡ true → Stops s o → Stops s o' → o ≡ o'
 stops-one s WriteFault o' told told' a b = (let e : false ≡ true = told in cc)
-stops-one s o (ReadFault at) told told' a b = (let e : false ≡ true = told' in cc)
 stops-one s o WriteFault told told' a b = (let e : false ≡ true = told' in cc)
 stops-one s Done Done told told' a b = refl
 stops-one s Done (Limit w at) told told' a b = absurd (over_limits (kind s) s w a b.0)
 stops-one s Done TooLong told told' a b = (let e : Over ≡ Reads = sym a ∙ b.0 in cc)
+stops-one s Done (ReadFault at) told told' a b = (let e : Over ≡ Reads = sym a ∙ b.0 in cc)
 stops-one s (Limit w at) Done told told' a b = absurd (over_limits (kind s) s w b a.0)
 stops-one s (Limit w at) (Limit w' at') told told' a b =
     let e = limits_by (kind s) s w w' a.0 b.0 in let f : at ≡ at' = a.1 ∙ sym b.1 in cc
 stops-one s (Limit w at) TooLong told told' a b = absurd (long_limits (kind s) s w b.0 a.0 b.1)
+stops-one s (Limit w at) (ReadFault at') told told' a b = absurd (fault_limits (kind s) s w b.0 a.0 b.1)
 stops-one s TooLong Done told told' a b = (let e : Over ≡ Reads = sym b ∙ a.0 in cc)
 stops-one s TooLong (Limit w at) told told' a b = absurd (long_limits (kind s) s w a.0 b.0 a.1)
 stops-one s TooLong TooLong told told' a b = refl
+stops-one s TooLong (ReadFault at) told told' a b = absurd (fault_long (looks (situation_of s)) (situation_of s) told' a.1 b.1)
+stops-one s (ReadFault at) Done told told' a b = (let e : Over ≡ Reads = sym b ∙ a.0 in cc)
+stops-one s (ReadFault at) (Limit w at') told told' a b = absurd (fault_limits (kind s) s w a.0 b.0 a.1)
+stops-one s (ReadFault at) TooLong told told' a b = absurd (fault_long (looks (situation_of s)) (situation_of s) told b.1 a.1)
+stops-one s (ReadFault at) (ReadFault at') told told' a b = (let e : at ≡ at' = a.2 ∙ sym b.2 in cc)
+
+-- ---- where no limit stops it, it stops there under any limits
+
+refused_under : (c : Bool) (b b' : Bounds) (s : State) (r : Refusal) → (ForLimit r → ⊥) → input.RefusesBy c (situation_of (state_under b s)) r → input.RefusesBy c (situation_of (state_under b' s)) r
+refused_under true b b' s r other h = h
+refused_under false b b' s r other h = absurd (other (answer_for_limit (situation_of (state_under b s)) r h))
+
+pub stops-under : (b b' : Bounds) (s : State) (o : Outcome) → is_limit o ≡ false → is_settled s.coming.supply.faults o ≡ true → Stops (state_under b s) o → Stops (state_under b' s) o
+stops-under b b' s Done unmet told stops = stops
+stops-under b b' s (Limit which at) unmet told stops = (let e : true ≡ false = unmet in cc)
+stops-under b b' s (ReadFault at) unmet told stops =
+    (stops.0, refused_under (looks (situation_of s)) b b' s refusals.ReadFault (λ l. not_fault refusals.ReadFault l refl) stops.1, stops.2)
+stops-under b b' s TooLong unmet told stops =
+    (stops.0, refused_under (looks (situation_of s)) b b' s refusals.TooLong (λ l. not_long refusals.TooLong l refl) stops.1)
+stops-under b b' s WriteFault unmet told stops = (let e : false ≡ true = told in cc)

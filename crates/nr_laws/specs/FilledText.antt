@@ -1,4 +1,5 @@
 -- Plain text whose lines neither are empty nor begin with a blank: the rows that come of it.
+use Prim.Native.Char.{code}
 use Rattle.std.specs.Prelude.{◌≡◌, ℕ, zero, suc, ◌<◌, ◌≤◌, ◌-◌, ◌%◌, not, Bool, true, false, ◌&&◌, ◌||◌, ◌==◌, if◌then◌else◌, List, [], ◌∷◌, ◌++◌, length, replicate, None}
 use Rattle.std.specs.List.{flat_map, fold}
 use Rattle.nr_units.specs.Supply.{Supply}
@@ -20,7 +21,7 @@ use Rattle.nr_laws.specs.PlainText.{is_plain}
 -- no line is empty or begins with a blank; whether the text begins at a line's beginning
 abbrev pub is_filled_from : Bool → List ℕ → Bool
 is_filled_from begins [] = true
-is_filled_from begins (b ∷ bs) = not (begins && (b == 10 || b == 32)) && is_filled_from (b == 10) bs
+is_filled_from begins (b ∷ bs) = not (begins && (b == code "\n" || b == code " ")) && is_filled_from (b == code "\n") bs
 
 -- no indent, and 65 cells
 abbrev pub first_margins : Margins
@@ -29,8 +30,8 @@ first_margins = record { indent = 0; length = 65 }
 -- what a byte makes of the pieces
 abbrev pub with_byte : Collected → ℕ → Collected
 with_byte c b =
-    if b == 10 then after_newline (end_word c)
-    else (if b == 32 then one_blank_more (end_word c) else add_cell first_margins (behind_of b) (record { byte = b; under = false }) c)
+    if b == code "\n" then after_newline (end_word c)
+    else (if b == code " " then one_blank_more (end_word c) else add_cell first_margins (behind_of b) (record { byte = b; under = false }) c)
 
 -- the pieces of the whole text, from which no line was taken
 abbrev pub pieces_of : List ℕ → List Piece

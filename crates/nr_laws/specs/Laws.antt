@@ -1,6 +1,6 @@
 -- Laws of the output: what limits do to it, and that there is one.
 use Rattle.std.specs.Prelude.{◌≡◌, ℕ, ◌+◌, ◌≤◌, Bool, true, false, List, [], ◌++◌, Some}
-use Rattle.nr_units.specs.Supply.{Supply}
+use Rattle.nr_units.specs.Supply.{Supply, Faults, Never, After, Anytime}
 use Rattle.nr_options.specs.Limits.{Bounds}
 use Rattle.nr_options.specs.declared.options.Options.{Options}
 use Rattle.nr_engine.specs.State.{State, start}
@@ -8,7 +8,7 @@ use Rattle.nr_engine.specs.Machine.{step, state_after}
 use Rattle.nr_engine.specs.Printing.{text}
 use Rattle.nr_engine.specs.Answer.{Answers, kind, Over}
 use Rattle.nr_engine.specs.declared.outcome.Outcome.{Outcome}
-use Rattle.nr_engine.specs.declared.outcome.Outcome.TheVariants.{Done, ReadFault, WriteFault}
+use Rattle.nr_engine.specs.declared.outcome.Outcome.TheVariants.{Done, Limit, ReadFault, WriteFault}
 use Rattle.nr_laws.specs.Limited.{state_under}
 
 -- ---- the words of the laws
@@ -25,11 +25,22 @@ pub record AtLeast (b b' : Bounds) : Type 0 where
   pub cells : b.cells ≤ b'.cells
   pub expansions : b.expansions ≤ b'.expansions
 
--- neither the source nor the sink ended the run
-abbrev pub is_unfaulted : Outcome → Bool
-is_unfaulted (ReadFault at) = false
-is_unfaulted WriteFault = false
-is_unfaulted o = true
+-- a source fails at no call, or at each call behind so many bytes
+abbrev pub are_told : Faults → Bool
+are_told Never = true
+are_told (After n) = true
+are_told Anytime = false
+
+-- no fault ended the run but one at which each run over such a source stops
+abbrev pub is_settled : Faults → Outcome → Bool
+is_settled faults (ReadFault at) = are_told faults
+is_settled faults WriteFault = false
+is_settled faults o = true
+
+-- a limit ended it
+abbrev pub is_limit : Outcome → Bool
+is_limit (Limit which at) = true
+is_limit o = false
 
 -- A run under limits answers so after n moves, over a sink that is empty at first and holds these bytes then.
 abbrev pub AnswersWith : Bounds → Options → Supply → ℕ → Outcome → List ℕ → Type 0
@@ -92,18 +103,25 @@ OneWhole = (options : Options) (supply : Supply) (a b : List ℕ) → UnlimitedO
 
 -- ---- wider limits
 
--- Under wider limits no less goes out, unless a fault ends that run.
+-- Under wider limits no less goes out, unless that run is ended by a fault of the sink, or of a source that may fail at any call.
 abbrev pub WiderLimits : Type 0
 WiderLimits =
     (b b' : Bounds) (options : Options) (supply : Supply) (n n' : ℕ) (outcome outcome' : Outcome) (out out' : List ℕ)
     → AtLeast b b' → AnswersWith b options supply n outcome out → AnswersWith b' options supply n' outcome' out'
-    → is_unfaulted outcome' ≡ true → IsFrontOf out out'
+    → is_settled supply.faults outcome' ≡ true → IsFrontOf out out'
+
+-- Where neither a limit nor such a fault stops a run, it is the same under wider limits.
+abbrev pub LimitsUnmet : Type 0
+LimitsUnmet =
+    (b b' : Bounds) (options : Options) (supply : Supply) (n n' : ℕ) (outcome outcome' : Outcome) (out out' : List ℕ)
+    → AtLeast b b' → AnswersWith b options supply n outcome out → AnswersWith b' options supply n' outcome' out' → is_limit outcome ≡ false
+    → is_settled supply.faults outcome ≡ true → is_settled supply.faults outcome' ≡ true → (n ≡ n') × (outcome ≡ outcome') × (out ≡ out')
 
 -- ---- one answer
 
--- Without a fault there is one number of moves, one outcome and one output.
+-- Without such a fault there is one number of moves, one outcome and one output.
 abbrev pub OneAnswer : Type 0
 OneAnswer =
     (b : Bounds) (options : Options) (supply : Supply) (n n' : ℕ) (outcome outcome' : Outcome) (out out' : List ℕ)
     → AnswersWith b options supply n outcome out → AnswersWith b options supply n' outcome' out'
-    → is_unfaulted outcome ≡ true → is_unfaulted outcome' ≡ true → (n ≡ n') × (outcome ≡ outcome') × (out ≡ out')
+    → is_settled supply.faults outcome ≡ true → is_settled supply.faults outcome' ≡ true → (n ≡ n') × (outcome ≡ outcome') × (out ≡ out')

@@ -1,4 +1,5 @@
 -- Plain text, and what of it and of the output is neither a blank nor a newline.
+use Prim.Native.Char.{code}
 use Rattle.std.specs.Prelude.{◌≡◌, ℕ, nat_le, Bool, true, not, ◌&&◌, ◌||◌, ◌==◌, List, [], ◌∷◌, None}
 use Rattle.std.specs.List.{filter}
 use Rattle.nr_units.specs.Supply.{Supply}
@@ -9,7 +10,7 @@ use Rattle.nr_laws.specs.Laws.{AnswersWith}
 
 -- a byte that is no blank and no newline
 abbrev pub is_ink : ℕ → Bool
-is_ink b = not (b == 32) && not (b == 10)
+is_ink b = not (b == code " ") && not (b == code "\n")
 
 -- the text less blanks and newlines
 abbrev pub squeezed : List ℕ → List ℕ
@@ -17,16 +18,16 @@ squeezed bs = filter is_ink bs
 
 -- a newline, or of 32 to 126 but no `\`
 abbrev pub is_plain_byte : ℕ → Bool
-is_plain_byte b = b == 10 || (nat_le 32 b && nat_le b 126 && not (b == 92))
+is_plain_byte b = b == code "\n" || (nat_le 32 b && nat_le b 126 && not (b == code "\\"))
 
 -- `.` or `'`
 abbrev pub is_sign : ℕ → Bool
-is_sign b = b == 46 || b == 39
+is_sign b = b == code "." || b == code "'"
 
 -- only such bytes, and no line that begins with `.` or `'`; whether it begins at a line's beginning
 abbrev pub is_plain_from : Bool → List ℕ → Bool
 is_plain_from begins [] = true
-is_plain_from begins (b ∷ bs) = is_plain_byte b && (not (begins && is_sign b) && is_plain_from (b == 10) bs)
+is_plain_from begins (b ∷ bs) = is_plain_byte b && (not (begins && is_sign b) && is_plain_from (b == code "\n") bs)
 
 -- of a whole input
 abbrev pub is_plain : List ℕ → Bool

@@ -1,5 +1,5 @@
 //! Laws of the output, each the contract of a function that does nothing: they speak of the definitions alone, over an empty sink.
-ghost use Rattle.nr_laws.specs.Laws.{LimitsOnlyStop, NoLimitAsked, LimitsCut, LimitsCutOutput, DoneIsWhole, OneWhole, WiderLimits, OneAnswer};
+ghost use Rattle.nr_laws.specs.Laws.{LimitsOnlyStop, NoLimitAsked, LimitsCut, LimitsCutOutput, DoneIsWhole, OneWhole, WiderLimits, LimitsUnmet, OneAnswer};
 ghost use Rattle.nr_laws.specs.PlainText.{PlainTextStays};
 ghost use Rattle.nr_laws.specs.FilledText.{FilledTextIsRows, CutIsLongest, CutFits};
 
@@ -23,12 +23,19 @@ pub fn done_is_whole()
 {}
 
 /// Where each limit is at least as wide, what goes out under the narrower ones is a front of what goes out under the wider ones,
-/// unless a fault ends the second run.
+/// unless the second run is ended by a fault of the sink, or of a source that may fail at any call.
 pub fn wider_limits()
     ensures { WiderLimits }
 {}
 
-/// For one input, options and limits there is, without faults, one number of moves, one outcome and one output.
+/// A run that ends otherwise than at a limit, also at a read fault behind a stated byte or at too long an input, is the same
+/// under wider limits.
+pub fn limits_unmet()
+    ensures { LimitsUnmet }
+{}
+
+/// For one input, options and limits there is one number of moves, one outcome and one output, but for faults of the sink, and
+/// of a source that may fail at any call.
 pub fn one_answer()
     ensures { OneAnswer }
 {}

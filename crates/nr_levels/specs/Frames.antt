@@ -138,7 +138,7 @@ pub record AreLevels (frames : List Frame) (bytes : List ℕ) (places : List Spa
   pub stacked : IsStacked places frames inforce (length bytes)
   pub now : AreBelow places (length bytes) inforce
   pub top : inforce.last ≡ length places
-  pub places_suffice : 9 * min most (room / 16) ≤ place_room
+  pub places_suffice : place_room ≡ 9 * min most (room / 16)
   pub places_small : place_room < 2 ^ 32
   pub small : room < 2 ^ 32
 

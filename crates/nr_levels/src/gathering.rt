@@ -45,6 +45,13 @@ impl Gathering {
         })
     }
 
+    /// How many bytes there is memory for, as their vector tells.
+    pub fn memory(&self) -> usize
+        ensures { result ≡ self.now.room }
+    {
+        self.bytes.memory()
+    }
+
     /// Whether no argument more counts.
     #[inline]
     pub fn is_full(&self) -> bool

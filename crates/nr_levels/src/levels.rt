@@ -89,6 +89,34 @@ impl<K: Copy> Levels<K> {
         self.in_force = Span { first: 0, last: 0 };
     }
 
+    /// How many levels there is memory for, as their vector tells.
+    pub fn frame_memory(&self) -> usize
+        ensures { result ≡ self.now.most }
+    {
+        self.frames.memory()
+    }
+
+    /// How many modes there is memory for, as their vector tells.
+    pub fn mode_memory(&self) -> usize
+        ensures { result ≡ self.now.most }
+    {
+        self.modes.memory()
+    }
+
+    /// How many bytes there is memory for, as their vector tells.
+    pub fn byte_memory(&self) -> usize
+        ensures { result ≡ self.now.room }
+    {
+        self.bytes.memory()
+    }
+
+    /// How many places of arguments there is memory for, as their vector tells.
+    pub fn place_memory(&self) -> usize
+        ensures { result ≡ 9 * min self.now.most (self.now.room / 16) }
+    {
+        self.places.memory()
+    }
+
     /// How many levels there are.
     #[inline]
     pub fn depth(&self) -> usize

@@ -14,14 +14,14 @@ pub struct Stack<T: Copy> {
 }
 
 impl<T: Copy> Model for Stack<T> {
-    ghost use Rattle.std.specs.Prelude.{◌≤◌, reverse, vec_len, vec_capacity};
+    ghost use Rattle.std.specs.Prelude.{◌≡◌, ◌≤◌, reverse, vec_len, vec_capacity};
     ghost use Rattle.nr_units.specs.Items.{Items};
 
     ghost Value = { Items T };
 
     ghost view = { λ v. record { items = reverse v.items.items; room = v.room } };
 
-    ghost invariant = { λ v. (vec_len v.items ≤ v.room) × (v.room ≤ vec_capacity v.items) };
+    ghost invariant = { λ v. (vec_len v.items ≤ v.room) × (vec_capacity v.items ≡ v.room) };
 }
 
 impl<T: Copy> Stack<T> {
@@ -48,6 +48,13 @@ impl<T: Copy> Stack<T> {
         ensures { result ≡ self.now.room }
     {
         self.room
+    }
+
+    /// How many items there is memory for, as its vector tells.
+    pub fn memory(&self) -> usize
+        ensures { result ≡ self.now.room }
+    {
+        self.items.capacity()
     }
 
     /// Whether there is no item.

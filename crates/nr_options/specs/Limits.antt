@@ -37,13 +37,6 @@ AreLimits b =
 abbrev pub default_bounds : Bounds
 default_bounds = record { stored = 262144; depth = 256; cells = 65536; expansions = 1000000 }
 
--- one limit of them
-abbrev pub bound_of : Limit → Bounds → ℕ
-bound_of Stored b = b.stored
-bound_of Depth b = b.depth
-bound_of Cells b = b.cells
-bound_of Expansions b = b.expansions
-
 -- that limit set, and the others as they were
 abbrev pub with_bound : Limit → ℕ → Bounds → Bounds
 with_bound Stored n b = record b { stored = n }

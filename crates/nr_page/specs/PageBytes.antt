@@ -1,4 +1,5 @@
 -- The bytes of a page. (CSTR 54, sections 2.2 and 3.)
+use Prim.Native.Char.{code}
 use Rattle.std.specs.Prelude.{ℕ, ◌+◌, max, List, [], ◌∷◌, ◌++◌, length, map, ◌&&◌, if◌then◌else◌}
 use Rattle.std.specs.List.{fold, flat_map, range_with_len}
 use Rattle.std.specs.Char.{is_ascii_alphanumeric}
@@ -8,7 +9,7 @@ use Rattle.nr_page.specs.Grid.{Placed, on_row, cell_at}
 
 -- an underlined letter or digit is written as `_`, a backspace and its byte, and any other cell as its byte
 abbrev pub cell_bytes : Cell → List ℕ
-cell_bytes cell = if cell.under && is_ascii_alphanumeric cell.byte then 95 ∷ 8 ∷ cell.byte ∷ [] else cell.byte ∷ []
+cell_bytes cell = if cell.under && is_ascii_alphanumeric cell.byte then code "_" ∷ 8 ∷ cell.byte ∷ [] else cell.byte ∷ []
 
 -- how many columns the longest of the lines has
 abbrev pub column_count : List Placed → ℕ
@@ -24,7 +25,7 @@ row_cells lines row = trimmed (map (cell_at lines row) (range_with_len 0 (column
 
 -- the bytes of a row, with the newline behind it
 abbrev pub row_bytes : List Placed → ℕ → List ℕ
-row_bytes lines row = flat_map cell_bytes (row_cells lines row) ++ 10 ∷ []
+row_bytes lines row = flat_map cell_bytes (row_cells lines row) ++ code "\n" ∷ []
 
 -- as many rows as asked for, or down to the lowest line where that is more
 abbrev pub page_bytes : ℕ → List Placed → List ℕ

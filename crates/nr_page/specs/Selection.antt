@@ -1,4 +1,5 @@
 -- Page selection: how a page list is spelled, and which pages it selects. (CSTR 54, usage, option -o.)
+use Prim.Native.Char.{code}
 use Rattle.std.specs.Prelude.{◌≡◌, ℕ, ◌≤◌, List, [], ◌∷◌, ◌++◌, length, Option, Some, None, Any, ℤ, pos, ◌≤ℤ◌}
 use Rattle.std.specs.Str.Parse.{IsNumeral, digits_value}
 use Rattle.nr_page.specs.declared.selection.PageRange.{PageRange}
@@ -6,10 +7,10 @@ use Rattle.nr_page.specs.declared.selection.PageRange.TheVariants.{One, Between,
 
 -- the bytes `,` and `-`
 abbrev pub comma : ℕ
-comma = 44
+comma = code ","
 
 abbrev pub hyphen : ℕ
-hyphen = 45
+hyphen = code "-"
 
 -- the text is decimal digits that write n: one or more, leading zeros allowed, no sign; n is at most 2147483647
 pub record WritesNumber (n : ℕ) (text : List ℕ) : Type 0 where

@@ -18,14 +18,14 @@ pub(crate) struct GapVec<T: Copy> {
 }
 
 impl<T: Copy> Model for GapVec<T> {
-    ghost use Rattle.std.specs.Prelude.{◌+◌, ◌≤◌, ◌++◌, take, drop, vec_len, vec_capacity};
+    ghost use Rattle.std.specs.Prelude.{◌≡◌, ◌+◌, ◌≤◌, ◌++◌, take, drop, vec_len, vec_capacity};
     ghost use Rattle.nr_units.specs.Items.{Items};
 
     ghost Value = { Items T };
 
     ghost view = { λ v. record { items = take v.front v.slots.items ++ drop (v.front + v.gap) v.slots.items; room = v.room } };
 
-    ghost invariant = { λ v. (v.front + v.gap ≤ vec_len v.slots) × ((vec_len v.slots ≤ v.room) × (v.room ≤ vec_capacity v.slots)) };
+    ghost invariant = { λ v. (v.front + v.gap ≤ vec_len v.slots) × ((vec_len v.slots ≤ v.room) × (vec_capacity v.slots ≡ v.room)) };
 }
 
 impl<T: Copy> GapVec<T> {
@@ -40,6 +40,12 @@ impl<T: Copy> GapVec<T> {
             gap: 0,
             room,
         })
+    }
+
+    pub(crate) fn memory(&self) -> usize
+        ensures { result ≡ self.now.room }
+    {
+        self.slots.capacity()
     }
 
     pub(crate) fn len(&self) -> usize
@@ -104,7 +110,7 @@ fn make_gap<T: Copy>(slots: &mut Vec<T>, room: usize, place: usize, gap: usize, 
     ensures some { 0 < result }
     ensures here { place + result ≤ vec_len slots.new }
     ensures within { vec_len slots.new ≤ room }
-    ensures capacity { room ≤ vec_capacity slots.new }
+    ensures capacity { vec_capacity slots.new ≡ vec_capacity slots.old }
 {
     if gap > 0 {
         return gap;

@@ -93,6 +93,19 @@ impl Page {
         })
     }
 
+    /// How many elements there is memory for, as the vectors tell.
+    pub fn memory(&self) -> PageRoom
+        ensures cells { result.cells ≡ self.now.limit }
+        ensures texts { result.texts ≡ self.now.limit / 2 }
+        ensures rows { result.rows ≡ self.now.limit / 2 }
+    {
+        PageRoom {
+            cells: self.texts.element_memory(),
+            texts: self.texts.text_memory(),
+            rows: self.rows.memory(),
+        }
+    }
+
     /// The charge of the lines that the page holds: 1 and the cells for each.
     pub fn charge(&self) -> usize
         ensures some { (lines : List Placed) × Holds lines self.now }

@@ -182,10 +182,3 @@ exchanged_removed E F slots mid u i next packed held exchanged =
       spares = λ count spares. gone.spares count (exchanged.spares count next spares);
       texts = gone.texts ∙ ap (λ q. without_text q i) exchanged.same;
     }
-
--- as vectors show it
-pub shown_removed : {T : Type 0} (E shown F : List T) (slots now news : List Slot) (u i next m k : ℕ) → shown ≡ E → now ≡ slots → length F ≡ m → length news ≡ k → IsRemoved shown F now news u i next
-    → IsRemoved E (take m (F ++ drop (length F) E)) slots (take k (news ++ drop (length news) slots)) u i next
-shown_removed E shown F slots now news u i next m k shown_is now_is long many gone =
-    rw (take_at F (drop (length F) E) m long, take_at news (drop (length news) slots) k many)
-    (subst (λ xs. IsRemoved xs F slots news u i next) shown_is (subst (λ xs. IsRemoved shown F xs news u i next) now_is gone))

@@ -151,29 +151,3 @@ spares_close slots count first i new spares within held none start =
         ]
       ];
     }
-
--- a new slot is the only spare one where there was none
-pub spares_more : (slots : List Slot) (first : ℕ) → HasSpares slots 0 first → HasSpares (slots ++ blank_slot ∷ []) 1 (length slots)
-spares_more slots first spares =
-    let here : slot_at (slots ++ blank_slot ∷ []) (length slots) ≡ blank_slot = get_or-append_at slots in
-    let at_first : (k : ℕ) → k < 1 → spare_at (slots ++ blank_slot ∷ []) (length slots) k ≡ length slots = λ k below. let is : k ≡ 0 = omega arith in rw is refl in
-    let longer = length-append slots (blank_slot ∷ []) in
-    record {
-      counted = let counted = spares.counted in omega (arith, sum_by-append taken slots (blank_slot ∷ []));
-      within = λ k below. rw (at_first k below) (omega arith);
-      unheld = λ k below. rw (at_first k below) (ap (λ (s : Slot). s.holders) here);
-      distinct = λ j k j_below k_below _. omega arith;
-    }
-  where
-    get_or-append_at : (xs : List Slot) → slot_at (xs ++ blank_slot ∷ []) (length xs) ≡ blank_slot
-    get_or-append_at [] = refl
-    get_or-append_at (x ∷ xs) = get_or-append_at xs
-
--- no slots
-pub no_spares : (first : ℕ) → HasSpares [] 0 first
-no_spares first = record {
-  counted = refl;
-  within = λ k below. absurd (omega arith);
-  unheld = λ k below. absurd (omega arith);
-  distinct = λ j k j_below k_below e. absurd (omega arith);
-}

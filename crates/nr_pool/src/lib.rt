@@ -64,7 +64,7 @@ pub struct Pool<T: Copy> {
 }
 
 impl<T: Copy> Model for Pool<T> {
-    ghost use Rattle.std.specs.Prelude.{◌≤◌, vec_capacity};
+    ghost use Rattle.std.specs.Prelude.{◌≡◌, vec_capacity};
     ghost use Rattle.nr_pool.specs.Texts.{Texts};
     ghost use Rattle.nr_pool.specs.Rooms.{texts_within, IsKept};
 
@@ -72,7 +72,7 @@ impl<T: Copy> Model for Pool<T> {
 
     ghost view = { λ p. texts_within p.capacity p.most p.elements.items p.slots.items };
 
-    ghost invariant = { λ p. IsKept p.elements.items p.slots.items p.used p.spares p.first_spare p.capacity p.most × ((p.capacity ≤ vec_capacity p.elements) × (p.most ≤ vec_capacity p.slots)) };
+    ghost invariant = { λ p. IsKept p.elements.items p.slots.items p.used p.spares p.first_spare p.capacity p.most × ((vec_capacity p.elements ≡ p.capacity) × (vec_capacity p.slots ≡ p.most)) };
 }
 
 impl Id {
@@ -130,6 +130,20 @@ impl<T: Copy> Pool<T> {
         self.first_spare = slot.start;
         self.spares = spares - 1;
         Ok(Id { index })
+    }
+
+    /// How many elements there is memory for, as their vector tells.
+    pub fn element_memory(&self) -> usize
+        ensures { result ≡ self.now.capacity }
+    {
+        self.elements.capacity()
+    }
+
+    /// How many texts there is memory for, as their vector tells.
+    pub fn text_memory(&self) -> usize
+        ensures { result ≡ length self.now.texts }
+    {
+        self.slots.capacity()
     }
 
     /// How many elements all texts have.

@@ -73,7 +73,7 @@ pub(crate) fn spare_of(
     ensures spares { IfSome result (λ found. HasSpares slots.new.items found.0 found.1) }
     ensures same { (slots.new.items ≡ slots.old.items) ⊎ (slots.new.items ≡ slots.old.items ++ blank_slot ∷ []) }
     ensures few { vec_len slots.new ≤ most }
-    ensures room { most ≤ vec_capacity slots.new }
+    ensures room { vec_capacity slots.new ≡ vec_capacity slots.old }
 {
     if count > 0 {
         return Some((count, first));

@@ -177,10 +177,6 @@ left_once k taken b fs h j new has within look some left =
     subst (λ t. HasMet (k + 1) fs h (quiet t new)) none
     (met_counted k taken 0 b fs h j new (record { event = events.Nothing; takes = false }) has within look some (sym left) (pays_for (fronts.Byte b) j new (record { event = events.Nothing; takes = false }) (sym left) look) refl)
 
--- where so many items, that many moves, were met behind a place, and the last told this
-abbrev pub MetBehind : List Front → ℕ → ℕ → Half → Half → Event → Type 0
-MetBehind fs place count old new e = (h : Half) (k : ℕ) → HasMet k fs h (quiet place old) → HasMet (k + count) fs h (record { taken = place + count; half = new; event = e })
-
 -- with nothing asked and nothing due
 plainly : (h : Half) → interpolates h ≡ true → h.reading.due ≡ dues.Look
     → (h ≡ half_at (at h.reading.mode escapes.Plain h.reading.continued h.reading.no_break) h.signs [] h.delimited h.notes) × (interpolates_in h.reading.mode h.signs ≡ true)
@@ -317,17 +313,6 @@ module _ (fs : List Front) (place : ℕ) (j : Half) (is : interpolates j ≡ tru
         (ap (slice_get fs) at_b ∙ third) (second_ends c n j.signs j.delimited j.notes k a b j.reading.mode kind apart_b) in
         recount (m + before + 1 + 1 + 1) (m + (before + 3)) (place + before + 1 + 1 + 1) (place + (before + 3)) (named k (a ∷ b ∷ []) there) (named k (a ∷ b ∷ []) j) (event_of k (a ∷ b ∷ [])) fs h three (omega arith) (omega arith)
         (ap (named k (a ∷ b ∷ [])) (sym j_is))
-
--- where nothing is told behind a name something is due
-pub named_waits : (k : Kind) (name : List ℕ) → is_named k ≡ true → event_of k name ≡ events.Nothing → due_of k name ≡ dues.Look → ⊥
-named_waits kinds.String name is silent look = let wrong : ⊥ = cc in wrong
-named_waits kinds.Font name is silent look = let wrong : ⊥ = cc in wrong
-named_waits (kinds.Register s) name is silent look = by (is_given name) silent look
-  where
-    by : (given : Bool) → (if given then events.Given else events.Nothing) ≡ events.Nothing → (if given then dues.Look else dues.Register s) ≡ dues.Look → ⊥
-    by true silent look = let wrong : ⊥ = cc in wrong
-    by false silent look = let wrong : ⊥ = cc in wrong
-named_waits k name is silent look = let wrong : false ≡ true = is in cc
 
 -- ---- behind the name of a font
 

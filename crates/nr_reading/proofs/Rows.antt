@@ -142,10 +142,6 @@ apart_from test b c is not = ne_eqb b c (λ e. absurd (let wrong : false ≡ tru
 pub recount : (fs : List Front) (from made : ℕ) (to to' moves moves' : ℕ) (old new : Half) → LeadsOn fs from made old to moves new → to ≡ to' → moves ≡ moves' → LeadsOn fs from made old to' moves' new
 recount fs from made to to' moves moves' old new leads place count = subst (λ m. LeadsOn fs from made old to' m new) count (subst (λ t. LeadsOn fs from made old t moves new) place leads)
 
--- the same of a run, as the program counts it
-pub recount_rest : (fs : List Front) (from made : ℕ) (old new : Half) (run run' : Run) → MeetsRest fs from made old run new → run ≡ run' → MeetsRest fs from made old run' new
-recount_rest fs from made old new run run' rest is = subst (λ (r : Run). MeetsRest fs from made old r new) is rest
-
 -- ---- blanks
 
 -- one literal blank or the other

@@ -1,4 +1,5 @@
 -- What an escape still has to read (CSTR 54, escape sequences; the groff manual, Identifiers).
+use Prim.Native.Char.{code}
 use Rattle.std.specs.Prelude.{ℕ, ◌-◌, ◌==◌, ◌&&◌, ◌||◌, not, nat_le, Bool, true, false, if◌then◌else◌, List, [], ◌∷◌}
 use Rattle.nr_reading.specs.declared.ask.Sign.TheVariants as signs
 use Rattle.nr_reading.specs.declared.ask.Kind.{Kind}
@@ -52,7 +53,7 @@ is_unsigned (kinds.Register signs.None) = true
 is_unsigned k = false
 
 abbrev pub is_digit : ℕ → Bool
-is_digit b = nat_le 48 b && nat_le b 57
+is_digit b = nat_le (code "0") b && nat_le b (code "9")
 
 -- ---- what is read of an escape
 
@@ -90,15 +91,15 @@ spoiled a = record a { name = record a.name { bad = true } }
 
 -- the number of an argument is 1 to 9; another byte gives nothing
 abbrev pub argument_asked : ℕ → Ask → Answer
-argument_asked b a = if nat_le 49 b && nat_le b 57 then answers.Argument (b - 49) else answers.Ends a
+argument_asked b a = if nat_le (code "1") b && nat_le b (code "9") then answers.Argument (b - 49) else answers.Ends a
 
 -- a name is one byte, or `(` and two, or in brackets where names may be long; a register's may have a sign before it
 abbrev pub answer_first : ℕ → Bool → Ask → Answer
 answer_first b long a =
-    if b == 40 then answers.Goes (at_stage stages.Two a)
-    else (if (b == 91) && long then answers.Goes (at_stage stages.Bracket a)
-    else (if (b == 43) && is_unsigned a.kind then answers.Goes (of_kind (kinds.Register signs.Plus) a)
-    else (if (b == 45) && is_unsigned a.kind then answers.Goes (of_kind (kinds.Register signs.Minus) a)
+    if b == code "(" then answers.Goes (at_stage stages.Two a)
+    else (if (b == code "[") && long then answers.Goes (at_stage stages.Bracket a)
+    else (if (b == code "+") && is_unsigned a.kind then answers.Goes (of_kind (kinds.Register signs.Plus) a)
+    else (if (b == code "-") && is_unsigned a.kind then answers.Goes (of_kind (kinds.Register signs.Minus) a)
     else answers.Ends (with_byte b a))))
 
 abbrev pub answer_two : ℕ → Ask → Answer
@@ -106,14 +107,14 @@ answer_two b a = if is_empty a.name.bytes then answers.Goes (with_byte b a) else
 
 abbrev pub answer_bracket : ℕ → Ask → Answer
 answer_bracket b a =
-    if b == 93 then answers.Ends a
+    if b == code "]" then answers.Ends a
     else (if is_blank b then answers.Goes (spoiled a) else answers.Goes (with_byte b a))
 
 -- `\sN`: one digit, and another behind an unsigned 1, 2 or 3
 abbrev pub answer_digit : ℕ → Bool → Ask → Answer
 answer_digit b signed a =
     if not (is_digit b) then answers.Stops a
-    else (if not signed && nat_le 49 b && nat_le b 51 then answers.Goes (at_stage stages.Second a) else answers.Ends a)
+    else (if not signed && nat_le (code "1") b && nat_le b (code "3") then answers.Goes (at_stage stages.Second a) else answers.Ends a)
 
 -- a byte that is no newline
 abbrev pub answer_byte : ℕ → Bool → Stage → Ask → Answer
@@ -123,7 +124,7 @@ answer_byte b long stages.Bracket a = answer_bracket b a
 answer_byte b long stages.Delimiter a = answers.Goes (at_stage (stages.Inside b) a)
 answer_byte b long (stages.Inside d) a = if b == d then answers.Ends a else answers.Keeps b
 answer_byte b long stages.Sign a =
-    if (b == 43) || (b == 45) then answers.Goes (at_stage (stages.Digit true) a) else answers.Turns (at_stage (stages.Digit false) a)
+    if (b == code "+") || (b == code "-") then answers.Goes (at_stage (stages.Digit true) a) else answers.Turns (at_stage (stages.Digit false) a)
 answer_byte b long (stages.Digit signed) a = answer_digit b signed a
 answer_byte b long stages.Second a = if is_digit b then answers.Ends a else answers.Stops a
 
@@ -134,16 +135,16 @@ cut s a = a
 
 -- an element comes
 abbrev pub answer : ℕ → Bool → Ask → Answer
-answer b long a = if b == 10 then answers.Stops (cut a.stage a) else answer_byte b long a.stage a
+answer b long a = if b == code "\n" then answers.Stops (cut a.stage a) else answer_byte b long a.stage a
 
 -- ---- it has ended
 
 -- The formatter gives the values of `%`, `nl`, `dn`, `dl`, and of all registers whose names begin with `.`.
 abbrev pub is_given : List ℕ → Bool
 is_given [] = false
-is_given (b ∷ []) = (b == 46) || (b == 37)
-is_given (b ∷ c ∷ []) = (b == 46) || ((b == 110) && (c == 108)) || ((b == 100) && ((c == 110) || (c == 108)))
-is_given (b ∷ c ∷ d ∷ bs) = b == 46
+is_given (b ∷ []) = (b == code ".") || (b == code "%")
+is_given (b ∷ c ∷ []) = (b == code ".") || ((b == code "n") && (c == code "l")) || ((b == code "d") && ((c == code "n") || (c == code "l")))
+is_given (b ∷ c ∷ d ∷ bs) = b == code "."
 
 -- a string or a register is spliced
 abbrev pub due_of : Kind → List ℕ → Due

@@ -1,4 +1,5 @@
 -- Braces in a row of items.
+use Prim.Native.Char.{code}
 use Rattle.std.specs.Prelude.{ℕ, ◌+◌, ◌==◌, ◌&&◌, Bool, false, List, slice_get, Option, Some}
 use Rattle.nr_reading.specs.declared.front.Front.{Front}
 use Rattle.nr_reading.specs.declared.front.Front.TheVariants as fronts
@@ -10,8 +11,8 @@ is_byte b f = false
 
 -- the first two items are `\` and `}`
 abbrev pub begins_with_brace : List Front → Bool
-begins_with_brace fs = is_byte 92 (slice_get fs 0) && is_byte 125 (slice_get fs 1)
+begins_with_brace fs = is_byte (code "\\") (slice_get fs 0) && is_byte (code "}") (slice_get fs 1)
 
 -- `\` and `{` stand at a place
 abbrev pub opens_at : ℕ → List Front → Bool
-opens_at place fs = is_byte 92 (slice_get fs place) && is_byte 123 (slice_get fs (place + 1))
+opens_at place fs = is_byte (code "\\") (slice_get fs place) && is_byte (code "{") (slice_get fs (place + 1))

@@ -1,4 +1,5 @@
 -- Control lines: names, the lines of requests, and the arguments of macros (CSTR 54, 1.1, 7.3).
+use Prim.Native.Char.{code}
 use Rattle.std.specs.Prelude.{ℕ, ◌==◌, ◌&&◌, not, Bool, if◌then◌else◌, length}
 use Rattle.nr_reading.specs.declared.event.Event.TheVariants as events
 use Rattle.nr_reading.specs.declared.mode.Due.TheVariants as dues
@@ -26,7 +27,7 @@ read_name b long name r =
 
 -- An empty or unknown name: the line is read in copy mode and dropped.
 abbrev pub read_drop : ℕ → Reading → Step
-read_drop b r = if b == 10 then go (to modes.Start r) else go r
+read_drop b r = if b == code "\n" then go (to modes.Start r) else go r
 
 -- ---- requests
 
@@ -35,7 +36,7 @@ read_request_blanks b r = if is_blank b then go r else leave_noting notes.NewLin
 
 -- All arguments and the newline are read first.
 abbrev pub read_request_line : ℕ → Reading → Step
-read_request_line b r = if b == 10 then tell events.Request (to modes.Start r) else noting (notes.Line b) r
+read_request_line b r = if b == code "\n" then tell events.Request (to modes.Start r) else noting (notes.Line b) r
 
 -- ---- macros
 
@@ -45,23 +46,23 @@ read_macro_blanks b r = if is_blank b then go r else leave (to modes.MacroGap r)
 -- Arguments are separated by spaces; a quote at the beginning groups.
 abbrev pub read_macro_gap : ℕ → Reading → Step
 read_macro_gap b r =
-    if b == 10 then go (due dues.Call (to modes.Start r))
-    else (if b == 32 then go r
-    else (if b == 34 then go (to modes.Quoted r)
+    if b == code "\n" then go (due dues.Call (to modes.Start r))
+    else (if b == code " " then go r
+    else (if b == code "\"" then go (to modes.Quoted r)
     else go (due (dues.Put b) (to modes.Word r))))
 
 -- A newline stays behind the argument that it ends.
 abbrev pub read_word : ℕ → Reading → Step
 read_word b r =
-    if b == 10 then leave (due dues.EndArgument (to modes.MacroGap r))
-    else (if b == 32 then go (due dues.EndArgument (to modes.MacroGap r)) else go (due (dues.Put b) r))
+    if b == code "\n" then leave (due dues.EndArgument (to modes.MacroGap r))
+    else (if b == code " " then go (due dues.EndArgument (to modes.MacroGap r)) else go (due (dues.Put b) r))
 
 abbrev pub read_quoted : ℕ → Reading → Step
 read_quoted b r =
-    if b == 10 then leave (due dues.EndArgument (to modes.MacroGap r))
-    else (if b == 34 then go (to modes.Quote r) else go (due (dues.Put b) r))
+    if b == code "\n" then leave (due dues.EndArgument (to modes.MacroGap r))
+    else (if b == code "\"" then go (to modes.Quote r) else go (due (dues.Put b) r))
 
 -- Two quotes are one; a single one ends the argument.
 abbrev pub read_quote : ℕ → Reading → Step
 read_quote b r =
-    if b == 34 then go (due (dues.Put 34) (to modes.Quoted r)) else leave (due dues.EndArgument (to modes.MacroGap r))
+    if b == code "\"" then go (due (dues.Put (code "\"")) (to modes.Quoted r)) else leave (due dues.EndArgument (to modes.MacroGap r))

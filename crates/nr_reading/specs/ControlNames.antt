@@ -1,4 +1,5 @@
 -- The name of a control line, met at once (CSTR 54, 1.1).
+use Prim.Native.Char.{code}
 use Rattle.std.specs.Prelude.{◌≡◌, ℕ, ◌<◌, ◌==◌, ◌||◌, not, Bool, true, false, List, length, slice_get, Some}
 use Rattle.nr_reading.specs.declared.front.Front.{Front}
 use Rattle.nr_reading.specs.declared.front.Front.TheVariants as fronts
@@ -11,7 +12,7 @@ use Rattle.nr_reading.specs.Spelling.{ends_name}
 
 -- the byte goes on a name, and begins no escape
 abbrev pub goes_on_name : ℕ → Bool
-goes_on_name b = not (ends_name b || (b == 92))
+goes_on_name b = not (ends_name b || (b == code "\\"))
 
 -- the byte is the control character, or the no-break one
 abbrev pub IsSign : ℕ → Bool → Signs → Type 0

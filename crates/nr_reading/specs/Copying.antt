@@ -1,4 +1,5 @@
 -- Copy mode and argument mode: what the item in front is (CSTR 54, 7.2; the groff manual, Copy Mode).
+use Prim.Native.Char.{code}
 use Rattle.std.specs.Prelude.{ℕ, ◌==◌, ◌&&◌, Bool, if◌then◌else◌}
 use Rattle.nr_units.specs.declared.cell.Cell.{Cell}
 use Rattle.nr_reading.specs.declared.ask.Kind.TheVariants as kinds
@@ -14,23 +15,23 @@ use Rattle.nr_reading.specs.declared.mode.Escape.TheVariants as escapes
 -- `\t` and `\a` become tab and SOH, `\\` becomes `\`, `\.` becomes `.`. Before any other byte the `\` is kept.
 abbrev pub escaped : ℕ → Bool → Offer
 escaped b argument =
-    if b == 92 then offers.Byte 92
-    else (if b == 46 then offers.Byte 46
-    else (if b == 116 then offers.Byte 9
-    else (if b == 97 then offers.Byte 1
-    else (if b == 10 then offers.Skip escapes.Plain
-    else (if b == 34 then offers.Skip escapes.Comment
-    else (if b == 42 then offers.Begin kinds.String
-    else (if b == 36 then offers.Begin kinds.Argument
-    else (if b == 110 then offers.Begin (kinds.Register signs.None)
-    else (if (b == 119) && argument then offers.Begin kinds.Width
+    if b == code "\\" then offers.Byte (code "\\")
+    else (if b == code "." then offers.Byte (code ".")
+    else (if b == code "t" then offers.Byte (code "\t")
+    else (if b == code "a" then offers.Byte 1
+    else (if b == code "\n" then offers.Skip escapes.Plain
+    else (if b == code "\"" then offers.Skip escapes.Comment
+    else (if b == code "*" then offers.Begin kinds.String
+    else (if b == code "$" then offers.Begin kinds.Argument
+    else (if b == code "n" then offers.Begin (kinds.Register signs.None)
+    else (if (b == code "w") && argument then offers.Begin kinds.Width
     else offers.Backslash)))))))))
 
 -- a byte, by what of an escape was read; a comment vanishes up to the newline
 abbrev pub offer_byte : ℕ → Escape → Bool → Offer
-offer_byte b escapes.Plain argument = if b == 92 then offers.Skip escapes.Begun else offers.Byte b
+offer_byte b escapes.Plain argument = if b == code "\\" then offers.Skip escapes.Begun else offers.Byte b
 offer_byte b escapes.Begun argument = escaped b argument
-offer_byte b escapes.Comment argument = if b == 10 then offers.Byte 10 else offers.Skip escapes.Comment
+offer_byte b escapes.Comment argument = if b == code "\n" then offers.Byte (code "\n") else offers.Skip escapes.Comment
 
 -- A cell of a diversion is read as its byte, which never begins an escape.
 abbrev pub offer_cell : Cell → Escape → Offer
@@ -41,7 +42,7 @@ offer_cell c escapes.Comment = offers.Skip escapes.Comment
 -- Its line end is read as a newline.
 abbrev pub offer_line_end : Escape → Offer
 offer_line_end escapes.Begun = offers.Backslash
-offer_line_end e = offers.Byte 10
+offer_line_end e = offers.Byte (code "\n")
 
 -- A resume mark and the empty list end what is read.
 abbrev pub offer_over : Escape → Offer

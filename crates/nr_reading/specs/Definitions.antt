@@ -1,4 +1,5 @@
 -- Definitions of macros (CSTR 54, 7.1; the groff manual, Writing Macros).
+use Prim.Native.Char.{code}
 use Rattle.std.specs.Prelude.{ℕ, ◌+◌, ◌==◌, ◌&&◌, ◌||◌, not, nat_lt, Bool, if◌then◌else◌, List, [], ◌∷◌, length, slice_index, Option, None, Some}
 use Rattle.nr_reading.specs.declared.mode.Due.{Due}
 use Rattle.nr_reading.specs.declared.mode.Due.TheVariants as dues
@@ -12,7 +13,7 @@ use Rattle.nr_reading.specs.Steps.{to, due, go, leave}
 
 -- the first bytes of the line that ends the definition: `.` and a name, or two dots
 abbrev pub last_line : Defining → List ℕ
-last_line d = 46 ∷ (if is_empty d.ending then 46 ∷ [] else d.ending)
+last_line d = code "." ∷ (if is_empty d.ending then code "." ∷ [] else d.ending)
 
 -- a blank or the newline has to follow them
 abbrev pub ends_whole : Defining → Bool
@@ -27,7 +28,7 @@ abbrev pub released : Defining → ℕ → Option ℕ → Due
 released d held b = if d.keeps then dues.Release held 0 b else dues.Look
 
 abbrev pub in_body : ℕ → Mode
-in_body b = if b == 10 then modes.BodyStart 0 else modes.Body
+in_body b = if b == code "\n" then modes.BodyStart 0 else modes.Body
 
 -- the line is not the last: the bytes that were held back belong to the text
 abbrev pub not_last : ℕ → Defining → ℕ → Reading → Step
@@ -43,14 +44,14 @@ abbrev pub read_body_start : ℕ → Defining → ℕ → Reading → Step
 read_body_start b d held r =
     if nat_lt held (length (last_line d)) then
     (if b == slice_index (last_line d) held then go (to (nearer_last d held) r) else not_last b d held r)
-    else (if (b == 10) || is_blank b then leave (to modes.BodyEnd r) else not_last b d held r)
+    else (if (b == code "\n") || is_blank b then leave (to modes.BodyEnd r) else not_last b d held r)
 
 abbrev pub read_body : ℕ → Defining → Reading → Step
 read_body b d r = go (due (kept_byte d b) (to (in_body b) r))
 
 -- The rest of the last line is dropped; then the text takes its name; then the macro that ended it is called.
 abbrev pub read_body_end : ℕ → Reading → Step
-read_body_end b r = if b == 10 then go (due dues.DefineAndCall (to modes.Start r)) else go r
+read_body_end b r = if b == code "\n" then go (due dues.DefineAndCall (to modes.Start r)) else go r
 
 -- A definition that is open at the end of the input is kept as far as it was read.
 abbrev pub over_body_start : Defining → ℕ → Reading → Step

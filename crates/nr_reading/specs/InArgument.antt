@@ -1,4 +1,5 @@
 -- The midst of a macro's argument, where nothing is half read.
+use Prim.Native.Char.{code}
 use Rattle.std.specs.Prelude.{◌≢◌, ℕ, Bool, false, List}
 use Rattle.nr_reading.specs.declared.ask.Ask.{Ask}
 use Rattle.nr_reading.specs.declared.half.Half.{Half}
@@ -21,11 +22,11 @@ is_in_argument h = is_in_argument_at h.reading.mode h.reading.escape h.reading.d
 
 -- the byte that ends an argument: a quote one that began with a quote, else a blank; a newline ends what is defined
 abbrev pub ending_of : Mode → ℕ
-ending_of modes.Quoted = 34
-ending_of modes.StringText = 10
-ending_of modes.Body = 10
-ending_of m = 32
+ending_of modes.Quoted = code "\""
+ending_of modes.StringText = code "\n"
+ending_of modes.Body = code "\n"
+ending_of m = code " "
 
 -- In copy mode a byte stands for itself that is no `\` and no such ending; a newline ends anything.
 abbrev pub IsPlain : ℕ → ℕ → Type 0
-IsPlain ending b = (b ≢ ending) × (b ≢ 10) × (b ≢ 92)
+IsPlain ending b = (b ≢ ending) × (b ≢ code "\n") × (b ≢ code "\\")

@@ -1,4 +1,5 @@
 -- Bytes that a request's line, a condition's number or one of its strings takes.
+use Prim.Native.Char.{code}
 use Rattle.std.specs.Prelude.{◌≡◌, ℕ, ◌+◌, ◌≤◌, ◌==◌, ◌&&◌, ◌||◌, not, Bool, true, false, List, [], ◌∷◌, All, length, map}
 use Rattle.nr_reading.specs.declared.front.Front.TheVariants as fronts
 use Rattle.nr_reading.specs.declared.half.Half.{Half}
@@ -15,12 +16,12 @@ use Rattle.nr_reading.specs.Spelling.{is_blank}
 -- none of the bytes ends a number in which so many parentheses are open, or begins an escape
 abbrev pub are_in_number : List ℕ → ℕ → Bool
 are_in_number [] depth = true
-are_in_number (b ∷ bs) depth = not ((b == 92) || ends_number b depth) && are_in_number bs (parentheses b depth)
+are_in_number (b ∷ bs) depth = not ((b == code "\\") || ends_number b depth) && are_in_number bs (parentheses b depth)
 
 -- they begin a request's line, before which blanks may stand, and stay in it
 abbrev pub BeginLine : List ℕ → Type 0
 BeginLine [] = ⊥
-BeginLine (b ∷ bs) = (is_blank b ≡ false) × All (IsPlain 10) (b ∷ bs)
+BeginLine (b ∷ bs) = (is_blank b ≡ false) × All (IsPlain (code "\n")) (b ∷ bs)
 
 -- they begin a condition's number, and stay in it
 abbrev pub BeginNumber : List ℕ → Type 0
@@ -29,7 +30,7 @@ BeginNumber (b ∷ bs) = (begins_number b ≡ true) × (are_in_number (b ∷ bs)
 
 -- what is read in this mode takes all of the bytes, and goes on behind them
 abbrev pub IsKept : Mode → List ℕ → Type 0
-IsKept modes.RequestLine bytes = All (IsPlain 10) bytes
+IsKept modes.RequestLine bytes = All (IsPlain (code "\n")) bytes
 IsKept modes.RequestBlanks bytes = BeginLine bytes
 IsKept modes.Condition bytes = BeginNumber bytes
 IsKept (modes.Number depth) bytes = are_in_number bytes depth ≡ true

@@ -1,4 +1,5 @@
 -- The beginning of a text line, and its end.
+use Prim.Native.Char.{code}
 use Rattle.std.specs.Prelude.{◌≡◌, ℕ, ◌==◌, ◌||◌, not, Bool, false, List, []}
 use Rattle.nr_reading.specs.declared.ask.Ask.{Ask}
 use Rattle.nr_reading.specs.declared.half.Half.{Half}
@@ -19,7 +20,7 @@ begins_control b s = b == s.control || b == s.no_break
 
 -- the byte begins the text of a line, and no escape
 abbrev pub begins_text : ℕ → Signs → Bool
-begins_text b s = not ((b == 92) || (b == 10) || (b == 32) || begins_control b s)
+begins_text b s = not ((b == code "\\") || (b == code "\n") || (b == code " ") || begins_control b s)
 
 abbrev pub is_at_text_at : Mode → Escape → Due → List Ask → Bool
 is_at_text_at modes.Text escapes.Plain dues.Look asks = is_none asks

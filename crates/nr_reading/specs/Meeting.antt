@@ -1,4 +1,5 @@
 -- What the item in front does to what is half read.
+use Prim.Native.Char.{code}
 use Rattle.std.specs.Prelude.{ℕ, ◌&&◌, Bool, true, false, if◌then◌else◌, List, [], ◌∷◌, drop}
 use Rattle.nr_reading.specs.declared.ask.Ask.{Ask}
 use Rattle.nr_reading.specs.declared.ask.Answer.{Answer}
@@ -141,7 +142,7 @@ hear_by (a ∷ asks) front b h = answered front (answer b h.signs.long a) h
 
 abbrev pub over_by : List Ask → Half → Met
 over_by [] h = met_copied false (read_over h.signs h.notes h.reading) h
-over_by (a ∷ asks) h = answered false (answer 10 h.signs.long a) h
+over_by (a ∷ asks) h = answered false (answer (code "\n") h.signs.long a) h
 
 -- with another part of an escape read
 abbrev pub escaping : Escape → Half → Half
@@ -154,7 +155,7 @@ abbrev pub offered : Offer → Half → Met
 offered (offers.Skip e) h = silent (escaping e h)
 offered (offers.Begin k) h = silent (beginning k (escaping escapes.Plain h))
 offered (offers.Byte b) h = hear_by h.asks true b h
-offered offers.Backslash h = hear_by h.asks false 92 h
+offered offers.Backslash h = hear_by h.asks false (code "\\") h
 offered offers.Over h = over_by h.asks h
 
 -- what the item in front is to an escape

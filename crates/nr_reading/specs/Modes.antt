@@ -1,4 +1,5 @@
 -- Where the reader is.
+use Prim.Native.Char.{code}
 use Rattle.std.specs.Prelude.{Bool, true, false}
 use Rattle.nr_reading.specs.declared.mode.Mode.{Mode}
 use Rattle.nr_reading.specs.declared.mode.Mode.TheVariants as modes
@@ -44,7 +45,7 @@ at_a_line = record { mode = modes.Start; escape = escapes.Plain; due = dues.Look
 
 -- `.` and `'`, and names of two bytes (CSTR 54, 10.4; the groff manual, `.cp`)
 abbrev pub first_signs : Signs
-first_signs = record { control = 46; no_break = 39; long = false }
+first_signs = record { control = code "."; no_break = code "'"; long = false }
 
 -- where a line stands in whose middle a macro was sprung
 abbrev pub standing_of : Mode → Standing

@@ -1,4 +1,5 @@
 -- Bytes that are met many at once.
+use Prim.Native.Char.{code}
 use Rattle.std.specs.Prelude.{◌≡◌, ℕ, ◌==◌, ◌&&◌, ◌||◌, not, Bool, true, false, List}
 use Rattle.nr_reading.specs.declared.event.Event.TheVariants as events
 use Rattle.nr_reading.specs.declared.front.Front.{Front}
@@ -13,7 +14,7 @@ use Rattle.nr_reading.specs.Runs.{Spot, HasMet}
 
 -- the byte begins no escape, and ends no line
 abbrev pub is_plain : ℕ → Bool
-is_plain b = not ((b == 92) || (b == 10))
+is_plain b = not ((b == code "\\") || (b == code "\n"))
 
 -- In these modes such a byte does nothing; in a definition it does nothing where the text is not kept.
 abbrev pub drops_plain : Mode → Defining → Bool

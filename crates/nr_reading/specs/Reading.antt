@@ -1,4 +1,5 @@
 -- What the reader does with an item, by its mode.
+use Prim.Native.Char.{code}
 use Rattle.std.specs.Prelude.{ℕ, ◌==◌, Bool, true, false, if◌then◌else◌}
 use Rattle.nr_reading.specs.declared.front.Front.{Front}
 use Rattle.nr_reading.specs.declared.front.Front.TheVariants as fronts
@@ -55,7 +56,7 @@ read b s n r = read_by r.mode b s n r
 -- A resume mark or the empty list acts as a newline; at the beginning of a definition's line it ends the definition.
 abbrev pub read_over_by : Mode → Signs → Notes → Reading → Step
 read_over_by (modes.BodyStart held) s n r = over_body_start n.defining held r
-read_over_by m s n r = read_by m 10 s n r
+read_over_by m s n r = read_by m (code "\n") s n r
 
 abbrev pub read_over : Signs → Notes → Reading → Step
 read_over s n r = read_over_by r.mode s n r
@@ -84,7 +85,7 @@ behind_backslash m f s r = escaped f s.long r
 -- a comment vanishes up to the newline, or what acts as one
 abbrev pub ends_comment : Front → Bool
 ends_comment fronts.Mark = false
-ends_comment (fronts.Byte b) = b == 10
+ends_comment (fronts.Byte b) = b == code "\n"
 ends_comment (fronts.Cell c) = false
 ends_comment f = true
 

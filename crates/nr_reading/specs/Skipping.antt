@@ -1,4 +1,5 @@
 -- Accepted and rejected parts of conditionals, and diverted lines (CSTR 54, 16, 7.4).
+use Prim.Native.Char.{code}
 use Rattle.std.specs.Prelude.{ℕ, ◌-◌, ◌==◌, Bool, true, false, if◌then◌else◌, None, Some}
 use Rattle.nr_reading.specs.declared.event.Event.TheVariants as events
 use Rattle.nr_reading.specs.declared.front.Front.{Front}
@@ -15,18 +16,14 @@ use Rattle.nr_reading.specs.Steps.{to, go, leave, tell, leave_telling}
 use Rattle.nr_reading.specs.Text.{begin_escape, start}
 use Rattle.nr_reading.specs.TextEscapes.{plain}
 
-abbrev pub is_begun : Escape → Bool
-is_begun escapes.Begun = true
-is_begun e = false
-
 -- ---- accepted
 
 -- Blanks and `\{` are skipped; a newline right there ends the line without effect; what follows else is the beginning of a line.
 abbrev pub accepted_byte : ℕ → Reading → Step
 accepted_byte b r =
     if is_blank b then go r
-    else (if b == 10 then go (to modes.Start r)
-    else (if b == 92 then begin_escape r else leave (to modes.Start r)))
+    else (if b == code "\n" then go (to modes.Start r)
+    else (if b == code "\\" then begin_escape r else leave (to modes.Start r)))
 
 abbrev pub accepted : Front → Reading → Step
 accepted fronts.Mark r = go r
@@ -35,7 +32,7 @@ accepted f r = leave (to modes.Start r)
 
 abbrev pub accepted_escape : Front → Reading → Step
 accepted_escape fronts.Mark r = go r
-accepted_escape (fronts.Byte b) r = if b == 123 then go (plain r) else leave (to modes.Start r)
+accepted_escape (fronts.Byte b) r = if b == code "{" then go (plain r) else leave (to modes.Start r)
 accepted_escape f r = leave (to modes.Start r)
 
 -- ---- rejected
@@ -45,7 +42,7 @@ abbrev pub behind_newline : ℕ → Reading → Step
 behind_newline n r = if n == 0 then go (to modes.Start r) else go r
 
 abbrev pub skip_byte : ℕ → ℕ → Reading → Step
-skip_byte b n r = if b == 10 then behind_newline n r else (if b == 92 then begin_escape r else go r)
+skip_byte b n r = if b == code "\n" then behind_newline n r else (if b == code "\\" then begin_escape r else go r)
 
 abbrev pub skip : Front → ℕ → Reading → Step
 skip (fronts.Byte b) n r = skip_byte b n r
@@ -56,7 +53,7 @@ skip f n r = go r
 
 -- `\{` adds one, `\}` takes one away, not below 0.
 abbrev pub braces : ℕ → ℕ → ℕ
-braces b n = if b == 123 then one_more n else (if b == 125 then n - 1 else n)
+braces b n = if b == code "{" then one_more n else (if b == code "}" then n - 1 else n)
 
 -- `\` is skipped together with the next element.
 abbrev pub skip_escape : Front → ℕ → Reading → Step

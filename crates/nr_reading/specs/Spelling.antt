@@ -1,10 +1,11 @@
 -- Names as far as they were read (CSTR 54, 7.5; the groff manual, Identifiers).
+use Prim.Native.Char.{code}
 use Rattle.std.specs.Prelude.{ℕ, ◌==◌, ◌||◌, nat_le, Bool, true, false, if◌then◌else◌, List, [], ◌∷◌, ◌++◌, length}
 use Rattle.nr_reading.specs.declared.spelled.Spelled.{Spelled}
 
 -- a blank is a space or a tab
 abbrev pub is_blank : ℕ → Bool
-is_blank b = (b == 32) || (b == 9)
+is_blank b = (b == code " ") || (b == code "\t")
 
 -- a blank, a newline or another control byte
 abbrev pub ends_name : ℕ → Bool

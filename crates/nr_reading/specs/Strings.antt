@@ -1,4 +1,5 @@
 -- Definitions of strings, and transparent lines (CSTR 54, 7.1, 10.6).
+use Prim.Native.Char.{code}
 use Rattle.std.specs.Prelude.{ℕ, ◌==◌, Bool, if◌then◌else◌}
 use Rattle.nr_reading.specs.declared.mode.Due.TheVariants as dues
 use Rattle.nr_reading.specs.declared.mode.Mode.TheVariants as modes
@@ -27,11 +28,11 @@ read_string_name b long name r =
 abbrev pub read_string_blanks : ℕ → Reading → Step
 read_string_blanks b r =
     if is_blank b then go r
-    else (if b == 34 then go (due dues.Begin (to modes.StringText r)) else leave (due dues.Begin (to modes.StringText r)))
+    else (if b == code "\"" then go (due dues.Begin (to modes.StringText r)) else leave (due dues.Begin (to modes.StringText r)))
 
 abbrev pub read_string_text : ℕ → Reading → Step
-read_string_text b r = if b == 10 then go (due dues.Define (to modes.Start r)) else go (due (dues.Add b) r)
+read_string_text b r = if b == code "\n" then go (due dues.Define (to modes.Start r)) else go (due (dues.Add b) r)
 
 -- The line and its newline pass into the diversion.
 abbrev pub read_transparent : ℕ → Reading → Step
-read_transparent b r = if b == 10 then go (due (dues.Add 10) (to modes.Start r)) else go (due (dues.Add b) r)
+read_transparent b r = if b == code "\n" then go (due (dues.Add 10) (to modes.Start r)) else go (due (dues.Add b) r)

@@ -1,4 +1,5 @@
 -- Text lines (CSTR 54, 1.1, 4, 10).
+use Prim.Native.Char.{code}
 use Rattle.std.specs.Prelude.{ℕ, ◌+◌, ◌==◌, ◌-◌, ◌^◌, min, Bool, true, false, if◌then◌else◌}
 use Rattle.nr_reading.specs.declared.event.Event.{Event}
 use Rattle.nr_reading.specs.declared.event.Event.TheVariants as events
@@ -33,7 +34,7 @@ in_text e r = tell e (continuing false (to modes.Text r))
 -- Blanks at the beginning of a line: the first causes a break, unless the line continues a word.
 abbrev pub start_blank : Reading → Step
 start_blank r =
-    if r.continued then tell (events.Byte 32) (to modes.Continued r) else tell events.Leading (to (modes.Leading 1) r)
+    if r.continued then tell (events.Byte (code " ")) (to modes.Continued r) else tell events.Leading (to (modes.Leading 1) r)
 
 -- An empty text line; behind `\c` it only ends the word.
 abbrev pub start_newline : Reading → Step
@@ -47,9 +48,9 @@ abbrev pub start_byte : ℕ → Signs → Reading → Step
 start_byte b s r =
     if b == s.control then start_control false r
     else (if b == s.no_break then start_control true r
-    else (if b == 10 then start_newline r
-    else (if b == 92 then begin_escape r
-    else (if b == 32 then start_blank r
+    else (if b == code "\n" then start_newline r
+    else (if b == code "\\" then begin_escape r
+    else (if b == code " " then start_blank r
     else in_text (events.Byte b) r))))
 
 -- A cell at a line's beginning is a diverted line. A resume mark and the empty list are met here alone.
@@ -73,9 +74,9 @@ text_behind_blanks n r = leave (due (dues.Lead n) (to modes.Text r))
 
 abbrev pub leading_byte : ℕ → ℕ → Reading → Step
 leading_byte b n r =
-    if b == 10 then tell events.Empty (to modes.Start r)
-    else (if b == 32 then go (to (modes.Leading (one_blank_more n)) r)
-    else (if b == 92 then begin_escape r else text_behind_blanks n r))
+    if b == code "\n" then tell events.Empty (to modes.Start r)
+    else (if b == code " " then go (to (modes.Leading (one_blank_more n)) r)
+    else (if b == code "\\" then begin_escape r else text_behind_blanks n r))
 
 abbrev pub leading : Front → ℕ → Reading → Step
 leading fronts.Mark n r = go r
@@ -92,9 +93,9 @@ end_continued r = continuing false (to modes.Start r)
 
 abbrev pub continued_byte : ℕ → Reading → Step
 continued_byte b r =
-    if b == 10 then tell events.EndContinued (end_continued r)
-    else (if b == 32 then tell (events.Byte 32) r
-    else (if b == 92 then begin_escape r else in_text (events.Byte b) r))
+    if b == code "\n" then tell events.EndContinued (end_continued r)
+    else (if b == code " " then tell (events.Byte (code " ")) r
+    else (if b == code "\\" then begin_escape r else in_text (events.Byte b) r))
 
 abbrev pub continued : Front → Reading → Step
 continued fronts.Mark r = go r
@@ -119,8 +120,8 @@ end_event r = if is_interrupted r.mode then events.EndInterrupted else events.En
 
 abbrev pub text_byte : ℕ → Reading → Step
 text_byte b r =
-    if b == 10 then tell (end_event r) (ended r)
-    else (if b == 92 then begin_escape r else tell (events.Byte b) (to modes.Text r))
+    if b == code "\n" then tell (end_event r) (ended r)
+    else (if b == code "\\" then begin_escape r else tell (events.Byte b) (to modes.Text r))
 
 -- Cells inside a text line are cells of the word; a line end, a resume mark and the empty list end the line.
 abbrev pub text : Front → Reading → Step

@@ -1,4 +1,5 @@
 -- Titles (CSTR 54, 14).
+use Prim.Native.Char.{code}
 use Rattle.std.specs.Prelude.{ℕ, ◌==◌, if◌then◌else◌}
 use Rattle.nr_reading.specs.declared.event.Event.TheVariants as events
 use Rattle.nr_reading.specs.declared.front.Front.{Front}
@@ -17,8 +18,8 @@ ended_title r = to modes.Start r
 -- The delimiter is the first plain byte that isn't a blank.
 abbrev pub before_title_byte : ℕ → Reading → Step
 before_title_byte b r =
-    if b == 10 then tell events.TitleEnd (ended_title r)
-    else (if b == 92 then begin_escape r
+    if b == code "\n" then tell events.TitleEnd (ended_title r)
+    else (if b == code "\\" then begin_escape r
     else (if is_blank b then go r else tell events.TitlePart (to (modes.Title b 0) r)))
 
 abbrev pub before_title : Front → Reading → Step
@@ -36,8 +37,8 @@ next_part d n r = if n == 0 then to (modes.Title d 1) r else (if n == 1 then to 
 -- In a part a delimiter is judged first.
 abbrev pub title_byte : ℕ → ℕ → ℕ → Reading → Step
 title_byte b d n r =
-    if b == 10 then tell events.TitleEnd (ended_title r)
-    else (if b == 92 then begin_escape r
+    if b == code "\n" then tell events.TitleEnd (ended_title r)
+    else (if b == code "\\" then begin_escape r
     else (if b == d then tell events.TitlePart (next_part d n r) else tell (events.Byte b) r))
 
 abbrev pub title : Front → ℕ → ℕ → Reading → Step
@@ -50,4 +51,4 @@ title fronts.Over d n r = leave_telling events.TitleEnd (ended_title r)
 
 -- The rest of a title's line is read in copy mode, and dropped.
 abbrev pub read_title_rest : ℕ → Reading → Step
-read_title_rest b r = if b == 10 then tell events.TitleEnd (ended_title r) else go r
+read_title_rest b r = if b == code "\n" then tell events.TitleEnd (ended_title r) else go r

@@ -23,14 +23,14 @@ pub struct FixedVec<T: Copy> {
 }
 
 impl<T: Copy> Model for FixedVec<T> {
-    ghost use Rattle.std.specs.Prelude.{◌≤◌, take, vec_len, vec_capacity};
+    ghost use Rattle.std.specs.Prelude.{◌≡◌, ◌≤◌, take, vec_len, vec_capacity};
     ghost use Rattle.nr_units.specs.Items.{Items};
 
     ghost Value = { Items T };
 
     ghost view = { λ v. record { items = take v.len v.slots.items; room = v.room } };
 
-    ghost invariant = { λ v. (v.len ≤ vec_len v.slots) × ((vec_len v.slots ≤ v.room) × (v.room ≤ vec_capacity v.slots)) };
+    ghost invariant = { λ v. (v.len ≤ vec_len v.slots) × ((vec_len v.slots ≤ v.room) × (vec_capacity v.slots ≡ v.room)) };
 }
 
 impl<T: Copy> FixedVec<T> {
@@ -62,6 +62,13 @@ impl<T: Copy> FixedVec<T> {
         ensures holds { length self.now.items ≤ result }
     {
         self.room
+    }
+
+    /// How many items there is memory for, as its vector tells.
+    pub fn memory(&self) -> usize
+        ensures { result ≡ self.now.room }
+    {
+        self.slots.capacity()
     }
 
     /// The items.
@@ -242,7 +249,7 @@ fn fit<T: Copy>(slots: &mut Vec<T>, len: usize, more: &[T], room: usize)
     ensures front { take len slots.new.items ≡ take len slots.old.items }
     ensures least { len + length more.now ≤ vec_len slots.new }
     ensures held { vec_len slots.new ≤ room }
-    ensures room { room ≤ vec_capacity slots.new }
+    ensures room { vec_capacity slots.new ≡ vec_capacity slots.old }
 {
     let end = len + more.len();
     if end > slots.len() {

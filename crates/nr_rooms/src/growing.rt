@@ -16,7 +16,7 @@ pub fn lengthen<T: Copy>(items: &mut Vec<T>, least: usize, room: usize, item: T)
     ensures longer { vec_len items.old ≤ vec_len items.new }
     ensures least { least ≤ vec_len items.new }
     ensures held { vec_len items.new ≤ room }
-    ensures room { room ≤ vec_capacity items.new }
+    ensures room { vec_capacity items.new ≡ vec_capacity items.old }
 {
     if least > items.len() {
         grow(items, least, room, item);
@@ -33,9 +33,11 @@ fn grow<T: Copy>(items: &mut Vec<T>, least: usize, room: usize, item: T)
     ensures longer { vec_len items.old ≤ vec_len items.new }
     ensures least { least ≤ vec_len items.new }
     ensures held { vec_len items.new ≤ room }
-    ensures room { room ≤ vec_capacity items.new }
+    ensures room { vec_capacity items.new ≡ vec_capacity items.old }
 {
     let doubled = items.len().saturating_mul(2);
     let longer = least.max(doubled).max(LEAST).min(room);
-    items.resize(longer, item).unwrap();
+    for _ in items.len()..longer {
+        items.push_reserved(item);
+    }
 }

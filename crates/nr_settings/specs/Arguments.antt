@@ -1,9 +1,10 @@
 -- The arguments of a request's line. Blanks are spaces and tabs.
+use Prim.Native.Char.{code}
 use Rattle.std.specs.Prelude.{ℕ, ◌+◌, ◌-◌, Bool, not, ◌&&◌, ◌||◌, List, [], ◌∷◌, length, take, drop, min, ◌==◌, nat_lt, Option, Some, None, slice_get, if◌then◌else◌}
 use Rattle.std.specs.List.{prefix_len}
 
 abbrev pub is_blank : ℕ → Bool
-is_blank b = b == 32 || b == 9
+is_blank b = b == code " " || b == code "\t"
 
 -- what stands behind the blanks in front
 abbrev pub behind_blanks : List ℕ → List ℕ
@@ -15,7 +16,7 @@ word_len text = prefix_len (λ b. not (is_blank b)) text
 
 -- a number to a blank outside parentheses, so many being open; a `)` without `(` closes none.
 abbrev pub depth_behind : ℕ → ℕ → ℕ
-depth_behind depth b = if b == 40 then depth + 1 else if b == 41 then depth - 1 else depth
+depth_behind depth b = if b == code "(" then depth + 1 else if b == code ")" then depth - 1 else depth
 
 abbrev pub number_len : ℕ → List ℕ → ℕ
 number_len depth [] = 0

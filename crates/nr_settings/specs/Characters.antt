@@ -1,4 +1,5 @@
 -- Control characters, and which bytes print (CSTR 54, input and output conventions; control characters).
+use Prim.Native.Char.{code}
 use Rattle.std.specs.Prelude.{ℕ, Bool, not, ◌&&◌, List, ◌==◌, nat_le, Option, Some, None, pos, unwrap_or, if◌then◌else◌}
 use Rattle.nr_units.specs.declared.units.Scale.TheVariants.{Unit as OneUnit}
 use Rattle.nr_settings.specs.Arguments.{byte_in}
@@ -15,10 +16,10 @@ printing (Some byte) = if prints byte then Some byte else None
 
 -- `.cc c`, `.c2 c`: the control character and the one without a break; without c `.` and `'`
 abbrev pub cc : List ℕ → ℕ
-cc line = unwrap_or (byte_in line) 46
+cc line = unwrap_or (byte_in line) (code ".")
 
 abbrev pub c2 : List ℕ → ℕ
-c2 line = unwrap_or (byte_in line) 39
+c2 line = unwrap_or (byte_in line) (code "'")
 
 -- `.cp N` (groff, implementation differences): long names are on where N is 0
 abbrev pub cp : List ℕ → ℕ → Bool

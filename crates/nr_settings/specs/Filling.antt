@@ -1,4 +1,5 @@
 -- Filling, adjusting and centring (CSTR 54, filling, adjusting, and centering).
+use Prim.Native.Char.{code}
 use Rattle.std.specs.Prelude.{ℕ, ◌-◌, Bool, true, false, not, ◌&&◌, ◌||◌, List, ◌==◌, Option, Some, None, if◌then◌else◌}
 use Rattle.nr_settings.specs.Arguments.{byte_in}
 use Rattle.nr_settings.specs.Numbers.{counted_lines}
@@ -19,10 +20,10 @@ nf s = record s { fill = false }
 abbrev pub way_of : Option ℕ → Way → Way
 way_of None way = way
 way_of (Some c) way =
-    if c == 108 then Left
-    else if c == 114 then Right
-    else if c == 99 then Centre
-    else if c == 98 || c == 110 then Both
+    if c == code "l" then Left
+    else if c == code "r" then Right
+    else if c == code "c" then Centre
+    else if c == code "b" || c == code "n" then Both
     else way
 
 abbrev pub ad : List ℕ → Filling → Filling

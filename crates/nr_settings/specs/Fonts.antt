@@ -1,4 +1,5 @@
 -- Fonts and underlining (CSTR 54, font and character size control; underlining).
+use Prim.Native.Char.{code}
 use Rattle.std.specs.Prelude.{ℕ, ◌-◌, Bool, true, false, not, ◌||◌, List, [], ◌∷◌, ◌==◌, Option, Some, None, if◌then◌else◌}
 use Rattle.nr_units.specs.declared.cell.Cell.{Cell}
 use Rattle.nr_settings.specs.Arguments.{name_in}
@@ -10,10 +11,10 @@ use Rattle.nr_settings.specs.declared.fonts.Fonts.{Fonts}
 -- the font that a letter or digit names: R or 1, I or 2, B or 3; P the previous one
 abbrev pub font_by : Font → ℕ → Option Font
 font_by previous c =
-    if c == 82 || c == 49 then Some Roman
-    else if c == 73 || c == 50 then Some Italic
-    else if c == 66 || c == 51 then Some Bold
-    else if c == 80 then Some previous
+    if c == code "R" || c == code "1" then Some Roman
+    else if c == code "I" || c == code "2" then Some Italic
+    else if c == code "B" || c == code "3" then Some Bold
+    else if c == code "P" then Some previous
     else None
 
 -- the font of a name; the empty one names the previous font

@@ -1,4 +1,5 @@
 -- Horizontal motions and lines (CSTR 54, local horizontal motions; line drawing).
+use Prim.Native.Char.{code}
 use Rattle.std.specs.Prelude.{ℕ, ◌/◌, List, [], ◌∷◌, ◌==◌, drop, Option, Some, None, ℤ, pos, int_lt, unwrap_or, if◌then◌else◌}
 use Rattle.nr_units.specs.Units.{nearest_multiple}
 use Rattle.nr_units.specs.LongestFront.{read_of}
@@ -21,16 +22,16 @@ motion v here argument = motion_by (read_of (context Em v here) argument).value
 -- `\l'Nc'`: c behind the number, without c `_`. A `\&` before c is dropped; another escape, or a byte that prints
 -- nothing, gives `_`.
 abbrev pub first_printing : List ℕ → ℕ
-first_printing [] = 95
-first_printing (b ∷ bs) = if b == 92 then 95 else if prints b then b else 95
+first_printing [] = code "_"
+first_printing (b ∷ bs) = if b == code "\\" then code "_" else if prints b then b else code "_"
 
 abbrev pub behind_ampersand : List ℕ → ℕ
-behind_ampersand [] = 95
-behind_ampersand (b ∷ bs) = if b == 38 then first_printing bs else 95
+behind_ampersand [] = code "_"
+behind_ampersand (b ∷ bs) = if b == code "&" then first_printing bs else code "_"
 
 abbrev pub rule_byte : List ℕ → ℕ
-rule_byte [] = 95
-rule_byte (b ∷ bs) = if b == 92 then behind_ampersand bs else first_printing (b ∷ bs)
+rule_byte [] = code "_"
+rule_byte (b ∷ bs) = if b == code "\\" then behind_ampersand bs else first_printing (b ∷ bs)
 
 abbrev pub rule_read : List ℕ → Read → Repeated
 rule_read argument read = record { cells = unwrap_or (motion_by read.value) 0 / 24; byte = rule_byte (drop read.used argument) }

@@ -1,4 +1,5 @@
 -- Numbers in the arguments of requests (CSTR 54, numerical parameter input).
+use Prim.Native.Char.{code}
 use Rattle.std.specs.Prelude.{ℕ, Bool, false, List, [], ◌∷◌, ◌==◌, Option, Some, None, ℤ, pos, negsuc, neg_ℤ, ◌+ℤ◌, int_lt, if◌then◌else◌}
 use Rattle.std.specs.Option.{option_map}
 use Rattle.std.specs.Ordering.{int_eq}
@@ -23,8 +24,8 @@ value_of scale v here argument = (read_of (context scale v here) argument).value
 abbrev pub change_of : Scale → ℕ → ℤ → List ℕ → Option Change
 change_of scale v here [] = None
 change_of scale v here (b ∷ bs) =
-    if b == 43 then option_map By (value_of scale v here bs)
-    else if b == 45 then option_map (λ n. By (neg_ℤ n)) (value_of scale v here bs)
+    if b == code "+" then option_map By (value_of scale v here bs)
+    else if b == code "-" then option_map (λ n. By (neg_ℤ n)) (value_of scale v here bs)
     else option_map To (value_of scale v here (b ∷ bs))
 
 abbrev pub applied : Change → ℤ → ℤ

@@ -1,4 +1,5 @@
 -- Pages and vertical spacing (CSTR 54, page control; vertical spacing; three-part titles).
+use Prim.Native.Char.{code}
 use Rattle.std.specs.Prelude.{ℕ, true, false, List, Option, Some, None, ℤ, pos}
 use Rattle.std.specs.Option.{option_and_then}
 use Rattle.nr_units.specs.Units.{in_range}
@@ -43,4 +44,4 @@ page_number line v number = option_and_then (λ change. in_range (applied change
 
 -- those at first: pages of 11 inches, lines of a sixth, `%` for the page number
 abbrev pub first_pages : Pages
-first_pages = record { page_length = 2640; spacing = 40; previous_spacing = 40; no_space = false; mark = 0; number_character = Some 37 }
+first_pages = record { page_length = 2640; spacing = 40; previous_spacing = 40; no_space = false; mark = 0; number_character = Some (code "%") }

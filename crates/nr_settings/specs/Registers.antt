@@ -1,4 +1,5 @@
 -- The arguments of `.nr` and `.af` (CSTR 54, number registers; groff, register formats).
+use Prim.Native.Char.{code}
 use Rattle.std.specs.Prelude.{ℕ, Bool, ◌&&◌, List, [], ◌∷◌, ◌==◌, nat_le, min, Option, Some, None, ℤ, pos, if◌then◌else◌}
 use Rattle.std.specs.List.{prefix_len}
 use Rattle.std.specs.Option.{option_map}
@@ -26,15 +27,15 @@ nr line long v = nr_named v (behind_name long line) (name_in long line)
 
 -- The format that a word names: so many digits, or i I a A, of which what follows is dropped. Any other is none.
 abbrev pub is_digit : ℕ → Bool
-is_digit b = nat_le 48 b && nat_le b 57
+is_digit b = nat_le (code "0") b && nat_le b (code "9")
 
 abbrev pub format_of : List ℕ → Option Format
 format_of [] = None
 format_of (b ∷ bs) =
-    if b == 105 then Some LowerRoman
-    else if b == 73 then Some UpperRoman
-    else if b == 97 then Some LowerAlphabetic
-    else if b == 65 then Some UpperAlphabetic
+    if b == code "i" then Some LowerRoman
+    else if b == code "I" then Some UpperRoman
+    else if b == code "a" then Some LowerAlphabetic
+    else if b == code "A" then Some UpperAlphabetic
     else if is_digit b then Some (Arabic (min 9 (prefix_len is_digit (b ∷ bs))))
     else None
 

@@ -1,4 +1,5 @@
 -- Special characters (groff, special characters): what a terminal prints for them.
+use Prim.Native.Char.{code}
 use Rattle.std.specs.Prelude.{ℕ, ◌&&◌, List, [], ◌∷◌, ◌==◌, Option, Some, None, if◌then◌else◌}
 use Rattle.nr_settings.specs.declared.specials.Special.{Special}
 use Rattle.nr_settings.specs.declared.specials.Special.TheVariants.{Hyphen, Dash, Bullet, Apostrophe, Quote, Backslash}
@@ -6,12 +7,12 @@ use Rattle.nr_settings.specs.declared.specials.Special.TheVariants.{Hyphen, Dash
 -- by two letters: hy em bu aq dq rs; any other is none
 abbrev pub special_by : ℕ → ℕ → Option Special
 special_by a b =
-    if a == 104 && b == 121 then Some Hyphen
-    else if a == 101 && b == 109 then Some Dash
-    else if a == 98 && b == 117 then Some Bullet
-    else if a == 97 && b == 113 then Some Apostrophe
-    else if a == 100 && b == 113 then Some Quote
-    else if a == 114 && b == 115 then Some Backslash
+    if a == code "h" && b == code "y" then Some Hyphen
+    else if a == code "e" && b == code "m" then Some Dash
+    else if a == code "b" && b == code "u" then Some Bullet
+    else if a == code "a" && b == code "q" then Some Apostrophe
+    else if a == code "d" && b == code "q" then Some Quote
+    else if a == code "r" && b == code "s" then Some Backslash
     else None
 
 abbrev pub special_of : List ℕ → Option Special
@@ -22,12 +23,12 @@ special_of (a ∷ b ∷ c ∷ more) = None
 
 -- the byte that is printed, and how often: - -- o ' " \
 abbrev pub byte_of : Special → ℕ
-byte_of Hyphen = 45
-byte_of Dash = 45
-byte_of Bullet = 111
-byte_of Apostrophe = 39
-byte_of Quote = 34
-byte_of Backslash = 92
+byte_of Hyphen = code "-"
+byte_of Dash = code "-"
+byte_of Bullet = code "o"
+byte_of Apostrophe = code "'"
+byte_of Quote = code "\""
+byte_of Backslash = code "\\"
 
 abbrev pub cells_of : Special → ℕ
 cells_of Hyphen = 1

@@ -1,4 +1,5 @@
 -- Tab stops, and what tabs and leaders repeat (CSTR 54, tabs, leaders, and fields).
+use Prim.Native.Char.{code}
 use Rattle.std.specs.Prelude.{ℕ, zero, suc, ◌*◌, ◌/◌, Bool, false, List, [], ◌∷◌, ◌++◌, length, ◌==◌, nat_le, Option, Some, None, slice_get, ℤ, pos, negsuc, ◌+ℤ◌, if◌then◌else◌}
 use Rattle.nr_units.specs.Units.{nearest_multiple}
 use Rattle.nr_units.specs.LongestFront.{read_of}
@@ -21,16 +22,16 @@ numbers_in (suc n) line = if length (number_in line) == 0 then [] else number_in
 -- `+N` counts from the stop before.
 abbrev pub is_relative : List ℕ → Bool
 is_relative [] = false
-is_relative (b ∷ bs) = b == 43
+is_relative (b ∷ bs) = b == code "+"
 
 abbrev pub behind_plus : List ℕ → List ℕ
 behind_plus [] = []
-behind_plus (b ∷ bs) = if b == 43 then bs else b ∷ bs
+behind_plus (b ∷ bs) = if b == code "+" then bs else b ∷ bs
 
 -- right behind the number, R is a right stop and C a centre stop; any other is a left one
 abbrev pub kind_of : Option ℕ → StopKind
 kind_of None = Left
-kind_of (Some c) = if c == 82 then Right else if c == 67 then Centre else Left
+kind_of (Some c) = if c == code "R" then Right else if c == code "C" then Centre else Left
 
 -- the column of a place, in characters; one before the line's beginning is as one at it, as no text stands before it
 abbrev pub column_of : ℤ → ℕ
@@ -79,4 +80,4 @@ every_eighth zero = []
 every_eighth (suc n) = every_eighth n ++ record { column = 8 * suc n; kind = Left } ∷ []
 
 abbrev pub first_tabs : Tabs
-first_tabs = record { stops = every_eighth 32; tab = None; leader = Some 46 }
+first_tabs = record { stops = every_eighth 32; tab = None; leader = Some (code ".") }

@@ -1,4 +1,5 @@
 -- The width of a text that was read once in argument mode: of the argument of `\w` (CSTR 54, width function).
+use Prim.Native.Char.{code}
 use Rattle.std.specs.Prelude.{ℕ, zero, suc, ◌+◌, ◌*◌, Bool, List, [], ◌∷◌, length, take, ◌==◌, Option, Some, None, pos, unwrap_or, if◌then◌else◌}
 use Rattle.nr_settings.specs.Characters.{prints}
 use Rattle.nr_settings.specs.Motions.{motion}
@@ -30,7 +31,7 @@ escaped long v c text Argument = of_width 2 0
 escaped long v c text Named = of_width (1 + escape_name_len long text) 0
 escaped long v c text Register = of_width (1 + register_len long text) 0
 escaped long v c text Pair = of_width 3 (special_width (special_of (take 2 text)))
-escaped long v c text Bracket = of_width (2 + len_before 93 text) (special_width (special_of (bracketed text)))
+escaped long v c text Bracket = of_width (2 + len_before (code "]") text) (special_width (special_of (bracketed text)))
 escaped long v c text Motion = of_width (1 + delimited_len text) (unwrap_or (motion v (pos 0) (delimited text)) 0)
 escaped long v c text Delimited = of_width (1 + delimited_len text) 0
 escaped long v c text Size = of_width (1 + size_len text) 0
@@ -42,7 +43,7 @@ behind_backslash long v (c ∷ text) = escaped long v c text (escape_of long c)
 
 -- the element that a text begins with
 abbrev pub element_of : Bool → ℕ → ℕ → List ℕ → Element
-element_of long v b text = if b == 92 then behind_backslash long v text else of_width 0 (byte_width b)
+element_of long v b text = if b == code "\\" then behind_backslash long v text else of_width 0 (byte_width b)
 
 -- the sum of the elements' widths, where so many bytes still belong to the element before
 abbrev pub widths : Bool → ℕ → ℕ → List ℕ → ℕ

@@ -1,5 +1,5 @@
 -- Lemmas on a store with nothing but the requests.
-use Rattle.std.proofs.Common.{◌≡◌, ℕ, ◌+◌, ◌*◌, ◌^◌, ◌<◌, ◌≤◌, List, [], ◌∷◌, ◌++◌, length, map, drop, replicate, get_or, Option, Some, None, refl, sum_by, ◌⊎◌, ap, ap₂, sym, ◌∙◌, subst, inl, inr, arith}
+use Rattle.std.proofs.Common.{◌≡◌, ℕ, ◌+◌, ◌*◌, ◌/◌, ◌^◌, ◌<◌, ◌≤◌, List, [], ◌∷◌, ◌++◌, length, map, drop, replicate, get_or, Option, Some, None, refl, sum_by, ◌⊎◌, ap, ap₂, sym, ◌∙◌, subst, inl, inr, arith}
 use Rattle.std.proofs.lemmas.List.{get_or-replicate, get_or_past, length-replicate, drop_more}
 use Rattle.std.proofs.lemmas.List.Sums.{sum_by-cons}
 use Rattle.std.proofs.lemmas.Bool.{cases_lt}
@@ -74,7 +74,7 @@ module _ {K : Type 0} (p : Texts Element) (names : Table Sense) (drafts : Items 
       let of_texts : sum_by text_charge (texts_in p names.entries levels.levels) ≡ 0 = ap (λ ls. sum_by text_charge (texts_in p names.entries ls)) no_levels in
       omega arith
 
-  pub begins_empty : limit < 2 ^ 32 → limit ≤ p.capacity → limit < 16 * length p.texts + 16 → limit + 48 * length REQUESTS < 48 * names.room + 48 → limit < 48 * drafts.room + 48 → limit ≤ levels.room → Suffice beside limit
+  pub begins_empty : limit < 2 ^ 32 → p.capacity ≡ limit → length p.texts ≡ limit / 16 + 1 → names.room ≡ limit / 48 + 1 + length REQUESTS → drafts.room ≡ limit / 48 + 1 → levels.room ≡ limit → Suffice beside limit
       → IsStore p names drafts levels beside 0 limit
   begins_empty small elements slots room drafts_room bytes suffice =
       let held : IsHeld p (held_ids names.entries (draft_ids drafts.items) levels.levels) = record {

@@ -1,5 +1,5 @@
 -- Who holds which text of the pool.
-use Rattle.std.specs.Prelude.{◌≡◌, ℕ, ◌+◌, ◌*◌, ◌^◌, ◌<◌, ◌≤◌, ◌==◌, nat_lt, if◌then◌else◌, List, [], ◌∷◌, ◌++◌, map, length, drop, sum_by, Option, Some, None}
+use Rattle.std.specs.Prelude.{◌≡◌, ℕ, ◌+◌, ◌*◌, ◌/◌, ◌^◌, ◌<◌, ◌≤◌, ◌==◌, nat_lt, if◌then◌else◌, List, [], ◌∷◌, ◌++◌, map, length, drop, sum_by, Option, Some, None}
 use Rattle.std.specs.List.{range_with_len}
 use Rattle.nr_units.specs.Items.{Items}
 use Rattle.nr_pool.specs.Texts.{Texts, text, holders}
@@ -33,12 +33,12 @@ pub record Beside : Type 0 where
 abbrev pub beside_of : Gathering → Table Register → Items Trap → Items HyphenationWord → Beside
 beside_of gathering registers traps words = record { gathering = gathering; registers = registers; traps = traps; words = words }
 
--- there is room for as much of it as may be charged
+-- there is room for as much of it as may be charged, and for no more
 pub record Suffice (beside : Beside) (limit : ℕ) : Type 0 where
-  pub gathering : limit ≤ beside.gathering.room
-  pub registers : limit < 48 * beside.registers.room + 48
-  pub traps : limit < 48 * beside.traps.room + 48
-  pub words : limit < 16 * beside.words.room + 16
+  pub gathering : beside.gathering.room ≡ limit
+  pub registers : beside.registers.room ≡ limit / 48 + 1
+  pub traps : beside.traps.room ≡ limit / 48 + 1
+  pub words : beside.words.room ≡ limit / 16 + 1
 
 -- what a name stands for
 abbrev pub means_of : Texts Element → Sense → Means
@@ -193,9 +193,9 @@ pub record IsStore {K : Type 0} (p : Texts Element) (names : Table Sense) (draft
   pub within : charge ≤ limit
   pub deep : length levels.levels ≤ levels.most
   pub small : limit < 2 ^ 32
-  pub elements_suffice : limit ≤ p.capacity
-  pub slots_suffice : limit < 16 * length p.texts + 16
-  pub names_suffice : limit + 48 * length REQUESTS < 48 * names.room + 48
-  pub drafts_suffice : limit < 48 * drafts.room + 48
-  pub bytes_suffice : limit ≤ levels.room
+  pub elements_suffice : p.capacity ≡ limit
+  pub slots_suffice : length p.texts ≡ limit / 16 + 1
+  pub names_suffice : names.room ≡ limit / 48 + 1 + length REQUESTS
+  pub drafts_suffice : drafts.room ≡ limit / 48 + 1
+  pub bytes_suffice : levels.room ≡ limit
   pub beside_suffices : Suffice beside limit

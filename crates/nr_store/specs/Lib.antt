@@ -6,3 +6,4 @@ pub mod Holders
 pub mod Windows
 pub mod Laws
 pub mod Sights
+pub mod Rooms

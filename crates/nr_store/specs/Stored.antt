@@ -1,4 +1,5 @@
 -- What a store holds, as its callers see it, and what each call makes of it.
+use Prim.Native.Char.{code}
 use Rattle.std.specs.Prelude.{ℕ, ◌+◌, ◌*◌, nat_lt, nat_le, min, max, Bool, true, false, if◌then◌else◌, List, [], ◌∷◌, ◌++◌, map, length, drop, replicate, sum_by, ℤ, pos, ◌+ℤ◌, ◌-ℤ◌, unsigned_abs, Option, Some, None, Result, Ok, Err}
 use Rattle.std.specs.Option.{option_map, option_and_then, unwrap_or}
 use Rattle.std.specs.List.{flat_map}
@@ -203,7 +204,7 @@ added xs v = record v { building = on_newest (longer xs) v.building }
 
 -- a cell of no letter
 abbrev pub blank_cell : Element
-blank_cell = elements.Cell (record { byte = 32; under = false })
+blank_cell = elements.Cell (record { byte = code " "; under = false })
 
 -- a diverted line: blanks, cells, and its end
 abbrev pub line_of : ℕ → List Cell → ℕ → List Element

@@ -1,5 +1,6 @@
 //! The memory of a store.
-ghost use Rattle.std.specs.Prelude.{◌≡◌, ◌+◌, ◌*◌, ◌/◌, min};
+ghost use Rattle.std.specs.Prelude.{◌≡◌};
+ghost use Rattle.nr_store.specs.Rooms.{rooms_of};
 
 /// How many there is room for of each.
 #[derive(Clone, Copy)]
@@ -34,20 +35,7 @@ impl Room {
     /// The rooms under which a store with this limit, and with so many levels at most, makes only the refusals that it
     /// names.
     pub fn of(limit: u32, deepest: u32) -> Room
-        ensures { result ≡ record {
-          elements = limit;
-          slots = limit / 16 + 1;
-          names = limit / 48 + 1 + 56;
-          drafts = limit / 48 + 1;
-          frames = deepest;
-          modes = deepest;
-          bytes = limit;
-          places = 9 * min deepest (limit / 16);
-          gathering = limit;
-          registers = limit / 48 + 1;
-          traps = limit / 48 + 1;
-          words = limit / 16 + 1;
-        } }
+        ensures { result ≡ rooms_of limit deepest }
     {
         let limit = limit as usize;
         let deepest = deepest as usize;

@@ -1,6 +1,7 @@
 //! The store.
 ghost use Rattle.std.specs.Prelude.{◌≡◌, ◌≤◌, length};
 ghost use Rattle.nr_store.specs.Stored.{charge_of};
+ghost use Rattle.nr_store.specs.Rooms.{rooms_of};
 
 mod arguments;
 mod beginning;
@@ -13,6 +14,7 @@ mod traps;
 mod words;
 
 use crate::element::{Draft, Element};
+use crate::memory::Room;
 use crate::named::Sense;
 use crate::register::Register;
 use nr_levels::{Gathering, Levels, Stack};
@@ -53,6 +55,26 @@ impl<K: Copy> Model for Store<K> {
 }
 
 impl<K: Copy> Store<K> {
+    /// How many of each there is memory for, as the vectors tell.
+    pub fn memory(&self) -> Room
+        ensures { result ≡ rooms_of self.now.limit self.now.deepest }
+    {
+        Room {
+            elements: self.pool.element_memory(),
+            slots: self.pool.text_memory(),
+            names: self.names.memory(),
+            drafts: self.drafts.memory(),
+            frames: self.levels.frame_memory(),
+            modes: self.levels.mode_memory(),
+            bytes: self.levels.byte_memory(),
+            places: self.levels.place_memory(),
+            gathering: self.gathering.memory(),
+            registers: self.registers.memory(),
+            traps: self.traps.memory(),
+            words: self.words.memory(),
+        }
+    }
+
     /// What all is charged.
     #[inline]
     pub fn charge(&self) -> u32

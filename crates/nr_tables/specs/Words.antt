@@ -1,4 +1,5 @@
 -- Hyphenation words (CSTR 54, `.hw`).
+use Prim.Native.Char.{code}
 use Rattle.std.specs.Prelude.{ℕ, ◌+◌, ◌-◌, ◌==◌, ◌||◌, ◌&&◌, not, Bool, if◌then◌else◌, List, [], ◌∷◌, ◌++◌, map, take, length, find, unwrap_or}
 use Rattle.std.specs.Option.{option_map}
 use Rattle.std.specs.List.{suffix_len}
@@ -17,12 +18,12 @@ word_weight w = 16 + length w.letters
 -- the letters of a word as it is given: all but its minus signs
 abbrev pub letters_of : List ℕ → List ℕ
 letters_of [] = []
-letters_of (b ∷ bs) = if b == 45 then letters_of bs else b ∷ letters_of bs
+letters_of (b ∷ bs) = if b == code "-" then letters_of bs else b ∷ letters_of bs
 
 -- where its minus signs stand, each so many letters in, where so many came before
 abbrev pub points_from : ℕ → List ℕ → List ℕ
 points_from place [] = []
-points_from place (b ∷ bs) = if b == 45 then place ∷ points_from place bs else points_from (place + 1) bs
+points_from place (b ∷ bs) = if b == code "-" then place ∷ points_from place bs else points_from (place + 1) bs
 
 -- the word that is given so
 abbrev pub word_of : List ℕ → Word
@@ -34,7 +35,7 @@ bytes_of cells = map (λ (x : Cell). x.byte) cells
 
 -- a byte that may stand behind a word: `.,;:!?)`
 abbrev pub closes : ℕ → Bool
-closes b = b == 46 || b == 44 || b == 59 || b == 58 || b == 33 || b == 63 || b == 41
+closes b = b == code "." || b == code "," || b == code ";" || b == code ":" || b == code "!" || b == code "?" || b == code ")"
 
 -- the bytes of a word without those at its end
 abbrev pub stem : List ℕ → List ℕ
@@ -42,7 +43,7 @@ stem bytes = take (length bytes - suffix_len closes bytes) bytes
 
 -- whether bytes are a word, or that word with an `s` behind it; a word of no letters is none
 abbrev pub is_given : List ℕ → Word → Bool
-is_given bytes w = not (length w.letters == 0) && (bytes_eq bytes w.letters || bytes_eq bytes (w.letters ++ 115 ∷ []))
+is_given bytes w = not (length w.letters == 0) && (bytes_eq bytes w.letters || bytes_eq bytes (w.letters ++ code "s" ∷ []))
 
 -- where a word may be cut: at the points of the latest of these, the latest first, that it is
 abbrev pub points_of : List ℕ → List Word → List ℕ

@@ -100,6 +100,13 @@ impl<V: Copy> Table<V> {
         self.hints = Hints::new();
     }
 
+    /// How many names there is memory for, as their vector tells.
+    pub fn memory(&self) -> usize
+        ensures { result ≡ self.now.room }
+    {
+        self.entries.memory()
+    }
+
     /// The number of names.
     pub fn len(&self) -> usize
         ensures { result ≡ length self.now.entries }

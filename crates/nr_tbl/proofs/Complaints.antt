@@ -1,24 +1,27 @@
 -- What is wrong with bytes in two parts, and what is kept of it.
-use Rattle.std.proofs.Common.{◌≡◌, ℕ, suc, ◌+◌, ◌≤◌, List, [], ◌∷◌, ◌++◌, length, take, false, nat_lt, sym, ◌∙◌, ap, append_assoc, add-zero, arith}
+use Rattle.std.proofs.Common.{◌≡◌, ℕ, ◌≤◌, List, [], ◌∷◌, ◌++◌, take, false, nat_lt, refl, sym, ◌∙◌, ap, append_assoc, arith}
 use Rattle.std.proofs.lemmas.Bool.Decides.{nat_tests}
 use Rattle.std.proofs.lemmas.List.{take_all}
 use Rattle.nr_units.specs.Items.{Items}
 use Rattle.nr_tbl.specs.declared.complaint.Complaint.{Complaint}
+use Rattle.nr_tbl.specs.declared.complaint.Place.{Place}
+use Rattle.nr_tbl.specs.Lines.{next_place, place_after}
 use Rattle.nr_tbl.specs.Reading.{Page, read, fed, found, complaints_from}
 use Rattle.nr_tbl.specs.Running.{Keeps}
 
-further : (at n : ℕ) → at + 1 + n ≡ at + suc n
-further at n = omega arith
+pub place_after-append : (place : Place) (xs ys : List ℕ) → place_after place (xs ++ ys) ≡ place_after (place_after place xs) ys
+place_after-append place [] ys = refl
+place_after-append place (x ∷ xs) ys = place_after-append (next_place x place) xs ys
 
-pub complaints-append : (at : ℕ) (p : Page) (xs ys : List ℕ)
-    → complaints_from at p (xs ++ ys) ≡ complaints_from at p xs ++ complaints_from (at + length xs) (fed p xs).page ys
-complaints-append at p [] ys = ap (λ (n : ℕ). complaints_from n p ys) (sym (add-zero at))
-complaints-append at p (x ∷ xs) ys =
+pub complaints-append : (place : Place) (p : Page) (xs ys : List ℕ)
+    → complaints_from place p (xs ++ ys) ≡ complaints_from place p xs ++ complaints_from (place_after place xs) (fed p xs).page ys
+complaints-append place p [] ys = refl
+complaints-append place p (x ∷ xs) ys =
     let q = (read x p).page in
-    let here = found q.half.complaint (at + 1) in
-    ap (λ (cs : List Complaint). here ++ cs) (complaints-append (at + 1) q xs ys)
-    ∙ sym (append_assoc here (complaints_from (at + 1) q xs) (complaints_from (at + 1 + length xs) (fed q xs).page ys))
-    ∙ ap (λ (n : ℕ). (here ++ complaints_from (at + 1) q xs) ++ complaints_from n (fed q xs).page ys) (further at (length xs))
+    let next = next_place x place in
+    let here = found q.half.complaint next.line in
+    ap (λ (cs : List Complaint). here ++ cs) (complaints-append next q xs ys)
+    ∙ sym (append_assoc here (complaints_from next q xs) (complaints_from (place_after next xs) (fed q xs).page ys))
 
 -- ---- those that are kept
 

@@ -1,8 +1,9 @@
 -- Bytes that pass go out as they are.
-use Rattle.std.proofs.Common.{◌≡◌, ℕ, ◌+◌, ◌<◌, List, [], ◌∷◌, ◌++◌, length, take, get_or, Bool, true, false, ◌==◌, ◌&&◌, if◌then◌else◌, Option, None, Some, refl, sym, ◌∙◌, ap, add-one}
+use Rattle.std.proofs.Common.{◌≡◌, ℕ, zero, suc, ◌+◌, ◌<◌, List, [], ◌∷◌, ◌++◌, length, take, get_or, Bool, true, false, ◌==◌, ◌&&◌, if◌then◌else◌, Option, None, Some, refl, sym, ◌∙◌, ap, add-one, arith}
 use Rattle.std.proofs.Math.Seq.{take-suc}
 use Rattle.nr_tbl.specs.declared.complaint.Kind.{Kind}
 use Rattle.nr_tbl.specs.declared.complaint.Complaint.{Complaint}
+use Rattle.nr_tbl.specs.declared.complaint.Place.{Place}
 use Rattle.nr_tbl.specs.declared.half.Half.{Half}
 use Rattle.nr_tbl.specs.declared.half.Full.{Full}
 use Rattle.nr_tbl.specs.declared.half.Mode.{Mode}
@@ -13,10 +14,11 @@ use Rattle.nr_tbl.specs.declared.held.Held.TheVariants as helds
 use Rattle.nr_tbl.specs.declared.said.Said.TheVariants as says
 use Rattle.nr_tbl.specs.Half.{Met, taking}
 use Rattle.nr_tbl.specs.Meeting.{meet, byte_in}
+use Rattle.nr_tbl.specs.Lines.{next_place, place_after, taken_to}
 use Rattle.nr_tbl.specs.Reading.{Page, Told, told, behind, then_told, acted, heard, heard_in, with_half, full, unblamed, read, fed, is_passing, is_well, passes, is_plain_byte, IsPlainFront, found, complaints_from}
 use Rattle.nr_tbl.proofs.Hearing.{not_true}
 use Rattle.nr_tbl.proofs.Reading.{fed-append}
-use Rattle.nr_tbl.proofs.Complaints.{complaints-append}
+use Rattle.nr_tbl.proofs.Complaints.{complaints-append, place_after-append}
 
 pub and-first : (x y : Bool) → (x && y) ≡ true → x ≡ true
 and-first true y h = refl
@@ -56,6 +58,13 @@ read_passing b p ok ne =
     (if m.takes then told (acted m.act (with_half m.half p)).page [] 0 else heard_in 9 (comings.Byte b) (acted m.act (with_half m.half p)).page))
     (passing_meets b (full p) p.half (and-first (is_passing p.half.mode) (is_well p.half.complaint) ok) ne)
 
+-- the line goes on
+line_goes_on : (i : ℕ) (bs : List ℕ) (b : ℕ) (place : Place) → (0 < i → place_after place (take i bs) ≡ taken_to false place) → (b == 10) ≡ false
+    → next_place b (place_after place (take i bs)) ≡ taken_to false place
+line_goes_on zero bs b place before ne = ap (λ (x : Bool). taken_to x place) ne
+line_goes_on (suc i) bs b place before ne =
+    ap (next_place b) (before (omega arith)) ∙ ap (λ (x : Bool). taken_to x (taken_to false place)) ne
+
 -- so far plain bytes went out, and this one does
 pub fed-more : (p : Page) (bs : List ℕ) (i : ℕ) → IsPlainFront i bs p → i < length bs
     → passes p ≡ true → is_plain_byte (get_or bs i 0) ≡ true → IsPlainFront (i + 1) bs p
@@ -70,12 +79,14 @@ fed-more p bs i before l ok plain =
     fed-append p xs (b ∷ []) ∙ ap (λ (t : Told). then_told t (λ s. fed s (b ∷ []))) before.told_so ∙ ap (behind xs i) one in
     record {
       told_so = rw front both;
-      well = λ at. rw front (complaints-append at p xs (b ∷ [])
-          ∙ ap (λ (ys : List Complaint). ys ++ complaints_from (at + length xs) (fed p xs).page (b ∷ [])) (before.well at)
-          ∙ ap (λ (t : Told). complaints_from (at + length xs) t.page (b ∷ [])) before.told_so
-          ∙ ap (λ (t : Told). found t.page.half.complaint (at + length xs + 1) ++ []) here
-          ∙ ap (λ (k : Option Kind). found k (at + length xs + 1) ++ []) well);
+      well = λ place. rw front (complaints-append place p xs (b ∷ [])
+          ∙ ap (λ (ys : List Complaint). ys ++ complaints_from (place_after place xs) (fed p xs).page (b ∷ [])) (before.well place)
+          ∙ ap (λ (t : Told). complaints_from (place_after place xs) t.page (b ∷ [])) before.told_so
+          ∙ ap (λ (t : Told). found t.page.half.complaint (next_place b (place_after place xs)).line ++ []) here
+          ∙ ap (λ (k : Option Kind). found k (next_place b (place_after place xs)).line ++ []) well);
+      in_line = λ some place. rw front (place_after-append place xs (b ∷ [])
+          ∙ line_goes_on i bs b place (λ more. before.in_line more place) (not_true (b == 10) plain));
     }
 
 pub plain-none : (p : Page) (bs : List ℕ) → IsPlainFront 0 bs p
-plain-none p bs = record { told_so = refl; well = λ at. refl }
+plain-none p bs = record { told_so = refl; well = λ place. refl; in_line = λ some place. absurd (omega (arith, some)) }

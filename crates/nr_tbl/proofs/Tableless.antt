@@ -4,6 +4,7 @@ use Rattle.std.proofs.lemmas.Grind.{common_steps}
 use Rattle.std.proofs.lemmas.List.{drop_all}
 use Rattle.nr_tbl.specs.declared.complaint.Kind.{Kind}
 use Rattle.nr_tbl.specs.declared.complaint.Complaint.{Complaint}
+use Rattle.nr_tbl.specs.declared.complaint.Place.{Place}
 use Rattle.nr_tbl.specs.declared.half.Mode.{Mode}
 use Rattle.nr_tbl.specs.declared.half.Mode.TheVariants as modes
 use Rattle.nr_tbl.specs.declared.half.Act.TheVariants as acts
@@ -15,6 +16,7 @@ use Rattle.nr_tbl.specs.Held.{ends_name, held_with, held_bytes}
 use Rattle.nr_tbl.specs.Half.{first_half, leaving}
 use Rattle.nr_tbl.specs.Outside.{is_begin, start_with}
 use Rattle.nr_tbl.specs.Untouched.{begins_table, has_table_from, has_table, is_untouched}
+use Rattle.nr_tbl.specs.Lines.{first_place, next_place, place_after}
 use Rattle.nr_tbl.specs.Reading.{Page, Told, told, behind, acted, with_half, heard, heard_in, read, finished, fed, first_page, found, complaints_from, complaints_of, steps_of, tables_set}
 use Rattle.nr_tbl.proofs.Hearing.{not_true}
 
@@ -70,14 +72,14 @@ finished_passing fl rl ll = refl
 record Comes_to (p : Page) (bs out : List ℕ) : Type 0 where
   pub out_so : (fed p bs).bytes ++ (finished (fed p bs).page).bytes ≡ out
   pub quick : (fed p bs).steps + (finished (fed p bs).page).steps ≤ 2 * length bs + 1
-  pub well : (at : ℕ) → complaints_from at p bs ≡ []
+  pub well : (place : Place) → complaints_from place p bs ≡ []
   pub ends_well : (finished (fed p bs).page).page.half.complaint ≡ None
 
 none_to : (p q : Page) (xs : List ℕ) → finished p ≡ told q xs 1 → q.half.complaint ≡ None → Comes_to p [] xs
 none_to p q xs e well = record {
   out_so = ap (λ (t : Told). t.bytes) e;
   quick = (let one : (finished p).steps ≡ 1 = ap (λ (t : Told). t.steps) e in omega arith);
-  well = λ at. refl;
+  well = λ place. refl;
   ends_well = ap (λ (t : Told). t.page.half.complaint) e ∙ well;
 }
 
@@ -90,9 +92,9 @@ one_more p q b n xs bs out e few well more = record {
   quick = (let all : (fed p (b ∷ bs)).steps + (finished (fed p (b ∷ bs)).page).steps ≡ (n + (fed q bs).steps) + (finished (fed q bs).page).steps =
       ap (λ (t : Told). (t.steps + (fed t.page bs).steps) + (finished (fed t.page bs).page).steps) e in
       let quick = more.quick in omega (arith, all, quick));
-  well = λ at. ap (λ (t : Told). found t.page.half.complaint (at + 1) ++ complaints_from (at + 1) t.page bs) e
-      ∙ ap (λ (k : Option Kind). found k (at + 1) ++ complaints_from (at + 1) q bs) well
-      ∙ more.well (at + 1);
+  well = λ place. ap (λ (t : Told). found t.page.half.complaint (next_place b place).line ++ complaints_from (next_place b place) t.page bs) e
+      ∙ ap (λ (k : Option Kind). found k (next_place b place).line ++ complaints_from (next_place b place) q bs) well
+      ∙ more.well (next_place b place);
   ends_well = ap (λ (t : Told). (finished (fed t.page bs).page).page.half.complaint) e ∙ more.ends_well;
 }
 
@@ -182,8 +184,8 @@ untouched-quick fl rl ll text h = (whole fl rl ll text h).quick
 pub untouched-well : (fl rl ll : ℕ) (text : List ℕ) → is_untouched text ≡ true → complaints_of fl rl ll text ≡ []
 untouched-well fl rl ll text h =
     let w = whole fl rl ll text h in
-    ap (λ (xs : List Complaint). xs ++ found (finished (fed (first_page fl rl ll) text).page).page.half.complaint (length text)) (w.well 0)
-    ∙ ap (λ (k : Option Kind). found k (length text)) w.ends_well
+    ap (λ (xs : List Complaint). xs ++ found (finished (fed (first_page fl rl ll) text).page).page.half.complaint (place_after first_place text).line) (w.well first_place)
+    ∙ ap (λ (k : Option Kind). found k (place_after first_place text).line) w.ends_well
 
 -- at the end of the text
 pub untouched_at_end : (text : List ℕ) (i : ℕ) (starts : Bool) → length text ≤ i → has_table_from starts (drop i text) ≡ has_table text → is_untouched text ≡ true

@@ -1,5 +1,5 @@
 -- How a run goes on and ends.
-use Rattle.std.proofs.Common.{◌≡◌, ℕ, ◌+◌, ◌*◌, ◌≤◌, List, [], ◌∷◌, ◌++◌, length, take, drop, Bool, false, Option, None, Some, Result, Ok, Err, OnOk, refl, sym, ◌∙◌, ap, subst, append_assoc, append-nil, arith, length-append, zero-add, mul-add, mul-one, inl, inr}
+use Rattle.std.proofs.Common.{◌≡◌, ℕ, ◌+◌, ◌*◌, ◌<◌, ◌≤◌, ◌==◌, List, [], ◌∷◌, ◌++◌, length, take, drop, Bool, false, Option, None, Some, Result, Ok, Err, OnOk, refl, sym, ◌∙◌, ap, subst, append_assoc, append-nil, arith, length-append, mul-add, mul-one, inl, inr}
 use Rattle.std.specs.Io.KnownBytes.{Appends}
 use Rattle.std.proofs.KnownBytes.{Appends-trans, Appends-nil}
 use Rattle.std.proofs.lemmas.List.{take-append-drop, take-take, length-take}
@@ -12,10 +12,12 @@ use Rattle.nr_tbl.specs.declared.running.Outcome.TheVariants.{Done, ReadFault, T
 use Rattle.nr_units.specs.Items.{Items}
 use Rattle.nr_tbl.specs.declared.complaint.Kind.{Kind}
 use Rattle.nr_tbl.specs.declared.complaint.Complaint.{Complaint}
+use Rattle.nr_tbl.specs.declared.complaint.Place.{Place}
+use Rattle.nr_tbl.specs.Lines.{first_place, next_place, place_after, taken_to}
 use Rattle.nr_tbl.specs.Reading.{Page, Told, first_page, read, fed, finished, found, complaints_from, complaints_before_end, complaints_of, tables_set, steps_of, told, IsPlainFront}
 use Rattle.nr_tbl.specs.Running.{Comes, Ends, Flushes, Account, account, Keeps, Tells, Took, Ended, Stands, IsCut, IsBroken, Ran, EndsAs, pending_size}
 use Rattle.nr_tbl.proofs.Reading.{fed-append_page, fed-append_bytes, fed-append_steps}
-use Rattle.nr_tbl.proofs.Complaints.{complaints-append, Keeps-none}
+use Rattle.nr_tbl.proofs.Complaints.{complaints-append, place_after-append, Keeps-none}
 
 -- ---- what comes of a source
 
@@ -75,7 +77,7 @@ Comes-skip (Some q) (Some t) window n l o s =
 
 pub Took-plain : (a b : Option Supply) (window : List ℕ) (most n : ℕ) (r : Page) (pending left : List ℕ)
     → n ≤ length (take most window) → n ≤ most → n ≤ length window → Offers a window → Skips a n b
-    → IsPlainFront n (take most window) r → left ≡ pending ++ take n window → Took a b r r pending left n n None
+    → IsPlainFront n (take most window) r → left ≡ pending ++ take n window → Took a b r r pending left n n false None
 Took-plain a b window most n r pending left l m k o s plain out =
     let front : take n (take most window) ≡ take n window = take-take n most window m in
     let told_so : fed r (take n window) ≡ told r (take n window) n =
@@ -87,7 +89,8 @@ Took-plain a b window most n r pending left l m k o s plain out =
       page = sym (ap (λ (t : Told). t.page) told_so);
       out = out ∙ ap (λ (xs : List ℕ). pending ++ xs) (sym (ap (λ (t : Told). t.bytes) told_so));
       made = sym (ap (λ (t : Told). t.steps) told_so);
-      complains = λ at. ap (complaints_from at r) (sym front) ∙ plain.well at;
+      lines = λ some place. ap (place_after place) (sym front) ∙ plain.in_line some place;
+      complains = λ place. ap (complaints_from place r) (sym front) ∙ plain.well place;
     }
 
 -- nothing was taken
@@ -101,24 +104,26 @@ both_made p q = cc
 none_added : (n : ℕ) → n + 0 ≡ n
 none_added n = omega arith
 
-pub Took-byte : (a b : Option Supply) (byte : ℕ) (r s : Page) (pending left : List ℕ) (steps : ℕ) (wrong : Option Kind)
+pub Took-byte : (a b : Option Supply) (byte : ℕ) (r s : Page) (pending left : List ℕ) (steps : ℕ) (newline : Bool) (wrong : Option Kind)
     → Gives {E = Fault} a (Ok (Some byte)) b → s ≡ (read byte r).page → left ≡ pending ++ (read byte r).bytes
-    → steps ≡ (read byte r).steps → wrong ≡ s.half.complaint → Took a b r s pending left 1 steps wrong
-Took-byte a b byte r s pending left steps wrong gives reader out made complains = record {
+    → steps ≡ (read byte r).steps → newline ≡ (byte == 10) → wrong ≡ s.half.complaint → Took a b r s pending left 1 steps newline wrong
+Took-byte a b byte r s pending left steps newline wrong gives reader out made ends complains = record {
   bytes = byte ∷ [];
   came = Comes-next a b byte gives;
   count = refl;
   page = reader;
   out = out ∙ ap (λ (xs : List ℕ). pending ++ xs) (sym (append-nil (read byte r).bytes));
   made = made ∙ sym (none_added (read byte r).steps);
-  complains = λ at. append-nil (found (read byte r).page.half.complaint (at + 1))
-      ∙ ap (λ (k : Option Kind). found k (at + 1)) (sym (complains ∙ ap (λ (q : Page). q.half.complaint) reader));
+  lines = λ some place. ap (λ (x : Bool). taken_to x place) (sym ends);
+  complains = λ place. append-nil (found (read byte r).page.half.complaint (next_place byte place).line)
+      ∙ ap (λ (k : Option Kind). found k (next_place byte place).line) (sym (complains ∙ ap (λ (q : Page). q.half.complaint) reader))
+      ∙ ap (λ (x : Bool). found wrong (taken_to x place).line) (sym ends);
 }
 
 -- behind nothing
-pub Took-after_none : (a b c : Option Supply) (r s : Page) (p q left : List ℕ) (n m j steps : ℕ) (wrong other : Option Kind)
-    → n ≡ 0 → Took a b r r p q n m other → Took b c r s q left j steps wrong → Took a c r s p left j steps wrong
-Took-after_none a b c r s p q left n m j steps wrong other zero f g =
+pub Took-after_none : (a b c : Option Supply) (r s : Page) (p q left : List ℕ) (n m j steps : ℕ) (newline last : Bool) (wrong other : Option Kind)
+    → n ≡ 0 → Took a b r r p q n m last other → Took b c r s q left j steps newline wrong → Took a c r s p left j steps newline wrong
+Took-after_none a b c r s p q left n m j steps newline last wrong other zero f g =
     let nothing : f.bytes ≡ [] = no_bytes f.bytes (f.count ∙ zero) in
     let same : q ≡ p = f.out ∙ ap (λ (xs : List ℕ). p ++ (fed r xs).bytes) nothing ∙ append-nil p in
     let P : List ℕ → Type 0 = λ xs. Comes a xs b in
@@ -129,13 +134,14 @@ Took-after_none a b c r s p q left n m j steps wrong other zero f g =
       page = g.page;
       out = g.out ∙ ap (λ (xs : List ℕ). xs ++ (fed r g.bytes).bytes) same;
       made = g.made;
+      lines = g.lines;
       complains = g.complains;
     }
 
-pub Ended-after_none : (a b c : Option Supply) (r : Page) (p q left : List ℕ) (n m steps : ℕ) (wrong other : Option Kind)
-    → n ≡ 0 → Took a b r r p q n m other → Comes b [] c × Ends b c → left ≡ q ++ (finished r).bytes
+pub Ended-after_none : (a b c : Option Supply) (r : Page) (p q left : List ℕ) (n m steps : ℕ) (last : Bool) (wrong other : Option Kind)
+    → n ≡ 0 → Took a b r r p q n m last other → Comes b [] c × Ends b c → left ≡ q ++ (finished r).bytes
     → steps ≡ (finished r).steps → wrong ≡ (finished r).page.half.complaint → Ended a c r p left steps wrong
-Ended-after_none a b c r p q left n m steps wrong other zero f ended out made complains =
+Ended-after_none a b c r p q left n m steps last wrong other zero f ended out made complains =
     let nothing : f.bytes ≡ [] = no_bytes f.bytes (f.count ∙ zero) in
     let same : q ≡ p = f.out ∙ ap (λ (xs : List ℕ). p ++ (fed r xs).bytes) nothing ∙ append-nil p in
     let P : List ℕ → Type 0 = λ xs. Comes a xs b in
@@ -160,14 +166,15 @@ Notes wrong at old new missed more =
 
 -- ---- a run goes on
 
-pub Stands-first : (fl rl ll : ℕ) (a : Option Supply) (h : Option (List ℕ)) (p : List ℕ) (r : Page) (kept : Items Complaint) (steps : ℕ) (missed : Bool)
-    → r ≡ first_page fl rl ll → p ≡ [] → kept.items ≡ [] → steps ≡ 0 → missed ≡ false
-    → Stands fl rl ll a a h h p r 0 (account steps kept missed)
-Stands-first fl rl ll a h p r kept steps missed is none empty zero false_so =
+pub Stands-first : (fl rl ll : ℕ) (a : Option Supply) (h : Option (List ℕ)) (p : List ℕ) (r : Page) (place : Place) (kept : Items Complaint) (steps : ℕ) (missed : Bool)
+    → r ≡ first_page fl rl ll → p ≡ [] → place ≡ first_place → kept.items ≡ [] → steps ≡ 0 → missed ≡ false
+    → Stands fl rl ll a a h h p r 0 place (account steps kept missed)
+Stands-first fl rl ll a h p r place kept steps missed is none begins empty zero false_so =
     record {
       bytes = [];
       came = Comes-nil a;
       count = refl;
+      placed = begins;
       page = is;
       sent = [];
       went_out = Appends-nil h;
@@ -185,11 +192,12 @@ both_few : (a b c size t n : ℕ) → c ≡ a + b → a ≤ size * t → b ≤ s
 both_few a b c size t n e p q = let split : size * (t + n) ≡ size * t + size * n = mul-add size t n in omega arith
 
 pub Stands-took : (fl rl ll : ℕ) (a b c : Option Supply) (h k : Option (List ℕ)) (p left : List ℕ) (r s : Page) (t n i j : ℕ)
-    (kept new : Items Complaint) (missed more : Bool) (wrong : Option Kind)
-    → Stands fl rl ll a b h k p r t (account i kept missed) → Took b c r s p left n j wrong
-    → length left ≤ length p + pending_size fl rl * n → j ≤ 10 * n → Notes wrong (t + n) kept new missed more
-    → (steps : ℕ) → steps ≡ i + j → Stands fl rl ll a c h k left s (t + n) (account steps new more)
-Stands-took fl rl ll a b c h k p left r s t n i j kept new missed more wrong st w l q notes steps e =
+    (place next : Place) (newline : Bool) (kept new : Items Complaint) (missed more : Bool) (wrong : Option Kind)
+    → Stands fl rl ll a b h k p r t place (account i kept missed) → Took b c r s p left n j newline wrong
+    → 0 < n → next ≡ taken_to newline place
+    → length left ≤ length p + pending_size fl rl * n → j ≤ 10 * n → Notes wrong next.line kept new missed more
+    → (steps : ℕ) → steps ≡ i + j → Stands fl rl ll a c h k left s (t + n) next (account steps new more)
+Stands-took fl rl ll a b c h k p left r s t n i j place next newline kept new missed more wrong st w some next_is l q notes steps e =
     let first = first_page fl rl ll in
     let before = fed first st.bytes in
     let here : fed before.page w.bytes ≡ fed r w.bytes = ap (λ (x : Page). fed x w.bytes) (sym st.page) in
@@ -198,16 +206,19 @@ Stands-took fl rl ll a b c h k p left r s t n i j kept new missed more wrong st 
     let few : length (fed r w.bytes).bytes ≤ pending_size fl rl * n = grown p (fed r w.bytes).bytes left (pending_size fl rl * n) w.out l in
     let count : length st.bytes ≡ t = st.count in
     let quick : i ≤ 10 * t = st.quick in
-    let wrong_with : complaints_before_end fl rl ll (st.bytes ++ w.bytes) ≡ complaints_before_end fl rl ll st.bytes ++ found wrong (t + n) =
-    complaints-append 0 first st.bytes w.bytes
-    ∙ ap (λ (x : Page). complaints_before_end fl rl ll st.bytes ++ complaints_from (0 + length st.bytes) x w.bytes) (sym st.page)
-    ∙ ap (λ (x : ℕ). complaints_before_end fl rl ll st.bytes ++ complaints_from x r w.bytes) (zero-add (length st.bytes) ∙ count)
-    ∙ ap (λ (xs : List Complaint). complaints_before_end fl rl ll st.bytes ++ xs) (w.complains t) in
+    let wrong_with : complaints_before_end fl rl ll (st.bytes ++ w.bytes) ≡ complaints_before_end fl rl ll st.bytes ++ found wrong next.line =
+    complaints-append first_place first st.bytes w.bytes
+    ∙ ap (λ (x : Page). complaints_before_end fl rl ll st.bytes ++ complaints_from (place_after first_place st.bytes) x w.bytes) (sym st.page)
+    ∙ ap (λ (x : Place). complaints_before_end fl rl ll st.bytes ++ complaints_from x r w.bytes) (sym st.placed)
+    ∙ ap (λ (xs : List Complaint). complaints_before_end fl rl ll st.bytes ++ xs) (w.complains place)
+    ∙ ap (λ (x : Place). complaints_before_end fl rl ll st.bytes ++ found wrong x.line) (sym next_is) in
     record {
       bytes = st.bytes ++ w.bytes;
       came = Comes-trans a b c st.bytes w.bytes st.came w.came;
       count = (let lengths : length (st.bytes ++ w.bytes) ≡ length st.bytes + length w.bytes = length-append st.bytes w.bytes in
           let second : length w.bytes ≡ n = w.count in omega arith);
+      placed = next_is ∙ sym (w.lines some place) ∙ ap (λ (x : Place). place_after x w.bytes) st.placed
+          ∙ sym (place_after-append first_place st.bytes w.bytes);
       page = w.page ∙ ap (λ (x : Told). x.page) (sym here) ∙ sym (fed-append_page first st.bytes w.bytes);
       sent = st.sent;
       went_out = st.went_out;
@@ -223,12 +234,13 @@ Stands-took fl rl ll a b c h k p left r s t n i j kept new missed more wrong st 
       quick = omega arith;
     }
 
-pub Stands-flushed : (fl rl ll : ℕ) (a b : Option Supply) (h k m : Option (List ℕ)) (p left : List ℕ) (r : Page) (t : ℕ) (x : Account)
-    → Stands fl rl ll a b h k p r t x → Flushes k m p left → Stands fl rl ll a b h m left r t x
-Stands-flushed fl rl ll a b h k m p left r t x st f = record {
+pub Stands-flushed : (fl rl ll : ℕ) (a b : Option Supply) (h k m : Option (List ℕ)) (p left : List ℕ) (r : Page) (t : ℕ) (place : Place) (x : Account)
+    → Stands fl rl ll a b h k p r t place x → Flushes k m p left → Stands fl rl ll a b h m left r t place x
+Stands-flushed fl rl ll a b h k m p left r t place x st f = record {
   bytes = st.bytes;
   came = st.came;
   count = st.count;
+  placed = st.placed;
   page = st.page;
   sent = st.sent ++ f.out;
   went_out = Appends-trans h k m st.sent f.out st.went_out f.went_out;
@@ -273,29 +285,29 @@ ended-few fl rl ll bytes p left r t count few reader out l =
     lengths (rw count few) (rw (mul-one (pending_size fl rl)) rest)
 
 -- what is told with the end
-Tells-end : (fl rl ll : ℕ) (bytes p left : List ℕ) (b c : Option Supply) (r : Page) (t i j : ℕ)
-    (kept new : Items Complaint) (missed more : Bool) (wrong : Option Kind)
-    → length bytes ≡ t → r ≡ (fed (first_page fl rl ll) bytes).page
+Tells-end : (fl rl ll : ℕ) (bytes p left : List ℕ) (b c : Option Supply) (r : Page) (i j : ℕ)
+    (place : Place) (kept new : Items Complaint) (missed more : Bool) (wrong : Option Kind)
+    → place ≡ place_after first_place bytes → r ≡ (fed (first_page fl rl ll) bytes).page
     → Tells (account i kept missed) (fed (first_page fl rl ll) bytes).steps (complaints_before_end fl rl ll bytes)
-    → Ended b c r p left j wrong → Notes wrong t kept new missed more
+    → Ended b c r p left j wrong → Notes wrong place.line kept new missed more
     → (steps : ℕ) → steps ≡ i + j → Tells (account steps new more) (steps_of fl rl ll bytes) (complaints_of fl rl ll bytes)
-Tells-end fl rl ll bytes p left b c r t i j kept new missed more wrong count reader tells last_turn notes steps e =
+Tells-end fl rl ll bytes p left b c r i j place kept new missed more wrong placed reader tells last_turn notes steps e =
     let after = fed (first_page fl rl ll) bytes in
-    let last : found wrong t ≡ found (finished after.page).page.half.complaint (length bytes) =
-    ap (λ (k : Option Kind). found k t) (last_turn.complains ∙ ap (λ (x : Page). (finished x).page.half.complaint) reader)
-    ∙ ap (found (finished after.page).page.half.complaint) (sym count) in
+    let last : found wrong place.line ≡ found (finished after.page).page.half.complaint (place_after first_place bytes).line =
+    ap (λ (k : Option Kind). found k place.line) (last_turn.complains ∙ ap (λ (x : Page). (finished x).page.half.complaint) reader)
+    ∙ ap (λ (x : Place). found (finished after.page).page.half.complaint x.line) placed in
     record {
       made = e ∙ both_made tells.made (last_turn.made ∙ ap (λ (x : Page). (finished x).steps) reader);
       keeps = rw (← last) (notes (complaints_before_end fl rl ll bytes) tells.keeps);
     }
 
 pub Ran-done : (fl rl ll : ℕ) (a b c : Option Supply) (h k m : Option (List ℕ)) (p left : List ℕ) (r : Page) (t i j : ℕ)
-    (kept new : Items Complaint) (missed more : Bool) (wrong : Option Kind)
-    → Stands fl rl ll a b h k p r t (account i kept missed) → Ended b c r p left j wrong
-    → length left ≤ length p + pending_size fl rl → j ≤ 10 → Notes wrong t kept new missed more
+    (place : Place) (kept new : Items Complaint) (missed more : Bool) (wrong : Option Kind)
+    → Stands fl rl ll a b h k p r t place (account i kept missed) → Ended b c r p left j wrong
+    → length left ≤ length p + pending_size fl rl → j ≤ 10 → Notes wrong place.line kept new missed more
     → (steps : ℕ) → steps ≡ i + j
     → (outcome : Outcome) → EndsAs Done outcome k m left → Ran fl rl ll a c h m (account steps new more) outcome
-Ran-done fl rl ll a b c h k m p left r t i j kept new missed more wrong st turn l q notes steps e Done ends =
+Ran-done fl rl ll a b c h k m p left r t i j place kept new missed more wrong st turn l q notes steps e Done ends =
     let all = ended-all fl rl ll st.sent p left st.bytes r st.all st.page turn.out in
     let P : List ℕ → Type 0 = λ xs. Appends h m xs in
     let count : length st.bytes ≡ t = st.count in
@@ -306,12 +318,12 @@ Ran-done fl rl ll a b c h k m p left r t i j kept new missed more wrong st turn 
       ends = Ends-after a b c st.bytes st.came turn.ends;
       went_out = subst P all (Appends-trans h k m st.sent left st.went_out ends.1);
       few = ended-few fl rl ll st.bytes p left r t st.count st.few st.page turn.out l;
-      tells = Tells-end fl rl ll st.bytes p left b c r t i j kept new missed more wrong st.count st.page st.tells turn notes steps e;
+      tells = Tells-end fl rl ll st.bytes p left b c r i j place kept new missed more wrong st.placed st.page st.tells turn notes steps e;
       quick = omega arith;
     }
-Ran-done fl rl ll a b c h k m p left r t i j kept new missed more wrong st turn l q notes steps e (ReadFault at) ends = absurd (let no : Done ≡ ReadFault at = ends.0 in cc)
-Ran-done fl rl ll a b c h k m p left r t i j kept new missed more wrong st turn l q notes steps e TooLong ends = absurd (let no : Done ≡ TooLong = ends.0 in cc)
-Ran-done fl rl ll a b c h k m p left r t i j kept new missed more wrong st turn l q notes steps e WriteFault ends =
+Ran-done fl rl ll a b c h k m p left r t i j place kept new missed more wrong st turn l q notes steps e (ReadFault at) ends = absurd (let no : Done ≡ ReadFault at = ends.0 in cc)
+Ran-done fl rl ll a b c h k m p left r t i j place kept new missed more wrong st turn l q notes steps e TooLong ends = absurd (let no : Done ≡ TooLong = ends.0 in cc)
+Ran-done fl rl ll a b c h k m p left r t i j place kept new missed more wrong st turn l q notes steps e WriteFault ends =
     let all = ended-all fl rl ll st.sent p left st.bytes r st.all st.page turn.out in
     let P : List ℕ → Type 0 = λ xs. AppendsFront h m xs in
     let count : length st.bytes ≡ t = st.count in
@@ -320,14 +332,14 @@ Ran-done fl rl ll a b c h k m p left r t i j kept new missed more wrong st turn 
       bytes = st.bytes;
       came = Comes-then_nothing a b c st.bytes st.came turn.came;
       went_out = subst P all (AppendsFront-after h k m st.sent left st.went_out ends);
-      tells = inr (Tells-end fl rl ll st.bytes p left b c r t i j kept new missed more wrong st.count st.page st.tells turn notes steps e);
+      tells = inr (Tells-end fl rl ll st.bytes p left b c r i j place kept new missed more wrong st.placed st.page st.tells turn notes steps e);
       quick = omega arith;
     }
 
 -- what went out and what is pending, cut by a write fault
-Stands-broken : (fl rl ll : ℕ) (a b c : Option Supply) (h k m : Option (List ℕ)) (p : List ℕ) (r : Page) (t : ℕ) (x : Account)
-    → Stands fl rl ll a b h k p r t x → Comes b [] c → AppendsFront k m p → IsBroken fl rl ll a c h m x
-Stands-broken fl rl ll a b c h k m p r t x st came front =
+Stands-broken : (fl rl ll : ℕ) (a b c : Option Supply) (h k m : Option (List ℕ)) (p : List ℕ) (r : Page) (t : ℕ) (place : Place) (x : Account)
+    → Stands fl rl ll a b h k p r t place x → Comes b [] c → AppendsFront k m p → IsBroken fl rl ll a c h m x
+Stands-broken fl rl ll a b c h k m p r t place x st came front =
     let after = fed (first_page fl rl ll) st.bytes in
     let P : List ℕ → Type 0 = λ xs. AppendsFront h m xs in
     let count : length st.bytes ≡ t = st.count in
@@ -341,9 +353,9 @@ Stands-broken fl rl ll a b c h k m p r t x st came front =
       quick = omega arith;
     }
 
-Stands-cut : (fl rl ll : ℕ) (a b c : Option Supply) (h k m : Option (List ℕ)) (p : List ℕ) (r : Page) (t : ℕ) (x : Account)
-    → Stands fl rl ll a b h k p r t x → Comes b [] c → Appends k m p → IsCut fl rl ll a c h m t x
-Stands-cut fl rl ll a b c h k m p r t x st came went =
+Stands-cut : (fl rl ll : ℕ) (a b c : Option Supply) (h k m : Option (List ℕ)) (p : List ℕ) (r : Page) (t : ℕ) (place : Place) (x : Account)
+    → Stands fl rl ll a b h k p r t place x → Comes b [] c → Appends k m p → IsCut fl rl ll a c h m t x
+Stands-cut fl rl ll a b c h k m p r t place x st came went =
     let P : List ℕ → Type 0 = λ xs. Appends h m xs in
     let count : length st.bytes ≡ t = st.count in
     let quick : x.steps ≤ 10 * t = st.quick in
@@ -356,35 +368,35 @@ Stands-cut fl rl ll a b c h k m p r t x st came went =
       quick = omega arith;
     }
 
-pub Ran-broken : (fl rl ll : ℕ) (a b : Option Supply) (h k m : Option (List ℕ)) (p : List ℕ) (r : Page) (t : ℕ) (x : Account)
-    → Stands fl rl ll a b h k p r t x → AppendsFront k m p → Ran fl rl ll a b h m x WriteFault
-Ran-broken fl rl ll a b h k m p r t x st front = Stands-broken fl rl ll a b b h k m p r t x st (Comes-nil b) front
+pub Ran-broken : (fl rl ll : ℕ) (a b : Option Supply) (h k m : Option (List ℕ)) (p : List ℕ) (r : Page) (t : ℕ) (place : Place) (x : Account)
+    → Stands fl rl ll a b h k p r t place x → AppendsFront k m p → Ran fl rl ll a b h m x WriteFault
+Ran-broken fl rl ll a b h k m p r t place x st front = Stands-broken fl rl ll a b b h k m p r t place x st (Comes-nil b) front
 
-ran-fault : (fl rl ll : ℕ) (a b c : Option Supply) (h k m : Option (List ℕ)) (p : List ℕ) (r : Page) (t : ℕ) (x : Account)
-    → Stands fl rl ll a b h k p r t x → Comes b [] c
+ran-fault : (fl rl ll : ℕ) (a b c : Option Supply) (h k m : Option (List ℕ)) (p : List ℕ) (r : Page) (t : ℕ) (place : Place) (x : Account)
+    → Stands fl rl ll a b h k p r t place x → Comes b [] c
     → (outcome : Outcome) → EndsAs (ReadFault t) outcome k m p → Ran fl rl ll a c h m x outcome
-ran-fault fl rl ll a b c h k m p r t x st came Done ends = absurd (let no : ReadFault t ≡ Done = ends.0 in cc)
-ran-fault fl rl ll a b c h k m p r t x st came (ReadFault at) ends =
+ran-fault fl rl ll a b c h k m p r t place x st came Done ends = absurd (let no : ReadFault t ≡ Done = ends.0 in cc)
+ran-fault fl rl ll a b c h k m p r t place x st came (ReadFault at) ends =
     let P : ℕ → Type 0 = λ n. IsCut fl rl ll a c h m n x in
     let same : ReadFault t ≡ ReadFault at = ends.0 in
     let n : t ≡ at = cc in
-    subst P n (Stands-cut fl rl ll a b c h k m p r t x st came ends.1)
-ran-fault fl rl ll a b c h k m p r t x st came TooLong ends = absurd (let no : ReadFault t ≡ TooLong = ends.0 in cc)
-ran-fault fl rl ll a b c h k m p r t x st came WriteFault ends = Stands-broken fl rl ll a b c h k m p r t x st came ends
+    subst P n (Stands-cut fl rl ll a b c h k m p r t place x st came ends.1)
+ran-fault fl rl ll a b c h k m p r t place x st came TooLong ends = absurd (let no : ReadFault t ≡ TooLong = ends.0 in cc)
+ran-fault fl rl ll a b c h k m p r t place x st came WriteFault ends = Stands-broken fl rl ll a b c h k m p r t place x st came ends
 
-pub Ran-fault : (fl rl ll : ℕ) (a b c : Option Supply) (h k m : Option (List ℕ)) (p left : List ℕ) (r : Page) (t : ℕ) (x : Account)
-    → Stands fl rl ll a b h k p r t x → Comes b [] c × (left ≡ p)
+pub Ran-fault : (fl rl ll : ℕ) (a b c : Option Supply) (h k m : Option (List ℕ)) (p left : List ℕ) (r : Page) (t : ℕ) (place : Place) (x : Account)
+    → Stands fl rl ll a b h k p r t place x → Comes b [] c × (left ≡ p)
     → (outcome : Outcome) → EndsAs (ReadFault t) outcome k m left → Ran fl rl ll a c h m x outcome
-Ran-fault fl rl ll a b c h k m p left r t x st turn outcome ends =
+Ran-fault fl rl ll a b c h k m p left r t place x st turn outcome ends =
     let P : List ℕ → Type 0 = λ xs. EndsAs (ReadFault t) outcome k m xs in
-    ran-fault fl rl ll a b c h k m p r t x st turn.0 outcome (subst P turn.1 ends)
+    ran-fault fl rl ll a b c h k m p r t place x st turn.0 outcome (subst P turn.1 ends)
 
-pub Ran-long : (fl rl ll : ℕ) (a b : Option Supply) (h k m : Option (List ℕ)) (p : List ℕ) (r : Page) (t : ℕ) (x : Account)
-    → t ≡ 1099511627776 → Stands fl rl ll a b h k p r t x
+pub Ran-long : (fl rl ll : ℕ) (a b : Option Supply) (h k m : Option (List ℕ)) (p : List ℕ) (r : Page) (t : ℕ) (place : Place) (x : Account)
+    → t ≡ 1099511627776 → Stands fl rl ll a b h k p r t place x
     → (outcome : Outcome) → EndsAs TooLong outcome k m p → Ran fl rl ll a b h m x outcome
-Ran-long fl rl ll a b h k m p r t x n st Done ends = absurd (let no : TooLong ≡ Done = ends.0 in cc)
-Ran-long fl rl ll a b h k m p r t x n st (ReadFault at) ends = absurd (let no : TooLong ≡ ReadFault at = ends.0 in cc)
-Ran-long fl rl ll a b h k m p r t x n st TooLong ends =
+Ran-long fl rl ll a b h k m p r t place x n st Done ends = absurd (let no : TooLong ≡ Done = ends.0 in cc)
+Ran-long fl rl ll a b h k m p r t place x n st (ReadFault at) ends = absurd (let no : TooLong ≡ ReadFault at = ends.0 in cc)
+Ran-long fl rl ll a b h k m p r t place x n st TooLong ends =
     let P : ℕ → Type 0 = λ i. IsCut fl rl ll a b h m i x in
-    subst P n (Stands-cut fl rl ll a b b h k m p r t x st (Comes-nil b) ends.1)
-Ran-long fl rl ll a b h k m p r t x n st WriteFault ends = Ran-broken fl rl ll a b h k m p r t x st ends
+    subst P n (Stands-cut fl rl ll a b b h k m p r t place x st (Comes-nil b) ends.1)
+Ran-long fl rl ll a b h k m p r t place x n st WriteFault ends = Ran-broken fl rl ll a b h k m p r t place x st ends

@@ -4,6 +4,7 @@ pub mod Formats
 pub mod Half
 pub mod Head
 pub mod Held
+pub mod Lines
 pub mod Macros
 pub mod Measure
 pub mod Meeting

@@ -1,8 +1,9 @@
 -- A page is read byte by byte.
-use Rattle.std.specs.Prelude.{◌≡◌, ℕ, zero, suc, ◌+◌, ◌-◌, ◌*◌, List, [], ◌∷◌, ◌++◌, length, take, drop, Bool, true, false, not, ◌==◌, ◌&&◌, nat_lt, if◌then◌else◌, Option, None, Some}
+use Rattle.std.specs.Prelude.{◌≡◌, ℕ, zero, suc, ◌+◌, ◌-◌, ◌*◌, ◌<◌, List, [], ◌∷◌, ◌++◌, length, take, drop, Bool, true, false, not, ◌==◌, ◌&&◌, nat_lt, if◌then◌else◌, Option, None, Some}
 use Rattle.nr_units.specs.Items.{Items}
 use Rattle.nr_tbl.specs.declared.complaint.Kind.{Kind}
 use Rattle.nr_tbl.specs.declared.complaint.Complaint.{Complaint}
+use Rattle.nr_tbl.specs.declared.complaint.Place.{Place}
 use Rattle.nr_tbl.specs.declared.half.Half.{Half}
 use Rattle.nr_tbl.specs.declared.half.Act.{Act}
 use Rattle.nr_tbl.specs.declared.half.Act.TheVariants as acts
@@ -26,6 +27,7 @@ use Rattle.nr_tbl.specs.Measure.{cells_of, overruns, taken, with_formats as meas
 use Rattle.nr_tbl.specs.Widths.{widths_of}
 use Rattle.nr_tbl.specs.Head.{with_options, with_formats}
 use Rattle.nr_tbl.specs.Meeting.{meet}
+use Rattle.nr_tbl.specs.Lines.{first_place, next_place, place_after, taken_to}
 
 -- what is half read of a page, what is kept of options and formats, and what of a row, in which a field begins at this place
 pub record Page : Type 0 where
@@ -216,16 +218,16 @@ fed p (b ∷ bs) = then_told (read b p) (λ q. fed q bs)
 
 -- ---- what is wrong
 
--- what was found wrong behind so many bytes
+-- what was found wrong on this line
 abbrev pub found : Option Kind → ℕ → List Complaint
-found None at = []
-found (Some kind) at = record { kind = kind; at = at } ∷ []
+found None line = []
+found (Some kind) line = record { kind = kind; line = line } ∷ []
 
--- of bytes behind so many others: of two things that are wrong at a byte the first is told
-abbrev pub complaints_from : ℕ → Page → List ℕ → List Complaint
-complaints_from at p [] = []
-complaints_from at p (b ∷ bs) =
-    found (read b p).page.half.complaint (at + 1) ++ complaints_from (at + 1) (read b p).page bs
+-- of bytes behind this place: of two things that are wrong at a byte the first is told
+abbrev pub complaints_from : Place → Page → List ℕ → List Complaint
+complaints_from place p [] = []
+complaints_from place p (b ∷ bs) =
+    found (read b p).page.half.complaint (next_place b place).line ++ complaints_from (next_place b place) (read b p).page bs
 
 -- ---- bytes that pass
 
@@ -246,10 +248,11 @@ passes p = is_passing p.half.mode && is_well p.half.complaint
 abbrev pub is_plain_byte : ℕ → Bool
 is_plain_byte b = not (b == 10)
 
--- the first n of these go out as they are and change nothing, each in one step, and nothing is wrong with them
+-- the first n of these go out as they are and change nothing, each in one step; nothing is wrong with them, and none ends a line
 pub record IsPlainFront (n : ℕ) (bytes : List ℕ) (p : Page) : Type 0 where
   pub told_so : fed p (take n bytes) ≡ told p (take n bytes) n
-  pub well : (at : ℕ) → complaints_from at p (take n bytes) ≡ []
+  pub well : (place : Place) → complaints_from place p (take n bytes) ≡ []
+  pub in_line : 0 < n → (place : Place) → place_after place (take n bytes) ≡ taken_to false place
 
 -- ---- the definition: what comes of all bytes of an input, where so many bytes of formats and of a row are kept and the line has
 -- so many cells
@@ -267,10 +270,10 @@ steps_of formats row line input =
 
 -- what is wrong with it, in the order of the input: of bytes, before the end
 abbrev pub complaints_before_end : ℕ → ℕ → ℕ → List ℕ → List Complaint
-complaints_before_end formats row line input = complaints_from 0 (first_page formats row line) input
+complaints_before_end formats row line input = complaints_from first_place (first_page formats row line) input
 
--- and with the end
+-- and with the end, at which the line of the last byte is told
 abbrev pub complaints_of : ℕ → ℕ → ℕ → List ℕ → List Complaint
 complaints_of formats row line input =
     complaints_before_end formats row line input
-    ++ found (finished (fed (first_page formats row line) input).page).page.half.complaint (length input)
+    ++ found (finished (fed (first_page formats row line) input).page).page.half.complaint (place_after first_place input).line

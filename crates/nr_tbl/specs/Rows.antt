@@ -83,9 +83,9 @@ counted h = record h { fields = one_more h.fields 65; shape = shapes.Empty; mark
 abbrev pub text_act : Half → Act
 text_act h = Field (if h.formats.numeric then front h.marks else None) (if h.options.nospaces then Some h.marks.solid else None)
 
--- one beyond the columns is text
+-- one beyond the columns is text, and nothing where it is empty
 abbrev pub act_of : Shape → Half → Act
-act_of shapes.Empty h = Replace says.Skip
+act_of shapes.Empty h = if is_beyond h then Replace says.Nothing else Replace says.Skip
 act_of shapes.Rule h = if is_beyond h then text_act h else Replace (says.Mark marks.Rule)
 act_of shapes.Inner h = if is_beyond h then text_act h else Replace (says.Mark marks.Inner)
 act_of shapes.Above h = if is_beyond h then text_act h else Replace (says.Mark marks.Above)

@@ -7,10 +7,12 @@ use Rattle.nr_units.specs.Items.{Items}
 use Rattle.nr_units.specs.Supply.{Supply}
 use Rattle.nr_tbl.specs.declared.complaint.Complaint.{Complaint}
 use Rattle.nr_tbl.specs.declared.complaint.Kind.{Kind}
+use Rattle.nr_tbl.specs.declared.complaint.Place.{Place}
 use Rattle.nr_tbl.specs.declared.running.Outcome.{Outcome}
 use Rattle.nr_tbl.specs.declared.running.Outcome.TheVariants.{Done, ReadFault, TooLong, WriteFault}
 use Rattle.nr_tbl.specs.declared.running.Turn.{Turn}
 use Rattle.nr_tbl.specs.declared.running.Turn.TheVariants as turns
+use Rattle.nr_tbl.specs.Lines.{first_place, place_after, taken_to}
 use Rattle.nr_tbl.specs.Reading.{Page, first_page, fed, finished, found, complaints_from, tables_set, steps_of, complaints_before_end, complaints_of}
 
 -- these bytes came
@@ -63,15 +65,17 @@ pub record Tells (a : Account) (steps : ℕ) (all : List Complaint) : Type 0 whe
 
 -- ---- one turn
 
--- so many bytes came and were read, in so many steps, and this was found wrong with the last of them
-pub record Took (old new : Option Supply) (p q : Page) (pending left : List ℕ) (n steps : ℕ) (wrong : Option Kind) : Type 0 where
+-- So many bytes of one line came and were read, in so many steps; the last ends the line or doesn't, and this was found wrong
+-- with it.
+pub record Took (old new : Option Supply) (p q : Page) (pending left : List ℕ) (n steps : ℕ) (newline : Bool) (wrong : Option Kind) : Type 0 where
   pub bytes : List ℕ
   pub came : Comes old bytes new
   pub count : length bytes ≡ n
   pub page : q ≡ (fed p bytes).page
   pub out : left ≡ pending ++ (fed p bytes).bytes
   pub made : steps ≡ (fed p bytes).steps
-  pub complains : (at : ℕ) → complaints_from at p bytes ≡ found wrong (at + n)
+  pub lines : 0 < n → (place : Place) → place_after place bytes ≡ taken_to newline place
+  pub complains : (place : Place) → complaints_from place p bytes ≡ found wrong (taken_to newline place).line
 
 -- the end came
 pub record Ended (old new : Option Supply) (p : Page) (pending left : List ℕ) (steps : ℕ) (wrong : Option Kind) : Type 0 where
@@ -82,13 +86,13 @@ pub record Ended (old new : Option Supply) (p : Page) (pending left : List ℕ) 
   pub complains : wrong ≡ (finished p).page.half.complaint
 
 abbrev pub Turns : Option Supply → Option Supply → Page → Page → List ℕ → List ℕ → Turn → Type 0
-Turns old new p q pending left (turns.Took n steps wrong) = Took old new p q pending left n steps wrong
+Turns old new p q pending left (turns.Took n steps newline wrong) = Took old new p q pending left n steps newline wrong
 Turns old new p q pending left (turns.End steps wrong) = Ended old new p pending left steps wrong
 Turns old new p q pending left turns.ReadFault = Comes old [] new × (left ≡ pending)
 
 -- At least one byte and not too many were taken. So many went out for each at most, in ten steps at most, and as many at the end.
 abbrev pub IsMeasured : ℕ → ℕ → ℕ → ℕ → Turn → Type 0
-IsMeasured size most before after (turns.Took n steps wrong) = (0 < n) × (n ≤ most) × (after ≤ before + size * n) × (steps ≤ 10 * n)
+IsMeasured size most before after (turns.Took n steps newline wrong) = (0 < n) × (n ≤ most) × (after ≤ before + size * n) × (steps ≤ 10 * n)
 IsMeasured size most before after (turns.End steps wrong) = (after ≤ before + size) × (steps ≤ 10)
 IsMeasured size most before after turns.ReadFault = after ≤ before
 
@@ -99,10 +103,11 @@ is_fault turn = false
 -- ---- a run
 
 -- where a run stands that took these bytes: what they come to went out, or is pending
-pub record Stands (fl rl ll : ℕ) (first supply : Option Supply) (held new : Option (List ℕ)) (pending : List ℕ) (p : Page) (taken : ℕ) (a : Account) : Type 0 where
+pub record Stands (fl rl ll : ℕ) (first supply : Option Supply) (held new : Option (List ℕ)) (pending : List ℕ) (p : Page) (taken : ℕ) (place : Place) (a : Account) : Type 0 where
   pub bytes : List ℕ
   pub came : Comes first bytes supply
   pub count : length bytes ≡ taken
+  pub placed : place ≡ place_after first_place bytes
   pub page : p ≡ (fed (first_page fl rl ll) bytes).page
   pub sent : List ℕ
   pub went_out : Appends held new sent

@@ -1,4 +1,6 @@
 //! What is wrong with a table.
+ghost use Rattle.std.specs.Prelude.{◌≡◌, ◌+◌, ◌^◌, ◌<◌, ◌≤◌};
+ghost use Rattle.nr_tbl.specs.Lines as specs;
 
 /// What is wrong.
 #[derive(Clone, Copy, Debug, PartialEq, Eq)]
@@ -30,14 +32,45 @@ pub enum Kind {
 pub struct Complaint {
     /// What.
     pub kind: Kind,
-    /// How many bytes had been taken.
-    pub at: u64,
+    /// On which line of the input, counted from 1.
+    pub line: u64,
 }
 
 impl Complaint {
     /// One to fill a slice with at first.
     pub const NONE: Complaint = Complaint {
         kind: Kind::OpenTable,
-        at: 0,
+        line: 0,
     };
+}
+
+/// The line of the byte that came last, and whether that byte ended it.
+#[derive(Clone, Copy)]
+pub(crate) struct Place {
+    /// The line, counted from 1.
+    pub line: u64,
+    /// It has ended.
+    pub ended: bool,
+}
+
+impl Place {
+    /// No byte came.
+    pub(crate) fn first() -> Place
+        ensures { result ≡ specs.first_place }
+    {
+        Place {
+            line: 1,
+            ended: false,
+        }
+    }
+
+    /// Bytes of one line came, of which the last ends it or doesn't.
+    pub(crate) fn taken_to(self, ended: bool) -> Place
+        requires { self.line + 1 < 2 ^ 64 }
+        ensures value { result ≡ specs.taken_to ended self }
+        ensures few { result.line ≤ self.line + 1 }
+    {
+        let line = if self.ended { self.line + 1 } else { self.line };
+        Place { line, ended }
+    }
 }

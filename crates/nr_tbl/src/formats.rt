@@ -4,7 +4,7 @@ ghost use Rattle.nr_tbl.specs.Formats as specs;
 
 use super::numbers::one_more;
 use super::options::small;
-use nr_units::slice_vec::SliceVec;
+use nr_rooms::FixedVec;
 
 /// The greatest number of columns.
 const COLUMNS: usize = 64;
@@ -112,7 +112,7 @@ fn bars_digit(bars: usize) -> u8
 }
 
 /// Puts a call behind what goes out: at most 16 bytes.
-fn put_call(call: Call, out: &mut SliceVec<'_, u8>)
+fn put_call(call: Call, out: &mut FixedVec<u8>)
     requires { length out.old.items + 16 ≤ out.old.room }
     ensures items { out.new.items ≡ out.old.items ++ specs.call_bytes call }
     ensures few { length out.new.items ≤ length out.old.items + 16 }
@@ -147,7 +147,7 @@ fn put_call(call: Call, out: &mut SliceVec<'_, u8>)
 }
 
 /// Puts what a byte calls behind what goes out: at most 32 bytes.
-pub(crate) fn put_called(called: Called, out: &mut SliceVec<'_, u8>)
+pub(crate) fn put_called(called: Called, out: &mut FixedVec<u8>)
     requires { length out.old.items + 32 ≤ out.old.room }
     ensures items { out.new.items ≡ out.old.items ++ specs.called_bytes called }
     ensures few { length out.new.items ≤ length out.old.items + 32 }

@@ -1,6 +1,6 @@
 //! tbl: tables become requests of the language of the formatter.
 //!
-//! It stands on nr_units. To read: `complaint`, `held`, `field`, `numbers`; `options`, `formats`, `widths`, `measure`;
+//! It stands on nr_units and nr_rooms. To read: `complaint`, `held`, `field`, `numbers`; `options`, `formats`, `widths`, `measure`;
 //! `macros`, `drawing`, `said`; `half`, `outside`, `head`, `rows`, `blocks`, `plain`, `meeting`; `reader`, `running`;
 //! `untouched`.
 #![tactic(auto)]

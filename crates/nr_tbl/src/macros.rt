@@ -4,10 +4,10 @@ ghost use Rattle.std.specs.Prelude.{◌≡◌, ◌+◌, ◌≤◌, ◌++◌, len
 ghost use Rattle.nr_tbl.specs.Macros.{macros};
 
 use super::drawing::DRAWING;
-use nr_units::slice_vec::SliceVec;
+use nr_rooms::FixedVec;
 
 /// The macros by which a table is read, measured and ended.
-static MACROS: [u8; 7796] = *b"\
+static MACROS: [u8; 7816] = *b"\
 .de *.\n\
 ..\n\
 .de *begin\n\
@@ -90,8 +90,11 @@ static MACROS: [u8; 7796] = *b"\
 .nr *z\\\\n(*K,\\\\n(*c 1\n\
 ..\n\
 .de *width\n\
-.nr *m\\\\n(*c \\\\$1n\n\
-.nr *m\\\\n(*c \\\\n[*m\\\\n(*c]+12/24*24\n\
+.nr *t \\\\n(.l\n\
+.ll 1n\n\
+.ll 0+(\\\\$1)\n\
+.nr *m\\\\n(*c \\\\n(.l+12/24*24\n\
+.ll \\\\n(*tu\n\
 ..\n\
 .de *gap\n\
 .if \\\\$1+1>\\\\n[*%\\\\n(*c] .nr *%\\\\n(*c \\\\$1+1\n\
@@ -460,7 +463,7 @@ a b ccc\n\
 ";
 
 /// Puts the macros behind what goes out: at most 16128 bytes.
-pub(crate) fn put_macros(out: &mut SliceVec<'_, u8>)
+pub(crate) fn put_macros(out: &mut FixedVec<u8>)
     requires { length out.old.items + 16128 ≤ out.old.room }
     ensures items { out.new.items ≡ out.old.items ++ macros }
     ensures few { length out.new.items ≤ length out.old.items + 16128 }

@@ -9,6 +9,7 @@ use super::measure::cells_of;
 use super::options::{Options, OptionsRead};
 use super::said::{Said, put_call, put_double, say};
 use super::widths::widths_of;
+use nr_rooms::FixedVec;
 use nr_units::slice_vec::SliceVec;
 use std::marker::Model;
 
@@ -46,7 +47,7 @@ fn options_of(text: &[u8]) -> Options
 }
 
 /// Puts what formats call behind what goes out, and gives what was read of them.
-fn read_formats(first: Formats, text: &[u8], out: &mut SliceVec<'_, u8>) -> Formats
+fn read_formats(first: Formats, text: &[u8], out: &mut FixedVec<u8>) -> Formats
     requires { length out.old.items + 32 * length text.now ≤ out.old.room }
     ensures formats { result ≡ (specs.all_read text.now first).formats }
     ensures items { out.new.items ≡ out.old.items ++ (specs.all_read text.now first).bytes }
@@ -62,7 +63,7 @@ fn read_formats(first: Formats, text: &[u8], out: &mut SliceVec<'_, u8>) -> Form
 }
 
 /// Puts a text with its backslashes twice.
-fn put_doubled(text: &[u8], out: &mut SliceVec<'_, u8>)
+fn put_doubled(text: &[u8], out: &mut FixedVec<u8>)
     requires { length out.old.items + 2 * length text.now ≤ out.old.room }
     ensures items { out.new.items ≡ out.old.items ++ specs.doubled text.now }
     ensures few { length out.new.items ≤ length out.old.items + 2 * length text.now }
@@ -74,7 +75,7 @@ fn put_doubled(text: &[u8], out: &mut SliceVec<'_, u8>)
 }
 
 /// Puts the text of a field.
-fn put_text(text: &[u8], out: &mut SliceVec<'_, u8>)
+fn put_text(text: &[u8], out: &mut FixedVec<u8>)
     requires { length out.old.items + 32 + 2 * length text.now ≤ out.old.room }
     ensures items { out.new.items ≡ out.old.items ++ specs.text_bytes text.now }
     ensures few { length out.new.items ≤ length out.old.items + 32 + 2 * length text.now }
@@ -86,7 +87,7 @@ fn put_text(text: &[u8], out: &mut SliceVec<'_, u8>)
 }
 
 /// Puts what stands before the place where a field is aligned, behind a 0.
-fn put_front(text: &[u8], out: &mut SliceVec<'_, u8>)
+fn put_front(text: &[u8], out: &mut FixedVec<u8>)
     requires { length out.old.items + 32 + 2 * length text.now ≤ out.old.room }
     ensures items { out.new.items ≡ out.old.items ++ specs.front_bytes text.now }
     ensures few { length out.new.items ≤ length out.old.items + 32 + 2 * length text.now }
@@ -109,7 +110,7 @@ fn front_of(text: &[u8], len: Option<usize>) -> &[u8]
 }
 
 /// Puts a field: its text, and where numbers are aligned what stands before that place.
-fn put_field(text: &[u8], front: Option<usize>, out: &mut SliceVec<'_, u8>)
+fn put_field(text: &[u8], front: Option<usize>, out: &mut FixedVec<u8>)
     requires { length out.old.items + 64 + 4 * length text.now ≤ out.old.room }
     ensures items { out.new.items ≡ out.old.items ++ specs.field_bytes text.now front }
     ensures few { length out.new.items ≤ length out.old.items + 64 + 4 * length text.now }
@@ -176,7 +177,7 @@ impl<'a> Reader<'a> {
     }
 
     /// What was kept is read as options.
-    fn read_options(&mut self, out: &mut SliceVec<'_, u8>)
+    fn read_options(&mut self, out: &mut FixedVec<u8>)
         requires { length out.old.items + specs.most self.old ≤ out.old.room }
         ensures page { self.new ≡ (specs.options_told self.old).page }
         ensures items { out.new.items ≡ out.old.items ++ (specs.options_told self.old).bytes }
@@ -190,7 +191,7 @@ impl<'a> Reader<'a> {
     }
 
     /// What was kept is read as formats, up to a newline behind it.
-    fn read_formats(&mut self, out: &mut SliceVec<'_, u8>)
+    fn read_formats(&mut self, out: &mut FixedVec<u8>)
         requires { length out.old.items + specs.most self.old ≤ out.old.room }
         ensures page { self.new ≡ (specs.formats_told self.old).page }
         ensures items { out.new.items ≡ out.old.items ++ (specs.formats_told self.old).bytes }
@@ -207,7 +208,7 @@ impl<'a> Reader<'a> {
     }
 
     /// What was kept of options and formats goes out as it stands.
-    fn give_up(&mut self, out: &mut SliceVec<'_, u8>)
+    fn give_up(&mut self, out: &mut FixedVec<u8>)
         requires { length out.old.items + specs.most self.old ≤ out.old.room }
         ensures page { self.new ≡ (specs.given_up self.old).page }
         ensures items { out.new.items ≡ out.old.items ++ (specs.given_up self.old).bytes }
@@ -241,7 +242,7 @@ impl<'a> Reader<'a> {
     }
 
     /// What was kept of a field goes out as it stands, and this.
-    fn give_up_row(&mut self, said: Said, out: &mut SliceVec<'_, u8>)
+    fn give_up_row(&mut self, said: Said, out: &mut FixedVec<u8>)
         requires { length out.old.items + specs.most self.old ≤ out.old.room }
         ensures page { self.new ≡ (specs.row_given_up said self.old).page }
         ensures items { out.new.items ≡ out.old.items ++ (specs.row_given_up said self.old).bytes }
@@ -255,7 +256,7 @@ impl<'a> Reader<'a> {
     }
 
     /// The row ends, and this goes out.
-    fn end_row(&mut self, said: Said, out: &mut SliceVec<'_, u8>)
+    fn end_row(&mut self, said: Said, out: &mut FixedVec<u8>)
         requires { length out.old.items + specs.most self.old ≤ out.old.room }
         ensures page { self.new ≡ (specs.row_ended said self.old).page }
         ensures items { out.new.items ≡ out.old.items ++ (specs.row_ended said self.old).bytes }
@@ -267,7 +268,7 @@ impl<'a> Reader<'a> {
     }
 
     /// The field goes out as text.
-    fn say_field(&mut self, front: Option<usize>, solid: Option<usize>, out: &mut SliceVec<'_, u8>)
+    fn say_field(&mut self, front: Option<usize>, solid: Option<usize>, out: &mut FixedVec<u8>)
         requires { length out.old.items + specs.most self.old ≤ out.old.room }
         ensures page { self.new ≡ (specs.field_told front solid self.old).page }
         ensures items { out.new.items ≡ out.old.items ++ (specs.field_told front solid self.old).bytes }
@@ -282,7 +283,7 @@ impl<'a> Reader<'a> {
     }
 
     /// This goes out in place of the field.
-    fn replace_field(&mut self, said: Said, out: &mut SliceVec<'_, u8>)
+    fn replace_field(&mut self, said: Said, out: &mut FixedVec<u8>)
         requires { length out.old.items + specs.most self.old ≤ out.old.room }
         ensures page { self.new ≡ (specs.field_replaced said self.old).page }
         ensures items { out.new.items ≡ out.old.items ++ (specs.field_replaced said self.old).bytes }
@@ -294,7 +295,7 @@ impl<'a> Reader<'a> {
     }
 
     /// What is done.
-    fn act(&mut self, act: Act, out: &mut SliceVec<'_, u8>)
+    fn act(&mut self, act: Act, out: &mut FixedVec<u8>)
         requires { length out.old.items + specs.most self.old ≤ out.old.room }
         ensures page { self.new ≡ (specs.acted act self.old).page }
         ensures items { out.new.items ≡ out.old.items ++ (specs.acted act self.old).bytes }
@@ -327,7 +328,7 @@ impl<'a> Reader<'a> {
     }
 
     /// What comes is met so many times at most. Tells how many steps that took, as all below do.
-    fn hear_in(&mut self, coming: Coming, most: u8, out: &mut SliceVec<'_, u8>) -> u64
+    fn hear_in(&mut self, coming: Coming, most: u8, out: &mut FixedVec<u8>) -> u64
         requires { length out.old.items + most * specs.most self.old ≤ out.old.room }
         ensures page { self.new ≡ (specs.heard_in most coming self.old).page }
         ensures items { out.new.items ≡ out.old.items ++ (specs.heard_in most coming self.old).bytes }
@@ -350,7 +351,7 @@ impl<'a> Reader<'a> {
 
     /// What comes is met until it is taken.
     #[tactic(auto, unfolding(crate::specs::Reading::heard))]
-    fn hear(&mut self, coming: Coming, out: &mut SliceVec<'_, u8>) -> u64
+    fn hear(&mut self, coming: Coming, out: &mut FixedVec<u8>) -> u64
         requires { length out.old.items + 10 * specs.most self.old ≤ out.old.room }
         ensures page { self.new ≡ (specs.heard coming self.old).page }
         ensures items { out.new.items ≡ out.old.items ++ (specs.heard coming self.old).bytes }
@@ -363,7 +364,7 @@ impl<'a> Reader<'a> {
     }
 
     /// A byte comes.
-    pub(crate) fn read(&mut self, byte: u8, out: &mut SliceVec<'_, u8>) -> u64
+    pub(crate) fn read(&mut self, byte: u8, out: &mut FixedVec<u8>) -> u64
         requires { length out.old.items + 10 * specs.most self.old ≤ out.old.room }
         ensures page { self.new ≡ (specs.read byte self.old).page }
         ensures items { out.new.items ≡ out.old.items ++ (specs.read byte self.old).bytes }
@@ -377,7 +378,7 @@ impl<'a> Reader<'a> {
     }
 
     /// The end comes.
-    pub(crate) fn finish(&mut self, out: &mut SliceVec<'_, u8>) -> u64
+    pub(crate) fn finish(&mut self, out: &mut FixedVec<u8>) -> u64
         requires { length out.old.items + 10 * specs.most self.old ≤ out.old.room }
         ensures page { self.new ≡ (specs.finished self.old).page }
         ensures items { out.new.items ≡ out.old.items ++ (specs.finished self.old).bytes }

@@ -130,11 +130,12 @@ impl Half {
         Act::Field(front, solid)
     }
 
-    /// What is done for a field: one beyond the columns is text.
+    /// What is done for a field: one beyond the columns is text, and nothing where it is empty.
     fn field_act(&self) -> Act
         ensures { result ≡ specs.field_act self.now }
     {
         match self.shape {
+            Shape::Empty if self.is_beyond() => Act::Replace(Said::Nothing),
             Shape::Empty => Act::Replace(Said::Skip),
             _ if self.is_beyond() => self.text_act(),
             Shape::Rule => Act::Replace(Said::Mark(Mark::Rule)),

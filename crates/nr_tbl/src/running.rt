@@ -6,8 +6,9 @@ ghost use Rattle.nr_tbl.specs.Reading.{first_page, found, most as most_of};
 ghost use Rattle.nr_tbl.specs.declared.complaint.Complaint.{Complaint as ComplaintValue};
 ghost use Rattle.nr_tbl.specs.Running as specs;
 
-use super::complaint::{Complaint, Kind};
+use super::complaint::{Complaint, Kind, Place};
 use super::reader::Reader;
+use nr_rooms::FixedVec;
 use nr_units::sink::Sink;
 use nr_units::slice_vec::SliceVec;
 use nr_units::source::{Fault, Source};
@@ -48,10 +49,12 @@ pub struct Report {
 /// What one turn came to.
 #[derive(Clone, Copy)]
 enum Turn {
-    /// So many bytes were taken, in so many steps, and this was found wrong with the last of them. More may come.
+    /// So many bytes of one line were taken, in so many steps. The last ends the line or doesn't, and this was found wrong
+    /// with it. More may come.
     Took {
         bytes: u64,
         steps: u64,
+        newline: bool,
         wrong: Option<Kind>,
     },
     /// The input has ended, in so many steps, and this was found wrong.
@@ -72,9 +75,9 @@ struct Tally {
     missed: bool,
 }
 
-/// Keeps what was found wrong behind so many bytes, if anything was and there is room for it.
-fn note(wrong: Option<Kind>, at: u64, complaints: &mut SliceVec<'_, Complaint>, tally: &mut Tally)
-    ensures notes { (all : List ComplaintValue) → specs.Keeps all complaints.old tally.old.missed → specs.Keeps (all ++ found wrong at) complaints.new tally.new.missed }
+/// Keeps what was found wrong on this line, if anything was and there is room for it.
+fn note(wrong: Option<Kind>, line: u64, complaints: &mut SliceVec<'_, Complaint>, tally: &mut Tally)
+    ensures notes { (all : List ComplaintValue) → specs.Keeps all complaints.old tally.old.missed → specs.Keeps (all ++ found wrong line) complaints.new tally.new.missed }
     ensures room { complaints.new.room ≡ complaints.old.room }
     ensures steps { tally.new.steps ≡ tally.old.steps }
 {
@@ -85,10 +88,10 @@ fn note(wrong: Option<Kind>, at: u64, complaints: &mut SliceVec<'_, Complaint>, 
         tally.missed = true;
         return;
     }
-    complaints.push(Complaint { kind, at });
+    complaints.push(Complaint { kind, line });
 }
 
-/// The least length of the slice for what goes out, where so many bytes of options and formats and of a row are kept.
+/// The least room for what goes out, where so many bytes of options and formats and of a row are kept.
 pub fn pending_size(formats: usize, row: usize) -> usize
     requires formats { formats ≤ 2 ^ 30 }
     requires row { row ≤ 2 ^ 30 }
@@ -98,7 +101,7 @@ pub fn pending_size(formats: usize, row: usize) -> usize
 }
 
 /// All that is pending goes out.
-fn put_pending<W: Sink>(out: &mut SliceVec<'_, u8>, output: &mut W) -> Result<(), Fault>
+fn put_pending<W: Sink>(out: &mut FixedVec<u8>, output: &mut W) -> Result<(), Fault>
     ensures ok { OnOk result (Appends (W.held output.old) (W.held output.new) out.old.items) }
     ensures err { specs.FrontAtErr result (W.held output.old) (W.held output.new) out.old.items }
     ensures empty { OnOk result (out.new.items ≡ []) }
@@ -111,7 +114,7 @@ fn put_pending<W: Sink>(out: &mut SliceVec<'_, u8>, output: &mut W) -> Result<()
 }
 
 /// Room is made for what one turn says, so many bytes at most: where there is none, all that is pending goes out.
-fn make_room<W: Sink>(most: usize, out: &mut SliceVec<'_, u8>, output: &mut W) -> Result<(), Fault>
+fn make_room<W: Sink>(most: usize, out: &mut FixedVec<u8>, output: &mut W) -> Result<(), Fault>
     requires { most ≤ out.old.room }
     ensures ok { OnOk result (specs.Flushes (W.held output.old) (W.held output.new) out.old.items out.new.items) }
     ensures err { specs.FrontAtErr result (W.held output.old) (W.held output.new) out.old.items }
@@ -129,11 +132,11 @@ fn make_room<W: Sink>(most: usize, out: &mut SliceVec<'_, u8>, output: &mut W) -
 fn take_passing<R: Source>(
     reader: &Reader<'_>,
     input: &mut R,
-    out: &mut SliceVec<'_, u8>,
+    out: &mut FixedVec<u8>,
     most: u64,
 ) -> u64
     requires { length out.old.items + 16384 ≤ out.old.room }
-    ensures took { specs.Took (R.supply input.old) (R.supply input.new) reader.now reader.now out.old.items out.new.items result result None }
+    ensures took { specs.Took (R.supply input.old) (R.supply input.new) reader.now reader.now out.old.items out.new.items result result false None }
     ensures few { result ≤ most }
     ensures grown { length out.new.items ≤ length out.old.items + result }
     ensures failures { R.failures input.new ≡ R.failures input.old }
@@ -151,7 +154,7 @@ fn take_passing<R: Source>(
 fn make_turn<R: Source>(
     reader: &mut Reader<'_>,
     input: &mut R,
-    out: &mut SliceVec<'_, u8>,
+    out: &mut FixedVec<u8>,
     most: u64,
 ) -> Turn
     requires room { length out.old.items + 10 * most_of reader.old ≤ out.old.room }
@@ -167,6 +170,7 @@ fn make_turn<R: Source>(
         return Turn::Took {
             bytes: count,
             steps: count,
+            newline: false,
             wrong: None,
         };
     }
@@ -176,6 +180,7 @@ fn make_turn<R: Source>(
             Turn::Took {
                 bytes: 1,
                 steps,
+                newline: byte == b'\n',
                 wrong: reader.complaint(),
             }
         }
@@ -191,9 +196,10 @@ fn make_turn<R: Source>(
 }
 
 /// The rest goes out, and the run has ended so.
-fn ended<W: Sink>(out: &mut SliceVec<'_, u8>, output: &mut W, outcome: Outcome) -> Outcome
+fn ended<W: Sink>(out: &mut FixedVec<u8>, output: &mut W, outcome: Outcome) -> Outcome
     ensures ends { specs.EndsAs outcome result (W.held output.old) (W.held output.new) out.old.items }
     ensures failures { specs.is_write_fault outcome ≡ false → W.failures output.new ≡ put_counted_if (specs.is_write_fault result) (W.failures output.old) }
+    ensures room { out.new.room ≡ out.old.room }
 {
     match put_pending(out, output) {
         Ok(()) => outcome,
@@ -208,7 +214,7 @@ fn run<R: Source, W: Sink>(
     reader: &mut Reader<'_>,
     input: &mut R,
     output: &mut W,
-    out: &mut SliceVec<'_, u8>,
+    out: &mut FixedVec<u8>,
     complaints: &mut SliceVec<'_, Complaint>,
     tally: &mut Tally,
 ) -> Outcome
@@ -222,8 +228,10 @@ fn run<R: Source, W: Sink>(
     ensures read_faults { specs.TellsReads result (R.failures input.old) (R.failures input.new) }
     ensures write_faults { W.failures output.new ≡ put_counted_if (specs.is_write_fault result) (W.failures output.old) }
     ensures kept { complaints.new.room ≡ complaints.old.room }
+    ensures held { out.new.room ≡ out.old.room }
 {
     let mut taken = 0;
+    let mut place = Place::first();
     while taken < TOO_MANY {
         match make_room(most, out, output) {
             Ok(()) => {}
@@ -233,15 +241,17 @@ fn run<R: Source, W: Sink>(
             Turn::Took {
                 bytes,
                 steps,
+                newline,
                 wrong,
             } => {
                 taken += bytes;
+                place = place.taken_to(newline);
                 tally.steps += steps;
-                note(wrong, taken, complaints, tally);
+                note(wrong, place.line, complaints, tally);
             }
             Turn::End { steps, wrong } => {
                 tally.steps += steps;
-                note(wrong, taken, complaints, tally);
+                note(wrong, place.line, complaints, tally);
                 return ended(out, output, Outcome::Done);
             }
             Turn::ReadFault => return ended(out, output, Outcome::ReadFault { at: taken }),
@@ -254,13 +264,14 @@ fn run<R: Source, W: Sink>(
 /// not flushed. Nothing is allocated.
 ///
 /// The lengths of `formats` and `row` are the limits on the bytes of a table's options and formats, and of the fields of
-/// a row. `line` is the line's length in cells, by which a table is told that is surely wider. What the slices and `complaints` held is of no account.
+/// a row. `line` is the line's length in cells, by which a table is told that is surely wider. What the slices,
+/// `complaints` and `pending` held is of no account. `pending` is what is to go out: room beyond the least makes fewer writes.
 ///
 /// What goes out is one function of the bytes that came, however they came. At a read fault, and where the
 /// input is too long, it is that of the bytes before, but for what is half read; at a write fault a front of it.
 ///
-/// `complaints` holds then what was wrong with the tables of the bytes that came, in the order of the input, as many
-/// as there is room for.
+/// `complaints` holds then what was wrong with the tables of the bytes that came, each with its line, in the order of the
+/// input, as many as there is room for.
 ///
 /// In a step a byte that came, or the end, meets what is half read of the page, or a byte passes as it is. There are
 /// at most ten for each byte, and ten for the end.
@@ -271,16 +282,17 @@ pub fn convert<R: Source, W: Sink>(
     row: &mut [u8],
     line: usize,
     complaints: &mut SliceVec<'_, Complaint>,
-    pending: &mut [u8],
+    pending: &mut FixedVec<u8>,
 ) -> Report
     requires formats { length formats.old ≤ 2 ^ 30 }
     requires row { length row.old ≤ 2 ^ 30 }
-    requires pending { specs.pending_size (length formats.old) (length row.old) ≤ length pending.old }
+    requires pending { specs.pending_size (length formats.old) (length row.old) ≤ pending.old.room }
     ensures ran { specs.Ran (length formats.old) (length row.old) line (R.supply input.old) (R.supply input.new) (W.held output.old) (W.held output.new) (specs.account result.steps complaints.new result.missed) result.outcome }
     // A read fault is told only where the source failed once, and then always, but where the output fails too.
     ensures read_faults { specs.TellsReads result.outcome (R.failures input.old) (R.failures input.new) }
     ensures write_faults { W.failures output.new ≡ put_counted_if (specs.is_write_fault result.outcome) (W.failures output.old) }
     ensures room { complaints.new.room ≡ complaints.old.room }
+    ensures pending { pending.new.room ≡ pending.old.room }
 {
     let most = pending_size(formats.len(), row.len());
     let mut tally = Tally {
@@ -288,14 +300,14 @@ pub fn convert<R: Source, W: Sink>(
         missed: false,
     };
     let mut reader = Reader::over(formats, row, line);
-    let mut out = SliceVec::over(pending);
+    pending.clear();
     complaints.clear();
     let outcome = run(
         most,
         &mut reader,
         input,
         output,
-        &mut out,
+        pending,
         complaints,
         &mut tally,
     );

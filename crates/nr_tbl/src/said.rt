@@ -5,7 +5,7 @@ ghost use Rattle.nr_tbl.specs.Saying as specs;
 use super::held::Held;
 use super::macros::put_macros;
 use super::options::{Frame, Options};
-use nr_units::slice_vec::SliceVec;
+use nr_rooms::FixedVec;
 
 /// What stands in place of a field.
 #[derive(Clone, Copy)]
@@ -87,7 +87,7 @@ fn mark_digit(mark: Mark) -> u8
 }
 
 /// Puts a mark behind what goes out: at most 32 bytes.
-fn put_mark(mark: Mark, out: &mut SliceVec<'_, u8>)
+fn put_mark(mark: Mark, out: &mut FixedVec<u8>)
     requires { length out.old.items + 32 ≤ out.old.room }
     ensures items { out.new.items ≡ out.old.items ++ specs.mark_bytes mark }
     ensures few { length out.new.items ≤ length out.old.items + 32 }
@@ -117,7 +117,7 @@ fn frame_digit(frame: Frame) -> u8
 }
 
 /// Puts what options set: at most 64 bytes.
-fn put_options(options: Options, out: &mut SliceVec<'_, u8>)
+fn put_options(options: Options, out: &mut FixedVec<u8>)
     requires { length out.old.items + 64 ≤ out.old.room }
     ensures items { out.new.items ≡ out.old.items ++ specs.options_bytes options }
     ensures few { length out.new.items ≤ length out.old.items + 64 }
@@ -134,7 +134,7 @@ fn put_options(options: Options, out: &mut SliceVec<'_, u8>)
 }
 
 /// Puts the beginning of a table: at most 16192 bytes.
-fn put_begin(known: bool, out: &mut SliceVec<'_, u8>)
+fn put_begin(known: bool, out: &mut FixedVec<u8>)
     requires { length out.old.items + 16192 ≤ out.old.room }
     ensures items { out.new.items ≡ out.old.items ++ specs.begin_bytes known }
     ensures few { length out.new.items ≤ length out.old.items + 16192 }
@@ -148,7 +148,7 @@ fn put_begin(known: bool, out: &mut SliceVec<'_, u8>)
 }
 
 /// Puts a byte, and a backslash twice: at most 2 bytes.
-pub(crate) fn put_double(byte: u8, out: &mut SliceVec<'_, u8>)
+pub(crate) fn put_double(byte: u8, out: &mut FixedVec<u8>)
     requires { length out.old.items + 2 ≤ out.old.room }
     ensures items { out.new.items ≡ out.old.items ++ specs.doubled_byte byte }
     ensures few { length out.new.items ≤ length out.old.items + 2 }
@@ -161,7 +161,7 @@ pub(crate) fn put_double(byte: u8, out: &mut SliceVec<'_, u8>)
 }
 
 /// Puts a byte that is repeated in place of a field: at most 96 bytes.
-fn put_repeat(byte: u8, out: &mut SliceVec<'_, u8>)
+fn put_repeat(byte: u8, out: &mut FixedVec<u8>)
     requires { length out.old.items + 96 ≤ out.old.room }
     ensures items { out.new.items ≡ out.old.items ++ specs.repeat_bytes byte }
     ensures few { length out.new.items ≤ length out.old.items + 96 }
@@ -174,7 +174,7 @@ fn put_repeat(byte: u8, out: &mut SliceVec<'_, u8>)
 }
 
 /// Puts what a row or a table says: at most 64 bytes.
-pub(crate) fn put_call(said: Said, out: &mut SliceVec<'_, u8>)
+pub(crate) fn put_call(said: Said, out: &mut FixedVec<u8>)
     requires { length out.old.items + 64 ≤ out.old.room }
     ensures items { out.new.items ≡ out.old.items ++ specs.call_bytes said }
     ensures few { length out.new.items ≤ length out.old.items + 64 }
@@ -199,7 +199,7 @@ pub(crate) fn put_call(said: Said, out: &mut SliceVec<'_, u8>)
 }
 
 /// Puts what is said behind what goes out: at most 16192 bytes.
-pub(crate) fn say(said: Said, out: &mut SliceVec<'_, u8>)
+pub(crate) fn say(said: Said, out: &mut FixedVec<u8>)
     requires { length out.old.items + 16192 ≤ out.old.room }
     ensures items { out.new.items ≡ out.old.items ++ specs.bytes_of said }
     ensures few { length out.new.items ≤ length out.old.items + 16192 }

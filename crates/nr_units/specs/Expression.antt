@@ -1,4 +1,5 @@
 -- The value of a number expression, and the answer for a text.
+use Prim.Native.Char.{code}
 use Rattle.std.specs.Prelude.{◌≡◌, ℕ, suc, ◌+◌, ◌*◌, ◌/◌, ◌<◌, ◌≤◌, Bool, false, ◌&&◌, ◌||◌, List, [], ◌∷◌, ◌++◌, length, take, count_by, ◌==◌, Option, Some, None, ℤ, pos, neg_ℤ, ◌+ℤ◌, ◌-ℤ◌, ◌*ℤ◌, int_div, int_rem, int_lt, int_le, unwrap_or, if◌then◌else◌}
 use Rattle.std.specs.Option.{option_map, option_and_then}
 use Rattle.std.specs.Ordering.{int_eq}
@@ -79,8 +80,8 @@ pub record IsFront (text : List ℕ) (m : ℕ) (e : Expression) : Type 0 where
 
 -- At place k a parenthesis is opened while 64 are open, and what has come so far can still become an expression.
 pub record IsTooDeep (text : List ℕ) (k : ℕ) : Type 0 where
-  pub opens : take (suc k) text ≡ take k text ++ 40 ∷ []
-  pub depth : count_by (λ b. b == 40) (take k text) ≡ 64 + count_by (λ b. b == 41) (take k text)
+  pub opens : take (suc k) text ≡ take k text ++ code "(" ∷ []
+  pub depth : count_by (λ b. b == code "(") (take k text) ≡ 64 + count_by (λ b. b == code ")") (take k text)
   pub goes_on : (rest : List ℕ) × (e : Expression) × (expression_text false e ≡ take (suc k) text ++ rest)
 
 -- The answer for a text: the longest front that is an expression, and its value.

@@ -1,4 +1,5 @@
 -- The syntax of number expressions, and its texts.
+use Prim.Native.Char.{code}
 use Rattle.std.specs.Prelude.{ℕ, zero, suc, ◌+◌, ◌<◌, Bool, true, false, List, [], ◌∷◌, ◌++◌, length, Option, Some, None, codes}
 use Rattle.nr_units.specs.declared.units.Scale.{Scale}
 use Rattle.nr_units.specs.declared.units.Scale.TheVariants.{Inch, Centimetre, Pica, VerticalSpace, Em, En, Point, Unit as OneUnit}
@@ -23,14 +24,14 @@ operator_text Or = codes ":"
 
 -- the letter of a scale
 abbrev pub letter : Scale → ℕ
-letter Inch = 105
-letter Centimetre = 99
-letter Pica = 80
-letter VerticalSpace = 118
-letter Em = 109
-letter En = 110
-letter Point = 112
-letter OneUnit = 117
+letter Inch = code "i"
+letter Centimetre = code "c"
+letter Pica = code "P"
+letter VerticalSpace = code "v"
+letter Em = code "m"
+letter En = code "n"
+letter Point = code "p"
+letter OneUnit = code "u"
 
 -- each is a decimal digit
 abbrev pub AreDigits : List ℕ → Type 0
@@ -55,7 +56,7 @@ digits_text (d ∷ ds) = (48 + d) ∷ digits_text ds
 
 abbrev pub fraction_text : Option (List ℕ) → List ℕ
 fraction_text None = []
-fraction_text (Some ds) = 46 ∷ digits_text ds
+fraction_text (Some ds) = code "." ∷ digits_text ds
 
 abbrev pub scale_text : Option Scale → List ℕ
 scale_text None = []
@@ -88,16 +89,16 @@ mutual
 abbrev pub blanks : Bool → ℕ → List ℕ
 blanks false n = []
 blanks true zero = []
-blanks true (suc n) = 32 ∷ blanks true n
+blanks true (suc n) = code " " ∷ blanks true n
 
 -- the text, inside parentheses or outside
 abbrev mutual
   pub operand_text : Bool → Operand → List ℕ
   operand_text inside (Numeral n is) = number_text n
-  operand_text inside (Plus o) = 43 ∷ operand_text inside o
-  operand_text inside (Minus o) = 45 ∷ operand_text inside o
-  operand_text inside (Past n o) = 124 ∷ (blanks inside n ++ operand_text inside o)
-  operand_text inside (Parentheses n e m) = 40 ∷ (blanks true n ++ (expression_text true e ++ (blanks true m ++ 41 ∷ [])))
+  operand_text inside (Plus o) = code "+" ∷ operand_text inside o
+  operand_text inside (Minus o) = code "-" ∷ operand_text inside o
+  operand_text inside (Past n o) = code "|" ∷ (blanks inside n ++ operand_text inside o)
+  operand_text inside (Parentheses n e m) = code "(" ∷ (blanks true n ++ (expression_text true e ++ (blanks true m ++ code ")" ∷ [])))
 
   pub expression_text : Bool → Expression → List ℕ
   expression_text inside (Single o) = operand_text inside o

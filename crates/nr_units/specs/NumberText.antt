@@ -1,4 +1,5 @@
 -- The texts of numbers: Arabic, roman and alphabetic.
+use Prim.Native.Char.{code}
 use Rattle.std.specs.Prelude.{◌≡◌, ℕ, zero, suc, ◌==◌, ◌||◌, nat_le, if◌then◌else◌, decimal, ◌+◌, ◌-◌, ◌*◌, ◌/◌, ◌%◌, ◌≤◌, ◌<◌, min, max, List, [], ◌∷◌, ◌++◌, length, ℤ, pos, negsuc, slice_index, replicate, unwrap_or, slice_get}
 use Rattle.std.specs.Str.Parse.{IsNumeral, digits_value}
 use Rattle.nr_units.specs.declared.number_text.Format.{Format}
@@ -9,7 +10,7 @@ pub record IsArabic (places n : ℕ) (text : List ℕ) : Type 0 where
   pub digits : IsNumeral 10 text
   pub value : digits_value 10 text ≡ n
   pub filled : min 9 places ≤ length text
-  pub no_more : slice_index text 0 ≡ 48 → length text ≤ max 1 (min 9 places)
+  pub no_more : slice_index text 0 ≡ code "0" → length text ≤ max 1 (min 9 places)
 
 -- the ten forms of a roman digit, by its letters for one, five and ten
 abbrev pub roman_forms : ℕ → ℕ → ℕ → List (List ℕ)
@@ -46,7 +47,7 @@ letters_value_after before n (b ∷ bs) = letters_value_after before (26 * n + (
 
 -- the letters whose value is n; 0 has the digit
 pub record IsAlphabetic (before n : ℕ) (text : List ℕ) : Type 0 where
-  pub none : n ≡ 0 → text ≡ 48 ∷ []
+  pub none : n ≡ 0 → text ≡ code "0" ∷ []
   pub letters : 0 < n → AreLetters before text
   pub value : 0 < n → letters_value_after before 0 text ≡ n
 
@@ -61,7 +62,7 @@ IsForm UpperAlphabetic n text = IsAlphabetic 64 n text
 -- the text of a number in a format: a negative one is `-` and the form of its magnitude
 abbrev pub IsNumberText : Format → ℤ → List ℕ → Type 0
 IsNumberText format (pos n) text = IsForm format n text
-IsNumberText format (negsuc n) text = (form : List ℕ) × (text ≡ 45 ∷ form) × IsForm format (suc n) form
+IsNumberText format (negsuc n) text = (form : List ℕ) × (text ≡ code "-" ∷ form) × IsForm format (suc n) form
 
 -- new is old and behind it a text of which P holds
 abbrev pub Appends : List ℕ → List ℕ → (List ℕ → Type 0) → Type 0
@@ -89,7 +90,7 @@ letters before n = letters_before 14 before n []
 
 -- 0 has the digit
 abbrev pub alphabetic_text : ℕ → ℕ → List ℕ
-alphabetic_text before n = if n == 0 then 48 ∷ [] else letters before n
+alphabetic_text before n = if n == 0 then code "0" ∷ [] else letters before n
 
 abbrev pub form_text : Format → ℕ → List ℕ
 form_text (Arabic places) n = arabic_text places n
@@ -101,4 +102,4 @@ form_text UpperAlphabetic n = alphabetic_text 64 n
 -- a negative number is `-` and the form of its magnitude
 abbrev pub number_text : Format → ℤ → List ℕ
 number_text format (pos n) = form_text format n
-number_text format (negsuc n) = 45 ∷ form_text format (suc n)
+number_text format (negsuc n) = code "-" ∷ form_text format (suc n)

@@ -1,4 +1,5 @@
 -- How a text is scanned: what is kept of the bytes before, and what the next byte does to it.
+use Prim.Native.Char.{code}
 use Rattle.std.specs.Prelude.{ℕ, ◌+◌, ◌-◌, ◌*◌, ◌/◌, ◌^◌, min, Bool, false, not, ◌&&◌, List, [], ◌∷◌, Option, Some, None, ℤ, pos, ◌+ℤ◌, ◌-ℤ◌, int_le, if◌then◌else◌, nat_le, ◌==◌}
 use Rattle.std.specs.Option.{option_map, option_and_then}
 use Rattle.std.specs.Int.{w64, saturate_signed, int_max, int_min}
@@ -27,14 +28,14 @@ found b (entry ∷ more) = if b == entry.0 then Some entry.1 else found b more
 
 abbrev pub symbols : List (ℕ × Symbol)
 symbols =
-    (46, Point) ∷ (105, Letter Inch) ∷ (99, Letter Centimetre) ∷ (80, Letter Pica) ∷ (118, Letter VerticalSpace)
-    ∷ (109, Letter Em) ∷ (110, Letter En) ∷ (112, Letter PointScale) ∷ (117, Letter OneUnit) ∷ (43, Mark Add)
-    ∷ (45, Mark Subtract) ∷ (42, Mark Multiply) ∷ (47, Mark Divide) ∷ (37, Mark Remainder) ∷ (60, Mark Less)
-    ∷ (62, Mark Greater) ∷ (61, Mark Equal) ∷ (38, Mark And) ∷ (58, Mark Or) ∷ (124, Bar) ∷ (40, Open) ∷ (41, Close)
-    ∷ (32, Blank) ∷ []
+    (code ".", Point) ∷ (code "i", Letter Inch) ∷ (code "c", Letter Centimetre) ∷ (code "P", Letter Pica) ∷ (code "v", Letter VerticalSpace)
+    ∷ (code "m", Letter Em) ∷ (code "n", Letter En) ∷ (code "p", Letter PointScale) ∷ (code "u", Letter OneUnit) ∷ (code "+", Mark Add)
+    ∷ (code "-", Mark Subtract) ∷ (code "*", Mark Multiply) ∷ (code "/", Mark Divide) ∷ (code "%", Mark Remainder) ∷ (code "<", Mark Less)
+    ∷ (code ">", Mark Greater) ∷ (code "=", Mark Equal) ∷ (code "&", Mark And) ∷ (code ":", Mark Or) ∷ (code "|", Bar) ∷ (code "(", Open) ∷ (code ")", Close)
+    ∷ (code " ", Blank) ∷ []
 
 abbrev pub symbol_of : ℕ → Option Symbol
-symbol_of b = if nat_le 48 b && nat_le b 57 then Some (Digit (b - 48)) else found b symbols
+symbol_of b = if nat_le (code "0") b && nat_le b (code "9") then Some (Digit (b - 48)) else found b symbols
 
 -- an operator with `=` behind it, where that is one
 abbrev pub widened : Operator → Option Operator

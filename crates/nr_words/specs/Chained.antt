@@ -1,4 +1,5 @@
 -- Files read one after the other, and a newline behind each that is not empty and lacks it.
+use Prim.Native.Char.{code}
 use Rattle.std.specs.Prelude.{ℕ, ◌+◌, ◌%◌, ◌^◌, sum_by, List, [], ◌∷◌, ◌++◌, length, drop, slice_index_or, Bool, true, false, not, ◌==◌, nat_le, if◌then◌else◌, Option, None, Some}
 use Rattle.std.specs.Option.{option_map}
 use Rattle.std.specs.List.{list_any}
@@ -6,8 +7,8 @@ use Rattle.nr_units.specs.Supply.{Supply, Faults, Never, After, Anytime}
 
 -- What is to come of a file, and the newline that it lacks. The line is open where the byte before was none.
 abbrev pub ended : List ℕ → Bool → List ℕ
-ended [] line_open = if line_open then 10 ∷ [] else []
-ended (byte ∷ bytes) line_open = byte ∷ ended bytes (not (byte == 10))
+ended [] line_open = if line_open then code "\n" ∷ [] else []
+ended (byte ∷ bytes) line_open = byte ∷ ended bytes (not (byte == code "\n"))
 
 -- what is to come of files
 abbrev pub chained_bytes : Bool → List Supply → List ℕ

@@ -1,4 +1,5 @@
 -- Files read one after the other, as one input.
+use Prim.Native.Char.{code}
 use Rattle.std.specs.Prelude.{ℕ, List, [], ◌∷◌, ◌++◌, length, Bool, false, not, ◌==◌, if◌then◌else◌, Option}
 use Rattle.std.specs.Option.{option_map}
 use Rattle.std.specs.List.{flat_map}
@@ -8,12 +9,12 @@ use Rattle.nr_words.specs.Chained.{faults_before, some_anytime, all_known}
 -- there are bytes, and the last is no newline
 abbrev pub lacks_newline : List ℕ → Bool
 lacks_newline [] = false
-lacks_newline (byte ∷ []) = not (byte == 10)
+lacks_newline (byte ∷ []) = not (byte == code "\n")
 lacks_newline (byte ∷ next ∷ bytes) = lacks_newline (next ∷ bytes)
 
 -- the bytes of a file, and the newline that it lacks
 abbrev pub completed : List ℕ → List ℕ
-completed bytes = if lacks_newline bytes then bytes ++ 10 ∷ [] else bytes
+completed bytes = if lacks_newline bytes then bytes ++ code "\n" ∷ [] else bytes
 
 -- When calls fail: a file that fails before its end was told stops all, once the files before it were given.
 abbrev pub faults_of_all : List Supply → Faults

@@ -1,4 +1,5 @@
 -- What an option of the command line means. (CSTR 54, usage.)
+use Prim.Native.Char.{code}
 use Rattle.std.specs.Prelude.{◌≡◌, ◌≢◌, ℕ, ◌≤◌, ◌⊎◌, List, [], ◌∷◌, Bool, ◌==◌, IsTrue, codes, ℤ, pos, neg_ℤ}
 use Rattle.std.specs.List.{list_any}
 use Rattle.std.specs.Str.Parse.{IsNumeral, digits_value}
@@ -22,24 +23,24 @@ pub data Meaning : Type 0 where
 
 -- the byte `-`
 abbrev pub hyphen : ℕ
-hyphen = 45
+hyphen = code "-"
 
 -- the letter of the option: `o`, `n`, `r`, `m`, `M`, `i` or `L`
 abbrev pub letter_of : Meaning → ℕ
-letter_of (PrintOnly pages) = 111
-letter_of (BeginAt n) = 110
-letter_of (SetRegister name n) = 114
-letter_of (ReadMacros name) = 109
-letter_of (MacrosIn folder) = 77
-letter_of ReadInput = 105
-letter_of (SetLimit limit n) = 76
+letter_of (PrintOnly pages) = code "o"
+letter_of (BeginAt n) = code "n"
+letter_of (SetRegister name n) = code "r"
+letter_of (ReadMacros name) = code "m"
+letter_of (MacrosIn folder) = code "M"
+letter_of ReadInput = code "i"
+letter_of (SetLimit limit n) = code "L"
 
 -- the letter of a limit: `s`, `d`, `p` or `x`
 abbrev pub limit_letter : Limit → ℕ
-limit_letter Stored = 115
-limit_letter Depth = 100
-limit_letter Cells = 112
-limit_letter Expansions = 120
+limit_letter Stored = code "s"
+limit_letter Depth = code "d"
+limit_letter Cells = code "p"
+limit_letter Expansions = code "x"
 
 -- the text writes the number: decimal digits, or `-` and decimal digits
 abbrev pub WritesInteger : ℤ → List ℕ → Type 0

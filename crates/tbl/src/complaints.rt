@@ -21,30 +21,48 @@ fn words_of(kind: Kind) -> &'static [u8] {
     }
 }
 
-/// Writes the line of a complaint.
-fn put_complaint<E: Sink>(complaint: Complaint, errors: &mut E) -> Result<(), Fault> {
+/// Writes the line of a complaint about the text of this name.
+fn put_complaint<E: Sink>(name: &str, complaint: Complaint, errors: &mut E) -> Result<(), Fault> {
     errors.put(b"tbl: ")?;
-    errors.put(words_of(complaint.kind))?;
-    errors.put(b" at byte ")?;
+    errors.put(name.as_bytes())?;
+    errors.put(b":")?;
     let mut digits = Buffer::new();
-    errors.put(digits.format(complaint.at).as_bytes())?;
+    errors.put(digits.format(complaint.line).as_bytes())?;
+    errors.put(b": ")?;
+    errors.put(words_of(complaint.kind))?;
     errors.put(b"\n")
 }
 
 /// Writes a line for each of the complaints, up to the first fault of a write.
-fn put_complaints<E: Sink>(complaints: &[Complaint], errors: &mut E) -> Result<(), Fault> {
+fn put_complaints<E: Sink>(
+    name: &str,
+    complaints: &[Complaint],
+    errors: &mut E,
+) -> Result<(), Fault> {
     for complaint in complaints {
-        put_complaint(*complaint, errors)?;
+        put_complaint(name, *complaint, errors)?;
     }
     Ok(())
 }
 
-/// Tells the complaints about a text's tables, as far as `errors` takes it, and whether something is wrong with them:
-/// that one is wider than the line is not.
-pub fn tell_complaints<E: Sink>(report: Report, complaints: &[Complaint], errors: &mut E) -> bool {
-    let written = put_complaints(complaints, errors);
+/// Writes that there was more to complain of in the text of this name.
+fn put_more<E: Sink>(name: &str, errors: &mut E) -> Result<(), Fault> {
+    errors.put(b"tbl: ")?;
+    errors.put(name.as_bytes())?;
+    errors.put(b": and more\n")
+}
+
+/// Tells the complaints about the tables of the text of this name, as far as `errors` takes it, and whether something
+/// is wrong with them: that one is wider than the line is not.
+pub fn tell_complaints<E: Sink>(
+    name: &str,
+    report: Report,
+    complaints: &[Complaint],
+    errors: &mut E,
+) -> bool {
+    let written = put_complaints(name, complaints, errors);
     if report.missed && written.is_ok() {
-        let _ = errors.put(b"tbl: and more\n");
+        let _ = put_more(name, errors);
     }
     report.missed
         || complaints

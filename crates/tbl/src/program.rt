@@ -81,15 +81,18 @@ fn run_words<'a, R: Files, I: Read + Copy + Drop, W: Sink, E: Sink>(
     }
 }
 
-/// The files of these names. Standard input stands as none: it is read where a name is `-`, and where
+/// The name of standard input.
+const STANDARD: &str = "-";
+
+/// The files of these names, and the names. Standard input stands as none: it is read where a name is `-`, and where
 /// there is no name.
 fn open_all<'a, R: Files>(
     system: &R,
     alloc: Global,
     names: &[&'a str],
-) -> Result<Vec<Option<R::File>>, Ending<'a>> {
+) -> Result<Vec<(Option<R::File>, &'a str)>, Ending<'a>> {
     let mut texts = Vec::new(alloc);
-    if names.is_empty() && texts.push(None).is_err() {
+    if names.is_empty() && texts.push((None, STANDARD)).is_err() {
         return Err(Ending::OutOfMemory);
     }
     for name in names {
@@ -101,7 +104,7 @@ fn open_all<'a, R: Files>(
                 Err(_) => return Err(Ending::CannotOpen(name)),
             }
         };
-        if texts.push(text).is_err() {
+        if texts.push((text, *name)).is_err() {
             return Err(Ending::OutOfMemory);
         }
     }
@@ -111,7 +114,7 @@ fn open_all<'a, R: Files>(
 /// Turns the texts one after the other, each by itself, up to the first fault, and tells what is wrong with
 /// the tables of each behind it.
 fn run_texts<'a, F: Read + Drop, I: Read + Copy + Drop, W: Sink, E: Sink>(
-    texts: Vec<Option<F>>,
+    texts: Vec<(Option<F>, &'a str)>,
     standard: I,
     output: &mut W,
     errors: &mut E,
@@ -119,12 +122,12 @@ fn run_texts<'a, F: Read + Drop, I: Read + Copy + Drop, W: Sink, E: Sink>(
     complaints: &mut SliceVec<'_, Complaint>,
 ) -> Ending<'a> {
     let mut ending = Ending::Ran(Outcome::Done);
-    for text in texts {
+    for (text, name) in texts {
         let report = match text {
             Some(file) => rooms.turn(file, output, complaints),
             None => rooms.turn(standard, output, complaints),
         };
-        if tell_complaints(report, complaints.as_slice(), errors) {
+        if tell_complaints(name, report, complaints.as_slice(), errors) {
             ending = Ending::Complained;
         }
         if !matches!(report.outcome, Outcome::Done) {

@@ -2,6 +2,7 @@
 ghost use Rattle.std.specs.Prelude.{◌≡◌, ◌^◌, ◌≤◌, IfOk};
 
 use super::words::Job;
+use nr_rooms::FixedVec;
 use nr_tbl::{Complaint, Report, convert, pending_size};
 use nr_units::buffered::Buffered;
 use nr_units::sink::Sink;
@@ -12,6 +13,9 @@ use std::marker::Model;
 
 /// The bytes of the buffer of the input.
 const BUFFER_SIZE: usize = 65_536;
+
+/// The least number of bytes that go out at once, but for the last.
+const PIECE_SIZE: usize = 65_536;
 
 /// The memory that texts are turned in, taken once.
 #[derive(Drop)]
@@ -25,7 +29,7 @@ pub struct Rooms {
     /// The length of the line.
     line: usize,
     /// What is to go out.
-    pending: Vec<u8>,
+    pending: FixedVec<u8>,
 }
 
 impl Model for Rooms {
@@ -37,7 +41,7 @@ impl Model for Rooms {
 
     ghost view = { λ r. (length r.formats.items, length r.row.items) };
 
-    ghost invariant = { λ r. (length r.formats.items ≤ 2 ^ 30) × (length r.row.items ≤ 2 ^ 30) × (pending_size (length r.formats.items) (length r.row.items) ≤ length r.pending.items) };
+    ghost invariant = { λ r. (length r.formats.items ≤ 2 ^ 30) × (length r.row.items ≤ 2 ^ 30) × (pending_size (length r.formats.items) (length r.row.items) ≤ r.pending.room) };
 }
 
 impl Rooms {
@@ -47,13 +51,13 @@ impl Rooms {
         requires row { job.row ≤ 2 ^ 30 }
         ensures { IfOk result (λ rooms. rooms ≡ (job.formats, job.row)) }
     {
-        let size = pending_size(job.formats, job.row);
+        let size = pending_size(job.formats, job.row) + PIECE_SIZE;
         Ok(Rooms {
             input: vec![in alloc; 0u8; BUFFER_SIZE]?,
             formats: vec![in alloc; 0u8; job.formats]?,
             row: vec![in alloc; 0u8; job.row]?,
             line: job.line,
-            pending: vec![in alloc; 0u8; size]?,
+            pending: FixedVec::new(alloc, size)?,
         })
     }
 

@@ -187,13 +187,13 @@ static TOLD: [Told; 7] = [
     Told {
         words: &[b"tbl", b"bad", b"none"],
         status: 1,
-        lines: b"tbl: more fields than columns at byte 10\ntbl: table without an end at byte 22\n",
+        lines: b"tbl: bad:3: more fields than columns\ntbl: bad:6: table without an end\n",
     },
     // A table wider than the line is told, and nothing is wrong with it.
     Told {
         words: &[b"tbl", b"-l8", b"wide"],
         status: 0,
-        lines: b"tbl: table wider than the line at byte 29\n",
+        lines: b"tbl: wide:4: table wider than the line\n",
     },
     Told {
         words: &[b"tbl", b"-l9", b"wide"],
@@ -203,23 +203,23 @@ static TOLD: [Told; 7] = [
     Told {
         words: &[b"tbl", b"-l3", b"wide", b"none", b"wide"],
         status: 0,
-        lines: b"tbl: table wider than the line at byte 15\ntbl: table wider than the line at byte 15\n",
+        lines: b"tbl: wide:3: table wider than the line\ntbl: wide:3: table wider than the line\n",
     },
     Told {
         words: &[b"tbl", b"-l1", b"wide", b"bad"],
         status: 1,
-        lines: b"tbl: table wider than the line at byte 13\ntbl: more fields than columns at byte 10\ntbl: table without an end at byte 22\n",
+        lines: b"tbl: wide:3: table wider than the line\ntbl: bad:3: more fields than columns\ntbl: bad:6: table without an end\n",
     },
     // The line's length is 65 where no word sets it, and the limit on a row is one on its fields together.
     Told {
         words: &[b"tbl", b"long"],
         status: 0,
-        lines: b"tbl: table wider than the line at byte 76\n",
+        lines: b"tbl: long:3: table wider than the line\n",
     },
     Told {
         words: &[b"tbl", b"-Lr64", b"-l68", b"long"],
         status: 1,
-        lines: b"tbl: table row limit passed at byte 75\n",
+        lines: b"tbl: long:3: table row limit passed\n",
     },
 ];
 

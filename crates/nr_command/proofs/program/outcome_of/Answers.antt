@@ -24,6 +24,7 @@ returns-clause-ends g c =
       texts = c.in_ok-texts.texts.items;
       left = c.run_desk.new.input.files.now;
       opened = c.in_ok-texts.ensures.all;
+      each = c.in_ok-texts.ensures.asked;
       ran = Ran-same _ _ _ _ _ _ _ _ _ _ _ _ _ c.in_ok-desk.ensures.limits (c.chain-input.ensures.supply ∙ ap (λ texts. files_supply (map supply texts)) c.deref_mut.ensures.value) (c.chain-input.ensures.failures ∙ ap (failures_in g.O.Text.Source.failures) c.deref_mut.ensures.value) c.run_desk.ensures.ran;
       passed = c.run_desk.ensures.passed_on;
     }

@@ -1,4 +1,4 @@
-use Rattle.std.proofs.Common.{◌∙◌, ap, arith}
+use Rattle.std.proofs.Common.{◌∙◌, refl, ap, arith}
 use Rattle.nr_tbl.proofs.Turning.{Took-byte, Took-after_none}
 use Rattle.nr_tbl.specs.declared.half.Coming.TheVariants as comings
 use Rattle.nr_tbl.specs.Reading.{most, unblamed}
@@ -14,9 +14,9 @@ returns-in-Ok-Some-clause-turns g c =
     let n = c.take_passing-count.result in
     let q = c.take_passing-count.new.out.items in
     let gives = rw c.in-Ok-Some.field-0-is at c.in-Ok-Some.ensures.gives in
-    let byte = Took-byte b d c.in-Ok-Some.byte r c.read-steps.new.self q c.read-steps.new.out.items c.read-steps.result c.complaint.result gives
-    c.read-steps.ensures.page c.read-steps.ensures.items c.read-steps.ensures.steps c.complaint.ensures in
-    Took-after_none a b d r c.read-steps.new.self c.args.out.now.items q c.read-steps.new.out.items n n 1 c.read-steps.result c.complaint.result _
+    let byte = Took-byte b d c.in-Ok-Some.byte r c.read-steps.new.self q c.read-steps.new.out.items c.read-steps.result _ c.complaint.result gives
+    c.read-steps.ensures.page c.read-steps.ensures.items c.read-steps.ensures.steps refl c.complaint.ensures in
+    Took-after_none a b d r c.read-steps.new.self c.args.out.now.items q c.read-steps.new.out.items n n 1 c.read-steps.result _ _ c.complaint.result _
     (omega arith) c.take_passing-count.ensures.took byte
 
 pub returns-in-Ok-Some-clause-rooms : goal.returns-in-Ok-Some-clause-rooms

@@ -23,8 +23,8 @@ refuses left standard ReadsStandard error r is made = cc
 refuses left standard (ReadsFile name) error r is made = tt
 refuses left standard (ReadsMacros folder name) error r is made = tt
 
-pub returns-in-Ok : goal.returns-in-Ok
-returns-in-Ok g c = rw c.over.ensures.supply (opens g.R.File.Read.remaining g.I.Read.remaining c.args.self.now.standard (reading_of c.args.input) c.in-Ok.text c.text.result c.in-Ok.is c.text.ensures)
+pub returns-in-Ok-clause-comes : goal.returns-in-Ok-clause-comes
+returns-in-Ok-clause-comes g c = rw c.over.ensures.supply (opens g.P.File.Read.remaining g.I.Read.remaining c.args.self.now.standard (reading_of c.args.input) c.in-Ok.text c.text.result c.in-Ok.is c.text.ensures.text)
 
-pub returns-in-Err : goal.returns-in-Err
-returns-in-Err g c = refuses (g.I.Read.remaining c.args.self.now.standard) c.args.self.now.standard (reading_of c.args.input) c.in-Err.error c.text.result c.in-Err.is c.text.ensures
+pub returns-in-Err-clause-comes : goal.returns-in-Err-clause-comes
+returns-in-Err-clause-comes g c = refuses (g.I.Read.remaining c.args.self.now.standard) c.args.self.now.standard (reading_of c.args.input) c.in-Err.error c.text.result c.in-Err.is c.text.ensures.text

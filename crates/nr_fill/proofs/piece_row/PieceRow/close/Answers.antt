@@ -31,6 +31,7 @@ invariant_of-self c =
       read_within = h.read_within;
       cells_within = h.cells_within;
       slots_within = omega (arith, c.requires.room);
+      same_rooms = h.same_rooms;
       is_small = h.is_small;
     }
 

@@ -17,6 +17,7 @@ invariant_of-self c =
       read_within = omega (arith, h.read_within);
       cells_within = omega arith;
       slots_within = h.slots_within;
+      same_rooms = h.same_rooms;
       is_small = h.is_small;
     }
 

@@ -1,0 +1,154 @@
+//! Examples: inputs of the formatter with the pages that they must give, as files in data/, NAME.roff and NAME.out.
+//! data/rows lists those that end under the limits by default, data/rows_with_limits the others, with their limits and
+//! their ends; data/rows_of_tables lists inputs that go through tbl first, with their limits and what that reports. The
+//! program runs them. Those with faults of their own are tests of nr_fault_tests.
+//!
+//! It stands on nr_units, nr_rooms, nr_engine and nr_tbl. To read: this file, `limits`, `tables`.
+#![tactic(auto)]
+
+use nr_engine::{Buffered, Desk, Limits, Options, Outcome, Sink, Source, format};
+use nr_units::fakes::Slate;
+use std::alloc::{AllocError, Global};
+use std::fs;
+use std::rt::Files;
+
+mod limits;
+mod tables;
+
+use limits::limits_of;
+use tables::Turner;
+
+/// The bytes of the buffer of a row's input.
+const BUFFER_SIZE: usize = 4096;
+
+/// Runs all rows, and prints how many of each list passed.
+fn main(rt: HostRuntime) -> anyhow::Result<()> {
+    let plain = plain_rows(&rt)?;
+    println!(rt; "{plain} rows")?;
+    let limited = rows_with_limits(&rt)?;
+    println!(rt; "{limited} rows with limits")?;
+    let turned = rows_of_tables(&rt)?;
+    println!(rt; "{turned} rows of tables")?;
+    Ok(())
+}
+
+/// How many of the rows under the limits by default pass. One desk serves them all.
+fn plain_rows<R: Files + AllocGlobal + Print>(rt: &R) -> anyhow::Result<u64> {
+    let mut desk = Desk::new(rt.alloc(), Limits::default())?;
+    plain_rows_at(rt, &mut desk)
+}
+
+/// The same at this desk.
+fn plain_rows_at<R: Files + AllocGlobal + Print>(rt: &R, desk: &mut Desk) -> anyhow::Result<u64> {
+    let list = fs::read_to_string(rt, "rows")?;
+    let mut passed = 0u64;
+    for name in list.lines() {
+        if passes(rt, desk, name, "Done")? {
+            passed = passed.saturating_add(1);
+        }
+    }
+    Ok(passed)
+}
+
+/// How many of the rows with limits of their own pass. Each has a desk of its own.
+fn rows_with_limits<R: Files + AllocGlobal + Print>(rt: &R) -> anyhow::Result<u64> {
+    let list = fs::read_to_string(rt, "rows_with_limits")?;
+    let mut passed = 0u64;
+    for line in list.lines() {
+        let (row, end) = line
+            .split_once(": ")
+            .ok_or(anyhow::anyhow!("no end: {line}"))?;
+        let (name, words) = row.split_once(' ').unwrap_or((row, ""));
+        if passes_under(rt, limits_of(words)?, name, end)? {
+            passed = passed.saturating_add(1);
+        }
+    }
+    Ok(passed)
+}
+
+/// Whether a row under these limits gives its pages and ends so.
+fn passes_under<R: Files + AllocGlobal + Print>(
+    rt: &R,
+    limits: Limits,
+    name: &str,
+    end: &str,
+) -> anyhow::Result<bool> {
+    let mut desk = Desk::new(rt.alloc(), limits)?;
+    passes(rt, &mut desk, name, end)
+}
+
+/// How many of the rows of tables pass.
+fn rows_of_tables<R: Files + AllocGlobal + Print>(rt: &R) -> anyhow::Result<u64> {
+    let mut turner = Turner::new(rt.alloc())?;
+    let mut desk = Desk::new(rt.alloc(), Limits::default())?;
+    rows_of_tables_at(rt, &mut desk, &mut turner)
+}
+
+/// The same at this desk.
+fn rows_of_tables_at<R: Files + AllocGlobal + Print>(
+    rt: &R,
+    desk: &mut Desk,
+    turner: &mut Turner,
+) -> anyhow::Result<u64> {
+    let list = fs::read_to_string(rt, "rows_of_tables")?;
+    let mut passed = 0u64;
+    for line in list.lines() {
+        if tables::passes(rt, desk, turner, line)? {
+            passed = passed.saturating_add(1);
+        }
+    }
+    Ok(passed)
+}
+
+/// Whether a row gives its pages and ends so, read in large pieces and byte by byte. Prints its name and
+/// how it ends where it does not.
+fn passes<R: Files + AllocGlobal + Print>(
+    rt: &R,
+    desk: &mut Desk,
+    name: &str,
+    end: &str,
+) -> anyhow::Result<bool> {
+    let mut buffer = [0u8; BUFFER_SIZE];
+    let whole = gives(rt, desk, name, end, &mut buffer)?;
+    if !whole {
+        return Ok(false);
+    }
+    gives(rt, desk, name, end, &mut buffer[..1])
+}
+
+/// Whether a row gives its pages and ends so, read into this buffer.
+fn gives<R: Files + AllocGlobal + Print>(
+    rt: &R,
+    desk: &mut Desk,
+    name: &str,
+    end: &str,
+    buffer: &mut [u8],
+) -> anyhow::Result<bool> {
+    let pages = fs::read(rt, format!(in rt.alloc(); "{name}.out")?)?;
+    let file = fs::open(rt, format!(in rt.alloc(); "{name}.roff")?)?;
+    let mut printed = vec![in rt.alloc(); 0u8; pages.len()]?;
+    let mut input = Buffered::over(file, buffer);
+    let mut output = Slate::over(&mut printed);
+    let outcome = formatted(desk, &mut input, &mut output);
+    let ended = end_of(rt.alloc(), outcome)?;
+    let good = ended.as_str() == end && output.bytes() == pages.as_slice();
+    if !good {
+        println!(rt; "other pages or another end: {name}, {ended}")?;
+    }
+    Ok(good)
+}
+
+/// How a run ended, as the list of the rows with limits says it: `Stored at 17`.
+fn end_of(alloc: Global, outcome: Outcome) -> Result<String, AllocError> {
+    match outcome {
+        Outcome::Limit { which, at } => format!(in alloc; "{which:?} at {at}"),
+        other => format!(in alloc; "{other:?}"),
+    }
+}
+
+/// Formats on what the desk lends.
+fn formatted<R: Source, W: Sink>(desk: &mut Desk, input: &mut R, output: &mut W) -> Outcome {
+    let options = Options::plain();
+    let mut moves = 0;
+    format(desk.lend(), &options, input, output, &mut moves)
+}

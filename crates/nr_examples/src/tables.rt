@@ -1,0 +1,155 @@
+// Rows of tables: an input goes through tbl, and what that makes of it through the formatter.
+
+use super::formatted;
+use nr_engine::{Buffered, Desk, Outcome};
+use nr_tbl::{Complaint, Report, convert, pending_size};
+use nr_rooms::FixedVec;
+use nr_units::fakes::{Script, Slate};
+use nr_units::slice_vec::SliceVec;
+use std::alloc::{AllocError, Global};
+use std::fs;
+use std::rt::Files;
+
+/// The most bytes that tbl makes of a row.
+const MOST_BYTES: usize = 262_144;
+
+/// The limits on formats and on a row where a row sets none, and the greatest that it may set.
+const USUAL: usize = 4096;
+
+/// The length of the line where a row sets none.
+const USUAL_LINE: usize = 65;
+
+/// The most complaints of a row.
+const MOST_COMPLAINTS: usize = 8;
+
+/// The memory that rows are turned in.
+#[derive(Drop)]
+pub(crate) struct Turner {
+    turned: Vec<u8>,
+    complaints: Vec<Complaint>,
+}
+
+impl Turner {
+    /// Takes the memory.
+    pub(crate) fn new(alloc: Global) -> Result<Turner, AllocError> {
+        Ok(Turner {
+            turned: vec![in alloc; 0u8; MOST_BYTES]?,
+            complaints: vec![in alloc; Complaint::NONE; MOST_COMPLAINTS]?,
+        })
+    }
+}
+
+/// Whether a row gives its pages and ends so, read in large pieces and byte by byte: its line is a name, the
+/// limits that it sets, and behind a colon how it ends. Prints its name and how it ends where it does not.
+pub(crate) fn passes<R: Files + AllocGlobal + Print>(
+    rt: &R,
+    desk: &mut Desk,
+    turner: &mut Turner,
+    line: &str,
+) -> anyhow::Result<bool> {
+    let (row, end) = line
+        .split_once(": ")
+        .ok_or(anyhow::anyhow!("no end: {line}"))?;
+    let (name, words) = row.split_once(' ').unwrap_or((row, ""));
+    let limits = limits_of(words)?;
+    let mut buffer = [0u8; 4096];
+    let whole = gives(rt, desk, turner, name, limits, end, &mut buffer)?;
+    if !whole {
+        return Ok(false);
+    }
+    gives(rt, desk, turner, name, limits, end, &mut buffer[..1])
+}
+
+/// The limits on formats and on a row, and the length of the line.
+#[derive(Clone, Copy)]
+struct Bounds {
+    formats: usize,
+    row: usize,
+    line: usize,
+}
+
+/// The limits that the words set, as in `formats=4 row=64`.
+fn limits_of(words: &str) -> anyhow::Result<Bounds> {
+    let mut limits = Bounds {
+        formats: USUAL,
+        row: USUAL,
+        line: USUAL_LINE,
+    };
+    for word in words.split_whitespace() {
+        let (name, digits) = word
+            .split_once('=')
+            .ok_or(anyhow::anyhow!("no limit: {word}"))?;
+        let number = digits.parse::<usize>()?;
+        match name {
+            "formats" => limits.formats = number,
+            "row" => limits.row = number,
+            "line" => limits.line = number,
+            _ => anyhow::bail!("no limit: {word}"),
+        }
+    }
+    Ok(limits)
+}
+
+/// Whether a row gives its pages and ends so, read into this buffer.
+fn gives<R: Files + AllocGlobal + Print>(
+    rt: &R,
+    desk: &mut Desk,
+    turner: &mut Turner,
+    name: &str,
+    limits: Bounds,
+    end: &str,
+    buffer: &mut [u8],
+) -> anyhow::Result<bool> {
+    if limits.formats > USUAL || limits.row > USUAL {
+        anyhow::bail!("limits out of range: {name}");
+    }
+    let pages = fs::read(rt, format!(in rt.alloc(); "{name}.out")?)?;
+    let file = fs::open(rt, format!(in rt.alloc(); "{name}.roff")?)?;
+    let mut formats = vec![in rt.alloc(); 0u8; limits.formats]?;
+    let mut row = vec![in rt.alloc(); 0u8; limits.row]?;
+    let mut pending = FixedVec::new(rt.alloc(), pending_size(limits.formats, limits.row))?;
+    let mut printed = vec![in rt.alloc(); 0u8; pages.len()]?;
+    let mut turned = Slate::over(&mut turner.turned);
+    let mut complaints = SliceVec::over(&mut turner.complaints);
+    let report = convert(
+        &mut Buffered::over(file, buffer),
+        &mut turned,
+        &mut formats,
+        &mut row,
+        limits.line,
+        &mut complaints,
+        &mut pending,
+    );
+    let mut output = Slate::over(&mut printed);
+    let outcome = formatted(desk, &mut Script::new(turned.bytes()), &mut output);
+    let ended = end_of(rt.alloc(), report, complaints.as_slice(), outcome)?;
+    let good = ended.as_str() == end && output.bytes() == pages.as_slice();
+    if !good {
+        println!(rt; "other pages or another end: {name}, {ended}")?;
+    }
+    Ok(good)
+}
+
+/// How a run ended, as the list says it: `Done`, or its complaints, as `BadFormat on line 3, OpenTable on line 4`.
+fn end_of(
+    alloc: Global,
+    report: Report,
+    complaints: &[Complaint],
+    outcome: Outcome,
+) -> anyhow::Result<String> {
+    if report.missed || report.outcome != nr_tbl::Outcome::Done || outcome != Outcome::Done {
+        return Ok(format!(in alloc; "{report:?}, {outcome:?}")?);
+    }
+    let mut ended = String::new(alloc);
+    for complaint in complaints {
+        if !ended.is_empty() {
+            ended.push_str(", ")?;
+        }
+        let told = format!(in alloc; "{:?} on line {}", complaint.kind, complaint.line)?;
+        ended.push_str(&told)?;
+    }
+    if ended.is_empty() {
+        ended.push_str("Done")?;
+    }
+    Ok(ended)
+}

@@ -1,0 +1,17 @@
+//! Where memory comes from.
+
+use std::collections::TryReserveError;
+
+/// There was not enough memory.
+#[derive(Clone, Copy, Debug)]
+pub struct AllocError;
+
+impl From<TryReserveError> for AllocError {
+    fn from(_: TryReserveError) -> Self {
+        AllocError
+    }
+}
+
+/// The memory of the system.
+#[derive(Clone, Copy, Debug)]
+pub struct Global;

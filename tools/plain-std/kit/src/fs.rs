@@ -1,0 +1,9 @@
+//! Files.
+
+use crate::io;
+use crate::rt::Files;
+
+/// Opens a file to read it.
+pub fn open<R: Files>(files: &R, path: &str) -> io::Result<R::File> {
+    files.open(path)
+}
