@@ -1,23 +1,30 @@
--- Plain bytes go out as they are.
-use Rattle.std.proofs.Common.{◌≡◌, ℕ, ◌+◌, ◌<◌, List, [], ◌∷◌, ◌++◌, length, take, get_or, Bool, true, false, ◌==◌, ◌&&◌, nat_lt, if◌then◌else◌, refl, sym, ◌∙◌, ap, arith, add-one}
+-- Bytes that go out as they are, in one step.
+use Rattle.std.proofs.Common.{◌≡◌, ℕ, ◌+◌, ◌<◌, List, [], ◌∷◌, ◌++◌, length, take, get_or, Bool, true, false, not, ◌==◌, ◌&&◌, ◌||◌, nat_lt, if◌then◌else◌, refl, sym, ◌∙◌, ap, add-one}
 use Rattle.std.proofs.Math.Seq.{take-suc}
-use Rattle.std.proofs.lemmas.Grind.{common_steps}
 use Rattle.nr_preconv.specs.declared.half.Half.{Half}
 use Rattle.nr_preconv.specs.declared.half.Line.{Line}
 use Rattle.nr_preconv.specs.declared.half.Line.TheVariants as lines
 use Rattle.nr_preconv.specs.declared.half.Coming.TheVariants as comings
+use Rattle.nr_preconv.specs.declared.said.Said.{Said}
 use Rattle.nr_preconv.specs.declared.said.Said.TheVariants as says
+use Rattle.nr_preconv.specs.declared.words.Words.{Words}
+use Rattle.nr_preconv.specs.declared.words.Place.{Place}
+use Rattle.nr_preconv.specs.declared.words.Place.TheVariants.{Inside, Quoted}
+use Rattle.nr_preconv.specs.declared.words.Class.{Class}
+use Rattle.nr_preconv.specs.declared.words.Class.TheVariants.{Space, Other}
 use Rattle.nr_preconv.specs.declared.reader.Reader.{Reader}
 use Rattle.nr_preconv.specs.declared.reader.Pending.{Pending}
 use Rattle.nr_preconv.specs.declared.reader.Pending.TheVariants as pendings
-use Rattle.nr_preconv.specs.Half.{Met, taken, is_rest, is_plain, is_running}
-use Rattle.nr_preconv.specs.Saying.{bytes_of}
-use Rattle.nr_preconv.specs.Conditions.{saying}
+use Rattle.nr_preconv.specs.Half.{Met, taken, is_plain}
+use Rattle.nr_preconv.specs.Hyphens.{turns_hyphens, in_text}
+use Rattle.nr_preconv.specs.Words.{goes_on_at, goes_on_with, begins_word, class_of, met_at}
+use Rattle.nr_preconv.specs.Saying.{bytes_of, sent}
 use Rattle.nr_preconv.specs.Escapes.{in_escape}
-use Rattle.nr_preconv.specs.Lines.{in_line_at, in_line, takes_escape, passing}
-use Rattle.nr_preconv.specs.Meeting.{meet, plain_byte, beginning, is_raw}
-use Rattle.nr_preconv.specs.Reading.{Told, told, behind, then_told, heard, heard_in, with_half, pending_with, strays, fresh, heard_behind, heard_byte, read, fed, is_plain_byte, is_nothing, is_ready, is_lead, stray}
+use Rattle.nr_preconv.specs.Lines.{is_control, at_start, in_words, in_line_at, in_line, takes_escape, passing}
+use Rattle.nr_preconv.specs.Meeting.{meet, plain_byte, beginning, is_raw, is_as_is_at, is_as_is}
+use Rattle.nr_preconv.specs.Reading.{Told, told, behind, then_told, heard, heard_in, with_half, pending_with, strays, fresh, heard_behind, heard_byte, read, fed, Passes, is_lead, stray}
 use Rattle.nr_preconv.proofs.Reading.{behind-none, fed-append}
+use Rattle.nr_preconv.proofs.Sent.{sent_is, ascii-goes}
 
 pub and-first : (x y : Bool) → (x && y) ≡ true → x ≡ true
 and-first true y h = refl
@@ -27,40 +34,85 @@ pub and-second : (x y : Bool) → (x && y) ≡ true → y ≡ true
 and-second true y h = h
 and-second false y h = absurd (let no : false ≡ true = h in cc)
 
--- ---- in the rest of a line
+-- ---- in a line
 
-rest_says : (line : Line) (b : ℕ) (h : Half) → is_rest line ≡ true → (b == 10) ≡ false → in_line_at line b h ≡ saying b h.line h
-rest_says lines.Text b h p ne = ap (λ (x : Bool). saying b (if x then lines.Start else h.line) h) ne
-rest_says lines.Request b h p ne = ap (λ (x : Bool). saying b (if x then lines.Start else h.line) h) ne
-rest_says line b h p ne = absurd (let no : false ≡ true = p in cc)
+-- a byte goes out as it is and is taken
+record Says (b : ℕ) (m : Met) : Type 0 where
+  said : m.said ≡ says.Byte b
+  takes : m.takes ≡ true
 
-rest_is_read : (line : Line) → is_rest line ≡ true → is_raw line ≡ false
-rest_is_read lines.Text p = refl
-rest_is_read lines.Request p = refl
-rest_is_read line p = absurd (let no : false ≡ true = p in cc)
+Says-if : (b : ℕ) (x : Bool) {m n : Met} → (x ≡ true → Says b m) → (x ≡ false → Says b n) → Says b (if x then m else n)
+Says-if b true p q = p refl
+Says-if b false p q = q refl
 
-pub plain_no_newline : (b : ℕ) → is_plain_byte b ≡ true → (b == 10) ≡ false
-plain_no_newline b p = grind (arith, common_steps)
+met-eq : (m : Met) (said : Said) (takes : Bool) → m.said ≡ said → m.takes ≡ takes → m ≡ record { half = m.half; said = said; takes = takes }
+met-eq m said takes p q =
+    ap (λ (s : Said). record { half = m.half; said = s; takes = m.takes }) p
+    ∙ ap (λ (t : Bool). record { half = m.half; said = said; takes = t }) q
 
-pub plain_no_backslash : (b : ℕ) → is_plain_byte b ≡ true → (b == 92) ≡ false
-plain_no_backslash b p = grind (arith, common_steps)
+pub is_not : (x : Bool) → not x ≡ true → x ≡ false
+is_not false h = refl
+is_not true h = absurd (let no : false ≡ true = h in cc)
 
-pub plain_is_ascii : (b : ℕ) → is_plain_byte b ≡ true → nat_lt b 128 ≡ true
-plain_is_ascii b p = grind (arith, common_steps)
+not_both : (x y : Bool) → (not x || not y) ≡ true → (x && y) ≡ false
+not_both false y p = refl
+not_both true y p = is_not y p
 
-pub plain_meets : (b : ℕ) (h : Half) → is_running h ≡ true → is_plain_byte b ≡ true → meet (comings.Byte b) h ≡ taken (says.Byte b) h
-plain_meets b h running plain =
-    let e : is_plain h.escape ≡ true = and-first (is_plain h.escape) (is_rest h.line) running in
-    let r : is_rest h.line ≡ true = and-second (is_plain h.escape) (is_rest h.line) running in
-    ap (λ (x : Bool). if x then plain_byte b h else in_escape b h) e
-    ∙ ap (λ (x : Bool). if x && takes_escape h.line then beginning h else in_line b h) (plain_no_backslash b plain)
-    ∙ rest_says h.line b h r (plain_no_newline b plain)
+text_says : (b : ℕ) (h : Half) → (not (turns_hyphens h) || not (b == 45)) ≡ true → Says b (in_text b h)
+text_says b h p =
+    Says-if b (b == 10) (λ e. record { said = refl; takes = refl })
+    (λ e. Says-if b (turns_hyphens h && (b == 45))
+    (λ yes. absurd (let no : true ≡ false = sym yes ∙ not_both (turns_hyphens h) (b == 45) p in cc))
+    (λ no. record { said = refl; takes = refl }))
 
-pub heard_byte_taken : (b : ℕ) (r : Reader) (h : Half) → meet (comings.Byte b) r.half ≡ taken (says.Byte b) h
+start_says : (b : ℕ) (h : Half) → not (is_control b) ≡ true → (not (turns_hyphens h) || not (b == 45)) ≡ true → Says b (at_start b h)
+start_says b h c p =
+    Says-if b (is_control b) (λ yes. absurd (let no : true ≡ false = sym yes ∙ is_not (is_control b) c in cc))
+    (λ no. Says-if b (b == 10) (λ e. record { said = refl; takes = refl }) (λ e. text_says b h p))
+
+at_says : (place : Place) (class : Class) (said : Said) (w : Words) → goes_on_at place class ≡ true
+    → ((met_at place class said w).said ≡ said) × ((met_at place class said w).takes ≡ true)
+at_says Inside Other said w p = (refl, refl)
+at_says Quoted Other said w p = (refl, refl)
+at_says Quoted Space said w p = (refl, refl)
+at_says place class said w p = absurd (let no : false ≡ true = p in cc)
+
+words_say : (words : Words) (b : ℕ) (h : Half) → (not (b == 10) && not (b == 45) && goes_on_with (class_of b) words) ≡ true → Says b (in_words words b h)
+words_say words b h p =
+    let front = and-first (not (b == 10) && not (b == 45)) (goes_on_with (class_of b) words) p in
+    let line : (b == 10) ≡ false = is_not (b == 10) (and-first (not (b == 10)) (not (b == 45)) front) in
+    let hyphen_no : (b == 45) ≡ false = is_not (b == 45) (and-second (not (b == 10)) (not (b == 45)) front) in
+    let goes = at_says words.place (class_of b) (says.Byte b) words (and-second (not (b == 10) && not (b == 45)) (goes_on_with (class_of b) words) p) in
+    Says-if b ((b == 45) && turns_hyphens h && not (begins_word words))
+    (λ yes. absurd (let no : true ≡ false = sym yes ∙ ap (λ (x : Bool). x && turns_hyphens h && not (begins_word words)) hyphen_no in cc))
+    (λ no. Says-if b (not (b == 10)) (λ e. record { said = goes.0; takes = goes.1 })
+    (λ e. absurd (let no : true ≡ false = sym (ap not line) ∙ e in cc)))
+
+line_says : (line : Line) (b : ℕ) (h : Half) → is_as_is_at line b h ≡ true → Says b (in_line_at line b h)
+line_says lines.Request b h p = record { said = refl; takes = refl }
+line_says lines.Text b h p = text_says b h p
+line_says lines.Start b h p =
+    start_says b h (and-first (not (is_control b)) (not (turns_hyphens h) || not (b == 45)) p)
+    (and-second (not (is_control b)) (not (turns_hyphens h) || not (b == 45)) p)
+line_says (lines.Words words) b h p = words_say words b h p
+line_says line b h p = absurd (let no : false ≡ true = p in cc)
+
+-- ---- so it is read
+
+as_is_meets : (b : ℕ) (h : Half) → (b == 92) ≡ false → is_plain h.escape ≡ true → is_as_is_at h.line b h ≡ true
+    → meet (comings.Byte b) h ≡ taken (says.Byte b) (in_line b h).half
+as_is_meets b h back plain p =
+    let is = line_says h.line b h p in
+    ap (λ (x : Bool). if x then plain_byte b h else in_escape b h) plain
+    ∙ ap (λ (x : Bool). if x && takes_escape h.line then beginning h else in_line b h) back
+    ∙ met-eq (in_line b h) (says.Byte b) true is.said is.takes
+
+pub heard_byte_taken : (b : ℕ) (r : Reader) (h : Half) → nat_lt b 127 ≡ true → meet (comings.Byte b) r.half ≡ taken (says.Byte b) h
     → heard (comings.Byte b) r ≡ told (with_half h r) (b ∷ []) 1
 unfolding heard
-heard_byte_taken b r h e =
+heard_byte_taken b r h ascii e =
     ap (λ (m : Met). behind (bytes_of r.eight_bit m.said) 1 (if m.takes then told (with_half m.half r) [] 0 else heard_in 5 (comings.Byte b) (with_half m.half r))) e
+    ∙ ap (λ (x : ℕ). told (with_half h r) (x ∷ []) 1) (sent_is r.eight_bit b (ascii-goes r.eight_bit b ascii))
 
 -- where nothing is pending, nothing is heard of it
 none_heard : (p : Pending) (r : Reader) → p ≡ pendings.Nothing → r.pending ≡ p → pending_with pendings.Nothing r ≡ r
@@ -74,32 +126,28 @@ nothing_pending b r e =
     ∙ ap (λ (s : Reader). behind [] 0 (fresh b s)) same
     ∙ behind-none (fresh b r)
 
-pub read_plain : (b : ℕ) (r : Reader) → is_running r.half ≡ true → r.pending ≡ pendings.Nothing → is_plain_byte b ≡ true → read b r ≡ told r (b ∷ []) 1
-read_plain b r running none plain =
-    let rest : is_rest r.half.line ≡ true = and-second (is_plain r.half.escape) (is_rest r.half.line) running in
-    ap (λ (x : Bool). if x then told (with_half (passing b r.half) r) (b ∷ []) 1 else heard_byte b r) (rest_is_read r.half.line rest)
+pub read_as_is : (b : ℕ) (r : Reader) → r.pending ≡ pendings.Nothing → is_raw r.half.line ≡ false → is_as_is b r.half ≡ true
+    → read b r ≡ told (with_half (in_line b r.half).half r) (b ∷ []) 1
+read_as_is b r none cooked p =
+    let ascii = nat_lt b 127 in
+    let back = not (b == 92) in
+    let plain = is_plain r.half.escape in
+    let at = is_as_is_at r.half.line b r.half in
+    let three = and-first (ascii && back && plain) at p in
+    let two = and-first (ascii && back) plain three in
+    ap (λ (x : Bool). if x then told (with_half (passing b r.half) r) (sent r.eight_bit b ∷ []) 1 else heard_byte b r) cooked
     ∙ nothing_pending b r none
-    ∙ ap (λ (x : Bool). if x then heard (comings.Byte b) r else (if is_lead b then told (pending_with (pendings.One b) r) [] 0 else stray b r)) (plain_is_ascii b plain)
-    ∙ heard_byte_taken b r r.half (plain_meets b r.half running plain)
+    ∙ ap (λ (x : Bool). if x then heard (comings.Byte b) r else (if is_lead b then told (pending_with (pendings.One b) r) [] 0 else stray b r)) (and-first ascii back two)
+    ∙ heard_byte_taken b r (in_line b r.half).half (and-first ascii back two)
+    (as_is_meets b r.half (is_not (b == 92) (and-second ascii back two)) (and-second (ascii && back) plain three) (and-second (ascii && back && plain) at p))
 
-is_nothing-is : (p : Pending) → is_nothing p ≡ true → p ≡ pendings.Nothing
-is_nothing-is pendings.Nothing h = refl
-is_nothing-is p h = absurd (let no : false ≡ true = h in cc)
-
-pub read_ready : (b : ℕ) (r : Reader) → is_ready r ≡ true → is_plain_byte b ≡ true → read b r ≡ told r (b ∷ []) 1
-read_ready b r ready plain =
-    read_plain b r (and-first (is_running r.half) (is_nothing r.pending) ready)
-    (is_nothing-is r.pending (and-second (is_running r.half) (is_nothing r.pending) ready)) plain
-
-pub fed-more : (r : Reader) (bs : List ℕ) (i : ℕ) → fed r (take i bs) ≡ told r (take i bs) i → i < length bs
-    → is_ready r ≡ true → is_plain_byte (get_or bs i 0) ≡ true
-    → fed r (take (i + 1) bs) ≡ told r (take (i + 1) bs) (i + 1)
-fed-more r bs i before l ready plain =
+pub Passes-more : (r s t : Reader) (bs : List ℕ) (i : ℕ) → Passes i bs r s → i < length bs
+    → read (get_or bs i 0) s ≡ told t (get_or bs i 0 ∷ []) 1 → Passes (i + 1) bs r t
+Passes-more r s t bs i before l next =
     let xs = take i bs in
     let b = get_or bs i 0 in
     let front : take (i + 1) bs ≡ xs ++ b ∷ [] = rw add-one (take-suc bs i 0 l) in
-    let one : fed r (b ∷ []) ≡ told r (b ∷ []) 1 =
-    ap (λ (t : Told). then_told t (λ s. told s [] 0)) (read_ready b r ready plain) in
-    let both : fed r (xs ++ b ∷ []) ≡ told r (xs ++ b ∷ []) (i + 1) =
-    fed-append r xs (b ∷ []) ∙ ap (λ (t : Told). then_told t (λ s. fed s (b ∷ []))) before ∙ ap (behind xs i) one in
+    let one : fed s (b ∷ []) ≡ told t (b ∷ []) 1 = ap (λ (u : Told). then_told u (λ v. told v [] 0)) next in
+    let both : fed r (xs ++ b ∷ []) ≡ told t (xs ++ b ∷ []) (i + 1) =
+    fed-append r xs (b ∷ []) ∙ ap (λ (u : Told). then_told u (λ v. fed v (b ∷ []))) before ∙ ap (behind xs i) one in
     rw front both

@@ -5,7 +5,7 @@ use Rattle.nr_preconv.specs.declared.half.Coming.TheVariants.{Byte, Wide}
 use Rattle.nr_preconv.specs.declared.reader.Reader.{Reader}
 use Rattle.nr_preconv.specs.declared.reader.Pending.{Pending}
 use Rattle.nr_preconv.specs.declared.reader.Pending.TheVariants.{Nothing, One, Two, Three}
-use Rattle.nr_preconv.specs.Saying.{bytes_of}
+use Rattle.nr_preconv.specs.Saying.{bytes_of, sent}
 use Rattle.nr_preconv.specs.Meeting.{meet, is_raw}
 use Rattle.nr_preconv.specs.Reading.{Told, is_lead, is_tail, is_second, told, behind, then_told, with_half, pending_with, heard_in, heard, stray, strays, pending_heard, fresh, apart, whole, heard_behind, read, fed, first_reader, steps_of}
 
@@ -74,7 +74,7 @@ Pays-heard n p t none h =
 fresh-pays : (b : ℕ) (r : Reader) → r.pending ≡ Nothing → Pays 6 (fresh b r)
 fresh-pays b r nothing =
     let none : count r.pending ≡ 0 = ap count nothing in
-    Pays-split (nat_lt b 128) (Pays-heard 6 r.pending (heard (Byte b) r) none (heard-quick (Byte b) r))
+    Pays-split (nat_lt b 127) (Pays-heard 6 r.pending (heard (Byte b) r) none (heard-quick (Byte b) r))
     (Pays-split (is_lead b) (pays 6 (told (pending_with (One b) r) [] 0) (omega arith))
     (Pays-heard 6 r.pending (stray b r) none (heard-quick (Wide b) r)))
 
@@ -112,7 +112,7 @@ heard_behind-pays (Two a b) c r e =
 heard_behind-pays (Three a b c) d r e = Pays-split (is_tail d) (whole-pays _ r) (apart-pays d r)
 
 read-pays : (b : ℕ) (r : Reader) → Paid r (read b r)
-read-pays b r = Pays-split (is_raw r.half.line) (pays (6 * count r.pending + 6) (told _ (b ∷ []) 1) (omega arith)) (heard_behind-pays r.pending b r refl)
+read-pays b r = Pays-split (is_raw r.half.line) (pays (6 * count r.pending + 6) (told _ (sent r.eight_bit b ∷ []) 1) (omega arith)) (heard_behind-pays r.pending b r refl)
 
 -- ---- many bytes
 

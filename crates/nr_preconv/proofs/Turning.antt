@@ -10,8 +10,9 @@ use Rattle.nr_units.proofs.Fronts.{AppendsFront-append, AppendsFront-after}
 use Rattle.nr_preconv.specs.declared.reader.Reader.{Reader}
 use Rattle.nr_preconv.specs.declared.running.Outcome.{Outcome}
 use Rattle.nr_preconv.specs.declared.running.Outcome.TheVariants.{Done, ReadFault, TooLong, WriteFault}
-use Rattle.nr_preconv.specs.Reading.{Told, first_reader, read, fed, pending_heard, finished, converted, steps_of, told, IsPlainFront}
+use Rattle.nr_preconv.specs.Reading.{Told, first_reader, read, fed, pending_heard, finished, converted, steps_of, told, Passes}
 use Rattle.nr_preconv.specs.Running.{Comes, Ends, Flushes, Took, Stands, IsCut, IsBroken, Ran, EndsAs}
+use Rattle.nr_preconv.proofs.Sent.{fed-shown, converted-shown}
 use Rattle.nr_preconv.proofs.Reading.{fed-append_reader, fed-append_bytes, fed-append_steps}
 use Rattle.nr_preconv.proofs.Steps.{fed_quick, steps_of_quick}
 
@@ -71,16 +72,16 @@ Comes-skip (Some q) (Some t) window n l o s =
 
 -- ---- plain bytes are taken
 
-pub Took-plain : (a b : Option Supply) (window : List ℕ) (most n : ℕ) (r : Reader) (pending left : List ℕ)
+pub Took-plain : (a b : Option Supply) (window : List ℕ) (most n : ℕ) (r s : Reader) (pending left : List ℕ)
     → n ≤ length (take most window) → n ≤ most → n ≤ length window → Offers a window → Skips a n b
-    → IsPlainFront n (take most window) r → left ≡ pending ++ take n window → Took a b r r pending left n n
-Took-plain a b window most n r pending left l m k o s plain out =
+    → Passes n (take most window) r s → left ≡ pending ++ take n window → Took a b r s pending left n n
+Took-plain a b window most n r s pending left l m k o skips plain out =
     let front : take n (take most window) ≡ take n window = take-take n most window m in
-    let told_so : fed r (take n window) ≡ told r (take n window) n =
-    (let P : List ℕ → Type 0 = λ xs. fed r xs ≡ told r xs n in subst P front plain) in
+    let told_so : fed r (take n window) ≡ told s (take n window) n =
+    (let P : List ℕ → Type 0 = λ xs. fed r xs ≡ told s xs n in subst P front plain) in
     record {
       bytes = take n window;
-      came = Comes-skip a b window n k o s;
+      came = Comes-skip a b window n k o skips;
       count = omega (arith, length-take n window);
       reader = sym (ap (λ (t : Told). t.reader) told_so);
       out = out ∙ ap (λ (xs : List ℕ). pending ++ xs) (sym (ap (λ (t : Told). t.bytes) told_so));
@@ -230,6 +231,7 @@ Ran-done e a b c h k m p left r t i j st turn l Done ends =
       went_out = subst P all (Appends-trans h k m st.sent left st.went_out ends.1);
       few = converted-few e st.bytes p left [] r t st.count st.few st.reader turn.2 l;
       made = made;
+      shown = converted-shown e st.bytes;
       quick = rw made (steps_of_quick e st.bytes);
     }
 Ran-done e a b c h k m p left r t i j st turn l (ReadFault at) ends = absurd (let no : Done ≡ ReadFault at = ends.0 in cc)
@@ -242,6 +244,7 @@ Ran-done e a b c h k m p left r t i j st turn l WriteFault ends =
       bytes = st.bytes;
       came = Comes-then_nothing a b c st.bytes st.came turn.0;
       went_out = subst P all (AppendsFront-after h k m st.sent left st.went_out ends);
+      shown = converted-shown e st.bytes;
       quick = rw made (steps_of_quick e st.bytes);
     }
 
@@ -256,6 +259,7 @@ Stands-broken e a b c h k m p r t i st came front =
       came = Comes-then_nothing a b c st.bytes st.came came;
       went_out = AppendsFront-append h m after.bytes (finished after.reader)
           (subst P st.all (AppendsFront-after h k m st.sent p st.went_out front));
+      shown = converted-shown e st.bytes;
       quick = rw st.made (fed_quick e st.bytes);
     }
 
@@ -268,6 +272,7 @@ Stands-cut e a b c h k m p r t i st came went =
       came = Comes-then_nothing a b c st.bytes st.came came;
       count = st.count;
       went_out = subst P st.all (Appends-trans h k m st.sent p st.went_out went);
+      shown = fed-shown e st.bytes;
       made = st.made;
       quick = rw st.made (fed_quick e st.bytes);
     }

@@ -2,19 +2,21 @@
 use Rattle.std.proofs.Common.{◌≡◌, ℕ, suc, ◌+◌, ◌≤◌, List, [], ◌∷◌, ◌++◌, length, drop, Bool, true, false, not, ◌==◌, ◌&&◌, nat_lt, if◌then◌else◌, refl, sym, ◌∙◌, ap, append-nil, arith}
 use Rattle.std.proofs.lemmas.List.{drop_all}
 use Rattle.nr_preconv.specs.declared.half.Half.{Half}
+use Rattle.nr_preconv.specs.declared.half.Line.{Line}
 use Rattle.nr_preconv.specs.declared.half.Line.TheVariants as lines
+use Rattle.nr_preconv.specs.declared.half.Before.TheVariants.{Other}
 use Rattle.nr_preconv.specs.declared.half.Coming.TheVariants as comings
 use Rattle.nr_preconv.specs.declared.said.Said.TheVariants as says
 use Rattle.nr_preconv.specs.declared.reader.Reader.{Reader}
 use Rattle.nr_preconv.specs.declared.reader.Pending.TheVariants as pendings
-use Rattle.nr_preconv.specs.Half.{taken, first_half}
-use Rattle.nr_preconv.specs.Conditions.{saying}
+use Rattle.nr_preconv.specs.Half.{Met, taken, first_half}
+use Rattle.nr_preconv.specs.Hyphens.{is_ascii_letter, placed, saying, in_text}
 use Rattle.nr_preconv.specs.Lines.{in_line, is_control, control}
 use Rattle.nr_preconv.specs.Meeting.{meet, beginning}
 use Rattle.nr_preconv.specs.PlainText.{goes_on, is_plain_from, is_plain_text}
 use Rattle.nr_preconv.specs.Reading.{Told, told, behind, then_told, heard, read, fed, fresh, stray, is_lead, pending_with, pending_heard, finished, first_reader, converted, steps_of}
 use Rattle.nr_preconv.proofs.Reading.{told-eq}
-use Rattle.nr_preconv.proofs.Plain.{and-first, and-second, heard_byte_taken}
+use Rattle.nr_preconv.proofs.Plain.{and-first, and-second, is_not, heard_byte_taken}
 
 -- what is half read of such text: at the beginning of a line, or in its midst
 half_at : Bool → Half
@@ -23,43 +25,51 @@ half_at starts = record first_half { line = if starts then lines.Start else line
 reader_at : Bool → Bool → Reader
 reader_at e starts = record { half = half_at starts; pending = pendings.Nothing; eight_bit = e }
 
-is_not : (x : Bool) → not x ≡ true → x ≡ false
-is_not false h = refl
-is_not true h = absurd (let no : false ≡ true = h in cc)
+said_as : Bool → ℕ → Line → Half → Met
+said_as x b line h = taken (says.Byte b) (record (if x then record h { before = Other } else placed (is_ascii_letter b) h) { line = line })
 
-by_newline : (x : Bool) (b : ℕ) → (if x then saying b lines.Start (half_at true) else saying b lines.Text (half_at true)) ≡ taken (says.Byte b) (half_at x)
-unfolding half_at
-by_newline true b = refl
-by_newline false b = refl
+text_as : Bool → ℕ → Half → Met
+text_as x b h = if x then said_as x b lines.Start h else said_as x b lines.Text h
+
+text_said : (x : Bool) (b : ℕ) (starts : Bool) → text_as x b (half_at starts) ≡ taken (says.Byte b) (half_at x)
+unfolding half_at text_as said_as
+text_said true b starts = refl
+text_said false b starts = refl
+
+start_said : (x : Bool) (b : ℕ) → (if x then said_as x b lines.Start (half_at true) else text_as x b (half_at true)) ≡ taken (says.Byte b) (half_at x)
+unfolding half_at text_as said_as
+start_said true b = refl
+start_said false b = refl
 
 -- a byte that goes on it
 start_meets : (b : ℕ) → (b == 92) ≡ false → is_control b ≡ false → meet (comings.Byte b) (half_at true) ≡ taken (says.Byte b) (half_at (b == 10))
-unfolding half_at
+unfolding half_at text_as said_as
 start_meets b back control_no =
     ap (λ (x : Bool). if x && true then beginning (half_at true) else in_line b (half_at true)) back
     ∙ ap (λ (x : Bool). if x then control false b (half_at true) else
-    (if b == 10 then saying b lines.Start (half_at true) else saying b lines.Text (half_at true))) control_no
-    ∙ by_newline (b == 10) b
+    (if b == 10 then saying b lines.Start (half_at true) else in_text b (half_at true))) control_no
+    ∙ start_said (b == 10) b
 
 text_meets : (b : ℕ) → (b == 92) ≡ false → meet (comings.Byte b) (half_at false) ≡ taken (says.Byte b) (half_at (b == 10))
-unfolding half_at
+unfolding half_at text_as said_as
 text_meets b back =
     ap (λ (x : Bool). if x && true then beginning (half_at false) else in_line b (half_at false)) back
+    ∙ text_said (b == 10) b false
 
 goes_meets : (starts : Bool) (b : ℕ) → goes_on starts b ≡ true → meet (comings.Byte b) (half_at starts) ≡ taken (says.Byte b) (half_at (b == 10))
 goes_meets true b g =
-    start_meets b (is_not (b == 92) (and-second (nat_lt b 128) (not (b == 92)) (and-first _ (not (is_control b)) g)))
-    (is_not (is_control b) (and-second (nat_lt b 128 && not (b == 92)) (not (is_control b)) g))
+    start_meets b (is_not (b == 92) (and-second (nat_lt b 127) (not (b == 92)) (and-first _ (not (is_control b)) g)))
+    (is_not (is_control b) (and-second (nat_lt b 127 && not (b == 92)) (not (is_control b)) g))
 goes_meets false b g =
-    text_meets b (is_not (b == 92) (and-second (nat_lt b 128) (not (b == 92)) (and-first (nat_lt b 128 && not (b == 92)) true g)))
+    text_meets b (is_not (b == 92) (and-second (nat_lt b 127) (not (b == 92)) (and-first (nat_lt b 127 && not (b == 92)) true g)))
 
 read_going : (e starts : Bool) (b : ℕ) → goes_on starts b ≡ true → fresh b (reader_at e starts) ≡ told (reader_at e (b == 10)) (b ∷ []) 1
 unfolding reader_at
 read_going e starts b g =
-    let ascii : nat_lt b 128 ≡ true = and-first (nat_lt b 128) (not (b == 92)) (and-first (nat_lt b 128 && not (b == 92)) (not (starts && is_control b)) g) in
+    let ascii : nat_lt b 127 ≡ true = and-first (nat_lt b 127) (not (b == 92)) (and-first (nat_lt b 127 && not (b == 92)) (not (starts && is_control b)) g) in
     let r = reader_at e starts in
     ap (λ (x : Bool). if x then heard (comings.Byte b) r else (if is_lead b then told (pending_with (pendings.One b) r) [] 0 else stray b r)) ascii
-    ∙ heard_byte_taken b r (half_at (b == 10)) (goes_meets starts b g)
+    ∙ heard_byte_taken b r (half_at (b == 10)) ascii (goes_meets starts b g)
 
 read_on : (e starts : Bool) (b : ℕ) → goes_on starts b ≡ true → read b (reader_at e starts) ≡ told (reader_at e (b == 10)) (b ∷ []) 1
 unfolding reader_at half_at

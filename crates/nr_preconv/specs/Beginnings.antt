@@ -1,9 +1,10 @@
 -- What the name of a control line makes of the rest of it.
-use Rattle.std.specs.Prelude.{ℕ, List, [], ◌∷◌, ◌++◌, length, take, Bool, not, ◌==◌, ◌&&◌, if◌then◌else◌, Option, None, Some, is_some, slice_index}
+use Rattle.std.specs.Prelude.{ℕ, List, [], ◌∷◌, ◌++◌, length, take, Bool, not, ◌==◌, ◌&&◌, if◌then◌else◌, Option, None, Some, is_some, codes, slice_index}
+use Rattle.std.specs.Str.{bytes_eq}
 use Rattle.nr_preconv.specs.declared.said.Said.{Said}
 use Rattle.nr_preconv.specs.declared.said.Said.TheVariants.{Kept}
 use Rattle.nr_preconv.specs.declared.beginnings.Opens.{Opens}
-use Rattle.nr_preconv.specs.declared.beginnings.Opens.TheVariants.{Rest, Definition, Condition, Else}
+use Rattle.nr_preconv.specs.declared.beginnings.Opens.TheVariants.{Rest, Definition, Condition, Else, Nop}
 use Rattle.nr_preconv.specs.declared.beginnings.TheConstants.{OPENING, KNOWN}
 use Rattle.nr_preconv.specs.Glyphs.{looked_up}
 
@@ -38,10 +39,11 @@ definition_alone opens = Rest
 -- `de1` and `am1` are as `de` and `am`
 abbrev pub opened : List ℕ → Opens
 opened name =
-    if (length name == 3) && (slice_index name 2 == 49) then definition_alone (opened_by (take 2 name)) else opened_by name
+    if (length name == 3) && (slice_index name 2 == 49) then definition_alone (opened_by (take 2 name)) else
+    if bytes_eq name (codes "nop") then Nop else opened_by name
 
 -- How a name goes out before this byte: that of a definition without its third byte, and that of a condition with a blank
--- before an escape.
+-- before an escape. `.nop` is a condition that holds.
 abbrev pub apart : List ℕ → ℕ → List ℕ
 apart name b = if (b == 92) && not (length name == 32) then name ++ 32 ∷ [] else name
 
@@ -49,4 +51,5 @@ abbrev pub said_name : Opens → List ℕ → ℕ → Said
 said_name Definition name b = Kept (if length name == 3 then take 2 name else name)
 said_name Condition name b = Kept (apart name b)
 said_name Else name b = Kept (apart name b)
+said_name Nop name b = Kept (codes "if 1 ")
 said_name opens name b = Kept name

@@ -6,14 +6,11 @@ use Rattle.nr_preconv.specs.declared.half.Line.{Line}
 use Rattle.nr_preconv.specs.declared.half.Line.TheVariants as lines
 use Rattle.nr_preconv.specs.declared.half.Asked.{Asked}
 use Rattle.nr_preconv.specs.declared.half.Asked.TheVariants.{Defined, Always, Never}
-use Rattle.nr_preconv.specs.Numbers.{is_within}
+use Rattle.nr_preconv.specs.Numbers.{begins_number}
 use Rattle.nr_preconv.specs.Beginnings.{is_known}
 use Rattle.nr_preconv.specs.Half.{Met, taken, left}
+use Rattle.nr_preconv.specs.Hyphens.{saying}
 use Rattle.nr_preconv.specs.Escapes.{with_byte}
-
--- a byte goes out as it is, and the line goes on so
-abbrev pub saying : ℕ → Line → Half → Met
-saying b line h = taken (Byte b) (record h { line = line })
 
 abbrev pub is_gap : ℕ → Bool
 is_gap b = (b == 32) || (b == 9)
@@ -22,9 +19,6 @@ is_gap b = (b == 32) || (b == 9)
 
 abbrev pub asking : Asked → Half → Met
 asking asked h = taken Nothing (record h { line = lines.Asked asked; name = [] })
-
-abbrev pub begins_number : ℕ → Bool
-begins_number b = is_within 48 57 b || (b == 40) || (b == 43) || (b == 45) || (b == 46) || (b == 124)
 
 abbrev pub before_condition : ℕ → Half → Met
 before_condition b h =

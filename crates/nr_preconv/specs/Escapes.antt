@@ -1,4 +1,5 @@
 -- Escapes (the groff manual, Escapes; groff(7)): which go out as they are, which become others, and which are dropped.
+use Prim.Native.Char.{code}
 use Rattle.std.specs.Prelude.{ℕ, List, [], ◌∷◌, ◌++◌, length, Bool, true, false, not, ◌==◌, ◌&&◌, ◌||◌, nat_lt, if◌then◌else◌, Option, None, Some}
 use Rattle.nr_preconv.specs.declared.said.Said.{Said}
 use Rattle.nr_preconv.specs.declared.said.Said.TheVariants as says
@@ -7,12 +8,15 @@ use Rattle.nr_preconv.specs.declared.half.Line.{Line}
 use Rattle.nr_preconv.specs.declared.half.Line.TheVariants as lines
 use Rattle.nr_preconv.specs.declared.half.Escape.{Escape}
 use Rattle.nr_preconv.specs.declared.half.Escape.TheVariants as escapes
+use Rattle.nr_preconv.specs.declared.half.Before.TheVariants.{Other}
 use Rattle.nr_preconv.specs.declared.half.Kind.{Kind}
 use Rattle.nr_preconv.specs.declared.half.Kind.TheVariants as kinds
-use Rattle.nr_preconv.specs.declared.words.Class.TheVariants.{Other}
+use Rattle.nr_preconv.specs.declared.words.Class.TheVariants as classes
 use Rattle.nr_preconv.specs.declared.words.Told.{Told}
-use Rattle.nr_preconv.specs.Half.{Met, taken, left, character_said, is_beginning, is_text, takes_brace}
-use Rattle.nr_preconv.specs.Glyphs.{is_pair, is_native, glyph_code, code_of, font_of}
+use Rattle.nr_preconv.specs.Half.{Met, taken, left, character_said, is_beginning, is_text, takes_brace, without_escape, in_text, abandoned}
+use Rattle.nr_preconv.specs.Hyphens.{is_letter, placed, leaving_hyphens, may_hang, is_hang, behind_hyphen}
+use Rattle.nr_preconv.specs.Glyphs.{is_pair, is_native, is_struck, glyph_code, code_of, font_of}
+use Rattle.nr_preconv.specs.Numbers.{is_number}
 use Rattle.nr_preconv.specs.Words.{met_words, begins_word}
 
 -- ---- how an escape goes on and ends
@@ -27,15 +31,8 @@ keeping b h = record h { kept = with_byte b h.kept }
 abbrev pub spelling : ℕ → Half → Half
 spelling b h = record h { spelled = with_byte b h.spelled }
 
-abbrev pub without_escape : Half → Half
-without_escape h = record h { escape = escapes.Plain; kept = []; spelled = [] }
-
 abbrev pub going_on : ℕ → Escape → Half → Met
 going_on b escape h = taken says.Nothing (record (keeping b h) { escape = escape })
-
--- the text of a line has begun
-abbrev pub in_text : Half → Half
-in_text h = if is_beginning h.line then record h { line = lines.Text } else h
 
 -- it has ended, and this is said for it
 abbrev pub ended : Said → Half → Met
@@ -43,7 +40,7 @@ ended said h = taken said (in_text (without_escape h))
 
 -- it goes out as it was kept
 abbrev pub ended_kept : Half → Met
-ended_kept h = ended (says.Kept h.kept) h
+ended_kept h = ended (says.Kept h.kept) (placed false h)
 
 abbrev pub ends_with : ℕ → Half → Met
 ends_with b h = ended_kept (keeping b h)
@@ -52,14 +49,10 @@ ends_with b h = ended_kept (keeping b h)
 abbrev pub dropped : Half → Met
 dropped h = ended (if is_beginning h.line then says.Escape 38 else says.Nothing) h
 
--- it is none: what was kept goes out, and the character that comes is read anew
-abbrev pub abandoned : Half → Met
-abandoned h = left (says.Kept h.kept) (in_text (without_escape h))
-
 -- ---- behind the backslash
 
 abbrev pub comment : Said → Half → Met
-comment said h = taken said (record (without_escape h) { line = lines.Comment })
+comment said h = taken said (record (without_escape h) { before = Other; line = lines.Comment })
 
 -- where nothing has begun behind a condition, a newline behind a backslash is dropped
 abbrev pub hidden_by : Line → Said → Said
@@ -78,27 +71,60 @@ brace h =
 
 -- a blank that is no gap: in a control line it must not end a word
 abbrev pub blank : Half → Met
-blank h = ended (says.Escape (if is_text h.line then 32 else 48)) h
+blank h = ended (says.Escape (if is_text h.line then 32 else 48)) (placed false h)
 
 abbrev pub skip : Half → Met
 skip h = taken says.Nothing (record h { kept = []; escape = escapes.Skip })
 
--- by the byte behind the backslash: ( [ f m M F n s N C Z , / ) : ~ $ {
+-- an escape with a number or a text: \h at the beginning of a line may make it hang
+abbrev pub is_measured : ℕ → Bool
+is_measured b =
+    (b == code "h") || (b == code "v") || (b == code "w") || (b == code "l") || (b == code "L") || (b == code "D") || (b == code "b")
+    || (b == code "o") || (b == code "x")
+
+abbrev pub measured : ℕ → Half → Met
+measured b h =
+    if (b == code "h") && may_hang h then going_on b (escapes.Delimiter kinds.Hang) (leaving_hyphens h) else ends_with b (leaving_hyphens h)
+
+-- so far to the left the line begins
+abbrev pub hang : Half → Met
+hang h =
+    if is_hang h.spelled then taken (says.Hang h.spelled) (record (without_escape h) { line = lines.Text; before = Other }) else ended_kept h
+
+-- a name that is dropped: colours, families, devices
+abbrev pub is_unnamed : ℕ → Bool
+is_unnamed b =
+    (b == code "m") || (b == code "M") || (b == code "F") || (b == code "O") || (b == code "V") || (b == code "Y")
+
+-- a text that is dropped: the height and slant of letters, devices, new registers
+abbrev pub is_skipped : ℕ → Bool
+is_skipped b = (b == code "H") || (b == code "R") || (b == code "S") || (b == code "X") || (b == code "Z")
+
+-- what stands in \?..\? is for diversions that are read again
+abbrev pub embed : Half → Met
+embed h = taken says.Nothing (record h { kept = []; escape = escapes.Embedded false })
+
+-- by the byte behind the backslash
 abbrev pub letter : ℕ → Half → Met
 letter b h =
     if b == 40 then going_on b (escapes.Pair kinds.Glyph) h else
     if b == 91 then going_on b (escapes.Bracket kinds.Glyph) h else
     if b == 102 then going_on b (escapes.Target kinds.Font) h else
-    if (b == 109) || (b == 77) || (b == 70) then going_on b (escapes.Target kinds.Dropped) h else
     if b == 110 then going_on b (escapes.Target kinds.Register) h else
+    if b == 42 then going_on b (escapes.Target kinds.Text) h else
     if b == 115 then going_on b (escapes.Target kinds.Size) h else
     if b == 78 then going_on b (escapes.Delimiter kinds.Code) h else
     if b == 67 then going_on b (escapes.Delimiter kinds.Glyph) h else
-    if b == 90 then skip h else
+    if b == 65 then going_on b (escapes.Delimiter kinds.Identifier) h else
+    if b == 66 then going_on b (escapes.Delimiter kinds.Number) h else
+    if b == 63 then embed h else
     if (b == 44) || (b == 47) || (b == 41) || (b == 58) then dropped h else
     if (b == 32) || (b == 126) then blank h else
     if b == 36 then going_on b escapes.Argument h else
-    if b == 123 then brace h else ends_with b h
+    if b == 123 then brace h else
+    if is_unnamed b then going_on b (escapes.Target kinds.Dropped) h else
+    if is_skipped b then skip h else
+    if is_measured b then measured b h else ends_with b h
 
 -- the line goes on before the escape is read: a word begins, or a condition is a number
 abbrev pub waits : Line → Bool
@@ -110,7 +136,7 @@ abbrev pub word_made : Told → Half → Met
 word_made told h = left told.said (record h { line = lines.Words told.words })
 
 abbrev pub made_way : Line → Half → Met
-made_way (lines.Words words) h = word_made (met_words Other says.Nothing words) h
+made_way (lines.Words words) h = word_made (met_words classes.Other says.Nothing words) h
 made_way lines.Condition h = left says.Nothing (record h { line = lines.Number })
 made_way line h = left says.Nothing h
 
@@ -118,12 +144,21 @@ abbrev pub is_start : Line → Bool
 is_start lines.Start = true
 is_start line = false
 
--- in a definition an escape may have several backslashes
+abbrev pub is_stored : Line → Bool
+is_stored lines.Stored = true
+is_stored line = false
+
+abbrev pub is_text_line : Line → Bool
+is_text_line lines.Text = true
+is_text_line line = false
+
+-- In a definition, and in the text of a string, an escape may have several backslashes. In a text line a note hides its newline.
 abbrev pub behind_backslash : ℕ → Half → Met
 behind_backslash b h =
     if b == 10 then newline_hidden h else
-    if (b == 92) && h.defining then going_on b escapes.Begun h else
+    if (b == 92) && (h.defining || is_stored h.line) then going_on b escapes.Begun h else
     if b == 34 then comment (says.Kept (with_byte b h.kept)) h else
+    if (b == 35) && is_text_line h.line then taken says.Nothing (record h { escape = escapes.Note }) else
     if b == 35 then comment (says.Comment (is_start h.line)) h else
     if waits h.line then made_way h.line h else letter b h
 
@@ -131,8 +166,8 @@ behind_backslash b h =
 
 abbrev pub argument : ℕ → Half → Met
 argument b h =
-    if b == 42 then ended (says.Arguments (nat_lt 2 (length h.kept))) h else
-    if b == 64 then ended (says.QuotedArguments (nat_lt 2 (length h.kept))) h else
+    if b == 42 then ended (says.Arguments (nat_lt 2 (length h.kept))) (placed false h) else
+    if b == 64 then ended (says.QuotedArguments (nat_lt 2 (length h.kept))) (placed false h) else
     if b == 10 then abandoned h else ends_with b h
 
 -- ---- names
@@ -144,7 +179,11 @@ is_delimited escape = false
 
 abbrev pub character : Option ℕ → Half → Met
 character None h = if is_delimited h.escape then dropped h else ended_kept h
-character (Some code) h = ended (character_said h.line code) h
+character (Some c) h = ended (character_said h.line c) (placed (is_letter c) h)
+
+abbrev pub struck : Option ℕ → Half → Met
+struck None h = character None h
+struck (Some c) h = ended (says.Struck c) (placed false h)
 
 abbrev pub is_translation : Line → Bool
 is_translation lines.Translation = true
@@ -155,20 +194,27 @@ abbrev pub glyph : Half → Met
 glyph h =
     if is_native h.spelled && not (is_delimited h.escape) then ended_kept h else
     if is_pair 42 87 h.spelled && is_translation h.line then ended_kept (record h { dashes = true }) else
-    if is_pair 42 87 h.spelled && h.dashes then ended (says.Escape 45) h else
-    character (glyph_code h.spelled) h
+    if is_pair 42 87 h.spelled && h.dashes then ended (says.Escape 45) (placed false h) else
+    if is_struck h.spelled then struck (glyph_code h.spelled) h else character (glyph_code h.spelled) h
 
-abbrev pub code : Half → Met
-code h = character (code_of h.spelled) h
+abbrev pub numbered : Half → Met
+numbered h = character (code_of h.spelled) h
+
+abbrev pub tested : Bool → Half → Met
+tested holds h = ended (says.Byte (if holds then code "1" else code "0")) (placed false h)
 
 -- The register `.g` is 1. Sizes and colours are dropped.
 abbrev pub named : Kind → Half → Met
 named kinds.Glyph h = glyph h
-named kinds.Code h = code h
+named kinds.Code h = numbered h
 named kinds.Font h = ended (says.Font (font_of h.spelled)) h
-named kinds.Register h = if is_pair 46 103 h.spelled then ended (says.Byte 49) h else ended_kept h
+named kinds.Register h = if is_pair 46 103 h.spelled then ended (says.Byte 49) (placed false h) else ended_kept h
 named kinds.Size h = dropped h
 named kinds.Dropped h = dropped h
+named kinds.Identifier h = tested (not (length h.spelled == 0)) h
+named kinds.Number h = tested (is_number h.spelled) h
+named kinds.Text h = ended_kept h
+named kinds.Hang h = hang h
 
 -- a name of one byte; the language has sizes of one digit
 abbrev pub named_once : Kind → Half → Met
@@ -201,21 +247,45 @@ paired kind h = if length h.spelled == 2 then named kind h else taken says.Nothi
 abbrev pub pair : Kind → ℕ → Half → Met
 pair kind b h = if b == 10 then abandoned h else paired kind (spelling b (keeping b h))
 
+-- what hangs by an escape in another is read as it stands
+abbrev pub is_hang_kind : Kind → Bool
+is_hang_kind kinds.Hang = true
+is_hang_kind kind = false
+
 abbrev pub spelled_up_to : ℕ → Kind → ℕ → Half → Met
 spelled_up_to end kind b h =
     if b == 10 then abandoned h else
+    if (b == code "\\") && is_hang_kind kind then abandoned h else
     if b == end then named kind (keeping b h) else taken says.Nothing (spelling b (keeping b h))
 
 abbrev pub delimiter : Kind → ℕ → Half → Met
 delimiter kind b h = if b == 10 then abandoned h else going_on b (escapes.Delimited kind b) h
 
--- ---- what \Z has between its delimiters is dropped
+-- ---- names between brackets, in which others may be
+
+abbrev pub bracketed : Kind → ℕ → Half → Met
+bracketed kind b h = if b == code "[" then going_on b (escapes.Nested kind) h else spelled_up_to 93 kind b h
+
+abbrev pub nested : Kind → ℕ → Half → Met
+nested kind b h =
+    if b == code "\n" then abandoned h else
+    if b == code "]" then going_on b (escapes.Bracket kind) h else taken says.Nothing (keeping b h)
+
+-- ---- texts that are dropped
 
 abbrev pub skipped : ℕ → ℕ → Half → Met
 skipped end b h = if b == 10 then abandoned h else if b == end then dropped h else taken says.Nothing h
 
 abbrev pub skip_from : ℕ → Half → Met
 skip_from b h = if b == 10 then abandoned h else taken says.Nothing (record h { escape = escapes.Skipped b })
+
+abbrev pub embedded : Bool → ℕ → Half → Met
+embedded backslash b h =
+    if b == code "\n" then abandoned h else
+    if backslash && (b == code "?") then dropped h else taken says.Nothing (record h { escape = escapes.Embedded (b == code "\\") })
+
+abbrev pub noted : ℕ → Half → Met
+noted b h = if b == code "\n" then newline_hidden h else taken says.Nothing h
 
 -- ---- by the part that was read
 
@@ -225,11 +295,15 @@ in_part escapes.Begun b h = behind_backslash b h
 in_part escapes.Argument b h = argument b h
 in_part (escapes.Target kind) b h = target kind b h
 in_part (escapes.Pair kind) b h = pair kind b h
-in_part (escapes.Bracket kind) b h = spelled_up_to 93 kind b h
+in_part (escapes.Bracket kind) b h = bracketed kind b h
+in_part (escapes.Nested kind) b h = nested kind b h
 in_part (escapes.Delimiter kind) b h = delimiter kind b h
 in_part (escapes.Delimited kind end) b h = spelled_up_to end kind b h
 in_part escapes.Skip b h = skip_from b h
 in_part (escapes.Skipped end) b h = skipped end b h
+in_part (escapes.Embedded backslash) b h = embedded backslash b h
+in_part escapes.Note b h = noted b h
+in_part escapes.Hyphen b h = behind_hyphen b h
 
 -- an escape that is longer than what is kept goes out
 abbrev pub in_escape : ℕ → Half → Met

@@ -1,5 +1,5 @@
 -- The names of characters and fonts (groff_char(7)).
-use Rattle.std.specs.Prelude.{ℕ, ◌-◌, List, [], ◌∷◌, length, drop, Bool, false, ◌==◌, ◌&&◌, ◌||◌, nat_lt, if◌then◌else◌, Option, None, Some, slice_get, slice_index}
+use Rattle.std.specs.Prelude.{ℕ, ◌-◌, List, [], ◌∷◌, length, drop, Bool, false, ◌==◌, ◌&&◌, ◌||◌, nat_le, nat_lt, if◌then◌else◌, Option, None, Some, codes, slice_get, slice_index}
 use Rattle.nr_preconv.specs.Numbers.{number_from}
 use Rattle.std.specs.Str.{bytes_eq}
 use Rattle.nr_preconv.specs.Likeness.{before_nul}
@@ -45,6 +45,10 @@ glyph_code name =
     if nat_lt 4 (length name) && (slice_index name 0 == 99) && (slice_index name 1 == 104) && (slice_index name 2 == 97) && (slice_index name 3 == 114)
     then code_of (drop 4 name) else
     if nat_lt 2 (length name) && (slice_index name 1 == 32) then Some (slice_index name 0) else long_code name
+
+-- its last mark is a stroke through the letter, U+0338
+abbrev pub is_struck : List ℕ → Bool
+is_struck name = nat_le 5 (length name) && bytes_eq (drop (length name - 5) name) (codes "_0338")
 
 -- the language has it: `hy`, `em`, `bu`, `aq`, `dq`, `rs`
 abbrev pub is_native : List ℕ → Bool

@@ -6,6 +6,7 @@ use Rattle.nr_preconv.specs.declared.half.Half.{Half}
 use Rattle.nr_preconv.specs.declared.half.Seen.{Seen}
 use Rattle.nr_preconv.specs.declared.half.Line.{Line}
 use Rattle.nr_preconv.specs.declared.half.Line.TheVariants as lines
+use Rattle.nr_preconv.specs.declared.half.Before.TheVariants.{Other}
 use Rattle.nr_preconv.specs.declared.half.Escape.{Escape}
 use Rattle.nr_preconv.specs.declared.half.Escape.TheVariants as escapes
 use Rattle.nr_preconv.specs.Likeness.{is_blank}
@@ -28,7 +29,7 @@ left said h = record { half = h; said = said; takes = false }
 
 -- a page begins
 abbrev pub first_half : Half
-first_half = record { line = lines.Start; escape = escapes.Plain; kept = []; spelled = []; name = []; conditional = false; defining = false; dashes = false }
+first_half = record { line = lines.Start; escape = escapes.Plain; kept = []; spelled = []; name = []; conditional = false; defining = false; dashes = false; manual = false; table = false; before = Other }
 
 -- ---- where a line is read
 
@@ -63,15 +64,19 @@ takes_brace lines.Number = true
 takes_brace (lines.Strings delimiter ended) = true
 takes_brace line = false
 
--- a plain character goes out as it is and changes nothing
-abbrev pub is_rest : Line → Bool
-is_rest lines.Text = true
-is_rest lines.Request = true
-is_rest line = false
-
 abbrev pub is_plain : Escape → Bool
 is_plain escapes.Plain = true
 is_plain escape = false
 
-abbrev pub is_running : Half → Bool
-is_running h = is_plain h.escape && is_rest h.line
+-- ---- escapes that end
+
+abbrev pub without_escape : Half → Half
+without_escape h = record h { escape = escapes.Plain; kept = []; spelled = [] }
+
+-- the text of a line has begun
+abbrev pub in_text : Half → Half
+in_text h = if is_beginning h.line then record h { line = lines.Text } else h
+
+-- it is none: what was kept goes out, and the character that comes is read anew
+abbrev pub abandoned : Half → Met
+abandoned h = left (says.Kept h.kept) (in_text (without_escape h))

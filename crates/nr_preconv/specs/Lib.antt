@@ -3,6 +3,7 @@ pub mod Conditions
 pub mod Escapes
 pub mod Glyphs
 pub mod Half
+pub mod Hyphens
 pub mod Likeness
 pub mod Lines
 pub mod Meeting

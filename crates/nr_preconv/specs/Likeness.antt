@@ -46,16 +46,19 @@ word_text code = text_in WORDS code
 -- ---- characters
 
 -- a letter of Latin-1 beyond ASCII
-abbrev pub is_letter : ℕ → Bool
-is_letter code = (code == 170) || (code == 181) || (code == 186) || is_within 192 214 code || is_within 216 246 code || is_within 248 255 code
+abbrev pub is_latin_letter : ℕ → Bool
+is_latin_letter code = (code == 170) || (code == 181) || (code == 186) || is_within 192 214 code || is_within 216 246 code || is_within 248 255 code
 
 -- a mark on the character before it, or a sign without width: it shows nothing
 abbrev pub is_mark : ℕ → Bool
-is_mark code = is_within 768 879 code || is_within 8203 8205 code || (code == 8288) || (code == 65279)
+is_mark code =
+    is_within 768 823 code || is_within 825 879 code || is_within 8203 8207 code || is_within 8234 8238 code
+    || is_within 8288 8297 code || is_within 8400 8447 code || is_within 65024 65039 code || (code == 65279)
 
 -- a blank beyond ASCII
 abbrev pub is_blank : ℕ → Bool
-is_blank code = is_within 8192 8202 code || (code == 8239)
+is_blank code =
+    (code == 133) || is_within 8192 8202 code || (code == 8232) || (code == 8233) || (code == 8239) || (code == 8287) || (code == 12288)
 
 abbrev pub or_else : Option ℕ → Option ℕ → Option ℕ
 or_else (Some x) other = Some x
@@ -95,22 +98,27 @@ abbrev pub text_or_word : ℕ → Option (List ℕ) → List ℕ
 text_or_word code None = text_or_code code (word_text code)
 text_or_word code (Some text) = before_nul text
 
--- a sign, by the tables, which have none from U+2800 to U+FAFF
+-- a sign, by the tables, which have none from U+3040 to U+FAFF
 abbrev pub sign_like : ℕ → List ℕ
-sign_like code = if is_within 10240 64255 code then code_told code else text_or_word code (sign_text code)
+sign_like code = if is_within 12352 64255 code then code_told code else text_or_word code (sign_text code)
 
 abbrev pub byte_or : Option ℕ → List ℕ → List ℕ
 byte_or None other = other
 byte_or (Some b) other = b ∷ []
 
-abbrev pub beyond_like : ℕ → List ℕ
+unfoldable pub beyond_like : ℕ → List ℕ
 beyond_like code =
     if is_mark code then [] else
     if is_blank code then codes "\\ " else
+    if is_within 65281 65374 code then ascii_like (code - 65248) else
     byte_or (plain_letter code) (byte_or (box_like code) (sign_like code))
 
 -- letters of Latin-1 may stay single bytes
 abbrev pub likeness : Bool → ℕ → List ℕ
 likeness eight_bit code =
     if nat_lt code 128 then ascii_like code else
-    if eight_bit && nat_lt code 256 && is_letter code then code ∷ [] else beyond_like code
+    if eight_bit && nat_lt code 256 && is_latin_letter code then code ∷ [] else beyond_like code
+
+-- with a stroke through it
+abbrev pub struck_like : Bool → ℕ → List ℕ
+struck_like eight_bit code = 33 ∷ likeness eight_bit code

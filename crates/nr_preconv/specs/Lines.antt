@@ -1,4 +1,5 @@
 -- Lines: control lines and their names, text lines, lines that pass as they are.
+use Prim.Native.Char.{code}
 use Rattle.std.specs.Prelude.{ℕ, List, [], ◌∷◌, ◌++◌, length, Bool, true, false, not, ◌==◌, ◌&&◌, ◌||◌, nat_le, if◌then◌else◌}
 use Rattle.nr_preconv.specs.declared.said.Said.{Said}
 use Rattle.nr_preconv.specs.declared.said.Said.TheVariants.{Nothing, Byte, Kept}
@@ -15,8 +16,9 @@ use Rattle.nr_preconv.specs.declared.words.Class.{Class}
 use Rattle.nr_preconv.specs.declared.words.Class.TheVariants.{Other}
 use Rattle.nr_preconv.specs.Half.{Met, taken, left, character_said}
 use Rattle.nr_preconv.specs.Beginnings.{opened, said_name}
-use Rattle.nr_preconv.specs.Conditions.{saying, is_gap, before_condition, in_number, in_strings, in_asked}
-use Rattle.nr_preconv.specs.Words.{first_words, is_ninth, met_words, class_of}
+use Rattle.nr_preconv.specs.Hyphens.{is_letter, placed, gone_by, saying, in_text, hyphen, turns_hyphens}
+use Rattle.nr_preconv.specs.Conditions.{is_gap, before_condition, in_number, in_strings, in_asked}
+use Rattle.nr_preconv.specs.Words.{first_words, begins_word, is_ninth, met_words, class_of}
 
 -- a blank, a control byte or a backslash ends a name
 abbrev pub ends_name : ℕ → Bool
@@ -33,14 +35,14 @@ control conditional b h = saying b lines.Control (record h { name = []; conditio
 abbrev pub at_start : ℕ → Half → Met
 at_start b h =
     if is_control b then control false b h else
-    if b == 10 then saying b lines.Start h else saying b lines.Text h
+    if b == 10 then saying b lines.Start h else in_text b h
 
 -- behind a condition, where blanks are skipped
 abbrev pub at_part : ℕ → Half → Met
 at_part b h =
     if is_control b then control true b h else
     if b == 10 then saying b lines.Start h else
-    if is_gap b then saying b h.line h else saying b lines.Text h
+    if is_gap b then saying b h.line h else in_text b h
 
 -- ---- the name of a control line
 
@@ -63,9 +65,14 @@ abbrev pub line_of : Opens → Bool → Line
 line_of opens.Rest ignores = lines.Request
 line_of opens.Definition ignores = lines.Request
 line_of opens.End ignores = lines.Request
+line_of opens.Title ignores = lines.Request
+line_of opens.Table ignores = lines.Request
+line_of opens.TableEnd ignores = lines.Request
 line_of opens.Ignored ignores = if ignores then lines.Ignored dots.Other else lines.Request
 line_of opens.Condition ignores = lines.Condition
 line_of opens.Else ignores = lines.Part
+line_of opens.Nop ignores = lines.Part
+line_of opens.Stored ignores = lines.Stored
 line_of opens.Translation ignores = lines.Translation
 line_of (opens.Words fonts) ignores = lines.Words (first_words fonts)
 
@@ -74,8 +81,23 @@ defining_by opens.Definition before = true
 defining_by opens.End before = false
 defining_by o before = before
 
+-- a title makes a manual page, but in a table it is the end of the table's heading
+abbrev pub manual_by : Opens → Half → Bool
+manual_by opens.Title h = h.manual || not h.table
+manual_by o h = h.manual
+
+abbrev pub table_by : Opens → Bool → Bool
+table_by opens.Table before = true
+table_by opens.TableEnd before = false
+table_by o before = before
+
 abbrev pub opening : Opens → ℕ → Half → Half
-opening o b h = record h { line = line_of o ((b == 10) && not h.conditional); defining = defining_by o h.defining }
+opening o b h = record h {
+  line = line_of o ((b == 10) && not h.conditional);
+  defining = defining_by o h.defining;
+  manual = manual_by o h;
+  table = table_by o h.table;
+}
 
 -- the name goes out before the byte that ended it
 abbrev pub named_line : ℕ → Half → Met
@@ -100,7 +122,8 @@ among_words words class said h = as_met (met_words class said words) h
 -- the ninth word has its last quote before the newline
 abbrev pub in_words : Words → ℕ → Half → Met
 in_words words b h =
-    if not (b == 10) then among_words words (class_of b) (Byte b) h else
+    if (b == code "-") && turns_hyphens h && not (begins_word words) then hyphen (lines.Words words) h else
+    if not (b == 10) then among_words words (class_of b) (Byte b) (gone_by b h) else
     if is_ninth words then left (Byte 34) (record h { line = lines.Request }) else saying b lines.Start h
 
 -- ---- comments and ignored lines: bytes pass as they are
@@ -144,6 +167,7 @@ in_line_at lines.Part b h = at_part b h
 in_line_at lines.Braced b h = at_part b h
 in_line_at lines.Comment b h = taken (Byte b) (passing b h)
 in_line_at (lines.Ignored d) b h = taken (Byte b) (passing b h)
+in_line_at lines.Text b h = in_text b h
 in_line_at line b h = in_rest b h
 
 abbrev pub in_line : ℕ → Half → Met
@@ -152,21 +176,21 @@ in_line b h = in_line_at h.line b h
 -- ---- characters beyond ASCII
 
 abbrev pub showing : ℕ → Line → Half → Met
-showing code line h = taken (character_said h.line code) (record h { line = line })
+showing c line h = taken (character_said h.line c) (record (placed (is_letter c) h) { line = line })
 
 abbrev pub wide_at : Line → ℕ → Half → Met
-wide_at lines.Start code h = showing code lines.Text h
-wide_at lines.Part code h = showing code lines.Text h
-wide_at lines.Braced code h = showing code lines.Text h
-wide_at lines.Condition code h = showing code lines.Text h
-wide_at lines.Control code h = blanks_said lines.Request h
-wide_at lines.Name code h = named_line 32 h
-wide_at (lines.Words words) code h = among_words words Other (character_said (lines.Words words) code) h
-wide_at (lines.Asked asked) code h = in_asked asked 63 h
-wide_at line code h = showing code line h
+wide_at lines.Start c h = showing c lines.Text h
+wide_at lines.Part c h = showing c lines.Text h
+wide_at lines.Braced c h = showing c lines.Text h
+wide_at lines.Condition c h = showing c lines.Text h
+wide_at lines.Control c h = blanks_said lines.Request h
+wide_at lines.Name c h = named_line 32 h
+wide_at (lines.Words words) c h = among_words words Other (character_said (lines.Words words) c) (placed (is_letter c) h)
+wide_at (lines.Asked asked) c h = in_asked asked 63 h
+wide_at line c h = showing c line h
 
 abbrev pub wide_in_line : ℕ → Half → Met
-wide_in_line code h = wide_at h.line code h
+wide_in_line c h = wide_at h.line c h
 
 -- ---- a backslash begins an escape
 

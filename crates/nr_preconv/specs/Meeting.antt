@@ -1,5 +1,6 @@
 -- A character meets what is half read.
-use Rattle.std.specs.Prelude.{ℕ, [], ◌∷◌, Bool, true, false, ◌==◌, ◌&&◌, if◌then◌else◌}
+use Prim.Native.Char.{code}
+use Rattle.std.specs.Prelude.{ℕ, [], ◌∷◌, Bool, true, false, not, ◌==◌, ◌&&◌, ◌||◌, nat_lt, if◌then◌else◌}
 use Rattle.nr_preconv.specs.declared.said.Said.TheVariants.{Nothing}
 use Rattle.nr_preconv.specs.declared.half.Half.{Half}
 use Rattle.nr_preconv.specs.declared.half.Coming.{Coming}
@@ -8,9 +9,11 @@ use Rattle.nr_preconv.specs.declared.half.Escape.{Escape}
 use Rattle.nr_preconv.specs.declared.half.Escape.TheVariants as escapes
 use Rattle.nr_preconv.specs.declared.half.Line.{Line}
 use Rattle.nr_preconv.specs.declared.half.Line.TheVariants as lines
-use Rattle.nr_preconv.specs.Half.{Met, taken, is_plain}
-use Rattle.nr_preconv.specs.Escapes.{in_escape, abandoned}
-use Rattle.nr_preconv.specs.Lines.{in_line, wide_in_line, takes_escape}
+use Rattle.nr_preconv.specs.Half.{Met, taken, abandoned, is_plain}
+use Rattle.nr_preconv.specs.Hyphens.{turns_hyphens}
+use Rattle.nr_preconv.specs.Words.{class_of, goes_on_with}
+use Rattle.nr_preconv.specs.Escapes.{in_escape}
+use Rattle.nr_preconv.specs.Lines.{is_control, in_line, wide_in_line, takes_escape}
 
 abbrev pub beginning : Half → Met
 beginning h = taken Nothing (record h { escape = escapes.Begun; kept = 92 ∷ []; spelled = [] })
@@ -24,17 +27,31 @@ meet_byte b h = if is_plain h.escape then plain_byte b h else in_escape b h
 
 -- another character is in the name of no escape
 abbrev pub wide_by : Escape → ℕ → Half → Met
-wide_by escapes.Plain code h = wide_in_line code h
-wide_by escapes.Skip code h = taken Nothing h
-wide_by (escapes.Skipped end) code h = taken Nothing h
-wide_by escape code h = abandoned h
+wide_by escapes.Plain c h = wide_in_line c h
+wide_by escapes.Skip c h = taken Nothing h
+wide_by (escapes.Skipped end) c h = taken Nothing h
+wide_by (escapes.Embedded backslash) c h = taken Nothing h
+wide_by escapes.Note c h = taken Nothing h
+wide_by escape c h = abandoned h
 
 abbrev pub meet_wide : ℕ → Half → Met
-meet_wide code h = wide_by h.escape code h
+meet_wide c h = wide_by h.escape c h
 
 abbrev pub meet : Coming → Half → Met
 meet (Byte b) h = meet_byte b h
-meet (Wide code) h = meet_wide code h
+meet (Wide c) h = meet_wide c h
+
+-- ---- an ASCII character that goes out as it is and is taken at once
+
+abbrev pub is_as_is_at : Line → ℕ → Half → Bool
+is_as_is_at lines.Request b h = true
+is_as_is_at lines.Text b h = not (turns_hyphens h) || not (b == code "-")
+is_as_is_at lines.Start b h = not (is_control b) && (not (turns_hyphens h) || not (b == code "-"))
+is_as_is_at (lines.Words words) b h = not (b == code "\n") && not (b == code "-") && goes_on_with (class_of b) words
+is_as_is_at line b h = false
+
+abbrev pub is_as_is : ℕ → Half → Bool
+is_as_is b h = nat_lt b 127 && not (b == code "\\") && is_plain h.escape && is_as_is_at h.line b h
 
 -- ---- comments and ignored lines: bytes pass as they are
 

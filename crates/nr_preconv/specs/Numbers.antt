@@ -1,8 +1,18 @@
 -- Numbers in the names of characters.
-use Rattle.std.specs.Prelude.{ℕ, ◌+◌, ◌-◌, ◌*◌, List, [], ◌∷◌, Bool, ◌==◌, ◌&&◌, nat_le, nat_lt, if◌then◌else◌, Option, None, Some}
+use Prim.Native.Char.{code}
+use Rattle.std.specs.Prelude.{ℕ, ◌+◌, ◌-◌, ◌*◌, List, [], ◌∷◌, Bool, false, ◌==◌, ◌&&◌, ◌||◌, nat_le, nat_lt, if◌then◌else◌, Option, None, Some}
 
 abbrev pub is_within : ℕ → ℕ → ℕ → Bool
 is_within first last b = nat_le first b && nat_le b last
+
+-- a digit, a sign, a dot, a parenthesis or a place begins a number
+abbrev pub begins_number : ℕ → Bool
+begins_number b =
+    is_within (code "0") (code "9") b || (b == code "(") || (b == code "+") || (b == code "-") || (b == code ".") || (b == code "|")
+
+abbrev pub is_number : List ℕ → Bool
+is_number [] = false
+is_number (b ∷ bs) = begins_number b
 
 -- a number, if it is one of the base's digits
 abbrev pub digit_below : ℕ → ℕ → Option ℕ

@@ -2,9 +2,9 @@
 use Rattle.std.specs.Prelude.{ℕ, List, [], ◌∷◌, Bool, true, not, ◌==◌, ◌&&◌, nat_lt}
 use Rattle.nr_preconv.specs.Lines.{is_control}
 
--- a byte of ASCII that is no backslash, and at the beginning of a line no control character
+-- a byte of ASCII that is neither DEL nor a backslash, and at the beginning of a line no control character
 abbrev pub goes_on : Bool → ℕ → Bool
-goes_on starts b = nat_lt b 128 && not (b == 92) && not (starts && is_control b)
+goes_on starts b = nat_lt b 127 && not (b == 92) && not (starts && is_control b)
 
 -- from the beginning of a line, or from the midst of one
 abbrev pub is_plain_from : Bool → List ℕ → Bool

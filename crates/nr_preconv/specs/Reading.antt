@@ -1,5 +1,5 @@
 -- Bytes become characters (RFC 3629; ISO 8859-1), and these are heard.
-use Rattle.std.specs.Prelude.{◌≡◌, ℕ, zero, suc, ◌+◌, ◌*◌, ◌%◌, List, [], ◌∷◌, ◌++◌, take, Bool, true, false, ◌==◌, ◌&&◌, ◌||◌, nat_lt, if◌then◌else◌}
+use Rattle.std.specs.Prelude.{◌≡◌, ℕ, zero, suc, ◌+◌, ◌*◌, ◌%◌, List, [], ◌∷◌, ◌++◌, take, Bool, ◌==◌, nat_lt, if◌then◌else◌}
 use Rattle.nr_preconv.specs.declared.half.Half.{Half}
 use Rattle.nr_preconv.specs.declared.half.Coming.{Coming}
 use Rattle.nr_preconv.specs.declared.half.Coming.TheVariants.{Byte, Wide}
@@ -9,8 +9,8 @@ use Rattle.nr_preconv.specs.declared.reader.Reader.{Reader}
 use Rattle.nr_preconv.specs.declared.reader.Pending.{Pending}
 use Rattle.nr_preconv.specs.declared.reader.Pending.TheVariants.{Nothing, One, Two, Three}
 use Rattle.nr_preconv.specs.Numbers.{is_within}
-use Rattle.nr_preconv.specs.Saying.{bytes_of}
-use Rattle.nr_preconv.specs.Half.{first_half, is_running}
+use Rattle.nr_preconv.specs.Saying.{bytes_of, sent, all_sent}
+use Rattle.nr_preconv.specs.Half.{first_half}
 use Rattle.nr_preconv.specs.Lines.{passing}
 use Rattle.nr_preconv.specs.Meeting.{meet, is_raw}
 
@@ -88,14 +88,14 @@ pending_heard r = strays r.pending (pending_with Nothing r)
 
 abbrev pub fresh : ℕ → Reader → Told
 fresh b r =
-    if nat_lt b 128 then heard (Byte b) r else
+    if nat_lt b 127 then heard (Byte b) r else
     if is_lead b then told (pending_with (One b) r) [] 0 else stray b r
 
 abbrev pub apart : ℕ → Reader → Told
 apart b r = then_told (pending_heard r) (λ s. fresh b s)
 
 abbrev pub whole : ℕ → Reader → Told
-whole code r = heard (Wide code) (pending_with Nothing r)
+whole c r = heard (Wide c) (pending_with Nothing r)
 
 -- by what is pending
 abbrev pub heard_behind : Pending → ℕ → Reader → Told
@@ -117,7 +117,7 @@ heard_byte b r = heard_behind r.pending b r
 -- ---- a byte, and the end
 
 abbrev pub read : ℕ → Reader → Told
-read b r = if is_raw r.half.line then told (with_half (passing b r.half) r) (b ∷ []) 1 else heard_byte b r
+read b r = if is_raw r.half.line then told (with_half (passing b r.half) r) (sent r.eight_bit b ∷ []) 1 else heard_byte b r
 
 -- a name that is half read
 abbrev pub name_left : Line → List ℕ → List ℕ
@@ -127,11 +127,11 @@ name_left (lines.Asked asked) name = name
 name_left line name = []
 
 -- what is half read at the end goes out as it is
-abbrev pub ended : Half → List ℕ
-ended h = h.kept ++ name_left h.line h.name
+abbrev pub ended : Reader → List ℕ
+ended r = all_sent r.eight_bit r.half.kept ++ all_sent r.eight_bit (name_left r.half.line r.half.name)
 
 abbrev pub finished : Reader → List ℕ
-finished r = (pending_heard r).bytes ++ ended (pending_heard r).reader.half
+finished r = (pending_heard r).bytes ++ ended (pending_heard r).reader
 
 -- ---- many bytes
 
@@ -139,23 +139,11 @@ abbrev pub fed : Reader → List ℕ → Told
 fed r [] = told r [] 0
 fed r (b ∷ bs) = then_told (read b r) (λ s. fed s bs)
 
--- ---- plain bytes
+-- ---- bytes that go out as they are
 
--- ASCII text that is no backslash
-abbrev pub is_plain_byte : ℕ → Bool
-is_plain_byte b = is_within 32 91 b || is_within 93 126 b
-
-abbrev pub is_nothing : Pending → Bool
-is_nothing Nothing = true
-is_nothing pending = false
-
--- plain bytes go out as they are and change nothing
-abbrev pub is_ready : Reader → Bool
-is_ready r = is_running r.half && is_nothing r.pending
-
--- the first n of these go out as they are and change nothing, each in one step
-abbrev pub IsPlainFront : ℕ → List ℕ → Reader → Type 0
-IsPlainFront n bytes r = fed r (take n bytes) ≡ told r (take n bytes) n
+-- the first n of these do, each in one step
+abbrev pub Passes : ℕ → List ℕ → Reader → Reader → Type 0
+Passes n bytes r s = fed r (take n bytes) ≡ told s (take n bytes) n
 
 -- ---- the definition: what comes of all bytes of an input
 

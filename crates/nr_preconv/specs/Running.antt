@@ -1,5 +1,6 @@
 -- A run over a source and a sink.
 use Rattle.std.specs.Prelude.{◌≡◌, ℕ, ◌+◌, ◌*◌, ◌<◌, ◌≤◌, List, [], ◌++◌, length, Bool, true, false, Option, None, Some, Result, Ok, Err, ⊤, ◌⊎◌}
+use Rattle.std.specs.List.{AllPass}
 use Rattle.std.specs.Io.KnownBytes.{Appends}
 use Rattle.nr_units.specs.Failures.{next_count}
 use Rattle.nr_units.specs.Held.{AppendsFront}
@@ -9,6 +10,7 @@ use Rattle.nr_preconv.specs.declared.running.Outcome.{Outcome}
 use Rattle.nr_preconv.specs.declared.running.Outcome.TheVariants.{Done, ReadFault, TooLong, WriteFault}
 use Rattle.nr_preconv.specs.declared.running.Turn.{Turn}
 use Rattle.nr_preconv.specs.declared.running.Turn.TheVariants as turns
+use Rattle.nr_preconv.specs.Saying.{may_go_out}
 use Rattle.nr_preconv.specs.Reading.{first_reader, fed, pending_heard, finished, converted, steps_of}
 
 -- these bytes came
@@ -75,7 +77,7 @@ pub record Stands (eight_bit : Bool) (first supply : Option Supply) (held new : 
   pub few : length (fed (first_reader eight_bit) bytes).bytes ≤ 1536 * taken
   pub made : steps ≡ (fed (first_reader eight_bit) bytes).steps
 
--- All bytes came, and what they come to went out, at most 1536 bytes for each and as many more. That took so many steps, at most
+-- All bytes came, and what they come to went out, at most 1536 bytes for each and as many more, and none that may not go out. That took so many steps, at most
 -- six for each byte.
 pub record IsDone (eight_bit : Bool) (first last : Option Supply) (held new : Option (List ℕ)) (steps : ℕ) : Type 0 where
   pub bytes : List ℕ
@@ -83,6 +85,7 @@ pub record IsDone (eight_bit : Bool) (first last : Option Supply) (held new : Op
   pub ends : Ends first last
   pub went_out : Appends held new (converted eight_bit bytes)
   pub few : length (converted eight_bit bytes) ≤ 1536 * (length bytes + 1)
+  pub shown : AllPass (may_go_out eight_bit) (converted eight_bit bytes)
   pub made : steps ≡ steps_of eight_bit bytes
   pub quick : steps ≤ 6 * length bytes
 
@@ -92,6 +95,7 @@ pub record IsCut (eight_bit : Bool) (first last : Option Supply) (held new : Opt
   pub came : Comes first bytes last
   pub count : length bytes ≡ at
   pub went_out : Appends held new (fed (first_reader eight_bit) bytes).bytes
+  pub shown : AllPass (may_go_out eight_bit) (fed (first_reader eight_bit) bytes).bytes
   pub made : steps ≡ (fed (first_reader eight_bit) bytes).steps
   pub quick : steps ≤ 6 * length bytes
 
@@ -100,6 +104,7 @@ pub record IsBroken (eight_bit : Bool) (first last : Option Supply) (held new : 
   pub bytes : List ℕ
   pub came : Comes first bytes last
   pub went_out : AppendsFront held new (converted eight_bit bytes)
+  pub shown : AllPass (may_go_out eight_bit) (converted eight_bit bytes)
   pub quick : steps ≤ 6 * length bytes
 
 abbrev pub Ran : Bool → Option Supply → Option Supply → Option (List ℕ) → Option (List ℕ) → ℕ → Outcome → Type 0

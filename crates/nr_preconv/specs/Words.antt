@@ -32,6 +32,16 @@ begins_at place = false
 abbrev pub begins_word : Words → Bool
 begins_word w = begins_at w.place
 
+-- a character in a word goes out as it is
+abbrev pub goes_on_at : Place → Class → Bool
+goes_on_at Inside Other = true
+goes_on_at Quoted Other = true
+goes_on_at Quoted Space = true
+goes_on_at place class = false
+
+abbrev pub goes_on_with : Class → Words → Bool
+goes_on_with class w = goes_on_at w.place class
+
 abbrev pub words_at : Place → Words → Words
 words_at place w = record { fonts = w.fonts; count = w.count; second = w.second; place = place }
 

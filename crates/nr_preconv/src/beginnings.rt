@@ -24,12 +24,22 @@ pub(crate) enum Opens {
     Else,
     /// A translation of characters.
     Translation,
+    /// The text of a string.
+    Stored,
+    /// A line of its own behind the name.
+    Nop,
+    /// The title of a manual page.
+    Title,
+    /// A table.
+    Table,
+    /// Its end.
+    TableEnd,
     /// Words in a font, or in two.
     Words(Fonts),
 }
 
 /// The names that are of account here.
-static OPENING: [(u8, u8, Opens); 20] = [
+static OPENING: [(u8, u8, Opens); 41] = [
     (b'.', b' ', Opens::End),
     (b'd', b'e', Opens::Definition),
     (b'a', b'm', Opens::Definition),
@@ -38,12 +48,33 @@ static OPENING: [(u8, u8, Opens); 20] = [
     (b'i', b'e', Opens::Condition),
     (b'e', b'l', Opens::Else),
     (b't', b'r', Opens::Translation),
+    (b'd', b's', Opens::Stored),
+    (b'a', b's', Opens::Stored),
+    (b'T', b'H', Opens::Title),
+    (b'T', b'S', Opens::Table),
+    (b'T', b'E', Opens::TableEnd),
     (b'B', b' ', Opens::Words(Fonts::One)),
     (b'I', b' ', Opens::Words(Fonts::One)),
     (b'S', b'M', Opens::Words(Fonts::One)),
     (b'S', b'B', Opens::Words(Fonts::One)),
     (b'S', b'H', Opens::Words(Fonts::One)),
     (b'S', b'S', Opens::Words(Fonts::One)),
+    (b'R', b' ', Opens::Words(Fonts::One)),
+    (b'C', b'W', Opens::Words(Fonts::One)),
+    (b'U', b'L', Opens::Words(Fonts::One)),
+    (b'B', b'X', Opens::Words(Fonts::One)),
+    (b'L', b'G', Opens::Words(Fonts::One)),
+    (b'N', b'H', Opens::Words(Fonts::One)),
+    (b'T', b'L', Opens::Words(Fonts::One)),
+    (b'A', b'U', Opens::Words(Fonts::One)),
+    (b'A', b'I', Opens::Words(Fonts::One)),
+    (b'N', b'D', Opens::Words(Fonts::One)),
+    (b'D', b'A', Opens::Words(Fonts::One)),
+    (b'T', b'O', Opens::Words(Fonts::One)),
+    (b'S', b'U', Opens::Words(Fonts::One)),
+    (b'S', b'G', Opens::Words(Fonts::One)),
+    (b'G', b'R', Opens::Words(Fonts::One)),
+    (b'C', b'L', Opens::Words(Fonts::One)),
     (b'B', b'R', Opens::Words(Fonts::Turn(b'B', b'R'))),
     (b'R', b'B', Opens::Words(Fonts::Turn(b'R', b'B'))),
     (b'B', b'I', Opens::Words(Fonts::Turn(b'B', b'I'))),
@@ -204,11 +235,14 @@ pub(crate) fn opened(name: &[u8]) -> Opens
             _ => Opens::Rest,
         };
     }
+    if name == b"nop".as_slice() {
+        return Opens::Nop;
+    }
     opened_by(name)
 }
 
 /// How a name goes out before this byte: that of a definition without its third byte, and that of a
-/// condition with a blank before an escape.
+/// condition with a blank before an escape. `.nop` is a condition that holds.
 pub(crate) fn said_name(opens: Opens, name: Name, byte: u8) -> Said
     ensures { result ≡ said_name opens name byte }
 {
@@ -222,6 +256,7 @@ pub(crate) fn said_name(opens: Opens, name: Name, byte: u8) -> Said
             apart.push(b' ');
             Said::Kept(apart)
         }
+        Opens::Nop => Said::Kept(Name::of(b"if 1 ")),
         _ => Said::Kept(name),
     }
 }

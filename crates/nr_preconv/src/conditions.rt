@@ -9,14 +9,6 @@ use super::said::Said;
 use nr_units::Name;
 
 impl Half {
-    /// A byte goes out as it is, and the line goes on so.
-    pub(crate) fn says(&mut self, byte: u8, line: Line) -> Seen
-        ensures { met self.new result ≡ specs.saying byte line self.old }
-    {
-        self.line = line;
-        Seen::taken(Said::Byte(byte))
-    }
-
     /// A condition on a name begins.
     fn asks(&mut self, asked: Asked) -> Seen
         ensures { met self.new result ≡ specs.asking asked self.old }

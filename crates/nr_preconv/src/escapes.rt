@@ -1,12 +1,39 @@
 //! Escapes.
 ghost use Rattle.std.specs.Prelude.{◌≡◌};
-ghost use Rattle.nr_preconv.specs.Half.{met};
+ghost use Rattle.nr_preconv.specs.Half.{abandoned, met, without_escape};
+ghost use Rattle.nr_preconv.specs.Hyphens.{may_hang};
 ghost use Rattle.nr_preconv.specs.Escapes as specs;
 
-use super::glyphs::{code_of, font_of, glyph_code, is_native, is_pair};
-use super::half::{Escape, Half, Kind, Line, Seen};
+use super::glyphs::{code_of, font_of, glyph_code, is_native, is_pair, is_struck};
+use super::half::{Before, Escape, Half, Kind, Line, Seen};
+use super::hyphens::{is_hang, is_letter};
+use super::numbers::is_number;
 use super::said::Said;
 use nr_units::Name;
+
+/// The letter of an escape with a number or a text.
+fn is_measured(byte: u8) -> bool
+    ensures { result ≡ specs.is_measured byte }
+{
+    matches!(
+        byte,
+        b'h' | b'v' | b'w' | b'l' | b'L' | b'D' | b'b' | b'o' | b'x'
+    )
+}
+
+/// The letter of an escape with a name that is dropped: colours, families, devices.
+fn is_unnamed(byte: u8) -> bool
+    ensures { result ≡ specs.is_unnamed byte }
+{
+    matches!(byte, b'm' | b'M' | b'F' | b'O' | b'V' | b'Y')
+}
+
+/// The letter of an escape with a text that is dropped: letters' height and slant, devices, new registers.
+fn is_skipped(byte: u8) -> bool
+    ensures { result ≡ specs.is_skipped byte }
+{
+    matches!(byte, b'H' | b'R' | b'S' | b'X' | b'Z')
+}
 
 impl Half {
     /// One more byte of an escape, or of a name in it, is kept where there is room.
@@ -27,8 +54,8 @@ impl Half {
     }
 
     /// No escape is half read any more.
-    fn forget(&mut self)
-        ensures { self.new ≡ specs.without_escape self.old }
+    pub(crate) fn forget(&mut self)
+        ensures { self.new ≡ without_escape self.old }
     {
         self.escape = Escape::Plain;
         self.kept = Name::new();
@@ -59,6 +86,7 @@ impl Half {
     fn ended_kept(&mut self) -> Seen
         ensures { met self.new result ≡ specs.ended_kept self.old }
     {
+        self.places(false);
         let kept = self.kept;
         self.ended(Said::Kept(kept))
     }
@@ -85,7 +113,7 @@ impl Half {
 
     /// It is none: what was kept goes out, and the character that comes is read anew.
     pub(crate) fn abandoned(&mut self) -> Seen
-        ensures { met self.new result ≡ specs.abandoned self.old }
+        ensures { met self.new result ≡ abandoned self.old }
     {
         let kept = self.kept;
         let ended = self.ended(Said::Kept(kept));
@@ -97,6 +125,7 @@ impl Half {
         ensures { met self.new result ≡ specs.comment said self.old }
     {
         self.forget();
+        self.before = Before::Other;
         self.line = Line::Comment;
         Seen::taken(said)
     }
@@ -131,15 +160,25 @@ impl Half {
         ensures { met self.new result ≡ specs.blank self.old }
     {
         let byte = if self.line.is_text() { b' ' } else { b'0' };
+        self.places(false);
         self.ended(Said::Escape(byte))
     }
 
-    /// `\Z` begins.
+    /// An escape that is dropped with a text begins.
     fn skip(&mut self) -> Seen
         ensures { met self.new result ≡ specs.skip self.old }
     {
         self.kept = Name::new();
         self.escape = Escape::Skip;
+        Seen::taken(Said::Nothing)
+    }
+
+    /// `\?` begins.
+    fn embed(&mut self) -> Seen
+        ensures { met self.new result ≡ specs.embed self.old }
+    {
+        self.kept = Name::new();
+        self.escape = Escape::Embedded(false);
         Seen::taken(Said::Nothing)
     }
 
@@ -151,18 +190,56 @@ impl Half {
             b'(' => self.goes_on(byte, Escape::Pair(Kind::Glyph)),
             b'[' => self.goes_on(byte, Escape::Bracket(Kind::Glyph)),
             b'f' => self.goes_on(byte, Escape::Target(Kind::Font)),
-            b'm' | b'M' | b'F' => self.goes_on(byte, Escape::Target(Kind::Dropped)),
             b'n' => self.goes_on(byte, Escape::Target(Kind::Register)),
+            b'*' => self.goes_on(byte, Escape::Target(Kind::Text)),
             b's' => self.goes_on(byte, Escape::Target(Kind::Size)),
             b'N' => self.goes_on(byte, Escape::Delimiter(Kind::Code)),
             b'C' => self.goes_on(byte, Escape::Delimiter(Kind::Glyph)),
-            b'Z' => self.skip(),
+            b'A' => self.goes_on(byte, Escape::Delimiter(Kind::Identifier)),
+            b'B' => self.goes_on(byte, Escape::Delimiter(Kind::Number)),
+            b'?' => self.embed(),
             b',' | b'/' | b')' | b':' => self.dropped(),
             b' ' | b'~' => self.blank(),
             b'$' => self.goes_on(byte, Escape::Argument),
             b'{' => self.brace(),
+            _ if is_unnamed(byte) => self.goes_on(byte, Escape::Target(Kind::Dropped)),
+            _ if is_skipped(byte) => self.skip(),
+            _ if is_measured(byte) => self.measured(byte),
             _ => self.ends_with(byte),
         }
+    }
+
+    /// Such a letter. By `\h` at the beginning of a line it may hang.
+    fn measured(&mut self, byte: u8) -> Seen
+        ensures { met self.new result ≡ specs.measured byte self.old }
+    {
+        let hangs = byte == b'h' && self.may_hang();
+        self.leaves_hyphens();
+        if hangs {
+            return self.goes_on(byte, Escape::Delimiter(Kind::Hang));
+        }
+        self.ends_with(byte)
+    }
+
+    /// A text line may hang behind a title, and in no table, where the line before has ended.
+    fn may_hang(&self) -> bool
+        ensures { result ≡ may_hang self.now }
+    {
+        self.turns_hyphens() && matches!(self.line, Line::Start | Line::Braced)
+    }
+
+    /// How far to the left a line begins, if that is a number of cells.
+    fn hang(&mut self) -> Seen
+        ensures { met self.new result ≡ specs.hang self.old }
+    {
+        let number = self.spelled;
+        if !is_hang(number.as_bytes()) {
+            return self.ended_kept();
+        }
+        self.forget();
+        self.line = Line::Text;
+        self.before = Before::Other;
+        Seen::taken(Said::Hang(number))
     }
 
     /// Whether the line must go on before an escape is read.
@@ -200,11 +277,18 @@ impl Half {
     {
         match byte {
             b'\n' => self.newline_hidden(),
-            b'\\' if self.defining => self.goes_on(byte, Escape::Begun),
+            b'\\' if self.defining || matches!(self.line, Line::Stored) => self.goes_on(
+                byte,
+                Escape::Begun,
+            ),
             b'"' => {
                 self.keep(byte);
                 let kept = self.kept;
                 self.comment(Said::Kept(kept))
+            }
+            b'#' if matches!(self.line, Line::Text) => {
+                self.escape = Escape::Note;
+                Seen::taken(Said::Nothing)
             }
             b'#' => {
                 let alone = matches!(self.line, Line::Start);
@@ -221,8 +305,14 @@ impl Half {
     {
         let doubled = self.kept.len() > 2;
         match byte {
-            b'*' => self.ended(Said::Arguments(doubled)),
-            b'@' => self.ended(Said::QuotedArguments(doubled)),
+            b'*' => {
+                self.places(false);
+                self.ended(Said::Arguments(doubled))
+            }
+            b'@' => {
+                self.places(false);
+                self.ended(Said::QuotedArguments(doubled))
+            }
             b'\n' => self.abandoned(),
             _ => self.ends_with(byte),
         }
@@ -236,10 +326,24 @@ impl Half {
         match code {
             Some(code) => {
                 let said = self.line.character(code);
+                self.places(is_letter(code));
                 self.ended(said)
             }
             None if self.escape.is_delimited() => self.dropped(),
             None => self.ended_kept(),
+        }
+    }
+
+    /// This character, if there is one, with a stroke through it.
+    fn struck(&mut self, code: Option<u32>) -> Seen
+        ensures { met self.new result ≡ specs.struck code self.old }
+    {
+        match code {
+            Some(code) => {
+                self.places(false);
+                self.ended(Said::Struck(code))
+            }
+            None => self.character(None),
         }
     }
 
@@ -257,15 +361,19 @@ impl Half {
                 return self.ended_kept();
             }
             if self.dashes {
+                self.places(false);
                 return self.ended(Said::Escape(b'-'));
             }
+        }
+        if is_struck(name.as_bytes()) {
+            return self.struck(glyph_code(name.as_bytes()));
         }
         self.character(glyph_code(name.as_bytes()))
     }
 
     /// A character by its number.
-    fn code(&mut self) -> Seen
-        ensures { met self.new result ≡ specs.code self.old }
+    fn numbered(&mut self) -> Seen
+        ensures { met self.new result ≡ specs.numbered self.old }
     {
         let name = self.spelled;
         self.character(code_of(name.as_bytes()))
@@ -278,12 +386,26 @@ impl Half {
         let name = self.spelled;
         match kind {
             Kind::Glyph => self.glyph(),
-            Kind::Code => self.code(),
+            Kind::Code => self.numbered(),
             Kind::Font => self.ended(Said::Font(font_of(name.as_bytes()))),
-            Kind::Register if is_pair(name.as_bytes(), b'.', b'g') => self.ended(Said::Byte(b'1')),
-            Kind::Register => self.ended_kept(),
+            Kind::Register if is_pair(name.as_bytes(), b'.', b'g') => {
+                self.places(false);
+                self.ended(Said::Byte(b'1'))
+            }
+            Kind::Register | Kind::Text => self.ended_kept(),
+            Kind::Hang => self.hang(),
+            Kind::Identifier => self.tested(!name.is_empty()),
+            Kind::Number => self.tested(is_number(name.as_bytes())),
             Kind::Size | Kind::Dropped => self.dropped(),
         }
+    }
+
+    /// What a test comes to.
+    fn tested(&mut self, holds: bool) -> Seen
+        ensures { met self.new result ≡ specs.tested holds self.old }
+    {
+        self.places(false);
+        self.ended(Said::Byte(if holds { b'1' } else { b'0' }))
     }
 
     /// A name of one byte.
@@ -334,11 +456,38 @@ impl Half {
         if byte == b'\n' {
             return self.abandoned();
         }
+        if byte == b'\\' && matches!(kind, Kind::Hang) {
+            return self.abandoned();
+        }
         self.keep(byte);
         if byte == end {
             return self.named(kind);
         }
         self.spell(byte);
+        Seen::taken(Said::Nothing)
+    }
+
+    /// A byte of a name between brackets.
+    fn bracketed(&mut self, kind: Kind, byte: u8) -> Seen
+        ensures { met self.new result ≡ specs.bracketed kind byte self.old }
+    {
+        if byte == b'[' {
+            return self.goes_on(byte, Escape::Nested(kind));
+        }
+        self.spelled_up_to(b']', kind, byte)
+    }
+
+    /// A byte of one in it.
+    fn nested(&mut self, kind: Kind, byte: u8) -> Seen
+        ensures { met self.new result ≡ specs.nested kind byte self.old }
+    {
+        if byte == b'\n' {
+            return self.abandoned();
+        }
+        if byte == b']' {
+            return self.goes_on(byte, Escape::Bracket(kind));
+        }
+        self.keep(byte);
         Seen::taken(Said::Nothing)
     }
 
@@ -352,7 +501,7 @@ impl Half {
         self.goes_on(byte, Escape::Delimited(kind, byte))
     }
 
-    /// A byte in `\Z`.
+    /// A byte of a text that is dropped.
     fn skipped(&mut self, end: u8, byte: u8) -> Seen
         ensures { met self.new result ≡ specs.skipped end byte self.old }
     {
@@ -365,7 +514,31 @@ impl Half {
         Seen::taken(Said::Nothing)
     }
 
-    /// The delimiter of `\Z`.
+    /// A byte in `\?..\?`.
+    fn embedded(&mut self, backslash: bool, byte: u8) -> Seen
+        ensures { met self.new result ≡ specs.embedded backslash byte self.old }
+    {
+        if byte == b'\n' {
+            return self.abandoned();
+        }
+        if backslash && byte == b'?' {
+            return self.dropped();
+        }
+        self.escape = Escape::Embedded(byte == b'\\');
+        Seen::taken(Said::Nothing)
+    }
+
+    /// A byte of a note, whose newline is hidden.
+    fn noted(&mut self, byte: u8) -> Seen
+        ensures { met self.new result ≡ specs.noted byte self.old }
+    {
+        if byte == b'\n' {
+            return self.newline_hidden();
+        }
+        Seen::taken(Said::Nothing)
+    }
+
+    /// The delimiter of a text that is dropped.
     fn skip_from(&mut self, byte: u8) -> Seen
         ensures { met self.new result ≡ specs.skip_from byte self.old }
     {
@@ -389,11 +562,15 @@ impl Half {
             Escape::Argument => self.argument(byte),
             Escape::Target(kind) => self.target(kind, byte),
             Escape::Pair(kind) => self.pair(kind, byte),
-            Escape::Bracket(kind) => self.spelled_up_to(b']', kind, byte),
+            Escape::Bracket(kind) => self.bracketed(kind, byte),
+            Escape::Nested(kind) => self.nested(kind, byte),
             Escape::Delimiter(kind) => self.delimiter(kind, byte),
             Escape::Delimited(kind, end) => self.spelled_up_to(end, kind, byte),
             Escape::Skip => self.skip_from(byte),
             Escape::Skipped(end) => self.skipped(end, byte),
+            Escape::Embedded(backslash) => self.embedded(backslash, byte),
+            Escape::Note => self.noted(byte),
+            Escape::Hyphen => self.behind_hyphen(byte),
         }
     }
 }

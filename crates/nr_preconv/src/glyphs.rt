@@ -1,6 +1,6 @@
 //! The names of characters (groff_char(7)).
 ghost use Rattle.std.specs.Prelude.{◌≡◌};
-ghost use Rattle.nr_preconv.specs.Glyphs.{code_of, glyph_code, is_native, is_pair, long_code, looked_up, below_codes, font_of, letter_of, named_in, pair_code};
+ghost use Rattle.nr_preconv.specs.Glyphs.{code_of, glyph_code, is_native, is_pair, is_struck, long_code, looked_up, below_codes, font_of, letter_of, named_in, pair_code};
 ghost use Rattle.nr_preconv.specs.Likeness.{before_nul};
 
 use super::numbers::number_from;
@@ -103,6 +103,13 @@ pub(crate) fn glyph_code(name: &[u8]) -> Option<u32>
         return Some(u32::from(name[0]));
     }
     long_code(name)
+}
+
+/// A name whose last mark is a stroke through the letter, U+0338.
+pub(crate) fn is_struck(name: &[u8]) -> bool
+    ensures { result ≡ is_struck name.now }
+{
+    name.len() >= 5 && &name[name.len() - 5..] == b"_0338".as_slice()
 }
 
 /// A name that the language has itself.

@@ -1,7 +1,7 @@
 //! What is half read of a page.
 ghost use Rattle.std.specs.Prelude.{◌≡◌, true, false};
 ghost use Rattle.nr_preconv.specs.Escapes.{is_delimited};
-ghost use Rattle.nr_preconv.specs.Half.{character_said, first_half, is_beginning, is_space, is_running, is_text, takes_brace};
+ghost use Rattle.nr_preconv.specs.Half.{character_said, first_half, is_beginning, is_space, is_text, takes_brace};
 
 use super::likeness::is_blank;
 use super::said::Said;
@@ -21,6 +21,8 @@ pub(crate) enum Line {
     Text,
     /// In the rest of a control line.
     Request,
+    /// In the text of a string, which may have two backslashes for one.
+    Stored,
     /// In a line of `.tr`.
     Translation,
     /// Among the words of a font macro's line.
@@ -67,6 +69,17 @@ pub(crate) enum Dots {
     Other,
 }
 
+/// What stands before the next character of a line in a manual page.
+#[derive(Clone, Copy)]
+pub(crate) enum Before {
+    /// A letter.
+    Letter,
+    /// No letter.
+    Other,
+    /// Anything, behind an escape with a number or a text: up to the end of the line hyphens stay as they are.
+    Argument,
+}
+
 /// What part of an escape is half read.
 #[derive(Clone, Copy)]
 pub(crate) enum Escape {
@@ -82,6 +95,8 @@ pub(crate) enum Escape {
     Pair(Kind),
     /// `[` and a part of a name.
     Bracket(Kind),
+    /// The same behind another `[`.
+    Nested(Kind),
     /// The letter of an escape with a delimited name.
     Delimiter(Kind),
     /// Its delimiter and a part of the name.
@@ -90,6 +105,12 @@ pub(crate) enum Escape {
     Skip,
     /// `\\Z` and its delimiter.
     Skipped(u8),
+    /// `\\?`, and whether a backslash came behind it.
+    Embedded(bool),
+    /// `\\#` in a text line.
+    Note,
+    /// No escape, but a hyphen behind a letter.
+    Hyphen,
 }
 
 /// What an escape names.
@@ -107,6 +128,14 @@ pub(crate) enum Kind {
     Size,
     /// A colour or a family, which is dropped.
     Dropped,
+    /// A string.
+    Text,
+    /// A name that is tested.
+    Identifier,
+    /// A number that is tested.
+    Number,
+    /// How far a text line begins to the left.
+    Hang,
 }
 
 /// A character that comes.
@@ -153,6 +182,12 @@ pub(crate) struct Half {
     pub defining: bool,
     /// `\\(*W` is a dash.
     pub dashes: bool,
+    /// It is a manual page: a title came.
+    pub manual: bool,
+    /// A table is read.
+    pub table: bool,
+    /// What stands before the next character, where it is a manual page.
+    pub before: Before,
 }
 
 impl Seen {
@@ -231,13 +266,9 @@ impl Half {
             conditional: false,
             defining: false,
             dashes: false,
+            manual: false,
+            table: false,
+            before: Before::Other,
         }
-    }
-
-    /// Whether a plain character goes out as it is and changes nothing.
-    pub(crate) fn is_running(&self) -> bool
-        ensures { result ≡ is_running self.now }
-    {
-        matches!(self.escape, Escape::Plain) && matches!(self.line, Line::Text | Line::Request)
     }
 }

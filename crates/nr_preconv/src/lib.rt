@@ -10,6 +10,7 @@ mod conditions;
 mod escapes;
 mod glyphs;
 mod half;
+mod hyphens;
 mod likeness;
 mod lines;
 mod meeting;

@@ -1,13 +1,13 @@
 //! What a character looks like.
 ghost use Rattle.std.specs.Prelude.{◌≡◌, ◌+◌, ◌≤◌, ◌<◌, ◌++◌, length};
-ghost use Rattle.nr_preconv.specs.Likeness.{ascii_like, before_nul, beyond_like, box_like, code_told, hex_digit, is_blank, is_letter, is_mark, letter_in, likeness, plain_letter, sign_like, sign_text, text_in, word_text};
+ghost use Rattle.nr_preconv.specs.Likeness.{ascii_like, before_nul, beyond_like, box_like, code_told, hex_digit, is_blank, is_latin_letter, is_mark, letter_in, likeness, plain_letter, sign_like, sign_text, struck_like, text_in, word_text};
 
 use super::signs::{LATIN, LATIN_ADDITIONAL, SIGNS, WORDS};
 use nr_units::slice_vec::SliceVec;
 
 /// A letter of Latin-1 beyond ASCII.
-fn is_letter(code: u32) -> bool
-    ensures { result ≡ is_letter code }
+pub(crate) fn is_latin_letter(code: u32) -> bool
+    ensures { result ≡ is_latin_letter code }
 {
     matches!(code, 0xAA | 0xB5 | 0xBA | 0xC0..=0xD6 | 0xD8..=0xF6 | 0xF8..=0xFF)
 }
@@ -108,7 +108,7 @@ fn put_sign(code: u32, out: &mut SliceVec<'_, u8>)
     ensures few { length out.new.items ≤ length out.old.items + 24 }
     ensures room { out.new.room ≡ out.old.room }
 {
-    if matches!(code, 0x2800..=0xFAFF) {
+    if matches!(code, 0x3040..=0xFAFF) {
         put_code(code, out);
     } else if let Some(text) = sign_text(code) {
         put_text(&text, out);
@@ -134,14 +134,27 @@ fn plain_letter(code: u32) -> Option<u8>
 fn is_mark(code: u32) -> bool
     ensures { result ≡ is_mark code }
 {
-    matches!(code, 0x0300..=0x036F | 0x200B..=0x200D | 0x2060 | 0xFEFF)
+    matches!(
+        code,
+        0x0300..=0x0337
+            | 0x0339..=0x036F
+            | 0x200B..=0x200F
+            | 0x202A..=0x202E
+            | 0x2060..=0x2069
+            | 0x20D0..=0x20FF
+            | 0xFE00..=0xFE0F
+            | 0xFEFF
+    )
 }
 
 /// A blank that isn't U+0020.
 pub(crate) fn is_blank(code: u32) -> bool
     ensures { result ≡ is_blank code }
 {
-    matches!(code, 0x2000..=0x200A | 0x202F)
+    matches!(
+        code,
+        0x85 | 0x2000..=0x200A | 0x2028 | 0x2029 | 0x202F | 0x205F | 0x3000
+    )
 }
 
 /// What a part of a box looks like.
@@ -158,6 +171,7 @@ fn box_like(code: u32) -> Option<u8>
 }
 
 /// Puts what a character beyond ASCII looks like: at most 24 bytes.
+#[tactic(auto, unfolding(crate::specs::Likeness::beyond_like))]
 fn put_beyond(code: u32, out: &mut SliceVec<'_, u8>)
     requires { length out.old.items + 24 ≤ out.old.room }
     ensures items { out.new.items ≡ out.old.items ++ beyond_like code }
@@ -171,7 +185,9 @@ fn put_beyond(code: u32, out: &mut SliceVec<'_, u8>)
         out.extend(b"\\ ");
         return;
     }
-    if let Some(letter) = plain_letter(code) {
+    if matches!(code, 0xFF01..=0xFF5E) {
+        put_ascii((code - 0xFEE0) as u8, out);
+    } else if let Some(letter) = plain_letter(code) {
         out.push(letter);
     } else if let Some(part) = box_like(code) {
         out.push(part);
@@ -200,6 +216,17 @@ fn put_ascii(byte: u8, out: &mut SliceVec<'_, u8>)
     }
 }
 
+/// Puts a character with a stroke through it: at most 25 bytes.
+pub(crate) fn put_struck(code: u32, eight_bit: bool, out: &mut SliceVec<'_, u8>)
+    requires { length out.old.items + 25 ≤ out.old.room }
+    ensures items { out.new.items ≡ out.old.items ++ struck_like eight_bit code }
+    ensures few { length out.new.items ≤ length out.old.items + 25 }
+    ensures room { out.new.room ≡ out.old.room }
+{
+    out.push(b'!');
+    put_likeness(code, eight_bit, out);
+}
+
 /// Puts what a character looks like behind what goes out: at most 24 bytes.
 pub(crate) fn put_likeness(code: u32, eight_bit: bool, out: &mut SliceVec<'_, u8>)
     requires { length out.old.items + 24 ≤ out.old.room }
@@ -209,7 +236,7 @@ pub(crate) fn put_likeness(code: u32, eight_bit: bool, out: &mut SliceVec<'_, u8
 {
     if code < 128 {
         put_ascii(code as u8, out);
-    } else if eight_bit && code < 256 && is_letter(code) {
+    } else if eight_bit && code < 256 && is_latin_letter(code) {
         out.push(code as u8);
     } else {
         put_beyond(code, out);

@@ -5,6 +5,7 @@ ghost use Rattle.nr_preconv.specs.Lines as specs;
 
 use super::beginnings::{Opens, opened, said_name};
 use super::half::{Dots, Half, Line, Seen};
+use super::hyphens::is_letter;
 use super::said::Said;
 use super::words::{Class, Words};
 use nr_units::Name;
@@ -33,7 +34,7 @@ impl Half {
         match byte {
             b'.' | b'\'' => self.control(false, byte),
             b'\n' => self.says(byte, Line::Start),
-            _ => self.says(byte, Line::Text),
+            _ => self.in_text(byte),
         }
     }
 
@@ -48,7 +49,7 @@ impl Half {
                 let line = self.line;
                 self.says(byte, line)
             }
-            _ => self.says(byte, Line::Text),
+            _ => self.in_text(byte),
         }
     }
 
@@ -100,10 +101,12 @@ impl Half {
     {
         self.line = match opens {
             Opens::Rest | Opens::Definition | Opens::End => Line::Request,
+            Opens::Title | Opens::Table | Opens::TableEnd => Line::Request,
             Opens::Ignored if byte == b'\n' && !self.conditional => Line::Ignored(Dots::Other),
             Opens::Ignored => Line::Request,
             Opens::Condition => Line::Condition,
-            Opens::Else => Line::Part,
+            Opens::Else | Opens::Nop => Line::Part,
+            Opens::Stored => Line::Stored,
             Opens::Translation => Line::Translation,
             Opens::Words(fonts) => Line::Words(Words::new(fonts)),
         };
@@ -112,6 +115,12 @@ impl Half {
             Opens::End => false,
             _ => self.defining,
         };
+        match opens {
+            Opens::Title if !self.table => self.manual = true,
+            Opens::Table => self.table = true,
+            Opens::TableEnd => self.table = false,
+            _ => {}
+        }
     }
 
     /// The name has ended before this byte.
@@ -164,7 +173,11 @@ impl Half {
     fn in_words(&mut self, words: Words, byte: u8) -> Seen
         ensures { met self.new result ≡ specs.in_words words byte self.old }
     {
+        if byte == b'-' && self.turns_hyphens() && !words.begins_word() {
+            return self.hyphen(Line::Words(words));
+        }
         if byte != b'\n' {
+            self.goes_by(byte);
             return self.among_words(words, Class::of(byte), Said::Byte(byte));
         }
         if words.is_ninth() {
@@ -204,7 +217,8 @@ impl Half {
             Line::Strings(delimiter, ended) => self.in_strings(delimiter, ended, byte),
             Line::Asked(asked) => self.in_asked(asked, byte),
             Line::Part | Line::Braced => self.at_part(byte),
-            Line::Text | Line::Request | Line::Translation => self.in_rest(byte),
+            Line::Text => self.in_text(byte),
+            Line::Request | Line::Stored | Line::Translation => self.in_rest(byte),
             Line::Comment | Line::Ignored(_) => {
                 self.passes(byte);
                 Seen::taken(Said::Byte(byte))
@@ -217,6 +231,7 @@ impl Half {
         ensures { met self.new result ≡ specs.showing code line self.old }
     {
         let said = self.line.character(code);
+        self.places(is_letter(code));
         self.line = line;
         Seen::taken(said)
     }
@@ -232,7 +247,10 @@ impl Half {
             ),
             Line::Control => self.blanks_said(Line::Request),
             Line::Name => self.named_line(b' '),
-            Line::Words(words) => self.among_words(words, Class::Other, self.line.character(code)),
+            Line::Words(words) => {
+                self.places(is_letter(code));
+                self.among_words(words, Class::Other, self.line.character(code))
+            }
             Line::Asked(asked) => self.in_asked(asked, b'?'),
             line => self.shows(code, line),
         }

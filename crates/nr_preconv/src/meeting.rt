@@ -5,6 +5,7 @@ ghost use Rattle.nr_preconv.specs.Meeting as specs;
 
 use super::half::{Coming, Escape, Half, Line, Seen};
 use super::said::Said;
+use super::words::Class;
 use nr_units::Name;
 
 impl Half {
@@ -37,7 +38,9 @@ impl Half {
     {
         match self.escape {
             Escape::Plain => self.wide_in_line(code),
-            Escape::Skip | Escape::Skipped(_) => Seen::taken(Said::Nothing),
+            Escape::Skip | Escape::Skipped(_) | Escape::Embedded(_) | Escape::Note => {
+                Seen::taken(Said::Nothing)
+            }
             _ => self.abandoned(),
         }
     }
@@ -49,6 +52,26 @@ impl Half {
         match coming {
             Coming::Byte(byte) => self.meet_byte(byte),
             Coming::Wide(code) => self.meet_wide(code),
+        }
+    }
+
+    /// Whether an ASCII character goes out as it is and is taken at once.
+    pub(crate) fn takes_as_is(&self, byte: u8) -> bool
+        ensures { result ≡ specs.is_as_is byte self.now }
+    {
+        if byte >= 127 || byte == b'\\' || !matches!(self.escape, Escape::Plain) {
+            return false;
+        }
+        match self.line {
+            Line::Request => true,
+            Line::Text => !self.turns_hyphens() || byte != b'-',
+            Line::Start => {
+                !matches!(byte, b'.' | b'\'') && (!self.turns_hyphens() || byte != b'-')
+            }
+            Line::Words(words) => {
+                byte != b'\n' && byte != b'-' && words.goes_on_with(Class::of(byte))
+            }
+            _ => false,
         }
     }
 

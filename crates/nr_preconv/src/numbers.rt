@@ -1,9 +1,26 @@
 //! Numbers in the names of characters.
 ghost use Rattle.std.specs.Prelude.{◌≡◌, ◌<◌, ◌≤◌, IfSome};
-ghost use Rattle.nr_preconv.specs.Numbers.{digit, number_from};
+ghost use Rattle.nr_preconv.specs.Numbers.{begins_number, digit, is_number, number_from};
 
 /// The greatest code of a character, and one.
 const CODES: u32 = 0x0011_0000;
+
+/// A byte that a number begins with.
+fn begins_number(byte: u8) -> bool
+    ensures { result ≡ begins_number byte }
+{
+    matches!(byte, b'0'..=b'9' | b'(' | b'+' | b'-' | b'.' | b'|')
+}
+
+/// Whether this begins as a number does.
+pub(crate) fn is_number(text: &[u8]) -> bool
+    ensures { result ≡ is_number text.now }
+{
+    match text {
+        [first, ..] => begins_number(*first),
+        [] => false,
+    }
+}
 
 /// The value of a digit of this base, 10 or 16.
 fn digit(byte: u8, base: u32) -> Option<u32>

@@ -1,9 +1,10 @@
 //! Bytes become characters: UTF-8, and Latin-1 where they are none.
-ghost use Rattle.std.specs.Prelude.{◌≡◌, ◌+◌, ◌*◌, ◌<◌, ◌≤◌, ◌++◌, length};
+ghost use Rattle.std.specs.Prelude.{◌≡◌, ◌+◌, ◌*◌, ◌<◌, ◌≤◌, ◌∷◌, ◌++◌, [], length, true, false};
+ghost use Rattle.nr_preconv.specs.declared.reader.Pending.TheVariants.{Nothing};
 ghost use Rattle.nr_preconv.specs.Reading as specs;
 
 use super::half::{Coming, Half, Line};
-use super::said::say;
+use super::said::{may_go_out, put_sent, say, sent};
 use nr_units::slice_vec::SliceVec;
 
 /// What was read of a character of several bytes.
@@ -160,7 +161,7 @@ impl Reader {
         ensures quick { result ≤ 6 }
         ensures room { out.new.room ≡ out.old.room }
     {
-        if byte < 128 {
+        if byte < 127 {
             return self.hear(Coming::Byte(byte), out);
         }
         if is_lead(byte) {
@@ -249,7 +250,7 @@ impl Reader {
     {
         if self.half.is_raw() {
             self.half.passes(byte);
-            out.push(byte);
+            out.push(sent(self.eight_bit, byte));
             return 1;
         }
         self.hear_byte(byte, out)
@@ -265,40 +266,47 @@ impl Reader {
         ensures room { out.new.room ≡ out.old.room }
     {
         let steps = self.hear_pending(out);
-        out.extend(self.half.kept.as_bytes());
+        put_sent(self.half.kept.as_bytes(), self.eight_bit, out);
         if matches!(self.half.line, Line::Control | Line::Name | Line::Asked(_)) {
-            out.extend(self.half.name.as_bytes());
+            put_sent(self.half.name.as_bytes(), self.eight_bit, out);
         }
         steps
     }
 
-    /// Whether plain bytes go out as they are and change nothing.
-    fn is_ready(&self) -> bool
-        ensures { result ≡ specs.is_ready self.now }
+    /// Takes a byte that goes out as it is in one step, where nothing is half read of a character.
+    fn passes(&mut self, byte: u8) -> bool
+        requires { self.old.pending ≡ Nothing }
+        ensures taken { result ≡ true → specs.read byte self.old ≡ specs.told self.new (byte ∷ []) 1 }
+        ensures left { result ≡ false → self.new ≡ self.old }
+        ensures pending { self.new.pending ≡ Nothing }
     {
-        self.half.is_running() && matches!(self.pending, Pending::Nothing)
+        if self.half.is_raw() {
+            if !may_go_out(self.eight_bit, byte) {
+                return false;
+            }
+            self.half.passes(byte);
+            return true;
+        }
+        if !self.half.takes_as_is(byte) {
+            return false;
+        }
+        let _ = self.half.in_line(byte);
+        true
     }
 
-    /// How many of these bytes come first that go out as they are and change nothing, each in one step.
-    pub(crate) fn plain_front(&self, bytes: &[u8]) -> usize
+    /// Takes those of these bytes that come first and go out as they are, each in one step.
+    pub(crate) fn pass(&mut self, bytes: &[u8]) -> usize
         ensures within { result ≤ length bytes.now }
-        ensures plain { specs.IsPlainFront result bytes.now self.now }
+        ensures plain { specs.Passes result bytes.now self.old self.new }
     {
-        if !self.is_ready() {
+        if !matches!(self.pending, Pending::Nothing) {
             return 0;
         }
         for (i, byte) in bytes.iter().enumerate() {
-            if !is_plain_byte(*byte) {
+            if !self.passes(*byte) {
                 return i;
             }
         }
         bytes.len()
     }
-}
-
-/// A byte of ASCII text that is no backslash.
-fn is_plain_byte(byte: u8) -> bool
-    ensures { result ≡ specs.is_plain_byte byte }
-{
-    matches!(byte, b' '..=b'[' | b']'..=b'~')
 }

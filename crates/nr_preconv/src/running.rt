@@ -73,13 +73,13 @@ fn make_room<W: Sink>(out: &mut SliceVec<'_, u8>, output: &mut W) -> Result<(), 
 
 /// Plain bytes at hand are taken, each in one step, and tells how many.
 fn take_plain<R: Source>(
-    reader: &Reader,
+    reader: &mut Reader,
     input: &mut R,
     out: &mut SliceVec<'_, u8>,
     most: u64,
 ) -> u64
     requires { length out.old.items + 1536 ≤ out.old.room }
-    ensures took { specs.Took (R.supply input.old) (R.supply input.new) reader.now reader.now out.old.items out.new.items result result }
+    ensures took { specs.Took (R.supply input.old) (R.supply input.new) reader.old reader.new out.old.items out.new.items result result }
     ensures few { (result ≤ 1536) × (result ≤ most) }
     ensures grown { length out.new.items ≤ length out.old.items + result }
     ensures failures { R.failures input.new ≡ R.failures input.old }
@@ -87,7 +87,7 @@ fn take_plain<R: Source>(
 {
     let window = input.window();
     let len = window.len().min(MOST).min(most as usize);
-    let count = reader.plain_front(&window[..len]);
+    let count = reader.pass(&window[..len]);
     out.extend(&window[..count]);
     input.skip(count);
     count as u64

@@ -1,8 +1,8 @@
 //! What goes out.
 ghost use Rattle.std.specs.Prelude.{◌≡◌, ◌+◌, ◌≤◌, ◌++◌, length};
-ghost use Rattle.nr_preconv.specs.Saying.{arguments, bytes_of};
+ghost use Rattle.nr_preconv.specs.Saying.{all_sent, arguments, bytes_of, may_go_out, sent, text_of};
 
-use super::likeness::put_likeness;
+use super::likeness::{put_likeness, put_struck};
 use nr_units::Name;
 use nr_units::slice_vec::SliceVec;
 
@@ -15,6 +15,8 @@ pub(crate) enum Said {
     Byte(u8),
     /// What was kept.
     Kept(Name),
+    /// `.ti` and this number, as a line, and the beginning of a text line.
+    Hang(Name),
     /// `\` and this byte.
     Escape(u8),
     /// `\f` and this letter.
@@ -25,6 +27,8 @@ pub(crate) enum Said {
     Comment(bool),
     /// The likeness of a character.
     Character(u32),
+    /// The same, with a stroke through it.
+    Struck(u32),
     /// The nine arguments of a macro, with two backslashes each or one.
     Arguments(bool),
     /// The same between quotes.
@@ -47,10 +51,40 @@ fn arguments(doubled: bool, quoted: bool) -> &'static [u8]
     }
 }
 
-/// Puts what is said behind what goes out: at most 64 bytes.
-pub(crate) fn say(said: Said, eight_bit: bool, out: &mut SliceVec<'_, u8>)
+/// Whether a byte may go out: one of ASCII, and with `eight_bit` one that Latin-1 shows.
+pub(crate) fn may_go_out(eight_bit: bool, byte: u8) -> bool
+    ensures { result ≡ may_go_out eight_bit byte }
+{
+    byte < 127 || (eight_bit && byte >= 160)
+}
+
+/// The byte that goes out for one.
+pub(crate) fn sent(eight_bit: bool, byte: u8) -> u8
+    ensures { result ≡ sent eight_bit byte }
+{
+    if may_go_out(eight_bit, byte) {
+        byte
+    } else {
+        b'?'
+    }
+}
+
+/// Puts these bytes, as they may go out, behind what goes out.
+pub(crate) fn put_sent(text: &[u8], eight_bit: bool, out: &mut SliceVec<'_, u8>)
+    requires { length out.old.items + length text.now ≤ out.old.room }
+    ensures items { out.new.items ≡ out.old.items ++ all_sent eight_bit text.now }
+    ensures few { length out.new.items ≤ length out.old.items + length text.now }
+    ensures room { out.new.room ≡ out.old.room }
+{
+    for byte in text {
+        out.push(sent(eight_bit, *byte));
+    }
+}
+
+/// Puts what is said: at most 64 bytes.
+fn put_said(said: Said, eight_bit: bool, out: &mut SliceVec<'_, u8>)
     requires { length out.old.items + 64 ≤ out.old.room }
-    ensures items { out.new.items ≡ out.old.items ++ bytes_of eight_bit said }
+    ensures items { out.new.items ≡ out.old.items ++ text_of eight_bit said }
     ensures few { length out.new.items ≤ length out.old.items + 64 }
     ensures room { out.new.room ≡ out.old.room }
 {
@@ -58,13 +92,32 @@ pub(crate) fn say(said: Said, eight_bit: bool, out: &mut SliceVec<'_, u8>)
         Said::Nothing => {}
         Said::Byte(byte) => out.push(byte),
         Said::Kept(name) => out.extend(name.as_bytes()),
+        Said::Hang(number) => {
+            out.extend(b".ti ");
+            out.extend(number.as_bytes());
+            out.extend(b"\n\\&");
+        }
         Said::Escape(byte) => out.extend(&[b'\\', byte]),
         Said::Font(letter) => out.extend(&[b'\\', b'f', letter]),
         Said::Quotes => out.extend(b"\"\""),
         Said::Comment(true) => out.extend(b".\\\""),
         Said::Comment(false) => out.extend(b"\\\""),
         Said::Character(code) => put_likeness(code, eight_bit, out),
+        Said::Struck(code) => put_struck(code, eight_bit, out),
         Said::Arguments(doubled) => out.extend(arguments(doubled, false)),
         Said::QuotedArguments(doubled) => out.extend(arguments(doubled, true)),
     }
+}
+
+/// Puts what is said, as it may go out, behind what goes out: at most 64 bytes.
+pub(crate) fn say(said: Said, eight_bit: bool, out: &mut SliceVec<'_, u8>)
+    requires { length out.old.items + 64 ≤ out.old.room }
+    ensures items { out.new.items ≡ out.old.items ++ bytes_of eight_bit said }
+    ensures few { length out.new.items ≤ length out.old.items + 64 }
+    ensures room { out.new.room ≡ out.old.room }
+{
+    let mut bytes = [0; 64];
+    let mut text = SliceVec::over(&mut bytes);
+    put_said(said, eight_bit, &mut text);
+    put_sent(text.as_slice(), eight_bit, out);
 }

@@ -1,7 +1,7 @@
 //! The words of a font macro's line. Behind the eighth all that follows is one word in quotes, since no
 //! more than nine are taken.
 ghost use Rattle.std.specs.Prelude.{◌≡◌};
-ghost use Rattle.nr_preconv.specs.Words.{begun, begins_word, blank_said, class_of, first_words, font_said, is_ninth, met_closing, met_words, quoted_said, told, words_at};
+ghost use Rattle.nr_preconv.specs.Words.{begun, begins_word, blank_said, class_of, first_words, font_said, goes_on_with, is_ninth, met_closing, met_words, quoted_said, told, words_at};
 
 use super::said::Said;
 
@@ -190,6 +190,16 @@ impl Words {
                 self.told(Place::Between, blank, false)
             }
         }
+    }
+
+    /// Whether a character goes out as it is, in a word.
+    pub(crate) fn goes_on_with(self, class: Class) -> bool
+        ensures { result ≡ goes_on_with class self }
+    {
+        matches!(
+            (self.place, class),
+            (Place::Inside | Place::Quoted, Class::Other) | (Place::Quoted, Class::Space)
+        )
     }
 
     /// What a character does that goes out as `said` elsewhere.

@@ -20,6 +20,11 @@ impl<T> Vec<T> {
         Ok(Vec(items))
     }
 
+    /// For how many items there is memory.
+    pub fn capacity(&self) -> usize {
+        self.0.capacity()
+    }
+
     /// So many copies of an item.
     pub fn filled(alloc: Global, item: T, len: usize) -> Result<Self, AllocError>
     where

@@ -1,5 +1,5 @@
 use Rattle.std.proofs.Common.{rules}
 use Rattle.nr_preconv.proofs.likeness.put_likeness.Goals as goal
 
-pub returns-then-is_letter-clause-items : goal.returns-then-is_letter-clause-items
-returns-then-is_letter-clause-items c = search rules
+pub returns-then-is_latin_letter-clause-items : goal.returns-then-is_latin_letter-clause-items
+returns-then-is_latin_letter-clause-items c = search rules

@@ -13,9 +13,10 @@ returns-in-Ok-Some-clause-turns g c =
     let n = c.take_plain-count.result in
     let q = c.take_plain-count.new.out.items in
     let gives = rw c.in-Ok-Some.field-0-is at c.in-Ok-Some.ensures.gives in
-    let byte = Took-byte b d c.in-Ok-Some.byte r c.read-steps.new.self q c.read-steps.new.out.items c.read-steps.result gives
+    let s = c.take_plain-count.new.reader in
+    let byte = Took-byte b d c.in-Ok-Some.byte s c.read-steps.new.self q c.read-steps.new.out.items c.read-steps.result gives
     c.read-steps.ensures.reader c.read-steps.ensures.items c.read-steps.ensures.steps in
-    let both = Took-trans a b d r r c.read-steps.new.self p q c.read-steps.new.out.items n 1 n c.read-steps.result c.take_plain-count.ensures.took byte in
+    let both = Took-trans a b d r s c.read-steps.new.self p q c.read-steps.new.out.items n 1 n c.read-steps.result c.take_plain-count.ensures.took byte in
     let one : n + 1 ≡ 1 = omega arith in
     let all : n + c.read-steps.result ≡ c.read-steps.result = omega arith in
     let P : ℕ → Type 0 = λ k. Took a d r c.read-steps.new.self p c.read-steps.new.out.items k c.read-steps.result in

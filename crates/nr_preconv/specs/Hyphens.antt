@@ -1,0 +1,93 @@
+-- Hyphens of a manual page: a line may be broken behind one only where it stands between two letters (groff(7), `.cflags`).
+-- A text line may hang to the left of its paragraph.
+use Prim.Native.Char.{code}
+use Rattle.std.specs.Prelude.{ℕ, List, [], ◌∷◌, Bool, true, false, not, ◌==◌, ◌&&◌, ◌||◌, nat_le, if◌then◌else◌}
+use Rattle.nr_preconv.specs.declared.said.Said.TheVariants as says
+use Rattle.nr_preconv.specs.declared.half.Half.{Half}
+use Rattle.nr_preconv.specs.declared.half.Line.{Line}
+use Rattle.nr_preconv.specs.declared.half.Line.TheVariants as lines
+use Rattle.nr_preconv.specs.declared.half.Before.{Before}
+use Rattle.nr_preconv.specs.declared.half.Before.TheVariants.{Letter, Other, Argument}
+use Rattle.nr_preconv.specs.declared.half.Escape.TheVariants as escapes
+use Rattle.nr_preconv.specs.Numbers.{is_within}
+use Rattle.nr_preconv.specs.Likeness.{is_latin_letter}
+use Rattle.nr_preconv.specs.Half.{Met, taken, left, without_escape, abandoned}
+
+-- ---- letters
+
+abbrev pub is_ascii_letter : ℕ → Bool
+is_ascii_letter b = is_within (code "A") (code "Z") b || is_within (code "a") (code "z") b
+
+-- beyond Latin-1 by the blocks of characters: those up to U+1FFF and from U+2C00 on are scripts
+abbrev pub is_letter : ℕ → Bool
+is_letter c = is_ascii_letter c || is_within 256 8191 c || nat_le 11264 c || is_latin_letter c
+
+-- ---- what stands before the next character
+
+abbrev pub followed : Bool → Before → Before
+followed letter Argument = Argument
+followed true before = Letter
+followed false before = Other
+
+-- a character is read, a letter or not
+abbrev pub placed : Bool → Half → Half
+placed letter h = if h.manual then record h { before = followed letter h.before } else h
+
+abbrev pub gone_by : ℕ → Half → Half
+gone_by b h = if b == code "\n" then record h { before = Other } else placed (is_ascii_letter b) h
+
+-- Behind an escape with a number or a text hyphens may stand in its argument: up to the end of the line they stay as they are.
+abbrev pub leaving_hyphens : Half → Half
+leaving_hyphens h = if h.manual then record h { before = Argument } else h
+
+-- ---- hyphens
+
+-- they are read behind a title, and in no table
+abbrev pub turns_hyphens : Half → Bool
+turns_hyphens h = h.manual && not h.table
+
+-- behind a letter what comes decides; else it goes out as `\-`, behind which no line is broken
+abbrev pub hyphen_by : Before → Half → Met
+hyphen_by Letter h = taken says.Nothing (record h { before = Other; escape = escapes.Hyphen; kept = code "-" ∷ [] })
+hyphen_by Other h = taken (says.Escape (code "-")) h
+hyphen_by Argument h = taken (says.Byte (code "-")) h
+
+abbrev pub hyphen : Line → Half → Met
+hyphen line h = hyphen_by h.before (record h { line = line })
+
+-- between letters it stays, and so does one before an escape, which may be that of a font
+abbrev pub behind_hyphen : ℕ → Half → Met
+behind_hyphen b h =
+    if is_ascii_letter b || (b == code "\\") then abandoned h else left (says.Escape (code "-")) (without_escape h)
+
+-- ---- text lines
+
+abbrev pub saying : ℕ → Line → Half → Met
+saying b line h = taken (says.Byte b) (record (gone_by b h) { line = line })
+
+abbrev pub in_text : ℕ → Half → Met
+in_text b h =
+    if b == code "\n" then saying b lines.Start h else
+    if turns_hyphens h && (b == code "-") then hyphen lines.Text h else saying b lines.Text h
+
+-- ---- a text line that hangs
+
+abbrev pub is_digit : ℕ → Bool
+is_digit b = is_within (code "0") (code "9") b
+
+-- so many cells to the left, by one digit or two
+abbrev pub is_hang : List ℕ → Bool
+is_hang [] = false
+is_hang (sign ∷ []) = false
+is_hang (sign ∷ digit ∷ []) = (sign == code "-") && is_digit digit
+is_hang (sign ∷ tens ∷ ones ∷ []) = (sign == code "-") && is_digit tens && is_digit ones
+is_hang (sign ∷ tens ∷ ones ∷ more ∷ rest) = false
+
+-- only a line that begins in no condition, or behind its `\{`, may become two
+abbrev pub begins_line : Line → Bool
+begins_line lines.Start = true
+begins_line lines.Braced = true
+begins_line line = false
+
+abbrev pub may_hang : Half → Bool
+may_hang h = turns_hyphens h && begins_line h.line

@@ -1,0 +1,139 @@
+//! Hyphens of a manual page: a line may be broken behind one only where it stands between two letters.
+ghost use Rattle.std.specs.Prelude.{◌≡◌};
+ghost use Rattle.nr_preconv.specs.Half.{met};
+ghost use Rattle.nr_preconv.specs.Hyphens as specs;
+
+use super::half::{Before, Escape, Half, Line, Seen};
+use super::likeness::is_latin_letter;
+use super::said::Said;
+use nr_units::Name;
+
+/// A letter of ASCII.
+fn is_ascii_letter(byte: u8) -> bool
+    ensures { result ≡ specs.is_ascii_letter byte }
+{
+    matches!(byte, b'A'..=b'Z' | b'a'..=b'z')
+}
+
+/// A letter: beyond Latin-1 that is by the blocks of characters.
+pub(crate) fn is_letter(code: u32) -> bool
+    ensures { result ≡ specs.is_letter code }
+{
+    matches!(code, 0x41..=0x5A | 0x61..=0x7A | 0x0100..=0x1FFF | 0x2C00..) || is_latin_letter(code)
+}
+
+fn is_digit(byte: u8) -> bool
+    ensures { result ≡ specs.is_digit byte }
+{
+    matches!(byte, b'0'..=b'9')
+}
+
+/// Whether this is so many cells to the left, by one digit or two.
+pub(crate) fn is_hang(number: &[u8]) -> bool
+    ensures { result ≡ specs.is_hang number.now }
+{
+    match number {
+        [sign, digit] => *sign == b'-' && is_digit(*digit),
+        [sign, tens, ones] => *sign == b'-' && is_digit(*tens) && is_digit(*ones),
+        _ => false,
+    }
+}
+
+impl Before {
+    /// What stands there behind one more character, a letter or not.
+    fn followed(self, letter: bool) -> Before
+        ensures { result ≡ specs.followed letter self }
+    {
+        match self {
+            Before::Argument => Before::Argument,
+            _ if letter => Before::Letter,
+            _ => Before::Other,
+        }
+    }
+}
+
+impl Half {
+    /// A character is read, a letter or not.
+    pub(crate) fn places(&mut self, letter: bool)
+        ensures { self.new ≡ specs.placed letter self.old }
+    {
+        if self.manual {
+            self.before = self.before.followed(letter);
+        }
+    }
+
+    /// A byte is read.
+    pub(crate) fn goes_by(&mut self, byte: u8)
+        ensures { self.new ≡ specs.gone_by byte self.old }
+    {
+        if byte == b'\n' {
+            self.before = Before::Other;
+        } else {
+            self.places(is_ascii_letter(byte));
+        }
+    }
+
+    /// The hyphens of this line are left as they are from here on.
+    pub(crate) fn leaves_hyphens(&mut self)
+        ensures { self.new ≡ specs.leaving_hyphens self.old }
+    {
+        if self.manual {
+            self.before = Before::Argument;
+        }
+    }
+
+    /// Whether hyphens are read: behind a title, and in no table.
+    pub(crate) fn turns_hyphens(&self) -> bool
+        ensures { result ≡ specs.turns_hyphens self.now }
+    {
+        self.manual && !self.table
+    }
+
+    /// A hyphen in a line.
+    pub(crate) fn hyphen(&mut self, line: Line) -> Seen
+        ensures { met self.new result ≡ specs.hyphen line self.old }
+    {
+        self.line = line;
+        match self.before {
+            Before::Letter => {
+                self.before = Before::Other;
+                self.escape = Escape::Hyphen;
+                self.kept = Name::of(b"-");
+                Seen::taken(Said::Nothing)
+            }
+            Before::Other => Seen::taken(Said::Escape(b'-')),
+            Before::Argument => Seen::taken(Said::Byte(b'-')),
+        }
+    }
+
+    /// A byte behind a letter and a hyphen. Behind an escape, which may be that of a font, it stays as well.
+    pub(crate) fn behind_hyphen(&mut self, byte: u8) -> Seen
+        ensures { met self.new result ≡ specs.behind_hyphen byte self.old }
+    {
+        if is_ascii_letter(byte) || byte == b'\\' {
+            return self.abandoned();
+        }
+        self.forget();
+        Seen::left(Said::Escape(b'-'))
+    }
+
+    /// A byte goes out as it is, and the line goes on so.
+    pub(crate) fn says(&mut self, byte: u8, line: Line) -> Seen
+        ensures { met self.new result ≡ specs.saying byte line self.old }
+    {
+        self.goes_by(byte);
+        self.line = line;
+        Seen::taken(Said::Byte(byte))
+    }
+
+    /// A byte of a text line.
+    pub(crate) fn in_text(&mut self, byte: u8) -> Seen
+        ensures { met self.new result ≡ specs.in_text byte self.old }
+    {
+        match byte {
+            b'\n' => self.says(byte, Line::Start),
+            b'-' if self.turns_hyphens() => self.hyphen(Line::Text),
+            _ => self.says(byte, Line::Text),
+        }
+    }
+}
