@@ -31,8 +31,8 @@
 .\"   )room kept for them, )noted height of the set ones of this page, )later of the next
 .\"   )italics 1 while text is in italics, )centred 1 while lines are centred
 .\"   )row 1 while a line is kept aside for the page's end, )rows its height
-.\"   )in-table 1 in a table, whose paragraphs leave its lines as they are, )head height of
-.\"   its head   )level of a heading, )style and )sn 1 for numbers without a point
+.\"   )in-table 1 in a table, )flat 1 where a paragraph of it is in no block, )head height
+.\"   of its head   )level of a heading, )style and )sn 1 for numbers without a point
 .\" Private texts: )title )abstract-text, )kept-text, )keepN, )raw-notes, )notes, )notes-later, )notes-over,
 .\"   )line (kept aside), )contents, )head-text, )oh )eh )of )ef titles
 .cp 0
@@ -466,7 +466,14 @@
 .br
 .ft R
 .nr )italics 0
-.if !\\n[)in-table] .)reset-lines
+.ie \\n[)in-table] .)reset-block
+.el .)reset-lines
+..
+.\" in a table: in a text block its indent, which counts from there, else nothing
+.de )reset-block
+.nr )flat 0
+.ie '\\n(.z'\\*[)table-in]' .nr )flat 1
+.el .in \\n[)pleft]u
 ..
 .de )reset-lines
 .if \\n[)cover]<2 .)before-text
@@ -524,7 +531,7 @@
 ..
 .de XP
 .)start \\n(PI 0
-.if !\\n[)in-table] .ti -\\n(PIu
+.if !\\n[)flat] .ti -\\n(PIu
 ..
 .\" paragraph with a tag, whose blanks stay as they are
 .de IP
@@ -532,7 +539,7 @@
 .if \\n(.$>1 .nr )width \\$2n
 .)start \\n[)width] 0
 .nr )w \w\a\\$1\a
-.ie \\n[)in-table] \&\\$1\ \c
+.ie \\n[)flat] \&\\$1\ \c
 .el .if \\n()w .)tag "\\$1"
 ..
 .de )tag
@@ -1271,6 +1278,7 @@ Piscataway, New Jersey 08854
 .el \!.)box-bars \\$1 \\$2 \\$3
 ..
 .de )draw-bars
+.if !\\n(nl 'sp
 .if \\$3 .if \\n(.t>(\\$3+40) \{\
 .nr )i \\n(.i
 .nr )o \\n(.u
@@ -1300,6 +1308,7 @@ Piscataway, New Jersey 08854
 .nr )t-fill \\n(.u
 .sp \\n(DDu
 .nr )in-table 1
+.ds )table-in \\n(.z
 .nf
 .if '\\$1'H' .)begin-head
 ..
@@ -1336,6 +1345,7 @@ Piscataway, New Jersey 08854
 .TH
 .br
 .nr )in-table 0
+.nr )flat 0
 .nr )head 0
 .if \\n[)t-fill] .fi
 .if \\n(.d .sp \\n(DDu
