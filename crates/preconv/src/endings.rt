@@ -8,8 +8,12 @@ use nr_units::source::Fault;
 /// How the program ended.
 #[derive(Clone, Copy)]
 pub enum Ending<'a> {
-    /// The run came to this.
-    Ran(Outcome),
+    /// All files were turned.
+    Done,
+    /// The run over this file came to that, which is not the end of it.
+    Stopped(&'a str, Outcome),
+    /// The output failed at its end.
+    WriteFault,
     /// A word that is no option.
     BadWord(&'a str),
     /// A file that can't be opened.
@@ -21,11 +25,11 @@ pub enum Ending<'a> {
 /// The status that tells an ending.
 fn status(ending: Ending<'_>) -> u8 {
     match ending {
-        Ending::Ran(Outcome::Done) => 0,
-        Ending::Ran(Outcome::TooLong) => 1,
+        Ending::Done | Ending::Stopped(_, Outcome::Done) => 0,
+        Ending::Stopped(_, Outcome::TooLong) => 1,
         Ending::BadWord(_) => 2,
-        Ending::Ran(Outcome::ReadFault { .. }) | Ending::CannotOpen(_) => 3,
-        Ending::Ran(Outcome::WriteFault) => 4,
+        Ending::Stopped(_, Outcome::ReadFault { .. }) | Ending::CannotOpen(_) => 3,
+        Ending::Stopped(_, Outcome::WriteFault) | Ending::WriteFault => 4,
         Ending::OutOfMemory => 5,
     }
 }
@@ -37,16 +41,28 @@ fn put_line<W: Sink>(text: &[u8], word: &str, errors: &mut W) -> Result<(), Faul
     errors.put(b"\n")
 }
 
+/// Writes the line of a file, up to its message.
+fn put_name<W: Sink>(name: &str, errors: &mut W) -> Result<(), Fault> {
+    errors.put(b"preconv: ")?;
+    errors.put(name.as_bytes())
+}
+
 /// Writes the line that tells an ending, and nothing where all is done.
 fn put_ending<W: Sink>(ending: Ending<'_>, errors: &mut W) -> Result<(), Fault> {
     match ending {
-        Ending::Ran(Outcome::Done) => Ok(()),
-        Ending::Ran(Outcome::TooLong) => errors.put(b"preconv: input too long\n"),
-        Ending::Ran(Outcome::ReadFault { at }) => {
-            let mut digits = Buffer::new();
-            put_line(b"preconv: read fault at byte ", digits.format(at), errors)
+        Ending::Done | Ending::Stopped(_, Outcome::Done) => Ok(()),
+        Ending::Stopped(name, Outcome::TooLong) => {
+            put_name(name, errors)?;
+            errors.put(b": input too long\n")
         }
-        Ending::Ran(Outcome::WriteFault) => errors.put(b"preconv: write fault\n"),
+        Ending::Stopped(name, Outcome::ReadFault { at }) => {
+            let mut digits = Buffer::new();
+            put_name(name, errors)?;
+            put_line(b": read fault at byte ", digits.format(at), errors)
+        }
+        Ending::Stopped(_, Outcome::WriteFault) | Ending::WriteFault => errors.put(
+            b"preconv: write fault\n",
+        ),
         Ending::BadWord(word) => put_line(b"preconv: unknown option ", word, errors),
         Ending::CannotOpen(name) => put_line(b"preconv: cannot open ", name, errors),
         Ending::OutOfMemory => errors.put(b"preconv: out of memory\n"),

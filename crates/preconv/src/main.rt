@@ -1,9 +1,10 @@
 //! The program preconv: it turns what manual pages use into the language of nroff, to standard output.
 //!
-//! It stands on nr_preconv, nr_units and nr_command_line. To read: `words`, `endings`, `program`.
+//! It stands on nr_preconv, nr_units and nr_command_line. To read: `words`, `endings`, `lines`, `program`.
 #![tactic(auto)]
 
 mod endings;
+mod lines;
 mod program;
 mod words;
 

@@ -2,6 +2,7 @@
 ghost use Rattle.std.specs.Prelude.{◌≤◌, length};
 
 use super::endings::{Ending, tell};
+use super::lines::Lines;
 use super::words::read_words;
 use nr_command_line::{SystemWords, words_of};
 use nr_preconv::{Outcome, convert};
@@ -71,7 +72,7 @@ fn run_words<'a, R: Files, I: Read + Copy + Drop, W: Sink>(
     let Ok(mut pending) = vec![in alloc; 0u8; BUFFER_SIZE] else {
         return Ending::OutOfMemory;
     };
-    let outcome = run_texts(
+    let ending = run_texts(
         job.eight_bit,
         texts,
         standard,
@@ -80,24 +81,34 @@ fn run_words<'a, R: Files, I: Read + Copy + Drop, W: Sink>(
         &mut pending,
     );
     match output.flush() {
-        Ok(()) => Ending::Ran(outcome),
-        Err(_) => Ending::Ran(Outcome::WriteFault),
+        Ok(()) => ending,
+        Err(_) => Ending::WriteFault,
     }
 }
 
-/// The files of these names. Standard input stands as none: it is read where a name is `-`, and where
-/// there is no name.
+/// A file that was opened, or standard input, by its name.
+#[derive(Drop)]
+struct Text<'a, F> {
+    name: &'a str,
+    file: Option<F>,
+}
+
+/// The files of these names. Standard input is read where a name is `-`, and where there is no name.
 fn open_all<'a, R: Files>(
     system: &R,
     alloc: Global,
     names: &[&'a str],
-) -> Result<Vec<Option<R::File>>, Ending<'a>> {
+) -> Result<Vec<Text<'a, R::File>>, Ending<'a>> {
     let mut texts = Vec::new(alloc);
-    if names.is_empty() && texts.push(None).is_err() {
+    let standard = Text {
+        name: "-",
+        file: None,
+    };
+    if names.is_empty() && texts.push(standard).is_err() {
         return Err(Ending::OutOfMemory);
     }
     for name in names {
-        let text = if name.as_bytes() == b"-".as_slice() {
+        let file = if name.as_bytes() == b"-".as_slice() {
             None
         } else {
             match fs::open(system, name) {
@@ -105,14 +116,14 @@ fn open_all<'a, R: Files>(
                 Err(_) => return Err(Ending::CannotOpen(name)),
             }
         };
-        if texts.push(text).is_err() {
+        if texts.push(Text { name, file }).is_err() {
             return Err(Ending::OutOfMemory);
         }
     }
     Ok(texts)
 }
 
-/// Turns one text.
+/// Turns one text. What comes of it ends with a newline, if it is not empty.
 fn run_text<T: Read + Drop, W: Sink>(
     eight_bit: bool,
     text: T,
@@ -123,29 +134,35 @@ fn run_text<T: Read + Drop, W: Sink>(
     requires { 1536 ≤ length pending.old }
 {
     let mut source = Buffered::over(text, input);
+    let mut lines = Lines::over(output);
     let mut steps = 0;
-    convert(&mut source, output, eight_bit, pending, &mut steps)
+    let outcome = convert(&mut source, &mut lines, eight_bit, pending, &mut steps);
+    if matches!(outcome, Outcome::Done) && lines.end_line().is_err() {
+        return Outcome::WriteFault;
+    }
+    outcome
 }
 
 /// Turns the texts one after the other, each by itself, up to the first fault.
-fn run_texts<F: Read + Drop, I: Read + Copy + Drop, W: Sink>(
+fn run_texts<'a, F: Read + Drop, I: Read + Copy + Drop, W: Sink>(
     eight_bit: bool,
-    texts: Vec<Option<F>>,
+    texts: Vec<Text<'a, F>>,
     standard: I,
     output: &mut W,
     input: &mut [u8],
     pending: &mut [u8],
-) -> Outcome
+) -> Ending<'a>
     requires { 1536 ≤ length pending.old }
 {
     for text in texts {
-        let outcome = match text {
+        let Text { name, file } = text;
+        let outcome = match file {
             Some(file) => run_text(eight_bit, file, output, input, pending),
             None => run_text(eight_bit, standard, output, input, pending),
         };
         if !matches!(outcome, Outcome::Done) {
-            return outcome;
+            return Ending::Stopped(name, outcome);
         }
     }
-    Outcome::Done
+    Ending::Done
 }

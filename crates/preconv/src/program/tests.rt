@@ -27,13 +27,13 @@ static TEXTS: [(&str, Page<'static>); 7] = [
 static ROWS: [Row; 15] = [
     Row {
         words: &[b"preconv"],
-        output: b"cafe",
+        output: b"cafe\n",
         status: 0,
         line: b"",
     },
     Row {
         words: &[b"preconv", b"-8"],
-        output: b"caf\xe9",
+        output: b"caf\xe9\n",
         status: 0,
         line: b"",
     },
@@ -46,7 +46,7 @@ static ROWS: [Row; 15] = [
     // Standard input stands where it is named, and ends once.
     Row {
         words: &[b"preconv", b"quotes", b"-", b"latin", b"-"],
-        output: b"\\(dqa\\(dq \\(em \\fIb\\fP\ncafenaive e\n",
+        output: b"\\(dqa\\(dq \\(em \\fIb\\fP\ncafe\nnaive e\n",
         status: 0,
         line: b"",
     },
@@ -57,10 +57,10 @@ static ROWS: [Row; 15] = [
         status: 0,
         line: b"",
     },
-    // Each file is turned by itself.
+    // Each file is turned by itself, and ends with a newline.
     Row {
         words: &[b"preconv", b"half", b"other", b"half"],
-        output: b"\\(lq\n.tr x\\(l",
+        output: b"\\(l\nq\n.tr x\n\\(l\n",
         status: 0,
         line: b"",
     },
@@ -107,20 +107,20 @@ static ROWS: [Row; 15] = [
         words: &[b"preconv", b"folder", b"latin"],
         output: b"",
         status: 3,
-        line: b"preconv: read fault at byte 0\n",
+        line: b"preconv: folder: read fault at byte 0\n",
     },
     // What came before the fault is out, but for what is half read; bytes are those of the file.
     Row {
         words: &[b"preconv", b"latin", b"cut", b"latin"],
         output: b"naive e\na\\ b\n.BR c",
         status: 3,
-        line: b"preconv: read fault at byte 13\n",
+        line: b"preconv: cut: read fault at byte 13\n",
     },
     Row {
         words: &[b"preconv", b"-8", b"cut"],
         output: b"a\\ b\n.BR c",
         status: 3,
-        line: b"preconv: read fault at byte 13\n",
+        line: b"preconv: cut: read fault at byte 13\n",
     },
 ];
 
@@ -172,6 +172,7 @@ fn turns_a_long_line(rt: HostRuntime) -> Result<(), std::alloc::AllocError> {
         page.extend_from_slice(b"ab \xe2\x86\x92 ")?;
         turned.extend_from_slice(b"ab -> ")?;
     }
+    turned.push(b'\n')?;
     let mut output = Vec::new(rt.alloc());
     let mut line = Vec::new(rt.alloc());
     let system = System {
