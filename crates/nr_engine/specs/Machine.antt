@@ -9,6 +9,8 @@ use Rattle.nr_store.specs.declared.request.Request.{Request}
 use Rattle.nr_store.specs.declared.request.Request.TheVariants as requests
 use Rattle.nr_reading.specs.declared.event.Event.{Event}
 use Rattle.nr_reading.specs.declared.event.Event.TheVariants as events
+use Rattle.nr_reading.specs.Setting.{not_continued}
+use Rattle.nr_input.specs.Acting.{on_half}
 use Rattle.nr_input.specs.Coming.{emptied}
 use Rattle.nr_input.specs.Moving.{Situation, Move, situation, move as input_move}
 use Rattle.nr_input.specs.declared.told.Told.{Told}
@@ -121,11 +123,19 @@ abbrev pub flow : After → Bool → State → State
 flow after breaks s = put_or (flow_line after breaks s.formatter) (flow_done after) s
 
 -- the word ends, the first page begins, and all that is collected goes out
-abbrev pub break_out : Then → State → State
-break_out t s =
+abbrev pub break_part : Then → State → State
+break_part t s =
     if not (is_none (collected s.formatter).word) then plainly break_word_end s
     else (if begins_first_page t s.formatter then begin_page s
     else put_or (break_line s.formatter) (break_done t) s)
+
+-- what `\c` continues ends
+abbrev pub continues_none : Formatter → Formatter
+continues_none f = record f { reader = on_half not_continued f.reader }
+
+-- A break ends what `\c` continues, and so what a trap's macro leaves to be continued while it is under way.
+abbrev pub break_out : Then → State → State
+break_out t s = break_part t (plainly continues_none s)
 
 -- ---- titles, diverted lines and space
 

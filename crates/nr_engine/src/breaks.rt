@@ -3,7 +3,7 @@ ghost use Rattle.std.specs.Prelude.{◌≡◌, is_none, false};
 ghost use Rattle.nr_formatter.specs.Access.{collected};
 ghost use Rattle.nr_formatter.specs.Lines.{break_word_end};
 ghost use Rattle.nr_engine.specs.State.{plainly};
-ghost use Rattle.nr_engine.specs.Machine.{break_out};
+ghost use Rattle.nr_engine.specs.Machine.{break_part, break_out};
 ghost use Rattle.nr_units.specs.Failures.{put_counted_if};
 ghost use Rattle.nr_formatter.specs.declared.tasks.Task.TheVariants as tasks;
 ghost use Rattle.nr_engine.specs.Answer.{fails_writing};
@@ -29,9 +29,9 @@ impl Engine {
     }
 
     /// The word ends, the first page begins, and all that is collected goes out.
-    pub(crate) fn break_out<W: Sink>(&mut self, then: Then, output: &mut W) -> Result<(), Stop>
+    fn break_part<W: Sink>(&mut self, then: Then, output: &mut W) -> Result<(), Stop>
         requires { IsUnderWay (tasks.Break then) self.old.formatter }
-        ensures works { Works (break_out then) (shape self.old) (shape self.new) (W.held output.old) (W.held output.new) result }
+        ensures works { Works (break_part then) (shape self.old) (shape self.new) (W.held output.old) (W.held output.new) result }
         ensures limits { limits_of (shape self.new) ≡ limits_of (shape self.old) }
         ensures failures { W.failures output.new ≡ put_counted_if (fails_writing result) (W.failures output.old) }
     {
@@ -49,5 +49,16 @@ impl Engine {
                 Ok(())
             }
         }
+    }
+
+    /// What `\c` continues ends, and the break goes on.
+    pub(crate) fn break_out<W: Sink>(&mut self, then: Then, output: &mut W) -> Result<(), Stop>
+        requires { IsUnderWay (tasks.Break then) self.old.formatter }
+        ensures works { Works (break_out then) (shape self.old) (shape self.new) (W.held output.old) (W.held output.new) result }
+        ensures limits { limits_of (shape self.new) ≡ limits_of (shape self.old) }
+        ensures failures { W.failures output.new ≡ put_counted_if (fails_writing result) (W.failures output.old) }
+    {
+        self.formatter.reader.end_continuing();
+        self.break_part(then, output)
     }
 }

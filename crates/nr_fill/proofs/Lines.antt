@@ -439,6 +439,11 @@ is_nil_left n pieces ps h low =
     is_nil-length [] = refl
     is_nil-length (q ∷ qs) = sym (ne_eqb (suc (length qs)) 0 (omega arith))
 
+-- a word is being read where there is a state of one
+pub is_none_word : (word : Option WordState) (ps : List Piece) (cells : List Cell) → is_none (word_of word ps cells) ≡ is_none word
+is_none_word None ps cells = refl
+is_none_word (Some w) ps cells = refl
+
 -- the pieces behind the first ones
 pub pieces_behind : (n pieces : ℕ) (ps : List Piece) → n ≤ pieces
     → (take (pieces - n) (drop n ps) ≡ drop n (take pieces ps)) × (drop (pieces - n) (drop n ps) ≡ drop pieces ps)

@@ -8,7 +8,7 @@ use Rattle.nr_settings.specs.declared.filling.Align.{Align}
 use Rattle.nr_settings.specs.declared.filling.Align.TheVariants.{Left, Spread, Right, Centre}
 use Rattle.nr_fill.specs.declared.setting.Extra.{Extra}
 use Rattle.nr_fill.specs.declared.setting.Setting.{Setting}
-use Rattle.nr_fill.specs.Pieces.{Collected, is_nil}
+use Rattle.nr_fill.specs.Pieces.{Collected, begins_line}
 use Rattle.nr_fill.specs.Cut.{front_width, hyphen_before, cut}
 use Rattle.nr_fill.specs.Spreading.{gaps, no_extra, shared, other_turn, cells_in_line}
 
@@ -59,13 +59,14 @@ set_line s c n = trimmed (line_row s c n)
 abbrev pub set_width : Setting → Collected → ℕ → ℕ
 set_width s c n = length (trimmed (text_of s.align c n))
 
--- What is left behind the first n pieces. A line that begins with what is left takes its margins now, and the turn changes behind a line that was spread.
+-- What is left behind the first n pieces. A line that begins with what is left, if only with the word that is being read, takes its margins
+-- now, and the turn changes behind a line that was spread.
 abbrev pub without_front : ℕ → Bool → Margins → Collected → Collected
 without_front n spread margins c =
     let rest = drop n c.pieces in
     record c {
       pieces = rest;
-      margins = if is_nil rest then c.margins else margins;
+      margins = if begins_line (record c { pieces = rest }) then c.margins else margins;
       turn = if spread then other_turn c.turn else c.turn;
     }
 

@@ -1,5 +1,5 @@
 //! What a line takes of the settings when it begins. (CSTR 54, sections 4 and 6.)
-ghost use Rattle.std.specs.Prelude.{◌≡◌, ◌==◌, if◌then◌else◌};
+ghost use Rattle.std.specs.Prelude.{◌≡◌, ◌==◌, ◌&&◌, if◌then◌else◌};
 ghost use Rattle.nr_fill.specs.Spreading.{other_turn};
 
 pub use nr_settings::Margins;
@@ -11,11 +11,17 @@ pub enum Turn {
     Right,
 }
 
-/// The margins where so many pieces are left behind a line with these: `next` where something is left.
-pub(crate) fn margins_behind(margins: Margins, left: usize, next: Margins) -> Margins
-    ensures { result ≡ (if left == 0 then margins else next) }
+/// The margins behind a line with these, where so many pieces are left, and no word is being read where `wordless`:
+/// `next` where something is left, with which a line begins.
+pub(crate) fn margins_behind(
+    margins: Margins,
+    left: usize,
+    wordless: bool,
+    next: Margins,
+) -> Margins
+    ensures { result ≡ (if left == 0 && wordless then margins else next) }
 {
-    if left == 0 { margins } else { next }
+    if left == 0 && wordless { margins } else { next }
 }
 
 impl Turn {

@@ -68,16 +68,15 @@ impl Line {
     }
 
     /// Sets all pieces as one line in a row, behind what stands there, as in no-fill mode and where lines are centred.
-    /// Tells how wide the text is, in cells, without the blanks at its end; the row keeps them. A word that is being
-    /// read stays.
-    pub fn take_all<S: CellSink>(&mut self, setting: Setting, out: &mut S) -> usize
+    /// A word that is being read stays, and takes the margins `next`. Tells how wide the text is, in cells, without the
+    /// blanks at its end; the row keeps them.
+    pub fn take_all<S: CellSink>(&mut self, next: Margins, setting: Setting, out: &mut S) -> usize
         requires pieces { 0 < length self.old.collected.pieces }
         ensures out { S.Adds out.old (line_row setting self.old.collected (length self.old.collected.pieces)) out.new }
         ensures width { result ≡ set_width setting self.old.collected (length self.old.collected.pieces) }
         ensures small { result < 2 ^ 48 }
-        ensures rest { self.new ≡ record self.old { collected = behind self.old.collected.margins setting.align self.old.collected (length self.old.collected.pieces) } }
+        ensures rest { self.new ≡ record self.old { collected = behind next setting.align self.old.collected (length self.old.collected.pieces) } }
     {
-        let next = self.margins;
         self.take_front(self.pieces, next, setting, out)
     }
 
@@ -198,6 +197,6 @@ impl Line {
         self.pieces -= n;
         self.wide -= plan.wide;
         self.turn = self.turn.behind(plan.spread);
-        self.margins = margins_behind(self.margins, self.pieces, next);
+        self.margins = margins_behind(self.margins, self.pieces, self.word.is_none(), next);
     }
 }

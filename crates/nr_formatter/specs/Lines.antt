@@ -2,7 +2,7 @@
 use Rattle.std.specs.Prelude.{ℕ, ◌*◌, ◌-◌, Bool, true, false, not, ◌&&◌, ◌==◌, nat_le, if◌then◌else◌, List, length, take, Option, None, Some, is_none, min}
 use Rattle.std.specs.List.{fold}
 use Rattle.nr_units.specs.declared.cell.Cell.{Cell}
-use Rattle.nr_fill.specs.Pieces.{Collected, is_nil, cells_of_word, end_word, hyphenated, joined, may_hyphenate, reads_field, word_or_new}
+use Rattle.nr_fill.specs.Pieces.{Collected, is_nil, begins_line, cells_of_word, end_word, hyphenated, joined, may_hyphenate, reads_field, word_or_new}
 use Rattle.nr_fill.specs.Tabs.{with_field_filled}
 use Rattle.nr_fill.specs.Cut.{fits}
 use Rattle.nr_fill.specs.Setting.{behind, cut_of, line_row, set_width}
@@ -127,10 +127,10 @@ rest_of going s c = behind (margins_of s) going.align c (pieces_going going c)
 abbrev pub rest_behind : Going → Formatter → Collected
 rest_behind going f = rest_of going f.settings.indents (collected f)
 
--- a line went out: where something is left a `.ti` is used up
+-- a line went out: where something is left, if only an open word, a `.ti` is used up
 abbrev pub settings_behind : Going → Collected → Settings → Settings
 settings_behind going c s = record s {
-  indents = if is_nil (rest_of going s.indents c).pieces then s.indents else behind_line_begun s.indents;
+  indents = if begins_line (rest_of going s.indents c) then s.indents else behind_line_begun s.indents;
   text_width = min (24 * width_going going c) greatest;
 }
 

@@ -61,12 +61,13 @@ pub(crate) fn set_going<S: CellSink>(
         align: going.align,
         offset,
     };
+    let next = settings.indents.margins();
     let width = if going.whole {
-        line.take_all(setting, out)
+        line.take_all(next, setting, out)
     } else {
-        line.take_line(settings.indents.margins(), setting, out)
+        line.take_line(next, setting, out)
     };
-    if line.has_pieces() {
+    if !line.is_empty() {
         let _ = settings.indents.take_margins();
     }
     settings.text_width = (24 * width as u64).min(GREATEST) as u32;

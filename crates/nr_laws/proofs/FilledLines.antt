@@ -1,5 +1,5 @@
 -- Lines that are cut from the front of all pieces are those that are cut from all.
-use Rattle.std.specs.Prelude.{nat_le, sum_by, max, replicate}
+use Rattle.std.specs.Prelude.{◌&&◌, nat_le, sum_by, max, replicate}
 use Rattle.std.proofs.lemmas.Bool.{leb-false}
 use Rattle.std.proofs.lemmas.Bool.Decides.{nat_tests}
 use Rattle.std.proofs.lemmas.List.{take-append-le, take_all}
@@ -124,7 +124,7 @@ rows-next turn (p ∷ ps) some =
     let side = (behind first_margins align c n).turn in
     let fewer : length rest ≤ length ps = omega (arith, length-drop n (p ∷ ps)) in
     let count : length ps ≡ length rest + (length ps - length rest) = omega arith in
-    ap (λ (m : Margins). set_line (record { align = align; offset = 0 }) c n ∷ rows_from (length ps) (record nothing_collected { pieces = rest; margins = m; turn = side })) (same_if (is_nil rest) first_margins)
+    ap (λ (m : Margins). set_line (record { align = align; offset = 0 }) c n ∷ rows_from (length ps) (record nothing_collected { pieces = rest; margins = m; turn = side })) (same_if (is_nil rest && true) first_margins)
     ∙ ap (λ k. set_line (record { align = align; offset = 0 }) c n ∷ rows_from k (pieces_at side rest)) count
     ∙ ap (λ (rows : List (List Cell)). set_line (record { align = align; offset = 0 }) c n ∷ rows) (rows-enough (length ps - length rest) (length rest) (pieces_at side rest) (omega arith))
 

@@ -23,7 +23,7 @@ use Rattle.nr_formatter.specs.Pages.{begins_first_page, is_ejecting, next_spring
 use Rattle.nr_formatter.specs.Places.{outlet, to_read}
 use Rattle.nr_formatter.specs.Spacing.{is_spaceless}
 use Rattle.nr_engine.specs.State.{State, Ended, Choice, plainly}
-use Rattle.nr_engine.specs.Machine.{page_of, begin_page, end_page, turn_page, put_line_to, put_or, break_out, room_in, title_to, cell_to, line_to, space_to, put_space, eject_to, eject, act, work, hear, spring_or, choose_or, step, state_after}
+use Rattle.nr_engine.specs.Machine.{page_of, begin_page, end_page, turn_page, put_line_to, put_or, break_part, continues_none, break_out, room_in, title_to, cell_to, line_to, space_to, put_space, eject_to, eject, act, work, hear, spring_or, choose_or, step, state_after}
 use Rattle.nr_engine.specs.Printing.{bytes_of, text}
 use Rattle.nr_laws.specs.Laws.{IsFrontOf}
 
@@ -55,10 +55,13 @@ put_or-ends : (g : Option Going) (done : Formatter → Formatter) (s : State) �
 put_or-ends None done s = stays s _ refl
 put_or-ends (Some g) done s = put_line_to-ends (outlet s.formatter) g s
 
-break_out-ends : (t : Then) (s : State) → Ends s (break_out t s)
-break_out-ends t s =
+break_part-ends : (t : Then) (s : State) → Ends s (break_part t s)
+break_part-ends t s =
     either (not (is_none (collected s.formatter).word)) s (plainly break_word_end s) _ (stays s _ refl)
     (either (begins_first_page t s.formatter) s (begin_page s) (put_or (break_line s.formatter) (break_done t) s) (stays s _ refl) (put_or-ends (break_line s.formatter) (break_done t) s))
+
+break_out-ends : (t : Then) (s : State) → Ends s (break_out t s)
+break_out-ends t s = let part = break_part-ends t (plainly continues_none s) in record { more = part.more; grows = part.grows }
 
 room_in-ends : (o : Outlet) (r : Room) (s : State) → Ends s (room_in o r s)
 room_in-ends outlets.Diversion r s = stays s _ refl

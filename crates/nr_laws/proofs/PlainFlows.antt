@@ -5,7 +5,7 @@ use Rattle.std.proofs.lemmas.List.{map-append}
 use Rattle.std.proofs.Common.{◌≡◌, ℕ, ◌+◌, ◌-◌, ◌<◌, ◌≤◌, Bool, true, false, if◌then◌else◌, List, [], ◌∷◌, ◌++◌, refl, ap, sym, subst, ◌∙◌, append-nil, append_assoc, length-append, arith}
 use Rattle.nr_units.specs.Cells.{trimmed}
 use Rattle.nr_units.specs.declared.cell.Cell.{Cell}
-use Rattle.nr_fill.specs.Pieces.{Piece, Collected, is_nil}
+use Rattle.nr_fill.specs.Pieces.{Piece, Collected, begins_line, is_nil}
 use Rattle.nr_page.specs.Grid.{Placed}
 use Rattle.nr_page.specs.PageBytes.{page_bytes}
 use Rattle.nr_settings.specs.Indents.{margins_of, first_indents}
@@ -141,7 +141,7 @@ module _ (m : Mode) (d : Due) (k : Task) (p : Step) (bs : List ℕ) (i : Bool) (
       let line : List Placed = s.lines ++ record { row = down / 40; cells = trimmed row } ∷ [] in
       let lines_are : s.lines ++ record { row = min (down + 40) 2147483647 / 40 - 1; cells = trimmed row } ∷ [] ≡ line = ap (λ r. s.lines ++ record { row = r; cells = trimmed row } ∷ []) low in
       keeps at (place row (spacing at.formatter) (behind_line g at.formatter) at) (placed g first_indents) m d events.Nothing k p bs i
-      (ap (placed g) (same_if (is_nil (left g).pieces) first_indents)) refl phase
+      (ap (placed g) (same_if (begins_line (left g)) first_indents)) refl phase
       (record {
         clean = behind-clean (margins_of first_indents) (record { align = g.align; offset = 0 }) c n o.clean;
         ascends = subst (Ascends 0) (sym lines_are) (ascends-behind 0 (down / 40) s.lines (trimmed row) o.ascends o.above (omega arith));
@@ -166,7 +166,7 @@ module _ (m : Mode) (d : Due) (k : Task) (p : Step) (bs : List ℕ) (i : Bool) (
               down = λ is_so. omega arith;
               few = omega arith;
               begun = λ is_so none. never_here (not_nil s.lines (record { row = down / 40; cells = trimmed row }) none);
-              measure = λ begun. same_margins (is_nil (left g).pieces) (f.measure (begun_by c.pieces (is_none c.word) some));
+              measure = λ begun. same_margins (begins_line (left g)) (f.measure (begun_by c.pieces (is_none c.word) some));
             } in
             subst (λ x. OnFilledPage (left g) (s.lines ++ record { row = min (down + 40) 2147483647 / 40 - 1; cells = trimmed row } ∷ []) (min (down + 40) 2147483647) x) (sym is_open_now)
             (subst (λ ls. OnFilledPage (left g) ls (min (down + 40) 2147483647) true) (sym lines_are) filled);

@@ -29,7 +29,7 @@ use Rattle.nr_formatter.specs.Places.{outlet, to_read}
 use Rattle.nr_formatter.specs.Spacing.{is_spaceless}
 use Rattle.nr_formatter.specs.Springing.{sprung, ejected_to}
 use Rattle.nr_engine.specs.State.{State, Choice, First, Register, plainly}
-use Rattle.nr_engine.specs.Machine.{choose, begin_page, turn_page, put_line_to, put_line, put_or, break_out, room_in, title_to, cell_to, line_to, space_to, put_space, eject_to, eject, told, with_situation, read, act, work, hear, spring_or, choose_or, step, state_after, situation_of}
+use Rattle.nr_engine.specs.Machine.{choose, begin_page, turn_page, put_line_to, put_line, put_or, break_part, continues_none, break_out, room_in, title_to, cell_to, line_to, space_to, put_space, eject_to, eject, told, with_situation, read, act, work, hear, spring_or, choose_or, step, state_after, situation_of}
 use Rattle.nr_laws.specs.Limited.{stored_under, reader_under, under, state_under}
 use Rattle.std.specs.List.{filter}
 use Rattle.nr_tables.specs.Traps.{nearest, on_page}
@@ -82,12 +82,15 @@ module _ (b : Bounds) where
   break_done-under thens.Diverted f = refl
   break_done-under thens.Finish f = refl
 
-  break_out-under : (t : Then) (s : State) → break_out t (state_under b s) ≡ state_under b (break_out t s)
-  break_out-under t s =
+  break_part-under : (t : Then) (s : State) → break_part t (state_under b s) ≡ state_under b (break_part t s)
+  break_part-under t s =
       either (not (is_none (collected s.formatter).word)) (plainly break_word_end s) _ (plainly break_word_end (state_under b s)) _
       (plainly-under break_word_end s (break_word_end-under b s.formatter))
       (either (begins_first_page t s.formatter) (begin_page s) (put_or (break_line s.formatter) (break_done t) s) (begin_page (state_under b s)) (put_or (break_line s.formatter) (break_done t) (state_under b s)) refl
       (put_or-under (break_line s.formatter) (break_done t) s (break_done-under t s.formatter)))
+
+  break_out-under : (t : Then) (s : State) → break_out t (state_under b s) ≡ state_under b (break_out t s)
+  break_out-under t s = break_part-under t (plainly continues_none s)
 
   -- ---- titles, diverted lines and space
 

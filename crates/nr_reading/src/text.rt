@@ -57,6 +57,7 @@ fn start_blank(reading: &mut Reading) -> Said
     ensures { joined reading.new result ≡ start_blank reading.old }
 {
     if reading.continued {
+        reading.continued = false;
         reading.mode = Mode::Continued;
         return tell(Event::Byte(b' '));
     }

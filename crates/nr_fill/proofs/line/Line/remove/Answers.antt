@@ -1,11 +1,19 @@
-use Rattle.std.proofs.Common.{◌≡◌, ◌≤◌, length, take, ap, sym, ◌∙◌, refl, arith}
+use Rattle.std.proofs.Common.{◌≡◌, ◌≤◌, Bool, true, false, not, Option, None, Some, is_none, is_some, length, take, drop, ap, sym, ◌∙◌, refl, arith}
+use Rattle.nr_fill.specs.declared.line.WordState.{WordState}
 use Rattle.nr_fill.specs.Lined.{Lined}
 use Rattle.nr_fill.proofs.Lines.{is_line_removed}
 use Rattle.std.proofs.lemmas.List.{length-take-le}
 use Rattle.nr_fill.specs.Cut.{pieces_width}
 use Rattle.std.proofs.lemmas.List.{take-take}
-use Rattle.nr_fill.proofs.Lines.{is_nil_left, pieces_behind}
+use Rattle.nr_fill.proofs.Lines.{is_nil_left, is_none_word, pieces_behind}
 use Rattle.nr_fill.proofs.line.Line.remove.Goals as goal
+
+-- where the test says that there is some
+none_of : (word : Option WordState) (result : Bool) → is_some word ≡ not result → result ≡ is_none word
+none_of None true some = refl
+none_of None false some = (let wrong : false ≡ true = some in cc)
+none_of (Some w) true some = (let wrong : true ≡ false = some in cc)
+none_of (Some w) false some = refl
 
 pub invariant_of-self : goal.invariant_of-self
 invariant_of-self c =
@@ -26,4 +34,6 @@ returns c =
     let within : c.args.n ≤ s.pieces = omega (arith, c.requires.within) in
     let behind = pieces_behind c.args.n s.pieces s.row.pieces within in
     let nil = is_nil_left c.args.n s.pieces s.row.pieces within low in
-    rw (c.remove_front.ensures, c.behind-self-inside.ensures, c.margins_behind-self-inside.ensures, behind.0, behind.1, ← c.self.view_is, nil) refl
+    let none = none_of s.word c.is_none.result c.is_none.ensures in
+    let wordless = is_none_word s.word (drop s.pieces s.row.pieces) s.row.last in
+    rw (c.remove_front.ensures, c.behind-self-inside.ensures, c.margins_behind-self-inside.ensures, none, behind.0, behind.1, ← c.self.view_is, nil, wordless) refl
