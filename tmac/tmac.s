@@ -7,7 +7,9 @@
 .\" Displays    .DS kind .DE kept together   .ID .LD .CD .BD .RD not   .B1 .B2
 .\" Keeps       .KS .KF .KE        Notes  \** and then .FS mark .FE
 .\" Tables      .TS H .TH .TE      Equations  .EQ kind number .EN   .PS .PE
-.\" Contents    .XS page indent .XA .XE   .PX no   .TC no
+.\" Contents    .XS page indent .XA .XE   .PX no   .TC no   .XN words .XH level words
+.\" Others      .SC .P2 .UC .SG .CT, addresses .MH .HO .WH .IH .PY
+.\" Of groff    .als .nop, and of www.tmac .URL .FTP .MTO .DC .ULS .OLS .DLS .LI
 .\" Titles      .OH .EH .OF .EF 'left'centre'right'   strings LH CH RH LF CF RF
 .\" Columns     .1C .2C .MC: one column
 .\" Registers   LL LT FL PO HM FM PI QI DI FI PD DD FPD in u, PS VS FF PORPHANS
