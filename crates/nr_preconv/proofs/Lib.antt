@@ -1,3 +1,4 @@
+pub mod Characters
 pub mod Hearing
 pub mod Plain
 pub mod Reading
@@ -5,3 +6,4 @@ pub mod Sent
 pub mod Steps
 pub mod Turning
 pub mod Unchanged
+pub mod Unread

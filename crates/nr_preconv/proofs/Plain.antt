@@ -4,6 +4,7 @@ use Rattle.std.proofs.Math.Seq.{take-suc}
 use Rattle.nr_preconv.specs.declared.half.Half.{Half}
 use Rattle.nr_preconv.specs.declared.half.Line.{Line}
 use Rattle.nr_preconv.specs.declared.half.Line.TheVariants as lines
+use Rattle.nr_preconv.specs.declared.half.Before.TheVariants as befores
 use Rattle.nr_preconv.specs.declared.half.Coming.TheVariants as comings
 use Rattle.nr_preconv.specs.declared.said.Said.{Said}
 use Rattle.nr_preconv.specs.declared.said.Said.TheVariants as says
@@ -15,13 +16,13 @@ use Rattle.nr_preconv.specs.declared.words.Class.TheVariants.{Space, Other}
 use Rattle.nr_preconv.specs.declared.reader.Reader.{Reader}
 use Rattle.nr_preconv.specs.declared.reader.Pending.{Pending}
 use Rattle.nr_preconv.specs.declared.reader.Pending.TheVariants as pendings
-use Rattle.nr_preconv.specs.Half.{Met, taken, is_plain}
-use Rattle.nr_preconv.specs.Hyphens.{turns_hyphens, in_text}
-use Rattle.nr_preconv.specs.Words.{goes_on_at, goes_on_with, begins_word, class_of, met_at}
+use Rattle.nr_preconv.specs.Half.{Met, taken, left, is_plain}
+use Rattle.nr_preconv.specs.Hyphens.{is_ascii_letter, followed, gone_by, saying, hyphen, turns_hyphens, in_text}
+use Rattle.nr_preconv.specs.Words.{goes_on_at, goes_on_with, begins_word, is_ninth, class_of, words_at, met_at, met_words}
 use Rattle.nr_preconv.specs.Saying.{bytes_of, sent}
 use Rattle.nr_preconv.specs.Escapes.{in_escape}
-use Rattle.nr_preconv.specs.Lines.{is_control, at_start, in_words, in_line_at, in_line, takes_escape, passing}
-use Rattle.nr_preconv.specs.Meeting.{meet, plain_byte, beginning, is_raw, is_as_is_at, is_as_is}
+use Rattle.nr_preconv.specs.Lines.{is_control, control, among_words, at_start, in_words, in_line_at, in_line, takes_escape, passing}
+use Rattle.nr_preconv.specs.Meeting.{meet, plain_byte, beginning, is_raw, is_as_is_at, is_as_is, started, taken_as_is}
 use Rattle.nr_preconv.specs.Reading.{Told, told, behind, then_told, heard, heard_in, with_half, pending_with, strays, fresh, heard_behind, heard_byte, read, fed, Passes, is_lead, stray}
 use Rattle.nr_preconv.proofs.Reading.{behind-none, fed-append}
 use Rattle.nr_preconv.proofs.Sent.{sent_is, ascii-goes}
@@ -97,6 +98,82 @@ line_says lines.Start b h p =
 line_says (lines.Words words) b h p = words_say words b h p
 line_says line b h p = absurd (let no : false ≡ true = p in cc)
 
+-- ---- what is half read then
+
+gone_as : Bool → Bool → ℕ → Half → Half
+gone_as x m b h = if x then record h { before = befores.Other } else (if m then record h { before = followed (is_ascii_letter b) h.before } else h)
+
+gone_line : (x m : Bool) (b : ℕ) (h : Half) (l : Line) → record (gone_as x m b h) { line = l } ≡ gone_as x m b (record h { line = l })
+unfolding gone_as
+gone_line true m b h l = refl
+gone_line false true b h l = refl
+gone_line false false b h l = refl
+
+-- the line goes on so, or ends
+going : Line → ℕ → Half → Half
+going line b h = record (gone_by b h) { line = if b == 10 then lines.Start else line }
+
+text_by : (x y : Bool) (b : ℕ) (h : Half) (m : Met) → y ≡ false
+    → (if x then saying b lines.Start h else (if y then m else saying b lines.Text h)).half ≡ record (gone_by b h) { line = if x then lines.Start else lines.Text }
+text_by true y b h m p = refl
+text_by false y b h m p = ap (λ (z : Bool). (if z then m else saying b lines.Text h).half) p
+
+text_half : (b : ℕ) (h : Half) → (not (turns_hyphens h) || not (b == 45)) ≡ true → (in_text b h).half ≡ going lines.Text b h
+unfolding going
+text_half b h p = text_by (b == 10) (turns_hyphens h && (b == 45)) b h (hyphen lines.Text h) (not_both (turns_hyphens h) (b == 45) p)
+
+start_by : (x y : Bool) (b : ℕ) (h : Half) (m : Met) → y ≡ false → (in_text b h).half ≡ record (gone_by b h) { line = if x then lines.Start else lines.Text }
+    → (if y then m else (if x then saying b lines.Start h else in_text b h)).half ≡ record (gone_by b h) { line = if x then lines.Start else lines.Text }
+start_by x true b h m p q = absurd (let no : true ≡ false = p in cc)
+start_by true false b h m p q = refl
+start_by false false b h m p q = q
+
+start_half : (b : ℕ) (h : Half) → not (is_control b) ≡ true → (not (turns_hyphens h) || not (b == 45)) ≡ true → (at_start b h).half ≡ going lines.Text b h
+unfolding going
+start_half b h c p = start_by (b == 10) (is_control b) b h (control false b h) (is_not (is_control b) c) (text_half b h p)
+
+at_words : (place : Place) (class : Class) (said : Said) (w : Words) → goes_on_at place class ≡ true → (met_at place class said w).words ≡ words_at place w
+at_words Inside Other said w p = refl
+at_words Quoted Other said w p = refl
+at_words Quoted Space said w p = refl
+at_words place class said w p = absurd (let no : false ≡ true = p in cc)
+
+words_by : (x y : Bool) (b : ℕ) (h : Half) (words : Words) (m n : Met) → x ≡ false → y ≡ false
+    → (if x then m else (if not y then among_words words (class_of b) (says.Byte b) (gone_by b h) else n)).half
+    ≡ record (gone_by b h) { line = if y then lines.Start else lines.Words (met_words (class_of b) (says.Byte b) words).words }
+words_by true y b h words m n p q = absurd (let no : true ≡ false = p in cc)
+words_by false true b h words m n p q = absurd (let no : true ≡ false = q in cc)
+words_by false false b h words m n p q = refl
+
+words_half : (words : Words) (b : ℕ) (h : Half) → (not (b == 10) && not (b == 45) && goes_on_with (class_of b) words) ≡ true
+    → (in_words words b h).half ≡ going (lines.Words words) b h
+unfolding going
+words_half words b h p =
+    let front = and-first (not (b == 10) && not (b == 45)) (goes_on_with (class_of b) words) p in
+    let line : (b == 10) ≡ false = is_not (b == 10) (and-first (not (b == 10)) (not (b == 45)) front) in
+    let hyphen_no : (b == 45) ≡ false = is_not (b == 45) (and-second (not (b == 10)) (not (b == 45)) front) in
+    let goes = at_words words.place (class_of b) (says.Byte b) words (and-second (not (b == 10) && not (b == 45)) (goes_on_with (class_of b) words) p) in
+    words_by ((b == 45) && turns_hyphens h && not (begins_word words)) (b == 10) b h words (hyphen (lines.Words words) h)
+    (if is_ninth words then left (says.Byte 34) (record h { line = lines.Request }) else saying b lines.Start h)
+    (ap (λ (x : Bool). x && turns_hyphens h && not (begins_word words)) hyphen_no) line
+    ∙ ap (λ (w : Words). record (gone_by b h) { line = if b == 10 then lines.Start else lines.Words w }) goes
+
+line_half : (line : Line) (b : ℕ) (h : Half) → h.line ≡ line → is_as_is_at line b h ≡ true → (in_line_at line b h).half ≡ going (started line) b h
+unfolding going
+line_half lines.Request b h e p = ap (λ (l : Line). record (gone_by b h) { line = if b == 10 then lines.Start else l }) e
+line_half lines.Text b h e p = text_half b h p
+line_half lines.Start b h e p =
+    start_half b h (and-first (not (is_control b)) (not (turns_hyphens h) || not (b == 45)) p)
+    (and-second (not (is_control b)) (not (turns_hyphens h) || not (b == 45)) p)
+line_half (lines.Words words) b h e p = words_half words b h p
+line_half line b h e p = absurd (let no : false ≡ true = p in cc)
+
+pub takes-is : (b : ℕ) (h : Half) → is_as_is b h ≡ true → (in_line b h).half ≡ taken_as_is b h
+unfolding going gone_as
+takes-is b h p =
+    line_half h.line b h refl (and-second (nat_lt b 127 && not (b == 92) && is_plain h.escape) (is_as_is_at h.line b h) p)
+    ∙ gone_line (b == 10) h.manual b h (if b == 10 then lines.Start else started h.line)
+
 -- ---- so it is read
 
 as_is_meets : (b : ℕ) (h : Half) → (b == 92) ≡ false → is_plain h.escape ≡ true → is_as_is_at h.line b h ≡ true
@@ -115,10 +192,10 @@ heard_byte_taken b r h ascii e =
     ∙ ap (λ (x : ℕ). told (with_half h r) (x ∷ []) 1) (sent_is r.eight_bit b (ascii-goes r.eight_bit b ascii))
 
 -- where nothing is pending, nothing is heard of it
-none_heard : (p : Pending) (r : Reader) → p ≡ pendings.Nothing → r.pending ≡ p → pending_with pendings.Nothing r ≡ r
+pub none_heard : (p : Pending) (r : Reader) → p ≡ pendings.Nothing → r.pending ≡ p → pending_with pendings.Nothing r ≡ r
 none_heard p r e is = ap (λ (q : Pending). pending_with q r) (sym (is ∙ e))
 
-nothing_pending : (b : ℕ) (r : Reader) → r.pending ≡ pendings.Nothing → heard_byte b r ≡ fresh b r
+pub nothing_pending : (b : ℕ) (r : Reader) → r.pending ≡ pendings.Nothing → heard_byte b r ≡ fresh b r
 nothing_pending b r e =
     let same : pending_with pendings.Nothing r ≡ r = none_heard r.pending r e refl in
     ap (λ (p : Pending). heard_behind p b r) e
@@ -127,7 +204,7 @@ nothing_pending b r e =
     ∙ behind-none (fresh b r)
 
 pub read_as_is : (b : ℕ) (r : Reader) → r.pending ≡ pendings.Nothing → is_raw r.half.line ≡ false → is_as_is b r.half ≡ true
-    → read b r ≡ told (with_half (in_line b r.half).half r) (b ∷ []) 1
+    → read b r ≡ told (with_half (taken_as_is b r.half) r) (b ∷ []) 1
 read_as_is b r none cooked p =
     let ascii = nat_lt b 127 in
     let back = not (b == 92) in
@@ -140,6 +217,7 @@ read_as_is b r none cooked p =
     ∙ ap (λ (x : Bool). if x then heard (comings.Byte b) r else (if is_lead b then told (pending_with (pendings.One b) r) [] 0 else stray b r)) (and-first ascii back two)
     ∙ heard_byte_taken b r (in_line b r.half).half (and-first ascii back two)
     (as_is_meets b r.half (is_not (b == 92) (and-second ascii back two)) (and-second (ascii && back) plain three) (and-second (ascii && back && plain) at p))
+    ∙ ap (λ (h : Half). told (with_half h r) (b ∷ []) 1) (takes-is b r.half p)
 
 pub Passes-more : (r s t : Reader) (bs : List ℕ) (i : ℕ) → Passes i bs r s → i < length bs
     → read (get_or bs i 0) s ≡ told t (get_or bs i 0 ∷ []) 1 → Passes (i + 1) bs r t

@@ -33,6 +33,9 @@ heard-quick : (c : Coming) (r : Reader) → Hears 6 r.pending (heard c r)
 unfolding heard
 heard-quick c r = heard_in-quick 6 c r
 
+pub heard-stays : (c : Coming) (r : Reader) → (heard c r).reader.pending ≡ r.pending
+heard-stays c r = (heard-quick c r).stays
+
 Hears-then : (m n : ℕ) (p : Pending) (t : Told) (next : Reader → Told) → Hears m p t → ((r : Reader) → Hears n r.pending (next r)) → Hears (m + n) p (then_told t next)
 Hears-then m n p t next h more = record {
   quick = (let first = h.quick in let second = (more t.reader).quick in omega (arith, first, second));

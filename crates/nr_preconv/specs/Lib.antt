@@ -1,4 +1,5 @@
 pub mod Beginnings
+pub mod Characters
 pub mod Conditions
 pub mod Escapes
 pub mod Glyphs
@@ -12,4 +13,5 @@ pub mod PlainText
 pub mod Reading
 pub mod Running
 pub mod Saying
+pub mod Unread
 pub mod Words

@@ -10,7 +10,7 @@ use Rattle.nr_preconv.specs.declared.half.Escape.TheVariants as escapes
 use Rattle.nr_preconv.specs.declared.half.Line.{Line}
 use Rattle.nr_preconv.specs.declared.half.Line.TheVariants as lines
 use Rattle.nr_preconv.specs.Half.{Met, taken, abandoned, is_plain}
-use Rattle.nr_preconv.specs.Hyphens.{turns_hyphens}
+use Rattle.nr_preconv.specs.Hyphens.{gone_by, turns_hyphens}
 use Rattle.nr_preconv.specs.Words.{class_of, goes_on_with}
 use Rattle.nr_preconv.specs.Escapes.{in_escape}
 use Rattle.nr_preconv.specs.Lines.{is_control, in_line, wide_in_line, takes_escape}
@@ -52,6 +52,14 @@ is_as_is_at line b h = false
 
 abbrev pub is_as_is : ℕ → Half → Bool
 is_as_is b h = nat_lt b 127 && not (b == code "\\") && is_plain h.escape && is_as_is_at h.line b h
+
+abbrev pub started : Line → Line
+started lines.Start = lines.Text
+started line = line
+
+-- it is taken: its line goes on, or ends
+abbrev pub taken_as_is : ℕ → Half → Half
+taken_as_is b h = gone_by b (record h { line = if b == code "\n" then lines.Start else started h.line })
 
 -- ---- comments and ignored lines: bytes pass as they are
 

@@ -75,6 +75,18 @@ impl Half {
         }
     }
 
+    /// Takes such a character.
+    pub(crate) fn takes(&mut self, byte: u8)
+        ensures { self.new ≡ specs.taken_as_is byte self.old }
+    {
+        if byte == b'\n' {
+            self.line = Line::Start;
+        } else if matches!(self.line, Line::Start) {
+            self.line = Line::Text;
+        }
+        self.goes_by(byte);
+    }
+
     /// Whether bytes pass as they are, up to a newline.
     pub(crate) fn is_raw(&self) -> bool
         ensures { result ≡ specs.is_raw self.now.line }

@@ -290,7 +290,7 @@ impl Reader {
         if !self.half.takes_as_is(byte) {
             return false;
         }
-        let _ = self.half.in_line(byte);
+        self.half.takes(byte);
         true
     }
 

@@ -1,8 +1,11 @@
 //! A whole page is turned.
-ghost use Rattle.std.specs.Prelude.{◌≡◌, ◌+◌, ◌<◌, ◌≤◌, [], length, false, OnOk};
+ghost use Rattle.std.specs.Prelude.{◌≡◌, ◌+◌, ◌<◌, ◌≤◌, [], ℕ, List, length, true, false, OnOk, encode_utf8_all};
+ghost use Rattle.std.specs.Str.{all_scalars};
 ghost use Rattle.std.specs.Io.KnownBytes.{Appends};
 ghost use Rattle.nr_units.specs.Failures.{counted_if, put_counted, put_counted_if};
-ghost use Rattle.nr_preconv.specs.Reading.{first_reader};
+ghost use Rattle.nr_preconv.specs.Reading.{fed, first_reader};
+ghost use Rattle.nr_preconv.specs.Characters.{read_characters};
+ghost use Rattle.nr_preconv.specs.Unread.{CommentsAreUnread, IgnoredLinesAreUnread};
 ghost use Rattle.nr_preconv.specs.Running as specs;
 
 use super::reader::Reader;
@@ -197,6 +200,11 @@ pub fn convert<R: Source, W: Sink>(
     // A read fault is told only where the source failed once, and then always, but where the output fails too.
     ensures read_faults { specs.TellsReads result (R.failures input.old) (R.failures input.new) }
     ensures write_faults { W.failures output.new ≡ put_counted_if (specs.is_write_fault result) (W.failures output.old) }
+    // What comments and ignored lines have changes nothing of the rest.
+    ensures comments { CommentsAreUnread }
+    ensures ignored { IgnoredLinesAreUnread }
+    // A text in UTF-8 is read as its characters.
+    ensures characters { (cs : List ℕ) → all_scalars cs ≡ true → fed (first_reader eight_bit) (encode_utf8_all cs) ≡ read_characters (first_reader eight_bit) cs }
 {
     let mut reader = Reader::new(eight_bit);
     let mut out = SliceVec::over(buffer);
