@@ -3,6 +3,7 @@ ghost use Rattle.std.specs.Prelude.{◌≡◌, ◌+◌, ◌*◌, ◌<◌, ◌≤
 ghost use Rattle.nr_tbl.specs.Reading as specs;
 
 use super::complaint::Kind;
+use super::field::Shape;
 use super::half::{Act, Coming, Full, Half, Mode};
 use super::held::Held;
 use super::measure::cells_of;
@@ -351,6 +352,32 @@ impl<'a> Reader<'a> {
         ensures { result ≡ self.now.half.complaint }
     {
         self.half.complaint
+    }
+
+    /// How many of these bytes come first that a field takes as its text, each in one step.
+    pub(crate) fn text_front(&self, bytes: &[u8]) -> usize {
+        let begun = matches!(self.half.mode, Mode::Field) && matches!(self.half.shape, Shape::Text);
+        if !begun {
+            return 0;
+        }
+        let tab = self.half.options.tab;
+        let most = bytes.len().min(self.row.room() - self.row.len());
+        for (at, byte) in bytes[..most].iter().enumerate() {
+            if *byte == tab || *byte == b'\n' || *byte == b'\\' {
+                return at;
+            }
+        }
+        most
+    }
+
+    /// The field takes these bytes.
+    pub(crate) fn take_text(&mut self, bytes: &[u8]) {
+        let point = self.half.options.point;
+        for byte in bytes {
+            let place = self.row.len().saturating_sub(self.from);
+            self.half.marks = self.half.marks.with(*byte, place, point);
+            self.row.push(*byte);
+        }
     }
 
     /// Whether bytes pass up to a newline.

@@ -121,15 +121,21 @@ impl Rooms {
 
 /// Bytes at hand that pass are taken, each in one step, and tells how many.
 fn take_passing<R: Source, W: Sink>(
-    reader: &Reader<'_>,
+    reader: &mut Reader<'_>,
     input: &mut R,
     out: &mut Out<'_, W>,
     most: u64,
 ) -> Result<u64, Fault> {
     let window = input.window();
     let len = window.len().min(CHUNK).min(most as usize);
-    let count = reader.plain_front(&window[..len]);
-    out.put(&window[..count])?;
+    let passing = reader.plain_front(&window[..len]);
+    if passing > 0 {
+        out.put(&window[..passing])?;
+        input.skip(passing);
+        return Ok(passing as u64);
+    }
+    let count = reader.text_front(&window[..len]);
+    reader.take_text(&window[..count]);
     input.skip(count);
     Ok(count as u64)
 }

@@ -68,7 +68,7 @@ impl Table {
         out.put(b".if !'\\n(.z'' .ds *! \\\\!\n")?;
         out.put(b".nr *u \\n(.u\n.nr *I \\n(.i\n.nr *L \\n(.l\n")?;
         if told.blocks {
-            out.put(b".rs\n")?;
+            out.put(b".rs\n.ll\n.nr *P \\n(.l\n.ll \\n(*Lu\n")?;
         }
         Ok(())
     }
@@ -497,7 +497,7 @@ impl Table {
             }
         }
         if told.blocks {
-            out.put(b".ft R\n.ll \\n(*Lu\n")?;
+            out.put(b".ft R\n.ll \\n(*Pu\n.ll \\n(*Lu\n")?;
             if told.changed {
                 self.adjust(out)?;
             }

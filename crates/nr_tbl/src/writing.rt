@@ -46,9 +46,16 @@ impl<'a, W: Sink> Out<'a, W> {
 
     /// A byte so many times.
     pub(crate) fn repeat(&mut self, byte: u8, count: usize) -> Result<(), Fault> {
-        for _ in 0..count {
-            self.put(&[byte])?;
+        if count > self.pending.room() - self.pending.len() {
+            self.flush()?;
         }
+        let mut left = count;
+        while left > self.pending.room() {
+            self.pending.extend_copies(byte, self.pending.room());
+            self.flush()?;
+            left -= self.pending.room();
+        }
+        self.pending.extend_copies(byte, left);
         Ok(())
     }
 
