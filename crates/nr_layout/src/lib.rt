@@ -1,0 +1,18 @@
+//! Tables as they are held, measured and laid out.
+//!
+//! It stands on nr_units and nr_rooms. To read: `lists`, `places`, `extent`, `writing`.
+#![tactic(auto)]
+
+mod cells;
+mod columns;
+mod extent;
+mod frames;
+mod lists;
+mod places;
+mod requests;
+mod steps;
+mod table;
+mod writing;
+
+pub use table::{Form, Frame, Looks, Stand, Table};
+pub use writing::Out;
