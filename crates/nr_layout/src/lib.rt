@@ -5,13 +5,17 @@
 
 mod cells;
 mod columns;
+mod divided;
 mod extent;
 mod frames;
 mod lists;
+mod measured;
+mod pen;
 mod places;
 mod requests;
 mod steps;
 mod table;
+mod told;
 mod writing;
 
 pub use table::{Form, Frame, Looks, Stand, Table};

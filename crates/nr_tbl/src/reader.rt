@@ -8,10 +8,10 @@ use super::half::{Act, Coming, Full, Half, Mode};
 use super::held::Held;
 use super::measure::cells_of;
 use super::options::{Options, OptionsRead};
-use super::said::{Mark, Said};
-use super::table::{Form, Table};
+use super::said::Said;
+use super::telling::{form_of, looks_of, tell_called};
 use super::widths::widths_of;
-use super::writing::Out;
+use nr_layout::{Form, Out, Table};
 use nr_rooms::FixedVec;
 use nr_units::sink::Sink;
 use nr_units::source::Fault;
@@ -78,7 +78,7 @@ impl<'a> Reader<'a> {
     pub(crate) fn over(formats: &'a mut FixedVec<u8>, row: &'a mut FixedVec<u8>, table: &'a mut Table, line: usize) -> Reader<'a> {
         formats.clear();
         row.clear();
-        table.bars_known = false;
+        table.begin_page();
         Reader {
             half: Half::new(line),
             formats,
@@ -112,7 +112,7 @@ impl<'a> Reader<'a> {
     fn read_options(&mut self) {
         let options = options_of(self.formats.as_slice());
         self.half.with_options(options);
-        self.table.options = options;
+        self.table.set_looks(looks_of(options));
         self.formats.clear();
     }
 
@@ -124,17 +124,17 @@ impl<'a> Reader<'a> {
         let mut formats = self.half.formats;
         for byte in self.formats.as_slice() {
             let called = formats.read(*byte);
-            self.table.call(called);
+            tell_called(called, self.table);
         }
         let called = formats.read(b'\n');
-        self.table.call(called);
+        tell_called(called, self.table);
         self.table.formats_end();
         self.half.with_formats(formats, widths.last);
     }
 
     /// The table that was read goes out, if anything of it was.
     fn put_read<W: Sink>(&mut self, out: &mut Out<'_, W>) -> Result<(), Fault> {
-        if self.table.items.len() > 0 || self.table.begun {
+        if self.table.has_begun() {
             self.table.put_table(true, out)?;
         }
         Ok(())
@@ -158,7 +158,7 @@ impl<'a> Reader<'a> {
             for _ in 0..column {
                 self.table.add_mark(Form::Text);
             }
-            self.table.block_begins();
+            self.table.text_begins();
         }
         self.table.add_text(byte);
         Ok(())
@@ -226,17 +226,6 @@ impl<'a> Reader<'a> {
         Ok(())
     }
 
-    /// A mark stands for a field.
-    fn mark(&mut self, mark: Mark) {
-        let form = match mark {
-            Mark::Rule => Form::Rule,
-            Mark::Inner => Form::Inner,
-            Mark::Above => Form::Above,
-            Mark::Repeat | Mark::Block => Form::Text,
-        };
-        self.table.add_mark(form);
-    }
-
     /// A line begins so: in a block it is the block's.
     fn hold<W: Sink>(&mut self, held: Held, out: &mut Out<'_, W>) -> Result<(), Fault> {
         if !matches!(self.half.mode, Mode::BlockLine) {
@@ -261,6 +250,7 @@ impl<'a> Reader<'a> {
             }
             Said::More => self.table.formats_begin(),
             Said::Request(held) => {
+                self.table.text_begins();
                 for byte in held.bytes() {
                     self.table.add_text(*byte);
                 }
@@ -270,9 +260,9 @@ impl<'a> Reader<'a> {
                 return self.relieve(out);
             }
             Said::Skip => self.table.add_mark(Form::Text),
-            Said::Mark(mark) => self.mark(mark),
+            Said::Mark(mark) => self.table.add_mark(form_of(mark)),
             Said::Repeat(byte) => self.table.add_mark(Form::Repeat(byte)),
-            Said::Block => self.table.block_begins(),
+            Said::Block => self.table.text_begins(),
             Said::BlockEnd => self.table.block_ends(),
             Said::CloseBlock => {
                 self.table.block_ends();

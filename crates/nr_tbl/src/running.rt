@@ -8,8 +8,7 @@ ghost use Rattle.nr_tbl.specs.Running as specs;
 
 use super::complaint::{Complaint, Kind, Place};
 use super::reader::Reader;
-use super::table::Table;
-use super::writing::Out;
+use nr_layout::{Out, Table};
 use nr_rooms::FixedVec;
 use nr_units::sink::Sink;
 use nr_units::slice_vec::SliceVec;

@@ -1,5 +1,8 @@
 //! Text blocks: each is a diversion in the width of its columns, and stands beside its row.
 
+ghost use Rattle.std.specs.Prelude.{◌≤◌};
+
+use super::lists::set_item;
 use super::pen::{Begin, Pen};
 use super::requests::{adjusts, is_soft, prints};
 use super::table::{Cell, Form, Item, Row, Stand, Tall, Table};
@@ -20,40 +23,80 @@ struct Lines {
     prints: bool,
 }
 
-impl Table {
-    /// What the lines of a block do.
-    fn lines_of(&self, cell: Cell) -> Lines {
-        let text = self.bytes(cell.field.span);
-        let mut lines = Lines {
+/// One, or none.
+fn count_of(one: bool) -> usize
+    ensures { result ≤ 1 }
+{
+    if one { 1 } else { 0 }
+}
+
+/// Whether a text changes its font.
+fn has_font(text: &[u8]) -> bool {
+    let mut before = 0;
+    for byte in text {
+        if before == b'\\' && *byte == b'f' {
+            return true;
+        }
+        before = *byte;
+    }
+    false
+}
+
+impl Lines {
+    /// No line was read.
+    fn new() -> Lines {
+        Lines {
             adjusts: false,
             clean: true,
             prints: false,
-        };
-        let mut font = false;
-        let mut before = 0;
-        for byte in text {
-            font = font || before == b'\\' && *byte == b'f';
-            before = *byte;
         }
-        for line in text.split(|byte| *byte == b'\n') {
-            let control = matches!(line.first(), Some(b'.' | b'\''));
-            lines.adjusts = lines.adjusts || adjusts(line);
-            lines.clean = lines.clean && (!control || is_soft(line));
-            lines.prints = lines.prints || prints(line);
+    }
+
+    /// With one line more.
+    fn with(self, line: &[u8]) -> Lines {
+        let control = !line.is_empty() && (line[0] == b'.' || line[0] == b'\'');
+        Lines {
+            adjusts: self.adjusts || adjusts(line),
+            clean: self.clean && (!control || is_soft(line)),
+            prints: self.prints || prints(line),
         }
-        lines.clean = lines.clean && !font;
+    }
+
+    /// The lines of a text, each of which ends with a newline.
+    fn of(text: &[u8]) -> Lines {
+        let mut lines = Lines::new();
+        let mut start = 0;
+        for (at, byte) in text.iter().enumerate() {
+            if *byte == b'\n' && start <= at {
+                lines = lines.with(&text[start..at]);
+                start = at + 1;
+            }
+        }
+        lines.clean = lines.clean && !has_font(text);
         lines
+    }
+}
+
+impl Table {
+    /// What the lines of a block do.
+    fn lines_of(&self, cell: Cell) -> Lines {
+        Lines::of(self.bytes(cell.field.span))
+    }
+
+    /// Whether a block changes how lines are adjusted.
+    fn has_adjusting(&self) -> bool {
+        for cell in self.cells.as_slice() {
+            if matches!(cell.field.form, Form::Block) && self.lines_of(*cell).adjusts {
+                return true;
+            }
+        }
+        false
     }
 
     /// How lines are adjusted is found by one that is spread, where a block changes it.
-    pub(crate) fn put_adjusting<W: Sink>(&self, told: &mut Told, out: &mut Out<'_, W>) -> Result<(), Fault> {
-        told.adjusts = self
-            .cells
-            .as_slice()
-            .iter()
-            .any(|cell| cell.field.form == Form::Block && self.lines_of(*cell).adjusts);
-        if told.adjusts {
-            out.put(b".di *z\n.in 0\n.ll 5n\n.fi\na b ccc\n.br\n.di\n.nr *J \\n(dl\n.rm *z\n")?;
+    pub(crate) fn put_adjusting<W: Sink>(&self, out: &mut Out<'_, W>) -> Result<(), Fault> {
+        if self.has_adjusting() {
+            return out.put(b".di *z\n.in 0\n.ll 5n\n.fi\na b ccc\n.br\n.di\n.nr *J \\n(dl\n.rm *z\n");
         }
         Ok(())
     }
@@ -65,41 +108,67 @@ impl Table {
 
     /// Whether a block stands in a column that shares the line.
     fn is_wide(&self, cell: Cell) -> bool {
-        self.columns.as_slice()[cell.first..cell.last + 1]
-            .iter()
-            .any(|column| column.wide)
+        for column in cell.first..cell.last.saturating_add(1) {
+            if self.column(column).wide {
+                return true;
+            }
+        }
+        false
+    }
+
+    /// Whether all columns of a block have a width.
+    fn is_given(&self, cell: Cell) -> bool {
+        for column in cell.first..cell.last.saturating_add(1) {
+            if self.column(column).least.is_none() {
+                return false;
+            }
+        }
+        true
+    }
+
+    /// The share of the line of a block, as an expression.
+    fn put_line_share<W: Sink>(&self, cell: Cell, out: &mut Out<'_, W>) -> Result<(), Fault> {
+        let columns = cell.last.saturating_add(1).saturating_sub(cell.first);
+        let all = self.columns.len().saturating_add(1);
+        out.pieces(&[T(b"\\n(*L*"), N(columns), T(b"/"), N(all), T(b"+11/24*24")])
+    }
+
+    /// The length takes that share, if it is more.
+    fn put_most_share<W: Sink>(&self, cell: Cell, out: &mut Out<'_, W>) -> Result<(), Fault> {
+        if self.is_given(cell) || self.is_wide(cell) {
+            return Ok(());
+        }
+        out.put(b".if ")?;
+        self.put_line_share(cell, out)?;
+        out.put(b">\\n[*S] .nr *S ")?;
+        self.put_line_share(cell, out)?;
+        out.put(b"\n")
+    }
+
+    /// Whether the line's length is that of the block before, but for what its columns grew.
+    fn is_alike(&self, cell: Cell, told: Told) -> bool {
+        let same = match told.columns {
+            Some(columns) => columns.0 == cell.first && columns.1 == cell.last,
+            None => false,
+        };
+        same && told.clean && !cell.spans() && cell.key.kind != b'a'
     }
 
     /// The line's length of a block: the width of its columns; where one has no `w`, the line's share if that is more.
     fn put_length<W: Sink>(&self, cell: Cell, told: &mut Told, out: &mut Out<'_, W>) -> Result<(), Fault> {
-        let columns = (cell.first, cell.last);
-        if told.clean && told.columns == Some(columns) && !cell.spans() && cell.key.kind != b'a' {
+        if self.is_alike(cell, *told) {
             let number = cell.first;
-            return out.line(&[T(b".if \\n[*w"), N(number), T(b"]>\\n(*S .ll \\n[*w"), N(number), T(b"]u")]);
+            out.pieces(&[T(b".if \\n[*w"), N(number), T(b"]>\\n(*S .ll \\n[*w")])?;
+            return out.line(&[N(number), T(b"]u")]);
         }
         out.put(b".nr *S ")?;
         self.put_total(cell.first, cell.last, b"+", out)?;
         out.put(b"\n")?;
-        let given = self.columns.as_slice()[cell.first..cell.last + 1]
-            .iter()
-            .all(|column| column.least.is_some());
-        if !given && !self.is_wide(cell) {
-            let share = [
-                T(b"\\n(*L*"),
-                N(cell.last + 1 - cell.first),
-                T(b"/"),
-                N(self.columns.len() + 1),
-                T(b"+11/24*24"),
-            ];
-            out.put(b".if ")?;
-            out.pieces(&share)?;
-            out.put(b">\\n[*S] .nr *S ")?;
-            out.line(&share)?;
-        }
+        self.put_most_share(cell, out)?;
         if cell.key.kind == b'a' {
             out.put(b".nr *S -2n\n")?;
         }
-        told.columns = Some(columns);
+        told.columns = Some((cell.first, cell.last));
         out.put(b".ll \\n(*Su\n")
     }
 
@@ -119,7 +188,12 @@ impl Table {
             out.line(&[T(b".ft "), T(&[cell.key.font])])?;
         }
         out.put(self.bytes(cell.field.span))?;
-        out.put(if cell.key.font != 0 { b".br\n.ft R\n.di\n" } else { b".br\n.di\n" })?;
+        if cell.key.font != 0 {
+            out.put(b".br\n.ft R\n")?;
+        } else {
+            out.put(b".br\n")?;
+        }
+        out.put(b".di\n")?;
         told.clean = lines.clean;
         told.changed = told.changed || lines.adjusts;
         self.put_block_size(cell, out)
@@ -142,7 +216,7 @@ impl Table {
     /// The blocks are set: those in columns that share the line behind the sharing.
     pub(crate) fn put_blocks<W: Sink>(&self, wide: bool, told: &mut Told, out: &mut Out<'_, W>) -> Result<(), Fault> {
         for cell in self.cells.as_slice() {
-            if cell.field.form == Form::Block && self.is_wide(*cell) == wide {
+            if matches!(cell.field.form, Form::Block) && self.is_wide(*cell) == wide {
                 self.put_block(*cell, told, out)?;
             }
         }
@@ -151,59 +225,56 @@ impl Table {
 
     /// Whether a row is higher than a line, as its blocks say.
     pub(crate) fn is_tall(&self, row: usize) -> bool {
-        self.rows.get(row).tall != Tall::Line
+        !matches!(self.row(row).tall, Tall::Line)
     }
 
     /// Whether a cell is a block that makes its row high, or the last row of those over which it goes on.
     fn is_high(&self, cell: Cell, row: usize) -> bool {
-        cell.field.form == Form::Block && cell.bottom == row
+        matches!(cell.field.form, Form::Block) && cell.bottom == row
     }
 
-    /// How many blocks end in a row: in it alone, and going on from above.
-    fn count_blocks(&self, row: usize) -> (usize, usize) {
-        let mut own = 0;
-        let mut ending = 0;
+    /// How many blocks end in a row: in it alone, or going on from above.
+    fn count_blocks(&self, row: usize, own: bool) -> usize {
+        let mut count: usize = 0;
         for column in 0..self.columns.len() {
             let cell = self.cell(row, column);
-            if cell.first != column || !self.is_high(cell, row) {
-                continue;
-            }
-            if cell.top == row {
-                own += 1;
-            } else {
-                ending += 1;
+            if cell.first == column && self.is_high(cell, row) && (cell.top == row) == own {
+                count = count.saturating_add(1);
             }
         }
-        (own, ending)
+        count
+    }
+
+    /// A row becomes as high as its blocks need: its own, or those that go on from above.
+    fn put_most_heights<W: Sink>(&self, row: usize, own: bool, out: &mut Out<'_, W>) -> Result<(), Fault> {
+        for column in 0..self.columns.len() {
+            let cell = self.cell(row, column);
+            if cell.first == column && self.is_high(cell, row) && (cell.top == row) == own {
+                self.put_most_height(cell, row, out)?;
+            }
+        }
+        Ok(())
     }
 
     /// How high a row is.
     fn put_row_height<W: Sink>(&mut self, number: usize, out: &mut Out<'_, W>) -> Result<(), Fault> {
-        let (own, ending) = self.count_blocks(number);
-        let row = self.rows.get(number);
-        if own + ending == 0 {
+        let own = self.count_blocks(number, true);
+        let ending = self.count_blocks(number, false);
+        let row = self.row(number);
+        if own == 0 && ending == 0 {
             return Ok(());
         }
         let only = self.only_block(number);
         if own == 1 && ending == 0 && self.lines_of(only).prints {
-            self.rows.set(number, Row { tall: Tall::Block(only.name), ..row });
+            let tall = Tall::Block(only.name);
+            set_item(&mut self.rows, number, Row { tall, ..row });
             return Ok(());
         }
-        self.rows.set(number, Row { tall: Tall::Told, ..row });
+        let tall = Tall::Told;
+        set_item(&mut self.rows, number, Row { tall, ..row });
         out.line(&[T(b".nr *h_"), N(row.item), T(b" 1v")])?;
-        for column in 0..self.columns.len() {
-            let cell = self.cell(number, column);
-            if cell.first == column && self.is_high(cell, number) && cell.top == number {
-                self.put_most_height(cell, number, out)?;
-            }
-        }
-        for column in 0..self.columns.len() {
-            let cell = self.cell(number, column);
-            if cell.first == column && self.is_high(cell, number) && cell.top < number {
-                self.put_most_height(cell, number, out)?;
-            }
-        }
-        Ok(())
+        self.put_most_heights(number, true, out)?;
+        self.put_most_heights(number, false, out)
     }
 
     /// The last block of a row.
@@ -230,7 +301,7 @@ impl Table {
 
     /// A row becomes as high as a block needs.
     fn put_most_height<W: Sink>(&self, cell: Cell, row: usize, out: &mut Out<'_, W>) -> Result<(), Fault> {
-        let item = self.rows.get(row).item;
+        let item = self.row(row).item;
         out.put(b".if ")?;
         self.put_needed(cell, row, out)?;
         out.pieces(&[T(b">\\n[*h_"), N(item), T(b"] .nr *h_"), N(item), T(b" ")])?;
@@ -240,7 +311,7 @@ impl Table {
 
     /// How high a row is, as an expression.
     fn put_height<W: Sink>(&self, number: usize, out: &mut Out<'_, W>) -> Result<(), Fault> {
-        let row = self.rows.get(number);
+        let row = self.row(number);
         match row.tall {
             Tall::Line => out.put(b"1v"),
             Tall::Block(name) => out.pieces(&[T(b"\\n[*h"), N(name), T(b"]u")]),
@@ -256,23 +327,9 @@ impl Table {
         whole: bool,
         out: &mut Out<'_, W>,
     ) -> Result<(), Fault> {
-        let mut lines = 0;
-        let first = self.rows.get(top).item;
-        let last = self.rows.get(bottom).item;
-        for item in &self.items.as_slice()[first..last + 1] {
-            match item {
-                Item::Rule => lines += 1,
-                Item::Row(row) if self.rows.get(*row).own => {
-                    lines += usize::from(self.is_all_boxed() && *row > top);
-                    let counts = *row < bottom || whole;
-                    lines += usize::from(counts && !self.is_tall(*row));
-                }
-                _ => {}
-            }
-        }
-        out.pieces(&[N(lines), T(b"v")])?;
-        for row in top..bottom + 1 {
-            if self.rows.get(row).own && self.is_tall(row) && (row < bottom || whole) {
+        out.pieces(&[N(self.lines_between(top, bottom, whole)), T(b"v")])?;
+        for row in top..bottom.saturating_add(1) {
+            if self.row(row).own && self.is_tall(row) && (row < bottom || whole) {
                 out.put(b"+")?;
                 self.put_height(row, out)?;
             }
@@ -280,25 +337,60 @@ impl Table {
         Ok(())
     }
 
-    /// How high the rows are, and the table.
-    pub(crate) fn put_heights<W: Sink>(&mut self, ends: bool, out: &mut Out<'_, W>) -> Result<(), Fault> {
+    /// How many lines an item takes among these rows, beside what rows take that are higher than a line.
+    fn item_lines(&self, item: Item, top: usize, bottom: usize, whole: bool) -> usize {
+        match item {
+            Item::Rule => 1,
+            Item::Row(row) if self.row(row).own => {
+                let ruled = self.is_all_boxed() && row > top;
+                let counts = (row < bottom || whole) && !self.is_tall(row);
+                count_of(ruled) + count_of(counts)
+            }
+            _ => 0,
+        }
+    }
+
+    /// How many lines rows take with the rules among them, beside what those take that are higher than a line.
+    fn lines_between(&self, top: usize, bottom: usize, whole: bool) -> usize {
+        let mut lines: usize = 0;
+        for number in self.row(top).item..self.row(bottom).item.saturating_add(1) {
+            let more = self.item_lines(self.item(number), top, bottom, whole);
+            lines = lines.saturating_add(more);
+        }
+        lines
+    }
+
+    /// How high each row is.
+    fn put_row_heights<W: Sink>(&mut self, out: &mut Out<'_, W>) -> Result<(), Fault> {
         for number in 0..self.rows.len() {
-            if self.rows.get(number).own {
+            if self.row(number).own {
                 self.put_row_height(number, out)?;
             }
         }
-        self.take_steps(ends);
-        if !self.is_boxed() || self.options.nokeep {
-            return Ok(());
+        Ok(())
+    }
+
+    /// How many lines a boxed table takes beside what rows take that are higher than a line.
+    fn count_lines(&self) -> usize {
+        let mut lines: usize = if self.is_double() { 4 } else { 2 };
+        for item in self.items.as_slice() {
+            let more = match item {
+                Item::Rule => 1,
+                Item::Row(row) if self.row(*row).own => {
+                    count_of(self.is_all_boxed()) + count_of(!self.is_tall(*row))
+                }
+                _ => 0,
+            };
+            lines = lines.saturating_add(more);
         }
-        let mut lines = if self.is_double() { 4 } else { 2 };
-        lines += self.items.as_slice().iter().filter(|item| matches!(item, Item::Rule)).count();
-        let own = self.rows.as_slice().iter().filter(|row| row.own);
-        lines += own.map(|row| usize::from(self.is_all_boxed()) + usize::from(row.tall == Tall::Line)).sum::<usize>();
-        lines -= usize::from(self.is_all_boxed());
-        out.line(&[T(b".nr *H "), N(lines), T(b"v")])?;
+        lines.saturating_sub(count_of(self.is_all_boxed()))
+    }
+
+    /// How high the table is.
+    fn put_table_height<W: Sink>(&self, out: &mut Out<'_, W>) -> Result<(), Fault> {
+        out.line(&[T(b".nr *H "), N(self.count_lines()), T(b"v")])?;
         for number in 0..self.rows.len() {
-            if self.rows.get(number).own && self.is_tall(number) {
+            if self.row(number).own && self.is_tall(number) {
                 out.put(b".nr *H +(")?;
                 self.put_height(number, out)?;
                 out.put(b")\n")?;
@@ -307,34 +399,55 @@ impl Table {
         Ok(())
     }
 
+    /// How high the rows are, and the table.
+    pub(crate) fn put_heights<W: Sink>(&mut self, ends: bool, out: &mut Out<'_, W>) -> Result<(), Fault> {
+        self.put_row_heights(out)?;
+        self.take_steps(ends);
+        if !self.is_boxed() || self.looks.nokeep {
+            return Ok(());
+        }
+        self.put_table_height(out)
+    }
+
     /// Whether bars stand beside a row that is higher than a line.
     pub(crate) fn needs_bars(&self) -> bool {
-        (0..self.rows.len()).any(|row| self.is_tall(row) && self.has_bars(row))
+        for row in 0..self.rows.len() {
+            if self.is_tall(row) && self.has_bars(row) {
+                return true;
+            }
+        }
+        false
+    }
+
+    /// The last row over which a field of a row goes on.
+    fn last_below(&self, number: usize) -> usize {
+        let row = self.row(number);
+        let mut last = number;
+        for cell in row.cells..row.cells_end {
+            last = self.cell_of(cell).bottom.max(last);
+        }
+        last
     }
 
     /// Room is asked for a row and what goes on below it. One line more: a row that reaches the page's end would spring
     /// its trap, and no motion leads back over that.
     pub(crate) fn put_before<W: Sink>(&self, number: usize, ruled: bool, out: &mut Out<'_, W>) -> Result<(), Fault> {
-        let row = self.rows.get(number);
-        let mut last = number;
-        for cell in &self.cells.as_slice()[row.cells..row.cells_end] {
-            last = last.max(cell.bottom);
-        }
+        let last = self.last_below(number);
         if last == number && !self.is_tall(number) {
             return Ok(());
         }
-        out.pieces(&[T(LATER), T(b".ne ")])?;
+        out.pieces(&[T(&LATER), T(b".ne ")])?;
         if last > number {
             self.put_between(number, last, true, out)?;
         } else {
             self.put_height(number, out)?;
         }
-        out.line(&[T(b"+"), N(1 + usize::from(ruled)), T(b"v")])
+        out.line(&[T(b"+"), N(1 + count_of(ruled)), T(b"v")])
     }
 
     /// Whether a row has one block and no bars: the block itself goes down to the end of the row.
     fn is_alone(&self, row: usize) -> bool {
-        let Tall::Block(_) = self.rows.get(row).tall else {
+        let Tall::Block(_) = self.row(row).tall else {
             return false;
         };
         !self.only_block(row).falls && !self.has_bars(row)
@@ -345,7 +458,7 @@ impl Table {
         if !self.has_bars(row) {
             out.put(b".if ")?;
             self.put_height(row, out)?;
-            out.pieces(&[T(b">1v "), T(LATER), T(b".sp ")])?;
+            out.pieces(&[T(b">1v "), T(&LATER), T(b".sp ")])?;
             self.put_height(row, out)?;
             return out.put(b"-1v\n");
         }
@@ -363,21 +476,21 @@ impl Table {
         out.put(b"/1v-1\n.if \\n(*t .*A\n")
     }
 
-    /// A row, with what stands beside it.
-    pub(crate) fn put_told_row<W: Sink>(&self, row: usize, told: &mut Told, out: &mut Out<'_, W>) -> Result<(), Fault> {
-        let mut pen = Pen::new();
-        self.draw_row(&mut pen, row, None, out)?;
-        pen.end(true, out)?;
-        let alone = self.is_alone(row);
-        if self.is_tall(row) && !alone {
-            self.put_more_lines(row, told, out)?;
-        }
-        let record = self.rows.get(row);
-        for cell in &self.cells.as_slice()[record.cells..record.cells_end] {
-            if cell.field.form == Form::Block && !cell.falls {
-                self.put_block_beside(*cell, row, alone, out)?;
+    /// The blocks of a row that end in it.
+    fn put_blocks_beside<W: Sink>(&self, number: usize, out: &mut Out<'_, W>) -> Result<(), Fault> {
+        let alone = self.is_alone(number);
+        let row = self.row(number);
+        for place in row.cells..row.cells_end {
+            let cell = self.cell_of(place);
+            if matches!(cell.field.form, Form::Block) && !cell.falls {
+                self.put_block_beside(cell, number, alone, out)?;
             }
         }
+        Ok(())
+    }
+
+    /// What goes on from above, down to a row.
+    fn put_all_falling<W: Sink>(&self, row: usize, out: &mut Out<'_, W>) -> Result<(), Fault> {
         for column in 0..self.columns.len() {
             let cell = self.cell(row, column);
             if cell.falls && cell.first == column && cell.bottom == row {
@@ -385,6 +498,18 @@ impl Table {
             }
         }
         Ok(())
+    }
+
+    /// A row, with what stands beside it.
+    pub(crate) fn put_told_row<W: Sink>(&self, row: usize, told: &mut Told, out: &mut Out<'_, W>) -> Result<(), Fault> {
+        let mut pen = Pen::new();
+        self.draw_row(&mut pen, row, None, out)?;
+        pen.end(true, out)?;
+        if self.is_tall(row) && !self.is_alone(row) {
+            self.put_more_lines(row, told, out)?;
+        }
+        self.put_blocks_beside(row, out)?;
+        self.put_all_falling(row, out)
     }
 
     /// Where a block or a field begins, behind the indent.
@@ -404,7 +529,7 @@ impl Table {
 
     /// Up by what the row took, the block, and down again.
     fn put_block_beside<W: Sink>(&self, cell: Cell, row: usize, alone: bool, out: &mut Out<'_, W>) -> Result<(), Fault> {
-        out.pieces(&[T(LATER), T(b".sp -(")])?;
+        out.pieces(&[T(&LATER), T(b".sp -(")])?;
         if alone {
             out.put(b"1v")?;
         } else {
@@ -412,17 +537,21 @@ impl Table {
         }
         out.put(b")\n")?;
         self.put_block_lines(cell, out)?;
-        if alone || self.rows.get(row).tall == Tall::Block(cell.name) {
+        let whole = match self.row(row).tall {
+            Tall::Block(name) => name == cell.name,
+            _ => false,
+        };
+        if alone || whole {
             return Ok(());
         }
-        out.pieces(&[T(LATER), T(b".sp ")])?;
+        out.pieces(&[T(&LATER), T(b".sp ")])?;
         self.put_height(row, out)?;
         out.line(&[T(b"-(0)-\\n[*h"), N(cell.name), T(b"]u")])
     }
 
     /// The height of what goes on over rows below, as an expression.
     fn put_own_height<W: Sink>(&self, cell: Cell, out: &mut Out<'_, W>) -> Result<(), Fault> {
-        if cell.field.form == Form::Block {
+        if matches!(cell.field.form, Form::Block) {
             return out.pieces(&[T(b"\\n[*h"), N(cell.name), T(b"]u")]);
         }
         out.put(b"1v")
@@ -430,35 +559,42 @@ impl Table {
 
     /// How far below the top of its rows it stands.
     fn put_down<W: Sink>(&self, cell: Cell, row: usize, out: &mut Out<'_, W>) -> Result<(), Fault> {
-        if cell.key.stand == Stand::Top {
+        if matches!(cell.key.stand, Stand::Top) {
             return out.put(b"0");
         }
         out.put(b"(")?;
         self.put_between(cell.top, row, true, out)?;
         out.put(b"-")?;
         self.put_own_height(cell, out)?;
-        out.put(if cell.key.stand == Stand::Low { b")" } else { b"/2u/1v*1v)" })
+        if matches!(cell.key.stand, Stand::Low) {
+            return out.put(b")");
+        }
+        out.put(b"/2u/1v*1v)")
     }
 
     /// A field that goes on over rows above: up from their end.
     fn put_falling<W: Sink>(&self, cell: Cell, row: usize, out: &mut Out<'_, W>) -> Result<(), Fault> {
-        let empty = cell.field.form == Form::Text && !cell.field.has_text();
-        if empty || cell.field.form == Form::Rule || cell.field.form == Form::Above {
+        let drawn = match cell.field.form {
+            Form::Text => cell.field.has_text(),
+            Form::Rule | Form::Above => false,
+            _ => true,
+        };
+        if !drawn {
             return Ok(());
         }
-        out.pieces(&[T(LATER), T(b".sp ")])?;
+        out.pieces(&[T(&LATER), T(b".sp ")])?;
         self.put_down(cell, row, out)?;
         out.put(b"-(")?;
         self.put_between(cell.top, row, true, out)?;
         out.put(b")\n")?;
-        if cell.field.form == Form::Block {
+        if matches!(cell.field.form, Form::Block) {
             self.put_block_lines(cell, out)?;
         } else {
             let mut pen = Pen::new();
             self.draw_field(&mut pen, cell, out)?;
             pen.end(true, out)?;
         }
-        out.pieces(&[T(LATER), T(b".sp ")])?;
+        out.pieces(&[T(&LATER), T(b".sp ")])?;
         self.put_between(cell.top, row, true, out)?;
         out.put(b"-(")?;
         self.put_down(cell, row, out)?;
@@ -469,9 +605,9 @@ impl Table {
 
     /// Whether a field begins at a place that is known.
     pub(crate) fn begin_of(&self, cell: Cell) -> Begin {
-        let column = self.columns.get(cell.first);
-        let right = self.columns.get(cell.last).right;
-        let text = cell.field.form == Form::Text;
+        let column = self.column(cell.first);
+        let right = self.column(cell.last).right;
+        let text = matches!(cell.field.form, Form::Text);
         if matches!(cell.key.kind, b'l' | b'^' | b'_' | b'=') || cell.key.kind == b'n' && !text {
             return Begin::At(column.left);
         }
@@ -482,16 +618,16 @@ impl Table {
             return Begin::At(self.begin_in(cell, column.width));
         }
         if text && cell.name == 0 && right.mark == column.left.mark {
-            return Begin::At(self.begin_in(cell, right.cells - column.left.cells));
+            return Begin::At(self.begin_in(cell, right.cells.saturating_sub(column.left.cells)));
         }
         Begin::Told
     }
 
     /// Where it begins, as an expression.
     pub(crate) fn put_begin<W: Sink>(&self, cell: Cell, out: &mut Out<'_, W>) -> Result<(), Fault> {
-        let left = self.columns.get(cell.first).left;
-        let right = self.columns.get(cell.last).right;
-        let number = !cell.spans() && self.front_of(cell).is_some();
+        let left = self.column(cell.first).left;
+        let right = self.column(cell.last).right;
+        let number = !cell.spans() && self.is_number(cell);
         if cell.key.kind == b'r' {
             out.pieces(&[T(b"("), P(right), T(b"-")])?;
             self.put_width(cell, out)?;

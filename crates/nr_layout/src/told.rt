@@ -1,8 +1,9 @@
 //! A table of which only the formatter knows all widths goes out as requests: its columns are registers, its blocks
 //! diversions.
 
+use super::lists::set_item;
 use super::pen::Pen;
-use super::requests::{defines, is_harmless};
+use super::requests::defines;
 use super::table::{Cell, Column, Form, Item, Span, Step, StepKind, Table};
 use super::writing::{Out, Piece};
 use Piece::{N, T};
@@ -10,7 +11,7 @@ use nr_units::sink::Sink;
 use nr_units::source::Fault;
 
 /// What leads a request that waits, in a diversion, until that is printed.
-pub(crate) const LATER: &[u8] = b"\\*(*!";
+pub(crate) static LATER: [u8; 5] = *b"\\*(*!";
 
 /// How often a line stands before it is kept as a string.
 const OFTEN: usize = 3;
@@ -19,7 +20,7 @@ const OFTEN: usize = 3;
 const AT_ONCE: usize = 100;
 
 /// Draws the string `*o` as often as `*t` says: 64 deep, not deeper.
-const BARS: &[u8] = b".de *B\n\\&\\\\*(*o\n.nr *t -1\n.if \\\\n(*t%64 .*B\n..\n.de *A\n.*B\n.if \\\\n(*t .*A\n..\n";
+static BARS: [u8; 76] = *b".de *B\n\\&\\\\*(*o\n.nr *t -1\n.if \\\\n(*t%64 .*B\n..\n.de *A\n.*B\n.if \\\\n(*t .*A\n..\n";
 
 /// What is kept while a table goes out.
 #[derive(Clone, Copy)]
@@ -29,8 +30,6 @@ pub(crate) struct Told {
     /// There are blocks.
     pub blocks: bool,
     /// A block may have changed how lines are adjusted.
-    pub adjusts: bool,
-    /// And did.
     pub changed: bool,
     /// The last block left indent, filling and font.
     pub clean: bool,
@@ -44,13 +43,31 @@ pub(crate) struct Told {
     pub string: Option<usize>,
 }
 
+/// Whether a text steps a register.
+fn steps_a_register(text: &[u8]) -> bool {
+    let mut before = 0;
+    let mut first = 0;
+    for byte in text {
+        if first == b'\\' && before == b'n' && (*byte == b'+' || *byte == b'-') {
+            return true;
+        }
+        first = before;
+        before = *byte;
+    }
+    false
+}
+
+/// Whether a width ends with a scale.
+fn is_scaled(text: &[u8]) -> bool {
+    text.is_empty() || matches!(text[text.len() - 1], b'a'..=b'z' | b'A'..=b'Z' | b')')
+}
+
 impl Told {
     /// Nothing went out.
     fn new() -> Told {
         Told {
             names: 0,
             blocks: false,
-            adjusts: false,
             changed: false,
             clean: false,
             columns: None,
@@ -75,18 +92,14 @@ impl Table {
 
     /// Whether a request between rows defines something.
     fn has_definitions(&self) -> bool {
-        self.items.as_slice().iter().any(|item| match item {
-            Item::Request(span) => defines(self.bytes(*span)),
-            _ => false,
-        })
-    }
-
-    /// Whether a text steps a register.
-    fn steps_a_register(&self, span: Span) -> bool {
-        let text = self.bytes(span);
-        (2..text.len()).any(|at| {
-            text[at - 2] == b'\\' && text[at - 1] == b'n' && (text[at] == b'+' || text[at] == b'-')
-        })
+        for item in self.items.as_slice() {
+            if let Item::Request(span) = item {
+                if defines(self.bytes(*span)) {
+                    return true;
+                }
+            }
+        }
+        false
     }
 
     /// A field of which only the formatter knows the width, or a block, has a number.
@@ -97,18 +110,34 @@ impl Table {
         told: &mut Told,
         out: &mut Out<'_, W>,
     ) -> Result<(), Fault> {
-        let mut cell = self.cells.get(number);
-        let text = cell.field.form == Form::Text && cell.width.is_none();
-        if !text && cell.field.form != Form::Block {
+        let mut cell = self.cell_of(number);
+        let text = matches!(cell.field.form, Form::Text) && cell.width.is_none();
+        if !text && !matches!(cell.field.form, Form::Block) {
             return Ok(());
         }
-        told.names += 1;
+        told.names = told.names.saturating_add(1);
         cell.name = told.names;
-        if text && (stored || self.steps_a_register(cell.field.span)) {
-            out.line(&[T(b".ds *t"), N(cell.name), T(b" \""), T(self.bytes(cell.field.span))])?;
+        if text && (stored || steps_a_register(self.bytes(cell.field.span))) {
+            let bytes = self.bytes(cell.field.span);
+            out.line(&[T(b".ds *t"), N(cell.name), T(b" \""), T(bytes)])?;
             cell.stored = true;
         }
-        self.cells.set(number, cell);
+        set_item(&mut self.cells, number, cell);
+        Ok(())
+    }
+
+    /// The fields of a row.
+    fn name_row<W: Sink>(
+        &mut self,
+        number: usize,
+        stored: bool,
+        told: &mut Told,
+        out: &mut Out<'_, W>,
+    ) -> Result<(), Fault> {
+        let row = self.row(number);
+        for cell in row.cells..row.cells_end {
+            self.name_cell(cell, stored, told, out)?;
+        }
         Ok(())
     }
 
@@ -116,16 +145,11 @@ impl Table {
     fn name_cells<W: Sink>(&mut self, told: &mut Told, out: &mut Out<'_, W>) -> Result<(), Fault> {
         let stored = self.has_definitions();
         for place in 0..self.items.len() {
-            match self.items.get(place) {
+            match self.item(place) {
                 Item::Request(span) if defines(self.bytes(span)) => {
                     out.line(&[T(self.bytes(span))])?;
                 }
-                Item::Row(number) => {
-                    let row = self.rows.get(number);
-                    for cell in row.cells..row.cells_end {
-                        self.name_cell(cell, stored, told, out)?;
-                    }
-                }
+                Item::Row(number) => self.name_row(number, stored, told, out)?,
                 _ => {}
             }
         }
@@ -134,7 +158,7 @@ impl Table {
 
     /// The width of a field, as an expression.
     pub(crate) fn put_width<W: Sink>(&self, cell: Cell, out: &mut Out<'_, W>) -> Result<(), Fault> {
-        if cell.field.form == Form::Block {
+        if matches!(cell.field.form, Form::Block) {
             return out.pieces(&[T(b"\\n[*x"), N(cell.name), T(b"]u")]);
         }
         if cell.name > 0 {
@@ -142,7 +166,11 @@ impl Table {
             self.put_unset(cell, out)?;
             return out.put(b"\x01u");
         }
-        out.pieces(&[N(cell.width.unwrap_or(0)), T(b"n")])
+        let cells = match cell.width {
+            Some(cells) => cells,
+            None => 0,
+        };
+        out.pieces(&[N(cells), T(b"n")])
     }
 
     /// The text of a field without its font.
@@ -155,12 +183,11 @@ impl Table {
 
     /// How much of a number stands before the place where it is aligned, as an expression.
     pub(crate) fn put_front<W: Sink>(&self, cell: Cell, out: &mut Out<'_, W>) -> Result<(), Fault> {
-        if let Some(Some(cells)) = self.front_of(cell) {
-            return out.pieces(&[N(cells), T(b"n")]);
+        let span = self.front_span(cell);
+        match self.front_cells(cell) {
+            Some(cells) => out.pieces(&[N(cells), T(b"n")]),
+            None => out.pieces(&[T(b"\\w\x01"), T(self.bytes(span)), T(b"\x01u")]),
         }
-        let span = cell.field.span;
-        let end = (span.start + cell.field.front.unwrap_or(0)).min(span.end);
-        out.pieces(&[T(b"\\w\x01"), T(self.bytes(Span { end, ..span })), T(b"\x01u")])
     }
 
     /// A register of a column takes a greater width of a field.
@@ -214,11 +241,7 @@ impl Table {
         out.line(&[T(b".nr *w"), N(number), T(b" "), N(column.width), T(b"n")])?;
         if let (Some(span), None) = (column.least, column.least_cells) {
             let text = self.bytes(span);
-            let scaled = match text.last() {
-                Some(byte) => byte.is_ascii_alphabetic() || *byte == b')',
-                None => true,
-            };
-            let scale: &[u8] = if scaled { b"" } else { b"n" };
+            let scale: &[u8] = if is_scaled(text) { b"" } else { b"n" };
             out.line(&[T(b".nr *t ("), T(text), T(scale), T(b")+12/24*24")])?;
             self.most_of(number, &[T(b"\\n(*tu")], out)?;
         }
@@ -236,7 +259,11 @@ impl Table {
     fn told_cell(&self, row: usize, column: usize) -> Option<Cell> {
         let cell = self.cell(row, column);
         let here = cell.top == row && cell.first == column && !cell.spans();
-        (here && cell.measures() && cell.name > 0).then_some(cell)
+        if here && cell.measures() && cell.name > 0 {
+            Some(cell)
+        } else {
+            None
+        }
     }
 
     /// Numbers and fields of `a` of which only the formatter knows the widths.
@@ -250,7 +277,7 @@ impl Table {
             if cell.key.kind == b'a' {
                 alphas = true;
                 self.most_width(b'a', number, cell, false, false, out)?;
-            } else if self.front_of(cell).is_some() {
+            } else if self.is_number(cell) {
                 numbers = true;
                 self.most_width(b'l', number, cell, true, false, out)?;
                 self.most_width(b'q', number, cell, true, true, out)?;
@@ -273,12 +300,12 @@ impl Table {
 
     /// Other fields of which only the formatter knows the widths.
     fn put_widest<W: Sink>(&self, number: usize, out: &mut Out<'_, W>) -> Result<(), Fault> {
-        let mut count = 0;
+        let mut count: usize = 0;
         for row in 0..self.rows.len() {
             let Some(cell) = self.told_cell(row, number) else {
                 continue;
             };
-            if cell.key.kind == b'a' || self.front_of(cell).is_some() {
+            if cell.key.kind == b'a' || self.is_number(cell) {
                 continue;
             }
             if count % AT_ONCE == 0 {
@@ -287,7 +314,7 @@ impl Table {
                 }
                 out.put(b".in 0\n.nf\n.di *z\n")?;
             }
-            count += 1;
+            count = count.saturating_add(1);
             out.put(b"\\&")?;
             self.put_unset(cell, out)?;
             out.put(b"\n")?;
@@ -306,13 +333,13 @@ impl Table {
         sign: &[u8],
         out: &mut Out<'_, W>,
     ) -> Result<(), Fault> {
-        for number in first..last + 1 {
+        for number in first..last.saturating_add(1) {
             if number > first {
                 out.put(sign)?;
             }
             out.pieces(&[T(b"\\n[*w"), N(number), T(b"]u")])?;
             if number < last {
-                out.pieces(&[T(sign), N(self.columns.get(number).gap), T(b"n")])?;
+                out.pieces(&[T(sign), N(self.column(number).gap), T(b"n")])?;
             }
         }
         Ok(())
@@ -323,9 +350,9 @@ impl Table {
         out.put(b"-")?;
         self.put_total(first, last, b"-", out)?;
         out.put(b"/24\n.if \\n(*S>0 \\{\\\n")?;
-        for number in first..last + 1 {
-            let left = last + 1 - number;
-            out.line(&[T(b".nr *t \\n(*S+"), N(left - 1), T(b"/"), N(left)])?;
+        for number in first..last.saturating_add(1) {
+            let left = last.saturating_add(1).saturating_sub(number).max(1);
+            out.line(&[T(b".nr *t \\n(*S+"), N(left.saturating_sub(1)), T(b"/"), N(left)])?;
             out.line(&[T(b".nr *w"), N(number), T(b" +(\\n(*tn)")])?;
             if left > 1 {
                 out.put(b".nr *S -\\n(*t\n")?;
@@ -334,40 +361,60 @@ impl Table {
         out.put(b".\\}\n")
     }
 
-    /// The columns: by their fields, then by fields over several of them.
+    /// The columns by their fields.
     fn put_columns<W: Sink>(&self, out: &mut Out<'_, W>) -> Result<(), Fault> {
         for number in 0..self.columns.len() {
-            let column = self.columns.get(number);
+            let column = self.column(number);
             self.put_column(number, column, out)?;
             self.put_aligned(number, column, out)?;
             self.put_widest(number, out)?;
         }
+        Ok(())
+    }
+
+    /// What a field over several columns lacks is dealt out.
+    fn put_span<W: Sink>(&self, cell: Cell, out: &mut Out<'_, W>) -> Result<(), Fault> {
+        out.put(b".nr *S ")?;
+        self.put_width(cell, out)?;
+        if cell.key.kind == b'a' {
+            out.put(b"+2n")?;
+        }
+        self.put_widening(cell.first, cell.last, out)
+    }
+
+    /// Fields over several columns.
+    fn put_spans<W: Sink>(&self, out: &mut Out<'_, W>) -> Result<(), Fault> {
         for cell in self.cells.as_slice() {
             if cell.measures() && cell.spans() {
-                out.put(b".nr *S ")?;
-                self.put_width(*cell, out)?;
-                if cell.key.kind == b'a' {
-                    out.put(b"+2n")?;
-                }
-                self.put_widening(cell.first, cell.last, out)?;
+                self.put_span(*cell, out)?;
             }
         }
         Ok(())
     }
 
-    /// Columns of `e`.
-    fn put_equal<W: Sink>(&self, out: &mut Out<'_, W>) -> Result<(), Fault> {
-        if !self.columns.as_slice().iter().any(|column| column.equal) {
-            return Ok(());
-        }
-        out.put(b".nr *S 0\n")?;
-        for (number, column) in self.columns.as_slice().iter().enumerate() {
-            if column.equal {
-                out.line(&[T(b".if \\n[*w"), N(number), T(b"]u>\\n[*S] .nr *S \\n[*w"), N(number), T(b"]u")])?;
+    /// The greatest width of columns of `e`; tells whether there is one.
+    fn put_most_equal<W: Sink>(&self, out: &mut Out<'_, W>) -> Result<bool, Fault> {
+        let mut some = false;
+        for number in 0..self.columns.len() {
+            if self.column(number).equal {
+                if !some {
+                    out.put(b".nr *S 0\n")?;
+                }
+                some = true;
+                out.pieces(&[T(b".if \\n[*w"), N(number), T(b"]u>\\n[*S] .nr *S ")])?;
+                out.line(&[T(b"\\n[*w"), N(number), T(b"]u")])?;
             }
         }
-        for (number, column) in self.columns.as_slice().iter().enumerate() {
-            if column.equal {
+        Ok(some)
+    }
+
+    /// Columns of `e`.
+    fn put_equal<W: Sink>(&self, out: &mut Out<'_, W>) -> Result<(), Fault> {
+        if !self.put_most_equal(out)? {
+            return Ok(());
+        }
+        for number in 0..self.columns.len() {
+            if self.column(number).equal {
                 out.line(&[T(b".nr *w"), N(number), T(b" \\n(*S")])?;
             }
         }
@@ -376,10 +423,10 @@ impl Table {
 
     /// The space behind a column, as an expression.
     fn put_gap<W: Sink>(&self, number: usize, out: &mut Out<'_, W>) -> Result<(), Fault> {
-        if self.options.expand {
+        if self.looks.expand {
             return out.pieces(&[T(b"\\n[*s"), N(number), T(b"]u")]);
         }
-        out.pieces(&[N(self.columns.get(number).gap), T(b"n")])
+        out.pieces(&[N(self.column(number).gap), T(b"n")])
     }
 
     /// The places of columns.
@@ -389,8 +436,8 @@ impl Table {
             if number == 0 {
                 out.pieces(&[N(self.left_edge()), T(b"n")])?;
             } else {
-                out.pieces(&[T(b"\\n[*e"), N(number - 1), T(b"]u+")])?;
-                self.put_gap(number - 1, out)?;
+                out.pieces(&[T(b"\\n[*e"), N(number.saturating_sub(1)), T(b"]u+")])?;
+                self.put_gap(number.saturating_sub(1), out)?;
             }
             out.put(b"\n")?;
             out.line(&[T(b".nr *e"), N(number), T(b" \\n[*o"), N(number), T(b"]u+\\n[*w"), N(number), T(b"]u")])?;
@@ -403,76 +450,107 @@ impl Table {
 
     /// The place of bars behind a column.
     fn put_bar_place<W: Sink>(&self, number: usize, out: &mut Out<'_, W>) -> Result<(), Fault> {
-        if number + 1 >= self.columns.len() {
+        if number.saturating_add(1) >= self.columns.len() {
             return Ok(());
         }
-        out.pieces(&[T(b".nr *b"), N(number + 1), T(b" \\n[*e"), N(number), T(b"]u+")])?;
-        if self.options.expand {
+        out.pieces(&[T(b".nr *b"), N(number.saturating_add(1)), T(b" \\n[*e"), N(number), T(b"]u+")])?;
+        if self.looks.expand {
             return out.line(&[T(b"(\\n[*s"), N(number), T(b"]u/2/24*24)")]);
         }
-        out.line(&[N(self.columns.get(number).gap / 2), T(b"n")])
+        out.line(&[N(self.column(number).gap / 2), T(b"n")])
     }
 
     /// The place where the numbers of a column are aligned.
     fn put_number_place<W: Sink>(&self, c: usize, out: &mut Out<'_, W>) -> Result<(), Fault> {
-        if !self.columns.get(c).numbers {
+        if !self.column(c).numbers {
             return Ok(());
         }
         out.pieces(&[T(b".nr *p"), N(c), T(b" \\n[*w"), N(c), T(b"]u-\\n[*l"), N(c), T(b"]u-\\n[*q"), N(c)])?;
         out.line(&[T(b"]u/48*24+\\n[*o"), N(c), T(b"]u+\\n[*l"), N(c), T(b"]u")])
     }
 
-    /// Columns of `x` share what is left of the line.
-    fn share_columns<W: Sink>(&self, out: &mut Out<'_, W>) -> Result<(), Fault> {
-        let columns = self.columns.as_slice();
-        let mut left = columns.iter().filter(|column| column.wide).count();
-        for (number, column) in columns.iter().enumerate() {
-            if column.wide {
+    /// How many columns have `x`, with what they are added to what is left of the line.
+    fn put_wide<W: Sink>(&self, out: &mut Out<'_, W>) -> Result<usize, Fault> {
+        let mut count: usize = 0;
+        for number in 0..self.columns.len() {
+            if self.column(number).wide {
+                count = count.saturating_add(1);
                 out.line(&[T(b".nr *S +(\\n[*w"), N(number), T(b"]u/24)")])?;
             }
         }
-        for (number, column) in columns.iter().enumerate() {
-            if !column.wide {
-                continue;
+        Ok(count)
+    }
+
+    /// A share of what is left of the line.
+    fn put_share<W: Sink>(&self, left: usize, out: &mut Out<'_, W>) -> Result<(), Fault> {
+        out.line(&[T(b".nr *t \\n(*S+"), N(left.saturating_sub(1)), T(b"/"), N(left)])
+    }
+
+    /// Columns of `x` share what is left of the line.
+    fn share_columns<W: Sink>(&self, out: &mut Out<'_, W>) -> Result<(), Fault> {
+        let mut left = self.put_wide(out)?;
+        for number in 0..self.columns.len() {
+            if self.column(number).wide {
+                self.put_share(left, out)?;
+                out.pieces(&[T(b".if \\n[*w"), N(number), T(b"]<\\n(*tn .nr *w"), N(number)])?;
+                out.put(b" \\n(*tn\n.nr *S -\\n(*t\n")?;
+                left = left.saturating_sub(1);
             }
-            out.line(&[T(b".nr *t \\n(*S+"), N(left - 1), T(b"/"), N(left)])?;
-            out.line(&[T(b".if \\n[*w"), N(number), T(b"]<\\n(*tn .nr *w"), N(number), T(b" \\n(*tn")])?;
-            out.put(b".nr *S -\\n(*t\n")?;
-            left -= 1;
         }
         Ok(())
     }
 
-    /// The spaces between columns do.
+    /// The spaces between columns are set to nothing.
+    fn put_no_gaps<W: Sink>(&self, out: &mut Out<'_, W>) -> Result<(), Fault> {
+        for number in 0..self.columns.len().saturating_sub(1) {
+            out.line(&[T(b".nr *s"), N(number), T(b" 0")])?;
+        }
+        Ok(())
+    }
+
+    /// The spaces between columns share what is left of the line.
     fn share_gaps<W: Sink>(&self, out: &mut Out<'_, W>) -> Result<(), Fault> {
-        let columns = self.columns.len();
-        if columns == 1 {
+        let gaps = self.columns.len().saturating_sub(1);
+        if gaps == 0 {
             return out.put(b".if \\n(*S>0 .nr *w0 +(\\n(*Sn)\n");
         }
         out.put(b".ie \\n(*S>0 \\{\\\n")?;
-        for number in 0..columns - 1 {
-            let left = columns - 1 - number;
-            out.line(&[T(b".nr *t \\n(*S+"), N(left - 1), T(b"/"), N(left)])?;
-            out.line(&[T(b".nr *s"), N(number), T(b" +(\\n(*tn)")])?;
-            out.put(b".nr *S -\\n(*t\n")?;
+        for number in 0..gaps {
+            self.put_share(gaps.saturating_sub(number), out)?;
+            out.line(&[T(b".nr *s"), N(number), T(b" +(\\n(*tn)\n.nr *S -\\n(*t")])?;
         }
         out.put(b".\\}\n.el .if \\n(*S<0 \\{\\\n")?;
-        for number in 0..columns - 1 {
-            out.line(&[T(b".nr *s"), N(number), T(b" 0")])?;
-        }
+        self.put_no_gaps(out)?;
         out.put(b".\\}\n")
+    }
+
+    /// The spaces between columns, as the formats say.
+    fn put_gaps<W: Sink>(&self, out: &mut Out<'_, W>) -> Result<(), Fault> {
+        for number in 0..self.columns.len() {
+            let gap = self.column(number).gap;
+            out.line(&[T(b".nr *s"), N(number), T(b" "), N(gap), T(b"n")])?;
+        }
+        Ok(())
+    }
+
+    /// Whether a column has `x`.
+    fn has_wide(&self) -> bool {
+        for column in self.columns.as_slice() {
+            if column.wide {
+                return true;
+            }
+        }
+        false
     }
 
     /// The places of columns, with what is left of the line.
     fn place_told<W: Sink>(&self, told: &mut Told, out: &mut Out<'_, W>) -> Result<(), Fault> {
-        let wide = self.columns.as_slice().iter().any(|column| column.wide);
-        if self.options.expand {
-            for (number, column) in self.columns.as_slice().iter().enumerate() {
-                out.line(&[T(b".nr *s"), N(number), T(b" "), N(column.gap), T(b"n")])?;
-            }
+        let wide = self.has_wide();
+        if self.looks.expand {
+            self.put_gaps(out)?;
         }
         self.put_places(out)?;
-        if !wide && !self.options.expand {
+        if !wide && !self.looks.expand {
             return Ok(());
         }
         out.put(b".nr *S \\n(*L-\\n(*I-\\n(*W/24\n")?;
@@ -487,51 +565,98 @@ impl Table {
         self.put_places(out)
     }
 
+    /// What a field kept is removed.
+    fn remove_name<W: Sink>(&self, cell: Cell, out: &mut Out<'_, W>) -> Result<(), Fault> {
+        if matches!(cell.field.form, Form::Block) {
+            return out.line(&[T(b".rm *d"), N(cell.name)]);
+        }
+        if cell.stored {
+            return out.line(&[T(b".rm *t"), N(cell.name)]);
+        }
+        Ok(())
+    }
+
+    /// What fields kept is removed.
+    fn remove_names<W: Sink>(&self, out: &mut Out<'_, W>) -> Result<(), Fault> {
+        for cell in self.cells.as_slice() {
+            self.remove_name(*cell, out)?;
+        }
+        Ok(())
+    }
+
     /// What stands behind a table.
     fn end_told<W: Sink>(&self, told: Told, out: &mut Out<'_, W>) -> Result<(), Fault> {
-        for cell in self.cells.as_slice() {
-            if cell.field.form == Form::Block {
-                out.line(&[T(b".rm *d"), N(cell.name)])?;
-            } else if cell.stored {
-                out.line(&[T(b".rm *t"), N(cell.name)])?;
-            }
-        }
+        self.remove_names(out)?;
         if told.blocks {
             out.put(b".ft R\n.ll \\n(*Pu\n.ll \\n(*Lu\n")?;
-            if told.changed {
-                self.adjust(out)?;
-            }
+        }
+        if told.blocks && told.changed {
+            self.adjust(out)?;
         }
         out.put(b".in \\n(*Iu\n.ie \\n(*u .fi\n.el .nf\n.if !\\n(*C .cp 1\n")
     }
 
+    /// The first rule from a step on.
+    fn rule_from(&self, first: usize) -> Option<(Option<usize>, Option<usize>)> {
+        for number in first..self.steps.len() {
+            if let StepKind::Rule(above, below) = self.step(number).kind {
+                return Some((above, below));
+            }
+        }
+        None
+    }
+
+    /// How many rules look like this one.
+    fn count_rules(&self, rule: (Option<usize>, Option<usize>)) -> usize {
+        let mut count: usize = 0;
+        for step in self.steps.as_slice() {
+            if let StepKind::Rule(above, below) = step.kind {
+                if self.is_same_rule(rule, (above, below)) {
+                    count = count.saturating_add(1);
+                }
+            }
+        }
+        count
+    }
+
+    /// The first row with bars from a step on.
+    fn barred_from(&self, first: usize) -> Option<usize> {
+        for number in first..self.steps.len() {
+            if let StepKind::Row(row) = self.step(number).kind {
+                if self.has_bars(row) {
+                    return Some(row);
+                }
+            }
+        }
+        None
+    }
+
+    /// How many rows of more than one line have such bars.
+    fn count_barred(&self, row: usize) -> usize {
+        let mut count: usize = 0;
+        for step in self.steps.as_slice() {
+            if let StepKind::Row(other) = step.kind {
+                if self.is_tall(other) && self.has_same_bars(row, other) {
+                    count = count.saturating_add(1);
+                }
+            }
+        }
+        count
+    }
+
     /// The rule that is kept as a string, and the row whose bars are: those in the middle, if they stand often.
     fn choose_strings(&self, told: &mut Told) {
-        let steps = self.steps.as_slice();
-        let middle = steps.len() / 2;
-        let rule = steps[middle..].iter().find_map(|step| match step.kind {
-            StepKind::Rule(above, below) => Some((above, below)),
-            _ => None,
-        });
-        if let Some(rule) = rule {
-            let same = steps.iter().filter(|step| match step.kind {
-                StepKind::Rule(above, below) => self.is_same_rule(rule, (above, below)),
-                _ => false,
-            });
-            if same.count() > OFTEN && !self.is_known() {
+        if self.is_known() {
+            return;
+        }
+        let middle = self.steps.len() / 2;
+        if let Some(rule) = self.rule_from(middle) {
+            if self.count_rules(rule) > OFTEN {
                 told.rule = Some(rule);
             }
         }
-        let row = steps[middle..].iter().find_map(|step| match step.kind {
-            StepKind::Row(row) if self.has_bars(row) => Some(row),
-            _ => None,
-        });
-        if let Some(row) = row {
-            let same = steps.iter().filter(|step| match step.kind {
-                StepKind::Row(other) => self.is_tall(other) && self.has_same_bars(row, other),
-                _ => false,
-            });
-            if same.count() > OFTEN && !self.is_known() {
+        if let Some(row) = self.barred_from(middle) {
+            if self.count_barred(row) > OFTEN {
                 told.string = Some(row);
             }
         }
@@ -539,7 +664,27 @@ impl Table {
 
     /// Whether all columns are known.
     fn is_known(&self) -> bool {
-        self.columns.as_slice().iter().all(|column| column.known)
+        for column in self.columns.as_slice() {
+            if !column.known {
+                return false;
+            }
+        }
+        true
+    }
+
+    /// Whether two rules look the same before a column and in it.
+    fn is_same_part(
+        &self,
+        one: (Option<usize>, Option<usize>),
+        other: (Option<usize>, Option<usize>),
+        column: usize,
+    ) -> bool {
+        let bars = self.bars_at(one.0, column).max(self.bars_at(one.1, column));
+        let others = self.bars_at(other.0, column).max(self.bars_at(other.1, column));
+        let inside = column < self.columns.len();
+        let covered = inside && self.is_covered(one.0, one.1, column);
+        let too = inside && self.is_covered(other.0, other.1, column);
+        bars == others && covered == too
     }
 
     /// Whether two rules look the same.
@@ -548,19 +693,22 @@ impl Table {
         one: (Option<usize>, Option<usize>),
         other: (Option<usize>, Option<usize>),
     ) -> bool {
-        (0..self.columns.len() + 1).all(|column| {
-            let bars = self.bars_at(one.0, column).max(self.bars_at(one.1, column));
-            let others = self.bars_at(other.0, column).max(self.bars_at(other.1, column));
-            let covered = column < self.columns.len() && self.is_covered(one.0, one.1, column);
-            let too = column < self.columns.len() && self.is_covered(other.0, other.1, column);
-            bars == others && covered == too
-        })
+        for column in 0..self.columns.len().saturating_add(1) {
+            if !self.is_same_part(one, other, column) {
+                return false;
+            }
+        }
+        true
     }
 
     /// Whether two rows have the same bars.
     pub(crate) fn has_same_bars(&self, one: usize, other: usize) -> bool {
-        (0..self.columns.len() + 1)
-            .all(|column| self.bars_at(Some(one), column) == self.bars_at(Some(other), column))
+        for column in 0..self.columns.len().saturating_add(1) {
+            if self.bars_at(Some(one), column) != self.bars_at(Some(other), column) {
+                return false;
+            }
+        }
+        true
     }
 
     /// A line that stands often is set once, in a diversion, and read as plain bytes.
@@ -586,39 +734,68 @@ impl Table {
         Ok(())
     }
 
-    /// A line of the table, or a request.
-    fn put_told_step<W: Sink>(&self, step: Step, told: &mut Told, out: &mut Out<'_, W>) -> Result<(), Fault> {
-        let mut pen = Pen::new();
-        match step.kind {
-            StepKind::Before(row, ruled) => return self.put_before(row, ruled, out),
-            StepKind::Beyond(row) => return self.put_beyond(row, out),
-            StepKind::Request(span) => {
-                let text = self.bytes(span);
-                if defines(text) {
-                    return Ok(());
-                }
-                out.line(&[T(text)])?;
-                if !is_harmless(text) {
-                    out.put(b".nf\n.in \\n(*Ou\n")?;
-                }
-                return Ok(());
+    /// A rule.
+    fn put_rule<W: Sink>(
+        &self,
+        between: (Option<usize>, Option<usize>),
+        told: Told,
+        out: &mut Out<'_, W>,
+    ) -> Result<(), Fault> {
+        if let Some(rule) = told.rule {
+            if self.is_same_rule(rule, between) {
+                return out.put(b"\\*[*s0]\n");
             }
-            StepKind::Bars(row, count) => {
-                for _ in 0..count {
-                    self.put_bar_line(row, *told, out)?;
-                }
-                return Ok(());
-            }
-            StepKind::Edge => self.draw_edge(&mut pen, out)?,
-            StepKind::Rule(above, below) => {
-                match told.rule {
-                    Some(rule) if self.is_same_rule(rule, (above, below)) => return out.put(b"\\*[*s0]\n"),
-                    _ => self.draw_rule(&mut pen, (above, below), None, out)?,
-                }
-            }
-            StepKind::Row(row) => return self.put_told_row(row, told, out),
         }
+        let mut pen = Pen::new();
+        self.draw_rule(&mut pen, between, None, out)?;
         pen.end(true, out)
+    }
+
+    /// The outer rule of a double box.
+    fn put_edge<W: Sink>(&self, out: &mut Out<'_, W>) -> Result<(), Fault> {
+        let mut pen = Pen::new();
+        self.draw_edge(&mut pen, out)?;
+        pen.end(true, out)
+    }
+
+    /// Lines of a row's bars.
+    fn put_bar_lines<W: Sink>(
+        &self,
+        row: usize,
+        count: usize,
+        told: Told,
+        out: &mut Out<'_, W>,
+    ) -> Result<(), Fault> {
+        for _ in 0..count {
+            self.put_bar_line(row, told, out)?;
+        }
+        Ok(())
+    }
+
+    /// A request that did not go out before.
+    fn put_told_request<W: Sink>(&self, span: Span, out: &mut Out<'_, W>) -> Result<(), Fault> {
+        if defines(self.bytes(span)) {
+            return Ok(());
+        }
+        self.put_request(span, out)
+    }
+
+    /// A line of the table, or a request.
+    fn put_told_step<W: Sink>(
+        &self,
+        step: Step,
+        told: &mut Told,
+        out: &mut Out<'_, W>,
+    ) -> Result<(), Fault> {
+        match step.kind {
+            StepKind::Before(row, ruled) => self.put_before(row, ruled, out),
+            StepKind::Beyond(row) => self.put_beyond(row, out),
+            StepKind::Request(span) => self.put_told_request(span, out),
+            StepKind::Bars(row, count) => self.put_bar_lines(row, count, *told, out),
+            StepKind::Edge => self.put_edge(out),
+            StepKind::Rule(above, below) => self.put_rule((above, below), *told, out),
+            StepKind::Row(row) => self.put_told_row(row, told, out),
+        }
     }
 
     /// A line of a row's bars.
@@ -638,8 +815,9 @@ impl Table {
         self.name_cells(told, out)?;
         self.measure_fields();
         self.put_columns(out)?;
+        self.put_spans(out)?;
         if told.blocks {
-            self.put_adjusting(told, out)?;
+            self.put_adjusting(out)?;
         }
         self.put_blocks(false, told, out)?;
         self.put_equal(out)?;
@@ -647,38 +825,24 @@ impl Table {
         self.lay_out();
         self.place_told(told, out)?;
         out.put(b".nr *O \\n(*I\n")?;
-        if self.options.center {
+        if self.looks.center {
             out.put(b".if \\n(*L-\\n(*I>\\n(*W .nr *O \\n(*L-\\n(*I-\\n(*W/48*24+\\n(*I\n")?;
         }
         Ok(())
     }
 
-    /// The table, or the part of it that was read.
-    pub(crate) fn put_told<W: Sink>(&mut self, ends: bool, out: &mut Out<'_, W>) -> Result<(), Fault> {
-        let mut told = Told::new();
-        told.blocks = self.cells.as_slice().iter().any(|cell| cell.field.form == Form::Block);
-        self.begin_told(told, out)?;
-        if self.begun {
-            self.read_columns();
+    /// Whether a field is a block.
+    fn has_blocks(&self) -> bool {
+        for cell in self.cells.as_slice() {
+            if matches!(cell.field.form, Form::Block) {
+                return true;
+            }
         }
-        self.measure_told(&mut told, out)?;
-        self.put_heights(ends, out)?;
-        if !self.bars_known && self.needs_bars() {
-            self.bars_known = true;
-            out.put(BARS)?;
-        }
-        self.choose_strings(&mut told);
-        self.put_strings(told, out)?;
-        if told.blocks && !told.clean {
-            out.put(b".ft R\n")?;
-        }
-        out.put(b".in \\n(*Ou\n.nf\n")?;
-        if self.is_boxed() && !self.options.nokeep && ends && !self.begun {
-            out.line(&[T(b".if \\n[*H]u<\\n(.p "), T(LATER), T(b".ne \\n[*H]u")])?;
-        }
-        for step in self.steps.as_slice() {
-            self.put_told_step(*step, &mut told, out)?;
-        }
+        false
+    }
+
+    /// The strings for lines go out again.
+    fn remove_strings<W: Sink>(&self, told: Told, out: &mut Out<'_, W>) -> Result<(), Fault> {
         if told.rule.is_some() {
             out.put(b".rm *s0\n")?;
         }
@@ -688,6 +852,48 @@ impl Table {
         if told.rule.is_some() || told.string.is_some() {
             out.put(b".rm *z\n")?;
         }
+        Ok(())
+    }
+
+    /// What stands between the measures and the lines.
+    fn put_told_head<W: Sink>(&mut self, ends: bool, told: &mut Told, out: &mut Out<'_, W>) -> Result<(), Fault> {
+        self.put_heights(ends, out)?;
+        if !self.bars_known && self.needs_bars() {
+            self.bars_known = true;
+            out.put(&BARS)?;
+        }
+        self.choose_strings(told);
+        self.put_strings(*told, out)?;
+        if told.blocks && !told.clean {
+            out.put(b".ft R\n")?;
+        }
+        out.put(b".in \\n(*Ou\n.nf\n")?;
+        if self.is_boxed() && !self.looks.nokeep && ends && !self.begun {
+            out.line(&[T(b".if \\n[*H]u<\\n(.p "), T(&LATER), T(b".ne \\n[*H]u")])?;
+        }
+        Ok(())
+    }
+
+    /// All lines.
+    fn put_told_steps<W: Sink>(&self, told: &mut Told, out: &mut Out<'_, W>) -> Result<(), Fault> {
+        for step in self.steps.as_slice() {
+            self.put_told_step(*step, told, out)?;
+        }
+        Ok(())
+    }
+
+    /// The table, or the part of it that was read.
+    pub(crate) fn put_told<W: Sink>(&mut self, ends: bool, out: &mut Out<'_, W>) -> Result<(), Fault> {
+        let mut told = Told::new();
+        told.blocks = self.has_blocks();
+        self.begin_told(told, out)?;
+        if self.begun {
+            self.read_columns();
+        }
+        self.measure_told(&mut told, out)?;
+        self.put_told_head(ends, &mut told, out)?;
+        self.put_told_steps(&mut told, out)?;
+        self.remove_strings(told, out)?;
         self.end_told(told, out)
     }
 }

@@ -1,8 +1,7 @@
 //! A line of a table is drawn from the left to the right.
 
-use super::extent::cells_of;
 use super::places::Place;
-use super::table::{Cell, Form, Span, StepKind, Table};
+use super::table::{Cell, Form, Table};
 use super::writing::{Out, Piece};
 use Piece::{N, P, T};
 use nr_units::sink::Sink;
@@ -26,6 +25,21 @@ pub(crate) enum Begin {
     At(Place),
     /// Where an expression says.
     Told,
+}
+
+/// Whether a text has an escape.
+fn has_escape(text: &[u8]) -> bool {
+    for byte in text {
+        if *byte == b'\\' {
+            return true;
+        }
+    }
+    false
+}
+
+/// The first byte of a text, or a blank.
+fn first_byte(text: &[u8]) -> u8 {
+    if text.is_empty() { b' ' } else { text[0] }
 }
 
 impl Pen {
@@ -57,7 +71,7 @@ impl Pen {
     /// It goes on at a place.
     pub(crate) fn to<W: Sink>(&mut self, place: Place, out: &mut Out<'_, W>) -> Result<(), Fault> {
         match self.steps_to(place) {
-            Some(cells) => self.blanks += cells,
+            Some(cells) => self.blanks = self.blanks.saturating_add(cells),
             None => {
                 self.release(out)?;
                 self.begun = true;
@@ -150,7 +164,7 @@ impl Table {
             out.put(text)?;
         }
         if cell.key.font != 0 {
-            let back = if text.contains(&b'\\') { b'R' } else { b'P' };
+            let back = if has_escape(text) { b'R' } else { b'P' };
             out.put(&[b'\\', b'f', back])?;
         }
         Ok(())
@@ -164,8 +178,8 @@ impl Table {
         cell: Cell,
         out: &mut Out<'_, W>,
     ) -> Result<(), Fault> {
-        let right = self.columns.get(cell.last).right;
-        pen.to(self.columns.get(cell.first).left, out)?;
+        let right = self.column(cell.last).right;
+        pen.to(self.column(cell.first).left, out)?;
         pen.begin(byte, out)?;
         match pen.steps_to(right) {
             Some(cells) if byte != b'\\' => {
@@ -195,7 +209,11 @@ impl Table {
             }
         }
         let text = self.bytes(cell.field.span);
-        let first = if cell.key.font == 0 && !cell.stored { text[0] } else { b'\\' };
+        let first = if cell.key.font == 0 && !cell.stored {
+            first_byte(text)
+        } else {
+            b'\\'
+        };
         pen.begin(first, out)?;
         self.put_text(cell, out)?;
         pen.passed(width);
@@ -211,8 +229,8 @@ impl Table {
     ) -> Result<(), Fault> {
         match cell.field.form {
             Form::Inner => {
-                pen.to(self.columns.get(cell.first).left, out)?;
-                pen.dash(self.columns.get(cell.last).right, out)
+                pen.to(self.column(cell.first).left, out)?;
+                pen.dash(self.column(cell.last).right, out)
             }
             Form::Repeat(byte) => self.draw_repeat(pen, byte, cell, out),
             Form::Text if cell.field.has_text() => self.draw_text(pen, cell, out),
@@ -268,7 +286,7 @@ impl Table {
         line: Option<usize>,
         out: &mut Out<'_, W>,
     ) -> Result<(), Fault> {
-        for column in 0..self.columns.len() + 1 {
+        for column in 0..self.columns.len().saturating_add(1) {
             self.draw_bar(pen, row, column, (false, false), out)?;
             if column < self.columns.len() {
                 self.draw_falling(pen, row, column, line, out)?;
@@ -289,13 +307,13 @@ impl Table {
         for column in 0..self.columns.len() {
             let cell = self.cell(row, column);
             let own = cell.top == row;
-            let now = own && cell.field.form == Form::Rule;
+            let now = own && matches!(cell.field.form, Form::Rule);
             let bars = self.draw_bar(pen, row, column, (was, now), out)?;
             if own && cell.first == column && now {
                 if !was && !bars {
-                    pen.to(self.columns.get(column).left, out)?;
+                    pen.to(self.column(column).left, out)?;
                 }
-                pen.dash(self.columns.get(cell.last).right, out)?;
+                pen.dash(self.column(cell.last).right, out)?;
             } else if own && cell.first == column && !cell.falls {
                 self.draw_field(pen, cell, out)?;
             } else {
@@ -307,12 +325,17 @@ impl Table {
         Ok(())
     }
 
+    /// The bars of a box at an edge of the table.
+    fn framing_bars_at(&self, edge: bool) -> usize {
+        if edge && self.is_boxed() { 1 } else { 0 }
+    }
+
     /// How many bars meet a rule before a column.
     fn meeting_bars(&self, above: Option<usize>, below: Option<usize>, column: usize) -> usize {
         let edge = column == 0 || column == self.columns.len();
         self.bars_at(above, column)
             .max(self.bars_at(below, column))
-            .max(usize::from(edge && self.is_boxed()))
+            .max(self.framing_bars_at(edge))
     }
 
     /// The part of a rule in a column.
@@ -354,7 +377,7 @@ impl Table {
                 Some(below) if was => self.draw_falling(pen, below, column, line, out)?,
                 _ => {}
             }
-            let right = self.columns.get(column).right;
+            let right = self.column(column).right;
             if was {
                 pen.to(right, out)?;
             } else {
@@ -379,46 +402,67 @@ impl Table {
         pen.bars(b'+', 1, out)
     }
 
-    /// Where a number that shows its width begins in a column of so many cells.
+    /// How far a number that shows its width is moved in, in a column of so many cells.
     fn number_begin(&self, cell: Cell, room: usize) -> Option<usize> {
-        let front = self.front_of(cell)??;
-        let column = self.columns.get(cell.first);
-        let rest = room.saturating_sub(column.front + column.back) / 2;
-        Some((rest + column.front).saturating_sub(front))
+        if !self.is_number(cell) || cell.spans() {
+            return None;
+        }
+        let front = self.front_cells(cell)?;
+        let column = self.column(cell.first);
+        let numbers = column.front.saturating_add(column.back);
+        let rest = room.saturating_sub(numbers) / 2;
+        Some(rest.saturating_add(column.front).saturating_sub(front))
+    }
+
+    /// How far a field in the middle of so many cells is moved in.
+    fn middle_begin(&self, cell: Cell, room: usize, width: usize) -> usize {
+        match self.number_begin(cell, room) {
+            Some(cells) => cells,
+            None => room.saturating_sub(width) / 2,
+        }
     }
 
     /// Where a field that shows its width begins, in columns of so many cells.
     pub(crate) fn begin_in(&self, cell: Cell, room: usize) -> Place {
-        let left = self.columns.get(cell.first).left;
-        let width = cell.width.unwrap_or(0);
+        let left = self.column(cell.first).left;
+        let width = match cell.width {
+            Some(width) => width,
+            None => 0,
+        };
         match cell.key.kind {
             b'r' => Place {
-                cells: (left.cells + room).saturating_sub(width),
+                cells: left.cells.saturating_add(room).saturating_sub(width),
                 ..left
             },
             b'a' if cell.spans() => left.on(1),
-            b'a' => left.on(room.saturating_sub(self.columns.get(cell.first).alpha) / 2),
-            b'c' | b'n' => {
-                let number = if cell.spans() { None } else { self.number_begin(cell, room) };
-                left.on(number.unwrap_or(room.saturating_sub(width) / 2))
-            }
+            b'a' => left.on(room.saturating_sub(self.column(cell.first).alpha) / 2),
+            b'c' | b'n' => left.on(self.middle_begin(cell, room, width)),
             _ => left,
         }
     }
 
+    /// A field beyond the columns, in one line.
+    fn put_joined<W: Sink>(&self, text: &[u8], out: &mut Out<'_, W>) -> Result<(), Fault> {
+        for byte in text {
+            let byte = if *byte == b'\n' { b' ' } else { *byte };
+            out.put(&[byte])?;
+        }
+        Ok(())
+    }
+
     /// The fields of a row that stand in no column.
-    pub(crate) fn put_beyond<W: Sink>(&self, number: usize, out: &mut Out<'_, W>) -> Result<(), Fault> {
-        let row = self.rows.get(number);
+    pub(crate) fn put_beyond<W: Sink>(
+        &self,
+        number: usize,
+        out: &mut Out<'_, W>,
+    ) -> Result<(), Fault> {
+        let row = self.row(number);
         out.put(b"\\&")?;
         for place in row.beyond..row.end {
             if place > row.beyond {
                 out.put(b" ")?;
             }
-            let field = self.fields.get(place);
-            for byte in self.bytes(field.span) {
-                let byte = if *byte == b'\n' { b' ' } else { *byte };
-                out.put(&[byte])?;
-            }
+            self.put_joined(self.bytes(self.field(place).span), out)?;
         }
         out.put(b"\n")
     }

@@ -2,7 +2,7 @@
 
 use super::pen::Pen;
 use super::requests::is_harmless;
-use super::table::{Item, Step, StepKind, Table};
+use super::table::{Item, Span, Step, StepKind, Table};
 use super::writing::{Out, Piece};
 use Piece::{N, T};
 use nr_units::sink::Sink;
@@ -11,10 +11,14 @@ use nr_units::source::Fault;
 impl Table {
     /// Whether a request between rows may change filling or indent.
     fn is_moved(&self) -> bool {
-        self.items.as_slice().iter().any(|item| match item {
-            Item::Request(span) => !is_harmless(self.bytes(*span)),
-            _ => false,
-        })
+        for item in self.items.as_slice() {
+            if let Item::Request(span) = item {
+                if !is_harmless(self.bytes(*span)) {
+                    return true;
+                }
+            }
+        }
+        false
     }
 
     /// Room for so many lines is asked for; in a diversion where it is printed.
@@ -26,40 +30,52 @@ impl Table {
     /// What stands before the lines.
     fn put_head<W: Sink>(&self, lines: usize, ends: bool, out: &mut Out<'_, W>) -> Result<(), Fault> {
         out.put(b".br\n.nr *u \\n(.u\n.nr *I \\n(.i\n.nf\n")?;
-        if self.options.center {
+        if self.looks.center {
             let width = self.end().cells;
             out.line(&[T(b".nr *O \\n(.l-\\n(.i-"), N(width), T(b"n/48*24")])?;
             out.put(b".if \\n(*O>0 .in +\\n(*Ou\n")?;
         }
-        if self.is_boxed() && !self.options.nokeep && ends {
+        if self.is_boxed() && !self.looks.nokeep && ends {
             self.put_need(lines, out)?;
         }
         Ok(())
     }
 
-    /// A line, or lines of bars.
+    /// A request, and what it may have changed.
+    pub(crate) fn put_request<W: Sink>(&self, span: Span, out: &mut Out<'_, W>) -> Result<(), Fault> {
+        let text = self.bytes(span);
+        out.line(&[T(text)])?;
+        if !is_harmless(text) {
+            out.put(b".nf\n.in \\n(*Ou\n")?;
+        }
+        Ok(())
+    }
+
+    /// Lines of a row's bars.
+    fn put_bars<W: Sink>(
+        &self,
+        row: usize,
+        count: usize,
+        line: usize,
+        out: &mut Out<'_, W>,
+    ) -> Result<(), Fault> {
+        for place in 0..count {
+            let mut pen = Pen::new();
+            self.draw_bars(&mut pen, row, Some(line.saturating_add(place)), out)?;
+            pen.end(false, out)?;
+        }
+        Ok(())
+    }
+
+    /// A line.
     fn put_step<W: Sink>(&self, step: Step, out: &mut Out<'_, W>) -> Result<(), Fault> {
         let mut pen = Pen::new();
         let line = Some(step.line);
         match step.kind {
             StepKind::Before(_, _) => return Ok(()),
             StepKind::Beyond(row) => return self.put_beyond(row, out),
-            StepKind::Request(span) => {
-                let text = self.bytes(span);
-                out.line(&[T(text)])?;
-                if !is_harmless(text) {
-                    out.put(b".nf\n.in \\n(*Ou\n")?;
-                }
-                return Ok(());
-            }
-            StepKind::Bars(row, count) => {
-                for place in 0..count {
-                    let mut pen = Pen::new();
-                    self.draw_bars(&mut pen, row, Some(step.line + place), out)?;
-                    pen.end(false, out)?;
-                }
-                return Ok(());
-            }
+            StepKind::Request(span) => return self.put_request(span, out),
+            StepKind::Bars(row, count) => return self.put_bars(row, count, step.line, out),
             StepKind::Edge => self.draw_edge(&mut pen, out)?,
             StepKind::Rule(above, below) => self.draw_rule(&mut pen, (above, below), line, out)?,
             StepKind::Row(row) => self.draw_row(&mut pen, row, line, out)?,
@@ -67,16 +83,20 @@ impl Table {
         pen.end(false, out)
     }
 
+    /// All lines.
+    fn put_steps<W: Sink>(&self, out: &mut Out<'_, W>) -> Result<(), Fault> {
+        for step in self.steps.as_slice() {
+            self.put_step(*step, out)?;
+        }
+        Ok(())
+    }
+
     /// The table, or the part of it that was read.
     pub(crate) fn put_measured<W: Sink>(&mut self, ends: bool, out: &mut Out<'_, W>) -> Result<(), Fault> {
         let opens = !self.measured;
         if opens {
             self.measure_all();
-            for number in 0..self.columns.len() {
-                let mut column = self.columns.get(number);
-                column.known = true;
-                self.columns.set(number, column);
-            }
+            self.know_all();
             self.lay_out();
         }
         let lines = self.take_steps(ends);
@@ -89,9 +109,7 @@ impl Table {
         if moved {
             out.put(b".nr *O \\n(.i\n")?;
         }
-        for step in self.steps.as_slice() {
-            self.put_step(*step, out)?;
-        }
+        self.put_steps(out)?;
         if ends {
             self.end_measured(out)?;
         }
@@ -105,7 +123,7 @@ impl Table {
     }
 
     /// The table goes out, or the part of it that was read.
-    pub(crate) fn put_table<W: Sink>(
+    pub fn put_table<W: Sink>(
         &mut self,
         ends: bool,
         out: &mut Out<'_, W>,
