@@ -6,13 +6,13 @@ use super::table::{Cell, Column, Form, Key, Span, Table};
 use nr_units::{Ctx, Scale, read_expr};
 
 /// The units of a cell.
-const CELL: i64 = 24;
+const CELL: u64 = 24;
 
 /// The units of a line.
 const LINE: i64 = 40;
 
-/// The greatest width in units that counts.
-const MOST: i64 = 24_000_000;
+/// The greatest width in cells that counts.
+const MOST: u64 = 1_000_000;
 
 impl Cell {
     /// Whether it counts for the width of its columns.
@@ -28,8 +28,11 @@ impl Cell {
 
 /// Units in cells, the nearest number of them.
 fn cells_in_units(units: i64) -> usize {
-    let units = units.max(0).min(MOST);
-    ((units + CELL / 2) / CELL) as usize
+    if units <= 0 {
+        return 0;
+    }
+    let cells = units.unsigned_abs().saturating_add(CELL / 2) / CELL;
+    cells.min(MOST) as usize
 }
 
 /// The greater of two gaps.

@@ -5,7 +5,7 @@ ghost use Rattle.std.specs.Prelude.{◌≤◌};
 use super::lists::set_item;
 use super::pen::{Begin, Pen};
 use super::requests::{adjusts, is_soft, prints};
-use super::table::{Cell, Form, Item, Row, Stand, Tall, Table};
+use super::table::{Cell, Form, Item, Row, Stand, Table, Tall};
 use super::told::{LATER, Told};
 use super::writing::{Out, Piece};
 use Piece::{N, P, T};
@@ -96,7 +96,9 @@ impl Table {
     /// How lines are adjusted is found by one that is spread, where a block changes it.
     pub(crate) fn put_adjusting<W: Sink>(&self, out: &mut Out<'_, W>) -> Result<(), Fault> {
         if self.has_adjusting() {
-            return out.put(b".di *z\n.in 0\n.ll 5n\n.fi\na b ccc\n.br\n.di\n.nr *J \\n(dl\n.rm *z\n");
+            return out.put(
+                b".di *z\n.in 0\n.ll 5n\n.fi\na b ccc\n.br\n.di\n.nr *J \\n(dl\n.rm *z\n",
+            );
         }
         Ok(())
     }
@@ -155,7 +157,12 @@ impl Table {
     }
 
     /// The line's length of a block: the width of its columns; where one has no `w`, the line's share if that is more.
-    fn put_length<W: Sink>(&self, cell: Cell, told: &mut Told, out: &mut Out<'_, W>) -> Result<(), Fault> {
+    fn put_length<W: Sink>(
+        &self,
+        cell: Cell,
+        told: &mut Told,
+        out: &mut Out<'_, W>,
+    ) -> Result<(), Fault> {
         if self.is_alike(cell, *told) {
             let number = cell.first;
             out.pieces(&[T(b".if \\n[*w"), N(number), T(b"]>\\n(*S .ll \\n[*w")])?;
@@ -173,7 +180,12 @@ impl Table {
     }
 
     /// A block is set.
-    fn put_block<W: Sink>(&self, cell: Cell, told: &mut Told, out: &mut Out<'_, W>) -> Result<(), Fault> {
+    fn put_block<W: Sink>(
+        &self,
+        cell: Cell,
+        told: &mut Told,
+        out: &mut Out<'_, W>,
+    ) -> Result<(), Fault> {
         let lines = self.lines_of(cell);
         if told.changed && !lines.adjusts {
             self.adjust(out)?;
@@ -205,7 +217,11 @@ impl Table {
         if matches!(cell.key.kind, b'r' | b'c' | b'a') {
             out.line(&[T(b".nr *x"), N(cell.name), T(b" \\n(dl")])?;
         }
-        let width: &[u8] = if cell.key.kind == b'a' { b"\\n(dlu+2n" } else { b"\\n(dlu" };
+        let width: &[u8] = if cell.key.kind == b'a' {
+            b"\\n(dlu+2n"
+        } else {
+            b"\\n(dlu"
+        };
         if cell.spans() {
             out.pieces(&[T(b".nr *S "), T(width)])?;
             return self.put_widening(cell.first, cell.last, out);
@@ -214,7 +230,12 @@ impl Table {
     }
 
     /// The blocks are set: those in columns that share the line behind the sharing.
-    pub(crate) fn put_blocks<W: Sink>(&self, wide: bool, told: &mut Told, out: &mut Out<'_, W>) -> Result<(), Fault> {
+    pub(crate) fn put_blocks<W: Sink>(
+        &self,
+        wide: bool,
+        told: &mut Told,
+        out: &mut Out<'_, W>,
+    ) -> Result<(), Fault> {
         for cell in self.cells.as_slice() {
             if matches!(cell.field.form, Form::Block) && self.is_wide(*cell) == wide {
                 self.put_block(*cell, told, out)?;
@@ -246,7 +267,12 @@ impl Table {
     }
 
     /// A row becomes as high as its blocks need: its own, or those that go on from above.
-    fn put_most_heights<W: Sink>(&self, row: usize, own: bool, out: &mut Out<'_, W>) -> Result<(), Fault> {
+    fn put_most_heights<W: Sink>(
+        &self,
+        row: usize,
+        own: bool,
+        out: &mut Out<'_, W>,
+    ) -> Result<(), Fault> {
         for column in 0..self.columns.len() {
             let cell = self.cell(row, column);
             if cell.first == column && self.is_high(cell, row) && (cell.top == row) == own {
@@ -257,7 +283,11 @@ impl Table {
     }
 
     /// How high a row is.
-    fn put_row_height<W: Sink>(&mut self, number: usize, out: &mut Out<'_, W>) -> Result<(), Fault> {
+    fn put_row_height<W: Sink>(
+        &mut self,
+        number: usize,
+        out: &mut Out<'_, W>,
+    ) -> Result<(), Fault> {
         let own = self.count_blocks(number, true);
         let ending = self.count_blocks(number, false);
         let row = self.row(number);
@@ -290,7 +320,12 @@ impl Table {
     }
 
     /// What a block needs of a row, as an expression.
-    fn put_needed<W: Sink>(&self, cell: Cell, row: usize, out: &mut Out<'_, W>) -> Result<(), Fault> {
+    fn put_needed<W: Sink>(
+        &self,
+        cell: Cell,
+        row: usize,
+        out: &mut Out<'_, W>,
+    ) -> Result<(), Fault> {
         if cell.top == row {
             return out.pieces(&[T(b"\\n[*h"), N(cell.name), T(b"]")]);
         }
@@ -300,7 +335,12 @@ impl Table {
     }
 
     /// A row becomes as high as a block needs.
-    fn put_most_height<W: Sink>(&self, cell: Cell, row: usize, out: &mut Out<'_, W>) -> Result<(), Fault> {
+    fn put_most_height<W: Sink>(
+        &self,
+        cell: Cell,
+        row: usize,
+        out: &mut Out<'_, W>,
+    ) -> Result<(), Fault> {
         let item = self.row(row).item;
         out.put(b".if ")?;
         self.put_needed(cell, row, out)?;
@@ -400,7 +440,11 @@ impl Table {
     }
 
     /// How high the rows are, and the table.
-    pub(crate) fn put_heights<W: Sink>(&mut self, ends: bool, out: &mut Out<'_, W>) -> Result<(), Fault> {
+    pub(crate) fn put_heights<W: Sink>(
+        &mut self,
+        ends: bool,
+        out: &mut Out<'_, W>,
+    ) -> Result<(), Fault> {
         self.put_row_heights(out)?;
         self.take_steps(ends);
         if !self.is_boxed() || self.looks.nokeep {
@@ -420,7 +464,7 @@ impl Table {
     }
 
     /// The last row over which a field of a row goes on.
-    fn last_below(&self, number: usize) -> usize {
+    pub(crate) fn last_below(&self, number: usize) -> usize {
         let row = self.row(number);
         let mut last = number;
         for cell in row.cells..row.cells_end {
@@ -431,7 +475,12 @@ impl Table {
 
     /// Room is asked for a row and what goes on below it. One line more: a row that reaches the page's end would spring
     /// its trap, and no motion leads back over that.
-    pub(crate) fn put_before<W: Sink>(&self, number: usize, ruled: bool, out: &mut Out<'_, W>) -> Result<(), Fault> {
+    pub(crate) fn put_before<W: Sink>(
+        &self,
+        number: usize,
+        ruled: bool,
+        out: &mut Out<'_, W>,
+    ) -> Result<(), Fault> {
         let last = self.last_below(number);
         if last == number && !self.is_tall(number) {
             return Ok(());
@@ -454,7 +503,12 @@ impl Table {
     }
 
     /// The other lines of a row that is higher than one: its bars, or space.
-    fn put_more_lines<W: Sink>(&self, row: usize, told: &mut Told, out: &mut Out<'_, W>) -> Result<(), Fault> {
+    fn put_more_lines<W: Sink>(
+        &self,
+        row: usize,
+        told: &mut Told,
+        out: &mut Out<'_, W>,
+    ) -> Result<(), Fault> {
         if !self.has_bars(row) {
             out.put(b".if ")?;
             self.put_height(row, out)?;
@@ -501,7 +555,12 @@ impl Table {
     }
 
     /// A row, with what stands beside it.
-    pub(crate) fn put_told_row<W: Sink>(&self, row: usize, told: &mut Told, out: &mut Out<'_, W>) -> Result<(), Fault> {
+    pub(crate) fn put_told_row<W: Sink>(
+        &self,
+        row: usize,
+        told: &mut Told,
+        out: &mut Out<'_, W>,
+    ) -> Result<(), Fault> {
         let mut pen = Pen::new();
         self.draw_row(&mut pen, row, None, out)?;
         pen.end(true, out)?;
@@ -528,7 +587,13 @@ impl Table {
     }
 
     /// Up by what the row took, the block, and down again.
-    fn put_block_beside<W: Sink>(&self, cell: Cell, row: usize, alone: bool, out: &mut Out<'_, W>) -> Result<(), Fault> {
+    fn put_block_beside<W: Sink>(
+        &self,
+        cell: Cell,
+        row: usize,
+        alone: bool,
+        out: &mut Out<'_, W>,
+    ) -> Result<(), Fault> {
         out.pieces(&[T(&LATER), T(b".sp -(")])?;
         if alone {
             out.put(b"1v")?;
@@ -573,7 +638,12 @@ impl Table {
     }
 
     /// A field that goes on over rows above: up from their end.
-    fn put_falling<W: Sink>(&self, cell: Cell, row: usize, out: &mut Out<'_, W>) -> Result<(), Fault> {
+    fn put_falling<W: Sink>(
+        &self,
+        cell: Cell,
+        row: usize,
+        out: &mut Out<'_, W>,
+    ) -> Result<(), Fault> {
         let drawn = match cell.field.form {
             Form::Text => cell.field.has_text(),
             Form::Rule | Form::Above => false,
@@ -633,8 +703,15 @@ impl Table {
             self.put_width(cell, out)?;
             return out.put(b")");
         }
-        if cell.key.kind == b'a' {
-            out.pieces(&[T(b"("), P(right), T(b"-("), P(left), T(b")-\\n[*a"), N(cell.first)])?;
+        if cell.key.kind == b'a' && !matches!(cell.field.form, Form::Block) {
+            out.pieces(&[
+                T(b"("),
+                P(right),
+                T(b"-("),
+                P(left),
+                T(b")-\\n[*a"),
+                N(cell.first),
+            ])?;
             return out.pieces(&[T(b"]u/48u*24u+"), P(left), T(b")")]);
         }
         if number {

@@ -1,6 +1,7 @@
 //! Tables as they are held, measured and laid out.
 //!
-//! It stands on nr_units and nr_rooms. To read: `lists`, `places`, `extent`, `writing`.
+//! It stands on nr_units and nr_rooms. To read: `lists`, `places`, `table`; `extent`, `cells`, `columns`, `frames`;
+//! `requests`, `steps`; `writing`, `pen`, `measured`; `told`, `divided`.
 #![tactic(auto)]
 
 mod cells;

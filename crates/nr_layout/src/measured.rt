@@ -23,12 +23,34 @@ impl Table {
 
     /// Room for so many lines is asked for; in a diversion where it is printed.
     fn put_need<W: Sink>(&self, lines: usize, out: &mut Out<'_, W>) -> Result<(), Fault> {
-        out.line(&[T(b".if '\\n(.z'' .if "), N(lines), T(b"v<\\n(.p .ne "), N(lines), T(b"v")])?;
+        out.line(&[
+            T(b".if '\\n(.z'' .if "),
+            N(lines),
+            T(b"v<\\n(.p .ne "),
+            N(lines),
+            T(b"v"),
+        ])?;
         out.line(&[T(b".if !'\\n(.z'' \\{\\\n\\!.ne "), N(lines), T(b"v\n.\\}")])
     }
 
+    /// Room is asked for the rows over which a field of this one goes on, where a box doesn't ask for all.
+    fn put_room<W: Sink>(&self, row: usize, out: &mut Out<'_, W>) -> Result<(), Fault> {
+        let last = self.last_below(row);
+        let kept = self.is_boxed() && !self.looks.nokeep;
+        if last == row || kept {
+            return Ok(());
+        }
+        let lines = self.row_line(last).saturating_sub(self.row_line(row));
+        self.put_need(lines.saturating_add(2), out)
+    }
+
     /// What stands before the lines.
-    fn put_head<W: Sink>(&self, lines: usize, ends: bool, out: &mut Out<'_, W>) -> Result<(), Fault> {
+    fn put_head<W: Sink>(
+        &self,
+        lines: usize,
+        ends: bool,
+        out: &mut Out<'_, W>,
+    ) -> Result<(), Fault> {
         out.put(b".br\n.nr *u \\n(.u\n.nr *I \\n(.i\n.nf\n")?;
         if self.looks.center {
             let width = self.end().cells;
@@ -42,7 +64,11 @@ impl Table {
     }
 
     /// A request, and what it may have changed.
-    pub(crate) fn put_request<W: Sink>(&self, span: Span, out: &mut Out<'_, W>) -> Result<(), Fault> {
+    pub(crate) fn put_request<W: Sink>(
+        &self,
+        span: Span,
+        out: &mut Out<'_, W>,
+    ) -> Result<(), Fault> {
         let text = self.bytes(span);
         out.line(&[T(text)])?;
         if !is_harmless(text) {
@@ -72,7 +98,7 @@ impl Table {
         let mut pen = Pen::new();
         let line = Some(step.line);
         match step.kind {
-            StepKind::Before(_, _) => return Ok(()),
+            StepKind::Before(row, _) => return self.put_room(row, out),
             StepKind::Beyond(row) => return self.put_beyond(row, out),
             StepKind::Request(span) => return self.put_request(span, out),
             StepKind::Bars(row, count) => return self.put_bars(row, count, step.line, out),
@@ -92,7 +118,11 @@ impl Table {
     }
 
     /// The table, or the part of it that was read.
-    pub(crate) fn put_measured<W: Sink>(&mut self, ends: bool, out: &mut Out<'_, W>) -> Result<(), Fault> {
+    pub(crate) fn put_measured<W: Sink>(
+        &mut self,
+        ends: bool,
+        out: &mut Out<'_, W>,
+    ) -> Result<(), Fault> {
         let opens = !self.measured;
         if opens {
             self.measure_all();
@@ -123,11 +153,7 @@ impl Table {
     }
 
     /// The table goes out, or the part of it that was read.
-    pub fn put_table<W: Sink>(
-        &mut self,
-        ends: bool,
-        out: &mut Out<'_, W>,
-    ) -> Result<(), Fault> {
+    pub fn put_table<W: Sink>(&mut self, ends: bool, out: &mut Out<'_, W>) -> Result<(), Fault> {
         if self.columns.len() != self.width() {
             if self.measured {
                 self.end_measured(out)?;

@@ -93,7 +93,11 @@ impl Pen {
     }
 
     /// A rule up to a place.
-    pub(crate) fn dash<W: Sink>(&mut self, place: Place, out: &mut Out<'_, W>) -> Result<(), Fault> {
+    pub(crate) fn dash<W: Sink>(
+        &mut self,
+        place: Place,
+        out: &mut Out<'_, W>,
+    ) -> Result<(), Fault> {
         self.release(out)?;
         match self.steps_to(place) {
             Some(cells) => {
@@ -195,7 +199,12 @@ impl Table {
     }
 
     /// The text of a field.
-    fn draw_text<W: Sink>(&self, pen: &mut Pen, cell: Cell, out: &mut Out<'_, W>) -> Result<(), Fault> {
+    fn draw_text<W: Sink>(
+        &self,
+        pen: &mut Pen,
+        cell: Cell,
+        out: &mut Out<'_, W>,
+    ) -> Result<(), Fault> {
         let width = if cell.name > 0 { None } else { cell.width };
         match self.begin_of(cell) {
             Begin::At(place) => pen.to(place, out)?,
@@ -396,7 +405,11 @@ impl Table {
     }
 
     /// The outer rule of a double box, which meets no bars.
-    pub(crate) fn draw_edge<W: Sink>(&self, pen: &mut Pen, out: &mut Out<'_, W>) -> Result<(), Fault> {
+    pub(crate) fn draw_edge<W: Sink>(
+        &self,
+        pen: &mut Pen,
+        out: &mut Out<'_, W>,
+    ) -> Result<(), Fault> {
         pen.bars(b'+', 1, out)?;
         pen.dash(self.end(), out)?;
         pen.bars(b'+', 1, out)

@@ -151,7 +151,7 @@ impl Table {
     }
 
     /// The line of a row's step.
-    fn row_line(&self, row: usize) -> usize {
+    pub(crate) fn row_line(&self, row: usize) -> usize {
         self.step(self.row(row).step).line
     }
 

@@ -20,7 +20,8 @@ const OFTEN: usize = 3;
 const AT_ONCE: usize = 100;
 
 /// Draws the string `*o` as often as `*t` says: 64 deep, not deeper.
-static BARS: [u8; 76] = *b".de *B\n\\&\\\\*(*o\n.nr *t -1\n.if \\\\n(*t%64 .*B\n..\n.de *A\n.*B\n.if \\\\n(*t .*A\n..\n";
+static BARS: [u8; 76] =
+    *b".de *B\n\\&\\\\*(*o\n.nr *t -1\n.if \\\\n(*t%64 .*B\n..\n.de *A\n.*B\n.if \\\\n(*t .*A\n..\n";
 
 /// What is kept while a table goes out.
 #[derive(Clone, Copy)]
@@ -237,7 +238,12 @@ impl Table {
     }
 
     /// What a column has by its fields that show their widths.
-    fn put_column<W: Sink>(&self, number: usize, column: Column, out: &mut Out<'_, W>) -> Result<(), Fault> {
+    fn put_column<W: Sink>(
+        &self,
+        number: usize,
+        column: Column,
+        out: &mut Out<'_, W>,
+    ) -> Result<(), Fault> {
         out.line(&[T(b".nr *w"), N(number), T(b" "), N(column.width), T(b"n")])?;
         if let (Some(span), None) = (column.least, column.least_cells) {
             let text = self.bytes(span);
@@ -267,7 +273,12 @@ impl Table {
     }
 
     /// Numbers and fields of `a` of which only the formatter knows the widths.
-    fn put_aligned<W: Sink>(&self, number: usize, column: Column, out: &mut Out<'_, W>) -> Result<(), Fault> {
+    fn put_aligned<W: Sink>(
+        &self,
+        number: usize,
+        column: Column,
+        out: &mut Out<'_, W>,
+    ) -> Result<(), Fault> {
         let mut numbers = false;
         let mut alphas = false;
         for row in 0..self.rows.len() {
@@ -284,7 +295,17 @@ impl Table {
             }
         }
         if numbers && column.numbers {
-            self.most_of(number, &[T(b"\\n[*l"), N(number), T(b"]u+\\n[*q"), N(number), T(b"]u")], out)?;
+            self.most_of(
+                number,
+                &[
+                    T(b"\\n[*l"),
+                    N(number),
+                    T(b"]u+\\n[*q"),
+                    N(number),
+                    T(b"]u"),
+                ],
+                out,
+            )?;
         }
         if alphas {
             self.most_of(number, &[T(b"\\n[*a"), N(number), T(b"]u+2n")], out)?;
@@ -346,13 +367,23 @@ impl Table {
     }
 
     /// What columns lack, which `*S` is to have been set to but for their widths, is dealt out.
-    pub(crate) fn put_widening<W: Sink>(&self, first: usize, last: usize, out: &mut Out<'_, W>) -> Result<(), Fault> {
+    pub(crate) fn put_widening<W: Sink>(
+        &self,
+        first: usize,
+        last: usize,
+        out: &mut Out<'_, W>,
+    ) -> Result<(), Fault> {
         out.put(b"-")?;
         self.put_total(first, last, b"-", out)?;
         out.put(b"/24\n.if \\n(*S>0 \\{\\\n")?;
         for number in first..last.saturating_add(1) {
             let left = last.saturating_add(1).saturating_sub(number).max(1);
-            out.line(&[T(b".nr *t \\n(*S+"), N(left.saturating_sub(1)), T(b"/"), N(left)])?;
+            out.line(&[
+                T(b".nr *t \\n(*S+"),
+                N(left.saturating_sub(1)),
+                T(b"/"),
+                N(left),
+            ])?;
             out.line(&[T(b".nr *w"), N(number), T(b" +(\\n(*tn)")])?;
             if left > 1 {
                 out.put(b".nr *S -\\n(*t\n")?;
@@ -440,12 +471,26 @@ impl Table {
                 self.put_gap(number.saturating_sub(1), out)?;
             }
             out.put(b"\n")?;
-            out.line(&[T(b".nr *e"), N(number), T(b" \\n[*o"), N(number), T(b"]u+\\n[*w"), N(number), T(b"]u")])?;
+            out.line(&[
+                T(b".nr *e"),
+                N(number),
+                T(b" \\n[*o"),
+                N(number),
+                T(b"]u+\\n[*w"),
+                N(number),
+                T(b"]u"),
+            ])?;
             self.put_bar_place(number, out)?;
             self.put_number_place(number, out)?;
         }
         let last = self.columns.len().saturating_sub(1);
-        out.line(&[T(b".nr *W \\n[*e"), N(last), T(b"]u+"), N(self.right_edge()), T(b"n")])
+        out.line(&[
+            T(b".nr *W \\n[*e"),
+            N(last),
+            T(b"]u+"),
+            N(self.right_edge()),
+            T(b"n"),
+        ])
     }
 
     /// The place of bars behind a column.
@@ -453,7 +498,13 @@ impl Table {
         if number.saturating_add(1) >= self.columns.len() {
             return Ok(());
         }
-        out.pieces(&[T(b".nr *b"), N(number.saturating_add(1)), T(b" \\n[*e"), N(number), T(b"]u+")])?;
+        out.pieces(&[
+            T(b".nr *b"),
+            N(number.saturating_add(1)),
+            T(b" \\n[*e"),
+            N(number),
+            T(b"]u+"),
+        ])?;
         if self.looks.expand {
             return out.line(&[T(b"(\\n[*s"), N(number), T(b"]u/2/24*24)")]);
         }
@@ -465,7 +516,16 @@ impl Table {
         if !self.column(c).numbers {
             return Ok(());
         }
-        out.pieces(&[T(b".nr *p"), N(c), T(b" \\n[*w"), N(c), T(b"]u-\\n[*l"), N(c), T(b"]u-\\n[*q"), N(c)])?;
+        out.pieces(&[
+            T(b".nr *p"),
+            N(c),
+            T(b" \\n[*w"),
+            N(c),
+            T(b"]u-\\n[*l"),
+            N(c),
+            T(b"]u-\\n[*q"),
+            N(c),
+        ])?;
         out.line(&[T(b"]u/48*24+\\n[*o"), N(c), T(b"]u+\\n[*l"), N(c), T(b"]u")])
     }
 
@@ -483,7 +543,12 @@ impl Table {
 
     /// A share of what is left of the line.
     fn put_share<W: Sink>(&self, left: usize, out: &mut Out<'_, W>) -> Result<(), Fault> {
-        out.line(&[T(b".nr *t \\n(*S+"), N(left.saturating_sub(1)), T(b"/"), N(left)])
+        out.line(&[
+            T(b".nr *t \\n(*S+"),
+            N(left.saturating_sub(1)),
+            T(b"/"),
+            N(left),
+        ])
     }
 
     /// Columns of `x` share what is left of the line.
@@ -492,7 +557,12 @@ impl Table {
         for number in 0..self.columns.len() {
             if self.column(number).wide {
                 self.put_share(left, out)?;
-                out.pieces(&[T(b".if \\n[*w"), N(number), T(b"]<\\n(*tn .nr *w"), N(number)])?;
+                out.pieces(&[
+                    T(b".if \\n[*w"),
+                    N(number),
+                    T(b"]<\\n(*tn .nr *w"),
+                    N(number),
+                ])?;
                 out.put(b" \\n(*tn\n.nr *S -\\n(*t\n")?;
                 left = left.saturating_sub(1);
             }
@@ -680,7 +750,9 @@ impl Table {
         column: usize,
     ) -> bool {
         let bars = self.bars_at(one.0, column).max(self.bars_at(one.1, column));
-        let others = self.bars_at(other.0, column).max(self.bars_at(other.1, column));
+        let others = self
+            .bars_at(other.0, column)
+            .max(self.bars_at(other.1, column));
         let inside = column < self.columns.len();
         let covered = inside && self.is_covered(one.0, one.1, column);
         let too = inside && self.is_covered(other.0, other.1, column);
@@ -799,7 +871,12 @@ impl Table {
     }
 
     /// A line of a row's bars.
-    pub(crate) fn put_bar_line<W: Sink>(&self, row: usize, told: Told, out: &mut Out<'_, W>) -> Result<(), Fault> {
+    pub(crate) fn put_bar_line<W: Sink>(
+        &self,
+        row: usize,
+        told: Told,
+        out: &mut Out<'_, W>,
+    ) -> Result<(), Fault> {
         match told.string {
             Some(kept) if self.has_same_bars(kept, row) => out.put(b"\\*[*s1]\n"),
             _ => {
@@ -811,7 +888,11 @@ impl Table {
     }
 
     /// The columns, the blocks, and where all stands.
-    fn measure_told<W: Sink>(&mut self, told: &mut Told, out: &mut Out<'_, W>) -> Result<(), Fault> {
+    fn measure_told<W: Sink>(
+        &mut self,
+        told: &mut Told,
+        out: &mut Out<'_, W>,
+    ) -> Result<(), Fault> {
         self.name_cells(told, out)?;
         self.measure_fields();
         self.put_columns(out)?;
@@ -856,7 +937,12 @@ impl Table {
     }
 
     /// What stands between the measures and the lines.
-    fn put_told_head<W: Sink>(&mut self, ends: bool, told: &mut Told, out: &mut Out<'_, W>) -> Result<(), Fault> {
+    fn put_told_head<W: Sink>(
+        &mut self,
+        ends: bool,
+        told: &mut Told,
+        out: &mut Out<'_, W>,
+    ) -> Result<(), Fault> {
         self.put_heights(ends, out)?;
         if !self.bars_known && self.needs_bars() {
             self.bars_known = true;
@@ -883,7 +969,11 @@ impl Table {
     }
 
     /// The table, or the part of it that was read.
-    pub(crate) fn put_told<W: Sink>(&mut self, ends: bool, out: &mut Out<'_, W>) -> Result<(), Fault> {
+    pub(crate) fn put_told<W: Sink>(
+        &mut self,
+        ends: bool,
+        out: &mut Out<'_, W>,
+    ) -> Result<(), Fault> {
         let mut told = Told::new();
         told.blocks = self.has_blocks();
         self.begin_told(told, out)?;

@@ -1,6 +1,7 @@
-//! A page is read byte by byte, and what it says goes out.
-ghost use Rattle.std.specs.Prelude.{◌≡◌, ◌+◌, ◌*◌, ◌<◌, ◌≤◌, ◌++◌, [], length};
-ghost use Rattle.nr_tbl.specs.Reading as specs;
+//! A page is read byte by byte, and what it says of tables is told to what holds them.
+ghost use Rattle.std.specs.Prelude.{◌≡◌, ◌≤◌, length};
+ghost use Rattle.nr_tbl.specs.Options.{options_of};
+
 
 use super::complaint::Kind;
 use super::field::Shape;
@@ -17,9 +18,9 @@ use nr_units::sink::Sink;
 use nr_units::source::Fault;
 
 /// What stands before the lines of a table that isn't set, and behind them.
-const PLAIN: &[u8] = b".br\n.nr *u \\n(.u\n.nf\n";
+static PLAIN: [u8; 21] = *b".br\n.nr *u \\n(.u\n.nf\n";
 
-const PLAIN_END: &[u8] = b".if \\n(*u .fi\n";
+static PLAIN_END: [u8; 14] = *b".if \\n(*u .fi\n";
 
 /// What is half read of a page, with what is kept of a table: its options and formats, and the fields of a row, as they
 /// stand, and all that was read of it.
@@ -37,7 +38,7 @@ const MEETINGS: u8 = 10;
 
 /// The options of a text.
 fn options_of(text: &[u8]) -> Options
-    ensures { result ≡ specs.options_of text.now }
+    ensures { result ≡ options_of text.now }
 {
     let mut read = OptionsRead::new();
     for byte in text {
@@ -48,8 +49,6 @@ fn options_of(text: &[u8]) -> Options
 
 /// The first bytes of a text, of so many at most.
 fn front_of(text: &[u8], len: Option<usize>) -> &[u8]
-    ensures value { result.now ≡ specs.front_of text.now len }
-    ensures few { length result.now ≤ length text.now }
 {
     match len {
         Some(len) if len < text.len() => &text[..len],
@@ -60,7 +59,6 @@ fn front_of(text: &[u8], len: Option<usize>) -> &[u8]
 impl Half {
     /// A field of so many cells passes the end of the line, or is taken. One beyond the columns stands below its row.
     fn takes_field(&mut self, cells: usize)
-        ensures { self.new ≡ specs.field_taken cells self.old }
     {
         if self.fields > self.formats.columns {
             return;
@@ -167,7 +165,7 @@ impl<'a> Reader<'a> {
     /// What was kept of options and formats goes out as it stands.
     fn give_up<W: Sink>(&mut self, out: &mut Out<'_, W>) -> Result<(), Fault> {
         self.put_read(out)?;
-        out.put(PLAIN)?;
+        out.put(&PLAIN)?;
         out.put(self.formats.as_slice())?;
         self.formats.clear();
         Ok(())
@@ -193,7 +191,7 @@ impl<'a> Reader<'a> {
     fn give_up_row<W: Sink>(&mut self, said: Said, out: &mut Out<'_, W>) -> Result<(), Fault> {
         self.table.end_row();
         self.put_read(out)?;
-        out.put(PLAIN)?;
+        out.put(&PLAIN)?;
         out.put(b"\\&")?;
         out.put(self.field())?;
         self.say(said, out)?;
@@ -276,10 +274,10 @@ impl<'a> Reader<'a> {
             }
             Said::EndOpen => return self.table.put_table(true, out),
             Said::GiveUp | Said::GiveUpRow => {}
-            Said::Done => return out.put(PLAIN_END),
+            Said::Done => return out.put(&PLAIN_END),
             Said::PlainDone => {
                 out.put(b"\n")?;
-                return out.put(PLAIN_END);
+                return out.put(&PLAIN_END);
             }
         }
         Ok(())
@@ -322,7 +320,8 @@ impl<'a> Reader<'a> {
         if seen.takes {
             return Ok(1);
         }
-        Ok(1 + self.hear_in(coming, most - 1, out)?)
+        let more = self.hear_in(coming, most - 1, out)?;
+        Ok(more.saturating_add(1))
     }
 
     /// A byte comes.
@@ -339,13 +338,14 @@ impl<'a> Reader<'a> {
 
     /// What was found wrong at what came last.
     pub(crate) fn complaint(&self) -> Option<Kind>
-        ensures { result ≡ self.now.half.complaint }
     {
         self.half.complaint
     }
 
     /// How many of these bytes come first that a field takes as its text, each in one step.
-    pub(crate) fn text_front(&self, bytes: &[u8]) -> usize {
+    pub(crate) fn text_front(&self, bytes: &[u8]) -> usize
+        ensures within { result ≤ length bytes.now }
+    {
         let begun = matches!(self.half.mode, Mode::Field) && matches!(self.half.shape, Shape::Text);
         if !begun {
             return 0;
@@ -360,19 +360,25 @@ impl<'a> Reader<'a> {
         most
     }
 
+    /// The field takes a byte of its text.
+    fn take_text_byte(&mut self, byte: u8, point: u8) {
+        if self.row.len() < self.row.room() {
+            let place = self.row.len().saturating_sub(self.from);
+            self.half.marks = self.half.marks.with(byte, place, point);
+            self.row.push(byte);
+        }
+    }
+
     /// The field takes these bytes.
     pub(crate) fn take_text(&mut self, bytes: &[u8]) {
         let point = self.half.options.point;
         for byte in bytes {
-            let place = self.row.len().saturating_sub(self.from);
-            self.half.marks = self.half.marks.with(*byte, place, point);
-            self.row.push(*byte);
+            self.take_text_byte(*byte, point);
         }
     }
 
     /// Whether bytes pass up to a newline.
     fn passes(&self) -> bool
-        ensures { result ≡ specs.passes self.now }
     {
         matches!(self.half.mode, Mode::Passing) && self.half.complaint.is_none()
     }
@@ -380,7 +386,6 @@ impl<'a> Reader<'a> {
     /// How many of these bytes come first that go out as they are and change nothing, each in one step.
     pub(crate) fn plain_front(&self, bytes: &[u8]) -> usize
         ensures within { result ≤ length bytes.now }
-        ensures plain { specs.IsPlainFront result bytes.now self.now }
     {
         if !self.passes() {
             return 0;
@@ -396,7 +401,6 @@ impl<'a> Reader<'a> {
 
 /// A byte that ends no line.
 fn is_plain_byte(byte: u8) -> bool
-    ensures { result ≡ specs.is_plain_byte byte }
 {
     byte != b'\n'
 }

@@ -1,10 +1,7 @@
 //! A whole page is turned.
-ghost use Rattle.std.specs.Prelude.{◌≡◌, ◌+◌, ◌*◌, ◌^◌, ◌<◌, ◌≤◌, List, [], ◌++◌, length, false, None, OnOk};
-ghost use Rattle.std.specs.Io.KnownBytes.{Appends};
-ghost use Rattle.nr_units.specs.Failures.{counted_if, put_counted, put_counted_if};
-ghost use Rattle.nr_tbl.specs.Reading.{first_page, found, most as most_of};
+ghost use Rattle.std.specs.Prelude.{◌≡◌, ◌+◌, ◌<◌, ◌≤◌, List, ◌++◌, length, IfOk};
 ghost use Rattle.nr_tbl.specs.declared.complaint.Complaint.{Complaint as ComplaintValue};
-ghost use Rattle.nr_tbl.specs.Running as specs;
+ghost use Rattle.nr_tbl.specs.Telling as specs;
 
 use super::complaint::{Complaint, Kind, Place};
 use super::reader::Reader;
@@ -79,7 +76,7 @@ struct Tally {
 
 /// Keeps what was found wrong on this line, if anything was and there is room for it.
 fn note(wrong: Option<Kind>, line: u64, complaints: &mut SliceVec<'_, Complaint>, tally: &mut Tally)
-    ensures notes { (all : List ComplaintValue) → specs.Keeps all complaints.old tally.old.missed → specs.Keeps (all ++ found wrong line) complaints.new tally.new.missed }
+    ensures notes { (all : List ComplaintValue) → specs.Keeps all complaints.old tally.old.missed → specs.Keeps (all ++ specs.found wrong line) complaints.new tally.new.missed }
     ensures room { complaints.new.room ≡ complaints.old.room }
     ensures steps { tally.new.steps ≡ tally.old.steps }
 {
@@ -97,6 +94,7 @@ fn note(wrong: Option<Kind>, line: u64, complaints: &mut SliceVec<'_, Complaint>
 const PENDING: usize = 65_536;
 
 /// The memory that texts are turned in, taken once.
+#[derive(Drop)]
 pub struct Rooms {
     formats: FixedVec<u8>,
     row: FixedVec<u8>,
@@ -124,7 +122,9 @@ fn take_passing<R: Source, W: Sink>(
     input: &mut R,
     out: &mut Out<'_, W>,
     most: u64,
-) -> Result<u64, Fault> {
+) -> Result<u64, Fault>
+    ensures { IfOk result (λ count. count ≤ most) }
+{
     let window = input.window();
     let len = window.len().min(CHUNK).min(most as usize);
     let passing = reader.plain_front(&window[..len]);
@@ -145,7 +145,10 @@ fn make_turn<R: Source, W: Sink>(
     input: &mut R,
     out: &mut Out<'_, W>,
     most: u64,
-) -> Result<Turn, Fault> {
+) -> Result<Turn, Fault>
+    requires { 0 < most }
+    ensures { IfOk result (λ turn. specs.IsForward most turn) }
+{
     let count = take_passing(reader, input, out, most)?;
     if count > 0 {
         return Ok(Turn::Took {
@@ -204,11 +207,11 @@ fn run<R: Source, W: Sink>(
             }) => {
                 taken += bytes;
                 place = place.taken_to(newline);
-                tally.steps += steps;
+                tally.steps = tally.steps.saturating_add(steps);
                 note(wrong, place.line, complaints, tally);
             }
             Ok(Turn::End { steps, wrong }) => {
-                tally.steps += steps;
+                tally.steps = tally.steps.saturating_add(steps);
                 note(wrong, place.line, complaints, tally);
                 return ended(out, Outcome::Done);
             }
