@@ -2,7 +2,6 @@
 ghost use Rattle.std.specs.Prelude.{◌≡◌, ◌≤◌, length};
 ghost use Rattle.nr_tbl.specs.Options.{options_of};
 
-
 use super::complaint::Kind;
 use super::field::Shape;
 use super::half::{Act, Coming, Full, Half, Mode};
@@ -48,8 +47,7 @@ fn options_of(text: &[u8]) -> Options
 }
 
 /// The first bytes of a text, of so many at most.
-fn front_of(text: &[u8], len: Option<usize>) -> &[u8]
-{
+fn front_of(text: &[u8], len: Option<usize>) -> &[u8] {
     match len {
         Some(len) if len < text.len() => &text[..len],
         _ => text,
@@ -58,8 +56,7 @@ fn front_of(text: &[u8], len: Option<usize>) -> &[u8]
 
 impl Half {
     /// A field of so many cells passes the end of the line, or is taken. One beyond the columns stands below its row.
-    fn takes_field(&mut self, cells: usize)
-    {
+    fn takes_field(&mut self, cells: usize) {
         if self.fields > self.formats.columns {
             return;
         }
@@ -73,7 +70,12 @@ impl Half {
 
 impl<'a> Reader<'a> {
     /// A page begins, and the line has so many cells.
-    pub(crate) fn over(formats: &'a mut FixedVec<u8>, row: &'a mut FixedVec<u8>, table: &'a mut Table, line: usize) -> Reader<'a> {
+    pub(crate) fn over(
+        formats: &'a mut FixedVec<u8>,
+        row: &'a mut FixedVec<u8>,
+        table: &'a mut Table,
+        line: usize,
+    ) -> Reader<'a> {
         formats.clear();
         row.clear();
         table.begin_page();
@@ -310,7 +312,12 @@ impl<'a> Reader<'a> {
     }
 
     /// What comes is met so many times at most. Tells how many steps that took, as all below do.
-    fn hear_in<W: Sink>(&mut self, coming: Coming, most: u8, out: &mut Out<'_, W>) -> Result<u64, Fault> {
+    fn hear_in<W: Sink>(
+        &mut self,
+        coming: Coming,
+        most: u8,
+        out: &mut Out<'_, W>,
+    ) -> Result<u64, Fault> {
         if most == 0 {
             return Ok(0);
         }
@@ -337,8 +344,7 @@ impl<'a> Reader<'a> {
     }
 
     /// What was found wrong at what came last.
-    pub(crate) fn complaint(&self) -> Option<Kind>
-    {
+    pub(crate) fn complaint(&self) -> Option<Kind> {
         self.half.complaint
     }
 
@@ -378,8 +384,7 @@ impl<'a> Reader<'a> {
     }
 
     /// Whether bytes pass up to a newline.
-    fn passes(&self) -> bool
-    {
+    fn passes(&self) -> bool {
         matches!(self.half.mode, Mode::Passing) && self.half.complaint.is_none()
     }
 
@@ -400,7 +405,6 @@ impl<'a> Reader<'a> {
 }
 
 /// A byte that ends no line.
-fn is_plain_byte(byte: u8) -> bool
-{
+fn is_plain_byte(byte: u8) -> bool {
     byte != b'\n'
 }

@@ -199,12 +199,14 @@ fn run<R: Source, W: Sink>(
     let mut place = Place::first();
     while taken < TOO_MANY {
         match make_turn(reader, input, out, TOO_MANY - taken) {
-            Ok(Turn::Took {
-                bytes,
-                steps,
-                newline,
-                wrong,
-            }) => {
+            Ok(
+                Turn::Took {
+                    bytes,
+                    steps,
+                    newline,
+                    wrong,
+                },
+            ) => {
                 taken += bytes;
                 place = place.taken_to(newline);
                 tally.steps = tally.steps.saturating_add(steps);
@@ -240,7 +242,12 @@ pub fn convert<R: Source, W: Sink>(
         pending: &mut rooms.pending,
         sink: output,
     };
-    let mut reader = Reader::over(&mut rooms.formats, &mut rooms.row, &mut rooms.table, rooms.line);
+    let mut reader = Reader::over(
+        &mut rooms.formats,
+        &mut rooms.row,
+        &mut rooms.table,
+        rooms.line,
+    );
     let outcome = run(&mut reader, input, &mut out, complaints, &mut tally);
     Report {
         outcome,

@@ -3,8 +3,7 @@
 use super::held::ends_name;
 
 /// Whether a table begins with these bytes.
-fn begins_table(bytes: &[u8]) -> bool
-{
+fn begins_table(bytes: &[u8]) -> bool {
     bytes.len() > 3
         && bytes[0] == b'.'
         && bytes[1] == b'T'
@@ -13,8 +12,7 @@ fn begins_table(bytes: &[u8]) -> bool
 }
 
 /// Whether no line of a text begins a table, with `.TS` and a byte that ends a name.
-pub fn passes_unchanged(text: &[u8]) -> bool
-{
+pub fn passes_unchanged(text: &[u8]) -> bool {
     let mut starts = true;
     for i in 0..text.len() {
         if starts && begins_table(&text[i..]) {
