@@ -1,3 +1,4 @@
+pub mod Chains
 pub mod Given
 pub mod Laws
 pub mod Named

@@ -102,6 +102,15 @@ impl HyphenationWord {
         &self.bytes[usize::from(self.letters)..usize::from(self.len)]
     }
 
+    /// Whether the bytes of these cells are its letters.
+    #[inline]
+    pub(crate) fn has_letters(&self, cells: &[Cell]) -> bool
+        ensures { result ≡ bytes_eq (bytes_of cells.now) (word_in self.now).letters }
+    {
+        let letters = self.letters();
+        cells.len() == letters.len() && has_bytes(cells, letters)
+    }
+
     /// Whether the bytes of these cells are the word, or the word with an `s` behind it. A word of no letters is none.
     #[inline]
     pub fn is_given(&self, cells: &[Cell]) -> bool
