@@ -75,6 +75,28 @@ impl Half {
         }
     }
 
+    /// Takes those of these bytes that come first and only go on a text line or a request. What stands
+    /// before the next character is known by the last.
+    pub(crate) fn takes_run(&mut self, bytes: &[u8]) -> usize {
+        if !matches!(self.escape, Escape::Plain)
+            || !matches!(self.line, Line::Text | Line::Request)
+        {
+            return 0;
+        }
+        for (i, byte) in bytes.iter().enumerate() {
+            if !matches!(*byte, b' '..=b',' | b'.'..=b'[' | b']'..=b'~') {
+                if i > 0 {
+                    self.goes_by(bytes[i - 1]);
+                }
+                return i;
+            }
+        }
+        if let Some(last) = bytes.last() {
+            self.goes_by(*last);
+        }
+        bytes.len()
+    }
+
     /// Takes such a character.
     pub(crate) fn takes(&mut self, byte: u8)
         ensures { self.new ≡ specs.taken_as_is byte self.old }

@@ -302,11 +302,14 @@ impl Reader {
         if !matches!(self.pending, Pending::Nothing) {
             return 0;
         }
-        for (i, byte) in bytes.iter().enumerate() {
-            if !self.passes(*byte) {
-                return i;
+        let mut at = 0;
+        while at < bytes.len() {
+            at += self.half.takes_run(&bytes[at..]);
+            if at == bytes.len() || !self.passes(bytes[at]) {
+                return at;
             }
+            at += 1;
         }
-        bytes.len()
+        at
     }
 }
