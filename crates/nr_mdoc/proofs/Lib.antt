@@ -1,0 +1,4 @@
+mod Hearing
+mod Reading
+mod Steps
+mod Turning

@@ -1,0 +1,13 @@
+pub mod Blocks
+pub mod Laying
+pub mod Lines
+pub mod Lookup
+pub mod Macros
+pub mod Options
+pub mod Reading
+pub mod Running
+pub mod Scanning
+pub mod Seeing
+pub mod Strings
+pub mod Texts
+pub mod Words
