@@ -2,3 +2,4 @@ mod Hearing
 mod Reading
 mod Steps
 mod Turning
+mod Unchanged

@@ -4,6 +4,7 @@ pub mod Lines
 pub mod Lookup
 pub mod Macros
 pub mod Options
+pub mod Passing
 pub mod Reading
 pub mod Running
 pub mod Scanning

@@ -1,7 +1,7 @@
 //! Pages of mdoc(7) become pages of man(7).
 //!
 //! It stands on nr_units. To read: `macros`, `page`, `acts`, `seen`; `texts`, `names`, `lookup`, `lay`; `options`,
-//! `words`, `blocks`, `lines`, `scan`, which puts them together; `reader`, `running`.
+//! `words`, `blocks`, `lines`, `scan`, which puts them together; `strings`, `reader`, `running`; `passing`.
 #![tactic(auto)]
 
 mod acts;
@@ -13,6 +13,7 @@ mod macros;
 mod names;
 mod options;
 mod page;
+mod passing;
 mod reader;
 mod running;
 mod scan;
@@ -22,4 +23,5 @@ mod texts;
 mod words;
 
 pub use page::Block;
+pub use passing::passes_unchanged;
 pub use running::{Outcome, convert};

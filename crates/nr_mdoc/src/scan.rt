@@ -17,7 +17,7 @@ const MOST_KEPT: usize = 30;
 const MOST_LINES: u8 = 64;
 
 /// What ends a word.
-fn ends_word(byte: u8) -> bool
+pub(crate) fn ends_word(byte: u8) -> bool
     ensures { result ≡ specs.ends_word byte }
 {
     byte == b' ' || byte == b'\t' || byte == b'\n'
@@ -31,7 +31,7 @@ fn is_inside(byte: u8) -> bool
 }
 
 /// One more byte of `.Dd`.
-fn front_grows(front: Front, byte: u8) -> Option<Front>
+pub(crate) fn front_grows(front: Front, byte: u8) -> Option<Front>
     ensures { result ≡ specs.front_grows front byte }
 {
     match front {
@@ -423,7 +423,7 @@ fn in_word_of(quoted: bool) -> Scan
 }
 
 /// What comes behind a byte that passes, of which so many lines came before.
-fn passes_to(lines: u8, byte: u8) -> Scan
+pub(crate) fn passes_to(lines: u8, byte: u8) -> Scan
     ensures { result ≡ specs.passes_to lines byte }
 {
     if byte != b'\n' {
