@@ -1,0 +1,60 @@
+// The lines that tell how the program ended, and its status.
+
+use itoa::Buffer;
+use nr_mdoc::Outcome;
+use nr_units::sink::Sink;
+use nr_units::source::Fault;
+
+/// How the program ended.
+#[derive(Clone, Copy)]
+pub enum Ending<'a> {
+    /// The run came to this.
+    Ran(Outcome),
+    /// A word that is no option.
+    BadWord(&'a str),
+    /// A file that can't be opened.
+    CannotOpen(&'a str),
+    /// There was not enough memory for the words, the files or the buffers.
+    OutOfMemory,
+}
+
+/// The status that tells an ending.
+fn status(ending: Ending<'_>) -> u8 {
+    match ending {
+        Ending::Ran(Outcome::Done) => 0,
+        Ending::Ran(Outcome::TooLong) => 1,
+        Ending::BadWord(_) => 2,
+        Ending::Ran(Outcome::ReadFault { .. }) | Ending::CannotOpen(_) => 3,
+        Ending::Ran(Outcome::WriteFault) => 4,
+        Ending::OutOfMemory => 5,
+    }
+}
+
+/// Writes a line with a word at its end.
+fn put_line<W: Sink>(text: &[u8], word: &str, errors: &mut W) -> Result<(), Fault> {
+    errors.put(text)?;
+    errors.put(word.as_bytes())?;
+    errors.put(b"\n")
+}
+
+/// Writes the line that tells an ending, and nothing where all is done.
+fn put_ending<W: Sink>(ending: Ending<'_>, errors: &mut W) -> Result<(), Fault> {
+    match ending {
+        Ending::Ran(Outcome::Done) => Ok(()),
+        Ending::Ran(Outcome::TooLong) => errors.put(b"mdoc: input too long\n"),
+        Ending::Ran(Outcome::ReadFault { at }) => {
+            let mut digits = Buffer::new();
+            put_line(b"mdoc: read fault at byte ", digits.format(at), errors)
+        }
+        Ending::Ran(Outcome::WriteFault) => errors.put(b"mdoc: write fault\n"),
+        Ending::BadWord(word) => put_line(b"mdoc: unknown option ", word, errors),
+        Ending::CannotOpen(name) => put_line(b"mdoc: cannot open ", name, errors),
+        Ending::OutOfMemory => errors.put(b"mdoc: out of memory\n"),
+    }
+}
+
+/// Tells an ending, as far as `errors` takes its line, and gives the status.
+pub fn tell<W: Sink>(ending: Ending<'_>, errors: &mut W) -> u8 {
+    let _ = put_ending(ending, errors);
+    status(ending)
+}

@@ -1,0 +1,5 @@
+mod Hearing
+mod Reading
+mod Steps
+mod Turning
+mod Unchanged

@@ -1,0 +1,158 @@
+-- Lists, their items, and displays (mdoc(7), Bl, It, El, Bd, Ed, D1, Dl).
+use Rattle.std.specs.Prelude.{ℕ, ◌+◌, Bool, true, false, not, ◌==◌, ◌&&◌, ◌||◌, nat_lt, if◌then◌else◌}
+use Rattle.nr_mdoc.specs.declared.acts.Act.{Act}
+use Rattle.nr_mdoc.specs.declared.acts.Act.TheVariants as acts
+use Rattle.nr_mdoc.specs.declared.acts.Request.TheVariants as requests
+use Rattle.nr_mdoc.specs.declared.acts.Sized.TheVariants as sizes
+use Rattle.nr_mdoc.specs.declared.acts.Stack.TheVariants.{Opens, Closes}
+use Rattle.nr_mdoc.specs.declared.acts.Text.TheVariants as texts
+use Rattle.nr_mdoc.specs.declared.macros.Font.{Font}
+use Rattle.nr_mdoc.specs.declared.macros.Font.TheVariants.{Roman, Bold}
+use Rattle.nr_mdoc.specs.declared.macros.Macro.TheVariants as macros
+use Rattle.nr_mdoc.specs.declared.page.Block.{Block}
+use Rattle.nr_mdoc.specs.declared.page.Call.{Call}
+use Rattle.nr_mdoc.specs.declared.page.Kind.{Kind}
+use Rattle.nr_mdoc.specs.declared.page.Kind.TheVariants as kinds
+use Rattle.nr_mdoc.specs.declared.page.Page.{Page}
+use Rattle.nr_mdoc.specs.declared.seen.Seen.{Seen}
+use Rattle.nr_mdoc.specs.Options.{at_most, is_column, none}
+use Rattle.nr_mdoc.specs.Seeing.{Met, met, left, two, three, with_stack}
+
+-- ---- blocks
+
+abbrev pub fresh_block : Kind → ℕ → Block
+fresh_block kind offset = record { kind = kind; width = 0; offset = offset; items = 0; compact = false; begun = false }
+
+-- no block, or none of whose options was read
+abbrev pub no_block : Block
+no_block = fresh_block kinds.Page 0
+
+abbrev pub is_list : Kind → Bool
+is_list kinds.Page = false
+is_list kinds.Filled = false
+is_list kinds.Literal = false
+is_list kind = true
+
+abbrev pub has_tags : Kind → Bool
+has_tags kinds.Bullet = true
+has_tags kinds.Dash = true
+has_tags kinds.Number = true
+has_tags kinds.Tag = true
+has_tags kinds.Hang = true
+has_tags kind = false
+
+abbrev pub usual_width : Kind → ℕ
+usual_width kinds.Bullet = 2
+usual_width kinds.Dash = 2
+usual_width kinds.Number = 3
+usual_width kind = 8
+
+-- what tags take, with the gap of two behind them
+abbrev pub tag_width : Block → ℕ
+tag_width b = if b.width == 0 then usual_width b.kind + 2 else at_most 900 b.width + 2
+
+abbrev pub is_tagged : Block → Bool
+is_tagged b = b.begun && has_tags b.kind
+
+-- what begins inside an item is indented as its text is
+abbrev pub inner : Block → ℕ
+inner b = if is_tagged b then tag_width b else 0
+
+abbrev pub space : Bool → Act
+space compact = if compact then acts.Fresh else acts.Space
+
+-- ---- a block begins and ends
+
+abbrev pub block_opens : Kind → Page → Met
+block_opens kind p = met (record p { block = fresh_block kind (inner p.block) }) (with_stack Opens (left acts.Fresh))
+
+abbrev pub indent : Page → Act
+indent p = acts.Sized sizes.Indent (at_most 999 p.block.offset)
+
+abbrev pub list_begins : Page → Met
+list_begins p =
+    met p (if is_column p.block.kind
+    then three (space p.block.compact) (indent p) (acts.Request requests.NoFill) else left (indent p))
+
+abbrev pub is_literal : Kind → Bool
+is_literal kinds.Literal = true
+is_literal kind = false
+
+abbrev pub with_literal : Bool → Page → Page
+with_literal literal p = record p { lay = record p.lay { literal = literal } }
+
+abbrev pub display_begins : Page → Met
+display_begins p =
+    if is_literal p.block.kind
+    then met (with_literal true p) (three (space p.block.compact) (indent p) (acts.Request requests.NoFill))
+    else met p (two (space p.block.compact) (indent p))
+
+abbrev pub list_ends : Page → Met
+list_ends p =
+    if not (is_list p.block.kind) then none p else
+    met p (with_stack Closes (if is_column p.block.kind
+    then three (acts.Request requests.Fill) (acts.Request requests.Tabs) (acts.Request requests.IndentEnds)
+    else left (acts.Request requests.IndentEnds)))
+
+abbrev pub display_ends_of : Kind → Page → Met
+display_ends_of kinds.Literal p =
+    met (with_literal false p) (with_stack Closes (two (acts.Request requests.Fill) (acts.Request requests.IndentEnds)))
+display_ends_of kinds.Filled p = met p (with_stack Closes (left (acts.Request requests.IndentEnds)))
+display_ends_of kind p = none p
+
+abbrev pub display_ends : Page → Met
+display_ends p = display_ends_of p.block.kind p
+
+-- the item around what ended goes on, without a tag
+abbrev pub outer_goes_on : Act → Page → Seen
+outer_goes_on act p = if is_tagged p.block then two act (acts.Sized sizes.Untagged (tag_width p.block)) else left act
+
+abbrev pub taking : Font → Page → Page
+taking font p = record p { call = record p.call { taker = macros.Words font } }
+
+abbrev pub line_opens : Page → Met
+line_opens p = met (taking Roman p) (left (acts.Sized sizes.Indent (inner p.block + 6)))
+
+-- ---- items
+
+abbrev pub more_items : ℕ → ℕ
+more_items n = if nat_lt n 9999 then n + 1 else n
+
+abbrev pub counts : Page → Page
+counts p = record p { block = record p.block { begun = true; items = more_items p.block.items } }
+
+abbrev pub item_head_of : Kind → Page → Act
+item_head_of kinds.Bullet p = acts.Sized sizes.Bullet (tag_width p.block)
+item_head_of kinds.Dash p = acts.Sized sizes.Dash (tag_width p.block)
+item_head_of kinds.Number p = acts.Numbered p.block.items (tag_width p.block)
+item_head_of kinds.Tag p = acts.Sized sizes.Tagged (tag_width p.block)
+item_head_of kinds.Hang p = acts.Sized sizes.Tagged (tag_width p.block)
+item_head_of kinds.Column p = acts.Nothing
+item_head_of kind p = acts.Request requests.Break
+
+abbrev pub item_head : Page → Act
+item_head p = item_head_of p.block.kind p
+
+abbrev pub is_diagnosis : Kind → Bool
+is_diagnosis kinds.Diagnosis = true
+is_diagnosis kind = false
+
+abbrev pub new_item : Page → Page
+new_item p = taking Roman (record p { place = record p.place { depth = 0 } })
+
+abbrev pub counted_item : Page → Page
+counted_item p = if is_diagnosis p.block.kind then taking Bold (counts p) else counts p
+
+abbrev pub item : Page → Met
+item p =
+    if not (is_list p.block.kind) then none (new_item p) else
+    met (counted_item (new_item p))
+    (two (space (p.block.compact || is_column p.block.kind)) (item_head (counted_item (new_item p))))
+
+abbrev pub item_ends_of : Kind → Seen
+item_ends_of kinds.Overhang = left (acts.Request requests.Break)
+item_ends_of kinds.Diagnosis = left (acts.Close texts.FixedSpace)
+item_ends_of kind = left acts.Nothing
+
+abbrev pub item_ends : Page → Seen
+item_ends p = item_ends_of p.block.kind

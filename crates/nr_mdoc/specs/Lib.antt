@@ -1,0 +1,14 @@
+pub mod Blocks
+pub mod Laying
+pub mod Lines
+pub mod Lookup
+pub mod Macros
+pub mod Options
+pub mod Passing
+pub mod Reading
+pub mod Running
+pub mod Scanning
+pub mod Seeing
+pub mod Strings
+pub mod Texts
+pub mod Words

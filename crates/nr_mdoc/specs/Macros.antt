@@ -1,0 +1,78 @@
+-- The table of macros (mdoc(7), MACRO OVERVIEW).
+use Rattle.std.specs.Prelude.{ℕ, List, [], ◌∷◌, Bool, true, false, not, ◌==◌, ◌&&◌, ◌||◌, if◌then◌else◌, Option, None, Some}
+use Prim.Native.Char.{code}
+use Rattle.nr_mdoc.specs.declared.macros.Macro.{Macro}
+use Rattle.nr_mdoc.specs.declared.macros.Macro.TheVariants as macros
+use Rattle.nr_mdoc.specs.declared.macros.Font.{Font}
+use Rattle.nr_mdoc.specs.declared.macros.Font.TheVariants.{Roman, Bold, Italic}
+use Rattle.nr_mdoc.specs.declared.macros.Pair.TheVariants.{Braces}
+use Rattle.nr_mdoc.specs.declared.macros.System.TheVariants.{BsdOs}
+use Rattle.nr_mdoc.specs.declared.macros.TheConstants.{NAMES}
+
+-- what a table has behind a name of two bytes
+abbrev pub looked_up : {T : Type 0} → List (ℕ × ℕ × T) → ℕ → ℕ → Option T
+looked_up [] a b = None
+looked_up (entry ∷ entries) a b = if (entry.0 == a) && (entry.1 == b) then Some entry.2 else looked_up entries a b
+
+unfoldable pub letters_macro : ℕ → ℕ → Option Macro
+letters_macro a b = looked_up NAMES a b
+
+-- a part of a reference: books, publishers, journals and titles of articles are in italics
+abbrev pub part_font : ℕ → Font
+part_font b = if (b == code "B") || (b == code "I") || (b == code "J") || (b == code "T") then Italic else Roman
+
+abbrev pub short_macro : ℕ → ℕ → Option Macro
+short_macro a b = if a == code "%" then Some (macros.Part (part_font b)) else letters_macro a b
+
+abbrev pub brace_macro : ℕ → Option Macro
+brace_macro c =
+    if c == code "q" then Some (macros.Encloses Braces) else
+    if c == code "o" then Some (macros.Opens Braces) else
+    if c == code "c" then Some (macros.Closes Braces) else None
+
+-- `Bsx`, `Brq`, `Bro` and `Brc`
+abbrev pub long_macro : ℕ → ℕ → ℕ → Option Macro
+long_macro a b c =
+    if (a == code "B") && (b == code "s") && (c == code "x") then Some (macros.Stands BsdOs) else
+    if not (a == code "B") || not (b == code "r") then None else brace_macro c
+
+-- the macro of a name
+abbrev pub macro_of : List ℕ → Option Macro
+macro_of [] = None
+macro_of (a ∷ []) = None
+macro_of (a ∷ b ∷ []) = short_macro a b
+macro_of (a ∷ b ∷ c ∷ []) = long_macro a b c
+macro_of (a ∷ b ∷ c ∷ d ∷ rest) = None
+
+-- a word of a line that another macro began calls it
+abbrev pub is_callable : Macro → Bool
+is_callable (macros.Words x) = true
+is_callable macros.Flag = true
+is_callable macros.Argument = true
+is_callable macros.Path = true
+is_callable macros.Name = true
+is_callable macros.Parameter = true
+is_callable macros.Reference = true
+is_callable macros.Author = true
+is_callable (macros.Encloses x) = true
+is_callable (macros.Opens x) = true
+is_callable (macros.Closes x) = true
+is_callable macros.OwnOpens = true
+is_callable macros.OwnCloses = true
+is_callable (macros.Stands x) = true
+is_callable macros.Att = true
+is_callable macros.Bsd = true
+is_callable macros.Standard = true
+is_callable macros.Library = true
+is_callable macros.Joins = true
+is_callable macros.Apostrophe = true
+is_callable macros.Prefix = true
+is_callable macros.Function = true
+is_callable macros.FunctionOpens = true
+is_callable macros.FunctionCloses = true
+is_callable macros.Include = true
+is_callable macros.Cell = true
+is_callable macros.ResultType = true
+is_callable macros.Variable = true
+is_callable macros.Declaration = true
+is_callable m = false

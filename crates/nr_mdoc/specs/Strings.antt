@@ -1,0 +1,49 @@
+-- Strings that mdoc names (mdoc(7), Predefined Strings): `\*(xx` and `\*[xx]`.
+use Rattle.std.specs.Prelude.{ℕ, List, [], ◌∷◌, Bool, true, false, ◌==◌, ◌&&◌, if◌then◌else◌, slice_index, Option, None, Some}
+use Prim.Native.Char.{code}
+use Rattle.nr_mdoc.specs.declared.page.Scan.{Scan}
+use Rattle.nr_mdoc.specs.declared.page.Scan.TheVariants as scans
+use Rattle.nr_mdoc.specs.declared.strings.TheConstants.{STRINGS}
+use Rattle.nr_mdoc.specs.declared.strings.Next.{Next}
+use Rattle.nr_mdoc.specs.declared.strings.Next.TheVariants.{Waits, Says, Breaks}
+use Rattle.nr_mdoc.specs.declared.strings.Pending.{Pending}
+use Rattle.nr_mdoc.specs.declared.strings.Pending.TheVariants as pendings
+use Rattle.nr_mdoc.specs.Macros.{looked_up}
+
+-- what a string stands for
+unfoldable pub string_named : ℕ → ℕ → Option (List ℕ)
+string_named a b = looked_up STRINGS a b
+
+abbrev pub says : Option (List ℕ) → Next
+says None = Breaks
+says (Some text) = Says (slice_index text 0) (slice_index text 1) (slice_index text 2) (slice_index text 3)
+
+abbrev pub named : ℕ → ℕ → Next
+named a b = says (string_named a b)
+
+-- not in lines that pass, nor before a macro's name has ended
+abbrev pub takes_strings : Scan → Bool
+takes_strings (scans.Asleep front lines) = false
+takes_strings scans.Passes = false
+takes_strings scans.Comment = false
+takes_strings scans.Control = false
+takes_strings scans.Name = false
+takes_strings scans.Rest = false
+takes_strings scans.Dropped = false
+takes_strings (scans.Ignored d) = false
+takes_strings scan = true
+
+abbrev pub behind_star : ℕ → Next
+behind_star b =
+    if b == code "(" then Waits pendings.Open else if b == code "[" then Waits pendings.Bracket else Breaks
+
+-- what a byte does to what was read of an escape, or begins
+abbrev pub met_by : Pending → ℕ → Bool → Next
+met_by pendings.Nothing b takes = if takes && (b == code "\\") then Waits pendings.Backslash else Breaks
+met_by pendings.Backslash b takes = if b == code "*" then Waits pendings.Star else Breaks
+met_by pendings.Star b takes = behind_star b
+met_by pendings.Open b takes = Waits (pendings.Pair b)
+met_by (pendings.Pair a) b takes = named a b
+met_by pendings.Bracket b takes = Waits (pendings.One b)
+met_by (pendings.One a) b takes = Waits (pendings.Two a b)
+met_by (pendings.Two a c) b takes = if b == code "]" then named a c else Breaks

@@ -1,0 +1,179 @@
+//! What one meeting says: parts with fonts and joints, and requests.
+
+use super::macros::{Font, Pair, System};
+use super::page::Front;
+
+/// A text that stands for a macro.
+#[derive(Clone, Copy)]
+pub(crate) enum Text {
+    /// What opens an enclosure.
+    Opening(Pair),
+    /// What closes it, by its byte.
+    Closing(u8),
+    /// The name of a system.
+    System(System),
+    /// `.At` without a version.
+    Att,
+    /// `BSD`.
+    Bsd,
+    /// `.Fl` without words.
+    Dash,
+    /// `.Ar` without words.
+    File,
+    /// `.Pa` without words.
+    Home,
+    /// An apostrophe.
+    Apostrophe,
+    /// What sets a name and its description apart.
+    Description,
+    /// A comma.
+    Comma,
+    /// A full stop.
+    Period,
+    /// The end of a function of a synopsis.
+    FunctionEnds,
+    /// Nothing that shows.
+    Empty,
+    /// What does not break.
+    FixedSpace,
+    /// The head of an inclusion.
+    Include,
+    /// `The`, before the names of utilities.
+    The,
+    /// What `.Ex` says behind them.
+    Exits,
+    /// What `.Rv` says behind functions.
+    Returns,
+    /// What it says without one.
+    Succeeds,
+    /// What stands behind a function's name.
+    Parentheses,
+}
+
+/// A request that goes out as a line.
+#[derive(Clone, Copy)]
+pub(crate) enum Request {
+    /// `.br`.
+    Break,
+    /// `.sp`.
+    Space,
+    /// No space before paragraphs.
+    NoDistance,
+    /// That of the macro file.
+    Distance,
+    /// Lines stay.
+    NoFill,
+    /// Lines are filled.
+    Fill,
+    /// The tab stops of the macro file.
+    Tabs,
+    /// An indent ends.
+    IndentEnds,
+    /// A font.
+    Font(Font),
+}
+
+/// A request with a number.
+#[derive(Clone, Copy)]
+pub(crate) enum Sized {
+    /// An indent begins.
+    Indent,
+    /// An item with a bullet.
+    Bullet,
+    /// An item with a dash.
+    Dash,
+    /// An item without a tag.
+    Untagged,
+    /// A tag is the next line.
+    Tagged,
+    /// A paragraph hangs.
+    Hanging,
+}
+
+/// What goes out.
+#[derive(Clone, Copy)]
+pub(crate) enum Act {
+    /// Nothing.
+    Nothing,
+    /// A byte as it is.
+    Byte(u8),
+    /// A hyphen behind which no line is broken.
+    Hyphen,
+    /// What was read of `.Dd`.
+    Front(Front),
+    /// The first byte of a text line.
+    Begin(u8),
+    /// The word, in a font.
+    Word(Font),
+    /// The word as an option.
+    Flag,
+    /// The word joined to what is before.
+    Joined(Font),
+    /// A further part of a long word.
+    Part,
+    /// The last part of one.
+    LastPart,
+    /// The page's name.
+    Own,
+    /// A text.
+    Text(Text),
+    /// A text joined to what is before.
+    Close(Text),
+    /// The marks that were held back.
+    Marks,
+    /// The next word joins this one.
+    Join,
+    /// It does not.
+    Apart,
+    /// The standard that the word names.
+    Standard,
+    /// The library.
+    Library,
+    /// The version of AT&T UNIX.
+    Att,
+    /// A release of BSD.
+    Release,
+    /// The line ends.
+    Ends,
+    /// What was begun is put on a line, and a tag is whole.
+    Fresh,
+    /// The same, and nothing was put since space was made.
+    Quiet,
+    /// Space as before a paragraph, once.
+    Space,
+    /// A request.
+    Request(Request),
+    /// A request with a number.
+    Sized(Sized, u16),
+    /// A paragraph hangs by so many ens.
+    Hanging(u16),
+    /// A numbered item: its number, and the width of its tag.
+    Numbered(u16, u16),
+    /// The page's title begins a line of its own, up to its source.
+    Title,
+    /// The title's line ends.
+    TitleEnds,
+    /// A section's heading begins.
+    Section,
+    /// A subsection's heading begins.
+    Subsection,
+    /// A request of the page itself: its control character and its name, which is the word.
+    Control,
+    /// Tab stops begin.
+    Columns,
+    /// A tab stop behind the ones before.
+    Column(u16),
+    /// A cell of a table ends.
+    Cell,
+}
+
+/// What becomes of the open blocks.
+#[derive(Clone, Copy)]
+pub(crate) enum Stack {
+    /// They stay.
+    Stay,
+    /// This one is open too.
+    Opens,
+    /// The innermost is closed.
+    Closes,
+}

@@ -1,0 +1,252 @@
+//! Lists, their items, and displays.
+ghost use Rattle.std.specs.Prelude.{◌≡◌, ◌≤◌};
+ghost use Rattle.nr_mdoc.specs.Seeing.{met};
+ghost use Rattle.nr_mdoc.specs.Blocks as specs;
+
+use super::acts::{Act, Request, Sized, Stack, Text};
+use super::macros::{Font, Macro};
+use super::options::at_most;
+use super::page::{Block, Kind, Page};
+use super::seen::Seen;
+
+impl Block {
+    /// No block: room for blocks is made of it.
+    pub const NONE: Block = Block {
+        kind: Kind::Page,
+        width: 0,
+        offset: 0,
+        items: 0,
+        compact: false,
+        begun: false,
+    };
+}
+
+/// A block of whose options none was read.
+fn fresh_block(kind: Kind, offset: u16) -> Block
+    ensures { result ≡ specs.fresh_block kind offset }
+{
+    Block {
+        kind,
+        width: 0,
+        offset,
+        items: 0,
+        compact: false,
+        begun: false,
+    }
+}
+
+/// It is a list.
+fn is_list(kind: Kind) -> bool
+    ensures { result ≡ specs.is_list kind }
+{
+    !matches!(kind, Kind::Page | Kind::Filled | Kind::Literal)
+}
+
+/// Its items have tags.
+fn has_tags(kind: Kind) -> bool
+    ensures { result ≡ specs.has_tags kind }
+{
+    matches!(
+        kind,
+        Kind::Bullet | Kind::Dash | Kind::Number | Kind::Tag | Kind::Hang
+    )
+}
+
+/// What tags take without `-width`.
+fn usual_width(kind: Kind) -> u16
+    ensures value { result ≡ specs.usual_width kind }
+    ensures few { result ≤ 8 }
+{
+    match kind {
+        Kind::Bullet | Kind::Dash => 2,
+        Kind::Number => 3,
+        _ => 8,
+    }
+}
+
+/// What tags take, with the gap behind them.
+fn tag_width(block: Block) -> u16
+    ensures value { result ≡ specs.tag_width block }
+    ensures few { result ≤ 902 }
+{
+    if block.width == 0 {
+        usual_width(block.kind) + 2
+    } else {
+        at_most(900, block.width) + 2
+    }
+}
+
+/// An item with a tag is open.
+fn is_tagged(block: Block) -> bool
+    ensures { result ≡ specs.is_tagged block }
+{
+    block.begun && has_tags(block.kind)
+}
+
+/// How far the text of its items is indented.
+fn inner(block: Block) -> u16
+    ensures value { result ≡ specs.inner block }
+    ensures few { result ≤ 902 }
+{
+    if is_tagged(block) {
+        tag_width(block)
+    } else {
+        0
+    }
+}
+
+/// Space before something, or none.
+fn space(compact: bool) -> Act
+    ensures { result ≡ specs.space compact }
+{
+    if compact { Act::Fresh } else { Act::Space }
+}
+
+impl Page {
+    /// A list or a display comes, with its options.
+    pub(crate) fn block_opens(&mut self, kind: Kind) -> Seen
+        ensures { met self.new result ≡ specs.block_opens kind self.old }
+    {
+        self.block = fresh_block(kind, inner(self.block));
+        Seen::left(Act::Fresh).with(Stack::Opens)
+    }
+
+    /// Its indent.
+    fn indent(&self) -> Act
+        ensures { result ≡ specs.indent self.now }
+    {
+        Act::Sized(Sized::Indent, at_most(999, self.block.offset))
+    }
+
+    /// A list begins.
+    pub(crate) fn list_begins(&mut self) -> Seen
+        ensures { met self.new result ≡ specs.list_begins self.old }
+    {
+        if matches!(self.block.kind, Kind::Column) {
+            return Seen::three(
+                space(self.block.compact),
+                self.indent(),
+                Act::Request(Request::NoFill),
+            );
+        }
+        Seen::left(self.indent())
+    }
+
+    /// A display begins.
+    pub(crate) fn display_begins(&mut self) -> Seen
+        ensures { met self.new result ≡ specs.display_begins self.old }
+    {
+        let space = space(self.block.compact);
+        let indent = self.indent();
+        if matches!(self.block.kind, Kind::Literal) {
+            self.lay.literal = true;
+            return Seen::three(space, indent, Act::Request(Request::NoFill));
+        }
+        Seen::two(space, indent)
+    }
+
+    /// A list ends.
+    pub(crate) fn list_ends(&mut self) -> Seen
+        ensures { met self.new result ≡ specs.list_ends self.old }
+    {
+        if !is_list(self.block.kind) {
+            return Seen::left(Act::Nothing);
+        }
+        let end = Act::Request(Request::IndentEnds);
+        if matches!(self.block.kind, Kind::Column) {
+            let seen = Seen::three(
+                Act::Request(Request::Fill),
+                Act::Request(Request::Tabs),
+                end,
+            );
+            return seen.with(Stack::Closes);
+        }
+        Seen::left(end).with(Stack::Closes)
+    }
+
+    /// A display ends.
+    pub(crate) fn display_ends(&mut self) -> Seen
+        ensures { met self.new result ≡ specs.display_ends self.old }
+    {
+        let end = Act::Request(Request::IndentEnds);
+        match self.block.kind {
+            Kind::Literal => {
+                self.lay.literal = false;
+                Seen::two(Act::Request(Request::Fill), end).with(Stack::Closes)
+            }
+            Kind::Filled => Seen::left(end).with(Stack::Closes),
+            _ => Seen::left(Act::Nothing),
+        }
+    }
+
+    /// The item around what ended goes on.
+    pub(crate) fn outer_goes_on(&self, act: Act) -> Seen
+        ensures { result ≡ specs.outer_goes_on act self.now }
+    {
+        if is_tagged(self.block) {
+            return Seen::two(act, Act::Sized(Sized::Untagged, tag_width(self.block)));
+        }
+        Seen::left(act)
+    }
+
+    /// A line that is indented comes.
+    pub(crate) fn line_opens(&mut self) -> Seen
+        ensures { met self.new result ≡ specs.line_opens self.old }
+    {
+        self.call.taker = Macro::Words(Font::Roman);
+        Seen::left(Act::Sized(Sized::Indent, inner(self.block) + 6))
+    }
+
+    /// One more item.
+    fn counts(&mut self)
+        ensures { self.new ≡ specs.counts self.old }
+    {
+        self.block.begun = true;
+        if self.block.items < 9999 {
+            self.block.items += 1;
+        }
+    }
+
+    /// An item comes.
+    pub(crate) fn item(&mut self) -> Seen
+        ensures { met self.new result ≡ specs.item self.old }
+    {
+        self.place.depth = 0;
+        self.call.taker = Macro::Words(Font::Roman);
+        if !is_list(self.block.kind) {
+            return Seen::left(Act::Nothing);
+        }
+        self.counts();
+        if matches!(self.block.kind, Kind::Diagnosis) {
+            self.call.taker = Macro::Words(Font::Bold);
+        }
+        let close = self.block.compact || matches!(self.block.kind, Kind::Column);
+        Seen::two(space(close), self.item_head())
+    }
+
+    /// What begins it.
+    fn item_head(&self) -> Act
+        ensures { result ≡ specs.item_head self.now }
+    {
+        let width = tag_width(self.block);
+        match self.block.kind {
+            Kind::Bullet => Act::Sized(Sized::Bullet, width),
+            Kind::Dash => Act::Sized(Sized::Dash, width),
+            Kind::Number => Act::Numbered(self.block.items, width),
+            Kind::Tag | Kind::Hang => Act::Sized(Sized::Tagged, width),
+            Kind::Column => Act::Nothing,
+            _ => Act::Request(Request::Break),
+        }
+    }
+
+    /// The line of an item ends.
+    pub(crate) fn item_ends(&self) -> Seen
+        ensures { result ≡ specs.item_ends self.now }
+    {
+        match self.block.kind {
+            Kind::Overhang => Seen::left(Act::Request(Request::Break)),
+            Kind::Diagnosis => Seen::left(Act::Close(Text::FixedSpace)),
+            _ => Seen::left(Act::Nothing),
+        }
+    }
+}

@@ -1,0 +1,357 @@
+//! Lines: what the macro that begins one says, and what its end says.
+ghost use Rattle.std.specs.Prelude.{◌≡◌};
+ghost use Rattle.nr_mdoc.specs.Seeing.{met};
+ghost use Rattle.nr_mdoc.specs.Lines as specs;
+
+use super::acts::{Act, Request, Text};
+use super::macros::{Font, Macro, macro_of};
+use super::page::{Call, Dots, Kind, Last, Page, Scan, Section, Wanted};
+use super::seen::Seen;
+use nr_units::Name;
+
+/// Whether a name is that of a request, not of a macro.
+fn is_request(name: &[u8]) -> bool
+    ensures { result ≡ specs.is_request name.now }
+{
+    match name {
+        [first, ..] => !matches!(*first, b'A'..=b'Z') && *first != b'%',
+        [] => false,
+    }
+}
+
+/// The call of a line's macro.
+pub(crate) fn call_of(line: Macro) -> Call
+    ensures { result ≡ specs.call_of line }
+{
+    Call {
+        line,
+        taker: line,
+        first: true,
+        some: false,
+        listed: false,
+        opens: false,
+        going: false,
+        comment: false,
+        wanted: Wanted::Option,
+        width: 0,
+    }
+}
+
+/// Whether a line of this kind stands right behind one of that kind in a synopsis.
+fn stands_behind(last: Last, kind: Last) -> bool
+    ensures { result ≡ specs.stands_behind last kind }
+{
+    match last {
+        Last::Heading => true,
+        Last::ResultType => matches!(kind, Last::Function),
+        Last::Variable => matches!(kind, Last::Variable),
+        Last::Declaration => matches!(kind, Last::Declaration),
+        Last::Include => matches!(kind, Last::Include),
+        _ => false,
+    }
+}
+
+impl Page {
+    /// The name of a control line is whole.
+    pub(crate) fn named_line(&mut self) -> Seen
+        ensures { met self.new result ≡ specs.named_line self.old }
+    {
+        self.scan = Scan::Between;
+        self.closers = Name::new();
+        match macro_of(self.word.as_bytes()) {
+            Some(line) => {
+                self.call = call_of(line);
+                self.begins(line)
+            }
+            None => self.other_line(),
+        }
+    }
+
+    /// A request, or a line whose macro is none.
+    fn other_line(&mut self) -> Seen
+        ensures { met self.new result ≡ specs.other_line self.old }
+    {
+        if is_request(self.word.as_bytes()) {
+            self.scan = Scan::Rest;
+            return Seen::left(Act::Control);
+        }
+        self.call = call_of(Macro::Words(Font::Roman));
+        Seen::left(Act::Nothing)
+    }
+
+    /// A macro begins a line.
+    #[tactic(auto, unfolding(crate::specs::Lines::begins))]
+    fn begins(&mut self, line: Macro) -> Seen
+        ensures { met self.new result ≡ specs.begins line self.old }
+    {
+        match line {
+            Macro::Title => self.titles(),
+            Macro::System => self.system(),
+            Macro::Section => self.section(),
+            Macro::Subsection => Seen::left(Act::Subsection),
+            Macro::Paragraph => self.paragraph(),
+            Macro::Describes => Seen::left(Act::Text(Text::Description)),
+            Macro::Silent => self.silent(),
+            Macro::Breaks => Seen::left(Act::Request(Request::Break)),
+            Macro::Spaces => Seen::two(Act::Request(Request::Space), Act::Quiet),
+            Macro::Defines => self.defines(),
+            Macro::Book => self.book(),
+            Macro::BookEnds => self.book_ends(),
+            Macro::Part(_) => self.book_part(),
+            Macro::FontEnds => Seen::left(Act::Request(Request::Font(Font::Roman))),
+            Macro::Exits => Seen::left(Act::Text(Text::The)),
+            _ => self.begins_block(line),
+        }
+    }
+
+    /// A macro begins a line that belongs to lists, displays or the synopsis.
+    fn begins_block(&mut self, line: Macro) -> Seen
+        ensures { met self.new result ≡ specs.begins_block line self.old }
+    {
+        match line {
+            Macro::List => self.block_opens(Kind::Item),
+            Macro::Display => self.block_opens(Kind::Filled),
+            Macro::Item => self.item(),
+            Macro::ListEnds => self.list_ends(),
+            Macro::DisplayEnds => self.display_ends(),
+            Macro::Line | Macro::LiteralLine => self.line_opens(),
+            Macro::ResultType => self.synopsis_line(Last::ResultType),
+            Macro::Function | Macro::FunctionOpens => self.synopsis_line(Last::Function),
+            Macro::Variable => self.synopsis_line(Last::Variable),
+            Macro::Declaration => self.synopsis_line(Last::Declaration),
+            Macro::Include => self.include_line(),
+            _ => self.called(line),
+        }
+    }
+
+    /// A title comes.
+    fn titles(&mut self) -> Seen
+        ensures { met self.new result ≡ specs.titles self.old }
+    {
+        self.title = Name::new();
+        self.chapter = Name::new();
+        Seen::left(Act::Nothing)
+    }
+
+    /// The system comes: the title's line goes out.
+    fn system(&mut self) -> Seen
+        ensures { met self.new result ≡ specs.system self.old }
+    {
+        if self.place.titled {
+            self.call.line = Macro::Silent;
+            return self.silent();
+        }
+        Seen::left(Act::Title)
+    }
+
+    /// A section begins.
+    fn section(&mut self) -> Seen
+        ensures { met self.new result ≡ specs.section self.old }
+    {
+        self.place.section = Section::Other;
+        self.place.last = Last::Heading;
+        self.place.split = false;
+        self.place.depth = 0;
+        if self.place.titled {
+            return Seen::left(Act::Section);
+        }
+        Seen::three(Act::Title, Act::TitleEnds, Act::Section)
+    }
+
+    /// A paragraph begins.
+    fn paragraph(&mut self) -> Seen
+        ensures { met self.new result ≡ specs.paragraph self.old }
+    {
+        self.place.last = Last::Heading;
+        Seen::left(Act::Space)
+    }
+
+    /// A line that prints nothing.
+    fn silent(&mut self) -> Seen
+        ensures { met self.new result ≡ specs.silent self.old }
+    {
+        self.scan = Scan::Dropped;
+        Seen::left(Act::Nothing)
+    }
+
+    /// Lines that pass come.
+    fn defines(&mut self) -> Seen
+        ensures { met self.new result ≡ specs.defines self.old }
+    {
+        self.scan = Scan::Ignored(Dots::Other);
+        Seen::left(Act::Control)
+    }
+
+    /// A reference begins.
+    fn book(&mut self) -> Seen
+        ensures { met self.new result ≡ specs.book self.old }
+    {
+        self.place.part = false;
+        Seen::left(Act::Nothing)
+    }
+
+    /// It ends.
+    fn book_ends(&mut self) -> Seen
+        ensures { met self.new result ≡ specs.book_ends self.old }
+    {
+        if !self.place.part {
+            return Seen::left(Act::Nothing);
+        }
+        self.place.part = false;
+        Seen::left(Act::Close(Text::Period))
+    }
+
+    /// A part of it comes.
+    fn book_part(&mut self) -> Seen
+        ensures { met self.new result ≡ specs.book_part self.old }
+    {
+        if self.place.part {
+            return Seen::left(Act::Close(Text::Comma));
+        }
+        self.place.part = true;
+        Seen::left(Act::Nothing)
+    }
+
+    /// What stands before a line of the synopsis: a paragraph where another kind came before.
+    fn line_before(&self, kind: Last) -> Act
+        ensures { result ≡ specs.line_before kind self.now }
+    {
+        if stands_behind(self.place.last, kind) {
+            Act::Request(Request::Break)
+        } else {
+            Act::Space
+        }
+    }
+
+    /// In a synopsis some macros begin a line.
+    fn synopsis_line(&mut self, kind: Last) -> Seen
+        ensures { met self.new result ≡ specs.synopsis_line kind self.old }
+    {
+        if !self.is_synopsis() {
+            return Seen::left(Act::Nothing);
+        }
+        let act = self.line_before(kind);
+        self.place.last = kind;
+        Seen::left(act)
+    }
+
+    /// A file that a line includes.
+    fn include_line(&mut self) -> Seen
+        ensures { met self.new result ≡ specs.include_line self.old }
+    {
+        if !self.is_synopsis() {
+            return Seen::left(Act::Nothing);
+        }
+        let act = self.line_before(Last::Include);
+        self.place.last = Last::Include;
+        Seen::two(act, Act::Text(Text::Include))
+    }
+
+    /// The line ends: what is due comes first, then what closes enclosures, the last first, then marks.
+    pub(crate) fn ends(&mut self) -> Seen
+        ensures { met self.new result ≡ specs.ends self.old }
+    {
+        if self.is_due() {
+            return self.leaves();
+        }
+        if !self.closers.is_empty() {
+            return self.closes_last();
+        }
+        if !self.marks.is_empty() {
+            return Seen::left(Act::Marks);
+        }
+        self.line_ends()
+    }
+
+    /// The enclosure that the line opened last is closed.
+    #[tactic(auto, unfolding(crate::specs::Lines::closes_last))]
+    fn closes_last(&mut self) -> Seen
+        requires { specs.is_some_closer self.old }
+        ensures { met self.new result ≡ specs.closes_last self.old }
+    {
+        let closers = self.closers;
+        let bytes = closers.as_bytes();
+        let rest = bytes.len() - 1;
+        self.closers = Name::of(&bytes[..rest]);
+        Seen::left(Act::Close(Text::Closing(bytes[rest])))
+    }
+
+    /// All of the line was said.
+    #[tactic(auto, unfolding(crate::specs::Lines::line_ends))]
+    fn line_ends(&mut self) -> Seen
+        ensures { met self.new result ≡ specs.line_ends self.old }
+    {
+        let mut seen = self.end_of(self.call.line).and_taken();
+        self.scan = Scan::Start;
+        if matches!(seen.third, Act::Nothing) {
+            let whole = self.lay.tag && self.place.depth == 0;
+            seen.third = if whole { Act::Fresh } else { Act::Ends };
+        }
+        seen
+    }
+
+    /// What the macro that began a line says at its end.
+    #[tactic(auto, unfolding(crate::specs::Lines::end_of))]
+    fn end_of(&mut self, line: Macro) -> Seen
+        ensures { met self.new result ≡ specs.end_of line self.old }
+    {
+        match line {
+            Macro::Section | Macro::Subsection => Seen::left(Act::Quiet),
+            Macro::System => Seen::left(Act::TitleEnds),
+            Macro::List => self.list_begins(),
+            Macro::Display => self.display_begins(),
+            Macro::ListEnds => self.outer_goes_on(Act::Request(Request::Distance)),
+            Macro::DisplayEnds => self.outer_goes_on(Act::Nothing),
+            Macro::Line | Macro::LiteralLine => self.outer_goes_on(Act::Request(
+                Request::IndentEnds,
+            )),
+            Macro::Include | Macro::ResultType => self.synopsis_line_ends(),
+            Macro::Item => self.item_ends(),
+            Macro::Exits => self.exits(),
+            Macro::Returns => self.returns(),
+            Macro::Spacing => self.spacing(),
+            _ => Seen::left(Act::Nothing),
+        }
+    }
+
+    /// A line of the synopsis ends.
+    fn synopsis_line_ends(&self) -> Seen
+        ensures { result ≡ specs.synopsis_line_ends self.now }
+    {
+        if self.is_synopsis() {
+            return Seen::left(Act::Request(Request::Break));
+        }
+        Seen::left(Act::Nothing)
+    }
+
+    /// What a utility's status is: the page's, where none is named.
+    fn exits(&self) -> Seen
+        ensures { result ≡ specs.exits self.now }
+    {
+        if self.call.listed {
+            return Seen::left(Act::Text(Text::Exits));
+        }
+        Seen::two(Act::Own, Act::Text(Text::Exits))
+    }
+
+    /// What functions return.
+    fn returns(&self) -> Seen
+        ensures { result ≡ specs.returns self.now }
+    {
+        if self.call.listed {
+            return Seen::left(Act::Text(Text::Returns));
+        }
+        Seen::left(Act::Text(Text::Succeeds))
+    }
+
+    /// Without a word the spacing turns.
+    fn spacing(&mut self) -> Seen
+        ensures { met self.new result ≡ specs.spacing self.old }
+    {
+        if !self.call.some {
+            self.lay.spaced = !self.lay.spaced;
+        }
+        self.lay.joined = false;
+        Seen::left(Act::Nothing)
+    }
+}

@@ -1,0 +1,303 @@
+//! What is half read of a page.
+
+use super::macros::{Font, Macro};
+use nr_units::Name;
+
+/// How many dots a line begins with.
+#[derive(Clone, Copy)]
+pub(crate) enum Dots {
+    /// None yet.
+    Start,
+    /// One.
+    One,
+    /// Two: it is the last of the lines that pass.
+    Two,
+    /// It begins otherwise.
+    Other,
+}
+
+/// What was read of `.Dd` at the beginning of a line, before a page is known to be one of mdoc.
+#[derive(Clone, Copy)]
+pub(crate) enum Front {
+    /// Nothing.
+    Nothing,
+    /// `.`.
+    Dot,
+    /// `.D`.
+    Half,
+    /// `.Dd`.
+    Whole,
+    /// Something else: the line passes.
+    Other,
+}
+
+/// Where a line is read.
+#[derive(Clone, Copy)]
+pub(crate) enum Scan {
+    /// In so many lines no `.Dd` came: all passes.
+    Asleep(Front, u8),
+    /// All passes.
+    Passes,
+    /// At its beginning.
+    Start,
+    /// In a comment.
+    Comment,
+    /// In a text line, behind a letter or a digit or not.
+    Text(bool),
+    /// Behind the control character.
+    Control,
+    /// In the name of a macro.
+    Name,
+    /// Between words.
+    Between,
+    /// In a word.
+    Word,
+    /// In a word, behind a backslash.
+    Escape,
+    /// In a word between quotes.
+    Quoted,
+    /// In a word between quotes, behind a backslash.
+    QuotedEscape,
+    /// Behind a quote that may be the last of its word.
+    Closing,
+    /// A word is whole: between quotes or not.
+    Given(bool),
+    /// A word is longer than what is kept of one: between quotes or not, behind a backslash or not.
+    Long(bool, bool),
+    /// Its front went out.
+    Goes(bool, bool),
+    /// The rest of the line passes.
+    Rest,
+    /// The rest of the line is dropped.
+    Dropped,
+    /// Lines pass, up to `..`.
+    Ignored(Dots),
+    /// The line ends.
+    Ends,
+}
+
+/// Where the text that goes out stands.
+#[derive(Clone, Copy)]
+pub(crate) enum At {
+    /// At the beginning of a line.
+    Start,
+    /// In a line.
+    Middle,
+    /// In a line, and what comes next is of another line of the input.
+    Ended,
+}
+
+/// A section in which some macros print otherwise.
+#[derive(Clone, Copy)]
+pub(crate) enum Section {
+    /// Any other.
+    Other,
+    /// SYNOPSIS.
+    Synopsis,
+    /// AUTHORS.
+    Authors,
+}
+
+/// What began the line before in a synopsis.
+#[derive(Clone, Copy)]
+pub(crate) enum Last {
+    /// Something else.
+    Other,
+    /// `.Nm`.
+    Name,
+    /// `.Ft`.
+    ResultType,
+    /// `.Fn` or `.Fo`.
+    Function,
+    /// `.Vt`.
+    Variable,
+    /// `.Cd` or `.Fd`.
+    Declaration,
+    /// `.In`.
+    Include,
+    /// The heading.
+    Heading,
+}
+
+/// Where in the parameters of a function that `.Fo` opened.
+#[derive(Clone, Copy)]
+pub(crate) enum Parameters {
+    /// In none.
+    Outside,
+    /// Before the first.
+    First,
+    /// Behind one.
+    Further,
+}
+
+/// What the next word of `.Bl` or `.Bd` is.
+#[derive(Clone, Copy)]
+pub(crate) enum Wanted {
+    /// An option, or a column.
+    Option,
+    /// The width of tags.
+    Width,
+    /// The indent.
+    Offset,
+    /// A further column.
+    Column,
+}
+
+/// A kind of a block.
+#[derive(Clone, Copy)]
+pub(crate) enum Kind {
+    /// The page itself.
+    Page,
+    /// A list whose items begin lines.
+    Item,
+    /// Items with a bullet.
+    Bullet,
+    /// Items with a dash.
+    Dash,
+    /// Numbered items.
+    Number,
+    /// Items with a tag.
+    Tag,
+    /// Items with a tag that hangs.
+    Hang,
+    /// Items whose head runs into the text.
+    Inset,
+    /// Items whose head is a line.
+    Overhang,
+    /// Items whose head is in bold and runs into the text.
+    Diagnosis,
+    /// Rows of columns.
+    Column,
+    /// A display that is filled.
+    Filled,
+    /// A display whose lines stay.
+    Literal,
+}
+
+/// What an option of `.Bl` or `.Bd` asks.
+#[derive(Clone, Copy)]
+pub(crate) enum Asks {
+    /// The kind of the block.
+    Kind(Kind),
+    /// The width of tags, which comes next.
+    Width,
+    /// The indent, which comes next.
+    Offset,
+    /// No space before items.
+    Compact,
+}
+
+/// A block: a list, or a display.
+#[derive(Clone, Copy)]
+pub struct Block {
+    /// Its kind.
+    pub(crate) kind: Kind,
+    /// The width of its tags.
+    pub(crate) width: u16,
+    /// Its indent.
+    pub(crate) offset: u16,
+    /// How many items it has.
+    pub(crate) items: u16,
+    /// No space stands before an item.
+    pub(crate) compact: bool,
+    /// An item has begun.
+    pub(crate) begun: bool,
+}
+
+/// How text is laid out.
+#[derive(Clone, Copy)]
+pub(crate) struct Lay {
+    /// Where it stands.
+    pub at: At,
+    /// The next word joins the one before.
+    pub joined: bool,
+    /// Words are set apart (`.Sm`).
+    pub spaced: bool,
+    /// The line is a tag, which more lines may go on.
+    pub tag: bool,
+    /// Lines stay as they are.
+    pub literal: bool,
+    /// Nothing was put since space was made.
+    pub quiet: bool,
+    /// The font of a word that goes on.
+    pub font: Font,
+    /// The next word is only the front of a longer one.
+    pub front: bool,
+}
+
+/// What the words of a line are read for.
+#[derive(Clone, Copy)]
+pub(crate) struct Call {
+    /// The macro that began the line.
+    pub line: Macro,
+    /// The macro that takes the next word.
+    pub taker: Macro,
+    /// It is the one that began the line.
+    pub first: bool,
+    /// It took a word.
+    pub some: bool,
+    /// A parameter came, and no mark behind it.
+    pub listed: bool,
+    /// A parenthesis comes behind the word.
+    pub opens: bool,
+    /// The front of the word went out.
+    pub going: bool,
+    /// A comment ends the line.
+    pub comment: bool,
+    /// What of a list's options comes.
+    pub wanted: Wanted,
+    /// The printing bytes of the word, escapes counted as one each.
+    pub width: u16,
+}
+
+/// Where in the page.
+#[derive(Clone, Copy)]
+pub(crate) struct Place {
+    /// The section.
+    pub section: Section,
+    /// What began the line before in a synopsis.
+    pub last: Last,
+    /// Authors begin lines.
+    pub split: bool,
+    /// In a function's parameters.
+    pub parameters: Parameters,
+    /// How many enclosures are open that may end on another line.
+    pub depth: u8,
+    /// A part of a reference was printed.
+    pub part: bool,
+    /// The page's title went out.
+    pub titled: bool,
+}
+
+/// What is half read.
+#[derive(Clone, Copy)]
+pub(crate) struct Page {
+    /// Where the line is read.
+    pub scan: Scan,
+    /// The word.
+    pub word: Name,
+    /// Closing marks that may be the last of the line.
+    pub marks: Name,
+    /// What closes the enclosures that the line opened: the last stands last.
+    pub closers: Name,
+    /// The page's name.
+    pub name: Name,
+    /// The page's title.
+    pub title: Name,
+    /// The section of the manual.
+    pub chapter: Name,
+    /// The month of its date.
+    pub month: Name,
+    /// The day.
+    pub day: Name,
+    /// The year.
+    pub year: Name,
+    /// How text is laid out.
+    pub lay: Lay,
+    /// What words are read for.
+    pub call: Call,
+    /// Where in the page.
+    pub place: Place,
+    /// The innermost block.
+    pub block: Block,
+}

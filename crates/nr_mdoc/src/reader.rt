@@ -1,0 +1,235 @@
+//! Bytes are read: each is met until it is taken.
+ghost use Rattle.std.specs.Prelude.{◌≡◌, ◌+◌, ◌*◌, ◌<◌, ◌≤◌, ◌++◌, length};
+ghost use Rattle.nr_mdoc.specs.Reading as specs;
+ghost use Rattle.nr_mdoc.specs.Reading.{state};
+
+use super::acts::Stack;
+use super::lines::call_of;
+use super::macros::{Font, Macro};
+use super::page::{At, Block, Front, Last, Lay, Page, Parameters, Place, Scan, Section};
+use super::seen::Seen;
+use super::strings::Pending;
+use nr_units::Name;
+use nr_units::slice_vec::SliceVec;
+
+/// How often a byte is met at most.
+const MEETINGS: u8 = 16;
+
+/// How many blocks may be open around the innermost.
+const MOST_BLOCKS: usize = 64;
+
+/// The layout of a page that begins.
+fn first_lay() -> Lay
+    ensures { result ≡ specs.first_lay }
+{
+    Lay {
+        at: At::Start,
+        joined: false,
+        spaced: true,
+        tag: false,
+        literal: false,
+        quiet: true,
+        font: Font::Roman,
+        front: false,
+    }
+}
+
+/// The place where a page begins.
+fn first_place() -> Place
+    ensures { result ≡ specs.first_place }
+{
+    Place {
+        section: Section::Other,
+        last: Last::Other,
+        split: false,
+        parameters: Parameters::Outside,
+        depth: 0,
+        part: false,
+        titled: false,
+    }
+}
+
+/// What is half read of an input.
+#[derive(Clone, Copy)]
+pub(crate) struct Reader {
+    /// Of a page.
+    pub page: Page,
+    /// Of an escape that may name a string.
+    pub pending: Pending,
+}
+
+impl Reader {
+    /// An input begins.
+    pub(crate) fn new() -> Reader
+        ensures { result ≡ specs.first_reader }
+    {
+        Reader {
+            page: Page::new(),
+            pending: Pending::Nothing,
+        }
+    }
+
+    /// A byte is met once. Tells whether it was taken.
+    #[tactic(auto, unfolding(crate::specs::Reading::once))]
+    fn hear_once(
+        &mut self,
+        byte: u8,
+        blocks: &mut SliceVec<'_, Block>,
+        out: &mut SliceVec<'_, u8>,
+    ) -> bool
+        requires room { length out.old.items + 768 ≤ out.old.room }
+        requires blocks { 64 ≤ blocks.old.room }
+        ensures state { state self.new blocks.new.items ≡ (specs.once byte (state self.old blocks.old.items)).state }
+        ensures items { out.new.items ≡ out.old.items ++ (specs.once byte (state self.old blocks.old.items)).bytes }
+        ensures few { length out.new.items ≤ length out.old.items + 768 }
+        ensures room { out.new.room ≡ out.old.room }
+        ensures blocks { blocks.new.room ≡ blocks.old.room }
+        ensures takes { result ≡ (specs.once byte (state self.old blocks.old.items)).takes }
+    {
+        let outer = self.page.block;
+        let seen = self.page.meet(byte);
+        self.page.say(seen, out);
+        self.stack(seen.stack, outer, blocks);
+        seen.takes
+    }
+
+    /// What becomes of the open blocks.
+    fn stack(&mut self, stack: Stack, outer: Block, blocks: &mut SliceVec<'_, Block>)
+        requires { 64 ≤ blocks.old.room }
+        ensures state { state self.new blocks.new.items ≡ specs.stacked stack outer (state self.old blocks.old.items) }
+        ensures blocks { blocks.new.room ≡ blocks.old.room }
+    {
+        match stack {
+            Stack::Stay => {}
+            Stack::Opens => {
+                if blocks.len() < MOST_BLOCKS {
+                    blocks.push(outer);
+                } else {
+                    self.page.refuses(outer);
+                }
+            }
+            Stack::Closes => {
+                self.page.block = match blocks.pop() {
+                    Some(block) => block,
+                    None => Block::NONE,
+                };
+            }
+        }
+    }
+
+    /// A byte is met so often at most. Tells how many steps that took.
+    fn hear_in(
+        &mut self,
+        byte: u8,
+        most: u8,
+        blocks: &mut SliceVec<'_, Block>,
+        out: &mut SliceVec<'_, u8>,
+    ) -> u64
+        requires room { length out.old.items + 768 * most ≤ out.old.room }
+        requires blocks { 64 ≤ blocks.old.room }
+        ensures state { state self.new blocks.new.items ≡ (specs.heard_in most byte (state self.old blocks.old.items)).state }
+        ensures items { out.new.items ≡ out.old.items ++ (specs.heard_in most byte (state self.old blocks.old.items)).bytes }
+        ensures few { length out.new.items ≤ length out.old.items + 768 * most }
+        ensures room { out.new.room ≡ out.old.room }
+        ensures blocks { blocks.new.room ≡ blocks.old.room }
+        ensures steps { result ≡ (specs.heard_in most byte (state self.old blocks.old.items)).steps }
+        ensures quick { result ≤ most }
+    {
+        if most == 0 {
+            return 0;
+        }
+        if self.hear_once(byte, blocks, out) {
+            return 1;
+        }
+        1 + self.hear_in(byte, most - 1, blocks, out)
+    }
+
+    /// A byte comes. At most 12288 bytes go out, in 16 steps at most.
+    #[tactic(auto, unfolding(crate::specs::Reading::heard))]
+    pub(crate) fn hear(
+        &mut self,
+        byte: u8,
+        blocks: &mut SliceVec<'_, Block>,
+        out: &mut SliceVec<'_, u8>,
+    ) -> u64
+        requires room { length out.old.items + 12288 ≤ out.old.room }
+        requires blocks { 64 ≤ blocks.old.room }
+        ensures state { state self.new blocks.new.items ≡ (specs.heard byte (state self.old blocks.old.items)).state }
+        ensures items { out.new.items ≡ out.old.items ++ (specs.heard byte (state self.old blocks.old.items)).bytes }
+        ensures few { length out.new.items ≤ length out.old.items + 12288 }
+        ensures room { out.new.room ≡ out.old.room }
+        ensures blocks { blocks.new.room ≡ blocks.old.room }
+        ensures steps { result ≡ (specs.heard byte (state self.old blocks.old.items)).steps }
+        ensures quick { result ≤ 16 }
+    {
+        self.hear_in(byte, MEETINGS, blocks, out)
+    }
+
+    /// A line that is begun ends with the input.
+    #[tactic(auto, unfolding(crate::specs::Reading::line_finished))]
+    pub(crate) fn finish_line(
+        &mut self,
+        blocks: &mut SliceVec<'_, Block>,
+        out: &mut SliceVec<'_, u8>,
+    ) -> u64
+        requires room { length out.old.items + 12544 ≤ out.old.room }
+        requires blocks { 64 ≤ blocks.old.room }
+        ensures items { out.new.items ≡ out.old.items ++ (specs.line_finished (state self.old blocks.old.items)).bytes }
+        ensures few { length out.new.items ≤ length out.old.items + 12544 }
+        ensures room { out.new.room ≡ out.old.room }
+        ensures steps { result ≡ (specs.line_finished (state self.old blocks.old.items)).steps }
+        ensures quick { result ≤ 16 }
+        ensures blocks { blocks.new.room ≡ blocks.old.room }
+    {
+        let steps = self.hear(b'\n', blocks, out);
+        self.page.freshen(out);
+        steps
+    }
+}
+
+impl Page {
+    /// A page begins.
+    fn new() -> Page
+        ensures { result ≡ specs.first_page }
+    {
+        Page {
+            scan: Scan::Asleep(Front::Nothing, 0),
+            word: Name::new(),
+            marks: Name::new(),
+            closers: Name::new(),
+            name: Name::new(),
+            title: Name::new(),
+            chapter: Name::new(),
+            month: Name::new(),
+            day: Name::new(),
+            year: Name::new(),
+            lay: first_lay(),
+            call: call_of(Macro::Silent),
+            place: first_place(),
+            block: Block::NONE,
+        }
+    }
+
+    /// What a meeting says is laid out.
+    #[tactic(auto, unfolding(crate::specs::Reading::said))]
+    fn say(&mut self, seen: Seen, out: &mut SliceVec<'_, u8>)
+        requires { length out.old.items + 768 ≤ out.old.room }
+        ensures page { self.new ≡ (specs.said seen self.old).page }
+        ensures items { out.new.items ≡ out.old.items ++ (specs.said seen self.old).bytes }
+        ensures few { length out.new.items ≤ length out.old.items + 768 }
+        ensures room { out.new.room ≡ out.old.room }
+    {
+        self.lay_out(seen.first, out);
+        self.lay_out(seen.second, out);
+        self.lay_out(seen.third, out);
+    }
+
+    /// A list or a display within too many is none.
+    fn refuses(&mut self, outer: Block)
+        ensures { self.new ≡ specs.refused outer self.old }
+    {
+        self.block = outer;
+        self.call.line = Macro::Silent;
+        self.call.taker = Macro::Silent;
+    }
+}

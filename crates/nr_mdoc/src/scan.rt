@@ -1,0 +1,436 @@
+//! A byte meets what is half read.
+ghost use Rattle.std.specs.Prelude.{◌≡◌};
+ghost use Rattle.nr_mdoc.specs.Seeing.{met};
+ghost use Rattle.nr_mdoc.specs.Scanning as specs;
+
+use super::acts::{Act, Text};
+use super::lines::call_of;
+use super::macros::Macro;
+use super::page::{Dots, Front, Page, Scan};
+use super::seen::Seen;
+use nr_units::Name;
+
+/// So many bytes of a word are kept: an escape fits behind them.
+const MOST_KEPT: usize = 30;
+
+/// So many lines are looked at for `.Dd`.
+const MOST_LINES: u8 = 64;
+
+/// What ends a word.
+pub(crate) fn ends_word(byte: u8) -> bool
+    ensures { result ≡ specs.ends_word byte }
+{
+    byte == b' ' || byte == b'\t' || byte == b'\n'
+}
+
+/// Behind which a hyphen may break a line, or is a part of an escape.
+fn is_inside(byte: u8) -> bool
+    ensures { result ≡ specs.is_inside byte }
+{
+    matches!(byte, b'0'..=b'9' | b'A'..=b'Z' | b'a'..=b'z' | b'\\')
+}
+
+/// One more byte of `.Dd`.
+pub(crate) fn front_grows(front: Front, byte: u8) -> Option<Front>
+    ensures { result ≡ specs.front_grows front byte }
+{
+    match front {
+        Front::Nothing if byte == b'.' => Some(Front::Dot),
+        Front::Dot if byte == b'D' => Some(Front::Half),
+        Front::Half if byte == b'd' => Some(Front::Whole),
+        _ => None,
+    }
+}
+
+/// One dot more at the beginning of a line.
+fn dots_then(dots: Dots, byte: u8) -> Dots
+    ensures { result ≡ specs.dots_then dots byte }
+{
+    match dots {
+        Dots::Start if byte == b'.' => Dots::One,
+        Dots::One if byte == b'.' => Dots::Two,
+        Dots::Two => Dots::Two,
+        _ => Dots::Other,
+    }
+}
+
+/// A line that passes has ended: it was the last, or not.
+fn after_ignored(dots: Dots) -> Scan
+    ensures { result ≡ specs.after_ignored dots }
+{
+    match dots {
+        Dots::Two => Scan::Start,
+        _ => Scan::Ignored(Dots::Start),
+    }
+}
+
+impl Page {
+    /// The line is read further so.
+    fn turns(&mut self, scan: Scan, seen: Seen) -> Seen
+        ensures { met self.new result ≡ specs.turns scan seen self.old }
+    {
+        self.scan = scan;
+        seen
+    }
+
+    /// At the beginning of a line.
+    fn at_start(&mut self, byte: u8) -> Seen
+        ensures { met self.new result ≡ specs.at_start byte self.old }
+    {
+        if byte == b'.' || byte == b'\'' {
+            return self.turns(Scan::Control, Seen::taken(Act::Nothing));
+        }
+        if byte == b'\n' {
+            return self.empty_line();
+        }
+        if (byte == b' ' || byte == b'\t') && !self.lay.literal {
+            return Seen::taken(Act::Nothing);
+        }
+        self.turns(Scan::Text(is_inside(byte)), Seen::taken(Act::Begin(byte)))
+    }
+
+    /// An empty line.
+    fn empty_line(&self) -> Seen
+        ensures { result ≡ specs.empty_line self.now }
+    {
+        if self.lay.literal {
+            return Seen::two(Act::Text(Text::Empty), Act::Ends).and_taken();
+        }
+        Seen::taken(Act::Space)
+    }
+
+    /// In a text line, behind a letter or a digit or not.
+    fn in_text(&mut self, inside: bool, byte: u8) -> Seen
+        ensures { met self.new result ≡ specs.in_text inside byte self.old }
+    {
+        if byte == b'\n' {
+            return self.turns(Scan::Start, Seen::taken(Act::Ends));
+        }
+        let hyphen = byte == b'-' && !inside;
+        let act = if hyphen { Act::Hyphen } else { Act::Byte(byte) };
+        self.turns(Scan::Text(is_inside(byte)), Seen::taken(act))
+    }
+
+    /// Behind the control character.
+    fn behind_control(&mut self, byte: u8) -> Seen
+        ensures { met self.new result ≡ specs.behind_control byte self.old }
+    {
+        match byte {
+            b' ' | b'\t' => Seen::taken(Act::Nothing),
+            b'\n' => self.turns(Scan::Start, Seen::taken(Act::Nothing)),
+            b'\\' => self.turns(Scan::Comment, Seen::taken(Act::Nothing)),
+            _ => self.name_begins(byte),
+        }
+    }
+
+    /// A name begins.
+    fn name_begins(&mut self, byte: u8) -> Seen
+        ensures { met self.new result ≡ specs.name_begins byte self.old }
+    {
+        self.word = Name::of(&[byte]);
+        self.turns(Scan::Name, Seen::taken(Act::Nothing))
+    }
+
+    /// In a comment.
+    fn in_comment(&mut self, byte: u8) -> Seen
+        ensures { met self.new result ≡ specs.in_comment byte self.old }
+    {
+        let scan = if byte == b'\n' {
+            Scan::Start
+        } else {
+            Scan::Comment
+        };
+        self.turns(scan, Seen::taken(Act::Nothing))
+    }
+
+    /// In the name of a control line.
+    fn in_name(&mut self, byte: u8) -> Seen
+        ensures { met self.new result ≡ specs.in_name byte self.old }
+    {
+        if ends_word(byte) || byte == b'\\' || self.word.is_full() {
+            return self.named_line();
+        }
+        self.word.push(byte);
+        Seen::taken(Act::Nothing)
+    }
+
+    /// Between words.
+    fn between(&mut self, byte: u8) -> Seen
+        ensures { met self.new result ≡ specs.between byte self.old }
+    {
+        if self.call.comment {
+            return self.turns(Scan::Dropped, Seen::left(Act::Nothing));
+        }
+        match byte {
+            b' ' => Seen::taken(Act::Nothing),
+            b'\t' => Seen::taken(Act::Cell),
+            b'\n' => self.turns(Scan::Ends, Seen::left(Act::Nothing)),
+            b'"' => self.word_begins(Scan::Quoted, Seen::taken(Act::Nothing)),
+            _ => self.word_begins(Scan::Word, Seen::left(Act::Nothing)),
+        }
+    }
+
+    /// A word begins.
+    fn word_begins(&mut self, scan: Scan, seen: Seen) -> Seen
+        ensures { met self.new result ≡ specs.word_begins scan seen self.old }
+    {
+        self.word = Name::new();
+        self.call.width = 0;
+        self.turns(scan, seen)
+    }
+
+    /// The word is wider by one.
+    fn widens(&mut self)
+        ensures { self.new ≡ specs.widens self.old }
+    {
+        if self.call.width < 9999 {
+            self.call.width += 1;
+        }
+    }
+
+    /// A byte of a word is kept, or what was kept goes out first.
+    fn keep(&mut self, byte: u8, quoted: bool) -> Seen
+        ensures { met self.new result ≡ specs.keep byte quoted self.old }
+    {
+        if self.word.len() < MOST_KEPT {
+            self.word.push(byte);
+        } else if self.is_shown() {
+            return self.turns(Scan::Long(quoted, false), Seen::left(Act::Nothing));
+        }
+        self.widens();
+        Seen::taken(Act::Nothing)
+    }
+
+    /// A byte of a word is kept: a hyphen behind a sign as an escape, since no line is broken behind that.
+    fn keep_byte(&mut self, byte: u8, quoted: bool) -> Seen
+        ensures { met self.new result ≡ specs.keep_byte byte quoted self.old }
+    {
+        if byte == b'-' && is_behind_sign(self.word.as_bytes()) {
+            return self.keep_escape(byte, quoted);
+        }
+        self.keep(byte, quoted)
+    }
+
+    /// In a word.
+    fn in_word(&mut self, byte: u8) -> Seen
+        ensures { met self.new result ≡ specs.in_word byte self.old }
+    {
+        if ends_word(byte) {
+            return self.turns(Scan::Given(false), Seen::left(Act::Nothing));
+        }
+        if byte == b'\\' {
+            return self.turns(Scan::Escape, Seen::taken(Act::Nothing));
+        }
+        self.keep_byte(byte, false)
+    }
+
+    /// In a word between quotes.
+    fn in_quotes(&mut self, byte: u8) -> Seen
+        ensures { met self.new result ≡ specs.in_quotes byte self.old }
+    {
+        match byte {
+            b'"' => self.turns(Scan::Closing, Seen::taken(Act::Nothing)),
+            b'\n' => self.turns(Scan::Given(true), Seen::left(Act::Nothing)),
+            b'\\' => self.turns(Scan::QuotedEscape, Seen::taken(Act::Nothing)),
+            _ => self.keep_byte(byte, true),
+        }
+    }
+
+    /// Behind a quote that may be the last of its word.
+    fn closing(&mut self, byte: u8) -> Seen
+        ensures { met self.new result ≡ specs.closing byte self.old }
+    {
+        if byte == b'"' {
+            self.scan = Scan::Quoted;
+            return self.keep(byte, true);
+        }
+        self.turns(Scan::Given(true), Seen::left(Act::Nothing))
+    }
+
+    /// A comment begins: what was read of a word is whole.
+    fn comment(&mut self, quoted: bool) -> Seen
+        ensures { met self.new result ≡ specs.comment quoted self.old }
+    {
+        self.call.comment = true;
+        let none = self.word.is_empty() && !self.call.going;
+        let scan = if none {
+            Scan::Between
+        } else {
+            Scan::Given(quoted)
+        };
+        self.turns(scan, Seen::left(Act::Nothing))
+    }
+
+    /// An escape is kept, or what was kept goes out first.
+    fn keep_escape(&mut self, byte: u8, quoted: bool) -> Seen
+        ensures { met self.new result ≡ specs.keep_escape byte quoted self.old }
+    {
+        if self.word.len() < MOST_KEPT {
+            self.word.push(b'\\');
+            self.word.push(byte);
+        } else if self.is_shown() {
+            return self.turns(Scan::Long(quoted, true), Seen::left(Act::Nothing));
+        }
+        if byte != b'&' {
+            self.widens();
+        }
+        self.turns(in_word_of(quoted), Seen::taken(Act::Nothing))
+    }
+
+    /// A line goes on with the next: a word that was not begun may begin there.
+    fn continued(&mut self, quoted: bool) -> Seen
+        ensures { met self.new result ≡ specs.continued quoted self.old }
+    {
+        let none = !quoted && self.word.is_empty() && !self.call.going;
+        let scan = if none {
+            Scan::Between
+        } else {
+            in_word_of(quoted)
+        };
+        self.turns(scan, Seen::taken(Act::Nothing))
+    }
+
+    /// Behind a backslash in a word: a line that ends so goes on with the next.
+    fn in_escape(&mut self, byte: u8, quoted: bool) -> Seen
+        ensures { met self.new result ≡ specs.in_escape byte quoted self.old }
+    {
+        match byte {
+            b'"' => self.comment(quoted),
+            b'\n' => self.continued(quoted),
+            _ => self.keep_escape(byte, quoted),
+        }
+    }
+
+    /// The rest of the line passes.
+    fn in_rest(&mut self, byte: u8) -> Seen
+        ensures { met self.new result ≡ specs.in_rest byte self.old }
+    {
+        let scan = if byte == b'\n' {
+            Scan::Start
+        } else {
+            Scan::Rest
+        };
+        self.turns(scan, Seen::taken(Act::Byte(byte)))
+    }
+
+    /// The rest of the line is dropped.
+    fn dropped(&mut self, byte: u8) -> Seen
+        ensures { met self.new result ≡ specs.dropped byte self.old }
+    {
+        if byte == b'\n' {
+            return self.turns(Scan::Ends, Seen::left(Act::Nothing));
+        }
+        Seen::taken(Act::Nothing)
+    }
+
+    /// Lines pass, up to one that begins with two dots.
+    fn ignored(&mut self, dots: Dots, byte: u8) -> Seen
+        ensures { met self.new result ≡ specs.ignored dots byte self.old }
+    {
+        let scan = if byte == b'\n' {
+            after_ignored(dots)
+        } else {
+            Scan::Ignored(dots_then(dots, byte))
+        };
+        self.turns(scan, Seen::taken(Act::Byte(byte)))
+    }
+
+    /// Before a page is known to be one of mdoc.
+    fn asleep(&mut self, front: Front, lines: u8, byte: u8) -> Seen
+        ensures { met self.new result ≡ specs.asleep front lines byte self.old }
+    {
+        if let Some(more) = front_grows(front, byte) {
+            return self.turns(Scan::Asleep(more, lines), Seen::taken(Act::Nothing));
+        }
+        match front {
+            Front::Nothing | Front::Other => self.passes(lines, byte),
+            Front::Whole if ends_word(byte) => self.wakes(),
+            _ => self.turns(
+                Scan::Asleep(Front::Other, lines),
+                Seen::left(Act::Front(front)),
+            ),
+        }
+    }
+
+    /// The page is one of mdoc.
+    fn wakes(&mut self) -> Seen
+        ensures { met self.new result ≡ specs.wakes self.old }
+    {
+        self.call = call_of(Macro::Date);
+        self.turns(Scan::Between, Seen::left(Act::Nothing))
+    }
+
+    /// A byte passes.
+    fn passes(&mut self, lines: u8, byte: u8) -> Seen
+        ensures { met self.new result ≡ specs.passes lines byte self.old }
+    {
+        self.turns(passes_to(lines, byte), Seen::taken(Act::Byte(byte)))
+    }
+
+    /// What a byte does.
+    #[tactic(auto, unfolding(crate::specs::Scanning::meet))]
+    pub(crate) fn meet(&mut self, byte: u8) -> Seen
+        ensures { met self.new result ≡ specs.meet byte self.old }
+    {
+        match self.scan {
+            Scan::Asleep(front, lines) => self.asleep(front, lines, byte),
+            Scan::Start => self.at_start(byte),
+            Scan::Text(inside) => self.in_text(inside, byte),
+            Scan::Control => self.behind_control(byte),
+            Scan::Comment => self.in_comment(byte),
+            Scan::Name => self.in_name(byte),
+            Scan::Between => self.between(byte),
+            Scan::Word => self.in_word(byte),
+            Scan::Quoted => self.in_quotes(byte),
+            Scan::Escape => self.in_escape(byte, false),
+            Scan::QuotedEscape => self.in_escape(byte, true),
+            Scan::Closing => self.closing(byte),
+            _ => self.meet_whole(byte),
+        }
+    }
+
+    /// What it does where a word is whole, or a line ends or passes.
+    #[tactic(auto, unfolding(crate::specs::Scanning::meet_whole))]
+    fn meet_whole(&mut self, byte: u8) -> Seen
+        ensures { met self.new result ≡ specs.meet_whole byte self.old }
+    {
+        match self.scan {
+            Scan::Given(quoted) => self.given(quoted),
+            Scan::Long(quoted, escape) => self.long(quoted, escape),
+            Scan::Goes(quoted, escape) => self.goes_on(quoted, escape),
+            Scan::Rest => self.in_rest(byte),
+            Scan::Passes => Seen::taken(Act::Byte(byte)),
+            Scan::Dropped => self.dropped(byte),
+            Scan::Ignored(dots) => self.ignored(dots, byte),
+            _ => self.ends(),
+        }
+    }
+}
+
+/// Whether a word ends with a sign.
+fn is_behind_sign(word: &[u8]) -> bool
+    ensures { result ≡ specs.is_behind_sign word.now }
+{
+    let len = word.len();
+    len > 0 && !is_inside(word[len - 1])
+}
+
+/// In a word between quotes, or not.
+fn in_word_of(quoted: bool) -> Scan
+    ensures { result ≡ specs.in_word_of quoted }
+{
+    if quoted { Scan::Quoted } else { Scan::Word }
+}
+
+/// What comes behind a byte that passes, of which so many lines came before.
+pub(crate) fn passes_to(lines: u8, byte: u8) -> Scan
+    ensures { result ≡ specs.passes_to lines byte }
+{
+    if byte != b'\n' {
+        return Scan::Asleep(Front::Other, lines);
+    }
+    if lines < MOST_LINES - 1 {
+        return Scan::Asleep(Front::Nothing, lines + 1);
+    }
+    Scan::Passes
+}
