@@ -6,12 +6,12 @@ use Rattle.nr_units.specs.Supply.{Supply, skipped}
 use Rattle.nr_fill.specs.Pieces.{line_cells}
 use Rattle.nr_reading.specs.declared.event.Event.TheVariants as events
 use Rattle.nr_reading.proofs.InText.{in_text}
-use Rattle.nr_input.specs.AtHand.{ComeNext}
+use Rattle.nr_input.specs.Many.AtHand.{ComeNext}
 use Rattle.nr_input.specs.Coming.{Coming, HoldsComing}
-use Rattle.nr_input.specs.Runs.{passed_run}
+use Rattle.nr_input.specs.Many.Runs.{passed_run}
 use Rattle.nr_input.specs.Weights.{expansions_worth}
-use Rattle.nr_formatter.specs.CellBytes.{IsCellByte, byte_added, byte_put, goes_to_word}
-use Rattle.nr_formatter.specs.Runs.{IsInLine, is_in_line}
+use Rattle.nr_formatter.specs.Many.CellBytes.{IsCellByte, byte_added, byte_put, goes_to_word}
+use Rattle.nr_formatter.specs.Many.Runs.{IsInLine, is_in_line}
 use Rattle.nr_formatter.specs.Weights as weights
 use Rattle.nr_formatter.specs.declared.formatter.Formatter.{Formatter}
 use Rattle.nr_formatter.proofs.CellBytes.{Blank, CellByte, Dash, Tab, begun-byte, cell_byte, heard-byte, weight-byte}
@@ -21,7 +21,7 @@ use Rattle.nr_engine.specs.Machine.{step}
 use Rattle.nr_engine.specs.Measures.{IsWithin}
 use Rattle.nr_engine.specs.Answer.{Goes}
 use Rattle.nr_engine.specs.Holding.{Made, Shape, Stands, at}
-use Rattle.nr_engine.specs.Running.{Makes, PutsText, Saves, unburst}
+use Rattle.nr_engine.specs.Many.Running.{Makes, PutsText, Saves, unburst}
 use Rattle.nr_engine.proofs.Gliding.{Glides, glides_heard, made_of, told}
 use Rattle.nr_engine.proofs.NextMoves.{step-hear}
 use Rattle.nr_engine.proofs.PlainGaps.{first, first_of, gone_shape, made_gone}

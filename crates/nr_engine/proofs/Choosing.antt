@@ -21,7 +21,7 @@ use Rattle.nr_engine.specs.Machine.{step, state_after, choose, choose_or}
 use Rattle.nr_engine.specs.Measures.{IsWithin, passed}
 use Rattle.nr_engine.specs.Answer.{Works as WorksKind, kind, kind_of, Goes, GoesBy, PassesBy, Stops, place_by}
 use Rattle.nr_engine.specs.Holding.{Shape, Holds, Made, Halts}
-use Rattle.nr_engine.specs.Running.{Chooses, StaysLight}
+use Rattle.nr_engine.specs.Many.Running.{Chooses, StaysLight}
 use Rattle.nr_engine.specs.declared.outcome.Measure.TheVariants.{Stored}
 use Rattle.nr_engine.specs.declared.outcome.Outcome.{Outcome}
 use Rattle.nr_engine.specs.declared.outcome.Outcome.TheVariants.{Limit}

@@ -8,18 +8,18 @@ use Rattle.nr_reading.specs.declared.event.Event.TheVariants as events
 use Rattle.nr_reading.specs.declared.front.Front.TheVariants as fronts
 use Rattle.nr_reading.specs.declared.half.Half.{Half}
 use Rattle.nr_reading.specs.Meeting.{meet}
-use Rattle.nr_input.specs.AtHand.{ComeNext, behind_last}
+use Rattle.nr_input.specs.Many.AtHand.{ComeNext, behind_last}
 use Rattle.nr_input.specs.Coming.{Coming, HoldsComing, front}
 use Rattle.nr_input.specs.Moving.{met_at, situation}
 use Rattle.nr_input.specs.Moving.{move as input_move}
 use Rattle.nr_input.specs.Moving as input
-use Rattle.nr_input.specs.Runs.{passed_run}
+use Rattle.nr_input.specs.Many.Runs.{passed_run}
 use Rattle.nr_input.specs.Weights.{expansions_worth}
 use Rattle.nr_input.specs.declared.reader.Reader.{Reader}
 use Rattle.nr_input.specs.declared.told.Told.TheVariants as tells
 use Rattle.nr_store.specs.Stored.{shown}
 use Rattle.nr_formatter.specs.Access.{spacing}
-use Rattle.nr_formatter.specs.EmptyLines.{IsAtLine, gone_down}
+use Rattle.nr_formatter.specs.Many.EmptyLines.{IsAtLine, gone_down}
 use Rattle.nr_formatter.specs.Lines.{break_done}
 use Rattle.nr_formatter.specs.Moves.{heard}
 use Rattle.nr_formatter.specs.Spacing.{spaced}
@@ -33,9 +33,9 @@ use Rattle.nr_engine.specs.State.{State, plainly}
 use Rattle.nr_engine.specs.Machine.{situation_of, step, with_situation, work}
 use Rattle.nr_engine.specs.Measures.{IsWithin}
 use Rattle.nr_engine.specs.Answer.{Goes, GoesBy}
-use Rattle.nr_engine.specs.EmptyLines.{NewlinesNext}
+use Rattle.nr_engine.specs.Many.EmptyLines.{NewlinesNext}
 use Rattle.nr_engine.specs.Holding.{Holds, Made, Shape, Stands, at, weight, worth}
-use Rattle.nr_engine.specs.Running.{Makes, unburst}
+use Rattle.nr_engine.specs.Many.Running.{Makes, unburst}
 use Rattle.nr_engine.proofs.Gliding.{Glides, glides-add, glides-by, glides-one}
 use Rattle.nr_engine.proofs.NextMoves.{kind-hear, kind-read, kind-work, step-hear, step-read, step-work}
 use Rattle.nr_engine.proofs.PlainText.{drop-more, front_more, later-more, later-one, may_give_more, may_give_one, paid}

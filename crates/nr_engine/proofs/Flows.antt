@@ -9,18 +9,18 @@ use Rattle.nr_store.specs.declared.element.Element.TheVariants as elements
 use Rattle.nr_store.specs.declared.shown.Shown.TheVariants as shows
 use Rattle.nr_reading.specs.declared.event.Event.{Event}
 use Rattle.nr_reading.specs.declared.event.Event.TheVariants as events
-use Rattle.nr_input.specs.Gathering.{Brings, LeadsInText}
+use Rattle.nr_input.specs.Many.Gathering.{Brings, LeadsInText}
 use Rattle.nr_input.specs.Limits as limits
 use Rattle.nr_input.specs.declared.reader.Reader.{Reader}
 use Rattle.nr_input.proofs.LevelParts.{many_of_all}
 use Rattle.nr_formatter.specs.Access.{collected}
 use Rattle.nr_formatter.specs.Limits.{FitsMemory}
-use Rattle.nr_formatter.specs.Runs.{is_in_line}
+use Rattle.nr_formatter.specs.Many.Runs.{is_in_line}
 use Rattle.nr_formatter.specs.declared.formatter.Formatter.{Formatter}
 use Rattle.nr_formatter.specs.declared.tasks.Resume.{Resume}
 use Rattle.nr_formatter.proofs.PlainText.{in_line}
 use Rattle.nr_engine.specs.Holding.{Shape}
-use Rattle.nr_engine.specs.Running.{Flows, IsFurther, MakesInPlace, MakesInText, with_read}
+use Rattle.nr_engine.specs.Many.Running.{Flows, IsFurther, MakesInPlace, MakesInText, with_read}
 use Rattle.nr_engine.proofs.LevelText.{one_left, showing}
 use Rattle.nr_engine.proofs.ReadRuns.{makes_reading}
 use Rattle.nr_engine.proofs.Travelling.{in_place-add, in_place-none}

@@ -10,23 +10,23 @@ use Rattle.nr_reading.specs.declared.event.Event.{Event}
 use Rattle.nr_reading.specs.declared.event.Event.TheVariants as events
 use Rattle.nr_reading.specs.declared.front.Front.TheVariants as fronts
 use Rattle.nr_reading.specs.declared.half.Half.{Half}
-use Rattle.nr_reading.specs.declared.runs.Run.{Run}
-use Rattle.nr_reading.specs.InText.{is_in_text}
-use Rattle.nr_reading.specs.Interpolations.{interpolates}
-use Rattle.nr_reading.specs.LineBeginnings.{is_at_text as reads_text}
-use Rattle.nr_reading.specs.Runs.{HasMet, spot}
+use Rattle.nr_reading.specs.declared.many.runs.Run.{Run}
+use Rattle.nr_reading.specs.Many.InText.{is_in_text}
+use Rattle.nr_reading.specs.Many.Interpolations.{interpolates}
+use Rattle.nr_reading.specs.Many.LineBeginnings.{is_at_text as reads_text}
+use Rattle.nr_reading.specs.Many.Runs.{HasMet, spot}
 use Rattle.nr_reading.proofs.InText.{in_text}
 use Rattle.nr_input.specs.Coming.{Coming, HoldsComing, Reached}
 use Rattle.nr_input.specs.Moving.{situation}
-use Rattle.nr_input.specs.Runs.{HasRead, PaysMany, passed_run}
+use Rattle.nr_input.specs.Many.Runs.{HasRead, PaysMany, passed_run}
 use Rattle.nr_input.specs.declared.reader.Reader.{Reader}
 use Rattle.nr_input.proofs.LevelParts.{many_of_all}
 use Rattle.nr_input.proofs.RowsRead.{holds_past, source_pays, source_read, source_saves}
 use Rattle.nr_formatter.specs.Access.{collected}
 use Rattle.nr_formatter.specs.Limits.{FitsMemory}
-use Rattle.nr_formatter.specs.LineBeginnings.{is_at_text}
+use Rattle.nr_formatter.specs.Many.LineBeginnings.{is_at_text}
 use Rattle.nr_formatter.specs.Moves.{font_set}
-use Rattle.nr_formatter.specs.Runs.{is_in_line, reads_next}
+use Rattle.nr_formatter.specs.Many.Runs.{is_in_line, reads_next}
 use Rattle.nr_formatter.specs.declared.formatter.Formatter.{Formatter}
 use Rattle.nr_formatter.specs.declared.tasks.Task.{Task}
 use Rattle.nr_formatter.specs.declared.tasks.Task.TheVariants as tasks
@@ -35,7 +35,7 @@ use Rattle.nr_formatter.proofs.PlainText.{in_line}
 use Rattle.nr_engine.specs.State.{State, plainly}
 use Rattle.nr_engine.specs.Measures.{IsWithin}
 use Rattle.nr_engine.specs.Holding.{Made, ReadsNext, Shape, Stands, at}
-use Rattle.nr_engine.specs.Running.{HasNext, Makes, PutsText, Saves, taken_shape, unburst}
+use Rattle.nr_engine.specs.Many.Running.{HasNext, Makes, PutsText, Saves, taken_shape, unburst}
 use Rattle.nr_engine.proofs.Gliding.{glides-by}
 use Rattle.nr_engine.proofs.LevelText.{made_glided}
 use Rattle.nr_engine.proofs.NextMoves.{kind-hear, step-hear}

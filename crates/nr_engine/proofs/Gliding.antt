@@ -4,11 +4,11 @@ use Rattle.std.specs.Prelude.{if◌then◌else◌}
 use Rattle.nr_fill.specs.Pieces.{is_nil}
 use Rattle.nr_fill.specs.Runs.{IsPlain}
 use Rattle.nr_reading.specs.declared.event.Event.TheVariants as events
-use Rattle.nr_reading.specs.InText.{IsInText}
+use Rattle.nr_reading.specs.Many.InText.{IsInText}
 use Rattle.nr_reading.proofs.InText.{in_text}
 use Rattle.nr_formatter.specs.Access.{collected}
 use Rattle.nr_formatter.specs.Lines.{fits_line, flow_line, flow_done}
-use Rattle.nr_formatter.specs.Runs.{IsInLine, IsGap, gapped, gap_put, gap_flows, run_put}
+use Rattle.nr_formatter.specs.Many.Runs.{IsInLine, IsGap, gapped, gap_put, gap_flows, run_put}
 use Rattle.nr_formatter.specs.declared.formatter.Formatter.{Formatter}
 use Rattle.nr_formatter.specs.declared.lines.Going.{Going}
 use Rattle.nr_formatter.specs.declared.tasks.After.TheVariants as afters

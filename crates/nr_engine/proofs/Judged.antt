@@ -9,7 +9,7 @@ use Rattle.nr_formatter.proofs.HearingFalls.{falls-control}
 use Rattle.nr_engine.specs.State.{State, plainly}
 use Rattle.nr_engine.specs.Measures.{IsWithin}
 use Rattle.nr_engine.specs.Holding.{Made, Shape, Stands, at}
-use Rattle.nr_engine.specs.Running.{MakesInPlace}
+use Rattle.nr_engine.specs.Many.Running.{MakesInPlace}
 use Rattle.nr_engine.proofs.Gliding.{glides-by}
 use Rattle.nr_engine.proofs.LevelText.{made_glided}
 use Rattle.nr_engine.proofs.NextMoves.{kind-hear, step-hear}

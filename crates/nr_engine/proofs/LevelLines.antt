@@ -5,18 +5,18 @@ use Rattle.nr_store.specs.Stored.{Stored, shown}
 use Rattle.nr_store.specs.Windows.{left_times, rest_of, run_left}
 use Rattle.nr_store.specs.declared.element.Element.TheVariants as elements
 use Rattle.nr_store.specs.declared.shown.Shown.TheVariants as shows
-use Rattle.nr_input.specs.Gathering.{GathersMost, IsGathered, Leaves}
-use Rattle.nr_input.specs.declared.gathering.Gathered.{Gathered}
+use Rattle.nr_input.specs.Many.Gathering.{GathersMost, IsGathered, Leaves}
+use Rattle.nr_input.specs.declared.many.gathering.Gathered.{Gathered}
 use Rattle.nr_input.specs.declared.reader.Reader.{Reader}
 use Rattle.nr_input.proofs.TextBytes.{stays_there}
 use Rattle.nr_formatter.specs.Access.{collected}
 use Rattle.nr_formatter.specs.Limits.{FitsMemory}
-use Rattle.nr_formatter.specs.LineEnds.{IsNewline, line_gapped, newline_flows, newline_put}
+use Rattle.nr_formatter.specs.Many.LineEnds.{IsNewline, line_gapped, newline_flows, newline_put}
 use Rattle.nr_formatter.specs.Lines.{fits_line}
-use Rattle.nr_formatter.specs.Runs.{is_in_line}
+use Rattle.nr_formatter.specs.Many.Runs.{is_in_line}
 use Rattle.nr_formatter.specs.declared.formatter.Formatter.{Formatter}
 use Rattle.nr_formatter.specs.declared.tasks.Resume.{Resume}
-use Rattle.nr_engine.specs.Running.{EndsLine, IsFurther, LongestOfLevels, LongestWords, MakesInPlace, MakesInText, PutsOfFlow, with_read}
+use Rattle.nr_engine.specs.Many.Running.{EndsLine, IsFurther, LongestOfLevels, LongestWords, MakesInPlace, MakesInText, PutsOfFlow, with_read}
 use Rattle.nr_engine.proofs.Flows.{fits_brought, further_brought, further_here, further_is, further_led, further_of, leads_on, left_is, text-add}
 use Rattle.nr_engine.proofs.LevelNewlines.{makes_ended, makes_line}
 use Rattle.nr_engine.proofs.LinesAtHand.{before_out, flows_out, line_before}

@@ -7,8 +7,8 @@ use Rattle.nr_store.specs.Windows.{rest_of, levels_behind}
 use Rattle.nr_store.specs.declared.element.Element.{Element}
 use Rattle.nr_store.specs.declared.element.Element.TheVariants as elements
 use Rattle.nr_store.specs.declared.shown.Shown.TheVariants as shows
-use Rattle.nr_reading.specs.InText.{IsInText}
-use Rattle.nr_reading.specs.LineBeginnings.{text_ended}
+use Rattle.nr_reading.specs.Many.InText.{IsInText}
+use Rattle.nr_reading.specs.Many.LineBeginnings.{text_ended}
 use Rattle.nr_reading.specs.Meeting.{meet}
 use Rattle.nr_reading.specs.declared.event.Event.TheVariants as events
 use Rattle.nr_reading.specs.declared.front.Front.TheVariants as fronts
@@ -17,9 +17,9 @@ use Rattle.nr_input.specs.Moving.{move as input_move, situation, met_at}
 use Rattle.nr_input.specs.Moving as input
 use Rattle.nr_input.specs.declared.told.Told.TheVariants as tells
 use Rattle.nr_formatter.specs.Access.{collected}
-use Rattle.nr_formatter.specs.LineEnds.{IsNewline, line_gapped, newline_flows, newline_put}
+use Rattle.nr_formatter.specs.Many.LineEnds.{IsNewline, line_gapped, newline_flows, newline_put}
 use Rattle.nr_formatter.specs.Lines.{fits_line}
-use Rattle.nr_formatter.specs.Runs.{IsInLine}
+use Rattle.nr_formatter.specs.Many.Runs.{IsInLine}
 use Rattle.nr_formatter.specs.Weights as weights
 use Rattle.nr_formatter.specs.Weights.{owed_by_event, owed_by_task, weight_of_agenda}
 use Rattle.nr_formatter.specs.declared.formatter.Formatter.{Formatter}
@@ -33,7 +33,7 @@ use Rattle.nr_engine.specs.Machine.{situation_of, step, with_situation}
 use Rattle.nr_engine.specs.Measures.{IsWithin}
 use Rattle.nr_engine.specs.Answer.{Goes, GoesBy}
 use Rattle.nr_engine.specs.Holding.{Made, Shape, Stands, at, weight, worth}
-use Rattle.nr_engine.specs.Running.{Makes}
+use Rattle.nr_engine.specs.Many.Running.{Makes}
 use Rattle.nr_engine.proofs.Gliding.{Glides, glides-add, glides-one, made_of}
 use Rattle.nr_engine.proofs.LevelText.{Showing, at_text, level_gone, made_glided, one_left, showing, within_text}
 use Rattle.nr_engine.proofs.NextMoves.{kind-read, step-read}

@@ -14,7 +14,7 @@ use Rattle.nr_store.specs.declared.shown.Shown.{Shown}
 use Rattle.nr_store.specs.declared.shown.Shown.TheVariants as shows
 use Rattle.nr_reading.specs.declared.event.Event.TheVariants as events
 use Rattle.nr_reading.specs.declared.front.Front.TheVariants as fronts
-use Rattle.nr_reading.specs.InText.{IsInText}
+use Rattle.nr_reading.specs.Many.InText.{IsInText}
 use Rattle.nr_reading.specs.Meeting.{meet}
 use Rattle.nr_reading.proofs.InText.{in_text, meet-plain}
 use Rattle.nr_input.specs.Moving.{move as input_move, situation, met_at}
@@ -23,7 +23,7 @@ use Rattle.nr_input.specs.declared.told.Told.TheVariants as tells
 use Rattle.nr_settings.specs.Fonts.{is_under}
 use Rattle.nr_formatter.specs.Access.{collected, margins}
 use Rattle.nr_formatter.specs.Lines.{fits_line}
-use Rattle.nr_formatter.specs.Runs.{IsGap, IsInLine, gap_flows, gap_put, gapped, is_in_line, run_put}
+use Rattle.nr_formatter.specs.Many.Runs.{IsGap, IsInLine, gap_flows, gap_put, gapped, is_in_line, run_put}
 use Rattle.nr_formatter.specs.Weights as weights
 use Rattle.nr_formatter.specs.Weights.{weight_of_agenda, owed_by_event, owed_by_task}
 use Rattle.nr_formatter.specs.declared.formatter.Formatter.{Formatter}
@@ -36,7 +36,7 @@ use Rattle.nr_engine.specs.Machine.{step, read, situation_of, with_situation}
 use Rattle.nr_engine.specs.Measures.{IsWithin}
 use Rattle.nr_engine.specs.Answer.{Goes, GoesBy}
 use Rattle.nr_engine.specs.Holding.{Shape, at, Stands, Holds, Made, weight, worth}
-use Rattle.nr_engine.specs.Running.{Makes}
+use Rattle.nr_engine.specs.Many.Running.{Makes}
 use Rattle.nr_engine.proofs.Gliding.{Glides, glides_plain, glides_flows, glides_gap, made_of, told, within_flows, within_gap}
 use Rattle.nr_engine.proofs.NextMoves.{step-read, kind-read}
 use Rattle.nr_engine.proofs.PlainText.{escape, newline}

@@ -13,9 +13,9 @@ use Rattle.nr_store.specs.declared.element.Element.TheVariants as elements
 use Rattle.nr_settings.specs.Fonts.{is_under}
 use Rattle.nr_input.specs.declared.reader.Reader.{Reader}
 use Rattle.nr_formatter.specs.Access.{collected, margins}
-use Rattle.nr_formatter.specs.CellBytes.{IsCellByte, byte_put}
+use Rattle.nr_formatter.specs.Many.CellBytes.{IsCellByte, byte_put}
 use Rattle.nr_formatter.specs.Lines.{fits_line}
-use Rattle.nr_formatter.specs.Runs.{IsGap, IsInLine, gap_flows, gap_put, gapped, is_in_line, run_put}
+use Rattle.nr_formatter.specs.Many.Runs.{IsGap, IsInLine, gap_flows, gap_put, gapped, is_in_line, run_put}
 use Rattle.nr_formatter.specs.Weights as weights
 use Rattle.nr_formatter.specs.declared.formatter.Formatter.{Formatter}
 use Rattle.nr_formatter.specs.declared.tasks.Resume.{Resume}
@@ -25,7 +25,7 @@ use Rattle.nr_engine.specs.State.{State}
 use Rattle.nr_engine.specs.Machine.{step}
 use Rattle.nr_engine.specs.Measures.{IsWithin}
 use Rattle.nr_engine.specs.Holding.{Made, Shape, Stands, at, weight, worth}
-use Rattle.nr_engine.specs.Running.{Flows, IsFurther, Makes, PutsOfFlow, with_read}
+use Rattle.nr_engine.specs.Many.Running.{Flows, IsFurther, Makes, PutsOfFlow, with_read}
 use Rattle.nr_engine.proofs.CellBytes.{glides_byte, no_escape, no_newline}
 use Rattle.nr_engine.proofs.Flows.{Puts, flows-add, flows_none, flows_one, further_is, line_further}
 use Rattle.nr_engine.proofs.Gliding.{Glides, made_of, told}

@@ -7,29 +7,29 @@ use Rattle.std.proofs.lemmas.List.{get_or-drop}
 use Rattle.nr_units.specs.Supply.{Supply, skipped}
 use Rattle.nr_fill.specs.Pieces.{begins_line, text_cells}
 use Rattle.nr_fill.specs.Runs.{IsPlain}
-use Rattle.nr_reading.specs.InText.{is_in_text}
-use Rattle.nr_reading.specs.Interpolations.{interpolates}
-use Rattle.nr_reading.specs.LineBeginnings.{IsBeforeLine, is_at_text as reads_text}
+use Rattle.nr_reading.specs.Many.InText.{is_in_text}
+use Rattle.nr_reading.specs.Many.Interpolations.{interpolates}
+use Rattle.nr_reading.specs.Many.LineBeginnings.{IsBeforeLine, is_at_text as reads_text}
 use Rattle.nr_reading.specs.declared.event.Event.{Event}
 use Rattle.nr_reading.specs.declared.event.Event.TheVariants as events
 use Rattle.nr_reading.specs.declared.mode.Mode.TheVariants as modes
 use Rattle.nr_reading.proofs.InText.{ended_text, in_text}
-use Rattle.nr_input.specs.AtHand.{ComeNext}
+use Rattle.nr_input.specs.Many.AtHand.{ComeNext}
 use Rattle.nr_input.specs.Coming.{Coming, HoldsComing}
-use Rattle.nr_input.specs.Fonts.{BeginsFont}
+use Rattle.nr_input.specs.Many.Fonts.{BeginsFont}
 use Rattle.nr_formatter.specs.Access.{collected}
-use Rattle.nr_formatter.specs.LineBeginnings.{BeginsText, is_at_text, text_begun}
-use Rattle.nr_formatter.specs.LineEnds.{IsNewline, line_gapped, newline_flows, newline_put}
+use Rattle.nr_formatter.specs.Many.LineBeginnings.{BeginsText, is_at_text, text_begun}
+use Rattle.nr_formatter.specs.Many.LineEnds.{IsNewline, line_gapped, newline_flows, newline_put}
 use Rattle.nr_formatter.specs.Lines.{fits_line}
-use Rattle.nr_formatter.specs.Runs.{is_in_line, reads_next}
+use Rattle.nr_formatter.specs.Many.Runs.{is_in_line, reads_next}
 use Rattle.nr_formatter.specs.declared.formatter.Formatter.{Formatter}
 use Rattle.nr_formatter.specs.declared.tasks.After.TheVariants as afters
 use Rattle.nr_formatter.specs.declared.tasks.Task.{Task}
 use Rattle.nr_formatter.specs.declared.tasks.Task.TheVariants as tasks
 use Rattle.nr_formatter.proofs.PlainText.{ends_word, in_line}
 use Rattle.nr_engine.specs.Holding.{Shape, weight, worth}
-use Rattle.nr_engine.specs.LineBeginnings.{begun_shape}
-use Rattle.nr_engine.specs.Running.{HasNext, Longest, LongestWords, Makes, PutsText, Saves, taken_shape, unburst}
+use Rattle.nr_engine.specs.Many.LineBeginnings.{begun_shape}
+use Rattle.nr_engine.specs.Many.Running.{HasNext, Longest, LongestWords, Makes, PutsText, Saves, taken_shape, unburst}
 use Rattle.nr_engine.proofs.LineBeginnings.{makes_begun}
 use Rattle.nr_engine.proofs.PlainGaps.{first_of}
 use Rattle.nr_engine.proofs.PlainNewlines.{makes_newline, makes_newline_flows, saves_newline, saves_newline_flows}

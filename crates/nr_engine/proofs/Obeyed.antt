@@ -11,7 +11,7 @@ use Rattle.nr_store.specs.declared.request.Request.TheVariants as requests
 use Rattle.nr_formatter.specs.Access.{collected}
 use Rattle.nr_formatter.specs.Lines.{break_done}
 use Rattle.nr_formatter.specs.Moves.{heard_for, task_requested}
-use Rattle.nr_formatter.specs.Obeying.{acted, behind_break, behind_space, breaks_first, breaks_idly, is_spacing, may_act, may_obey, may_set, may_space, moves_obeying, moves_spacing, obeyed, space_made}
+use Rattle.nr_formatter.specs.Many.Obeying.{acted, behind_break, behind_space, breaks_first, breaks_idly, is_spacing, may_act, may_obey, may_set, may_space, moves_obeying, moves_spacing, obeyed, space_made}
 use Rattle.nr_formatter.specs.Pages.{begins_first_page}
 use Rattle.nr_formatter.specs.Places.{outlet}
 use Rattle.nr_formatter.specs.Requests.{act}
@@ -28,7 +28,7 @@ use Rattle.nr_engine.specs.Machine as machine
 use Rattle.nr_engine.specs.Machine.{put_space, work}
 use Rattle.nr_engine.specs.Measures.{IsWithin}
 use Rattle.nr_engine.specs.Holding.{Holds, Made, ReadsNext, Shape, Stands, at}
-use Rattle.nr_engine.specs.Running.{Makes, MakesInPlace}
+use Rattle.nr_engine.specs.Many.Running.{Makes, MakesInPlace}
 use Rattle.nr_engine.proofs.EmptyLines.{within_kept}
 use Rattle.nr_engine.proofs.Gliding.{Glides, glides-add, glides-by}
 use Rattle.nr_engine.proofs.LimitsStay.{formatter-limits}

@@ -3,12 +3,12 @@ use Rattle.std.proofs.Common.{◌≡◌, ℕ, ◌+◌, ◌<◌, ◌^◌, true, f
 use Rattle.std.specs.Prelude.{get_or}
 use Rattle.nr_units.specs.Supply.{Supply, MayGive}
 use Rattle.nr_reading.specs.declared.event.Event.TheVariants as events
-use Rattle.nr_input.specs.AtHand.{ComeNext}
+use Rattle.nr_input.specs.Many.AtHand.{ComeNext}
 use Rattle.nr_input.specs.Coming.{Coming, HoldsComing}
 use Rattle.nr_input.specs.Weights.{expansions_worth}
 use Rattle.nr_formatter.specs.Access.{collected}
 use Rattle.nr_formatter.specs.Lines.{fits_line}
-use Rattle.nr_formatter.specs.Runs.{IsGap, IsInLine, gapped, gap_put, gap_flows, is_in_line}
+use Rattle.nr_formatter.specs.Many.Runs.{IsGap, IsInLine, gapped, gap_put, gap_flows, is_in_line}
 use Rattle.nr_formatter.specs.Weights as weights
 use Rattle.nr_formatter.specs.Weights.{weight_of_agenda, owed_by_event, owed_by_task}
 use Rattle.nr_formatter.specs.declared.formatter.Formatter.{Formatter}
@@ -20,7 +20,7 @@ use Rattle.nr_engine.specs.Machine.{step}
 use Rattle.nr_engine.specs.Measures.{IsWithin}
 use Rattle.nr_engine.specs.Answer.{Goes}
 use Rattle.nr_engine.specs.Holding.{Shape, at, Stands, Holds, Made}
-use Rattle.nr_engine.specs.Running.{Makes, Saves, unburst}
+use Rattle.nr_engine.specs.Many.Running.{Makes, Saves, unburst}
 use Rattle.nr_engine.proofs.Gliding.{Glides, glides_flows, glides_gap, made_of, told, within_flows, within_gap}
 use Rattle.nr_engine.proofs.PlainText.{IsTyping, behind_byte, behind_many, front_more, goes_byte, line_behind, may_give_one, paid, passed_many, reads_byte, stands_typing}
 use Rattle.nr_engine.proofs.Standing.{wrote_nothing}

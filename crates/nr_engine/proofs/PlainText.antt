@@ -7,9 +7,9 @@ use Rattle.nr_units.specs.Supply.{Faults, Never, After, Anytime, Supply, MayGive
 use Rattle.nr_fill.specs.Pieces.{line_cells}
 use Rattle.nr_fill.specs.Runs.{IsPlain, run_cell}
 use Rattle.nr_reading.specs.declared.event.Event.TheVariants as events
-use Rattle.nr_reading.specs.InText.{IsInText}
+use Rattle.nr_reading.specs.Many.InText.{IsInText}
 use Rattle.nr_reading.proofs.InText.{in_text, meet-plain}
-use Rattle.nr_input.specs.AtHand.{ComeNext}
+use Rattle.nr_input.specs.Many.AtHand.{ComeNext}
 use Rattle.nr_input.specs.Coming.{Coming, HoldsComing, Reached, front}
 use Rattle.nr_input.specs.Moving.{move as input_move, situation, met_at}
 use Rattle.nr_input.specs.Moving as input
@@ -19,7 +19,7 @@ use Rattle.nr_store.specs.Stored.{shown}
 use Rattle.nr_reading.specs.Meeting.{meet}
 use Rattle.nr_settings.specs.Fonts.{is_under}
 use Rattle.nr_formatter.specs.Access.{collected, margins}
-use Rattle.nr_formatter.specs.Runs.{IsInLine, is_in_line, run_put}
+use Rattle.nr_formatter.specs.Many.Runs.{IsInLine, is_in_line, run_put}
 use Rattle.nr_formatter.specs.Weights as weights
 use Rattle.nr_input.specs.Weights.{expansions_worth}
 use Rattle.nr_formatter.proofs.PlainText.{begun-cell, line_cells-run, weight-run, in_line}
@@ -28,7 +28,7 @@ use Rattle.nr_engine.specs.Machine.{step, read, situation_of, with_situation}
 use Rattle.nr_engine.specs.Measures.{IsWithin}
 use Rattle.nr_engine.specs.Answer.{Goes, GoesBy}
 use Rattle.nr_engine.specs.Holding.{Shape, at, Stands, Holds, Made}
-use Rattle.nr_engine.specs.Running.{Makes, Saves, unburst}
+use Rattle.nr_engine.specs.Many.Running.{Makes, Saves, unburst}
 use Rattle.nr_engine.proofs.Gliding.{Glides, glides-add, glides_plain, told}
 use Rattle.nr_engine.proofs.NextMoves.{step-read, kind-read}
 use Rattle.nr_engine.proofs.Standing.{wrote_nothing}

@@ -11,7 +11,7 @@ use Rattle.nr_input.specs.Coming.{Reached, HoldsComing}
 use Rattle.nr_input.specs.Limits as limits
 use Rattle.nr_input.specs.Moving.{Situation, Move, situation, move}
 use Rattle.nr_input.specs.Moving as input
-use Rattle.nr_input.specs.Runs.{HasRead, PaysMany, moves, told_last}
+use Rattle.nr_input.specs.Many.Runs.{HasRead, PaysMany, moves, told_last}
 use Rattle.nr_formatter.specs.Limits as formatter
 use Rattle.nr_formatter.specs.declared.tasks.Resume.{Resume}
 use Rattle.nr_formatter.proofs.LimitsStay.{input-limits}
@@ -20,7 +20,7 @@ use Rattle.nr_engine.specs.Machine.{step, state_after, read, situation_of, with_
 use Rattle.nr_engine.specs.Measures.{IsWithin}
 use Rattle.nr_engine.specs.Answer.{Goes, GoesBy}
 use Rattle.nr_engine.specs.Holding.{Shape, at, Holds, ReadsNext}
-use Rattle.nr_engine.specs.Running.{Makes}
+use Rattle.nr_engine.specs.Many.Running.{Makes}
 use Rattle.nr_engine.proofs.Bursts.{move-short}
 use Rattle.nr_engine.proofs.LimitsStay.{formatter-limits}
 use Rattle.nr_engine.proofs.NextMoves.{step-read, kind-read}

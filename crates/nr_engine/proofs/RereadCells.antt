@@ -13,7 +13,7 @@ use Rattle.nr_store.specs.declared.element.Element.TheVariants as elements
 use Rattle.nr_reading.specs.declared.event.Event.TheVariants as events
 use Rattle.nr_reading.specs.declared.front.Front.TheVariants as fronts
 use Rattle.nr_reading.specs.Meeting.{meet}
-use Rattle.nr_reading.specs.Rereading.{IsRereading}
+use Rattle.nr_reading.specs.Many.Rereading.{IsRereading}
 use Rattle.nr_reading.proofs.Rereading.{rereading, meet-cell}
 use Rattle.nr_input.specs.Moving.{move as input_move, situation, met_at}
 use Rattle.nr_input.specs.Moving as input
@@ -23,7 +23,7 @@ use Rattle.nr_store.specs.declared.element.Diversion.{Diversion}
 use Rattle.nr_reading.specs.declared.mode.Due.TheVariants as dues
 use Rattle.nr_formatter.specs.Access.{diversion}
 use Rattle.nr_formatter.specs.Places.{outlet, outlet_of, is_on_page}
-use Rattle.nr_formatter.specs.Runs.{IsRereadingLine, is_rereading_line}
+use Rattle.nr_formatter.specs.Many.Runs.{IsRereadingLine, is_rereading_line}
 use Rattle.nr_formatter.specs.Weights as weights
 use Rattle.nr_formatter.specs.declared.formatter.Formatter.{Formatter}
 use Rattle.nr_formatter.specs.declared.paper.Outlet.{Outlet}
@@ -35,8 +35,8 @@ use Rattle.nr_engine.specs.Machine.{step, read, situation_of, with_situation, ce
 use Rattle.nr_engine.specs.Measures.{IsWithin, passed}
 use Rattle.nr_engine.specs.Answer.{Goes, GoesBy}
 use Rattle.nr_engine.specs.Holding.{Shape, at, Stands, Holds, Made, weight, worth}
-use Rattle.nr_engine.specs.Rereading.{AreCells, cells_of}
-use Rattle.nr_engine.specs.Running.{Makes}
+use Rattle.nr_engine.specs.Many.Rereading.{AreCells, cells_of}
+use Rattle.nr_engine.specs.Many.Running.{Makes}
 use Rattle.nr_engine.proofs.Going.{cells}
 use Rattle.nr_engine.proofs.Measured.{passed_none}
 use Rattle.nr_engine.proofs.NextMoves.{step-read, kind-read, step-hear, kind-hear}

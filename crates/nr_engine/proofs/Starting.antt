@@ -20,7 +20,7 @@ use Rattle.nr_engine.specs.State.{State, start, choices, formatter_at_first}
 use Rattle.nr_engine.specs.Machine.{state_after}
 use Rattle.nr_engine.specs.Answer.{Answers, moves_a_byte}
 use Rattle.nr_engine.specs.Holding.{Shape, Holds, Made, weight, worth}
-use Rattle.nr_engine.specs.Running.{IsNew, StaysLight, Travelled}
+use Rattle.nr_engine.specs.Many.Running.{IsNew, StaysLight, Travelled}
 use Rattle.nr_engine.specs.declared.outcome.Outcome.{Outcome}
 use Rattle.nr_engine.proofs.Standing.{state_after-add, halts_after, answers}
 use Rattle.nr_engine.proofs.Travelling.{worth_same}

@@ -9,19 +9,19 @@ use Rattle.nr_settings.specs.declared.indents.Margins.{Margins}
 use Rattle.nr_settings.specs.Fonts.{is_under}
 use Rattle.nr_fill.specs.Pieces.{Collected, Piece, Word, begins_line, is_nil, line_cells, word_pieces}
 use Rattle.nr_fill.specs.Runs.{add_run, run_cell}
-use Rattle.nr_input.specs.AtHand.{ComeNext, behind_last, is_unseen}
+use Rattle.nr_input.specs.Many.AtHand.{ComeNext, behind_last, is_unseen}
 use Rattle.nr_input.specs.Coming.{Coming, HoldsComing, HoldsSupply, Reached}
-use Rattle.nr_input.specs.Runs.{passed_run}
+use Rattle.nr_input.specs.Many.Runs.{passed_run}
 use Rattle.nr_input.specs.declared.place.Ahead.{Ahead}
 use Rattle.nr_input.specs.declared.place.Ahead.TheVariants.{Unseen}
 use Rattle.nr_formatter.specs.Access.{collected, margins}
 use Rattle.nr_formatter.specs.Lines.{fits_line}
-use Rattle.nr_formatter.specs.Runs.{IsGap, gap_flows, gap_put, gapped, is_in_line, run_put}
+use Rattle.nr_formatter.specs.Many.Runs.{IsGap, gap_flows, gap_put, gapped, is_in_line, run_put}
 use Rattle.nr_formatter.specs.declared.formatter.Formatter.{Formatter}
 use Rattle.nr_formatter.proofs.PlainText.{begun-cell, ends_word, in_line}
 use Rattle.nr_engine.specs.Machine.{state_after}
 use Rattle.nr_engine.specs.Holding.{Shape, at, weight, worth}
-use Rattle.nr_engine.specs.Running.{HasNext, Longest, Makes, PutsText, Saves, taken_shape, unburst}
+use Rattle.nr_engine.specs.Many.Running.{HasNext, Longest, Makes, PutsText, Saves, taken_shape, unburst}
 use Rattle.nr_engine.proofs.PlainGaps.{first_of, makes_flows, makes_put, saves_flows, saves_put}
 use Rattle.nr_engine.proofs.PlainText.{ArePlain, behind_many, come_front, makes_run, newline, passed_many, run_saves}
 use Rattle.nr_engine.proofs.Travelling.{makes-add, worth_same}

@@ -7,7 +7,7 @@ use Rattle.nr_engine.specs.State.{State, Choice}
 use Rattle.nr_engine.specs.Machine.{state_after}
 use Rattle.nr_engine.specs.Answer.{Stops}
 use Rattle.nr_engine.specs.Holding.{Shape, Holds, Moved, Left, Made, Halts, Advances, Spends, at, weight, worth}
-use Rattle.nr_engine.specs.Running.{Makes, MakesInPlace, MakesReading}
+use Rattle.nr_engine.specs.Many.Running.{Makes, MakesInPlace, MakesReading}
 use Rattle.nr_engine.specs.declared.outcome.Outcome.{Outcome}
 use Rattle.nr_engine.proofs.Standing.{made_none, made_one, made_all, halts_here, halts_after}
 use Rattle.nr_engine.proofs.Working.{holds_of}

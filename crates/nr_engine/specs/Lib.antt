@@ -1,13 +1,9 @@
 pub mod Answer
 pub mod Desks
-pub mod EmptyLines
-pub mod Fonts
 pub mod Holding
 pub mod Limits
-pub mod LineBeginnings
 pub mod Machine
 pub mod Measures
 pub mod Printing
 pub mod State
-pub mod Rereading
-pub mod Running
+pub mod Many

@@ -32,7 +32,7 @@ impl Engine {
     ghost use Rattle.nr_engine.specs.Machine.{first_set};
     ghost use Rattle.nr_engine.specs.Holding.{shape, weight, worth};
     ghost use Rattle.nr_engine.specs.Limits.{limits_of, limits_under};
-    ghost use Rattle.nr_engine.specs.Running.{Chooses, ChoosesAll, IsNew, Travels};
+    ghost use Rattle.nr_engine.specs.Many.Running.{Chooses, ChoosesAll, IsNew, Travels};
 
     /// Nothing is read yet, and nothing placed: `AllocError` where there is no memory for what the limits allow. No other call
     /// allocates.

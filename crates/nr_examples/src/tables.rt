@@ -2,8 +2,8 @@
 
 use super::formatted;
 use nr_engine::{Buffered, Desk, Outcome};
-use nr_tbl::{Complaint, Report, convert, pending_size};
 use nr_rooms::FixedVec;
+use nr_tbl::{Complaint, Report, convert, pending_size};
 use nr_units::fakes::{Script, Slate};
 use nr_units::slice_vec::SliceVec;
 use std::alloc::{AllocError, Global};

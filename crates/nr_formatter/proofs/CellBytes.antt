@@ -11,7 +11,7 @@ use Rattle.nr_fill.specs.Tabs.{column, first_beyond, is_aligned, to_stop}
 use Rattle.nr_reading.specs.declared.event.Event.TheVariants as events
 use Rattle.nr_reading.specs.declared.mode.Mode.TheVariants as modes
 use Rattle.nr_formatter.specs.Access.{cell, collected, done, is_filling, margins}
-use Rattle.nr_formatter.specs.CellBytes.{byte_added, byte_put, goes_to_word}
+use Rattle.nr_formatter.specs.Many.CellBytes.{byte_added, byte_put, goes_to_word}
 use Rattle.nr_formatter.specs.Lines.{reads_a_field}
 use Rattle.nr_formatter.specs.Moves.{heard}
 use Rattle.nr_formatter.specs.Text.{blank, tab, text_byte}

@@ -18,7 +18,7 @@ use Rattle.nr_reading.specs.declared.mode.Mode.TheVariants as modes
 use Rattle.nr_store.specs.declared.element.Diversion.{Diversion}
 use Rattle.nr_tables.specs.declared.trap.Trap.{Trap}
 use Rattle.nr_formatter.specs.Access.{collected, diversion, spacing}
-use Rattle.nr_formatter.specs.EmptyLines.{IsAtLine, ends_lines, goes_down, gone_down, is_at_line, is_at_line_by, lines_below}
+use Rattle.nr_formatter.specs.Many.EmptyLines.{IsAtLine, ends_lines, goes_down, gone_down, is_at_line, is_at_line_by, lines_below}
 use Rattle.nr_formatter.specs.Lines.{break_done}
 use Rattle.nr_formatter.specs.Moves.{heard}
 use Rattle.nr_formatter.specs.Pages.{reached}

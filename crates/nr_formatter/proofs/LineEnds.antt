@@ -6,7 +6,7 @@ use Rattle.nr_fill.specs.Pieces.{Collected, is_nil}
 use Rattle.nr_reading.specs.declared.event.Event.TheVariants as events
 use Rattle.nr_reading.specs.declared.mode.Mode.TheVariants as modes
 use Rattle.nr_formatter.specs.Access.{collected, is_filling, with_collected}
-use Rattle.nr_formatter.specs.LineEnds.{line_gapped}
+use Rattle.nr_formatter.specs.Many.LineEnds.{line_gapped}
 use Rattle.nr_formatter.specs.Lines.{breaks_behind, count, count_input, fits_line, flow_line, input_macro, input_trap_behind}
 use Rattle.nr_formatter.specs.Moves.{heard}
 use Rattle.nr_formatter.specs.Text.{line_end, word_line_ended}

@@ -21,7 +21,7 @@ use Rattle.nr_formatter.specs.Limits.{IsWithin, limits_of}
 use Rattle.nr_formatter.specs.Registers.{change_checked, given_set, nr_checked, register_changed, register_set_by, register_value, set_checked_by}
 use Rattle.nr_formatter.specs.Lines.{break_done}
 use Rattle.nr_formatter.specs.Moves.{heard_for, task_requested}
-use Rattle.nr_formatter.specs.Obeying.{acted, behind_break, behind_space, breaks_first, is_nr, is_spacing, may_act, may_obey, may_set, may_space, moves_obeying, moves_spacing, obeyed, only_sets, space_made}
+use Rattle.nr_formatter.specs.Many.Obeying.{acted, behind_break, behind_space, breaks_first, is_nr, is_spacing, may_act, may_obey, may_set, may_space, moves_obeying, moves_spacing, obeyed, only_sets, space_made}
 use Rattle.nr_formatter.specs.Pages.{moved_to}
 use Rattle.nr_formatter.specs.Places.{distance_below, outlet, present_place, to_read}
 use Rattle.nr_formatter.specs.Requests.{act}

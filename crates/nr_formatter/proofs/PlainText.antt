@@ -8,8 +8,8 @@ use Rattle.nr_fill.specs.declared.piece.Behind.TheVariants.{Letter}
 use Rattle.nr_fill.specs.Pieces.{Collected, Word, add_cell, begins_line, end_word, one_blank_more, is_nil, line_cells, may_hyphenate, text_cells}
 use Rattle.nr_fill.specs.Runs.{IsPlain, add_run, run_cell}
 use Rattle.nr_fill.proofs.Measures.{line_cells-add_cell}
-use Rattle.nr_reading.specs.InText.{is_in_text}
-use Rattle.nr_reading.specs.Rereading.{is_rereading}
+use Rattle.nr_reading.specs.Many.InText.{is_in_text}
+use Rattle.nr_reading.specs.Many.Rereading.{is_rereading}
 use Rattle.nr_reading.specs.declared.event.Event.{Event}
 use Rattle.nr_reading.specs.declared.event.Event.TheVariants as events
 use Rattle.nr_reading.specs.declared.mode.Mode.TheVariants as modes
@@ -21,7 +21,7 @@ use Rattle.nr_formatter.specs.declared.tasks.Task.TheVariants as tasks
 use Rattle.nr_formatter.specs.Access.{collected, done, is_filling, with_collected}
 use Rattle.nr_formatter.specs.Lines.{breaks_behind, pointed, reads_a_field}
 use Rattle.nr_formatter.specs.Moves.{heard}
-use Rattle.nr_formatter.specs.Runs.{IsInLine, is_in_line, reads_next, run_put, gaps_plainly, gapped, gap_flows, is_rereading_line, IsRereadingLine}
+use Rattle.nr_formatter.specs.Many.Runs.{IsInLine, is_in_line, reads_next, run_put, gaps_plainly, gapped, gap_flows, is_rereading_line, IsRereadingLine}
 use Rattle.nr_formatter.specs.Places.{outlet, is_on_page}
 use Rattle.nr_formatter.specs.Text.{text_byte, blank, gap_blank, has_word}
 use Rattle.nr_formatter.specs.Weights.{weight_of_line}

@@ -8,10 +8,10 @@ use Rattle.nr_fill.specs.Runs as runs
 use Rattle.nr_fill.proofs.Measures.{line_cells-end_word}
 use Rattle.nr_fill.proofs.RunLemmas.{add_run-none}
 use Rattle.nr_formatter.specs.Access.{collected, is_filling, margins, with_collected}
-use Rattle.nr_formatter.specs.Runs.{BehindWord, IsGap, PutsWord, gaps_plainly, manner_of, run_put}
+use Rattle.nr_formatter.specs.Many.Runs.{BehindWord, IsGap, PutsWord, gaps_plainly, manner_of, run_put}
 use Rattle.nr_formatter.specs.declared.formatter.Formatter.{Formatter}
-use Rattle.nr_formatter.specs.declared.runs.Gap.{Gap}
-use Rattle.nr_formatter.specs.declared.runs.Gap.TheVariants as gaps
+use Rattle.nr_formatter.specs.declared.many.runs.Gap.{Gap}
+use Rattle.nr_formatter.specs.declared.many.runs.Gap.TheVariants as gaps
 use Rattle.nr_formatter.specs.declared.tasks.After.TheVariants as afters
 use Rattle.nr_formatter.specs.declared.tasks.Task.TheVariants as tasks
 use Rattle.nr_formatter.specs.Lines.{fits_line}

@@ -8,28 +8,25 @@
 //! at once.
 #![tactic(auto)]
 
-mod cell_bytes;
 mod conditions;
 mod diversion_row;
 mod diversions;
-mod empty_lines;
 mod ending;
 pub mod formatter;
 pub mod given;
 mod limits;
 pub mod lines;
+pub mod many;
 mod motions;
 mod moves;
 mod names;
 mod numbering;
-mod obeying;
 mod pages;
 pub mod paper;
 pub mod passed;
 mod registers;
 pub mod request_line;
 mod requests;
-pub mod runs;
 mod settings;
 mod spacing;
 mod springing;

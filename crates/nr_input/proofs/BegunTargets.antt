@@ -14,18 +14,18 @@ use Rattle.nr_reading.specs.declared.ask.Sign.TheVariants as signs
 use Rattle.nr_reading.specs.declared.event.Event.TheVariants as events
 use Rattle.nr_reading.specs.declared.mode.Due.{Due}
 use Rattle.nr_reading.specs.declared.mode.Due.TheVariants as dues
-use Rattle.nr_reading.specs.InArgument.{ending_of, IsPlain}
+use Rattle.nr_reading.specs.Many.InArgument.{ending_of, IsPlain}
 use Rattle.nr_input.specs.declared.reader.Reader.{Reader}
 use Rattle.nr_input.specs.declared.refusal.Refusal.{Refusal}
-use Rattle.nr_input.specs.declared.target.Target.{Target}
-use Rattle.nr_input.specs.declared.target.Target.TheVariants.{Argument, Text}
+use Rattle.nr_input.specs.declared.many.target.Target.{Target}
+use Rattle.nr_input.specs.declared.many.target.Target.TheVariants.{Argument, Text}
 use Rattle.nr_input.specs.Acting.{Acted, act, done, idle, is_look}
-use Rattle.nr_input.specs.Beginnings.{begins_target}
+use Rattle.nr_input.specs.Many.Beginnings.{begins_target}
 use Rattle.nr_input.specs.Coming.{Coming, Reached, HoldsComing}
 use Rattle.nr_input.specs.Moving.{situation}
 use Rattle.nr_input.specs.Refusals.{called, acted, acted_by, answer, storing_answer, storing_by}
-use Rattle.nr_input.specs.Runs.{HasRead, PaysAll}
-use Rattle.nr_input.specs.Targets.{is_read_for, with_more}
+use Rattle.nr_input.specs.Many.Runs.{HasRead, PaysAll}
+use Rattle.nr_input.specs.Many.Targets.{is_read_for, with_more}
 use Rattle.nr_input.specs.Weights.{diversions_in, diversions_of}
 use Rattle.nr_input.proofs.ControlLines.{done_read, pays_once}
 use Rattle.nr_input.proofs.Interpolated.{charge-reading, charge-more}

@@ -13,11 +13,11 @@ use Rattle.nr_reading.specs.declared.mode.Mode.TheVariants as modes
 use Rattle.nr_reading.specs.declared.notes.Defining.{Defining}
 use Rattle.nr_reading.specs.Definitions.{last_line, in_body}
 use Rattle.nr_reading.specs.Meeting.{reads_next}
-use Rattle.nr_reading.specs.Passing.{quiet}
-use Rattle.nr_reading.specs.Runs.{HasMet}
+use Rattle.nr_reading.specs.Many.Passing.{quiet}
+use Rattle.nr_reading.specs.Many.Runs.{HasMet}
 use Rattle.nr_reading.proofs.Asked.{half_at}
 use Rattle.nr_input.specs.Acting.{next}
-use Rattle.nr_input.specs.BodyLines.{is_in_body, is_in_body_in}
+use Rattle.nr_input.specs.Many.BodyLines.{is_in_body, is_in_body_in}
 use Rattle.nr_input.proofs.MacroBytes.{Meets, met_byte, nothing_met, byte_there, IsIdle, idle, half_in}
 
 -- ---- where a line of a definition is read

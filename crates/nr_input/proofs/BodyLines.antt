@@ -11,14 +11,14 @@ use Rattle.nr_reading.specs.declared.mode.Due.TheVariants as dues
 use Rattle.nr_reading.specs.declared.mode.Mode.{Mode}
 use Rattle.nr_reading.specs.declared.mode.Mode.TheVariants as modes
 use Rattle.nr_reading.specs.Definitions.{last_line, in_body}
-use Rattle.nr_reading.specs.InArgument.{IsPlain}
+use Rattle.nr_reading.specs.Many.InArgument.{IsPlain}
 use Rattle.nr_input.specs.declared.reader.Reader.{Reader}
-use Rattle.nr_input.specs.declared.target.Target.TheVariants.{Text}
+use Rattle.nr_input.specs.declared.many.target.Target.TheVariants.{Text}
 use Rattle.nr_input.specs.Acting.{act, next}
-use Rattle.nr_input.specs.BodyLines.{is_in_body, IsLine, IsOwn}
-use Rattle.nr_input.specs.MacroLines.{ReadsOn}
+use Rattle.nr_input.specs.Many.BodyLines.{is_in_body, IsLine, IsOwn}
+use Rattle.nr_input.specs.Many.MacroLines.{ReadsOn}
 use Rattle.nr_input.specs.Refusals.{called, acted, acted_by, storing_by, storing_answer}
-use Rattle.nr_input.specs.Targets.{with_more}
+use Rattle.nr_input.specs.Many.Targets.{with_more}
 use Rattle.nr_input.proofs.BodyBytes.{line_mode, in_body-is, in_line, own_met, other_met, escape_met}
 use Rattle.nr_input.proofs.MacroBytes.{half_in, is_half_in}
 use Rattle.nr_input.proofs.MacroLines.{reads_then, reads_still, reads_none, reads_met, reads_due}

@@ -14,14 +14,14 @@ use Rattle.nr_reading.specs.declared.mode.Escape.{Escape}
 use Rattle.nr_reading.specs.declared.mode.Escape.TheVariants as escapes
 use Rattle.nr_reading.specs.declared.mode.Mode.{Mode}
 use Rattle.nr_reading.specs.declared.mode.Mode.TheVariants as modes
-use Rattle.nr_reading.specs.LineBeginnings.{begins_control}
-use Rattle.nr_reading.specs.Passing.{quiet}
-use Rattle.nr_reading.specs.Runs.{HasMet}
+use Rattle.nr_reading.specs.Many.LineBeginnings.{begins_control}
+use Rattle.nr_reading.specs.Many.Passing.{quiet}
+use Rattle.nr_reading.specs.Many.Runs.{HasMet}
 use Rattle.nr_reading.specs.Spelling.{nothing_spelled}
 use Rattle.nr_reading.proofs.Asked.{half_at}
 use Rattle.nr_input.specs.declared.reader.Reader.{Reader}
-use Rattle.nr_input.specs.CommentLines.{is_at_start, is_at_start_in, IsComment, commented}
-use Rattle.nr_input.specs.MacroLines.{ReadsOn}
+use Rattle.nr_input.specs.Many.CommentLines.{is_at_start, is_at_start_in, IsComment, commented}
+use Rattle.nr_input.specs.Many.MacroLines.{ReadsOn}
 use Rattle.nr_input.proofs.MacroBytes.{Meets, met_byte, nothing_met, byte_there, IsIdle, idle, half_in, is_half_in}
 use Rattle.nr_input.proofs.MacroLines.{reads_then, reads_still, reads_met, reads_due}
 

@@ -15,9 +15,9 @@ use Rattle.nr_reading.specs.declared.half.Half.{Half}
 use Rattle.nr_reading.specs.declared.mode.Calls.{Calls}
 use Rattle.nr_reading.specs.declared.mode.Calls.TheVariants as calls
 use Rattle.nr_reading.specs.declared.mode.Due.TheVariants as dues
-use Rattle.nr_reading.specs.Passing.{quiet}
-use Rattle.nr_reading.specs.declared.runs.Run.{Run}
-use Rattle.nr_reading.specs.Runs.{Spot, HasMet, spot, spot_after}
+use Rattle.nr_reading.specs.Many.Passing.{quiet}
+use Rattle.nr_reading.specs.declared.many.runs.Run.{Run}
+use Rattle.nr_reading.specs.Many.Runs.{Spot, HasMet, spot, spot_after}
 use Rattle.nr_reading.specs.Seeking.{sought_event}
 use Rattle.nr_reading.specs.Weights.{is_lead}
 use Rattle.nr_input.specs.declared.reader.Reader.{Reader}
@@ -25,10 +25,10 @@ use Rattle.nr_input.specs.declared.refusal.Refusal.{Refusal}
 use Rattle.nr_input.specs.declared.told.Told.TheVariants as tells
 use Rattle.nr_input.specs.Acting.{Acted, act, done, meaning_in, behind_meaning, calls_of, is_look}
 use Rattle.nr_input.specs.Refusals.{Called, called, acted, answer}
-use Rattle.nr_input.specs.AtHand.{ComeNext}
+use Rattle.nr_input.specs.Many.AtHand.{ComeNext}
 use Rattle.nr_input.specs.Coming.{Coming, Reached, HoldsComing}
 use Rattle.nr_input.specs.Moving.{Situation, Stands, situation, move, Goes, GoesBy, burst_past}
-use Rattle.nr_input.specs.Runs.{HasRead, PaysAll, moves, told_last, behind_run, inside_behind, passed_run}
+use Rattle.nr_input.specs.Many.Runs.{HasRead, PaysAll, moves, told_last, behind_run, inside_behind, passed_run}
 use Rattle.nr_input.specs.Weights.{Pays, byte_worth, diversions_in}
 use Rattle.nr_input.proofs.Putting.{Quietly}
 use Rattle.nr_input.proofs.Refusals.{acted-ok}

@@ -9,12 +9,12 @@ use Rattle.nr_reading.specs.declared.front.Front.TheVariants as fronts
 use Rattle.nr_reading.specs.declared.half.Half.{Half}
 use Rattle.nr_reading.specs.declared.mode.Mode.{Mode}
 use Rattle.nr_reading.specs.declared.mode.Mode.TheVariants as modes
-use Rattle.nr_reading.specs.InArgument.{IsPlain}
-use Rattle.nr_reading.specs.Passing.{quiet}
-use Rattle.nr_reading.specs.Runs.{HasMet}
+use Rattle.nr_reading.specs.Many.InArgument.{IsPlain}
+use Rattle.nr_reading.specs.Many.Passing.{quiet}
+use Rattle.nr_reading.specs.Many.Runs.{HasMet}
 use Rattle.nr_input.specs.declared.reader.Reader.{Reader}
-use Rattle.nr_input.specs.DroppedLines.{is_dropping, is_dropping_in}
-use Rattle.nr_input.specs.MacroLines.{ReadsOn}
+use Rattle.nr_input.specs.Many.DroppedLines.{is_dropping, is_dropping_in}
+use Rattle.nr_input.specs.Many.MacroLines.{ReadsOn}
 use Rattle.nr_input.proofs.MacroBytes.{Meets, met_byte, nothing_met, byte_there, IsIdle, idle, half_in, is_half_in}
 use Rattle.nr_input.proofs.MacroLines.{reads_met}
 use Rattle.nr_input.proofs.PuttingRead.{plain_at}

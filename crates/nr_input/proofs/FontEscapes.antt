@@ -4,9 +4,9 @@ use Rattle.std.specs.Option.{option_map}
 use Rattle.std.proofs.Common.{◌≡◌, ℕ, ◌<◌, Bool, List, length, Some, ap, ◌∙◌, arith}
 use Rattle.std.proofs.lemmas.Option.{slice_get-map, slice_get-get_or}
 use Rattle.nr_reading.specs.declared.front.Front.TheVariants as fronts
-use Rattle.nr_reading.specs.Interpolations.{IsFont, IsName}
-use Rattle.nr_reading.specs.Interpolations.{Lone as RowLone, Pair as RowPair}
-use Rattle.nr_input.specs.Fonts.{BeginsFont, NamesFont, Lone, Pair}
+use Rattle.nr_reading.specs.Many.Interpolations.{IsFont, IsName}
+use Rattle.nr_reading.specs.Many.Interpolations.{Lone as RowLone, Pair as RowPair}
+use Rattle.nr_input.specs.Many.Fonts.{BeginsFont, NamesFont, Lone, Pair}
 
 -- the byte stands there in the row
 byte_there : (bs : List ℕ) (k : ℕ) → k < length bs → slice_get (map fronts.Byte bs) k ≡ Some (fronts.Byte (slice_index bs k))

@@ -20,24 +20,24 @@ use Rattle.nr_reading.specs.declared.event.Event.TheVariants as events
 use Rattle.nr_reading.specs.declared.front.Front.TheVariants as fronts
 use Rattle.nr_reading.specs.declared.half.Half.{Half}
 use Rattle.nr_reading.specs.declared.mode.Due.TheVariants as dues
-use Rattle.nr_reading.specs.InArgument.{ending_of, IsPlain}
-use Rattle.nr_reading.specs.KeptBytes.{HasKept}
+use Rattle.nr_reading.specs.Many.InArgument.{ending_of, IsPlain}
+use Rattle.nr_reading.specs.Many.KeptBytes.{HasKept}
 use Rattle.nr_reading.specs.Meeting.{Met, meet, silent}
-use Rattle.nr_reading.specs.Passing as passing
-use Rattle.nr_reading.specs.Runs.{Spot, HasMet}
+use Rattle.nr_reading.specs.Many.Passing as passing
+use Rattle.nr_reading.specs.Many.Runs.{Spot, HasMet}
 use Rattle.nr_reading.proofs.Marks.{meet-mark}
 use Rattle.nr_input.specs.declared.reader.Reader.{Reader}
-use Rattle.nr_input.specs.declared.target.Target.{Target}
-use Rattle.nr_input.specs.declared.target.Target.TheVariants.{Argument, Text}
+use Rattle.nr_input.specs.declared.many.target.Target.{Target}
+use Rattle.nr_input.specs.declared.many.target.Target.TheVariants.{Argument, Text}
 use Rattle.nr_input.specs.declared.told.Told.TheVariants as tells
 use Rattle.nr_input.specs.declared.refusal.Refusal.{Refusal}
 use Rattle.nr_input.specs.Acting.{Acted, expanded, is_look}
 use Rattle.nr_input.specs.Coming.{Coming, Reached, HoldsComing, element_front}
-use Rattle.nr_input.specs.Interpolations.{HasRoom, IsSplice}
+use Rattle.nr_input.specs.Many.Interpolations.{HasRoom, IsSplice}
 use Rattle.nr_input.specs.Moving.{Situation, situation, met_at, move, Goes}
 use Rattle.nr_input.specs.Refusals.{called, acted, acted_by, splicing_by, splicing_answer}
-use Rattle.nr_input.specs.Runs.{HasRead, PaysAll, moves, told_last}
-use Rattle.nr_input.specs.Targets.{is_read_for, with_more}
+use Rattle.nr_input.specs.Many.Runs.{HasRead, PaysAll, moves, told_last}
+use Rattle.nr_input.specs.Many.Targets.{is_read_for, with_more}
 use Rattle.nr_input.specs.Weights.{items_in}
 use Rattle.nr_input.proofs.ControlLines.{then_read, quietly_add, done_quietly, pays_then, pays_once}
 use Rattle.nr_input.proofs.Putting.{Quietly, quiet, one_more, no_moves, has_read_quietly}

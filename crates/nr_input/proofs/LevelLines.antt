@@ -9,7 +9,7 @@ use Rattle.nr_input.specs.declared.reader.Reader.{Reader}
 use Rattle.nr_input.specs.declared.told.Told.TheVariants as tells
 use Rattle.nr_input.specs.Coming.{Coming, Reached, HoldsComing}
 use Rattle.nr_input.specs.Moving.{Situation, situation}
-use Rattle.nr_input.specs.Runs.{HasRead, moves, told_last}
+use Rattle.nr_input.specs.Many.Runs.{HasRead, moves, told_last}
 use Rattle.nr_input.proofs.ControlLines.{then_read}
 use Rattle.nr_input.proofs.Putting.{Quietly}
 

@@ -25,9 +25,9 @@ use Rattle.nr_input.specs.declared.told.Told.TheVariants as tells
 use Rattle.nr_input.specs.Acting.{Acted, act, is_look, meaning_in, calls_of}
 use Rattle.nr_input.specs.Refusals.{called, acted, answer, answer_to, asking, Asking, Nothing, Bytes, Splice, Refused, stored_by, reader_by, storing_by, splicing_by}
 use Rattle.nr_input.specs.Coming.{Coming, Reached, HoldsComing, MayLook, front, behind, front_seen, passed_in}
-use Rattle.nr_input.specs.Levels.{acts_by, may_act}
+use Rattle.nr_input.specs.Many.Levels.{acts_by, may_act}
 use Rattle.nr_input.specs.Moving.{Situation, Stands, situation, move, Goes, told_of, burst_past}
-use Rattle.nr_input.specs.Runs.{HasRead, PaysAll, PaysMany, moves, told_last}
+use Rattle.nr_input.specs.Many.Runs.{HasRead, PaysAll, PaysMany, moves, told_last}
 use Rattle.nr_input.specs.Weights.{Pays, byte_worth, diversions_in}
 use Rattle.nr_input.proofs.ControlLines.{done_read, seeks_no_lead}
 use Rattle.nr_input.proofs.Hearing.{taken_moves}

@@ -12,17 +12,17 @@ use Rattle.nr_reading.specs.declared.event.Event.{Event}
 use Rattle.nr_reading.specs.declared.event.Event.TheVariants as events
 use Rattle.nr_reading.specs.declared.front.Front.{Front}
 use Rattle.nr_reading.specs.declared.mode.Due.TheVariants as dues
-use Rattle.nr_reading.specs.Runs.{Spot, HasMet}
+use Rattle.nr_reading.specs.Many.Runs.{Spot, HasMet}
 use Rattle.nr_reading.specs.Seeking.{sought_event}
 use Rattle.nr_input.specs.declared.reader.Reader.{Reader}
 use Rattle.nr_input.specs.declared.refusal.Refusal.{Refusal}
 use Rattle.nr_input.specs.Acting.{behind_meaning, calls_of, meaning_in}
 use Rattle.nr_input.specs.Coming.{Coming, Reached, HoldsComing, element_front}
-use Rattle.nr_input.specs.LevelRows.{behind_name, begun_by, is_text}
+use Rattle.nr_input.specs.Many.LevelRows.{behind_name, begun_by, is_text}
 use Rattle.nr_input.specs.Limits.{limits_of}
 use Rattle.nr_input.specs.Moving.{situation}
 use Rattle.nr_input.specs.Refusals.{called, acted}
-use Rattle.nr_input.specs.Runs.{HasRead, PaysAll}
+use Rattle.nr_input.specs.Many.Runs.{HasRead, PaysAll}
 use Rattle.nr_input.proofs.ControlLines.{done_read, pays_then, seek_pays, seeks, waits}
 use Rattle.nr_input.proofs.Interpolated.{read_then}
 use Rattle.nr_input.proofs.RowsRead.{level_read, level_pays}

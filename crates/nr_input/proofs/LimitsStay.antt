@@ -15,13 +15,13 @@ use Rattle.nr_reading.specs.declared.mode.Due.TheVariants as dues
 use Rattle.nr_input.specs.declared.reader.Reader.{Reader}
 use Rattle.nr_input.specs.declared.refusal.Refusal.{Refusal}
 use Rattle.nr_input.specs.declared.refusal.Refusal.TheVariants as refusals
-use Rattle.nr_input.specs.declared.target.Target.{Target}
-use Rattle.nr_input.specs.declared.target.Target.TheVariants.{Argument, Text}
+use Rattle.nr_input.specs.declared.many.target.Target.{Target}
+use Rattle.nr_input.specs.declared.many.target.Target.TheVariants.{Argument, Text}
 use Rattle.nr_input.specs.Acting.{act, splicing, has_text, name_in, meaning_in, behind_meaning, expanded}
 use Rattle.nr_input.specs.Limits.{Limits, limits_of}
 use Rattle.nr_input.specs.Refusals.{Called, called, called_by, answer, acted, splicing_answer}
 use Rattle.nr_input.specs.Splicing.{giving}
-use Rattle.nr_input.specs.Targets.{with_more}
+use Rattle.nr_input.specs.Many.Targets.{with_more}
 
 -- ---- what is stored
 

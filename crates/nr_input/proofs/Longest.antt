@@ -13,13 +13,13 @@ use Rattle.nr_reading.specs.declared.event.Event.TheVariants as events
 use Rattle.nr_reading.specs.declared.front.Front.TheVariants as fronts
 use Rattle.nr_reading.specs.declared.half.Half.{Half}
 use Rattle.nr_reading.specs.declared.mode.Due.TheVariants as dues
-use Rattle.nr_reading.specs.InArgument.{ending_of, IsPlain}
-use Rattle.nr_reading.specs.Runs.{Spot, HasMet}
+use Rattle.nr_reading.specs.Many.InArgument.{ending_of, IsPlain}
+use Rattle.nr_reading.specs.Many.Runs.{Spot, HasMet}
 use Rattle.nr_input.specs.declared.reader.Reader.{Reader}
-use Rattle.nr_input.specs.declared.target.Target.{Target}
+use Rattle.nr_input.specs.declared.many.target.Target.{Target}
 use Rattle.nr_input.specs.Coming.{Reached, element_front}
-use Rattle.nr_input.specs.Runs.{IsLongest, IsLongestInLevel}
-use Rattle.nr_input.specs.Targets.{is_read_for, with_more}
+use Rattle.nr_input.specs.Many.Runs.{IsLongest, IsLongestInLevel}
+use Rattle.nr_input.specs.Many.Targets.{is_read_for, with_more}
 
 -- no byte of the row stands there
 abbrev pub NoByteAt : List ℕ → ℕ → Type 0

@@ -19,13 +19,13 @@ use Rattle.nr_reading.specs.declared.mode.Escape.TheVariants as escapes
 use Rattle.nr_reading.specs.declared.mode.Mode.{Mode}
 use Rattle.nr_reading.specs.declared.mode.Mode.TheVariants as modes
 use Rattle.nr_reading.specs.Meeting.{meet, reads_next_at}
-use Rattle.nr_reading.specs.Passing.{quiet}
-use Rattle.nr_reading.specs.Runs.{HasMet}
+use Rattle.nr_reading.specs.Many.Passing.{quiet}
+use Rattle.nr_reading.specs.Many.Runs.{HasMet}
 use Rattle.nr_reading.proofs.Asked.{half_at}
 use Rattle.nr_reading.proofs.Moving.{met_counted}
 use Rattle.nr_reading.proofs.Paying.{pays_for}
 use Rattle.nr_reading.proofs.Weighing.{at}
-use Rattle.nr_input.specs.MacroLines.{is_before_argument, is_before_argument_in, blanks_left, begun_with}
+use Rattle.nr_input.specs.Many.MacroLines.{is_before_argument, is_before_argument_in, blanks_left, begun_with}
 
 -- ---- one byte
 

@@ -11,22 +11,22 @@ use Rattle.nr_reading.specs.declared.front.Front.TheVariants as fronts
 use Rattle.nr_reading.specs.declared.half.Half.{Half}
 use Rattle.nr_reading.specs.declared.mode.Due.{Due}
 use Rattle.nr_reading.specs.declared.mode.Due.TheVariants as dues
-use Rattle.nr_reading.specs.InArgument.{is_in_argument, ending_of, IsPlain}
-use Rattle.nr_reading.specs.Passing.{quiet}
-use Rattle.nr_reading.specs.Runs.{HasMet}
+use Rattle.nr_reading.specs.Many.InArgument.{is_in_argument, ending_of, IsPlain}
+use Rattle.nr_reading.specs.Many.Passing.{quiet}
+use Rattle.nr_reading.specs.Many.Runs.{HasMet}
 use Rattle.nr_input.specs.declared.reader.Reader.{Reader}
 use Rattle.nr_input.specs.declared.place.Ahead.TheVariants.{Unseen}
 use Rattle.nr_input.specs.declared.refusal.Refusal.{Refusal}
-use Rattle.nr_input.specs.declared.target.Target.TheVariants.{Argument}
+use Rattle.nr_input.specs.declared.many.target.Target.TheVariants.{Argument}
 use Rattle.nr_input.specs.Acting.{act, is_look}
 use Rattle.nr_input.specs.Refusals.{called, acted, answer}
-use Rattle.nr_input.specs.AtHand.{ComeNext}
+use Rattle.nr_input.specs.Many.AtHand.{ComeNext}
 use Rattle.nr_input.specs.Coming.{Coming, Reached, HoldsComing}
 use Rattle.nr_input.specs.Limits.{limits_of}
-use Rattle.nr_input.specs.MacroLines.{ReadsOn, reached_behind}
+use Rattle.nr_input.specs.Many.MacroLines.{ReadsOn, reached_behind}
 use Rattle.nr_input.specs.Moving.{situation}
-use Rattle.nr_input.specs.Runs.{HasRead, PaysAll, behind_run, inside_behind, passed_run}
-use Rattle.nr_input.specs.Targets.{with_more}
+use Rattle.nr_input.specs.Many.Runs.{HasRead, PaysAll, behind_run, inside_behind, passed_run}
+use Rattle.nr_input.specs.Many.Targets.{with_more}
 use Rattle.nr_input.specs.Weights.{newline_left, diversions_in}
 use Rattle.nr_input.proofs.ControlLines.{done_read, pays_then, pays_once, come_behind, run_on, inside_on}
 use Rattle.nr_input.proofs.Interpolated.{read_then, pays_nothing}

@@ -11,14 +11,14 @@ use Rattle.nr_reading.specs.declared.half.Half.{Half}
 use Rattle.nr_reading.specs.declared.mode.Due.{Due}
 use Rattle.nr_reading.specs.declared.mode.Due.TheVariants as dues
 use Rattle.nr_reading.specs.Meeting.{Met, meet}
-use Rattle.nr_reading.specs.Runs.{Spot, MayGoOn, behind, behind_met}
+use Rattle.nr_reading.specs.Many.Runs.{Spot, MayGoOn, behind, behind_met}
 use Rattle.nr_input.specs.declared.reader.Reader.{Reader}
 use Rattle.nr_input.specs.declared.told.Told.TheVariants as tells
 use Rattle.nr_input.specs.Acting.{Acted, act, done, is_look, next, then_due, idle}
 use Rattle.nr_input.specs.Refusals.{answer, storing_by, storing_answer}
 use Rattle.nr_input.specs.Coming.{Coming, Reached}
 use Rattle.nr_input.specs.Moving.{Situation, Move, Stands, situation, move, Goes, GoesBy}
-use Rattle.nr_input.specs.Runs.{HasRead, moves, told_last}
+use Rattle.nr_input.specs.Many.Runs.{HasRead, moves, told_last}
 use Rattle.nr_input.proofs.Rows.{Goings}
 
 -- ---- moves that tell nothing

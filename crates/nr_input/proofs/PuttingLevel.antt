@@ -14,15 +14,15 @@ use Rattle.nr_store.specs.declared.element.Element.{Element}
 use Rattle.nr_store.specs.declared.element.Element.TheVariants as elements
 use Rattle.nr_reading.specs.declared.event.Event.TheVariants as events
 use Rattle.nr_reading.specs.declared.mode.Due.{Due}
-use Rattle.nr_reading.specs.InArgument.{ending_of, IsPlain}
-use Rattle.nr_reading.specs.Runs.{Spot}
+use Rattle.nr_reading.specs.Many.InArgument.{ending_of, IsPlain}
+use Rattle.nr_reading.specs.Many.Runs.{Spot}
 use Rattle.nr_input.specs.declared.reader.Reader.{Reader}
-use Rattle.nr_input.specs.declared.target.Target.{Target}
-use Rattle.nr_input.specs.declared.target.Target.TheVariants.{Argument, Text}
+use Rattle.nr_input.specs.declared.many.target.Target.{Target}
+use Rattle.nr_input.specs.declared.many.target.Target.TheVariants.{Argument, Text}
 use Rattle.nr_input.specs.Coming.{Coming, Reached, HoldsComing, element_front}
 use Rattle.nr_input.specs.Moving.{Situation, Stands, situation}
-use Rattle.nr_input.specs.Runs.{HasRead, PaysAll, IsLeft}
-use Rattle.nr_input.specs.Targets.{is_read_for, due_for, with_more}
+use Rattle.nr_input.specs.Many.Runs.{HasRead, PaysAll, IsLeft}
+use Rattle.nr_input.specs.Many.Targets.{is_read_for, due_for, with_more}
 use Rattle.nr_input.specs.Weights.{items_left, expansions_worth, diversions_in}
 use Rattle.nr_input.proofs.Rows.{at_level, with_rest, level_goings}
 use Rattle.nr_input.proofs.RowsRead.{items_behind}

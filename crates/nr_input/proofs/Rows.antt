@@ -17,13 +17,13 @@ use Rattle.nr_reading.specs.declared.front.Front.TheVariants as fronts
 use Rattle.nr_reading.specs.declared.half.Half.{Half}
 use Rattle.nr_reading.specs.declared.mode.Due.TheVariants as dues
 use Rattle.nr_reading.specs.Meeting.{Met, meet}
-use Rattle.nr_reading.specs.Runs.{Spot, MayGoOn, HasMet, behind, behind_met, one_if, spot_after}
+use Rattle.nr_reading.specs.Many.Runs.{Spot, MayGoOn, HasMet, behind, behind_met, one_if, spot_after}
 use Rattle.nr_input.specs.declared.reader.Reader.{Reader}
 use Rattle.nr_input.specs.declared.told.Told.TheVariants as tells
-use Rattle.nr_input.specs.AtHand.{ComeNext}
+use Rattle.nr_input.specs.Many.AtHand.{ComeNext}
 use Rattle.nr_input.specs.Coming.{Coming, Reached, element_front}
 use Rattle.nr_input.specs.Moving.{Situation, Stands, situation, move, met_at, Goes, burst_past}
-use Rattle.nr_input.specs.Runs.{HasRead, moves, told_last, behind_run, inside_behind}
+use Rattle.nr_input.specs.Many.Runs.{HasRead, moves, told_last, behind_run, inside_behind}
 
 -- ---- moves along a row
 

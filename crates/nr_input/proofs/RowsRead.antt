@@ -14,14 +14,14 @@ use Rattle.nr_reading.specs.declared.front.Front.{Front}
 use Rattle.nr_reading.specs.declared.front.Front.TheVariants as fronts
 use Rattle.nr_reading.specs.declared.half.Half.{Half}
 use Rattle.nr_reading.specs.Meeting.{meet}
-use Rattle.nr_reading.specs.Runs.{Spot, HasMet, behind, one_if, spot_after}
+use Rattle.nr_reading.specs.Many.Runs.{Spot, HasMet, behind, one_if, spot_after}
 use Rattle.nr_input.specs.declared.reader.Reader.{Reader}
 use Rattle.nr_input.specs.declared.place.Ahead.{Ahead}
 use Rattle.nr_input.specs.declared.place.Ahead.TheVariants.{Unseen, Byte, End, Failed, TooMany}
-use Rattle.nr_input.specs.AtHand.{ComeNext, is_unseen}
+use Rattle.nr_input.specs.Many.AtHand.{ComeNext, is_unseen}
 use Rattle.nr_input.specs.Coming.{Coming, Reached, HoldsComing, HoldsSupply, element_front}
 use Rattle.nr_input.specs.Moving.{situation, burst_past}
-use Rattle.nr_input.specs.Runs.{HasRead, PaysAll, behind_run, passed_run}
+use Rattle.nr_input.specs.Many.Runs.{HasRead, PaysAll, behind_run, passed_run}
 use Rattle.nr_input.specs.Weights.{items_in, items_left, newline_left, expansions_worth, diversions_in}
 use Rattle.std.proofs.Math.Nat.{mul-le-mul_right}
 use Rattle.nr_input.proofs.Rows.{at_level, at_source, with_rest, level_goings, source_goings, has_read, met_none, reads_nothing}

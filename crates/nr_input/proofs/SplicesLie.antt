@@ -3,8 +3,8 @@ use Rattle.std.specs.Prelude.{slice_get}
 use Rattle.std.proofs.Common.{◌≡◌, ℕ, ◌+◌, ◌-◌, ◌<◌, ◌≤◌, List, [], ◌∷◌, ◌++◌, length, take, get_or, Some, refl, ap, sym, ◌∙◌, arith}
 use Rattle.std.proofs.lemmas.List.{get_or-take, length-take, take_more}
 use Rattle.std.proofs.lemmas.Option.{slice_get-get_or}
-use Rattle.nr_input.specs.declared.splices.Splice.{Splice}
-use Rattle.nr_input.specs.Gathering.{last_asked}
+use Rattle.nr_input.specs.declared.many.splices.Splice.{Splice}
+use Rattle.nr_input.specs.Many.Gathering.{last_asked}
 
 -- the n-th is where it lies
 pub lies_at : (all seen : List Splice) (len n : ℕ) (d : Splice) → take len all ≡ seen → n < length seen → slice_get seen n ≡ Some (get_or all n d)

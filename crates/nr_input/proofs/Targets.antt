@@ -14,14 +14,14 @@ use Rattle.nr_reading.specs.declared.event.Event.TheVariants as events
 use Rattle.nr_reading.specs.declared.front.Front.TheVariants as fronts
 use Rattle.nr_reading.specs.declared.half.Half.{Half}
 use Rattle.nr_reading.specs.declared.mode.Due.TheVariants as dues
-use Rattle.nr_reading.specs.InArgument.{ending_of, IsPlain}
+use Rattle.nr_reading.specs.Many.InArgument.{ending_of, IsPlain}
 use Rattle.nr_reading.specs.Meeting.{meet}
 use Rattle.nr_reading.proofs.InArgument.{meet-put, due-is_in_argument}
 use Rattle.nr_reading.proofs.InDefinition.{meet-add, due-is_in_definition}
-use Rattle.nr_input.specs.declared.target.Target.{Target}
-use Rattle.nr_input.specs.declared.target.Target.TheVariants.{Argument, Text}
+use Rattle.nr_input.specs.declared.many.target.Target.{Target}
+use Rattle.nr_input.specs.declared.many.target.Target.TheVariants.{Argument, Text}
 use Rattle.nr_input.specs.Acting.{next}
-use Rattle.nr_input.specs.Targets.{is_read_for, due_for, with_more}
+use Rattle.nr_input.specs.Many.Targets.{is_read_for, due_for, with_more}
 use Rattle.nr_input.specs.Weights.{diversions_in}
 use Rattle.nr_input.proofs.Putting.{Adds}
 use Rattle.nr_input.proofs.Staying.{longer_count}

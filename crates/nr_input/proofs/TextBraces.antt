@@ -15,16 +15,16 @@ use Rattle.nr_reading.specs.declared.front.Front.TheVariants as fronts
 use Rattle.nr_reading.specs.declared.half.Half.{Half}
 use Rattle.nr_reading.specs.declared.mode.Escape.{Escape}
 use Rattle.nr_reading.specs.declared.mode.Escape.TheVariants as escapes
-use Rattle.nr_reading.specs.Braces.{begins_with_brace, is_byte}
-use Rattle.nr_reading.specs.InText.{is_in_text, IsInText}
-use Rattle.nr_reading.specs.Passing.{quiet}
-use Rattle.nr_reading.specs.Runs.{HasMet}
+use Rattle.nr_reading.specs.Many.Braces.{begins_with_brace, is_byte}
+use Rattle.nr_reading.specs.Many.InText.{is_in_text, IsInText}
+use Rattle.nr_reading.specs.Many.Passing.{quiet}
+use Rattle.nr_reading.specs.Many.Runs.{HasMet}
 use Rattle.nr_reading.proofs.InText.{in_text}
 use Rattle.nr_reading.proofs.Rows.{MeetsByte, nothing_met, stays, taken_more}
 use Rattle.nr_input.specs.declared.reader.Reader.{Reader}
-use Rattle.nr_input.specs.declared.splices.Splice.{Splice}
+use Rattle.nr_input.specs.declared.many.splices.Splice.{Splice}
 use Rattle.nr_input.specs.Coming.{element_front}
-use Rattle.nr_input.specs.Gathering.{AreGathered, HasBrace, LeadsInText, Leaves, brace_items, last_asked, spliced}
+use Rattle.nr_input.specs.Many.Gathering.{AreGathered, HasBrace, LeadsInText, Leaves, brace_items, last_asked, spliced}
 use Rattle.nr_input.proofs.LevelRows.{left_times-add, rest-left_times}
 use Rattle.nr_input.proofs.PuttingLevel.{charge-behind}
 use Rattle.nr_input.proofs.RowsRead.{level_read, level_pays}

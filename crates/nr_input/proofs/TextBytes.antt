@@ -9,9 +9,9 @@ use Rattle.nr_store.specs.declared.element.Element.TheVariants as elements
 use Rattle.nr_store.specs.declared.shown.Shown.TheVariants as shows
 use Rattle.nr_reading.specs.declared.event.Event.TheVariants as events
 use Rattle.nr_input.specs.declared.reader.Reader.{Reader}
-use Rattle.nr_input.specs.Gathering.{LeadsInText, Brings, Leaves}
+use Rattle.nr_input.specs.Many.Gathering.{LeadsInText, Brings, Leaves}
 use Rattle.nr_input.specs.Moving.{situation}
-use Rattle.nr_input.specs.Runs.{PaysAll}
+use Rattle.nr_input.specs.Many.Runs.{PaysAll}
 use Rattle.nr_input.proofs.ControlLines.{pays_then}
 use Rattle.nr_input.proofs.Interpolated.{pays_nothing, read_then}
 use Rattle.nr_input.proofs.LevelRows.{rest-left_times}

@@ -20,17 +20,17 @@ use Rattle.nr_reading.specs.declared.front.Front.TheVariants as fronts
 use Rattle.nr_reading.specs.declared.half.Half.{Half}
 use Rattle.nr_reading.specs.declared.mode.Due.{Due}
 use Rattle.nr_reading.specs.declared.mode.Due.TheVariants as dues
-use Rattle.nr_reading.specs.Interpolations.{AsksOnly}
-use Rattle.nr_reading.specs.Runs.{HasMet}
-use Rattle.nr_input.specs.declared.gathering.Gathered.{Gathered}
+use Rattle.nr_reading.specs.Many.Interpolations.{AsksOnly}
+use Rattle.nr_reading.specs.Many.Runs.{HasMet}
+use Rattle.nr_input.specs.declared.many.gathering.Gathered.{Gathered}
 use Rattle.nr_input.specs.declared.reader.Reader.{Reader}
-use Rattle.nr_input.specs.declared.splices.Splice.{Splice}
+use Rattle.nr_input.specs.declared.many.splices.Splice.{Splice}
 use Rattle.nr_input.specs.Acting.{expanded, register_text}
 use Rattle.nr_input.specs.Coming.{element_front}
-use Rattle.nr_input.specs.Gathering.{AreBytes, AreGathered, AreItems, EndsRun, IsGathering, IsSpliced, LeadsInText, Leaves, StopsGathering, bytes_before, last_asked, own_bytes, passed, spliced}
-use Rattle.nr_input.specs.Interpolations.{HasRoom, MaySplice, OpensLevel, brings_text, opened, opened_due}
+use Rattle.nr_input.specs.Many.Gathering.{AreBytes, AreGathered, AreItems, EndsRun, IsGathering, IsSpliced, LeadsInText, Leaves, StopsGathering, bytes_before, last_asked, own_bytes, passed, spliced}
+use Rattle.nr_input.specs.Many.Interpolations.{HasRoom, MaySplice, OpensLevel, brings_text, opened, opened_due}
 use Rattle.nr_input.specs.Moving.{situation}
-use Rattle.nr_input.specs.Runs.{PaysAll}
+use Rattle.nr_input.specs.Many.Runs.{PaysAll}
 use Rattle.nr_input.proofs.ControlLines.{pays_then}
 use Rattle.nr_input.proofs.Interpolated.{read_then}
 use Rattle.nr_input.proofs.LevelRows.{left_times-add, rest-left_times, row_behind}

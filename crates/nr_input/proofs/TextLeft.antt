@@ -9,9 +9,9 @@ use Rattle.nr_store.specs.Windows.{rest_of, left_times}
 use Rattle.nr_store.specs.declared.element.Element.{Element}
 use Rattle.nr_store.specs.declared.element.Element.TheVariants as elements
 use Rattle.nr_input.specs.declared.reader.Reader.{Reader}
-use Rattle.nr_input.specs.declared.splices.Splice.{Splice}
-use Rattle.nr_input.specs.Gathering.{AreGathered, AreItems, IsSpliced, Leaves, bytes_before, own_bytes, spliced}
-use Rattle.nr_input.specs.Interpolations.{opened}
+use Rattle.nr_input.specs.declared.many.splices.Splice.{Splice}
+use Rattle.nr_input.specs.Many.Gathering.{AreGathered, AreItems, IsSpliced, Leaves, bytes_before, own_bytes, spliced}
+use Rattle.nr_input.specs.Many.Interpolations.{opened}
 use Rattle.nr_input.proofs.LevelRows.{rest-left_times}
 use Rattle.nr_input.proofs.TextBytes.{AreNext, leaves_level, leaves_some, slice_get-drop}
 use Rattle.nr_input.proofs.TextOpened.{rest-opened}

@@ -16,11 +16,11 @@ use Rattle.nr_input.specs.declared.reader.Reader.{Reader}
 use Rattle.nr_input.specs.declared.refusal.Refusal.{Refusal}
 use Rattle.nr_input.specs.Acting.{Acted, expanded, is_look}
 use Rattle.nr_input.specs.Coming.{Coming, Reached}
-use Rattle.nr_input.specs.Gathering.{LeadsInText}
-use Rattle.nr_input.specs.Interpolations.{HasRoom, OpensLevel, brings_text, opened, opened_due}
+use Rattle.nr_input.specs.Many.Gathering.{LeadsInText}
+use Rattle.nr_input.specs.Many.Interpolations.{HasRoom, OpensLevel, brings_text, opened, opened_due}
 use Rattle.nr_input.specs.Moving.{situation}
 use Rattle.nr_input.specs.Refusals.{called, acted, acted_by}
-use Rattle.nr_input.specs.Runs.{PaysAll}
+use Rattle.nr_input.specs.Many.Runs.{PaysAll}
 use Rattle.nr_input.specs.Weights.{diversions_in}
 use Rattle.nr_input.proofs.ControlLines.{done_quietly, pays_once}
 use Rattle.nr_input.proofs.Interpolated.{charge-reading, checked-ok, end_pays, end_quietly, level_of, splicing-fits}

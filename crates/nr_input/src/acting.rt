@@ -75,7 +75,7 @@ impl Reader {
     ghost use Rattle.std.specs.Prelude.{true, Ok};
     ghost use Rattle.nr_store.specs.Stored.{stepped};
     ghost use Rattle.nr_input.specs.Acting.{name_in, adding_byte, naming, behind_definition, has_text, expanded, splicing_name, splicing_bytes, meaning_in, is_look, then_due};
-    ghost use Rattle.nr_input.specs.LevelRows.{behind_name};
+    ghost use Rattle.nr_input.specs.Many.LevelRows.{behind_name};
     ghost use Rattle.nr_reading.specs.Seeking.{sought_event};
     ghost use Rattle.nr_input.specs.Refusals.{expanding_answer, storing_answer, splicing_answer, called, reader_by, answered, acted_by, acted};
 

@@ -52,8 +52,8 @@ impl Place {
     ghost use Rattle.nr_store.specs.Stored.{shown, left};
     ghost use Rattle.nr_store.specs.Sights.{shown_with};
     ghost use Rattle.nr_input.specs.Coming.{Coming, Reached, HoldsComing, AfterSee, AfterLook, is_seen, is_ready, seen_front, passed, ended, front_seen, passed_in, StaysThere, nothing_reached, behind, emptied, fails_now, has_failed, KeepsRefusal, RefusesAgain};
-    ghost use Rattle.nr_input.specs.AtHand.{is_unseen};
-    ghost use Rattle.nr_input.specs.Runs.{passed_run};
+    ghost use Rattle.nr_input.specs.Many.AtHand.{is_unseen};
+    ghost use Rattle.nr_input.specs.Many.Runs.{passed_run};
 
     /// Nothing is taken yet.
     pub fn new() -> Self

@@ -11,8 +11,8 @@ use Rattle.nr_reading.specs.declared.mode.Escape.{Escape}
 use Rattle.nr_reading.specs.declared.mode.Escape.TheVariants as escapes
 use Rattle.nr_reading.specs.declared.mode.Mode.{Mode}
 use Rattle.nr_reading.specs.declared.mode.Mode.TheVariants as modes
-use Rattle.nr_reading.specs.InText.{is_in_text, is_in_text_at, IsInText}
-use Rattle.nr_reading.specs.LineBeginnings.{IsBeforeLine, text_ended}
+use Rattle.nr_reading.specs.Many.InText.{is_in_text, is_in_text_at, IsInText}
+use Rattle.nr_reading.specs.Many.LineBeginnings.{IsBeforeLine, text_ended}
 use Rattle.nr_reading.specs.Meeting.{meet}
 
 parts : (m : Mode) (e : Escape) (d : Due) (asks : List Ask) → is_in_text_at m e d asks ≡ true → (m ≡ modes.Text) × (e ≡ escapes.Plain) × (d ≡ dues.Look) × (asks ≡ [])

@@ -9,13 +9,13 @@ use Rattle.std.proofs.lemmas.Option.{slice_get-map, slice_get-get_or}
 use Rattle.nr_reading.specs.declared.event.Event.TheVariants as events
 use Rattle.nr_reading.specs.declared.front.Front.TheVariants as fronts
 use Rattle.nr_reading.specs.declared.half.Half.{Half}
-use Rattle.nr_reading.specs.ConditionRows.{ends_number}
+use Rattle.nr_reading.specs.Many.ConditionRows.{ends_number}
 use Rattle.nr_reading.specs.Conditions.{parentheses}
-use Rattle.nr_reading.specs.InArgument.{IsPlain}
-use Rattle.nr_reading.specs.KeptBytes.{are_in_number, HasKept}
+use Rattle.nr_reading.specs.Many.InArgument.{IsPlain}
+use Rattle.nr_reading.specs.Many.KeptBytes.{are_in_number, HasKept}
 use Rattle.nr_reading.specs.Meeting.{reads_next}
-use Rattle.nr_reading.specs.Passing.{is_plain}
-use Rattle.nr_reading.specs.Rows.{LeadsOn}
+use Rattle.nr_reading.specs.Many.Passing.{is_plain}
+use Rattle.nr_reading.specs.Many.Rows.{LeadsOn}
 use Rattle.nr_reading.proofs.Rows.{MeetsByte, looks, nothing_met, stays, taken_more, left_more, leads_behind, recount}
 
 -- ---- a row of bytes

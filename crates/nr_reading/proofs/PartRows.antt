@@ -8,10 +8,10 @@ use Rattle.nr_reading.specs.declared.front.Front.TheVariants as fronts
 use Rattle.nr_reading.specs.declared.half.Half.{Half}
 use Rattle.nr_reading.specs.declared.mode.Escape.TheVariants as escapes
 use Rattle.nr_reading.specs.declared.mode.Mode.TheVariants as modes
-use Rattle.nr_reading.specs.Braces.{is_byte, opens_at}
+use Rattle.nr_reading.specs.Many.Braces.{is_byte, opens_at}
 use Rattle.nr_reading.specs.Meeting.{reads_next}
-use Rattle.nr_reading.specs.Passing.{is_plain}
-use Rattle.nr_reading.specs.Rows.{LeadsOn}
+use Rattle.nr_reading.specs.Many.Passing.{is_plain}
+use Rattle.nr_reading.specs.Many.Rows.{LeadsOn}
 use Rattle.nr_reading.specs.Skipping.{braces}
 use Rattle.nr_reading.specs.Spelling.{is_blank}
 use Rattle.nr_reading.proofs.Asked.{half_at}

@@ -19,7 +19,7 @@ use Rattle.nr_reading.specs.Delimiting.{Texts}
 use Rattle.nr_reading.specs.Meeting.{meet, meet_by}
 use Rattle.nr_reading.specs.Modes.{is_direct}
 use Rattle.nr_reading.specs.Nesting.{is_none}
-use Rattle.nr_reading.specs.Passing.{is_plain, drops_plain, passes_by, passes_plain, quiet, GoesOn}
+use Rattle.nr_reading.specs.Many.Passing.{is_plain, drops_plain, passes_by, passes_plain, quiet, GoesOn}
 use Rattle.nr_reading.proofs.Asked.{half_at}
 use Rattle.nr_reading.proofs.Moving.{met_more}
 use Rattle.nr_reading.proofs.Paying.{pays_for}

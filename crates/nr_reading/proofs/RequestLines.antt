@@ -22,12 +22,12 @@ use Rattle.nr_reading.specs.declared.mode.Mode.TheVariants as modes
 use Rattle.nr_reading.specs.declared.mode.Signs.{Signs}
 use Rattle.nr_reading.specs.declared.notes.Notes.{Notes}
 use Rattle.nr_reading.specs.Delimiting.{Texts}
-use Rattle.nr_reading.specs.InArgument.{IsPlain}
+use Rattle.nr_reading.specs.Many.InArgument.{IsPlain}
 use Rattle.nr_reading.specs.Keeping.{kept}
 use Rattle.nr_reading.specs.Meeting.{meet, reads_next, reads_next_at}
-use Rattle.nr_reading.specs.Passing.{quiet}
-use Rattle.nr_reading.specs.RequestLines.{behind_request_line}
-use Rattle.nr_reading.specs.Runs.{HasMet}
+use Rattle.nr_reading.specs.Many.Passing.{quiet}
+use Rattle.nr_reading.specs.Many.RequestLines.{behind_request_line}
+use Rattle.nr_reading.specs.Many.Runs.{HasMet}
 use Rattle.nr_reading.specs.Spelling.{is_blank}
 use Rattle.nr_reading.proofs.Asked.{half_at}
 use Rattle.nr_reading.proofs.Moving.{met_counted}

@@ -57,9 +57,9 @@ impl Seen {
 impl Half {
     ghost use Rattle.std.specs.Prelude.{[]};
     ghost use Rattle.nr_reading.specs.Asking.{event_of};
-    ghost use Rattle.nr_reading.specs.InText.{is_in_text};
-    ghost use Rattle.nr_reading.specs.LineBeginnings.{is_at_text, text_begun, text_ended};
-    ghost use Rattle.nr_reading.specs.Rereading.{is_rereading};
+    ghost use Rattle.nr_reading.specs.Many.InText.{is_in_text};
+    ghost use Rattle.nr_reading.specs.Many.LineBeginnings.{is_at_text, text_begun, text_ended};
+    ghost use Rattle.nr_reading.specs.Many.Rereading.{is_rereading};
     ghost use Rattle.nr_reading.specs.Spelling.{name_of};
     ghost use Rattle.nr_reading.specs.Steps.{note_of};
     ghost use Rattle.nr_reading.specs.Meeting.{asking, too_deep, beginning, settled, replaced, finished, argued, longer, answered, asked_by, noted_in, met_directly, met_copied, hear_by, over_by, escaping, silent, offered, meet_by, met, offer_by, reads_directly, reads_plainly, reads_next};

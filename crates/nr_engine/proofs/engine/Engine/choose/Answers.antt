@@ -4,7 +4,7 @@ use Rattle.nr_engine.specs.State.{First, Register}
 use Rattle.nr_engine.specs.Answer.{is_read_fault, is_write_fault}
 use Rattle.nr_engine.specs.Holding.{Made, shape}
 use Rattle.nr_engine.specs.Machine.{first_set}
-use Rattle.nr_engine.specs.Running.{Chooses}
+use Rattle.nr_engine.specs.Many.Running.{Chooses}
 use Rattle.nr_engine.proofs.Choosing.{choice_stays, stays-trans, first_chooses, choice_made, registers_of, register_made, register_halts, register_stays, all_made}
 use Rattle.nr_engine.specs.Limits.{limits_of}
 use Rattle.nr_engine.proofs.LimitsStay.{first_set-limits, formatter-limits}

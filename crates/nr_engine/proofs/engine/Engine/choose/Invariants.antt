@@ -3,7 +3,7 @@ use Rattle.nr_units.specs.Supply.{Supply}
 use Rattle.nr_engine.specs.State.{State, Register, choices}
 use Rattle.nr_engine.specs.Holding.{Holds, Made, shape}
 use Rattle.nr_engine.specs.Limits.{limits_of}
-use Rattle.nr_engine.specs.Running.{StaysLight}
+use Rattle.nr_engine.specs.Many.Running.{StaysLight}
 use Rattle.nr_engine.proofs.engine.Engine.choose.Given as goal
 
 abbrev pub invariant-loop-choice : goal.invariant-loop-choice

@@ -1,7 +1,7 @@
 use Rattle.std.proofs.Common.{◌≡◌, ◌<◌, ◌≤◌, ℕ, subst, sym, ◌∙◌}
 use Rattle.nr_engine.specs.Holding.{shape}
-use Rattle.nr_formatter.specs.Obeying.{moves_obeying, obeyed}
-use Rattle.nr_engine.specs.Running.{MakesInPlace}
+use Rattle.nr_formatter.specs.Many.Obeying.{moves_obeying, obeyed}
+use Rattle.nr_engine.specs.Many.Running.{MakesInPlace}
 use Rattle.nr_engine.proofs.Obeyed.{makes_obeyed, moves_obeying-le, obeyed_shape, reads_obeyed}
 use Rattle.nr_engine.proofs.engine.Engine.obey.Goals as goal
 

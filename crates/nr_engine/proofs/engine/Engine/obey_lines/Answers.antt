@@ -1,6 +1,6 @@
 use Rattle.std.proofs.Common.{◌≡◌, ◌+◌, ℕ, subst, arith}
 use Rattle.nr_engine.specs.Holding.{Shape, shape}
-use Rattle.nr_engine.specs.Running.{MakesReading}
+use Rattle.nr_engine.specs.Many.Running.{MakesReading}
 use Rattle.nr_engine.proofs.Travelling.{reading-add, reading_in_place, reading_none}
 use Rattle.nr_engine.proofs.engine.Engine.obey_lines.Goals as goal
 

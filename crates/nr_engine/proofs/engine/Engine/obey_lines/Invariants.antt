@@ -1,7 +1,7 @@
 use Rattle.std.proofs.Common.{◌≡◌, ◌*◌, ◌≤◌}
 use Rattle.nr_reading.specs.declared.event.Event.TheVariants as events
 use Rattle.nr_engine.specs.Holding.{shape}
-use Rattle.nr_engine.specs.Running.{MakesReading}
+use Rattle.nr_engine.specs.Many.Running.{MakesReading}
 use Rattle.nr_engine.proofs.engine.Engine.obey_lines.Given as goal
 
 abbrev pub invariant-loop : goal.invariant-loop

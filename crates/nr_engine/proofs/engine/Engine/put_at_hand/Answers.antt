@@ -1,6 +1,6 @@
 use Rattle.std.proofs.Common.{◌≡◌, ℕ, subst, arith}
 use Rattle.nr_engine.specs.Holding.{Shape, shape}
-use Rattle.nr_engine.specs.Running.{MakesInPlace, MakesReading}
+use Rattle.nr_engine.specs.Many.Running.{MakesInPlace, MakesReading}
 use Rattle.nr_engine.proofs.Travelling.{reading-add, reading_in_place, reading_later, reading_none}
 use Rattle.nr_engine.proofs.engine.Engine.put_at_hand.Given.{Over}
 use Rattle.nr_engine.proofs.engine.Engine.put_at_hand.Goals.{Joined-is_at_text, then-is_at_text+else-text-gt0, else-is_at_text}

@@ -1,10 +1,10 @@
 use Rattle.std.proofs.Common.{◌≡◌, ◌+◌, ◌*◌, ◌<◌, ◌≤◌, refl, ap, ◌∙◌, subst, sym, arith}
-use Rattle.nr_input.specs.AtHand.{behind_last}
+use Rattle.nr_input.specs.Many.AtHand.{behind_last}
 use Rattle.nr_input.specs.Coming.{HoldsComing}
-use Rattle.nr_formatter.specs.EmptyLines.{gone_down, lines_below}
+use Rattle.nr_formatter.specs.Many.EmptyLines.{gone_down, lines_below}
 use Rattle.nr_formatter.proofs.EmptyLines.{lines_gone, room_below}
 use Rattle.nr_engine.specs.Holding.{shape}
-use Rattle.nr_engine.specs.Running.{Makes}
+use Rattle.nr_engine.specs.Many.Running.{Makes}
 use Rattle.nr_engine.proofs.EmptyLines.{down_shape, lines_shape, makes_empty, makes_more}
 use Rattle.nr_engine.proofs.engine.Engine.put_empty_lines.Goals as goal
 

@@ -1,9 +1,9 @@
 use Rattle.std.proofs.Common.{◌≡◌, true, take, sym, subst}
-use Rattle.nr_input.specs.Gathering.{IsGathered}
+use Rattle.nr_input.specs.Many.Gathering.{IsGathered}
 use Rattle.nr_input.specs.declared.reader.Reader.{Reader}
-use Rattle.nr_formatter.specs.Runs.{is_in_line}
+use Rattle.nr_formatter.specs.Many.Runs.{is_in_line}
 use Rattle.nr_engine.specs.Holding.{Shape, shape}
-use Rattle.nr_engine.specs.Running.{LongestOfLevels, MakesInPlace}
+use Rattle.nr_engine.specs.Many.Running.{LongestOfLevels, MakesInPlace}
 use Rattle.nr_engine.proofs.engine.Engine.put_level_line.Goals as goal
 
 pub put_gathered-requires-clause-line : goal.put_gathered-requires-clause-line

@@ -1,6 +1,6 @@
 use Rattle.std.proofs.Common.{◌+◌, sym, ◌∙◌, arith}
 use Rattle.nr_engine.specs.Holding.{Shape, shape}
-use Rattle.nr_engine.specs.Running.{MakesInPlace}
+use Rattle.nr_engine.specs.Many.Running.{MakesInPlace}
 use Rattle.nr_engine.proofs.Travelling.{in_place-add}
 use Rattle.nr_engine.proofs.engine.Engine.put_level_text.Goals.{After-read_levels_once}
 use Rattle.nr_engine.proofs.engine.Engine.put_level_text.Goals as goal

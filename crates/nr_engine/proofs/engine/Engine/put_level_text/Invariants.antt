@@ -1,7 +1,7 @@
 use Rattle.std.proofs.Common.{◌≡◌, ◌+◌, ◌*◌, ◌≤◌, true}
-use Rattle.nr_formatter.specs.Runs.{is_in_line}
+use Rattle.nr_formatter.specs.Many.Runs.{is_in_line}
 use Rattle.nr_engine.specs.Holding.{shape}
-use Rattle.nr_engine.specs.Running.{MakesInPlace}
+use Rattle.nr_engine.specs.Many.Running.{MakesInPlace}
 use Rattle.nr_engine.proofs.engine.Engine.put_level_text.Given as goal
 
 abbrev pub invariant-loop : goal.invariant-loop

@@ -2,9 +2,9 @@ use Rattle.std.proofs.Common.{◌≡◌, ◌≤◌, ◌*◌, ◌++◌, List, len
 use Rattle.nr_store.specs.Laws.{left_times-run}
 use Rattle.nr_store.specs.Windows.{rest_of}
 use Rattle.nr_store.specs.declared.element.Element.{Element}
-use Rattle.nr_formatter.specs.Runs.{is_rereading_line}
+use Rattle.nr_formatter.specs.Many.Runs.{is_rereading_line}
 use Rattle.nr_engine.specs.Holding.{Shape, shape}
-use Rattle.nr_engine.specs.Running.{Makes}
+use Rattle.nr_engine.specs.Many.Running.{Makes}
 use Rattle.nr_engine.proofs.RereadCells.{front-behind, makes_cells, reread_shape}
 use Rattle.nr_engine.proofs.engine.Engine.put_row.Goals as goal
 

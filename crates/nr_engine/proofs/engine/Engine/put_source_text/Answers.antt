@@ -1,9 +1,9 @@
 use Rattle.std.proofs.Common.{◌≡◌, ◌+◌, ◌-◌, ◌<◌, length, refl, subst, arith}
 use Rattle.std.specs.Prelude.{slice_index}
-use Rattle.nr_input.specs.AtHand.{behind_last}
+use Rattle.nr_input.specs.Many.AtHand.{behind_last}
 use Rattle.nr_input.specs.Coming.{HoldsComing}
 use Rattle.nr_engine.specs.Holding.{shape}
-use Rattle.nr_engine.specs.Running.{HasNext, Longest, unburst}
+use Rattle.nr_engine.specs.Many.Running.{HasNext, Longest, unburst}
 use Rattle.nr_engine.proofs.TextAtHand.{longest_taken, makes_taken}
 use Rattle.nr_engine.proofs.engine.Engine.put_source_text.Given.{Over}
 use Rattle.nr_engine.proofs.engine.Engine.put_source_text.Goals.{After-take_window}

@@ -1,8 +1,8 @@
 use Rattle.std.proofs.Common.{◌≡◌, ℕ, ◌<◌, List, ap, subst, ◌∙◌, sym}
-use Rattle.nr_formatter.specs.Runs.{is_in_line}
+use Rattle.nr_formatter.specs.Many.Runs.{is_in_line}
 use Rattle.nr_engine.specs.Holding.{Shape, shape}
-use Rattle.nr_engine.specs.LineBeginnings.{begun_shape, may_take, PutsMost}
-use Rattle.nr_engine.specs.Running.{MakesReading}
+use Rattle.nr_engine.specs.Many.LineBeginnings.{begun_shape, may_take, PutsMost}
+use Rattle.nr_engine.specs.Many.Running.{MakesReading}
 use Rattle.nr_engine.specs.declared.engine.Engine.{Engine}
 use Rattle.nr_engine.proofs.LineBeginnings.{before, begins_still, begun_line, makes_begun}
 use Rattle.nr_engine.proofs.Travelling.{reading_in_place}

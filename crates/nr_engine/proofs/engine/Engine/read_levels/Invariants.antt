@@ -1,6 +1,6 @@
 use Rattle.std.proofs.Common.{◌+◌, ◌*◌, ◌≤◌}
 use Rattle.nr_engine.specs.Holding.{shape}
-use Rattle.nr_engine.specs.Running.{MakesInPlace}
+use Rattle.nr_engine.specs.Many.Running.{MakesInPlace}
 use Rattle.nr_engine.proofs.engine.Engine.read_levels.Given as goal
 
 abbrev pub invariant-loop : goal.invariant-loop

@@ -2,7 +2,7 @@ use Rattle.std.proofs.Common.{◌≡◌, ◌++◌, length, take, drop, ap, sym, 
 use Rattle.std.proofs.Math.Seq.{take-append_seam}
 use Rattle.nr_levels.specs.Levels.{argument}
 use Rattle.nr_store.specs.Windows.{left_times}
-use Rattle.nr_input.specs.Interpolations.{MaySplice}
+use Rattle.nr_input.specs.Many.Interpolations.{MaySplice}
 use Rattle.nr_input.proofs.TextGathered.{argument_may}
 use Rattle.nr_input.proofs.reader.Reader.copy_argument.Goals as goal
 

@@ -1,7 +1,7 @@
 use Rattle.std.proofs.Common.{◌≡◌, ◌++◌, length, take, drop, ap, sym, ◌∙◌, subst}
 use Rattle.std.proofs.Math.Seq.{take-append_seam}
 use Rattle.nr_store.specs.Windows.{left_times}
-use Rattle.nr_input.specs.Interpolations.{MaySplice}
+use Rattle.nr_input.specs.Many.Interpolations.{MaySplice}
 use Rattle.nr_input.proofs.TextGathered.{register_may}
 use Rattle.nr_input.proofs.reader.Reader.copy_text.Goals as goal
 

@@ -5,12 +5,12 @@ use Rattle.nr_store.specs.Stored.{Stored, charge_of, reading_bytes}
 use Rattle.nr_store.specs.Windows.{left_times}
 use Rattle.nr_reading.specs.declared.event.Event.{Event}
 use Rattle.nr_reading.specs.declared.event.Event.TheVariants as events
-use Rattle.nr_reading.specs.InArgument.{ending_of, IsPlain}
-use Rattle.nr_reading.specs.Runs.{spot}
-use Rattle.nr_input.specs.Targets.{with_more}
+use Rattle.nr_reading.specs.Many.InArgument.{ending_of, IsPlain}
+use Rattle.nr_reading.specs.Many.Runs.{spot}
+use Rattle.nr_input.specs.Many.Targets.{with_more}
 use Rattle.nr_input.specs.declared.reader.Reader.{Reader}
 use Rattle.nr_input.specs.Moving.{situation}
-use Rattle.nr_input.specs.Runs.{HasRead, PaysAll}
+use Rattle.nr_input.specs.Many.Runs.{HasRead, PaysAll}
 use Rattle.nr_input.proofs.BegunTargets.{begun_read, begun_pays, begun_room, more_read, more_pays, slice_behind, in_level}
 use Rattle.nr_input.proofs.ControlLines.{pays_then}
 use Rattle.nr_input.proofs.Interpolated.{charge-more, met_read, met_pays, met_within, read_then}

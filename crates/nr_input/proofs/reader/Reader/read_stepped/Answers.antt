@@ -11,10 +11,10 @@ use Rattle.nr_input.specs.declared.reader.Reader.{Reader}
 use Rattle.nr_input.specs.declared.refusal.Refusal.{Refusal}
 use Rattle.nr_input.specs.Acting.{is_look, then_due}
 use Rattle.nr_input.specs.Coming.{Coming, Reached, HoldsComing}
-use Rattle.nr_input.specs.Interpolations.{stepping}
+use Rattle.nr_input.specs.Many.Interpolations.{stepping}
 use Rattle.nr_input.specs.Moving.{situation}
 use Rattle.nr_input.specs.Refusals.{Called, called, acted}
-use Rattle.nr_input.specs.Runs.{HasRead, PaysMany}
+use Rattle.nr_input.specs.Many.Runs.{HasRead, PaysMany}
 use Rattle.nr_input.proofs.ControlLines.{done_read}
 use Rattle.nr_input.proofs.LevelParts.{many_of_one, many_then, read_on}
 use Rattle.nr_input.proofs.Spending.{act_pays}

@@ -3,7 +3,7 @@ use Rattle.std.proofs.lemmas.Bool.{false≢true}
 use Rattle.nr_reading.specs.declared.event.Event.{Event}
 use Rattle.nr_reading.specs.declared.event.Event.TheVariants as events
 use Rattle.nr_input.specs.Moving.{situation}
-use Rattle.nr_input.specs.Runs.{HasRead, PaysMany}
+use Rattle.nr_input.specs.Many.Runs.{HasRead, PaysMany}
 use Rattle.nr_input.proofs.LevelParts.{read_on, many_then}
 use Rattle.nr_input.proofs.reader.Reader.splice_on.Goals.{in-Nothing, in_default}
 use Rattle.nr_input.proofs.reader.Reader.splice_on.Goals as goal

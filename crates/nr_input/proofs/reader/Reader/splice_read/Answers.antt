@@ -8,8 +8,8 @@ use Rattle.nr_input.specs.declared.reader.Reader.{Reader}
 use Rattle.nr_input.specs.Acting.{expanded}
 use Rattle.nr_input.specs.Limits.{limits_of}
 use Rattle.nr_input.specs.Moving.{situation}
-use Rattle.nr_input.specs.Runs.{HasRead, PaysMany}
-use Rattle.nr_input.specs.Interpolations.{HasRoom}
+use Rattle.nr_input.specs.Many.Runs.{HasRead, PaysMany}
+use Rattle.nr_input.specs.Many.Interpolations.{HasRoom}
 use Rattle.nr_input.proofs.Interpolated.{entered_bytes, spliced_read, spliced_pays, whole_read, whole_pays, kept_read, kept_pays, read_same, pays_same}
 use Rattle.nr_input.proofs.LevelParts.{many_of_all}
 use Rattle.nr_input.proofs.LimitsStay.{left_times-limits}

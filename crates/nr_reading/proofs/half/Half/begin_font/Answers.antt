@@ -1,6 +1,6 @@
 use Rattle.std.proofs.Common.{ap, sym, ◌∙◌}
-use Rattle.nr_reading.specs.InText.{is_in_text}
-use Rattle.nr_reading.specs.Interpolations.{named}
+use Rattle.nr_reading.specs.Many.InText.{is_in_text}
+use Rattle.nr_reading.specs.Many.Interpolations.{named}
 use Rattle.nr_reading.specs.declared.ask.Kind.TheVariants as kinds
 use Rattle.nr_reading.specs.declared.half.Half.{Half}
 use Rattle.nr_reading.proofs.Interpolated.{lone, font_begun, font_begun_behind}

@@ -3,7 +3,7 @@ use Rattle.std.proofs.lemmas.Bool.{eqb-false}
 use Rattle.std.proofs.lemmas.List.Elements.{All-get_or}
 use Rattle.nr_reading.specs.declared.half.Half.{Half}
 use Rattle.nr_reading.specs.declared.mode.Mode.TheVariants as modes
-use Rattle.nr_reading.specs.InArgument.{IsPlain}
+use Rattle.nr_reading.specs.Many.InArgument.{IsPlain}
 use Rattle.nr_reading.proofs.KeptBytes.{all_begun, all_plain, escape_apart}
 use Rattle.nr_reading.proofs.RequestRows.{meet-line_begins}
 use Rattle.nr_reading.proofs.half.Half.begin_line.Goals as goal

@@ -1,6 +1,6 @@
 use Rattle.std.proofs.Common.{◌≡◌, ◌+◌, subst, arith}
 use Rattle.std.proofs.lemmas.Option.{IfSome_then}
-use Rattle.nr_reading.specs.Runs.{HasMet, spot}
+use Rattle.nr_reading.specs.Many.Runs.{HasMet, spot}
 use Rattle.nr_reading.proofs.Rows.{nothing_met}
 use Rattle.nr_reading.proofs.half.Half.meet_front.Goals as goal
 

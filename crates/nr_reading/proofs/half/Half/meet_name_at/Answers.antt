@@ -1,6 +1,6 @@
 use Rattle.std.proofs.Common.{◌≡◌, ◌+◌, ◌≤◌, true, length, refl, sym, ◌∙◌, arith}
 use Rattle.std.proofs.lemmas.Bool.{false≢true, ne_eqb}
-use Rattle.nr_reading.specs.ControlNames.{NameEnds, goes_on_name}
+use Rattle.nr_reading.specs.Many.ControlNames.{NameEnds, goes_on_name}
 use Rattle.nr_reading.proofs.ControlNames.{met-lone, met-pair}
 use Rattle.nr_reading.proofs.half.Half.meet_name_at.Goals.{else-long-via-then-long+else-not-name_ends, else-long-via-else-long}
 use Rattle.nr_reading.proofs.half.Half.meet_name_at.Goals as goal

@@ -1,6 +1,6 @@
 use Rattle.std.proofs.Common.{Some, ap, sym, ◌∙◌}
 use Rattle.nr_reading.specs.declared.front.Front.TheVariants as fronts
-use Rattle.nr_reading.specs.InText.{is_in_text}
+use Rattle.nr_reading.specs.Many.InText.{is_in_text}
 use Rattle.nr_reading.proofs.Interpolated.{lone, apart, font_behind, lone_met, pair_met}
 use Rattle.nr_reading.proofs.half.Half.meet_named.Goals as goal
 

@@ -5,7 +5,7 @@ use Rattle.nr_reading.specs.declared.event.Event.TheVariants as events
 use Rattle.nr_reading.specs.declared.front.Front.TheVariants as fronts
 use Rattle.nr_reading.specs.declared.half.Half.{Half}
 use Rattle.nr_reading.specs.declared.mode.Mode.TheVariants as modes
-use Rattle.nr_reading.specs.Runs.{HasMet}
+use Rattle.nr_reading.specs.Many.Runs.{HasMet}
 use Rattle.nr_reading.proofs.RequestLines.{line-at-hand}
 use Rattle.nr_reading.proofs.half.Half.meet_request_line.Goals.{in-RequestBlanks, in_default}
 use Rattle.nr_reading.proofs.half.Half.meet_request_line.Goals as goal

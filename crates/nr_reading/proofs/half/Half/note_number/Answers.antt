@@ -3,8 +3,8 @@ use Rattle.std.proofs.Common.{◌+◌, get_or, subst, map, refl, ap, ◌∙◌, 
 use Rattle.nr_reading.specs.declared.front.Front.TheVariants as fronts
 use Rattle.nr_reading.specs.declared.half.Half.{Half}
 use Rattle.nr_reading.specs.declared.mode.Mode.TheVariants as modes
-use Rattle.nr_reading.specs.KeptBytes.{are_in_number}
-use Rattle.nr_reading.specs.Rows.{LeadsOn}
+use Rattle.nr_reading.specs.Many.KeptBytes.{are_in_number}
+use Rattle.nr_reading.specs.Many.Rows.{LeadsOn}
 use Rattle.nr_reading.proofs.ConditionRows.{meet-number_byte}
 use Rattle.nr_reading.proofs.KeptBytes.{byte_more, in_number}
 use Rattle.nr_reading.proofs.half.Half.note_number.Goals as goal

@@ -2,9 +2,9 @@ use Rattle.std.specs.Prelude.{map, drop}
 use Rattle.std.proofs.Common.{◌≡◌, ◌+◌, ℕ, true}
 use Rattle.nr_reading.specs.declared.front.Front.TheVariants as fronts
 use Rattle.nr_reading.specs.declared.mode.Mode.TheVariants as modes
-use Rattle.nr_reading.specs.KeptBytes.{are_in_number}
+use Rattle.nr_reading.specs.Many.KeptBytes.{are_in_number}
 use Rattle.nr_reading.specs.Meeting.{reads_next}
-use Rattle.nr_reading.specs.Rows.{LeadsOn}
+use Rattle.nr_reading.specs.Many.Rows.{LeadsOn}
 use Rattle.nr_reading.proofs.half.Half.note_number.Given as goal
 
 abbrev pub invariant-loop-byte : goal.invariant-loop-byte

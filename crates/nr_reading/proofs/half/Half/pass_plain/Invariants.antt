@@ -1,4 +1,4 @@
-use Rattle.nr_reading.specs.Passing.{GoesOn}
+use Rattle.nr_reading.specs.Many.Passing.{GoesOn}
 use Rattle.nr_reading.proofs.half.Half.pass_plain.Given as goal
 
 abbrev pub invariant-loop-place : goal.invariant-loop-place

@@ -1,0 +1,170 @@
+use Rattle.std.proofs.Common.{◌≡◌, ◌+◌, ◌*◌, ◌<◌, true, length, take, refl, sym, ap, ◌∙◌, subst, arith}
+use Rattle.std.specs.Prelude.{slice_index}
+use Rattle.nr_formatter.specs.Many.Runs.{is_in_line, manner_of, run_put}
+use Rattle.nr_formatter.specs.declared.formatter.Formatter.{Formatter}
+use Rattle.nr_engine.specs.Many.Running.{PutsOfFlow, PutsText}
+use Rattle.nr_engine.proofs.TextAtHand.{index_rest, length_rest, rest_of, turn_flows, turn_gap, turn_line, turn_on, turn_run}
+use Rattle.nr_engine.proofs.CellBytes.{byte_on, turn_byte}
+use Rattle.nr_engine.proofs.LevelWords.{flow_byte, flow_flows, flow_gap, flow_run, none_of_flow}
+use Rattle.nr_engine.proofs.many.plain_text.put_line_words.Goals.{After-put_word-word, then-taken-bytes-via-then-taken-bytes, then-taken-bytes-via-else-taken-bytes+then-not-put_cell_byte}
+use Rattle.nr_engine.proofs.many.plain_text.put_line_words.Goals as goal
+
+-- the word, before the blank
+abbrev word_put : (c : After-put_word-word) → Formatter
+word_put c = run_put (take c.put_word-word.result.count (rest_of c.loop-formatter.taken c.args.bytes.now)) c.loop-formatter.formatter
+
+-- it was put
+run : (c : After-put_word-word)
+    → PutsText c.args.bytes.now (c.loop-formatter.taken + c.put_word-word.result.count) (c.loop-formatter.moves + 2 * c.put_word-word.result.count) c.args.formatter.now (word_put c)
+run c =
+    let now = c.loop-formatter.invariant in
+    let put = c.put_word-word.ensures in
+    turn_run c.loop-formatter.taken c.loop-formatter.moves c.put_word-word.result.count c.args.bytes.now c.args.formatter.now c.loop-formatter.formatter (word_put c)
+    now.puts now.line put.front put.plain refl put.within
+
+run_of_flow : (c : After-put_word-word)
+    → PutsOfFlow c.args.bytes.now (c.loop-formatter.taken + c.put_word-word.result.count) (c.loop-formatter.moves + 2 * c.put_word-word.result.count) c.args.formatter.now (word_put c)
+run_of_flow c =
+    let now = c.loop-formatter.invariant in
+    let put = c.put_word-word.ensures in
+    flow_run c.loop-formatter.taken c.loop-formatter.moves c.put_word-word.result.count c.args.bytes.now c.args.formatter.now c.loop-formatter.formatter (word_put c)
+    now.flow now.line put.front put.plain refl put.within
+
+-- in a line that has begun
+line : (c : After-put_word-word) → is_in_line (word_put c) ≡ true
+line c = turn_line (take c.put_word-word.result.count (rest_of c.loop-formatter.taken c.args.bytes.now)) c.loop-formatter.formatter (word_put c) c.loop-formatter.invariant.line refl
+
+-- a blank stands behind it
+blank : (c : After-put_word-word) → c.put_word-word.result.count < length (rest_of c.loop-formatter.taken c.args.bytes.now)
+    → slice_index (rest_of c.loop-formatter.taken c.args.bytes.now) c.put_word-word.result.count ≡ 32
+    → (c.loop-formatter.taken + c.put_word-word.result.count < length c.args.bytes.now) × (slice_index c.args.bytes.now (c.loop-formatter.taken + c.put_word-word.result.count) ≡ 32)
+blank c below is =
+    let t = c.loop-formatter.taken in
+    let bs = c.args.bytes.now in
+    (omega (arith, below, length_rest t bs), sym (index_rest t c.put_word-word.result.count bs below) ∙ is)
+
+pub loop-formatter-init : goal.loop-formatter-init
+loop-formatter-init c = record {
+  line = c.requires.line;
+  manner = c.manner-manner.ensures;
+  puts = record {
+    front = omega arith;
+    least = omega arith;
+    most = omega arith;
+    none = λ none. refl;
+    store = refl;
+    makes = λ e supply is has some. absurd (omega (arith, some));
+    saves = λ e supply is has some. absurd (omega (arith, some));
+  };
+  flow = none_of_flow c.args.bytes.now c.args.formatter.now;
+}
+
+pub loop-formatter-preserved : goal.loop-formatter-preserved
+loop-formatter-preserved c =
+    let h = (goal.at.loop-formatter-preserved c).After-put_word-word in
+    let n = c.put_word-word.result.count in
+    let t = c.loop-formatter.taken + n in
+    let m = c.loop-formatter.moves + 2 * n in
+    let bs = c.args.bytes.now in
+    let f = c.args.formatter.now in
+    let put = rw c.in-Reads.is at c.put_word-word.ensures in
+    let gap = put.gap in
+    let b = blank h (put.below refl) (put.blank refl) in
+    let g = c.put_word-word.new.self in
+    record {
+      line = turn_on t m bs f (word_put h) (run h) (line h) b.0 b.1 gap.0 g gap.2;
+      manner = c.loop-formatter.invariant.manner ∙ ap manner_of (sym gap.2);
+      puts = turn_gap t m bs f (word_put h) (run h) (line h) b.0 b.1 gap.0 g gap.1 gap.2;
+      flow = flow_gap t m bs f (word_put h) (run_of_flow h) (line h) b.0 b.1 gap.0 g gap.1 gap.2;
+    }
+
+pub put_cell_byte-requires : goal.put_cell_byte-requires
+put_cell_byte-requires c =
+    let h = (goal.at.put_cell_byte-requires c).After-put_word-word in
+    let put = rw c.in-Left.is at c.put_word-word.ensures in
+    ap is_in_line put.gap ∙ line h
+
+pub returns-then-taken-bytes-clause-puts : goal.returns-then-taken-bytes-clause-puts
+returns-then-taken-bytes-clause-puts c =
+    let h = (goal.at.returns-then-taken-bytes-clause-puts c).After-put_word-word in
+    let put = rw c.in-Left.is at c.put_word-word.ensures in
+    let n = c.put_word-word.result.count in
+    let t = c.loop-formatter.taken + n in
+    let m = c.loop-formatter.moves + 2 * n in
+    let bs = c.args.bytes.now in
+    let f = c.args.formatter.now in
+    let here : PutsText bs t m f c.put_word-word.new.self = subst (λ (x : Formatter). PutsText bs t m f x) (sym put.gap) (run h) in
+    elim c.then-taken-bytes.branch [
+      | then-taken-bytes-via-then-taken-bytes w ↦ subst (λ (x : Formatter). PutsText bs t m f x) (sym w.formatter-is) here
+      | then-taken-bytes-via-else-taken-bytes+then-not-put_cell_byte w ↦ subst (λ (x : Formatter). PutsText bs t m f x) (sym (w.formatter-is ∙ w.if-not-put_cell_byte.ensures)) here
+    ]
+
+pub loop-formatter-preserved-in-Left : goal.loop-formatter-preserved-in-Left
+loop-formatter-preserved-in-Left c =
+    let h = (goal.at.loop-formatter-preserved-in-Left c).After-put_word-word in
+    let put = rw c.in-Left.is at c.put_word-word.ensures in
+    let n = c.put_word-word.result.count in
+    let t = c.loop-formatter.taken + n in
+    let m = c.loop-formatter.moves + 2 * n in
+    let bs = c.args.bytes.now in
+    let f = c.args.formatter.now in
+    let g = c.put_word-word.new.self in
+    let new = c.put_cell_byte.new.self in
+    let cell = c.if-not-put_cell_byte.ensures in
+    let here : PutsText bs t m f g = subst (λ (x : Formatter). PutsText bs t m f x) (sym put.gap) (run h) in
+    let flow : PutsOfFlow bs t m f g = subst (λ (x : Formatter). PutsOfFlow bs t m f x) (sym put.gap) (run_of_flow h) in
+    let below : t < length bs = omega (arith, here.front, c.if-taken-bytes.false) in
+    record {
+      line = byte_on t m (slice_index bs t) bs f g here below refl cell.0 new cell.1;
+      manner = c.loop-formatter.invariant.manner ∙ ap manner_of (sym put.gap) ∙ ap manner_of (sym cell.1);
+      puts = turn_byte t m (slice_index bs t) bs f g here below refl cell.0 new cell.1;
+      flow = flow_byte t m (slice_index bs t) bs f g new flow below refl cell.0 cell.1;
+    }
+
+pub returns-in-Flows-clause-puts : goal.returns-in-Flows-clause-puts
+returns-in-Flows-clause-puts c =
+    let h = (goal.at.returns-in-Flows-clause-puts c).After-put_word-word in
+    let n = c.put_word-word.result.count in
+    let put = rw c.in-Flows.is at c.put_word-word.ensures in
+    let gap = put.gap in
+    let b = blank h (put.below refl) (put.blank refl) in
+    turn_flows (c.loop-formatter.taken + n) (c.loop-formatter.moves + 2 * n) c.args.bytes.now c.args.formatter.now (word_put h) (run h) (line h) b.0 b.1 gap.0 c.put_word-word.new.self gap.1
+
+pub returns-then-taken-bytes-2-clause-puts : goal.returns-then-taken-bytes-2-clause-puts
+returns-then-taken-bytes-2-clause-puts c =
+    let h = (goal.at.returns-then-taken-bytes-2-clause-puts c).After-put_word-word in
+    let put = rw c.in-Reads.is at c.put_word-word.ensures in
+    let b = blank h (put.below refl) (put.blank refl) in
+    turn_gap (c.loop-formatter.taken + c.put_word-word.result.count) (c.loop-formatter.moves + 2 * c.put_word-word.result.count) c.args.bytes.now c.args.formatter.now (word_put h) (run h) (line h)
+    b.0 b.1 put.gap.0 c.put_word-word.new.self put.gap.1 put.gap.2
+
+pub returns-then-taken-bytes-2-clause-flow : goal.returns-then-taken-bytes-2-clause-flow
+returns-then-taken-bytes-2-clause-flow c =
+    let h = (goal.at.returns-then-taken-bytes-2-clause-flow c).After-put_word-word in
+    let put = rw c.in-Reads.is at c.put_word-word.ensures in
+    let b = blank h (put.below refl) (put.blank refl) in
+    flow_gap (c.loop-formatter.taken + c.put_word-word.result.count) (c.loop-formatter.moves + 2 * c.put_word-word.result.count) c.args.bytes.now c.args.formatter.now (word_put h) (run_of_flow h) (line h)
+    b.0 b.1 put.gap.0 c.put_word-word.new.self put.gap.1 put.gap.2
+
+pub returns-in-Flows-clause-flow : goal.returns-in-Flows-clause-flow
+returns-in-Flows-clause-flow c =
+    let h = (goal.at.returns-in-Flows-clause-flow c).After-put_word-word in
+    let put = rw c.in-Flows.is at c.put_word-word.ensures in
+    let b = blank h (put.below refl) (put.blank refl) in
+    flow_flows (c.loop-formatter.taken + c.put_word-word.result.count) (c.loop-formatter.moves + 2 * c.put_word-word.result.count) c.args.bytes.now c.args.formatter.now (word_put h) (run_of_flow h) (line h)
+    b.0 b.1 put.gap.0 c.put_word-word.new.self put.gap.1
+
+pub returns-then-taken-bytes-clause-flow : goal.returns-then-taken-bytes-clause-flow
+returns-then-taken-bytes-clause-flow c =
+    let h = (goal.at.returns-then-taken-bytes-clause-flow c).After-put_word-word in
+    let put = rw c.in-Left.is at c.put_word-word.ensures in
+    let n = c.put_word-word.result.count in
+    let t = c.loop-formatter.taken + n in
+    let m = c.loop-formatter.moves + 2 * n in
+    let bs = c.args.bytes.now in
+    let f = c.args.formatter.now in
+    let here : PutsOfFlow bs t m f c.put_word-word.new.self = subst (λ (x : Formatter). PutsOfFlow bs t m f x) (sym put.gap) (run_of_flow h) in
+    elim c.then-taken-bytes.branch [
+      | then-taken-bytes-via-then-taken-bytes w ↦ subst (λ (x : Formatter). PutsOfFlow bs t m f x) (sym w.formatter-is) here
+      | then-taken-bytes-via-else-taken-bytes+then-not-put_cell_byte w ↦ subst (λ (x : Formatter). PutsOfFlow bs t m f x) (sym (w.formatter-is ∙ w.if-not-put_cell_byte.ensures)) here
+    ]

@@ -1,0 +1,88 @@
+//! Empty lines: many moves in one call.
+ghost use Rattle.std.specs.Prelude.{◌≡◌, ◌≢◌, ◌+◌, ◌-◌, ◌<◌, ◌≤◌, ◌^◌, true, [], length, take, replicate, slice_index};
+ghost use Rattle.nr_reading.specs.declared.event.Event.TheVariants as events;
+ghost use Rattle.nr_input.specs.Many.AtHand.{is_unseen};
+ghost use Rattle.nr_formatter.specs.Many.EmptyLines.{is_at_line};
+ghost use Rattle.nr_engine.specs.Many.EmptyLines.{NewlinesAtHand, WentDown};
+ghost use Rattle.nr_engine.specs.Holding.{shape};
+ghost use Rattle.nr_engine.specs.Many.Running.{MakesReading};
+
+use crate::engine::Engine;
+use nr_input::Event;
+use nr_units::source::Source;
+
+/// How many newlines these bytes begin with.
+fn count_newlines(bytes: &[u8]) -> usize
+    ensures front { result ≤ length bytes.now }
+    ensures newlines { take result bytes.now ≡ replicate result 10 }
+    ensures stops { result < length bytes.now → slice_index bytes.now result ≢ 10 }
+{
+    let mut count = 0;
+    for byte in bytes {
+        if *byte != b'\n' {
+            return count;
+        }
+        count += 1;
+    }
+    count
+}
+
+impl Engine {
+    /// How many newlines the source has at hand at the beginning of a line, as far as they are asked for.
+    fn newlines_next<R: Source>(&self, input: &R, most: usize) -> usize
+        ensures most { result ≤ most }
+        ensures next { NewlinesAtHand (R.at_hand input.now) result (shape self.now) (R.supply input.now) }
+        ensures longest { self.now.formatter.store.levels ≡ [] → is_unseen self.now.place.ahead ≡ true →
+            self.now.place.taken + length (R.at_hand input.now) < 2 ^ 40 → is_at_line self.now.formatter.reader.half ≡ true →
+            result < most → result < length (R.at_hand input.now) → slice_index (R.at_hand input.now) result ≢ 10 }
+    {
+        if !self.formatter.is_at_line() {
+            return 0;
+        }
+        let bytes = nr_input::window(&self.place, &self.formatter.store, input);
+        count_newlines(&bytes[..bytes.len().min(most)])
+    }
+
+    /// The empty line that was read goes down the open page, if it does nothing else, and so do those that the source has at
+    /// hand behind it, as far as there is room for them. Tells how many moves that was.
+    #[inline(never)]
+    fn put_empty_lines<R: Source>(&mut self, input: &mut R) -> u128
+        requires empty { self.old.formatter.event ≡ events.Empty }
+        ensures reads { MakesReading result (shape self.old) (shape self.new) (R.supply input.old) (R.supply input.new) (R.failures input.old) (R.failures input.new) }
+        ensures few { result < 2 ^ 66 }
+        ensures longest { self.old.formatter.store.levels ≡ [] → is_unseen self.old.place.ahead ≡ true →
+            self.old.place.taken + length (R.at_hand input.old) < 2 ^ 40 →
+            WentDown (R.at_hand input.old) (self.new.place.taken - self.old.place.taken) result self.old.formatter }
+    {
+        let lines = self.formatter.lines_below();
+        if lines == 0 {
+            return 0;
+        }
+        let count = self.newlines_next(input, (lines - 1) as usize);
+        self.formatter.go_down(count as u32 + 1);
+        if count == 0 {
+            return 3;
+        }
+        let reader = &mut self.formatter.reader;
+        nr_input::take_window(&mut self.place, reader, input, b'\n', count);
+        4 * count as u128 + 3
+    }
+
+    /// Items that lie in a row are read; where an empty line is told, it goes down with those behind it, as far as it does nothing
+    /// else, and where a request is told that only sets, it takes effect with those behind it. Tells how many moves that was.
+    #[inline(always)]
+    pub(crate) fn read_lines<R: Source>(&mut self, input: &mut R) -> u128
+        ensures reads { MakesReading result (shape self.old) (shape self.new) (R.supply input.old) (R.supply input.new) (R.failures input.old) (R.failures input.new) }
+        ensures few { result < 2 ^ 67 }
+    {
+        if self.formatter.store.is_reading() {
+            return self.read_levels();
+        }
+        let run = self.read_source(input);
+        match self.formatter.event {
+            Event::Empty => run + self.put_empty_lines(input),
+            Event::Request => run + self.obey_lines(input),
+            _ => run,
+        }
+    }
+}

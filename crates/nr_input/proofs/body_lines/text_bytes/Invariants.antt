@@ -1,8 +1,0 @@
-use Rattle.std.proofs.Common.{All, take}
-use Rattle.nr_reading.specs.InArgument.{IsPlain}
-use Rattle.nr_input.proofs.body_lines.text_bytes.Given as goal
-
-abbrev pub invariant-loop-place : goal.invariant-loop-place
-invariant-loop-place l = record {
-  plain : All (IsPlain 10) (take l.place l.bytes);
-}

@@ -1,0 +1,160 @@
+//! Many moves over items that lie in a row.
+ghost use Rattle.std.specs.Prelude.{◌≡◌, ℕ, ◌<◌, ◌≤◌, [], length, map, slice_get, nat_lt, true, false, Option, None, Some, IfSome};
+ghost use Rattle.nr_units.specs.Supply.{Supply};
+ghost use Rattle.nr_reading.specs.declared.event.Event.TheVariants as events;
+ghost use Rattle.nr_reading.specs.declared.front.Front.TheVariants as variants;
+ghost use Rattle.nr_reading.specs.declared.mode.Due.TheVariants as dues;
+ghost use Rattle.nr_reading.specs.Many.Runs.{HasMet, spot};
+ghost use Rattle.nr_store.specs.Windows.{elements_in};
+ghost use Rattle.nr_input.specs.Many.AtHand.{is_unseen};
+ghost use Rattle.nr_input.specs.Coming.{Coming, Reached, HoldsComing, element_front, has_failed};
+ghost use Rattle.nr_input.specs.Limits.{limits_of};
+ghost use Rattle.nr_input.specs.Moving.{situation};
+ghost use Rattle.nr_input.specs.Many.Rows.{byte_fronts, element_fronts};
+ghost use Rattle.nr_input.specs.Many.Runs.{HasRead, PaysAll, IsLongest, IsLongestInLevel};
+
+use crate::many::adding::{add_from_level, add_from_source};
+use crate::many::at_hand::window;
+use crate::many::target::Target;
+use crate::place::Place;
+use crate::reader::Reader;
+use nr_reading::{Half, Items, Run};
+use nr_store::{Element, Rest, Store};
+use nr_units::source::Source;
+
+/// Bytes in a row.
+#[derive(Clone, Copy)]
+pub(crate) struct ByteRow<'a>(pub(crate) &'a [u8]);
+
+/// Elements of a text in a row.
+#[derive(Clone, Copy)]
+pub(crate) struct ElementRow<'a>(pub(crate) &'a [Element]);
+
+impl<'a> Items for ByteRow<'a> {
+    ghost fronts = { byte_fronts };
+
+    #[inline(always)]
+    fn count(&self) -> usize {
+        self.0.len()
+    }
+
+    #[inline(always)]
+    fn byte(&self, n: usize) -> Option<u8> {
+        Some(self.0[n])
+    }
+}
+
+impl<'a> Items for ElementRow<'a> {
+    ghost fronts = { element_fronts };
+
+    #[inline(always)]
+    fn count(&self) -> usize {
+        self.0.len()
+    }
+
+    #[inline(always)]
+    fn byte(&self, n: usize) -> Option<u8> {
+        match self.0[n] {
+            Element::Byte(byte) => Some(byte),
+            _ => None,
+        }
+    }
+}
+
+// What is left of a level is met, as `Half::meet_run` says.
+#[inline(always)]
+fn meet_level(half: &mut Half, rest: Rest<'_>) -> Run
+    ensures met { HasMet result.moves (map element_front (elements_in rest.entry)) half.old (spot result half.new) }
+    ensures few { result.moves ≤ 65536 }
+    ensures longest { result.event ≡ events.Nothing → half.new.reading.due ≡ dues.Look → result.moves < 65536
+        → (byte : ℕ) → slice_get (map element_front (elements_in rest.entry)) result.taken ≡ Some (variants.Byte byte) → ⊥ }
+{
+    match rest {
+        Rest::Text(elements) => half.meet_run(&ElementRow(elements)),
+        Rest::Bytes(bytes) => half.meet_run(&ByteRow(bytes)),
+    }
+}
+
+/// The items of the newest level are read.
+#[inline(always)]
+pub(crate) fn read_level<K: Copy>(reader: &mut Reader, store: &mut Store<K>) -> Run
+    ensures read { (c : Coming) (p : Reached) (supply : Option Supply) → HoldsComing c p supply → HasRead result.moves (situation store.old c reader.old) result.event store.new reader.new p supply }
+    ensures pays { (p : Reached) → PaysAll result.moves store.old p reader.old result.event store.new p reader.new }
+    ensures few { result.moves ≤ 65536 }
+    ensures within { result.taken ≤ 65536 }
+    ensures limits { limits_of store.new reader.new ≡ limits_of store.old reader.old }
+    ensures longest { IsLongestInLevel result.moves store.old reader.old result.event store.new reader.new }
+{
+    let run = meet_level(&mut reader.half, store.rest());
+    store.skip(run.taken as u32);
+    run
+}
+
+/// The bytes that the source has at hand are read, where nothing else comes first.
+#[inline(always)]
+pub(crate) fn read_source<K: Copy, R: Source>(
+    place: &mut Place,
+    reader: &mut Reader,
+    store: &Store<K>,
+    source: &mut R,
+) -> Run
+    ensures read { (c : Coming) → HoldsComing c place.old (R.supply source.old) → HasRead result.moves (situation store.now c reader.old) result.event store.now reader.new place.new (R.supply source.new) }
+    ensures pays { PaysAll result.moves store.now place.old reader.old result.event store.now place.new reader.new }
+    ensures few { result.moves ≤ 65536 }
+    ensures limits { limits_of store.now reader.new ≡ limits_of store.now reader.old }
+    ensures longest { store.now.levels ≡ [] → is_unseen place.old.ahead ≡ true → IsLongest (R.at_hand source.old) result.moves place.old reader.old result.event store.now place.new reader.new }
+    ensures failures { R.failures source.new ≡ R.failures source.old }
+    ensures unfailed { has_failed place.old.ahead ≡ false → has_failed place.new.ahead ≡ false }
+{
+    let bytes = window(place, store, source);
+    let run = reader.half.meet_run(&ByteRow(bytes));
+    if run.taken == 0 {
+        return run;
+    }
+    place.pass_run(bytes[run.taken - 1], run.taken);
+    source.skip(run.taken);
+    reader.burst = 0;
+    run
+}
+
+/// As `read_run`, of the newest level.
+#[inline(always)]
+pub(crate) fn read_run_of_level<K: Copy>(reader: &mut Reader, store: &mut Store<K>) -> Run
+    ensures read { (c : Coming) (p : Reached) (supply : Option Supply) → HoldsComing c p supply → HasRead result.moves (situation store.old c reader.old) result.event store.new reader.new p supply }
+    ensures pays { (p : Reached) → PaysAll result.moves store.old p reader.old result.event store.new p reader.new }
+    ensures few { result.moves ≤ 65536 }
+    ensures limits { limits_of store.new reader.new ≡ limits_of store.old reader.old }
+    ensures longest { IsLongestInLevel result.moves store.old reader.old result.event store.new reader.new }
+{
+    match Target::of(&reader.half) {
+        Some(Target::Argument) => add_from_level(reader, store),
+        _ => read_level(reader, store),
+    }
+}
+
+/// Items that lie in a row are read, many moves at once: up to the first that tells something or behind which something
+/// is due, and none where an item has to be looked at alone.
+#[inline(always)]
+pub fn read_run<K: Copy, R: Source>(
+    place: &mut Place,
+    reader: &mut Reader,
+    store: &mut Store<K>,
+    source: &mut R,
+) -> Run
+    ensures read { (c : Coming) → HoldsComing c place.old (R.supply source.old) → HasRead result.moves (situation store.old c reader.old) result.event store.new reader.new place.new (R.supply source.new) }
+    ensures pays { PaysAll result.moves store.old place.old reader.old result.event store.new place.new reader.new }
+    ensures few { result.moves ≤ 65536 }
+    ensures limits { limits_of store.new reader.new ≡ limits_of store.old reader.old }
+    ensures longest { store.old.levels ≡ [] → is_unseen place.old.ahead ≡ true → IsLongest (R.at_hand source.old) result.moves place.old reader.old result.event store.new place.new reader.new }
+    ensures longest_in_level { nat_lt 0 (length store.old.levels) ≡ true → IsLongestInLevel result.moves store.old reader.old result.event store.new reader.new }
+    ensures failures { R.failures source.new ≡ R.failures source.old }
+    ensures unfailed { has_failed place.old.ahead ≡ false → has_failed place.new.ahead ≡ false }
+{
+    if store.is_reading() {
+        return read_run_of_level(reader, store);
+    }
+    match Target::of(&reader.half) {
+        Some(target) => add_from_source(target, place, reader, store, source),
+        None => read_source(place, reader, store, source),
+    }
+}

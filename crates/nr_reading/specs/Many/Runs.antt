@@ -1,0 +1,51 @@
+-- Many items met one after another.
+use Rattle.std.specs.Prelude.{◌≡◌, ℕ, zero, suc, ◌+◌, ◌-◌, ◌*◌, ◌<◌, ◌≤◌, Bool, true, false, List, length, slice_get, Option, None, Some}
+use Rattle.nr_reading.specs.declared.event.Event.{Event}
+use Rattle.nr_reading.specs.declared.event.Event.TheVariants as events
+use Rattle.nr_reading.specs.declared.front.Front.{Front}
+use Rattle.nr_reading.specs.declared.half.Half.{Half}
+use Rattle.nr_reading.specs.declared.mode.Due.TheVariants as dues
+use Rattle.nr_reading.specs.declared.many.runs.Run.{Run}
+use Rattle.nr_reading.specs.Meeting.{Met, meet}
+use Rattle.nr_reading.specs.Weights.{weight_of_half, cost_of_event, blanks_owed, is_lead}
+
+-- where many moves have come in a row of items: how many were taken, what is half read behind them, and what the last told
+pub record Spot : Type 0 where
+  pub taken : ℕ
+  pub half : Half
+  pub event : Event
+
+-- the same, as the program has it
+abbrev pub spot : Run → Half → Spot
+spot r h = record { taken = r.taken; half = h; event = r.event }
+
+abbrev pub one_if : Bool → ℕ
+one_if true = 1
+one_if false = 0
+
+abbrev pub behind_met : Met → ℕ → Spot
+behind_met m taken = record { taken = taken + one_if m.takes; half = m.half; event = m.event }
+
+-- the item in front, if there is one, has met what is half read
+abbrev pub behind : Option Front → Spot → Spot
+behind None p = p
+behind (Some f) p = behind_met (meet f p.half) p.taken
+
+-- after n moves
+abbrev pub spot_after : ℕ → List Front → Half → Spot
+spot_after zero fs h = record { taken = 0; half = h; event = events.Nothing }
+spot_after (suc n) fs h = behind (slice_get fs (spot_after n fs h).taken) (spot_after n fs h)
+
+-- one more may be made: there is an item, nothing is due, and nothing was told
+pub record MayGoOn (fs : List Front) (p : Spot) : Type 0 where
+  pub some : p.taken < length fs
+  pub due : p.half.reading.due ≡ dues.Look
+  pub event : p.event ≡ events.Nothing
+
+-- n moves were made, which only took items of the row, and all but the last told nothing; each is paid
+pub record HasMet (n : ℕ) (fs : List Front) (h : Half) (p : Spot) : Type 0 where
+  pub leads : spot_after n fs h ≡ p
+  pub goes : (k : ℕ) → k < n → MayGoOn fs (spot_after k fs h)
+  pub within : p.taken ≤ length fs
+  pub pays : weight_of_half p.half + cost_of_event p.event + n + 178 * (blanks_owed p.half - blanks_owed h) ≤ weight_of_half h + 256 * p.taken + 1
+  pub tells : is_lead p.event ≡ false
