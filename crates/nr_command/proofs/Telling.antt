@@ -2,7 +2,7 @@
 use Rattle.std.proofs.Common.{ℕ, List, ◌++◌, Option, Result, Ok, Err, OnOk, OnErr}
 use Rattle.std.specs.Io.KnownBytes.{Appends}
 use Rattle.std.proofs.KnownBytes.{Appends-trans}
-use Rattle.nr_units.specs.Held.{AppendsFront}
+use Rattle.nr_units.specs.Sink.{AppendsFront}
 use Rattle.nr_units.proofs.Fronts.{AppendsFront-after}
 
 -- what holds anyhow holds at an error

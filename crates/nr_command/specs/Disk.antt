@@ -1,7 +1,7 @@
 -- The texts of the system.
 use Rattle.std.specs.Prelude.{◌≡◌, ℕ, ◌<◌, List, [], ◌∷◌, length, Option, Result, Ok, Err, IfOk, ◌⊎◌, ⊤}
-use Rattle.nr_units.specs.Supply.{reader_supply}
-use Rattle.nr_words.specs.Inputs.{Reading, ReadsMacros, ReadsFile, ReadsStandard, macro_path}
+use Rattle.nr_units.specs.Source.{reader_supply}
+use Rattle.nr_command_options.specs.Inputs.{Reading, ReadsMacros, ReadsFile, ReadsStandard, macro_path}
 use Rattle.nr_command.specs.Opening.{Opening, Opens, Asks}
 use Rattle.nr_command.specs.declared.disk.Text.{Text}
 use Rattle.nr_command.specs.declared.disk.Text.TheVariants.{File, Standard}

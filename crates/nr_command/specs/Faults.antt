@@ -2,7 +2,7 @@
 use Rattle.std.specs.Prelude.{◌≡◌, ℕ, List, [], ◌++◌, true, Option, ◌⊎◌, codes, decimal}
 use Rattle.std.specs.Io.KnownBytes.{Appends}
 use Rattle.nr_units.specs.Failures.{SinkFailures, put_counted_if}
-use Rattle.nr_units.specs.Held.{AppendsFront}
+use Rattle.nr_units.specs.Sink.{AppendsFront}
 use Rattle.nr_engine.specs.declared.outcome.Measure.{Measure}
 use Rattle.nr_engine.specs.declared.outcome.Measure.TheVariants.{Stored, Depth, LineCells, PageCells, Expansions}
 use Rattle.nr_engine.specs.declared.outcome.Outcome.{Outcome}

@@ -1,5 +1,5 @@
 pub mod Disk
 pub mod Faults
-pub mod Jobs
+pub mod Program
 pub mod Opening
 pub mod Running

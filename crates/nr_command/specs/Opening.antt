@@ -1,8 +1,8 @@
 -- Texts that are opened, and one that can't be.
 use Rattle.std.specs.Prelude.{◌≡◌, ℕ, List, [], ◌∷◌, ◌++◌, Option, None, Some, Result, Ok, Err, ⊤, codes}
 use Rattle.std.specs.List.{AllZip}
-use Rattle.nr_units.specs.Supply.{Supply}
-use Rattle.nr_words.specs.Inputs.{Reading, ReadsMacros, ReadsFile, ReadsStandard, macro_path}
+use Rattle.nr_units.specs.Source.{Supply}
+use Rattle.nr_command_options.specs.Inputs.{Reading, ReadsMacros, ReadsFile, ReadsStandard, macro_path}
 
 -- what comes of opening a text: it is open and about to give this, where that is known, or it can't be opened
 pub data Opening : Type 0 where

@@ -4,8 +4,8 @@ ghost use Rattle.nr_command.specs.Opening.{Asks};
 
 use super::opening::Opener;
 use arrayvec::ArrayString;
+use nr_command_options::Input;
 use nr_engine::Buffered;
-use nr_words::Input;
 use std::fmt::Write;
 use std::io::{ErrorKind, Read};
 use std::rt::Files;
@@ -83,7 +83,7 @@ pub struct Disk<P, I> {
 
 impl<P: Paths, I: Read + Copy + Drop> Disk<P, I> {
     ghost use Rattle.std.specs.Prelude.{◌≡◌, IfOk};
-    ghost use Rattle.nr_words.specs.Inputs.{reading_of};
+    ghost use Rattle.nr_command_options.specs.Inputs.{reading_of};
     ghost use Rattle.nr_command.specs.Disk.{AsksPath, IsFile, IsText};
 
     /// These files, and this for each time that standard input is read.

@@ -2,7 +2,7 @@
 ghost use Rattle.std.specs.Prelude.{◌≡◌, OnOk, OnErr, IsOk};
 ghost use Rattle.std.specs.Io.KnownBytes.{Appends};
 ghost use Rattle.nr_units.specs.Failures.{put_counted};
-ghost use Rattle.nr_units.specs.Held.{AppendsFront};
+ghost use Rattle.nr_units.specs.Sink.{AppendsFront};
 ghost use Rattle.nr_command.specs.Faults.{limited_text, line_of, place_text};
 
 use itoa::Buffer;

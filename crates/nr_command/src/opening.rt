@@ -2,15 +2,15 @@
 ghost use Rattle.std.specs.Prelude.{◌≡◌, ℕ, List, [], ◌∷◌, Option, map, length, IfOk, IfErr, OnOk, OnErr};
 ghost use Rattle.std.specs.Io.KnownBytes.{Appends};
 ghost use Rattle.nr_units.specs.Failures.{counted_if, put_counted};
-ghost use Rattle.nr_units.specs.Held.{AppendsFront};
-ghost use Rattle.nr_words.specs.Inputs.{Reading, macro_path, readings, reading_of};
-ghost use Rattle.nr_words.specs.Taking.{asked_of};
+ghost use Rattle.nr_units.specs.Sink.{AppendsFront};
+ghost use Rattle.nr_command_options.specs.Inputs.{Reading, macro_path, readings, reading_of};
+ghost use Rattle.nr_command_options.specs.Job.{asked_of};
 ghost use Rattle.nr_command.specs.Opening.{AreOpen, Asks, Opening, name_of, opening_of, unopened_text};
-ghost use Rattle.nr_command.specs.Jobs.{IsRefused, lacks_memory};
+ghost use Rattle.nr_command.specs.Program.{IsRefused, lacks_memory};
 
 use super::memory::Memory;
+use nr_command_options::{Input, Job};
 use nr_engine::{Fault, Sink, Source, WriteFault};
-use nr_words::{Input, Job};
 use std::alloc::AllocError;
 use std::{fmt, io};
 use thiserror::Error;

@@ -2,20 +2,20 @@
 ghost use Rattle.std.specs.Prelude.{◌≡◌, ◌≢◌, ◌==◌, Ok, Err, IfOk, IfErr, OnErr, IsTrue, List, ℕ, map, string_bytes};
 ghost use Rattle.nr_units.specs.Failures.{counted_if};
 ghost use Rattle.nr_engine.specs.declared.outcome.Outcome.{Outcome};
-ghost use Rattle.nr_words.specs.declared.job.Job.{Job};
-ghost use Rattle.nr_words.specs.Taking.{asked_of, texts};
-ghost use Rattle.nr_words.specs.UsageLine.{usage_text};
-ghost use Rattle.nr_words.specs.Words.{Complaint, IsAnswer};
+ghost use Rattle.nr_command_options.specs.declared.job.Job.{Job};
+ghost use Rattle.nr_command_options.specs.Job.{asked_of, texts};
+ghost use Rattle.nr_command_options.specs.Usage.{usage_text};
+ghost use Rattle.nr_command_options.specs.Words.{Complaint, IsAnswer};
 ghost use Rattle.nr_command.specs.Faults.{Tells};
-ghost use Rattle.nr_command.specs.Jobs.{Comes, Ends, lacks_memory, line_of_end, status_of_end};
+ghost use Rattle.nr_command.specs.Program.{Comes, Ends, lacks_memory, line_of_end, status_of_end};
 
 use super::disk::{Disk, Tree};
 use super::memory::{Heap, Memory};
 use super::opening::{BUFFER_SIZE, NotRun, Opener, open_texts, text_count, unopened_line};
 use super::running::{out_of_memory, run_desk, tell};
 use nr_command_line::{SystemWords, words_of};
+use nr_command_options::{Job, Usage, chain, read_words, usage_line};
 use nr_engine::{Outcome, Sink, ToWriter};
-use nr_words::{Job, Usage, chain, read_words, usage_line};
 use std::alloc::{AllocError, Global};
 use std::io::{BufWriter, Read, Write};
 use std::rt::{Env, Files};

@@ -1,9 +1,9 @@
 // The lines that tell how a run ended, or why there was none, byte for byte; and the error that tells the same.
 
 use nr_command::{NotRun, fault_line, unopened_line};
+use nr_command_options::{Input, MacroFile};
 use nr_engine::{Measure, Outcome};
 use nr_units::fakes::Slate;
-use nr_words::{Input, MacroFile};
 use std::alloc::AllocError;
 use std::test::Fail;
 

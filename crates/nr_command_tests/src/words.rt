@@ -4,9 +4,9 @@ ghost use Rattle.nr_units.specs.Failures.{counted as counted_value};
 
 use nr_command::{Heap, Memory, Opener, run_words};
 use nr_command_line::fakes::Page;
+use nr_command_options::{Input, MacroFile};
 use nr_engine::{Buffered, Desk, Limits, ToWriter};
 use nr_units::source::next_count;
-use nr_words::{Input, MacroFile};
 use std::alloc::{AllocError, Global};
 use std::io;
 use std::io::ErrorKind;

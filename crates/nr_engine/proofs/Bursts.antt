@@ -1,13 +1,13 @@
 -- A move that reads is made only where the splices stay within their limit.
 use Rattle.std.proofs.Common.{◌≡◌, ℕ, ◌≤◌, Bool, true, false, if◌then◌else◌, Ok, refl, arith}
-use Rattle.nr_store.specs.Stored.{Stored}
-use Rattle.nr_reading.specs.Meeting.{Met}
+use Rattle.nr_store.specs.Store.{Stored}
+use Rattle.nr_reading.specs.Half.{Met}
 use Rattle.nr_reading.specs.declared.ask.Sign.TheVariants as signs
 use Rattle.nr_reading.specs.declared.mode.Due.{Due}
 use Rattle.nr_reading.specs.declared.mode.Due.TheVariants as dues
 use Rattle.nr_input.specs.declared.reader.Reader.{Reader}
 use Rattle.nr_input.specs.Acting.{act, expanded, idle, has_text, name_in}
-use Rattle.nr_input.specs.Refusals.{answer, splicing_answer}
+use Rattle.nr_input.specs.Refusal.{answer, splicing_answer}
 use Rattle.nr_input.specs.Moving.{Situation, met_at, look, move, acted_at, looks, Goes, GoesBy}
 use Rattle.nr_input.proofs.Spending.{splicing-fits}
 

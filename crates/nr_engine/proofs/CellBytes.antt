@@ -2,12 +2,12 @@
 use Rattle.std.proofs.Common.{◌≡◌, ℕ, ◌+◌, ◌<◌, ◌≤◌, true, false, List, [], ◌∷◌, length, drop, Option, refl, sym, ap, ◌∙◌, subst, arith}
 use Rattle.std.specs.Prelude.{◌==◌, slice_index}
 use Rattle.std.specs.Option.{option_map}
-use Rattle.nr_units.specs.Supply.{Supply, skipped}
-use Rattle.nr_fill.specs.Pieces.{line_cells}
+use Rattle.nr_units.specs.Source.{Supply, skipped}
+use Rattle.nr_fill.specs.Piece.{line_cells}
 use Rattle.nr_reading.specs.declared.event.Event.TheVariants as events
 use Rattle.nr_reading.proofs.InText.{in_text}
 use Rattle.nr_input.specs.Many.AtHand.{ComeNext}
-use Rattle.nr_input.specs.Coming.{Coming, HoldsComing}
+use Rattle.nr_input.specs.Place.{Coming, HoldsComing}
 use Rattle.nr_input.specs.Many.Runs.{passed_run}
 use Rattle.nr_input.specs.Weights.{expansions_worth}
 use Rattle.nr_formatter.specs.Many.CellBytes.{IsCellByte, byte_added, byte_put, goes_to_word}
@@ -19,7 +19,7 @@ use Rattle.nr_formatter.proofs.PlainText.{in_line}
 use Rattle.nr_engine.specs.State.{State}
 use Rattle.nr_engine.specs.Machine.{step}
 use Rattle.nr_engine.specs.Measures.{IsWithin}
-use Rattle.nr_engine.specs.Answer.{Goes}
+use Rattle.nr_engine.specs.Run.{Goes}
 use Rattle.nr_engine.specs.Holding.{Made, Shape, Stands, at}
 use Rattle.nr_engine.specs.Many.Running.{Makes, PutsText, Saves, unburst}
 use Rattle.nr_engine.proofs.Gliding.{Glides, glides_heard, made_of, told}

@@ -4,13 +4,13 @@ use Rattle.std.specs.Prelude.{ℤ, ◌==◌, if◌then◌else◌}
 use Rattle.std.specs.Prelude.{map, drop, get_or}
 use Rattle.std.proofs.lemmas.List.{drop_more, drop_all}
 use Rattle.std.proofs.KnownBytes.{Keeps-refl}
-use Rattle.nr_units.specs.Supply.{Supply}
-use Rattle.nr_tables.specs.Named.{Named, find}
+use Rattle.nr_units.specs.Source.{Supply}
+use Rattle.nr_symbol_tables.specs.Table.{Named, find}
 use Rattle.nr_store.specs.declared.register.Register.{Register as Numbered}
-use Rattle.nr_store.specs.Stored.{charge_of, is_held, written, set_to, register_of}
-use Rattle.nr_fill.specs.Pieces.{line_cells}
+use Rattle.nr_store.specs.Store.{charge_of, is_held, written, set_to, register_of}
+use Rattle.nr_fill.specs.Piece.{line_cells}
 use Rattle.nr_formatter.specs.Access.{collected}
-use Rattle.nr_input.specs.Coming.{Reached}
+use Rattle.nr_input.specs.Place.{Reached}
 use Rattle.nr_formatter.specs.Limits as formatter
 use Rattle.nr_formatter.specs.Weights.{weight, owed, steps_left}
 use Rattle.nr_formatter.specs.Registers.{register_set_by}
@@ -19,7 +19,7 @@ use Rattle.nr_formatter.specs.declared.given.GivenRegister.TheVariants as given
 use Rattle.nr_engine.specs.State.{State, Choice, First, Register}
 use Rattle.nr_engine.specs.Machine.{step, state_after, choose, choose_or}
 use Rattle.nr_engine.specs.Measures.{IsWithin, passed}
-use Rattle.nr_engine.specs.Answer.{Works as WorksKind, kind, kind_of, Goes, GoesBy, PassesBy, Stops, place_by}
+use Rattle.nr_engine.specs.Run.{Works as WorksKind, kind, kind_of, Goes, GoesBy, PassesBy, Stops, place_by}
 use Rattle.nr_engine.specs.Holding.{Shape, Holds, Made, Halts}
 use Rattle.nr_engine.specs.Many.Running.{Chooses, StaysLight}
 use Rattle.nr_engine.specs.declared.outcome.Measure.TheVariants.{Stored}

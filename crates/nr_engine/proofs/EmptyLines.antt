@@ -2,14 +2,14 @@
 use Rattle.std.proofs.Common.{◌≡◌, ℕ, zero, suc, ◌+◌, ◌*◌, ◌<◌, ◌≤◌, ◌^◌, true, false, List, [], ◌∷◌, length, take, drop, replicate, Option, None, refl, sym, ap, ◌∙◌, subst, arith}
 use Rattle.std.specs.Prelude.{◌==◌}
 use Rattle.std.proofs.lemmas.Bool.{eqb-false, lt-ltb, ne_eqb}
-use Rattle.nr_units.specs.Supply.{Faults, MayGive, Supply, later}
+use Rattle.nr_units.specs.Source.{Faults, MayGive, Supply, later}
 use Rattle.nr_reading.specs.declared.event.Event.{Event}
 use Rattle.nr_reading.specs.declared.event.Event.TheVariants as events
 use Rattle.nr_reading.specs.declared.front.Front.TheVariants as fronts
 use Rattle.nr_reading.specs.declared.half.Half.{Half}
-use Rattle.nr_reading.specs.Meeting.{meet}
+use Rattle.nr_reading.specs.Half.{meet}
 use Rattle.nr_input.specs.Many.AtHand.{ComeNext, behind_last}
-use Rattle.nr_input.specs.Coming.{Coming, HoldsComing, front}
+use Rattle.nr_input.specs.Place.{Coming, HoldsComing, front}
 use Rattle.nr_input.specs.Moving.{met_at, situation}
 use Rattle.nr_input.specs.Moving.{move as input_move}
 use Rattle.nr_input.specs.Moving as input
@@ -17,7 +17,7 @@ use Rattle.nr_input.specs.Many.Runs.{passed_run}
 use Rattle.nr_input.specs.Weights.{expansions_worth}
 use Rattle.nr_input.specs.declared.reader.Reader.{Reader}
 use Rattle.nr_input.specs.declared.told.Told.TheVariants as tells
-use Rattle.nr_store.specs.Stored.{shown}
+use Rattle.nr_store.specs.Store.{shown}
 use Rattle.nr_formatter.specs.Access.{spacing}
 use Rattle.nr_formatter.specs.Many.EmptyLines.{IsAtLine, gone_down}
 use Rattle.nr_formatter.specs.Lines.{break_done}
@@ -32,7 +32,7 @@ use Rattle.nr_formatter.proofs.EmptyLines.{GoesDown, HasRoom, at_line, falls_gon
 use Rattle.nr_engine.specs.State.{State, plainly}
 use Rattle.nr_engine.specs.Machine.{situation_of, step, with_situation, work}
 use Rattle.nr_engine.specs.Measures.{IsWithin}
-use Rattle.nr_engine.specs.Answer.{Goes, GoesBy}
+use Rattle.nr_engine.specs.Run.{Goes, GoesBy}
 use Rattle.nr_engine.specs.Many.EmptyLines.{NewlinesNext}
 use Rattle.nr_engine.specs.Holding.{Holds, Made, Shape, Stands, at, weight, worth}
 use Rattle.nr_engine.specs.Many.Running.{Makes, unburst}

@@ -1,9 +1,9 @@
 -- Bytes that come of levels in a text line that has begun, with the moves that lead to each.
 use Rattle.std.proofs.Common.{◌≡◌, ℕ, ◌+◌, ◌≤◌, true, List, [], ◌∷◌, ◌++◌, length, drop, refl, sym, ap, ◌∙◌, subst, arith}
 use Rattle.std.proofs.lemmas.List.Sums.{sum_by-cons}
-use Rattle.nr_fill.specs.Pieces.{line_cells}
+use Rattle.nr_fill.specs.Piece.{line_cells}
 use Rattle.nr_store.specs.Laws.{left_times-run}
-use Rattle.nr_store.specs.Stored.{Level, Mark, Read, Stored, charge_of, left, level_charge, shown}
+use Rattle.nr_store.specs.Store.{Level, Mark, Read, Stored, charge_of, left, level_charge, shown}
 use Rattle.nr_store.specs.Windows.{levels_behind, run_left}
 use Rattle.nr_store.specs.declared.element.Element.TheVariants as elements
 use Rattle.nr_store.specs.declared.shown.Shown.TheVariants as shows

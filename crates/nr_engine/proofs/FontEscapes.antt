@@ -4,8 +4,8 @@ use Rattle.std.specs.Prelude.{◌&&◌, is_none, map, not, slice_index}
 use Rattle.std.specs.Option.{option_map}
 use Rattle.std.proofs.lemmas.Bool.{and_parts, not-true}
 use Rattle.std.proofs.lemmas.List.{length-map}
-use Rattle.nr_units.specs.Supply.{Skips, Supply, skipped}
-use Rattle.nr_fill.specs.Pieces.{begins_line}
+use Rattle.nr_units.specs.Source.{Skips, Supply, skipped}
+use Rattle.nr_fill.specs.Piece.{begins_line}
 use Rattle.nr_reading.specs.declared.event.Event.{Event}
 use Rattle.nr_reading.specs.declared.event.Event.TheVariants as events
 use Rattle.nr_reading.specs.declared.front.Front.TheVariants as fronts
@@ -16,7 +16,7 @@ use Rattle.nr_reading.specs.Many.Interpolations.{interpolates}
 use Rattle.nr_reading.specs.Many.LineBeginnings.{is_at_text as reads_text}
 use Rattle.nr_reading.specs.Many.Runs.{HasMet, spot}
 use Rattle.nr_reading.proofs.InText.{in_text}
-use Rattle.nr_input.specs.Coming.{Coming, HoldsComing, Reached}
+use Rattle.nr_input.specs.Place.{Coming, HoldsComing, Reached}
 use Rattle.nr_input.specs.Moving.{situation}
 use Rattle.nr_input.specs.Many.Runs.{HasRead, PaysMany, passed_run}
 use Rattle.nr_input.specs.declared.reader.Reader.{Reader}

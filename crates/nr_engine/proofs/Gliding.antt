@@ -1,7 +1,7 @@
 -- Many moves, and a byte that was read and is heard: as a cell of the word, or as the blank behind it.
 use Rattle.std.proofs.Common.{◌≡◌, ℕ, ◌+◌, Bool, true, false, [], ◌∷◌, Option, None, refl, sym, ap, ◌∙◌, subst, arith}
 use Rattle.std.specs.Prelude.{if◌then◌else◌}
-use Rattle.nr_fill.specs.Pieces.{is_nil}
+use Rattle.nr_fill.specs.Piece.{is_nil}
 use Rattle.nr_fill.specs.Runs.{IsPlain}
 use Rattle.nr_reading.specs.declared.event.Event.TheVariants as events
 use Rattle.nr_reading.specs.Many.InText.{IsInText}
@@ -17,7 +17,7 @@ use Rattle.nr_formatter.proofs.PlainText.{EndsWord, ends_word, heard-gap, heard-
 use Rattle.nr_engine.specs.State.{State, plainly}
 use Rattle.nr_engine.specs.Machine.{step, state_after, put_or}
 use Rattle.nr_engine.specs.Measures.{IsWithin, passed}
-use Rattle.nr_engine.specs.Answer.{Goes, GoesBy, Runs, Works, kind}
+use Rattle.nr_engine.specs.Run.{Goes, GoesBy, Runs, Works, kind}
 use Rattle.nr_engine.proofs.Measured.{passed_none}
 use Rattle.nr_engine.proofs.NextMoves.{step-hear, kind-hear, step-work, kind-work}
 use Rattle.nr_engine.proofs.Standing.{state_after-add, runs-add}

@@ -1,7 +1,7 @@
 -- A condition that was told is judged: one move.
 use Rattle.std.proofs.Common.{◌≡◌, ℕ, false, List, [], None, Some, Option, refl, arith}
 use Rattle.std.specs.Prelude.{is_some}
-use Rattle.nr_units.specs.Supply.{Supply}
+use Rattle.nr_units.specs.Source.{Supply}
 use Rattle.nr_reading.specs.declared.event.Event.TheVariants as events
 use Rattle.nr_reading.specs.declared.event.Question.{Question}
 use Rattle.nr_formatter.specs.Conditions.{answered}

@@ -1,7 +1,7 @@
 -- Words that come of levels, put and taken, with the newline that ends their line.
 use Rattle.std.proofs.Common.{◌≡◌, ℕ, ◌+◌, Bool, true, false, List, length, take, refl, sym, ap, ◌∙◌, subst, arith}
 use Rattle.nr_store.specs.Laws.{left_times-run}
-use Rattle.nr_store.specs.Stored.{Stored, shown}
+use Rattle.nr_store.specs.Store.{Stored, shown}
 use Rattle.nr_store.specs.Windows.{left_times, rest_of, run_left}
 use Rattle.nr_store.specs.declared.element.Element.TheVariants as elements
 use Rattle.nr_store.specs.declared.shown.Shown.TheVariants as shows

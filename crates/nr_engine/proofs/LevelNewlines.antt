@@ -1,15 +1,15 @@
 -- The newline that ends a text line, where it comes next of the newest level.
 use Rattle.std.proofs.Common.{◌≡◌, ℕ, ◌+◌, ◌*◌, ◌≤◌, true, false, List, [], ◌∷◌, length, Option, refl, sym, ap, ◌∙◌, subst, arith}
 use Rattle.std.proofs.lemmas.Bool.{eq-eqb}
-use Rattle.nr_units.specs.Supply.{Supply}
-use Rattle.nr_store.specs.Stored.{Level, Read, Reading, shown}
+use Rattle.nr_units.specs.Source.{Supply}
+use Rattle.nr_store.specs.Store.{Level, Read, Reading, shown}
 use Rattle.nr_store.specs.Windows.{rest_of, levels_behind}
 use Rattle.nr_store.specs.declared.element.Element.{Element}
 use Rattle.nr_store.specs.declared.element.Element.TheVariants as elements
 use Rattle.nr_store.specs.declared.shown.Shown.TheVariants as shows
 use Rattle.nr_reading.specs.Many.InText.{IsInText}
 use Rattle.nr_reading.specs.Many.LineBeginnings.{text_ended}
-use Rattle.nr_reading.specs.Meeting.{meet}
+use Rattle.nr_reading.specs.Half.{meet}
 use Rattle.nr_reading.specs.declared.event.Event.TheVariants as events
 use Rattle.nr_reading.specs.declared.front.Front.TheVariants as fronts
 use Rattle.nr_reading.proofs.InText.{in_text, meet-newline}
@@ -31,7 +31,7 @@ use Rattle.nr_formatter.proofs.PlainText.{ends_word, in_line, weight-gap}
 use Rattle.nr_engine.specs.State.{State, plainly}
 use Rattle.nr_engine.specs.Machine.{situation_of, step, with_situation}
 use Rattle.nr_engine.specs.Measures.{IsWithin}
-use Rattle.nr_engine.specs.Answer.{Goes, GoesBy}
+use Rattle.nr_engine.specs.Run.{Goes, GoesBy}
 use Rattle.nr_engine.specs.Holding.{Made, Shape, Stands, at, weight, worth}
 use Rattle.nr_engine.specs.Many.Running.{Makes}
 use Rattle.nr_engine.proofs.Gliding.{Glides, glides-add, glides-one, made_of}

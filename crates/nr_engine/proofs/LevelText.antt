@@ -3,10 +3,10 @@ use Rattle.std.proofs.Common.{◌≡◌, ℕ, ◌+◌, ◌*◌, ◌≤◌, true,
 use Rattle.std.specs.Prelude.{◌==◌}
 use Rattle.std.proofs.lemmas.Bool.{eq-eqb}
 use Rattle.std.proofs.lemmas.List.Sums.{sum_by-cons}
-use Rattle.nr_units.specs.Supply.{Supply}
-use Rattle.nr_fill.specs.Pieces.{line_cells}
+use Rattle.nr_units.specs.Source.{Supply}
+use Rattle.nr_fill.specs.Piece.{line_cells}
 use Rattle.nr_fill.specs.Runs.{IsPlain}
-use Rattle.nr_store.specs.Stored.{Level, Read, Mark, Reading, shown, level_charge}
+use Rattle.nr_store.specs.Store.{Level, Read, Mark, Reading, shown, level_charge}
 use Rattle.nr_store.specs.Windows.{rest_of, levels_behind, run_left}
 use Rattle.nr_store.specs.declared.element.Element.{Element}
 use Rattle.nr_store.specs.declared.element.Element.TheVariants as elements
@@ -15,7 +15,7 @@ use Rattle.nr_store.specs.declared.shown.Shown.TheVariants as shows
 use Rattle.nr_reading.specs.declared.event.Event.TheVariants as events
 use Rattle.nr_reading.specs.declared.front.Front.TheVariants as fronts
 use Rattle.nr_reading.specs.Many.InText.{IsInText}
-use Rattle.nr_reading.specs.Meeting.{meet}
+use Rattle.nr_reading.specs.Half.{meet}
 use Rattle.nr_reading.proofs.InText.{in_text, meet-plain}
 use Rattle.nr_input.specs.Moving.{move as input_move, situation, met_at}
 use Rattle.nr_input.specs.Moving as input
@@ -34,7 +34,7 @@ use Rattle.nr_formatter.proofs.PlainText.{in_line, weight-gap, weight-run}
 use Rattle.nr_engine.specs.State.{State}
 use Rattle.nr_engine.specs.Machine.{step, read, situation_of, with_situation}
 use Rattle.nr_engine.specs.Measures.{IsWithin}
-use Rattle.nr_engine.specs.Answer.{Goes, GoesBy}
+use Rattle.nr_engine.specs.Run.{Goes, GoesBy}
 use Rattle.nr_engine.specs.Holding.{Shape, at, Stands, Holds, Made, weight, worth}
 use Rattle.nr_engine.specs.Many.Running.{Makes}
 use Rattle.nr_engine.proofs.Gliding.{Glides, glides_plain, glides_flows, glides_gap, made_of, told, within_flows, within_gap}

@@ -3,10 +3,10 @@ use Rattle.std.proofs.Common.{◌≡◌, ℕ, zero, suc, ◌+◌, ◌*◌, ◌<�
 use Rattle.std.specs.Prelude.{slice_index}
 use Rattle.std.proofs.Math.Seq.{drop-cons, take-add}
 use Rattle.std.proofs.lemmas.List.{take_rest}
-use Rattle.nr_units.specs.Supply.{Supply}
-use Rattle.nr_fill.specs.Pieces.{line_cells}
+use Rattle.nr_units.specs.Source.{Supply}
+use Rattle.nr_fill.specs.Piece.{line_cells}
 use Rattle.nr_fill.specs.Runs.{IsPlain}
-use Rattle.nr_store.specs.Stored.{Level, Read, Reading, Stored}
+use Rattle.nr_store.specs.Store.{Level, Read, Reading, Stored}
 use Rattle.nr_store.specs.Windows.{levels_behind, rest_of}
 use Rattle.nr_store.specs.declared.element.Element.{Element}
 use Rattle.nr_store.specs.declared.element.Element.TheVariants as elements

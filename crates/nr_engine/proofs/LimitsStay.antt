@@ -1,6 +1,6 @@
 -- No move changes the limits, whether it is made or not.
 use Rattle.std.proofs.Common.{◌≡◌, ℕ, ℤ, refl, ap, ap₂}
-use Rattle.nr_store.specs.Stored.{is_held}
+use Rattle.nr_store.specs.Store.{is_held}
 use Rattle.nr_formatter.specs.Limits as formatter
 use Rattle.nr_formatter.specs.declared.formatter.Formatter.{Formatter}
 use Rattle.nr_formatter.proofs.LimitsStay.{either-limits}

@@ -2,23 +2,23 @@
 use Rattle.std.proofs.Common.{◌≡◌, ℕ, zero, suc, ◌+◌, ◌<◌, ◌≤◌, ◌^◌, Bool, true, false, ◌&&◌, List, [], ◌∷◌, Option, refl, sym, ap, ◌∙◌, subst, arith}
 use Rattle.std.specs.Prelude.{◌==◌, is_none, not, slice_index}
 use Rattle.std.proofs.lemmas.Bool.{ne_eqb}
-use Rattle.nr_units.specs.Supply.{MayGive, Supply}
-use Rattle.nr_fill.specs.Pieces.{begins_line}
+use Rattle.nr_units.specs.Source.{MayGive, Supply}
+use Rattle.nr_fill.specs.Piece.{begins_line}
 use Rattle.nr_fill.specs.Runs.{IsPlain}
 use Rattle.nr_reading.specs.declared.event.Event.TheVariants as events
 use Rattle.nr_reading.specs.Many.InText.{is_in_text}
 use Rattle.nr_reading.specs.Many.LineBeginnings.{IsBeforeLine, begins_control, text_begun as half_begun}
 use Rattle.nr_reading.specs.Many.LineBeginnings as reading
-use Rattle.nr_reading.specs.Meeting.{meet}
+use Rattle.nr_reading.specs.Half.{meet}
 use Rattle.nr_reading.specs.Weights.{blanks_owed, weight_of_half}
 use Rattle.nr_reading.proofs.LineBeginnings.{before_line, begun_text, meet-first}
 use Rattle.nr_input.specs.Many.AtHand.{ComeNext}
-use Rattle.nr_input.specs.Coming.{front}
+use Rattle.nr_input.specs.Place.{front}
 use Rattle.nr_input.specs.Moving.{met_at, situation}
 use Rattle.nr_input.specs.Moving.{move as input_move}
 use Rattle.nr_input.specs.Moving as input
 use Rattle.nr_input.specs.declared.told.Told.TheVariants as tells
-use Rattle.nr_store.specs.Stored.{shown}
+use Rattle.nr_store.specs.Store.{shown}
 use Rattle.nr_formatter.specs.Access.{collected}
 use Rattle.nr_formatter.specs.Many.LineBeginnings.{BeginsText, is_at_text, text_begun}
 use Rattle.nr_formatter.specs.Many.Runs.{is_in_line, reads_next}
@@ -29,7 +29,7 @@ use Rattle.nr_formatter.specs.declared.tasks.Task.TheVariants as tasks
 use Rattle.nr_formatter.proofs.PlainText.{in_line}
 use Rattle.nr_engine.specs.State.{State, plainly}
 use Rattle.nr_engine.specs.Machine.{situation_of, state_after, step, with_situation}
-use Rattle.nr_engine.specs.Answer.{Goes, GoesBy, Runs}
+use Rattle.nr_engine.specs.Run.{Goes, GoesBy, Runs}
 use Rattle.nr_engine.specs.Holding.{Holds, Made, Shape, Stands, Wrote, at, weight}
 use Rattle.nr_engine.specs.Many.LineBeginnings.{begun_shape}
 use Rattle.nr_engine.specs.Many.Running.{HasNext, Makes, Saves}

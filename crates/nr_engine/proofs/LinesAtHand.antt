@@ -4,8 +4,8 @@ use Rattle.std.specs.Prelude.{◌&&◌, is_none, not, slice_index}
 use Rattle.std.specs.Option.{option_map}
 use Rattle.std.proofs.lemmas.Bool.{and_parts}
 use Rattle.std.proofs.lemmas.List.{get_or-drop}
-use Rattle.nr_units.specs.Supply.{Supply, skipped}
-use Rattle.nr_fill.specs.Pieces.{begins_line, text_cells}
+use Rattle.nr_units.specs.Source.{Supply, skipped}
+use Rattle.nr_fill.specs.Piece.{begins_line, text_cells}
 use Rattle.nr_fill.specs.Runs.{IsPlain}
 use Rattle.nr_reading.specs.Many.InText.{is_in_text}
 use Rattle.nr_reading.specs.Many.Interpolations.{interpolates}
@@ -15,7 +15,7 @@ use Rattle.nr_reading.specs.declared.event.Event.TheVariants as events
 use Rattle.nr_reading.specs.declared.mode.Mode.TheVariants as modes
 use Rattle.nr_reading.proofs.InText.{ended_text, in_text}
 use Rattle.nr_input.specs.Many.AtHand.{ComeNext}
-use Rattle.nr_input.specs.Coming.{Coming, HoldsComing}
+use Rattle.nr_input.specs.Place.{Coming, HoldsComing}
 use Rattle.nr_input.specs.Many.Fonts.{BeginsFont}
 use Rattle.nr_formatter.specs.Access.{collected}
 use Rattle.nr_formatter.specs.Many.LineBeginnings.{BeginsText, is_at_text, text_begun}

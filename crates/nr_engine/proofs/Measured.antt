@@ -2,8 +2,8 @@
 use Rattle.std.proofs.Common.{◌≡◌, ℕ, ◌≤◌, ◌<◌, Bool, true, false, Option, None, Some, Result, Ok, Err, refl, sym, ap, ◌∙◌, arith, inl, inr, length}
 use Rattle.std.specs.Prelude.{nat_lt, if◌then◌else◌}
 use Rattle.std.proofs.lemmas.Bool.{le-ltb, lt-ltb, cases_lt}
-use Rattle.nr_fill.specs.Pieces.{line_cells}
-use Rattle.nr_store.specs.Stored.{charge_of}
+use Rattle.nr_fill.specs.Piece.{line_cells}
+use Rattle.nr_store.specs.Store.{charge_of}
 use Rattle.nr_page.specs.Grid.{page_charge}
 use Rattle.nr_formatter.specs.Access.{collected}
 use Rattle.nr_formatter.specs.Limits as formatter

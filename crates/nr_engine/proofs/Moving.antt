@@ -1,11 +1,11 @@
 -- Parts of a move, as parts of a whole one.
 use Rattle.std.proofs.Common.{◌≡◌, ℕ, false, List, [], Option, Result, Ok, Err, refl, ◌∙◌}
 use Rattle.std.specs.Prelude.{OnOk}
-use Rattle.nr_units.specs.Supply.{Supply}
-use Rattle.nr_input.specs.Coming.{has_failed}
+use Rattle.nr_units.specs.Source.{Supply}
+use Rattle.nr_input.specs.Place.{has_failed}
 use Rattle.nr_engine.specs.State.{State}
 use Rattle.nr_engine.specs.Machine.{step}
-use Rattle.nr_engine.specs.Answer.{Works as WorksKind, kind, limited, stopped, stops_reading, stops_writing, fails_writing}
+use Rattle.nr_engine.specs.Run.{Works as WorksKind, kind, limited, stopped, stops_reading, stops_writing, fails_writing}
 use Rattle.nr_engine.specs.Holding.{Shape, at, Stands, IsLighter, Works, WorksQuietly, Acts, Moves, TellsSource, Spends}
 use Rattle.nr_engine.specs.declared.outcome.Measure.{Measure}
 use Rattle.nr_engine.specs.declared.outcome.Outcome.{Outcome}

@@ -7,7 +7,7 @@ use Rattle.nr_formatter.specs.declared.tasks.Task.TheVariants as tasks
 use Rattle.nr_formatter.specs.Springing.{sprung}
 use Rattle.nr_engine.specs.State.{State, plainly}
 use Rattle.nr_engine.specs.Machine.{step, read, work, hear}
-use Rattle.nr_engine.specs.Answer.{Reads, Works, kind, kind_of_event, kind_of_task}
+use Rattle.nr_engine.specs.Run.{Reads, Works, kind, kind_of_event, kind_of_task}
 
 -- what the next move does, by what there is to do
 

@@ -3,8 +3,8 @@
 use Rattle.std.specs.Prelude.{◌+◌, ◌&&◌, ◌||◌, not, if◌then◌else◌, is_none}
 use Rattle.std.proofs.Common.{◌≡◌, ℕ, ◌<◌, ◌≤◌, Bool, true, false, List, [], Option, None, Some, refl, sym, ap, ◌∙◌, subst, arith}
 use Rattle.std.proofs.lemmas.Bool.{and_parts}
-use Rattle.nr_units.specs.Supply.{Supply}
-use Rattle.nr_fill.specs.Pieces.{begins_line, is_nil}
+use Rattle.nr_units.specs.Source.{Supply}
+use Rattle.nr_fill.specs.Piece.{begins_line, is_nil}
 use Rattle.nr_reading.specs.declared.event.Event.TheVariants as events
 use Rattle.nr_store.specs.declared.request.Request.{Request}
 use Rattle.nr_store.specs.declared.request.Request.TheVariants as requests

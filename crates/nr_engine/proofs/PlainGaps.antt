@@ -1,10 +1,10 @@
 -- A blank behind a word: two moves where the line is full, and else three.
 use Rattle.std.proofs.Common.{◌≡◌, ℕ, ◌+◌, ◌<◌, ◌^◌, true, false, List, [], ◌∷◌, length, Option, refl, ap, arith}
 use Rattle.std.specs.Prelude.{get_or}
-use Rattle.nr_units.specs.Supply.{Supply, MayGive}
+use Rattle.nr_units.specs.Source.{Supply, MayGive}
 use Rattle.nr_reading.specs.declared.event.Event.TheVariants as events
 use Rattle.nr_input.specs.Many.AtHand.{ComeNext}
-use Rattle.nr_input.specs.Coming.{Coming, HoldsComing}
+use Rattle.nr_input.specs.Place.{Coming, HoldsComing}
 use Rattle.nr_input.specs.Weights.{expansions_worth}
 use Rattle.nr_formatter.specs.Access.{collected}
 use Rattle.nr_formatter.specs.Lines.{fits_line}
@@ -18,7 +18,7 @@ use Rattle.nr_formatter.proofs.PlainText.{weight-gap, in_line}
 use Rattle.nr_engine.specs.State.{State}
 use Rattle.nr_engine.specs.Machine.{step}
 use Rattle.nr_engine.specs.Measures.{IsWithin}
-use Rattle.nr_engine.specs.Answer.{Goes}
+use Rattle.nr_engine.specs.Run.{Goes}
 use Rattle.nr_engine.specs.Holding.{Shape, at, Stands, Holds, Made}
 use Rattle.nr_engine.specs.Many.Running.{Makes, Saves, unburst}
 use Rattle.nr_engine.proofs.Gliding.{Glides, glides_flows, glides_gap, made_of, told, within_flows, within_gap}

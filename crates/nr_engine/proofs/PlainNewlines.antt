@@ -2,25 +2,25 @@
 use Rattle.std.proofs.Common.{◌≡◌, ℕ, ◌+◌, ◌<◌, ◌≤◌, ◌^◌, true, false, List, [], ◌∷◌, None, Option, refl, sym, ap, ◌∙◌, subst, arith}
 use Rattle.std.specs.Prelude.{◌==◌}
 use Rattle.std.proofs.lemmas.Bool.{ne_eqb}
-use Rattle.nr_units.specs.Supply.{MayGive, Supply}
-use Rattle.nr_fill.specs.Pieces.{line_cells}
+use Rattle.nr_units.specs.Source.{MayGive, Supply}
+use Rattle.nr_fill.specs.Piece.{line_cells}
 use Rattle.nr_reading.specs.Many.InText.{IsInText}
 use Rattle.nr_reading.specs.Many.LineBeginnings.{text_ended}
-use Rattle.nr_reading.specs.Meeting.{meet}
+use Rattle.nr_reading.specs.Half.{meet}
 use Rattle.nr_reading.specs.Weights.{blanks_owed, weight_of_half}
 use Rattle.nr_reading.specs.declared.event.Event.TheVariants as events
 use Rattle.nr_reading.specs.declared.mode.Mode.TheVariants as modes
 use Rattle.nr_reading.proofs.InText.{in_text, meet-newline}
 use Rattle.nr_input.specs.Acting.{on_half}
 use Rattle.nr_input.specs.Many.AtHand.{ComeNext, behind_last}
-use Rattle.nr_input.specs.Coming.{Coming, HoldsComing, front}
+use Rattle.nr_input.specs.Place.{Coming, HoldsComing, front}
 use Rattle.nr_input.specs.Moving.{met_at, situation}
 use Rattle.nr_input.specs.Moving.{move as input_move}
 use Rattle.nr_input.specs.Moving as input
 use Rattle.nr_input.specs.Many.Runs.{passed_run}
 use Rattle.nr_input.specs.Weights.{expansions_worth}
 use Rattle.nr_input.specs.declared.told.Told.TheVariants as tells
-use Rattle.nr_store.specs.Stored.{shown}
+use Rattle.nr_store.specs.Store.{shown}
 use Rattle.nr_formatter.specs.Access.{collected, with_collected}
 use Rattle.nr_formatter.specs.Many.LineEnds.{IsNewline, line_gapped, newline_flows, newline_put}
 use Rattle.nr_formatter.specs.Lines.{fits_line, flow_done}
@@ -36,7 +36,7 @@ use Rattle.nr_formatter.proofs.PlainText.{EndsWord, ends_word, in_line, weight-g
 use Rattle.nr_engine.specs.State.{State, plainly}
 use Rattle.nr_engine.specs.Machine.{put_or, situation_of, step, with_situation}
 use Rattle.nr_engine.specs.Measures.{IsWithin, passed}
-use Rattle.nr_engine.specs.Answer.{Goes, GoesBy}
+use Rattle.nr_engine.specs.Run.{Goes, GoesBy}
 use Rattle.nr_engine.specs.Holding.{Holds, Made, Shape, Stands, at}
 use Rattle.nr_engine.specs.Many.Running.{Makes, Saves, unburst}
 use Rattle.nr_engine.proofs.Gliding.{Glides, glides-add, glides-by, glides-one}

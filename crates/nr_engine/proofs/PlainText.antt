@@ -3,20 +3,20 @@ use Rattle.std.proofs.Common.{◌≡◌, ℕ, zero, suc, ◌+◌, ◌*◌, ◌<�
 use Rattle.std.specs.Prelude.{◌==◌, All}
 use Rattle.std.proofs.lemmas.Bool.{ne_eqb}
 use Rattle.std.proofs.lemmas.Nat.{mul-le}
-use Rattle.nr_units.specs.Supply.{Faults, Never, After, Anytime, Supply, MayGive, MayGiveAll, one_later, later, skipped}
-use Rattle.nr_fill.specs.Pieces.{line_cells}
+use Rattle.nr_units.specs.Source.{Faults, Never, After, Anytime, Supply, MayGive, MayGiveAll, one_later, later, skipped}
+use Rattle.nr_fill.specs.Piece.{line_cells}
 use Rattle.nr_fill.specs.Runs.{IsPlain, run_cell}
 use Rattle.nr_reading.specs.declared.event.Event.TheVariants as events
 use Rattle.nr_reading.specs.Many.InText.{IsInText}
 use Rattle.nr_reading.proofs.InText.{in_text, meet-plain}
 use Rattle.nr_input.specs.Many.AtHand.{ComeNext}
-use Rattle.nr_input.specs.Coming.{Coming, HoldsComing, Reached, front}
+use Rattle.nr_input.specs.Place.{Coming, HoldsComing, Reached, front}
 use Rattle.nr_input.specs.Moving.{move as input_move, situation, met_at}
 use Rattle.nr_input.specs.Moving as input
 use Rattle.nr_input.specs.declared.place.Ahead.TheVariants.{Unseen}
 use Rattle.nr_input.specs.declared.told.Told.TheVariants as tells
-use Rattle.nr_store.specs.Stored.{shown}
-use Rattle.nr_reading.specs.Meeting.{meet}
+use Rattle.nr_store.specs.Store.{shown}
+use Rattle.nr_reading.specs.Half.{meet}
 use Rattle.nr_settings.specs.Fonts.{is_under}
 use Rattle.nr_formatter.specs.Access.{collected, margins}
 use Rattle.nr_formatter.specs.Many.Runs.{IsInLine, is_in_line, run_put}
@@ -26,7 +26,7 @@ use Rattle.nr_formatter.proofs.PlainText.{begun-cell, line_cells-run, weight-run
 use Rattle.nr_engine.specs.State.{State}
 use Rattle.nr_engine.specs.Machine.{step, read, situation_of, with_situation}
 use Rattle.nr_engine.specs.Measures.{IsWithin}
-use Rattle.nr_engine.specs.Answer.{Goes, GoesBy}
+use Rattle.nr_engine.specs.Run.{Goes, GoesBy}
 use Rattle.nr_engine.specs.Holding.{Shape, at, Stands, Holds, Made}
 use Rattle.nr_engine.specs.Many.Running.{Makes, Saves, unburst}
 use Rattle.nr_engine.proofs.Gliding.{Glides, glides-add, glides_plain, told}

@@ -1,13 +1,13 @@
 -- Many moves that read, of which only the last may tell something.
 use Rattle.std.proofs.Common.{◌≡◌, ℕ, zero, suc, ◌<◌, ◌≤◌, [], Option, refl, sym, ap, ◌∙◌, subst, arith}
-use Rattle.nr_units.specs.Supply.{Supply}
-use Rattle.nr_store.specs.Stored.{Stored}
+use Rattle.nr_units.specs.Source.{Supply}
+use Rattle.nr_store.specs.Store.{Stored}
 use Rattle.nr_reading.specs.declared.event.Event.{Event}
 use Rattle.nr_reading.specs.declared.event.Event.TheVariants as events
 use Rattle.nr_input.specs.declared.reader.Reader.{Reader}
 use Rattle.nr_input.specs.declared.told.Told.{Told}
 use Rattle.nr_input.specs.declared.told.Told.TheVariants as tells
-use Rattle.nr_input.specs.Coming.{Reached, HoldsComing}
+use Rattle.nr_input.specs.Place.{Reached, HoldsComing}
 use Rattle.nr_input.specs.Limits as limits
 use Rattle.nr_input.specs.Moving.{Situation, Move, situation, move}
 use Rattle.nr_input.specs.Moving as input
@@ -18,7 +18,7 @@ use Rattle.nr_formatter.proofs.LimitsStay.{input-limits}
 use Rattle.nr_engine.specs.State.{State}
 use Rattle.nr_engine.specs.Machine.{step, state_after, read, situation_of, with_situation}
 use Rattle.nr_engine.specs.Measures.{IsWithin}
-use Rattle.nr_engine.specs.Answer.{Goes, GoesBy}
+use Rattle.nr_engine.specs.Run.{Goes, GoesBy}
 use Rattle.nr_engine.specs.Holding.{Shape, at, Holds, ReadsNext}
 use Rattle.nr_engine.specs.Many.Running.{Makes}
 use Rattle.nr_engine.proofs.Bursts.{move-short}

@@ -2,17 +2,17 @@
 use Rattle.std.proofs.Common.{◌≡◌, ℕ, ◌+◌, ◌*◌, ◌≤◌, true, false, List, [], ◌∷◌, ◌++◌, length, take, drop, Option, None, Some, refl, sym, ap, ◌∙◌, subst, arith, append-nil, append_assoc, length-append, length-drop, drop_at, take-append-drop}
 use Rattle.std.proofs.lemmas.Bool.{eq-eqb}
 use Rattle.std.proofs.lemmas.List.Sums.{sum_by-cons}
-use Rattle.nr_units.specs.Supply.{Supply}
+use Rattle.nr_units.specs.Source.{Supply}
 use Rattle.nr_units.specs.declared.cell.Cell.{Cell}
-use Rattle.nr_fill.specs.Pieces.{is_nil}
-use Rattle.nr_fill.specs.Rows.{Row, IsRow, AddsToRow}
-use Rattle.nr_store.specs.Stored.{Level, Read, Mark, Reading, level_charge}
+use Rattle.nr_fill.specs.Piece.{is_nil}
+use Rattle.nr_fill.specs.CellRow.{Row, IsRow, AddsToRow}
+use Rattle.nr_store.specs.Store.{Level, Read, Mark, Reading, level_charge}
 use Rattle.nr_store.specs.Windows.{rest_of, levels_behind, run_left}
 use Rattle.nr_store.specs.declared.element.Element.{Element}
 use Rattle.nr_store.specs.declared.element.Element.TheVariants as elements
 use Rattle.nr_reading.specs.declared.event.Event.TheVariants as events
 use Rattle.nr_reading.specs.declared.front.Front.TheVariants as fronts
-use Rattle.nr_reading.specs.Meeting.{meet}
+use Rattle.nr_reading.specs.Half.{meet}
 use Rattle.nr_reading.specs.Many.Rereading.{IsRereading}
 use Rattle.nr_reading.proofs.Rereading.{rereading, meet-cell}
 use Rattle.nr_input.specs.Moving.{move as input_move, situation, met_at}
@@ -33,7 +33,7 @@ use Rattle.nr_formatter.proofs.PlainText.{rereading_line}
 use Rattle.nr_engine.specs.State.{State}
 use Rattle.nr_engine.specs.Machine.{step, read, situation_of, with_situation, cell_to}
 use Rattle.nr_engine.specs.Measures.{IsWithin, passed}
-use Rattle.nr_engine.specs.Answer.{Goes, GoesBy}
+use Rattle.nr_engine.specs.Run.{Goes, GoesBy}
 use Rattle.nr_engine.specs.Holding.{Shape, at, Stands, Holds, Made, weight, worth}
 use Rattle.nr_engine.specs.Many.Rereading.{AreCells, cells_of}
 use Rattle.nr_engine.specs.Many.Running.{Makes}

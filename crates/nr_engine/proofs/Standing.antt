@@ -3,12 +3,12 @@ use Rattle.std.proofs.Common.{◌≡◌, ℕ, zero, suc, ◌+◌, ◌-◌, ◌*�
 use Rattle.std.specs.Io.KnownBytes.{Appends, Keeps}
 use Rattle.std.proofs.KnownBytes.{Appends-nil, Appends-trans, Appends-kept}
 use Rattle.std.proofs.lemmas.Bool.{cases_lt}
-use Rattle.nr_units.specs.Supply.{Supply}
+use Rattle.nr_units.specs.Source.{Supply}
 use Rattle.nr_options.specs.Limits.{Bounds}
 use Rattle.nr_engine.specs.State.{State, Choice}
 use Rattle.nr_engine.specs.Machine.{step, state_after}
 use Rattle.nr_engine.specs.Printing.{text}
-use Rattle.nr_engine.specs.Answer.{Goes, Stops, Runs, Writes, Answers, moves_a_byte}
+use Rattle.nr_engine.specs.Run.{Goes, Stops, Runs, Writes, Answers, moves_a_byte}
 use Rattle.nr_engine.specs.Holding.{Shape, Holds, Moved, Left, Made, Halts, Grows, Wrote, WritesFrom}
 use Rattle.nr_engine.specs.declared.outcome.Outcome.{Outcome}
 use Rattle.nr_engine.specs.declared.outcome.Outcome.TheVariants.{Done, Limit, ReadFault, TooLong, WriteFault}

@@ -1,12 +1,12 @@
 -- The state before the first move.
 use Rattle.std.proofs.Common.{◌≡◌, ℕ, ◌+◌, ◌-◌, ◌*◌, ◌^◌, ◌≤◌, ◌<◌, List, [], Option, Some, refl, sym, ap, ◌∙◌, subst, arith}
 use Rattle.std.proofs.lemmas.Nat.{mul-le}
-use Rattle.nr_units.specs.Supply.{Supply}
-use Rattle.nr_fill.specs.Lined.{Lined}
-use Rattle.nr_fill.specs.Pieces.{nothing_collected}
-use Rattle.nr_store.specs.Requests.{request_names}
-use Rattle.nr_store.specs.Stored.{Stored, charge_of, nothing}
-use Rattle.nr_input.specs.Coming.{nothing_reached}
+use Rattle.nr_units.specs.Source.{Supply}
+use Rattle.nr_fill.specs.Line.{Lined}
+use Rattle.nr_fill.specs.Piece.{nothing_collected}
+use Rattle.nr_store.specs.Request.{request_names}
+use Rattle.nr_store.specs.Store.{Stored, charge_of, nothing}
+use Rattle.nr_input.specs.Place.{nothing_reached}
 use Rattle.nr_input.specs.Weights.{expansions_worth}
 use Rattle.nr_options.specs.Limits.{Bounds}
 use Rattle.nr_options.specs.declared.options.Options.{Options}
@@ -18,7 +18,7 @@ use Rattle.nr_formatter.specs.declared.formatter.Formatter.{Formatter}
 use Rattle.nr_formatter.specs.declared.tasks.Resume.{Resume}
 use Rattle.nr_engine.specs.State.{State, start, choices, formatter_at_first}
 use Rattle.nr_engine.specs.Machine.{state_after}
-use Rattle.nr_engine.specs.Answer.{Answers, moves_a_byte}
+use Rattle.nr_engine.specs.Run.{Answers, moves_a_byte}
 use Rattle.nr_engine.specs.Holding.{Shape, Holds, Made, weight, worth}
 use Rattle.nr_engine.specs.Many.Running.{IsNew, StaysLight, Travelled}
 use Rattle.nr_engine.specs.declared.outcome.Outcome.{Outcome}

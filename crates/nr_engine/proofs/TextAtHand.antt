@@ -4,13 +4,13 @@ use Rattle.std.specs.Prelude.{◌==◌, is_none, not, slice_index}
 use Rattle.std.specs.Option.{option_map}
 use Rattle.std.proofs.Math.Seq.{drop-nil}
 use Rattle.std.proofs.lemmas.List.{drop-take, get_or-drop, get_or-take, take_rest}
-use Rattle.nr_units.specs.Supply.{Faults, Never, After, Anytime, Supply, MayGiveAll, later, skipped}
+use Rattle.nr_units.specs.Source.{Faults, Never, After, Anytime, Supply, MayGiveAll, later, skipped}
 use Rattle.nr_settings.specs.declared.indents.Margins.{Margins}
 use Rattle.nr_settings.specs.Fonts.{is_under}
-use Rattle.nr_fill.specs.Pieces.{Collected, Piece, Word, begins_line, is_nil, line_cells, word_pieces}
+use Rattle.nr_fill.specs.Piece.{Collected, Piece, Word, begins_line, is_nil, line_cells, word_pieces}
 use Rattle.nr_fill.specs.Runs.{add_run, run_cell}
 use Rattle.nr_input.specs.Many.AtHand.{ComeNext, behind_last, is_unseen}
-use Rattle.nr_input.specs.Coming.{Coming, HoldsComing, HoldsSupply, Reached}
+use Rattle.nr_input.specs.Place.{Coming, HoldsComing, HoldsSupply, Reached}
 use Rattle.nr_input.specs.Many.Runs.{passed_run}
 use Rattle.nr_input.specs.declared.place.Ahead.{Ahead}
 use Rattle.nr_input.specs.declared.place.Ahead.TheVariants.{Unseen}

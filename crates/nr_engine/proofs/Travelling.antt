@@ -2,10 +2,10 @@
 use Rattle.std.proofs.Common.{◌≡◌, ℕ, ◌+◌, ◌*◌, ◌<◌, ◌≤◌, ◌^◌, List, [], Option, Ok, Err, refl, ap, ◌∙◌, subst, arith}
 use Rattle.std.proofs.lemmas.Nat.{mul-le}
 use Rattle.nr_input.specs.Weights.{byte_worth}
-use Rattle.nr_units.specs.Supply.{Supply}
+use Rattle.nr_units.specs.Source.{Supply}
 use Rattle.nr_engine.specs.State.{State, Choice}
 use Rattle.nr_engine.specs.Machine.{state_after}
-use Rattle.nr_engine.specs.Answer.{Stops}
+use Rattle.nr_engine.specs.Run.{Stops}
 use Rattle.nr_engine.specs.Holding.{Shape, Holds, Moved, Left, Made, Halts, Advances, Spends, at, weight, worth}
 use Rattle.nr_engine.specs.Many.Running.{Makes, MakesInPlace, MakesReading}
 use Rattle.nr_engine.specs.declared.outcome.Outcome.{Outcome}

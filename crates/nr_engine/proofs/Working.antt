@@ -4,14 +4,14 @@ use Rattle.std.specs.Prelude.{OnOk}
 use Rattle.std.proofs.KnownBytes.{Keeps-refl}
 use Rattle.std.proofs.lemmas.Grind.{flat_map-append}
 use Rattle.std.proofs.lemmas.List.Sums.{sum_by_push}
-use Rattle.nr_units.specs.Supply.{Supply}
-use Rattle.nr_fill.specs.Rows.{IsRow}
+use Rattle.nr_units.specs.Source.{Supply}
+use Rattle.nr_fill.specs.CellRow.{IsRow}
 use Rattle.nr_page.specs.Grid.{Placed, page_charge}
-use Rattle.nr_page.specs.Sheet.{Holds as HoldsPage}
-use Rattle.nr_input.specs.Coming.{HoldsComing}
+use Rattle.nr_page.specs.Page.{Holds as HoldsPage}
+use Rattle.nr_input.specs.Place.{HoldsComing}
 use Rattle.nr_input.specs.Laws.{all_counted}
 use Rattle.nr_input.specs.Moving as input
-use Rattle.nr_input.specs.Refusals.{place_told}
+use Rattle.nr_input.specs.Refusal.{place_told}
 use Rattle.nr_input.specs.declared.refusal.Refusal.{Refusal}
 use Rattle.nr_input.specs.declared.refusal.Refusal.TheVariants as refusals
 use Rattle.nr_formatter.specs.Limits as formatter
@@ -23,7 +23,7 @@ use Rattle.nr_engine.specs.State.{State, Ended, plainly}
 use Rattle.nr_engine.specs.Machine.{step, situation_of}
 use Rattle.nr_engine.specs.Printing.{bytes_of, text}
 use Rattle.nr_engine.specs.Measures.{IsWithin, passed}
-use Rattle.nr_engine.specs.Answer.{Reads as ReadsKind, Works as WorksKind, kind, GoesBy, PassesBy, Passes, Stops, place_by, refusal_outcome, measured, limited, stopped}
+use Rattle.nr_engine.specs.Run.{Reads as ReadsKind, Works as WorksKind, kind, GoesBy, PassesBy, Passes, Stops, place_by, refusal_outcome, measured, limited, stopped}
 use Rattle.nr_engine.specs.Holding.{Shape, at, Stands, Holds, Wrote, Moved, Left, IsLighter, AfterWork, AfterQuietWork, AfterMove, Works, WorksQuietly}
 use Rattle.nr_engine.specs.declared.outcome.Measure.{Measure}
 use Rattle.nr_engine.specs.declared.outcome.Measure.TheVariants as measures

@@ -2,15 +2,15 @@
 use Rattle.std.specs.Prelude.{◌≡◌, ◌≢◌, ℕ, ◌+◌, ◌*◌, ◌≤◌, ◌<◌, Bool, false, List, [], ◌∷◌, ◌++◌, Option, None, Some, Result, Ok, Err, OnOk}
 use Rattle.std.specs.Io.KnownBytes.{Appends, Keeps}
 use Rattle.nr_units.specs.Failures.{counted_if}
-use Rattle.nr_units.specs.Supply.{Supply}
-use Rattle.nr_units.specs.Held.{AppendsFront}
+use Rattle.nr_units.specs.Source.{Supply}
+use Rattle.nr_units.specs.Sink.{AppendsFront}
 use Rattle.nr_units.specs.declared.cell.Cell.{Cell}
-use Rattle.nr_fill.specs.Rows.{Row, IsRow}
+use Rattle.nr_fill.specs.CellRow.{Row, IsRow}
 use Rattle.nr_page.specs.Grid.{Placed, page_charge}
-use Rattle.nr_page.specs.Sheet.{Sheet, Holds as HoldsPage}
+use Rattle.nr_page.specs.Page.{Sheet, Holds as HoldsPage}
 use Rattle.nr_page.specs.declared.selection.PageRange.{PageRange}
 use Rattle.nr_reading.specs.declared.event.Event.TheVariants as events
-use Rattle.nr_input.specs.Coming.{Reached, HoldsComing, has_failed, is_read_fault}
+use Rattle.nr_input.specs.Place.{Reached, HoldsComing, has_failed, is_read_fault}
 use Rattle.nr_input.specs.Weights.{byte_worth}
 use Rattle.nr_input.specs.declared.refusal.Refusal.{Refusal}
 use Rattle.nr_formatter.specs.Weights as formatter
@@ -26,8 +26,8 @@ use Rattle.nr_engine.specs.State.{State, Ended, Choice}
 use Rattle.nr_engine.specs.Machine.{step, state_after, exit, placed}
 use Rattle.nr_engine.specs.Printing.{bytes_of, text}
 use Rattle.nr_engine.specs.Measures.{IsWithin, passed}
-use Rattle.nr_engine.specs.Answer.{Goes, Stops, Runs, kind_of_task, stops_reading}
-use Rattle.nr_engine.specs.Answer as kinds
+use Rattle.nr_engine.specs.Run.{Goes, Stops, Runs, kind_of_task, stops_reading}
+use Rattle.nr_engine.specs.Run as kinds
 use Rattle.nr_engine.specs.declared.engine.Engine.{Engine}
 use Rattle.nr_engine.specs.declared.outcome.Measure.{Measure}
 use Rattle.nr_engine.specs.declared.outcome.Measure.TheVariants.{PageCells}

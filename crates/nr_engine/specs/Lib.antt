@@ -1,5 +1,5 @@
-pub mod Answer
-pub mod Desks
+pub mod Run
+pub mod Desk
 pub mod Holding
 pub mod Limits
 pub mod Machine

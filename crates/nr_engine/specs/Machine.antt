@@ -1,17 +1,17 @@
 -- The machine: marked-up text into pages, by small moves over the whole input.
 use Rattle.std.specs.Prelude.{ℕ, zero, suc, ◌+◌, ◌-◌, ◌/◌, ◌^◌, min, Bool, not, if◌then◌else◌, List, [], ◌∷◌, ◌++◌, length, replicate, Option, None, Some, is_none, ℤ}
-use Rattle.nr_units.specs.Cells.{blank, trimmed}
+use Rattle.nr_units.specs.Cell.{blank, trimmed}
 use Rattle.nr_units.specs.declared.cell.Cell.{Cell}
-use Rattle.nr_fill.specs.Pieces.{is_nil}
+use Rattle.nr_fill.specs.Piece.{is_nil}
 use Rattle.nr_page.specs.Grid.{Placed}
-use Rattle.nr_store.specs.Stored.{is_held}
+use Rattle.nr_store.specs.Store.{is_held}
 use Rattle.nr_store.specs.declared.request.Request.{Request}
 use Rattle.nr_store.specs.declared.request.Request.TheVariants as requests
 use Rattle.nr_reading.specs.declared.event.Event.{Event}
 use Rattle.nr_reading.specs.declared.event.Event.TheVariants as events
 use Rattle.nr_reading.specs.Setting.{not_continued}
 use Rattle.nr_input.specs.Acting.{on_half}
-use Rattle.nr_input.specs.Coming.{emptied}
+use Rattle.nr_input.specs.Place.{emptied}
 use Rattle.nr_input.specs.Moving.{Situation, Move, situation, move as input_move}
 use Rattle.nr_input.specs.declared.told.Told.{Told}
 use Rattle.nr_input.specs.declared.told.Told.TheVariants as tells
@@ -26,7 +26,7 @@ use Rattle.nr_formatter.specs.declared.tasks.Room.{Room}
 use Rattle.nr_formatter.specs.declared.tasks.Task.{Task}
 use Rattle.nr_formatter.specs.declared.tasks.Task.TheVariants as tasks
 use Rattle.nr_formatter.specs.declared.tasks.Then.{Then}
-use Rattle.nr_tables.specs.declared.trap.Trap.{Trap}
+use Rattle.nr_symbol_tables.specs.declared.trap.Trap.{Trap}
 use Rattle.nr_formatter.specs.Access.{collected, spacing, done}
 use Rattle.nr_formatter.specs.Places.{outlet, to_read}
 use Rattle.nr_formatter.specs.Lines.{flow_line, break_line, row_going, behind_line, flow_done, break_word_end, break_done}

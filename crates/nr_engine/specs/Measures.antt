@@ -1,7 +1,7 @@
 -- What has a limit, and how much of it a state has.
 use Rattle.std.specs.Prelude.{◌≤◌, nat_lt, if◌then◌else◌, length, Option, None, Some}
-use Rattle.nr_fill.specs.Pieces.{line_cells}
-use Rattle.nr_store.specs.Stored.{charge_of}
+use Rattle.nr_fill.specs.Piece.{line_cells}
+use Rattle.nr_store.specs.Store.{charge_of}
 use Rattle.nr_page.specs.Grid.{page_charge}
 use Rattle.nr_formatter.specs.Limits as formatter
 use Rattle.nr_formatter.specs.declared.passed.Passed.{Passed}

@@ -1,13 +1,13 @@
 -- The state of the machine, between two moves.
 use Rattle.std.specs.Prelude.{ℕ, Bool, List, [], ◌∷◌, map, Option, ℤ}
-use Rattle.nr_units.specs.Supply.{Supply}
+use Rattle.nr_units.specs.Source.{Supply}
 use Rattle.nr_units.specs.declared.cell.Cell.{Cell}
-use Rattle.nr_fill.specs.Pieces.{nothing_collected}
+use Rattle.nr_fill.specs.Piece.{nothing_collected}
 use Rattle.nr_page.specs.Grid.{Placed}
 use Rattle.nr_page.specs.declared.selection.PageRange.{PageRange}
-use Rattle.nr_store.specs.Stored.{nothing}
-use Rattle.nr_store.specs.Requests.{request_names}
-use Rattle.nr_input.specs.Coming.{Coming, whole}
+use Rattle.nr_store.specs.Store.{nothing}
+use Rattle.nr_store.specs.Request.{request_names}
+use Rattle.nr_input.specs.Place.{Coming, whole}
 use Rattle.nr_options.specs.Limits.{Bounds}
 use Rattle.nr_options.specs.declared.options.Options.{Options}
 use Rattle.nr_formatter.specs.Beginning.{first_formatter}

@@ -1,6 +1,6 @@
 //! The memory of a run, taken once and lent as often as wanted.
 ghost use Rattle.std.specs.Prelude.{◌≡◌, ◌+◌, ◌*◌, ◌≤◌, IfOk, vec_len};
-ghost use Rattle.nr_engine.specs.Desks.{sizes_of, sum_of};
+ghost use Rattle.nr_engine.specs.Desk.{sizes_of, sum_of};
 
 use crate::engine::Engine;
 use crate::lengths::Sizes;

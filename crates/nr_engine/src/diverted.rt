@@ -1,15 +1,15 @@
 //! Diverted lines that are read again. (CSTR 54, section 7.4.)
 ghost use Rattle.std.specs.Prelude.{◌≡◌, ◌++◌, ◌∷◌, [], List, replicate, Ok};
-ghost use Rattle.nr_units.specs.Cells.{blank};
+ghost use Rattle.nr_units.specs.Cell.{blank};
 ghost use Rattle.nr_units.specs.declared.cell.Cell.{Cell as CellValue};
-ghost use Rattle.nr_fill.specs.Rows.{IsRow, AddsToRow};
+ghost use Rattle.nr_fill.specs.CellRow.{IsRow, AddsToRow};
 ghost use Rattle.nr_formatter.specs.Places.{outlet};
 ghost use Rattle.nr_formatter.specs.declared.paper.Outlet.TheVariants as outlets;
 ghost use Rattle.nr_engine.specs.Machine.{margin_in, cell_to, line_to};
 ghost use Rattle.nr_units.specs.Failures.{put_counted_if};
 ghost use Rattle.nr_reading.specs.declared.event.Event.TheVariants as events;
 ghost use Rattle.nr_formatter.specs.declared.tasks.Task.TheVariants as tasks;
-ghost use Rattle.nr_engine.specs.Answer.{fails_writing};
+ghost use Rattle.nr_engine.specs.Run.{fails_writing};
 ghost use Rattle.nr_engine.specs.Holding.{shape, IsUnderWay, Works, WorksQuietly};
 ghost use Rattle.nr_engine.specs.Limits.{limits_of};
 

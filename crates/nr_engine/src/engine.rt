@@ -40,8 +40,8 @@ impl Engine {
     ghost use Rattle.nr_formatter.specs.Weights.{Falls};
     ghost use Rattle.nr_formatter.specs.declared.tasks.Resume.{Resume as ResumeValue};
     ghost use Rattle.nr_input.specs.declared.told.Told.TheVariants as tells;
-    ghost use Rattle.nr_input.specs.Hearing.{told_as};
-    ghost use Rattle.nr_input.specs.Refusals.{place_told};
+    ghost use Rattle.nr_input.specs.Told.{told_as};
+    ghost use Rattle.nr_input.specs.Refusal.{place_told};
     ghost use Rattle.nr_formatter.specs.Moves.{works, worked};
     ghost use Rattle.nr_formatter.specs.Springing.{sprung};
     ghost use Rattle.nr_reading.specs.declared.event.Event.TheVariants as events;
@@ -50,10 +50,10 @@ impl Engine {
     ghost use Rattle.nr_engine.specs.declared.outcome.Outcome.TheVariants as outcomes;
     ghost use Rattle.nr_engine.specs.State.{plainly};
     ghost use Rattle.nr_engine.specs.Machine.{told as told_formatter, act as act_request, work as work_state, hear as hear_event};
-    ghost use Rattle.nr_engine.specs.Answer.{refused, fails_writing, stops_writing};
+    ghost use Rattle.nr_engine.specs.Run.{refused, fails_writing, stops_writing};
     ghost use Rattle.nr_engine.specs.Holding.{shape, ReadsNext, IsUnderWay, IsAtWork, WorksQuietly, Acts, ActsQuietly, Exits, Moves, TellsRead, TellsSource};
     ghost use Rattle.nr_engine.specs.Limits.{limits_of, limits_under};
-    ghost use Rattle.nr_engine.specs.Desks.{sizes_of};
+    ghost use Rattle.nr_engine.specs.Desk.{sizes_of};
     ghost use Rattle.nr_options.specs.Limits.{Bounds};
 
     /// The lengths of all vectors, as these tell.

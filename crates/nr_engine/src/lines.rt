@@ -8,7 +8,7 @@ ghost use Rattle.nr_engine.specs.State.{plainly};
 ghost use Rattle.nr_engine.specs.Machine.{offset, put_line_to, put_line, flow};
 ghost use Rattle.nr_units.specs.Failures.{put_counted_if};
 ghost use Rattle.nr_formatter.specs.declared.tasks.Task.TheVariants as tasks;
-ghost use Rattle.nr_engine.specs.Answer.{fails_writing};
+ghost use Rattle.nr_engine.specs.Run.{fails_writing};
 ghost use Rattle.nr_engine.specs.Holding.{shape, IsUnderWay, Works, WorksQuietly};
 ghost use Rattle.nr_engine.specs.Limits.{limits_of};
 

@@ -1,7 +1,7 @@
 //! How a run ends, and why a move is not made.
 ghost use Rattle.std.specs.Prelude.{◌≡◌};
 ghost use Rattle.nr_formatter.specs.Passed.{splice_answer};
-ghost use Rattle.nr_engine.specs.Answer.{measured, unwritten, refused, limited, stopped};
+ghost use Rattle.nr_engine.specs.Run.{measured, unwritten, refused, limited, stopped};
 
 use nr_formatter::passed::Passed;
 use nr_input::Refusal;

@@ -1,10 +1,10 @@
 //! Beginning and ending a page, and what is placed on it. (CSTR 54, section 3.)
 ghost use Rattle.std.specs.Prelude.{◌≡◌, List, Option, Bool, Ok, Err, OnOk, OnErr, false};
 ghost use Rattle.std.specs.Io.KnownBytes.{Appends};
-ghost use Rattle.nr_units.specs.Held.{AppendsFront};
-ghost use Rattle.nr_fill.specs.Rows.{IsRow};
+ghost use Rattle.nr_units.specs.Sink.{AppendsFront};
+ghost use Rattle.nr_fill.specs.CellRow.{IsRow};
 ghost use Rattle.nr_units.specs.declared.cell.Cell.{Cell as CellValue};
-ghost use Rattle.nr_page.specs.Sheet.{Holds as HoldsPage};
+ghost use Rattle.nr_page.specs.Page.{Holds as HoldsPage};
 ghost use Rattle.nr_formatter.specs.Places.{is_open};
 ghost use Rattle.nr_formatter.specs.Weights.{Falls};
 ghost use Rattle.nr_engine.specs.State.{State};
@@ -12,7 +12,7 @@ ghost use Rattle.nr_engine.specs.Printing.{bytes_of};
 ghost use Rattle.nr_engine.specs.Machine.{row_at, begin_page, end_page, turn_page, page_of};
 ghost use Rattle.nr_units.specs.Failures.{put_counted, put_counted_if};
 ghost use Rattle.nr_formatter.specs.declared.tasks.Task.TheVariants as tasks;
-ghost use Rattle.nr_engine.specs.Answer.{fails_writing};
+ghost use Rattle.nr_engine.specs.Run.{fails_writing};
 ghost use Rattle.nr_engine.specs.Holding.{shape, IsUnderWay, NeedsPage, IsEnding, IsLighter, Comes, ComesQuietly, Works, Places};
 ghost use Rattle.nr_engine.specs.Limits.{limits_of};
 

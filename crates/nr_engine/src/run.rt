@@ -1,8 +1,8 @@
 //! A whole run.
 ghost use Rattle.std.specs.Prelude.{◌≡◌, ◌+◌, ◌*◌, ◌^◌, ◌<◌, ◌≤◌, Some, IfOk};
-ghost use Rattle.nr_units.specs.Supply.{Supply};
+ghost use Rattle.nr_units.specs.Source.{Supply};
 ghost use Rattle.nr_engine.specs.State.{start};
-ghost use Rattle.nr_engine.specs.Answer.{Answers, ToldFaults};
+ghost use Rattle.nr_engine.specs.Run.{Answers, ToldFaults};
 ghost use Rattle.nr_engine.specs.Holding.{shape};
 ghost use Rattle.nr_engine.specs.Limits.{limits_of, limits_under};
 
@@ -27,7 +27,7 @@ const GREATEST: u64 = 2_147_483_647;
 
 impl Engine {
     ghost use Rattle.std.specs.Prelude.{false};
-    ghost use Rattle.nr_input.specs.Coming.{has_failed};
+    ghost use Rattle.nr_input.specs.Place.{has_failed};
     ghost use Rattle.nr_engine.specs.State.{Register as SetRegister};
     ghost use Rattle.nr_engine.specs.Machine.{first_set};
     ghost use Rattle.nr_engine.specs.Holding.{shape, weight, worth};

@@ -6,9 +6,9 @@ use Rattle.std.proofs.lemmas.List.Sums.{sum_by-take-drop, sum_by-take-le, sum_by
 use Rattle.nr_units.specs.declared.cell.Cell.{Cell}
 use Rattle.nr_fill.specs.declared.piece.Join.{Join}
 use Rattle.nr_fill.specs.declared.piece.PieceSlot.{PieceSlot}
-use Rattle.nr_fill.specs.Cut.{join_width, pieces_width}
+use Rattle.nr_fill.specs.Cutting.{join_width, pieces_width}
 use Rattle.nr_fill.specs.Laid.{Laid, laid_of, read_cells, IsLaid}
-use Rattle.nr_fill.specs.Pieces.{Piece, cells_in}
+use Rattle.nr_fill.specs.Piece.{Piece, cells_in}
 use Rattle.nr_fill.specs.Slots.{blank_slot, pieces_of, cells_in_slots, slots_width}
 use Rattle.nr_fill.proofs.PiecesOf.{length-pieces_of, pieces_of-append, pieces_of_push, take-pieces_of, drop-pieces_of, cells_in-pieces_of, pieces_width-pieces_of}
 

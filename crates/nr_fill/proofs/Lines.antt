@@ -13,12 +13,12 @@ use Rattle.nr_fill.specs.declared.piece.Join.TheVariants.{Gap}
 use Rattle.nr_fill.specs.declared.stops.Pending.TheVariants.{Nothing}
 use Rattle.nr_fill.specs.declared.title.TitleState.{TitleState}
 use Rattle.nr_fill.specs.declared.title.TitleState.TheVariants as states
-use Rattle.nr_fill.specs.Cut.{join_width, piece_width, pieces_width}
+use Rattle.nr_fill.specs.Cutting.{join_width, piece_width, pieces_width}
 use Rattle.nr_fill.specs.Laid.{Laid, read_cells}
-use Rattle.nr_fill.specs.Lying.{word_of, collected_of, cells_needed, IsWord, IsLine}
-use Rattle.nr_fill.specs.Pieces.{Piece, cells_in, text_cells, line_cells, is_nil, join_before, word_pieces, word_or_new, new_word}
-use Rattle.nr_fill.specs.TitleStates.{title_of, parted_title, next_state}
-use Rattle.nr_fill.specs.Titles.{Title, title_cells, title_or_empty, with_cell}
+use Rattle.nr_fill.specs.PieceRow.{word_of, collected_of, cells_needed, IsWord, IsLine}
+use Rattle.nr_fill.specs.Piece.{Piece, cells_in, text_cells, line_cells, is_nil, join_before, word_pieces, word_or_new, new_word}
+use Rattle.nr_fill.specs.Titling.{title_of, parted_title, next_state}
+use Rattle.nr_fill.specs.Title.{Title, title_cells, title_or_empty, with_cell}
 use Rattle.nr_fill.proofs.PiecesOf.{length-flat_map}
 use Rattle.std.specs.List.{flat_map}
 use Rattle.std.specs.Option.{option_map}

@@ -5,8 +5,8 @@ use Rattle.std.proofs.lemmas.List.{length-take-le, get_or-take, take-take, drop_
 use Rattle.std.proofs.lemmas.List.Sums.{sum_by-take-le, sum_by-cons}
 use Rattle.nr_units.specs.declared.cell.Cell.{Cell}
 use Rattle.nr_fill.specs.declared.piece.PieceSlot.{PieceSlot}
-use Rattle.nr_fill.specs.Cut.{join_width, hyphen_width, hyphen_before, fits, most_that_fit, width, piece_width, front_width}
-use Rattle.nr_fill.specs.Pieces.{Piece}
+use Rattle.nr_fill.specs.Cutting.{join_width, hyphen_width, hyphen_before, fits, most_that_fit, width, piece_width, front_width}
+use Rattle.nr_fill.specs.Piece.{Piece}
 use Rattle.nr_fill.specs.Slots.{pieces_of, cells_in_slots, slots_width}
 use Rattle.nr_fill.proofs.PiecesOf.{take-pieces_of, pieces_width-pieces_of}
 

@@ -3,7 +3,7 @@ use Rattle.std.proofs.Common.{◌≡◌, ℕ, ◌+◌, ◌-◌, ◌≤◌, ◌<�
 use Rattle.std.proofs.lemmas.Bool.{lt-ltb, le-ltb, cases_lt}
 use Rattle.std.proofs.lemmas.List.{length-map, length-replicate, take-append-drop}
 use Rattle.std.proofs.lemmas.List.Sums.{sum_by_push, sum_by-append, sum_by-cons}
-use Rattle.nr_units.specs.Cells.{blank}
+use Rattle.nr_units.specs.Cell.{blank}
 use Rattle.nr_units.specs.declared.cell.Cell.{Cell}
 use Rattle.nr_fill.specs.declared.line.LineCells.{LineCells}
 use Rattle.nr_settings.specs.declared.indents.Margins.{Margins}
@@ -12,8 +12,8 @@ use Rattle.nr_fill.specs.declared.stops.Pending.{Pending}
 use Rattle.nr_fill.specs.declared.stops.Pending.TheVariants.{Nothing, AtPoint, ForStop}
 use Rattle.nr_settings.specs.declared.stops.StopKind.{StopKind}
 use Rattle.std.specs.Option.{option_map}
-use Rattle.nr_fill.specs.Lined.{Lined, afforded}
-use Rattle.nr_fill.specs.Pieces.{Piece, Word, Collected, cells_in, word_or_new, with_word, in_word, word_length, word_cells, word_pieces, text_cells, line_cells, ended, ended_at, add_cell, add_blank, end_word}
+use Rattle.nr_fill.specs.Line.{Lined, afforded}
+use Rattle.nr_fill.specs.Piece.{Piece, Word, Collected, cells_in, word_or_new, with_word, in_word, word_length, word_cells, word_pieces, text_cells, line_cells, ended, ended_at, add_cell, add_blank, end_word}
 use Rattle.nr_fill.specs.Runs.{add_run, run_cell}
 use Rattle.nr_fill.proofs.RunLemmas.{add_run-run}
 use Rattle.nr_fill.specs.Tabs.{with_field, field_fill, pending_fill, fill_count, filled_by, with_field_filled}

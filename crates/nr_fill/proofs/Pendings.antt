@@ -8,10 +8,10 @@ use Rattle.nr_fill.specs.declared.piece.Behind.TheVariants.{Letter, Hyphen, Dash
 use Rattle.nr_fill.specs.declared.stops.Pending.{Pending}
 use Rattle.nr_fill.specs.declared.stops.Pending.TheVariants.{Nothing, AtPoint, ForStop}
 use Rattle.nr_fill.specs.declared.title.TitleState.{TitleState}
-use Rattle.nr_fill.specs.Cut.{join_width, piece_width}
+use Rattle.nr_fill.specs.Cutting.{join_width, piece_width}
 use Rattle.nr_fill.specs.Laid.{Laid, read_cells}
-use Rattle.nr_fill.specs.Lying.{cells_needed, IsLine}
-use Rattle.nr_fill.specs.Pieces.{Piece, pending_behind, pending_soft, pending_without_point, is_for_stop, is_inside}
+use Rattle.nr_fill.specs.PieceRow.{cells_needed, IsLine}
+use Rattle.nr_fill.specs.Piece.{Piece, pending_behind, pending_soft, pending_without_point, is_for_stop, is_inside}
 use Rattle.nr_fill.proofs.Lines.{the_word, is_line_word, widths_small}
 
 pub needed_blanks : (p : Pending) (b k n : ℕ) → cells_needed p b k ≤ n → b ≤ k + n

@@ -7,8 +7,8 @@ use Rattle.std.proofs.lemmas.List.Sums.{sum_by-cons}
 use Rattle.nr_units.specs.declared.cell.Cell.{Cell}
 use Rattle.nr_fill.specs.declared.piece.Join.{Join}
 use Rattle.nr_fill.specs.declared.piece.PieceSlot.{PieceSlot}
-use Rattle.nr_fill.specs.Cut.{join_width, piece_width, pieces_width, width, front_width, hyphen_before}
-use Rattle.nr_fill.specs.Pieces.{Piece, cells_in, join_before}
+use Rattle.nr_fill.specs.Cutting.{join_width, piece_width, pieces_width, width, front_width, hyphen_before}
+use Rattle.nr_fill.specs.Piece.{Piece, cells_in, join_before}
 use Rattle.nr_fill.specs.Slots.{pieces_of, cells_in_slots, slots_width, gap_slots}
 use Rattle.nr_fill.specs.Spreading.{gaps, is_gap}
 

@@ -8,10 +8,10 @@ use Rattle.nr_fill.specs.declared.margins.Turn.{Turn}
 use Rattle.nr_fill.specs.declared.piece.Join.{Join}
 use Rattle.nr_fill.specs.declared.piece.Join.TheVariants.{Soft}
 use Rattle.nr_fill.specs.declared.title.TitleState.{TitleState}
-use Rattle.nr_fill.specs.Cut.{pieces_width, piece_width, join_width, front_width, hyphen_before}
+use Rattle.nr_fill.specs.Cutting.{pieces_width, piece_width, join_width, front_width, hyphen_before}
 use Rattle.nr_fill.specs.Laid.{Laid}
-use Rattle.nr_fill.specs.Lying.{IsLine, collected_of}
-use Rattle.nr_fill.specs.Pieces.{Piece, word_or_new, word_pieces}
+use Rattle.nr_fill.specs.PieceRow.{IsLine, collected_of}
+use Rattle.nr_fill.specs.Piece.{Piece, word_or_new, word_pieces}
 use Rattle.nr_fill.specs.Tabs.{column}
 use Rattle.nr_fill.proofs.PiecesOf.{width-first}
 use Rattle.nr_fill.proofs.Lines.{first_is, column_pieces, widths_small}

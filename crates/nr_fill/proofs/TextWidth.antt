@@ -5,14 +5,14 @@ use Rattle.std.proofs.Math.Nat.{div-mul-le_self}
 use Rattle.std.proofs.lemmas.Bool.{cases_Bool}
 use Rattle.std.proofs.lemmas.List.{length-replicate}
 use Rattle.std.proofs.lemmas.List.Sums.{sum_by-cons, count_by-le-length}
-use Rattle.nr_units.specs.Cells.{blank}
+use Rattle.nr_units.specs.Cell.{blank}
 use Rattle.nr_fill.specs.declared.margins.Turn.{Turn}
 use Rattle.nr_fill.specs.declared.margins.Turn.TheVariants as turns
 use Rattle.nr_fill.specs.declared.piece.Join.{Join}
 use Rattle.nr_fill.specs.declared.piece.Join.TheVariants.{Gap, Soft, Hard}
 use Rattle.nr_fill.specs.declared.setting.Extra.{Extra}
-use Rattle.nr_fill.specs.Cut.{join_width, piece_width, pieces_width}
-use Rattle.nr_fill.specs.Pieces.{Piece}
+use Rattle.nr_fill.specs.Cutting.{join_width, piece_width, pieces_width}
+use Rattle.nr_fill.specs.Piece.{Piece}
 use Rattle.nr_fill.specs.Spreading.{is_gap, gaps, shared, extra_at, blanks_before, next_gap, cells_behind, cells_in_line}
 
 extra_at-le : (x : Extra) (i : ℕ) → extra_at x i ≤ x.each + 1

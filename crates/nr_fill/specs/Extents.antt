@@ -2,9 +2,9 @@
 use Rattle.std.specs.Prelude.{◌≡◌, ℕ, List, [], ◌++◌, length}
 use Rattle.std.proofs.Common.{sym, append_assoc, subst}
 use Rattle.std.proofs.lemmas.List.{append-nil}
-use Rattle.nr_units.specs.Cells.{trimmed}
+use Rattle.nr_units.specs.Cell.{trimmed}
 use Rattle.nr_units.specs.declared.cell.Cell.{Cell}
-use Rattle.nr_fill.specs.Rows.{counted}
+use Rattle.nr_fill.specs.CellRow.{counted}
 
 -- there are so many cells, and so many up to the last that is no blank
 abbrev pub IsExtent : List Cell → ℕ → ℕ → Type 0

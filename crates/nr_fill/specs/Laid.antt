@@ -2,7 +2,7 @@
 use Rattle.std.specs.Prelude.{◌≡◌, ℕ, ◌+◌, ◌-◌, ◌≤◌, ◌<◌, ◌^◌, List, length, take, drop}
 use Rattle.nr_units.specs.declared.cell.Cell.{Cell}
 use Rattle.nr_fill.specs.declared.piece.PieceSlot.{PieceSlot}
-use Rattle.nr_fill.specs.Pieces.{Piece, cells_in}
+use Rattle.nr_fill.specs.Piece.{Piece, cells_in}
 use Rattle.nr_fill.specs.Slots.{pieces_of, cells_in_slots}
 
 pub record Laid : Type 0 where

@@ -4,7 +4,7 @@ use Rattle.std.specs.Prelude.{◌≡◌, ℕ, ◌<◌, ◌≢◌, Bool, true, Li
 use Rattle.nr_units.specs.declared.cell.Cell.{Cell}
 use Rattle.nr_settings.specs.declared.indents.Margins.{Margins}
 use Rattle.nr_fill.specs.declared.piece.Behind.TheVariants.{Letter}
-use Rattle.nr_fill.specs.Pieces.{Collected, Word, add_cell, append, end_word, one_blank_more, pending_without_point}
+use Rattle.nr_fill.specs.Piece.{Collected, Word, add_cell, append, end_word, one_blank_more, pending_without_point}
 
 -- a byte that prints, but for the blank, `-` and `\`
 abbrev pub IsPlain : ℕ → Type 0

@@ -1,15 +1,15 @@
 -- Setting a line: where its cells stand in the row. (CSTR 54, sections 4.1 and 4.2; on indents section 6.)
 use Prim.Native.Char.{code}
 use Rattle.std.specs.Prelude.{ℕ, ◌+◌, ◌-◌, ◌/◌, Bool, false, ◌&&◌, nat_lt, if◌then◌else◌, List, ◌++◌, length, take, drop, replicate}
-use Rattle.nr_units.specs.Cells.{blank, trimmed}
+use Rattle.nr_units.specs.Cell.{blank, trimmed}
 use Rattle.nr_units.specs.declared.cell.Cell.{Cell}
 use Rattle.nr_settings.specs.declared.indents.Margins.{Margins}
 use Rattle.nr_settings.specs.declared.filling.Align.{Align}
 use Rattle.nr_settings.specs.declared.filling.Align.TheVariants.{Left, Spread, Right, Centre}
 use Rattle.nr_fill.specs.declared.setting.Extra.{Extra}
 use Rattle.nr_fill.specs.declared.setting.Setting.{Setting}
-use Rattle.nr_fill.specs.Pieces.{Collected, begins_line}
-use Rattle.nr_fill.specs.Cut.{front_width, hyphen_before, cut}
+use Rattle.nr_fill.specs.Piece.{Collected, begins_line}
+use Rattle.nr_fill.specs.Cutting.{front_width, hyphen_before, cut}
 use Rattle.nr_fill.specs.Spreading.{gaps, no_extra, shared, other_turn, cells_in_line}
 
 -- the hyphen that a cut at a soft point prints

@@ -3,8 +3,8 @@ use Rattle.std.specs.Prelude.{ℕ, ◌+◌, List, [], ◌∷◌, take, drop, sum
 use Rattle.nr_units.specs.declared.cell.Cell.{Cell}
 use Rattle.nr_fill.specs.declared.piece.PieceSlot.{PieceSlot}
 use Rattle.nr_fill.specs.declared.piece.Join.TheVariants.{Gap}
-use Rattle.nr_fill.specs.Pieces.{Piece}
-use Rattle.nr_fill.specs.Cut.{join_width}
+use Rattle.nr_fill.specs.Piece.{Piece}
+use Rattle.nr_fill.specs.Cutting.{join_width}
 use Rattle.nr_fill.specs.Spreading.{is_gap}
 
 -- a slot before it is used

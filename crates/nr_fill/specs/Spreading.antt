@@ -1,13 +1,13 @@
 -- Spreading a line: its gaps are widened until it is as long as it may be. (CSTR 54, section 4.1.)
 use Rattle.std.specs.Prelude.{ℕ, ◌+◌, ◌-◌, ◌/◌, ◌%◌, Bool, true, false, ◌&&◌, nat_le, nat_lt, if◌then◌else◌, List, [], ◌∷◌, ◌++◌, replicate, count_by}
-use Rattle.nr_units.specs.Cells.{blank}
+use Rattle.nr_units.specs.Cell.{blank}
 use Rattle.nr_units.specs.declared.cell.Cell.{Cell}
 use Rattle.nr_fill.specs.declared.piece.Join.{Join}
 use Rattle.nr_fill.specs.declared.piece.Join.TheVariants.{Gap, Soft, Hard}
 use Rattle.nr_fill.specs.declared.margins.Turn.{Turn}
 use Rattle.nr_fill.specs.declared.margins.Turn.TheVariants as turns
 use Rattle.nr_fill.specs.declared.setting.Extra.{Extra}
-use Rattle.nr_fill.specs.Pieces.{Piece}
+use Rattle.nr_fill.specs.Piece.{Piece}
 
 -- pieces that hang on others by a gap
 abbrev pub is_gap : Join → Bool

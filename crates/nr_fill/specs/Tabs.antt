@@ -8,8 +8,8 @@ use Rattle.nr_fill.specs.declared.stops.Pending.TheVariants.{Nothing, ForStop}
 use Rattle.nr_settings.specs.declared.stops.Stop.{Stop}
 use Rattle.nr_settings.specs.declared.stops.StopKind.{StopKind}
 use Rattle.nr_settings.specs.declared.stops.StopKind.TheVariants.{Left, Right, Centre}
-use Rattle.nr_fill.specs.Pieces.{Word, Collected, word_or_new, word_pieces, with_word, in_word, ended, add_cells}
-use Rattle.nr_fill.specs.Cut.{width}
+use Rattle.nr_fill.specs.Piece.{Word, Collected, word_or_new, word_pieces, with_word, in_word, ended, add_cells}
+use Rattle.nr_fill.specs.Cutting.{width}
 
 -- how many cells stand before the next one of the word, counted from the indent
 abbrev pub column : Collected → ℕ

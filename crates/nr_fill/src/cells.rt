@@ -1,6 +1,6 @@
 //! Where the cells of a row go.
 ghost use Rattle.std.specs.Prelude.{◌≡◌, ◌<◌, ◌≤◌, ◌^◌, List, [], ◌∷◌, ◌++◌, length, replicate, IfSome, None};
-ghost use Rattle.nr_units.specs.Cells.{blank};
+ghost use Rattle.nr_units.specs.Cell.{blank};
 ghost use Rattle.nr_units.specs.declared.cell.Cell.{Cell as CellValue};
 ghost use Rattle.nr_fill.specs.Extents.{IsExtent};
 ghost use Rattle.nr_fill.specs.Slots.{pieces_of, cells_in_slots};

@@ -1,7 +1,7 @@
 // Which pieces go out in one line, and how they are set.
 ghost use Rattle.std.specs.Prelude.{◌≡◌, ◌+◌, ◌<◌, ◌≤◌, ◌^◌, ◌++◌, List, length, get_or};
 ghost use Rattle.nr_units.specs.declared.cell.Cell.{Cell as CellValue};
-ghost use Rattle.nr_fill.specs.Cut.{cut, join_width};
+ghost use Rattle.nr_fill.specs.Cutting.{cut, join_width};
 ghost use Rattle.nr_fill.specs.Extents.{IsExtent};
 ghost use Rattle.nr_fill.specs.Slots.{blank_slot, pieces_of, cells_in_slots, slots_width, gap_slots};
 ghost use Rattle.nr_fill.specs.Spreading.{blanks_before, cells_in_line, next_gap};

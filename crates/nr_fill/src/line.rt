@@ -1,7 +1,7 @@
 //! The collected line. (CSTR 54, section 4.)
 ghost use Rattle.std.specs.Prelude.{◌≡◌, ◌+◌, ◌<◌, ◌≤◌, ◌^◌, ◌↔◌, IsTrue, not, is_none, length, Some, IfOk};
-ghost use Rattle.nr_fill.specs.Cut.{fits, pieces_width};
-ghost use Rattle.nr_fill.specs.Pieces.{nothing_collected, begins_line, is_nil, line_cells, text_cells, word_or_new, word_pieces, cells_of_word, may_hyphenate, reads_field};
+ghost use Rattle.nr_fill.specs.Cutting.{fits, pieces_width};
+ghost use Rattle.nr_fill.specs.Piece.{nothing_collected, begins_line, is_nil, line_cells, text_cells, word_or_new, word_pieces, cells_of_word, may_hyphenate, reads_field};
 ghost use Rattle.nr_fill.specs.Tabs.{column};
 
 use crate::margins::{Margins, Turn};
@@ -66,8 +66,8 @@ pub struct Line {
 }
 
 impl Model for Line {
-    ghost use Rattle.nr_fill.specs.Lined.{Lined};
-    ghost use Rattle.nr_fill.specs.Lying.{collected_of, IsLine};
+    ghost use Rattle.nr_fill.specs.Line.{Lined};
+    ghost use Rattle.nr_fill.specs.PieceRow.{collected_of, IsLine};
 
     ghost Value = { Lined };
 

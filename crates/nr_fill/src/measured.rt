@@ -1,6 +1,6 @@
 //! How far cells reach.
 ghost use Rattle.std.specs.Prelude.{◌≡◌, length, replicate};
-ghost use Rattle.nr_units.specs.Cells.{blank};
+ghost use Rattle.nr_units.specs.Cell.{blank};
 ghost use Rattle.nr_fill.specs.Extents.{AddsToExtent, IsExtent};
 
 use crate::out::{written_behind, written_len};

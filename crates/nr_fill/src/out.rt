@@ -1,11 +1,11 @@
 //! The row that a line is set in.
 ghost use Rattle.std.specs.Prelude.{◌≡◌, ◌+◌, ◌-◌, ◌<◌, ◌≤◌, ◌^◌, ◌↔◌, List, [], length, MatchOption, None, IfSome, IsSome, IfOk};
 ghost use Rattle.std.specs.List.{suffix_len};
-ghost use Rattle.nr_units.specs.Cells.{is_blank, trimmed};
+ghost use Rattle.nr_units.specs.Cell.{is_blank, trimmed};
 ghost use Rattle.nr_units.specs.declared.cell.Cell.{Cell as CellValue};
 ghost use Rattle.nr_fill.specs.Extents.{IsExtent};
-ghost use Rattle.nr_fill.specs.Pieces.{is_nil};
-ghost use Rattle.nr_fill.specs.Rows.{AddsToRow, AddsToRow-both, AddsToRow-nothing, IsRow, row_of, written_behind};
+ghost use Rattle.nr_fill.specs.Piece.{is_nil};
+ghost use Rattle.nr_fill.specs.CellRow.{AddsToRow, AddsToRow-both, AddsToRow-nothing, IsRow, row_of, written_behind};
 ghost use Rattle.nr_fill.specs.Slots.{cells_in_slots, pieces_of};
 ghost use Rattle.nr_fill.specs.Spreading.{cells_in_line};
 
@@ -32,7 +32,7 @@ pub struct Out {
 
 impl Model for Out {
     ghost use Rattle.std.specs.Prelude.{◌<◌, ◌^◌};
-    ghost use Rattle.nr_fill.specs.Rows.{Row};
+    ghost use Rattle.nr_fill.specs.CellRow.{Row};
 
     ghost Value = { Row };
 

@@ -1,7 +1,7 @@
 //! Pieces of a line, and how they hang together. (CSTR 54, sections 4 and 13.)
 ghost use Rattle.std.specs.Prelude.{◌≡◌, ◌≤◌};
-ghost use Rattle.nr_fill.specs.Cut.{join_width, hyphen_width};
-ghost use Rattle.nr_fill.specs.Pieces.{join_at, mark_cells};
+ghost use Rattle.nr_fill.specs.Cutting.{join_width, hyphen_width};
+ghost use Rattle.nr_fill.specs.Piece.{join_at, mark_cells};
 ghost use Rattle.nr_fill.specs.Slots.{blank_slot};
 
 /// How a piece hangs on the one before it.

@@ -2,10 +2,10 @@
 ghost use Rattle.std.specs.Prelude.{◌≡◌, ℕ, ◌+◌, ◌-◌, ◌<◌, ◌≤◌, ◌^◌, List, [], ◌∷◌, ◌++◌, length, map, min, take, drop, replicate, slice_index, All, IfOk};
 ghost use Rattle.std.specs.List.{flat_map};
 ghost use Rattle.nr_units.specs.declared.cell.Cell.{Cell as CellValue};
-ghost use Rattle.nr_fill.specs.Cut.{cut, hyphen_before, pieces_width};
+ghost use Rattle.nr_fill.specs.Cutting.{cut, hyphen_before, pieces_width};
 ghost use Rattle.nr_fill.specs.Extents.{IsExtent};
 ghost use Rattle.nr_fill.specs.Laid.{read_cells};
-ghost use Rattle.nr_fill.specs.Pieces.{Piece, cells_in, join_before};
+ghost use Rattle.nr_fill.specs.Piece.{Piece, cells_in, join_before};
 ghost use Rattle.nr_fill.specs.Runs.{IsPlain, run_cell};
 ghost use Rattle.nr_fill.specs.Spreading.{cells_in_line, gaps};
 

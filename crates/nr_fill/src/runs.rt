@@ -1,7 +1,7 @@
 // Runs of bytes that stand for themselves, read in one call.
 ghost use Rattle.std.specs.Prelude.{◌≡◌, ◌≢◌, ◌+◌, ◌-◌, ◌<◌, ◌≤◌, ◌↔◌, IsTrue, length, map, take, slice_index, All, None, is_none, true, false};
 ghost use Rattle.nr_settings.specs.Indents.{margins_of};
-ghost use Rattle.nr_fill.specs.Pieces.{ends_sentence, in_word, line_cells, text_cells};
+ghost use Rattle.nr_fill.specs.Piece.{ends_sentence, in_word, line_cells, text_cells};
 ghost use Rattle.nr_fill.specs.Runs.{EndsWord, IsPlain, add_run, add_word, run_behind, run_cell};
 
 use crate::line::{Line, WordState};

@@ -1,7 +1,7 @@
 // Tabs and leaders. (CSTR 54, section 9.)
 ghost use Rattle.std.specs.Prelude.{◌≡◌, ◌+◌, ◌≤◌, OnOk, OnErr};
-ghost use Rattle.nr_fill.specs.Lined.{afforded};
-ghost use Rattle.nr_fill.specs.Pieces.{in_word, text_cells};
+ghost use Rattle.nr_fill.specs.Line.{afforded};
+ghost use Rattle.nr_fill.specs.Piece.{in_word, text_cells};
 ghost use Rattle.nr_fill.specs.Tabs.{before_stop, field_fill, fill_count, first_beyond, is_aligned, tabbed, with_field, with_field_filled};
 
 use crate::line::{Line, LineCells};

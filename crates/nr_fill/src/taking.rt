@@ -1,8 +1,8 @@
 // Lines go out of what is collected. (CSTR 54, section 4.1.)
 ghost use Rattle.std.specs.Prelude.{◌≡◌, ◌+◌, ◌*◌, ◌<◌, ◌≤◌, ◌^◌, ◌++◌, length, take, drop, replicate};
-ghost use Rattle.nr_units.specs.Cells.{blank, trimmed};
-ghost use Rattle.nr_fill.specs.Cut.{hyphen_before, pieces_width};
-ghost use Rattle.nr_fill.specs.Pieces.{cells_in};
+ghost use Rattle.nr_units.specs.Cell.{blank, trimmed};
+ghost use Rattle.nr_fill.specs.Cutting.{hyphen_before, pieces_width};
+ghost use Rattle.nr_fill.specs.Piece.{cells_in};
 ghost use Rattle.nr_fill.specs.Spreading.{cells_in_line, gaps};
 ghost use Rattle.nr_fill.specs.Setting.{behind, cut_of, extra_of, hyphens, left_over, line_row, set_width, shift, spreads, without_front};
 

@@ -1,8 +1,8 @@
 //! Titles of three parts. (CSTR 54, section 14.)
 ghost use Rattle.std.specs.Prelude.{◌≡◌, ◌+◌, ◌≤◌, ◌<◌, ◌^◌, ◌&&◌, nat_le, max, length, map, is_none, Some, true};
 ghost use Rattle.std.specs.List.{range_with_len};
-ghost use Rattle.nr_fill.specs.TitleStates.{next_state, parted_title, title_of};
-ghost use Rattle.nr_fill.specs.Titles.{Title, cell_of, is_within, title_or_empty, title_row};
+ghost use Rattle.nr_fill.specs.Titling.{next_state, parted_title, title_of};
+ghost use Rattle.nr_fill.specs.Title.{Title, cell_of, is_within, title_or_empty, title_row};
 
 use crate::cells::CellSink;
 use nr_units::cell::Cell;

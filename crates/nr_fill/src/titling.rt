@@ -1,8 +1,8 @@
 // Reading a title, and setting it. (CSTR 54, section 14.)
 ghost use Rattle.std.specs.Prelude.{◌≡◌, ◌+◌, ◌≤◌, OnOk, OnErr};
-ghost use Rattle.nr_fill.specs.Lined.{afforded};
-ghost use Rattle.nr_fill.specs.Pieces.{with_part_ended, with_title, with_title_cell, without_title};
-ghost use Rattle.nr_fill.specs.Titles.{titled_row};
+ghost use Rattle.nr_fill.specs.Line.{afforded};
+ghost use Rattle.nr_fill.specs.Piece.{with_part_ended, with_title, with_title_cell, without_title};
+ghost use Rattle.nr_fill.specs.Title.{titled_row};
 
 use crate::cells::CellSink;
 use crate::line::{Line, LineCells};

@@ -1,7 +1,7 @@
 // What is read: cells, break points, the ends of words, and gaps. (CSTR 54, sections 4 and 13.)
 ghost use Rattle.std.specs.Prelude.{◌≡◌, ◌+◌, ◌<◌, ◌≤◌, ◌++◌, ◌∷◌, [], None, OnOk, OnErr, false, replicate};
-ghost use Rattle.nr_fill.specs.Lined.{afforded};
-ghost use Rattle.nr_fill.specs.Pieces.{Word, add_blank, add_blank_to, add_cell, add_cell_behind, add_cells, after_newline, append, barred_here, end_word, ended, ends_sentence, hyphenated, in_word, is_inside, joined, line_cells, marked, one_blank_more, pending_behind, pending_soft, pending_without_point, text_cells, with_blanks_kept, with_word, without_blanks};
+ghost use Rattle.nr_fill.specs.Line.{afforded};
+ghost use Rattle.nr_fill.specs.Piece.{Word, add_blank, add_blank_to, add_cell, add_cell_behind, add_cells, after_newline, append, barred_here, end_word, ended, ends_sentence, hyphenated, in_word, is_inside, joined, line_cells, marked, one_blank_more, pending_behind, pending_soft, pending_without_point, text_cells, with_blanks_kept, with_word, without_blanks};
 
 use crate::line::{Line, LineCells, WIDEST_GAP, WordState};
 use crate::margins::Margins;

@@ -3,8 +3,8 @@ use Rattle.std.proofs.Common.{◌≡◌, ℕ, ◌≤◌, ◌<ℤ◌, Bool, true,
 use Rattle.std.proofs.lemmas.Bool.Decides.{nat_tests}
 use Rattle.std.proofs.lemmas.Int.{ints}
 use Rattle.std.specs.Prelude.{int_lt, IfSome}
-use Rattle.nr_tables.specs.Traps.{on_page, is_ahead, lower, nearer, nearest}
-use Rattle.nr_tables.specs.declared.trap.Trap.{Trap}
+use Rattle.nr_symbol_tables.specs.Trap.{on_page, is_ahead, lower, nearer, nearest}
+use Rattle.nr_symbol_tables.specs.declared.trap.Trap.{Trap}
 
 -- a trap that is found lies ahead
 abbrev pub IsFound : ℤ → ℤ → Option Trap → Type 0

@@ -3,7 +3,7 @@ use Rattle.std.proofs.Common.{ℕ, ◌≤◌, List, Bool, true, false, if◌then
 use Rattle.std.specs.Prelude.{◌&&◌, ◌||◌, not, nat_lt, int_lt, is_none}
 use Rattle.nr_store.specs.declared.request.Request.{Request}
 use Rattle.nr_store.specs.declared.request.Request.TheVariants as requests
-use Rattle.nr_store.specs.Stored.{is_held}
+use Rattle.nr_store.specs.Store.{is_held}
 use Rattle.nr_input.specs.declared.splicing.Definition.{Definition}
 use Rattle.nr_input.specs.declared.splicing.Definition.TheVariants as definitions
 use Rattle.nr_settings.specs.Arguments.{name_in}
@@ -29,16 +29,16 @@ use Rattle.nr_formatter.specs.declared.tasks.Task.TheVariants as tasks
 use Rattle.nr_formatter.specs.Access.{line, long, spacing, diversion}
 use Rattle.nr_formatter.specs.Given.{given_named}
 use Rattle.nr_formatter.specs.Moves.{control, gone_on}
-use Rattle.nr_formatter.specs.Naming as naming
+use Rattle.nr_formatter.specs.Names as naming
 use Rattle.nr_formatter.specs.Numbering as numbering
 use Rattle.nr_formatter.specs.Pages.{turned}
 use Rattle.nr_formatter.specs.Places.{is_open, is_diverting, outlet, present_place, page_place, distance_below, to_read}
 use Rattle.nr_formatter.specs.Registers as registers
 use Rattle.nr_formatter.specs.Requests.{act}
 use Rattle.nr_formatter.specs.Spacing as spaces
-use Rattle.nr_formatter.specs.Trapping as traps
+use Rattle.nr_formatter.specs.Traps as traps
 use Rattle.nr_store.specs.declared.element.Diversion.{Diversion}
-use Rattle.nr_store.specs.Stored.{newest_diversion, diversion_ended}
+use Rattle.nr_store.specs.Store.{newest_diversion, diversion_ended}
 use Rattle.nr_settings.specs.declared.traps.DiversionTrap.{DiversionTrap}
 use Rattle.nr_settings.specs.declared.traps.DiversionTrap.TheVariants as diversion_traps
 use Rattle.nr_formatter.specs.Diversions as diversions

@@ -6,7 +6,7 @@ use Rattle.nr_units.specs.declared.cell.Cell.{Cell}
 use Rattle.nr_settings.specs.declared.indents.Margins.{Margins}
 use Rattle.nr_settings.specs.declared.stops.Stop.{Stop}
 use Rattle.nr_fill.specs.declared.piece.Behind.TheVariants.{Hyphen}
-use Rattle.nr_fill.specs.Pieces.{Collected, add_cells, begins_line, is_nil}
+use Rattle.nr_fill.specs.Piece.{Collected, add_cells, begins_line, is_nil}
 use Rattle.nr_fill.specs.Tabs.{column, first_beyond, is_aligned, to_stop}
 use Rattle.nr_reading.specs.declared.event.Event.TheVariants as events
 use Rattle.nr_reading.specs.declared.mode.Mode.TheVariants as modes

@@ -5,7 +5,7 @@ use Rattle.std.proofs.lemmas.Bool.Decides.{nat_tests}
 use Rattle.std.proofs.lemmas.List.{replicate-append-replicate}
 use Rattle.nr_store.specs.declared.element.Element.{Element}
 use Rattle.nr_store.specs.declared.refusal.StoredBytes.{StoredBytes}
-use Rattle.nr_store.specs.Stored.{Stored, Built, added, blank_cell, on_newest, longer}
+use Rattle.nr_store.specs.Store.{Stored, Built, added, blank_cell, on_newest, longer}
 
 longer_twice : (xs ys : List Element) (bs : List Built) → on_newest (longer ys) (on_newest (longer xs) bs) ≡ on_newest (longer (xs ++ ys)) bs
 longer_twice xs ys [] = refl

@@ -3,13 +3,13 @@ use Rattle.std.proofs.Common.{◌≡◌, ℕ, ◌+◌, ◌<◌, ◌≤◌, Bool,
 use Rattle.std.specs.List.{fold}
 use Rattle.std.specs.Option.{option_map}
 use Rattle.nr_units.specs.declared.cell.Cell.{Cell}
-use Rattle.nr_fill.specs.Pieces.{Collected}
+use Rattle.nr_fill.specs.Piece.{Collected}
 use Rattle.nr_fill.specs.Setting.{cut_of}
 use Rattle.nr_store.specs.declared.element.Element.{Element}
 use Rattle.nr_store.specs.declared.element.Diversion.{Diversion}
 use Rattle.nr_store.specs.declared.element.Element.TheVariants as elements
 use Rattle.nr_store.specs.declared.refusal.StoredBytes.{StoredBytes}
-use Rattle.nr_store.specs.Stored.{Built, on_newest, longer, taken, line_of, blank_cell}
+use Rattle.nr_store.specs.Store.{Built, on_newest, longer, taken, line_of, blank_cell}
 use Rattle.nr_reading.specs.Weights.{blanks_owed}
 use Rattle.nr_input.specs.declared.reader.Reader.{Reader}
 use Rattle.nr_input.specs.Weights.{weight_before_byte}
@@ -20,7 +20,7 @@ use Rattle.nr_formatter.specs.declared.tasks.Task.TheVariants as tasks
 use Rattle.nr_formatter.specs.declared.lines.Going.{Going}
 use Rattle.nr_formatter.specs.declared.formatter.Formatter.{Formatter}
 use Rattle.nr_formatter.specs.Access.{collected, spacing, diversion}
-use Rattle.nr_formatter.specs.DiversionRows.{diverted_cells}
+use Rattle.nr_formatter.specs.DiversionRow.{diverted_cells}
 use Rattle.nr_formatter.specs.Diversions.{divert_line, divert_title, trap_reached, with_diverted_cell, with_diverted_end, with_diverted_space}
 use Rattle.nr_formatter.specs.Lines.{pieces_going, rest_behind, row_going}
 use Rattle.nr_formatter.specs.Weights.{Falls, weight, owed, steps_left, weight_of_built, weight_of_diversion, weight_of_diversions, weight_of_line, weight_of_name}

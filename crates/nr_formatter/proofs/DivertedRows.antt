@@ -2,15 +2,15 @@
 use Rattle.std.proofs.Common.{◌≡◌, ℕ, ◌+◌, ◌≤◌, zero, suc, true, false, List, [], ◌∷◌, ◌++◌, length, map, take, replicate, refl, ap, ap₂, sym, ◌∙◌, append_assoc, arith, length-append, add-zero, zero-add}
 use Rattle.std.specs.Option.{option_map}
 use Rattle.std.proofs.lemmas.List.{append-nil, length-map, map-append, take_all, take-append-le}
-use Rattle.nr_units.specs.Cells.{blank, is_blank, trimmed}
+use Rattle.nr_units.specs.Cell.{blank, is_blank, trimmed}
 use Rattle.nr_units.specs.declared.cell.Cell.{Cell}
 use Rattle.nr_fill.proofs.Trimming.{written, written-append_some, written-append_none, written-replicate, length-trimmed}
 use Rattle.nr_store.specs.declared.element.Element.{Element}
 use Rattle.nr_store.specs.declared.element.Element.TheVariants as elements
-use Rattle.nr_store.specs.Stored.{Stored, Built, charge_of, on_newest, longer, taken, diverted, diverted_end}
+use Rattle.nr_store.specs.Store.{Stored, Built, charge_of, on_newest, longer, taken, diverted, diverted_end}
 use Rattle.nr_store.proofs.Building.{charge_of-grown}
 use Rattle.nr_formatter.specs.declared.tasks.Resume.{Resume}
-use Rattle.nr_formatter.specs.DiversionRows.{plain, with_cells}
+use Rattle.nr_formatter.specs.DiversionRow.{plain, with_cells}
 
 -- so many where a text is being built, and else none
 abbrev pub share : List Built → ℕ → ℕ

@@ -5,7 +5,7 @@ use Rattle.std.proofs.lemmas.Bool.{and_parts, lt-ltb, ltb-true, not-true}
 use Rattle.std.proofs.lemmas.Bool.Decides.{nat_tests}
 use Rattle.std.proofs.lemmas.Int.{ints}
 use Rattle.std.proofs.Math.Nat.{div-zero, le-div_iff_mul-le}
-use Rattle.nr_fill.specs.Pieces.{begins_line, is_nil}
+use Rattle.nr_fill.specs.Piece.{begins_line, is_nil}
 use Rattle.nr_reading.specs.declared.ask.Ask.{Ask}
 use Rattle.nr_reading.specs.declared.event.Event.TheVariants as events
 use Rattle.nr_reading.specs.declared.half.Half.{Half}
@@ -16,7 +16,7 @@ use Rattle.nr_reading.specs.declared.mode.Escape.TheVariants as escapes
 use Rattle.nr_reading.specs.declared.mode.Mode.{Mode}
 use Rattle.nr_reading.specs.declared.mode.Mode.TheVariants as modes
 use Rattle.nr_store.specs.declared.element.Diversion.{Diversion}
-use Rattle.nr_tables.specs.declared.trap.Trap.{Trap}
+use Rattle.nr_symbol_tables.specs.declared.trap.Trap.{Trap}
 use Rattle.nr_formatter.specs.Access.{collected, diversion, spacing}
 use Rattle.nr_formatter.specs.Many.EmptyLines.{IsAtLine, ends_lines, goes_down, gone_down, is_at_line, is_at_line_by, lines_below}
 use Rattle.nr_formatter.specs.Lines.{break_done}

@@ -1,7 +1,7 @@
 -- A byte at the end of a name.
 use Rattle.std.proofs.Common.{◌≡◌, ℕ, ◌+◌, ◌-◌, ◌<◌, List, set, drop, replicate, ap, sym, ◌∙◌, arith}
 use Rattle.std.proofs.lemmas.List.{length-set, drop-set-lt, drop-drop, drop-replicate}
-use Rattle.nr_formatter.specs.RequestLines.{IsFilled}
+use Rattle.nr_formatter.specs.RequestLine.{IsFilled}
 
 pub IsFilled-set : (bytes : List ℕ) (len at byte : ℕ) → at ≡ len → IsFilled bytes len → len < 256 → IsFilled (set bytes at byte) (len + 1)
 IsFilled-set bytes len at byte is filled below =

@@ -1,6 +1,6 @@
 -- The registers that are given are those that the reader takes for given.
 use Rattle.std.specs.Prelude.{◌≡◌, ℕ, List, [], ◌∷◌, Bool, true, false, is_some, ◌==◌, ◌||◌, ◌&&◌, if◌then◌else◌, None, Some, refl}
-use Rattle.nr_reading.specs.Asking.{is_given}
+use Rattle.nr_reading.specs.Ask.{is_given}
 use Rattle.nr_formatter.specs.Given.{given_named, dotted}
 use Rattle.nr_formatter.specs.declared.given.GivenRegister.{GivenRegister}
 use Rattle.nr_formatter.specs.declared.given.GivenRegister.TheVariants.{Page, Place, Height, Width, Other}

@@ -3,8 +3,8 @@ use Rattle.std.proofs.Common.{◌≡◌, ◌≤◌, true, false, Result, Ok, Err
 use Rattle.std.specs.Prelude.{OnOk}
 use Rattle.std.proofs.lemmas.Bool.{cond-true}
 use Rattle.nr_fill.specs.declared.line.LineCells.{LineCells}
-use Rattle.nr_fill.specs.Pieces.{line_cells}
-use Rattle.nr_fill.specs.Lined as lined
+use Rattle.nr_fill.specs.Piece.{line_cells}
+use Rattle.nr_fill.specs.Line as lined
 use Rattle.nr_store.specs.declared.request.Request.{Request}
 use Rattle.nr_input.specs.declared.refusal.Refusal.{Refusal}
 use Rattle.nr_reading.specs.declared.event.Event.{Event}

@@ -12,8 +12,8 @@ use Rattle.nr_input.specs.Acting.{next}
 use Rattle.nr_input.specs.Weights.{Splices}
 use Rattle.nr_input.specs.declared.refusal.Refusal.{Refusal}
 use Rattle.nr_input.proofs.Costs.{title_costs, judged_costs}
-use Rattle.nr_fill.specs.Pieces.{Collected}
-use Rattle.nr_fill.specs.Titles.{Title}
+use Rattle.nr_fill.specs.Piece.{Collected}
+use Rattle.nr_fill.specs.Title.{Title}
 use Rattle.nr_fill.specs.declared.line.LineCells.{LineCells}
 use Rattle.nr_formatter.specs.declared.formatter.Formatter.{Formatter}
 use Rattle.nr_formatter.specs.declared.given.GivenRegister.{GivenRegister}

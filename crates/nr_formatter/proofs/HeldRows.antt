@@ -4,14 +4,14 @@ use Rattle.std.specs.List.{list_any}
 use Rattle.std.specs.Prelude.{◌==◌, get_or}
 use Rattle.std.proofs.lemmas.Bool.{cases_lt, eqb-true, ne_eqb, or_parts}
 use Rattle.std.proofs.lemmas.List.{append-nil, length-replicate, map-append, replicate-append-replicate, replicate_more, take_all, take_more}
-use Rattle.nr_units.specs.Cells.{blank, is_blank, trimmed}
+use Rattle.nr_units.specs.Cell.{blank, is_blank, trimmed}
 use Rattle.nr_units.specs.declared.cell.Cell.{Cell}
 use Rattle.nr_store.specs.declared.element.Element.TheVariants as elements
 use Rattle.nr_store.specs.declared.refusal.StoredBytes.{StoredBytes}
 use Rattle.nr_store.proofs.Building.{affordable}
-use Rattle.nr_store.specs.Stored.{Stored, Built, afforded, charge_of, on_newest, longer, diverted, diverted_end}
+use Rattle.nr_store.specs.Store.{Stored, Built, afforded, charge_of, on_newest, longer, diverted, diverted_end}
 use Rattle.nr_formatter.specs.declared.tasks.Resume.{Resume}
-use Rattle.nr_formatter.specs.DiversionRows.{plain, diverted_cells, is_under_blank, with_cells, EndsRow, HoldsRow}
+use Rattle.nr_formatter.specs.DiversionRow.{plain, diverted_cells, is_under_blank, with_cells, EndsRow, HoldsRow}
 use Rattle.nr_formatter.specs.Limits.{stored_limits}
 use Rattle.nr_formatter.proofs.DivertedRows.{share, share-le, with_cells-with_cells, with_cells-nothing, charge_of-with_cells, diverted_end-with_cells, charge_of-diverted-le, trimmed-blanks, trimmed-some, plain-blank, plain-some, plain-blanks}
 

@@ -1,10 +1,10 @@
 -- Whether a move is made, by what it adds to.
 use Rattle.std.proofs.Common.{◌≡◌, ◌≤◌, length, Bool, true, false, Result, Ok, Err, Some, None, if◌then◌else◌, refl}
 use Rattle.std.proofs.lemmas.Bool.{le-ltb}
-use Rattle.nr_fill.specs.Pieces.{line_cells}
-use Rattle.nr_fill.specs.Lined as lined
+use Rattle.nr_fill.specs.Piece.{line_cells}
+use Rattle.nr_fill.specs.Line as lined
 use Rattle.nr_store.specs.declared.refusal.StoredBytes.{StoredBytes}
-use Rattle.nr_store.specs.Stored as stored
+use Rattle.nr_store.specs.Store as stored
 use Rattle.nr_input.specs.declared.refusal.Refusal.{Refusal}
 use Rattle.nr_input.specs.declared.refusal.Refusal.TheVariants as refusals
 use Rattle.nr_formatter.specs.declared.formatter.Formatter.{Formatter}

@@ -1,13 +1,13 @@
 -- No call changes the limits, whether it is refused or not.
 use Rattle.std.specs.Prelude.{OnOk, OnErr, ◌&&◌, ◌||◌, not, nat_lt, int_lt, is_none, length}
 use Rattle.std.proofs.Common.{◌≡◌, ℕ, suc, ◌+◌, ◌-◌, Bool, true, false, if◌then◌else◌, List, [], ◌∷◌, Option, None, Some, Result, Ok, Err, ℤ, pos, negsuc, refl, ap, ◌∙◌}
-use Rattle.nr_fill.specs.Lined.{Lined}
+use Rattle.nr_fill.specs.Line.{Lined}
 use Rattle.nr_input.specs.Limits as input
 use Rattle.nr_input.specs.declared.reader.Reader.{Reader}
-use Rattle.nr_tables.specs.Named.{find, is_same}
+use Rattle.nr_symbol_tables.specs.Table.{find, is_same}
 use Rattle.nr_store.specs.declared.element.Diversion.{Diversion}
 use Rattle.nr_store.specs.declared.register.Register.{Register}
-use Rattle.nr_store.specs.Stored.{Stored, Built, Means, named_newest, ended_by, moved, renamed, worded, written, newest_diversion, diversion_ended, is_held, unregistered}
+use Rattle.nr_store.specs.Store.{Stored, Built, Means, named_newest, ended_by, moved, renamed, worded, written, newest_diversion, diversion_ended, is_held, unregistered}
 use Rattle.nr_settings.specs.Arguments.{name_in}
 use Rattle.nr_settings.specs.Spacing as space_lines
 use Rattle.nr_settings.specs.Traps as trap_lines
@@ -35,13 +35,13 @@ use Rattle.nr_formatter.specs.Ending as ending
 use Rattle.nr_formatter.specs.Given.{given_named}
 use Rattle.nr_formatter.specs.Limits.{StoredLimits, stored_limits, limits_of}
 use Rattle.nr_formatter.specs.Moves as moves
-use Rattle.nr_formatter.specs.Naming as naming
+use Rattle.nr_formatter.specs.Names as naming
 use Rattle.nr_formatter.specs.Numbering as numbering
 use Rattle.nr_formatter.specs.Pages as pages
 use Rattle.nr_formatter.specs.Places.{is_diverting, is_open, outlet, page_place, present_place, distance_below, to_read}
 use Rattle.nr_formatter.specs.Registers as registers
 use Rattle.nr_formatter.specs.Spacing as spaces
-use Rattle.nr_formatter.specs.Trapping as traps
+use Rattle.nr_formatter.specs.Traps as traps
 
 -- ---- where a part of the formatter keeps its limits
 

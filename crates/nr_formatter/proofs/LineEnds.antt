@@ -2,7 +2,7 @@
 use Rattle.std.proofs.Common.{◌≡◌, ◌-◌, Bool, true, false, ◌&&◌, None, refl, sym, ap, ◌∙◌, arith}
 use Rattle.std.specs.Prelude.{◌==◌, if◌then◌else◌, not, Option}
 use Rattle.std.proofs.lemmas.Bool.{and_parts, eqb-true}
-use Rattle.nr_fill.specs.Pieces.{Collected, is_nil}
+use Rattle.nr_fill.specs.Piece.{Collected, is_nil}
 use Rattle.nr_reading.specs.declared.event.Event.TheVariants as events
 use Rattle.nr_reading.specs.declared.mode.Mode.TheVariants as modes
 use Rattle.nr_formatter.specs.Access.{collected, is_filling, with_collected}

@@ -1,7 +1,7 @@
 -- What may still come falls where a word ends, where a line or a title goes out, and where nothing more goes out.
 use Rattle.std.proofs.Common.{◌≡◌, ◌≤◌, ◌<◌, ◌+◌, Bool, false, length, is_none, refl, ap, arith}
 use Rattle.std.proofs.lemmas.Bool.{cond_both}
-use Rattle.nr_fill.specs.Pieces.{Collected}
+use Rattle.nr_fill.specs.Piece.{Collected}
 use Rattle.nr_reading.specs.declared.event.Event.TheVariants as events
 use Rattle.nr_reading.specs.declared.half.Half.{Half}
 use Rattle.nr_formatter.specs.declared.formatter.Formatter.{Formatter}

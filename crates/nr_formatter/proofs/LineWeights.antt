@@ -11,7 +11,7 @@ use Rattle.nr_fill.specs.declared.piece.Behind.TheVariants.{Letter, Hyphen, Dash
 use Rattle.nr_fill.specs.declared.piece.Point.TheVariants as points
 use Rattle.nr_fill.specs.declared.stops.Pending.{Pending}
 use Rattle.nr_fill.specs.declared.stops.Pending.TheVariants.{Nothing, AtPoint, ForStop}
-use Rattle.nr_fill.specs.Pieces.{Word, Collected, word_or_new, with_word, ended_at, ended, pending_behind, pending_soft, with_soft_point, pending_without_point, add_cell_behind, add_cell, add_blank, add_cells, marked, barred_here, joined_at, shortened, without_blanks, reads_field, append, word_length}
+use Rattle.nr_fill.specs.Piece.{Word, Collected, word_or_new, with_word, ended_at, ended, pending_behind, pending_soft, with_soft_point, pending_without_point, add_cell_behind, add_cell, add_blank, add_cells, marked, barred_here, joined_at, shortened, without_blanks, reads_field, append, word_length}
 use Rattle.nr_fill.specs.Tabs.{to_stop, tabbed, first_beyond, column, is_aligned, filled_by, with_field_filled}
 use Rattle.nr_fill.specs.Setting.{behind}
 use Rattle.nr_formatter.specs.Weights.{weight_of_pending, weight_of_word, weight_of_line}

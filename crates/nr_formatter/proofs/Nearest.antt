@@ -5,8 +5,8 @@ use Rattle.std.specs.List.{filter}
 use Rattle.std.specs.Ordering.{int_eq}
 use Rattle.std.proofs.lemmas.Bool.Decides.{Decides-int_eq}
 use Rattle.std.proofs.lemmas.Int.{ints}
-use Rattle.nr_tables.specs.Traps.{on_page, is_ahead, lower, nearer, nearest}
-use Rattle.nr_tables.specs.declared.trap.Trap.{Trap}
+use Rattle.nr_symbol_tables.specs.Trap.{on_page, is_ahead, lower, nearer, nearest}
+use Rattle.nr_symbol_tables.specs.declared.trap.Trap.{Trap}
 use Rattle.nr_formatter.specs.Pages.{macro_at}
 use Rattle.nr_formatter.proofs.Below.{IsFound, IsFound_nearest}
 

@@ -2,8 +2,8 @@
 use Rattle.std.proofs.Common.{◌≡◌, ℕ, ◌<ℤ◌, true, false, Option, None, Some, refl, ap, ◌∙◌, ℤ, pos, negsuc, FitsSigned, w32, to_z, of_z, arith}
 use Rattle.std.specs.Prelude.{unsigned_abs}
 use Rattle.std.proofs.lemmas.Int.{ints, to_z-of_z}
-use Rattle.nr_tables.specs.Traps.{nearest}
-use Rattle.nr_tables.specs.declared.trap.Trap.{Trap}
+use Rattle.nr_symbol_tables.specs.Trap.{nearest}
+use Rattle.nr_symbol_tables.specs.declared.trap.Trap.{Trap}
 use Rattle.nr_formatter.specs.declared.formatter.Formatter.{Formatter}
 use Rattle.nr_formatter.specs.Places.{trap_below}
 use Rattle.nr_formatter.specs.Pages.{names_text, is_text, springs_at, springing_traps}

@@ -6,12 +6,12 @@ use Rattle.nr_reading.specs.declared.event.Event.TheVariants as events
 use Rattle.nr_store.specs.declared.request.Request.{Request}
 use Rattle.nr_store.specs.declared.request.Request.TheVariants.{Ad, Br, Ce, Fi, Ft, Hy, In, It, Lc, Ll, Lt, Na, Ne, Nf, Nh, Nr, Ns, Pc, Pl, Po, Rs, Sp, Ta, Tc, Ti, Ul, Vs}
 use Rattle.nr_store.specs.declared.register.Register.{Register}
-use Rattle.nr_store.specs.Stored.{Stored, afforded, charge_of, is_held, register_of, registered, set_to, written}
+use Rattle.nr_store.specs.Store.{Stored, afforded, charge_of, is_held, register_of, registered, set_to, written}
 use Rattle.nr_settings.specs.Numbers.{applied}
 use Rattle.nr_settings.specs.Registers as lines
 use Rattle.nr_settings.specs.Spacing as space_lines
 use Rattle.nr_settings.specs.declared.registers.RegisterChange.{RegisterChange}
-use Rattle.nr_tables.specs.Named.{find}
+use Rattle.nr_symbol_tables.specs.Table.{find}
 use Rattle.nr_formatter.specs.declared.given.GivenRegister.{GivenRegister}
 use Rattle.nr_formatter.specs.declared.given.GivenRegister.TheVariants as given
 use Rattle.nr_formatter.specs.declared.tasks.Resume.{Resume}

@@ -5,9 +5,9 @@ use Rattle.nr_store.specs.declared.element.Diversion.{Diversion}
 use Rattle.nr_store.specs.declared.element.Element.{Element}
 use Rattle.nr_store.specs.declared.request.Request.{Request}
 use Rattle.nr_store.specs.declared.request.Request.TheVariants as requests
-use Rattle.nr_store.specs.Stored.{is_held, begun, text_of, fresh, set_to, register_of, renamed, written, trapped, newest_diversion, diversion_ended}
-use Rattle.nr_tables.specs.Named.{find}
-use Rattle.nr_tables.specs.declared.trap.Trap.{Trap}
+use Rattle.nr_store.specs.Store.{is_held, begun, text_of, fresh, set_to, register_of, renamed, written, trapped, newest_diversion, diversion_ended}
+use Rattle.nr_symbol_tables.specs.Table.{find}
+use Rattle.nr_symbol_tables.specs.declared.trap.Trap.{Trap}
 use Rattle.nr_input.specs.declared.splicing.Definition.{Definition}
 use Rattle.nr_input.specs.declared.splicing.Definition.TheVariants as definitions
 use Rattle.nr_input.specs.Splicing.{base, keeps}
@@ -44,14 +44,14 @@ use Rattle.nr_formatter.specs.Access.{collected, line, long, spacing, diversion}
 use Rattle.nr_formatter.specs.Diversions as diversions
 use Rattle.nr_formatter.specs.Ending as ending
 use Rattle.nr_formatter.specs.Given.{given_named}
-use Rattle.nr_formatter.specs.Naming as naming
+use Rattle.nr_formatter.specs.Names as naming
 use Rattle.nr_formatter.specs.Numbering as numbering
 use Rattle.nr_formatter.specs.Pages.{moved_to}
 use Rattle.nr_formatter.specs.Places.{is_diverting, outlet, page_outlet, present_place, page_place, distance_below, to_read}
 use Rattle.nr_formatter.specs.Registers as registers
 use Rattle.nr_formatter.specs.Requests.{act}
 use Rattle.nr_formatter.specs.Spacing as spaces
-use Rattle.nr_formatter.specs.Trapping as traps
+use Rattle.nr_formatter.specs.Traps as traps
 use Rattle.nr_formatter.specs.Weights.{Falls, weight, steps_left, owed, owed_by_event, owed_by_task, weight_of_agenda, weight_of_diversions, weight_of_line, weight_of_step, weight_of_task}
 use Rattle.nr_formatter.proofs.Falling.{KeepsInput, falls-kept, weight_read, weight_of_name-le, weight_of_outlet-le}
 use Rattle.nr_formatter.proofs.Views.{StoreView, View, view, view-stored, view-if, view-task, seen-written, seen-renamed, seen-trapped, seen-with_words, begun-weighs, diversion_ended-keeps, diversion_ended-le}

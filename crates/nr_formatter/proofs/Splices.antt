@@ -2,11 +2,11 @@
 use Rattle.std.specs.Prelude.{is_some, length}
 use Rattle.std.proofs.lemmas.Bool.{le-ltb}
 use Rattle.std.proofs.Common.{◌≡◌, ℕ, ◌≤◌, Bool, true, false, List, Option, None, Some, Result, Ok, Err, refl, ap}
-use Rattle.nr_tables.specs.Named.{find}
-use Rattle.nr_fill.specs.Pieces.{line_cells}
+use Rattle.nr_symbol_tables.specs.Table.{find}
+use Rattle.nr_fill.specs.Piece.{line_cells}
 use Rattle.nr_store.specs.declared.element.Element.{Element}
-use Rattle.nr_store.specs.Stored.{Stored, charge_of, entered, words}
-use Rattle.nr_input.specs.Refusals.{Called, called, answered, splicing_answer}
+use Rattle.nr_store.specs.Store.{Stored, charge_of, entered, words}
+use Rattle.nr_input.specs.Refusal.{Called, called, answered, splicing_answer}
 use Rattle.nr_input.specs.Splicing.{springing, springing_text}
 use Rattle.nr_input.specs.declared.reader.Reader.{Reader}
 use Rattle.nr_input.specs.declared.refusal.Refusal.{Refusal}

@@ -3,7 +3,7 @@ use Rattle.std.specs.Prelude.{◌&&◌, ◌||◌, not}
 use Rattle.std.proofs.Common.{◌≡◌, ◌≢◌, ℕ, ◌+◌, ◌≤◌, Bool, true, if◌then◌else◌, Option, Some, None, refl, ap, arith}
 use Rattle.nr_store.specs.declared.element.Diversion.{Diversion}
 use Rattle.nr_store.specs.declared.request.Request.{Request}
-use Rattle.nr_store.specs.Stored.{newest_diversion, diversion_ended}
+use Rattle.nr_store.specs.Store.{newest_diversion, diversion_ended}
 use Rattle.nr_reading.specs.declared.event.Event.TheVariants as events
 use Rattle.nr_formatter.specs.declared.formatter.Formatter.{Formatter}
 use Rattle.nr_formatter.specs.declared.tasks.Ejected.TheVariants as ejecteds

@@ -4,7 +4,7 @@ use Rattle.std.proofs.lemmas.Bool.{cond_both}
 use Rattle.nr_units.specs.declared.cell.Cell.{Cell}
 use Rattle.nr_fill.specs.declared.piece.Behind.{Behind}
 use Rattle.nr_fill.specs.declared.piece.Behind.TheVariants.{Letter, Hyphen, Dash}
-use Rattle.nr_fill.specs.Pieces.{Collected, with_title_cell}
+use Rattle.nr_fill.specs.Piece.{Collected, with_title_cell}
 use Rattle.nr_settings.specs.Characters.{prints}
 use Rattle.nr_settings.specs.declared.specials.Special.{Special}
 use Rattle.nr_settings.specs.declared.specials.Special.TheVariants as specials

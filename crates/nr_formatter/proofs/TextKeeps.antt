@@ -1,8 +1,8 @@
 -- Text and titles change the line and what is under way, but nothing that is stored or half read.
 use Rattle.std.proofs.Common.{◌≡◌, ◌≤◌, ◌==◌, ℕ, Bool, length, subst, sym, true, false, if◌then◌else◌, Option, None, Some, refl, ◌∙◌}
 use Rattle.std.specs.Prelude.{not}
-use Rattle.nr_fill.specs.Lined.{afforded}
-use Rattle.nr_store.specs.Stored.{Stored, charge_of}
+use Rattle.nr_fill.specs.Line.{afforded}
+use Rattle.nr_store.specs.Store.{Stored, charge_of}
 use Rattle.nr_settings.specs.Characters.{prints}
 use Rattle.nr_settings.specs.declared.specials.Special.{Special}
 use Rattle.nr_settings.specs.declared.specials.Special.TheVariants as specials

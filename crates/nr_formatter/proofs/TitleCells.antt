@@ -6,9 +6,9 @@ use Rattle.nr_units.specs.declared.cell.Cell.{Cell}
 use Rattle.nr_fill.specs.declared.line.LineCells.{LineCells}
 use Rattle.nr_fill.specs.declared.title.TitlePart.{TitlePart}
 use Rattle.nr_fill.specs.declared.title.TitlePart.TheVariants.{Left, Centre, Right}
-use Rattle.nr_fill.specs.Lined.{Lined, afforded}
-use Rattle.nr_fill.specs.Titles.{Title, title_cells, with_cell_in}
-use Rattle.nr_fill.specs.Pieces.{Collected, line_cells, with_title_cell}
+use Rattle.nr_fill.specs.Line.{Lined, afforded}
+use Rattle.nr_fill.specs.Title.{Title, title_cells, with_cell_in}
+use Rattle.nr_fill.specs.Piece.{Collected, line_cells, with_title_cell}
 use Rattle.nr_fill.proofs.Measures.{afforded_err}
 use Rattle.nr_settings.specs.declared.fonts.Fonts.{Fonts}
 use Rattle.nr_settings.specs.Fonts.{cell_of}

@@ -3,13 +3,13 @@ use Rattle.std.specs.Prelude.{nat_lt, ◌==◌, length}
 use Rattle.std.proofs.lemmas.List.Sums.{sum_by-cons}
 use Rattle.std.proofs.Common.{◌≡◌, ℕ, zero, suc, ◌+◌, ◌≤◌, List, [], ◌∷◌, Bool, true, false, if◌then◌else◌, Option, Some, None, refl, ap, ◌∙◌, arith}
 use Rattle.std.specs.Option.{option_map}
-use Rattle.nr_tables.specs.Named.{find, is_same}
-use Rattle.nr_tables.specs.Words.{word_of}
-use Rattle.nr_tables.specs.declared.trap.Trap.{Trap}
+use Rattle.nr_symbol_tables.specs.Table.{find, is_same}
+use Rattle.nr_symbol_tables.specs.Word.{word_of}
+use Rattle.nr_symbol_tables.specs.declared.trap.Trap.{Trap}
 use Rattle.nr_store.specs.declared.element.Diversion.{Diversion}
 use Rattle.nr_store.specs.declared.element.Element.{Element}
 use Rattle.nr_store.specs.declared.register.Register.{Register}
-use Rattle.nr_store.specs.Stored.{Stored, Built, Level, Means, begun, moved, renamed, written, worded, trapped, on_newest, named_newest, newest_diversion, ended_by, diversion_ended}
+use Rattle.nr_store.specs.Store.{Stored, Built, Level, Means, begun, moved, renamed, written, worded, trapped, on_newest, named_newest, newest_diversion, ended_by, diversion_ended}
 use Rattle.nr_settings.specs.Arguments.{word_in, behind_word}
 use Rattle.nr_reading.specs.declared.event.Event.{Event}
 use Rattle.nr_formatter.specs.declared.formatter.Formatter.{Formatter}
@@ -17,7 +17,7 @@ use Rattle.nr_formatter.specs.declared.tasks.Resume.{Resume}
 use Rattle.nr_formatter.specs.declared.tasks.Step.{Step}
 use Rattle.nr_formatter.specs.declared.tasks.Task.{Task}
 use Rattle.nr_formatter.specs.Access.{collected}
-use Rattle.nr_formatter.specs.Naming.{with_words}
+use Rattle.nr_formatter.specs.Names.{with_words}
 use Rattle.nr_formatter.specs.Weights.{weight_of_built, weight_of_diversion, weight_of_diversions, weight_of_line}
 use Rattle.nr_formatter.proofs.Falling.{weight_read}
 

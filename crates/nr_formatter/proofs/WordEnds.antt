@@ -4,7 +4,7 @@ use Rattle.std.proofs.lemmas.Bool.{cond_both}
 use Rattle.std.specs.Option.{option_map}
 use Rattle.nr_fill.specs.declared.stops.Pending.{Pending}
 use Rattle.nr_fill.specs.declared.stops.Pending.TheVariants.{Nothing, AtPoint, ForStop}
-use Rattle.nr_fill.specs.Pieces.{Piece, Word, Collected, cells_in, is_inside, point_at, hyphenated, joined_at, word_pieces, end_word, may_hyphenate}
+use Rattle.nr_fill.specs.Piece.{Piece, Word, Collected, cells_in, is_inside, point_at, hyphenated, joined_at, word_pieces, end_word, may_hyphenate}
 use Rattle.nr_formatter.specs.Lines.{given_points, pointed, with_points}
 use Rattle.nr_formatter.specs.declared.formatter.Formatter.{Formatter}
 use Rattle.nr_formatter.specs.Access.{collected, is_filling}

@@ -3,11 +3,11 @@ use Rattle.std.specs.Prelude.{nat_lt, ◌==◌, length}
 use Rattle.std.proofs.lemmas.Bool.{le-ltb, lt-ltb, ltb-true, ltb-false, cond-true, cond-false}
 use Rattle.std.proofs.lemmas.List.Sums.{sum_by-cons}
 use Rattle.std.proofs.Common.{◌≡◌, ◌∷◌, ℕ, zero, suc, ◌+◌, ◌-◌, ◌<◌, ◌≤◌, List, Bool, true, false, if◌then◌else◌, Result, Ok, Err, refl, ap, sym, ◌∙◌, arith}
-use Rattle.nr_tables.specs.Words.{word_weight, word_of}
+use Rattle.nr_symbol_tables.specs.Word.{word_weight, word_of}
 use Rattle.nr_store.specs.declared.refusal.StoredBytes.{StoredBytes}
-use Rattle.nr_store.specs.Stored.{Stored, afforded, charge_of, worded}
+use Rattle.nr_store.specs.Store.{Stored, afforded, charge_of, worded}
 use Rattle.nr_settings.specs.Arguments.{word_in, behind_word}
-use Rattle.nr_formatter.specs.Naming.{with_words}
+use Rattle.nr_formatter.specs.Names.{with_words}
 
 -- one word more
 pub words-more : {K : Type 0} (n i : ℕ) (line : List ℕ) (v : Stored K) → i < n → length (word_in line) == 0 ≡ false

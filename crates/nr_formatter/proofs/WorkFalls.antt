@@ -1,11 +1,11 @@
 -- What may still come falls by what the work that is left weighs less, where nothing else that is weighed changed.
 use Rattle.std.proofs.Common.{◌≡◌, ◌≤◌, ℕ, ◌+◌, ◌*◌, List, Option, Result, Ok, Err, refl, ap, sym, subst, ◌∙◌, arith}
 use Rattle.std.specs.Prelude.{OnOk}
-use Rattle.nr_store.specs.Stored.{Stored}
+use Rattle.nr_store.specs.Store.{Stored}
 use Rattle.nr_reading.specs.declared.event.Event.{Event}
 use Rattle.nr_reading.specs.declared.event.Event.TheVariants as events
 use Rattle.nr_reading.specs.Weights.{weight_of_half, blanks_owed}
-use Rattle.nr_input.specs.Coming.{Reached}
+use Rattle.nr_input.specs.Place.{Reached}
 use Rattle.nr_input.specs.Weights.{items_left, newline_left, expansions_worth}
 use Rattle.nr_formatter.specs.declared.formatter.Formatter.{Formatter}
 use Rattle.nr_formatter.specs.declared.paper.Paper.{Paper}

@@ -1,10 +1,10 @@
 -- What the parts of a formatter say.
 use Rattle.std.specs.Prelude.{ℕ, Bool, List, Option}
 use Rattle.nr_units.specs.declared.cell.Cell.{Cell}
-use Rattle.nr_fill.specs.Pieces.{Collected}
+use Rattle.nr_fill.specs.Piece.{Collected}
 use Rattle.nr_fill.specs.declared.margins.Margins.{Margins}
 use Rattle.nr_store.specs.declared.element.Diversion.{Diversion}
-use Rattle.nr_store.specs.Stored.{innermost}
+use Rattle.nr_store.specs.Store.{innermost}
 use Rattle.nr_reading.specs.declared.event.Event.TheVariants as events
 use Rattle.nr_settings.specs.Filling as filling
 use Rattle.nr_settings.specs.Fonts as fonts

@@ -1,8 +1,8 @@
 -- The formatter before its first move.
 use Rattle.std.specs.Prelude.{ℕ, false, None, ℤ, pos}
 use Rattle.nr_units.specs.declared.number_text.Format.TheVariants.{Arabic}
-use Rattle.nr_fill.specs.Lined.{Lined}
-use Rattle.nr_store.specs.Stored.{Stored}
+use Rattle.nr_fill.specs.Line.{Lined}
+use Rattle.nr_store.specs.Store.{Stored}
 use Rattle.nr_settings.specs.Settings.{first_settings}
 use Rattle.nr_reading.specs.declared.event.Event.TheVariants as events
 use Rattle.nr_input.specs.Moving.{nothing_read}

@@ -1,10 +1,10 @@
 -- Diversions. (CSTR 54, section 7.4; groff manual, diversions.)
 use Rattle.std.specs.Prelude.{ℕ, ◌+◌, min, ◌&&◌, if◌then◌else◌, List, [], ◌∷◌, ◌++◌, replicate, Option, None, Some, pos, int_lt, int_le}
 use Rattle.nr_units.specs.declared.cell.Cell.{Cell}
-use Rattle.nr_tables.specs.declared.trap.Trap.{Trap}
+use Rattle.nr_symbol_tables.specs.declared.trap.Trap.{Trap}
 use Rattle.nr_store.specs.declared.element.Diversion.{Diversion}
 use Rattle.nr_store.specs.declared.element.Element.TheVariants as elements
-use Rattle.nr_store.specs.Stored.{begun, text_of, fresh, added, blank_cell, diverted, diverted_end, trapped, newest_diversion, diversion_ended}
+use Rattle.nr_store.specs.Store.{begun, text_of, fresh, added, blank_cell, diverted, diverted_end, trapped, newest_diversion, diversion_ended}
 use Rattle.nr_settings.specs.Arguments.{name_in}
 use Rattle.nr_settings.specs.Traps as traps
 use Rattle.nr_settings.specs.declared.traps.DiversionTrap.{DiversionTrap}
@@ -15,7 +15,7 @@ use Rattle.nr_formatter.specs.Access.{line, long, spacing, diversion}
 use Rattle.nr_formatter.specs.Places.{lowest, present_place, diversion_room}
 use Rattle.nr_formatter.specs.Pages.{without_no_space}
 use Rattle.nr_formatter.specs.declared.lines.Going.{Going}
-use Rattle.nr_formatter.specs.DiversionRows.{diverted_cells}
+use Rattle.nr_formatter.specs.DiversionRow.{diverted_cells}
 use Rattle.nr_formatter.specs.Lines.{row_going, behind_line}
 use Rattle.nr_formatter.specs.Titles.{title_row, title_set}
 

@@ -1,6 +1,6 @@
 -- The end of the run, step by step. (CSTR 54, section 7.6; groff manual, `.em`, `.ex`.)
 use Rattle.std.specs.Prelude.{true, if◌then◌else◌}
-use Rattle.nr_store.specs.Stored.{emptied, newest_diversion}
+use Rattle.nr_store.specs.Store.{emptied, newest_diversion}
 use Rattle.nr_settings.specs.Arguments.{name_in}
 use Rattle.nr_reading.specs.declared.event.Event.TheVariants as events
 use Rattle.nr_formatter.specs.declared.formatter.Formatter.{Formatter}

@@ -1,7 +1,7 @@
 -- What has a limit, and whether a move is made.
 use Rattle.std.specs.Prelude.{ℕ, ◌≤◌, nat_lt, if◌then◌else◌, length, Option, None, Some, Result, Ok, Err}
-use Rattle.nr_fill.specs.Pieces.{line_cells}
-use Rattle.nr_store.specs.Stored.{Stored, charge_of}
+use Rattle.nr_fill.specs.Piece.{line_cells}
+use Rattle.nr_store.specs.Store.{Stored, charge_of}
 use Rattle.nr_formatter.specs.declared.formatter.Formatter.{Formatter}
 use Rattle.nr_formatter.specs.declared.passed.Passed.{Passed}
 use Rattle.nr_formatter.specs.declared.passed.Passed.TheVariants as measures

@@ -2,9 +2,9 @@
 use Rattle.std.specs.Prelude.{ℕ, ◌*◌, ◌-◌, Bool, true, false, not, ◌&&◌, ◌==◌, nat_le, if◌then◌else◌, List, length, take, Option, None, Some, is_none, min}
 use Rattle.std.specs.List.{fold}
 use Rattle.nr_units.specs.declared.cell.Cell.{Cell}
-use Rattle.nr_fill.specs.Pieces.{Collected, is_nil, begins_line, cells_of_word, end_word, hyphenated, joined, may_hyphenate, reads_field, word_or_new}
+use Rattle.nr_fill.specs.Piece.{Collected, is_nil, begins_line, cells_of_word, end_word, hyphenated, joined, may_hyphenate, reads_field, word_or_new}
 use Rattle.nr_fill.specs.Tabs.{with_field_filled}
-use Rattle.nr_fill.specs.Cut.{fits}
+use Rattle.nr_fill.specs.Cutting.{fits}
 use Rattle.nr_fill.specs.Setting.{behind, cut_of, line_row, set_width}
 use Rattle.nr_settings.specs.declared.filling.Align.TheVariants as aligns
 use Rattle.nr_settings.specs.Filling.{align_of, behind_centred_line}
@@ -12,7 +12,7 @@ use Rattle.nr_settings.specs.Fonts.{behind_underlined_line}
 use Rattle.nr_settings.specs.Indents.{behind_line_begun, margins_of}
 use Rattle.nr_settings.specs.declared.indents.Indents.{Indents}
 use Rattle.nr_settings.specs.declared.settings.Settings.{Settings}
-use Rattle.nr_tables.specs.Words.{bytes_of, points_of}
+use Rattle.nr_symbol_tables.specs.Word.{bytes_of, points_of}
 use Rattle.nr_reading.specs.Setting.{not_continued}
 use Rattle.nr_input.specs.Acting.{on_half}
 use Rattle.nr_formatter.specs.declared.tasks.After.{After}

@@ -2,10 +2,10 @@
 use Rattle.std.specs.Prelude.{[], ◌∷◌, ℕ, ◌+◌, min, Bool, true, false, not, ◌&&◌, ◌||◌, if◌then◌else◌, List, Option, None, Some, is_some, ℤ, pos, negsuc, ◌+ℤ◌, int_lt, int_le}
 use Rattle.std.specs.List.{filter}
 use Rattle.std.specs.Ordering.{int_eq}
-use Rattle.nr_tables.specs.Named.{find}
-use Rattle.nr_tables.specs.Traps.{nearest, on_page}
-use Rattle.nr_tables.specs.declared.trap.Trap.{Trap}
-use Rattle.nr_store.specs.Stored.{words}
+use Rattle.nr_symbol_tables.specs.Table.{find}
+use Rattle.nr_symbol_tables.specs.Trap.{nearest, on_page}
+use Rattle.nr_symbol_tables.specs.declared.trap.Trap.{Trap}
+use Rattle.nr_store.specs.Store.{words}
 use Rattle.nr_store.specs.declared.request.Request.TheVariants as requests
 use Rattle.nr_formatter.specs.declared.formatter.Formatter.{Formatter}
 use Rattle.nr_formatter.specs.declared.paper.PageState.{PageState}

@@ -1,7 +1,7 @@
 -- Where output goes, and places. (CSTR 54, section 3.)
 use Rattle.std.specs.Prelude.{ℕ, ◌-◌, Bool, true, false, nat_lt, if◌then◌else◌, Option, None, Some, ℤ, pos, ◌<ℤ◌, int_lt, unsigned_abs}
-use Rattle.nr_tables.specs.Traps.{nearest}
-use Rattle.nr_tables.specs.declared.trap.Trap.{Trap}
+use Rattle.nr_symbol_tables.specs.Trap.{nearest}
+use Rattle.nr_symbol_tables.specs.declared.trap.Trap.{Trap}
 use Rattle.nr_store.specs.declared.element.Diversion.{Diversion}
 use Rattle.nr_formatter.specs.declared.formatter.Formatter.{Formatter}
 use Rattle.nr_formatter.specs.declared.paper.Outlet.{Outlet}

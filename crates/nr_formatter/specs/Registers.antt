@@ -3,9 +3,9 @@ use Rattle.std.specs.Prelude.{ℕ, ◌+◌, nat_lt, min, Bool, true, false, if�
 use Rattle.nr_units.specs.declared.number_text.Format.{Format}
 use Rattle.nr_units.specs.declared.number_text.Format.TheVariants.{Arabic}
 use Rattle.nr_units.specs.NumberText.{number_text}
-use Rattle.nr_tables.specs.Named.{find}
+use Rattle.nr_symbol_tables.specs.Table.{find}
 use Rattle.nr_store.specs.declared.element.Diversion.{Diversion}
-use Rattle.nr_store.specs.Stored.{afforded, charge_of, greatest, is_held, reading_bytes, register_of, registered, formatted, unregistered}
+use Rattle.nr_store.specs.Store.{afforded, charge_of, greatest, is_held, reading_bytes, register_of, registered, formatted, unregistered}
 use Rattle.nr_store.specs.declared.refusal.StoredBytes.{StoredBytes}
 use Rattle.nr_settings.specs.Arguments.{name_in}
 use Rattle.nr_settings.specs.Numbers.{applied}

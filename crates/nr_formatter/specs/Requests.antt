@@ -5,12 +5,12 @@ use Rattle.nr_store.specs.declared.request.Request.TheVariants.{Ad, Af, Am, As, 
 use Rattle.nr_formatter.specs.declared.formatter.Formatter.{Formatter}
 use Rattle.nr_formatter.specs.Diversions as diversions
 use Rattle.nr_formatter.specs.Ending as ending
-use Rattle.nr_formatter.specs.Naming as naming
+use Rattle.nr_formatter.specs.Names as naming
 use Rattle.nr_formatter.specs.Numbering as numbering
 use Rattle.nr_formatter.specs.Registers as registers
 use Rattle.nr_formatter.specs.Settings as settings
 use Rattle.nr_formatter.specs.Spacing as spacing
-use Rattle.nr_formatter.specs.Trapping as trapping
+use Rattle.nr_formatter.specs.Traps as trapping
 use Rattle.nr_formatter.specs.Places.{to_read}
 
 -- these break before they take effect

@@ -1,12 +1,12 @@
 -- Sprung macros: their text comes before the rest of the input, and behind it what was under way is gone on with.
 -- (CSTR 54, section 7.5; groff manual, traps.)
 use Rattle.std.specs.Prelude.{ℕ, ◌+◌, List, Option, None, Some, unsigned_abs}
-use Rattle.nr_tables.specs.Named.{find}
-use Rattle.nr_tables.specs.declared.trap.Trap.{Trap}
+use Rattle.nr_symbol_tables.specs.Table.{find}
+use Rattle.nr_symbol_tables.specs.declared.trap.Trap.{Trap}
 use Rattle.nr_store.specs.declared.element.Element.{Element}
-use Rattle.nr_store.specs.Stored.{words, entered}
+use Rattle.nr_store.specs.Store.{words, entered}
 use Rattle.nr_reading.specs.declared.event.Event.TheVariants as events
-use Rattle.nr_reading.specs.Modes.{standing_of}
+use Rattle.nr_reading.specs.Mode.{standing_of}
 use Rattle.nr_reading.specs.Setting as setting
 use Rattle.nr_formatter.specs.declared.formatter.Formatter.{Formatter}
 use Rattle.nr_formatter.specs.declared.tasks.Resume.{Resume}

@@ -4,7 +4,7 @@ use Rattle.std.specs.Prelude.{ℕ, Bool, not, ◌||◌, ◌==◌, if◌then◌el
 use Rattle.nr_units.specs.declared.cell.Cell.{Cell}
 use Rattle.nr_fill.specs.declared.piece.Behind.{Behind}
 use Rattle.nr_fill.specs.declared.piece.Behind.TheVariants.{Letter, Hyphen, Dash}
-use Rattle.nr_fill.specs.Pieces.{Collected, begins_line, add_cell, add_cells, add_blank, marked, barred_here, one_blank_more, after_newline, without_blanks}
+use Rattle.nr_fill.specs.Piece.{Collected, begins_line, add_cell, add_cells, add_blank, marked, barred_here, one_blank_more, after_newline, without_blanks}
 use Rattle.nr_fill.specs.Tabs.{tabbed}
 use Rattle.nr_settings.specs.Indents.{behind_line_begun}
 use Rattle.nr_settings.specs.Characters.{prints}

@@ -4,8 +4,8 @@ use Rattle.std.specs.Prelude.{ℕ, ◌/◌, Bool, true, false, ◌==◌, if◌th
 use Rattle.std.specs.List.{fold}
 use Rattle.nr_units.specs.declared.cell.Cell.{Cell}
 use Rattle.nr_units.specs.NumberText.{number_text}
-use Rattle.nr_fill.specs.Pieces.{Collected, with_title, with_title_cell, with_part_ended, without_title}
-use Rattle.nr_fill.specs.Titles.{Title, titled_row}
+use Rattle.nr_fill.specs.Piece.{Collected, with_title, with_title_cell, with_part_ended, without_title}
+use Rattle.nr_fill.specs.Title.{Title, titled_row}
 use Rattle.nr_settings.specs.Characters.{prints}
 use Rattle.nr_settings.specs.Specials.{special_of, byte_of}
 use Rattle.nr_settings.specs.declared.specials.Special.{Special}

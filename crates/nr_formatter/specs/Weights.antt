@@ -1,17 +1,17 @@
 -- How many moves may still come before the next byte of the source is taken.
 use Rattle.std.specs.Prelude.{◌≡◌, ℕ, ◌+◌, ◌-◌, ◌*◌, ◌≤◌, List, length, Option, None, Some, sum_by}
-use Rattle.nr_fill.specs.Pieces.{Collected, Word}
+use Rattle.nr_fill.specs.Piece.{Collected, Word}
 use Rattle.nr_fill.specs.declared.stops.Pending.{Pending}
 use Rattle.nr_fill.specs.declared.stops.Pending.TheVariants as pendings
 use Rattle.nr_store.specs.declared.element.Diversion.{Diversion}
-use Rattle.nr_store.specs.Stored.{Built}
+use Rattle.nr_store.specs.Store.{Built}
 use Rattle.nr_reading.specs.declared.event.Event.{Event}
 use Rattle.nr_reading.specs.declared.event.Event.TheVariants as events
 use Rattle.nr_reading.specs.declared.half.Half.{Half}
 use Rattle.nr_reading.specs.declared.mode.Mode.TheVariants as modes
 use Rattle.nr_reading.specs.Conditionals.{in_mode}
 use Rattle.nr_reading.specs.Weights.{cost_of_event, weight_of_half, blanks_owed}
-use Rattle.nr_input.specs.Coming.{Reached}
+use Rattle.nr_input.specs.Place.{Reached}
 use Rattle.nr_input.specs.Weights.{weight_before_byte}
 use Rattle.nr_formatter.specs.declared.formatter.Formatter.{Formatter}
 use Rattle.nr_formatter.specs.declared.paper.Outlet.{Outlet}

@@ -2,15 +2,15 @@
 ghost use Rattle.std.specs.Prelude.{◌≡◌, ◌<◌, length, ◌^◌, ◌++◌, List, replicate, OnOk, true, refl};
 ghost use Rattle.std.proofs.Common.{◌∙◌};
 ghost use Rattle.std.specs.List.{list_any};
-ghost use Rattle.nr_units.specs.Cells.{blank};
+ghost use Rattle.nr_units.specs.Cell.{blank};
 ghost use Rattle.nr_units.specs.declared.cell.Cell.{Cell as CellValue};
-ghost use Rattle.nr_store.specs.Stored.{Stored, afforded, charge_of, diverted};
-ghost use Rattle.nr_fill.specs.Pieces.{without_title};
-ghost use Rattle.nr_fill.specs.Titles.{titled_row};
+ghost use Rattle.nr_store.specs.Store.{Stored, afforded, charge_of, diverted};
+ghost use Rattle.nr_fill.specs.Piece.{without_title};
+ghost use Rattle.nr_fill.specs.Title.{titled_row};
 ghost use Rattle.nr_formatter.specs.Limits.{stored_limits};
 ghost use Rattle.nr_formatter.specs.Lines.{row_of, rest_of, settings_behind};
 ghost use Rattle.nr_formatter.specs.declared.tasks.Resume.{Resume as ResumeValue};
-ghost use Rattle.nr_formatter.specs.DiversionRows.{AddsToDiversion, AddsToDiversion-both, AddsToDiversion-nothing, EndsRow, HoldsRow, diverted_cells, is_under_blank, with_cells};
+ghost use Rattle.nr_formatter.specs.DiversionRow.{AddsToDiversion, AddsToDiversion-both, AddsToDiversion-nothing, EndsRow, HoldsRow, diverted_cells, is_under_blank, with_cells};
 
 use crate::lines::{Going, set_going};
 use crate::tasks::Resume;

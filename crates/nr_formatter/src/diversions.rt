@@ -6,7 +6,7 @@ ghost use Rattle.nr_formatter.specs.Limits.{IsWithin, limits_of, stored_limits};
 ghost use Rattle.nr_formatter.specs.Places.{diversion_room, is_diverting, room_above};
 ghost use Rattle.nr_formatter.specs.Weights.{Falls};
 ghost use Rattle.nr_reading.specs.declared.event.Event.TheVariants as events;
-ghost use Rattle.nr_store.specs.Stored.{afforded, added, blank_cell, charge_of, newest_diversion};
+ghost use Rattle.nr_store.specs.Store.{afforded, added, blank_cell, charge_of, newest_diversion};
 
 use crate::diversion_row::{divert_going, divert_titled};
 use crate::formatter::Formatter;

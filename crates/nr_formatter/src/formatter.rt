@@ -1,8 +1,8 @@
 //! The formatter between two moves: everything but the source, the lines on the page and the output.
 ghost use Rattle.std.specs.Prelude.{◌≡◌, ◌<◌, ◌^◌, IfOk};
-ghost use Rattle.nr_fill.specs.Pieces.{nothing_collected};
-ghost use Rattle.nr_store.specs.Requests.{request_names};
-ghost use Rattle.nr_store.specs.Stored.{nothing};
+ghost use Rattle.nr_fill.specs.Piece.{nothing_collected};
+ghost use Rattle.nr_store.specs.Request.{request_names};
+ghost use Rattle.nr_store.specs.Store.{nothing};
 ghost use Rattle.nr_formatter.specs.Beginning.{first_formatter, with_first};
 ghost use Rattle.nr_formatter.specs.Places.{outlet, present_place};
 

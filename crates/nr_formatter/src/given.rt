@@ -43,7 +43,7 @@ pub enum GivenRegister {
 
 impl GivenRegister {
     ghost use Rattle.std.specs.Prelude.{◌≡◌, is_some};
-    ghost use Rattle.nr_reading.specs.Asking.{is_given};
+    ghost use Rattle.nr_reading.specs.Ask.{is_given};
     ghost use Rattle.nr_formatter.specs.Given.{dotted, given_by_byte, given_by_bytes, given_named};
 
     /// The register of a name of one byte.

@@ -1,6 +1,6 @@
 //! The formatter between two moves, and the moves that touch neither the source nor the page nor the output.
 //!
-//! It stands on nr_units, nr_settings, nr_fill, nr_reading, nr_pool, nr_levels, nr_tables, nr_store and
+//! It stands on nr_units, nr_settings, nr_fill, nr_reading, nr_pool, nr_levels, nr_symbol_tables, nr_store and
 //! nr_input. To read: `request_line`, `tasks`, `paper`, `formatter`; `limits`, `passed`; then a file for each
 //! matter, in any order: `text`, `motions`, `lines`, `titles`, `pages`, `numbering`, `spacing`, `traps`,
 //! `springing`, `diversion_row`, `diversions`, `given`, `registers`, `names`, `conditions`, `settings`,

@@ -1,6 +1,6 @@
 //! The ends of words, which lines go out, and breaks. (CSTR 54, section 4.)
 ghost use Rattle.std.specs.Prelude.{◌≡◌, ◌<◌, Bool, false, is_none, OnOk, length};
-ghost use Rattle.nr_fill.specs.Lined.{afforded};
+ghost use Rattle.nr_fill.specs.Line.{afforded};
 ghost use Rattle.nr_reading.specs.declared.event.Event.TheVariants as events;
 ghost use Rattle.nr_formatter.specs.Access.{collected, with_collected};
 ghost use Rattle.nr_formatter.specs.Limits.{limits_of};

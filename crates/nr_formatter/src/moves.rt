@@ -2,7 +2,7 @@
 ghost use Rattle.std.specs.Prelude.{◌≡◌, ◌≢◌, true, OnOk};
 ghost use Rattle.nr_reading.specs.declared.event.Event.TheVariants as events;
 ghost use Rattle.nr_formatter.specs.declared.tasks.Task.TheVariants as tasks;
-ghost use Rattle.nr_fill.specs.Lined.{afforded};
+ghost use Rattle.nr_fill.specs.Line.{afforded};
 ghost use Rattle.nr_formatter.specs.Limits.{IsWithin, judged, limits_of};
 ghost use Rattle.nr_formatter.specs.Moves.{is_text, text_heard, heard_for, task_requested, font_set, width_given, control, heard_beside, heard, read_in, gone_on, worked, works};
 ghost use Rattle.nr_formatter.specs.Registers.{splice_checked};

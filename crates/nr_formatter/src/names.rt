@@ -1,8 +1,8 @@
 //! Names and the texts that they stand for. (CSTR 54, section 7)
 ghost use Rattle.std.specs.Prelude.{◌≡◌, ◌≤◌, length, OnOk, Some};
-ghost use Rattle.nr_store.specs.Stored.{afforded, charge_of};
+ghost use Rattle.nr_store.specs.Store.{afforded, charge_of};
 ghost use Rattle.nr_formatter.specs.Limits.{IsWithin, limits_of, stored_limits};
-ghost use Rattle.nr_formatter.specs.Naming.{with_lines, named_definition, de, am, ig, rm, rn, cc, c2, cp, with_words, hw};
+ghost use Rattle.nr_formatter.specs.Names.{with_lines, named_definition, de, am, ig, rm, rn, cc, c2, cp, with_words, hw};
 
 use crate::formatter::Formatter;
 use crate::tasks::{Resume, Task};

@@ -1,6 +1,6 @@
 //! Registers. (CSTR 54, section 8)
 ghost use Rattle.std.specs.Prelude.{◌≡◌, ◌<◌, ◌^◌, [], OnOk, OnErr, None, Some, unsigned_abs};
-ghost use Rattle.nr_store.specs.Stored.{afforded};
+ghost use Rattle.nr_store.specs.Store.{afforded};
 ghost use Rattle.nr_reading.specs.declared.event.Event.TheVariants as events;
 ghost use Rattle.nr_input.specs.Weights.{Splices};
 ghost use Rattle.nr_formatter.specs.Access.{diversion};

@@ -15,7 +15,7 @@ pub struct RequestLine {
 
 impl Model for RequestLine {
     ghost use Rattle.std.specs.Prelude.{ℕ, List, length, take};
-    ghost use Rattle.nr_formatter.specs.RequestLines.{IsFilled, filled, filled-take, length-take_filled};
+    ghost use Rattle.nr_formatter.specs.RequestLine.{IsFilled, filled, filled-take, length-take_filled};
 
     ghost Value = { List ℕ };
 

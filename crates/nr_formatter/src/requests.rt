@@ -1,6 +1,6 @@
 //! What each request does, one under each name. (CSTR 54, request reference and index; groff manual, `.cp`)
 ghost use Rattle.std.specs.Prelude.{◌≡◌, OnOk};
-ghost use Rattle.nr_store.specs.Stored.{afforded};
+ghost use Rattle.nr_store.specs.Store.{afforded};
 ghost use Rattle.nr_formatter.specs.Limits.{IsWithin, limits_of};
 ghost use Rattle.nr_formatter.specs.Requests.{breaks, act};
 

@@ -1,6 +1,6 @@
 //! What is read of a text line goes into the collected line. (CSTR 54, sections 4, 9, 10, 11 and 13.)
 ghost use Rattle.std.specs.Prelude.{◌≡◌, OnOk};
-ghost use Rattle.nr_fill.specs.Lined.{afforded};
+ghost use Rattle.nr_fill.specs.Line.{afforded};
 ghost use Rattle.nr_formatter.specs.Access.{margins};
 ghost use Rattle.nr_formatter.specs.Limits.{IsWithin, limits_of};
 ghost use Rattle.nr_formatter.specs.Text.{line_begun, put, character, letter, blank_cell, gap_blank, blank, tab, text_byte, dash, dash_end, finish_dash, hyphen, special, cells, horizontal, ruled, mark, percent, break_word, line_end, text_sign, text};

@@ -1,7 +1,7 @@
 //! Titles of three parts. (CSTR 54, section 14.)
 ghost use Rattle.std.specs.Prelude.{◌≡◌, ◌≤◌, ◌∷◌, [], map, replicate, OnOk};
-ghost use Rattle.nr_fill.specs.Lined.{afforded};
-ghost use Rattle.nr_fill.specs.Pieces.{line_cells};
+ghost use Rattle.nr_fill.specs.Line.{afforded};
+ghost use Rattle.nr_fill.specs.Piece.{line_cells};
 ghost use Rattle.nr_settings.specs.Fonts.{cell_of};
 ghost use Rattle.nr_formatter.specs.Access.{cell as cell_in};
 ghost use Rattle.nr_formatter.specs.Limits.{IsWithin, limits_of};

@@ -1,8 +1,8 @@
 //! Page traps and input line traps. (CSTR 54, section 7.5)
 ghost use Rattle.std.specs.Prelude.{◌≡◌, OnOk};
 ghost use Rattle.nr_formatter.specs.Limits.{IsWithin, limits_of};
-ghost use Rattle.nr_formatter.specs.Trapping.{wh, ch, it};
-ghost use Rattle.nr_store.specs.Stored.{afforded};
+ghost use Rattle.nr_formatter.specs.Traps.{wh, ch, it};
+ghost use Rattle.nr_store.specs.Store.{afforded};
 
 use crate::formatter::{Formatter, InputTrap};
 use crate::tasks::Task;

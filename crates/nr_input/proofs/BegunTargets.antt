@@ -5,8 +5,8 @@ use Rattle.std.proofs.Common.{inl, inr, ◌≡◌, ℕ, ◌+◌, ◌-◌, ◌*�
 use Rattle.std.proofs.lemmas.Bool.{cases_lt, le-ltb}
 use Rattle.std.proofs.lemmas.List.{length-map, length-drop, length-take, take_all, drop-map}
 use Rattle.std.proofs.lemmas.List.Sums.{sum_by-cons}
-use Rattle.nr_units.specs.Supply.{Supply}
-use Rattle.nr_store.specs.Stored.{Stored, Built, begun, charge_of, gathering, reading_bytes, weight}
+use Rattle.nr_units.specs.Source.{Supply}
+use Rattle.nr_store.specs.Store.{Stored, Built, begun, charge_of, gathering, reading_bytes, weight}
 use Rattle.nr_store.specs.Windows.{rest_of, left_times, run_left}
 use Rattle.nr_store.specs.Laws.{left_times-run}
 use Rattle.nr_store.specs.declared.element.Element.TheVariants as elements
@@ -21,11 +21,11 @@ use Rattle.nr_input.specs.declared.many.target.Target.{Target}
 use Rattle.nr_input.specs.declared.many.target.Target.TheVariants.{Argument, Text}
 use Rattle.nr_input.specs.Acting.{Acted, act, done, idle, is_look}
 use Rattle.nr_input.specs.Many.Beginnings.{begins_target}
-use Rattle.nr_input.specs.Coming.{Coming, Reached, HoldsComing}
+use Rattle.nr_input.specs.Place.{Coming, Reached, HoldsComing}
 use Rattle.nr_input.specs.Moving.{situation}
-use Rattle.nr_input.specs.Refusals.{called, acted, acted_by, answer, storing_answer, storing_by}
+use Rattle.nr_input.specs.Refusal.{called, acted, acted_by, answer, storing_answer, storing_by}
 use Rattle.nr_input.specs.Many.Runs.{HasRead, PaysAll}
-use Rattle.nr_input.specs.Many.Targets.{is_read_for, with_more}
+use Rattle.nr_input.specs.Many.Target.{is_read_for, with_more}
 use Rattle.nr_input.specs.Weights.{diversions_in, diversions_of}
 use Rattle.nr_input.proofs.ControlLines.{done_read, pays_once}
 use Rattle.nr_input.proofs.Interpolated.{charge-reading, charge-more}

@@ -3,7 +3,7 @@ use Rattle.std.specs.Prelude.{map, drop, take, slice_index}
 use Rattle.std.proofs.Common.{◌≡◌, ◌≢◌, ℕ, zero, suc, ◌+◌, ◌-◌, ◌*◌, ◌<◌, ◌≤◌, ◌==◌, Bool, true, false, List, [], ◌∷◌, length, Some, Ok, inl, inr, All, refl, ap, sym, ◌∙◌, subst, length-drop, arith}
 use Rattle.std.proofs.lemmas.Bool.{cases_Bool, cases_lt, cond-false, le-ltb, eqb-true}
 use Rattle.std.proofs.lemmas.List.{get_or-drop, get_or-take, length-map, length-take, take_all}
-use Rattle.nr_store.specs.Stored.{Stored, charge_of}
+use Rattle.nr_store.specs.Store.{Stored, charge_of}
 use Rattle.nr_store.specs.declared.element.Element.TheVariants as elements
 use Rattle.nr_reading.specs.declared.event.Event.TheVariants as events
 use Rattle.nr_reading.specs.declared.half.Half.{Half}
@@ -17,8 +17,8 @@ use Rattle.nr_input.specs.declared.many.target.Target.TheVariants.{Text}
 use Rattle.nr_input.specs.Acting.{act, next}
 use Rattle.nr_input.specs.Many.BodyLines.{is_in_body, IsLine, IsOwn}
 use Rattle.nr_input.specs.Many.MacroLines.{ReadsOn}
-use Rattle.nr_input.specs.Refusals.{called, acted, acted_by, storing_by, storing_answer}
-use Rattle.nr_input.specs.Many.Targets.{with_more}
+use Rattle.nr_input.specs.Refusal.{called, acted, acted_by, storing_by, storing_answer}
+use Rattle.nr_input.specs.Many.Target.{with_more}
 use Rattle.nr_input.proofs.BodyBytes.{line_mode, in_body-is, in_line, own_met, other_met, escape_met}
 use Rattle.nr_input.proofs.MacroBytes.{half_in, is_half_in}
 use Rattle.nr_input.proofs.MacroLines.{reads_then, reads_still, reads_none, reads_met, reads_due}

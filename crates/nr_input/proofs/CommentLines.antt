@@ -4,7 +4,7 @@ use Rattle.std.proofs.Common.{◌≡◌, ◌≢◌, ℕ, zero, suc, ◌+◌, ◌
 use Rattle.std.proofs.lemmas.Bool.{cases_Bool, ne_eqb}
 use Rattle.std.proofs.lemmas.List.{get_or-drop, get_or-take, length-map, length-take}
 use Rattle.std.proofs.lemmas.List.Elements.{All-get_or}
-use Rattle.nr_store.specs.Stored.{Stored}
+use Rattle.nr_store.specs.Store.{Stored}
 use Rattle.nr_reading.specs.declared.front.Front.{Front}
 use Rattle.nr_reading.specs.declared.front.Front.TheVariants as fronts
 use Rattle.nr_reading.specs.declared.half.Half.{Half}
@@ -17,7 +17,7 @@ use Rattle.nr_reading.specs.declared.mode.Mode.TheVariants as modes
 use Rattle.nr_reading.specs.Many.LineBeginnings.{begins_control}
 use Rattle.nr_reading.specs.Many.Passing.{quiet}
 use Rattle.nr_reading.specs.Many.Runs.{HasMet}
-use Rattle.nr_reading.specs.Spelling.{nothing_spelled}
+use Rattle.nr_reading.specs.Spelled.{nothing_spelled}
 use Rattle.nr_reading.proofs.Asked.{half_at}
 use Rattle.nr_input.specs.declared.reader.Reader.{Reader}
 use Rattle.nr_input.specs.Many.CommentLines.{is_at_start, is_at_start_in, IsComment, commented}

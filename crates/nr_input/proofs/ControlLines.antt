@@ -3,8 +3,8 @@ use Rattle.std.specs.Prelude.{map, drop, not, ◌⊎◌}
 use Rattle.std.proofs.Common.{◌≡◌, ℕ, zero, suc, ◌+◌, ◌-◌, ◌<◌, ◌≤◌, ◌==◌, Bool, false, List, [], length, take, Option, Ok, Result, inl, inr, refl, ap, ap₂, sym, ◌∙◌, subst, length-drop, arith}
 use Rattle.std.proofs.lemmas.Bool.{cases_lt}
 use Rattle.std.proofs.lemmas.List.{get_or-drop, drop-drop, drop-take}
-use Rattle.nr_units.specs.Supply.{Supply, Faults, Never, After, Anytime, MayGiveAll, later}
-use Rattle.nr_store.specs.Stored.{Stored}
+use Rattle.nr_units.specs.Source.{Supply, Faults, Never, After, Anytime, MayGiveAll, later}
+use Rattle.nr_store.specs.Store.{Stored}
 use Rattle.nr_store.specs.declared.named.Meaning.{Meaning}
 use Rattle.nr_store.specs.declared.named.Meaning.TheVariants as meanings
 use Rattle.nr_reading.specs.declared.event.Event.{Event}
@@ -24,9 +24,9 @@ use Rattle.nr_input.specs.declared.reader.Reader.{Reader}
 use Rattle.nr_input.specs.declared.refusal.Refusal.{Refusal}
 use Rattle.nr_input.specs.declared.told.Told.TheVariants as tells
 use Rattle.nr_input.specs.Acting.{Acted, act, done, meaning_in, behind_meaning, calls_of, is_look}
-use Rattle.nr_input.specs.Refusals.{Called, called, acted, answer}
+use Rattle.nr_input.specs.Refusal.{Called, called, acted, answer}
 use Rattle.nr_input.specs.Many.AtHand.{ComeNext}
-use Rattle.nr_input.specs.Coming.{Coming, Reached, HoldsComing}
+use Rattle.nr_input.specs.Place.{Coming, Reached, HoldsComing}
 use Rattle.nr_input.specs.Moving.{Situation, Stands, situation, move, Goes, GoesBy, burst_past}
 use Rattle.nr_input.specs.Many.Runs.{HasRead, PaysAll, moves, told_last, behind_run, inside_behind, passed_run}
 use Rattle.nr_input.specs.Weights.{Pays, byte_worth, diversions_in}

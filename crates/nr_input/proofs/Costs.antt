@@ -1,8 +1,8 @@
 -- What those who read events set, splice and spring is paid, or costs little.
 use Rattle.std.specs.Prelude.{is_some}
 use Rattle.std.proofs.Common.{◌≡◌, ℕ, ◌+◌, ◌-◌, ◌*◌, ◌<◌, ◌≤◌, Bool, true, false, List, [], Option, None, Some, Result, Ok, Err, refl, ap, arith}
-use Rattle.nr_tables.specs.Named.{find}
-use Rattle.nr_store.specs.Stored.{Stored, begun, words, reading, shared_by, entered, reading_bytes}
+use Rattle.nr_symbol_tables.specs.Table.{find}
+use Rattle.nr_store.specs.Store.{Stored, begun, words, reading, shared_by, entered, reading_bytes}
 use Rattle.nr_store.specs.Laws.{named_weighs}
 use Rattle.nr_store.specs.declared.element.Element.{Element}
 use Rattle.nr_store.specs.declared.refusal.StoredBytes.{StoredBytes}
@@ -24,7 +24,7 @@ use Rattle.nr_input.specs.declared.refusal.Refusal.{Refusal}
 use Rattle.nr_input.specs.declared.splicing.Definition.{Definition}
 use Rattle.nr_input.specs.declared.splicing.Definition.TheVariants as definitions
 use Rattle.nr_input.specs.Acting.{on_half, idle, expanded}
-use Rattle.nr_input.specs.Refusals.{Called, called, splicing_answer}
+use Rattle.nr_input.specs.Refusal.{Called, called, splicing_answer}
 use Rattle.nr_input.specs.Splicing.{giving, springing, springing_text, base, base_answer, keeps, beginning, defining_lines}
 use Rattle.nr_input.specs.Weights.{CostsAtMost, Defines, Splices, Springs, expansions_worth}
 use Rattle.nr_input.proofs.Items.{expansions_worth-spent}

@@ -1,16 +1,16 @@
 -- What is due as a move of the machine, and where a refused move leaves it.
 use Rattle.std.proofs.Common.{◌≡◌, false, Option, Ok, Err, refl, ap, sym, subst, ◌∙◌}
 use Rattle.std.proofs.lemmas.Bool.{cond-false}
-use Rattle.nr_units.specs.Supply.{Supply}
-use Rattle.nr_store.specs.Stored.{Stored}
+use Rattle.nr_units.specs.Source.{Supply}
+use Rattle.nr_store.specs.Store.{Stored}
 use Rattle.nr_reading.specs.declared.event.Event.{Event}
 use Rattle.nr_input.specs.declared.reader.Reader.{Reader}
 use Rattle.nr_input.specs.declared.refusal.Refusal.{Refusal}
 use Rattle.nr_input.specs.declared.told.Told.TheVariants as tells
 use Rattle.nr_input.specs.Acting.{Acted, act, is_look}
-use Rattle.nr_input.specs.Coming.{Coming, Reached, HoldsComing}
+use Rattle.nr_input.specs.Place.{Coming, Reached, HoldsComing}
 use Rattle.nr_input.specs.Moving.{Situation, Move, situation, look, acted_at, move, Stands, GoesBy, RefusesBy, AfterMove}
-use Rattle.nr_input.specs.Refusals.{answer, called, acted}
+use Rattle.nr_input.specs.Refusal.{answer, called, acted}
 use Rattle.nr_input.proofs.Refusals.{acted-ok, called-err}
 
 module _ {K : Type 0} (v w : Stored K) (r s : Reader) (c : Coming) (p : Reached) (supply : Option Supply) (due : is_look r.half.reading.due ≡ false) (holds : HoldsComing c p supply) where

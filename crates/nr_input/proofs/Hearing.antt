@@ -1,21 +1,21 @@
 -- What is told of an item that is taken, with the mode beside it.
 use Rattle.std.specs.Prelude.{if◌then◌else◌}
 use Rattle.std.proofs.Common.{◌≡◌, ℕ, true, Option, refl, ap, ap₂, sym, ◌∙◌, subst}
-use Rattle.nr_units.specs.Supply.{Supply}
-use Rattle.nr_store.specs.Stored.{Stored, shown, left}
+use Rattle.nr_units.specs.Source.{Supply}
+use Rattle.nr_store.specs.Store.{Stored, shown, left}
 use Rattle.nr_store.specs.Sights.{shown_with}
 use Rattle.nr_store.specs.declared.shown.Sight.{Sight}
 use Rattle.nr_store.specs.declared.shown.Sight.TheVariants as sights
-use Rattle.nr_reading.specs.Meeting.{Met, meet}
+use Rattle.nr_reading.specs.Half.{Met, meet}
 use Rattle.nr_reading.specs.declared.event.Event.{Event}
 use Rattle.nr_reading.specs.declared.front.Front.{Front}
 use Rattle.nr_reading.specs.declared.half.Half.{Half}
 use Rattle.nr_input.specs.declared.reader.Reader.{Reader}
 use Rattle.nr_input.specs.declared.told.Told.{Told}
 use Rattle.nr_input.specs.Acting.{is_look}
-use Rattle.nr_input.specs.Coming.{Coming, Reached, HoldsComing, MayLook, front, behind}
+use Rattle.nr_input.specs.Place.{Coming, Reached, HoldsComing, MayLook, front, behind}
 use Rattle.nr_input.specs.Moving.{Situation, situation, Move, told_of, taken_at, met_at, look, acted_at, move, burst_past, burst_behind, Stands, Goes, GoesBy}
-use Rattle.nr_input.specs.Hearing.{heard_of, told_as}
+use Rattle.nr_input.specs.Told.{heard_of, told_as}
 
 pub heard_is : {K : Type 0} → (s : Sight) (mode : K) (e : Event) → told_as mode (heard_of s e) ≡ told_of (shown_with s mode) e
 heard_is (sights.Item x) mode e = refl

@@ -5,10 +5,10 @@ use Rattle.std.proofs.Common.{◌≡◌, ◌==◌, ℕ, ◌+◌, ◌*◌, ◌<�
 use Rattle.std.proofs.lemmas.Bool.{cases_lt, cases_Bool, le-ltb, lt-leb, eq-eqb}
 use Rattle.std.proofs.lemmas.List.{length-map, length-take, take_all, drop_all}
 use Rattle.std.proofs.lemmas.List.Sums.{sum_by-cons}
-use Rattle.nr_units.specs.Supply.{Supply}
-use Rattle.nr_levels.specs.Gathered.{Gathered, gathered_len, with_bytes}
+use Rattle.nr_units.specs.Source.{Supply}
+use Rattle.nr_levels.specs.Gathering.{Gathered, gathered_len, with_bytes}
 use Rattle.nr_levels.specs.Laws.{with_bytes-full, with_bytes-more}
-use Rattle.nr_store.specs.Stored.{Stored, Built, Level, Read, Shared, charge_of, checked, level_charge, text_charge, own_text, reading, reading_bytes, weight, longer, on_newest}
+use Rattle.nr_store.specs.Store.{Stored, Built, Level, Read, Shared, charge_of, checked, level_charge, text_charge, own_text, reading, reading_bytes, weight, longer, on_newest}
 use Rattle.nr_store.specs.Windows.{rest_of, left_times}
 use Rattle.nr_store.specs.Laws.{left_times-run}
 use Rattle.nr_store.specs.declared.element.Element.{Element}
@@ -22,7 +22,7 @@ use Rattle.nr_reading.specs.declared.half.Half.{Half}
 use Rattle.nr_reading.specs.declared.mode.Due.TheVariants as dues
 use Rattle.nr_reading.specs.Many.InArgument.{ending_of, IsPlain}
 use Rattle.nr_reading.specs.Many.KeptBytes.{HasKept}
-use Rattle.nr_reading.specs.Meeting.{Met, meet, silent}
+use Rattle.nr_reading.specs.Half.{Met, meet, silent}
 use Rattle.nr_reading.specs.Many.Passing as passing
 use Rattle.nr_reading.specs.Many.Runs.{Spot, HasMet}
 use Rattle.nr_reading.proofs.Marks.{meet-mark}
@@ -32,12 +32,12 @@ use Rattle.nr_input.specs.declared.many.target.Target.TheVariants.{Argument, Tex
 use Rattle.nr_input.specs.declared.told.Told.TheVariants as tells
 use Rattle.nr_input.specs.declared.refusal.Refusal.{Refusal}
 use Rattle.nr_input.specs.Acting.{Acted, expanded, is_look}
-use Rattle.nr_input.specs.Coming.{Coming, Reached, HoldsComing, element_front}
+use Rattle.nr_input.specs.Place.{Coming, Reached, HoldsComing, element_front}
 use Rattle.nr_input.specs.Many.Interpolations.{HasRoom, IsSplice}
 use Rattle.nr_input.specs.Moving.{Situation, situation, met_at, move, Goes}
-use Rattle.nr_input.specs.Refusals.{called, acted, acted_by, splicing_by, splicing_answer}
+use Rattle.nr_input.specs.Refusal.{called, acted, acted_by, splicing_by, splicing_answer}
 use Rattle.nr_input.specs.Many.Runs.{HasRead, PaysAll, moves, told_last}
-use Rattle.nr_input.specs.Many.Targets.{is_read_for, with_more}
+use Rattle.nr_input.specs.Many.Target.{is_read_for, with_more}
 use Rattle.nr_input.specs.Weights.{items_in}
 use Rattle.nr_input.proofs.ControlLines.{then_read, quietly_add, done_quietly, pays_then, pays_once}
 use Rattle.nr_input.proofs.Putting.{Quietly, quiet, one_more, no_moves, has_read_quietly}

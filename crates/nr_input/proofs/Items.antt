@@ -2,7 +2,7 @@
 use Rattle.std.proofs.Common.{◌≡◌, ℕ, ◌+◌, ◌-◌, ◌*◌, ◌<◌, ◌≤◌, List, [], ◌∷◌, Option, None, Some, refl, ap, sym, ◌∙◌, arith}
 use Rattle.std.proofs.lemmas.List.Sums.{sum_by-cons}
 use Rattle.std.proofs.Math.Nat.{mul-le-mul_right}
-use Rattle.nr_store.specs.Stored.{Stored, Level, Read, Mark, Reading, left_of, left_in}
+use Rattle.nr_store.specs.Store.{Stored, Level, Read, Mark, Reading, left_of, left_in}
 use Rattle.nr_store.specs.declared.element.Element.{Element}
 use Rattle.nr_input.specs.Weights.{items_in, items_left, expansion_worth, expansions_worth}
 

@@ -1,13 +1,13 @@
 -- Moves of the machine that reads behind moves that told nothing.
 use Rattle.std.proofs.Common.{◌≡◌, ℕ, ◌+◌, Option, inl, inr, refl, ap₂, subst, arith}
 use Rattle.std.proofs.lemmas.Bool.{cases_lt}
-use Rattle.nr_units.specs.Supply.{Supply}
-use Rattle.nr_store.specs.Stored.{Stored}
+use Rattle.nr_units.specs.Source.{Supply}
+use Rattle.nr_store.specs.Store.{Stored}
 use Rattle.nr_reading.specs.declared.event.Event.{Event}
 use Rattle.nr_reading.specs.declared.event.Event.TheVariants as events
 use Rattle.nr_input.specs.declared.reader.Reader.{Reader}
 use Rattle.nr_input.specs.declared.told.Told.TheVariants as tells
-use Rattle.nr_input.specs.Coming.{Coming, Reached, HoldsComing}
+use Rattle.nr_input.specs.Place.{Coming, Reached, HoldsComing}
 use Rattle.nr_input.specs.Moving.{Situation, situation}
 use Rattle.nr_input.specs.Many.Runs.{HasRead, moves, told_last}
 use Rattle.nr_input.proofs.ControlLines.{then_read}

@@ -2,8 +2,8 @@
 use Rattle.std.specs.Prelude.{◌&&◌, nat_lt, nat_le}
 use Rattle.std.proofs.Common.{◌≡◌, ℕ, ◌+◌, ◌≤◌, ◌==◌, Bool, true, false, if◌then◌else◌, List, [], ◌∷◌, Option, Result, Ok, Err, refl, ap, ap₂, sym, ◌∙◌, subst, arith}
 use Rattle.std.proofs.lemmas.Bool.{eq-eqb, lt-leb, ltb-true}
-use Rattle.nr_units.specs.Supply.{Supply}
-use Rattle.nr_store.specs.Stored.{Stored, Level, Read, Mark, Reading, shown, left, left_of, afforded, checked}
+use Rattle.nr_units.specs.Source.{Supply}
+use Rattle.nr_store.specs.Store.{Stored, Level, Read, Mark, Reading, shown, left, left_of, afforded, checked}
 use Rattle.nr_store.specs.declared.element.Element.{Element}
 use Rattle.nr_store.specs.declared.refusal.Refusal as stored
 use Rattle.nr_store.specs.declared.refusal.Refusal.TheVariants as stores
@@ -23,8 +23,8 @@ use Rattle.nr_input.specs.declared.refusal.Refusal.{Refusal}
 use Rattle.nr_input.specs.declared.refusal.Refusal.TheVariants as refusals
 use Rattle.nr_input.specs.declared.told.Told.TheVariants as tells
 use Rattle.nr_input.specs.Acting.{Acted, act, is_look, meaning_in, calls_of}
-use Rattle.nr_input.specs.Refusals.{called, acted, answer, answer_to, asking, Asking, Nothing, Bytes, Splice, Refused, stored_by, reader_by, storing_by, splicing_by}
-use Rattle.nr_input.specs.Coming.{Coming, Reached, HoldsComing, MayLook, front, behind, front_seen, passed_in}
+use Rattle.nr_input.specs.Refusal.{called, acted, answer, answer_to, asking, Asking, Nothing, Bytes, Splice, Refused, stored_by, reader_by, storing_by, splicing_by}
+use Rattle.nr_input.specs.Place.{Coming, Reached, HoldsComing, MayLook, front, behind, front_seen, passed_in}
 use Rattle.nr_input.specs.Many.Levels.{acts_by, may_act}
 use Rattle.nr_input.specs.Moving.{Situation, Stands, situation, move, Goes, told_of, burst_past}
 use Rattle.nr_input.specs.Many.Runs.{HasRead, PaysAll, PaysMany, moves, told_last}

@@ -2,8 +2,8 @@
 use Rattle.std.specs.Prelude.{map}
 use Rattle.std.proofs.Common.{◌≡◌, ℕ, zero, suc, ◌+◌, ◌≤◌, Bool, true, false, List, [], ◌∷◌, length, drop, Option, Result, Ok, refl, ap, sym, ◌∙◌, subst, length-drop, arith}
 use Rattle.std.proofs.lemmas.List.{length-map, drop-map, drop_all}
-use Rattle.nr_units.specs.Supply.{Supply}
-use Rattle.nr_store.specs.Stored.{Stored, Level, Read, Mark, left}
+use Rattle.nr_units.specs.Source.{Supply}
+use Rattle.nr_store.specs.Store.{Stored, Level, Read, Mark, left}
 use Rattle.nr_store.specs.Windows.{rest_of, left_times, levels_behind}
 use Rattle.nr_store.specs.Laws.{left_times-run}
 use Rattle.nr_store.specs.declared.named.Meaning.{Meaning}
@@ -17,11 +17,11 @@ use Rattle.nr_reading.specs.Seeking.{sought_event}
 use Rattle.nr_input.specs.declared.reader.Reader.{Reader}
 use Rattle.nr_input.specs.declared.refusal.Refusal.{Refusal}
 use Rattle.nr_input.specs.Acting.{behind_meaning, calls_of, meaning_in}
-use Rattle.nr_input.specs.Coming.{Coming, Reached, HoldsComing, element_front}
+use Rattle.nr_input.specs.Place.{Coming, Reached, HoldsComing, element_front}
 use Rattle.nr_input.specs.Many.LevelRows.{behind_name, begun_by, is_text}
 use Rattle.nr_input.specs.Limits.{limits_of}
 use Rattle.nr_input.specs.Moving.{situation}
-use Rattle.nr_input.specs.Refusals.{called, acted}
+use Rattle.nr_input.specs.Refusal.{called, acted}
 use Rattle.nr_input.specs.Many.Runs.{HasRead, PaysAll}
 use Rattle.nr_input.proofs.ControlLines.{done_read, pays_then, seek_pays, seeks, waits}
 use Rattle.nr_input.proofs.Interpolated.{read_then}

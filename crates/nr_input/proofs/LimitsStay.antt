@@ -1,8 +1,8 @@
 -- No call changes the limits, whether it is refused or not.
 use Rattle.std.specs.Option.{option_and_then}
 use Rattle.std.proofs.Common.{◌≡◌, ℕ, zero, suc, Bool, true, false, if◌then◌else◌, List, [], ◌∷◌, Option, None, Some, Result, Ok, Err, refl, ap, ◌∙◌}
-use Rattle.nr_tables.specs.Named.{find}
-use Rattle.nr_store.specs.Stored.{Stored, Built, Level, Read, Mark, Reading, begun, text_of, defined, named_newest, words, entered, called as called_text, reading_bytes, written, gone_on, left, left_of}
+use Rattle.nr_symbol_tables.specs.Table.{find}
+use Rattle.nr_store.specs.Store.{Stored, Built, Level, Read, Mark, Reading, begun, text_of, defined, named_newest, words, entered, called as called_text, reading_bytes, written, gone_on, left, left_of}
 use Rattle.nr_store.specs.Windows.{left_times}
 use Rattle.nr_store.specs.declared.element.Element.{Element}
 use Rattle.nr_store.specs.declared.named.Meaning.{Meaning}
@@ -19,9 +19,9 @@ use Rattle.nr_input.specs.declared.many.target.Target.{Target}
 use Rattle.nr_input.specs.declared.many.target.Target.TheVariants.{Argument, Text}
 use Rattle.nr_input.specs.Acting.{act, splicing, has_text, name_in, meaning_in, behind_meaning, expanded}
 use Rattle.nr_input.specs.Limits.{Limits, limits_of}
-use Rattle.nr_input.specs.Refusals.{Called, called, called_by, answer, acted, splicing_answer}
+use Rattle.nr_input.specs.Refusal.{Called, called, called_by, answer, acted, splicing_answer}
 use Rattle.nr_input.specs.Splicing.{giving}
-use Rattle.nr_input.specs.Many.Targets.{with_more}
+use Rattle.nr_input.specs.Many.Target.{with_more}
 
 -- ---- what is stored
 

@@ -4,7 +4,7 @@ use Rattle.std.specs.Option.{option_map}
 use Rattle.std.proofs.Common.{◌≡◌, ℕ, zero, suc, ◌+◌, ◌-◌, ◌*◌, ◌^◌, ◌<◌, ◌≤◌, true, List, [], ◌∷◌, length, take, drop, Some, refl, ap, sym, ◌∙◌, subst, arith}
 use Rattle.std.proofs.lemmas.List.{length-map, length-take, get_or-take}
 use Rattle.std.proofs.lemmas.Option.{slice_get-map, slice_get-get_or}
-use Rattle.nr_store.specs.Stored.{Stored, Level, Read, Mark, charge_of}
+use Rattle.nr_store.specs.Store.{Stored, Level, Read, Mark, charge_of}
 use Rattle.nr_store.specs.Windows.{rest_of, left_times, levels_behind}
 use Rattle.nr_store.specs.Laws.{left_times-run}
 use Rattle.nr_store.specs.declared.element.Element.{Element}
@@ -17,9 +17,9 @@ use Rattle.nr_reading.specs.Many.InArgument.{ending_of, IsPlain}
 use Rattle.nr_reading.specs.Many.Runs.{Spot, HasMet}
 use Rattle.nr_input.specs.declared.reader.Reader.{Reader}
 use Rattle.nr_input.specs.declared.many.target.Target.{Target}
-use Rattle.nr_input.specs.Coming.{Reached, element_front}
+use Rattle.nr_input.specs.Place.{Reached, element_front}
 use Rattle.nr_input.specs.Many.Runs.{IsLongest, IsLongestInLevel}
-use Rattle.nr_input.specs.Many.Targets.{is_read_for, with_more}
+use Rattle.nr_input.specs.Many.Target.{is_read_for, with_more}
 
 -- no byte of the row stands there
 abbrev pub NoByteAt : List ℕ → ℕ → Type 0

@@ -18,7 +18,7 @@ use Rattle.nr_reading.specs.declared.mode.Escape.{Escape}
 use Rattle.nr_reading.specs.declared.mode.Escape.TheVariants as escapes
 use Rattle.nr_reading.specs.declared.mode.Mode.{Mode}
 use Rattle.nr_reading.specs.declared.mode.Mode.TheVariants as modes
-use Rattle.nr_reading.specs.Meeting.{meet, reads_next_at}
+use Rattle.nr_reading.specs.Half.{meet, reads_next_at}
 use Rattle.nr_reading.specs.Many.Passing.{quiet}
 use Rattle.nr_reading.specs.Many.Runs.{HasMet}
 use Rattle.nr_reading.proofs.Asked.{half_at}

@@ -3,8 +3,8 @@ use Rattle.std.specs.Prelude.{map, drop, take, slice_index, not}
 use Rattle.std.proofs.Common.{◌≡◌, ◌==◌, ℕ, zero, suc, ◌+◌, ◌-◌, ◌*◌, ◌<◌, ◌≤◌, Bool, true, false, List, [], length, All, Option, Some, Ok, Err, inl, inr, refl, ap, ap₂, sym, ◌∙◌, subst, length-drop, arith}
 use Rattle.std.proofs.lemmas.Bool.{cases_lt}
 use Rattle.std.proofs.lemmas.List.{length-map, length-take, get_or-take, take-take, take_all}
-use Rattle.nr_units.specs.Supply.{Supply, Faults, Never, After, Anytime, MayGiveAll}
-use Rattle.nr_store.specs.Stored.{Stored, afforded, charge_of}
+use Rattle.nr_units.specs.Source.{Supply, Faults, Never, After, Anytime, MayGiveAll}
+use Rattle.nr_store.specs.Store.{Stored, afforded, charge_of}
 use Rattle.nr_reading.specs.declared.event.Event.{Event}
 use Rattle.nr_reading.specs.declared.event.Event.TheVariants as events
 use Rattle.nr_reading.specs.declared.front.Front.TheVariants as fronts
@@ -19,14 +19,14 @@ use Rattle.nr_input.specs.declared.place.Ahead.TheVariants.{Unseen}
 use Rattle.nr_input.specs.declared.refusal.Refusal.{Refusal}
 use Rattle.nr_input.specs.declared.many.target.Target.TheVariants.{Argument}
 use Rattle.nr_input.specs.Acting.{act, is_look}
-use Rattle.nr_input.specs.Refusals.{called, acted, answer}
+use Rattle.nr_input.specs.Refusal.{called, acted, answer}
 use Rattle.nr_input.specs.Many.AtHand.{ComeNext}
-use Rattle.nr_input.specs.Coming.{Coming, Reached, HoldsComing}
+use Rattle.nr_input.specs.Place.{Coming, Reached, HoldsComing}
 use Rattle.nr_input.specs.Limits.{limits_of}
 use Rattle.nr_input.specs.Many.MacroLines.{ReadsOn, reached_behind}
 use Rattle.nr_input.specs.Moving.{situation}
 use Rattle.nr_input.specs.Many.Runs.{HasRead, PaysAll, behind_run, inside_behind, passed_run}
-use Rattle.nr_input.specs.Many.Targets.{with_more}
+use Rattle.nr_input.specs.Many.Target.{with_more}
 use Rattle.nr_input.specs.Weights.{newline_left, diversions_in}
 use Rattle.nr_input.proofs.ControlLines.{done_read, pays_then, pays_once, come_behind, run_on, inside_on}
 use Rattle.nr_input.proofs.Interpolated.{read_then, pays_nothing}

@@ -2,21 +2,21 @@
 use Rattle.std.specs.Prelude.{slice_get}
 use Rattle.std.proofs.Common.{◌≡◌, ℕ, zero, suc, ◌+◌, ◌*◌, ◌<◌, ◌≤◌, true, false, List, length, Option, Some, inl, inr, refl, ap, sym, ◌∙◌, subst, arith}
 use Rattle.std.proofs.lemmas.Bool.{cases_lt, cond-false, le-ltb}
-use Rattle.nr_units.specs.Supply.{Supply}
-use Rattle.nr_store.specs.Stored.{Stored, charge_of}
+use Rattle.nr_units.specs.Source.{Supply}
+use Rattle.nr_store.specs.Store.{Stored, charge_of}
 use Rattle.nr_reading.specs.declared.event.Event.TheVariants as events
 use Rattle.nr_reading.specs.declared.front.Front.{Front}
 use Rattle.nr_reading.specs.declared.front.Front.TheVariants as fronts
 use Rattle.nr_reading.specs.declared.half.Half.{Half}
 use Rattle.nr_reading.specs.declared.mode.Due.{Due}
 use Rattle.nr_reading.specs.declared.mode.Due.TheVariants as dues
-use Rattle.nr_reading.specs.Meeting.{Met, meet}
+use Rattle.nr_reading.specs.Half.{Met, meet}
 use Rattle.nr_reading.specs.Many.Runs.{Spot, MayGoOn, behind, behind_met}
 use Rattle.nr_input.specs.declared.reader.Reader.{Reader}
 use Rattle.nr_input.specs.declared.told.Told.TheVariants as tells
 use Rattle.nr_input.specs.Acting.{Acted, act, done, is_look, next, then_due, idle}
-use Rattle.nr_input.specs.Refusals.{answer, storing_by, storing_answer}
-use Rattle.nr_input.specs.Coming.{Coming, Reached}
+use Rattle.nr_input.specs.Refusal.{answer, storing_by, storing_answer}
+use Rattle.nr_input.specs.Place.{Coming, Reached}
 use Rattle.nr_input.specs.Moving.{Situation, Move, Stands, situation, move, Goes, GoesBy}
 use Rattle.nr_input.specs.Many.Runs.{HasRead, moves, told_last}
 use Rattle.nr_input.proofs.Rows.{Goings}

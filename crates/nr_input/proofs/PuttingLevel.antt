@@ -6,8 +6,8 @@ use Rattle.std.proofs.lemmas.List.{length-map, length-take, length-take-le, get_
 use Rattle.std.proofs.lemmas.List.Sums.{sum_by-cons}
 use Rattle.std.proofs.lemmas.Bool.{cases_lt}
 use Rattle.std.proofs.lemmas.Option.{slice_get-map, slice_get-get_or, get_or_from_slice_get}
-use Rattle.nr_units.specs.Supply.{Supply}
-use Rattle.nr_store.specs.Stored.{Stored, Level, Read, Mark, Reading, level_charge, charge_of}
+use Rattle.nr_units.specs.Source.{Supply}
+use Rattle.nr_store.specs.Store.{Stored, Level, Read, Mark, Reading, level_charge, charge_of}
 use Rattle.nr_store.specs.Windows.{rest_of, left_times, levels_behind, run_left}
 use Rattle.nr_store.specs.Laws.{left_times-run}
 use Rattle.nr_store.specs.declared.element.Element.{Element}
@@ -19,10 +19,10 @@ use Rattle.nr_reading.specs.Many.Runs.{Spot}
 use Rattle.nr_input.specs.declared.reader.Reader.{Reader}
 use Rattle.nr_input.specs.declared.many.target.Target.{Target}
 use Rattle.nr_input.specs.declared.many.target.Target.TheVariants.{Argument, Text}
-use Rattle.nr_input.specs.Coming.{Coming, Reached, HoldsComing, element_front}
+use Rattle.nr_input.specs.Place.{Coming, Reached, HoldsComing, element_front}
 use Rattle.nr_input.specs.Moving.{Situation, Stands, situation}
 use Rattle.nr_input.specs.Many.Runs.{HasRead, PaysAll, IsLeft}
-use Rattle.nr_input.specs.Many.Targets.{is_read_for, due_for, with_more}
+use Rattle.nr_input.specs.Many.Target.{is_read_for, due_for, with_more}
 use Rattle.nr_input.specs.Weights.{items_left, expansions_worth, diversions_in}
 use Rattle.nr_input.proofs.Rows.{at_level, with_rest, level_goings}
 use Rattle.nr_input.proofs.RowsRead.{items_behind}

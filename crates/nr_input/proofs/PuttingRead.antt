@@ -5,8 +5,8 @@ use Rattle.std.proofs.Common.{◌≡◌, ℕ, suc, ◌+◌, ◌*◌, ◌<◌, �
 use Rattle.std.proofs.lemmas.List.{length-map, length-take, get_or-take}
 use Rattle.std.proofs.lemmas.List.Elements.{All-get_or}
 use Rattle.std.proofs.lemmas.Option.{slice_get-map, slice_get-get_or}
-use Rattle.nr_units.specs.Supply.{Supply}
-use Rattle.nr_store.specs.Stored.{Stored, charge_of}
+use Rattle.nr_units.specs.Source.{Supply}
+use Rattle.nr_store.specs.Store.{Stored, charge_of}
 use Rattle.nr_reading.specs.declared.event.Event.TheVariants as events
 use Rattle.nr_reading.specs.declared.front.Front.TheVariants as fronts
 use Rattle.nr_reading.specs.declared.mode.Due.{Due}
@@ -15,10 +15,10 @@ use Rattle.nr_reading.specs.Many.Runs.{Spot}
 use Rattle.nr_input.specs.declared.reader.Reader.{Reader}
 use Rattle.nr_input.specs.declared.many.target.Target.{Target}
 use Rattle.nr_input.specs.Many.AtHand.{ComeNext}
-use Rattle.nr_input.specs.Coming.{Coming, Reached, HoldsComing}
+use Rattle.nr_input.specs.Place.{Coming, Reached, HoldsComing}
 use Rattle.nr_input.specs.Moving.{Situation, Stands, situation, burst_past}
 use Rattle.nr_input.specs.Many.Runs.{HasRead, PaysAll, behind_run, passed_run}
-use Rattle.nr_input.specs.Many.Targets.{is_read_for, due_for, with_more}
+use Rattle.nr_input.specs.Many.Target.{is_read_for, due_for, with_more}
 use Rattle.nr_input.specs.Weights.{items_left, expansions_worth, diversions_in}
 use Rattle.nr_input.proofs.Rows.{at_source, source_goings}
 use Rattle.nr_input.proofs.RowsRead.{begins_there, burst_some, some_taken, newline_left-le, worth_more, pays_each}

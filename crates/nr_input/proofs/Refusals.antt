@@ -1,11 +1,11 @@
 -- What a call that is allowed or not makes of what is stored and read.
 use Rattle.std.proofs.Common.{◌≡◌, Result, Ok, Err, refl, ap, ◌∙◌}
-use Rattle.nr_store.specs.Stored.{Stored}
+use Rattle.nr_store.specs.Store.{Stored}
 use Rattle.nr_reading.specs.declared.event.Event.{Event}
 use Rattle.nr_input.specs.declared.reader.Reader.{Reader}
 use Rattle.nr_input.specs.declared.refusal.Refusal.{Refusal}
 use Rattle.nr_input.specs.Acting.{Acted, done}
-use Rattle.nr_input.specs.Refusals.{Called, called, stored_by, reader_by, answered, called_by, acted_by}
+use Rattle.nr_input.specs.Refusal.{Called, called, stored_by, reader_by, answered, called_by, acted_by}
 
 answered-ok : {A : Type 0} (x : Result (Unit {0}) Refusal) (a b : A) → Ok b ≡ answered x a → (x ≡ Ok tt) × (b ≡ a)
 answered-ok (Ok x) a b is = (refl, cc)

@@ -5,9 +5,9 @@ use Rattle.std.proofs.Common.{◌≡◌, ℕ, zero, suc, ◌+◌, ◌-◌, ◌<�
 use Rattle.std.proofs.Math.Seq.{drop-cons}
 use Rattle.std.proofs.lemmas.Bool.{eq-eqb, ne_eqb}
 use Rattle.std.proofs.lemmas.List.{length-map, length-take, get_or-take}
-use Rattle.nr_units.specs.Supply.{Supply, Faults, Never, After, Anytime, MayGive, MayGiveAll, one_later, later}
+use Rattle.nr_units.specs.Source.{Supply, Faults, Never, After, Anytime, MayGive, MayGiveAll, one_later, later}
 use Rattle.std.proofs.lemmas.Option.{slice_get-map, slice_get-get_or}
-use Rattle.nr_store.specs.Stored.{Stored, Level, Read, Reading}
+use Rattle.nr_store.specs.Store.{Stored, Level, Read, Reading}
 use Rattle.nr_store.specs.declared.element.Element.{Element}
 use Rattle.nr_store.specs.declared.element.Element.TheVariants as elements
 use Rattle.nr_reading.specs.declared.event.Event.{Event}
@@ -16,12 +16,12 @@ use Rattle.nr_reading.specs.declared.front.Front.{Front}
 use Rattle.nr_reading.specs.declared.front.Front.TheVariants as fronts
 use Rattle.nr_reading.specs.declared.half.Half.{Half}
 use Rattle.nr_reading.specs.declared.mode.Due.TheVariants as dues
-use Rattle.nr_reading.specs.Meeting.{Met, meet}
+use Rattle.nr_reading.specs.Half.{Met, meet}
 use Rattle.nr_reading.specs.Many.Runs.{Spot, MayGoOn, HasMet, behind, behind_met, one_if, spot_after}
 use Rattle.nr_input.specs.declared.reader.Reader.{Reader}
 use Rattle.nr_input.specs.declared.told.Told.TheVariants as tells
 use Rattle.nr_input.specs.Many.AtHand.{ComeNext}
-use Rattle.nr_input.specs.Coming.{Coming, Reached, element_front}
+use Rattle.nr_input.specs.Place.{Coming, Reached, element_front}
 use Rattle.nr_input.specs.Moving.{Situation, Stands, situation, move, met_at, Goes, burst_past}
 use Rattle.nr_input.specs.Many.Runs.{HasRead, moves, told_last, behind_run, inside_behind}
 

@@ -4,8 +4,8 @@ use Rattle.std.proofs.Common.{◌≡◌, ℕ, zero, suc, ◌+◌, ◌-◌, ◌*�
 use Rattle.std.proofs.lemmas.Bool.{eq-eqb, ne_eqb}
 use Rattle.std.proofs.lemmas.List.{length-map, get_or-take}
 use Rattle.std.proofs.lemmas.List.Sums.{sum_by-cons}
-use Rattle.nr_units.specs.Supply.{Supply, Skips, Faults, Never, After, Anytime, later, skipped}
-use Rattle.nr_store.specs.Stored.{Stored, Level, Read, Mark}
+use Rattle.nr_units.specs.Source.{Supply, Skips, Faults, Never, After, Anytime, later, skipped}
+use Rattle.nr_store.specs.Store.{Stored, Level, Read, Mark}
 use Rattle.nr_store.specs.Windows.{rest_of, left_times, levels_behind, run_left}
 use Rattle.nr_store.specs.Laws.{left_times-run}
 use Rattle.nr_store.specs.declared.element.Element.{Element}
@@ -13,13 +13,13 @@ use Rattle.nr_store.specs.declared.element.Element.TheVariants as elements
 use Rattle.nr_reading.specs.declared.front.Front.{Front}
 use Rattle.nr_reading.specs.declared.front.Front.TheVariants as fronts
 use Rattle.nr_reading.specs.declared.half.Half.{Half}
-use Rattle.nr_reading.specs.Meeting.{meet}
+use Rattle.nr_reading.specs.Half.{meet}
 use Rattle.nr_reading.specs.Many.Runs.{Spot, HasMet, behind, one_if, spot_after}
 use Rattle.nr_input.specs.declared.reader.Reader.{Reader}
 use Rattle.nr_input.specs.declared.place.Ahead.{Ahead}
 use Rattle.nr_input.specs.declared.place.Ahead.TheVariants.{Unseen, Byte, End, Failed, TooMany}
 use Rattle.nr_input.specs.Many.AtHand.{ComeNext, is_unseen}
-use Rattle.nr_input.specs.Coming.{Coming, Reached, HoldsComing, HoldsSupply, element_front}
+use Rattle.nr_input.specs.Place.{Coming, Reached, HoldsComing, HoldsSupply, element_front}
 use Rattle.nr_input.specs.Moving.{situation, burst_past}
 use Rattle.nr_input.specs.Many.Runs.{HasRead, PaysAll, behind_run, passed_run}
 use Rattle.nr_input.specs.Weights.{items_in, items_left, newline_left, expansions_worth, diversions_in}

@@ -5,11 +5,11 @@ use Rattle.std.proofs.Common.{◌≡◌, ℕ, ◌+◌, ◌-◌, ◌*◌, ◌<◌
 use Rattle.std.proofs.lemmas.Bool.{ltb-false, ltb-true, leb-false, leb-true}
 use Rattle.std.proofs.lemmas.List.{length-map}
 use Rattle.std.proofs.lemmas.List.Sums.{sum_by-cons}
-use Rattle.nr_tables.specs.Named.{Named, find}
+use Rattle.nr_symbol_tables.specs.Table.{Named, find}
 use Rattle.nr_store.specs.Laws.{named_weighs}
-use Rattle.nr_levels.specs.Gathered.{bytes_in}
+use Rattle.nr_levels.specs.Gathering.{bytes_in}
 use Rattle.nr_levels.specs.Levels.{argument}
-use Rattle.nr_store.specs.Stored.{Stored, Level, Read, Built, Shared, Means, weight, weight_of, own_text, shared_by, afforded, charge_of, level_charge, begun, text_of, added, defined, named_newest, words, reading, entered, called as called_text, reading_bytes, gathering, gathered_whole, ungathered, register_of, stepped, written, gone_on}
+use Rattle.nr_store.specs.Store.{Stored, Level, Read, Built, Shared, Means, weight, weight_of, own_text, shared_by, afforded, charge_of, level_charge, begun, text_of, added, defined, named_newest, words, reading, entered, called as called_text, reading_bytes, gathering, gathered_whole, ungathered, register_of, stepped, written, gone_on}
 use Rattle.nr_store.specs.declared.element.Element.{Element}
 use Rattle.nr_store.specs.declared.element.Element.TheVariants as elements
 use Rattle.nr_store.specs.declared.named.Meaning.{Meaning}
@@ -33,15 +33,15 @@ use Rattle.nr_reading.specs.declared.notes.Notes.{Notes}
 use Rattle.nr_reading.specs.Conditionals.{part_mode, in_mode, answer_of, remembering, else_mode}
 use Rattle.nr_reading.specs.Definitions.{last_line}
 use Rattle.nr_reading.specs.Seeking.{sought, sought_event}
-use Rattle.nr_reading.specs.Spelling.{is_empty}
+use Rattle.nr_reading.specs.Spelled.{is_empty}
 use Rattle.nr_reading.specs.Weights.{cost_of_event, weight_by, weight_of_escape, weight_of_backslash, weight_of_half, blanks_owed, blanks_of_due}
 use Rattle.nr_input.specs.declared.reader.Reader.{Reader}
 use Rattle.nr_input.specs.declared.refusal.Refusal.{Refusal}
 use Rattle.nr_input.specs.declared.refusal.Refusal.TheVariants as refusals
 use Rattle.nr_input.specs.declared.told.Told.TheVariants as tells
 use Rattle.nr_input.specs.Acting.{Acted, done, then_due, idle, splicing, name_in, base_of, behind_held, naming, splicing_bytes, register_text, calls_of, request_of, meaning_in, behind_meaning, act}
-use Rattle.nr_input.specs.Refusals.{answer, splicing_by, splicing_answer, called, acted}
-use Rattle.nr_input.specs.Coming.{Reached}
+use Rattle.nr_input.specs.Refusal.{answer, splicing_by, splicing_answer, called, acted}
+use Rattle.nr_input.specs.Place.{Reached}
 use Rattle.nr_input.specs.Laws.{weight_of_mode-le, weight_of_backslash-le}
 use Rattle.nr_input.specs.Weights.{IfLead, Pays, risen, items_in, items_left, expansions_worth}
 use Rattle.nr_input.proofs.Items.{expansions_worth-spent}

@@ -3,9 +3,9 @@ use Rattle.std.specs.Prelude.{slice_index}
 use Rattle.std.specs.Option.{option_and_then}
 use Rattle.std.proofs.Common.{◌≡◌, ℕ, ◌≤◌, Bool, true, false, if◌then◌else◌, List, [], ◌∷◌, Option, None, Some, Result, Ok, Err, refl, ap, sym, subst, arith}
 use Rattle.std.proofs.lemmas.List.Sums.{sum_by-cons}
-use Rattle.nr_tables.specs.Named.{find}
+use Rattle.nr_symbol_tables.specs.Table.{find}
 use Rattle.nr_levels.specs.Levels.{argument}
-use Rattle.nr_store.specs.Stored.{Stored, Built, begun, text_of, added, on_newest, longer, defined, named_newest, words, entered, called as called_text, reading_bytes, gathering, gathered_whole, register_of, written, gone_on}
+use Rattle.nr_store.specs.Store.{Stored, Built, begun, text_of, added, on_newest, longer, defined, named_newest, words, entered, called as called_text, reading_bytes, gathering, gathered_whole, register_of, written, gone_on}
 use Rattle.nr_store.specs.declared.element.Element.{Element}
 use Rattle.nr_store.specs.declared.element.Element.TheVariants as elements
 use Rattle.nr_store.specs.declared.named.Meaning.{Meaning}
@@ -20,7 +20,7 @@ use Rattle.nr_input.specs.declared.reader.Reader.{Reader}
 use Rattle.nr_input.specs.declared.refusal.Refusal.{Refusal}
 use Rattle.nr_input.specs.declared.refusal.Refusal.TheVariants as refusals
 use Rattle.nr_input.specs.Acting.{name_in, register_text, meaning_in, behind_meaning, act}
-use Rattle.nr_input.specs.Refusals.{answer, Called, called, stored_by, acted}
+use Rattle.nr_input.specs.Refusal.{answer, Called, called, stored_by, acted}
 use Rattle.nr_input.specs.Weights.{diversions_of, diversions_in}
 
 -- no more texts that are being built have a diversion

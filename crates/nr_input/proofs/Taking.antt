@@ -2,7 +2,7 @@
 use Rattle.std.specs.Prelude.{not}
 use Rattle.std.proofs.Common.{◌≡◌, ℕ, ◌+◌, ◌*◌, ◌≤◌, ◌==◌, Bool, true, false, List, [], ◌∷◌, Option, refl, ap, subst, arith}
 use Rattle.std.proofs.lemmas.Bool.{eq-eqb}
-use Rattle.nr_store.specs.Stored.{Stored, Level, Read, Mark, Reading, left, left_in, shown, shown_in}
+use Rattle.nr_store.specs.Store.{Stored, Level, Read, Mark, Reading, left, left_in, shown, shown_in}
 use Rattle.nr_store.specs.declared.element.Element.{Element}
 use Rattle.nr_store.specs.declared.element.Element.TheVariants as elements
 use Rattle.nr_reading.specs.declared.event.Event.{Event}
@@ -19,7 +19,7 @@ use Rattle.nr_input.specs.declared.reader.Reader.{Reader}
 use Rattle.nr_input.specs.declared.told.Told.{Told}
 use Rattle.nr_input.specs.declared.told.Told.TheVariants as tells
 use Rattle.nr_input.specs.Acting.{is_look}
-use Rattle.nr_input.specs.Coming.{Reached, StaysThere, front_seen, passed_by, passed_in, element_front, seen_front}
+use Rattle.nr_input.specs.Place.{Reached, StaysThere, front_seen, passed_by, passed_in, element_front, seen_front}
 use Rattle.nr_input.specs.Moving.{burst_past, told_of}
 use Rattle.nr_input.specs.Weights.{IfLead, Pays, cost_of_told, risen, items_left, newline_left, expansions_worth}
 use Rattle.nr_input.proofs.Items.{items_taken, left_in-items, left_in-limit, expansions_worth-le}

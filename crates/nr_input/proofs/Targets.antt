@@ -5,9 +5,9 @@ use Rattle.std.proofs.Math.Seq.{take-suc}
 use Rattle.std.proofs.lemmas.Bool.{cases_Bool}
 use Rattle.std.proofs.lemmas.List.{append-nil, length-map, length-take, map-append}
 use Rattle.std.proofs.lemmas.List.Sums.{sum_by-cons}
-use Rattle.nr_levels.specs.Gathered.{Gathered, gathered_len, with_bytes}
+use Rattle.nr_levels.specs.Gathering.{Gathered, gathered_len, with_bytes}
 use Rattle.nr_levels.specs.Laws.{with_bytes-full, with_bytes-more, with_bytes-append}
-use Rattle.nr_store.specs.Stored.{Stored, Built, charge_of, weight, longer, on_newest}
+use Rattle.nr_store.specs.Store.{Stored, Built, charge_of, weight, longer, on_newest}
 use Rattle.nr_store.specs.declared.element.Element.{Element}
 use Rattle.nr_store.specs.declared.element.Element.TheVariants as elements
 use Rattle.nr_reading.specs.declared.event.Event.TheVariants as events
@@ -15,13 +15,13 @@ use Rattle.nr_reading.specs.declared.front.Front.TheVariants as fronts
 use Rattle.nr_reading.specs.declared.half.Half.{Half}
 use Rattle.nr_reading.specs.declared.mode.Due.TheVariants as dues
 use Rattle.nr_reading.specs.Many.InArgument.{ending_of, IsPlain}
-use Rattle.nr_reading.specs.Meeting.{meet}
+use Rattle.nr_reading.specs.Half.{meet}
 use Rattle.nr_reading.proofs.InArgument.{meet-put, due-is_in_argument}
 use Rattle.nr_reading.proofs.InDefinition.{meet-add, due-is_in_definition}
 use Rattle.nr_input.specs.declared.many.target.Target.{Target}
 use Rattle.nr_input.specs.declared.many.target.Target.TheVariants.{Argument, Text}
 use Rattle.nr_input.specs.Acting.{next}
-use Rattle.nr_input.specs.Many.Targets.{is_read_for, due_for, with_more}
+use Rattle.nr_input.specs.Many.Target.{is_read_for, due_for, with_more}
 use Rattle.nr_input.specs.Weights.{diversions_in}
 use Rattle.nr_input.proofs.Putting.{Adds}
 use Rattle.nr_input.proofs.Staying.{longer_count}

@@ -4,7 +4,7 @@ use Rattle.std.specs.Option.{option_map}
 use Rattle.std.proofs.Common.{◌≡◌, ℕ, suc, ◌+◌, ◌≤◌, Bool, true, false, List, length, drop, Option, None, Some, refl, ap, sym, ◌∙◌, subst, arith}
 use Rattle.std.proofs.lemmas.Bool.{and_from, and_parts, eq-eqb, eqb-true}
 use Rattle.std.proofs.lemmas.Option.{slice_get-map, slice_get_within}
-use Rattle.nr_store.specs.Stored.{Stored, charge_of}
+use Rattle.nr_store.specs.Store.{Stored, charge_of}
 use Rattle.nr_store.specs.Windows.{rest_of, left_times}
 use Rattle.nr_store.specs.Laws.{left_times-run}
 use Rattle.nr_store.specs.declared.element.Element.{Element}
@@ -23,7 +23,7 @@ use Rattle.nr_reading.proofs.InText.{in_text}
 use Rattle.nr_reading.proofs.Rows.{MeetsByte, nothing_met, stays, taken_more}
 use Rattle.nr_input.specs.declared.reader.Reader.{Reader}
 use Rattle.nr_input.specs.declared.many.splices.Splice.{Splice}
-use Rattle.nr_input.specs.Coming.{element_front}
+use Rattle.nr_input.specs.Place.{element_front}
 use Rattle.nr_input.specs.Many.Gathering.{AreGathered, HasBrace, LeadsInText, Leaves, brace_items, last_asked, spliced}
 use Rattle.nr_input.proofs.LevelRows.{left_times-add, rest-left_times}
 use Rattle.nr_input.proofs.PuttingLevel.{charge-behind}

@@ -2,7 +2,7 @@
 use Rattle.std.specs.Prelude.{slice_get, slice_index}
 use Rattle.std.proofs.Common.{◌≡◌, ℕ, zero, suc, ◌+◌, ◌<◌, ◌≤◌, Bool, true, false, List, [], ◌∷◌, ◌++◌, length, drop, None, Some, refl, ap, sym, ◌∙◌, subst, arith}
 use Rattle.std.proofs.lemmas.List.{append_assoc, append-nil}
-use Rattle.nr_store.specs.Stored.{Stored, Level, Read, Reading, Mark, left, left_of, shown, shown_of}
+use Rattle.nr_store.specs.Store.{Stored, Level, Read, Reading, Mark, left, left_of, shown, shown_of}
 use Rattle.nr_store.specs.Windows.{rest_of, left_times}
 use Rattle.nr_store.specs.declared.element.Element.{Element}
 use Rattle.nr_store.specs.declared.element.Element.TheVariants as elements

@@ -7,8 +7,8 @@ use Rattle.std.proofs.lemmas.Bool.{cases_lt}
 use Rattle.std.proofs.lemmas.List.{drop-append-le, get_or_append_left, get_or-append-add, length-map, length-take, length-take-le, take-append-le, take_all}
 use Rattle.std.proofs.lemmas.Option.{slice_get-get_or, slice_get-map, slice_get_past, slice_get_within}
 use Rattle.nr_levels.specs.Levels.{argument}
-use Rattle.nr_tables.specs.Named.{find}
-use Rattle.nr_store.specs.Stored.{Stored, Level, Read, Mark, charge_of, register_of, words}
+use Rattle.nr_symbol_tables.specs.Table.{find}
+use Rattle.nr_store.specs.Store.{Stored, Level, Read, Mark, charge_of, register_of, words}
 use Rattle.nr_store.specs.Windows.{rest_of, left_times, levels_behind, run_left}
 use Rattle.nr_store.specs.Laws.{left_times-run}
 use Rattle.nr_store.specs.declared.element.Element.{Element}
@@ -26,7 +26,7 @@ use Rattle.nr_input.specs.declared.many.gathering.Gathered.{Gathered}
 use Rattle.nr_input.specs.declared.reader.Reader.{Reader}
 use Rattle.nr_input.specs.declared.many.splices.Splice.{Splice}
 use Rattle.nr_input.specs.Acting.{expanded, register_text}
-use Rattle.nr_input.specs.Coming.{element_front}
+use Rattle.nr_input.specs.Place.{element_front}
 use Rattle.nr_input.specs.Many.Gathering.{AreBytes, AreGathered, AreItems, EndsRun, IsGathering, IsSpliced, LeadsInText, Leaves, StopsGathering, bytes_before, last_asked, own_bytes, passed, spliced}
 use Rattle.nr_input.specs.Many.Interpolations.{HasRoom, MaySplice, OpensLevel, brings_text, opened, opened_due}
 use Rattle.nr_input.specs.Moving.{situation}

@@ -3,8 +3,8 @@ use Rattle.std.specs.Prelude.{map, is_some, OnOk}
 use Rattle.std.proofs.Common.{◌≡◌, ℕ, suc, ◌+◌, ◌<◌, ◌≤◌, Bool, true, false, List, [], length, Option, None, Some, Result, Ok, refl, ap, ap₂, sym, ◌∙◌, subst, arith}
 use Rattle.std.proofs.lemmas.List.{length-map}
 use Rattle.std.proofs.lemmas.List.Sums.{sum_by-cons}
-use Rattle.nr_tables.specs.Named.{find}
-use Rattle.nr_store.specs.Stored.{Stored, Level, Read, Shared, charge_of, checked, entered, level_charge, own_text, shared_by, text_charge, words}
+use Rattle.nr_symbol_tables.specs.Table.{find}
+use Rattle.nr_store.specs.Store.{Stored, Level, Read, Shared, charge_of, checked, entered, level_charge, own_text, shared_by, text_charge, words}
 use Rattle.nr_store.specs.Windows.{rest_of, left_times}
 use Rattle.nr_store.specs.Laws.{left_times-run}
 use Rattle.nr_store.specs.declared.element.Element.{Element}
@@ -15,11 +15,11 @@ use Rattle.nr_reading.specs.declared.mode.Due.TheVariants as dues
 use Rattle.nr_input.specs.declared.reader.Reader.{Reader}
 use Rattle.nr_input.specs.declared.refusal.Refusal.{Refusal}
 use Rattle.nr_input.specs.Acting.{Acted, expanded, is_look}
-use Rattle.nr_input.specs.Coming.{Coming, Reached}
+use Rattle.nr_input.specs.Place.{Coming, Reached}
 use Rattle.nr_input.specs.Many.Gathering.{LeadsInText}
 use Rattle.nr_input.specs.Many.Interpolations.{HasRoom, OpensLevel, brings_text, opened, opened_due}
 use Rattle.nr_input.specs.Moving.{situation}
-use Rattle.nr_input.specs.Refusals.{called, acted, acted_by}
+use Rattle.nr_input.specs.Refusal.{called, acted, acted_by}
 use Rattle.nr_input.specs.Many.Runs.{PaysAll}
 use Rattle.nr_input.specs.Weights.{diversions_in}
 use Rattle.nr_input.proofs.ControlLines.{done_quietly, pays_once}

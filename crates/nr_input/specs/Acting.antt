@@ -2,8 +2,8 @@
 use Rattle.std.specs.Prelude.{ℕ, ◌+◌, ◌-◌, nat_le, nat_lt, Bool, true, false, if◌then◌else◌, List, [], ◌∷◌, slice_index, Option, None, Some, is_some}
 use Rattle.nr_units.specs.NumberText.{number_text}
 use Rattle.nr_levels.specs.Levels.{argument}
-use Rattle.nr_tables.specs.Named.{find}
-use Rattle.nr_store.specs.Stored.{Stored, begun, text_of, added, defined, words, entered, called, reading_bytes, gathering, gathered_whole, ungathered, register_of, stepped, meaning_of}
+use Rattle.nr_symbol_tables.specs.Table.{find}
+use Rattle.nr_store.specs.Store.{Stored, begun, text_of, added, defined, words, entered, called, reading_bytes, gathering, gathered_whole, ungathered, register_of, stepped, meaning_of}
 use Rattle.nr_store.specs.declared.element.Element.TheVariants as elements
 use Rattle.nr_store.specs.declared.named.Meaning.{Meaning}
 use Rattle.nr_store.specs.declared.named.Meaning.TheVariants as meanings
@@ -21,7 +21,7 @@ use Rattle.nr_reading.specs.declared.mode.Due.TheVariants as dues
 use Rattle.nr_reading.specs.Conditionals.{judged}
 use Rattle.nr_reading.specs.Definitions.{last_line}
 use Rattle.nr_reading.specs.Seeking.{sought, sought_event}
-use Rattle.nr_reading.specs.Spelling.{name_of, is_empty}
+use Rattle.nr_reading.specs.Spelled.{name_of, is_empty}
 use Rattle.nr_input.specs.declared.reader.Reader.{Reader}
 
 -- what is stored and half read behind it, and what it tells

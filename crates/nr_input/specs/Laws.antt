@@ -14,14 +14,14 @@ use Rattle.nr_reading.specs.declared.mode.Escape.TheVariants as escapes
 use Rattle.nr_reading.specs.declared.mode.Mode.{Mode}
 use Rattle.nr_reading.specs.declared.mode.Mode.TheVariants as modes
 use Rattle.nr_input.specs.declared.place.Ahead.{Ahead}
-use Rattle.nr_store.specs.Stored.{afforded}
+use Rattle.nr_store.specs.Store.{afforded}
 use Rattle.nr_store.specs.declared.refusal.StoredBytes.{StoredBytes}
 use Rattle.nr_input.specs.declared.refusal.Refusal.{Refusal}
 use Rattle.nr_input.specs.declared.refusal.Refusal.TheVariants as refusals
 use Rattle.nr_input.specs.Acting.{base_of, is_look}
-use Rattle.nr_input.specs.Coming.{is_read_fault, has_failed, fails_now}
+use Rattle.nr_input.specs.Place.{is_read_fault, has_failed, fails_now}
 use Rattle.nr_input.specs.Moving.{Situation, RefusesBy, Refuses}
-use Rattle.nr_input.specs.Refusals.{answer, storing_by, uncounted_by, place_told}
+use Rattle.nr_input.specs.Refusal.{answer, storing_by, uncounted_by, place_told}
 use Rattle.nr_reading.specs.Weights.{weight_by, weight_of_escape, weight_of_backslash, weight_of_mode, weight_of_due, held_by_mode, weight_of_stage, weight_of_ask, weight_of_half}
 
 -- how many bytes of a definition's line are held back, or are still to be added

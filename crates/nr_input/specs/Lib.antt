@@ -1,10 +1,10 @@
 pub mod Acting
-pub mod Coming
-pub mod Hearing
+pub mod Place
+pub mod Told
 pub mod Laws
 pub mod Limits
 pub mod Moving
-pub mod Refusals
+pub mod Refusal
 pub mod Splicing
 pub mod Weights
 pub mod Many

@@ -1,6 +1,6 @@
 -- The limits that stand in what is stored and in what is read.
 use Rattle.std.specs.Prelude.{ℕ}
-use Rattle.nr_store.specs.Stored.{Stored}
+use Rattle.nr_store.specs.Store.{Stored}
 use Rattle.nr_input.specs.declared.reader.Reader.{Reader}
 
 -- of stored bytes, of levels, and of splices and springs behind one byte of the input

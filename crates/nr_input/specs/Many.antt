@@ -11,5 +11,5 @@ pub mod BodyLines
 pub mod CommentLines
 pub mod DroppedLines
 pub mod Fonts
-pub mod Targets
+pub mod Target
 pub mod Beginnings

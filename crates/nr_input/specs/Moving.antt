@@ -1,19 +1,19 @@
 -- The machine that reads: one small move after the other.
 use Rattle.std.specs.Prelude.{◌≡◌, ℕ, ◌==◌, Bool, true, false, if◌then◌else◌, Option, Result, Ok, Err}
-use Rattle.nr_units.specs.Supply.{Supply}
-use Rattle.nr_store.specs.Stored.{Stored, shown, left}
+use Rattle.nr_units.specs.Source.{Supply}
+use Rattle.nr_store.specs.Store.{Stored, shown, left}
 use Rattle.nr_store.specs.declared.request.Request.TheVariants as requests
 use Rattle.nr_store.specs.declared.shown.Shown.{Shown}
 use Rattle.nr_store.specs.declared.shown.Shown.TheVariants as shows
 use Rattle.nr_reading.specs.declared.event.Event.{Event}
-use Rattle.nr_reading.specs.Meeting.{Met, meet, nothing_half}
+use Rattle.nr_reading.specs.Half.{Met, meet, nothing_half}
 use Rattle.nr_input.specs.declared.reader.Reader.{Reader}
 use Rattle.nr_input.specs.declared.refusal.Refusal.{Refusal}
 use Rattle.nr_input.specs.declared.told.Told.{Told}
 use Rattle.nr_input.specs.declared.told.Told.TheVariants as tells
 use Rattle.nr_input.specs.Acting.{Acted, act, is_look}
-use Rattle.nr_input.specs.Refusals.{answer, stored_by, reader_by}
-use Rattle.nr_input.specs.Coming.{Coming, Reached, HoldsComing, front, behind, MayLook, RefusesLook}
+use Rattle.nr_input.specs.Refusal.{answer, stored_by, reader_by}
+use Rattle.nr_input.specs.Place.{Coming, Reached, HoldsComing, front, behind, MayLook, RefusesLook}
 
 -- nothing was read, under a limit of so many splices
 abbrev pub nothing_read : ℕ → Reader

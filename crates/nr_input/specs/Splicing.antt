@@ -1,7 +1,7 @@
 -- What those who read events bring into the input, and what they take of it.
 use Rattle.std.specs.Prelude.{ℕ, Bool, true, false, if◌then◌else◌, List, [], None, Some, Result, Ok, Err}
-use Rattle.nr_tables.specs.Named.{find}
-use Rattle.nr_store.specs.Stored.{Stored, afforded, begun, text_of, words, entered, reading_bytes}
+use Rattle.nr_symbol_tables.specs.Table.{find}
+use Rattle.nr_store.specs.Store.{Stored, afforded, begun, text_of, words, entered, reading_bytes}
 use Rattle.nr_store.specs.declared.refusal.StoredBytes.{StoredBytes}
 use Rattle.nr_reading.specs.Setting.{sprung, defining}
 use Rattle.nr_input.specs.declared.reader.Reader.{Reader}
@@ -9,7 +9,7 @@ use Rattle.nr_input.specs.declared.refusal.Refusal.{Refusal}
 use Rattle.nr_input.specs.declared.splicing.Definition.{Definition}
 use Rattle.nr_input.specs.declared.splicing.Definition.TheVariants as definitions
 use Rattle.nr_input.specs.Acting.{on_half, expanded, has_text}
-use Rattle.nr_input.specs.Refusals.{Called, called, called_by, splicing_answer}
+use Rattle.nr_input.specs.Refusal.{Called, called, called_by, splicing_answer}
 
 -- ---- texts that are given: those of given registers, and of widths
 

@@ -1,6 +1,6 @@
 -- How many moves may still come before the next byte of the source is taken.
 use Rattle.std.specs.Prelude.{◌≡◌, ℕ, ◌+◌, ◌-◌, ◌*◌, ◌≤◌, Bool, true, false, List, length, Option, None, Some, sum_by, Result, Ok, Err}
-use Rattle.nr_store.specs.Stored.{Stored, Built, Level, Read, Mark}
+use Rattle.nr_store.specs.Store.{Stored, Built, Level, Read, Mark}
 use Rattle.nr_store.specs.declared.element.Diversion.{Diversion}
 use Rattle.nr_reading.specs.declared.event.Event.TheVariants as events
 use Rattle.nr_reading.specs.declared.half.Half.{Half}
@@ -9,7 +9,7 @@ use Rattle.nr_input.specs.declared.reader.Reader.{Reader}
 use Rattle.nr_input.specs.declared.refusal.Refusal.{Refusal}
 use Rattle.nr_input.specs.declared.told.Told.{Told}
 use Rattle.nr_input.specs.declared.told.Told.TheVariants as tells
-use Rattle.nr_input.specs.Coming.{Reached}
+use Rattle.nr_input.specs.Place.{Reached}
 
 -- ---- the items before the next byte: those of the levels, their marks among them, and the newline that is added
 

@@ -73,11 +73,11 @@ fn behind_lead(count: u32) -> Due
 
 impl Reader {
     ghost use Rattle.std.specs.Prelude.{true, Ok};
-    ghost use Rattle.nr_store.specs.Stored.{stepped};
+    ghost use Rattle.nr_store.specs.Store.{stepped};
     ghost use Rattle.nr_input.specs.Acting.{name_in, adding_byte, naming, behind_definition, has_text, expanded, splicing_name, splicing_bytes, meaning_in, is_look, then_due};
     ghost use Rattle.nr_input.specs.Many.LevelRows.{behind_name};
     ghost use Rattle.nr_reading.specs.Seeking.{sought_event};
-    ghost use Rattle.nr_input.specs.Refusals.{expanding_answer, storing_answer, splicing_answer, called, reader_by, answered, acted_by, acted};
+    ghost use Rattle.nr_input.specs.Refusal.{expanding_answer, storing_answer, splicing_answer, called, reader_by, answered, acted_by, acted};
 
     /// The limit of splices is asked.
     pub(crate) fn expand(&mut self) -> Result<Event, Refusal>

@@ -3,10 +3,10 @@ ghost use Rattle.std.specs.Prelude.{◌≡◌, ◌≤◌, true, OnOk};
 ghost use Rattle.nr_units.specs.Failures.{counted_if};
 ghost use Rattle.nr_input.specs.Acting.{is_look};
 ghost use Rattle.nr_store.specs.declared.shown.Shown.TheVariants as shows;
-ghost use Rattle.nr_store.specs.Stored.{shown};
-ghost use Rattle.nr_input.specs.Coming.{Coming, HoldsComing, fails_now, has_failed, KeepsRefusal, RefusesAgain};
+ghost use Rattle.nr_store.specs.Store.{shown};
+ghost use Rattle.nr_input.specs.Place.{Coming, HoldsComing, fails_now, has_failed, KeepsRefusal, RefusesAgain};
 ghost use Rattle.nr_input.specs.Moving.{burst_past, situation, AfterMove};
-ghost use Rattle.nr_input.specs.Hearing.{heard_of, told_with};
+ghost use Rattle.nr_input.specs.Told.{heard_of, told_with};
 ghost use Rattle.nr_input.specs.Limits.{limits_of};
 ghost use Rattle.nr_input.specs.Weights.{PaysIfMade, diversions_in};
 

@@ -35,7 +35,7 @@ pub struct Place {
 
 impl Model for Place {
     ghost use Rattle.std.specs.Prelude.{◌<◌, ◌+◌, ◌^◌};
-    ghost use Rattle.nr_input.specs.Coming.{Reached, waiting};
+    ghost use Rattle.nr_input.specs.Place.{Reached, waiting};
 
     ghost Value = { Reached };
 
@@ -46,12 +46,12 @@ impl Model for Place {
 
 impl Place {
     ghost use Rattle.std.specs.Prelude.{◌<◌, ◌+◌, ◌^◌, OnOk, IfOk, Option, true};
-    ghost use Rattle.nr_units.specs.Supply.{Supply};
+    ghost use Rattle.nr_units.specs.Source.{Supply};
     ghost use Rattle.nr_units.specs.Failures.{counted_if};
     ghost use Rattle.nr_store.specs.declared.shown.Shown.TheVariants as shows;
-    ghost use Rattle.nr_store.specs.Stored.{shown, left};
+    ghost use Rattle.nr_store.specs.Store.{shown, left};
     ghost use Rattle.nr_store.specs.Sights.{shown_with};
-    ghost use Rattle.nr_input.specs.Coming.{Coming, Reached, HoldsComing, AfterSee, AfterLook, is_seen, is_ready, seen_front, passed, ended, front_seen, passed_in, StaysThere, nothing_reached, behind, emptied, fails_now, has_failed, KeepsRefusal, RefusesAgain};
+    ghost use Rattle.nr_input.specs.Place.{Coming, Reached, HoldsComing, AfterSee, AfterLook, is_seen, is_ready, seen_front, passed, ended, front_seen, passed_in, StaysThere, nothing_reached, behind, emptied, fails_now, has_failed, KeepsRefusal, RefusesAgain};
     ghost use Rattle.nr_input.specs.Many.AtHand.{is_unseen};
     ghost use Rattle.nr_input.specs.Many.Runs.{passed_run};
 

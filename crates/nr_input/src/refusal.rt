@@ -22,7 +22,7 @@ pub enum Refusal {
 
 impl From<nr_store::Refusal> for Refusal {
     ghost use Rattle.std.specs.Prelude.{◌≡◌};
-    ghost use Rattle.nr_input.specs.Refusals.{refusal_of};
+    ghost use Rattle.nr_input.specs.Refusal.{refusal_of};
 
     ghost from_gives = { λ e r. r ≡ refusal_of e };
 
@@ -46,7 +46,7 @@ impl From<StoredBytes> for Refusal {
 }
 
 impl Reader {
-    ghost use Rattle.nr_input.specs.Refusals.{uncounted, place_told};
+    ghost use Rattle.nr_input.specs.Refusal.{uncounted, place_told};
 
     // How many of the bytes that were read do not count yet: the `\` that begins the first element of a string's text,
     // before that text is charged.

@@ -9,7 +9,7 @@ use nr_units::Name;
 impl Reader {
     ghost use Rattle.nr_reading.specs.declared.mode.Mode.TheVariants as modes;
     ghost use Rattle.nr_reading.specs.Conditionals.{judged, in_mode};
-    ghost use Rattle.nr_reading.specs.Modes.{standing_of};
+    ghost use Rattle.nr_reading.specs.Mode.{standing_of};
     ghost use Rattle.nr_reading.specs.Setting.{with_control, with_no_break, with_long_names, not_continued, with_line, resumed};
     ghost use Rattle.nr_input.specs.Acting.{on_half};
     ghost use Rattle.nr_input.specs.Weights.{CostsAtMost};

@@ -45,7 +45,7 @@ impl Definition {
 impl Reader {
     ghost use Rattle.std.specs.Prelude.{OnOk};
     ghost use Rattle.nr_input.specs.Limits.{limits_of};
-    ghost use Rattle.nr_input.specs.Refusals.{called};
+    ghost use Rattle.nr_input.specs.Refusal.{called};
     ghost use Rattle.nr_input.specs.Splicing.{giving, springing, defining_lines};
     ghost use Rattle.nr_input.specs.Weights.{Splices, Springs, Defines};
 

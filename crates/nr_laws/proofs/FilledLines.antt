@@ -6,17 +6,17 @@ use Rattle.std.proofs.lemmas.List.{take-append-le, take_all}
 use Rattle.std.proofs.lemmas.List.Sums.{sum_by-cons}
 use Rattle.std.proofs.Common.{◌≡◌, ℕ, zero, suc, ◌+◌, ◌-◌, ◌≤◌, Bool, true, false, if◌then◌else◌, List, [], ◌∷◌, ◌++◌, length, take, drop, refl, ap, ap₂, sym, subst, ◌∙◌, length-append, length-drop, arith}
 use Rattle.nr_units.specs.declared.cell.Cell.{Cell}
-use Rattle.nr_units.specs.Cells.{blank, trimmed}
+use Rattle.nr_units.specs.Cell.{blank, trimmed}
 use Rattle.nr_settings.specs.declared.filling.Align.{Align}
 use Rattle.nr_settings.specs.declared.filling.Align.TheVariants.{Left, Spread}
 use Rattle.nr_settings.specs.declared.indents.Margins.{Margins}
 use Rattle.nr_fill.specs.declared.margins.Turn.{Turn}
 use Rattle.nr_fill.specs.declared.setting.Extra.{Extra}
-use Rattle.nr_fill.specs.Pieces.{Piece, Collected, is_nil, nothing_collected}
+use Rattle.nr_fill.specs.Piece.{Piece, Collected, is_nil, nothing_collected}
 use Rattle.nr_fill.specs.Setting.{cut_of, set_line, behind, is_spread, hyphens}
 use Rattle.nr_fill.specs.Spreading.{gaps, no_extra, shared, other_turn, cells_in_line}
 use Rattle.nr_laws.specs.FilledText.{first_margins, align_of, rows_from}
-use Rattle.nr_fill.specs.Cut.{piece_width, width, front_width, hyphen_before, fits, most_that_fit, cut}
+use Rattle.nr_fill.specs.Cutting.{piece_width, width, front_width, hyphen_before, fits, most_that_fit, cut}
 use Rattle.nr_laws.proofs.PlainLines.{NoSoft, no_soft-append, no_soft-drop, no_hyphen}
 use Rattle.nr_laws.proofs.PlainPages.{if-true, if-false, same_if}
 

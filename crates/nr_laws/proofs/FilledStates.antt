@@ -1,7 +1,7 @@
 -- What holds of the states that filled text leads to, and the output that they lead to.
 use Rattle.std.specs.Prelude.{◌*◌, ◌&&◌}
 use Rattle.std.proofs.Common.{◌≡◌, ℕ, ◌≤◌, Bool, true, false, List, [], ◌∷◌, ◌++◌, length}
-use Rattle.nr_fill.specs.Pieces.{Collected, is_nil, begins_line}
+use Rattle.nr_fill.specs.Piece.{Collected, is_nil, begins_line}
 use Rattle.nr_page.specs.Grid.{Placed}
 use Rattle.nr_reading.specs.declared.event.Event.{Event}
 use Rattle.nr_reading.specs.declared.event.Event.TheVariants as events

@@ -2,13 +2,13 @@
 use Rattle.std.specs.Prelude.{nat_lt, int_lt, is_some, is_none, not, length, ◌==◌, ◌&&◌, ◌||◌}
 use Rattle.std.proofs.Common.{◌≡◌, ℕ, suc, ◌+◌, ◌-◌, Bool, true, false, if◌then◌else◌, List, Option, None, Some, ℤ, pos, negsuc, refl, ap, ◌∙◌}
 use Rattle.nr_units.specs.declared.number_text.Format.{Format}
-use Rattle.nr_tables.specs.Named.{find}
-use Rattle.nr_tables.specs.declared.trap.Trap.{Trap}
+use Rattle.nr_symbol_tables.specs.Table.{find}
+use Rattle.nr_symbol_tables.specs.declared.trap.Trap.{Trap}
 use Rattle.nr_store.specs.declared.element.Diversion.{Diversion}
 use Rattle.nr_store.specs.declared.element.Element.{Element}
 use Rattle.nr_store.specs.declared.request.Request.{Request}
 use Rattle.nr_store.specs.declared.request.Request.TheVariants as requests
-use Rattle.nr_store.specs.Stored.{Stored, words, newest_diversion, diversion_ended, renamed, written, set_to, register_of, is_held, unregistered}
+use Rattle.nr_store.specs.Store.{Stored, words, newest_diversion, diversion_ended, renamed, written, set_to, register_of, is_held, unregistered}
 use Rattle.nr_settings.specs.Arguments.{name_in}
 use Rattle.nr_settings.specs.Characters.{prints}
 use Rattle.nr_settings.specs.Numbers.{applied}
@@ -56,7 +56,7 @@ use Rattle.nr_formatter.specs.Ending as ending
 use Rattle.nr_formatter.specs.Given.{given_named}
 use Rattle.nr_formatter.specs.Lines as lines
 use Rattle.nr_formatter.specs.Moves as moves
-use Rattle.nr_formatter.specs.Naming as naming
+use Rattle.nr_formatter.specs.Names as naming
 use Rattle.nr_formatter.specs.Numbering as numbering
 use Rattle.nr_formatter.specs.Pages as pages
 use Rattle.nr_formatter.specs.Places.{is_diverting, is_open, outlet, outlet_of, present_place, page_place, place_in, distance_below, to_read}
@@ -67,7 +67,7 @@ use Rattle.nr_formatter.specs.Spacing as spaces
 use Rattle.nr_formatter.specs.Springing as springing
 use Rattle.nr_formatter.specs.Text as texts
 use Rattle.nr_formatter.specs.Titles as titles
-use Rattle.nr_formatter.specs.Trapping as traps
+use Rattle.nr_formatter.specs.Traps as traps
 use Rattle.nr_laws.specs.Limited.{stored_under, under}
 use Rattle.nr_laws.proofs.InputLimits.{written_under}
 use Rattle.nr_laws.proofs.StoreLimits.{ended-under, renamed-under, with_words-under}

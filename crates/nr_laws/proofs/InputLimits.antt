@@ -4,8 +4,8 @@ use Rattle.std.specs.Option.{option_and_then}
 use Rattle.std.proofs.lemmas.Bool.{ltb-false, leb-false}
 use Rattle.std.proofs.lemmas.Bool.Decides.{nat_tests}
 use Rattle.std.proofs.Common.{◌≡◌, ℕ, ◌+◌, ◌≤◌, Bool, true, false, if◌then◌else◌, List, [], ◌∷◌, Option, None, Some, Result, Ok, Err, refl, ap, ap₂, sym, ◌∙◌, arith}
-use Rattle.nr_tables.specs.Named.{find}
-use Rattle.nr_store.specs.Stored.{Stored, Built, charge_of, begun, text_of, defined, named_newest, words, entered, called, written, gone_on}
+use Rattle.nr_symbol_tables.specs.Table.{find}
+use Rattle.nr_store.specs.Store.{Stored, Built, charge_of, begun, text_of, defined, named_newest, words, entered, called, written, gone_on}
 use Rattle.nr_store.specs.declared.element.Element.{Element}
 use Rattle.nr_store.specs.declared.named.Meaning.{Meaning}
 use Rattle.nr_store.specs.declared.named.Meaning.TheVariants as meanings
@@ -20,7 +20,7 @@ use Rattle.nr_input.specs.declared.reader.Reader.{Reader}
 use Rattle.nr_input.specs.declared.refusal.Refusal.{Refusal}
 use Rattle.nr_input.specs.declared.refusal.Refusal.TheVariants as refusals
 use Rattle.nr_input.specs.Acting.{Acted, done, splicing, has_text, name_in, then_due, idle, meaning_in, behind_meaning, behind_definition, act, calls_of, request_of, next}
-use Rattle.nr_input.specs.Refusals.{Asking, Nothing, Bytes, Splice, Refused, asking, answer_to, answer, storing_by, splicing_by, expanding_answer}
+use Rattle.nr_input.specs.Refusal.{Asking, Nothing, Bytes, Splice, Refused, asking, answer_to, answer, storing_by, splicing_by, expanding_answer}
 use Rattle.nr_laws.specs.Limited.{stored_under, reader_under}
 
 -- ---- what is due does not depend on limits

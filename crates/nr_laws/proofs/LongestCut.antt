@@ -1,8 +1,8 @@
 -- What is cut of the pieces is the longest front that fits.
 use Rattle.std.proofs.lemmas.Bool.{cases_lt}
 use Rattle.std.proofs.Common.{◌≡◌, ℕ, zero, suc, ◌<◌, ◌≤◌, Bool, true, false, if◌then◌else◌, List, length, refl, subst, inl, inr, arith}
-use Rattle.nr_fill.specs.Pieces.{Piece}
-use Rattle.nr_fill.specs.Cut.{fits, most_that_fit, cut}
+use Rattle.nr_fill.specs.Piece.{Piece}
+use Rattle.nr_fill.specs.Cutting.{fits, most_that_fit, cut}
 use Rattle.nr_laws.specs.FilledText.{CutIsLongest, CutFits}
 
 -- of n pieces and one more, by whether they fit

@@ -3,14 +3,14 @@ use Rattle.std.proofs.lemmas.Bool.{cases_lt}
 use Rattle.std.proofs.lemmas.Grind.{flat_map-append}
 use Rattle.std.proofs.Common.{◌≡◌, ℕ, zero, suc, ◌+◌, ◌<◌, ◌≤◌, true, false, List, [], ◌∷◌, ◌++◌, Option, None, Some, refl, ap, sym, subst, ◌∙◌, append-nil, append_assoc, arith, inl, inr}
 use Rattle.std.specs.Io.KnownBytes.{Appends}
-use Rattle.nr_units.specs.Held.{AppendsFront}
-use Rattle.nr_units.specs.Supply.{Supply, Faults}
+use Rattle.nr_units.specs.Sink.{AppendsFront}
+use Rattle.nr_units.specs.Source.{Supply, Faults}
 use Rattle.nr_options.specs.Limits.{Bounds}
 use Rattle.nr_options.specs.declared.options.Options.{Options}
 use Rattle.nr_engine.specs.State.{State, Ended, start}
 use Rattle.nr_engine.specs.Machine.{step, state_after}
 use Rattle.nr_engine.specs.Printing.{bytes_of, text}
-use Rattle.nr_engine.specs.Answer.{Kind, Over, kind, Goes, Runs, Stops, Writes, BreaksOff, is_write_fault}
+use Rattle.nr_engine.specs.Run.{Kind, Over, kind, Goes, Runs, Stops, Writes, BreaksOff, is_write_fault}
 use Rattle.nr_engine.specs.declared.outcome.Outcome.{Outcome}
 use Rattle.nr_engine.specs.declared.outcome.Outcome.TheVariants.{Done, Limit, ReadFault, TooLong, WriteFault}
 use Rattle.nr_laws.specs.Limited.{state_under}

@@ -6,7 +6,7 @@ use Rattle.std.proofs.Common.{◌≡◌, ℕ, ◌≤◌, Bool, true, false, if�
 use Rattle.nr_fill.specs.declared.stops.Pending.{Pending}
 use Rattle.nr_fill.specs.declared.stops.Pending.TheVariants as pendings
 use Rattle.nr_fill.specs.declared.piece.Point.TheVariants as points
-use Rattle.nr_fill.specs.Pieces.{Collected, Word, begins_line, is_for_stop, reads_field, may_hyphenate, word_pieces, add_cell, add_blank, end_word, one_blank_more, after_newline}
+use Rattle.nr_fill.specs.Piece.{Collected, Word, begins_line, is_for_stop, reads_field, may_hyphenate, word_pieces, add_cell, add_blank, end_word, one_blank_more, after_newline}
 use Rattle.nr_settings.specs.Characters.{prints}
 use Rattle.nr_settings.specs.Indents.{margins_of, first_indents}
 use Rattle.nr_settings.specs.declared.indents.Indents.{Indents}

@@ -1,9 +1,9 @@
 -- Of plain text all goes out.
 use Rattle.std.proofs.Common.{◌≡◌, ℕ, zero, suc, Bool, true, false, if◌then◌else◌, List, [], ◌∷◌, ◌++◌, Option, None, Some, ℤ, refl, ap, ap₂, sym, subst, ◌∙◌, append-nil, arith}
-use Rattle.nr_units.specs.Supply.{Supply}
-use Rattle.nr_tables.specs.Named.{find}
+use Rattle.nr_units.specs.Source.{Supply}
+use Rattle.nr_symbol_tables.specs.Table.{find}
 use Rattle.nr_store.specs.declared.register.Register.{Register}
-use Rattle.nr_store.specs.Stored.{is_held, set_to, register_of, written}
+use Rattle.nr_store.specs.Store.{is_held, set_to, register_of, written}
 use Rattle.nr_reading.specs.declared.event.Event.{Event}
 use Rattle.nr_reading.specs.declared.event.Event.TheVariants as events
 use Rattle.nr_reading.specs.declared.mode.Due.{Due}
@@ -25,13 +25,13 @@ use Rattle.nr_page.specs.declared.selection.PageRange.{PageRange}
 use Rattle.nr_engine.specs.State.{State, Choice, First, Register as SetsRegister, choices, start}
 use Rattle.nr_engine.specs.Machine.{step, state_after, choose}
 use Rattle.nr_engine.specs.Printing.{text}
-use Rattle.nr_engine.specs.Answer.{Reads, Works, Over, kind}
+use Rattle.nr_engine.specs.Run.{Reads, Works, Over, kind}
 use Rattle.nr_engine.specs.declared.outcome.Outcome.TheVariants.{Done}
 use Rattle.nr_laws.specs.Laws.{nothing_allowed}
 use Rattle.nr_laws.specs.FilledText.{text_of, FilledTextIsRows}
 use Rattle.nr_laws.specs.PlainText.{squeezed, is_plain, is_plain_from, PlainTextStays}
 use Rattle.nr_laws.proofs.OutputLaws.{text_at, over_at}
-use Rattle.nr_fill.specs.Pieces.{word_pieces}
+use Rattle.nr_fill.specs.Piece.{word_pieces}
 use Rattle.nr_laws.proofs.FilledLines.{rows_at}
 use Rattle.nr_laws.proofs.FilledPages.{rows_shown}
 use Rattle.nr_laws.proofs.FilledPieces.{rows_after}

@@ -4,7 +4,7 @@ use Rattle.std.specs.List.{flat_map}
 use Rattle.std.proofs.lemmas.Grind.{flat_map-append}
 use Rattle.std.proofs.lemmas.List.{take-append-drop}
 use Rattle.std.proofs.Common.{◌≡◌, ℕ, zero, suc, ◌+◌, Bool, true, false, if◌then◌else◌, List, [], ◌∷◌, ◌++◌, take, drop, Option, None, Some, refl, ap, ap₂, sym, subst, ◌∙◌, append-nil, append_assoc}
-use Rattle.nr_units.specs.Cells.{blank}
+use Rattle.nr_units.specs.Cell.{blank}
 use Rattle.nr_units.specs.declared.cell.Cell.{Cell}
 use Rattle.nr_fill.specs.declared.piece.Behind.{Behind}
 use Rattle.nr_fill.specs.declared.piece.Behind.TheVariants as behinds
@@ -13,8 +13,8 @@ use Rattle.nr_fill.specs.declared.piece.Join.TheVariants as joins
 use Rattle.nr_fill.specs.declared.stops.Pending.{Pending}
 use Rattle.nr_fill.specs.declared.stops.Pending.TheVariants as pendings
 use Rattle.nr_fill.specs.declared.piece.Point.TheVariants as points
-use Rattle.nr_fill.specs.Pieces.{Piece, Word, Collected, ended, ended_at, word_or_new, pending_behind, word_length, add_cell_behind, add_cell, add_blank, word_pieces, end_word}
-use Rattle.nr_fill.specs.Cut.{hyphen_before, hyphen_width}
+use Rattle.nr_fill.specs.Piece.{Piece, Word, Collected, ended, ended_at, word_or_new, pending_behind, word_length, add_cell_behind, add_cell, add_blank, word_pieces, end_word}
+use Rattle.nr_fill.specs.Cutting.{hyphen_before, hyphen_width}
 use Rattle.nr_fill.specs.Spreading.{blanks_before, next_gap, cells_behind, cells_in_line}
 use Rattle.nr_fill.specs.Setting.{line_row, extra_of, shift, left_over, behind}
 use Rattle.nr_fill.specs.declared.setting.Setting.{Setting}

@@ -2,7 +2,7 @@
 use Rattle.std.specs.Prelude.{◌==◌, ◌&&◌, ◌/◌, nat_lt, min}
 use Rattle.std.proofs.lemmas.Bool.{ltb-false}
 use Rattle.std.proofs.Common.{◌≡◌, ℕ, ◌+◌, ◌-◌, ◌≤◌, Bool, true, false, if◌then◌else◌, List, [], ◌∷◌, ◌++◌, length, None, Some, refl, ap, ap₂, sym, subst, ◌∙◌, append-nil, append_assoc, arith}
-use Rattle.nr_fill.specs.Pieces.{Collected, is_nil, word_pieces}
+use Rattle.nr_fill.specs.Piece.{Collected, is_nil, word_pieces}
 use Rattle.nr_page.specs.Grid.{Placed}
 use Rattle.nr_reading.specs.declared.event.Event.{Event}
 use Rattle.nr_reading.specs.declared.event.Event.TheVariants as events

@@ -7,9 +7,9 @@ use Rattle.nr_reading.specs.declared.mode.Due.{Due}
 use Rattle.nr_reading.specs.declared.mode.Due.TheVariants as dues
 use Rattle.nr_reading.specs.declared.mode.Mode.{Mode}
 use Rattle.nr_reading.specs.declared.mode.Mode.TheVariants as modes
-use Rattle.nr_reading.specs.Meeting.{met_directly}
-use Rattle.nr_reading.specs.Modes.{first_signs}
-use Rattle.nr_reading.specs.Steps.{Step as ReadStep, go, tell, leave}
+use Rattle.nr_reading.specs.Half.{met_directly}
+use Rattle.nr_reading.specs.Mode.{first_signs}
+use Rattle.nr_reading.specs.Step.{Step as ReadStep, go, tell, leave}
 use Rattle.nr_reading.specs.declared.mode.Escape.TheVariants as escapes
 use Rattle.nr_reading.specs.Text.{start_byte, start_control, one_blank_more}
 use Rattle.nr_reading.specs.declared.mode.Reading.{Reading}

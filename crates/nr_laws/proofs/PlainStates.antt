@@ -1,7 +1,7 @@
 -- The states that plain text leads to, and what they hold of it.
 use Rattle.std.specs.Prelude.{◌/◌}
 use Rattle.std.proofs.Common.{◌≡◌, ℕ, ◌≤◌, Bool, true, false, List, [], ◌∷◌, ◌++◌, None, ap, sym, subst, ◌∙◌}
-use Rattle.nr_fill.specs.Pieces.{Collected}
+use Rattle.nr_fill.specs.Piece.{Collected}
 use Rattle.nr_page.specs.Grid.{Placed}
 use Rattle.nr_reading.specs.declared.event.Event.{Event}
 use Rattle.nr_reading.specs.declared.event.Event.TheVariants as events
@@ -10,7 +10,7 @@ use Rattle.nr_reading.specs.declared.mode.Due.TheVariants as dues
 use Rattle.nr_reading.specs.declared.mode.Escape.TheVariants as escapes
 use Rattle.nr_reading.specs.declared.mode.Mode.{Mode}
 use Rattle.nr_reading.specs.declared.mode.Mode.TheVariants as modes
-use Rattle.nr_reading.specs.Modes.{first_signs}
+use Rattle.nr_reading.specs.Mode.{first_signs}
 use Rattle.nr_settings.specs.Settings.{first_settings}
 use Rattle.nr_formatter.specs.declared.tasks.After.TheVariants as afters
 use Rattle.nr_formatter.specs.declared.tasks.Ejected.TheVariants as ejecteds

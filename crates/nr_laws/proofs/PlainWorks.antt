@@ -2,13 +2,13 @@
 use Rattle.std.specs.Prelude.{◌&&◌, not, nat_lt, is_none}
 use Rattle.std.proofs.lemmas.Bool.{ltb-true, ltb-false}
 use Rattle.std.proofs.Common.{◌≡◌, ℕ, Bool, true, false, if◌then◌else◌, List, [], ◌∷◌, ◌++◌, length, drop, Option, None, Some, refl, ap, sym, subst, ◌∙◌, append-nil}
-use Rattle.nr_units.specs.Cells.{trimmed}
+use Rattle.nr_units.specs.Cell.{trimmed}
 use Rattle.nr_units.specs.declared.cell.Cell.{Cell}
 use Rattle.nr_settings.specs.declared.filling.Align.{Align}
 use Rattle.nr_settings.specs.declared.filling.Align.TheVariants.{Left, Spread}
 use Rattle.nr_settings.specs.declared.indents.Margins.{Margins}
-use Rattle.nr_fill.specs.Cut.{fits}
-use Rattle.nr_fill.specs.Pieces.{Piece, Word, Collected, is_nil, word_pieces, end_word, may_hyphenate}
+use Rattle.nr_fill.specs.Cutting.{fits}
+use Rattle.nr_fill.specs.Piece.{Piece, Word, Collected, is_nil, word_pieces, end_word, may_hyphenate}
 use Rattle.nr_fill.specs.Setting.{cut_of, set_line, behind}
 use Rattle.nr_page.specs.Grid.{Placed}
 use Rattle.nr_reading.specs.declared.event.Event.TheVariants as events

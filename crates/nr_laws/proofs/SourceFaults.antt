@@ -1,18 +1,18 @@
 -- A source of which it is told when it fails stays one, whatever move is made.
 use Rattle.std.specs.Prelude.{is_none, not}
 use Rattle.std.proofs.Common.{◌≡◌, ℕ, zero, suc, Bool, true, false, if◌then◌else◌, List, [], ◌∷◌, Option, None, Some, refl, ◌∙◌}
-use Rattle.nr_units.specs.Supply.{Faults, Never, After, Anytime, one_later}
+use Rattle.nr_units.specs.Source.{Faults, Never, After, Anytime, one_later}
 use Rattle.nr_units.specs.declared.cell.Cell.{Cell}
-use Rattle.nr_tables.specs.declared.trap.Trap.{Trap}
-use Rattle.nr_store.specs.Stored.{shown}
+use Rattle.nr_symbol_tables.specs.declared.trap.Trap.{Trap}
+use Rattle.nr_store.specs.Store.{shown}
 use Rattle.nr_store.specs.declared.request.Request.{Request}
 use Rattle.nr_store.specs.declared.request.Request.TheVariants as requests
 use Rattle.nr_store.specs.declared.shown.Shown.{Shown}
 use Rattle.nr_store.specs.declared.shown.Shown.TheVariants as shows
-use Rattle.nr_reading.specs.Meeting.{Met, meet}
+use Rattle.nr_reading.specs.Half.{Met, meet}
 use Rattle.nr_reading.specs.declared.event.Event.{Event}
 use Rattle.nr_reading.specs.declared.event.Event.TheVariants as events
-use Rattle.nr_input.specs.Coming.{Coming, front, behind, behind_front_of}
+use Rattle.nr_input.specs.Place.{Coming, front, behind, behind_front_of}
 use Rattle.nr_input.specs.Moving.{Situation, looks, look, taken_at, stays_at, acted_at}
 use Rattle.nr_formatter.specs.declared.formatter.Formatter.{Formatter}
 use Rattle.nr_formatter.specs.declared.lines.Going.{Going}

@@ -3,8 +3,8 @@ use Rattle.std.specs.Prelude.{is_none, not}
 use Rattle.std.proofs.Math.Path.{fun_ext}
 use Rattle.std.proofs.Common.{◌≡◌, ℕ, zero, suc, Bool, true, false, if◌then◌else◌, List, [], ◌∷◌, Option, None, Some, ℤ, pos, refl, ap, ◌∙◌}
 use Rattle.nr_units.specs.declared.cell.Cell.{Cell}
-use Rattle.nr_tables.specs.declared.trap.Trap.{Trap}
-use Rattle.nr_store.specs.Stored.{is_held, shown}
+use Rattle.nr_symbol_tables.specs.declared.trap.Trap.{Trap}
+use Rattle.nr_store.specs.Store.{is_held, shown}
 use Rattle.nr_store.specs.declared.request.Request.{Request}
 use Rattle.nr_store.specs.declared.request.Request.TheVariants as requests
 use Rattle.nr_reading.specs.declared.event.Event.{Event}
@@ -32,12 +32,12 @@ use Rattle.nr_engine.specs.State.{State, Choice, First, Register, plainly}
 use Rattle.nr_engine.specs.Machine.{choose, begin_page, turn_page, put_line_to, put_line, put_or, break_part, continues_none, break_out, room_in, title_to, cell_to, line_to, space_to, put_space, eject_to, eject, told, with_situation, read, act, work, hear, spring_or, choose_or, step, state_after, situation_of}
 use Rattle.nr_laws.specs.Limited.{stored_under, reader_under, under, state_under}
 use Rattle.std.specs.List.{filter}
-use Rattle.nr_tables.specs.Traps.{nearest, on_page}
+use Rattle.nr_symbol_tables.specs.Trap.{nearest, on_page}
 use Rattle.nr_store.specs.declared.element.Element.{Element}
-use Rattle.nr_store.specs.Stored.{Stored, Reading, Level, Read, Mark, left, left_of}
-use Rattle.nr_reading.specs.Meeting.{Met, meet}
+use Rattle.nr_store.specs.Store.{Stored, Reading, Level, Read, Mark, left, left_of}
+use Rattle.nr_reading.specs.Half.{Met, meet}
 use Rattle.nr_input.specs.Acting.{Acted}
-use Rattle.nr_input.specs.Coming.{front, behind}
+use Rattle.nr_input.specs.Place.{front, behind}
 use Rattle.nr_input.specs.Moving.{Situation, Move, situation, looks, look, taken_at, stays_at, burst_behind, told_of, acted_at, move as input_move}
 use Rattle.nr_input.specs.declared.told.Told.{Told}
 use Rattle.nr_input.specs.declared.told.Told.TheVariants as tells

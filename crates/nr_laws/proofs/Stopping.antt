@@ -1,17 +1,17 @@
 -- A run stops in one way, but for faults that no one tells beforehand.
 use Rattle.std.specs.Prelude.{nat_le}
 use Rattle.std.proofs.Common.{◌≡◌, Bool, true, false, if◌then◌else◌, None, Some, Result, Ok, Err, refl, sym, subst, ◌∙◌, arith}
-use Rattle.nr_units.specs.Supply.{Faults, Never, After, Anytime, MayFail, MayGive}
-use Rattle.nr_store.specs.Stored.{Stored, shown, afforded, checked}
+use Rattle.nr_units.specs.Source.{Faults, Never, After, Anytime, MayFail, MayGive}
+use Rattle.nr_store.specs.Store.{Stored, shown, afforded, checked}
 use Rattle.nr_store.specs.declared.refusal.Refusal as stored
 use Rattle.nr_store.specs.declared.refusal.Refusal.TheVariants as stores
 use Rattle.nr_store.specs.declared.refusal.StoredBytes.{StoredBytes}
 use Rattle.nr_store.specs.declared.shown.Shown.{Shown}
 use Rattle.nr_store.specs.declared.shown.Shown.TheVariants as shows
-use Rattle.nr_input.specs.Coming.{Coming, MayLook, RefusesLook}
+use Rattle.nr_input.specs.Place.{Coming, MayLook, RefusesLook}
 use Rattle.nr_input.specs.Moving.{Situation, looks, answer_at}
 use Rattle.nr_input.specs.Moving as input
-use Rattle.nr_input.specs.Refusals.{Asking, Nothing, Bytes, Splice, Refused, answer_to, storing_by, splicing_by, asking}
+use Rattle.nr_input.specs.Refusal.{Asking, Nothing, Bytes, Splice, Refused, answer_to, storing_by, splicing_by, asking}
 use Rattle.nr_input.specs.declared.reader.Reader.{Reader}
 use Rattle.nr_input.specs.declared.refusal.Refusal.{Refusal}
 use Rattle.nr_input.specs.declared.refusal.Refusal.TheVariants as refusals
@@ -22,7 +22,7 @@ use Rattle.nr_engine.specs.declared.outcome.Measure.{Measure}
 use Rattle.nr_engine.specs.declared.outcome.Measure.TheVariants as measures
 use Rattle.nr_engine.specs.declared.outcome.Outcome.{Outcome}
 use Rattle.nr_engine.specs.declared.outcome.Outcome.TheVariants.{Done, Limit, ReadFault, TooLong, WriteFault}
-use Rattle.nr_engine.specs.Answer.{Kind, Reads, Works, Over, kind, Goes, GoesBy, IsRefusal, PassesBy, Stops}
+use Rattle.nr_engine.specs.Run.{Kind, Reads, Works, Over, kind, Goes, GoesBy, IsRefusal, PassesBy, Stops}
 use Rattle.nr_options.specs.Limits.{Bounds}
 use Rattle.nr_laws.specs.Laws.{are_told, is_settled, is_limit}
 use Rattle.nr_laws.specs.Limited.{state_under}

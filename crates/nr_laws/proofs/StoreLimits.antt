@@ -1,13 +1,13 @@
 -- What is stored changes in the same way under any limits.
 use Rattle.std.specs.Prelude.{nat_lt, length, ◌==◌}
 use Rattle.std.proofs.Common.{◌≡◌, ℕ, zero, suc, Bool, true, false, if◌then◌else◌, List, [], ◌∷◌, Option, None, Some, refl, ap, ◌∙◌}
-use Rattle.nr_tables.specs.Named.{find, is_same}
+use Rattle.nr_symbol_tables.specs.Table.{find, is_same}
 use Rattle.nr_store.specs.declared.element.Diversion.{Diversion}
-use Rattle.nr_store.specs.Stored.{Stored, Built, Means, named_newest, ended_by, moved, renamed, worded}
+use Rattle.nr_store.specs.Store.{Stored, Built, Means, named_newest, ended_by, moved, renamed, worded}
 use Rattle.nr_settings.specs.Arguments.{word_in, behind_word}
 use Rattle.nr_options.specs.Limits.{Bounds}
 use Rattle.nr_formatter.specs.declared.tasks.Resume.{Resume}
-use Rattle.nr_formatter.specs.Naming as naming
+use Rattle.nr_formatter.specs.Names as naming
 use Rattle.nr_laws.specs.Limited.{stored_under}
 
 module _ (b : Bounds) where

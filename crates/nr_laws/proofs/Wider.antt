@@ -1,8 +1,8 @@
 -- A move that is made is made under wider limits too.
 use Rattle.std.specs.Prelude.{nat_lt, length}
 use Rattle.std.proofs.Common.{◌≡◌, Bool, true, false, if◌then◌else◌, None, Some, refl, ap, sym, ◌∙◌}
-use Rattle.nr_store.specs.Stored.{charge_of}
-use Rattle.nr_fill.specs.Pieces.{line_cells}
+use Rattle.nr_store.specs.Store.{charge_of}
+use Rattle.nr_fill.specs.Piece.{line_cells}
 use Rattle.nr_page.specs.Grid.{page_charge}
 use Rattle.nr_input.specs.Moving.{looks}
 use Rattle.nr_input.specs.Moving as input
@@ -12,7 +12,7 @@ use Rattle.nr_engine.specs.State.{State}
 use Rattle.nr_engine.specs.Machine.{step, situation_of}
 use Rattle.nr_engine.specs.Measures.{passed}
 use Rattle.nr_engine.specs.declared.outcome.Measure.TheVariants as measures
-use Rattle.nr_engine.specs.Answer.{Kind, Reads, Works, Over, kind, Goes, GoesBy}
+use Rattle.nr_engine.specs.Run.{Kind, Reads, Works, Over, kind, Goes, GoesBy}
 use Rattle.nr_laws.specs.Laws.{AtLeast}
 use Rattle.nr_laws.specs.Limited.{state_under}
 use Rattle.nr_laws.proofs.InputLimits.{lt-wider, answer-wider}

@@ -2,13 +2,13 @@
 use Prim.Native.Char.{code}
 use Rattle.std.specs.Prelude.{◌≡◌, ℕ, zero, suc, ◌<◌, ◌≤◌, ◌-◌, ◌%◌, not, Bool, true, false, ◌&&◌, ◌||◌, ◌==◌, if◌then◌else◌, List, [], ◌∷◌, ◌++◌, length, replicate, None}
 use Rattle.std.specs.List.{flat_map, fold}
-use Rattle.nr_units.specs.Supply.{Supply}
+use Rattle.nr_units.specs.Source.{Supply}
 use Rattle.nr_units.specs.declared.cell.Cell.{Cell}
 use Rattle.nr_settings.specs.declared.indents.Margins.{Margins}
 use Rattle.nr_settings.specs.declared.filling.Align.{Align}
 use Rattle.nr_settings.specs.declared.filling.Align.TheVariants.{Left, Spread}
-use Rattle.nr_fill.specs.Pieces.{Piece, Collected, is_nil, nothing_collected, add_cell, end_word, one_blank_more, after_newline}
-use Rattle.nr_fill.specs.Cut.{fits, cut}
+use Rattle.nr_fill.specs.Piece.{Piece, Collected, is_nil, nothing_collected, add_cell, end_word, one_blank_more, after_newline}
+use Rattle.nr_fill.specs.Cutting.{fits, cut}
 use Rattle.nr_fill.specs.Setting.{cut_of, set_line, behind}
 use Rattle.nr_page.specs.PageBytes.{cell_bytes}
 use Rattle.nr_options.specs.Limits.{Bounds}

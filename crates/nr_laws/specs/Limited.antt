@@ -1,6 +1,6 @@
 -- The same values under other limits.
 use Rattle.std.specs.Prelude.{ℕ}
-use Rattle.nr_store.specs.Stored.{Stored}
+use Rattle.nr_store.specs.Store.{Stored}
 use Rattle.nr_input.specs.declared.reader.Reader.{Reader}
 use Rattle.nr_options.specs.Limits.{Bounds}
 use Rattle.nr_formatter.specs.declared.formatter.Formatter.{Formatter}

@@ -5,7 +5,7 @@ use Rattle.std.proofs.lemmas.List.Sums.{sum_by-append}
 use Rattle.std.proofs.lemmas.Bool.{cases_lt, cond-true, cond-false, eq-eqb, ne_eqb}
 use Rattle.nr_levels.specs.Levels.{cut}
 use Rattle.nr_levels.specs.Laws.{sum-cons, length-joined, with_bytes-full, with_bytes-more}
-use Rattle.nr_levels.specs.Gathered.{Gathered, joined, gathered_len, with_byte, with_bytes, with_end, gathered_of, IsGathering}
+use Rattle.nr_levels.specs.Gathering.{Gathered, joined, gathered_len, with_byte, with_bytes, with_end, gathered_of, IsGathering}
 
 -- more bytes behind change nothing
 pub cut_more : (lens bytes more : List ℕ) → sum lens ≤ length bytes → cut lens (bytes ++ more) ≡ cut lens bytes

@@ -5,7 +5,7 @@ use Rattle.std.proofs.lemmas.List.{drop-drop, drop_all, length-drop}
 use Rattle.std.proofs.lemmas.Bool.Decides.{nat_tests}
 use Rattle.nr_levels.specs.Levels.{Source, Text, Own, Mark, Open, Levels, front, front_of, behind, advanced, HasNext, HasMark, resumed}
 use Rattle.nr_levels.specs.Further.{further, further_on, Reaches, NewestReaches}
-use Rattle.nr_levels.specs.Frames.{part, source_of, resume_of, open_of, opens_of, mode_of, modes_behind, modes_in, mode_count, levels_of, ReadsBelow, IsBare, IsStacked, AreLevels, MarkHasMode, AreModes}
+use Rattle.nr_levels.specs.Frame.{part, source_of, resume_of, open_of, opens_of, mode_of, modes_behind, modes_in, mode_count, levels_of, ReadsBelow, IsBare, IsStacked, AreLevels, MarkHasMode, AreModes}
 use Rattle.nr_levels.specs.Moving.{gone_on, newest_gone_on, MayGoOn, NewestMayGoOn}
 use Rattle.nr_levels.specs.declared.frame.Span.{Span}
 use Rattle.nr_levels.specs.declared.frame.Frame.{Frame}

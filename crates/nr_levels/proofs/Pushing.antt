@@ -5,7 +5,7 @@ use Rattle.std.proofs.lemmas.List.Sums.{sum_by-cons}
 use Rattle.std.proofs.lemmas.Bool.{cases_lt}
 use Rattle.nr_units.specs.Items.{Items}
 use Rattle.nr_levels.specs.Levels.{Levels, total, deeper, cut, argument}
-use Rattle.nr_levels.specs.Frames.{part, arguments_of, source_of, resume_of, opens_of, mode_of, modes_behind, levels_of, EndBy, AreBelow, ReadsBelow, IsBare, reader, AreLevels, MarkHasMode, modes_in, AreModes, spans_from, no_span}
+use Rattle.nr_levels.specs.Frame.{part, arguments_of, source_of, resume_of, opens_of, mode_of, modes_behind, levels_of, EndBy, AreBelow, ReadsBelow, IsBare, reader, AreLevels, MarkHasMode, modes_in, AreModes, spans_from, no_span}
 use Rattle.nr_levels.specs.declared.frame.Span.{Span}
 use Rattle.nr_levels.specs.declared.frame.Frame.{Frame}
 use Rattle.nr_levels.specs.declared.frame.Reads.{Reads}

@@ -6,7 +6,7 @@ use Rattle.std.proofs.lemmas.Bool.{cases_lt}
 use Rattle.std.proofs.lemmas.List.Sums.{sum_by-cons}
 use Rattle.std.proofs.lemmas.Option.{get_or_from_slice_get}
 use Rattle.nr_levels.specs.Levels.{Source, Own, Mark, Open, Levels, total, front, front_of, marks, closed, HasNext, HasEnd}
-use Rattle.nr_levels.specs.Frames.{part, arguments_of, source_of, resume_of, open_of, opens_of, mode_of, modes_behind, modes_in, mode_count, levels_of, EndBy, AreBelow, ReadsBelow, reader, readers, IsStacked, AreLevels, MarkHasMode, AreModes}
+use Rattle.nr_levels.specs.Frame.{part, arguments_of, source_of, resume_of, open_of, opens_of, mode_of, modes_behind, modes_in, mode_count, levels_of, EndBy, AreBelow, ReadsBelow, reader, readers, IsStacked, AreLevels, MarkHasMode, AreModes}
 use Rattle.nr_levels.specs.Windows.{left_in, rest_of}
 use Rattle.nr_levels.specs.declared.frame.Span.{Span}
 use Rattle.nr_levels.specs.declared.frame.Frame.{Frame}

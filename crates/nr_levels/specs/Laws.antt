@@ -5,7 +5,7 @@ use Rattle.std.proofs.lemmas.Bool.{cond-true, cond-false}
 use Rattle.std.proofs.lemmas.List.{take-append-le, take_all, append-nil}
 use Rattle.std.proofs.lemmas.List.Sums.{sum_by-cons}
 use Rattle.nr_levels.specs.Levels.{cut}
-use Rattle.nr_levels.specs.Gathered.{Gathered, joined, bytes_in, with_byte, with_bytes}
+use Rattle.nr_levels.specs.Gathering.{Gathered, joined, bytes_in, with_byte, with_bytes}
 
 pub sum-cons : (n : ℕ) (ns : List ℕ) → sum (n ∷ ns) ≡ n + sum ns
 sum-cons n ns = sum_by-cons (λ (x : ℕ). x) n ns

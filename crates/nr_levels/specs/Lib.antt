@@ -1,7 +1,7 @@
 pub mod Levels
-pub mod Frames
+pub mod Frame
 pub mod Further
-pub mod Gathered
+pub mod Gathering
 pub mod Laws
 pub mod Moving
 pub mod Windows

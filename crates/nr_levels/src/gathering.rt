@@ -1,6 +1,6 @@
 //! The arguments of a macro that are being read.
 ghost use Rattle.std.specs.Prelude.{◌≡◌, ◌==◌, ◌+◌, ◌^◌, ◌<◌, ◌≤◌, length, map, IfOk};
-ghost use Rattle.nr_levels.specs.Gathered.{joined, none_gathered, gathered_len, with_byte, with_bytes, with_end};
+ghost use Rattle.nr_levels.specs.Gathering.{joined, none_gathered, gathered_len, with_byte, with_bytes, with_end};
 
 use nr_rooms::FixedVec;
 use std::alloc::{AllocError, Global};
@@ -22,7 +22,7 @@ pub struct Gathering {
 
 impl Model for Gathering {
     ghost use Rattle.std.specs.Prelude.{take};
-    ghost use Rattle.nr_levels.specs.Gathered.{Gathering, gathered_of, IsGathering};
+    ghost use Rattle.nr_levels.specs.Gathering.{Gathering, gathered_of, IsGathering};
 
     ghost Value = { Gathering };
 

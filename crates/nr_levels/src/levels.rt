@@ -1,7 +1,7 @@
 //! The levels that are open, and the bytes and arguments that they keep.
 ghost use Rattle.std.specs.Prelude.{◌≡◌, ◌+◌, ◌*◌, ◌/◌, ◌^◌, ◌<◌, ◌≤◌, [], length, min, sum, nat_le, Some, None, IfOk};
 ghost use Rattle.nr_levels.specs.Levels.{Text, Own, total, front_of, advanced, HasNext, HasEnd, HasMark, deeper, closed, charge_of_newest, resumed, argument, cut};
-ghost use Rattle.nr_levels.specs.Frames.{mode_of, modes_behind, modes_in};
+ghost use Rattle.nr_levels.specs.Frame.{mode_of, modes_behind, modes_in};
 ghost use Rattle.nr_levels.specs.Further.{further_on, NewestReaches};
 ghost use Rattle.nr_levels.specs.Windows.{source_in, rest_of};
 ghost use Rattle.nr_levels.specs.Moving.{Comes};
@@ -34,7 +34,7 @@ pub struct Levels<K: Copy> {
 
 impl<K: Copy> Model for Levels<K> {
     ghost use Rattle.nr_levels.specs.Levels.{Levels};
-    ghost use Rattle.nr_levels.specs.Frames.{levels_of, AreLevels, AreModes};
+    ghost use Rattle.nr_levels.specs.Frame.{levels_of, AreLevels, AreModes};
 
     ghost Value = { Levels K };
 

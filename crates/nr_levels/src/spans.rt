@@ -1,6 +1,6 @@
 // Places of arguments.
 ghost use Rattle.std.specs.Prelude.{◌≡◌, ◌+◌, ◌^◌, ◌<◌, ◌≤◌, ◌++◌, length, sum, slice_index_or};
-ghost use Rattle.nr_levels.specs.Frames.{part, spans_from, no_span};
+ghost use Rattle.nr_levels.specs.Frame.{part, spans_from, no_span};
 
 use crate::frame::Span;
 use nr_rooms::FixedVec;

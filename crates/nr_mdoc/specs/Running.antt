@@ -2,8 +2,8 @@
 use Rattle.std.specs.Prelude.{◌≡◌, ℕ, ◌+◌, ◌*◌, ◌<◌, ◌≤◌, List, [], ◌++◌, length, Bool, true, false, Option, None, Some, Result, Ok, Err, ⊤, ◌⊎◌}
 use Rattle.std.specs.Io.KnownBytes.{Appends}
 use Rattle.nr_units.specs.Failures.{next_count}
-use Rattle.nr_units.specs.Held.{AppendsFront}
-use Rattle.nr_units.specs.Supply.{Supply}
+use Rattle.nr_units.specs.Sink.{AppendsFront}
+use Rattle.nr_units.specs.Source.{Supply}
 use Rattle.nr_mdoc.specs.declared.running.Outcome.{Outcome}
 use Rattle.nr_mdoc.specs.declared.running.Outcome.TheVariants.{Done, ReadFault, TooLong, WriteFault}
 use Rattle.nr_mdoc.specs.declared.running.Turn.{Turn}

@@ -1,6 +1,6 @@
 // The line of each bad word, byte for byte.
+use nr_command_options::{read_words, usage_line};
 use nr_units::fakes::Slate;
-use nr_words::{read_words, usage_line};
 
 /// Words of which one is bad, and the line that tells it.
 static LINES: [(&[&str], &[u8]); 56] = [

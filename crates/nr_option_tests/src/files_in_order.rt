@@ -1,7 +1,7 @@
 // Files one after the other: their bytes, newlines that are added, and faults.
+use nr_command_options::chain;
 use nr_units::fakes::Script;
 use nr_units::source::{Fault, Source};
-use nr_words::chain;
 
 /// Takes all bytes that come before the end or the first fault, by windows where `windows` says so.
 fn taken<S: Source>(

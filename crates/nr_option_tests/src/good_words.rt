@@ -1,5 +1,5 @@
 // What good words ask for.
-use nr_words::{Input, Job, MacroFile, read_words};
+use nr_command_options::{Input, Job, MacroFile, read_words};
 
 /// Words, and what they ask for.
 struct Asked {

@@ -1,7 +1,7 @@
 //! Nothing for other crates: tests of what a command line's words mean: good words and bad ones, page lists, and texts
 //! that are read one after the other.
 //!
-//! It stands on nr_words, nr_options and nr_command_line. To read: the files in any order.
+//! It stands on nr_command_options, nr_options and nr_command_line. To read: the files in any order.
 #![tactic(auto)]
 
 #[cfg(test)]

@@ -7,7 +7,7 @@ use Rattle.nr_units.specs.declared.cell.Cell.{Cell}
 use Rattle.nr_units.specs.Items.{Items}
 use Rattle.nr_pool.specs.Texts.{Held, Texts, no_text, used}
 use Rattle.nr_page.specs.declared.row.RowSlot.{RowSlot}
-use Rattle.nr_page.specs.Sheet.{Holds}
+use Rattle.nr_page.specs.Page.{Holds}
 use Rattle.nr_page.specs.Rows.{text_count, sheet_of, IsKept}
 
 -- it holds none

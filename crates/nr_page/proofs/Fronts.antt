@@ -6,8 +6,8 @@ use Rattle.std.proofs.lemmas.List.Concat.{flat_map-append}
 use Rattle.std.specs.List.{flat_map}
 use Rattle.nr_units.proofs.Fronts.{AppendsFront-append}
 use Rattle.std.proofs.KnownBytes.{Appends-trans}
-use Rattle.nr_units.specs.Held.{AppendsFront}
-use Rattle.nr_page.specs.Gathered.{Gathers, GathersOrFails}
+use Rattle.nr_units.specs.Sink.{AppendsFront}
+use Rattle.nr_page.specs.Gathering.{Gathers, GathersOrFails}
 
 pub Gathers-push : {a b : Option (List ℕ)} {p q xs : List ℕ} → Gathers a b p q xs → (ys : List ℕ) → Gathers a b p (q ++ ys) (xs ++ ys)
 Gathers-push {a} {b} {p} {q} {xs} h ys = record {

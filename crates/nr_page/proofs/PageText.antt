@@ -10,7 +10,7 @@ use Rattle.std.proofs.lemmas.List.Sums.{suffix_len_is}
 use Rattle.nr_units.specs.declared.cell.Cell.{Cell}
 use Rattle.nr_page.specs.Grid.{Placed, blank, is_blank, on_row, cells_at, last_shown, cell_at}
 use Rattle.nr_page.specs.PageBytes.{cell_bytes, column_count, trimmed, row_cells, row_bytes, row_count, page_bytes}
-use Rattle.nr_page.specs.Sheet.{Sheet, ShowsSame, Holds}
+use Rattle.nr_page.specs.Page.{Sheet, ShowsSame, Holds}
 use Rattle.nr_page.specs.Overlay.{covered, cell_or_blank, IsTrimmed, line_bytes, rows_bytes}
 use Rattle.nr_page.proofs.Showing.{last_shown-push, covered_by_blank, covered_by_other}
 

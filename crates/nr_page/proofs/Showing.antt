@@ -9,7 +9,7 @@ use Rattle.std.specs.List.{filter, last_or}
 use Rattle.nr_units.specs.declared.cell.Cell.{Cell}
 use Rattle.nr_page.specs.Grid.{Placed, blank, is_blank, on_row, cells_at, last_shown, cell_at, page_charge}
 use Rattle.nr_page.specs.PageBytes.{row_count}
-use Rattle.nr_page.specs.Sheet.{Sheet, ShowsSame, Holds}
+use Rattle.nr_page.specs.Page.{Sheet, ShowsSame, Holds}
 use Rattle.nr_page.specs.Overlay.{covered, overlaid, cell_or_blank}
 
 pub last_or-push : {A : Type 0} (o : Option A) (xs : List A) (y : A) → last_or o (xs ++ y ∷ []) ≡ Some y

@@ -1,8 +1,8 @@
-pub mod Gathered
+pub mod Gathering
 pub mod Grid
 pub mod Overlay
 pub mod PageBytes
 pub mod Rows
 pub mod Selection
 pub mod SelectionReading
-pub mod Sheet
+pub mod Page

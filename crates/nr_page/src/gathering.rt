@@ -3,7 +3,7 @@ ghost use Rattle.std.specs.Prelude.{◌≡◌, ℕ, ◌+◌, ◌*◌, ◌<◌, �
 ghost use Rattle.nr_units.specs.declared.cell.Cell.{Cell as CellValue};
 ghost use Rattle.std.specs.List.{flat_map};
 ghost use Rattle.nr_units.specs.Failures.{put_counted};
-ghost use Rattle.nr_page.specs.Gathered.{GathersOrFails};
+ghost use Rattle.nr_page.specs.Gathering.{GathersOrFails};
 ghost use Rattle.nr_page.specs.PageBytes.{cell_bytes};
 
 use nr_units::cell::Cell;

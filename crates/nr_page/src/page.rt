@@ -1,10 +1,10 @@
 //! The open page.
 ghost use Rattle.std.specs.Prelude.{◌≡◌, ℕ, ◌+◌, ◌/◌, ◌^◌, ◌<◌, ◌≤◌, ◌↔◌, List, [], ◌∷◌, ◌++◌, length, OnOk, OnErr, IsErr, IsTrue, IfOk};
 ghost use Rattle.nr_page.specs.Grid.{Placed, page_charge};
-ghost use Rattle.nr_page.specs.Sheet.{Holds};
+ghost use Rattle.nr_page.specs.Page.{Holds};
 ghost use Rattle.std.specs.Io.KnownBytes.{Appends};
 ghost use Rattle.nr_units.specs.Failures.{put_counted};
-ghost use Rattle.nr_units.specs.Held.{AppendsFront};
+ghost use Rattle.nr_units.specs.Sink.{AppendsFront};
 ghost use Rattle.nr_page.specs.PageBytes.{page_bytes};
 
 use crate::gap_vec::GapVec;
@@ -66,7 +66,7 @@ pub struct Page {
 }
 
 impl Model for Page {
-    ghost use Rattle.nr_page.specs.Sheet.{Sheet};
+    ghost use Rattle.nr_page.specs.Page.{Sheet};
     ghost use Rattle.nr_page.specs.Rows.{sheet_of, IsKept};
 
     ghost Value = { Sheet };

@@ -1,9 +1,9 @@
 // The rows of a page, from the top on.
 ghost use Rattle.std.specs.Prelude.{◌≡◌, ℕ, ◌*◌, ◌≤◌, ◌++◌, length, replicate, OnOk, OnErr};
 ghost use Rattle.std.specs.Io.KnownBytes.{Appends};
-ghost use Rattle.nr_units.specs.Held.{AppendsFront};
+ghost use Rattle.nr_units.specs.Sink.{AppendsFront};
 ghost use Rattle.nr_units.specs.Failures.{put_counted};
-ghost use Rattle.nr_page.specs.Gathered.{GathersOrFails};
+ghost use Rattle.nr_page.specs.Gathering.{GathersOrFails};
 ghost use Rattle.nr_page.specs.Overlay.{IsTrimmed, line_bytes, rows_bytes};
 ghost use Rattle.nr_page.specs.Rows.{rows_of, AreAbove, AreKept};
 

@@ -2,7 +2,7 @@
 use Rattle.std.proofs.Common.{◌≡◌, ℕ, ◌+◌, ◌<◌, ◌≤◌, List, length, set, arith}
 use Rattle.std.proofs.lemmas.List.{length-set}
 use Rattle.nr_pool.specs.Texts.{Texts, IsOpen}
-use Rattle.nr_pool.specs.Places.{slot_at, texts_of, IsPacked}
+use Rattle.nr_pool.specs.Slot.{slot_at, texts_of, IsPacked}
 use Rattle.nr_pool.specs.Spares.{HasSpares}
 use Rattle.nr_pool.specs.Rooms.{IsKept}
 use Rattle.nr_pool.specs.declared.slot.Slot.{Slot}

@@ -4,7 +4,7 @@ use Rattle.std.proofs.lemmas.List.{length-set, get_or-set_same, get_or-set_other
 use Rattle.std.proofs.lemmas.List.Sums.{sum_by-set}
 use Rattle.std.proofs.lemmas.Bool.{cases_lt}
 use Rattle.nr_pool.specs.Texts.{Held}
-use Rattle.nr_pool.specs.Places.{blank_slot, slot_at, held_of, IsPacked}
+use Rattle.nr_pool.specs.Slot.{blank_slot, slot_at, held_of, IsPacked}
 use Rattle.nr_pool.specs.Exchange.{LiesAt, IsSwapped, IsExchanged}
 use Rattle.nr_pool.specs.declared.slot.Slot.{Slot}
 use Rattle.nr_pool.proofs.Places.{written_at, same_map, same_part, same_slot}

@@ -7,7 +7,7 @@ use Rattle.std.proofs.lemmas.Option.{slice_get-get_or, get_or_from_slice_get, sl
 use Rattle.std.specs.List.{SameBelow, CopiedTo}
 use borrow.Rule.Slice.PartMut.{put_mid}
 use Rattle.nr_pool.specs.Texts.{Held, Texts, no_text, entry, text, holders, IsOpen, used, with_entry, opened, with_text, with_holders, without_text}
-use Rattle.nr_pool.specs.Places.{blank_slot, slot_at, held_of, texts_of, IsPacked}
+use Rattle.nr_pool.specs.Slot.{blank_slot, slot_at, held_of, texts_of, IsPacked}
 use Rattle.nr_pool.specs.declared.slot.Slot.{Slot}
 
 -- a part within a list has its length

@@ -5,7 +5,7 @@ use Rattle.std.proofs.lemmas.List.{length-map, length-set, get_or-set_same, map-
 use Rattle.std.proofs.lemmas.List.Sums.{sum-map, sum_by-set}
 use Rattle.std.proofs.lemmas.Bool.{cases_lt}
 use Rattle.nr_pool.specs.Texts.{Held, no_text, IsOpen, without_text}
-use Rattle.nr_pool.specs.Places.{blank_slot, slot_at, held_of, texts_of, shifted, IsPacked}
+use Rattle.nr_pool.specs.Slot.{blank_slot, slot_at, held_of, texts_of, shifted, IsPacked}
 use Rattle.nr_pool.specs.Exchange.{IsExchanged}
 use Rattle.nr_pool.specs.Removal.{spare_before, IsRemoved}
 use Rattle.nr_pool.specs.declared.slot.Slot.{Slot}

@@ -5,7 +5,7 @@ use Rattle.std.proofs.lemmas.List.Sums.{sum_by-append}
 use Rattle.std.proofs.lemmas.List.Folds.{sum_by-replicate}
 use Rattle.std.proofs.lemmas.Option.{slice_get-get_or, get_or_from_slice_get, slice_get_within}
 use Rattle.nr_pool.specs.Texts.{Held, Texts, no_text, entry, text, holders, IsOpen, used, with_entry, with_text, with_holders}
-use Rattle.nr_pool.specs.Places.{blank_slot, slot_at, held_of, texts_of, IsPacked}
+use Rattle.nr_pool.specs.Slot.{blank_slot, slot_at, held_of, texts_of, IsPacked}
 use Rattle.nr_pool.specs.Rooms.{with_room, texts_within, written, IsKept}
 use borrow.Rule.Slice.PartMut.{put_mid}
 use Rattle.nr_pool.specs.declared.slot.Slot.{Slot}

@@ -6,7 +6,7 @@ use Rattle.std.proofs.lemmas.List.Sums.{sum-map}
 use Rattle.std.proofs.lemmas.Bool.{cases_lt, cases_Bool, cond-true, cond-false, and_parts, and_cases, ltb-true, ltb-false, leb-true, leb-false}
 use borrow.Rule.Slice.PartMut.{put_mid}
 use Rattle.nr_pool.specs.Texts.{Held}
-use Rattle.nr_pool.specs.Places.{blank_slot, slot_at, held_of, texts_of, is_behind, shifted, IsPacked}
+use Rattle.nr_pool.specs.Slot.{blank_slot, slot_at, held_of, texts_of, is_behind, shifted, IsPacked}
 use Rattle.nr_pool.specs.Spares.{HasSpares}
 use Rattle.nr_pool.specs.declared.slot.Slot.{Slot}
 use Rattle.nr_pool.proofs.Places.{same_map, same_part, same_slot, written_at}

@@ -3,7 +3,7 @@ use Rattle.std.proofs.Common.{◌≡◌, ◌≢◌, ℕ, zero, suc, ◌+◌, ◌
 use Rattle.std.proofs.lemmas.List.{length-set, length-append, get_or-set_same}
 use Rattle.std.proofs.lemmas.List.Sums.{sum-map, sum_by-set, sum_by-le, sum_by-append}
 use Rattle.std.proofs.lemmas.Bool.{cases_lt}
-use Rattle.nr_pool.specs.Places.{blank_slot, slot_at}
+use Rattle.nr_pool.specs.Slot.{blank_slot, slot_at}
 use Rattle.nr_pool.specs.Spares.{spare_at, taken, HasSpares}
 use Rattle.nr_pool.specs.declared.slot.Slot.{Slot}
 use Rattle.nr_pool.proofs.Places.{same_map, written_at}

@@ -1,7 +1,7 @@
 -- Two texts of the same length that change places.
 use Rattle.std.specs.Prelude.{◌≡◌, ℕ, ◌+◌, ◌<◌, ◌≤◌, ◌⊎◌, List, length, slice_index_or}
 use Rattle.nr_pool.specs.declared.slot.Slot.{Slot}
-use Rattle.nr_pool.specs.Places.{slot_at, texts_of, IsPacked}
+use Rattle.nr_pool.specs.Slot.{slot_at, texts_of, IsPacked}
 use Rattle.nr_pool.specs.Spares.{HasSpares}
 
 -- a text of this length begins here

@@ -1,5 +1,5 @@
 pub mod Texts
-pub mod Places
+pub mod Slot
 pub mod Spares
 pub mod Rooms
 pub mod Laws

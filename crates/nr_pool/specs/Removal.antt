@@ -2,7 +2,7 @@
 use Rattle.std.specs.Prelude.{◌≡◌, ℕ, ◌+◌, ◌-◌, List, length}
 use Rattle.nr_pool.specs.declared.slot.Slot.{Slot}
 use Rattle.nr_pool.specs.Texts.{without_text}
-use Rattle.nr_pool.specs.Places.{slot_at, texts_of, IsPacked}
+use Rattle.nr_pool.specs.Slot.{slot_at, texts_of, IsPacked}
 use Rattle.nr_pool.specs.Spares.{HasSpares}
 
 -- a slot with no text, before another among the spare ones

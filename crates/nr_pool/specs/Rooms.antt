@@ -2,7 +2,7 @@
 use Rattle.std.specs.Prelude.{ℕ, ◌-◌, ◌^◌, ◌<◌, ◌≤◌, List, ◌++◌, length, take, drop, replicate}
 use Rattle.nr_pool.specs.declared.slot.Slot.{Slot}
 use Rattle.nr_pool.specs.Texts.{Texts, no_text}
-use Rattle.nr_pool.specs.Places.{texts_of, IsPacked}
+use Rattle.nr_pool.specs.Slot.{texts_of, IsPacked}
 use Rattle.nr_pool.specs.Spares.{HasSpares}
 
 -- p where there is room for so many elements, and so many numbers

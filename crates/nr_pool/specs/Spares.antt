@@ -1,7 +1,7 @@
 -- The slots of a pool with no text, each of which names the next.
 use Rattle.std.specs.Prelude.{◌≡◌, ℕ, zero, suc, ◌+◌, ◌<◌, List, length, min, sum_by}
 use Rattle.nr_pool.specs.declared.slot.Slot.{Slot}
-use Rattle.nr_pool.specs.Places.{slot_at}
+use Rattle.nr_pool.specs.Slot.{slot_at}
 
 -- the k-th spare slot, where `first` is the one at 0
 abbrev pub spare_at : List Slot → ℕ → ℕ → ℕ

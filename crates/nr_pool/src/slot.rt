@@ -1,6 +1,6 @@
 //! Where the texts of a pool lie.
 ghost use Rattle.std.specs.Prelude.{◌≡◌, ◌≢◌, ℕ, ◌+◌, ◌-◌, ◌^◌, ◌<◌, ◌≤◌, ◌⊎◌, [], ◌∷◌, ◌++◌, length, map, take, drop, IfSome, None, vec_len, vec_capacity};
-ghost use Rattle.nr_pool.specs.Places.{texts_of, slot_at, blank_slot, is_behind, shifted, IsPacked};
+ghost use Rattle.nr_pool.specs.Slot.{texts_of, slot_at, blank_slot, is_behind, shifted, IsPacked};
 ghost use Rattle.nr_pool.specs.Spares.{HasSpares};
 ghost use Rattle.nr_pool.specs.Exchange.{LiesAt, IsSwapped, IsExchanged};
 ghost use Rattle.nr_pool.specs.Removal.{spare_before, IsRemoved};

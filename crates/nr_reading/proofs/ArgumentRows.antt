@@ -7,9 +7,9 @@ use Rattle.nr_reading.specs.declared.mode.Due.{Due}
 use Rattle.nr_reading.specs.declared.mode.Due.TheVariants as dues
 use Rattle.nr_reading.specs.declared.mode.Mode.{Mode}
 use Rattle.nr_reading.specs.declared.mode.Mode.TheVariants as modes
-use Rattle.nr_reading.specs.Meeting.{reads_next}
+use Rattle.nr_reading.specs.Half.{reads_next}
 use Rattle.nr_reading.specs.Many.Passing.{is_plain}
-use Rattle.nr_reading.specs.Spelling.{is_blank}
+use Rattle.nr_reading.specs.Spelled.{is_blank}
 use Rattle.nr_reading.proofs.Rows.{MeetsByte, standing, apart_from}
 
 -- in another mode

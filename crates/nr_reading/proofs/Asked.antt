@@ -21,10 +21,10 @@ use Rattle.nr_reading.specs.declared.mode.Reading.{Reading}
 use Rattle.nr_reading.specs.declared.mode.Signs.{Signs}
 use Rattle.nr_reading.specs.declared.notes.Notes.{Notes}
 use Rattle.nr_reading.specs.declared.spelled.Spelled.{Spelled}
-use Rattle.nr_reading.specs.Asking.{is_argument, is_digit, is_unsigned, is_given, answer_byte, answer, due_of, event_of}
-use Rattle.nr_reading.specs.Delimiting.{Texts}
-use Rattle.nr_reading.specs.Meeting.{Met, answered, left_escape}
-use Rattle.nr_reading.specs.Spelling.{is_blank, is_empty, name_of}
+use Rattle.nr_reading.specs.Ask.{is_argument, is_digit, is_unsigned, is_given, answer_byte, answer, due_of, event_of}
+use Rattle.nr_reading.specs.Delimited.{Texts}
+use Rattle.nr_reading.specs.Half.{Met, answered, left_escape}
+use Rattle.nr_reading.specs.Spelled.{is_blank, is_empty, name_of}
 use Rattle.nr_reading.specs.Weights.{cost_of_event, paid_by, weight_by, weight_of_escape, weight_of_backslash, weight_of_half, weight_of_ask, blanks_owed, blanks_of_due, is_lead}
 use Rattle.nr_reading.proofs.Weighing.{at, weight_of_backslash-ge, weight_of_stage-ge}
 

@@ -12,7 +12,7 @@ use Rattle.nr_reading.specs.Notes.{Note}
 use Rattle.nr_reading.specs.declared.notes.Notes.{Notes}
 use Rattle.nr_reading.specs.Many.ConditionRows.{delimits, ends_number, is_digit_or_relation}
 use Rattle.nr_reading.specs.Conditions.{begins_number, parentheses}
-use Rattle.nr_reading.specs.Meeting.{reads_next}
+use Rattle.nr_reading.specs.Half.{reads_next}
 use Rattle.nr_reading.specs.Notes as notes
 use Rattle.nr_reading.specs.Noting.{noted, are_equal}
 use Rattle.nr_reading.specs.Many.Passing.{is_plain}

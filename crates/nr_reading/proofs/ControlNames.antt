@@ -14,10 +14,10 @@ use Rattle.nr_reading.specs.declared.mode.Signs.{Signs}
 use Rattle.nr_reading.specs.declared.spelled.Spelled.{Spelled}
 use Rattle.nr_reading.specs.declared.notes.Notes.{Notes}
 use Rattle.nr_reading.specs.Many.ControlNames.{IsSign, NameEnds, goes_on_name, behind_name}
-use Rattle.nr_reading.specs.Delimiting.{Texts}
-use Rattle.nr_reading.specs.Meeting.{reads_next}
-use Rattle.nr_reading.specs.Many.Rows.{LeadsOn}
-use Rattle.nr_reading.specs.Spelling.{ends_name, is_blank, nothing_spelled, spelled}
+use Rattle.nr_reading.specs.Delimited.{Texts}
+use Rattle.nr_reading.specs.Half.{reads_next}
+use Rattle.nr_reading.specs.Many.Row.{LeadsOn}
+use Rattle.nr_reading.specs.Spelled.{ends_name, is_blank, nothing_spelled, spelled}
 use Rattle.nr_reading.proofs.Asked.{half_at}
 use Rattle.nr_reading.proofs.PlainBytes.{neither}
 use Rattle.nr_reading.proofs.Rows.{MeetsByte, standing, stays, taken_more, left_more, recount, apart_from}

@@ -13,14 +13,14 @@ use Rattle.nr_reading.specs.declared.notes.Condition.{Condition}
 use Rattle.nr_reading.specs.declared.notes.Defining.{Defining}
 use Rattle.nr_reading.specs.declared.notes.Notes.{Notes}
 use Rattle.nr_reading.specs.declared.spelled.Spelled.{Spelled}
-use Rattle.nr_reading.specs.Steps.{Step}
+use Rattle.nr_reading.specs.Step.{Step}
 use Rattle.nr_reading.specs.Conditions.{begins_number, read_condition_byte, read_condition, read_number, read_first, read_second}
 use Rattle.nr_reading.specs.Control.{completes, read_name, read_macro_gap, read_word, read_quoted}
 use Rattle.nr_reading.specs.Definitions.{last_line, ends_whole, not_last, read_body_start, over_body_start}
-use Rattle.nr_reading.specs.Modes.{is_direct}
-use Rattle.nr_reading.specs.Reading.{read_by, read_over_by}
-use Rattle.nr_reading.specs.Spelling.{is_blank, ends_name, name_of, is_empty}
-use Rattle.nr_reading.specs.Steps.{to, due, go, leave}
+use Rattle.nr_reading.specs.Mode.{is_direct}
+use Rattle.nr_reading.specs.Reader.{read_by, read_over_by}
+use Rattle.nr_reading.specs.Spelled.{is_blank, ends_name, name_of, is_empty}
+use Rattle.nr_reading.specs.Step.{to, due, go, leave}
 use Rattle.nr_reading.specs.Strings.{read_string_name, read_string_blanks}
 use Rattle.nr_reading.specs.Weights.{cost_of_event, paid_by, weight_by, is_lead}
 use Rattle.nr_reading.proofs.Weighing.{at, blanks_in, weight_of_note}

@@ -11,13 +11,13 @@ use Rattle.nr_reading.specs.declared.mode.Escape.TheVariants as escapes
 use Rattle.nr_reading.specs.declared.mode.Mode.{Mode}
 use Rattle.nr_reading.specs.declared.mode.Mode.TheVariants as modes
 use Rattle.nr_reading.specs.declared.mode.Signs.{Signs}
-use Rattle.nr_reading.specs.Steps.{Step}
-use Rattle.nr_reading.specs.Asking.{first_stage}
-use Rattle.nr_reading.specs.Modes.{is_direct}
-use Rattle.nr_reading.specs.Reading.{unescaped, behind_backslash, direct}
+use Rattle.nr_reading.specs.Step.{Step}
+use Rattle.nr_reading.specs.Ask.{first_stage}
+use Rattle.nr_reading.specs.Mode.{is_direct}
+use Rattle.nr_reading.specs.Reader.{unescaped, behind_backslash, direct}
 use Rattle.nr_reading.specs.Skipping.{accepted_escape, skip_escape}
-use Rattle.nr_reading.specs.Steps.{to, tell}
-use Rattle.nr_reading.specs.TextEscapes.{plain, interpolated, asked_in_text, is_nothing, is_plain, event_behind, escape_in_text, escape_by, spliced_or, lone_escape, escaped}
+use Rattle.nr_reading.specs.Step.{to, tell}
+use Rattle.nr_reading.specs.TextEscape.{plain, interpolated, asked_in_text, is_nothing, is_plain, event_behind, escape_in_text, escape_by, spliced_or, lone_escape, escaped}
 use Rattle.nr_reading.specs.Weights.{worth_of_front, is_lead}
 use Rattle.nr_reading.proofs.Unescaped.{unescaped_pays}
 use Rattle.nr_reading.proofs.Weighing.{at, Pays, either, cost_of_event-le, weight_of_stage-le, weight_of_backslash-ge}

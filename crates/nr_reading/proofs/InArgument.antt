@@ -12,7 +12,7 @@ use Rattle.nr_reading.specs.declared.mode.Escape.TheVariants as escapes
 use Rattle.nr_reading.specs.declared.mode.Mode.{Mode}
 use Rattle.nr_reading.specs.declared.mode.Mode.TheVariants as modes
 use Rattle.nr_reading.specs.Many.InArgument.{is_in_argument, is_in_argument_at, ending_of, IsPlain}
-use Rattle.nr_reading.specs.Meeting.{meet}
+use Rattle.nr_reading.specs.Half.{meet}
 
 -- with this byte to be added to the argument
 abbrev pub putting : ℕ → Half → Half

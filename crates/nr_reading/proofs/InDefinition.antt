@@ -13,7 +13,7 @@ use Rattle.nr_reading.specs.declared.mode.Mode.{Mode}
 use Rattle.nr_reading.specs.declared.mode.Mode.TheVariants as modes
 use Rattle.nr_reading.specs.Many.InArgument.{ending_of, IsPlain}
 use Rattle.nr_reading.specs.Many.InDefinition.{is_in_definition, is_in_definition_at}
-use Rattle.nr_reading.specs.Meeting.{meet}
+use Rattle.nr_reading.specs.Half.{meet}
 use Rattle.nr_reading.proofs.InArgument.{IsIdle}
 
 -- with this byte to be added to the text that is built

@@ -13,7 +13,7 @@ use Rattle.nr_reading.specs.declared.mode.Mode.{Mode}
 use Rattle.nr_reading.specs.declared.mode.Mode.TheVariants as modes
 use Rattle.nr_reading.specs.Many.InText.{is_in_text, is_in_text_at, IsInText}
 use Rattle.nr_reading.specs.Many.LineBeginnings.{IsBeforeLine, text_ended}
-use Rattle.nr_reading.specs.Meeting.{meet}
+use Rattle.nr_reading.specs.Half.{meet}
 
 parts : (m : Mode) (e : Escape) (d : Due) (asks : List Ask) → is_in_text_at m e d asks ≡ true → (m ≡ modes.Text) × (e ≡ escapes.Plain) × (d ≡ dues.Look) × (asks ≡ [])
 parts modes.Text escapes.Plain dues.Look [] is = (refl, refl, refl, refl)

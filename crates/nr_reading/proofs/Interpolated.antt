@@ -20,13 +20,13 @@ use Rattle.nr_reading.specs.declared.mode.Mode.{Mode}
 use Rattle.nr_reading.specs.declared.mode.Mode.TheVariants as modes
 use Rattle.nr_reading.specs.declared.mode.Signs.{Signs}
 use Rattle.nr_reading.specs.declared.notes.Notes.{Notes}
-use Rattle.nr_reading.specs.Asking.{begun_ask, at_stage, with_byte, is_given, due_of, event_of}
-use Rattle.nr_reading.specs.Delimiting.{Texts}
+use Rattle.nr_reading.specs.Ask.{begun_ask, at_stage, with_byte, is_given, due_of, event_of}
+use Rattle.nr_reading.specs.Delimited.{Texts}
 use Rattle.nr_reading.specs.Many.InText.{is_in_text, is_in_text_at}
 use Rattle.nr_reading.specs.Many.Interpolations.{interpolates_in, interpolates, is_lone_name, is_named, begun, named}
 use Rattle.nr_reading.specs.Many.LineBeginnings.{text_begun}
-use Rattle.nr_reading.specs.Meeting.{meet, reads_plainly, reads_plainly_at}
-use Rattle.nr_reading.specs.Modes.{is_direct, reads_name}
+use Rattle.nr_reading.specs.Half.{meet, reads_plainly, reads_plainly_at}
+use Rattle.nr_reading.specs.Mode.{is_direct, reads_name}
 use Rattle.nr_reading.specs.Many.Passing.{is_plain, quiet}
 use Rattle.nr_reading.specs.Many.Runs.{HasMet}
 use Rattle.nr_reading.proofs.Asked.{half_at}

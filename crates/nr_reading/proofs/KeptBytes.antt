@@ -13,9 +13,9 @@ use Rattle.nr_reading.specs.Many.ConditionRows.{ends_number}
 use Rattle.nr_reading.specs.Conditions.{parentheses}
 use Rattle.nr_reading.specs.Many.InArgument.{IsPlain}
 use Rattle.nr_reading.specs.Many.KeptBytes.{are_in_number, HasKept}
-use Rattle.nr_reading.specs.Meeting.{reads_next}
+use Rattle.nr_reading.specs.Half.{reads_next}
 use Rattle.nr_reading.specs.Many.Passing.{is_plain}
-use Rattle.nr_reading.specs.Many.Rows.{LeadsOn}
+use Rattle.nr_reading.specs.Many.Row.{LeadsOn}
 use Rattle.nr_reading.proofs.Rows.{MeetsByte, looks, nothing_met, stays, taken_more, left_more, leads_behind, recount}
 
 -- ---- a row of bytes

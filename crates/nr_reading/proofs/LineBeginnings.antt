@@ -14,7 +14,7 @@ use Rattle.nr_reading.specs.declared.mode.Mode.TheVariants as modes
 use Rattle.nr_reading.specs.declared.mode.Signs.{Signs}
 use Rattle.nr_reading.specs.Many.InText.{is_in_text, is_in_text_at}
 use Rattle.nr_reading.specs.Many.LineBeginnings.{IsBeforeLine, begins_control, is_at_text, is_at_text_at, text_begun}
-use Rattle.nr_reading.specs.Meeting.{meet}
+use Rattle.nr_reading.specs.Half.{meet}
 
 parts : (m : Mode) (e : Escape) (d : Due) (asks : List Ask) → is_at_text_at m e d asks ≡ true → is_in_text_at m e d asks ≡ false
     → (m ≡ modes.Start) × (e ≡ escapes.Plain) × (d ≡ dues.Look) × (asks ≡ [])

@@ -6,7 +6,7 @@ use Rattle.nr_reading.specs.declared.half.Half.{Half}
 use Rattle.nr_reading.specs.declared.mode.Mode.TheVariants as modes
 use Rattle.nr_reading.specs.declared.mode.Signs.{Signs}
 use Rattle.nr_reading.specs.Many.LineBeginnings.{begins_text, text_begun}
-use Rattle.nr_reading.specs.Meeting.{reads_next}
+use Rattle.nr_reading.specs.Half.{reads_next}
 use Rattle.nr_reading.proofs.Rows.{MeetsByte, standing}
 
 -- a byte that begins the text of a line

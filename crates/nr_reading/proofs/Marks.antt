@@ -9,12 +9,12 @@ use Rattle.nr_reading.specs.declared.mode.Mode.{Mode}
 use Rattle.nr_reading.specs.declared.mode.Mode.TheVariants as modes
 use Rattle.nr_reading.specs.declared.mode.Reading.{Reading}
 use Rattle.nr_reading.specs.declared.mode.Signs.{Signs}
-use Rattle.nr_reading.specs.Asking.{is_size, reads_argument}
-use Rattle.nr_reading.specs.Copying.{offer, raw_offer}
-use Rattle.nr_reading.specs.Meeting.{meet, meet_by, met_directly, offered, silent}
-use Rattle.nr_reading.specs.Modes.{is_direct, reads_arguments}
-use Rattle.nr_reading.specs.Reading.{unescaped, behind_backslash, direct, direct_by}
-use Rattle.nr_reading.specs.Steps.{go}
+use Rattle.nr_reading.specs.Ask.{is_size, reads_argument}
+use Rattle.nr_reading.specs.Escape.{offer, raw_offer}
+use Rattle.nr_reading.specs.Half.{meet, meet_by, met_directly, offered, silent}
+use Rattle.nr_reading.specs.Mode.{is_direct, reads_arguments}
+use Rattle.nr_reading.specs.Reader.{unescaped, behind_backslash, direct, direct_by}
+use Rattle.nr_reading.specs.Step.{go}
 
 unescaped-mark : (m : Mode) (s : Signs) (r : Reading) → unescaped m fronts.Mark s r ≡ go r
 unescaped-mark modes.Diverting s r = refl

@@ -7,7 +7,7 @@ use Rattle.nr_reading.specs.declared.front.Front.TheVariants as fronts
 use Rattle.nr_reading.specs.declared.half.Half.{Half}
 use Rattle.nr_reading.specs.declared.half.Seen.{Seen}
 use Rattle.nr_reading.specs.declared.mode.Due.TheVariants as dues
-use Rattle.nr_reading.specs.Meeting.{Met, met, meet}
+use Rattle.nr_reading.specs.Half.{Met, met, meet}
 use Rattle.nr_reading.specs.Many.Passing.{quiet}
 use Rattle.nr_reading.specs.Many.Runs.{Spot, one_if, behind_met, behind, spot_after, MayGoOn, HasMet}
 use Rattle.nr_reading.specs.Weights.{weight_of_half, cost_of_event, blanks_owed, worth_of_front, paid_by, PaysFor}

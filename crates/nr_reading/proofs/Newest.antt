@@ -4,12 +4,12 @@ use Rattle.std.proofs.Common.{◌≡◌, ℕ, Bool, true, false, List, [], ◌�
 use Rattle.nr_reading.specs.declared.ask.Ask.{Ask}
 use Rattle.nr_reading.specs.declared.half.Half.{Half}
 use Rattle.nr_reading.specs.declared.mode.Escape.{Escape}
-use Rattle.nr_reading.specs.Asking.{answer}
+use Rattle.nr_reading.specs.Ask.{answer}
 use Rattle.nr_reading.specs.declared.front.Front.TheVariants as fronts
 use Rattle.nr_reading.specs.declared.mode.Escape.TheVariants as escapes
-use Rattle.nr_reading.specs.Modes.{is_direct}
-use Rattle.nr_reading.specs.Meeting.{reads_plainly, reads_plainly_at, meet, met_copied, answered, hear_by}
-use Rattle.nr_reading.specs.Reading.{read}
+use Rattle.nr_reading.specs.Mode.{is_direct}
+use Rattle.nr_reading.specs.Half.{reads_plainly, reads_plainly_at, meet, met_copied, answered, hear_by}
+use Rattle.nr_reading.specs.Reader.{read}
 
 pub hear_reader : (asks : List Ask) (front : Bool) (b : ℕ) (h : Half) → slice_get asks 0 ≡ None → hear_by asks front b h ≡ met_copied front (read b h.signs h.notes h.reading) h
 hear_reader [] front b h none = refl

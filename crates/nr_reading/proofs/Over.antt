@@ -5,7 +5,7 @@ use Rattle.nr_reading.specs.declared.mode.Mode.TheVariants as modes
 use Rattle.nr_reading.specs.declared.mode.Reading.{Reading}
 use Rattle.nr_reading.specs.declared.mode.Signs.{Signs}
 use Rattle.nr_reading.specs.declared.notes.Notes.{Notes}
-use Rattle.nr_reading.specs.Reading.{read_by, read_over_by}
+use Rattle.nr_reading.specs.Reader.{read_by, read_over_by}
 
 pub over_is_newline : (m : Mode) (s : Signs) (n : Notes) (r : Reading) → ((h : ℕ) → m ≡ modes.BodyStart h → ⊥) → read_by m 10 s n r ≡ read_over_by m s n r
 over_is_newline (modes.BodyStart h) s n r not_so = absurd (not_so h refl)

@@ -9,11 +9,11 @@ use Rattle.nr_reading.specs.declared.half.Half.{Half}
 use Rattle.nr_reading.specs.declared.mode.Escape.TheVariants as escapes
 use Rattle.nr_reading.specs.declared.mode.Mode.TheVariants as modes
 use Rattle.nr_reading.specs.Many.Braces.{is_byte, opens_at}
-use Rattle.nr_reading.specs.Meeting.{reads_next}
+use Rattle.nr_reading.specs.Half.{reads_next}
 use Rattle.nr_reading.specs.Many.Passing.{is_plain}
-use Rattle.nr_reading.specs.Many.Rows.{LeadsOn}
+use Rattle.nr_reading.specs.Many.Row.{LeadsOn}
 use Rattle.nr_reading.specs.Skipping.{braces}
-use Rattle.nr_reading.specs.Spelling.{is_blank}
+use Rattle.nr_reading.specs.Spelled.{is_blank}
 use Rattle.nr_reading.proofs.Asked.{half_at}
 use Rattle.nr_reading.proofs.Rows.{MeetsByte, standing, looks, stays, recount, apart_from, taken_more, left_more}
 use Rattle.nr_reading.proofs.Weighing.{at}

@@ -24,15 +24,15 @@ use Rattle.nr_reading.specs.declared.mode.Signs.{Signs}
 use Rattle.nr_reading.specs.declared.notes.Notes.{Notes}
 use Rattle.nr_reading.specs.Notes.{Note}
 use Rattle.nr_reading.specs.Notes as notes
-use Rattle.nr_reading.specs.Steps.{Step}
-use Rattle.nr_reading.specs.Asking.{begun_ask, first_stage, answer, cut, reads_argument, is_size}
-use Rattle.nr_reading.specs.Copying.{offer, raw_offer, escaped}
-use Rattle.nr_reading.specs.Delimiting.{Texts}
-use Rattle.nr_reading.specs.Meeting.{Met, met, asking, too_deep, left_escape, met_directly, met_copied, asked_by, silent, hear_by, over_by, offered, meet}
-use Rattle.nr_reading.specs.Modes.{is_direct, reads_arguments}
+use Rattle.nr_reading.specs.Step.{Step}
+use Rattle.nr_reading.specs.Ask.{begun_ask, first_stage, answer, cut, reads_argument, is_size}
+use Rattle.nr_reading.specs.Escape.{offer, raw_offer, escaped}
+use Rattle.nr_reading.specs.Delimited.{Texts}
+use Rattle.nr_reading.specs.Half.{Met, met, asking, too_deep, left_escape, met_directly, met_copied, asked_by, silent, hear_by, over_by, offered, meet}
+use Rattle.nr_reading.specs.Mode.{is_direct, reads_arguments}
 use Rattle.nr_reading.specs.Nesting.{may_nest}
 use Rattle.nr_reading.specs.Noting.{noted}
-use Rattle.nr_reading.specs.Reading.{read, read_over, direct}
+use Rattle.nr_reading.specs.Reader.{read, read_over, direct}
 use Rattle.nr_reading.specs.Weights.{PaysFor, worth_of_front, paid_by, weight_by, weight_of_escape, weight_of_backslash, weight_of_half, weight_of_ask, blanks_owed}
 use Rattle.nr_reading.proofs.Asked.{Meets, half_at, left_escape-le, answer_answers, front_meets, backslash_meets, stop_meets}
 use Rattle.nr_reading.proofs.Copied.{Hears, read_hears, over_hears}

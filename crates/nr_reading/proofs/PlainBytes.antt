@@ -15,9 +15,9 @@ use Rattle.nr_reading.specs.declared.mode.Mode.{Mode}
 use Rattle.nr_reading.specs.declared.mode.Mode.TheVariants as modes
 use Rattle.nr_reading.specs.declared.mode.Signs.{Signs}
 use Rattle.nr_reading.specs.declared.notes.Notes.{Notes}
-use Rattle.nr_reading.specs.Delimiting.{Texts}
-use Rattle.nr_reading.specs.Meeting.{meet, meet_by}
-use Rattle.nr_reading.specs.Modes.{is_direct}
+use Rattle.nr_reading.specs.Delimited.{Texts}
+use Rattle.nr_reading.specs.Half.{meet, meet_by}
+use Rattle.nr_reading.specs.Mode.{is_direct}
 use Rattle.nr_reading.specs.Nesting.{is_none}
 use Rattle.nr_reading.specs.Many.Passing.{is_plain, drops_plain, passes_by, passes_plain, quiet, GoesOn}
 use Rattle.nr_reading.proofs.Asked.{half_at}

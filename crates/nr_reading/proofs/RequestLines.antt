@@ -21,14 +21,14 @@ use Rattle.nr_reading.specs.declared.mode.Mode.{Mode}
 use Rattle.nr_reading.specs.declared.mode.Mode.TheVariants as modes
 use Rattle.nr_reading.specs.declared.mode.Signs.{Signs}
 use Rattle.nr_reading.specs.declared.notes.Notes.{Notes}
-use Rattle.nr_reading.specs.Delimiting.{Texts}
+use Rattle.nr_reading.specs.Delimited.{Texts}
 use Rattle.nr_reading.specs.Many.InArgument.{IsPlain}
-use Rattle.nr_reading.specs.Keeping.{kept}
-use Rattle.nr_reading.specs.Meeting.{meet, reads_next, reads_next_at}
+use Rattle.nr_reading.specs.Kept.{kept}
+use Rattle.nr_reading.specs.Half.{meet, reads_next, reads_next_at}
 use Rattle.nr_reading.specs.Many.Passing.{quiet}
 use Rattle.nr_reading.specs.Many.RequestLines.{behind_request_line}
 use Rattle.nr_reading.specs.Many.Runs.{HasMet}
-use Rattle.nr_reading.specs.Spelling.{is_blank}
+use Rattle.nr_reading.specs.Spelled.{is_blank}
 use Rattle.nr_reading.proofs.Asked.{half_at}
 use Rattle.nr_reading.proofs.Moving.{met_counted}
 use Rattle.nr_reading.proofs.Paying.{pays_for}

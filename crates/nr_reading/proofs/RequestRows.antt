@@ -5,10 +5,10 @@ use Rattle.nr_reading.specs.declared.event.Event.TheVariants as events
 use Rattle.nr_reading.specs.declared.half.Half.{Half}
 use Rattle.nr_reading.specs.declared.mode.Mode.TheVariants as modes
 use Rattle.nr_reading.specs.declared.notes.Notes.{Notes}
-use Rattle.nr_reading.specs.Meeting.{reads_next}
+use Rattle.nr_reading.specs.Half.{reads_next}
 use Rattle.nr_reading.specs.Notes as notes
 use Rattle.nr_reading.specs.Noting.{noted}
-use Rattle.nr_reading.specs.Spelling.{is_blank}
+use Rattle.nr_reading.specs.Spelled.{is_blank}
 use Rattle.nr_reading.proofs.Rows.{MeetsByte, standing}
 
 -- the first byte behind the blanks is left to the line

@@ -12,7 +12,7 @@ use Rattle.nr_reading.specs.declared.mode.Escape.TheVariants as escapes
 use Rattle.nr_reading.specs.declared.mode.Mode.{Mode}
 use Rattle.nr_reading.specs.declared.mode.Mode.TheVariants as modes
 use Rattle.nr_reading.specs.Many.Rereading.{is_rereading, is_rereading_at, IsRereading}
-use Rattle.nr_reading.specs.Meeting.{meet}
+use Rattle.nr_reading.specs.Half.{meet}
 
 parts : (m : Mode) (e : Escape) (d : Due) (asks : List Ask) → is_rereading_at m e d asks ≡ true → (m ≡ modes.Diverted) × (e ≡ escapes.Plain) × (d ≡ dues.Look) × (asks ≡ [])
 parts modes.Diverted escapes.Plain dues.Look [] is = (refl, refl, refl, refl)

@@ -20,11 +20,11 @@ use Rattle.nr_reading.specs.declared.mode.Mode.TheVariants as modes
 use Rattle.nr_reading.specs.declared.mode.Signs.{Signs}
 use Rattle.nr_reading.specs.declared.notes.Notes.{Notes}
 use Rattle.nr_reading.specs.declared.many.runs.Run.{Run}
-use Rattle.nr_reading.specs.Meeting.{meet, met, reads_next, reads_next_at, reads_plainly}
+use Rattle.nr_reading.specs.Half.{meet, met, reads_next, reads_next_at, reads_plainly}
 use Rattle.nr_reading.specs.Many.Passing.{quiet}
-use Rattle.nr_reading.specs.Delimiting.{Texts}
-use Rattle.nr_reading.specs.Many.Rows.{LeadsOn, MeetsRest, drops_blank}
-use Rattle.nr_reading.specs.Spelling.{is_blank}
+use Rattle.nr_reading.specs.Delimited.{Texts}
+use Rattle.nr_reading.specs.Many.Row.{LeadsOn, MeetsRest, drops_blank}
+use Rattle.nr_reading.specs.Spelled.{is_blank}
 use Rattle.nr_reading.specs.Many.Runs.{HasMet, spot}
 use Rattle.nr_reading.proofs.Asked.{half_at}
 use Rattle.nr_reading.proofs.Moving.{met_counted}

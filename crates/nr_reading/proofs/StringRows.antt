@@ -11,9 +11,9 @@ use Rattle.nr_reading.specs.declared.mode.Escape.TheVariants as escapes
 use Rattle.nr_reading.specs.declared.mode.Mode.TheVariants as modes
 use Rattle.nr_reading.specs.declared.spelled.Spelled.{Spelled}
 use Rattle.nr_reading.specs.Many.ControlNames.{NameEnds, goes_on_name}
-use Rattle.nr_reading.specs.Meeting.{reads_next}
-use Rattle.nr_reading.specs.Many.Rows.{LeadsOn}
-use Rattle.nr_reading.specs.Spelling.{is_blank, ends_name, nothing_spelled, spelled}
+use Rattle.nr_reading.specs.Half.{reads_next}
+use Rattle.nr_reading.specs.Many.Row.{LeadsOn}
+use Rattle.nr_reading.specs.Spelled.{is_blank, ends_name, nothing_spelled, spelled}
 use Rattle.nr_reading.specs.Many.StringRows.{behind_name}
 use Rattle.nr_reading.proofs.Asked.{half_at}
 use Rattle.nr_reading.proofs.ControlNames.{goes_on}

@@ -7,11 +7,11 @@ use Rattle.nr_reading.specs.declared.mode.Escape.TheVariants as escapes
 use Rattle.nr_reading.specs.declared.mode.Mode.{Mode}
 use Rattle.nr_reading.specs.declared.mode.Mode.TheVariants as modes
 use Rattle.nr_reading.specs.declared.mode.Signs.{Signs}
-use Rattle.nr_reading.specs.Modes.{is_direct}
-use Rattle.nr_reading.specs.Reading.{unescaped}
-use Rattle.nr_reading.specs.Spelling.{is_blank}
+use Rattle.nr_reading.specs.Mode.{is_direct}
+use Rattle.nr_reading.specs.Reader.{unescaped}
+use Rattle.nr_reading.specs.Spelled.{is_blank}
 use Rattle.nr_reading.specs.Skipping.{accepted_byte, accepted, behind_newline, skip_byte, skip, diverted, diverting}
-use Rattle.nr_reading.specs.Steps.{to, tell}
+use Rattle.nr_reading.specs.Step.{to, tell}
 use Rattle.nr_reading.specs.Text.{start_blank, start_newline, start_byte, start, leading_byte, leading, continued_byte, continued, text_byte, text}
 use Rattle.nr_reading.specs.Titles.{before_title_byte, before_title, title_byte, title}
 use Rattle.nr_reading.specs.Weights.{worth_of_front}

@@ -11,7 +11,7 @@ use Rattle.nr_reading.specs.declared.mode.Mode.TheVariants as modes
 use Rattle.nr_reading.specs.declared.mode.Reading.{Reading}
 use Rattle.nr_reading.specs.Notes.{Note}
 use Rattle.nr_reading.specs.Notes as notes
-use Rattle.nr_reading.specs.Steps.{Step}
+use Rattle.nr_reading.specs.Step.{Step}
 use Rattle.nr_reading.specs.Weights.{cost_of_event, paid_by, weight_of_backslash, weight_of_reading, weight_of_stage, weight_of_ask, blanks_of_mode, blanks_of_due, is_lead}
 
 pub cost_of_event-le : (e : Event) → cost_of_event e ≤ 367

@@ -8,11 +8,11 @@ use Rattle.nr_reading.specs.declared.mode.Mode.TheVariants as modes
 use Rattle.nr_reading.specs.declared.mode.Reading.{Reading}
 use Rattle.nr_reading.specs.declared.notes.Condition.{Condition}
 use Rattle.nr_reading.specs.Notes as notes
-use Rattle.nr_reading.specs.Steps.{Step}
-use Rattle.nr_reading.specs.Asking.{is_digit}
+use Rattle.nr_reading.specs.Step.{Step}
+use Rattle.nr_reading.specs.Ask.{is_digit}
 use Rattle.nr_reading.specs.Noting.{one_more, are_equal}
-use Rattle.nr_reading.specs.Spelling.{is_blank}
-use Rattle.nr_reading.specs.Steps.{to, due, go, leave, tell, noting, leave_telling, leave_noting}
+use Rattle.nr_reading.specs.Spelled.{is_blank}
+use Rattle.nr_reading.specs.Step.{to, due, go, leave, tell, noting, leave_telling, leave_noting}
 
 -- A digit, or one of `( + - . |`, begins a number.
 abbrev pub begins_number : ℕ → Bool

@@ -7,9 +7,9 @@ use Rattle.nr_reading.specs.declared.mode.Mode.TheVariants as modes
 use Rattle.nr_reading.specs.declared.mode.Reading.{Reading}
 use Rattle.nr_reading.specs.declared.spelled.Spelled.{Spelled}
 use Rattle.nr_reading.specs.Notes as notes
-use Rattle.nr_reading.specs.Steps.{Step}
-use Rattle.nr_reading.specs.Spelling.{is_blank, ends_name}
-use Rattle.nr_reading.specs.Steps.{to, due, go, leave, tell, noting, leave_noting}
+use Rattle.nr_reading.specs.Step.{Step}
+use Rattle.nr_reading.specs.Spelled.{is_blank, ends_name}
+use Rattle.nr_reading.specs.Step.{to, due, go, leave, tell, noting, leave_noting}
 
 -- Blanks may follow the control character.
 abbrev pub read_control : ℕ → Reading → Step

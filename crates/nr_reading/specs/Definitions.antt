@@ -7,9 +7,9 @@ use Rattle.nr_reading.specs.declared.mode.Mode.{Mode}
 use Rattle.nr_reading.specs.declared.mode.Mode.TheVariants as modes
 use Rattle.nr_reading.specs.declared.mode.Reading.{Reading}
 use Rattle.nr_reading.specs.declared.notes.Defining.{Defining}
-use Rattle.nr_reading.specs.Steps.{Step}
-use Rattle.nr_reading.specs.Spelling.{is_blank, is_empty}
-use Rattle.nr_reading.specs.Steps.{to, due, go, leave}
+use Rattle.nr_reading.specs.Step.{Step}
+use Rattle.nr_reading.specs.Spelled.{is_blank, is_empty}
+use Rattle.nr_reading.specs.Step.{to, due, go, leave}
 
 -- the first bytes of the line that ends the definition: `.` and a name, or two dots
 abbrev pub last_line : Defining → List ℕ

@@ -1,6 +1,6 @@
 -- For speed: many items at once: rows of bytes, and what a row may be passed by.
 pub mod Runs
-pub mod Rows
+pub mod Row
 pub mod Passing
 pub mod ControlNames
 pub mod Interpolations

@@ -2,8 +2,8 @@
 use Rattle.std.specs.Prelude.{ℕ, ◌+◌, nat_lt, Bool, true, false, if◌then◌else◌, List, [], ◌∷◌, length, count_by}
 use Rattle.nr_reading.specs.declared.ask.Ask.{Ask}
 use Rattle.nr_reading.specs.declared.mode.Mode.{Mode}
-use Rattle.nr_reading.specs.Asking.{counts}
-use Rattle.nr_reading.specs.Modes.{reads_name}
+use Rattle.nr_reading.specs.Ask.{counts}
+use Rattle.nr_reading.specs.Mode.{reads_name}
 
 abbrev pub is_none : List Ask → Bool
 is_none [] = true

@@ -5,8 +5,8 @@ use Rattle.nr_reading.specs.declared.notes.Defining.{Defining}
 use Rattle.nr_reading.specs.declared.notes.Notes.{Notes}
 use Rattle.nr_reading.specs.Notes.{Note}
 use Rattle.nr_reading.specs.Notes as notes
-use Rattle.nr_reading.specs.Keeping.{kept, fits_at}
-use Rattle.nr_reading.specs.Spelling.{nothing_spelled, spelled}
+use Rattle.nr_reading.specs.Kept.{kept, fits_at}
+use Rattle.nr_reading.specs.Spelled.{nothing_spelled, spelled}
 
 -- A count stops at 2^64 - 1, which no text reaches.
 abbrev pub one_more : ℕ → ℕ

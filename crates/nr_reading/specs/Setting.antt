@@ -6,8 +6,8 @@ use Rattle.nr_reading.specs.declared.mode.Escape.TheVariants as escapes
 use Rattle.nr_reading.specs.declared.mode.Mode.TheVariants as modes
 use Rattle.nr_reading.specs.declared.mode.Standing.{Standing}
 use Rattle.nr_reading.specs.Conditionals.{in_mode}
-use Rattle.nr_reading.specs.Delimiting.{no_texts}
-use Rattle.nr_reading.specs.Modes.{mode_of}
+use Rattle.nr_reading.specs.Delimited.{no_texts}
+use Rattle.nr_reading.specs.Mode.{mode_of}
 
 -- the control characters
 abbrev pub with_control : ℕ → Half → Half

@@ -9,12 +9,12 @@ use Rattle.nr_reading.specs.declared.mode.Escape.TheVariants as escapes
 use Rattle.nr_reading.specs.declared.mode.Mode.TheVariants as modes
 use Rattle.nr_reading.specs.declared.mode.Reading.{Reading}
 use Rattle.nr_reading.specs.declared.mode.Signs.{Signs}
-use Rattle.nr_reading.specs.Steps.{Step}
+use Rattle.nr_reading.specs.Step.{Step}
 use Rattle.nr_reading.specs.Noting.{one_more}
-use Rattle.nr_reading.specs.Spelling.{is_blank}
-use Rattle.nr_reading.specs.Steps.{to, go, leave, tell, leave_telling}
+use Rattle.nr_reading.specs.Spelled.{is_blank}
+use Rattle.nr_reading.specs.Step.{to, go, leave, tell, leave_telling}
 use Rattle.nr_reading.specs.Text.{begin_escape, start}
-use Rattle.nr_reading.specs.TextEscapes.{plain}
+use Rattle.nr_reading.specs.TextEscape.{plain}
 
 -- ---- accepted
 

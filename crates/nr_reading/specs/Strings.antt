@@ -6,10 +6,10 @@ use Rattle.nr_reading.specs.declared.mode.Mode.TheVariants as modes
 use Rattle.nr_reading.specs.declared.mode.Reading.{Reading}
 use Rattle.nr_reading.specs.declared.spelled.Spelled.{Spelled}
 use Rattle.nr_reading.specs.Notes as notes
-use Rattle.nr_reading.specs.Steps.{Step}
+use Rattle.nr_reading.specs.Step.{Step}
 use Rattle.nr_reading.specs.Control.{completes}
-use Rattle.nr_reading.specs.Spelling.{is_blank, ends_name, name_of, is_empty}
-use Rattle.nr_reading.specs.Steps.{to, due, go, leave, noting, leave_noting}
+use Rattle.nr_reading.specs.Spelled.{is_blank, ends_name, name_of, is_empty}
+use Rattle.nr_reading.specs.Step.{to, due, go, leave, noting, leave_noting}
 
 abbrev pub read_string_before : ℕ → Reading → Step
 read_string_before b r = if is_blank b then go r else leave_noting notes.NewName (to modes.StringName r)

@@ -12,8 +12,8 @@ use Rattle.nr_reading.specs.declared.mode.Mode.TheVariants as modes
 use Rattle.nr_reading.specs.declared.mode.Reading.{Reading}
 use Rattle.nr_reading.specs.declared.mode.Signs.{Signs}
 use Rattle.nr_reading.specs.Notes as notes
-use Rattle.nr_reading.specs.Steps.{Step}
-use Rattle.nr_reading.specs.Steps.{to, escaping, due, go, leave, tell, noting, leave_telling}
+use Rattle.nr_reading.specs.Step.{Step}
+use Rattle.nr_reading.specs.Step.{to, escaping, due, go, leave, tell, noting, leave_telling}
 
 -- the next text line continues no word, or does
 abbrev pub continuing : Bool → Reading → Reading

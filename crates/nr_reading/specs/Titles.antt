@@ -6,9 +6,9 @@ use Rattle.nr_reading.specs.declared.front.Front.{Front}
 use Rattle.nr_reading.specs.declared.front.Front.TheVariants as fronts
 use Rattle.nr_reading.specs.declared.mode.Mode.TheVariants as modes
 use Rattle.nr_reading.specs.declared.mode.Reading.{Reading}
-use Rattle.nr_reading.specs.Steps.{Step}
-use Rattle.nr_reading.specs.Spelling.{is_blank}
-use Rattle.nr_reading.specs.Steps.{to, go, tell, leave_telling}
+use Rattle.nr_reading.specs.Step.{Step}
+use Rattle.nr_reading.specs.Spelled.{is_blank}
+use Rattle.nr_reading.specs.Step.{to, go, tell, leave_telling}
 use Rattle.nr_reading.specs.Text.{begin_escape}
 
 -- a title's line ends

@@ -1,7 +1,7 @@
 //! What an escape still has to read.
 ghost use Rattle.std.specs.Prelude.{◌≡◌};
-ghost use Rattle.nr_reading.specs.Asking.{counts, has_text, reads_argument, is_size, is_unsigned, is_argument, is_digit, begun_ask, bracketed_ask, at_stage, of_kind, with_byte, spoiled, answer, answer_byte, answer_first, answer_two, answer_bracket, answer_digit, argument_asked, is_given, due_of, event_of};
-ghost use Rattle.nr_reading.specs.Spelling.{name_of};
+ghost use Rattle.nr_reading.specs.Ask.{counts, has_text, reads_argument, is_size, is_unsigned, is_argument, is_digit, begun_ask, bracketed_ask, at_stage, of_kind, with_byte, spoiled, answer, answer_byte, answer_first, answer_two, answer_bracket, answer_digit, argument_asked, is_given, due_of, event_of};
+ghost use Rattle.nr_reading.specs.Spelled.{name_of};
 
 use super::event::Event;
 use super::mode::Due;
@@ -87,7 +87,7 @@ pub(crate) enum Begun {
 }
 
 impl Begun {
-    ghost use Rattle.nr_reading.specs.Steps.{ask_of};
+    ghost use Rattle.nr_reading.specs.Step.{ask_of};
 
     /// The escape.
     pub(crate) fn ask(self) -> Ask

@@ -1,6 +1,6 @@
 //! Conditions.
 ghost use Rattle.std.specs.Prelude.{◌≡◌};
-ghost use Rattle.nr_reading.specs.Steps.{joined};
+ghost use Rattle.nr_reading.specs.Step.{joined};
 ghost use Rattle.nr_reading.specs.Conditions.{begins_number, read_condition_byte, read_condition, parentheses, read_number, read_first, read_second};
 
 use super::ask::is_digit;

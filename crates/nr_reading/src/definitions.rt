@@ -1,6 +1,6 @@
 //! Definitions of macros.
 ghost use Rattle.std.specs.Prelude.{◌≡◌, ◌≤◌, length, slice_index};
-ghost use Rattle.nr_reading.specs.Steps.{joined};
+ghost use Rattle.nr_reading.specs.Step.{joined};
 ghost use Rattle.nr_reading.specs.Definitions.{last_line, ends_whole, kept_byte, released, in_body, not_last, nearer_last, read_body_start, read_body, read_body_end, over_body_start};
 
 use super::mode::{Due, Mode, Reading};

@@ -1,6 +1,6 @@
 //! Arguments between delimiters.
 ghost use Rattle.std.specs.Prelude.{◌≡◌, ◌≤◌, length};
-ghost use Rattle.nr_reading.specs.Delimiting.{no_texts, begun_text, with_text_byte, ended_text};
+ghost use Rattle.nr_reading.specs.Delimited.{no_texts, begun_text, with_text_byte, ended_text};
 
 use super::kept::Kept;
 use std::marker::Model;
@@ -18,7 +18,7 @@ pub struct Delimited {
 
 impl Model for Delimited {
     ghost use Rattle.std.specs.Prelude.{◌≡◌, ◌≤◌, [], length, take, reverse, slice_index_or};
-    ghost use Rattle.nr_reading.specs.Delimiting.{Texts};
+    ghost use Rattle.nr_reading.specs.Delimited.{Texts};
 
     ghost Value = { Texts };
 

@@ -1,6 +1,6 @@
 //! Copy mode and argument mode: what the item in front is.
 ghost use Rattle.std.specs.Prelude.{◌≡◌};
-ghost use Rattle.nr_reading.specs.Copying.{escaped, offer_byte, offer, raw_offer};
+ghost use Rattle.nr_reading.specs.Escape.{escaped, offer_byte, offer, raw_offer};
 
 use super::ask::{Kind, Sign};
 use super::front::Front;

@@ -1,6 +1,6 @@
 //! What is half read, and what the item in front does to it.
 ghost use Rattle.std.specs.Prelude.{◌≡◌, ◌<◌, length, drop, true, false};
-ghost use Rattle.nr_reading.specs.Meeting.{nothing_half, meet};
+ghost use Rattle.nr_reading.specs.Half.{nothing_half, meet};
 
 use super::ask::{Answer, Ask, Kind, Sign};
 use super::asks::Asks;
@@ -56,14 +56,14 @@ impl Seen {
 
 impl Half {
     ghost use Rattle.std.specs.Prelude.{[]};
-    ghost use Rattle.nr_reading.specs.Asking.{event_of};
+    ghost use Rattle.nr_reading.specs.Ask.{event_of};
     ghost use Rattle.nr_reading.specs.Many.InText.{is_in_text};
     ghost use Rattle.nr_reading.specs.Many.LineBeginnings.{is_at_text, text_begun, text_ended};
     ghost use Rattle.nr_reading.specs.Many.Rereading.{is_rereading};
-    ghost use Rattle.nr_reading.specs.Spelling.{name_of};
-    ghost use Rattle.nr_reading.specs.Steps.{note_of};
-    ghost use Rattle.nr_reading.specs.Meeting.{asking, too_deep, beginning, settled, replaced, finished, argued, longer, answered, asked_by, noted_in, met_directly, met_copied, hear_by, over_by, escaping, silent, offered, meet_by, met, offer_by, reads_directly, reads_plainly, reads_next};
-    ghost use Rattle.nr_reading.specs.Modes.{is_direct};
+    ghost use Rattle.nr_reading.specs.Spelled.{name_of};
+    ghost use Rattle.nr_reading.specs.Step.{note_of};
+    ghost use Rattle.nr_reading.specs.Half.{asking, too_deep, beginning, settled, replaced, finished, argued, longer, answered, asked_by, noted_in, met_directly, met_copied, hear_by, over_by, escaping, silent, offered, meet_by, met, offer_by, reads_directly, reads_plainly, reads_next};
+    ghost use Rattle.nr_reading.specs.Mode.{is_direct};
     ghost use Rattle.nr_reading.specs.declared.front.Front.TheVariants as fronts;
     ghost use Rattle.nr_reading.specs.Weights.{PaysFor};
 

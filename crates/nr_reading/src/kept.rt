@@ -1,6 +1,6 @@
 //! Texts of which the first bytes count.
 ghost use Rattle.std.specs.Prelude.{◌≡◌, ◌≤◌, ◌<◌, length, [], take, slice_get};
-ghost use Rattle.nr_reading.specs.Keeping.{kept};
+ghost use Rattle.nr_reading.specs.Kept.{kept};
 
 use std::marker::Model;
 

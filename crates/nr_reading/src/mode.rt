@@ -1,6 +1,6 @@
 //! Where the reader is.
 ghost use Rattle.std.specs.Prelude.{◌≡◌};
-ghost use Rattle.nr_reading.specs.Modes.{is_direct, reads_arguments, reads_name, standing_of, mode_of, at_a_line, first_signs};
+ghost use Rattle.nr_reading.specs.Mode.{is_direct, reads_arguments, reads_name, standing_of, mode_of, at_a_line, first_signs};
 ghost use Rattle.nr_reading.specs.Many.LineBeginnings.{begins_control};
 
 use super::ask::Sign;

@@ -1,6 +1,6 @@
 //! What is noted of a line while it is read.
 ghost use Rattle.std.specs.Prelude.{◌≡◌};
-ghost use Rattle.nr_reading.specs.Steps.{note_of};
+ghost use Rattle.nr_reading.specs.Step.{note_of};
 ghost use Rattle.nr_reading.specs.Noting.{no_condition, no_definition, are_equal, compared, one_more, no_notes, noted};
 
 use super::answers::Answers;

@@ -1,7 +1,7 @@
 //! What the reader does with an item, by its mode.
 ghost use Rattle.std.specs.Prelude.{◌≡◌};
-ghost use Rattle.nr_reading.specs.Steps.{joined};
-ghost use Rattle.nr_reading.specs.Reading.{read, read_over, unescaped, behind_backslash, ends_comment, direct};
+ghost use Rattle.nr_reading.specs.Step.{joined};
+ghost use Rattle.nr_reading.specs.Reader.{read, read_over, unescaped, behind_backslash, ends_comment, direct};
 
 use super::conditions::{read_condition, read_first, read_number, read_second};
 use super::control::{

@@ -11,7 +11,7 @@ impl Half {
     ghost use Rattle.nr_reading.specs.Setting.{with_control, with_no_break, with_long_names, not_continued, with_line, sprung, resumed, defining};
     ghost use Rattle.nr_reading.specs.declared.mode.Mode.TheVariants as modes;
     ghost use Rattle.nr_reading.specs.Conditionals.{in_mode};
-    ghost use Rattle.nr_reading.specs.Modes.{standing_of};
+    ghost use Rattle.nr_reading.specs.Mode.{standing_of};
 
     /// Sets the control character.
     pub fn set_control(&mut self, byte: u8)

@@ -1,6 +1,6 @@
 //! Accepted and rejected parts of conditionals, and diverted lines.
 ghost use Rattle.std.specs.Prelude.{◌≡◌};
-ghost use Rattle.nr_reading.specs.Steps.{joined};
+ghost use Rattle.nr_reading.specs.Step.{joined};
 ghost use Rattle.nr_reading.specs.Skipping.{accepted_byte, accepted, accepted_escape, behind_newline, skip_byte, skip, braces, skip_escape, diverted, diverting};
 
 use super::event::Event;

@@ -1,6 +1,6 @@
 //! Names as far as they were read.
 ghost use Rattle.std.specs.Prelude.{◌≡◌};
-ghost use Rattle.nr_reading.specs.Spelling.{is_blank, ends_name, nothing_spelled, spelled, name_of};
+ghost use Rattle.nr_reading.specs.Spelled.{is_blank, ends_name, nothing_spelled, spelled, name_of};
 
 use nr_units::Name;
 

@@ -1,6 +1,6 @@
 //! Definitions of strings, and transparent lines.
 ghost use Rattle.std.specs.Prelude.{◌≡◌};
-ghost use Rattle.nr_reading.specs.Steps.{joined};
+ghost use Rattle.nr_reading.specs.Step.{joined};
 ghost use Rattle.nr_reading.specs.Strings.{read_string_before, behind_string_name, read_string_name, read_string_blanks, read_string_text, read_transparent};
 
 use super::control::completes;

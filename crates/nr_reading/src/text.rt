@@ -1,6 +1,6 @@
 //! Text lines.
 ghost use Rattle.std.specs.Prelude.{◌≡◌};
-ghost use Rattle.nr_reading.specs.Steps.{joined};
+ghost use Rattle.nr_reading.specs.Step.{joined};
 ghost use Rattle.nr_reading.specs.Text.{begin_escape, in_text, start_blank, start_newline, start_control, start_byte, start, one_blank_more, text_behind_blanks, leading_byte, leading, continued_byte, continued, is_interrupted, ended, end_event, text_byte, text};
 
 use super::event::Event;

@@ -1,8 +1,8 @@
 //! Escapes in text.
 ghost use Rattle.std.specs.Prelude.{◌≡◌};
-ghost use Rattle.nr_reading.specs.Steps.{ask_of, joined};
+ghost use Rattle.nr_reading.specs.Step.{ask_of, joined};
 ghost use Rattle.std.specs.Option.{option_map};
-ghost use Rattle.nr_reading.specs.TextEscapes.{interpolated, asked_in_text, is_nothing, is_plain, other_byte, event_behind, is_titled, behind_escape, escape_in_text, escape_at_start, escape_by, escaped_byte, lone_escape, escaped};
+ghost use Rattle.nr_reading.specs.TextEscape.{interpolated, asked_in_text, is_nothing, is_plain, other_byte, event_behind, is_titled, behind_escape, escape_in_text, escape_at_start, escape_by, escaped_byte, lone_escape, escaped};
 
 use super::ask::{Begun, Kind, Sign};
 use super::event::Event;

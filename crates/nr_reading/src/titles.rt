@@ -1,6 +1,6 @@
 //! Titles.
 ghost use Rattle.std.specs.Prelude.{◌≡◌};
-ghost use Rattle.nr_reading.specs.Steps.{joined};
+ghost use Rattle.nr_reading.specs.Step.{joined};
 ghost use Rattle.nr_reading.specs.Titles.{ended_title, before_title_byte, before_title, next_part, title_byte, title, read_title_rest};
 
 use super::event::Event;

@@ -4,8 +4,8 @@ use Rattle.std.proofs.lemmas.List.{length-map}
 use Rattle.std.specs.Option.{option_map, unwrap_or}
 use Rattle.nr_units.specs.Items.{Items}
 use Rattle.nr_pool.specs.Texts.{Texts, text}
-use Rattle.nr_tables.specs.Named.{Named, find}
-use Rattle.nr_tables.specs.Rows.{Table}
+use Rattle.nr_symbol_tables.specs.Table.{Named, find}
+use Rattle.nr_symbol_tables.specs.Rows.{Table}
 use Rattle.nr_levels.specs.Levels.{Levels}
 use Rattle.nr_store.specs.declared.named.Sense.{Sense}
 use Rattle.nr_store.specs.declared.named.Sense.TheVariants as senses
@@ -13,7 +13,7 @@ use Rattle.nr_store.specs.declared.element.Element.{Element}
 use Rattle.nr_store.specs.declared.element.Draft.{Draft}
 use Rattle.nr_store.specs.declared.refusal.Refusal.TheVariants as refusals
 use Rattle.nr_store.specs.Senses.{text_id}
-use Rattle.nr_store.specs.Stored.{words, text_of, Shared, text_charge, Stored, charge_of, checked, reading}
+use Rattle.nr_store.specs.Store.{words, text_of, Shared, text_charge, Stored, charge_of, checked, reading}
 use Rattle.nr_store.specs.Holders.{Beside, means_of, level_of, stored_of, count, values, ids_of, draft_ids, IsStore}
 use Rattle.nr_store.proofs.Counting.{count-append}
 use Rattle.nr_store.proofs.Naming.{find-map, find_counts}

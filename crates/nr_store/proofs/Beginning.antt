@@ -5,9 +5,9 @@ use Rattle.std.proofs.lemmas.List.Sums.{sum_by-cons}
 use Rattle.std.proofs.lemmas.Bool.{cases_lt}
 use Rattle.nr_units.specs.Items.{Items}
 use Rattle.nr_pool.specs.Texts.{Held, Texts, no_text, entry, holders}
-use Rattle.nr_tables.specs.Named.{Named, find, put}
-use Rattle.nr_tables.specs.Rows.{Table}
-use Rattle.nr_tables.specs.Given.{word_in}
+use Rattle.nr_symbol_tables.specs.Table.{Named, find, put}
+use Rattle.nr_symbol_tables.specs.Rows.{Table}
+use Rattle.nr_symbol_tables.specs.Given.{word_in}
 use Rattle.nr_levels.specs.Levels.{Levels}
 use Rattle.nr_store.specs.declared.named.Sense.{Sense}
 use Rattle.nr_store.specs.declared.named.Sense.TheVariants as senses
@@ -16,12 +16,12 @@ use Rattle.nr_store.specs.declared.element.Draft.{Draft}
 use Rattle.nr_store.specs.declared.request.Request.{Request}
 use Rattle.nr_store.specs.declared.request.TheConstants.{REQUESTS}
 use Rattle.nr_store.specs.Senses.{act}
-use Rattle.nr_levels.specs.Gathered.{Gathered, Gathering, none_gathered}
-use Rattle.nr_tables.specs.declared.trap.Trap.{Trap}
-use Rattle.nr_tables.specs.declared.word.HyphenationWord.{HyphenationWord}
+use Rattle.nr_levels.specs.Gathering.{Gathered, Gathering, none_gathered}
+use Rattle.nr_symbol_tables.specs.declared.trap.Trap.{Trap}
+use Rattle.nr_symbol_tables.specs.declared.word.HyphenationWord.{HyphenationWord}
 use Rattle.nr_store.specs.declared.register.Register.{Register}
-use Rattle.nr_store.specs.Stored.{Stored, Built, nothing, weight, level_charge, text_charge, charge_of, charge_beside}
-use Rattle.nr_store.specs.Requests.{name_of, with_senses, request_names}
+use Rattle.nr_store.specs.Store.{Stored, Built, nothing, weight, level_charge, text_charge, charge_of, charge_beside}
+use Rattle.nr_store.specs.Request.{name_of, with_senses, request_names}
 use Rattle.nr_store.specs.Holders.{Beside, Suffice, acts, named_means, built_of, level_of, stored_of, beside_of, count, values, draft_ids, held_ids, texts_in, IsHeld, AllPay, AreNamed, IsStore}
 use Rattle.nr_store.proofs.Counting.{count-append}
 use Rattle.nr_store.proofs.Naming.{ones, sum_of, put_sum, put_sum_new, count-values}

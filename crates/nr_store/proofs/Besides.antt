@@ -3,18 +3,18 @@ use Rattle.std.proofs.Common.{◌≡◌, ℕ, ◌+◌, ◌≤◌, List, [], ◌�
 use Rattle.std.proofs.lemmas.List.Sums.{sum_by-cons}
 use Rattle.nr_units.specs.Items.{Items}
 use Rattle.nr_pool.specs.Texts.{Texts}
-use Rattle.nr_tables.specs.Named.{Named, find, put, without}
-use Rattle.nr_tables.specs.Rows.{Table}
+use Rattle.nr_symbol_tables.specs.Table.{Named, find, put, without}
+use Rattle.nr_symbol_tables.specs.Rows.{Table}
 use Rattle.nr_levels.specs.Levels.{Levels}
-use Rattle.nr_levels.specs.Gathered.{Gathered, Gathering, bytes_in, gathered_len, with_byte, with_bytes}
+use Rattle.nr_levels.specs.Gathering.{Gathered, Gathering, bytes_in, gathered_len, with_byte, with_bytes}
 use Rattle.nr_levels.specs.Laws.{with_bytes-more, with_bytes-append}
-use Rattle.nr_tables.specs.declared.trap.Trap.{Trap}
-use Rattle.nr_tables.specs.declared.word.HyphenationWord.{HyphenationWord}
+use Rattle.nr_symbol_tables.specs.declared.trap.Trap.{Trap}
+use Rattle.nr_symbol_tables.specs.declared.word.HyphenationWord.{HyphenationWord}
 use Rattle.nr_store.specs.declared.register.Register.{Register}
 use Rattle.nr_store.specs.declared.named.Sense.{Sense}
 use Rattle.nr_store.specs.declared.element.Element.{Element}
 use Rattle.nr_store.specs.declared.element.Draft.{Draft}
-use Rattle.nr_store.specs.Stored.{Stored, charge_of, gathering}
+use Rattle.nr_store.specs.Store.{Stored, charge_of, gathering}
 use Rattle.nr_store.specs.Holders.{Beside, Suffice, beside_of, stored_of, beside_cost, IsStore}
 use Rattle.nr_store.proofs.Naming.{sum_of, put_sum, put_sum_new, without_sum}
 

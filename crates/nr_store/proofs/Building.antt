@@ -8,15 +8,15 @@ use Rattle.std.proofs.lemmas.Option.{slice_get_within, get_or_from_slice_get}
 use Rattle.nr_units.specs.Items.{Items}
 use Rattle.nr_pool.specs.Texts.{Held, Texts, no_text, text, holders, opened, with_text}
 use Rattle.nr_pool.specs.Laws.{within_of_open, entry-with_entry_same, entry-with_entry_other, text-with_text_same, text-with_text_other, holders-with_text}
-use Rattle.nr_tables.specs.Named.{Named}
-use Rattle.nr_tables.specs.Rows.{Table}
+use Rattle.nr_symbol_tables.specs.Table.{Named}
+use Rattle.nr_symbol_tables.specs.Rows.{Table}
 use Rattle.nr_levels.specs.Levels.{Open, Levels}
 use Rattle.nr_store.specs.declared.named.Sense.{Sense}
 use Rattle.nr_store.specs.declared.element.Element.{Element}
 use Rattle.nr_store.specs.declared.element.Diversion.{Diversion}
 use Rattle.nr_store.specs.declared.element.Draft.{Draft}
 use Rattle.nr_store.specs.declared.refusal.Refusal.TheVariants as refusals
-use Rattle.nr_store.specs.Stored.{Stored, Built, charge_of, weight, afforded, checked, begun, longer, on_newest, added}
+use Rattle.nr_store.specs.Store.{Stored, Built, charge_of, weight, afforded, checked, begun, longer, on_newest, added}
 use Rattle.nr_store.specs.Holders.{Beside, built_of, level_of, stored_of, count, ids_of, values, draft_ids, held_ids, IsHeld, IsStore}
 use Rattle.nr_store.proofs.Counting.{AddsOne, one_same, one_other, count-cons, count-append, held_opened, held_text}
 use Rattle.nr_store.proofs.Keeping.{Keeps, same_view, charged_once}

@@ -3,12 +3,12 @@ use Rattle.std.proofs.Common.{◌≡◌, ℕ, ◌+◌, ◌-◌, ◌<◌, ◌≤�
 use Rattle.std.specs.Option.{option_map}
 use Rattle.nr_units.specs.Items.{Items}
 use Rattle.nr_pool.specs.Texts.{Texts, text}
-use Rattle.nr_tables.specs.Named.{find}
-use Rattle.nr_tables.specs.Rows.{Table}
-use Rattle.nr_tables.specs.declared.trap.Trap.{Trap}
-use Rattle.nr_tables.specs.declared.word.HyphenationWord.{HyphenationWord}
+use Rattle.nr_symbol_tables.specs.Table.{find}
+use Rattle.nr_symbol_tables.specs.Rows.{Table}
+use Rattle.nr_symbol_tables.specs.declared.trap.Trap.{Trap}
+use Rattle.nr_symbol_tables.specs.declared.word.HyphenationWord.{HyphenationWord}
 use Rattle.nr_levels.specs.Levels.{Levels}
-use Rattle.nr_levels.specs.Gathered.{Gathering, none_gathered, gathered_len, bytes_in}
+use Rattle.nr_levels.specs.Gathering.{Gathering, none_gathered, gathered_len, bytes_in}
 use Rattle.nr_store.specs.declared.named.Sense.{Sense}
 use Rattle.nr_store.specs.declared.element.Element.{Element}
 use Rattle.nr_store.specs.declared.element.Draft.{Draft}
@@ -16,7 +16,7 @@ use Rattle.nr_store.specs.declared.refusal.Refusal.{Refusal}
 use Rattle.nr_store.specs.declared.refusal.Refusal.TheVariants as refusals
 use Rattle.nr_store.specs.declared.register.Register.{Register}
 use Rattle.nr_store.specs.Senses.{text_id}
-use Rattle.nr_store.specs.Stored.{Stored, called, checked, shared_by, ungathered, words as words_of}
+use Rattle.nr_store.specs.Store.{Stored, called, checked, shared_by, ungathered, words as words_of}
 use Rattle.nr_store.specs.Holders.{Beside, beside_of, stored_of, IsStore}
 use Rattle.nr_store.proofs.Admitting.{answer_admitted, answer_deep, answer_refused, depths, named_text}
 use Rattle.nr_store.proofs.Building.{Within, is_within}

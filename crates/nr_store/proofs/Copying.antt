@@ -3,13 +3,13 @@ use Rattle.std.proofs.Common.{◌≡◌, ℕ, ◌+◌, ◌<◌, ◌≤◌, List,
 use Rattle.std.specs.List.{slice_get}
 use Rattle.nr_units.specs.Items.{Items}
 use Rattle.nr_pool.specs.Texts.{Texts, no_text, text, used, IsOpen, opened, with_text}
-use Rattle.nr_tables.specs.Rows.{Table}
+use Rattle.nr_symbol_tables.specs.Rows.{Table}
 use Rattle.nr_levels.specs.Levels.{Levels}
 use Rattle.nr_store.specs.declared.named.Sense.{Sense}
 use Rattle.nr_store.specs.declared.element.Element.{Element}
 use Rattle.nr_store.specs.declared.element.Diversion.{Diversion}
 use Rattle.nr_store.specs.declared.element.Draft.{Draft}
-use Rattle.nr_store.specs.Stored.{Stored, weight, afforded, begun, added}
+use Rattle.nr_store.specs.Store.{Stored, weight, afforded, begun, added}
 use Rattle.nr_store.specs.Holders.{Beside, stored_of, IsStore}
 use Rattle.nr_store.proofs.Keeping.{room_for_elements}
 use Rattle.nr_store.proofs.Building.{Within, unaffordable, affordable, charge_of-begun, text_begun, begun_is, begun_stands, added_is, added_stands}

@@ -7,7 +7,7 @@ use Rattle.std.proofs.lemmas.Bool.{cases_lt, cases_eq, eq-eqb, ne_eqb, cond-true
 use Rattle.std.proofs.lemmas.Option.{slice_get_within, get_or_from_slice_get}
 use Rattle.nr_pool.specs.Texts.{Held, Texts, no_text, entry, text, holders, used, IsOpen, opened, with_text, with_holders, released}
 use Rattle.nr_pool.specs.Laws.{within_of_open, entry-with_entry_same, entry-with_entry_other, text-with_text_other, holders-with_text, text-with_holders, holders-with_holders_same, holders-with_holders_other, released-held, released-last, entry-released_other}
-use Rattle.nr_store.specs.Stored.{share}
+use Rattle.nr_store.specs.Store.{share}
 use Rattle.nr_store.specs.Holders.{one, count, IsHeld}
 use Rattle.nr_store.specs.declared.element.Element.{Element}
 

@@ -4,8 +4,8 @@ use Rattle.std.proofs.lemmas.Bool.{cases_lt, cases_eq}
 use Rattle.std.proofs.lemmas.List.Sums.{sum_by-cons}
 use Rattle.nr_units.specs.Items.{Items}
 use Rattle.nr_pool.specs.Texts.{Texts, text, holders, IsOpen, released}
-use Rattle.nr_tables.specs.Named.{Named, find, put}
-use Rattle.nr_tables.specs.Rows.{Table}
+use Rattle.nr_symbol_tables.specs.Table.{Named, find, put}
+use Rattle.nr_symbol_tables.specs.Rows.{Table}
 use Rattle.nr_levels.specs.Levels.{Open, Levels}
 use Rattle.nr_store.specs.declared.named.Sense.{Sense}
 use Rattle.nr_store.specs.declared.named.Sense.TheVariants as senses
@@ -13,7 +13,7 @@ use Rattle.nr_store.specs.declared.element.Element.{Element}
 use Rattle.nr_store.specs.declared.element.Draft.{Draft}
 use Rattle.nr_store.specs.declared.request.TheConstants.{REQUESTS}
 use Rattle.nr_store.specs.Senses.{act}
-use Rattle.nr_store.specs.Stored.{Means, weight_of, Built, charge_of, weight, without_name, defined}
+use Rattle.nr_store.specs.Store.{Means, weight_of, Built, charge_of, weight, without_name, defined}
 use Rattle.nr_store.specs.Holders.{Beside, acts, means_of, named_means, built_of, stored_of, one, count, ids_of, values, draft_ids, held_ids, AreNamed, IsHeld, IsStore}
 use Rattle.nr_store.proofs.Counting.{AddsOne, one_same, one_other, count-cons, count-append, held_less, open_of_adds, text_kept, released_capacity, released_slots}
 use Rattle.nr_store.proofs.Keeping.{Keeps, same_view, charged_once}

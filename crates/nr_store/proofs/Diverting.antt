@@ -5,14 +5,14 @@ use Rattle.std.specs.Option.{option_map}
 use Rattle.std.proofs.lemmas.List.{drop_more}
 use Rattle.std.proofs.lemmas.Option.{slice_get_within, get_or_from_slice_get}
 use Rattle.nr_pool.specs.Texts.{Texts}
-use Rattle.nr_tables.specs.Named.{Named}
-use Rattle.nr_tables.specs.declared.trap.Trap.{Trap}
+use Rattle.nr_symbol_tables.specs.Table.{Named}
+use Rattle.nr_symbol_tables.specs.declared.trap.Trap.{Trap}
 use Rattle.nr_levels.specs.Levels.{Levels}
 use Rattle.nr_store.specs.declared.named.Sense.{Sense}
 use Rattle.nr_store.specs.declared.element.Element.{Element}
 use Rattle.nr_store.specs.declared.element.Diversion.{Diversion}
 use Rattle.nr_store.specs.declared.element.Draft.{Draft}
-use Rattle.nr_store.specs.Stored.{Stored, Built, on_newest, first_of, innermost, trapped, newest_diversion, ended_by, diversion_ended}
+use Rattle.nr_store.specs.Store.{Stored, Built, on_newest, first_of, innermost, trapped, newest_diversion, ended_by, diversion_ended}
 use Rattle.nr_store.specs.Holders.{Beside, built_of, stored_of}
 use Rattle.nr_store.proofs.Building.{cons_of}
 

@@ -5,8 +5,8 @@ use Rattle.std.specs.List.{slice_get}
 use Rattle.std.specs.Option.{option_map}
 use Rattle.nr_units.specs.Items.{Items}
 use Rattle.nr_pool.specs.Texts.{Texts, text, IsOpen, released}
-use Rattle.nr_tables.specs.Named.{Named, find, put, without}
-use Rattle.nr_tables.specs.Rows.{Table}
+use Rattle.nr_symbol_tables.specs.Table.{Named, find, put, without}
+use Rattle.nr_symbol_tables.specs.Rows.{Table}
 use Rattle.nr_levels.specs.Levels.{Levels}
 use Rattle.nr_store.specs.declared.named.Sense.{Sense}
 use Rattle.nr_store.specs.declared.named.Sense.TheVariants as senses
@@ -15,7 +15,7 @@ use Rattle.nr_store.specs.declared.element.Draft.{Draft}
 use Rattle.nr_store.specs.declared.request.Request.{Request}
 use Rattle.nr_store.specs.declared.request.TheConstants.{REQUESTS}
 use Rattle.nr_store.specs.Senses.{act}
-use Rattle.nr_store.specs.Stored.{Stored, charge_of, weight, share, without_name, with_name, defined, removed, moved}
+use Rattle.nr_store.specs.Store.{Stored, charge_of, weight, share, without_name, with_name, defined, removed, moved}
 use Rattle.nr_store.specs.Holders.{Beside, acts, means_of, stored_of, one, count, ids_of, values, draft_ids, held_ids, AreNamed, IsStore, lone}
 use Rattle.nr_store.proofs.Counting.{AddsOne, one_same, count-cons}
 use Rattle.nr_store.proofs.Keeping.{share_paid}

@@ -6,14 +6,14 @@ use Rattle.std.proofs.lemmas.Bool.{cases_lt, cases_eq, cond-true, cond-false, lt
 use Rattle.std.proofs.lemmas.List.Sums.{sum_by-cons, sum_by-append}
 use Rattle.nr_pool.specs.Texts.{Texts, no_text, text, holders}
 use Rattle.nr_pool.specs.Laws.{within_of_open}
-use Rattle.nr_tables.specs.Named.{Named}
+use Rattle.nr_symbol_tables.specs.Table.{Named}
 use Rattle.nr_levels.specs.Levels.{Source, Text, Own, Mark as Marked, Open, Levels, total}
 use Rattle.nr_store.specs.declared.element.Element.{Element}
 use Rattle.nr_store.specs.declared.element.Draft.{Draft}
 use Rattle.nr_store.specs.declared.named.Sense.{Sense}
 use Rattle.nr_store.specs.declared.named.Sense.TheVariants as senses
 use Rattle.nr_store.specs.Senses.{ids_of_sense}
-use Rattle.nr_store.specs.Stored.{Means, Built, weight, weight_of, share, level_charge, charge_of}
+use Rattle.nr_store.specs.Store.{Means, Built, weight, weight_of, share, level_charge, charge_of}
 use Rattle.nr_store.specs.Holders.{Beside, means_of, named_means, built_of, level_of, stored_of, count, ids_of_source, ids_of, values, draft_ids, held_ids, IsHeld, charge_of_text, charge_of_texts, beside_cost}
 use Rattle.nr_store.proofs.Counting.{one_same, one_other, count-cons, count-append, cost, costs}
 use Rattle.nr_store.proofs.Sharing.{texts_charge, source_charge, charged_level, named_free, unnamed_pays, again_free, first_pays}

@@ -6,10 +6,10 @@ use Rattle.std.proofs.lemmas.Bool.{cases_eq}
 use Rattle.nr_pool.specs.Texts.{Texts, text, holders, IsOpen, with_holders}
 use Rattle.nr_pool.specs.Laws.{text-with_holders, holders-with_holders_other}
 use Rattle.nr_units.specs.Items.{Items}
-use Rattle.nr_tables.specs.Named.{find}
-use Rattle.nr_tables.specs.Rows.{Table}
+use Rattle.nr_symbol_tables.specs.Table.{find}
+use Rattle.nr_symbol_tables.specs.Rows.{Table}
 use Rattle.nr_levels.specs.Levels.{Text, Levels, deeper}
-use Rattle.nr_store.specs.Stored.{Read, Shared, level_charge, text_charge, Stored, charge_of, share, shared_by, reading}
+use Rattle.nr_store.specs.Store.{Read, Shared, level_charge, text_charge, Stored, charge_of, share, shared_by, reading}
 use Rattle.nr_store.specs.Holders.{Beside, draft_ids, stored_of, count, ids_of, values, held_ids, name_for, texts_in, IsStore}
 use Rattle.nr_store.specs.declared.element.Element.{Element}
 use Rattle.nr_store.specs.declared.element.Draft.{Draft}

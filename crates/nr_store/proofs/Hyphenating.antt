@@ -4,9 +4,9 @@ use Rattle.std.specs.Prelude.{find}
 use Rattle.std.specs.List.{slice_get}
 use Rattle.std.proofs.lemmas.Bool.{cond-true, cond-false}
 use Rattle.std.proofs.lemmas.List.Sums.{sum_by-cons}
-use Rattle.nr_tables.specs.Words.{word_weight, is_given}
-use Rattle.nr_tables.specs.Given.{word_in}
-use Rattle.nr_tables.specs.declared.word.HyphenationWord.{HyphenationWord}
+use Rattle.nr_symbol_tables.specs.Word.{word_weight, is_given}
+use Rattle.nr_symbol_tables.specs.Given.{word_in}
+use Rattle.nr_symbol_tables.specs.declared.word.HyphenationWord.{HyphenationWord}
 use Rattle.nr_store.proofs.Diverting.{rest_at}
 
 -- each word is charged 16 at least

@@ -5,15 +5,15 @@ use Rattle.nr_units.specs.Items.{Items}
 use Rattle.std.proofs.lemmas.Bool.{cases_lt, cases_eq}
 use Rattle.std.specs.Prelude.{nat_lt, if◌then◌else◌}
 use Rattle.nr_pool.specs.Texts.{Held, Texts, text, holders, IsOpen, used}
-use Rattle.nr_tables.specs.Named.{Named}
-use Rattle.nr_tables.specs.Rows.{Table}
+use Rattle.nr_symbol_tables.specs.Table.{Named}
+use Rattle.nr_symbol_tables.specs.Rows.{Table}
 use Rattle.nr_levels.specs.Levels.{Source, Text, Own, Mark as Marked, Open, Levels, total}
 use Rattle.nr_store.specs.declared.named.Sense.{Sense}
 use Rattle.nr_store.specs.declared.named.Sense.TheVariants as senses
 use Rattle.nr_store.specs.declared.element.Draft.{Draft}
 use Rattle.nr_store.specs.declared.element.Element.{Element}
 use Rattle.nr_store.specs.Senses.{ids_of_sense}
-use Rattle.nr_store.specs.Stored.{Means, Words, weight_of, Built, Read, Shared, level_charge, charge_of, weight, share}
+use Rattle.nr_store.specs.Store.{Means, Words, weight_of, Built, Read, Shared, level_charge, charge_of, weight, share}
 use Rattle.nr_store.specs.Holders.{Beside, means_of, named_means, built_of, level_in, level_of, stored_of, count, ids_of_source, ids_of, values, draft_ids, held_ids, name_for, text_in, texts_in, IsHeld, Pays, AllPay, AreNamed, charge_of_texts, beside_cost, IsStore}
 use Rattle.nr_store.proofs.Counting.{one_same, one_other, count-cons, count-append, cost, costs, cost_in, used-le}
 use Rattle.nr_store.proofs.EachOnce.{costs-le, each_once}

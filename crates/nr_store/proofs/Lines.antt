@@ -8,13 +8,13 @@ use Rattle.nr_units.specs.declared.cell.Cell.{Cell}
 use Rattle.nr_pool.specs.Texts.{Texts, text, used, IsOpen, with_text}
 use Rattle.nr_pool.specs.Laws.{within_of_open, with_text-text, append_more, open-with_text, used-with_text}
 use Rattle.nr_pool.specs.declared.Full.{Full}
-use Rattle.nr_tables.specs.Rows.{Table}
+use Rattle.nr_symbol_tables.specs.Rows.{Table}
 use Rattle.nr_levels.specs.Levels.{Levels}
 use Rattle.nr_store.specs.declared.named.Sense.{Sense}
 use Rattle.nr_store.specs.declared.element.Element.{Element}
 use Rattle.nr_store.specs.declared.element.Element.TheVariants as elements
 use Rattle.nr_store.specs.declared.element.Draft.{Draft}
-use Rattle.nr_store.specs.Stored.{Stored, Built, charge_of, blank_cell, line_of, taken, diverted, diverted_end, on_newest}
+use Rattle.nr_store.specs.Store.{Stored, Built, charge_of, blank_cell, line_of, taken, diverted, diverted_end, on_newest}
 use Rattle.nr_store.specs.Holders.{Beside, built_of, stored_of, IsStore}
 use Rattle.nr_store.proofs.Building.{charge_of-grown}
 

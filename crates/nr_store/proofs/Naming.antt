@@ -3,7 +3,7 @@ use Rattle.std.proofs.Common.{◌≡◌, ℕ, ◌+◌, ◌<◌, List, [], ◌∷
 use Rattle.std.specs.Option.{option_map}
 use Rattle.std.proofs.lemmas.List.Sums.{sum_by-cons}
 use Rattle.std.proofs.lemmas.Bool.{cases_Bool, cond-true, cond-false}
-use Rattle.nr_tables.specs.Named.{is_same, is_before, Named, find, put, replaced, inserted, without}
+use Rattle.nr_symbol_tables.specs.Table.{is_same, is_before, Named, find, put, replaced, inserted, without}
 use Rattle.nr_store.specs.declared.named.Sense.{Sense}
 use Rattle.nr_store.specs.declared.named.Sense.TheVariants as senses
 use Rattle.nr_store.specs.Senses.{text_id, ids_of_sense}
@@ -13,7 +13,7 @@ use Rattle.nr_store.specs.declared.element.Element.{Element}
 use Rattle.nr_store.specs.declared.element.Draft.{Draft}
 use Rattle.nr_store.specs.declared.named.Meaning.{Meaning}
 use Rattle.nr_store.specs.declared.named.Meaning.TheVariants as meanings
-use Rattle.nr_store.specs.Stored.{Stored, meaning_of}
+use Rattle.nr_store.specs.Store.{Stored, meaning_of}
 use Rattle.nr_store.specs.Holders.{Beside, means_of, stored_of, count, values}
 use Rattle.nr_store.proofs.Counting.{one_same, count-cons, count-append}
 

@@ -8,15 +8,15 @@ use Rattle.std.proofs.lemmas.Bool.{cases_lt, ne_eqb, eq-eqb, cond-true, cond-fal
 use Rattle.std.proofs.lemmas.Option.{slice_get_within, get_or_from_slice_get}
 use Rattle.nr_units.specs.Items.{Items}
 use Rattle.nr_pool.specs.Texts.{Texts, text, holders, IsOpen, released}
-use Rattle.nr_tables.specs.Named.{Named}
-use Rattle.nr_tables.specs.Rows.{Table}
+use Rattle.nr_symbol_tables.specs.Table.{Named}
+use Rattle.nr_symbol_tables.specs.Rows.{Table}
 use Rattle.nr_levels.specs.Levels.{Source, Text, Own, Mark as Marked, Open, Levels, front, front_of, behind, advanced, marks, closed, resumed, charge_of_newest}
 use Rattle.nr_levels.specs.declared.frame.Front.TheVariants as fronts
 use Rattle.nr_store.specs.declared.named.Sense.{Sense}
 use Rattle.nr_store.specs.declared.element.Element.{Element}
 use Rattle.nr_store.specs.declared.element.Draft.{Draft}
 use Rattle.nr_store.specs.declared.shown.Shown.TheVariants as shows
-use Rattle.nr_store.specs.Stored.{Level, Read, Mark, level_charge, Stored, charge_of, share, shown, shown_in, shown_of, mark_of, left, left_in, left_of, dropped, dropped_in}
+use Rattle.nr_store.specs.Store.{Level, Read, Mark, level_charge, Stored, charge_of, share, shown, shown_in, shown_of, mark_of, left, left_in, left_of, dropped, dropped_in}
 use Rattle.nr_store.specs.Holders.{Beside, level_in, level_of, stored_of, count, ids_of, ids_of_source, values, draft_ids, held_ids, text_in, texts_in, IsHeld, AllPay, IsStore, lone}
 use Rattle.nr_store.proofs.Counting.{AddsOne, one_same, count-cons, count-append, held_less, open_of_adds, text_kept, released_capacity, released_slots}
 use Rattle.nr_store.proofs.Keeping.{Keeps, same_view, charged_once}

@@ -4,15 +4,15 @@ use Rattle.std.proofs.lemmas.List.{drop-drop, drop-map, length-drop, length-map}
 use Rattle.std.proofs.lemmas.List.Sums.{sum_by-cons}
 use Rattle.nr_units.specs.Items.{Items}
 use Rattle.nr_pool.specs.Texts.{Texts, text}
-use Rattle.nr_tables.specs.Named.{Named}
-use Rattle.nr_tables.specs.Rows.{Table}
+use Rattle.nr_symbol_tables.specs.Table.{Named}
+use Rattle.nr_symbol_tables.specs.Rows.{Table}
 use Rattle.nr_levels.specs.Levels.{Source, Text, Own, Mark as Marked, Open, Levels}
 use Rattle.nr_levels.specs.Further.{further, further_on, Reaches, NewestReaches}
 use Rattle.nr_store.specs.declared.named.Sense.{Sense}
 use Rattle.nr_store.specs.declared.element.Element.{Element}
 use Rattle.nr_store.specs.declared.element.Element.TheVariants.{Byte}
 use Rattle.nr_store.specs.declared.element.Draft.{Draft}
-use Rattle.nr_store.specs.Stored.{Read, level_charge, text_charge, charge_of}
+use Rattle.nr_store.specs.Store.{Read, level_charge, text_charge, charge_of}
 use Rattle.nr_store.specs.Windows.{rest_in, rest_of, level_behind, levels_behind, run_left}
 use Rattle.nr_store.proofs.Keeping.{text_small, charged_once}
 use Rattle.nr_store.specs.Holders.{Beside, level_in, level_of, stored_of, ids_of_source, ids_of, values, draft_ids, text_in, texts_in, IsHeld, Pays, AllPay, IsStore}

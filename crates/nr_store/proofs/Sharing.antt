@@ -8,16 +8,16 @@ use Rattle.std.specs.FinMap.{slice_cmp-IsAntisymmetric, nat_cmp-IsAntisymmetric}
 use Rattle.std.proofs.lemmas.Cmp.{nat_list_cmp_total, tied_itself}
 use Rattle.std.proofs.lemmas.List.Sums.{sum_by-cons}
 use Rattle.std.proofs.lemmas.Bool.{cases_Bool, cases_lt, cases_eq, eq-eqb, ne_eqb, cond-true, cond-false, lt-ltb, le-ltb}
-use Rattle.nr_units.specs.Names.{name_order}
+use Rattle.nr_units.specs.Name.{name_order}
 use Rattle.nr_pool.specs.Texts.{Texts, text, holders}
-use Rattle.nr_tables.specs.Named.{is_same, Named, find, put, without}
-use Rattle.nr_tables.specs.Laws.{find-put_same, find-put_other, find-without_other}
+use Rattle.nr_symbol_tables.specs.Table.{is_same, Named, find, put, without}
+use Rattle.nr_symbol_tables.specs.Laws.{find-put_same, find-put_other, find-without_other}
 use Rattle.nr_levels.specs.Levels.{Source, Text, Own, Mark as Marked, Open}
 use Rattle.nr_store.specs.declared.element.Element.{Element}
 use Rattle.nr_store.specs.declared.named.Sense.{Sense}
 use Rattle.nr_store.specs.declared.named.Sense.TheVariants as senses
 use Rattle.nr_store.specs.Senses.{text_id, ids_of_sense}
-use Rattle.nr_store.specs.Stored.{Shared, loose, text_charge, share, is_named, without_name, with_name, renamed_by, is_read, shared_by, own_text}
+use Rattle.nr_store.specs.Store.{Shared, loose, text_charge, share, is_named, without_name, with_name, renamed_by, is_read, shared_by, own_text}
 use Rattle.nr_store.specs.Holders.{one, count, ids_of_source, ids_of, values, name_by, name_for, text_in, texts_in, AreNamed, lone}
 use Rattle.nr_store.proofs.Counting.{one_same, one_other, count-cons, count-append}
 use Rattle.nr_store.proofs.Naming.{ones, put_sum, put_sum_new, without_sum, without_none, count-values, find_counts}

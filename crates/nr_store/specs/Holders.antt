@@ -3,12 +3,12 @@ use Rattle.std.specs.Prelude.{◌≡◌, ℕ, ◌+◌, ◌*◌, ◌/◌, ◌^◌
 use Rattle.std.specs.List.{range_with_len}
 use Rattle.nr_units.specs.Items.{Items}
 use Rattle.nr_pool.specs.Texts.{Texts, text, holders}
-use Rattle.nr_tables.specs.Named.{Named, find}
-use Rattle.nr_tables.specs.Rows.{Table}
-use Rattle.nr_levels.specs.Gathered.{Gathering}
-use Rattle.nr_tables.specs.Given.{word_in}
-use Rattle.nr_tables.specs.declared.word.HyphenationWord.{HyphenationWord}
-use Rattle.nr_tables.specs.declared.trap.Trap.{Trap}
+use Rattle.nr_symbol_tables.specs.Table.{Named, find}
+use Rattle.nr_symbol_tables.specs.Rows.{Table}
+use Rattle.nr_levels.specs.Gathering.{Gathering}
+use Rattle.nr_symbol_tables.specs.Given.{word_in}
+use Rattle.nr_symbol_tables.specs.declared.word.HyphenationWord.{HyphenationWord}
+use Rattle.nr_symbol_tables.specs.declared.trap.Trap.{Trap}
 use Rattle.nr_levels.specs.Levels.{Source, Text, Own, Mark as Marked, Open, Levels, total}
 use Rattle.nr_store.specs.declared.named.Sense.{Sense}
 use Rattle.nr_store.specs.declared.named.Sense.TheVariants as senses
@@ -18,7 +18,7 @@ use Rattle.nr_store.specs.declared.element.Draft.{Draft}
 use Rattle.nr_store.specs.declared.register.Register.{Register}
 use Rattle.nr_store.specs.declared.request.TheConstants.{REQUESTS}
 use Rattle.nr_store.specs.Senses.{ids_of_sense, act}
-use Rattle.nr_store.specs.Stored.{Means, Act, Words, Built, Level, Read, Mark, Shared, Stored, charge_beside, charge_of, weight, share, own_text}
+use Rattle.nr_store.specs.Store.{Means, Act, Words, Built, Level, Read, Mark, Shared, Stored, charge_beside, charge_of, weight, share, own_text}
 
 -- ---- what the fields stand for
 

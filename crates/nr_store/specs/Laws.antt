@@ -2,9 +2,9 @@
 use Rattle.std.proofs.Common.{◌≡◌, ℕ, zero, suc, ◌≤◌, List, [], ◌∷◌, length, drop, sum_by, Some, refl, ap, sym, ◌∙◌, inl, inr, arith}
 use Rattle.std.proofs.lemmas.List.Sums.{sum_by-cons}
 use Rattle.std.proofs.lemmas.Bool.{cases_Bool, cond-true, cond-false}
-use Rattle.nr_tables.specs.Named.{is_same, Named, find}
+use Rattle.nr_symbol_tables.specs.Table.{is_same, Named, find}
 use Rattle.nr_store.specs.declared.element.Element.{Element}
-use Rattle.nr_store.specs.Stored.{Level, Read, Mark, Reading, Stored, Means, Act, Words, words, weight, weight_of}
+use Rattle.nr_store.specs.Store.{Level, Read, Mark, Reading, Stored, Means, Act, Words, words, weight, weight_of}
 use Rattle.nr_store.specs.Windows.{rest_in, rest_of, left_times, run_left}
 
 -- a text is charged under its name

@@ -1,9 +1,9 @@
-pub mod Stored
+pub mod Store
 pub mod Senses
-pub mod Requests
-pub mod Heights
+pub mod Request
+pub mod Height
 pub mod Holders
 pub mod Windows
 pub mod Laws
 pub mod Sights
-pub mod Rooms
+pub mod Memory

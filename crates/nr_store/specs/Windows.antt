@@ -4,7 +4,7 @@ use Rattle.nr_store.specs.declared.element.Element.{Element}
 use Rattle.nr_store.specs.declared.element.Element.TheVariants as elements
 use Rattle.nr_store.specs.declared.shown.Rest.{Rest}
 use Rattle.nr_store.specs.declared.shown.Rest.TheVariants as rests
-use Rattle.nr_store.specs.Stored.{Level, Read, Mark, Stored, left}
+use Rattle.nr_store.specs.Store.{Level, Read, Mark, Stored, left}
 
 -- what is left of a level's text
 abbrev pub rest_in : {K : Type 0} → Level K → List Element

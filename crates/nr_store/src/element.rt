@@ -1,10 +1,10 @@
 //! What texts are made of, and what is kept beside a text that is being built.
 ghost use Rattle.std.specs.Prelude.{◌≡◌};
-ghost use Rattle.nr_store.specs.Stored.{fresh, taken};
+ghost use Rattle.nr_store.specs.Store.{fresh, taken};
 
 use crate::height::Height;
 use nr_pool::Id;
-use nr_tables::Trap;
+use nr_symbol_tables::Trap;
 use nr_units::Name;
 use nr_units::cell::Cell;
 

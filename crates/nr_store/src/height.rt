@@ -12,7 +12,7 @@ pub struct Height {
 impl Model for Height {
     ghost use Rattle.std.specs.Prelude.{ℕ};
     ghost use Rattle.std.specs.Int.{w32, from_le_bytes, to_le_bytes};
-    ghost use Rattle.nr_store.specs.Heights.{AreBytes, bytes-number};
+    ghost use Rattle.nr_store.specs.Height.{AreBytes, bytes-number};
 
     ghost Value = { ℕ };
 

@@ -1,7 +1,7 @@
 //! The store: texts under names beside the requests of the language, texts being built, the levels that read
 //! texts, registers, traps and hyphenation words, under one charge.
 //!
-//! It stands on nr_units, nr_pool, nr_levels and nr_tables. To read: `height`, `element`, `request`, `named`,
+//! It stands on nr_units, nr_pool, nr_levels and nr_symbol_tables. To read: `height`, `element`, `request`, `named`,
 //! `register`, `shown`, `refusal`; `memory`; `store`, and its calls in `store/`: `beginning`, `names`,
 //! `building`, `lines`, `levels`, `arguments`, `registers`, `traps`, `words`.
 #![tactic(auto)]
@@ -20,7 +20,7 @@ pub use element::{Diversion, Draft, Element};
 pub use height::Height;
 pub use memory::Room;
 pub use named::{Meaning, Sense};
-pub use nr_tables::{HyphenationWord, Trap};
+pub use nr_symbol_tables::{HyphenationWord, Trap};
 pub use refusal::{Refusal, StoredBytes};
 pub use register::Register;
 pub use request::Request;

@@ -1,6 +1,6 @@
 //! The memory of a store.
 ghost use Rattle.std.specs.Prelude.{◌≡◌};
-ghost use Rattle.nr_store.specs.Rooms.{rooms_of};
+ghost use Rattle.nr_store.specs.Memory.{rooms_of};
 
 /// How many there is room for of each.
 #[derive(Clone, Copy)]

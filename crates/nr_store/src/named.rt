@@ -1,7 +1,7 @@
 //! What a name stands for.
 use crate::request::Request;
 use nr_pool::Id;
-use nr_tables::Entry;
+use nr_symbol_tables::Entry;
 
 /// What a name of the one name list stands for.
 #[derive(Clone, Copy)]

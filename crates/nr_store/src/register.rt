@@ -1,8 +1,8 @@
 //! Number registers.
 ghost use Rattle.std.specs.Prelude.{◌≡◌, ◌-ℤ◌};
-ghost use Rattle.nr_store.specs.Stored.{unset, is_held, moved_to, set_to, raised, lowered, gone_on};
+ghost use Rattle.nr_store.specs.Store.{unset, is_held, moved_to, set_to, raised, lowered, gone_on};
 
-use nr_tables::Entry;
+use nr_symbol_tables::Entry;
 use nr_units::Format;
 
 // Whether a register holds this number.

@@ -1,7 +1,7 @@
 //! The store.
 ghost use Rattle.std.specs.Prelude.{◌≡◌, ◌≤◌, length};
-ghost use Rattle.nr_store.specs.Stored.{charge_of};
-ghost use Rattle.nr_store.specs.Rooms.{rooms_of};
+ghost use Rattle.nr_store.specs.Store.{charge_of};
+ghost use Rattle.nr_store.specs.Memory.{rooms_of};
 
 mod arguments;
 mod beginning;
@@ -20,7 +20,7 @@ use crate::register::Register;
 use nr_levels::{Gathering, Levels, Stack};
 use nr_pool::Pool;
 use nr_rooms::FixedVec;
-use nr_tables::{HyphenationWord, Table, Trap};
+use nr_symbol_tables::{HyphenationWord, Table, Trap};
 use std::marker::Model;
 
 /// Names with their requests and texts, texts being built, and levels that read texts, with modes `K` that sprung texts
@@ -44,7 +44,7 @@ pub struct Store<K: Copy> {
 }
 
 impl<K: Copy> Model for Store<K> {
-    ghost use Rattle.nr_store.specs.Stored.{Stored};
+    ghost use Rattle.nr_store.specs.Store.{Stored};
     ghost use Rattle.nr_store.specs.Holders.{stored_of, IsStore, beside_of};
 
     ghost Value = { Stored K };

@@ -4,7 +4,7 @@ use Rattle.std.specs.Io.KnownBytes.{Appends, Keeps}
 use Rattle.std.proofs.KnownBytes.{Appends-trans, Appends-kept}
 use Rattle.std.proofs.Math.Seq.{take-add}
 use Rattle.std.proofs.lemmas.List.{take_rest}
-use Rattle.nr_units.specs.Held.{AppendsFront, passed_on_with}
+use Rattle.nr_units.specs.Sink.{AppendsFront, passed_on_with}
 
 -- a front and n bytes more
 pub front_grows : (a b c : Option (List ℕ)) (bs : List ℕ) (done n : ℕ) → done ≤ length bs → n ≤ length (take (length bs - done) (drop done bs))

@@ -1,7 +1,7 @@
 -- A byte at the end of a name.
 use Rattle.std.proofs.Common.{◌≡◌, ℕ, ◌+◌, ◌-◌, ◌<◌, List, set, drop, replicate, ap, sym, ◌∙◌, arith}
 use Rattle.std.proofs.lemmas.List.{length-set, drop-set-lt, drop-drop, drop-replicate}
-use Rattle.nr_units.specs.Names.{IsPadded}
+use Rattle.nr_units.specs.Name.{IsPadded}
 
 pub IsPadded-set : (bytes : List ℕ) (len at byte : ℕ) → at ≡ len → IsPadded bytes len → len < 32 → IsPadded (set bytes at byte) (len + 1)
 IsPadded-set bytes len at byte is padded below =

@@ -22,7 +22,7 @@ pub struct Buffered<'a, R> {
 impl<'a, R: Read + Drop> Buffered<'a, R> {
     ghost use Rattle.std.specs.Prelude.{[]};
     ghost use Rattle.nr_units.specs.Failures.{counted};
-    ghost use Rattle.nr_units.specs.Supply.{Gives, reader_supply};
+    ghost use Rattle.nr_units.specs.Source.{Gives, reader_supply};
 
     /// The reader's bytes from where it stands, read into this buffer, whatever it holds. Over an
     /// empty buffer each byte is a read of its own.
@@ -104,7 +104,7 @@ impl<'a, R: Read + Drop> Buffered<'a, R> {
 impl<'a, R: Read + Drop> Source for Buffered<'a, R> {
     ghost use Rattle.std.specs.Prelude.{[], drop, take, Some, None, Ok};
     ghost use Rattle.nr_units.specs.Failures.{counted};
-    ghost use Rattle.nr_units.specs.Supply.{Gives, buffered_supply, reader_supply};
+    ghost use Rattle.nr_units.specs.Source.{Gives, buffered_supply, reader_supply};
 
     ghost supply = { λ s. buffered_supply (drop s.at (take s.end s.buffer.now)) s.ended (R.remaining s.reader) };
 

@@ -2,8 +2,8 @@
 ghost use Rattle.std.specs.Prelude.{◌≡◌, ◌==◌, ◌↔◌, ◌-◌, ◌≤◌, [], ◌++◌, length, take, OnOk, OnErr, IsOk, IfSome, false, true, not, is_ok};
 ghost use Rattle.std.specs.Io.KnownBytes.{Appends, Keeps};
 ghost use Rattle.nr_units.specs.Failures.{no_failures, put_counted, flush_counted};
-ghost use Rattle.nr_units.specs.Held.{AppendsFront, passed_on_with, passed_on_by};
-ghost use Rattle.nr_units.specs.Supply.{Never, After};
+ghost use Rattle.nr_units.specs.Sink.{AppendsFront, passed_on_with, passed_on_by};
+ghost use Rattle.nr_units.specs.Source.{Never, After};
 
 use super::sink::Sink;
 use super::source::{Fault, Source, next_count};
@@ -60,7 +60,7 @@ impl<'a> Script<'a> {
 impl Source for Script<'_> {
     ghost use Rattle.std.specs.Prelude.{Some};
     ghost use Rattle.std.specs.Option.{option_map_or};
-    ghost use Rattle.nr_units.specs.Supply.{Supply, Never, After, at_hand_of};
+    ghost use Rattle.nr_units.specs.Source.{Supply, Never, After, at_hand_of};
 
     ghost supply = { λ s. Some (record { bytes = s.rest.now; faults = option_map_or After s.left Never }) };
 
@@ -116,7 +116,7 @@ pub struct Slate<'a> {
 
 impl<'a> Model for Slate<'a> {
     ghost use Rattle.std.specs.Prelude.{◌-◌, ◌≤◌, length, take};
-    ghost use Rattle.nr_units.specs.Held.{Slate};
+    ghost use Rattle.nr_units.specs.Sink.{Slate};
 
     ghost Value = { Slate };
 

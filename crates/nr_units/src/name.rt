@@ -3,7 +3,7 @@ ghost use Rattle.std.specs.Prelude.{◌≡◌, ◌==◌, ◌<◌, ◌≤◌, ◌
 ghost use Rattle.std.specs.Ordering.{nat_cmp};
 ghost use Rattle.std.specs.Cmp.{partial_equiv_from_equiv};
 ghost use Rattle.std.specs.Cmp.Lexicographic.{pointwise, slice_cmp, nat_list_eq_equiv, nat_list_cmp_total, texts_po, texts_ties};
-ghost use Rattle.nr_units.specs.Names.{name_order, kind_of_name};
+ghost use Rattle.nr_units.specs.Name.{name_order, kind_of_name};
 
 use std::cmp::Ordering;
 use std::marker::Model;
@@ -22,7 +22,7 @@ pub struct Name {
 
 impl Model for Name {
     ghost use Rattle.std.specs.Prelude.{ℕ, List, length, take};
-    ghost use Rattle.nr_units.specs.Names.{IsPadded, padded};
+    ghost use Rattle.nr_units.specs.Name.{IsPadded, padded};
     ghost use Rattle.nr_units.specs.Padding.{padded-take, length-take_padded};
 
     ghost Value = { List ℕ };

@@ -2,7 +2,7 @@
 ghost use Rattle.std.specs.Prelude.{◌≡◌, ◌<◌, IfOk};
 ghost use Rattle.std.specs.Io.{ReadsAtMost, WritesAtMost};
 ghost use Rattle.std.specs.Io.KnownBytes.{Keeps, ReadConsumes, WriteAppends};
-ghost use Rattle.nr_units.specs.Supply.{Gives, reader_supply};
+ghost use Rattle.nr_units.specs.Source.{Gives, reader_supply};
 
 use super::sink::Sink;
 use super::source::{Fault, Source, next_count};
@@ -112,7 +112,7 @@ impl<R: Read + Drop> FromReader<R> {
 impl<R: Read + Drop> Source for FromReader<R> {
     ghost use Rattle.std.specs.Prelude.{◌≡◌, [], Some, None, Ok};
     ghost use Rattle.nr_units.specs.Failures.{counted};
-    ghost use Rattle.nr_units.specs.Supply.{Gives, buffered_supply, reader_supply};
+    ghost use Rattle.nr_units.specs.Source.{Gives, buffered_supply, reader_supply};
 
     ghost supply = { λ s. buffered_supply [] s.ended (R.remaining s.reader) };
 

@@ -2,7 +2,7 @@
 ghost use Rattle.std.specs.Prelude.{◌≡◌, ℕ, List, Bool, Option, OnOk, OnErr};
 ghost use Rattle.std.specs.Io.KnownBytes.{Appends, Keeps};
 ghost use Rattle.nr_units.specs.Failures.{SinkFailures, put_counted, flush_counted};
-ghost use Rattle.nr_units.specs.Held.{AppendsFront, passed_on_with, passed_on_by};
+ghost use Rattle.nr_units.specs.Sink.{AppendsFront, passed_on_with, passed_on_by};
 
 use super::source::Fault;
 

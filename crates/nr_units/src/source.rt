@@ -1,7 +1,7 @@
 //! Where bytes come from.
 ghost use Rattle.std.specs.Prelude.{◌≡◌, ℕ, ◌≤◌, List, Option, length};
 ghost use Rattle.nr_units.specs.Failures.{counted, next_count};
-ghost use Rattle.nr_units.specs.Supply.{Supply, Gives, Offers, Skips};
+ghost use Rattle.nr_units.specs.Source.{Supply, Gives, Offers, Skips};
 
 /// A read or a write failed.
 #[derive(Clone, Copy, Debug, PartialEq, Eq)]

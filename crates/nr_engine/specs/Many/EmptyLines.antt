@@ -1,7 +1,7 @@
 -- Empty lines that are at hand: three moves for the one that was read, and four for each behind it.
 use Prim.Native.Char.{code}
 use Rattle.std.specs.Prelude.{◌≡◌, ◌≢◌, ℕ, ◌+◌, ◌*◌, ◌<◌, ◌≤◌, ◌^◌, true, List, length, replicate, slice_index, Option}
-use Rattle.nr_units.specs.Supply.{Supply}
+use Rattle.nr_units.specs.Source.{Supply}
 use Rattle.nr_formatter.specs.Many.EmptyLines.{is_at_line, lines_below}
 use Rattle.nr_formatter.specs.declared.formatter.Formatter.{Formatter}
 use Rattle.nr_engine.specs.Holding.{Shape}

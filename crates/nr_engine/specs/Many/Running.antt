@@ -2,20 +2,20 @@
 use Prim.Native.Char.{code}
 use Rattle.std.specs.Prelude.{◌≡◌, ℕ, ◌+◌, ◌-◌, ◌*◌, ◌≤◌, ◌<◌, Bool, List, [], length, take, drop, slice_index, Option, Result, Ok, Err, OnOk, true, false}
 use Rattle.std.specs.Option.{option_map}
-use Rattle.nr_units.specs.Supply.{Supply, skipped}
+use Rattle.nr_units.specs.Source.{Supply, skipped}
 use Rattle.nr_options.specs.Limits.{Bounds}
 use Rattle.nr_options.specs.declared.options.Options.{Options}
 use Rattle.nr_reading.specs.Many.InText.{is_in_text}
 use Rattle.nr_reading.specs.Many.Interpolations.{interpolates}
 use Rattle.nr_input.specs.Many.AtHand.{ComeNext, is_unseen}
-use Rattle.nr_input.specs.Coming.{Coming, HoldsComing, has_failed, nothing_reached}
+use Rattle.nr_input.specs.Place.{Coming, HoldsComing, has_failed, nothing_reached}
 use Rattle.nr_input.specs.Many.Fonts.{BeginsFont}
 use Rattle.nr_input.specs.Many.Gathering.{Brings, GathersMost, IsGathered, Leaves}
 use Rattle.nr_input.specs.Many.Runs.{passed_run}
 use Rattle.nr_input.specs.declared.many.gathering.Gathered.{Gathered}
 use Rattle.nr_input.specs.declared.reader.Reader.{Reader}
-use Rattle.nr_fill.specs.Pieces.{line_cells, text_cells}
-use Rattle.nr_fill.specs.Rows.{IsRow}
+use Rattle.nr_fill.specs.Piece.{line_cells, text_cells}
+use Rattle.nr_fill.specs.CellRow.{IsRow}
 use Rattle.nr_fill.specs.Runs.{IsPlain}
 use Rattle.nr_formatter.specs.Access.{collected}
 use Rattle.nr_formatter.specs.Limits.{FitsMemory, IsWithin}
@@ -24,13 +24,13 @@ use Rattle.nr_formatter.specs.Many.LineEnds.{IsNewline}
 use Rattle.nr_formatter.specs.Many.Runs.{IsGap, is_in_line}
 use Rattle.nr_formatter.specs.declared.formatter.Formatter.{Formatter}
 use Rattle.nr_formatter.specs.declared.tasks.Resume.{Resume}
-use Rattle.nr_page.specs.Sheet.{Holds as HoldsPage}
+use Rattle.nr_page.specs.Page.{Holds as HoldsPage}
 use Rattle.nr_page.specs.declared.selection.PageRange.{PageRange}
-use Rattle.nr_store.specs.Stored.{Stored as StoredOf, charge_of}
+use Rattle.nr_store.specs.Store.{Stored as StoredOf, charge_of}
 use Rattle.nr_store.specs.Windows.{rest_of, run_left}
 use Rattle.nr_engine.specs.State.{State, Choice, choices, formatter_at_first}
 use Rattle.nr_engine.specs.Machine.{choose, state_after}
-use Rattle.nr_engine.specs.Answer.{stops_reading, stops_writing}
+use Rattle.nr_engine.specs.Run.{stops_reading, stops_writing}
 use Rattle.nr_engine.specs.Holding.{Shape, at, Stands, Holds, Made, Halts, weight, worth}
 use Rattle.nr_engine.specs.Limits.{limits_of}
 use Rattle.nr_engine.specs.declared.outcome.Measure.TheVariants.{Stored}

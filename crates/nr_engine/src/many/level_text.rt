@@ -1,6 +1,6 @@
 //! Words of levels: many moves in one call.
 ghost use Rattle.std.specs.Prelude.{◌≡◌, ◌+◌, ◌*◌, ◌≤◌, length, true};
-ghost use Rattle.nr_store.specs.Stored.{shown};
+ghost use Rattle.nr_store.specs.Store.{shown};
 ghost use Rattle.nr_store.specs.Windows.{rest_of};
 ghost use Rattle.nr_store.specs.declared.element.Element.TheVariants as elements;
 ghost use Rattle.nr_store.specs.declared.shown.Shown.TheVariants as shows;

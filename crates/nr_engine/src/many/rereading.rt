@@ -1,6 +1,6 @@
 //! Cells of a diverted line that is read again: many moves in one call.
 ghost use Rattle.std.specs.Prelude.{◌≤◌, ◌<◌, ◌^◌, length, take};
-ghost use Rattle.nr_fill.specs.Rows.{AddsToRow};
+ghost use Rattle.nr_fill.specs.CellRow.{AddsToRow};
 ghost use Rattle.nr_engine.specs.Many.Rereading.{AreCells, cells_of};
 ghost use Rattle.nr_engine.specs.Holding.{shape};
 ghost use Rattle.nr_engine.specs.Many.Running.{MakesInPlace};

@@ -3,7 +3,7 @@
 use Prim.Native.Char.{code}
 use Rattle.std.specs.Prelude.{◌≡◌, ◌≤◌, ℕ, Bool, true, false, not, ◌==◌, if◌then◌else◌, unwrap_or}
 use Rattle.nr_fill.specs.declared.piece.Behind.TheVariants.{Hyphen}
-use Rattle.nr_fill.specs.Pieces.{Collected, add_blank, add_cell, line_cells}
+use Rattle.nr_fill.specs.Piece.{Collected, add_blank, add_cell, line_cells}
 use Rattle.nr_fill.specs.Tabs.{tabbed}
 use Rattle.nr_formatter.specs.Access.{cell, collected, is_filling, margins, with_collected}
 use Rattle.nr_formatter.specs.Lines.{reads_a_field}

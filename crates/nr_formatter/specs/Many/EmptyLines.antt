@@ -1,7 +1,7 @@
 -- Empty lines, many at once: each is a break at which nothing is collected, and the space of one line.
 use Prim.Native.Char.{code}
 use Rattle.std.specs.Prelude.{◌≡◌, ℕ, ◌+◌, ◌-◌, ◌*◌, ◌/◌, Bool, false, not, ◌&&◌, ◌==◌, if◌then◌else◌, is_none, List, []}
-use Rattle.nr_fill.specs.Pieces.{begins_line}
+use Rattle.nr_fill.specs.Piece.{begins_line}
 use Rattle.nr_reading.specs.declared.event.Event.TheVariants as events
 use Rattle.nr_reading.specs.declared.ask.Ask.{Ask}
 use Rattle.nr_reading.specs.declared.half.Half.{Half}

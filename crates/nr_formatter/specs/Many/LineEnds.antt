@@ -1,6 +1,6 @@
 -- The end of a text line of which lines are filled.
 use Rattle.std.specs.Prelude.{◌≡◌, ◌≤◌, true, false, None}
-use Rattle.nr_fill.specs.Pieces.{Collected, after_newline, end_word, line_cells}
+use Rattle.nr_fill.specs.Piece.{Collected, after_newline, end_word, line_cells}
 use Rattle.nr_reading.specs.Many.LineBeginnings.{text_ended}
 use Rattle.nr_input.specs.Acting.{on_half}
 use Rattle.nr_formatter.specs.Access.{collected, with_collected}

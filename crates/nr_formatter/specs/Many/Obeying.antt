@@ -1,7 +1,7 @@
 -- The request whose line was read, taken effect at once: it is heard, its break does nothing, it only sets or makes space, and it is
 -- not refused.
 use Rattle.std.specs.Prelude.{ℕ, ◌+◌, Bool, true, false, not, ◌&&◌, ◌||◌, if◌then◌else◌, is_none, is_ok}
-use Rattle.nr_fill.specs.Pieces.{begins_line}
+use Rattle.nr_fill.specs.Piece.{begins_line}
 use Rattle.nr_store.specs.declared.request.Request.{Request}
 use Rattle.nr_store.specs.declared.request.Request.TheVariants.{Ad, Br, Ce, Fi, Ft, Hy, In, It, Lc, Ll, Lt, Na, Ne, Nf, Nh, Nr, Ns, Pc, Pl, Po, Rs, Sp, Ta, Tc, Ti, Ul, Vs}
 use Rattle.nr_formatter.specs.Access.{collected}

@@ -1,7 +1,7 @@
 -- Runs of bytes that stand for themselves, in a text line that has begun.
 use Prim.Native.Char.{code}
 use Rattle.std.specs.Prelude.{◌≡◌, ◌≤◌, ◌<◌, ℕ, Bool, true, false, not, ◌&&◌, nat_lt, List, length, take, slice_index, All, is_none, None}
-use Rattle.nr_fill.specs.Pieces.{Collected, begins_line, end_word, line_cells, one_blank_more, text_cells}
+use Rattle.nr_fill.specs.Piece.{Collected, begins_line, end_word, line_cells, one_blank_more, text_cells}
 use Rattle.nr_fill.specs.Runs.{IsPlain, add_run}
 use Rattle.nr_reading.specs.Many.InText.{is_in_text}
 use Rattle.nr_reading.specs.Many.Rereading.{is_rereading}

@@ -1,6 +1,6 @@
 //! Bytes in the midst of a text line that go to its word and do not end it. (CSTR 54, sections 4 and 9.)
 ghost use Rattle.std.specs.Prelude.{◌≡◌, true, OnOk, OnErr};
-ghost use Rattle.nr_fill.specs.Lined.{afforded};
+ghost use Rattle.nr_fill.specs.Line.{afforded};
 ghost use Rattle.nr_formatter.specs.Many.CellBytes.{goes_to_word, byte_put, AfterCellByte};
 ghost use Rattle.nr_formatter.specs.Many.Runs.{is_in_line};
 

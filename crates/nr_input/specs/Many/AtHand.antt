@@ -1,9 +1,9 @@
 -- Bytes that the source has at hand, taken many at once.
 use Rattle.std.specs.Prelude.{◌≡◌, ℕ, ◌+◌, ◌<◌, ◌^◌, ◌==◌, Bool, true, false, not, List, length, take}
-use Rattle.nr_units.specs.Supply.{MayGiveAll, skipped}
+use Rattle.nr_units.specs.Source.{MayGiveAll, skipped}
 use Rattle.nr_input.specs.declared.place.Ahead.{Ahead}
 use Rattle.nr_input.specs.declared.place.Ahead.TheVariants.{Unseen}
-use Rattle.nr_input.specs.Coming.{Coming}
+use Rattle.nr_input.specs.Place.{Coming}
 
 abbrev pub is_unseen : Ahead → Bool
 is_unseen Unseen = true

@@ -6,8 +6,8 @@ use Rattle.nr_reading.specs.declared.mode.Mode.{Mode}
 use Rattle.nr_reading.specs.declared.mode.Mode.TheVariants as modes
 use Rattle.nr_reading.specs.declared.mode.Signs.{Signs}
 use Rattle.nr_reading.specs.Many.LineBeginnings.{begins_control}
-use Rattle.nr_reading.specs.Meeting.{reads_next}
-use Rattle.nr_reading.specs.Spelling.{nothing_spelled}
+use Rattle.nr_reading.specs.Half.{reads_next}
+use Rattle.nr_reading.specs.Spelled.{nothing_spelled}
 
 abbrev pub is_at_start_in : Mode → Half → Bool
 is_at_start_in modes.Start h = reads_next h

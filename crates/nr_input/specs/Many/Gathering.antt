@@ -2,9 +2,9 @@
 -- 54, 7.2, 7.3, 8).
 use Prim.Native.Char.{code}
 use Rattle.std.specs.Prelude.{◌≡◌, ℕ, suc, ◌+◌, ◌*◌, ◌<◌, ◌≤◌, Bool, true, false, List, [], ◌∷◌, ◌++◌, length, map, take, drop, slice_get, slice_index, Option, None, Some}
-use Rattle.nr_units.specs.Supply.{Supply}
-use Rattle.nr_tables.specs.Named.{find}
-use Rattle.nr_store.specs.Stored.{Stored, charge_of, left, shown, words}
+use Rattle.nr_units.specs.Source.{Supply}
+use Rattle.nr_symbol_tables.specs.Table.{find}
+use Rattle.nr_store.specs.Store.{Stored, charge_of, left, shown, words}
 use Rattle.nr_store.specs.Windows.{rest_of, left_times}
 use Rattle.nr_store.specs.declared.element.Element.{Element}
 use Rattle.nr_store.specs.declared.element.Element.TheVariants as elements
@@ -15,7 +15,7 @@ use Rattle.nr_reading.specs.declared.front.Front.TheVariants as fronts
 use Rattle.nr_input.specs.declared.many.gathering.Gathered.{Gathered}
 use Rattle.nr_input.specs.declared.reader.Reader.{Reader}
 use Rattle.nr_input.specs.declared.many.splices.Splice.{Splice}
-use Rattle.nr_input.specs.Coming.{Coming, Reached, HoldsComing}
+use Rattle.nr_input.specs.Place.{Coming, Reached, HoldsComing}
 use Rattle.nr_input.specs.Many.Interpolations.{opened}
 use Rattle.nr_input.specs.Moving.{situation}
 use Rattle.nr_input.specs.Many.Runs.{HasRead, PaysAll}

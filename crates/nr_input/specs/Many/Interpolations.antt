@@ -1,7 +1,7 @@
 -- Interpolations that are read at once.
 use Rattle.std.specs.Prelude.{◌≡◌, ℕ, ◌+◌, ◌<◌, ◌≤◌, Bool, false, true, List, length, map, None, Some}
-use Rattle.nr_tables.specs.Named.{find}
-use Rattle.nr_store.specs.Stored.{Stored, charge_of, entered, reading_bytes, words}
+use Rattle.nr_symbol_tables.specs.Table.{find}
+use Rattle.nr_store.specs.Store.{Stored, charge_of, entered, reading_bytes, words}
 use Rattle.nr_store.specs.declared.element.Element.TheVariants as elements
 use Rattle.nr_reading.specs.declared.ask.Sign.{Sign}
 use Rattle.nr_reading.specs.declared.ask.Sign.TheVariants as signs
@@ -9,7 +9,7 @@ use Rattle.nr_reading.specs.declared.mode.Due.{Due}
 use Rattle.nr_reading.specs.declared.mode.Due.TheVariants as dues
 use Rattle.nr_input.specs.declared.reader.Reader.{Reader}
 use Rattle.nr_input.specs.Acting.{act, is_look, splicing, splicing_bytes}
-use Rattle.nr_input.specs.Refusals.{answer, splicing_answer}
+use Rattle.nr_input.specs.Refusal.{answer, splicing_answer}
 
 -- what is due is to splice these bytes
 pub record IsSplice {K : Type 0} (bytes : List ℕ) (v : Stored K) (r : Reader) : Type 0 where

@@ -1,6 +1,6 @@
 -- Rows of the newest level, in which the names of control lines are looked up.
 use Rattle.std.specs.Prelude.{Bool, true, false}
-use Rattle.nr_store.specs.Stored.{Stored, ungathered}
+use Rattle.nr_store.specs.Store.{Stored, ungathered}
 use Rattle.nr_store.specs.declared.named.Meaning.{Meaning}
 use Rattle.nr_store.specs.declared.named.Meaning.TheVariants as meanings
 use Rattle.nr_reading.specs.declared.mode.Due.TheVariants as dues

@@ -4,7 +4,7 @@ use Rattle.nr_reading.specs.declared.front.Front.{Front}
 use Rattle.nr_reading.specs.declared.front.Front.TheVariants as fronts
 use Rattle.nr_input.specs.declared.many.runs.ByteRow.{ByteRow}
 use Rattle.nr_input.specs.declared.many.runs.ElementRow.{ElementRow}
-use Rattle.nr_input.specs.Coming.{element_front}
+use Rattle.nr_input.specs.Place.{element_front}
 
 -- the items of a row of bytes
 abbrev pub byte_fronts : ByteRow → List Front

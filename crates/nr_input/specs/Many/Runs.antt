@@ -1,8 +1,8 @@
 -- Many moves of the machine that reads, of which only the last may tell something.
 use Prim.Native.Char.{code}
 use Rattle.std.specs.Prelude.{◌≡◌, ℕ, zero, suc, ◌+◌, ◌-◌, ◌*◌, ◌^◌, ◌<◌, ◌≤◌, ◌==◌, Bool, true, false, not, List, [], ◌∷◌, length, slice_get, slice_index, Option, Some}
-use Rattle.nr_units.specs.Supply.{Supply, skipped}
-use Rattle.nr_store.specs.Stored.{Stored, charge_of}
+use Rattle.nr_units.specs.Source.{Supply, skipped}
+use Rattle.nr_store.specs.Store.{Stored, charge_of}
 use Rattle.nr_store.specs.Windows.{rest_of}
 use Rattle.nr_store.specs.declared.element.Element.TheVariants as elements
 use Rattle.nr_reading.specs.declared.event.Event.{Event}
@@ -17,9 +17,9 @@ use Rattle.nr_input.specs.declared.many.target.Target.{Target}
 use Rattle.nr_input.specs.declared.place.Ahead.TheVariants.{Unseen}
 use Rattle.nr_input.specs.declared.told.Told.{Told}
 use Rattle.nr_input.specs.declared.told.Told.TheVariants as tells
-use Rattle.nr_input.specs.Coming.{Coming, Reached}
+use Rattle.nr_input.specs.Place.{Coming, Reached}
 use Rattle.nr_input.specs.Moving.{Situation, Stands, move, Goes}
-use Rattle.nr_input.specs.Many.Targets.{is_read_for, with_more}
+use Rattle.nr_input.specs.Many.Target.{is_read_for, with_more}
 use Rattle.nr_input.specs.Weights.{weight_before_byte, byte_worth, risen, diversions_in}
 
 -- behind n moves

@@ -1,18 +1,18 @@
 //! Bytes that stand for themselves in copy mode, taken and added many at once.
 ghost use Rattle.std.specs.Prelude.{◌≡◌, ◌≤◌, ◌<◌, ◌*◌, ◌∷◌, [], ℕ, All, Option, length, map, take, slice_get, slice_index, Some, true, false};
-ghost use Rattle.nr_units.specs.Supply.{Supply};
-ghost use Rattle.nr_store.specs.Stored.{charge_of};
+ghost use Rattle.nr_units.specs.Source.{Supply};
+ghost use Rattle.nr_store.specs.Store.{charge_of};
 ghost use Rattle.nr_store.specs.Windows.{rest_of};
 ghost use Rattle.nr_store.specs.declared.element.Element.TheVariants as variants;
 ghost use Rattle.nr_reading.specs.declared.event.Event.TheVariants as events;
 ghost use Rattle.nr_reading.specs.Many.InArgument.{ending_of, IsPlain};
 ghost use Rattle.nr_input.specs.declared.many.target.Target.TheVariants.{Argument};
 ghost use Rattle.nr_input.specs.Many.AtHand.{is_unseen};
-ghost use Rattle.nr_input.specs.Coming.{Coming, Reached, HoldsComing, has_failed};
+ghost use Rattle.nr_input.specs.Place.{Coming, Reached, HoldsComing, has_failed};
 ghost use Rattle.nr_input.specs.Limits.{limits_of};
 ghost use Rattle.nr_input.specs.Moving.{situation};
 ghost use Rattle.nr_input.specs.Many.Runs.{HasRead, PaysAll, IsLeft, IsLongest, IsLongestInLevel};
-ghost use Rattle.nr_input.specs.Many.Targets.{is_read_for, with_more};
+ghost use Rattle.nr_input.specs.Many.Target.{is_read_for, with_more};
 
 use crate::many::at_hand::window;
 use crate::many::runs::{read_level, read_source};

@@ -1,8 +1,8 @@
 //! Bytes that the source has at hand, taken many at once.
 ghost use Rattle.std.specs.Prelude.{◌≡◌, ℕ, ◌+◌, ◌-◌, ◌<◌, ◌≤◌, ◌^◌, true, length, take, [], Option};
-ghost use Rattle.nr_units.specs.Supply.{Skips};
+ghost use Rattle.nr_units.specs.Source.{Skips};
 ghost use Rattle.nr_input.specs.Many.AtHand.{is_unseen, ComeNext, behind_last};
-ghost use Rattle.nr_input.specs.Coming.{Coming, HoldsComing};
+ghost use Rattle.nr_input.specs.Place.{Coming, HoldsComing};
 ghost use Rattle.nr_input.specs.Many.Runs.{passed_run};
 
 use crate::place::Place;

@@ -1,14 +1,14 @@
 //! Arguments of macros and texts of strings that begin with spliced bytes.
 ghost use Rattle.std.specs.Prelude.{◌≡◌, ◌+◌, ◌*◌, ◌≤◌, Option, length, true, false, Ok};
-ghost use Rattle.nr_units.specs.Supply.{Supply};
-ghost use Rattle.nr_store.specs.Stored.{charge_of, reading_bytes};
+ghost use Rattle.nr_units.specs.Source.{Supply};
+ghost use Rattle.nr_store.specs.Store.{charge_of, reading_bytes};
 ghost use Rattle.nr_store.specs.Windows.{left_times};
 ghost use Rattle.nr_reading.specs.declared.event.Event.TheVariants as events;
 ghost use Rattle.nr_input.specs.Many.Beginnings.{begins_target};
-ghost use Rattle.nr_input.specs.Coming.{Coming, Reached, HoldsComing};
+ghost use Rattle.nr_input.specs.Place.{Coming, Reached, HoldsComing};
 ghost use Rattle.nr_input.specs.Limits.{limits_of};
 ghost use Rattle.nr_input.specs.Moving.{situation};
-ghost use Rattle.nr_input.specs.Refusals.{called, acted};
+ghost use Rattle.nr_input.specs.Refusal.{called, acted};
 ghost use Rattle.nr_input.specs.Many.Runs.{HasRead, PaysAll};
 
 use crate::many::adding::add_front;

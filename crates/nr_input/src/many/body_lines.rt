@@ -1,17 +1,17 @@
 //! The lines of a definition that the source has at hand: many moves at once.
 ghost use Rattle.std.specs.Prelude.{◌≡◌, ◌+◌, ◌*◌, ◌<◌, ◌≤◌, All, length, take, slice_index, true, false};
-ghost use Rattle.nr_store.specs.Stored.{charge_of};
+ghost use Rattle.nr_store.specs.Store.{charge_of};
 ghost use Rattle.nr_reading.specs.declared.mode.Mode.TheVariants as modes;
 ghost use Rattle.nr_reading.specs.Definitions.{in_body};
 ghost use Rattle.nr_reading.specs.Many.InArgument.{IsPlain};
 ghost use Rattle.nr_input.specs.declared.many.target.Target.TheVariants.{Text};
 ghost use Rattle.nr_input.specs.Many.BodyLines.{is_in_body, IsLine, IsOther, IsOwn};
-ghost use Rattle.nr_input.specs.Coming.{Coming, HoldsComing, has_failed};
+ghost use Rattle.nr_input.specs.Place.{Coming, HoldsComing, has_failed};
 ghost use Rattle.nr_input.specs.Limits.{limits_of};
 ghost use Rattle.nr_input.specs.Many.MacroLines.{ReadsOn};
 ghost use Rattle.nr_input.specs.Moving.{situation};
 ghost use Rattle.nr_input.specs.Many.Runs.{HasRead, PaysAll};
-ghost use Rattle.nr_input.specs.Many.Targets.{with_more};
+ghost use Rattle.nr_input.specs.Many.Target.{with_more};
 
 use crate::many::adding::is_plain;
 use crate::many::at_hand::window;

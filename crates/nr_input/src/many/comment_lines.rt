@@ -2,7 +2,7 @@
 ghost use Rattle.std.specs.Prelude.{◌≡◌, ◌≢◌, ◌<◌, ◌≤◌, [], All, length, take, slice_index, None, IfSome, true, false};
 ghost use Rattle.nr_input.specs.Many.AtHand.{is_unseen};
 ghost use Rattle.nr_input.specs.Many.CommentLines.{is_at_start, IsComment, commented};
-ghost use Rattle.nr_input.specs.Coming.{Coming, HoldsComing, has_failed};
+ghost use Rattle.nr_input.specs.Place.{Coming, HoldsComing, has_failed};
 ghost use Rattle.nr_input.specs.Limits.{limits_of};
 ghost use Rattle.nr_input.specs.Moving.{situation};
 ghost use Rattle.nr_input.specs.Many.Runs.{HasRead, PaysAll, ReadsSome};

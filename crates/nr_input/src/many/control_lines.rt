@@ -5,7 +5,7 @@ ghost use Rattle.nr_reading.specs.declared.front.Front.TheVariants as variants;
 ghost use Rattle.nr_reading.specs.declared.mode.Mode.TheVariants as modes;
 ghost use Rattle.nr_reading.specs.Many.Runs.{HasMet, spot};
 ghost use Rattle.nr_input.specs.Many.AtHand.{is_unseen};
-ghost use Rattle.nr_input.specs.Coming.{Coming, HoldsComing, has_failed};
+ghost use Rattle.nr_input.specs.Place.{Coming, HoldsComing, has_failed};
 ghost use Rattle.nr_input.specs.Limits.{limits_of};
 ghost use Rattle.nr_input.specs.Moving.{situation};
 ghost use Rattle.nr_input.specs.Many.Runs.{HasRead, PaysAll, ReadsSome, IsLongest, IsLongestInLevel};

@@ -1,6 +1,6 @@
 //! Lines of the source that do nothing: many moves at once.
 ghost use Rattle.std.specs.Prelude.{◌≡◌, ◌≤◌, false};
-ghost use Rattle.nr_input.specs.Coming.{Coming, HoldsComing, has_failed};
+ghost use Rattle.nr_input.specs.Place.{Coming, HoldsComing, has_failed};
 ghost use Rattle.nr_input.specs.Many.DroppedLines.{is_dropping};
 ghost use Rattle.nr_input.specs.Limits.{limits_of};
 ghost use Rattle.nr_input.specs.Moving.{situation};

@@ -1,7 +1,7 @@
 //! The bytes of a text line of levels, gathered with those of the arguments, registers and strings that are spliced between them.
 ghost use Rattle.std.specs.Prelude.{◌≡◌, ℕ, ◌+◌, ◌-◌, ◌<◌, ◌≤◌, ◌^◌, [], length, map, take, drop, slice_get, false, true, Option, None, Some, IfSome};
-ghost use Rattle.nr_tables.specs.Named.{find};
-ghost use Rattle.nr_store.specs.Stored.{charge_of, shown, words};
+ghost use Rattle.nr_symbol_tables.specs.Table.{find};
+ghost use Rattle.nr_store.specs.Store.{charge_of, shown, words};
 ghost use Rattle.nr_store.specs.Windows.{rest_of, left_times};
 ghost use Rattle.nr_store.specs.declared.element.Element.TheVariants as elements;
 ghost use Rattle.nr_store.specs.declared.shown.Shown.TheVariants as shows;
@@ -12,7 +12,7 @@ ghost use Rattle.nr_reading.specs.Many.Interpolations.{AsksOnly};
 ghost use Rattle.nr_reading.specs.Many.InText.{is_in_text};
 ghost use Rattle.nr_reading.specs.Many.Runs.{HasMet};
 ghost use Rattle.nr_input.specs.declared.reader.Reader.{Reader as ReaderValue};
-ghost use Rattle.nr_input.specs.Coming.{element_front};
+ghost use Rattle.nr_input.specs.Place.{element_front};
 ghost use Rattle.nr_input.specs.Many.Gathering.{AreBytes, AreGathered, EndsRun, GathersMost, IsGathered, IsGathering, Leaves, StopsGathering, brace_items, last_asked, nothing_gathered, own_bytes, passed, spliced, with_splice};
 ghost use Rattle.nr_input.specs.Many.Interpolations.{MaySplice, opened};
 

@@ -1,14 +1,14 @@
 //! Interpolations that are read at once: where all that they bring is only met or added, no level is opened for it.
 ghost use Rattle.std.specs.Prelude.{◌≡◌, ℕ, ◌+◌, ◌*◌, ◌<◌, ◌≤◌, ◌∷◌, [], Option, IfSome, length, take, true};
 ghost use Rattle.nr_units.specs.NumberText.{number_text};
-ghost use Rattle.nr_units.specs.Supply.{Supply};
-ghost use Rattle.nr_tables.specs.Named.{find};
-ghost use Rattle.nr_store.specs.Stored.{charge_of, reading_bytes, register_of};
+ghost use Rattle.nr_units.specs.Source.{Supply};
+ghost use Rattle.nr_symbol_tables.specs.Table.{find};
+ghost use Rattle.nr_store.specs.Store.{charge_of, reading_bytes, register_of};
 ghost use Rattle.nr_store.specs.Windows.{rest_of, left_times};
 ghost use Rattle.nr_reading.specs.declared.ask.Sign.TheVariants as signs;
 ghost use Rattle.nr_reading.specs.declared.mode.Due.TheVariants as dues;
 ghost use Rattle.nr_input.specs.Acting.{expanded, register_text};
-ghost use Rattle.nr_input.specs.Coming.{Coming, Reached, HoldsComing};
+ghost use Rattle.nr_input.specs.Place.{Coming, Reached, HoldsComing};
 ghost use Rattle.nr_input.specs.Many.Interpolations.{IsSplice, MaySplice, brings_text, stepping};
 ghost use Rattle.nr_input.specs.Limits.{limits_of};
 ghost use Rattle.nr_input.specs.Moving.{situation};

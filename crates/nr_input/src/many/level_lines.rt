@@ -1,12 +1,12 @@
 //! Control lines of the newest level: many moves at once.
 ghost use Rattle.std.specs.Prelude.{◌≡◌, ◌<◌, ◌≤◌, map, None, Option, IfSome};
-ghost use Rattle.nr_units.specs.Supply.{Supply};
+ghost use Rattle.nr_units.specs.Source.{Supply};
 ghost use Rattle.nr_reading.specs.declared.event.Event.TheVariants as events;
 ghost use Rattle.nr_reading.specs.declared.mode.Due.TheVariants as dues;
 ghost use Rattle.nr_reading.specs.Many.Passing.{quiet};
 ghost use Rattle.nr_reading.specs.Many.Runs.{HasMet};
 ghost use Rattle.nr_store.specs.Windows.{elements_in};
-ghost use Rattle.nr_input.specs.Coming.{Coming, Reached, HoldsComing, element_front};
+ghost use Rattle.nr_input.specs.Place.{Coming, Reached, HoldsComing, element_front};
 ghost use Rattle.nr_input.specs.Limits.{limits_of};
 ghost use Rattle.nr_input.specs.Moving.{situation};
 ghost use Rattle.nr_input.specs.Many.Runs.{HasRead, PaysAll, IsLongestInLevel};

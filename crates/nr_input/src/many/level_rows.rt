@@ -1,13 +1,13 @@
 //! Rows of the newest level, in which the names of control lines are looked up: many moves at once.
 ghost use Rattle.std.specs.Prelude.{◌≡◌, ℕ, ◌+◌, ◌*◌, ◌<◌, ◌≤◌, length, map, drop, slice_get, true, false, Option, Some, None, IfSome};
-ghost use Rattle.nr_units.specs.Supply.{Supply};
+ghost use Rattle.nr_units.specs.Source.{Supply};
 ghost use Rattle.nr_reading.specs.declared.event.Event.TheVariants as events;
 ghost use Rattle.nr_reading.specs.declared.front.Front.TheVariants as variants;
 ghost use Rattle.nr_reading.specs.declared.mode.Due.TheVariants as dues;
 ghost use Rattle.nr_reading.specs.Many.Runs.{HasMet, spot};
 ghost use Rattle.nr_store.specs.Windows.{rest_of, left_times};
 ghost use Rattle.nr_store.specs.declared.element.Element.TheVariants as elements;
-ghost use Rattle.nr_input.specs.Coming.{Coming, Reached, HoldsComing, element_front};
+ghost use Rattle.nr_input.specs.Place.{Coming, Reached, HoldsComing, element_front};
 ghost use Rattle.nr_input.specs.Many.LevelRows.{begun_by, is_text};
 ghost use Rattle.nr_input.specs.Limits.{limits_of};
 ghost use Rattle.nr_input.specs.Moving.{situation};

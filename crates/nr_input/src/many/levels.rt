@@ -1,12 +1,12 @@
 //! What levels bring: many moves in one loop.
 ghost use Rattle.std.specs.Prelude.{◌≡◌, ℕ, ◌*◌, ◌<◌, ◌≤◌, true, false, Option, Some, slice_get};
-ghost use Rattle.nr_units.specs.Supply.{Supply};
+ghost use Rattle.nr_units.specs.Source.{Supply};
 ghost use Rattle.nr_reading.specs.declared.event.Event.TheVariants as events;
 ghost use Rattle.nr_reading.specs.declared.mode.Due.TheVariants as dues;
 ghost use Rattle.nr_store.specs.Windows.{rest_of};
 ghost use Rattle.nr_store.specs.declared.element.Element.TheVariants as elements;
 ghost use Rattle.nr_input.specs.declared.reader.Reader.{Reader as ReaderValue};
-ghost use Rattle.nr_input.specs.Coming.{Coming, Reached, HoldsComing};
+ghost use Rattle.nr_input.specs.Place.{Coming, Reached, HoldsComing};
 ghost use Rattle.nr_input.specs.Many.Levels.{may_act};
 ghost use Rattle.nr_input.specs.Limits.{limits_of};
 ghost use Rattle.nr_input.specs.Moving.{situation};

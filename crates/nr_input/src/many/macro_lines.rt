@@ -4,7 +4,7 @@ ghost use Rattle.nr_reading.specs.declared.front.Front.TheVariants as variants;
 ghost use Rattle.nr_reading.specs.Many.InArgument.{is_in_argument};
 ghost use Rattle.nr_reading.specs.Many.Passing.{quiet};
 ghost use Rattle.nr_reading.specs.Many.Runs.{HasMet};
-ghost use Rattle.nr_input.specs.Coming.{Coming, HoldsComing, has_failed};
+ghost use Rattle.nr_input.specs.Place.{Coming, HoldsComing, has_failed};
 ghost use Rattle.nr_input.specs.Limits.{limits_of};
 ghost use Rattle.nr_input.specs.Many.MacroLines.{is_before_argument, blanks_left, begun_with, argument_ended, ReadsOn};
 ghost use Rattle.nr_input.specs.Moving.{situation};

@@ -1,13 +1,13 @@
 //! Many moves over items that lie in a row.
 ghost use Rattle.std.specs.Prelude.{◌≡◌, ℕ, ◌<◌, ◌≤◌, [], length, map, slice_get, nat_lt, true, false, Option, None, Some, IfSome};
-ghost use Rattle.nr_units.specs.Supply.{Supply};
+ghost use Rattle.nr_units.specs.Source.{Supply};
 ghost use Rattle.nr_reading.specs.declared.event.Event.TheVariants as events;
 ghost use Rattle.nr_reading.specs.declared.front.Front.TheVariants as variants;
 ghost use Rattle.nr_reading.specs.declared.mode.Due.TheVariants as dues;
 ghost use Rattle.nr_reading.specs.Many.Runs.{HasMet, spot};
 ghost use Rattle.nr_store.specs.Windows.{elements_in};
 ghost use Rattle.nr_input.specs.Many.AtHand.{is_unseen};
-ghost use Rattle.nr_input.specs.Coming.{Coming, Reached, HoldsComing, element_front, has_failed};
+ghost use Rattle.nr_input.specs.Place.{Coming, Reached, HoldsComing, element_front, has_failed};
 ghost use Rattle.nr_input.specs.Limits.{limits_of};
 ghost use Rattle.nr_input.specs.Moving.{situation};
 ghost use Rattle.nr_input.specs.Many.Rows.{byte_fronts, element_fronts};

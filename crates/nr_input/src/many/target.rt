@@ -14,7 +14,7 @@ pub(crate) enum Target {
 
 impl Target {
     ghost use Rattle.std.specs.Prelude.{true, IfSome};
-    ghost use Rattle.nr_input.specs.Many.Targets.{is_read_for, target_of};
+    ghost use Rattle.nr_input.specs.Many.Target.{is_read_for, target_of};
 
     /// What the next item is read for, if for one of these, and in its midst.
     #[inline(always)]

@@ -2,7 +2,7 @@
 use Prim.Native.Char.{code}
 use Rattle.std.specs.Prelude.{ℕ, nat_le, ◌==◌, ◌&&◌, ◌||◌, not, Bool}
 use Rattle.nr_reading.specs.Many.Passing.{is_plain}
-use Rattle.nr_reading.specs.Spelling.{is_blank}
+use Rattle.nr_reading.specs.Spelled.{is_blank}
 
 -- the byte comes first in a condition, begins no number, and delimits two strings
 abbrev pub delimits : ℕ → Bool

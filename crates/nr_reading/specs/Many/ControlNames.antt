@@ -8,7 +8,7 @@ use Rattle.nr_reading.specs.declared.mode.Due.TheVariants as dues
 use Rattle.nr_reading.specs.declared.mode.Mode.TheVariants as modes
 use Rattle.nr_reading.specs.declared.mode.Signs.{Signs}
 use Rattle.nr_reading.specs.declared.spelled.Spelled.{Spelled}
-use Rattle.nr_reading.specs.Spelling.{ends_name}
+use Rattle.nr_reading.specs.Spelled.{ends_name}
 
 -- the byte goes on a name, and begins no escape
 abbrev pub goes_on_name : ℕ → Bool

@@ -9,9 +9,9 @@ use Rattle.nr_reading.specs.declared.half.Half.{Half}
 use Rattle.nr_reading.specs.declared.mode.Mode.{Mode}
 use Rattle.nr_reading.specs.declared.mode.Mode.TheVariants as modes
 use Rattle.nr_reading.specs.declared.mode.Signs.{Signs}
-use Rattle.nr_reading.specs.Asking.{begun_ask, due_of}
-use Rattle.nr_reading.specs.Meeting.{reads_plainly}
-use Rattle.nr_reading.specs.Modes.{is_direct}
+use Rattle.nr_reading.specs.Ask.{begun_ask, due_of}
+use Rattle.nr_reading.specs.Half.{reads_plainly}
+use Rattle.nr_reading.specs.Mode.{is_direct}
 use Rattle.nr_reading.specs.Many.Passing.{is_plain}
 
 -- a `\` begins an escape there, at a line's beginning where it is no control character; `\$`, `\n` and `\*` interpolate

@@ -11,7 +11,7 @@ use Rattle.nr_reading.specs.Conditions.{begins_number, parentheses}
 use Rattle.nr_reading.specs.Many.InArgument.{IsPlain}
 use Rattle.nr_reading.specs.Many.Passing.{quiet}
 use Rattle.nr_reading.specs.Many.Runs.{HasMet}
-use Rattle.nr_reading.specs.Spelling.{is_blank}
+use Rattle.nr_reading.specs.Spelled.{is_blank}
 
 -- none of the bytes ends a number in which so many parentheses are open, or begins an escape
 abbrev pub are_in_number : List ℕ → ℕ → Bool

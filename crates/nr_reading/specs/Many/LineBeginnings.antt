@@ -11,7 +11,7 @@ use Rattle.nr_reading.specs.declared.mode.Mode.{Mode}
 use Rattle.nr_reading.specs.declared.mode.Mode.TheVariants as modes
 use Rattle.nr_reading.specs.declared.mode.Signs.{Signs}
 use Rattle.nr_reading.specs.Nesting.{is_none}
-use Rattle.nr_reading.specs.Steps.{to}
+use Rattle.nr_reading.specs.Step.{to}
 use Rattle.nr_reading.specs.Text.{continuing}
 
 -- a line that begins with this byte is a control line

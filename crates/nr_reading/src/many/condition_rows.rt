@@ -2,8 +2,8 @@
 ghost use Rattle.std.specs.Prelude.{◌≡◌, ◌+◌, ◌≤◌, length, true};
 ghost use Rattle.nr_reading.specs.declared.mode.Mode.TheVariants as modes;
 ghost use Rattle.nr_reading.specs.Many.ConditionRows.{delimits, ends_number, is_digit_or_relation};
-ghost use Rattle.nr_reading.specs.Meeting.{reads_next};
-ghost use Rattle.nr_reading.specs.Many.Rows.{MeetsRest};
+ghost use Rattle.nr_reading.specs.Half.{reads_next};
+ghost use Rattle.nr_reading.specs.Many.Row.{MeetsRest};
 
 use crate::conditions::{begins_number, parentheses};
 use crate::event::{Event, Question};

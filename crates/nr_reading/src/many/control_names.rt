@@ -3,11 +3,11 @@ ghost use Rattle.std.specs.Prelude.{◌≡◌, ◌+◌, ◌<◌, ◌≤◌, ℕ,
 ghost use Rattle.nr_reading.specs.declared.mode.Due.TheVariants as dues;
 ghost use Rattle.nr_reading.specs.Many.ControlNames.{IsSign, NameEnds, goes_on_name, behind_name};
 ghost use Rattle.nr_reading.specs.declared.mode.Mode.TheVariants as modes;
-ghost use Rattle.nr_reading.specs.Meeting.{reads_next};
+ghost use Rattle.nr_reading.specs.Half.{reads_next};
 ghost use Rattle.nr_reading.specs.Many.Passing.{quiet};
-ghost use Rattle.nr_reading.specs.Many.Rows.{LeadsOn};
+ghost use Rattle.nr_reading.specs.Many.Row.{LeadsOn};
 ghost use Rattle.nr_reading.specs.Many.Runs.{HasMet};
-ghost use Rattle.nr_reading.specs.Spelling.{nothing_spelled, spelled};
+ghost use Rattle.nr_reading.specs.Spelled.{nothing_spelled, spelled};
 
 use crate::half::Half;
 use crate::many::row::byte_of;

@@ -4,8 +4,8 @@ ghost use Rattle.nr_reading.specs.declared.front.Front.TheVariants as variants;
 ghost use Rattle.nr_reading.specs.declared.mode.Mode.TheVariants as modes;
 ghost use Rattle.nr_reading.specs.Many.InArgument.{IsPlain};
 ghost use Rattle.nr_reading.specs.Many.KeptBytes.{are_in_number, HasKept, IsKept};
-ghost use Rattle.nr_reading.specs.Meeting.{reads_next};
-ghost use Rattle.nr_reading.specs.Many.Rows.{LeadsOn};
+ghost use Rattle.nr_reading.specs.Half.{reads_next};
+ghost use Rattle.nr_reading.specs.Many.Row.{LeadsOn};
 
 use crate::conditions::{begins_number, parentheses};
 use crate::half::Half;

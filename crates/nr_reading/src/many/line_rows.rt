@@ -2,8 +2,8 @@
 ghost use Rattle.std.specs.Prelude.{◌≡◌, ◌≤◌, true};
 ghost use Rattle.nr_reading.specs.declared.mode.Mode.TheVariants as modes;
 ghost use Rattle.nr_reading.specs.Many.LineBeginnings.{begins_text};
-ghost use Rattle.nr_reading.specs.Meeting.{reads_next};
-ghost use Rattle.nr_reading.specs.Many.Rows.{MeetsRest};
+ghost use Rattle.nr_reading.specs.Half.{reads_next};
+ghost use Rattle.nr_reading.specs.Many.Row.{MeetsRest};
 
 use crate::event::Event;
 use crate::half::Half;

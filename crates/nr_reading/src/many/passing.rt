@@ -2,7 +2,7 @@
 ghost use Rattle.std.specs.Prelude.{◌≡◌, ◌≤◌, ◌+◌, ◌-◌, ℕ, length, true};
 ghost use Rattle.nr_reading.specs.declared.mode.Due.TheVariants as dues;
 ghost use Rattle.nr_reading.specs.Many.Passing.{GoesOn, is_plain, drops_plain, passes_plain};
-ghost use Rattle.nr_reading.specs.Many.Rows.{LeadsOn};
+ghost use Rattle.nr_reading.specs.Many.Row.{LeadsOn};
 
 use crate::half::Half;
 use crate::many::runs::Items;

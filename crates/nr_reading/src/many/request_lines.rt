@@ -3,7 +3,7 @@ ghost use Rattle.std.specs.Prelude.{◌≡◌, ◌<◌, ◌≤◌, All, length, 
 ghost use Rattle.nr_reading.specs.declared.front.Front.TheVariants as variants;
 ghost use Rattle.nr_reading.specs.Many.RequestLines.{behind_request_line};
 ghost use Rattle.nr_reading.specs.Many.Runs.{HasMet, spot};
-ghost use Rattle.nr_reading.specs.Spelling.{is_blank};
+ghost use Rattle.nr_reading.specs.Spelled.{is_blank};
 
 use crate::event::Event;
 use crate::half::Half;

@@ -1,8 +1,8 @@
 //! The lines of requests in a row of items.
 ghost use Rattle.std.specs.Prelude.{◌≡◌, ◌+◌, ◌-◌, ◌≤◌, length, true};
 ghost use Rattle.nr_reading.specs.declared.mode.Mode.TheVariants as modes;
-ghost use Rattle.nr_reading.specs.Meeting.{reads_next};
-ghost use Rattle.nr_reading.specs.Many.Rows.{MeetsRest};
+ghost use Rattle.nr_reading.specs.Half.{reads_next};
+ghost use Rattle.nr_reading.specs.Many.Row.{MeetsRest};
 
 use crate::event::Event;
 use crate::half::Half;

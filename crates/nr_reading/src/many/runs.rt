@@ -4,8 +4,8 @@ ghost use Rattle.nr_reading.specs.declared.event.Event.TheVariants as events;
 ghost use Rattle.nr_reading.specs.declared.front.Front.{Front as FrontItem};
 ghost use Rattle.nr_reading.specs.declared.front.Front.TheVariants as variants;
 ghost use Rattle.nr_reading.specs.declared.mode.Due.TheVariants as dues;
-ghost use Rattle.nr_reading.specs.Meeting.{reads_next};
-ghost use Rattle.nr_reading.specs.Many.Rows.{MeetsRest};
+ghost use Rattle.nr_reading.specs.Half.{reads_next};
+ghost use Rattle.nr_reading.specs.Many.Row.{MeetsRest};
 ghost use Rattle.nr_reading.specs.Many.Runs.{HasMet, spot};
 
 use crate::event::Event;

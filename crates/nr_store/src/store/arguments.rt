@@ -1,7 +1,7 @@
 // Arguments that are being read, and the call of a macro with them.
 ghost use Rattle.std.specs.Prelude.{◌≡◌, ◌<◌, ◌≤◌, length, take, slice_index, OnOk, OnErr, is_some};
-ghost use Rattle.nr_tables.specs.Named.{find};
-ghost use Rattle.nr_store.specs.Stored.{charge_of, afforded, checked, words, gathering, gathering_all, gathered_whole, ungathered, called};
+ghost use Rattle.nr_symbol_tables.specs.Table.{find};
+ghost use Rattle.nr_store.specs.Store.{charge_of, afforded, checked, words, gathering, gathering_all, gathered_whole, ungathered, called};
 
 use crate::refusal::{Refusal, StoredBytes};
 use crate::store::Store;

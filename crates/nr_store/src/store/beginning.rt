@@ -1,8 +1,8 @@
 // A store with nothing but the requests.
 ghost use Rattle.std.specs.Prelude.{◌≡◌, ◌+◌, ◌≤◌, length, IfOk};
 ghost use Rattle.nr_store.specs.declared.request.TheConstants.{REQUESTS};
-ghost use Rattle.nr_store.specs.Stored.{nothing};
-ghost use Rattle.nr_store.specs.Requests.{request_names, with_senses};
+ghost use Rattle.nr_store.specs.Store.{nothing};
+ghost use Rattle.nr_store.specs.Request.{request_names, with_senses};
 
 use crate::memory::Room;
 use crate::named::Sense;
@@ -11,7 +11,7 @@ use crate::store::Store;
 use nr_levels::{Gathering, Levels, Stack};
 use nr_pool::Pool;
 use nr_rooms::FixedVec;
-use nr_tables::Table;
+use nr_symbol_tables::Table;
 use nr_units::Name;
 use std::alloc::{AllocError, Global};
 

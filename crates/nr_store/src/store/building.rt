@@ -2,7 +2,7 @@
 ghost use Rattle.std.specs.Prelude.{◌≡◌, ◌+◌, ◌∷◌, [], ◌++◌, ◌<◌, ◌≤◌, length, map, replicate, take, OnOk, OnErr, None, Some, slice_get, slice_index};
 ghost use Rattle.nr_pool.specs.Texts.{IsOpen, text, used, with_text};
 ghost use Rattle.nr_store.specs.declared.element.Element.TheVariants as elements;
-ghost use Rattle.nr_store.specs.Stored.{charge_of, afforded, begun, text_of, fresh, added, diverted, defined, innermost, trapped, newest_diversion, diversion_ended, taken};
+ghost use Rattle.nr_store.specs.Store.{charge_of, afforded, begun, text_of, fresh, added, diverted, defined, innermost, trapped, newest_diversion, diversion_ended, taken};
 
 use crate::element::{Diversion, Draft, Element};
 use crate::named::Sense;
@@ -10,7 +10,7 @@ use crate::refusal::StoredBytes;
 use crate::store::Store;
 use crate::store::lines::append_all;
 use crate::store::names::{lone_share, text_in};
-use nr_tables::Trap;
+use nr_symbol_tables::Trap;
 use nr_units::Name;
 use nr_units::cell::Cell;
 

@@ -1,8 +1,8 @@
 // Levels: texts that are being read.
 ghost use Rattle.std.specs.Prelude.{◌≡◌, ◌+◌, ◌<◌, ◌≤◌, nat_lt, length, true, false, OnOk, OnErr, is_some, None, Some};
-ghost use Rattle.nr_tables.specs.Named.{find};
+ghost use Rattle.nr_symbol_tables.specs.Table.{find};
 ghost use Rattle.nr_levels.specs.Levels.{argument};
-ghost use Rattle.nr_store.specs.Stored.{charge_of, checked, words, entered, reading_bytes, shown, left, dropped, emptied};
+ghost use Rattle.nr_store.specs.Store.{charge_of, checked, words, entered, reading_bytes, shown, left, dropped, emptied};
 ghost use Rattle.nr_store.specs.Windows.{elements_in, rest_of, left_times};
 ghost use Rattle.nr_store.specs.Sights.{Shows, shown_with};
 ghost use Rattle.nr_store.specs.declared.shown.Shown.TheVariants as shows;

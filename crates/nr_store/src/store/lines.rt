@@ -4,7 +4,7 @@ ghost use Rattle.std.specs.Option.{option_map};
 ghost use Rattle.nr_pool.specs.Texts.{IsOpen, text, used, with_text};
 ghost use Rattle.nr_store.specs.declared.element.Element.{Element as AnElement};
 ghost use Rattle.nr_store.specs.declared.element.Element.TheVariants as elements;
-ghost use Rattle.nr_store.specs.Stored.{added, afforded, blank_cell, line_of, taken, diverted, diverted_end};
+ghost use Rattle.nr_store.specs.Store.{added, afforded, blank_cell, line_of, taken, diverted, diverted_end};
 
 use crate::element::{Diversion, Draft, Element};
 use crate::height::Height;

@@ -1,16 +1,16 @@
 // The name list: what names stand for, removed and renamed.
 ghost use Rattle.std.specs.Prelude.{◌≡◌, ◌^◌, ◌<◌, ◌≤◌, None, Some, IfSome};
 ghost use Rattle.nr_pool.specs.Texts.{IsOpen, text};
-ghost use Rattle.nr_tables.specs.Named.{find, is_same};
+ghost use Rattle.nr_symbol_tables.specs.Table.{find, is_same};
 ghost use Rattle.nr_store.specs.Senses.{text_id};
-ghost use Rattle.nr_store.specs.Stored.{charge_of, meaning_of, share, removed, renamed, moved, words};
+ghost use Rattle.nr_store.specs.Store.{charge_of, meaning_of, share, removed, renamed, moved, words};
 ghost use Rattle.nr_store.specs.Holders.{lone};
 
 use crate::element::Element;
 use crate::named::{Meaning, Sense};
 use crate::store::Store;
 use nr_pool::{Id, Pool};
-use nr_tables::Table;
+use nr_symbol_tables::Table;
 use nr_units::Name;
 
 // The number of the text of a name.

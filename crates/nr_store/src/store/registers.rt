@@ -1,7 +1,7 @@
 // Number registers.
 ghost use Rattle.std.specs.Prelude.{◌≡◌, OnOk, OnErr, None};
-ghost use Rattle.nr_tables.specs.Named.{find};
-ghost use Rattle.nr_store.specs.Stored.{afforded, register_of, with_register, written, registered, stepped, formatted, unregistered};
+ghost use Rattle.nr_symbol_tables.specs.Table.{find};
+ghost use Rattle.nr_store.specs.Store.{afforded, register_of, with_register, written, registered, stepped, formatted, unregistered};
 
 use crate::refusal::StoredBytes;
 use crate::register::Register;

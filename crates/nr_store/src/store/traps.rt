@@ -1,12 +1,12 @@
 // Traps on pages.
 ghost use Rattle.std.specs.Prelude.{◌≡◌, OnOk, OnErr};
-ghost use Rattle.nr_tables.specs.Traps.{nearest};
-ghost use Rattle.nr_store.specs.Stored.{afforded, trap_planted, trap_changed, trap_removed};
+ghost use Rattle.nr_symbol_tables.specs.Trap.{nearest};
+ghost use Rattle.nr_store.specs.Store.{afforded, trap_planted, trap_changed, trap_removed};
 
 use crate::refusal::StoredBytes;
 use crate::store::Store;
-use nr_tables::Trap;
-use nr_tables::trap::{nearest, trap_at, trap_for};
+use nr_symbol_tables::Trap;
+use nr_symbol_tables::trap::{nearest, trap_at, trap_for};
 use nr_units::Name;
 
 impl<K: Copy> Store<K> {

@@ -1,12 +1,12 @@
 // Hyphenation words.
 ghost use Rattle.std.specs.Prelude.{◌≡◌, nat_lt, length, OnOk, OnErr};
-ghost use Rattle.nr_tables.specs.Words.{bytes_of, points_of};
-ghost use Rattle.nr_store.specs.Stored.{afforded, worded};
+ghost use Rattle.nr_symbol_tables.specs.Word.{bytes_of, points_of};
+ghost use Rattle.nr_store.specs.Store.{afforded, worded};
 
 use crate::refusal::StoredBytes;
 use crate::store::Store;
-use nr_tables::HyphenationWord;
-use nr_tables::word::{LONGEST, stem};
+use nr_symbol_tables::HyphenationWord;
+use nr_symbol_tables::word::{LONGEST, stem};
 use nr_units::cell::Cell;
 
 impl<K: Copy> Store<K> {

@@ -3,8 +3,8 @@ use Rattle.std.specs.Option.{option_map}
 use Rattle.std.specs.List.{AllZip}
 use Rattle.std.proofs.lemmas.Option.{slice_get_within}
 use Rattle.std.proofs.lemmas.List.{map-append}
-use Rattle.nr_words.specs.Inputs.{Reading, readings, reading_of}
-use Rattle.nr_words.specs.Taking.{asked_of}
+use Rattle.nr_command_options.specs.Inputs.{Reading, readings, reading_of}
+use Rattle.nr_command_options.specs.Job.{asked_of}
 use Rattle.nr_command.specs.Opening.{AreOpen, Opens, Refuses}
 use Rattle.nr_command.proofs.Openings.{Asks-then, AllZip-last, AllZip-same, if_ok, take-get, take-none, parted_at}
 use Rattle.nr_command.proofs.opening.open_texts.Goals as goal

@@ -1,6 +1,6 @@
 use Rattle.std.proofs.Common.{ℕ, ◌≤◌, ◌-◌, map, take, length, vec_len, vec_capacity}
-use Rattle.nr_words.specs.Inputs.{Reading, readings}
-use Rattle.nr_words.specs.Taking.{asked_of}
+use Rattle.nr_command_options.specs.Inputs.{Reading, readings}
+use Rattle.nr_command_options.specs.Job.{asked_of}
 use Rattle.nr_command.specs.Opening.{AreOpen, Asks, Opening}
 use Rattle.nr_command.proofs.opening.open_texts.Given as goal
 

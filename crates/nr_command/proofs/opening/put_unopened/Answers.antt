@@ -1,7 +1,7 @@
 use Rattle.std.proofs.Common.{◌++◌, codes}
 use Rattle.std.proofs.KnownBytes.{Appends-trans}
 use Rattle.nr_units.proofs.Fronts.{AppendsFront-append, AppendsFront-after}
-use Rattle.nr_words.specs.Inputs.{reading_of}
+use Rattle.nr_command_options.specs.Inputs.{reading_of}
 use Rattle.nr_command.specs.Opening.{name_of}
 use Rattle.nr_command.proofs.Telling.{on_err_always, AppendsFront-last}
 use Rattle.nr_command.proofs.opening.put_unopened.Goals as goal

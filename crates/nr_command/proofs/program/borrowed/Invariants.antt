@@ -1,5 +1,5 @@
 use Rattle.std.proofs.Common.{◌≡◌, map, take, string_bytes}
-use Rattle.nr_words.specs.Taking.{texts}
+use Rattle.nr_command_options.specs.Job.{texts}
 use Rattle.nr_command.proofs.program.borrowed.Given as goal
 
 abbrev pub invariant-loop-word : goal.invariant-loop-word

@@ -1,11 +1,11 @@
 use Rattle.std.proofs.Common.{◌≡◌, ℕ, List, Option, map, subst, ap, ◌∙◌}
 use Rattle.nr_units.specs.Failures.{SinkFailures}
-use Rattle.nr_units.specs.Supply.{Supply}
+use Rattle.nr_units.specs.Source.{Supply}
 use Rattle.nr_options.specs.Limits.{Bounds}
 use Rattle.nr_options.specs.declared.options.Options.{Options}
 use Rattle.nr_engine.specs.declared.outcome.Outcome.{Outcome}
-use Rattle.nr_words.specs.Chained.{failures_in}
-use Rattle.nr_words.specs.Files.{files_supply}
+use Rattle.nr_command_options.specs.Chained.{failures_in}
+use Rattle.nr_command_options.specs.Files.{files_supply}
 use Rattle.nr_command.specs.Running.{Ran}
 use Rattle.nr_command.proofs.program.outcome_of.Goals as goal
 

@@ -2,7 +2,7 @@ use Rattle.std.proofs.Common.{◌≡◌, ◌+◌, ◌-◌, ◌<◌, max, length,
 use Rattle.std.proofs.lemmas.Bool.{le-leb, lt-leb}
 use Rattle.std.proofs.lemmas.List.Sums.{sum_by_more}
 use Rattle.nr_fill.specs.declared.piece.PieceSlot.{PieceSlot}
-use Rattle.nr_fill.specs.Cut.{join_width, hyphen_width, fits, most_that_fit, cut}
+use Rattle.nr_fill.specs.Cutting.{join_width, hyphen_width, fits, most_that_fit, cut}
 use Rattle.nr_fill.specs.Slots.{blank_slot, pieces_of}
 use Rattle.nr_fill.proofs.PiecesOf.{length-pieces_of}
 use Rattle.nr_fill.proofs.LongestFront.{most_that_fit_yes, most_that_fit_no, most_that_fit_stays, hyphen_at, hyphen_at_end, too_wide, fits_front}

@@ -1,6 +1,6 @@
 use Rattle.std.proofs.Common.{◌≡◌, replicate}
-use Rattle.nr_units.specs.Cells.{blank}
-use Rattle.nr_formatter.specs.DiversionRows.{with_cells}
+use Rattle.nr_units.specs.Cell.{blank}
+use Rattle.nr_formatter.specs.DiversionRow.{with_cells}
 use Rattle.nr_formatter.proofs.diversion_row.add_behind.Given as goal
 
 abbrev pub invariant-loop-blank : goal.invariant-loop-blank

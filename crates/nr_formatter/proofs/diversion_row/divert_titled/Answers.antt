@@ -1,5 +1,5 @@
 use Rattle.std.proofs.Common.{[], ◌∙◌, rules}
-use Rattle.nr_fill.specs.Titles.{titled_row}
+use Rattle.nr_fill.specs.Title.{titled_row}
 use Rattle.nr_formatter.proofs.HeldRows.{holds_nothing}
 use Rattle.nr_formatter.proofs.diversion_row.divert_titled.Goals as goal
 

@@ -1,5 +1,5 @@
 use Rattle.std.proofs.Common.{◌≡◌, take}
-use Rattle.nr_formatter.specs.DiversionRows.{AddsToDiversion}
+use Rattle.nr_formatter.specs.DiversionRow.{AddsToDiversion}
 use Rattle.nr_formatter.proofs.diversion_row.push_each.Given as goal
 
 abbrev pub invariant-loop-cell : goal.invariant-loop-cell

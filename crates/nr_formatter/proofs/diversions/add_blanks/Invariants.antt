@@ -1,5 +1,5 @@
 use Rattle.std.proofs.Common.{◌≡◌, ◌≤◌, replicate, Ok}
-use Rattle.nr_store.specs.Stored.{added, afforded, blank_cell, charge_of}
+use Rattle.nr_store.specs.Store.{added, afforded, blank_cell, charge_of}
 use Rattle.nr_formatter.proofs.diversions.add_blanks.Given as goal
 
 abbrev pub invariant-loop : goal.invariant-loop

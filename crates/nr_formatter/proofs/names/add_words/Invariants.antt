@@ -1,7 +1,7 @@
 use Rattle.std.proofs.Common.{◌≡◌, ◌≤◌, ◌-◌, length}
-use Rattle.nr_store.specs.Stored.{charge_of}
+use Rattle.nr_store.specs.Store.{charge_of}
 use Rattle.nr_formatter.specs.Limits.{stored_limits}
-use Rattle.nr_formatter.specs.Naming.{with_words}
+use Rattle.nr_formatter.specs.Names.{with_words}
 use Rattle.nr_formatter.proofs.names.add_words.Given as goal
 
 abbrev pub invariant-loop-word : goal.invariant-loop-word

@@ -1,5 +1,5 @@
 use Rattle.std.proofs.Common.{◌≡◌, ◌≤◌, drop, map}
-use Rattle.nr_fill.specs.Pieces.{line_cells}
+use Rattle.nr_fill.specs.Piece.{line_cells}
 use Rattle.nr_settings.specs.Fonts.{cell_of}
 use Rattle.nr_formatter.specs.Titles.{with_title_cells}
 use Rattle.nr_formatter.proofs.titles.put_bytes.Given as goal

@@ -1,7 +1,7 @@
 use Rattle.std.proofs.Common.{◌≡◌, ◌+◌, ◌-◌, replicate, ap, sym, ◌∙◌, arith}
 use Rattle.std.proofs.lemmas.Result.{err_from_is_err_and}
-use Rattle.nr_fill.specs.Pieces.{with_title_cell}
-use Rattle.nr_fill.specs.Lined.{Lined}
+use Rattle.nr_fill.specs.Piece.{with_title_cell}
+use Rattle.nr_fill.specs.Line.{Lined}
 use Rattle.nr_fill.proofs.Measures.{within_from_afforded}
 use Rattle.nr_formatter.specs.Titles.{with_title_cells}
 use Rattle.nr_formatter.proofs.TitleCells.{titled_copy, refused_copy}

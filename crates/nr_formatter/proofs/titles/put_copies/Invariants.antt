@@ -1,5 +1,5 @@
 use Rattle.std.proofs.Common.{◌≡◌, ◌≤◌, ◌-◌, replicate}
-use Rattle.nr_fill.specs.Pieces.{line_cells}
+use Rattle.nr_fill.specs.Piece.{line_cells}
 use Rattle.nr_formatter.specs.Titles.{with_title_cells}
 use Rattle.nr_formatter.proofs.titles.put_copies.Given as goal
 

@@ -1,9 +1,9 @@
 use Rattle.std.proofs.Common.{◌≡◌, ℕ, Bool, true, sym, ap, ap₂, ◌∙◌}
 use Rattle.nr_store.specs.declared.shown.Shown.{Shown}
-use Rattle.nr_reading.specs.Meeting.{meet}
+use Rattle.nr_reading.specs.Half.{meet}
 use Rattle.nr_input.specs.Moving.{burst_past, told_of}
-use Rattle.nr_input.specs.Hearing.{told_as}
-use Rattle.nr_store.specs.Stored.{Stored}
+use Rattle.nr_input.specs.Told.{told_as}
+use Rattle.nr_store.specs.Store.{Stored}
 use Rattle.nr_input.specs.Limits.{limits_of}
 use Rattle.nr_input.proofs.LimitsStay.{left-limits}
 use Rattle.nr_input.proofs.Hearing.{heard_is, taken_moves}

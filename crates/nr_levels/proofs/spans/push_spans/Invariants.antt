@@ -1,5 +1,5 @@
 use Rattle.std.proofs.Common.{◌≡◌, ◌+◌, ◌++◌, length, sum, drop}
-use Rattle.nr_levels.specs.Frames.{spans_from}
+use Rattle.nr_levels.specs.Frame.{spans_from}
 use Rattle.nr_levels.proofs.spans.push_spans.Given as goal
 
 abbrev pub invariant-loop-len : goal.invariant-loop-len

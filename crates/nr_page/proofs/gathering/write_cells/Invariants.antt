@@ -1,7 +1,7 @@
 use Rattle.std.proofs.Common.{◌≡◌, ◌-◌, ◌≤◌, length, take}
 use Rattle.std.specs.List.{flat_map}
 use Rattle.nr_page.specs.PageBytes.{cell_bytes}
-use Rattle.nr_page.specs.Gathered.{Gathers}
+use Rattle.nr_page.specs.Gathering.{Gathers}
 use Rattle.nr_page.proofs.gathering.write_cells.Given as goal
 
 abbrev pub invariant-loop-at : goal.invariant-loop-at

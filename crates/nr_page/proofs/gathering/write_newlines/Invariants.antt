@@ -1,5 +1,5 @@
 use Rattle.std.proofs.Common.{◌≡◌, replicate}
-use Rattle.nr_page.specs.Gathered.{Gathers}
+use Rattle.nr_page.specs.Gathering.{Gathers}
 use Rattle.nr_page.proofs.gathering.write_newlines.Given as goal
 
 abbrev pub invariant-loop-line : goal.invariant-loop-line

@@ -1,5 +1,5 @@
 use Rattle.std.proofs.Common.{◌≡◌, ℕ, ◌<◌, ◌≤◌, length}
-use Rattle.nr_page.specs.Gathered.{Gathers}
+use Rattle.nr_page.specs.Gathering.{Gathers}
 use Rattle.nr_page.specs.Overlay.{rows_bytes}
 use Rattle.nr_page.specs.Rows.{row_at, rows_of}
 use Rattle.nr_page.proofs.writing.write_rows.Given as goal

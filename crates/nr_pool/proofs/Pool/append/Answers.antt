@@ -2,7 +2,7 @@ use Rattle.std.proofs.Common.{◌<◌, [], ◌∷◌, ◌++◌, length, refl, sy
 use Rattle.std.proofs.lemmas.Bool.{false≢true}
 use Rattle.nr_pool.specs.Texts.{Texts}
 use Rattle.nr_pool.specs.Laws.{open_after_text, within_of_open}
-use Rattle.nr_pool.specs.Places.{texts_of}
+use Rattle.nr_pool.specs.Slot.{texts_of}
 use Rattle.nr_pool.proofs.Places.{found, used_is, extended, one_more, slot_is}
 use Rattle.nr_pool.proofs.Changes.{after_more, kept_after}
 use Rattle.nr_pool.proofs.Rooms.{open_in, same_used, lifted_text, longer}

@@ -1,7 +1,7 @@
 use Rattle.std.proofs.Common.{ap, ◌∙◌, arith}
 use Rattle.nr_pool.specs.Texts.{IsOpen, no_text, without_text}
 use Rattle.nr_pool.specs.Laws.{open_after_removal, within_of_open}
-use Rattle.nr_pool.specs.Places.{texts_of}
+use Rattle.nr_pool.specs.Slot.{texts_of}
 use Rattle.nr_pool.proofs.Rooms.{open_in, lifted}
 use Rattle.nr_pool.proofs.Pool.close.Goals as goal
 

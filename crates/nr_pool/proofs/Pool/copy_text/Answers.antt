@@ -2,7 +2,7 @@ use Rattle.std.proofs.Common.{◌≡◌, ◌+◌, ◌≤◌, ◌++◌, length, t
 use Rattle.std.proofs.lemmas.Bool.{false≢true}
 use Rattle.nr_pool.specs.Texts.{text, Held}
 use Rattle.nr_pool.specs.Laws.{open_after_text, within_of_open}
-use Rattle.nr_pool.specs.Places.{texts_of, slot_at}
+use Rattle.nr_pool.specs.Slot.{texts_of, slot_at}
 use Rattle.nr_pool.specs.declared.slot.Slot.{Slot}
 use Rattle.nr_pool.proofs.Places.{found, extended, copy_more, slot_is}
 use Rattle.nr_pool.proofs.Changes.{after_more, kept_after}

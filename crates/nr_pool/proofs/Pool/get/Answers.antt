@@ -1,6 +1,6 @@
 use Rattle.std.proofs.Common.{Some, refl, ap, sym, ◌∙◌}
 use Rattle.nr_pool.specs.Texts.{Held}
-use Rattle.nr_pool.specs.Places.{texts_of}
+use Rattle.nr_pool.specs.Slot.{texts_of}
 use Rattle.nr_pool.proofs.Places.{found, element_is, slot_is}
 use Rattle.nr_pool.proofs.Rooms.{open_in, same_entry}
 use Rattle.nr_pool.proofs.Pool.get.Goals as goal

@@ -1,6 +1,6 @@
 use Rattle.std.proofs.Common.{◌+◌, ap, refl, sym, arith}
 use Rattle.nr_pool.specs.Laws.{open_after_entry, within_of_open}
-use Rattle.nr_pool.specs.Places.{texts_of}
+use Rattle.nr_pool.specs.Slot.{texts_of}
 use Rattle.nr_pool.proofs.Places.{found, held_by, slot_is}
 use Rattle.nr_pool.proofs.Changes.{after_hold, kept_after}
 use Rattle.nr_pool.proofs.Rooms.{open_in, lifted_holders}

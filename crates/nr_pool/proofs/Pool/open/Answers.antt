@@ -2,7 +2,7 @@ use Rattle.std.proofs.Common.{◌-◌, ◌<◌, [], refl, arith}
 use Rattle.std.proofs.lemmas.List.{length-map}
 use Rattle.std.proofs.lemmas.Option.{slice_get_within}
 use Rattle.std.proofs.lemmas.Bool.{false≢true}
-use Rattle.nr_pool.specs.Places.{held_of, texts_of}
+use Rattle.nr_pool.specs.Slot.{held_of, texts_of}
 use Rattle.nr_pool.specs.Laws.{apart_of_unused, open_after_entry, open_after_opened}
 use Rattle.nr_pool.proofs.Places.{all_open, opened_at, free_entry, not_all_open, slot_is}
 use Rattle.nr_pool.proofs.Spares.{none_spare}

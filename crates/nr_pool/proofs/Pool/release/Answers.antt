@@ -1,7 +1,7 @@
 use Rattle.std.proofs.Common.{◌-◌, refl, ap, sym, ◌∙◌, arith}
 use Rattle.nr_pool.specs.Laws.{released-held, open_after_entry, within_of_open}
 use Rattle.nr_pool.specs.Texts.{Held}
-use Rattle.nr_pool.specs.Places.{texts_of}
+use Rattle.nr_pool.specs.Slot.{texts_of}
 use Rattle.nr_pool.proofs.Places.{found, held_by, slot_is}
 use Rattle.nr_pool.proofs.Changes.{after_hold, kept_after}
 use Rattle.nr_pool.proofs.Rooms.{open_in, same_entry, lifted_holders}

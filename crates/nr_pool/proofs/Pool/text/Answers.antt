@@ -1,5 +1,5 @@
 use Rattle.std.proofs.Common.{refl, ap, length, arith}
-use Rattle.nr_pool.specs.Places.{texts_of}
+use Rattle.nr_pool.specs.Slot.{texts_of}
 use Rattle.nr_pool.specs.declared.slot.Slot.{Slot}
 use Rattle.nr_pool.proofs.Places.{found, slot_is}
 use Rattle.nr_pool.proofs.Rooms.{open_in}

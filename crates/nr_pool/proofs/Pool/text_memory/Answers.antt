@@ -1,7 +1,7 @@
 use Rattle.std.proofs.Common.{◌≡◌, ◌-◌, length, map, replicate, ap, ◌∙◌, arith, length-append}
 use Rattle.std.proofs.lemmas.List.{length-map, length-replicate}
 use Rattle.nr_pool.specs.Texts.{Texts, no_text}
-use Rattle.nr_pool.specs.Places.{held_of}
+use Rattle.nr_pool.specs.Slot.{held_of}
 use Rattle.nr_pool.proofs.Pool.text_memory.Goals as goal
 
 pub returns : goal.returns

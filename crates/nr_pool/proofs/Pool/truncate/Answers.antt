@@ -1,7 +1,7 @@
 use Rattle.std.proofs.Common.{take, refl, ap, ◌∙◌, length, arith}
 use Rattle.nr_pool.specs.Texts.{Held}
 use Rattle.nr_pool.specs.Laws.{open_after_text, within_of_open}
-use Rattle.nr_pool.specs.Places.{texts_of}
+use Rattle.nr_pool.specs.Slot.{texts_of}
 use Rattle.nr_pool.proofs.Places.{found, shortened, slot_is}
 use Rattle.nr_pool.proofs.Changes.{after_length, kept_after}
 use Rattle.nr_pool.proofs.Rooms.{open_in, same_entry, lifted_text}

@@ -1,6 +1,6 @@
 use Rattle.std.proofs.Common.{◌≡◌, refl, sym, ap, ◌∙◌, arith}
 use Rattle.nr_pool.specs.Texts.{Texts}
-use Rattle.nr_pool.specs.Places.{texts_of}
+use Rattle.nr_pool.specs.Slot.{texts_of}
 use Rattle.nr_pool.proofs.Places.{used_is}
 use Rattle.nr_pool.proofs.Rooms.{same_used}
 use Rattle.nr_pool.proofs.Pool.used.Goals as goal

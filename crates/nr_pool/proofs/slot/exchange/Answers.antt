@@ -1,6 +1,6 @@
 use Rattle.std.proofs.Common.{◌≡◌, ◌≢◌, ◌-◌, set, ap, ◌∙◌, refl, arith}
 use Rattle.std.proofs.lemmas.List.{get_or-set_other}
-use Rattle.nr_pool.specs.Places.{blank_slot, slot_at}
+use Rattle.nr_pool.specs.Slot.{blank_slot, slot_at}
 use Rattle.nr_pool.specs.declared.slot.Slot.{Slot}
 use Rattle.nr_pool.proofs.Exchange.{exchanged}
 use Rattle.nr_pool.proofs.slot.exchange.Goals as goal

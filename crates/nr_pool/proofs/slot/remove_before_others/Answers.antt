@@ -1,5 +1,5 @@
 use Rattle.std.proofs.Common.{◌+◌, map, set, ap, ◌∙◌}
-use Rattle.nr_pool.specs.Places.{slot_at, shifted}
+use Rattle.nr_pool.specs.Slot.{slot_at, shifted}
 use Rattle.nr_pool.proofs.Removal.{gap_removed, exchanged_removed}
 use Rattle.nr_pool.proofs.slot.remove_before_others.Goals as goal
 

@@ -1,5 +1,5 @@
 use Rattle.std.proofs.Common.{◌≡◌, ◌++◌, map, take, drop}
-use Rattle.nr_pool.specs.Places.{shifted}
+use Rattle.nr_pool.specs.Slot.{shifted}
 use Rattle.nr_pool.proofs.slot.shift_behind.Given as goal
 
 abbrev pub invariant-loop-i : goal.invariant-loop-i

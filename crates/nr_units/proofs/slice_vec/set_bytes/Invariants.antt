@@ -1,5 +1,5 @@
 use Rattle.std.proofs.Common.{◌≡◌, ℕ, ◌<◌, get_or}
-use Rattle.nr_units.specs.Cells.{blank}
+use Rattle.nr_units.specs.Cell.{blank}
 use Rattle.nr_units.proofs.slice_vec.set_bytes.Given as goal
 
 abbrev pub invariant-loop-i : goal.invariant-loop-i

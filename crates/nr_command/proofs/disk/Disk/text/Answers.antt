@@ -3,7 +3,7 @@ use Rattle.std.specs.Fmt.{WritesInCalls}
 use Rattle.std.specs.List.{FoldsTo, concat}
 use Rattle.std.specs.Result.{is_err}
 use Rattle.arrayvec.specs.ArrayString.{ArrayString}
-use Rattle.nr_words.specs.Inputs.{Reading, macro_path, reading_of}
+use Rattle.nr_command_options.specs.Inputs.{Reading, macro_path, reading_of}
 use Rattle.nr_command.specs.Disk.{AsksPath, paths_of}
 use Rattle.nr_command.specs.Opening.{Asks}
 use Rattle.nr_command.specs.declared.disk.Text.{Text}

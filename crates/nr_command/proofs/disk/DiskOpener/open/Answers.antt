@@ -1,6 +1,6 @@
 use Rattle.std.proofs.Common.{◌≡◌, ℕ, List, Option, Result, Ok, Err, refl, ap, ◌∙◌}
-use Rattle.nr_units.specs.Supply.{reader_supply}
-use Rattle.nr_words.specs.Inputs.{Reading, ReadsMacros, ReadsFile, ReadsStandard, reading_of}
+use Rattle.nr_units.specs.Source.{reader_supply}
+use Rattle.nr_command_options.specs.Inputs.{Reading, ReadsMacros, ReadsFile, ReadsStandard, reading_of}
 use Rattle.nr_command.specs.Disk.{IsText, MayCome, left_of}
 use Rattle.nr_command.specs.Opening.{Opens, Refuses}
 use Rattle.nr_command.specs.declared.disk.Text.{Text}

@@ -1,7 +1,7 @@
 use Rattle.std.proofs.Common.{◌≡◌, ◌+◌, ◌*◌, ◌/◌, ◌≤◌, min, sym, subst, ap, ◌∙◌, arith}
 use Rattle.std.proofs.Math.Nat.{min-le_right}
 use Rattle.nr_options.specs.Limits.{Bounds}
-use Rattle.nr_engine.specs.Desks.{sizes_of, sum_of}
+use Rattle.nr_engine.specs.Desk.{sizes_of, sum_of}
 use Rattle.nr_engine.specs.declared.lengths.Sizes.{Sizes}
 use Rattle.nr_engine.proofs.desk.Desk.memory.Goals as goal
 

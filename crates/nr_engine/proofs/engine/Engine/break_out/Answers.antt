@@ -1,6 +1,6 @@
 use Rattle.std.proofs.Common.{◌≡◌, List, Option, Result, Ok, Err, ℕ, refl, arith}
 use Rattle.std.specs.Prelude.{OnOk}
-use Rattle.nr_units.specs.Supply.{Supply}
+use Rattle.nr_units.specs.Source.{Supply}
 use Rattle.nr_reading.specs.declared.half.Half.{Half}
 use Rattle.nr_reading.specs.Setting.{not_continued}
 use Rattle.nr_formatter.specs.Weights.{owed_by_task, Falls}

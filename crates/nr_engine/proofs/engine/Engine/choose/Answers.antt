@@ -1,7 +1,7 @@
 use Rattle.std.proofs.Common.{◌≡◌, ℤ, pos, Ok, Err, rules, refl, sym, ap, ◌∙◌, subst, arith, get_or, FitsSigned, w64, to_z, of_z}
 use Rattle.std.proofs.lemmas.Int.{to_z-of_z}
 use Rattle.nr_engine.specs.State.{First, Register}
-use Rattle.nr_engine.specs.Answer.{is_read_fault, is_write_fault}
+use Rattle.nr_engine.specs.Run.{is_read_fault, is_write_fault}
 use Rattle.nr_engine.specs.Holding.{Made, shape}
 use Rattle.nr_engine.specs.Machine.{first_set}
 use Rattle.nr_engine.specs.Many.Running.{Chooses}

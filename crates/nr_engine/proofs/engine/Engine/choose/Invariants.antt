@@ -1,5 +1,5 @@
 use Rattle.std.proofs.Common.{◌≡◌, ℕ, ◌+◌, List, Option, map, drop}
-use Rattle.nr_units.specs.Supply.{Supply}
+use Rattle.nr_units.specs.Source.{Supply}
 use Rattle.nr_engine.specs.State.{State, Register, choices}
 use Rattle.nr_engine.specs.Holding.{Holds, Made, shape}
 use Rattle.nr_engine.specs.Limits.{limits_of}

@@ -1,9 +1,9 @@
 use Rattle.std.proofs.Common.{◌≡◌, ◌+◌, ◌≤◌, ◌∷◌, [], ◌++◌, length, true, false, refl, sym, ap, ◌∙◌, arith, inl, inr}
 use Rattle.std.proofs.lemmas.Bool.{cases_lt}
-use Rattle.nr_units.specs.Cells.{trimmed}
-use Rattle.nr_fill.specs.Rows.{row_of}
+use Rattle.nr_units.specs.Cell.{trimmed}
+use Rattle.nr_fill.specs.CellRow.{row_of}
 use Rattle.nr_page.specs.Grid.{Placed, page_charge}
-use Rattle.nr_page.specs.Sheet.{Holds as HoldsPage}
+use Rattle.nr_page.specs.Page.{Holds as HoldsPage}
 use Rattle.nr_formatter.specs.Pages.{place_behind}
 use Rattle.nr_engine.specs.Machine.{placed, row_at}
 use Rattle.nr_engine.proofs.Working.{page_charge-push}

@@ -1,6 +1,6 @@
 use Rattle.std.proofs.Common.{[], ◌∷◌, replicate}
-use Rattle.nr_units.specs.Cells.{blank}
-use Rattle.nr_fill.specs.Rows.{AddsToRow-both}
+use Rattle.nr_units.specs.Cell.{blank}
+use Rattle.nr_fill.specs.CellRow.{AddsToRow-both}
 use Rattle.nr_engine.proofs.engine.Engine.push.Goals as goal
 
 pub returns-clause-row : goal.returns-clause-row

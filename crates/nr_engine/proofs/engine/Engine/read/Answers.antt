@@ -1,8 +1,8 @@
 use Rattle.std.proofs.Common.{◌≡◌, ◌≤◌, [], refl, sym, ap, ◌∙◌, subst}
 use Rattle.nr_reading.specs.declared.event.Event.TheVariants as events
-use Rattle.nr_store.specs.Stored.{Stored}
+use Rattle.nr_store.specs.Store.{Stored}
 use Rattle.nr_input.specs.Moving.{move}
-use Rattle.nr_input.specs.Hearing.{told_as}
+use Rattle.nr_input.specs.Told.{told_as}
 use Rattle.nr_input.specs.Weights.{Pays, diversions_in}
 use Rattle.nr_input.specs.declared.reader.Reader.{Reader}
 use Rattle.nr_formatter.specs.declared.tasks.Task.TheVariants as tasks
@@ -16,8 +16,8 @@ use Rattle.nr_formatter.proofs.LimitsStay.{input-limits}
 use Rattle.nr_engine.specs.State.{State}
 use Rattle.nr_engine.specs.Machine.{read, situation_of, told}
 use Rattle.nr_engine.specs.Measures.{IsWithin}
-use Rattle.nr_engine.specs.Answer.{GoesBy}
-use Rattle.nr_input.specs.Refusals.{place_told}
+use Rattle.nr_engine.specs.Run.{GoesBy}
+use Rattle.nr_input.specs.Refusal.{place_told}
 use Rattle.nr_engine.specs.Holding.{Shape, shape, at, Holds, Spends}
 use Rattle.nr_engine.proofs.Bursts.{move-short}
 use Rattle.nr_engine.proofs.LimitsStay.{formatter-limits}

@@ -1,6 +1,6 @@
 use Rattle.std.proofs.Common.{◌≡◌, ◌+◌, [], ◌∷◌, ◌++◌, replicate, Ok, refl, ap, sym, ◌∙◌, arith}
-use Rattle.nr_units.specs.Cells.{blank}
-use Rattle.nr_fill.specs.Rows.{IsRow}
+use Rattle.nr_units.specs.Cell.{blank}
+use Rattle.nr_fill.specs.CellRow.{IsRow}
 use Rattle.nr_formatter.specs.Access.{done}
 use Rattle.nr_formatter.specs.Weights.{Falls}
 use Rattle.nr_formatter.specs.declared.paper.Outlet.TheVariants as outlets

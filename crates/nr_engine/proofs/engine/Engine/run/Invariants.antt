@@ -1,5 +1,5 @@
 use Rattle.std.proofs.Common.{◌≡◌, ℕ, ◌+◌, ◌-◌, ◌*◌, ◌^◌, ◌≤◌, [], false}
-use Rattle.nr_input.specs.Coming.{has_failed}
+use Rattle.nr_input.specs.Place.{has_failed}
 use Rattle.nr_engine.specs.State.{State}
 use Rattle.nr_engine.specs.Holding.{Holds, Made, shape, weight, worth}
 use Rattle.nr_engine.specs.Limits.{limits_of}

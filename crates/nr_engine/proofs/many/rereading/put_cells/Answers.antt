@@ -1,6 +1,6 @@
 use Rattle.std.proofs.Common.{◌≡◌, ◌+◌, ◌++◌, ◌∷◌, [], take, ap, ◌∙◌, subst, sym, arith}
 use Rattle.std.proofs.lemmas.List.{take_more}
-use Rattle.nr_fill.specs.Rows.{AddsToRow, AddsToRow-both}
+use Rattle.nr_fill.specs.CellRow.{AddsToRow, AddsToRow-both}
 use Rattle.nr_store.specs.declared.element.Element.TheVariants as elements
 use Rattle.nr_engine.specs.Many.Rereading.{AreCells, cells_of}
 use Rattle.nr_engine.proofs.RereadCells.{are-push, cells-push}

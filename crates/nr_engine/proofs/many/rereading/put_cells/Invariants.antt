@@ -1,5 +1,5 @@
 use Rattle.std.proofs.Common.{◌≡◌, take}
-use Rattle.nr_fill.specs.Rows.{AddsToRow}
+use Rattle.nr_fill.specs.CellRow.{AddsToRow}
 use Rattle.nr_engine.specs.Many.Rereading.{AreCells, cells_of}
 use Rattle.nr_engine.proofs.many.rereading.put_cells.Given as goal
 

@@ -1,8 +1,8 @@
 use Rattle.std.proofs.Common.{Some, ap, sym, ◌∙◌, arith}
 use Rattle.std.proofs.lemmas.List.Sums.{sum_by-take-le}
-use Rattle.nr_fill.specs.Cut.{pieces_width, piece_width}
-use Rattle.nr_fill.specs.Lined.{Lined}
-use Rattle.nr_fill.specs.Pieces.{word_or_new, word_pieces}
+use Rattle.nr_fill.specs.Cutting.{pieces_width, piece_width}
+use Rattle.nr_fill.specs.Line.{Lined}
+use Rattle.nr_fill.specs.Piece.{word_or_new, word_pieces}
 use Rattle.nr_fill.specs.Tabs.{column}
 use Rattle.nr_fill.proofs.Lines.{widths_small}
 use Rattle.nr_fill.proofs.Planning.{column_is}

@@ -1,6 +1,6 @@
 use Rattle.std.proofs.Common.{◌≡◌, ◌-◌, length, take, arith}
 use Rattle.nr_fill.specs.declared.line.WordState.{WordState}
-use Rattle.nr_fill.specs.Pieces.{pending_without_point}
+use Rattle.nr_fill.specs.Piece.{pending_without_point}
 use Rattle.nr_fill.proofs.Lines.{the_word, is_line_last}
 use Rattle.nr_fill.proofs.Pendings.{needed_dropped}
 use Rattle.std.proofs.lemmas.List.{length-take-le}

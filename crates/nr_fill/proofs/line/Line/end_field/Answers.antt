@@ -1,5 +1,5 @@
 use Rattle.std.proofs.Common.{ap, arith}
-use Rattle.nr_fill.specs.Lined.{Lined}
+use Rattle.nr_fill.specs.Line.{Lined}
 use Rattle.nr_fill.proofs.Measures.{afforded_ok, line_cells-filled}
 use Rattle.nr_fill.specs.Tabs.{with_field_filled}
 use Rattle.nr_fill.proofs.line.Line.end_field.Goals as goal

@@ -1,12 +1,12 @@
 use Rattle.std.proofs.Common.{◌≡◌, ◌+◌, ◌-◌, ◌∷◌, [], length, take, drop, ap, ◌∙◌, refl, arith, length-append, length-drop}
-use Rattle.nr_fill.specs.Lined.{Lined}
-use Rattle.nr_fill.specs.Pieces.{line_cells}
+use Rattle.nr_fill.specs.Line.{Lined}
+use Rattle.nr_fill.specs.Piece.{line_cells}
 use Rattle.nr_fill.proofs.Lines.{is_line_ended, line_cells-collected_of, line_cells-le}
 use Rattle.nr_fill.proofs.Measures.{afforded_ok, afforded_err, line_cells-end_word}
 use Rattle.nr_fill.proofs.Pendings.{are_small}
 use Rattle.std.proofs.lemmas.List.{take_all}
-use Rattle.nr_fill.specs.Pieces.{Piece, end_word, word_pieces}
-use Rattle.nr_fill.specs.Lying.{word_of}
+use Rattle.nr_fill.specs.Piece.{Piece, end_word, word_pieces}
+use Rattle.nr_fill.specs.PieceRow.{word_of}
 use Rattle.nr_fill.proofs.Lines.{ended_pieces}
 use Rattle.nr_fill.proofs.line.Line.end_word.Goals as goal
 

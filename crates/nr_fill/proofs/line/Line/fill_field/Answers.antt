@@ -2,9 +2,9 @@ use Rattle.std.proofs.Common.{◌≡◌, ◌+◌, ◌-◌, ◌++◌, length, tak
 use Rattle.std.proofs.lemmas.List.{length-replicate, take-append-drop}
 use Rattle.nr_fill.specs.declared.line.WordState.{WordState}
 use Rattle.nr_fill.specs.declared.stops.Pending.TheVariants.{Nothing}
-use Rattle.nr_fill.specs.Lined.{Lined}
-use Rattle.nr_fill.specs.Lying.{word_of}
-use Rattle.nr_fill.specs.Pieces.{text_cells}
+use Rattle.nr_fill.specs.Line.{Lined}
+use Rattle.nr_fill.specs.PieceRow.{word_of}
+use Rattle.nr_fill.specs.Piece.{text_cells}
 use Rattle.nr_fill.specs.Tabs.{field_fill, fill_count}
 use Rattle.nr_fill.proofs.Lines.{the_word, is_line_untitled, is_line_last, text_cells-collected_of}
 use Rattle.nr_fill.proofs.Pendings.{are_small}

@@ -3,8 +3,8 @@ use Rattle.std.proofs.lemmas.Bool.{le-leb}
 use Rattle.std.proofs.lemmas.List.{length-take-le}
 use Rattle.std.proofs.Common.{get_or}
 use Rattle.std.proofs.lemmas.List.{get_or-take}
-use Rattle.nr_fill.specs.Cut.{join_width, front_width}
-use Rattle.nr_fill.specs.Pieces.{Piece}
+use Rattle.nr_fill.specs.Cutting.{join_width, front_width}
+use Rattle.nr_fill.specs.Piece.{Piece}
 use Rattle.nr_fill.specs.declared.piece.Join.TheVariants.{Soft}
 use Rattle.nr_fill.proofs.PiecesOf.{width-first, width-le, front_width-all}
 use Rattle.nr_fill.proofs.Lines.{first_is, has_pieces}

@@ -1,9 +1,9 @@
 use Rattle.std.proofs.Common.{◌≡◌, ◌-◌, length, take, drop, ap, sym, ◌∙◌, arith}
 use Rattle.std.proofs.lemmas.List.{length-take-le}
 use Rattle.std.proofs.lemmas.List.Sums.{sum_by-take-le}
-use Rattle.nr_fill.specs.Lined.{Lined}
-use Rattle.nr_fill.specs.Cut.{pieces_width, piece_width, hyphen_before}
-use Rattle.nr_fill.specs.Pieces.{cells_in}
+use Rattle.nr_fill.specs.Line.{Lined}
+use Rattle.nr_fill.specs.Cutting.{pieces_width, piece_width, hyphen_before}
+use Rattle.nr_fill.specs.Piece.{cells_in}
 use Rattle.nr_fill.specs.Setting.{left_over}
 use Rattle.nr_fill.specs.Spreading.{gaps}
 use Rattle.nr_fill.proofs.Lines.{widths_small}

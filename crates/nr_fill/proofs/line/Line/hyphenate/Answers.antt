@@ -1,12 +1,12 @@
 use Rattle.std.proofs.Common.{◌≡◌, ℕ, ◌+◌, ◌-◌, ◌<◌, Bool, ◌∷◌, [], length, take, drop, ap, ap₂, sym, ◌∙◌, refl, arith, true, false}
 use Rattle.nr_fill.specs.Laid.{Laid}
 use Rattle.nr_fill.specs.declared.line.WordState.{WordState}
-use Rattle.nr_fill.specs.Pieces.{cells_in}
+use Rattle.nr_fill.specs.Piece.{cells_in}
 use Rattle.nr_fill.proofs.Lines.{the_word, is_line_untitled, is_line_closed}
 use Rattle.nr_fill.proofs.Pendings.{are_small}
 use Rattle.nr_fill.specs.declared.piece.Join.TheVariants.{Soft}
 use Rattle.nr_fill.specs.declared.stops.Pending.{Pending}
-use Rattle.nr_fill.specs.Pieces.{Piece, is_for_stop, is_inside}
+use Rattle.nr_fill.specs.Piece.{Piece, is_for_stop, is_inside}
 use Rattle.std.proofs.lemmas.List.{take-append-le, drop-append-le}
 use Rattle.nr_fill.proofs.Pendings.{inside_at, needed_behind_point}
 use Rattle.nr_fill.proofs.line.Line.hyphenate.Goals as goal

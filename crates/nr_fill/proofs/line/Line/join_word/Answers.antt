@@ -4,10 +4,10 @@ use Rattle.std.proofs.lemmas.List.{drop_all}
 use Rattle.std.proofs.lemmas.List.Elements.{All-drop}
 use Rattle.nr_fill.specs.declared.line.WordState.{WordState}
 use Rattle.nr_fill.specs.declared.stops.Pending.TheVariants.{Nothing}
-use Rattle.nr_fill.specs.Cut.{join_width}
+use Rattle.nr_fill.specs.Cutting.{join_width}
 use Rattle.nr_fill.specs.Laid.{Laid}
-use Rattle.nr_fill.specs.Lying.{IsWord}
-use Rattle.nr_fill.specs.Pieces.{Piece, join_before}
+use Rattle.nr_fill.specs.PieceRow.{IsWord}
+use Rattle.nr_fill.specs.Piece.{Piece, join_before}
 use Rattle.nr_fill.proofs.Lines.{the_word, is_line_untitled, is_line_opened_behind, join_before-within}
 use Rattle.nr_fill.proofs.PiecesOf.{length-flat_map}
 use Rattle.nr_fill.proofs.Pendings.{needed_blanks}

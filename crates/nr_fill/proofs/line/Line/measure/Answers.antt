@@ -1,6 +1,6 @@
 use Rattle.std.proofs.Common.{◌+◌, ap, ap₂, sym, ◌∙◌}
-use Rattle.nr_fill.specs.Lined.{Lined}
-use Rattle.nr_fill.specs.Pieces.{line_cells}
+use Rattle.nr_fill.specs.Line.{Lined}
+use Rattle.nr_fill.specs.Piece.{line_cells}
 use Rattle.nr_fill.proofs.Lines.{line_cells-collected_of}
 use Rattle.nr_fill.proofs.line.Line.measure.Goals as goal
 

@@ -1,6 +1,6 @@
 use Rattle.std.proofs.Common.{◌≡◌, ◌*◌, ◌≤◌, length, take, ap, sym, ◌∙◌, arith, length-take}
 use Rattle.nr_fill.specs.declared.setting.Extra.{Extra}
-use Rattle.nr_fill.specs.Lined.{Lined}
+use Rattle.nr_fill.specs.Line.{Lined}
 use Rattle.nr_fill.specs.Spreading.{gaps, shared}
 use Rattle.nr_fill.proofs.TextWidth.{gaps-le, shared-within, text_within}
 use Rattle.nr_fill.proofs.line.Line.plan.Goals as goal

@@ -1,10 +1,10 @@
 use Rattle.std.proofs.Common.{◌+◌, ◌++◌, ◌∷◌, [], length, ap, ◌∙◌, arith, length-append}
-use Rattle.nr_fill.specs.Lined.{Lined}
+use Rattle.nr_fill.specs.Line.{Lined}
 use Rattle.nr_fill.specs.declared.line.WordState.{WordState}
-use Rattle.nr_fill.specs.Pieces.{text_cells}
+use Rattle.nr_fill.specs.Piece.{text_cells}
 use Rattle.nr_fill.proofs.Lines.{the_word, is_line_last, text_cells-collected_of, no_title_cells}
 use Rattle.nr_fill.proofs.Pendings.{are_small, needed_blanks, needed_one_more}
-use Rattle.nr_units.specs.Cells.{blank}
+use Rattle.nr_units.specs.Cell.{blank}
 use Rattle.nr_fill.proofs.line.Line.push_blank.Goals as goal
 
 pub overflow_add-word : goal.overflow_add-word

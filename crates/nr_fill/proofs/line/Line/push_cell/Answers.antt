@@ -1,12 +1,12 @@
 use Rattle.std.proofs.Common.{◌≡◌, ◌+◌, ◌++◌, ◌∷◌, [], length, drop, None, ap, ap₂, sym, ◌∙◌, refl, arith, length-append}
 use Rattle.nr_fill.specs.Laid.{Laid}
-use Rattle.nr_fill.specs.Lined.{Lined}
+use Rattle.nr_fill.specs.Line.{Lined}
 use Rattle.nr_fill.specs.declared.line.WordState.{WordState}
-use Rattle.nr_fill.specs.Pieces.{cells_in, text_cells}
+use Rattle.nr_fill.specs.Piece.{cells_in, text_cells}
 use Rattle.nr_fill.proofs.Lines.{the_word, is_line_last, text_cells-collected_of, no_title_cells}
 use Rattle.nr_fill.proofs.Pendings.{are_small, needed_behind}
-use Rattle.nr_fill.specs.Pieces.{pending_behind}
-use Rattle.nr_fill.specs.TitleStates.{title_of}
+use Rattle.nr_fill.specs.Piece.{pending_behind}
+use Rattle.nr_fill.specs.Titling.{title_of}
 use Rattle.nr_fill.proofs.line.Line.push_cell.Goals as goal
 
 pub overflow_add-n : goal.overflow_add-n

@@ -1,8 +1,8 @@
 use Rattle.std.proofs.Common.{ap, arith}
-use Rattle.nr_fill.specs.Lined.{Lined}
-use Rattle.nr_fill.specs.Pieces.{text_cells}
+use Rattle.nr_fill.specs.Line.{Lined}
+use Rattle.nr_fill.specs.Piece.{text_cells}
 use Rattle.nr_fill.proofs.Measures.{afforded_ok, text_cells-with_word, text_cells-ended, line_cells-add_cell}
-use Rattle.nr_fill.specs.Pieces.{add_cell}
+use Rattle.nr_fill.specs.Piece.{add_cell}
 use Rattle.nr_fill.proofs.line.Line.put.Goals as goal
 
 pub push_cell-requires-clause-room : goal.push_cell-requires-clause-room

@@ -1,5 +1,5 @@
 use Rattle.std.proofs.Common.{ap, arith}
-use Rattle.nr_fill.specs.Lined.{Lined}
+use Rattle.nr_fill.specs.Line.{Lined}
 use Rattle.nr_fill.proofs.line.Line.put_cells.Goals as goal
 
 pub overflow_sub-self-inside : goal.overflow_sub-self-inside

@@ -1,9 +1,9 @@
 use Rattle.std.proofs.Common.{◌≡◌, ◌+◌, ◌-◌, ◌<◌, ◌≤◌, List, [], ◌∷◌, ◌++◌, length, map, take, drop, get_or, None, true, false, ◌&&◌, if◌then◌else◌, All, ap, sym, subst, ◌∙◌, refl, arith, length-append}
 use Rattle.std.proofs.lemmas.List.{length-map, length-take, nil_from_length, take_all, drop_all}
 use Rattle.nr_settings.specs.Indents.{margins_of}
-use Rattle.nr_fill.specs.Cut.{pieces_width}
-use Rattle.nr_fill.specs.Lined.{Lined}
-use Rattle.nr_fill.specs.Pieces.{Collected, Piece, begins_line, ends_sentence, is_nil, text_cells}
+use Rattle.nr_fill.specs.Cutting.{pieces_width}
+use Rattle.nr_fill.specs.Line.{Lined}
+use Rattle.nr_fill.specs.Piece.{Collected, Piece, begins_line, ends_sentence, is_nil, text_cells}
 use Rattle.nr_fill.specs.Runs.{IsPlain, run_cell}
 use Rattle.nr_fill.specs.declared.piece.Join.TheVariants.{Gap}
 use Rattle.nr_fill.specs.Laid.{read_cells}

@@ -1,9 +1,9 @@
 use Rattle.std.proofs.Common.{ap, refl, arith}
-use Rattle.nr_fill.specs.Lined.{Lined}
-use Rattle.nr_fill.specs.Pieces.{line_cells}
+use Rattle.nr_fill.specs.Line.{Lined}
+use Rattle.nr_fill.specs.Piece.{line_cells}
 use Rattle.nr_fill.proofs.Lines.{is_line_title_cell, line_cells-collected_of, title_of_push, line_cells-le}
 use Rattle.nr_fill.proofs.Measures.{afforded_ok}
-use Rattle.nr_fill.specs.Pieces.{with_title_cell}
+use Rattle.nr_fill.specs.Piece.{with_title_cell}
 use Rattle.nr_fill.proofs.line.Line.put_title.Goals as goal
 
 pub returns-in_default-clause-result : goal.returns-in_default-clause-result

@@ -1,9 +1,9 @@
 use Rattle.std.proofs.Common.{◌≡◌, ◌≤◌, Bool, true, false, not, Option, None, Some, is_none, is_some, length, take, drop, ap, sym, ◌∙◌, refl, arith}
 use Rattle.nr_fill.specs.declared.line.WordState.{WordState}
-use Rattle.nr_fill.specs.Lined.{Lined}
+use Rattle.nr_fill.specs.Line.{Lined}
 use Rattle.nr_fill.proofs.Lines.{is_line_removed}
 use Rattle.std.proofs.lemmas.List.{length-take-le}
-use Rattle.nr_fill.specs.Cut.{pieces_width}
+use Rattle.nr_fill.specs.Cutting.{pieces_width}
 use Rattle.std.proofs.lemmas.List.{take-take}
 use Rattle.nr_fill.proofs.Lines.{is_nil_left, is_none_word, pieces_behind}
 use Rattle.nr_fill.proofs.line.Line.remove.Goals as goal

@@ -1,9 +1,9 @@
 use Rattle.std.proofs.Common.{◌≡◌, ◌-◌, ap, sym, ◌∙◌, refl, arith, true}
-use Rattle.nr_fill.specs.Lined.{Lined}
-use Rattle.nr_fill.specs.Pieces.{line_cells}
+use Rattle.nr_fill.specs.Line.{Lined}
+use Rattle.nr_fill.specs.Piece.{line_cells}
 use Rattle.nr_fill.proofs.Measures.{afforded_ok}
 use Rattle.nr_fill.specs.Tabs.{tabbed, to_stop, first_beyond, column, with_field, is_aligned}
-use Rattle.nr_fill.specs.Pieces.{ended, in_word, with_word}
+use Rattle.nr_fill.specs.Piece.{ended, in_word, with_word}
 use Rattle.nr_fill.proofs.Measures.{line_cells-with_field, text_cells-ended}
 use Rattle.nr_fill.proofs.line.Line.tab.Goals as goal
 

@@ -1,6 +1,6 @@
 use Rattle.std.proofs.Common.{arith}
 use Rattle.std.proofs.lemmas.List.Sums.{sum_by-take-le}
-use Rattle.nr_fill.specs.Cut.{piece_width}
+use Rattle.nr_fill.specs.Cutting.{piece_width}
 use Rattle.nr_fill.proofs.Lines.{widths_small}
 use Rattle.nr_fill.proofs.line.Line.take_line.Goals as goal
 

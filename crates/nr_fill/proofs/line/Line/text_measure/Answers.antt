@@ -1,6 +1,6 @@
 use Rattle.std.proofs.Common.{◌+◌, ap, sym, ◌∙◌}
-use Rattle.nr_fill.specs.Lined.{Lined}
-use Rattle.nr_fill.specs.Pieces.{text_cells}
+use Rattle.nr_fill.specs.Line.{Lined}
+use Rattle.nr_fill.specs.Piece.{text_cells}
 use Rattle.nr_fill.proofs.Lines.{text_cells-collected_of}
 use Rattle.nr_fill.proofs.line.Line.text_measure.Goals as goal
 

@@ -1,6 +1,6 @@
 use Rattle.std.proofs.Common.{length, ◌∙◌, refl, arith}
 use Rattle.nr_fill.proofs.Lines.{the_word}
-use Rattle.nr_fill.specs.Pieces.{Piece}
+use Rattle.nr_fill.specs.Piece.{Piece}
 use Rattle.std.proofs.lemmas.List.Sums.{sum_by-take-drop}
 use Rattle.nr_fill.proofs.line.Line.word_cells.Goals as goal
 

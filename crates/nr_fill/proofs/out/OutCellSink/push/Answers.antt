@@ -2,9 +2,9 @@ use Rattle.std.specs.Prelude.{◌≤◌}
 use Rattle.std.proofs.Common.{◌≡◌, ◌+◌, ◌-◌, ◌^◌, ◌++◌, ◌∷◌, [], List, min, length, take, ap, ap₂, subst, sym, ◌∙◌}
 use Rattle.std.proofs.lemmas.List.{take-replicate}
 use Rattle.std.proofs.Math.Nat.{min-le_left}
-use Rattle.nr_units.specs.Cells.{trimmed}
+use Rattle.nr_units.specs.Cell.{trimmed}
 use Rattle.nr_units.specs.declared.cell.Cell.{Cell}
-use Rattle.nr_fill.specs.Rows.{Row, row_of, counted, written_behind}
+use Rattle.nr_fill.specs.CellRow.{Row, row_of, counted, written_behind}
 use Rattle.nr_fill.proofs.Trimming.{same_row, row_extended}
 use Rattle.nr_fill.proofs.out.OutCellSink.push.Goals as goal
 

@@ -1,6 +1,6 @@
 use Rattle.std.proofs.Common.{min, ap, arith}
 use Rattle.nr_fill.specs.Laid.{Laid}
-use Rattle.nr_fill.specs.Pieces.{cells_in}
+use Rattle.nr_fill.specs.Piece.{cells_in}
 use Rattle.nr_fill.proofs.Laying.{cells_in-laid_of, cells_behind-laid_of}
 use Rattle.nr_fill.proofs.piece_row.PieceRow.cells_behind.Goals as goal
 

@@ -2,7 +2,7 @@ use Rattle.std.proofs.Common.{List, length, min, drop, get_or, ap, sym, ◌∙�
 use Rattle.std.proofs.lemmas.List.{drop_all}
 use Rattle.nr_fill.specs.Laid.{Laid}
 use Rattle.nr_fill.specs.declared.piece.PieceSlot.{PieceSlot}
-use Rattle.nr_fill.specs.Pieces.{join_before}
+use Rattle.nr_fill.specs.Piece.{join_before}
 use Rattle.nr_fill.specs.Slots.{blank_slot}
 use Rattle.nr_fill.proofs.Laying.{slots_are}
 use Rattle.nr_fill.proofs.PiecesOf.{join_before-pieces_of}

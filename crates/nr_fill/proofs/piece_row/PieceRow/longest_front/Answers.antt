@@ -1,6 +1,6 @@
 use Rattle.std.proofs.Common.{length, min, ap, sym, ◌∙◌, arith}
 use Rattle.std.proofs.lemmas.List.{length-take-le}
-use Rattle.nr_fill.specs.Cut.{cut}
+use Rattle.nr_fill.specs.Cutting.{cut}
 use Rattle.nr_fill.proofs.Laying.{slots_are, front_is, front_within, front_widths}
 use Rattle.nr_fill.proofs.piece_row.PieceRow.longest_front.Goals as goal
 

@@ -1,6 +1,6 @@
 use Rattle.std.proofs.Common.{◌≤◌, List, length, min, ap, sym, refl, arith, subst, length-take}
 use Rattle.std.proofs.lemmas.List.{length-take-le}
-use Rattle.nr_fill.specs.Pieces.{Piece}
+use Rattle.nr_fill.specs.Piece.{Piece}
 use Rattle.nr_fill.specs.Spreading.{cells_in_line}
 use Rattle.nr_fill.proofs.Laying.{slots_are, front_is, front_within}
 use Rattle.nr_fill.proofs.piece_row.PieceRow.set.Goals as goal

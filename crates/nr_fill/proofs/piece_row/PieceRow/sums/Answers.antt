@@ -1,7 +1,7 @@
 use Rattle.std.proofs.Common.{length, min, take, ap, sym, ◌∙◌, arith}
 use Rattle.std.proofs.lemmas.List.{length-take-le}
-use Rattle.nr_fill.specs.Cut.{pieces_width}
-use Rattle.nr_fill.specs.Pieces.{cells_in}
+use Rattle.nr_fill.specs.Cutting.{pieces_width}
+use Rattle.nr_fill.specs.Piece.{cells_in}
 use Rattle.nr_fill.specs.Spreading.{gaps}
 use Rattle.nr_fill.proofs.PiecesOf.{pieces_width-pieces_of, cells_in-pieces_of, gaps-pieces_of}
 use Rattle.nr_fill.proofs.Laying.{slots_are, front_is, front_within}

@@ -1,6 +1,6 @@
 use Rattle.std.proofs.Common.{map}
 use Rattle.std.specs.List.{range_with_len}
-use Rattle.nr_fill.specs.Titles.{cell_of}
+use Rattle.nr_fill.specs.Title.{cell_of}
 use Rattle.nr_fill.proofs.title.TitleParts.set_each.Given as goal
 
 abbrev pub invariant-loop-column : goal.invariant-loop-column

@@ -1,9 +1,9 @@
 use Rattle.std.proofs.Common.{◌≡◌, ◌-◌, Bool, ap, ap₂, sym, ◌∙◌, subst}
 use Rattle.std.specs.Prelude.{OnOk}
-use Rattle.nr_store.specs.Stored.{Stored, afforded, charge_of, diverted}
+use Rattle.nr_store.specs.Store.{Stored, afforded, charge_of, diverted}
 use Rattle.nr_store.proofs.Building.{unaffordable}
 use Rattle.nr_formatter.specs.declared.tasks.Resume.{Resume}
-use Rattle.nr_formatter.specs.DiversionRows.{HoldsRow, diverted_cells}
+use Rattle.nr_formatter.specs.DiversionRow.{HoldsRow, diverted_cells}
 use Rattle.nr_formatter.proofs.HeldRows.{line_ended, line_passes}
 use Rattle.nr_formatter.proofs.diversion_row.DiversionRow.end.Goals as goal
 

@@ -3,7 +3,7 @@ use Rattle.nr_units.specs.declared.cell.Cell.{Cell}
 use Rattle.nr_fill.specs.Extents.{IsExtent}
 use Rattle.nr_fill.specs.Slots.{pieces_of}
 use Rattle.nr_fill.specs.Spreading.{cells_in_line}
-use Rattle.nr_formatter.specs.DiversionRows.{AddsToDiversion}
+use Rattle.nr_formatter.specs.DiversionRow.{AddsToDiversion}
 use Rattle.nr_formatter.proofs.diversion_row.DiversionRowCellSink.lay.Goals as goal
 
 pub returns : goal.returns

@@ -1,5 +1,5 @@
 use Rattle.std.proofs.Common.{rules, ◌≡◌, ◌<ℤ◌, pos, true, false, Some, ap, sym, ◌∙◌, FitsSigned, w32}
-use Rattle.nr_tables.specs.Traps.{nearest}
+use Rattle.nr_symbol_tables.specs.Trap.{nearest}
 use Rattle.nr_formatter.specs.Places.{trap_below}
 use Rattle.nr_formatter.specs.Pages.{names_text, next_springing, springing_traps}
 use Rattle.nr_formatter.proofs.NextSprings.{springing_below, springing_none, springing_found, springing_passed, below_cast}

@@ -1,6 +1,6 @@
 use Rattle.std.proofs.Common.{ap, arith}
-use Rattle.nr_fill.specs.Lined.{Lined}
-use Rattle.nr_fill.specs.Pieces.{line_cells}
+use Rattle.nr_fill.specs.Line.{Lined}
+use Rattle.nr_fill.specs.Piece.{line_cells}
 use Rattle.nr_formatter.proofs.WordsAtOnce.{puts_word}
 use Rattle.nr_formatter.proofs.formatter.Formatter.put_word.Goals as goal
 

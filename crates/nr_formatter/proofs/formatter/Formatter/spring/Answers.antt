@@ -1,6 +1,6 @@
 use Rattle.std.proofs.Common.{◌≡◌, None, rules, arith}
-use Rattle.nr_tables.specs.Named.{find}
-use Rattle.nr_store.specs.Stored.{words}
+use Rattle.nr_symbol_tables.specs.Table.{find}
+use Rattle.nr_store.specs.Store.{words}
 use Rattle.nr_formatter.proofs.Splices.{unsprung, springs_nothing, sprung_none}
 use Rattle.nr_formatter.proofs.Falling.{falls-less}
 use Rattle.nr_formatter.proofs.InputFalls.{falls-sprung, not_text, falls-unsprung}

@@ -1,5 +1,5 @@
 use Rattle.std.proofs.Common.{◌≡◌, length, take, ap, arith}
-use Rattle.nr_formatter.specs.RequestLines.{length-take_filled}
+use Rattle.nr_formatter.specs.RequestLine.{length-take_filled}
 use Rattle.nr_formatter.proofs.Filled.{IsFilled-set}
 use Rattle.nr_formatter.proofs.request_line.RequestLine.push.Goals as goal
 

@@ -1,6 +1,6 @@
 use Rattle.std.proofs.Common.{◌-◌, ◌<◌, length, take, arith, subst, ap, ◌∙◌}
 use Rattle.std.specs.Prelude.{slice_index}
-use Rattle.nr_store.specs.Stored.{Stored}
+use Rattle.nr_store.specs.Store.{Stored}
 use Rattle.nr_input.specs.Moving.{situation}
 use Rattle.nr_input.specs.Many.Runs.{HasRead, PaysAll}
 use Rattle.nr_input.specs.Limits.{limits_of}

@@ -2,7 +2,7 @@ use Rattle.std.proofs.Common.{◌≡◌, ◌*◌, ◌≤◌, length, take, arith
 use Rattle.std.proofs.lemmas.Bool.{cases_lt}
 use Rattle.std.proofs.lemmas.List.{length-map, length-take}
 use Rattle.std.proofs.lemmas.List.Elements.{All-take}
-use Rattle.nr_store.specs.Stored.{Stored, charge_of}
+use Rattle.nr_store.specs.Store.{Stored, charge_of}
 use Rattle.nr_store.specs.Windows.{rest_of, left_times}
 use Rattle.nr_store.specs.declared.element.Element.TheVariants as elements
 use Rattle.nr_reading.specs.declared.event.Event.TheVariants as events
@@ -10,7 +10,7 @@ use Rattle.nr_reading.specs.Many.InArgument.{ending_of, IsPlain}
 use Rattle.nr_input.specs.Limits.{limits_of}
 use Rattle.nr_input.specs.Moving.{situation}
 use Rattle.nr_input.specs.Many.Runs.{HasRead}
-use Rattle.nr_input.specs.Many.Targets.{with_more}
+use Rattle.nr_input.specs.Many.Target.{with_more}
 use Rattle.nr_input.proofs.LimitsStay.{left_times-limits, with_more-limits}
 use Rattle.nr_input.proofs.PuttingLevel.{AreFront, level_added, level_added_pays, level_added_left}
 use Rattle.nr_input.proofs.Rows.{reads_nothing}

@@ -1,7 +1,7 @@
 use Rattle.std.specs.Prelude.{map}
 use Rattle.std.proofs.Common.{◌≡◌, ◌+◌, drop, refl, ap, ◌∙◌, arith}
 use Rattle.nr_store.specs.Windows.{rest_of}
-use Rattle.nr_input.specs.Coming.{element_front}
+use Rattle.nr_input.specs.Place.{element_front}
 use Rattle.nr_input.specs.declared.many.gathering.Gathered.{Gathered}
 use Rattle.nr_input.proofs.TextGathered.{row_on, run_copied, run_stops}
 use Rattle.nr_input.proofs.many.gathering.gather_more.Goals as goal

@@ -2,7 +2,7 @@ use Rattle.std.specs.Prelude.{map}
 use Rattle.std.proofs.Common.{◌∙◌, ◌≡◌, drop, take, refl, ap, sym, arith}
 use Rattle.std.proofs.lemmas.List.{length-take-le}
 use Rattle.nr_store.specs.Windows.{rest_of}
-use Rattle.nr_input.specs.Coming.{element_front}
+use Rattle.nr_input.specs.Place.{element_front}
 use Rattle.nr_input.specs.Many.Gathering.{IsGathering, brace_items}
 use Rattle.nr_input.specs.declared.many.gathering.Gathered.{Gathered}
 use Rattle.nr_input.proofs.TextBraces.{brace_begins, byte_shown, has_brace, shown_byte}

@@ -1,6 +1,6 @@
 use Rattle.std.proofs.Common.{◌≡◌, ◌+◌, ◌-◌, length, take, drop, ap, ◌∙◌, arith}
 use Rattle.std.proofs.lemmas.List.{length-drop, length-take}
-use Rattle.nr_store.specs.Stored.{reading_bytes}
+use Rattle.nr_store.specs.Store.{reading_bytes}
 use Rattle.nr_input.proofs.Interpolated.{entered_bytes}
 use Rattle.nr_input.proofs.TextOpened.{entered_text}
 use Rattle.nr_input.proofs.many.gathering.open_splice.Goals as goal

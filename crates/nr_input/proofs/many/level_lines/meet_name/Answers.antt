@@ -4,7 +4,7 @@ use Rattle.nr_store.specs.Windows.{elements_in}
 use Rattle.nr_store.specs.declared.shown.Rest.{Rest}
 use Rattle.nr_reading.specs.Many.Passing.{quiet}
 use Rattle.nr_reading.specs.Many.Runs.{HasMet}
-use Rattle.nr_input.specs.Coming.{element_front}
+use Rattle.nr_input.specs.Place.{element_front}
 use Rattle.nr_input.proofs.RowsRead.{bytes_are}
 use Rattle.nr_input.proofs.many.level_lines.meet_name.Goals as goal
 

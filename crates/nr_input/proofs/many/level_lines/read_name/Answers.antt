@@ -1,9 +1,9 @@
 use Rattle.std.proofs.Common.{map, subst, ap, ◌∙◌}
-use Rattle.nr_store.specs.Stored.{Stored}
+use Rattle.nr_store.specs.Store.{Stored}
 use Rattle.nr_store.specs.Windows.{rest_of}
 use Rattle.nr_reading.specs.Many.Passing.{quiet}
 use Rattle.nr_reading.specs.Many.Runs.{HasMet}
-use Rattle.nr_input.specs.Coming.{element_front}
+use Rattle.nr_input.specs.Place.{element_front}
 use Rattle.nr_input.specs.Limits.{limits_of}
 use Rattle.nr_input.proofs.LimitsStay.{left_times-limits}
 use Rattle.nr_input.proofs.RowsRead.{level_read, level_pays}

@@ -1,7 +1,7 @@
 use Rattle.std.proofs.Common.{map, sym, ap, ◌∙◌}
 use Rattle.nr_store.specs.Windows.{elements_in}
 use Rattle.nr_store.specs.declared.shown.Rest.{Rest}
-use Rattle.nr_input.specs.Coming.{element_front}
+use Rattle.nr_input.specs.Place.{element_front}
 use Rattle.nr_input.proofs.RowsRead.{bytes_are}
 use Rattle.nr_input.proofs.many.level_rows.meet_front.Goals as goal
 

@@ -6,7 +6,7 @@ use Rattle.nr_store.specs.Windows.{rest_of, left_times}
 use Rattle.nr_reading.specs.declared.event.Event.{Event}
 use Rattle.nr_reading.specs.declared.event.Event.TheVariants as events
 use Rattle.nr_reading.specs.Many.Runs.{HasMet, spot}
-use Rattle.nr_input.specs.Coming.{element_front}
+use Rattle.nr_input.specs.Place.{element_front}
 use Rattle.nr_input.specs.Many.LevelRows.{begun_by}
 use Rattle.nr_input.specs.Moving.{situation}
 use Rattle.nr_input.specs.Many.Runs.{HasRead, PaysAll, IsLongestInLevel}

@@ -1,5 +1,5 @@
 use Rattle.std.proofs.Common.{subst, sym, ap, ◌∙◌}
-use Rattle.nr_store.specs.Stored.{Stored}
+use Rattle.nr_store.specs.Store.{Stored}
 use Rattle.nr_store.specs.Windows.{left_times}
 use Rattle.nr_input.specs.Limits.{limits_of}
 use Rattle.nr_input.specs.Many.Runs.{PaysAll}

@@ -1,6 +1,6 @@
 use Rattle.std.proofs.Common.{sym, ◌∙◌, subst}
 use Rattle.nr_reading.specs.declared.event.Event.TheVariants as events
-use Rattle.nr_store.specs.Stored.{Stored}
+use Rattle.nr_store.specs.Store.{Stored}
 use Rattle.nr_input.specs.declared.reader.Reader.{Reader}
 use Rattle.nr_input.specs.Many.Runs.{PaysMany}
 use Rattle.nr_input.proofs.LevelParts.{due_read, due_paid, due_left, none_paid}

@@ -1,6 +1,6 @@
 use Rattle.std.proofs.Common.{inl, inr, ap, ◌∙◌}
 use Rattle.std.proofs.lemmas.Bool.{cases_Bool}
-use Rattle.nr_store.specs.Stored.{Stored}
+use Rattle.nr_store.specs.Store.{Stored}
 use Rattle.nr_input.specs.Limits.{limits_of}
 use Rattle.nr_input.proofs.LevelParts.{end_read, end_paid}
 use Rattle.nr_input.proofs.LimitsStay.{left-limits}

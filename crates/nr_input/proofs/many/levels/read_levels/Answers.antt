@@ -1,5 +1,5 @@
 use Rattle.std.proofs.Common.{subst, sym, ◌∙◌}
-use Rattle.nr_store.specs.Stored.{Stored}
+use Rattle.nr_store.specs.Store.{Stored}
 use Rattle.nr_reading.proofs.InText.{in_text}
 use Rattle.nr_input.specs.Many.Runs.{PaysMany}
 use Rattle.nr_input.proofs.many.levels.read_levels.Goals as goal

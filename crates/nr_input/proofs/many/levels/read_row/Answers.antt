@@ -1,6 +1,6 @@
 use Rattle.std.specs.Prelude.{slice_get}
 use Rattle.std.proofs.Common.{refl, subst, sym, ap, ap₂, ◌∙◌}
-use Rattle.nr_store.specs.Stored.{Stored}
+use Rattle.nr_store.specs.Store.{Stored}
 use Rattle.nr_store.specs.Windows.{rest_of}
 use Rattle.nr_reading.specs.declared.event.Event.TheVariants as events
 use Rattle.nr_input.specs.declared.reader.Reader.{Reader}

@@ -3,7 +3,7 @@ use Rattle.std.proofs.Common.{map, sym, subst, ap, ◌∙◌}
 use Rattle.nr_store.specs.Windows.{elements_in}
 use Rattle.nr_store.specs.declared.shown.Rest.{Rest}
 use Rattle.nr_reading.specs.Many.Runs.{HasMet, spot}
-use Rattle.nr_input.specs.Coming.{element_front}
+use Rattle.nr_input.specs.Place.{element_front}
 use Rattle.nr_input.proofs.RowsRead.{bytes_are}
 use Rattle.nr_input.proofs.many.runs.meet_level.Goals as goal
 

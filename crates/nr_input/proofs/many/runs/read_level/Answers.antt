@@ -2,8 +2,8 @@ use Rattle.std.specs.Prelude.{slice_get}
 use Rattle.std.proofs.Common.{map, subst, ap, ◌∙◌, arith, refl}
 use Rattle.nr_store.specs.Windows.{rest_of}
 use Rattle.nr_reading.specs.Many.Runs.{HasMet, spot}
-use Rattle.nr_input.specs.Coming.{element_front}
-use Rattle.nr_store.specs.Stored.{Stored}
+use Rattle.nr_input.specs.Place.{element_front}
+use Rattle.nr_store.specs.Store.{Stored}
 use Rattle.nr_input.specs.Limits.{limits_of}
 use Rattle.nr_input.proofs.LimitsStay.{left_times-limits}
 use Rattle.nr_input.proofs.RowsRead.{level_read, level_pays, taken-le}

@@ -1,8 +1,8 @@
 use Rattle.std.proofs.Common.{true, Ok, Err}
 use Rattle.nr_reading.specs.declared.event.Event.TheVariants as events
-use Rattle.nr_store.specs.Stored.{reading_bytes}
+use Rattle.nr_store.specs.Store.{reading_bytes}
 use Rattle.nr_input.specs.Acting.{expanded}
-use Rattle.nr_input.specs.Refusals.{splicing_answer}
+use Rattle.nr_input.specs.Refusal.{splicing_answer}
 use Rattle.nr_input.proofs.LimitsStay.{give_stays}
 use Rattle.nr_input.proofs.Costs.{bytes_splice}
 use Rattle.nr_input.proofs.Refusals.{called-as, refused-as}

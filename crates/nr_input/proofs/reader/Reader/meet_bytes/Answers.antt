@@ -1,13 +1,13 @@
 use Rattle.std.proofs.Common.{◌≡◌, All, ◌+◌, ◌*◌, ◌≤◌, length, take, drop, ap, sym, ◌∙◌, subst, arith}
 use Rattle.std.proofs.lemmas.Bool.{false≢true}
 use Rattle.std.proofs.lemmas.List.{length-drop, length-take}
-use Rattle.nr_store.specs.Stored.{Stored, charge_of, reading_bytes}
+use Rattle.nr_store.specs.Store.{Stored, charge_of, reading_bytes}
 use Rattle.nr_store.specs.Windows.{left_times}
 use Rattle.nr_reading.specs.declared.event.Event.{Event}
 use Rattle.nr_reading.specs.declared.event.Event.TheVariants as events
 use Rattle.nr_reading.specs.Many.InArgument.{ending_of, IsPlain}
 use Rattle.nr_reading.specs.Many.Runs.{spot}
-use Rattle.nr_input.specs.Many.Targets.{with_more}
+use Rattle.nr_input.specs.Many.Target.{with_more}
 use Rattle.nr_input.specs.declared.reader.Reader.{Reader}
 use Rattle.nr_input.specs.Moving.{situation}
 use Rattle.nr_input.specs.Many.Runs.{HasRead, PaysAll}

@@ -1,7 +1,7 @@
 use Rattle.std.proofs.Common.{◌≡◌, ◌+◌, Bool, true, false, refl, sym, ap, ap₂, ◌∙◌, subst, arith}
 use Rattle.std.specs.Prelude.{Option, Result, Ok}
-use Rattle.nr_units.specs.Supply.{Supply}
-use Rattle.nr_store.specs.Stored.{Stored, stepped}
+use Rattle.nr_units.specs.Source.{Supply}
+use Rattle.nr_store.specs.Store.{Stored, stepped}
 use Rattle.nr_reading.specs.declared.ask.Sign.TheVariants as signs
 use Rattle.nr_reading.specs.declared.event.Event.{Event}
 use Rattle.nr_reading.specs.declared.event.Event.TheVariants as events
@@ -10,10 +10,10 @@ use Rattle.nr_reading.specs.declared.mode.Due.TheVariants as dues
 use Rattle.nr_input.specs.declared.reader.Reader.{Reader}
 use Rattle.nr_input.specs.declared.refusal.Refusal.{Refusal}
 use Rattle.nr_input.specs.Acting.{is_look, then_due}
-use Rattle.nr_input.specs.Coming.{Coming, Reached, HoldsComing}
+use Rattle.nr_input.specs.Place.{Coming, Reached, HoldsComing}
 use Rattle.nr_input.specs.Many.Interpolations.{stepping}
 use Rattle.nr_input.specs.Moving.{situation}
-use Rattle.nr_input.specs.Refusals.{Called, called, acted}
+use Rattle.nr_input.specs.Refusal.{Called, called, acted}
 use Rattle.nr_input.specs.Many.Runs.{HasRead, PaysMany}
 use Rattle.nr_input.proofs.ControlLines.{done_read}
 use Rattle.nr_input.proofs.LevelParts.{many_of_one, many_then, read_on}

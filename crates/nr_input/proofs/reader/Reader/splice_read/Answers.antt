@@ -1,6 +1,6 @@
 use Rattle.std.proofs.Common.{◌≡◌, ◌+◌, ◌<◌, length, subst, sym, ap, ◌∙◌, arith}
 use Rattle.std.proofs.lemmas.Bool.{false≢true}
-use Rattle.nr_store.specs.Stored.{Stored, reading_bytes}
+use Rattle.nr_store.specs.Store.{Stored, reading_bytes}
 use Rattle.nr_store.specs.Windows.{left_times}
 use Rattle.nr_reading.specs.declared.event.Event.TheVariants as events
 use Rattle.nr_reading.specs.declared.half.Half.{Half}

@@ -1,5 +1,5 @@
 use Rattle.std.proofs.Common.{ap, ◌∙◌}
-use Rattle.nr_levels.specs.Gathered.{Gathering, with_end}
+use Rattle.nr_levels.specs.Gathering.{Gathering, with_end}
 use Rattle.nr_levels.proofs.Cutting.{ended_is}
 use Rattle.nr_levels.proofs.gathering.Gathering.end.Goals as goal
 

@@ -1,5 +1,5 @@
 use Rattle.std.proofs.Common.{◌≡◌, ap, sym, ◌∙◌, arith}
-use Rattle.nr_levels.specs.Gathered.{Gathering, gathered_len, with_bytes}
+use Rattle.nr_levels.specs.Gathering.{Gathering, gathered_len, with_bytes}
 use Rattle.nr_levels.proofs.Cutting.{all_len, unchanged_bytes, extended_bytes}
 use Rattle.nr_levels.proofs.gathering.Gathering.extend.Goals as goal
 

@@ -1,5 +1,5 @@
 use Rattle.std.proofs.Common.{eqb, length, ap, ◌∙◌}
-use Rattle.nr_levels.specs.Gathered.{Gathering}
+use Rattle.nr_levels.specs.Gathering.{Gathering}
 use Rattle.nr_levels.proofs.Cutting.{full_is}
 use Rattle.nr_levels.proofs.gathering.Gathering.is_full.Goals as goal
 

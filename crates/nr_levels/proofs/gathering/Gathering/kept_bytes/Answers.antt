@@ -1,5 +1,5 @@
 use Rattle.std.proofs.Common.{take, ap, ◌∙◌}
-use Rattle.nr_levels.specs.Gathered.{Gathering, joined}
+use Rattle.nr_levels.specs.Gathering.{Gathering, joined}
 use Rattle.nr_levels.proofs.Cutting.{kept_bytes}
 use Rattle.nr_levels.proofs.gathering.Gathering.kept_bytes.Goals as goal
 

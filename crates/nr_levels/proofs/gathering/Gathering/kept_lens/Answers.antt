@@ -1,5 +1,5 @@
 use Rattle.std.proofs.Common.{ℕ, List, length, map, ap, ◌∙◌}
-use Rattle.nr_levels.specs.Gathered.{Gathering}
+use Rattle.nr_levels.specs.Gathering.{Gathering}
 use Rattle.nr_levels.proofs.Cutting.{lens_kept}
 use Rattle.nr_levels.proofs.gathering.Gathering.kept_lens.Goals as goal
 

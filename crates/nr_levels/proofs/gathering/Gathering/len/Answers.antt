@@ -1,5 +1,5 @@
 use Rattle.std.proofs.Common.{ap, ◌∙◌}
-use Rattle.nr_levels.specs.Gathered.{Gathering, gathered_len}
+use Rattle.nr_levels.specs.Gathering.{Gathering, gathered_len}
 use Rattle.nr_levels.proofs.Cutting.{all_len}
 use Rattle.nr_levels.proofs.gathering.Gathering.len.Goals as goal
 

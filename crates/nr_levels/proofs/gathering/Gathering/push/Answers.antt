@@ -1,5 +1,5 @@
 use Rattle.std.proofs.Common.{◌≡◌, ap, ◌∙◌, arith}
-use Rattle.nr_levels.specs.Gathered.{Gathering, gathered_len, with_byte}
+use Rattle.nr_levels.specs.Gathering.{Gathering, gathered_len, with_byte}
 use Rattle.nr_levels.proofs.Cutting.{all_len, pushed_byte}
 use Rattle.nr_levels.proofs.gathering.Gathering.push.Goals as goal
 

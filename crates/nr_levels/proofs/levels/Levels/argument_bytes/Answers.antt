@@ -1,7 +1,7 @@
 use Rattle.std.proofs.Common.{◌-◌, ap, sym, ◌∙◌, length, drop, take, arith}
 use Rattle.std.proofs.lemmas.Slice.{between_is}
 use Rattle.nr_levels.specs.Levels.{Levels, argument}
-use Rattle.nr_levels.specs.Frames.{part}
+use Rattle.nr_levels.specs.Frame.{part}
 use Rattle.nr_levels.specs.declared.frame.Span.{Span}
 use Rattle.nr_levels.proofs.Pushing.{argument_is, end_at}
 use Rattle.nr_levels.proofs.levels.Levels.argument_bytes.Goals as goal

@@ -1,6 +1,6 @@
 use Rattle.std.proofs.Common.{◌-◌, length, ap, sym, ◌∙◌}
 use Rattle.nr_levels.specs.Levels.{Levels, argument}
-use Rattle.nr_levels.specs.Frames.{part}
+use Rattle.nr_levels.specs.Frame.{part}
 use Rattle.nr_levels.specs.declared.frame.Span.{Span}
 use Rattle.nr_levels.proofs.Pushing.{argument_is, end_at, length_part}
 use Rattle.nr_levels.proofs.levels.Levels.argument_len.Goals as goal

@@ -1,6 +1,6 @@
 use Rattle.std.proofs.Common.{◌∙◌, ap, ap₂, ◌∷◌, take, drop, true, refl}
 use Rattle.nr_units.specs.Items.{Items}
-use Rattle.nr_levels.specs.Frames.{levels_of}
+use Rattle.nr_levels.specs.Frame.{levels_of}
 use Rattle.nr_levels.specs.declared.frame.Frame.{Frame}
 use Rattle.nr_levels.specs.declared.frame.Reads.TheVariants as reads
 use Rattle.nr_levels.proofs.Stacked.{newest_on, closed_is, below_stands, closed_marked, marked_stands, modes_below, modes_marked, mode_there}

@@ -1,5 +1,5 @@
 use Rattle.std.proofs.Common.{false, refl, arith}
-use Rattle.nr_levels.specs.Frames.{part}
+use Rattle.nr_levels.specs.Frame.{part}
 use Rattle.nr_levels.specs.declared.frame.Reads.TheVariants as reads
 use Rattle.nr_levels.proofs.Pushing.{more_frames, pushed_stands, modes_more, end_at}
 use Rattle.nr_levels.proofs.levels.Levels.open_argument.Goals as goal

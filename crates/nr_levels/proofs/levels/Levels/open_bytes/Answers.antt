@@ -1,7 +1,7 @@
 use Rattle.std.proofs.Common.{None, false, ◌≡◌, ◌++◌, ◌∷◌, ℕ, length, refl, ap, ap₂, ◌∙◌, length-append, arith}
 use Rattle.nr_units.specs.Items.{Items}
 use Rattle.nr_levels.specs.Levels.{Levels, Own, deeper}
-use Rattle.nr_levels.specs.Frames.{levels_of}
+use Rattle.nr_levels.specs.Frame.{levels_of}
 use Rattle.nr_levels.specs.declared.frame.Frame.{Frame}
 use Rattle.nr_levels.specs.declared.frame.Reads.TheVariants as reads
 use Rattle.nr_levels.proofs.Stacked.{same_arguments}

@@ -2,7 +2,7 @@ use Rattle.std.proofs.Common.{None, false, ◌≡◌, ◌++◌, ◌∷◌, ℕ, 
 use Rattle.nr_units.specs.Items.{Items}
 use Rattle.nr_levels.specs.declared.frame.Span.{Span}
 use Rattle.nr_levels.specs.Levels.{Text, deeper}
-use Rattle.nr_levels.specs.Frames.{part, levels_of, spans_from, EndBy}
+use Rattle.nr_levels.specs.Frame.{part, levels_of, spans_from, EndBy}
 use Rattle.nr_levels.specs.declared.frame.Frame.{Frame}
 use Rattle.nr_levels.specs.declared.frame.Reads.TheVariants as reads
 use Rattle.nr_levels.proofs.Pushing.{items_are, has_room, pushed_is, more_frames, pushed_stands, modes_more, same_start, part_new, spans_end, length-spans_from, spans_cut}

@@ -2,7 +2,7 @@ use Rattle.std.proofs.Common.{length, map, refl, ap₂, sym, ◌∙◌, subst, a
 use Rattle.nr_levels.specs.declared.frame.Span.{Span}
 use Rattle.nr_levels.specs.declared.frame.Reads.TheVariants as reads
 use Rattle.nr_levels.specs.Levels.{Text, deeper}
-use Rattle.nr_levels.specs.Frames.{part, arguments_of, levels_of, EndBy}
+use Rattle.nr_levels.specs.Frame.{part, arguments_of, levels_of, EndBy}
 use Rattle.nr_levels.proofs.Stacked.{part_none}
 use Rattle.nr_levels.proofs.Pushing.{more_frames, more_modes, pushed_is, pushed_stands, modes_more}
 use Rattle.nr_levels.proofs.levels.Levels.open_text.Goals as goal

@@ -2,7 +2,7 @@ use Rattle.std.proofs.Common.{ap, sym, ◌∙◌, length, drop, take, ◌-◌, a
 use Rattle.std.proofs.lemmas.Slice.{between_is}
 use Rattle.nr_levels.specs.Levels.{Own}
 use Rattle.nr_levels.proofs.Stacked.{left_is, newest_on, reads_below, part_none, left_none}
-use Rattle.nr_levels.specs.Frames.{mode_of}
+use Rattle.nr_levels.specs.Frame.{mode_of}
 use Rattle.nr_levels.proofs.levels.Levels.rest.Goals as goal
 
 pub returns-then-span : goal.returns-then-span

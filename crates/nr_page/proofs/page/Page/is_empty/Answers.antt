@@ -1,7 +1,7 @@
 use Rattle.std.proofs.Common.{◌≡◌, ap, ◌∙◌, sym, eq-eqb}
 use Rattle.std.proofs.lemmas.Bool.{eqb-true}
 use Rattle.nr_page.specs.Grid.{page_charge}
-use Rattle.nr_page.specs.Sheet.{Sheet}
+use Rattle.nr_page.specs.Page.{Sheet}
 use Rattle.nr_page.proofs.Showing.{nil_from_page_charge}
 use Rattle.nr_page.proofs.page.Page.is_empty.Goals as goal
 

@@ -1,7 +1,7 @@
 use Rattle.std.proofs.Common.{◌≤◌, ◌<◌, [], ◌∷◌, ◌++◌, refl, ◌∙◌, arith}
 use Rattle.nr_page.specs.Grid.{Placed}
 use Rattle.nr_page.specs.Rows.{sheet_of}
-use Rattle.nr_page.specs.Sheet.{Holds}
+use Rattle.nr_page.specs.Page.{Holds}
 use Rattle.nr_page.proofs.Showing.{Holds-push}
 use Rattle.nr_page.proofs.Keeping.{AreAbove-weaker}
 use Rattle.nr_page.proofs.page.Page.place.Goals as goal

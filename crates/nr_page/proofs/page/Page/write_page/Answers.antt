@@ -1,5 +1,5 @@
 use Rattle.nr_page.specs.Rows.{sheet_of}
-use Rattle.nr_page.specs.Sheet.{Holds}
+use Rattle.nr_page.specs.Page.{Holds}
 use Rattle.nr_page.proofs.PageText.{page_bytes_is}
 use Rattle.nr_page.proofs.page.Page.write_page.Goals as goal
 

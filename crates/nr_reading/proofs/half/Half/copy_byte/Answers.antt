@@ -1,8 +1,8 @@
 use Rattle.std.proofs.Common.{true, sym, ap, ◌∙◌}
 use Rattle.std.proofs.lemmas.Bool.{ne_eqb}
 use Rattle.nr_reading.specs.declared.half.Half.{Half}
-use Rattle.nr_reading.specs.Steps.{Step}
-use Rattle.nr_reading.specs.Meeting.{settled, met_copied}
+use Rattle.nr_reading.specs.Step.{Step}
+use Rattle.nr_reading.specs.Half.{settled, met_copied}
 use Rattle.nr_reading.proofs.Newest.{meet-copied}
 use Rattle.nr_reading.proofs.half.Half.copy_byte.Goals as goal
 

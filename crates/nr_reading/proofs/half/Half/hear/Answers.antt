@@ -1,8 +1,8 @@
 use Rattle.std.proofs.Common.{sym, ap, ◌∙◌}
 use Rattle.nr_reading.specs.declared.ask.Answer.{Answer}
 use Rattle.nr_reading.specs.declared.half.Half.{Half}
-use Rattle.nr_reading.specs.Steps.{Step}
-use Rattle.nr_reading.specs.Meeting.{settled, met_copied, answered}
+use Rattle.nr_reading.specs.Step.{Step}
+use Rattle.nr_reading.specs.Half.{settled, met_copied, answered}
 use Rattle.nr_reading.proofs.Newest.{hear_reader, hear_ask}
 use Rattle.nr_reading.proofs.half.Half.hear.Goals as goal
 

@@ -2,8 +2,8 @@ use Rattle.std.proofs.Common.{◌+◌, subst, sym, ap, ◌∙◌, arith}
 use Rattle.nr_reading.specs.declared.event.Event.TheVariants as events
 use Rattle.nr_reading.specs.declared.half.Half.{Half}
 use Rattle.nr_reading.specs.Many.LineBeginnings.{text_begun}
-use Rattle.nr_reading.specs.Meeting.{reads_next}
-use Rattle.nr_reading.specs.Many.Rows.{LeadsOn, MeetsRest}
+use Rattle.nr_reading.specs.Half.{reads_next}
+use Rattle.nr_reading.specs.Many.Row.{LeadsOn, MeetsRest}
 use Rattle.nr_reading.proofs.LineRows.{meet-text}
 use Rattle.nr_reading.proofs.Rows.{stays, taken_last, looks, ends_here}
 use Rattle.nr_reading.proofs.half.Half.meet_beginning.Goals as goal

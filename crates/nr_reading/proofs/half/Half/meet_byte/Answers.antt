@@ -1,7 +1,7 @@
 use Rattle.std.proofs.Common.{ap, ◌∙◌}
 use Rattle.nr_reading.specs.declared.front.Front.TheVariants as fronts
 use Rattle.nr_reading.specs.declared.half.Seen.{Seen}
-use Rattle.nr_reading.specs.Meeting.{met}
+use Rattle.nr_reading.specs.Half.{met}
 use Rattle.nr_reading.proofs.Paying.{pays_for}
 use Rattle.nr_reading.proofs.half.Half.meet_byte.Goals as goal
 

@@ -1,6 +1,6 @@
 use Rattle.std.proofs.Common.{◌≡◌, ◌≤◌, ◌-◌}
 use Rattle.nr_reading.specs.declared.mode.Due.TheVariants as dues
-use Rattle.nr_reading.specs.Many.Rows.{LeadsOn}
+use Rattle.nr_reading.specs.Many.Row.{LeadsOn}
 use Rattle.nr_reading.proofs.half.Half.meet_more.Given as goal
 
 abbrev pub invariant-loop-taken : goal.invariant-loop-taken

@@ -4,8 +4,8 @@ use Rattle.std.proofs.lemmas.Bool.{false≢true, ne_eqb}
 use Rattle.nr_reading.specs.declared.half.Half.{Half}
 use Rattle.nr_reading.specs.declared.spelled.Spelled.{Spelled}
 use Rattle.nr_reading.specs.Many.ControlNames.{NameEnds, goes_on_name}
-use Rattle.nr_reading.specs.Many.Rows.{LeadsOn}
-use Rattle.nr_reading.specs.Spelling.{nothing_spelled, spelled}
+use Rattle.nr_reading.specs.Many.Row.{LeadsOn}
+use Rattle.nr_reading.specs.Spelled.{nothing_spelled, spelled}
 use Rattle.nr_reading.specs.Many.StringRows.{behind_name}
 use Rattle.nr_reading.proofs.Rows.{recount, rest_behind}
 use Rattle.nr_reading.proofs.StringRows.{lone_named, pair_named}

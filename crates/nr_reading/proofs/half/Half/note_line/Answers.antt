@@ -3,7 +3,7 @@ use Rattle.std.proofs.lemmas.List.Elements.{All-get_or}
 use Rattle.nr_reading.specs.declared.front.Front.TheVariants as fronts
 use Rattle.nr_reading.specs.declared.half.Half.{Half}
 use Rattle.nr_reading.specs.Many.InArgument.{IsPlain}
-use Rattle.nr_reading.specs.Many.Rows.{LeadsOn}
+use Rattle.nr_reading.specs.Many.Row.{LeadsOn}
 use Rattle.nr_reading.proofs.RequestRows.{meet-line_byte}
 use Rattle.nr_reading.proofs.KeptBytes.{byte_more, ending_apart, escape_apart}
 use Rattle.nr_reading.proofs.half.Half.note_line.Goals as goal

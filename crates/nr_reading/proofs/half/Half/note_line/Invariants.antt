@@ -2,8 +2,8 @@ use Rattle.std.specs.Prelude.{map}
 use Rattle.std.proofs.Common.{◌≡◌, ◌+◌, ℕ, true}
 use Rattle.nr_reading.specs.declared.front.Front.TheVariants as fronts
 use Rattle.nr_reading.specs.declared.mode.Mode.TheVariants as modes
-use Rattle.nr_reading.specs.Meeting.{reads_next}
-use Rattle.nr_reading.specs.Many.Rows.{LeadsOn}
+use Rattle.nr_reading.specs.Half.{reads_next}
+use Rattle.nr_reading.specs.Many.Row.{LeadsOn}
 use Rattle.nr_reading.proofs.half.Half.note_line.Given as goal
 
 abbrev pub invariant-loop-byte : goal.invariant-loop-byte

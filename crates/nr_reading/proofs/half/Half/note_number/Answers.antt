@@ -4,7 +4,7 @@ use Rattle.nr_reading.specs.declared.front.Front.TheVariants as fronts
 use Rattle.nr_reading.specs.declared.half.Half.{Half}
 use Rattle.nr_reading.specs.declared.mode.Mode.TheVariants as modes
 use Rattle.nr_reading.specs.Many.KeptBytes.{are_in_number}
-use Rattle.nr_reading.specs.Many.Rows.{LeadsOn}
+use Rattle.nr_reading.specs.Many.Row.{LeadsOn}
 use Rattle.nr_reading.proofs.ConditionRows.{meet-number_byte}
 use Rattle.nr_reading.proofs.KeptBytes.{byte_more, in_number}
 use Rattle.nr_reading.proofs.half.Half.note_number.Goals as goal

@@ -1,7 +1,7 @@
 use Rattle.std.proofs.Common.{◌≡◌, ◌+◌, true, take, get_or, sym, ◌∙◌, arith}
 use Rattle.std.proofs.lemmas.List.{take_more}
 use Rattle.std.proofs.lemmas.List.Elements.{All-push}
-use Rattle.nr_reading.specs.Spelling.{is_blank}
+use Rattle.nr_reading.specs.Spelled.{is_blank}
 use Rattle.nr_reading.proofs.many.request_lines.blank_count.Goals as goal
 
 pub loop-byte-preserved : goal.loop-byte-preserved

@@ -1,5 +1,5 @@
 use Rattle.std.proofs.Common.{◌≡◌, All, take, true}
-use Rattle.nr_reading.specs.Spelling.{is_blank}
+use Rattle.nr_reading.specs.Spelled.{is_blank}
 use Rattle.nr_reading.proofs.many.request_lines.blank_count.Given as goal
 
 abbrev pub invariant-loop-byte : goal.invariant-loop-byte

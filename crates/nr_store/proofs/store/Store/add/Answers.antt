@@ -1,6 +1,6 @@
 use Rattle.std.proofs.Common.{[], ◌∷◌, drop, ap, sym, ◌∙◌, refl, arith}
 use Rattle.nr_store.specs.Holders.{beside_of}
-use Rattle.nr_store.specs.Stored.{Stored, charge_of, added}
+use Rattle.nr_store.specs.Store.{Stored, charge_of, added}
 use Rattle.nr_store.proofs.Keeping.{room_for_elements}
 use Rattle.nr_store.proofs.Building.{cons_of, is_within, unaffordable, affordable, one_holder, charge_of-added, added_is, added_stands}
 use Rattle.nr_store.proofs.store.Store.add.Goals as goal

@@ -1,8 +1,8 @@
 use Rattle.std.proofs.Common.{◌≡◌, ◌+◌, ◌≤◌, ◌<◌, ◌==◌, true, length, take, slice_index, ap, sym, ◌∙◌, subst, arith}
 use Rattle.std.proofs.lemmas.List.{length-take}
-use Rattle.nr_levels.specs.Gathered.{Gathering}
+use Rattle.nr_levels.specs.Gathering.{Gathering}
 use Rattle.nr_levels.specs.Laws.{with_bytes-full}
-use Rattle.nr_store.specs.Stored.{Stored, charge_of, gathering}
+use Rattle.nr_store.specs.Store.{Stored, charge_of, gathering}
 use Rattle.nr_store.specs.Holders.{beside_of, stored_of}
 use Rattle.nr_store.proofs.Besides.{extended_charge, extended_stands, gathering_charge}
 use Rattle.nr_store.proofs.store.Store.add_argument_bytes.Goals as goal

@@ -2,7 +2,7 @@ use Rattle.std.proofs.Common.{◌≡◌, ℕ, ◌+◌, ◌≤◌, ◌<◌, List,
 use Rattle.std.proofs.lemmas.List.{length-map, length-take, length-take-le}
 use Rattle.nr_pool.specs.Texts.{Texts}
 use Rattle.nr_store.specs.Holders.{beside_of, stored_of}
-use Rattle.nr_store.specs.Stored.{charge_of, added}
+use Rattle.nr_store.specs.Store.{charge_of, added}
 use Rattle.nr_store.specs.declared.element.Element.{Element}
 use Rattle.nr_store.specs.declared.element.Element.TheVariants as elements
 use Rattle.nr_store.proofs.Keeping.{room_for_elements}

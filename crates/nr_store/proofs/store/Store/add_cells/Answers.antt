@@ -1,7 +1,7 @@
 use Rattle.std.proofs.Common.{◌≡◌, ◌+◌, length, map, drop, ap, sym, ◌∙◌, arith}
 use Rattle.std.proofs.lemmas.List.{length-map}
 use Rattle.nr_store.specs.Holders.{beside_of}
-use Rattle.nr_store.specs.Stored.{Stored, charge_of, added}
+use Rattle.nr_store.specs.Store.{Stored, charge_of, added}
 use Rattle.nr_store.specs.declared.element.Element.TheVariants as elements
 use Rattle.nr_store.proofs.Keeping.{room_for_elements}
 use Rattle.nr_store.proofs.Building.{cons_of, is_within, unaffordable, affordable, one_holder, charge_of-added, added_is, added_stands}

@@ -1,7 +1,7 @@
 use Rattle.std.proofs.Common.{◌≡◌, ◌+◌, [], ◌∷◌, length, drop, ap, sym, ◌∙◌, arith}
 use Rattle.std.specs.Option.{option_map}
 use Rattle.nr_store.specs.Holders.{beside_of}
-use Rattle.nr_store.specs.Stored.{Stored, charge_of, line_of, taken, diverted}
+use Rattle.nr_store.specs.Store.{Stored, charge_of, line_of, taken, diverted}
 use Rattle.nr_store.proofs.Keeping.{room_for_elements}
 use Rattle.nr_store.proofs.Building.{cons_of, is_within, unaffordable, affordable, one_holder, grown_is, grown_stands}
 use Rattle.nr_store.proofs.Lines.{length-line_of, diverted_is, charge_of-diverted}

@@ -1,7 +1,7 @@
 use Rattle.std.proofs.Common.{refl, ap, sym, ◌∙◌, arith}
 use Rattle.nr_store.specs.Holders.{beside_of}
 use Rattle.nr_pool.specs.Texts.{text}
-use Rattle.nr_store.specs.Stored.{afforded, begun}
+use Rattle.nr_store.specs.Store.{afforded, begun}
 use Rattle.nr_store.proofs.Keeping.{room_for_a_text}
 use Rattle.nr_store.proofs.Building.{is_within, room_for_a_draft}
 use Rattle.nr_store.proofs.Admitting.{no_text_of, some_text_of, is_named}

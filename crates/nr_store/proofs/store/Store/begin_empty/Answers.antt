@@ -1,6 +1,6 @@
 use Rattle.std.proofs.Common.{[], ap, ◌∙◌, refl, arith}
 use Rattle.nr_store.specs.Holders.{beside_of}
-use Rattle.nr_store.specs.Stored.{begun}
+use Rattle.nr_store.specs.Store.{begun}
 use Rattle.nr_store.proofs.Keeping.{room_for_a_text}
 use Rattle.nr_store.proofs.Building.{begun_is, begun_stands, room_for_a_draft}
 use Rattle.nr_store.proofs.store.Store.begin_empty.Goals as goal

@@ -3,9 +3,9 @@ use Rattle.std.specs.Option.{option_map}
 use Rattle.std.proofs.lemmas.Bool.{leb-true, leb-false}
 use Rattle.nr_pool.specs.Texts.{text, holders, with_holders}
 use Rattle.nr_levels.specs.Levels.{Text, deeper, cut}
-use Rattle.nr_levels.specs.Gathered.{gathered_len, bytes_in}
+use Rattle.nr_levels.specs.Gathering.{gathered_len, bytes_in}
 use Rattle.nr_levels.specs.Laws.{cut_joined, length-joined, sum-lengths}
-use Rattle.nr_store.specs.Stored.{Stored, checked, called, ungathered}
+use Rattle.nr_store.specs.Store.{Stored, checked, called, ungathered}
 use Rattle.nr_store.specs.Holders.{beside_of, IsStore}
 use Rattle.nr_store.proofs.Keeping.{levels_within}
 use Rattle.nr_store.proofs.Besides.{beside_paid}

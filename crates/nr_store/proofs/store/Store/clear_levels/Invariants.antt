@@ -1,5 +1,5 @@
 use Rattle.std.proofs.Common.{◌≡◌}
-use Rattle.nr_store.specs.Stored.{emptied}
+use Rattle.nr_store.specs.Store.{emptied}
 use Rattle.nr_store.proofs.Reading.{all_times}
 use Rattle.nr_store.proofs.store.Store.clear_levels.Given as goal
 

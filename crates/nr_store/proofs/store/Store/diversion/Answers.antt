@@ -1,6 +1,6 @@
 use Rattle.std.proofs.Common.{ap, sym, ◌∙◌, arith}
 use Rattle.std.proofs.lemmas.List.{drop_all}
-use Rattle.nr_store.specs.Stored.{Stored, innermost}
+use Rattle.nr_store.specs.Store.{Stored, innermost}
 use Rattle.nr_store.proofs.Diverting.{open_in, innermost_is, not_here, here}
 use Rattle.nr_store.proofs.store.Store.diversion.Goals as goal
 

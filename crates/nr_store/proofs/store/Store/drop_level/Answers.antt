@@ -1,5 +1,5 @@
 use Rattle.std.proofs.Common.{ap, sym, ◌∙◌, arith}
-use Rattle.nr_store.specs.Stored.{Stored, dropped}
+use Rattle.nr_store.specs.Store.{Stored, dropped}
 use Rattle.nr_store.specs.Holders.{beside_of}
 use Rattle.nr_store.proofs.Reading.{newest_text, text_gone, read_open, text_ended, text_ended_stands, text_paid}
 use Rattle.nr_store.proofs.Keeping.{share_paid}

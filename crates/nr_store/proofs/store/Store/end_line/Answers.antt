@@ -2,7 +2,7 @@ use Rattle.std.proofs.Common.{◌≡◌, ◌∷◌, [], drop, ap, sym, ◌∙◌
 use Rattle.std.specs.Option.{option_map}
 use Rattle.nr_store.specs.declared.element.Element.TheVariants.{LineEnd}
 use Rattle.nr_store.specs.Holders.{beside_of}
-use Rattle.nr_store.specs.Stored.{Stored, charge_of, taken, diverted_end}
+use Rattle.nr_store.specs.Store.{Stored, charge_of, taken, diverted_end}
 use Rattle.nr_store.proofs.Keeping.{room_for_elements}
 use Rattle.nr_store.proofs.Building.{cons_of, is_within, unaffordable, affordable, one_holder, grown_is, grown_stands}
 use Rattle.nr_store.proofs.Lines.{diverted_end_is, charge_of-diverted_end}

@@ -1,6 +1,6 @@
 use Rattle.std.proofs.Common.{ap, sym, ◌∙◌}
 use Rattle.nr_store.specs.Holders.{beside_of}
-use Rattle.nr_store.specs.Stored.{Stored, shown}
+use Rattle.nr_store.specs.Store.{Stored, shown}
 use Rattle.nr_store.proofs.Reading.{newest_text, item_shown}
 use Rattle.nr_store.proofs.store.Store.look.Goals as goal
 

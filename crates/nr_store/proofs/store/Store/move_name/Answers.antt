@@ -1,7 +1,7 @@
 use Rattle.std.proofs.Common.{refl, ap, ◌∙◌, arith}
 use Rattle.nr_store.specs.Holders.{beside_of}
-use Rattle.nr_tables.specs.Named.{find}
-use Rattle.nr_tables.specs.Rows.{Table}
+use Rattle.nr_symbol_tables.specs.Table.{find}
+use Rattle.nr_symbol_tables.specs.Rows.{Table}
 use Rattle.nr_store.proofs.Dropping.{text_dropped, request_given_up, taken_none, unmoved, room_again, changed_new, changed_again}
 use Rattle.nr_store.proofs.store.Store.move_name.Goals as goal
 

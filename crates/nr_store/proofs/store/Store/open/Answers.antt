@@ -3,7 +3,7 @@ use Rattle.std.specs.Option.{option_map}
 use Rattle.std.proofs.lemmas.Bool.{leb-true, leb-false}
 use Rattle.nr_store.specs.Holders.{beside_of}
 use Rattle.nr_pool.specs.Texts.{text}
-use Rattle.nr_store.specs.Stored.{Stored, checked, shared_by, entered}
+use Rattle.nr_store.specs.Store.{Stored, checked, shared_by, entered}
 use Rattle.nr_store.proofs.Keeping.{levels_within}
 use Rattle.nr_store.proofs.Building.{is_within}
 use Rattle.nr_store.proofs.Entering.{entered_is, entered_stands}

@@ -2,10 +2,10 @@ use Rattle.std.proofs.Common.{◌≡◌, ◌+◌, ◌++◌, ◌∷◌, [], set, 
 use Rattle.std.specs.List.{position}
 use Rattle.std.proofs.lemmas.List.{length-set}
 use Rattle.std.proofs.lemmas.List.Quantifiers.{position-Some}
-use Rattle.nr_tables.specs.Traps.{is_at, put_trap}
+use Rattle.nr_symbol_tables.specs.Trap.{is_at, put_trap}
 use Rattle.std.proofs.Math.Facts.{to_z-of_z}
-use Rattle.nr_tables.specs.declared.trap.Trap.{Trap}
-use Rattle.nr_store.specs.Stored.{Stored, charge_of, trap_planted}
+use Rattle.nr_symbol_tables.specs.declared.trap.Trap.{Trap}
+use Rattle.nr_store.specs.Store.{Stored, charge_of, trap_planted}
 use Rattle.nr_store.specs.Holders.{beside_of, stored_of}
 use Rattle.nr_store.proofs.Building.{is_within, unaffordable, affordable}
 use Rattle.nr_store.proofs.Besides.{beside_paid, beside_charge, beside_stands}

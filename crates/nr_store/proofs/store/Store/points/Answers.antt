@@ -1,9 +1,9 @@
 use Rattle.std.proofs.Common.{◌≡◌, [], map, Some, ap, sym, ◌∙◌}
 use Rattle.std.specs.Prelude.{find, unwrap_or}
 use Rattle.std.specs.Option.{option_map}
-use Rattle.nr_tables.specs.Words.{Word, bytes_of, stem, is_given}
-use Rattle.nr_tables.specs.Given.{word_in}
-use Rattle.nr_store.specs.Stored.{Stored}
+use Rattle.nr_symbol_tables.specs.Word.{Word, bytes_of, stem, is_given}
+use Rattle.nr_symbol_tables.specs.Given.{word_in}
+use Rattle.nr_store.specs.Store.{Stored}
 use Rattle.nr_store.proofs.Hyphenating.{this_word, next_word}
 use Rattle.nr_store.proofs.store.Store.points.Goals as goal
 

@@ -1,7 +1,7 @@
 use Rattle.std.proofs.Common.{◌≡◌, map, drop}
 use Rattle.std.specs.Prelude.{find}
-use Rattle.nr_tables.specs.Words.{bytes_of, is_given}
-use Rattle.nr_tables.specs.Given.{word_in}
+use Rattle.nr_symbol_tables.specs.Word.{bytes_of, is_given}
+use Rattle.nr_symbol_tables.specs.Given.{word_in}
 use Rattle.nr_store.proofs.store.Store.points.Given as goal
 
 abbrev pub invariant-loop-n : goal.invariant-loop-n

@@ -1,6 +1,6 @@
 use Rattle.std.proofs.Common.{◌≡◌, ◌+◌, ap, sym, ◌∙◌, arith}
-use Rattle.nr_tables.specs.Named.{put}
-use Rattle.nr_store.specs.Stored.{Stored, charge_of, with_register}
+use Rattle.nr_symbol_tables.specs.Table.{put}
+use Rattle.nr_store.specs.Store.{Stored, charge_of, with_register}
 use Rattle.nr_store.specs.Holders.{beside_of}
 use Rattle.nr_store.proofs.Building.{is_within, unaffordable, affordable}
 use Rattle.nr_store.proofs.Besides.{beside_charge, beside_stands, put_length, put_length_new}

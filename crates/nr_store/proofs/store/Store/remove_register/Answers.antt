@@ -1,5 +1,5 @@
 use Rattle.std.proofs.Common.{◌-◌, sym, ◌∙◌, arith}
-use Rattle.nr_tables.specs.Named.{without}
+use Rattle.nr_symbol_tables.specs.Table.{without}
 use Rattle.nr_store.specs.Holders.{beside_of}
 use Rattle.nr_store.proofs.Naming.{without_none}
 use Rattle.nr_store.proofs.Besides.{beside_paid, beside_stands, without_length}

@@ -1,7 +1,7 @@
 use Rattle.std.proofs.Common.{ap, sym, ◌∙◌}
 use Rattle.std.proofs.Math.Facts.{to_z-of_z}
-use Rattle.nr_tables.specs.Traps.{without_trap}
-use Rattle.nr_store.specs.Stored.{Stored, trap_removed}
+use Rattle.nr_symbol_tables.specs.Trap.{without_trap}
+use Rattle.nr_store.specs.Store.{Stored, trap_removed}
 use Rattle.nr_store.specs.Holders.{beside_of, stored_of}
 use Rattle.nr_store.proofs.store.Store.remove_trap.Goals as goal
 

@@ -1,5 +1,5 @@
 use Rattle.std.proofs.Common.{◌≤◌, length, subst, sym, ap, ◌∙◌}
-use Rattle.nr_store.specs.Stored.{Stored}
+use Rattle.nr_store.specs.Store.{Stored}
 use Rattle.nr_store.specs.Windows.{rest_of, run_left}
 use Rattle.nr_store.specs.Laws.{left_times-run}
 use Rattle.nr_store.specs.Holders.{beside_of}

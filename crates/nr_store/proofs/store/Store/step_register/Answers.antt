@@ -1,5 +1,5 @@
 use Rattle.std.proofs.Common.{sym, ◌∙◌, arith}
-use Rattle.nr_tables.specs.Named.{put}
+use Rattle.nr_symbol_tables.specs.Table.{put}
 use Rattle.nr_store.specs.Holders.{beside_of}
 use Rattle.nr_store.proofs.Besides.{beside_stands, put_length}
 use Rattle.nr_store.proofs.store.Store.step_register.Goals as goal

@@ -1,6 +1,6 @@
 use Rattle.std.proofs.Common.{ap, sym, ◌∙◌, arith}
 use Rattle.nr_store.specs.Holders.{beside_of}
-use Rattle.nr_store.specs.Stored.{Stored, shown, left}
+use Rattle.nr_store.specs.Store.{Stored, shown, left}
 use Rattle.nr_store.proofs.Reading.{newest_text, item_shown, item_left, end_left, read_open, text_ended, text_ended_stands, text_paid}
 use Rattle.nr_store.proofs.Keeping.{text_small, share_paid}
 use Rattle.nr_store.proofs.store.Store.take.Goals as goal

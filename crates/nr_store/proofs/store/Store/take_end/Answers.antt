@@ -1,6 +1,6 @@
 use Rattle.std.proofs.Common.{ap, sym, ◌∙◌, arith}
 use Rattle.nr_store.specs.Holders.{beside_of}
-use Rattle.nr_store.specs.Stored.{Stored, left}
+use Rattle.nr_store.specs.Store.{Stored, left}
 use Rattle.nr_store.proofs.Reading.{newest_text, end_left, read_open, text_ended, text_ended_stands, text_paid}
 use Rattle.nr_store.proofs.Keeping.{share_paid}
 use Rattle.nr_store.proofs.store.Store.take_end.Goals as goal

@@ -1,5 +1,5 @@
 use Rattle.std.proofs.Common.{ap, sym, ◌∙◌, arith}
-use Rattle.nr_store.specs.Stored.{afforded, written}
+use Rattle.nr_store.specs.Store.{afforded, written}
 use Rattle.nr_store.specs.Holders.{beside_of}
 use Rattle.nr_store.proofs.Building.{is_within, affordable}
 use Rattle.nr_store.proofs.store.Store.write_register.Goals as goal

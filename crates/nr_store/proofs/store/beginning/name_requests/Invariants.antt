@@ -1,5 +1,5 @@
 use Rattle.std.proofs.Common.{◌≡◌, ◌+◌, ◌≤◌, length, drop}
-use Rattle.nr_store.specs.Requests.{with_senses}
+use Rattle.nr_store.specs.Request.{with_senses}
 use Rattle.nr_store.proofs.store.beginning.name_requests.Given as goal
 
 abbrev pub invariant-loop-entry : goal.invariant-loop-entry

@@ -1,6 +1,6 @@
 use Rattle.std.proofs.Common.{◌++◌, [], ◌∷◌, replicate, ap, ◌∙◌, arith}
 use Rattle.std.proofs.lemmas.List.{replicate_more, length-replicate}
-use Rattle.nr_store.specs.Stored.{blank_cell}
+use Rattle.nr_store.specs.Store.{blank_cell}
 use Rattle.nr_store.specs.declared.element.Element.TheVariants as elements
 use Rattle.nr_store.proofs.Lines.{with_more, none_more, more_open, one_more}
 use Rattle.nr_store.proofs.store.lines.append_blanks.Goals as goal

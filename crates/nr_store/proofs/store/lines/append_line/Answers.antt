@@ -1,6 +1,6 @@
 use Rattle.std.proofs.Common.{◌++◌, [], ◌∷◌, map, replicate, ap, ◌∙◌, append_assoc, length-append, arith}
 use Rattle.std.proofs.lemmas.List.{length-map, length-replicate}
-use Rattle.nr_store.specs.Stored.{blank_cell}
+use Rattle.nr_store.specs.Store.{blank_cell}
 use Rattle.nr_store.specs.declared.element.Element.TheVariants as elements
 use Rattle.nr_store.proofs.Lines.{with_more, more_open, more_used, more_more, one_more}
 use Rattle.nr_store.proofs.store.lines.append_line.Goals as goal

@@ -1,6 +1,6 @@
 use Rattle.std.proofs.Common.{◌≡◌, ◌+◌, ◌-◌, take, drop, ap, sym, ◌∙◌, subst, arith}
 use Rattle.std.proofs.lemmas.List.{drop-take}
-use Rattle.nr_units.specs.Supply.{buffered_supply, Offers}
+use Rattle.nr_units.specs.Source.{buffered_supply, Offers}
 use Rattle.nr_units.proofs.Offering.{offers_buffered}
 use Rattle.nr_units.proofs.buffered.BufferedSource.window.Goals as goal
 

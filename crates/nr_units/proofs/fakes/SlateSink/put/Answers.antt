@@ -1,6 +1,6 @@
 use Rattle.std.proofs.Common.{◌-◌, length, take, drop, sym, ap, ◌∙◌}
 use Rattle.std.proofs.lemmas.List.{take-append-drop}
-use Rattle.nr_units.specs.Held.{Slate}
+use Rattle.nr_units.specs.Sink.{Slate}
 use Rattle.nr_units.proofs.fakes.SlateSink.put.Goals as goal
 
 -- the front is what fits

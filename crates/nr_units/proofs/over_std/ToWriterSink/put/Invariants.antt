@@ -1,7 +1,7 @@
 -- The writer took the bytes before `done`.
 use Rattle.std.proofs.Common.{◌≡◌, length, ◌-◌, ◌≤◌, take}
 use Rattle.std.specs.Io.KnownBytes.{Appends}
-use Rattle.nr_units.specs.Held.{passed_on_with}
+use Rattle.nr_units.specs.Sink.{passed_on_with}
 use Rattle.nr_units.proofs.over_std.ToWriterSink.put.Given as goal
 
 abbrev pub invariant-loop-done : goal.invariant-loop-done

@@ -1,6 +1,6 @@
 use Rattle.std.proofs.Common.{◌≡◌, ◌-◌, length, map, take, drop, sym, ap, ◌∙◌, arith, length-drop}
 use Rattle.std.proofs.lemmas.List.{take_all, drop-map}
-use Rattle.nr_input.specs.Coming.{element_front}
+use Rattle.nr_input.specs.Place.{element_front}
 use Rattle.nr_input.proofs.many.level_rows.ElementRowTail.behind.Goals as goal
 
 pub returns : goal.returns

@@ -1,0 +1,7 @@
+pub mod Chained
+pub mod Files
+pub mod Inputs
+pub mod Settings
+pub mod Job
+pub mod Usage
+pub mod Words

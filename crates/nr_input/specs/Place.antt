@@ -1,0 +1,194 @@
+-- The bytes of the source that are to come, item by item, and how the program stands before them.
+use Prim.Native.Char.{code}
+use Rattle.std.specs.Prelude.{◌≡◌, ℕ, ◌+◌, ◌≤◌, ◌^◌, Bool, true, false, not, ◌==◌, ◌&&◌, if◌then◌else◌, List, [], ◌∷◌, Option, Some, Result, Ok, Err, ⊤}
+use Rattle.nr_units.specs.Source.{Supply, Never, MayFail, MayGive, one_later}
+use Rattle.nr_store.specs.declared.element.Element.{Element}
+use Rattle.nr_store.specs.declared.element.Element.TheVariants as elements
+use Rattle.nr_store.specs.declared.shown.Shown.{Shown}
+use Rattle.nr_store.specs.declared.shown.Shown.TheVariants as shows
+use Rattle.nr_reading.specs.declared.front.Front.{Front}
+use Rattle.nr_reading.specs.declared.front.Front.TheVariants as fronts
+use Rattle.nr_input.specs.declared.place.Ahead.{Ahead}
+use Rattle.nr_input.specs.declared.place.Ahead.TheVariants.{Unseen, Byte, End, Failed, TooMany}
+use Rattle.nr_input.specs.declared.refusal.Refusal.{Refusal}
+use Rattle.nr_input.specs.declared.refusal.Refusal.TheVariants as refusals
+
+pub record Coming : Type 0 where
+  -- the bytes that are to come, and when the source of them fails
+  pub supply : Supply
+  -- how many bytes were taken
+  pub taken : ℕ
+  -- the last of them is no newline: one is added behind it where the input ends
+  pub inside : Bool
+
+-- the whole input
+abbrev pub whole : Supply → Coming
+whole supply = record { supply = supply; taken = 0; inside = false }
+
+-- nothing of it any more
+abbrev pub emptied : Coming → Coming
+emptied c = record { supply = record { bytes = []; faults = Never }; taken = c.taken; inside = false }
+
+-- ---- the items
+
+-- what the source has in front: a byte, the newline that is added, or nothing
+abbrev pub front_of : List ℕ → Bool → Front
+front_of (b ∷ bs) inside = fronts.Byte b
+front_of [] true = fronts.Byte (code "\n")
+front_of [] false = fronts.Over
+
+abbrev pub element_front : Element → Front
+element_front (elements.Byte b) = fronts.Byte b
+element_front (elements.Cell c) = fronts.Cell c
+element_front (elements.LineEnd h) = fronts.LineEnd h
+
+-- the item in front of the list: the levels' first, by what a look at them shows
+abbrev pub front : {K : Type 0} → Shown K → Coming → Front
+front shows.Nothing c = front_of c.supply.bytes c.inside
+front shows.End c = fronts.Mark
+front (shows.Item x) c = element_front x
+front (shows.Resume k) c = fronts.Resume
+
+abbrev pub behind_front_of : List ℕ → Coming → Coming
+behind_front_of (b ∷ bs) c = record { supply = record { bytes = bs; faults = one_later c.supply.faults }; taken = c.taken + 1; inside = not (b == code "\n") }
+behind_front_of [] c = record c { inside = false }
+
+-- what is to come of the source behind the item in front of the list
+abbrev pub behind : {K : Type 0} → Shown K → Coming → Coming
+behind shows.Nothing c = behind_front_of c.supply.bytes c
+behind s c = c
+
+-- the byte that is there, if one is, would be the 2^40th
+abbrev pub IsOneTooMany : List ℕ → ℕ → Type 0
+IsOneTooMany [] taken = ⊥
+IsOneTooMany (b ∷ bs) taken = 2 ^ 40 ≤ taken + 1
+
+-- the source may be looked at
+abbrev pub MaySee : Coming → Type 0
+MaySee c = MayGive c.supply.faults × (IsOneTooMany c.supply.bytes c.taken → ⊥)
+
+-- it may refuse that
+abbrev pub RefusesSight : Coming → Refusal → Type 0
+RefusesSight c refusals.ReadFault = MayFail c.supply.faults
+RefusesSight c refusals.TooLong = MayGive c.supply.faults × IsOneTooMany c.supply.bytes c.taken
+RefusesSight c r = ⊥
+
+-- ---- the program
+
+-- how far it took the source, with what it read ahead
+pub record Reached : Type 0 where
+  pub ahead : Ahead
+  pub taken : ℕ
+  pub inside : Bool
+
+abbrev pub nothing_reached : Reached
+nothing_reached = record { ahead = Unseen; taken = 0; inside = false }
+
+-- how many bytes were read ahead
+abbrev pub waiting : Ahead → ℕ
+waiting (Byte b) = 1
+waiting a = 0
+
+abbrev pub is_seen : Ahead → Bool
+is_seen (Byte b) = true
+is_seen End = true
+is_seen a = false
+
+-- What was read ahead is still to come, and the source goes on behind it; and what it refused it refuses still.
+abbrev pub HoldsSupply : Coming → Ahead → Option Supply → Type 0
+HoldsSupply c Unseen supply = supply ≡ Some c.supply
+HoldsSupply c End supply = (c.supply.bytes ≡ []) × MaySee c
+HoldsSupply c (Byte b) supply =
+    (bs : List ℕ) × (c.supply.bytes ≡ b ∷ bs) × MaySee c × (supply ≡ Some (record { bytes = bs; faults = one_later c.supply.faults }))
+HoldsSupply c Failed supply = RefusesSight c refusals.ReadFault
+HoldsSupply c TooMany supply = RefusesSight c refusals.TooLong
+
+-- the program stands before this input, in front of a source that is about to give its bytes
+pub record HoldsComing (c : Coming) (p : Reached) (supply : Option Supply) : Type 0 where
+  pub taken : p.taken ≡ c.taken
+  pub inside : p.inside ≡ c.inside
+  pub stands : HoldsSupply c p.ahead supply
+
+-- the source was looked at, or not
+abbrev pub AfterSee : Coming → Result (Unit {0}) Refusal → Reached → Option Supply → Type 0
+AfterSee c (Ok x) p supply = HoldsComing c p supply × MaySee c
+AfterSee c (Err r) p supply = HoldsComing c p supply × RefusesSight c r
+
+-- the source is looked at where there is no level
+abbrev pub MayLook : {K : Type 0} → Shown K → Coming → Type 0
+MayLook shows.Nothing c = MaySee c
+MayLook s c = Unit {0}
+
+abbrev pub RefusesLook : {K : Type 0} → Shown K → Coming → Refusal → Type 0
+RefusesLook shows.Nothing c r = RefusesSight c r
+RefusesLook s c r = ⊥
+
+-- the front of the list was looked at, or not
+abbrev pub AfterLook : {K : Type 0} → Shown K → Coming → Result Front Refusal → Reached → Option Supply → Type 0
+AfterLook s c (Ok f) p supply = (f ≡ front s c) × HoldsComing c p supply × MayLook s c
+AfterLook s c (Err r) p supply = HoldsComing c p supply × RefusesLook s c r
+
+-- the front of the list was looked at
+abbrev pub is_ready : {K : Type 0} → Shown K → Ahead → Bool
+is_ready shows.Nothing ahead = is_seen ahead
+is_ready s ahead = true
+
+-- what the source has in front, once it was looked at
+abbrev pub seen_front : Ahead → Bool → Front
+seen_front (Byte b) inside = fronts.Byte b
+seen_front End inside = if inside then fronts.Byte (code "\n") else fronts.Over
+seen_front a inside = fronts.Over
+
+-- behind it
+abbrev pub passed_by : Ahead → Reached → Reached
+passed_by (Byte b) p = record { ahead = Unseen; taken = p.taken + 1; inside = not (b == code "\n") }
+passed_by End p = record p { inside = false }
+passed_by a p = p
+
+abbrev pub passed : Reached → Reached
+passed p = passed_by p.ahead p
+
+-- the item in front, as the program sees it once the source was looked at
+abbrev pub front_seen : {K : Type 0} → Shown K → Reached → Front
+front_seen shows.Nothing p = seen_front p.ahead p.inside
+front_seen shows.End p = fronts.Mark
+front_seen (shows.Item x) p = element_front x
+front_seen (shows.Resume k) p = fronts.Resume
+
+-- behind it: where there is a level the source stays
+abbrev pub passed_in : {K : Type 0} → Shown K → Reached → Reached
+passed_in shows.Nothing p = passed p
+passed_in s p = p
+
+-- nothing is to come of the source
+abbrev pub ended : Reached → Reached
+ended p = record p { ahead = End; inside = false }
+
+-- what was read ahead may be another, all else is as it was
+pub record StaysThere (p q : Reached) : Type 0 where
+  pub taken : q.taken ≡ p.taken
+  pub inside : q.inside ≡ p.inside
+
+abbrev pub is_read_fault : {X : Type 0} → Result X Refusal → Bool
+is_read_fault (Err refusals.ReadFault) = true
+is_read_fault r = false
+
+abbrev pub has_failed : Ahead → Bool
+has_failed Failed = true
+has_failed a = false
+
+-- what the source refused is kept
+abbrev pub KeepsRefusal : {X : Type 0} → Result X Refusal → Ahead → Type 0
+KeepsRefusal (Err refusals.ReadFault) ahead = ahead ≡ Failed
+KeepsRefusal (Err refusals.TooLong) ahead = ahead ≡ TooMany
+KeepsRefusal r ahead = ⊤
+
+-- and refused again wherever the source would be looked at
+abbrev pub RefusesAgain : {X : Type 0} → Ahead → Result X Refusal → Type 0
+RefusesAgain Failed r = r ≡ Err refusals.ReadFault
+RefusesAgain TooMany r = r ≡ Err refusals.TooLong
+RefusesAgain ahead r = ⊤
+
+-- the source fails in this very call
+abbrev pub fails_now : {X : Type 0} → Ahead → Result X Refusal → Bool
+fails_now ahead r = is_read_fault r && not (has_failed ahead)

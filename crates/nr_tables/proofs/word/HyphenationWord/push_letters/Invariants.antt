@@ -1,7 +1,0 @@
-use Rattle.std.proofs.Common.{take}
-use Rattle.nr_tables.specs.Words.{letters_of}
-use Rattle.nr_tables.specs.Given.{IsLonger}
-use Rattle.nr_tables.proofs.word.HyphenationWord.push_letters.Given as goal
-
-abbrev pub invariant-loop-byte : goal.invariant-loop-byte
-invariant-loop-byte l = IsLonger l.initial.self l.self (letters_of (take l.byte-index l.given))

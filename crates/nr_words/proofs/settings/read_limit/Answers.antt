@@ -1,5 +1,0 @@
-use Rattle.std.proofs.Common.{rules}
-use Rattle.nr_words.proofs.settings.read_limit.Goals as goal
-
-pub returns-then-admits : goal.returns-then-admits
-returns-then-admits c = search rules
