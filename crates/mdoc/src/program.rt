@@ -51,7 +51,7 @@ fn borrowed(words: &[String], alloc: Global) -> Result<Vec<&str>, AllocError> {
     Ok(borrowed)
 }
 
-/// Runs the program over the words behind its name. All files are opened before the first is read, and
+/// Runs the program over the words after its name. All files are opened before the first is read, and
 /// nothing is opened where the first word is an option.
 fn run_words<'a, R: Files, I: Read + Copy + Drop, W: Sink>(
     system: &R,

@@ -35,7 +35,7 @@ parted_at [] n x e = cc
 parted_at (y ∷ xs) zero x e = cc
 parted_at (y ∷ xs) (suc n) x e = ap (λ l. y ∷ l) (parted_at xs n x e)
 
--- behind the last place there is no more
+-- after the last place there is no more
 pub take-none : {A : Type 0} (xs : List A) (n : ℕ) → slice_get xs n ≡ None → take n xs ≡ xs
 take-none [] n e = take_all n [] (omega arith)
 take-none (y ∷ xs) zero e = cc

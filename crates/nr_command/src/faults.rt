@@ -10,7 +10,7 @@ use nr_engine::{Fault, Measure, Outcome, Sink, WriteFault};
 
 /// Writes the one line that tells how a run ended, and nothing where it is done.
 ///
-/// `WriteFault` where the sink failed; a front of the line went out then.
+/// `WriteFault` where the sink failed; a prefix of the line went out then.
 pub fn fault_line<W: Sink>(outcome: &Outcome, errors: &mut W) -> Result<(), WriteFault>
     ensures ok { OnOk result (Appends (W.held errors.old) (W.held errors.new) (line_of outcome.now)) }
     ensures err { OnErr result (AppendsFront (W.held errors.old) (W.held errors.new) (line_of outcome.now)) }

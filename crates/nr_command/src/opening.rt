@@ -39,7 +39,7 @@ pub trait Opener<'b> {
 /// Why a job is not run.
 #[derive(Clone, Copy, Debug, Error)]
 pub enum NotRun<'a> {
-    /// This text can't be opened. Those before it were, and none behind it was asked for.
+    /// This text can't be opened. Those before it were, and none after it was asked for.
     #[error("cannot open {}", Name(.0))]
     CannotOpen(Input<'a>),
     /// There was not enough memory.
@@ -109,7 +109,7 @@ pub fn open_texts<'a, 'b, O: Opener<'b>, M: Memory>(
 
 /// Writes the one line that tells a text that can't be opened.
 ///
-/// `WriteFault` where the sink failed; a front of the line went out then.
+/// `WriteFault` where the sink failed; a prefix of the line went out then.
 pub fn unopened_line<W: Sink>(input: &Input<'_>, errors: &mut W) -> Result<(), WriteFault>
     ensures ok { OnOk result (Appends (W.held errors.old) (W.held errors.new) (unopened_text (reading_of input.now))) }
     ensures err { OnErr result (AppendsFront (W.held errors.old) (W.held errors.new) (unopened_text (reading_of input.now))) }

@@ -66,7 +66,7 @@ fn borrowed(words: &[String], alloc: Global) -> Result<Vec<&str>, AllocError>
     Ok(borrowed)
 }
 
-/// Runs the program over the words behind its name, and gives its status: 2 where a word is bad, and
+/// Runs the program over the words after its name, and gives its status: 2 where a word is bad, and
 /// then nothing is opened, read or written but the line that tells the first bad one; 3 where a text
 /// can't be opened, the first of which is told; 5 where memory was refused, which is told; and else that
 /// of `run_over`.

@@ -45,7 +45,7 @@ pub fn run_over<R: Source, W: Sink, E: Sink>(
     }
 }
 
-/// Formats the input within the desk, and flushes the output; that it does so behind a write fault too no
+/// Formats the input within the desk, and flushes the output; that it does so after a write fault too no
 /// clause says.
 pub(crate) fn run_desk<R: Source, W: Sink>(
     desk: &mut Desk,

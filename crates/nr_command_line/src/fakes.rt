@@ -12,7 +12,7 @@ use std::rt::{Env, Files};
 pub enum Page<'a> {
     /// These bytes.
     Bytes(&'a [u8]),
-    /// These bytes, behind which each call fails.
+    /// These bytes, after which each call fails.
     Cut(&'a [u8]),
 }
 

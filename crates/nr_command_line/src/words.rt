@@ -18,7 +18,7 @@ pub trait CommandLine {
     /// What may stand at a place: a word, or nothing.
     ghost may_stand: { Self → ℕ → Option (List ℕ) → Type 0 };
 
-    /// The word at a place, and `None` behind the last. The program's name is at 0.
+    /// The word at a place, and `None` after the last. The program's name is at 0.
     fn word(&self, place: usize) -> Result<Option<String>, AllocError>
         ensures { IfOk result (λ word. may_stand self.now place (option_map string_bytes word)) };
 }
@@ -58,7 +58,7 @@ impl<R: Env> CommandLine for SystemWords<'_, R> {
     }
 }
 
-/// The words behind the program's name, in order.
+/// The words after the program's name, in order.
 pub fn words_of<C: CommandLine>(line: &C, alloc: Global) -> Result<Vec<String>, AllocError>
     ensures { IfOk result (λ words. AreWords (C.may_stand line.now) (map string_bytes words.items)) }
 {

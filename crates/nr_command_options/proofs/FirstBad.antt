@@ -69,7 +69,7 @@ AreFew-full before other more few full = full
 
 -- ---- the first bad word
 
--- a word is bad behind these, and if its form is good it has one meaning
+-- a word is bad after these, and if its form is good it has one meaning
 abbrev pub IsBadOnly : List Meaning → Case → List ℕ → Type 0
 IsBadOnly before TooMany word = (meaning : Meaning) × OnlyMeans meaning word × IsFull before meaning
 IsBadOnly before LeftOut word = IsIllFormed LeftOut word
@@ -85,7 +85,7 @@ IsBad-only before BadValue word bad = bad
 full_along : (before : List Meaning) (a b : Meaning) → a ≡ b → IsFull before a → IsFull before b
 full_along before a b is full = subst (λ (m : Meaning). IsFull before m) is full
 
--- a bad word is none that means this behind these
+-- a bad word is none that means this after these
 BadOnly-means : (before : List Meaning) (case : Case) (word : List ℕ) (meaning : Meaning) (more : List Meaning) → IsBadOnly before case word → Means meaning word → AreFew (before ++ meaning ∷ more) → ⊥
 BadOnly-means before TooMany word meaning more bad means few =
     AreFew-full before meaning more few (full_along before bad.0 meaning (sym (bad.1.only meaning means)) bad.2)
@@ -121,7 +121,7 @@ Bad-one before BadValue BadValue word a b = refl
 
 -- ---- the words before it
 
--- one more behind these, and then the others
+-- one more after these, and then the others
 one_more : (P : List Meaning → Type 0) (before : List Meaning) (meaning : Meaning) (more : List Meaning) → P (before ++ meaning ∷ more) → P ((before ++ meaning ∷ []) ++ more)
 one_more P before meaning more p = subst P (sym (append_assoc before (meaning ∷ []) more)) p
 

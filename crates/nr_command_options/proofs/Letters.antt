@@ -15,7 +15,7 @@ known_below letter among = grind (arith, nat_tests)
 pub left_out_below : (letter : ℕ) → IsTrue (is_among left_out_letters letter) → letter < 128
 left_out_below letter among = grind (arith, nat_tests)
 
--- an option begins with `-` and has a byte behind it
+-- an option begins with `-` and has a byte after it
 pub option_parts : (word : List ℕ) → is_option word ≡ true → (letter : ℕ) × (value : List ℕ) × (word ≡ hyphen ∷ letter ∷ value)
 option_parts [] is = cc
 option_parts (byte ∷ []) is = cc

@@ -1,4 +1,4 @@
--- The words that are options, and the files behind them.
+-- The words that are options, and the files after them.
 use Rattle.std.proofs.Common.{◌≡◌, ℕ, zero, suc, ◌+◌, ◌<◌, ◌≤◌, true, List, [], ◌∷◌, ◌++◌, length, length-take, take, drop, get_or, get_or-take, refl, sym, ap, ◌∙◌, arith}
 use Rattle.std.proofs.lemmas.List.{take_more}
 use Rattle.std.proofs.lemmas.List.Folds.{length-prefix_len}
@@ -45,7 +45,7 @@ option_at words firsts n i d firsts_are n_is within =
     let same : (get_or firsts i d).now ≡ get_or (texts words) i d.now = ap (λ (xs : List (Bor (List ℕ))). (get_or xs i d).now) firsts_are ∙ ap (λ (w : Bor (List ℕ)). w.now) (get_or-take n words i d below) ∙ sym (texts-get_or words i d) in
     rw same (prefix_len_passes is_option (texts words) i d.now (omega (arith, front)))
 
--- the words are those before one, that one, and those behind it
+-- the words are those before one, that one, and those after it
 pub texts_cut : (words : List (Bor (List ℕ))) (i : ℕ) (d : Bor (List ℕ)) → i < length words → texts words ≡ texts (take i words) ++ (get_or words i d).now ∷ texts (drop (suc i) words)
 texts_cut [] i d within = absurd (omega arith)
 texts_cut (word ∷ words) zero d within = refl

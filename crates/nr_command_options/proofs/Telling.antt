@@ -9,7 +9,7 @@ pub on_err_always : {T E P : Type 0} (r : Result T E) → P → OnErr r P
 on_err_always (Ok x) p = tt
 on_err_always (Err e) p = p
 
--- xs was written before, and the last write took a front of ys, if it failed
+-- xs was written before, and the last write took a prefix of ys, if it failed
 pub AppendsFront-last : {T E : Type 0} (r : Result T E) (a b c : Option (List ℕ)) (xs ys : List ℕ) → Appends a b xs → OnErr r (AppendsFront b c ys) → OnErr r (AppendsFront a c (xs ++ ys))
 AppendsFront-last (Ok x) a b c xs ys p q = tt
 AppendsFront-last (Err e) a b c xs ys p q = AppendsFront-after a b c xs ys p q

@@ -1,4 +1,4 @@
--- Files read one after the other, and a newline behind each that is not empty and lacks it.
+-- Files read one after the other, and a newline after each that is not empty and lacks it.
 use Prim.Native.Char.{code}
 use Rattle.std.specs.Prelude.{ℕ, ◌+◌, ◌%◌, ◌^◌, sum_by, List, [], ◌∷◌, ◌++◌, length, drop, slice_index_or, Bool, true, false, not, ◌==◌, nat_le, if◌then◌else◌, Option, None, Some}
 use Rattle.std.specs.Option.{option_map}

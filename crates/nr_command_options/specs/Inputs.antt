@@ -21,7 +21,7 @@ named [] = ReadsFile []
 named (byte ∷ []) = if byte == hyphen then ReadsStandard else ReadsFile (byte ∷ [])
 named (byte ∷ next ∷ rest) = ReadsFile (byte ∷ next ∷ rest)
 
--- the macro files, the files, and standard input if it is read behind them
+-- the macro files, the files, and standard input if it is read after them
 abbrev pub readings : Asked → List Reading
 readings asked =
     map (λ name. ReadsMacros asked.folder name) asked.macros

@@ -36,12 +36,12 @@ CanBeAsked (Folder folder) = ⊤
 CanBeAsked Input = ⊤
 CanBeAsked (Limit limit n) = IsInRange limit n
 
--- the value behind this letter means this
+-- the value after this letter means this
 pub record HasValue (letter : ℕ) (value : List ℕ) (meaning : Meaning) : Type 0 where
   pub letter_is : letter_of meaning ≡ letter
   pub value_is : IsValue meaning value
 
--- A value behind a letter was read: it has this meaning and no other, or it has none.
+-- A value after a letter was read: it has this meaning and no other, or it has none.
 abbrev pub Reads : ℕ → List ℕ → Option Setting → Type 0
 Reads letter value (Some setting) = CanBeAsked setting × HasValue letter value (meaning_of setting)
     × ((other : Meaning) → HasValue letter value other → other ≡ meaning_of setting)

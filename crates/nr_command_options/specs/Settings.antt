@@ -54,7 +54,7 @@ pub record WritesLimit (limit : Limit) (n : ℕ) (text : List ℕ) : Type 0 wher
   pub value : n ≡ digits_value 10 text
   pub in_range : IsInRange limit n
 
--- what stands behind the letter of an option that means this
+-- what stands after the letter of an option that means this
 abbrev pub IsValue : Meaning → List ℕ → Type 0
 IsValue (PrintOnly pages) value = IsPageList pages value
 IsValue (BeginAt n) value = WritesNumber n value

@@ -59,7 +59,7 @@ pub record AreFew (meanings : List Meaning) : Type 0 where
   pub registers : length (filter_map register meanings) ≤ 32
   pub macros : length (filter_map macro_name meanings) ≤ 32
 
--- with one of this kind behind these it would be too many
+-- with one of this kind after these it would be too many
 abbrev pub IsFull : List Meaning → Meaning → Type 0
 IsFull before (SetRegister name n) = length (filter_map register before) ≡ 32
 IsFull before (ReadMacros name) = length (filter_map macro_name before) ≡ 32
@@ -74,7 +74,7 @@ pub record Asked : Type 0 where
   pub limits : Bounds
   pub folder : List ℕ
   pub macros : List (List ℕ)
-  -- standard input is read behind the files
+  -- standard input is read after the files
   pub reads_input : Bool
   pub files : List (List ℕ)
 
@@ -106,7 +106,7 @@ pub record Complaint : Type 0 where
   pub case : Case
   pub word : List ℕ
 
--- a word behind options of these meanings is bad: by its own form, or, where its form is good, as one too many of its kind
+-- a word after options of these meanings is bad: by its own form, or, where its form is good, as one too many of its kind
 abbrev pub IsBad : List Meaning → Case → List ℕ → Type 0
 IsBad before TooMany word = (meaning : Meaning) × Means meaning word × IsFull before meaning
 IsBad before LeftOut word = IsIllFormed LeftOut word

@@ -6,7 +6,7 @@ ghost use Rattle.nr_command_options.specs.Files.{files_supply};
 use crate::chained::Chain;
 use nr_units::source::Source;
 
-/// The files from where they stand, one after the other, with a newline added behind each that is not
+/// The files from where they stand, one after the other, with a newline added after each that is not
 /// empty and doesn't end with one.
 pub fn chain<'a, F: Source>(files: &'a mut [F]) -> Chain<'a, F>
     ensures supply { ⟦<Chain<'a, F> as Source>⟧.supply result ≡ files_supply (map F.supply files.entry.now) }

@@ -12,7 +12,7 @@ use std::fmt;
 pub struct MacroFile<'a> {
     /// The folder, as it was given.
     pub folder: &'a str,
-    /// The name behind `-m`.
+    /// The name after `-m`.
     pub name: &'a str,
 }
 
@@ -42,7 +42,7 @@ pub enum Input<'a> {
 
 impl<'a> Job<'a> {
     /// The text that is read at a place, counted from 0: the macro files in the order of `-m`, the files,
-    /// and standard input where it is read behind them. None behind the last.
+    /// and standard input where it is read after them. None after the last.
     pub fn input(&self, place: usize) -> Option<Input<'a>>
         ensures { option_map reading_of result ≡ slice_get (readings (asked_of self.now)) place }
     {

@@ -22,7 +22,7 @@ pub struct Job<'a> {
     pub macro_folder: &'a str,
     /// The names of the macro files, in the order of `-m`.
     pub macros: ArrayVec<&'a str, MOST_MACROS>,
-    /// Whether standard input is read behind the files: with `-i`, and where there are no files.
+    /// Whether standard input is read after the files: with `-i`, and where there are no files.
     pub reads_input: bool,
     /// The files, in order. `-` is standard input.
     pub files: &'a [&'a str],

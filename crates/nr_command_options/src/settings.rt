@@ -28,7 +28,7 @@ pub(crate) enum Setting<'a> {
     Macros(&'a str),
     /// The folder of the macro files.
     Folder(&'a str),
-    /// Standard input is read behind the files.
+    /// Standard input is read after the files.
     Input,
     /// A limit, and its number.
     Limit(Limit, u64),
@@ -51,7 +51,7 @@ pub(crate) fn read_option(word: &str) -> Result<Setting<'_>, Case>
     read_value(letter, value).ok_or(Case::BadValue)
 }
 
-/// Reads what stands behind the letter of an option. None where it is no value of this option, or
+/// Reads what stands after the letter of an option. None where it is no value of this option, or
 /// where there is no option of this letter.
 fn read_value(letter: u8, value: &str) -> Option<Setting<'_>>
     ensures { Reads letter value.now result }
@@ -68,7 +68,7 @@ fn read_value(letter: u8, value: &str) -> Option<Setting<'_>>
     }
 }
 
-/// The letter of an option, if it is an ASCII byte, and what stands behind it.
+/// The letter of an option, if it is an ASCII byte, and what stands after it.
 fn letter_and_value(word: &str) -> Option<(u8, &str)>
     requires { is_option word.now ≡ true }
     ensures found { IfSome result (λ parts. word.now ≡ hyphen ∷ parts.0 ∷ parts.1.now) }

@@ -16,9 +16,9 @@ pub enum Case {
     LeftOut,
     /// No option has this letter.
     Unknown,
-    /// The option is known, and what stands behind its letter is no value of it.
+    /// The option is known, and what stands after its letter is no value of it.
     BadValue,
-    /// One `-r` or `-m` behind 32 of its kind.
+    /// One `-r` or `-m` after 32 of its kind.
     TooMany,
 }
 
@@ -42,7 +42,7 @@ impl Usage<'_> {
 
 /// Writes the one line that tells a bad word.
 ///
-/// `WriteFault` where the sink failed; a front of the line went out then.
+/// `WriteFault` where the sink failed; a prefix of the line went out then.
 pub fn usage_line<W: Sink>(usage: &Usage<'_>, errors: &mut W) -> Result<(), WriteFault>
     ensures ok { OnOk result (Appends (W.held errors.old) (W.held errors.new) (usage_text usage.now.case usage.now.word.now)) }
     ensures err { OnErr result (AppendsFront (W.held errors.old) (W.held errors.new) (usage_text usage.now.case usage.now.word.now)) }

@@ -1,4 +1,4 @@
-// The status and the line of runs: with a fault at every byte, with a flush that fails, of fronts of a text, and with
+// The status and the line of runs: with a fault at every byte, with a flush that fails, of prefixes of a text, and with
 // allocations that are refused.
 
 use nr_command::run_over;
@@ -78,7 +78,7 @@ fn writer_in_the_second_page(rt: HostRuntime) {
     expect(&rt, rt.alloc(), &mut input, &mut output, 4, b"a\nb", line);
 }
 
-// The first page is out where the line behind it was read.
+// The first page is out where the line after it was read.
 #[test]
 fn reader_at_every_byte(rt: HostRuntime) -> Result<(), Fail> {
     for given in 0..=TITLED.len() {

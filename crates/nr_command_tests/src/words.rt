@@ -207,7 +207,7 @@ static ROWS: [Row; 19] = [
         line: b"nroff: cannot open no/tmac.short\n",
         opened: 0,
     },
-    // Words behind the first file are files.
+    // Words after the first file are files.
     Row {
         words: &["one", "-i"],
         output: b"",

@@ -41,7 +41,7 @@ no_escape b f (Dash is) = rw is refl
 
 -- ---- it is read and heard
 
--- s is in front of the byte, t behind it
+-- s is in front of the byte, t after it
 module _ (s t : State) (b : ℕ) (chosen : t.chosen ≡ []) (line : IsInLine t.formatter) (goes : Goes s) (reads : step s ≡ told b t) (word : goes_to_word b t.formatter ≡ true) where
   step_byte : step (told b t) ≡ made_of (byte_put b) t
   step_byte =
@@ -112,7 +112,7 @@ module _ (b : ℕ) (bs : List ℕ) (f : Formatter) (some : 0 < length bs) (is_fi
       (λ c h. subst (λ xs. ComeNext xs c) (first_of bs b some is_first).1 (has.next c h)) (λ c h. holds_inside 1 c e.place supply has.unseen h)))
       (λ e is. subst (λ x. Saves 20 2 e x) (inside e is) (saves_byte b e))
 
--- behind the first t bytes comes such a byte
+-- after the first t bytes comes such a byte
 module _ (t m b : ℕ) (bs : List ℕ) (f g : Formatter) (puts : PutsText bs t m f g) (below : t < length bs) (is_next : slice_index bs t ≡ b) (byte : IsCellByte b g) where
   pub turn_byte : (h : Formatter) → h ≡ byte_put b g → PutsText bs (t + 1) (m + 2) f h
   turn_byte h is =

@@ -1,4 +1,4 @@
--- Empty lines that are at hand: three moves for the one that was read, and four for each behind it.
+-- Empty lines that are at hand: three moves for the one that was read, and four for each after it.
 use Rattle.std.proofs.Common.{◌≡◌, ℕ, zero, suc, ◌+◌, ◌*◌, ◌<◌, ◌≤◌, ◌^◌, true, false, List, [], ◌∷◌, length, take, drop, replicate, Option, None, refl, sym, ap, ◌∙◌, subst, arith}
 use Rattle.std.specs.Prelude.{◌==◌}
 use Rattle.std.proofs.lemmas.Bool.{eqb-false, lt-ltb, ne_eqb}
@@ -134,11 +134,11 @@ record IsStarting (f : Formatter) : Type 0 where
 abbrev told_empty : State → State
 told_empty t = record t { formatter = record t.formatter { event = events.Empty } }
 
--- behind it
+-- after it
 abbrev behind_newline : State → State
 behind_newline s = record s { coming = behind_last 10 1 s.coming; formatter = unburst s.formatter }
 
--- behind so many of them, which went down
+-- after so many of them, which went down
 abbrev lines_down : ℕ → State → State
 lines_down n s = record s { coming = behind_last 10 n s.coming; formatter = unburst (gone_down n s.formatter) }
 
@@ -190,7 +190,7 @@ module _ (rest : List ℕ) (s : State) (chosen : s.chosen ≡ []) (start : IsSta
 within_lines : (n : ℕ) (s : State) → IsWithin s → IsWithin (lines_down n s)
 within_lines n s within = within_kept s (behind_last 10 n s.coming) (lines_down n s).formatter refl refl (omega arith) within
 
--- behind a line that went down another begins
+-- after a line that went down another begins
 starting_on : (f : Formatter) → IsAtLine f.reader.half → f.springs ≡ None → f.store.levels ≡ [] → IsStarting (gone_down 1 f)
 starting_on f half springs levels = record {
   springs = springs;
@@ -228,7 +228,7 @@ room_more n f room = let same : suc n ≡ 1 + n = omega arith in subst (λ k. Ha
 abbrev coming_of : List ℕ → Faults → ℕ → Coming
 coming_of bs f n = record { supply = record { bytes = bs; faults = f }; taken = n; inside = false }
 
--- behind a newline and then others
+-- after a newline and then others
 behind-more : (n : ℕ) (c : Coming) → behind_last 10 n (behind_last 10 1 c) ≡ behind_last 10 (suc n) c
 behind-more n c =
     let counts : c.taken + 1 + n ≡ c.taken + suc n = omega arith in
@@ -350,7 +350,7 @@ makes_lines (suc n) e supply supply' some start room next behind = record {
   spends = spends_lines n e start room;
 }
 
--- and the newlines behind it
+-- and the newlines after it
 pub makes_more : (n : ℕ) (e : Shape) (supply supply' : Option Supply) → e.formatter.event ≡ events.Empty → 0 < n → HasRoom (1 + n) e.formatter → NewlinesNext n e supply
     → ((c : Coming) → HoldsComing c e.place supply → HoldsComing (behind_last 10 n c) (passed_run 10 n e.place) supply')
     → Makes (3 + 4 * n) e (lines_shape n (down_shape e)) supply supply'

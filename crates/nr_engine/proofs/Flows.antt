@@ -51,14 +51,14 @@ further_of f g v r store reader is = record {
   reader = is.reader ∙ ap (λ (x : Reader). record x { half = record x.half { notes = record x.half.notes { asked = r.half.notes.asked } }; burst = r.burst }) (sym reader);
 }
 
--- behind moves that lead to more
+-- after moves that lead to more
 pub further_led : (f : Formatter) (n : ℕ) (v : Stored Resume) (r : Reader) (w : Stored Resume) (q : Reader) → IsFurther f v r → LeadsInText n v r w q → IsFurther f w q
 further_led f n v r w q is leads = record {
   stored = leads.stored ∙ ap (λ (x : Stored Resume). record x { levels = w.levels; texts = w.texts; arguments = w.arguments }) is.stored;
   reader = leads.reader ∙ ap (λ (x : Reader). record x { half = record x.half { notes = record x.half.notes { asked = q.half.notes.asked } }; burst = q.burst }) is.reader;
 }
 
--- behind a byte
+-- after a byte
 further_left : (f : Formatter) (v : Stored Resume) (r : Reader) → IsFurther f v r → IsFurther f (run_left 1 v) r
 further_left f v r is = record {
   stored = ap (λ (x : Stored Resume). record x { levels = levels_behind 1 v.levels; texts = v.texts; arguments = v.arguments }) is.stored;
@@ -77,11 +77,11 @@ depth_behind : (levels : List (Level Resume)) → length (levels_behind 1 levels
 depth_behind [] = refl
 depth_behind (l ∷ ls) = refl
 
--- behind moves that lead to more
+-- after moves that lead to more
 pub fits_led : (f : Formatter) (n : ℕ) (v : Stored Resume) (r : Reader) (w : Stored Resume) (q : Reader) → LeadsInText n v r w q → FitsMemory (with_read v r f) → FitsMemory (with_read w q f)
 fits_led f n v r w q leads fits = record { stored = leads.charge fits.stored; depth = leads.depth fits.depth; line = fits.line }
 
--- behind a byte
+-- after a byte
 fits_left : (f : Formatter) (v : Stored Resume) (r : Reader) → FitsMemory (with_read v r f) → FitsMemory (with_read (run_left 1 v) r f)
 fits_left f v r fits = record {
   stored = subst (λ n. n ≤ v.limit) (sym (charge_behind v v.levels)) fits.stored;
@@ -120,7 +120,7 @@ split (x ∷ xs) ys n v r w q brings =
       more = rest.more;
     }
 
--- what stays and what has a limit, behind them
+-- what stays and what has a limit, after them
 pub further_brought : (f : Formatter) (bs : List ℕ) (n : ℕ) (v : Stored Resume) (r : Reader) (w : Stored Resume) (q : Reader) → IsFurther f v r → Brings n bs v r w q → IsFurther f w q
 further_brought f [] n v r w q is brings =
     subst (λ (x : Stored Resume). IsFurther f x q) (sym brings.1) (subst (λ (x : Reader). IsFurther f v x) (sym brings.2) is)

@@ -74,12 +74,12 @@ module _ (e : Shape) (event : e.formatter.event ≡ events.Font) (springs : e.fo
 
 -- ---- the moves that read the escape
 
--- the source is moved behind what was taken
+-- the source is moved after what was taken
 skips : (n : ℕ) (supply : Option Supply) → Skips supply n (option_map (skipped n) supply)
 skips n None = tt
 skips n (Some q) = refl
 
--- the formatter behind a font escape, with this half read
+-- the formatter after a font escape, with this half read
 abbrev pub font_put : Half → Formatter → Formatter
 font_put h f = font_set (record f { reader = record f.reader { half = h } })
 
@@ -90,7 +90,7 @@ module _ (bs : List ℕ) (f : Formatter) (run : Run) (h : Half) (reads : ReadsNe
 
   -- wherever the engine stands with this formatter
   module _ (e : Shape) (supply : Option Supply) (is : unburst e.formatter ≡ unburst f) (has : HasNext bs e supply) where
-    -- what comes behind the escape, and where the program stands there
+    -- what comes after the escape, and where the program stands there
     abbrev rest : Option Supply
     rest = option_map (skipped run.taken) supply
 
@@ -200,7 +200,7 @@ at_text f is =
 pub text_reads : (f : Formatter) → is_at_text f ≡ true → ReadsNext f
 text_reads f is = let text = at_text f is in record { springs = text.springs; event = text.event; task = text.task }
 
--- behind the escape the line goes on
+-- after the escape the line goes on
 pub line_font : (h : Half) (f : Formatter) → is_at_text f ≡ true → is_in_text h ≡ true → is_in_line (font_put h f) ≡ true
 line_font h f is half = let text = at_text f is in rw (text.springs, text.task, half, text.begun) refl
 

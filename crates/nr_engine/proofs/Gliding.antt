@@ -1,4 +1,4 @@
--- Many moves, and a byte that was read and is heard: as a cell of the word, or as the blank behind it.
+-- Many moves, and a byte that was read and is heard: as a cell of the word, or as the blank after it.
 use Rattle.std.proofs.Common.{◌≡◌, ℕ, ◌+◌, Bool, true, false, [], ◌∷◌, Option, None, refl, sym, ap, ◌∙◌, subst, arith}
 use Rattle.std.specs.Prelude.{if◌then◌else◌}
 use Rattle.nr_fill.specs.Piece.{is_nil}
@@ -62,7 +62,7 @@ none_flows f ends fits = rw (ends.filling, fits) (either_way (is_nil (gapped (co
     either_way true = refl
     either_way false = refl
 
--- s is in front of the byte, t behind it
+-- s is in front of the byte, t after it
 module _ (s t : State) (b : ℕ) (chosen : t.chosen ≡ []) (line : IsInLine t.formatter) (goes : Goes s) (reads : step s ≡ told b t) where
   text : IsInText t.formatter.reader.half
   text = in_text t.formatter.reader.half line.half
@@ -84,7 +84,7 @@ module _ (s t : State) (b : ℕ) (chosen : t.chosen ≡ []) (line : IsInLine t.f
   pub glides_plain : IsPlain b → IsWithin (made_of (run_put (b ∷ [])) t) → Glides s 2 (made_of (run_put (b ∷ [])) t)
   glides_plain plain within = glides_heard (made_of (run_put (b ∷ [])) t) (step_plain plain) within
 
--- the same for a blank behind a word
+-- the same for a blank after a word
 module _ (s t : State) (chosen : t.chosen ≡ []) (line : IsInLine t.formatter) (goes : Goes s) (reads : step s ≡ told 32 t) (gap : IsGap t.formatter) (within : IsWithin t) where
   -- what the blank makes of the line is within the limits
   pub within_gap : IsWithin (made_of gap_put t)

@@ -127,7 +127,7 @@ longest_none bs f gathered are most none stops = record {
 module _ (bs : List ℕ) (taken moves besides : ℕ) (goes : Bool) (f g : Formatter) (w : Stored Resume) (q : Reader) (gathered : Gathered) (are : IsGathered bs f.store f.reader gathered)
     (most : GathersMost (rest_of f.store.levels) gathered)
     (puts : PutsOfFlow bs taken moves f g) (leaves : Leaves goes besides (take taken bs) g.store g.reader w q) where
-  -- no newline behind them was put
+  -- no newline after them was put
   pub longest_left : LongestWords bs taken g → (taken ≡ length bs → gathered.ends ≡ true → IsNewline (with_read w q g) → ⊥) → LongestOfLevels f.store f.reader (with_read w q g)
   longest_left words newline =
       let from = leaves_of bs taken besides goes f g w q puts.store puts.reader leaves in

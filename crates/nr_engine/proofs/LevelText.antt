@@ -1,4 +1,4 @@
--- A byte of the newest level in a text line that has begun: two moves a plain byte, and two or three a blank behind a word.
+-- A byte of the newest level in a text line that has begun: two moves a plain byte, and two or three a blank after a word.
 use Rattle.std.proofs.Common.{◌≡◌, ℕ, ◌+◌, ◌*◌, ◌≤◌, true, false, List, [], ◌∷◌, length, Option, refl, sym, ap, ◌∙◌, subst, arith}
 use Rattle.std.specs.Prelude.{◌==◌}
 use Rattle.std.proofs.lemmas.Bool.{eq-eqb}
@@ -111,7 +111,7 @@ made_glided n e f g supply held s h is within glides =
 
 -- ---- an element is taken
 
--- behind an element of the newest level, with this made of the formatter
+-- after an element of the newest level, with this made of the formatter
 abbrev pub level_gone : (Formatter → Formatter) → Shape → Shape
 level_gone g e = record e { formatter = g (record e.formatter { store = run_left 1 e.formatter.store }) }
 
@@ -187,7 +187,7 @@ makes_plain b e supply is plain fits shows = record {
   spends = plain_spends b e (one_left e.formatter.store.levels (elements.Byte b) shows);
 }
 
--- ---- a blank behind a word
+-- ---- a blank after a word
 
 module _ (e : Shape) (supply : Option Supply) (held : Option (List ℕ)) (s : State) (h : Stands [] supply s e) (is : is_in_line e.formatter ≡ true) (gap : IsGap e.formatter)
     (l : Reading Resume) (ls : List (Level Resume)) (xs : List Element) (levels_is : e.formatter.store.levels ≡ Read (record l { rest = elements.Byte 32 ∷ xs }) ∷ ls) where

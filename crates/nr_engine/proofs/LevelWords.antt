@@ -169,7 +169,7 @@ module _ (t m n k : ℕ) (bs : List ℕ) (f g h : Formatter) (puts : PutsOfFlow 
         (flows-add (take t bs) (take n (drop t bs)) m k f g h puts.store puts.reader puts.within puts.makes flows);
   }
 
--- behind the first t bytes comes a run
+-- after the first t bytes comes a run
 run_within : (n : ℕ) (xs : List ℕ) (g : Formatter) → (0 < n → line_cells (collected (run_put (take n xs) g)) ≤ g.line.limit) → line_cells (collected g) ≤ g.line.limit
     → line_cells (collected (run_put (take n xs) g)) ≤ g.line.limit
 run_within zero xs g fits within = within
@@ -189,7 +189,7 @@ flow_run t m n bs f g h puts line front plain is fits =
     (flow_on t m n (2 * n) bs f g (run_put xs g) puts (omega (arith, few, puts.front, length-drop t bs)) (omega arith) refl refl (run_within n (drop t bs) g fits_put)
     (subst (λ k. Flows xs (2 * k) g (run_put xs g)) count flows))
 
--- behind the first t bytes comes this one
+-- after the first t bytes comes this one
 one_behind : (t b : ℕ) (bs : List ℕ) → t < length bs → slice_index bs t ≡ b → take 1 (drop t bs) ≡ b ∷ []
 one_behind t b bs below is = ap (take 1) (drop-cons bs t 0 below) ∙ ap (λ c. c ∷ []) is
 
@@ -199,7 +199,7 @@ module _ (t m b k : ℕ) (bs : List ℕ) (f g h : Formatter) (puts : PutsOfFlow 
       flow_on t m 1 k bs f g h puts (omega (arith, below)) (omega (arith, few)) store reader (λ within. fits)
       (subst (λ xs. Flows xs k g h) (sym (one_behind t b bs below is)) (flows_one b k g h line put))
 
--- and behind it comes a blank
+-- and after it comes a blank
 module _ (t m : ℕ) (bs : List ℕ) (f g : Formatter) (puts : PutsOfFlow bs t m f g) (line : is_in_line g ≡ true) (below : t < length bs) (blank : slice_index bs t ≡ 32) (gap : IsGap g) where
   -- the line is full then
   pub flow_flows : (h : Formatter) → h ≡ gap_flows g → PutsOfFlow bs (t + 1) (m + 2) f h
@@ -213,7 +213,7 @@ module _ (t m : ℕ) (bs : List ℕ) (f g : Formatter) (puts : PutsOfFlow bs t m
       subst (λ (x : Formatter). PutsOfFlow bs (t + 1) (m + 3) f x) (sym is)
       (flow_one t m 32 3 bs f g (gap_put g) puts line below blank (omega arith) refl refl gap.within (puts_gap g line gap fits))
 
--- and behind it comes a byte that goes to the word and does not end it
+-- and after it comes a byte that goes to the word and does not end it
 pub flow_byte : (t m b : ℕ) (bs : List ℕ) (f g h : Formatter) → PutsOfFlow bs t m f g → t < length bs → slice_index bs t ≡ b → IsCellByte b g → h ≡ byte_put b g
     → PutsOfFlow bs (t + 1) (m + 2) f h
 flow_byte t m b bs f g h puts below is byte put =

@@ -80,7 +80,7 @@ blank b plain = ne_eqb b 32 (λ e. omega (arith, plain.0, e))
 module _ (b : ℕ) (rest : List ℕ) (s : State) (typing : IsTyping (begun s)) (half : IsBeforeLine s.formatter.reader.half) (plain : IsPlain b)
     (control : begins_control b s.formatter.reader.half.signs ≡ false) (next : s.coming.supply.bytes ≡ b ∷ rest)
     (gives : MayGive s.coming.supply.faults) (few : s.coming.taken + 1 < 2 ^ 40) where
-  -- the place of the source is another behind it
+  -- the place of the source is another after it
   further : (s.coming.taken + 1 == s.coming.taken) ≡ false
   further = ne_eqb (s.coming.taken + 1) s.coming.taken (λ e. omega (arith, e))
 

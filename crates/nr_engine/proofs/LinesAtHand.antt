@@ -1,4 +1,4 @@
--- Lines of the source that are at hand: the newline that ends one, and the text of the next behind it.
+-- Lines of the source that are at hand: the newline that ends one, and the text of the next after it.
 use Rattle.std.proofs.Common.{◌≡◌, ◌≢◌, ℕ, zero, suc, ◌+◌, ◌-◌, ◌*◌, ◌<◌, ◌≤◌, Bool, true, false, List, [], ◌∷◌, length, drop, Option, refl, sym, ap, ◌∙◌, subst, arith, length-drop}
 use Rattle.std.specs.Prelude.{◌&&◌, is_none, not, slice_index}
 use Rattle.std.specs.Option.{option_map}
@@ -66,7 +66,7 @@ module _ (bs : List ℕ) (f : Formatter) (some : 0 < length bs) (is_newline : sl
       (λ c h. holds_behind 10 1 c e.place supply has.unseen h) (ap (λ (x : Formatter). fits_line (line_gapped (collected x))) is ∙ fits))
       (λ e is. saves_newline e (in_line e.formatter (newline_there e is).line))
 
--- behind some text comes such a newline
+-- after some text comes such a newline
 module _ (t m : ℕ) (bs : List ℕ) (f g : Formatter) (puts : PutsText bs t m f g) (below : t < length bs) (is_newline : slice_index bs t ≡ 10) (newline : IsNewline g) where
   -- the line that is collected is full then
   pub line_flows : (h : Formatter) → h ≡ newline_flows g → PutsText bs (t + 1) (m + 2) f h
@@ -78,7 +78,7 @@ module _ (t m : ℕ) (bs : List ℕ) (f g : Formatter) (puts : PutsText bs t m f
   line_ends h fits is =
       puts_on t m 1 5 bs f g h puts (subst (λ (x : Formatter). PutsText (drop t bs) 1 5 g x) (sym is) (puts_newline (drop t bs) g (some_left t bs below) (first_left t 10 bs is_newline) newline fits))
 
--- behind it a line begins
+-- after it a line begins
 pub line_before : (g h : Formatter) → IsNewline g → h ≡ newline_put g → IsBeforeLine h.reader.half
 line_before g h newline is =
     let line = in_line g newline.line in
@@ -103,7 +103,7 @@ saves_first saved m k e f g limit most a b =
     subst (λ w. weight g + k + w * f.place.taken ≤ weight f + w * g.place.taken) (worth_same e f limit most) b in
     omega (arith, a, more)
 
--- text of a line from its beginning, behind other text
+-- text of a line from its beginning, after other text
 module _ (t m n k : ℕ) (bs : List ℕ) (f g h : Formatter) (before : 0 < t) (a : PutsText bs t m f g) (at : is_at_text g ≡ true) (half : IsBeforeLine g.reader.half)
     (begins : BeginsText (drop t bs) g) (some : 0 < n) (b : PutsText (drop t bs) n k (text_begun g) h) where
   -- where the engine stands at the beginning of the line
@@ -146,13 +146,13 @@ module _ (t m n k : ℕ) (bs : List ℕ) (f g h : Formatter) (before : 0 < t) (a
             (saves_first 20 m k e (between e) (taken_shape (drop t bs) n h (between e)) first.limit first.most (a.saves e supply is has before) (makes_line e supply is has).spends);
       }
 
--- ---- what may be put behind some text
+-- ---- what may be put after some text
 
 -- the next byte is put, if it is plain and the line not full
 abbrev pub Takes : List ℕ → Formatter → ℕ → Type 0
 Takes bs g n = 0 < length bs → IsPlain (slice_index bs 0) → text_cells (collected g) ≢ g.line.limit → 0 < n
 
--- the text behind the first t bytes, put in a line that has begun there, is put behind what was put
+-- the text after the first t bytes, put in a line that has begun there, is put after what was put
 abbrev pub GoesOn : List ℕ → ℕ → ℕ → Formatter → Formatter → Type 0
 GoesOn bs t m f g = (n k : ℕ) (h : Formatter) → Takes (drop t bs) g n → PutsText (drop t bs) n k g h → PutsText bs (t + n) (m + k) f h
 
@@ -183,7 +183,7 @@ takes_longest bs (suc n) k f g line puts longest some plain room = omega arith
 
 -- ---- as many bytes as could be
 
--- what is so of the bytes behind the first t is so among all
+-- what is so of the bytes after the first t is so among all
 pub words_behind : (t n : ℕ) (bs : List ℕ) (f : Formatter) → LongestWords (drop t bs) n f → LongestWords bs (t + n) f
 words_behind t n bs f longest =
     let left : length (drop t bs) ≡ length bs - t = length-drop t bs in
@@ -193,7 +193,7 @@ words_behind t n bs f longest =
       blank = λ below line blank. longest.blank (omega (arith, left, below)) line (sym same ∙ blank);
     }
 
--- behind the words of a line comes no plain newline, and no font escape
+-- after the words of a line comes no plain newline, and no font escape
 pub longest_line : (bs : List ℕ) (t m : ℕ) (f : Formatter) → t ≤ m → m ≤ 5 * t → LongestWords bs t f → (is_at_text f ≡ true → is_in_line f ≡ true)
     → (t < length bs → slice_index bs t ≡ 10 → IsNewline f → ⊥) → (is_in_line f ≡ true → BeginsFont (is_in_text f.reader.half) (drop t bs) → ⊥) → Longest bs t m f
 longest_line bs t m f least most words line newline font = record {

@@ -121,7 +121,7 @@ glides_space true n s may chosen springs idle task within =
     glides-by (space_made (tasks.Space n)) s (kind-work s (tasks.Space n) chosen springs idle task)
     (step-work s (tasks.Space n) chosen springs idle task ∙ space_put (is_spaceless n s.formatter) n s refl may) (within_space true n s may within)
 
--- behind a request that was made with this formatter
+-- after a request that was made with this formatter
 glides_behind : (f : Formatter) (s : State) → Leaves f s.formatter → f.springs ≡ None → s.chosen ≡ [] → s.formatter.event ≡ events.Nothing → IsWithin s
     → Glides s (moves_spacing s.formatter) (with_formatter (behind_space s.formatter) s)
 glides_behind f s (Reads task) springs chosen idle within =
@@ -157,7 +157,7 @@ module _ (s : State) (chosen : s.chosen ≡ []) (request : s.formatter.event ≡
       glides-add s 1 1 (with_formatter acting s) (with_formatter (act r acting) s) (hears s (tasks.Act r) chosen springs request task within)
       (acts (with_formatter acting s) r (acts_by false first) chosen springs refl refl (within_kept s s.coming acting refl refl within.formatter.burst within))
 
-  -- and behind one
+  -- and after one
   glides_broken : breaks_first s.formatter ≡ true → breaks_idly s.formatter ≡ true → Glides s 3 (with_formatter (act r (break_done (thens.Act r) breaking)) s)
   glides_broken first idly =
       let task : task_requested s.formatter ≡ tasks.Break (thens.Act r) = rw first refl in

@@ -1,4 +1,4 @@
--- A blank behind a word: two moves where the line is full, and else three.
+-- A blank after a word: two moves where the line is full, and else three.
 use Rattle.std.proofs.Common.{◌≡◌, ℕ, ◌+◌, ◌<◌, ◌^◌, true, false, List, [], ◌∷◌, length, Option, refl, ap, arith}
 use Rattle.std.specs.Prelude.{get_or}
 use Rattle.nr_units.specs.Source.{Supply, MayGive}

@@ -53,7 +53,7 @@ use Rattle.nr_engine.proofs.Working.{holds_of}
 abbrev pub ended : Formatter → Formatter
 ended f = record f { reader = on_half text_ended f.reader }
 
--- behind the newline
+-- after the newline
 abbrev behind_line : State → State
 behind_line s = record s { coming = behind_last 10 1 s.coming; formatter = unburst (ended s.formatter) }
 
@@ -65,7 +65,7 @@ module _ (rest : List ℕ) (s : State) (typing : IsTyping s) (next : s.coming.su
   half : IsInText s.formatter.reader.half
   half = in_text s.formatter.reader.half typing.line.half
 
-  -- the place of the source is another behind it
+  -- the place of the source is another after it
   further : (s.coming.taken + 1 == s.coming.taken) ≡ false
   further = ne_eqb (s.coming.taken + 1) s.coming.taken (λ e. omega (arith, e))
 
@@ -158,7 +158,7 @@ module _ (t : State) (chosen : t.chosen ≡ []) (end : IsLineEnd t.formatter) (w
       glides-by (λ f. record f { task = tasks.Read }) s (kind-work s tasks.InputTrap chosen end.springs refl refl)
       (step-work s tasks.InputTrap chosen end.springs refl refl ∙ ap (λ f. record t { formatter = f }) (count_input-none s.formatter end.trap)) (within_put tasks.Read)
 
-  -- four moves behind the one that reads
+  -- four moves after the one that reads
   pub ends_line : fits_line (line_gapped (collected t.formatter)) ≡ true → Glides (told_line t) 4 (plainly (line_put tasks.Read) t)
   ends_line fits =
       let two = glides-add (told_line t) 1 1 (plainly line_flows t) (plainly (line_put tasks.Count) t) hears (flows fits) in
@@ -167,14 +167,14 @@ module _ (t : State) (chosen : t.chosen ≡ []) (end : IsLineEnd t.formatter) (w
 
 -- ---- the engine
 
--- the source behind the newline, and this made of the formatter
+-- the source after the newline, and this made of the formatter
 abbrev pub ended_shape : (Formatter → Formatter) → Shape → Shape
 ended_shape g e = record e { formatter = g (unburst e.formatter); place = passed_run 10 1 e.place }
 
 abbrev ended_state : (Formatter → Formatter) → State → State
 ended_state g s = record s { coming = behind_last 10 1 s.coming; formatter = g (unburst s.formatter) }
 
--- the text has ended behind such a newline
+-- the text has ended after such a newline
 line_end : (s : State) → IsTyping s → IsNewline s.formatter → IsLineEnd (behind_line s).formatter
 line_end s typing newline =
     let ends = ends_word s.formatter newline.plain in

@@ -36,14 +36,14 @@ use Rattle.nr_engine.proofs.Working.{holds_of}
 
 -- ---- bytes that come next
 
--- behind the next n bytes, the last of them no newline
+-- after the next n bytes, the last of them no newline
 abbrev pub behind_many : ℕ → Coming → Coming
 behind_many n c = record { supply = skipped n c.supply; taken = c.taken + n; inside = true }
 
 abbrev pub passed_many : ℕ → Reached → Reached
 passed_many n p = record { ahead = Unseen; taken = p.taken + n; inside = true }
 
--- a front of one byte more
+-- a prefix of one byte more
 pub front_more : (xs : List ℕ) (b : ℕ) (bs : List ℕ) → take (suc (length bs)) xs ≡ b ∷ bs → (rest : List ℕ) × (xs ≡ b ∷ rest) × (take (length bs) rest ≡ bs)
 front_more [] b bs is = absurd (let wrong : [] ≡ b ∷ bs = is in cc)
 front_more (x ∷ xs) b bs is =
@@ -88,7 +88,7 @@ behind_many-more n c =
 
 -- ---- one byte
 
--- behind one byte of the source
+-- after one byte of the source
 abbrev pub behind_byte : State → State
 behind_byte s = record s { coming = behind_many 1 s.coming; formatter = unburst s.formatter }
 
@@ -237,7 +237,7 @@ may_give_front n m Never less h = tt
 may_give_front n m (After k) less h = omega (arith, less, h)
 may_give_front n m Anytime less h = tt
 
--- a front of the bytes that come next
+-- a prefix of the bytes that come next
 pub come_front : (n : ℕ) (bs : List ℕ) (c : Coming) → n ≤ length bs → ComeNext bs c → ComeNext (take n bs) c
 come_front n bs c less next =
     let count : length (take n bs) ≡ n = length-take-le n bs less in

@@ -240,7 +240,7 @@ cells-push (elements.Cell y ∷ ys) x = ap (λ zs. y ∷ zs) (cells-push ys x)
 cells-push (elements.Byte b ∷ ys) x = cells-push ys x
 cells-push (elements.LineEnd h ∷ ys) x = cells-push ys x
 
--- a front of a front, and what is behind it
+-- a prefix of a prefix, and what is after it
 pub front-behind : (n m : ℕ) (xs : List Element) → take n (take m xs) ++ (drop n (take m xs) ++ drop m xs) ≡ xs
 front-behind n m xs =
     sym (append_assoc (take n (take m xs)) (drop n (take m xs)) (drop m xs))

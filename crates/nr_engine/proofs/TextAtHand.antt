@@ -1,4 +1,4 @@
--- Text of the source that is at hand: runs of plain bytes, and the blanks behind them.
+-- Text of the source that is at hand: runs of plain bytes, and the blanks after them.
 use Rattle.std.proofs.Common.{◌≡◌, ℕ, zero, suc, ◌+◌, ◌-◌, ◌*◌, ◌<◌, ◌≤◌, Bool, true, false, List, [], ◌∷◌, ◌++◌, length, take, drop, Option, None, Some, refl, sym, ap, ◌∙◌, subst, arith, length-drop, length-take-le}
 use Rattle.std.specs.Prelude.{◌==◌, is_none, not, slice_index}
 use Rattle.std.specs.Option.{option_map}
@@ -26,7 +26,7 @@ use Rattle.nr_engine.proofs.PlainGaps.{first_of, makes_flows, makes_put, saves_f
 use Rattle.nr_engine.proofs.PlainText.{ArePlain, behind_many, come_front, makes_run, newline, passed_many, run_saves}
 use Rattle.nr_engine.proofs.Travelling.{makes-add, worth_same}
 
--- ---- what is to come behind some bytes
+-- ---- what is to come after some bytes
 
 -- where nothing was read ahead, all that is to come is the source's
 supply_unseen : (c : Coming) (a : Ahead) (supply : Option Supply) → is_unseen a ≡ true → HoldsSupply c a supply → supply ≡ Some c.supply
@@ -38,7 +38,7 @@ supply_held : (c : Coming) (a : Ahead) → is_unseen a ≡ true → HoldsSupply 
 supply_held c Unseen unseen = refl
 supply_held c a unseen = absurd (let wrong : false ≡ true = unseen in cc)
 
--- the program stands behind the next n bytes
+-- the program stands after the next n bytes
 pub holds_behind : (last n : ℕ) (c : Coming) (p : Reached) (supply : Option Supply) → is_unseen p.ahead ≡ true → HoldsComing c p supply
     → HoldsComing (behind_last last n c) (passed_run last n p) (option_map (skipped n) supply)
 holds_behind last n c p supply unseen h = record {
@@ -47,13 +47,13 @@ holds_behind last n c p supply unseen h = record {
   stands = ap (option_map (skipped n)) (supply_unseen c p.ahead supply unseen h.stands);
 }
 
--- what is to come behind the next n bytes is so of something that was to come before them
+-- what is to come after the next n bytes is so of something that was to come before them
 record Before (last n : ℕ) (k : Coming) (p : Reached) (supply : Option Supply) : Type 0 where
   coming : Coming
   holds : HoldsComing coming p supply
   is : k ≡ behind_last last n coming
 
--- where the program stands behind n bytes, it stood before them
+-- where the program stands after n bytes, it stood before them
 before : (last n : ℕ) (k : Coming) (p : Reached) (supply : Option Supply) → is_unseen p.ahead ≡ true → HoldsComing k (passed_run last n p) (option_map (skipped n) supply) → Before last n k p supply
 before last n k p None unseen h = absurd (let wrong : None ≡ Some k.supply = h.stands in cc)
 before last n k p (Some q) unseen h =
@@ -81,14 +81,14 @@ later_on t n Never = refl
 later_on t n (After m) = let counts : m - t - n ≡ m - (t + n) = omega arith in ap After counts
 later_on t n Anytime = refl
 
--- what is to come behind them all
+-- what is to come after them all
 pub skipped_on : (t n : ℕ) (supply : Option Supply) → option_map (skipped n) (option_map (skipped t) supply) ≡ option_map (skipped (t + n)) supply
 skipped_on t n None = refl
 skipped_on t n (Some q) =
     ap (λ xs. Some (record { bytes = xs; faults = later n (later t q.faults) })) (drop_on t n q.bytes)
     ∙ ap (λ f. Some (record { bytes = drop (t + n) q.bytes; faults = f })) (later_on t n q.faults)
 
--- where the program stands behind them all
+-- where the program stands after them all
 pub passed_on : (t n : ℕ) (bs : List ℕ) (p : Reached) → 0 < n
     → passed_run (slice_index (drop t bs) (n - 1)) n (passed_run (slice_index bs (t - 1)) t p) ≡ passed_run (slice_index bs (t + n - 1)) (t + n) p
 passed_on t n bs p some =
@@ -111,7 +111,7 @@ may_give_behind t n m Never less h = tt
 may_give_behind t n m (After k) less h = omega (arith, less, h)
 may_give_behind t n m Anytime less h = tt
 
--- the other bytes come next behind the first t
+-- the other bytes come next after the first t
 come_behind : (last t : ℕ) (bs : List ℕ) (c : Coming) → t ≤ length bs → ComeNext bs c → ComeNext (drop t bs) (behind_last last t c)
 come_behind last t bs c less next =
     let xs = c.supply.bytes in
@@ -137,7 +137,7 @@ next_behind t bs e supply g less levels has = record {
 
 -- ---- a line that has begun
 
--- it has begun behind a run
+-- it has begun after a run
 begun-run : (m : Margins) (under : Bool) (bs : List ℕ) (c : Collected) → begins_line c ≡ false → begins_line (add_run m under bs c) ≡ false
 begun-run m under [] c begun = begun
 begun-run m under (b ∷ bs) c begun = begun-run m under bs _ (begun-cell m (run_cell under b) c)
@@ -154,7 +154,7 @@ some_behind [] [] p = refl
 some_behind [] (q ∷ qs) p = refl
 some_behind (x ∷ ps) qs p = refl
 
--- and behind the blank that ends a word
+-- and after the blank that ends a word
 pub begun-gap : (c : Collected) (word : Option Word) → c.word ≡ word → is_none word ≡ false → begins_line (gapped c) ≡ false
 begun-gap c None is some = absurd (let wrong : true ≡ false = some in cc)
 begun-gap c (Some w) is some = let pieces : is_nil (c.pieces ++ word_pieces c.word) ≡ false = rw is (some_behind c.pieces w.parts w.last) in rw pieces refl
@@ -297,7 +297,7 @@ module _ (bs : List ℕ) (f : Formatter) (line : is_in_line f ≡ true) (some : 
 
 -- ---- one turn
 
--- a byte behind the first t is one of the others
+-- a byte after the first t is one of the others
 pub some_left : (t : ℕ) (bs : List ℕ) → t < length bs → 0 < length (drop t bs)
 some_left t bs below = let left : length (drop t bs) ≡ length bs - t = length-drop t bs in omega (arith, left, below)
 
@@ -305,7 +305,7 @@ some_left t bs below = let left : length (drop t bs) ≡ length bs - t = length-
 pub first_left : (t b : ℕ) (bs : List ℕ) → slice_index bs t ≡ b → slice_index (drop t bs) 0 ≡ b
 first_left t b bs is = let same : t + 0 ≡ t = omega arith in get_or-drop t bs 0 0 ∙ ap (slice_index bs) same ∙ is
 
--- the bytes behind the first t, as they are lent
+-- the bytes after the first t, as they are lent
 abbrev pub rest_of : ℕ → List ℕ → List ℕ
 rest_of t bs = take (length bs - t) (drop t bs)
 
@@ -318,18 +318,18 @@ index_rest t n bs below =
 pub length_rest : (t : ℕ) (bs : List ℕ) → length (rest_of t bs) ≡ length bs - t
 length_rest t bs = length-take-le (length bs - t) (drop t bs) (omega (arith, length-drop t bs))
 
--- behind the first t bytes comes a run
+-- after the first t bytes comes a run
 pub turn_run : (t m n : ℕ) (bs : List ℕ) (f g h : Formatter) → PutsText bs t m f g → is_in_line g ≡ true → n ≤ length (rest_of t bs) → ArePlain (take n (rest_of t bs))
     → h ≡ run_put (take n (rest_of t bs)) g → (0 < n → line_cells (collected h) ≤ h.line.limit) → PutsText bs (t + n) (m + 2 * n) f h
 turn_run t m n bs f g h puts line front plain is fits =
     let run = puts_run n (rest_of t bs) g line front plain (λ some. subst (λ (x : Formatter). line_cells (collected x) ≤ x.line.limit) is (fits some)) in
     puts_on t m n (2 * n) bs f g h puts (subst (λ xs. PutsText xs n (2 * n) g h) (take_rest bs t) (subst (λ (x : Formatter). PutsText (rest_of t bs) n (2 * n) g x) (sym is) run))
 
--- the line has begun behind it
+-- the line has begun after it
 pub turn_line : (bs : List ℕ) (g h : Formatter) → is_in_line g ≡ true → h ≡ run_put bs g → is_in_line h ≡ true
 turn_line bs g h line is = ap is_in_line is ∙ line_run bs g line
 
--- and behind it comes a blank
+-- and after it comes a blank
 module _ (t m : ℕ) (bs : List ℕ) (f g : Formatter) (puts : PutsText bs t m f g) (line : is_in_line g ≡ true) (below : t < length bs) (blank : slice_index bs t ≡ 32)
     (gap : IsGap g) where
   -- the line is full then
@@ -346,7 +346,7 @@ module _ (t m : ℕ) (bs : List ℕ) (f g : Formatter) (puts : PutsText bs t m f
   pub turn_on : (h : Formatter) → h ≡ gap_put g → is_in_line h ≡ true
   turn_on h is = ap is_in_line is ∙ line_gap g line gap
 
--- ---- the source behind it
+-- ---- the source after it
 
 -- what the source is about to give then
 makes_there : (n : ℕ) (e f : Shape) (x y z : Option Supply) → Makes n e f x y → ((c : Coming) → HoldsComing c f.place y → HoldsComing c f.place z) → Makes n e f x z
@@ -376,7 +376,7 @@ makes_there n e f x y z m there = record {
   spends = m.spends;
 }
 
--- the source was moved behind the bytes that were put
+-- the source was moved after the bytes that were put
 pub makes_taken : (t m : ℕ) (bs : List ℕ) (e : Shape) (supply supply' : Option Supply) (g : Formatter) → PutsText bs t m e.formatter g → 0 < t → HasNext bs e supply
     → ((c : Coming) → HoldsComing c e.place supply → HoldsComing (behind_last (slice_index bs (t - 1)) t c) (passed_run (slice_index bs (t - 1)) t e.place) supply')
     → Makes m e (taken_shape bs t g e) supply supply'

@@ -100,7 +100,7 @@ module _ (supply : Option Supply) (s t : State) (e : Shape) (works : kind s ≡ 
   passes : (which : Measure) → passed t ≡ Some which → Passes s which
   passes which over = subst (λ k. PassesBy k s which) (sym works) (ap passed is ∙ over)
 
-  -- it is told behind all bytes that were taken
+  -- it is told after all bytes that were taken
   told_at : (n : ℕ) → n ≡ s.coming.taken → n ≡ place_by (kind s) s
   told_at n taken = subst (λ k. n ≡ place_by k s) (sym works) taken
 

@@ -122,7 +122,7 @@ pub record Grows (s t : State) (more : List ℕ) : Type 0 where
 pub record Wrote (s t : State) (old new : Option (List ℕ)) : Type 0 where
   pub wrote : (more : List ℕ) × Grows s t more × Appends old new more
 
--- one page more ended between two states, and a front of it went out
+-- one page more ended between two states, and a prefix of it went out
 pub record WroteFront (s t : State) (old new : Option (List ℕ)) : Type 0 where
   pub page : Ended
   pub ends : t.pages ≡ s.pages ++ page ∷ []

@@ -154,7 +154,7 @@ title_to o s = turn_page o s
 abbrev pub indent : Formatter → ℕ
 indent f = f.settings.indents.indent.value / 24
 
--- The first cell stands behind so many blanks.
+-- The first cell stands after so many blanks.
 abbrev pub with_cell : ℕ → Cell → List Cell → List Cell
 with_cell margin x row = if is_nil row then replicate margin blank ++ x ∷ [] else row ++ x ∷ []
 

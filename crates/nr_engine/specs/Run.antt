@@ -86,7 +86,7 @@ Passes s which = PassesBy (kind s) s which
 abbrev pub EndsPage : State → Type 0
 EndsPage s = (page : Ended) × ((step s).pages ≡ s.pages ++ page ∷ [])
 
--- behind how many bytes of the input the run stops at a limit
+-- after how many bytes of the input the run stops at a limit
 abbrev pub place_by : Kind → State → ℕ
 place_by Reads s = place_told s.coming.taken s.formatter.reader
 place_by k s = s.coming.taken
@@ -108,7 +108,7 @@ Runs n s = (m : ℕ) → m < n → Goes (state_after m s)
 
 -- ---- what goes out
 
--- the pages that have ended went out, and of the one that the next move ends a front
+-- the pages that have ended went out, and of the one that the next move ends a prefix
 pub record BreaksOff (s : State) (old new : Option (List ℕ)) : Type 0 where
   pub between : Option (List ℕ)
   pub ended : Appends old between (text s.pages)

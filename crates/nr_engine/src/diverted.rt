@@ -30,7 +30,7 @@ impl Engine {
         if self.row.is_empty() { margin } else { 0 }
     }
 
-    /// A cell goes into the row, behind so many blanks where it is the first.
+    /// A cell goes into the row, after so many blanks where it is the first.
     fn push(&mut self, margin: u32, cell: Cell)
         ensures row { AddsToRow self.old.row (replicate margin blank ++ cell ∷ []) self.new.row }
         ensures rest { shape self.new ≡ record (shape self.old) { row = self.new.row } }

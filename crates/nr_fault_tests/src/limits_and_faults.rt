@@ -20,7 +20,7 @@ fn limits_ranges(rt: HostRuntime) -> Result<(), Fail> {
     Ok(())
 }
 
-// The first page is out where the reader fails behind the last byte, and not where it fails before it.
+// The first page is out where the reader fails after the last byte, and not where it fails before it.
 #[test]
 fn reader_fails_between_pages(rt: HostRuntime) -> Result<(), Fail> {
     let input = b".pl 1\na\n.br\nb\n.br\n";

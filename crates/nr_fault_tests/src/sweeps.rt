@@ -1,4 +1,4 @@
-// Runs with a fault at every byte, of every front of a text, and on a desk that has refused.
+// Runs with a fault at every byte, of every prefix of a text, and on a desk that has refused.
 
 use crate::row::{Four, desk_under, formatted};
 use crate::whole::{HEADER_AND_FOOTER, Text, WHOLE};
@@ -94,7 +94,7 @@ fn expect_write_fault(rt: &impl Abort, desk: &mut Desk, text: &Text, taken: usiz
     expect(rt, desk, &mut input, taken, outcome, &text.pages[..taken]);
 }
 
-/// The input fails behind so many bytes.
+/// The input fails after so many bytes.
 fn expect_read_fault(rt: &impl Abort, desk: &mut Desk, text: &Text, given: usize) {
     let printed = text.printed_after(given);
     assert!(rt; printed <= text.pages.len());

@@ -11,7 +11,7 @@ pub struct Text {
 }
 
 impl Text {
-    /// How much is printed where the input fails behind so many bytes.
+    /// How much is printed where the input fails after so many bytes.
     pub(crate) fn printed_after(&self, given: usize) -> usize {
         let mut printed = 0;
         for &(read, written) in self.ends {

@@ -8,7 +8,7 @@ use Rattle.nr_units.specs.Cell.{blank}
 use Rattle.nr_units.specs.declared.cell.Cell.{Cell}
 use Rattle.nr_fill.specs.Title.{cell_of}
 
--- the parts one behind the other
+-- the parts one after the other
 abbrev pub apart_row : ℕ → ℕ → List Cell → List Cell → List Cell → List Cell
 apart_row c r ls cs rs = (((ls ++ replicate (c - length ls) blank) ++ cs) ++ replicate (r - c - length cs) blank) ++ rs
 
@@ -18,7 +18,7 @@ get-blanks n i = elim (cases_lt i n) [
   | inr behind ↦ get_or_past (replicate n blank) i blank (omega (arith, length-replicate n blank))
 ]
 
--- blanks behind a row are read there in any case
+-- blanks after a row are read there in any case
 get-padded : (xs : List Cell) (n i : ℕ) → get_or (xs ++ replicate n blank) i blank ≡ get_or xs i blank
 get-padded xs n i = elim (cases_lt i (length xs)) [
   | inl within ↦ get_or_append_left xs (replicate n blank) blank i within

@@ -44,7 +44,7 @@ pieces_of-take : (slots : List PieceSlot) (cells : List Cell) (m : ℕ) → cell
 pieces_of-take slots cells m h k =
     sym (pieces_of-append slots (take m cells) (drop m cells) (omega (arith, length-take-le m cells k))) ∙ ap (pieces_of slots) (take-append-drop m cells)
 
--- cells behind the last piece go in at a place
+-- cells after the last piece go in at a place
 pub laid_of_inserted : {slots : List PieceSlot} {cells : List Cell} {slot_room cell_room pieced read : ℕ} (room place n : ℕ) (x : Cell) → IsLaid slots cells slot_room cell_room pieced read
     → read ≡ length cells → pieced + place ≤ read
     → laid_of slots (take (pieced + place) cells ++ replicate n x ++ drop (pieced + place) cells) pieced (read + n) room
@@ -70,7 +70,7 @@ laid_of_inserted {slots} {cells} {pieced = pieced} {read = read} room place n x 
     (take_all (read + n - pieced) (drop pieced (front ++ R ++ back)) (omega (arith, length-drop pieced (front ++ R ++ back))) ∙ dropped ∙ ap (λ zs. take place zs ++ R ++ drop place zs) (sym last_is))
     title_is refl
 
--- with n more cells behind the last piece
+-- with n more cells after the last piece
 pub is_laid_longer : {slots : List PieceSlot} {cells : List Cell} {slot_room cell_room pieced read : ℕ} (more : List Cell) (n : ℕ) → IsLaid slots cells slot_room cell_room pieced read
     → read ≡ length cells → length more ≡ length cells + n → length cells + n ≤ cell_room → IsLaid slots more slot_room cell_room pieced (read + n)
 is_laid_longer more n h all long fits = record {
@@ -83,7 +83,7 @@ is_laid_longer more n h all long fits = record {
   is_small = h.is_small;
 }
 
--- more cells behind the last piece
+-- more cells after the last piece
 pub laid_of_extended : {slots : List PieceSlot} {cells : List Cell} {slot_room cell_room pieced read : ℕ} (room : ℕ) (xs : List Cell) → IsLaid slots cells slot_room cell_room pieced read
     → read ≡ length cells
     → laid_of slots (cells ++ xs) pieced (read + length xs) room ≡ record (laid_of slots cells pieced read room) { last = (laid_of slots cells pieced read room).last ++ xs }
@@ -111,7 +111,7 @@ laid_of_taken {slots} {cells} {pieced = pieced} {read = read} room m h low high 
     (ap (take (m - pieced)) dropped ∙ take-take (m - pieced) (m - pieced) (drop pieced cells) (omega arith) ∙ sym (take-take (m - pieced) (read - pieced) (drop pieced cells) (omega arith)))
     (drop_all m (take m cells) (omega (arith, length-take m cells))) refl
 
--- n cells behind the last piece are a piece
+-- n cells after the last piece are a piece
 pub laid_of_closed : {slots : List PieceSlot} {cells : List Cell} {slot_room cell_room pieced read : ℕ} (room : ℕ) (join : Join) (n : ℕ) → IsLaid slots cells slot_room cell_room pieced read
     → n ≤ read - pieced
     → laid_of (slots ++ record { join = join; len = n } ∷ []) cells (pieced + n) read room
@@ -171,7 +171,7 @@ flat_map-pieces_of (slot ∷ slots) cells h =
     let more = flat_map-pieces_of slots (drop slot.len cells) rest in
     ap (λ zs. take slot.len cells ++ zs) more ∙ take_two slot.len (cells_in_slots slots) cells ∙ ap (λ n. take n cells) (sym total)
 
--- the cells behind the first pieces, one after another
+-- the cells after the first pieces, one after another
 pub cells_behind-laid_of : {slots : List PieceSlot} {cells : List Cell} {slot_room cell_room pieced read : ℕ} (room n parted : ℕ) → IsLaid slots cells slot_room cell_room pieced read
     → cells_in (drop n (pieces_of slots cells)) ≡ parted
     → take (read - (pieced - parted)) (drop (pieced - parted) cells) ≡ flat_map (λ (p : Piece). p.cells) (drop n (pieces_of slots cells)) ++ (laid_of slots cells pieced read room).last
@@ -217,7 +217,7 @@ title_room_left {cells = cells} {slot_room} {cell_room} {read = read} now h is w
     let room_is : room ≡ now.room = ap (λ (l : Laid). l.room) is in
     omega (arith, length-drop read cells, h.read_within)
 
--- how many cells stand behind the last piece
+-- how many cells stand after the last piece
 pub last_is : {slots : List PieceSlot} {cells : List Cell} {slot_room cell_room pieced read : ℕ} (now : Laid) (room : ℕ) → IsLaid slots cells slot_room cell_room pieced read
     → laid_of slots cells pieced read room ≡ now → read - pieced ≡ length now.last
 last_is now room h is = sym (length-last room h) ∙ ap (λ (l : Laid). length l.last) is
@@ -279,7 +279,7 @@ is_laid_removed {slots} {cells} n k h k_is within =
 
 -- ---- pieces without an end
 
--- the cells of the pieces behind the first ones
+-- the cells of the pieces after the first ones
 pub back_cells : {slots : List PieceSlot} {cells : List Cell} {slot_room cell_room pieced read : ℕ} (now : Laid) (room n k : ℕ) → IsLaid slots cells slot_room cell_room pieced read
     → laid_of slots cells pieced read room ≡ now → k ≡ cells_in (drop n now.pieces) → (k ≡ cells_in (drop n (pieces_of slots cells))) × (cells_in_slots (take n slots) + k ≡ pieced)
 back_cells {slots} {cells} {pieced = pieced} now room n k h is k_is =

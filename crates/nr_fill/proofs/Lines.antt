@@ -116,7 +116,7 @@ is_some_word w e = absurd (let f : false ≡ true = e in cc)
 no_title_state : {T : Type 0} (t : TitleState) → ◌≡◌ {A = Option TitleState} None (Some t) → T
 no_title_state t e = absurd (cc)
 
--- the same pieces with other cells behind them, another word and another title
+-- the same pieces with other cells after them, another word and another title
 is_line_behind : {row : Laid} {limit pieces wide : ℕ} {word : Option WordState} {gap : ℕ} {title : Option TitleState} (last cells : List Cell) (v : Option WordState) (k : ℕ) (t : Option TitleState) → IsLine row limit pieces wide word gap title
     → pieces + (cells_in row.pieces + length last) + length cells ≤ limit → k ≤ 1365
     → ((w : WordState) → v ≡ Some w → IsWord w (drop pieces row.pieces) last) → (is_none v ≡ true → (length row.pieces ≡ pieces) × (length last ≡ 0))
@@ -222,7 +222,7 @@ pub join_before-within : (ps : List Piece) (j : Join) → All (λ (p : Piece). j
 join_before-within [] j all h = h
 join_before-within (p ∷ ps) j all h = all 0 p (omega arith)
 
--- pieces of the word behind the first n of the row have no end
+-- pieces of the word after the first n of the row have no end
 pub is_line_opened_behind : {row : Laid} {limit pieces wide : ℕ} {word : Option WordState} {gap : ℕ} {title : Option TitleState} (v : WordState) (n : ℕ) → IsLine row limit pieces wide word gap title
     → pieces ≤ n → n ≤ length row.pieces
     → IsWord v (drop pieces (take n row.pieces)) (flat_map (λ (p : Piece). p.cells) (drop n row.pieces) ++ row.last)
@@ -417,7 +417,7 @@ pub line_cells-le : {row : Laid} {limit pieces wide : ℕ} {word : Option WordSt
     → IsLine row limit pieces wide word gap title → line_cells (collected_of row pieces word gap barred sentence margins turn title) ≤ limit
 line_cells-le barred sentence margins turn h = let all = line_cells-collected_of barred sentence margins turn h in omega (arith, h.within)
 
--- the word's pieces behind the line's
+-- the word's pieces after the line's
 pub ended_pieces : (pieces more : ℕ) (ps : List Piece) (p : Piece) → pieces ≤ length ps → pieces + more ≡ length ps + 1
     → take (pieces + more) (ps ++ p ∷ []) ≡ take pieces ps ++ (drop pieces ps ++ p ∷ [])
 ended_pieces pieces more ps p low is =
@@ -444,7 +444,7 @@ pub is_none_word : (word : Option WordState) (ps : List Piece) (cells : List Cel
 is_none_word None ps cells = refl
 is_none_word (Some w) ps cells = refl
 
--- the pieces behind the first ones
+-- the pieces after the first ones
 pub pieces_behind : (n pieces : ℕ) (ps : List Piece) → n ≤ pieces
     → (take (pieces - n) (drop n ps) ≡ drop n (take pieces ps)) × (drop (pieces - n) (drop n ps) ≡ drop pieces ps)
 pieces_behind n pieces ps h =

@@ -1,4 +1,4 @@
--- The longest front of the pieces that fits a line.
+-- The longest prefix of the pieces that fits a line.
 use Rattle.std.proofs.Common.{◌≡◌, ℕ, ◌+◌, ◌≤◌, ◌<◌, List, [], ◌∷◌, length, take, drop, get_or, zero, suc, refl, ap, arith, true, false, nat_le, inl, inr}
 use Rattle.std.proofs.lemmas.Bool.{lt-leb, cases_lt, cases_Bool}
 use Rattle.std.proofs.lemmas.List.{length-take-le, get_or-take, take-take, drop_all}
@@ -50,7 +50,7 @@ width_front slots cells n d some within h =
     let part = sum_by-take-le (λ (s : PieceSlot). s.len) slots n in
     rw (take-pieces_of n slots cells, ← get_or-take n slots 0 d some) (width_front_of (take n slots) cells d (omega arith) (omega arith))
 
--- the hyphen behind the first pieces
+-- the hyphen after the first pieces
 pub hyphen_at : (slots : List PieceSlot) (cells : List Cell) (n : ℕ) (d : PieceSlot) → n < length slots → hyphen_before (drop n (pieces_of slots cells)) ≡ hyphen_width (get_or slots n d).join
 hyphen_at [] cells n d h = absurd (omega arith)
 hyphen_at (slot ∷ slots) cells zero d h = refl
@@ -66,7 +66,7 @@ wider slots n m h =
     let same = ap slots_width (take-take n m slots h) in
     omega arith
 
--- once a front is too wide none that is longer fits
+-- once a prefix is too wide none that is longer fits
 pub too_wide : (line : ℕ) (slots : List PieceSlot) (cells : List Cell) (n wide : ℕ) (d : PieceSlot) → 0 < n → cells_in_slots slots ≤ length cells
     → wide + join_width (get_or slots 0 d).join ≡ slots_width (take n slots) → line < wide
     → (m : ℕ) → n ≤ m → m ≤ length slots → fits line m (pieces_of slots cells) ≡ false

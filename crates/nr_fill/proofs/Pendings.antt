@@ -1,4 +1,4 @@
--- What waits behind the piece that is being read, as it changes.
+-- What waits after the piece that is being read, as it changes.
 use Rattle.std.proofs.Common.{◌≡◌, ℕ, ◌+◌, ◌-◌, ◌≤◌, ◌<◌, ◌^◌, nat_lt, ◌&&◌, length, Option, Some, true, false, refl, arith, inl, inr, length-drop}
 use Rattle.std.proofs.lemmas.Bool.{cases_Bool, cases_lt, lt-ltb, le-ltb, ltb-true}
 use Rattle.std.proofs.lemmas.List.Sums.{sum_by-take-drop}
@@ -58,13 +58,13 @@ needed_one_more Nothing b k n h = omega arith
 needed_one_more (AtPoint point) b k n h = omega arith
 needed_one_more (ForStop f) b k n h = omega arith
 
--- cells behind a point inside the piece
+-- cells after a point inside the piece
 pub needed_behind_point : (p : Pending) (b k m : ℕ) → is_for_stop p ≡ false → b < m → cells_needed p b k ≤ m
 needed_behind_point Nothing b k m other h = omega arith
 needed_behind_point (AtPoint point) b k m other h = omega arith
 needed_behind_point (ForStop f) b k m other h = absurd (let e : true ≡ false = other in cc)
 
--- a word with something else behind it
+-- a word with something else after it
 pub is_line_pending : {row : Laid} {limit pieces wide : ℕ} {w : WordState} {gap : ℕ} {title : Option TitleState} (p : Pending) (b : ℕ) → IsLine row limit pieces wide (Some w) gap title
     → cells_needed p b w.parted ≤ length row.last → IsLine row limit pieces wide (Some (record w { pending = p; blanks = b })) gap title
 is_line_pending {w = w} p b h needed =

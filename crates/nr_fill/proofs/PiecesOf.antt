@@ -17,7 +17,7 @@ pub length-pieces_of : (slots : List PieceSlot) (cells : List Cell) → length (
 length-pieces_of [] cells = refl
 length-pieces_of (slot ∷ slots) cells = ap suc (length-pieces_of slots (drop slot.len cells))
 
--- what stands behind the pieces does not change them
+-- what stands after the pieces does not change them
 pub pieces_of-append : (slots : List PieceSlot) (cells more : List Cell) → cells_in_slots slots ≤ length cells → pieces_of slots (cells ++ more) ≡ pieces_of slots cells
 pieces_of-append [] cells more h = refl
 pieces_of-append (slot ∷ slots) cells more h =
@@ -104,7 +104,7 @@ pub width-le : (ps : List Piece) → width ps ≤ pieces_width ps
 width-le [] = omega arith
 width-le (p ∷ ps) = let all = sum_by-cons piece_width p ps in omega arith
 
--- all of them have no hyphen behind them
+-- all of them have no hyphen after them
 pub front_width-all : (ps : List Piece) → front_width (length ps) ps ≡ width ps
 front_width-all ps =
     ap₂ (λ a b. width a + hyphen_before b) (take_all (length ps) ps (omega arith)) (drop_all (length ps) ps (omega arith)) ∙ (let e : width ps + 0 ≡ width ps = omega arith in e)

@@ -6,7 +6,7 @@ use Rattle.std.proofs.lemmas.List.Edits.{take-paste}
 use Rattle.std.proofs.lemmas.Slice.{between_is}
 use borrow.Rule.Slice.PartMut.{put_mid}
 
--- the first items behind a place
+-- the first items after a place
 pub take_behind : {X : Type 0} (xs : List X) (start n end : ℕ) → start + n ≤ end → take n (drop start (take end xs)) ≡ drop start (take (start + n) xs)
 take_behind xs start n end within =
     let more : end ≡ start + (end - start) = omega arith in
@@ -24,7 +24,7 @@ moved_to_front xs start end h k =
 pub length_between : {X : Type 0} (xs : List X) (start end : ℕ) → end ≤ length xs → length (drop start (take end xs)) ≡ end - start
 length_between xs start end h = omega (arith, length-drop start (take end xs), length-take-le end xs h)
 
--- items stand behind the others
+-- items stand after the others
 pub extended : {X : Type 0} (xs ys : List X) (start end n : ℕ) → start ≤ end → end + n ≤ length xs → length ys ≡ n
     → drop start (take (end + n) (put_mid end n xs ys)) ≡ drop start (take end xs) ++ ys
 extended xs ys start end n h k long =
@@ -33,7 +33,7 @@ extended xs ys start end n h k long =
     ∙ ap (drop start) (take_at (take end xs ++ ys) (drop n (drop end xs)) (end + n) (omega (arith, length-append (take end xs) ys)))
     ∙ drop-append-le start (take end xs) ys (omega arith)
 
--- a front of them stands behind the others
+-- a prefix of them stands after the others
 pub extended_front : {X : Type 0} (xs ys : List X) (start end n k : ℕ) → start ≤ end → end + n ≤ length xs → length ys ≡ n → k ≤ n
     → drop start (take (end + k) (put_mid end n xs ys)) ≡ drop start (take end xs) ++ take k ys
 extended_front xs ys start end n k ordered free long fewer =
@@ -45,7 +45,7 @@ extended_front xs ys start end n k ordered free long fewer =
     ∙ ap (take (length items + k)) (extended xs ys start end n ordered free long)
     ∙ take-append-add items ys k
 
--- n items stand at a place, and what stood there behind them
+-- n items stand at a place, and what stood there after them
 pub inserted : {X : Type 0} (xs ys : List X) (start place end n : ℕ) (y : X) → start + place ≤ end → end + n ≤ length xs
     → ys ≡ paste xs (start + place + n) (drop (start + place) xs) (end - (start + place))
     → drop start (take (end + n) (put_mid (start + place) n ys (replicate n y)))

@@ -15,7 +15,7 @@ use Rattle.nr_fill.specs.Laid.{Laid, read_cells}
 use Rattle.nr_fill.specs.PieceRow.{IsLine}
 use Rattle.nr_fill.proofs.Lines.{is_line_begun, is_line_worded}
 
--- whether a sentence ends behind a run, where one ended before it or not
+-- whether a sentence ends after a run, where one ended before it or not
 run_sentence : Bool → Bool → List ℕ → Bool
 run_sentence before under [] = before
 run_sentence before under (b ∷ bs) = run_sentence (ends_sentence (run_cell under b)) under bs
@@ -27,7 +27,7 @@ run_sentence-last before under b (x ∷ bs) =
     let at : length (b ∷ x ∷ bs) - 1 ≡ suc (length (x ∷ bs) - 1) = omega arith in
     run_sentence-last (ends_sentence (run_cell under b)) under x bs ∙ ap (λ k. ends_sentence (run_cell under (get_or (b ∷ x ∷ bs) k 0))) (sym at)
 
--- ---- what waits behind a letter
+-- ---- what waits after a letter
 
 behind_letter : (n : ℕ) (p : Pending) → pending_behind Letter n p ≡ pending_without_point p
 behind_letter n Nothing = refl
@@ -70,7 +70,7 @@ add_cell-at_word m under b c w sentence none =
     ∙ ap (λ (v : Word). at_word c (add_cell_behind Letter x v) (ends_sentence x)) (ended_at-none w.pending w none)
     ∙ ap (λ (p : Pending). at_word c (record (append (x ∷ []) w) { pending = p }) (ends_sentence x)) (behind_letter (word_length (append (x ∷ []) w)) w.pending)
 
--- one run behind another
+-- one run after another
 run_behind-cons : (under : Bool) (b : ℕ) (bs : List ℕ) (w : Word) → run_behind under bs (run_behind under (b ∷ []) w) ≡ run_behind under (b ∷ bs) w
 run_behind-cons under b bs w =
     let xs = map (run_cell under) bs in
@@ -128,7 +128,7 @@ pub add_run-none : (m : Margins) (under : Bool) (bs : List ℕ) (c : Collected) 
     }
 add_run-none m under bs c none some = add_run-run m under bs c some ∙ rw none refl
 
--- a word at once, and the blank behind it
+-- a word at once, and the blank after it
 pub add_word-none : (m : Margins) (under : Bool) (bs : List ℕ) (c : Collected) → c.word ≡ None → 0 < length bs
     → add_word m under bs c
     ≡ record c {

@@ -23,7 +23,7 @@ suffix_len-append xs ys =
     ap (prefix_len is_blank) (reverse-append xs ys) ∙ prefix_len-append is_blank (reverse ys) (reverse xs)
     ∙ ap (λ n. cond (eqb (suffix_len is_blank ys) n) (n + suffix_len is_blank xs) (suffix_len is_blank ys)) (length-reverse ys)
 
--- behind something written all before it is
+-- after something written all before it is
 pub written-append_some : (xs ys : List Cell) → 0 < written ys → written (xs ++ ys) ≡ length xs + written ys
 written-append_some xs ys some =
     let fewer = suffix_len-le-length is_blank ys in

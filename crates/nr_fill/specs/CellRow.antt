@@ -40,6 +40,6 @@ pub AddsToRow-both : (a b c : Row) (xs ys : List Cell) → AddsToRow a xs b → 
 AddsToRow-both a b c xs ys first second =
     (second.0 ∙ first.0, λ cells is. subst (λ (zs : List Cell). IsRow zs c) (append_assoc cells xs ys) (second.1 (cells ++ xs) (first.1 cells is)))
 
--- how many there are up to the last that is no blank, where `more` of those that were added behind `count` are
+-- how many there are up to the last that is no blank, where `more` of those that were added after `count` are
 abbrev pub written_behind : ℕ → ℕ → ℕ → ℕ
 written_behind written count more = if more == 0 then written else counted (count + more)

@@ -42,7 +42,7 @@ abbrev pub most_that_fit : ℕ → List Piece → ℕ → ℕ
 most_that_fit line ps zero = 0
 most_that_fit line ps (suc n) = if fits line (suc n) ps then suc n else most_that_fit line ps n
 
--- how many pieces go out in one line: the longest front that fits, and one piece where none does
+-- how many pieces go out in one line: the longest prefix that fits, and one piece where none does
 abbrev pub cut : ℕ → List Piece → ℕ
 cut line ps = max 1 (most_that_fit line ps (length ps))
 

@@ -1,4 +1,4 @@
--- Pieces one after another, behind them the cells of one that has no end yet, and those of a title.
+-- Pieces one after another, after them the cells of one that has no end yet, and those of a title.
 use Rattle.std.specs.Prelude.{◌≡◌, ℕ, ◌+◌, ◌-◌, ◌≤◌, ◌<◌, ◌^◌, List, length, take, drop}
 use Rattle.nr_units.specs.declared.cell.Cell.{Cell}
 use Rattle.nr_fill.specs.declared.piece.PieceSlot.{PieceSlot}
@@ -7,7 +7,7 @@ use Rattle.nr_fill.specs.Slots.{pieces_of, cells_in_slots}
 
 pub record Laid : Type 0 where
   pub pieces : List Piece
-  -- the cells behind the last piece
+  -- the cells after the last piece
   pub last : List Cell
   pub title : List Cell
   -- how many pieces there may be, and how many cells

@@ -29,7 +29,7 @@ pub record Word : Type 0 where
   pub parts : List Piece
   -- the piece that is being read
   pub last : Piece
-  -- a break point that stands behind it where one more cell comes, or the stop that its text is for
+  -- a break point that stands after it where one more cell comes, or the stop that its text is for
   pub pending : Pending
   -- how many blanks of the text stand at its end, in one piece or in several
   pub blanks : ℕ
@@ -76,7 +76,7 @@ cells_in ps = sum_by (λ (p : Piece). length p.cells) ps
 
 -- ---- words
 
--- a word without cells, behind a gap
+-- a word without cells, after a gap
 abbrev pub new_word : ℕ → Word
 new_word gap = record { parts = []; last = record { join = Gap gap; cells = [] }; pending = Nothing; blanks = 0 }
 
@@ -130,13 +130,13 @@ mark_cells Letter = 0
 mark_cells Hyphen = 1
 mark_cells Dash = 2
 
--- A hard point stands behind `-`, `\(hy` and `\(em` where the word, of n cells, has a cell before them. The text for a right or centring stop has none.
+-- A hard point stands after `-`, `\(hy` and `\(em` where the word, of n cells, has a cell before them. The text for a right or centring stop has none.
 abbrev pub pending_behind : Behind → ℕ → Pending → Pending
 pending_behind mark n (ForStop f) = ForStop f
 pending_behind Letter n pending = Nothing
 pending_behind mark n pending = if nat_lt (mark_cells mark) n then AtPoint points.Hard else Nothing
 
--- `\%` behind one of n cells. Of two points at one place it is soft only where both are.
+-- `\%` after one of n cells. Of two points at one place it is soft only where both are.
 abbrev pub pending_soft : ℕ → Pending → Pending
 pending_soft n Nothing = if nat_lt 0 n then AtPoint points.Soft else Nothing
 pending_soft n pending = pending
@@ -215,7 +215,7 @@ add_cells margins x n c =
 abbrev pub marked : Margins → Collected → Collected
 marked margins c = record (in_word with_blanks_kept (with_word margins c)) { sentence = false }
 
--- how the first of these pieces hangs on what is before it, or where there are none the one behind them
+-- how the first of these pieces hangs on what is before it, or where there are none the one after them
 abbrev pub join_before : List Piece → Join → Join
 join_before [] join = join
 join_before (p ∷ ps) join = p.join

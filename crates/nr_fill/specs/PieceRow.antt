@@ -12,7 +12,7 @@ use Rattle.nr_fill.specs.Laid.{Laid, read_cells}
 use Rattle.nr_fill.specs.Piece.{Piece, Word, Collected, cells_in}
 use Rattle.nr_fill.specs.Titling.{title_of, parted_title}
 
--- the word whose other pieces stand in the row, and behind them the cells of the last
+-- the word whose other pieces stand in the row, and after them the cells of the last
 abbrev pub word_of : Option WordState → List Piece → List Cell → Option Word
 word_of None ps cells = None
 word_of (Some w) ps cells = Some (record { parts = ps; last = record { join = w.join; cells = cells }; pending = w.pending; blanks = w.blanks })
@@ -30,7 +30,7 @@ collected_of row pieces word gap barred sentence margins turn title = record {
   title = title_of title row.title;
 }
 
--- how many cells have to stand behind the last piece of a word whose pieces have `parted` cells: the blanks at its end may stand in these too
+-- how many cells have to stand after the last piece of a word whose pieces have `parted` cells: the blanks at its end may stand in these too
 abbrev pub cells_needed : Pending → ℕ → ℕ → ℕ
 cells_needed Nothing blanks parted = blanks - parted
 cells_needed (AtPoint p) blanks parted = max 1 (blanks - parted)

@@ -13,20 +13,20 @@ IsPlain b = (32 < b) × (b ≢ code "-") × (b ≢ code "\\") × (b ≢ 127)
 abbrev pub run_cell : Bool → ℕ → Cell
 run_cell under b = record { byte = b; under = under }
 
--- the bytes one after another, each a cell behind which no line may be cut
+-- the bytes one after another, each a cell after which no line may be cut
 abbrev pub add_run : Margins → Bool → List ℕ → Collected → Collected
 add_run margins under [] c = c
 add_run margins under (b ∷ bs) c = add_run margins under bs (add_cell margins Letter (run_cell under b) c)
 
--- the cells of a run behind those of a word: no break point waits behind them
+-- the cells of a run after those of a word: no break point waits after them
 abbrev pub run_behind : Bool → List ℕ → Word → Word
 run_behind under bs w = record (append (map (run_cell under) bs) w) { pending = pending_without_point w.pending }
 
--- the bytes as a word, and the blank behind it
+-- the bytes as a word, and the blank after it
 abbrev pub add_word : Margins → Bool → List ℕ → Collected → Collected
 add_word margins under bs c = one_blank_more (end_word (add_run margins under bs c))
 
--- a word of so many of these bytes ends at a blank behind it, where blanks end words and it begins there
+-- a word of so many of these bytes ends at a blank after it, where blanks end words and it begins there
 pub record EndsWord (ends : Bool) (n : ℕ) (bs : List ℕ) (c : Collected) : Type 0 where
   pub some : 0 < n
   pub within : n < length bs

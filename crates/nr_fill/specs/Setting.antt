@@ -59,8 +59,8 @@ set_line s c n = trimmed (line_row s c n)
 abbrev pub set_width : Setting → Collected → ℕ → ℕ
 set_width s c n = length (trimmed (text_of s.align c n))
 
--- What is left behind the first n pieces. A line that begins with what is left, if only with the word that is being read, takes its margins
--- now, and the turn changes behind a line that was spread.
+-- What is left after the first n pieces. A line that begins with what is left, if only with the word that is being read, takes its margins
+-- now, and the turn changes after a line that was spread.
 abbrev pub without_front : ℕ → Bool → Margins → Collected → Collected
 without_front n spread margins c =
     let rest = drop n c.pieces in

@@ -19,7 +19,7 @@ column c = width (c.pieces ++ word_pieces (Some (word_or_new c.gap c.word)))
 abbrev pub first_beyond : ℕ → List Stop → Option Stop
 first_beyond column stops = find (λ (s : Stop). nat_lt column s.column) stops
 
--- right and centring stops align the text behind them, where stops align text at all
+-- right and centring stops align the text after them, where stops align text at all
 abbrev pub is_aligned : Bool → StopKind → Bool
 is_aligned aligned Left = false
 is_aligned aligned Right = aligned

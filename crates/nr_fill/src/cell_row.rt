@@ -24,7 +24,7 @@ pub trait CellRow {
         ensures items { (Holds self.new).items ≡ (Holds self.old).items ++ take n cells.now }
         ensures room { (Holds self.new).room ≡ (Holds self.old).room };
 
-    /// Adds copies of a cell, and behind them the first n of these cells.
+    /// Adds copies of a cell, and after them the first n of these cells.
     fn add_behind_copies(&mut self, cell: Cell, copies: usize, cells: &[Cell], n: usize)
         requires front { n ≤ length cells.now }
         requires room { length (Holds self.old).items + copies + n ≤ (Holds self.old).room }
@@ -61,7 +61,7 @@ impl CellRow for SliceVec<'_, Cell> {
     }
 }
 
-/// Sets these pieces as a line in a row that has room for it, behind what stands there.
+/// Sets these pieces as a line in a row that has room for it, after what stands there.
 pub fn lay_line<R: CellRow>(slots: &[PieceSlot], cells: &[Cell], extra: Extra, row: &mut R)
     requires some { 0 < length slots.now }
     requires cells { cells_in_slots slots.now ≤ length cells.now }

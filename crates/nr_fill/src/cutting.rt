@@ -22,7 +22,7 @@ pub(crate) struct Sums {
     pub(crate) gaps: usize,
 }
 
-/// The number of pieces in the longest front that fits the line, and 1 where none does.
+/// The number of pieces in the longest prefix that fits the line, and 1 where none does.
 pub(crate) fn longest_front(slots: &[PieceSlot], line: usize) -> usize
     requires some { 0 < length slots.now }
     requires wide { slots_width slots.now < 2 ^ 63 }
@@ -111,7 +111,7 @@ pub(crate) fn gap_behind(join: Join, gap: usize) -> usize
     }
 }
 
-/// Sets these pieces in the row behind what stands there, and tells how far they reach.
+/// Sets these pieces in the row after what stands there, and tells how far they reach.
 pub(crate) fn set_pieces<S: CellSink>(
     slots: &[PieceSlot],
     cells: &[Cell],

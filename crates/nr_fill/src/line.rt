@@ -225,7 +225,7 @@ impl Line {
         self.wide - first <= length
     }
 
-    /// How many cells stand before the next one of the word, from the indent: of a word that is still to begin, behind
+    /// How many cells stand before the next one of the word, from the indent: of a word that is still to begin, after
     /// the gap that waits for it.
     pub fn column(&self) -> usize
         ensures value { result ≡ column self.now.collected }

@@ -11,7 +11,7 @@ pub enum Turn {
     Right,
 }
 
-/// The margins behind a line with these, where so many pieces are left, and no word is being read where `wordless`:
+/// The margins after a line with these, where so many pieces are left, and no word is being read where `wordless`:
 /// `next` where something is left, with which a line begins.
 pub(crate) fn margins_behind(
     margins: Margins,
@@ -25,7 +25,7 @@ pub(crate) fn margins_behind(
 }
 
 impl Turn {
-    /// The turn behind a line, which was spread or not.
+    /// The turn after a line, which was spread or not.
     pub(crate) fn behind(self, spread: bool) -> Self
         ensures { result ≡ (if spread then other_turn self else self) }
     {

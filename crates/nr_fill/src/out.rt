@@ -162,7 +162,7 @@ impl CellSink for Out {
     ghost adds_both = { AddsToRow-both };
 }
 
-/// How many cells there are up to the last that is no blank, where `more` of those that were added are, behind
+/// How many cells there are up to the last that is no blank, where `more` of those that were added are, after
 /// `count` cells of which `written` are.
 #[inline]
 pub(crate) fn written_behind(written: usize, count: usize, more: usize) -> usize

@@ -24,14 +24,14 @@ pub enum Point {
     Hard,
 }
 
-/// What kind of cell is read: whether a line may be cut behind it.
+/// What kind of cell is read: whether a line may be cut after it.
 #[derive(Clone, Copy)]
 pub enum Behind {
-    /// No break point stands behind it.
+    /// No break point stands after it.
     Letter,
-    /// A `-` or `\(hy`: a hard point, where the word has a cell before it and one behind it.
+    /// A `-` or `\(hy`: a hard point, where the word has a cell before it and one after it.
     Hyphen,
-    /// The second cell of `\(em`: a hard point, where the word has a cell before its first cell and one behind it.
+    /// The second cell of `\(em`: a hard point, where the word has a cell before its first cell and one after it.
     Dash,
 }
 

@@ -1,4 +1,4 @@
-// Pieces one after another in two vectors, behind them the cells of one that has no end yet, and those of a title.
+// Pieces one after another in two vectors, after them the cells of one that has no end yet, and those of a title.
 ghost use Rattle.std.specs.Prelude.{◌≡◌, ℕ, ◌+◌, ◌-◌, ◌<◌, ◌≤◌, ◌^◌, List, [], ◌∷◌, ◌++◌, length, map, min, take, drop, replicate, slice_index, All, IfOk};
 ghost use Rattle.std.specs.List.{flat_map};
 ghost use Rattle.nr_units.specs.declared.cell.Cell.{Cell as CellValue};
@@ -19,7 +19,7 @@ use nr_units::cell::Cell;
 use std::alloc::{AllocError, Global};
 use std::marker::Model;
 
-/// The cells of all pieces stand in one vector one after another, behind them those of the piece that is being read and
+/// The cells of all pieces stand in one vector one after another, after them those of the piece that is being read and
 /// those of a title; a second vector says of each piece how long it is and how it hangs on the one before it.
 #[derive(Drop)]
 pub(crate) struct PieceRow {
@@ -97,7 +97,7 @@ impl PieceRow {
         self.read
     }
 
-    /// How many cells stand behind the last piece, but the title's.
+    /// How many cells stand after the last piece, but the title's.
     #[inline]
     pub(crate) fn last_len(&self) -> usize
         ensures { result ≡ length self.now.last }
@@ -121,7 +121,7 @@ impl PieceRow {
         self.slots.as_slice()[0].join
     }
 
-    /// One more cell behind the last piece.
+    /// One more cell after the last piece.
     #[inline]
     pub(crate) fn push(&mut self, cell: Cell)
         requires room { read_cells self.old < self.old.room }
@@ -132,7 +132,7 @@ impl PieceRow {
         self.read += 1;
     }
 
-    /// Puts the cells of these bytes behind the last piece, up to the first that is not plain, and tells how many these
+    /// Puts the cells of these bytes after the last piece, up to the first that is not plain, and tells how many these
     /// are.
     #[inline]
     pub(crate) fn push_plain(&mut self, under: bool, bytes: &[u8]) -> usize
@@ -148,7 +148,7 @@ impl PieceRow {
         count
     }
 
-    /// Puts n copies of a cell in, so many cells behind the last piece.
+    /// Puts n copies of a cell in, so many cells after the last piece.
     pub(crate) fn insert_copies(&mut self, place: usize, cell: Cell, n: usize)
         requires within { place ≤ length self.old.last }
         requires room { read_cells self.old + n ≤ self.old.room }
@@ -159,7 +159,7 @@ impl PieceRow {
         self.read += n;
     }
 
-    /// Keeps so many of the cells behind the last piece.
+    /// Keeps so many of the cells after the last piece.
     pub(crate) fn shorten(&mut self, n: usize)
         requires within { n ≤ length self.old.last }
         requires no_title { self.old.title ≡ [] }
@@ -169,7 +169,7 @@ impl PieceRow {
         self.cells.truncate(self.read);
     }
 
-    /// So many of the cells behind the last piece are a piece of their own.
+    /// So many of the cells after the last piece are a piece of their own.
     #[inline]
     pub(crate) fn close(&mut self, join: Join, n: usize)
         requires within { n ≤ length self.old.last }
@@ -183,7 +183,7 @@ impl PieceRow {
         self.pieced += n;
     }
 
-    /// How the piece behind the first n hangs on them, or one behind all pieces where there are no more.
+    /// How the piece after the first n hangs on them, or one after all pieces where there are no more.
     pub(crate) fn join_before(&self, n: usize, last: Join) -> Join
         requires { n ≤ length self.now.pieces }
         ensures { result ≡ join_before (drop n self.now.pieces) last }
@@ -194,8 +194,8 @@ impl PieceRow {
         self.slots.as_slice()[n].join
     }
 
-    /// The pieces behind the first n, which have so many cells, have no end any more: their cells stand before those
-    /// behind the last piece.
+    /// The pieces after the first n, which have so many cells, have no end any more: their cells stand before those
+    /// after the last piece.
     pub(crate) fn open_behind(&mut self, n: usize, cells: usize)
         requires within { n ≤ length self.old.pieces }
         requires cells { cells ≡ cells_in (drop n self.old.pieces) }
@@ -228,7 +228,7 @@ impl PieceRow {
         &self.cells.as_slice()[self.read..]
     }
 
-    /// The cells behind the first pieces, but the title's. The other pieces have `parted` cells.
+    /// The cells after the first pieces, but the title's. The other pieces have `parted` cells.
     pub(crate) fn cells_behind(&self, parted: usize) -> &[Cell]
         requires { parted ≤ cells_in self.now.pieces }
         ensures { (n : ℕ) → cells_in (drop n self.now.pieces) ≡ parted → result.now ≡ flat_map (λ (p : Piece). p.cells) (drop n self.now.pieces) ++ self.now.last }
@@ -236,7 +236,7 @@ impl PieceRow {
         &self.cells.as_slice()[self.pieced - parted..self.read]
     }
 
-    /// The number of pieces in the longest front of the first n, which are so wide, that fits the line, and 1 where none
+    /// The number of pieces in the longest prefix of the first n, which are so wide, that fits the line, and 1 where none
     /// does.
     pub(crate) fn longest_front(&self, n: usize, wide: usize, line: usize) -> usize
         requires some { 0 < n }
@@ -282,7 +282,7 @@ impl PieceRow {
         self.slots.as_slice()[n].join.hyphen()
     }
 
-    /// Sets the first n pieces in the row behind what stands there, at most so many cells, and tells how far they reach.
+    /// Sets the first n pieces in the row after what stands there, at most so many cells, and tells how far they reach.
     pub(crate) fn set<S: CellSink>(
         &self,
         n: usize,

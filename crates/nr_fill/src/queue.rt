@@ -9,7 +9,7 @@ use std::alloc::{AllocError, Global};
 use std::marker::Model;
 
 /// Items, and room for a number of them that stays; `new` is the only call that allocates. A front that is taken away stays
-/// where it is until it is as long as what is left or its place is needed, so that taking a front costs no more than it had
+/// where it is until it is as long as what is left or its place is needed, so that taking a prefix costs no more than it had
 /// items.
 #[derive(Drop)]
 pub(crate) struct Queue<T: Copy> {
@@ -38,7 +38,7 @@ struct Span {
     end: usize,
 }
 
-/// Makes sure that there are n free slots behind the items of the span, and tells where they are then.
+/// Makes sure that there are n free slots after the items of the span, and tells where they are then.
 #[inline]
 fn make_room<T: Copy>(slots: &mut Vec<T>, room: usize, span: Span, n: usize, item: T) -> Span
     requires ordered { span.start ≤ span.end }

@@ -11,7 +11,7 @@ use crate::words::ends_sentence;
 use nr_settings::Indents;
 use nr_units::cell::Cell;
 
-/// Whether the byte is a cell of a word, behind which no line may be cut, wherever it stands in a text line's midst.
+/// Whether the byte is a cell of a word, after which no line may be cut, wherever it stands in a text line's midst.
 #[inline]
 fn is_plain(byte: u8) -> bool
     ensures { IsTrue result ↔ IsPlain byte }
@@ -47,12 +47,12 @@ pub(crate) fn set_plain(slots: &mut [Cell], under: bool, bytes: &[u8]) -> usize
 pub struct WordRun {
     /// How many of them are cells of a word.
     pub count: usize,
-    /// The blank behind them was read, and ended the word.
+    /// The blank after them was read, and ended the word.
     pub ended: bool,
 }
 
 impl Line {
-    /// Reads a front of these bytes as cells of a word, underlined or not, as many calls of `put` would: up to the first
+    /// Reads a prefix of these bytes as cells of a word, underlined or not, as many calls of `put` would: up to the first
     /// that is not plain or whose cell would pass the limit. Tells how many it read. It takes the time of one pass
     /// over those bytes.
     pub fn put_run(&mut self, margins: Margins, under: bool, bytes: &[u8]) -> usize
@@ -72,7 +72,7 @@ impl Line {
         self.push_plain(under, bytes)
     }
 
-    /// Reads a front of these bytes as `put_run` would, and behind it a blank as `end_word` and `widen_gap` would: where
+    /// Reads a prefix of these bytes as `put_run` would, and after it a blank as `end_word` and `widen_gap` would: where
     /// `ends` says that a blank ends a word, no word and no title was being read, and the piece passes no limit. The margins are looked
     /// up only where the line may take them.
     #[inline(always)]

@@ -15,7 +15,7 @@ pub struct Field {
     pub(crate) fill: Cell,
 }
 
-/// What waits behind the piece that is being read.
+/// What waits after the piece that is being read.
 #[derive(Clone, Copy)]
 pub enum Pending {
     Nothing,

@@ -21,7 +21,7 @@ fn first_beyond(column: usize, stops: &[Stop]) -> Option<Stop>
     None
 }
 
-/// Whether a stop of this kind aligns the text behind it, where stops align text at all.
+/// Whether a stop of this kind aligns the text after it, where stops align text at all.
 fn aligns(kind: StopKind, aligned: bool) -> bool
     ensures { result ≡ is_aligned aligned kind }
 {

@@ -51,7 +51,7 @@ fn push_hyphens<S: CellSink>(out: &mut S, count: u16)
 }
 
 impl Line {
-    /// Sets in a row, behind what stands there, the longest front of the pieces that fits, with its hyphen where it is
+    /// Sets in a row, after what stands there, the longest prefix of the pieces that fits, with its hyphen where it is
     /// cut at a soft point, and one piece where none fits. What is left takes the margins `next`. Tells how wide the
     /// text is, in cells, without the blanks at its end; the row keeps them. A word that is being read stays.
     pub fn take_line<S: CellSink>(&mut self, next: Margins, setting: Setting, out: &mut S) -> usize
@@ -67,7 +67,7 @@ impl Line {
         self.take_front(n, next, setting, out)
     }
 
-    /// Sets all pieces as one line in a row, behind what stands there, as in no-fill mode and where lines are centred.
+    /// Sets all pieces as one line in a row, after what stands there, as in no-fill mode and where lines are centred.
     /// A word that is being read stays, and takes the margins `next`. Tells how wide the text is, in cells, without the
     /// blanks at its end; the row keeps them.
     pub fn take_all<S: CellSink>(&mut self, next: Margins, setting: Setting, out: &mut S) -> usize

@@ -123,7 +123,7 @@ impl<'t> TitleParts<'t> {
         self.left.len() <= centre && centre + self.centre.len() <= right
     }
 
-    /// Sets such parts in the row behind what stands there: in blocks.
+    /// Sets such parts in the row after what stands there: in blocks.
     fn set_apart<S: CellSink>(self, centre: usize, right: usize, out: &mut S)
         requires left { length self.left.now ≤ centre }
         requires centre { centre + length self.centre.now ≤ right }
@@ -156,7 +156,7 @@ impl<'t> TitleParts<'t> {
     }
 }
 
-/// Sets a title of this length in the row behind what stands there.
+/// Sets a title of this length in the row after what stands there.
 pub(crate) fn set_parts<S: CellSink>(parts: TitleParts<'_>, line: usize, out: &mut S)
     requires line { line < 2 ^ 32 }
     requires left { length parts.left.now < 2 ^ 32 }

@@ -45,7 +45,7 @@ impl Line {
         self.title = Some(title.next(self.row.title_len()));
     }
 
-    /// Sets the title in a row behind what stands there, `length` cells long and `offset` cells on, and is done with
+    /// Sets the title in a row after what stands there, `length` cells long and `offset` cells on, and is done with
     /// it. Without a title there are the `offset` blanks alone.
     pub fn set_title<S: CellSink>(&mut self, length: u32, offset: u32, out: &mut S)
         ensures out { S.Adds out.old (titled_row offset length self.old.collected.title) out.new }

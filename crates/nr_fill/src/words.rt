@@ -47,7 +47,7 @@ impl WordState {
 }
 
 impl Pending {
-    /// Goes on behind a cell, where the word has n cells then.
+    /// Goes on after a cell, where the word has n cells then.
     #[inline]
     fn step_behind(&mut self, mark: Behind, n: usize)
         ensures { self.new ≡ pending_behind mark n self.old }
@@ -62,7 +62,7 @@ impl Pending {
         };
     }
 
-    /// What waits behind `\%`, where n cells stand before it.
+    /// What waits after `\%`, where n cells stand before it.
     fn soft(self, n: usize) -> Self
         ensures { result ≡ pending_soft n self }
     {
@@ -244,7 +244,7 @@ impl Line {
         self.keep_blanks();
     }
 
-    /// Reads `\%`: a soft break point behind a cell, and no point of `.hw` in this word.
+    /// Reads `\%`: a soft break point after a cell, and no point of `.hw` in this word.
     pub fn bar(&mut self)
         ensures { self.new ≡ record self.old { collected = barred_here self.old.collected } }
     {
@@ -290,7 +290,7 @@ impl Line {
     }
 
     /// The word is one piece from now on: so it is where it ends in no-fill mode or in a line that is centred. Call it
-    /// before `end_word` there, and behind `end_field`: while text for a right or centring stop is read it does nothing
+    /// before `end_word` there, and after `end_field`: while text for a right or centring stop is read it does nothing
     /// but give a title up. It takes the same time however long the word is.
     pub fn join_word(&mut self)
         ensures { self.new ≡ record self.old { collected = joined self.old.collected } }
@@ -345,7 +345,7 @@ impl Line {
         self.barred = false;
     }
 
-    /// A text line ended: the gap is 1, or 2 behind a sentence.
+    /// A text line ended: the gap is 1, or 2 after a sentence.
     #[inline]
     pub fn newline_gap(&mut self)
         ensures { self.new ≡ record self.old { collected = after_newline self.old.collected } }

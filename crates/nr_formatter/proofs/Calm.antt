@@ -46,7 +46,7 @@ use Rattle.nr_formatter.specs.Ending as ending
 use Rattle.nr_formatter.specs.declared.tasks.Step.{Step}
 use Rattle.nr_formatter.specs.declared.tasks.Step.TheVariants as steps
 
--- the splices behind the last byte are no more than they may be
+-- the splices after the last byte are no more than they may be
 abbrev pub IsCalm : Formatter → Type 0
 IsCalm f = f.reader.burst ≤ f.reader.most
 

@@ -78,7 +78,7 @@ begun-to_stop m aligned fill c None = and_false (is_nil c.pieces)
 begun-to_stop m aligned fill c (Some s) =
     cond_both (is_aligned aligned s.kind) _ _ (λ d. begins_line d ≡ false) (λ _. and_false (is_nil c.pieces)) (λ _. begun-cells m fill (s.column - column c) c)
 
--- the line has begun behind it
+-- the line has begun after it
 pub begun-byte : (b : ℕ) (f : Formatter) → begins_line (byte_added b f) ≡ false
 begun-byte b f =
     let c = collected f in

@@ -33,4 +33,4 @@ blanks_more n v = added-added (replicate n blank_cell) (blank_cell ∷ []) v ∙
 
 -- ---- the steps of the loop
 
--- ---- a cell behind them
+-- ---- a cell after them

@@ -70,7 +70,7 @@ ended_in n height cells v (b ∷ bs) is n_is =
     let mid = ap₂ (λ (t : List Element) (m : ℕ). let c : Built = record { text = t; diversion = option_map (taken m height) b.diversion } in let w : Stored Resume = record v { building = c ∷ bs } in w) (append_assoc b.text xs end) wide in
     first ∙ mid ∙ last
 
--- the end behind cells that were added one by one
+-- the end after cells that were added one by one
 pub diverted_end-with_cells : (n height : ℕ) (cells : List Cell) (v : Stored Resume) → n ≡ share v.building (length cells)
     → diverted_end n height (with_cells cells v) ≡ diverted 0 cells height v
 diverted_end-with_cells n height cells v n_is = ended_in n height cells v v.building refl n_is
@@ -96,7 +96,7 @@ charge_of-diverted-le height cells v =
 
 -- ---- blanks at the end of a row
 
--- blanks behind what ends with none are what is left out
+-- blanks after what ends with none are what is left out
 pub trimmed-blanks : (cells : List Cell) (n : ℕ) → trimmed cells ≡ cells → trimmed (cells ++ replicate n blank) ≡ cells
 trimmed-blanks cells n all =
     let same = written-append_none cells (replicate n blank) (written-replicate n) in

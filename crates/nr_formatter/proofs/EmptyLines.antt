@@ -183,7 +183,7 @@ line_gone f room =
     ap (λ n. record (gone_down 0 f) { paper = record f.paper { place = f.paper.place + n }; springs = reached (f.paper.place + n) (trap_below f.paper.place f) }) whole
     ∙ ap (λ o. record (gone_down 1 f) { springs = o }) still
 
--- and another behind some
+-- and another after some
 pub lines_gone : (n m : ℕ) (f : Formatter) → gone_down m (gone_down n f) ≡ gone_down (n + m) f
 lines_gone n m f =
     let all : f.paper.place + n * spacing f + m * spacing f ≡ f.paper.place + (n + m) * spacing f = grind arith in

@@ -95,7 +95,7 @@ falls-spliced down f g splices owes left = record {
   falls = λ p. let pays = splices.pays p in omega arith;
 }
 
--- ---- one move behind another, and the same move
+-- ---- one move after another, and the same move
 
 pub falls-is : (down up : ℕ) (f g h : Formatter) → g ≡ h → Falls down up f h → Falls down up f g
 falls-is down up f g h same falls = rw same falls

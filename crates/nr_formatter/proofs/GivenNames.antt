@@ -26,7 +26,7 @@ of_more : (p : Bool) → is_some (if p then Some Other else None) ≡ p
 of_more true = refl
 of_more false = refl
 
--- a name has a given register where the reader says that it is given
+-- a name has a built-in register where the reader says that it is given
 pub is_some-given_named : (name : List ℕ) → is_some (given_named name) ≡ is_given name
 is_some-given_named [] = refl
 is_some-given_named (a ∷ []) = of_one (a == 46) (a == 37)

@@ -56,7 +56,7 @@ holds_blank {before} {store} {row} {blanks} {refused} cell now agrees h now_is =
   limits = h.limits;
 }
 
--- a cell that is no blank, behind plain ones
+-- a cell that is no blank, after plain ones
 ends_behind : (front : List Cell) (cell : Cell) → is_blank cell ≡ false → (xs : List Cell) → trimmed (xs ++ (front ++ cell ∷ [])) ≡ xs ++ (front ++ cell ∷ [])
 ends_behind front cell some xs =
     subst (λ (zs : List Cell). trimmed zs ≡ zs) (append_assoc xs front (cell ∷ [])) (trimmed-some (xs ++ front) cell some)
@@ -128,7 +128,7 @@ none_added v xs ys is =
     ap (λ (bs : List Built). let w : Stored Resume = record v { building = on_newest (longer (map elements.Cell xs)) bs } in w) is
     ∙ sym (ap (λ (bs : List Built). let w : Stored Resume = record v { building = on_newest (longer (map elements.Cell ys)) bs } in w) is)
 
--- all blanks that wait were counted, where the cells behind them are afforded
+-- all blanks that wait were counted, where the cells after them are afforded
 counted_all : (v : Stored Resume) (bs : List Built) → v.building ≡ bs → (done : List Cell) (blanks waiting : ℕ) (cells : List Cell) → blanks ≡ min waiting (2 ^ 64 - 1)
     → share bs (blanks + length cells) < 2 ^ 32 → with_cells (done ++ (replicate blanks blank ++ cells)) v ≡ with_cells ((done ++ replicate waiting blank) ++ cells) v
 counted_all v [] is done blanks waiting cells counted few = none_added v _ _ is

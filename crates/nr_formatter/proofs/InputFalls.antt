@@ -1,4 +1,4 @@
--- What may still come where a text is sprung or given, behind its end, and where there is room for what is read.
+-- What may still come where a text is sprung or given, after its end, and where there is room for what is read.
 use Rattle.std.specs.Prelude.{is_some}
 use Rattle.std.proofs.Common.{◌≡◌, ℕ, ◌+◌, ◌-◌, ◌≤◌, List, true, Option, None, Some, refl, arith}
 use Rattle.nr_store.specs.declared.element.Element.{Element}
@@ -32,7 +32,7 @@ use Rattle.nr_formatter.proofs.Falling.{falls-kept, falls-costing, falls-spliced
 
 -- ---- springing
 
--- behind an event what is read may weigh a little more
+-- after an event what is read may weigh a little more
 agenda_read-le : (e : Event) (t : Task) (s : Step) → weight_of_agenda e tasks.Read s ≤ weight_of_agenda e t s + 4
 agenda_read-le events.Nothing t s = omega arith
 agenda_read-le events.Over t s = omega arith
@@ -75,7 +75,7 @@ falls-ejected_to place f g falls =
     let h = record f { paper = record f.paper { place = place } } in
     falls-less 4 3 1 0 f g (falls-then 0 3 4 0 f h g (falls-placed place f) falls) (omega arith)
 
--- ---- behind a sprung text
+-- ---- after a sprung text
 
 blanks_stood : (s : Standing) (h : Half) → blanks_owed (setting.resumed s h) ≤ blanks_owed h + 1
 blanks_stood standings.Start h = omega arith

@@ -1,4 +1,4 @@
--- How much the line weighs with what is read, and behind what goes out.
+-- How much the line weighs with what is read, and after what goes out.
 use Rattle.std.proofs.Common.{◌≡◌, ◌≤◌, ◌<◌, ℕ, ◌+◌, ◌-◌, ◌==◌, nat_lt, Bool, true, if◌then◌else◌, List, [], ◌∷◌, length, Option, None, Some, refl, ap, arith, length-append, length-drop}
 use Rattle.std.proofs.lemmas.Bool.{cond_both}
 use Rattle.std.specs.Option.{option_map}
@@ -16,7 +16,7 @@ use Rattle.nr_fill.specs.Tabs.{to_stop, tabbed, first_beyond, column, is_aligned
 use Rattle.nr_fill.specs.Setting.{behind}
 use Rattle.nr_formatter.specs.Weights.{weight_of_pending, weight_of_word, weight_of_line}
 
--- ---- what waits behind the word
+-- ---- what waits after the word
 
 weight-pending_if : (b : Bool) (p : Pending) (n : ℕ) → weight_of_pending p ≡ 0 → weight_of_pending (if b then p else Nothing) ≤ n
 weight-pending_if b p n none = cond_both b p Nothing (λ q. weight_of_pending q ≤ n) (λ _. omega arith) (λ _. omega arith)

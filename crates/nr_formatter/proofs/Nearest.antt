@@ -30,7 +30,7 @@ false_lt a b h = grind (arith, ints)
 abbrev at : ℤ → Trap → Trap
 at length t = record { place = on_page t.place length; name = t.name }
 
--- a trap or the best of those planted behind it
+-- a trap or the best of those planted after it
 abbrev better : Trap → Option Trap → Option Trap
 better t None = Some t
 better t (Some y) = cond (int_lt y.place t.place) (Some y) (Some t)

@@ -1,4 +1,4 @@
--- Requests that only set or make space: what they leave as it was, and what may still come behind them.
+-- Requests that only set or make space: what they leave as it was, and what may still come after them.
 use Rattle.std.specs.Prelude.{suc, ◌+◌, ◌-◌, not, ◌&&◌, ◌||◌, if◌then◌else◌, int_lt, is_ok, length, nat_lt, pos, negsuc}
 use Rattle.std.proofs.Common.{◌≡◌, ℕ, ◌≤◌, List, Bool, true, false, Option, None, Some, ℤ, refl, ap, sym, ◌∙◌, subst, arith}
 use Rattle.std.proofs.lemmas.Bool.{and_parts, ltb-false}
@@ -163,7 +163,7 @@ keeps-if : (b : Bool) (f g : Formatter) → Keeps f g → Keeps f (if b then g e
 keeps-if true f g keeps = keeps
 keeps-if false f g keeps = record { event = refl; store = refl; line = refl; reader = refl }
 
--- what is to be done behind a request: the input is read, or so much space is made and the request springs no macro
+-- what is to be done after a request: the input is read, or so much space is made and the request springs no macro
 pub data Leaves (f g : Formatter) : Type 0 where
   Reads : g.task ≡ tasks.Read → Leaves f g
   Spaces : (n : ℕ) → g.task ≡ tasks.Space n → g.springs ≡ f.springs → Leaves f g
@@ -211,7 +211,7 @@ acts-act r f may = acts-by (may_set r f) r f refl may
 
 -- ---- the formatter that acts
 
--- behind a break or without one
+-- after a break or without one
 abbrev pub behind_by : Bool → Formatter → Formatter
 behind_by first f =
     if first then break_done (thens.Act f.reader.request) (heard_for (tasks.Break (thens.Act f.reader.request)) f)

@@ -99,7 +99,7 @@ in_line f is =
     let reads = is_idle f.event f.task one.1 in
     record { springs = springs_none f.springs one.0; event = reads.0; task = reads.1; half = two.1; begun = not_true (begins_line (collected f)) three.1 }
 
--- ---- a blank behind a word
+-- ---- a blank after a word
 
 no_words : {X : Type 0} (xs : List X) → not (nat_lt 0 (length xs)) ≡ true → xs ≡ []
 no_words [] is = refl

@@ -1,4 +1,4 @@
--- A word and the blank behind it, put at once.
+-- A word and the blank after it, put at once.
 use Rattle.std.proofs.Common.{◌≡◌, ℕ, ◌≤◌, Bool, true, false, ◌&&◌, List, length, take, All, sym, ap, ◌∙◌, arith, length-take-le}
 use Rattle.std.specs.Prelude.{is_none, nat_lt, not}
 use Rattle.nr_settings.specs.Fonts.{is_under}

@@ -76,7 +76,7 @@ made-within v is = ltb-false v.limit (charge_of v) (within (nat_lt v.limit (char
 pub within-made : {K : Type 0} (v : Stored K) → charge_of v ≤ v.limit → Ok (tt {0}) ≡ afforded v (tt {0})
 within-made v fits = rw (le-ltb v.limit (charge_of v) fits) refl
 
--- the words behind a word that is refused
+-- the words after a word that is refused
 pub words-refused : {K : Type 0} (n i : ℕ) (line word : List ℕ) (v w : Stored K) (e : StoredBytes) → i < n → length word == 0 ≡ false → word ≡ word_in line
     → with_words (n - i) line v ≡ w → Err e ≡ afforded (worded word v) (tt {0}) → Err e ≡ afforded w (tt {0})
 words-refused {K} n i line word v w e less some first all is =
@@ -88,7 +88,7 @@ words-refused {K} n i line word v w e less some first all is =
     refused-more u (with_words (n - (i + 1)) (behind_word line) u) e alone (charge-words (n - (i + 1)) (behind_word line) u) (limit-words (n - (i + 1)) (behind_word line) u) in
     refused ∙ ap (λ (x : Stored K). afforded x (tt {0})) one
 
--- and behind one that is stored
+-- and after one that is stored
 pub words-kept : {K : Type 0} (n i : ℕ) (line rest word : List ℕ) (v u w : Stored K) → i < n → length word == 0 ≡ false → word ≡ word_in line → rest ≡ behind_word line
     → u ≡ worded word v → with_words (n - i) line v ≡ w → with_words (n - (i + 1)) rest u ≡ w
 words-kept {K} n i line rest word v u w less some first left new all =

@@ -63,7 +63,7 @@ falls-work down up f g rest owes less = record {
   falls = λ p. omega (arith, weight-parts p f, weight-parts p g, ap (weight_of_rest p) rest);
 }
 
--- ---- one move behind another, and an answer
+-- ---- one move after another, and an answer
 
 pub falls-behind : (down up : ℕ) (f g h : Formatter) → Falls 0 0 f g → Falls down up g h → Falls down up f h
 falls-behind down up f g h first second = record {

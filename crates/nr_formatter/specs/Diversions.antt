@@ -52,7 +52,7 @@ divert_title f = with_diverted_row (diverted_cells (title_row 0 f)) (title_set f
 abbrev pub with_diverted_space : ℕ → Formatter → Formatter
 with_diverted_space n f = record (with_diverted 0 [] (min n (diversion_room f)) f) { task = tasks.Read }
 
--- a diverted line that is read again goes in cell by cell, the first behind its indent
+-- a diverted line that is read again goes in cell by cell, the first after its indent
 abbrev pub with_diverted_cell : ℕ → Cell → Formatter → Formatter
 with_diverted_cell indent cell f = record f { store = added (replicate indent blank_cell ++ elements.Cell cell ∷ []) f.store }
 
@@ -82,7 +82,7 @@ divert_to (Some name) f = record f { store = begun [] (Some (fresh name)) f.stor
 abbrev pub di : Formatter → Formatter
 di f = record (divert_to (name_in (long f) (line f)) f) { task = tasks.Read }
 
--- `.da xx`: lines go behind the text that xx has
+-- `.da xx`: lines go after the text that xx has
 abbrev pub append_to : Option (List ℕ) → Formatter → Formatter
 append_to None f = end_diversion f
 append_to (Some name) f = record f { store = begun (text_of name f.store) (Some (fresh name)) f.store }

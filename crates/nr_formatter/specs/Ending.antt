@@ -26,7 +26,7 @@ abbrev pub end_last_diversion : Formatter → Formatter
 end_last_diversion f = if is_diverting (newest_diversion f.store.building) then end_diversion f else eject_last f
 
 -- The next step: all goes out; the macro of `.em` springs; all goes out; open diversions end; the open page is ejected.
--- Where `.ex` empties the input in the midst of a break, the break goes on; behind the step of `.em` the next one comes;
+-- Where `.ex` empties the input in the midst of a break, the break goes on; after the step of `.em` the next one comes;
 -- in the last ejecting the run ends.
 abbrev pub finish_at : Step → Formatter → Formatter
 finish_at steps.NotYet f = record f { step = steps.FirstBreak; task = tasks.Break thens.Finish }

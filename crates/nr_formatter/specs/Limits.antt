@@ -8,7 +8,7 @@ use Rattle.nr_formatter.specs.declared.passed.Passed.TheVariants as measures
 use Rattle.nr_formatter.specs.declared.tasks.Resume.{Resume}
 use Rattle.nr_formatter.specs.Access.{collected}
 
--- the most that each measure may come to: of what is stored, of levels, of the cells of the line, and of splices and springs behind
+-- the most that each measure may come to: of what is stored, of levels, of the cells of the line, and of splices and springs after
 -- one byte
 pub record Limits : Type 0 where
   pub stored : ℕ

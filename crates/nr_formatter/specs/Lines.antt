@@ -139,7 +139,7 @@ behind_line going f = record (with_collected (rest_behind going f) f) { settings
 
 -- ---- where nothing more goes out
 
--- a text line is counted, but not an empty one behind `\c`
+-- a text line is counted, but not an empty one after `\c`
 abbrev pub task_after : After → Task
 task_after afters.Text = tasks.Read
 task_after afters.Line = tasks.Count
@@ -157,7 +157,7 @@ task_of thens.Leading f = tasks.Read
 task_of thens.Diverted f = tasks.Room rooms.Line
 task_of thens.Finish f = tasks.Finish
 
--- the step of the end behind one of its breaks
+-- the step of the end after one of its breaks
 abbrev pub behind_end_break : Step → Step
 behind_end_break steps.FirstBreak = steps.Macro
 behind_end_break steps.SecondBreak = steps.Diversions
@@ -188,7 +188,7 @@ count f = record f {
   task = tasks.InputTrap;
 }
 
--- by `.it`, whose macro springs behind the last
+-- by `.it`, whose macro springs after the last
 abbrev pub input_trap_behind : Option InputTrap → Option InputTrap
 input_trap_behind None = None
 input_trap_behind (Some t) = if nat_le t.lines 1 then None else Some (record t { lines = t.lines - 1 })

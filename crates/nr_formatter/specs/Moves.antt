@@ -53,7 +53,7 @@ text_heard e f = if reads_title f then title e f else text e f
 abbrev pub heard_for : Task → Formatter → Formatter
 heard_for t f = record f { event = events.Nothing; task = t }
 
--- a request takes effect, behind a break where it breaks and its line did not begin with the no-break character
+-- a request takes effect, after a break where it breaks and its line did not begin with the no-break character
 abbrev pub task_requested : Formatter → Task
 task_requested f =
     if breaks f.reader.request && not f.reader.half.reading.no_break then tasks.Break (thens.Act f.reader.request)
@@ -87,7 +87,7 @@ control (events.Judge q) f = answered q f
 control events.Request f = heard_for (task_requested f) f
 control e f = done f
 
--- a given register and a width have a text that is spliced
+-- a built-in register and a width have a text that is spliced
 abbrev pub heard_beside : Event → Formatter → Formatter
 heard_beside events.Given f = given_register f
 heard_beside events.Width f = width_given f

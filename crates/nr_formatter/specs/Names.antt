@@ -22,7 +22,7 @@ second_name f = name_in (long f) (behind_name (long f) (line f))
 
 -- ---- definitions
 
--- The lines that follow, up to the ending, are those of a name, anew or behind the old ones, or are dropped.
+-- The lines that follow, up to the ending, are those of a name, anew or after the old ones, or are dropped.
 abbrev pub with_lines : Definition → List ℕ → Option (List ℕ) → Formatter → Formatter
 with_lines d name ending f = record f {
   store = base d name f.store;

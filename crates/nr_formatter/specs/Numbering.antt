@@ -13,7 +13,7 @@ use Rattle.nr_formatter.specs.Places.{is_open, is_diverting}
 abbrev pub given_number : Formatter → Option ℤ
 given_number f = page_number (line f) (spacing f) f.paper.number
 
--- the page behind the open one gets a number, if there is one
+-- the page after the open one gets a number, if there is one
 abbrev pub number_next : Option ℤ → Formatter → Formatter
 number_next None f = f
 number_next (Some n) f = record f { paper = record f.paper { next = Some n } }
@@ -27,7 +27,7 @@ abbrev pub pn : Formatter → Formatter
 pn f = record (numbered (given_number f) f) { task = tasks.Read }
 
 -- `.bp ±N`: begins the first page, which has the number N, and nothing more; else begins a page where none is open, and
--- ejects it, and N is the number of the page behind. In a diversion it does nothing.
+-- ejects it, and N is the number of the page after. In a diversion it does nothing.
 abbrev pub bp_at : PageState → Option ℤ → Formatter → Formatter
 bp_at Unbegun n f = record f { paper = record f.paper { number = unwrap_or n f.paper.number }; task = tasks.Begin None }
 bp_at Open n f = record (number_next n f) { task = tasks.Turn (is_some n) }

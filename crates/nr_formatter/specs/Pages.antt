@@ -75,7 +75,7 @@ page_begun f = record f {
 
 -- ---- ending
 
--- the number behind 2147483647 is that again
+-- the number after 2147483647 is that again
 abbrev pub number_behind : Option ℤ → ℤ → ℤ
 number_behind None n = if int_lt n (pos 2147483647) then n +ℤ pos 1 else n
 number_behind (Some m) n = m

@@ -35,14 +35,14 @@ one_expansion r = record (idle r) { burst = r.burst + 1 }
 abbrev pub spliced : List ℕ → Formatter → Formatter
 spliced bytes f = record f { store = reading_bytes bytes f.store; reader = one_expansion f.reader }
 
--- A splice that comes to f is made, or names what is above its limit: what is stored, the levels, or the splices behind a byte.
+-- A splice that comes to f is made, or names what is above its limit: what is stored, the levels, or the splices after a byte.
 abbrev pub splice_checked : Formatter → Result (Unit {0}) Refusal
 splice_checked f =
     if nat_lt f.store.limit (charge_of f.store) then Err refusals.Stored
     else (if nat_lt f.store.deepest (length f.store.levels) then Err refusals.Depth
     else (if nat_lt f.reader.most f.reader.burst then Err refusals.Expansions else Ok tt))
 
--- ---- values of given registers
+-- ---- values of built-in registers
 
 -- to the next trap, or else to the bottom; in a diversion to its trap
 abbrev pub distance : Formatter → ℕ
@@ -97,7 +97,7 @@ abbrev pub given_by : Option GivenRegister → Formatter → Formatter
 given_by None f = f
 given_by (Some r) f = spliced (given_text r f) f
 
--- the text of the given register that was asked for is spliced
+-- the text of the built-in register that was asked for is spliced
 abbrev pub given_register : Formatter → Formatter
 given_register f = record (given_by (given_named (asked f)) f) { event = events.Nothing }
 
@@ -119,7 +119,7 @@ register_set_by (Some r) name n step f = if is_held n then given_set r n f else 
 abbrev pub register_set : List ℕ → ℤ → Option ℤ → Formatter → Formatter
 register_set name n step f = register_set_by (given_named name) name n step f
 
--- what setting it answers: a given register is never refused, and any other where it would be stored above the limit
+-- what setting it answers: a built-in register is never refused, and any other where it would be stored above the limit
 abbrev pub set_checked_by : Option GivenRegister → List ℕ → ℤ → Option ℤ → Formatter → Result (Unit {0}) StoredBytes
 set_checked_by None name n step f = afforded (registered name n step f.store) tt
 set_checked_by (Some r) name n step f = Ok tt
@@ -172,7 +172,7 @@ format_changed (Some c) f = formatted_by (given_named c.name) c.name c.format f
 abbrev pub af : Formatter → Formatter
 af f = format_changed (lines.af (line f) (long f)) (to_read f)
 
--- `.rr R`; a given register stays
+-- `.rr R`; a built-in register stays
 abbrev pub register_removed : Option (List ℕ) → Formatter → Formatter
 register_removed None f = f
 register_removed (Some name) f = if is_none (given_named name) then record f { store = unregistered name f.store } else f

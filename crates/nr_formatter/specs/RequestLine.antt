@@ -2,7 +2,7 @@
 use Rattle.std.specs.Prelude.{◌≡◌, ℕ, ◌-◌, ◌≤◌, List, ◌++◌, length, take, drop, replicate}
 use Rattle.std.proofs.Common.{ap, sym, ◌∙◌, length-take-le, take-append-drop, arith}
 
--- its bytes, and zeros behind them to 256
+-- its bytes, and zeros after them to 256
 abbrev pub filled : List ℕ → List ℕ
 filled bytes = bytes ++ replicate (256 - length bytes) 0
 

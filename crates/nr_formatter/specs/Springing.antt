@@ -1,4 +1,4 @@
--- Sprung macros: their text comes before the rest of the input, and behind it what was under way is gone on with.
+-- Sprung macros: their text comes before the rest of the input, and after it what was under way is gone on with.
 -- (CSTR 54, section 7.5; groff manual, traps.)
 use Rattle.std.specs.Prelude.{ℕ, ◌+◌, List, Option, None, Some, unsigned_abs}
 use Rattle.nr_symbol_tables.specs.Table.{find}

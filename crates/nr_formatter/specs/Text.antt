@@ -35,11 +35,11 @@ line_begun f = record f {
 abbrev pub to_word : (Margins → Collected → Collected) → Formatter → Formatter
 to_word add f = done (with_collected (add (margins f) (collected f)) (line_begun f))
 
--- a cell, and what may stand behind it
+-- a cell, and what may stand after it
 abbrev pub put : Cell → Behind → Formatter → Formatter
 put x behind f = to_word (λ m. add_cell m behind x) f
 
--- a `-` has a break point behind it
+-- a `-` has a break point after it
 abbrev pub behind_of : ℕ → Behind
 behind_of byte = if byte == code "-" then Hyphen else Letter
 
@@ -58,7 +58,7 @@ blank_cell f = to_word add_blank f
 abbrev pub has_word : Formatter → Bool
 has_word f = not (is_none (collected f).word)
 
--- a blank ends the word and widens the gap; full lines go out behind a word
+-- a blank ends the word and widens the gap; full lines go out after a word
 abbrev pub gap_blank : Formatter → Formatter
 gap_blank f =
     let g = word_ended f in
@@ -90,7 +90,7 @@ text_byte b f =
 abbrev pub hyphen : Formatter → Formatter
 hyphen f = put (cell (code "-") f) Hyphen f
 
--- `\(em`: two cells; a break point stands behind the second
+-- `\(em`: two cells; a break point stands after the second
 abbrev pub dash : Formatter → Formatter
 dash f = record (letter (code "-") f) { task = tasks.Dash }
 

@@ -154,7 +154,7 @@ owed f = owed_by_event f.event + owed_by_task f.task f.reader.half
 unfoldable pub weight : Reached → Formatter → ℕ
 weight p f = weight_before_byte f.store p f.reader + 178 * blanks_owed f.reader.half + owed f + steps_left f
 
--- What may still come fell by so many moves, but for so many that it rose by; what may come behind a byte stays.
+-- What may still come fell by so many moves, but for so many that it rose by; what may come after a byte stays.
 pub record Falls (down up : ℕ) (f g : Formatter) : Type 0 where
   pub limit : g.store.limit ≡ f.store.limit
   pub most : g.reader.most ≡ f.reader.most

@@ -62,7 +62,7 @@ fn ends_row(cells: &[Cell]) -> bool
     !has_under_blank(cells)
 }
 
-/// Adds so many blanks and cells behind them, and tells what the store is charged then.
+/// Adds so many blanks and cells after them, and tells what the store is charged then.
 fn add_behind(store: &mut Store<Resume>, blanks: usize, cells: &[Cell]) -> Result<u32, StoredBytes>
     ensures result { result ≡ afforded (with_cells (replicate blanks blank ++ cells.now) store.old) (charge_of (with_cells (replicate blanks blank ++ cells.now) store.old)) }
     ensures ok { OnOk result (store.new ≡ with_cells (replicate blanks blank ++ cells.now) store.old) }
@@ -88,7 +88,7 @@ fn push_each(row: &mut DiversionRow<'_>, cells: &[Cell])
 }
 
 impl<'b> DiversionRow<'b> {
-    /// Adds cells that end with one that is no blank behind the blanks that wait.
+    /// Adds cells that end with one that is no blank after the blanks that wait.
     fn add_written(&mut self, cells: &[Cell])
         requires { EndsRow cells.now }
         ensures same_reference { self.new.store.ghost_name ≡ self.old.store.ghost_name }

@@ -151,7 +151,7 @@ impl Formatter {
         self.divert(0, &[], height)
     }
 
-    /// A cell of a diverted line that is read again goes into the diversion, behind so many blanks.
+    /// A cell of a diverted line that is read again goes into the diversion, after so many blanks.
     pub fn divert_cell(&mut self, indent: u32, cell: Cell) -> Result<(), StoredBytes>
         ensures result { IsWithin self.old → result ≡ afforded (with_diverted_cell indent cell self.old).store tt }
         ensures ok { OnOk result (self.new ≡ with_diverted_cell indent cell self.old) }

@@ -51,7 +51,7 @@ pub struct Formatter {
 }
 
 impl Formatter {
-    /// Nothing is read yet. There may be at most so many splices and springs behind one byte of the input, and so much may be
+    /// Nothing is read yet. There may be at most so many splices and springs after one byte of the input, and so much may be
     /// stored, in so many levels, and collected: `AllocError` where there is no memory for that. No other call allocates.
     pub fn new(
         alloc: Global,

@@ -44,7 +44,7 @@ fn cut_at(line: &mut Line, places: &[u8])
     }
 }
 
-/// Sets the line that goes out next in a row behind what stands there, so many cells on, and takes it away.
+/// Sets the line that goes out next in a row after what stands there, so many cells on, and takes it away.
 pub(crate) fn set_going<S: CellSink>(
     line: &mut Line,
     settings: &mut Settings,
@@ -93,7 +93,7 @@ impl After {
 }
 
 impl Then {
-    /// The step of the end behind this break.
+    /// The step of the end after this break.
     fn step_behind(self, step: Step) -> Step
         ensures { result ≡ step_behind self step }
     {
@@ -209,7 +209,7 @@ impl Formatter {
         Some(self.front_line(!self.line.fits()))
     }
 
-    /// Sets the line that goes out next in a row behind what stands there, so many cells on, and takes it away.
+    /// Sets the line that goes out next in a row after what stands there, so many cells on, and takes it away.
     pub fn set_line<S: CellSink>(&mut self, going: Going, offset: u32, out: &mut S)
         requires { 0 < length (collected self.old).pieces }
         ensures out { S.Adds out.old (row_going going offset self.old) out.new }
@@ -260,7 +260,7 @@ impl Formatter {
         self.task = Task::InputTrap;
     }
 
-    /// A text line is counted by `.it`, whose macro springs behind the last.
+    /// A text line is counted by `.it`, whose macro springs after the last.
     pub(crate) fn count_input(&mut self)
         ensures { self.new ≡ count_input self.old }
     {

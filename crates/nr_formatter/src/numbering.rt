@@ -19,7 +19,7 @@ impl Formatter {
         )
     }
 
-    /// The page behind the open one gets this number, if there is one.
+    /// The page after the open one gets this number, if there is one.
     fn number_next(&mut self, number: Option<i32>)
         ensures { self.new ≡ number_next number self.old }
     {

@@ -23,7 +23,7 @@ pub enum Outlet {
     Diversion,
     /// To a page that has still to begin.
     NoPage,
-    /// To the page behind the open one, which has no room.
+    /// To the page after the open one, which has no room.
     Full,
     /// To the open page.
     Room,
@@ -48,7 +48,7 @@ pub struct Paper {
     pub state: PageState,
     /// The number of the open page, or the one that the next will have.
     pub number: i32,
-    /// The number of the page behind the open one, where it was given.
+    /// The number of the page after the open one, where it was given.
     pub next: Option<i32>,
     /// The place on the open page, in u from its top.
     pub place: u32,
@@ -56,7 +56,7 @@ pub struct Paper {
     pub ejecting: bool,
 }
 
-/// The registers `dn` and `dl`, and the formats of the given registers that have one.
+/// The registers `dn` and `dl`, and the formats of the built-in registers that have one.
 #[derive(Clone, Copy)]
 pub struct Given {
     /// `dn`, in u.
@@ -116,7 +116,7 @@ impl Paper {
         if self.is_open() { self.place } else { 0 }
     }
 
-    /// The number of the page behind this one. Behind 2147483647 it is that again.
+    /// The number of the page after this one. After 2147483647 it is that again.
     pub(crate) fn following(self) -> i32
         ensures { result ≡ following self }
     {

@@ -15,7 +15,7 @@ pub enum Passed {
     Depth,
     /// The cells of the line.
     LineCells,
-    /// The splices and springs behind one byte.
+    /// The splices and springs after one byte.
     Expansions,
 }
 

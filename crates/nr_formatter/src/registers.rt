@@ -24,7 +24,7 @@ use nr_units::{Format, Name, format_number};
 const GREATEST: usize = 2_147_483_647;
 
 impl Given {
-    /// The format of a given register.
+    /// The format of a built-in register.
     fn format(&self, register: GivenRegister) -> Format
         ensures { result ≡ given_format register self.now }
     {
@@ -37,7 +37,7 @@ impl Given {
         }
     }
 
-    /// Sets the format of a given register: of `%`, `nl`, `dn` and `dl` alone.
+    /// Sets the format of a built-in register: of `%`, `nl`, `dn` and `dl` alone.
     fn set_format(&mut self, register: GivenRegister, format: Format)
         ensures { self.new ≡ given_formatted register format self.old }
     {
@@ -72,7 +72,7 @@ impl Formatter {
         self.distance_below(self.paper.page_place())
     }
 
-    /// The value of a given register.
+    /// The value of a built-in register.
     fn given_value(&self, register: GivenRegister) -> i64
         ensures value { result ≡ given_value register self.now }
         ensures within { unsigned_abs result < 2 ^ 32 }
@@ -118,7 +118,7 @@ impl Formatter {
         self.reader.give(&mut self.store, bytes)
     }
 
-    /// The text of a given register is spliced.
+    /// The text of a built-in register is spliced.
     fn give_given(&mut self, register: GivenRegister) -> Result<(), Refusal>
         ensures result { result ≡ splice_checked (given_by (Some register) self.old) }
         ensures ok { OnOk result (self.new ≡ given_by (Some register) self.old) }
@@ -161,7 +161,7 @@ impl Formatter {
         }
     }
 
-    /// Sets a given register: `%`, `dn` and `dl` alone. A value out of range sets nothing.
+    /// Sets a built-in register: `%`, `dn` and `dl` alone. A value out of range sets nothing.
     fn set_given(&mut self, register: GivenRegister, value: i64)
         ensures { self.new ≡ register_set_by (Some register) [] value None self.old }
     {

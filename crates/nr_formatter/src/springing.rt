@@ -1,4 +1,4 @@
-//! Sprung macros: their text comes before the rest of the input, and behind it what was under way is gone on with.
+//! Sprung macros: their text comes before the rest of the input, and after it what was under way is gone on with.
 //! (CSTR 54, section 7.5)
 ghost use Rattle.std.specs.Prelude.{◌≡◌, true, Some, OnOk};
 ghost use Rattle.nr_reading.specs.declared.event.Event.TheVariants as events;
@@ -48,7 +48,7 @@ impl Formatter {
         }
     }
 
-    /// What was under way is gone on with, behind the text of a sprung macro.
+    /// What was under way is gone on with, after the text of a sprung macro.
     pub fn resume(&mut self, resume: &Resume)
         ensures is { self.new ≡ resumed resume.now self.old }
         ensures falls { self.old.event ≡ events.Nothing → self.old.task ≡ tasks.Read → Falls 0 510 self.old self.new }

@@ -10,7 +10,7 @@ pub enum After {
     Text,
     /// A text line ended: it is counted.
     Line,
-    /// A text line ended behind `\c`: it is counted, and in no-fill mode nothing goes out.
+    /// A text line ended after `\c`: it is counted, and in no-fill mode nothing goes out.
     Interrupted,
     /// An empty line ended a word that `\c` had left open: it is not counted.
     Continued,
@@ -49,7 +49,7 @@ pub enum Ejected {
     Finish,
 }
 
-/// What the next moves do. It is what a sprung macro interrupts and what is gone on with behind it.
+/// What the next moves do. It is what a sprung macro interrupts and what is gone on with after it.
 #[derive(Clone, Copy)]
 pub enum Task {
     /// The input is read.
@@ -86,7 +86,7 @@ pub enum Task {
     Halted,
 }
 
-/// What is gone on with behind the text of a sprung macro.
+/// What is gone on with after the text of a sprung macro.
 #[derive(Clone, Copy)]
 pub struct Resume {
     pub task: Task,

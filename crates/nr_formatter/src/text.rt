@@ -27,7 +27,7 @@ impl Formatter {
         self.settings.indents.margins()
     }
 
-    /// A cell, and what may stand behind it.
+    /// A cell, and what may stand after it.
     fn put(&mut self, cell: Cell, behind: Behind) -> Result<(), LineCells>
         ensures result { result ≡ afforded (put cell behind self.old).line }
         ensures ok { OnOk result (self.new ≡ put cell behind self.old) }
@@ -39,7 +39,7 @@ impl Formatter {
         Ok(())
     }
 
-    /// A byte that is a cell of its own. A `-` has a break point behind it.
+    /// A byte that is a cell of its own. A `-` has a break point after it.
     fn character(&mut self, byte: u8) -> Result<(), LineCells>
         ensures result { result ≡ afforded (character byte self.old).line }
         ensures ok { OnOk result (self.new ≡ character byte self.old) }
@@ -54,7 +54,7 @@ impl Formatter {
         self.put(cell, behind)
     }
 
-    /// A byte that is a cell of its own, with no break point behind it.
+    /// A byte that is a cell of its own, with no break point after it.
     fn letter(&mut self, byte: u8) -> Result<(), LineCells>
         ensures result { result ≡ afforded (letter byte self.old).line }
         ensures ok { OnOk result (self.new ≡ letter byte self.old) }
@@ -148,7 +148,7 @@ impl Formatter {
         }
     }
 
-    /// `\(hy`: a `-` with a break point behind it.
+    /// `\(hy`: a `-` with a break point after it.
     fn hyphen(&mut self) -> Result<(), LineCells>
         ensures result { result ≡ afforded (hyphen self.old).line }
         ensures ok { OnOk result (self.new ≡ hyphen self.old) }

@@ -206,7 +206,7 @@ impl Formatter {
         }
     }
 
-    /// Sets the title that was read in a row behind what stands there, so many cells on, and takes it away.
+    /// Sets the title that was read in a row after what stands there, so many cells on, and takes it away.
     pub fn set_title<S: CellSink>(&mut self, offset: u32, out: &mut S)
         ensures out { S.Adds out.old (title_row offset self.old) out.new }
         ensures rest { self.new ≡ title_set self.old }

@@ -36,7 +36,7 @@ use Rattle.nr_input.proofs.Rows.{reads_nothing}
 use Rattle.nr_input.proofs.Spending.{act_pays}
 use Rattle.nr_input.proofs.Targets.{with_more-none}
 
--- ---- behind t of the bytes that a level brings
+-- ---- after t of the bytes that a level brings
 
 abbrev pub in_level : {K : Type 0} → ℕ → List ℕ → Stored K → Stored K
 in_level t bytes v = left_times t (reading_bytes bytes v)
@@ -165,9 +165,9 @@ module _ {K : Type 0} (bytes : List ℕ) (v w : Stored K) (r s : Reader) (begins
         pays_once (in_level t bytes v) (in_level t bytes w) p p r s events.Nothing refl diversions_stay
         (act_pays (in_level t bytes v) (in_level t bytes w) p r s events.Nothing (λ look. let wrong : true ≡ false = sym (ap is_look look) ∙ looks_not d begins in cc) acts_there)
 
--- ---- the bytes behind are added
+-- ---- the bytes after are added
 
--- the bytes behind a place, as a slice of them
+-- the bytes after a place, as a slice of them
 pub slice_behind : (t : ℕ) (bytes : List ℕ) → take (length bytes - t) (drop t bytes) ≡ drop t bytes
 slice_behind t bytes = take_all (length bytes - t) (drop t bytes) (omega (arith, length-drop t bytes))
 

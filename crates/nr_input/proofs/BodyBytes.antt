@@ -83,12 +83,12 @@ meets_dot h =
     let more : (1 == length (last_line d)) ≡ false = ne_eqb 1 (length (last_line d)) (λ e. let long = long_last d in omega (arith, e, long)) in
     rw (may_have 0 d (omega arith), more) refl
 
--- behind it a byte that is not the last line's shows that both belong to the text
+-- after it a byte that is not the last line's shows that both belong to the text
 pub meets_other : (b : ℕ) (h : Half) → h.notes.defining.keeps ≡ true → b ≢ 92 → b ≢ slice_index (last_line h.notes.defining) 1
     → Meets b (half_in (modes.BodyStart 1) h) (next (dues.Release 1 0 (Some b)) (half_in (in_body b) h)) true
 meets_other b h keeps apart other = rw (ne_eqb b 92 apart, may_have 1 h.notes.defining (omega arith), ne_eqb b (slice_index (last_line h.notes.defining) 1) other, keeps) refl
 
--- behind a `\`
+-- after a `\`
 abbrev half_escaped : Bool → Half → Half
 half_escaped x h = half_at (record { mode = line_mode x; escape = escapes.Begun; due = dues.Look; continued = h.reading.continued; no_break = h.reading.no_break }) h.signs [] h.delimited h.notes
 

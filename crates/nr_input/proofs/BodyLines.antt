@@ -25,7 +25,7 @@ use Rattle.nr_input.proofs.MacroLines.{reads_then, reads_still, reads_none, read
 use Rattle.nr_input.proofs.PuttingRead.{plain_at}
 use Rattle.nr_input.proofs.Targets.{diversions-with_more, with_more-none, with_more-next, charge_of-some, charge_of-le, longer-bound}
 
--- whether a line begins behind so many bytes
+-- whether a line begins after so many bytes
 abbrev begins_behind : List ℕ → Bool → ℕ → Bool
 begins_behind bs x zero = x
 begins_behind bs x (suc k) = slice_index bs k == 10
@@ -34,7 +34,7 @@ begins_behind bs x (suc k) = slice_index bs k == 10
 abbrev in_line_at : Reader → Bool → Reader
 in_line_at r x = record r { half = half_in (line_mode x) r.half }
 
--- the reader in the mode behind this byte
+-- the reader in the mode after this byte
 abbrev reader_behind : Reader → ℕ → Reader
 reader_behind r b = record r { half = record r.half { reading = record r.half.reading { mode = in_body b } } }
 
@@ -54,7 +54,7 @@ module _ {K : Type 0} (r : Reader) where
       let is : called w after (Ok events.Nothing) ≡ acted (dues.Add b) u before = sym (ap (λ x. acted_by x (act (dues.Add b) u before) u before) (allowed w fits)) in
       reads_due bs u w before after refl is refl refl (diversions-with_more Text (b ∷ []) u) refl
 
-  -- a dot that was held back, behind which this byte is due
+  -- a dot that was held back, after which this byte is due
   release_reads : (bs : List ℕ) (b : ℕ) (u : Stored K) (k : Half) → charge_of (with_more Text (46 ∷ []) u) ≤ u.limit
       → ReadsOn 1 0 bs u (record r { half = next (dues.Release 1 0 (Some b)) k }) (with_more Text (46 ∷ []) u) (record r { half = next (dues.Add b) k })
   release_reads bs b u k fits =
@@ -124,7 +124,7 @@ module _ {K : Type 0} (r : Reader) where
         (reads_then (2 * k) 2 k 1 bs v (stored k) (with_more Text (b ∷ []) (stored k)) (in_line_at r x) (in_line_at r y) (in_line_at r (b == 10)) so_far
         (own_reads keeps (drop k bs) (stored k) y b (omega (arith, below, within, length-drop k bs)) (front_byte k) (escape k below) other (one_fits k below)))))
 
-    -- behind a byte that is not the last no line begins
+    -- after a byte that is not the last no line begins
     still : (x : Bool) (k : ℕ) → suc k < n → begins_behind bs x (suc k) ≡ true → slice_index bs (suc k) ≢ 46
     still x k below is = absurd (line k below (eqb-true (slice_index bs k) 10 is))
 
@@ -133,7 +133,7 @@ module _ {K : Type 0} (r : Reader) where
     plain_read x (suc zero) few other = one_more x x 0 (omega (arith, few)) (λ is. other is (omega (arith, few))) (none_read x)
     plain_read x (suc (suc k)) few other = one_more x (begins_behind bs x (suc k)) (suc k) (omega (arith, few)) (still x k (omega (arith, few))) (plain_read x (suc k) (omega (arith, few)) other)
 
-    -- behind a dot and another byte
+    -- after a dot and another byte
     dot_read : (k : ℕ) → suc (suc k) ≤ n → slice_index bs 0 ≡ 46 → slice_index bs 1 ≢ slice_index (last_line r.half.notes.defining) 1 → ReadsTo true (suc (suc k))
     dot_read zero few first other =
         let b = slice_index bs 1 in
@@ -214,7 +214,7 @@ module _ {K : Type 0} (r : Reader) where
         (subst (λ (o : Stored K). ReadsOn (2 * own + 3) (own + 2) bs v (in_line_at r x) o (in_line_at r false)) escaped
         (reads_then (2 * own) 3 own 2 bs v u (with_more Text (92 ∷ []) u) (in_line_at r x) (in_line_at r y) (in_line_at r false) so_far escape)))
 
-    -- what stands for itself, and perhaps a `\\` behind it
+    -- what stands for itself, and perhaps a `\\` after it
     pub part_reads : (more : ℕ) → more ≤ 1 → 0 < own + more → (0 < more → (own + 1 < length bs) × ((slice_index bs own ≡ 92) × (slice_index bs (own + 1) ≡ 92))) → w ≡ with_more Text (take (own + more) bs) v → charge_of w ≤ w.limit
         → ReadsOn (2 * (own + more) + more) (own + more + more) bs v r w (reader_behind r (slice_index bs (own + more - 1)))
     part_reads zero few some escaped added fits = plain_part own refl
@@ -270,7 +270,7 @@ all_fit {K = K} bs v w room added =
 
 -- ---- the bytes in front of a line
 
--- bytes that stand for themselves, and perhaps a newline behind them
+-- bytes that stand for themselves, and perhaps a newline after them
 module _ (n : ℕ) (bs : List ℕ) (within : n ≤ length bs) (plain : All (IsPlain 10) (take n bs)) where
   plain_there : (k : ℕ) → k < n → IsPlain 10 (slice_index bs k)
   plain_there k below = plain_at n k 10 bs below within plain

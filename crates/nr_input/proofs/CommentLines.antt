@@ -27,7 +27,7 @@ use Rattle.nr_input.proofs.MacroLines.{reads_then, reads_still, reads_met, reads
 
 -- ---- where the reader is
 
--- in a line whose name is empty, behind such a control character or not
+-- in a line whose name is empty, after such a control character or not
 abbrev in_comment : Mode → Escape → Due → Bool → Half → Half
 in_comment m e d n h =
     half_at (record { mode = m; escape = e; due = d; continued = h.reading.continued; no_break = n }) h.signs [] h.delimited (record h.notes { name = nothing_spelled })
@@ -56,7 +56,7 @@ meets_sign b h is = elim (cases_Bool (b == h.signs.control)) [
     rw_left false y none is = is
     rw_left true y none is = absurd (let wrong : true ≡ false = none in cc)
 
--- the `\` and the quote behind it
+-- the `\` and the quote after it
 meets_escape : (n : Bool) (h : Half) → Meets 92 (in_comment modes.Control escapes.Plain dues.Look n h) (in_comment modes.Control escapes.Begun dues.Look n h) true
 meets_escape n h = refl
 

@@ -36,7 +36,7 @@ use Rattle.nr_input.proofs.Rows.{Goings, at_source, source_goings, moves-row, go
 use Rattle.nr_input.proofs.RowsRead.{begins_there, source_looked, source_read, source_pays, looked_pays, burst_some, some_taken}
 use Rattle.nr_input.proofs.Spending.{act_pays}
 
--- ---- moves behind moves that tell nothing
+-- ---- moves after moves that tell nothing
 
 moves_add : {K : Type 0} (m n : ℕ) (s : Situation K) → moves (m + n) s ≡ moves m (moves n s)
 moves_add zero n s = let none : 0 + n ≡ n = omega arith in ap (λ k. moves k s) none
@@ -196,7 +196,7 @@ module _ {K : Type 0} (v w : Stored K) (r s : Reader) (e : Event) (due : r.half.
       (ap (λ (x : Stored K). diversions_in x.building) stored_is ∙ ap diversions_in (builds_the_same (meaning_in v r) v))
       (act_pays v w q r s e (λ look. let wrong : dues.Look ≡ dues.Seek = sym look ∙ due in cc) seeks)
 
--- ---- the bytes behind the name
+-- ---- the bytes after the name
 
 -- so many calls on, and then more of them
 later_on : (t n : ℕ) (f : Faults) → later n (later t f) ≡ later (t + n) f
@@ -210,7 +210,7 @@ may_give_behind t n m Never less h = tt
 may_give_behind t n m (After k) less h = omega (arith, less, h)
 may_give_behind t n m Anytime less h = tt
 
--- the other bytes come next behind the first t
+-- the other bytes come next after the first t
 pub come_behind : (t : ℕ) (bs : List ℕ) (c : Coming) → t ≤ length bs → ComeNext bs c → ComeNext (drop t bs) (behind_run t c)
 come_behind t bs c less next =
     let xs = c.supply.bytes in
@@ -222,7 +222,7 @@ come_behind t bs c less next =
       few = omega (arith, left, less, next.few);
     }
 
--- behind more bytes
+-- after more bytes
 pub inside_on : (t n : ℕ) (bs : List ℕ) (inside : Bool) → 0 < n → inside_behind n (drop t bs) (inside_behind t bs inside) ≡ inside_behind (t + n) bs inside
 inside_on t zero bs inside some = absurd (omega (arith, some))
 inside_on t (suc n) bs inside some =
@@ -248,7 +248,7 @@ silent_or e = inr (λ is. let wrong : ⊥ = cc in wrong)
 
 -- ---- all of it
 
--- Behind the m moves and t bytes of a name a move that tells e leads to w and r2, and then so many moves over the other bytes on.
+-- After the m moves and t bytes of a name a move that tells e leads to w and r2, and then so many moves over the other bytes on.
 module _ {K : Type 0} (v w : Stored K) (r r2 : Reader) (bs : List ℕ) (m t : ℕ) (h1 : Half) (e : Event) (name : HasMet m (map fronts.Byte bs) r.half (quiet t h1)) (many : 0 < t) (due : h1.reading.due ≡ dues.Seek) where
   abbrev named : Reader
   named = record r { half = h1; burst = 0 }

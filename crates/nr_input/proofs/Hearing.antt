@@ -35,7 +35,7 @@ module _ {K : Type 0} (v : Stored K) (r : Reader) (c : Coming) (k : Half) (e : E
   moved_is : is_look r.half.reading.due ≡ true → seen ≡ meet (front (shown v.levels) c) r.half → move at ≡ taken_at seen at
   moved_is looks meets = ap (λ b. if b then look at else acted_at at) looks ∙ ap (λ m. met_at m at) (sym meets)
 
-  -- the reader behind it, and the situation
+  -- the reader after it, and the situation
   pub taken_moves : (q n : Reached) (f : Front) (w : Stored K) (t : Told K) (burst : ℕ) (before supply : Option Supply) → is_look r.half.reading.due ≡ true
       → f ≡ front (shown v.levels) c → HoldsComing c q before → MayLook (shown v.levels) c → seen ≡ meet f r.half
       → w ≡ left v.levels v → HoldsComing (behind (shown v.levels) c) n supply → burst ≡ burst_past q.taken n.taken r.burst → t ≡ told_of (shown v.levels) e

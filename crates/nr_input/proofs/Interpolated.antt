@@ -69,7 +69,7 @@ led_to {K} n s v r p supply read = record {
   holds = read.stands.coming;
 }
 
--- what is read behind what was read and told nothing
+-- what is read after what was read and told nothing
 pub read_then : {K : Type 0} (m n : ℕ) (s : Situation K) (e : Event) (v w : Stored K) (r q : Reader) (p o : Reached) (supply rest : Option Supply)
     → HasRead n s events.Nothing v r p supply → ((c : Coming) → HoldsComing c p supply → HasRead m (situation v c r) e w q o rest) → HasRead (n + m) s e w q o rest
 read_then m n s e v w r q p o supply rest first more =
@@ -282,7 +282,7 @@ deepest-with_more Argument bs v = refl
 deepest-with_more Text bs v = refl
 
 module _ {K : Type 0} (t : Target) (n : ℕ) (bytes : List ℕ) (v w : Stored K) (r : Reader) (added : w ≡ with_more t (take n bytes) v) (within : n ≤ length bytes) where
-  -- behind the bytes that were added, in their level
+  -- after the bytes that were added, in their level
   behind_added : left_times n (with_more t (take n bytes) (reading_bytes bytes v)) ≡ left_times n (reading_bytes bytes w)
   behind_added = ap (left_times n) (more-reading t (take n bytes) bytes v ∙ ap (reading_bytes bytes) (sym added))
 

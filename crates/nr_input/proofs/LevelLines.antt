@@ -1,4 +1,4 @@
--- Moves of the machine that reads behind moves that told nothing.
+-- Moves of the machine that reads after moves that told nothing.
 use Rattle.std.proofs.Common.{◌≡◌, ℕ, ◌+◌, Option, inl, inr, refl, ap₂, subst, arith}
 use Rattle.std.proofs.lemmas.Bool.{cases_lt}
 use Rattle.nr_units.specs.Source.{Supply}

@@ -69,7 +69,7 @@ many_of_one v w p q r s e lead fewer pays = record {
   tells = lead;
 }
 
--- those behind others that told nothing
+-- those after others that told nothing
 pub many_then : {K : Type 0} (m n : ℕ) (v w x : Stored K) (p q o : Reached) (r s t : Reader) (e : Event) → PaysMany n v p r events.Nothing w q s → PaysMany m w q s e x o t → PaysMany (n + m) v p r e x o t
 many_then m n v w x p q o r s t e first more = record {
   limit = more.limit ∙ first.limit;
@@ -83,7 +83,7 @@ many_then m n v w x p q o r s t e first more = record {
   tells = more.tells;
 }
 
--- ---- moves behind others that told nothing
+-- ---- moves after others that told nothing
 
 pub read_on : {K : Type 0} (n m : ℕ) (v w x : Stored K) (r s t : Reader) (c : Coming) (p : Reached) (supply : Option Supply) (e : Event) → HasRead n (situation v c r) events.Nothing w s p supply
     → ((c : Coming) → HoldsComing c p supply → HasRead m (situation w c s) e x t p supply) → HasRead (n + m) (situation v c r) e x t p supply

@@ -27,9 +27,9 @@ use Rattle.nr_input.proofs.ControlLines.{done_read, pays_then, seek_pays, seeks,
 use Rattle.nr_input.proofs.Interpolated.{read_then}
 use Rattle.nr_input.proofs.RowsRead.{level_read, level_pays}
 
--- ---- the newest level behind some of its items
+-- ---- the newest level after some of its items
 
--- and then behind more of them
+-- and then after more of them
 pub left_times-add : {K : Type 0} (t k : ℕ) (v : Stored K) → left_times k (left_times t v) ≡ left_times (t + k) v
 left_times-add zero k v = let same : k ≡ 0 + k = omega arith in ap (λ n. left_times n v) same
 left_times-add (suc t) k v = let same : suc (t + k) ≡ suc t + k = omega arith in left_times-add t k (left v.levels v) ∙ ap (λ n. left_times n v) same
@@ -81,7 +81,7 @@ module _ {K : Type 0} (t : ℕ) (v : Stored K) (m : Meaning) (r s : Reader) (e :
   pub name_pays : (p : Reached) → PaysAll 1 there p r e begun p s
   name_pays p = seek_pays there begun r s e due sought_there p
 
-  -- ---- the items behind it are met
+  -- ---- the items after it are met
 
   module _ (n : ℕ) (fs : List Front) (q : Spot) (row : fs ≡ map element_front (rest_of v.levels)) (met : HasMet n (drop t fs) s.half q) (silent : e ≡ events.Nothing) (other : is_text m ≡ false) where
     met_there : HasMet n (map element_front (rest_of there.levels)) s.half q

@@ -57,13 +57,13 @@ left_of-limits : {K : Type 0} (text : List Element) (l : Reading K) (ls : List (
 left_of-limits [] l ls v r = refl
 left_of-limits (x ∷ xs) l ls v r = refl
 
--- behind what comes next
+-- after what comes next
 pub left-limits : {K : Type 0} (levels : List (Level K)) (v : Stored K) (r : Reader) → limits_of (left levels v) r ≡ limits_of v r
 left-limits [] v r = refl
 left-limits (Read l ∷ ls) v r = left_of-limits l.rest l ls v r
 left-limits (Mark mode ∷ ls) v r = refl
 
--- behind what comes next, so many times
+-- after what comes next, so many times
 pub left_times-limits : {K : Type 0} (n : ℕ) (v : Stored K) (r : Reader) → limits_of (left_times n v) r ≡ limits_of v r
 left_times-limits zero v r = refl
 left_times-limits (suc n) v r = left_times-limits n (left v.levels v) r ∙ left-limits v.levels v r
@@ -108,7 +108,7 @@ act-limits dues.Expanded v r = refl
 
 -- ---- a call that is allowed or not
 
--- the limits behind a call
+-- the limits after a call
 abbrev limits_behind : {K A : Type 0} → Called K A → Limits
 limits_behind c = limits_of c.stored c.reader
 

@@ -25,7 +25,7 @@ use Rattle.nr_input.specs.Many.Target.{is_read_for, with_more}
 abbrev pub NoByteAt : List ℕ → ℕ → Type 0
 NoByteAt bs k = (byte : ℕ) → slice_get (map fronts.Byte bs) k ≡ Some (fronts.Byte byte) → ⊥
 
--- so it is behind the row
+-- so it is after the row
 behind_all : (bs : List ℕ) (k : ℕ) → NoByteAt bs k → k < length bs → ⊥
 behind_all bs k none less =
     none (slice_index bs k)
@@ -76,7 +76,7 @@ added_longest t all bs n p p' r r' v near reads some stops taken = record {
 
 -- ---- what is left of a level
 
--- what comes first behind n elements
+-- what comes first after n elements
 slice_get-drop : {X : Type 0} (n : ℕ) (xs : List X) → slice_get (drop n xs) 0 ≡ slice_get xs n
 slice_get-drop zero xs = refl
 slice_get-drop (suc n) [] = refl

@@ -108,7 +108,7 @@ is_half_in m h mode i =
     ∙ ap (λ (x : Due). with_reading m escapes.Plain x h.asks h) i.due
     ∙ ap (λ (x : List Ask). with_reading m escapes.Plain dues.Look x h) i.asks_none
 
--- a byte that is no blank stays behind the blanks
+-- a byte that is no blank stays after the blanks
 leaves_blanks : (b : ℕ) (h : Half) → (b == 92) ≡ false → (b == 32) ≡ false → (b == 9) ≡ false → Meets b (half_in modes.MacroBlanks h) (half_in modes.MacroGap h) false
 leaves_blanks b h apart other tab = rw (apart, other, tab) refl
 

@@ -39,7 +39,7 @@ use Rattle.nr_input.proofs.RowsRead.{behind_none, source_looked, source_read, lo
 use Rattle.nr_input.proofs.Spending.{act_pays}
 use Rattle.nr_input.proofs.Targets.{levels-with_more, nothing_added}
 
--- ---- behind some bytes
+-- ---- after some bytes
 
 -- the program before this input, with nothing read ahead
 abbrev standing : Coming → Reached
@@ -58,7 +58,7 @@ same_coming c d holds =
     ∙ ap (λ (n : ℕ). record { supply = d.supply; taken = n; inside = c.inside }) holds.taken
     ∙ ap (λ (b : Bool). record { supply = d.supply; taken = d.taken; inside = b }) holds.inside
 
--- behind further bytes, if there are any
+-- after further bytes, if there are any
 run_further : (t u : ℕ) (c : Coming) → behind_run u (behind_run t c) ≡ behind_run (t + u) c
 run_further t zero c = let same : t ≡ t + 0 = omega arith in behind_none (behind_run t c) ∙ ap (λ n. behind_run n c) same
 run_further t (suc u) c = run_on t (suc u) c (omega arith)
@@ -82,7 +82,7 @@ pays_at n v w p q o r s e taken inside paid = record {
   tells = paid.tells;
 }
 
--- ---- what is read behind what was read
+-- ---- what is read after what was read
 
 pub reads_then : {K : Type 0} (n m t u : ℕ) (bs : List ℕ) (v w x : Stored K) (r s q : Reader) → ReadsOn n t bs v r w s → ReadsOn m u (drop t bs) w s x q → ReadsOn (n + m) (t + u) bs v r x q
 reads_then n m t u bs v w x r s q first more = record {

@@ -98,7 +98,7 @@ pub twice-is : (n : ℕ) → twice n ≡ 2 * n
 twice-is zero = refl
 twice-is (suc n) = omega (arith, twice-is n)
 
--- behind so many items of a row
+-- after so many items of a row
 abbrev pub spot_at : ℕ → Half → Spot
 spot_at k h = record { taken = k; half = h; event = events.Nothing }
 

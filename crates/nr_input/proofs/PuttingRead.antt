@@ -55,7 +55,7 @@ module _ {K : Type 0} (t : Target) (n : ℕ) (v w : Stored K) (c : Coming) (r : 
   abbrev at : ℕ → Spot → Situation K
   at k p = at_source (stored k) c r p
 
-  -- behind so many bytes
+  -- after so many bytes
   abbrev reader_behind : ℕ → Reader
   reader_behind k = record r { burst = burst_past c.taken (c.taken + k) r.burst }
 

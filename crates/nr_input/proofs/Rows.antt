@@ -73,7 +73,7 @@ met_level : {K : Type 0} (l : Reading K) (ls : List (Level K)) (x : Element) (xs
 met_level l ls x xs v c r k e true = rw (eq-eqb c.taken c.taken refl) refl
 met_level l ls x xs v c r k e false = refl
 
--- behind an item that is taken, or not
+-- after an item that is taken, or not
 drop_if : (takes : Bool) (n : ℕ) (x : Element) (xs : List Element) → drop n xs ≡ x ∷ drop (suc n) xs → (if takes then drop (suc n) xs else x ∷ drop (suc n) xs) ≡ drop (n + one_if takes) xs
 drop_if true n x xs is = let more : suc n ≡ n + 1 = omega arith in ap (λ k. drop k xs) more
 drop_if false n x xs is = let same : n ≡ n + 0 = omega arith in sym is ∙ ap (λ k. drop k xs) same
@@ -141,7 +141,7 @@ further taken n burst =
 abbrev coming_at : List ℕ → Faults → ℕ → Bool → Coming
 coming_at bs f taken inside = record { supply = record { bytes = bs; faults = f }; taken = taken; inside = inside }
 
--- behind one byte more
+-- after one byte more
 behind_one : (b n : ℕ) (c : Coming) → slice_index c.supply.bytes n ≡ b
     → coming_at (drop (suc n) c.supply.bytes) (one_later (later n c.supply.faults)) (c.taken + n + 1) (not (b == 10)) ≡ behind_run (n + 1) c
 behind_one b n c is =
@@ -153,7 +153,7 @@ behind_one b n c is =
     ∙ ap (λ k. behind_run k c) count
 
 module _ {K : Type 0} (v : Stored K) (c : Coming) (r : Reader) (bs : List ℕ) (none : v.levels ≡ []) (next : ComeNext bs c) where
-  -- the byte that is met, and what is to come behind it
+  -- the byte that is met, and what is to come after it
   byte_at : (n : ℕ) → n < length bs → drop n c.supply.bytes ≡ slice_index c.supply.bytes n ∷ drop (suc n) c.supply.bytes
   byte_at n less = drop-cons c.supply.bytes n 0 (let counts = ap length next.bytes in omega (arith, less, counts, length-take (length bs) c.supply.bytes))
 
@@ -162,7 +162,7 @@ module _ {K : Type 0} (v : Stored K) (c : Coming) (r : Reader) (bs : List ℕ) (
       slice_get-map fronts.Byte bs n
       ∙ ap (option_map fronts.Byte) (slice_get-get_or bs n 0 less ∙ ap Some (ap (λ (ys : List ℕ). get_or ys n 0) (sym next.bytes) ∙ get_or-take (length bs) c.supply.bytes n 0 less))
 
-  -- a byte in front, behind so many
+  -- a byte in front, after so many
   abbrev before : ℕ → ℕ → List ℕ → Coming
   before n b ys = coming_at (b ∷ ys) (later n c.supply.faults) (c.taken + n) (inside_behind n c.supply.bytes c.inside)
 

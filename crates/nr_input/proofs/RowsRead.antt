@@ -82,7 +82,7 @@ level_pays n v w q r p met is =
       tells = met.tells;
     }
 
--- behind a byte that was taken
+-- after a byte that was taken
 pub some_taken : (n : ℕ) → (n ≡ 0 → ⊥) → (k : ℕ) × (n ≡ suc k)
 some_taken zero some = absurd (some refl)
 some_taken (suc k) some = (k, refl)
@@ -188,7 +188,7 @@ module _ {K : Type 0} (n : ℕ) (fs : List Front) (v : Stored K) (q : Reached) (
       let none : n + 0 ≡ n = omega arith in
       subst (λ m. PaysAll m v q r p.event v q' (record r { half = p.half; burst = 0 })) none (source_more 0 many.0 last q' (omega arith) many.1 is)
 
-  -- behind two bytes or more 20 moves more are paid
+  -- after two bytes or more 20 moves more are paid
   pub source_saves : (last : ℕ) (q' : Reached) → 1 < p.taken → q' ≡ passed_run last p.taken q → PaysAll (n + 20) v q r p.event v q' (record r { half = p.half; burst = 0 })
   source_saves last q' some is =
       let many = some_taken p.taken (λ e. omega (arith, e, some)) in
@@ -227,7 +227,7 @@ supply_behind End n c supply supply' unseen holds skips = absurd (let wrong : fa
 supply_behind Failed n c supply supply' unseen holds skips = absurd (let wrong : false ≡ true = unseen in cc)
 supply_behind TooMany n c supply supply' unseen holds skips = absurd (let wrong : false ≡ true = unseen in cc)
 
--- the program stands behind bytes that it took
+-- the program stands after bytes that it took
 holds_behind : (k : ℕ) (bs : List ℕ) (c : Coming) (q : Reached) (supply supply' : Option Supply) → k < length bs → is_unseen q.ahead ≡ true → ComeNext bs c → HoldsComing c q supply → Skips supply (suc k) supply'
     → HoldsComing (behind_run (suc k) c) (passed_run (slice_index bs k) (suc k) q) supply'
 holds_behind k bs c q supply supply' less unseen next holds skips = record {

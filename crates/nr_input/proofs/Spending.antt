@@ -226,7 +226,7 @@ definition_spends false v w p r keeps = kept v w p (then_due dues.DefineAndCall 
 title_weighs : (e : Escape) → weight_of_escape 115 e ≤ weight_of_escape 156 e
 title_weighs e = weight_of_escape-le 115 e (omega arith)
 
--- the half behind a name that was looked up, with other notes
+-- the half after a name that was looked up, with other notes
 abbrev found : Notes → Reader → Half
 found n r = record (idle r).half { notes = n }
 

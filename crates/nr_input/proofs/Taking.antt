@@ -112,7 +112,7 @@ source_pays {K} a v p q r k e stays empty paid =
       lead = leads K e _ paid.tells;
     }
 
--- of a level: an element, its end, or the mark behind a sprung text
+-- of a level: an element, its end, or the mark after a sprung text
 level_pays : {K : Type 0} (l : Level K) (ls : List (Level K)) (v : Stored K) (p q : Reached) (r : Reader) (k : Half) (e : Event) → StaysThere p q → v.levels ≡ l ∷ ls
     → weight_of_half k + cost_of_told (told_of (shown_in l) e) + 178 * risen r.half k ≤ weight_of_half r.half + 256 * items_taken l
     → IfLead (told_of (shown_in l) e) (blanks_owed k + 1 ≡ blanks_owed r.half)

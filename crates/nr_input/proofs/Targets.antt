@@ -73,7 +73,7 @@ with_more-none Text v = ap (λ (bs : List Built). let w : Stored _ = record v { 
 pub nothing_added : {K : Type 0} (t : Target) (n : ℕ) (bytes : List ℕ) (v w : Stored K) → n ≡ 0 → w ≡ with_more t (take n bytes) v → w ≡ v
 nothing_added t n bytes v w none is = is ∙ ap (λ k. with_more t (take k bytes) v) none ∙ with_more-none t v
 
--- elements behind others
+-- elements after others
 longer_longer : (xs ys : List Element) (bs : List Built) → on_newest (longer ys) (on_newest (longer xs) bs) ≡ on_newest (longer (xs ++ ys)) bs
 longer_longer xs ys [] = refl
 longer_longer xs ys (b ∷ bs) = ap (λ (t : List Element). let c : Built = record b { text = t } in c ∷ bs) (append_assoc b.text xs ys)

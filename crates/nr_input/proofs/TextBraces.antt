@@ -1,4 +1,4 @@
--- A closing brace behind the bytes that are gathered of a text line, as moves of the machine that reads.
+-- A closing brace after the bytes that are gathered of a text line, as moves of the machine that reads.
 use Rattle.std.specs.Prelude.{map, slice_get}
 use Rattle.std.specs.Option.{option_map}
 use Rattle.std.proofs.Common.{◌≡◌, ℕ, suc, ◌+◌, ◌≤◌, Bool, true, false, List, length, drop, Option, None, Some, refl, ap, sym, ◌∙◌, subst, arith}
@@ -62,7 +62,7 @@ module _ (items : ℕ) (fs : List Front) (rest : List Element) (row : fs ≡ dro
       let next : items + 1 ≡ suc items = omega arith in
       and_from (is_byte 92 (slice_get fs 0)) (is_byte 125 (slice_get fs 1)) (shown_byte 0 92 (ap (slice_get rest) here ∙ brace.0)) (shown_byte 1 125 (ap (slice_get rest) next ∙ brace.1))
 
--- ---- what is half read is as before behind it
+-- ---- what is half read is as before after it
 
 -- what is half read, with this part of an escape
 abbrev with_escape : Escape → Half → Half
@@ -110,7 +110,7 @@ module _ {K : Type 0} (x : Stored K) (q : Reader) (text : is_in_text q.half ≡ 
         depth = λ fits. subst (λ (w : Stored K). length w.levels ≤ w.deepest) (sym run) (omega (arith, fits, depth-behind 2 x.levels));
       }
 
--- ---- what was gathered is left behind it
+-- ---- what was gathered is left after it
 
 module _ {K : Type 0} (bytes : List ℕ) (items moves : ℕ) (splices : List Splice) (v : Stored K) (r : Reader) (gathered : AreGathered bytes items moves splices v r) (text : is_in_text r.half ≡ true) where
   abbrev reader : Reader
@@ -119,7 +119,7 @@ module _ {K : Type 0} (bytes : List ℕ) (items moves : ℕ) (splices : List Spl
   abbrev behind : ℕ → Stored K
   behind n = left_times (items + n) v
 
-  -- where it stands behind the bytes
+  -- where it stands after the bytes
   brace_leaves : HasBrace items (rest_of v.levels) → Leaves true (moves + 2) bytes v r (behind 2) reader
   brace_leaves brace =
       let there = rest-left_times items v gathered.there in

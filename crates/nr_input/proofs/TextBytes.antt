@@ -68,7 +68,7 @@ leaves_nothing goes v r = record {
   stays = λ stops. (refl, refl, refl);
 }
 
--- where nothing was taken behind the last of them, it is so too where it goes on there
+-- where nothing was taken after the last of them, it is so too where it goes on there
 pub leaves_goes : {K : Type 0} (goes : Bool) (n : ℕ) (bs : List ℕ) (v w : Stored K) (r q : Reader) → Leaves false n bs v r w q → Leaves goes n bs v r w q
 leaves_goes goes n bs v w r q leaves = record {
   before = leaves.before;
@@ -109,7 +109,7 @@ leaves_byte m b bs v w r q leaves is = record {
 
 -- ---- bytes of the newest level
 
--- what stands behind some
+-- what stands after some
 pub slice_get-drop : {X : Type 0} (m n : ℕ) (xs : List X) → slice_get (drop m xs) n ≡ slice_get xs (m + n)
 slice_get-drop zero n xs = let same : n ≡ 0 + n = omega arith in ap (slice_get xs) same
 slice_get-drop (suc m) n [] = refl
@@ -130,7 +130,7 @@ begins_with b [] v is = absurd (let wrong : None ≡ Some (elements.Byte b) = is
 begins_with b (Mark mode ∷ ls) v is = absurd (let wrong : None ≡ Some (elements.Byte b) = is in cc)
 begins_with b (Read l ∷ ls) v is = let text = begins_text b l.rest l ls v is in record { shows = text.0; goes = text.1 }
 
--- the same, behind so many of its items
+-- the same, after so many of its items
 pub shown_behind : {K : Type 0} (n b : ℕ) (v : Stored K) → n ≤ length (rest_of v.levels) → slice_get (rest_of v.levels) n ≡ Some (elements.Byte b) → shown (left_times n v).levels ≡ shows.Item (elements.Byte b)
 shown_behind n b v within is =
     let same : n + 0 ≡ n = omega arith in
@@ -141,7 +141,7 @@ shown_behind n b v within is =
 abbrev pub AreNext : {K : Type 0} → List ℕ → List (Level K) → Type 0
 AreNext bs levels = (n : ℕ) → n < length bs → slice_get (rest_of levels) n ≡ Some (elements.Byte (slice_index bs n))
 
--- they come, and nothing behind the last of them
+-- they come, and nothing after the last of them
 pub leaves_front : {K : Type 0} (m b : ℕ) (cs bs : List ℕ) (v w : Stored K) (r q : Reader) → Leaves true m bs v r w q → AreNext (b ∷ cs) w.levels → Leaves false m (bs ++ b ∷ cs) v r (left_times (suc (length cs)) w) q
 leaves_front m b [] bs v w r q leaves next = leaves_byte m b bs v w r q leaves (begins_with b w.levels w (next 0 (omega arith))).shows
 leaves_front {K} m b (c ∷ cs) bs v w r q leaves next =
@@ -155,7 +155,7 @@ pub leaves_all : {K : Type 0} (m : ℕ) (cs bs : List ℕ) (v w : Stored K) (r q
 leaves_all m [] bs v w r q leaves next = subst (λ ys. Leaves true m ys v r w q) (sym (append-nil bs)) leaves
 leaves_all m (c ∷ cs) bs v w r q leaves next = leaves_goes true m (bs ++ c ∷ cs) v (left_times (suc (length cs)) w) r q (leaves_front m c cs bs v w r q leaves next)
 
--- the same, where there are some, and nothing behind the last of them
+-- the same, where there are some, and nothing after the last of them
 pub leaves_some : {K : Type 0} (m : ℕ) (cs bs : List ℕ) (v w : Stored K) (r q : Reader) → 0 < length cs → Leaves true m bs v r w q → AreNext cs w.levels → Leaves false m (bs ++ cs) v r (left_times (length cs) w) q
 leaves_some m [] bs v w r q some leaves next = absurd (omega (arith, some))
 leaves_some m (c ∷ cs) bs v w r q some leaves next = leaves_front m c cs bs v w r q leaves next

@@ -120,7 +120,7 @@ module _ {K : Type 0} (n : ℕ) (own : List ℕ) (x : Stored K) (q : Reader) (t 
 
 -- ---- a run of bytes of the level is gathered
 
--- bytes that stand behind so many items
+-- bytes that stand after so many items
 abbrev pub StandBehind : ℕ → List ℕ → List Element → Type 0
 StandBehind items cs rest = (n : ℕ) → n < length cs → slice_get rest (items + n) ≡ Some (elements.Byte (slice_index cs n))
 
@@ -386,7 +386,7 @@ module _ {K : Type 0} (bytes : List ℕ) (items moves : ℕ) (splices : List Spl
 
 -- ---- as the program has it
 
--- the reader behind one more
+-- the reader after one more
 pub behind_made : (ss : List Splice) (s : Splice) (name : List ℕ) (r : Reader) → spliced (length ss + 1) s.asked r ≡ spliced (length (ss ++ s ∷ [])) (last_asked (ss ++ s ∷ []) name) r
 behind_made ss s name r = ap₂ (λ (k : ℕ) (n : List ℕ). spliced k n r) (sym (length-append ss (s ∷ []))) (sym (last_asked-more ss s name))
 
@@ -461,6 +461,6 @@ drop_on zero n xs = let same : n ≡ 0 + n = omega arith in ap (λ k. drop k xs)
 drop_on (suc m) n [] = drop-nil n ∙ sym (drop-nil (suc m + n))
 drop_on (suc m) n (x ∷ xs) = let same : suc (m + n) ≡ suc m + n = omega arith in drop_on m n xs ∙ ap (λ k. drop k (x ∷ xs)) same
 
--- what is left of a row of the level behind more of it
+-- what is left of a row of the level after more of it
 pub row_on : (items n more : ℕ) (fs gs : List Front) (rest : List Element) → fs ≡ drop items (map element_front rest) → gs ≡ drop n fs → more ≡ items + n → gs ≡ drop more (map element_front rest)
 row_on items n more fs gs rest row behind is = behind ∙ ap (drop n) row ∙ drop_on items n (map element_front rest) ∙ ap (λ k. drop k (map element_front rest)) (sym is)

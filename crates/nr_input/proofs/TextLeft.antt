@@ -29,7 +29,7 @@ take_split (suc m) k (x ∷ xs) = let same : suc (m + k) ≡ suc m + k = omega a
 
 -- ---- bytes of the newest level
 
--- they lie behind so many items of it
+-- they lie after so many items of it
 pub run_next : {K : Type 0} (item from taken items : ℕ) (next : Option Splice) (bytes : List ℕ) (v : Stored K) → AreItems item from next bytes items (rest_of v.levels) → item ≤ length (rest_of v.levels) → taken ≤ bytes_before next (length bytes)
     → AreNext (take (taken - from) (drop from bytes)) (left_times item v).levels
 run_next item from taken items next bytes v run within few = λ n less.
@@ -80,7 +80,7 @@ module _ {K : Type 0} (bytes : List ℕ) (items taken : ℕ) (v : Stored K) (r :
     abbrev reader : Reader
     reader = spliced (k + 1) s.asked r
 
-    -- behind it
+    -- after it
     module _ (past : s.before + s.count < taken) (few : taken ≤ bytes_before next (length bytes)) where
       abbrev past_end : ℕ
       past_end = taken - (s.before + s.count)
@@ -150,7 +150,7 @@ burst_within bytes items moves (s ∷ ss) v r gathered some =
     let burst = (gathered.each (length ss) (get_or (s ∷ ss) (length ss) s) last).burst in
     omega (arith, burst)
 
--- the reader behind none
+-- the reader after none
 pub spliced_none : (name : List ℕ) (r : Reader) → name ≡ r.half.notes.asked → spliced 0 name r ≡ r
 spliced_none name r is =
     let same : r.burst + 0 ≡ r.burst = omega arith in

@@ -123,7 +123,7 @@ module _ {K : Type 0} (bytes : List ℕ) (arguments : List (List ℕ)) (charge :
         depth = λ fits. depth;
       }
 
--- behind all of its bytes
+-- after all of its bytes
 pub ended_leads : {K : Type 0} (named : Bool) (own asked : List ℕ) (w : Stored K) (q : Reader) → q.half.reading.due ≡ dues.Look → charge_of w ≤ w.limit → length w.levels ≤ w.deepest
     → LeadsInText 1 (left_times (length own) (opened named own asked w)) q w q
 ended_leads false own asked w q look stored depth = level_ended own w.arguments (32 + length own) own_text w q look stored depth

@@ -24,7 +24,7 @@ use Rattle.nr_reading.specs.Seeking.{sought, sought_event}
 use Rattle.nr_reading.specs.Spelled.{name_of, is_empty}
 use Rattle.nr_input.specs.declared.reader.Reader.{Reader}
 
--- what is stored and half read behind it, and what it tells
+-- what is stored and half read after it, and what it tells
 pub record Acted (K : Type 0) : Type 0 where
   pub stored : Stored K
   pub reader : Reader
@@ -59,7 +59,7 @@ base_of r v = if r.half.notes.defining.appends then begun (text_of (name_in r) v
 abbrev pub adding_byte : {K : Type 0} → ℕ → Due → Stored K → Reader → Acted K
 adding_byte b d v r = done events.Nothing (added (elements.Byte b ∷ []) v) (then_due d r)
 
--- what is due behind a byte that was held back
+-- what is due after a byte that was held back
 abbrev pub behind_held : ℕ → ℕ → Option ℕ → Due
 behind_held held n (Some b) = if nat_lt (n + 1) held then dues.Release held (n + 1) (Some b) else dues.Add b
 behind_held held n None = if nat_lt (n + 1) held then dues.Release held (n + 1) None else dues.Look

@@ -3,7 +3,7 @@ use Rattle.std.specs.Prelude.{ℕ}
 use Rattle.nr_store.specs.Store.{Stored}
 use Rattle.nr_input.specs.declared.reader.Reader.{Reader}
 
--- of stored bytes, of levels, and of splices and springs behind one byte of the input
+-- of stored bytes, of levels, and of splices and springs after one byte of the input
 pub record Limits : Type 0 where
   pub stored : ℕ
   pub depth : ℕ

@@ -35,7 +35,7 @@ pub record Move (K : Type 0) : Type 0 where
 
 -- ---- an item
 
--- Behind a byte of the input nothing was spliced. The newline that is added is no byte of it.
+-- After a byte of the input nothing was spliced. The newline that is added is no byte of it.
 abbrev pub burst_past : ℕ → ℕ → ℕ → ℕ
 burst_past before taken burst = if taken == before then burst else 0
 

@@ -18,7 +18,7 @@ pub record Coming : Type 0 where
   pub supply : Supply
   -- how many bytes were taken
   pub taken : ℕ
-  -- the last of them is no newline: one is added behind it where the input ends
+  -- the last of them is no newline: one is added after it where the input ends
   pub inside : Bool
 
 -- the whole input
@@ -53,7 +53,7 @@ abbrev pub behind_front_of : List ℕ → Coming → Coming
 behind_front_of (b ∷ bs) c = record { supply = record { bytes = bs; faults = one_later c.supply.faults }; taken = c.taken + 1; inside = not (b == code "\n") }
 behind_front_of [] c = record c { inside = false }
 
--- what is to come of the source behind the item in front of the list
+-- what is to come of the source after the item in front of the list
 abbrev pub behind : {K : Type 0} → Shown K → Coming → Coming
 behind shows.Nothing c = behind_front_of c.supply.bytes c
 behind s c = c
@@ -94,7 +94,7 @@ is_seen (Byte b) = true
 is_seen End = true
 is_seen a = false
 
--- What was read ahead is still to come, and the source goes on behind it; and what it refused it refuses still.
+-- What was read ahead is still to come, and the source goes on after it; and what it refused it refuses still.
 abbrev pub HoldsSupply : Coming → Ahead → Option Supply → Type 0
 HoldsSupply c Unseen supply = supply ≡ Some c.supply
 HoldsSupply c End supply = (c.supply.bytes ≡ []) × MaySee c
@@ -139,7 +139,7 @@ seen_front (Byte b) inside = fronts.Byte b
 seen_front End inside = if inside then fronts.Byte (code "\n") else fronts.Over
 seen_front a inside = fronts.Over
 
--- behind it
+-- after it
 abbrev pub passed_by : Ahead → Reached → Reached
 passed_by (Byte b) p = record { ahead = Unseen; taken = p.taken + 1; inside = not (b == code "\n") }
 passed_by End p = record p { inside = false }
@@ -155,7 +155,7 @@ front_seen shows.End p = fronts.Mark
 front_seen (shows.Item x) p = element_front x
 front_seen (shows.Resume k) p = fronts.Resume
 
--- behind it: where there is a level the source stays
+-- after it: where there is a level the source stays
 abbrev pub passed_in : {K : Type 0} → Shown K → Reached → Reached
 passed_in shows.Nothing p = passed p
 passed_in s p = p

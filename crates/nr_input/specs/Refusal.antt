@@ -83,7 +83,7 @@ answer d v r = answer_to (asking d v r) (act d v r).stored r
 
 -- ---- where a refused call stays
 
--- what is stored and read behind a call, and its answer
+-- what is stored and read after a call, and its answer
 pub record Called (K A : Type 0) : Type 0 where
   pub stored : Stored K
   pub reader : Reader
@@ -123,9 +123,9 @@ acted d v r = acted_by (answer d v r) (act d v r) v r
 
 -- ---- the place of the input that is told
 
--- A string's text is charged before its first element is taken. Where that element begins with a `\`, what stands behind the `\`
+-- A string's text is charged before its first element is taken. Where that element begins with a `\`, what stands after the `\`
 -- tells so: this byte was read, and counts with its element. One that a level gave is no byte of the input: there is a level
--- only behind a splice, and none was made since the last byte.
+-- only after a splice, and none was made since the last byte.
 abbrev pub uncounted_by : Due → Escape → ℕ → ℕ
 uncounted_by dues.Begin escapes.Begun burst = if burst == 0 then 1 else 0
 uncounted_by d e burst = 0

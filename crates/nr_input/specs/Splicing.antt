@@ -11,7 +11,7 @@ use Rattle.nr_input.specs.declared.splicing.Definition.TheVariants as definition
 use Rattle.nr_input.specs.Acting.{on_half, expanded, has_text}
 use Rattle.nr_input.specs.Refusal.{Called, called, called_by, splicing_answer}
 
--- ---- texts that are given: those of given registers, and of widths
+-- ---- texts that are given: those of built-in registers, and of widths
 
 -- They are spliced, the arguments staying in force.
 abbrev pub giving : {K : Type 0} → List ℕ → Stored K → Reader → Called K (Result (Unit {0}) Refusal)

@@ -13,7 +13,7 @@ use Rattle.nr_input.specs.Place.{Reached}
 
 -- ---- the items before the next byte: those of the levels, their marks among them, and the newline that is added
 
--- The mark behind a sprung text counts as two: it pays for what goes on there.
+-- The mark after a sprung text counts as two: it pays for what goes on there.
 
 abbrev pub count_of_resume : {K : Type 0} → Option K → ℕ
 count_of_resume None = 0
@@ -49,7 +49,7 @@ weight_before_byte v p r =
 abbrev pub byte_worth : ℕ → ℕ → ℕ
 byte_worth most stored = expansions_worth most 0 stored + 512
 
--- what a move costs by what it tells: behind a sprung text it leaves 510 moves
+-- what a move costs by what it tells: after a sprung text it leaves 510 moves
 abbrev pub cost_of_told : {K : Type 0} → Told K → ℕ
 cost_of_told (tells.Event e) = cost_of_event e
 cost_of_told (tells.Resume k) = 511

@@ -44,7 +44,7 @@ fn request_of(meaning: Meaning, old: Request) -> Request
     }
 }
 
-// What is due behind a byte that was held back.
+// What is due after a byte that was held back.
 fn behind_held(held: u8, next: u8, then: Option<u8>) -> Due
     ensures { result ≡ behind_held held next then }
 {
@@ -61,7 +61,7 @@ fn behind_held(held: u8, next: u8, then: Option<u8>) -> Due
     }
 }
 
-// What is due behind one of the blanks that a text line begins with.
+// What is due after one of the blanks that a text line begins with.
 fn behind_lead(count: u32) -> Due
     ensures { result ≡ behind_lead count }
 {
@@ -155,7 +155,7 @@ impl Reader {
         }
     }
 
-    // What is due behind a definition of lines.
+    // What is due after a definition of lines.
     fn behind_definition(&self) -> Due
         ensures { result ≡ behind_definition self.now }
     {

@@ -18,8 +18,8 @@ use nr_reading::Event;
 use nr_store::{Sight, Store};
 use nr_units::source::Source;
 
-// How many splices there were since the last byte of the input was taken, behind an item, by how many bytes were taken before
-// and behind it.
+// How many splices there were since the last byte of the input was taken, after an item, by how many bytes were taken before
+// and after it.
 fn burst_behind(before: u64, taken: u64, burst: u64) -> u64
     ensures { result ≡ burst_past before taken burst }
 {
@@ -70,7 +70,7 @@ fn look<K: Copy, R: Source>(
 }
 
 /// One move: it takes an item, or makes a splice, or adds an element, or sees what is next. Where it takes the mark
-/// behind a sprung text, it puts what was under way into `mode`.
+/// after a sprung text, it puts what was under way into `mode`.
 pub fn advance<K: Copy, R: Source>(
     place: &mut Place,
     reader: &mut Reader,

@@ -20,7 +20,7 @@ pub struct Reader {
 impl Reader {
     ghost use Rattle.nr_input.specs.Moving.{nothing_read};
 
-    /// Nothing is read yet. There may be at most so many splices and springs behind one byte of the input.
+    /// Nothing is read yet. There may be at most so many splices and springs after one byte of the input.
     pub fn new(most: u64) -> Reader
         ensures { result ≡ nothing_read most }
     {

@@ -12,7 +12,7 @@ pub enum Refusal {
     Stored,
     /// There would be more levels than there may be.
     Depth,
-    /// There would be more splices and springs behind one byte of the input than there may be.
+    /// There would be more splices and springs after one byte of the input than there may be.
     Expansions,
     /// The source failed.
     ReadFault,

@@ -49,7 +49,7 @@ impl Reader {
     ghost use Rattle.nr_input.specs.Splicing.{giving, springing, defining_lines};
     ghost use Rattle.nr_input.specs.Weights.{Splices, Springs, Defines};
 
-    /// Splices the text of a given register, or of a width.
+    /// Splices the text of a built-in register, or of a width.
     pub fn give<K: Copy>(&mut self, store: &mut Store<K>, bytes: &[u8]) -> Result<(), Refusal>
         ensures gives { called store.new self.new result ≡ giving bytes.now store.old self.old }
         ensures pays { OnOk result (Splices store.old self.old store.new self.new) }
@@ -61,7 +61,7 @@ impl Reader {
         }
     }
 
-    /// Springs the text of a name, behind whose end the mode is resumed. Answers whether there is such a text.
+    /// Springs the text of a name, after whose end the mode is resumed. Answers whether there is such a text.
     pub fn spring<K: Copy>(
         &mut self,
         store: &mut Store<K>,

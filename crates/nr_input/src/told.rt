@@ -6,7 +6,7 @@ use nr_reading::Event;
 pub enum Heard {
     /// What was read, if anything was.
     Event(Event),
-    /// The mark behind a sprung text was taken.
+    /// The mark after a sprung text was taken.
     Resume,
 }
 
@@ -15,6 +15,6 @@ pub enum Heard {
 pub enum Told<K> {
     /// What was read, if anything was.
     Event(Event),
-    /// The mark behind a sprung text was taken: this goes on.
+    /// The mark after a sprung text was taken: this goes on.
     Resume(K),
 }

@@ -20,7 +20,7 @@ use Rattle.nr_fill.specs.Cutting.{piece_width, width, front_width, hyphen_before
 use Rattle.nr_laws.proofs.PlainLines.{NoSoft, no_soft-append, no_soft-drop, no_hyphen}
 use Rattle.nr_laws.proofs.PlainPages.{if-true, if-false, same_if}
 
--- no hyphen stands behind a front
+-- no hyphen stands after a prefix
 front-is : (n : ℕ) (ps : List Piece) → NoSoft ps → front_width n ps ≡ width (take n ps)
 front-is n ps clean = let e = no_hyphen (drop n ps) (no_soft-drop n ps clean) in omega arith
 
@@ -33,7 +33,7 @@ width-more (p ∷ ps) qs = let h = sum-more ps qs in omega arith
     sum-more [] ys = omega arith
     sum-more (x ∷ xs) ys = let h = sum-more xs ys in omega (arith, sum_by-cons piece_width x xs, sum_by-cons piece_width x (xs ++ ys))
 
--- a front that reaches beyond some pieces is no narrower than they
+-- a prefix that reaches beyond some pieces is no narrower than they
 beyond : (k : ℕ) (ps qs : List Piece) → length ps ≤ k → width ps ≤ width (take k (ps ++ qs))
 beyond k ps qs h = let rest = width-more ps (take (k - length ps) qs) in let e = take_beyond k ps qs h in subst (λ xs. width ps ≤ width xs) (sym e) rest
   where
@@ -46,7 +46,7 @@ beyond k ps qs h = let rest = width-more ps (take (k - length ps) qs) in let e =
 no_fit : (a b line : ℕ) → a ≤ b → nat_le a line ≡ false → nat_le b line ≡ false
 no_fit a b line h e = let x = leb-false a line e in grind (arith, nat_tests)
 
--- the longest front that fits lies in what does not fit as a whole
+-- the longest prefix that fits lies in what does not fit as a whole
 most-front : (line m : ℕ) (ps qs : List Piece) → NoSoft ps → NoSoft qs → fits line (length ps) ps ≡ false
     → (k : ℕ) → k ≡ length ps + m → most_that_fit line (ps ++ qs) k ≡ most_that_fit line (ps ++ qs) (length ps)
 most-front line zero ps qs clean more full k is = ap (most_that_fit line (ps ++ qs)) (let e : k ≡ length ps = omega arith in e)
@@ -67,7 +67,7 @@ same-front line (suc k) ps qs clean more h =
     front-is (suc k) (ps ++ qs) (no_soft-append ps qs clean more) ∙ ap width (take-append-le (suc k) ps qs h) ∙ sym (front-is (suc k) ps clean) in
     ap₂ (λ (w n : ℕ). if nat_le w line then suc k else n) e (same-front line k ps qs clean more (omega arith))
 
--- What does not fit is cut as it is with all pieces behind it.
+-- What does not fit is cut as it is with all pieces after it.
 pub cut-front : (line : ℕ) (ps qs : List Piece) → NoSoft ps → NoSoft qs → fits line (length ps) ps ≡ false
     → most_that_fit line (ps ++ qs) (length (ps ++ qs)) ≡ most_that_fit line ps (length ps)
 cut-front line ps qs clean more full =
@@ -101,7 +101,7 @@ pieces_at turn ps = record nothing_collected { pieces = ps; margins = first_marg
 abbrev pub rows_at : Turn → List Piece → List (List Cell)
 rows_at turn ps = rows_from (length ps) (pieces_at turn ps)
 
--- a full line, by its pieces, their width, the hyphen behind them and the side of the wider gaps
+-- a full line, by its pieces, their width, the hyphen after them and the side of the wider gaps
 abbrev spread_extra : Turn → List Piece → ℕ → Extra
 spread_extra turn ps wide = if is_spread Spread (65 - wide) (gaps ps) then shared turn (65 - wide) (gaps ps) else no_extra
 
@@ -111,7 +111,7 @@ spread_row turn ps wide hyphen = trimmed (replicate 0 blank ++ (cells_in_line (s
 abbrev turn_behind : Turn → List Piece → ℕ → Turn
 turn_behind turn ps wide = if is_spread Spread (65 - wide) (gaps ps) then other_turn turn else turn
 
--- The first row, and then those of what is left behind it.
+-- The first row, and then those of what is left after it.
 pub rows-next : (turn : Turn) (ps : List Piece) → is_nil ps ≡ false
     → rows_at turn ps ≡ set_line (record { align = align_of (pieces_at turn ps); offset = 0 }) (pieces_at turn ps) (cut_of (pieces_at turn ps))
     ∷ rows_at (behind first_margins (align_of (pieces_at turn ps)) (pieces_at turn ps) (cut_of (pieces_at turn ps))).turn (drop (cut_of (pieces_at turn ps)) ps)
@@ -141,7 +141,7 @@ cut-within : (ps : List Piece) → is_nil ps ≡ false → cut 65 ps ≤ length 
 cut-within [] some = absurd (let e : true ≡ false = some in cc)
 cut-within (p ∷ ps) some = let h = most-within 65 (p ∷ ps) (length (p ∷ ps)) in omega arith
 
--- where they do not fit, they do not fit with more behind them
+-- where they do not fit, they do not fit with more after them
 no_fit_more : (ps qs : List Piece) → NoSoft ps → NoSoft qs → fits 65 (length ps) ps ≡ false → fits 65 (length (ps ++ qs)) (ps ++ qs) ≡ false
 no_fit_more ps qs clean more full =
     let whole : width (take (length ps) ps) ≡ width ps = ap width (take_all (length ps) ps (omega arith)) in

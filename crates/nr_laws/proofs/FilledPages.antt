@@ -12,7 +12,7 @@ use Rattle.nr_page.specs.PageBytes.{row_count, row_bytes, page_bytes}
 use Rattle.nr_laws.specs.FilledText.{missing, text_of}
 use Rattle.nr_laws.proofs.PlainPages.{Ascends, row_shown, row_line, row_shown-one, other_row, one_on}
 
--- lines on row k and those behind it, one on each, without blanks at their ends
+-- lines on row k and those after it, one on each, without blanks at their ends
 abbrev pub Consecutive : ℕ → List Placed → Type 0
 Consecutive k [] = Unit {0}
 Consecutive k (l ∷ ls) = (l.row ≡ k) × (trimmed l.cells ≡ l.cells) × Consecutive (k + 1) ls

@@ -1,4 +1,4 @@
--- The pieces that bytes make behind those that are collected.
+-- The pieces that bytes make after those that are collected.
 use Rattle.std.specs.Prelude.{◌==◌, ◌&&◌, is_none}
 use Rattle.std.specs.List.{fold}
 use Rattle.std.proofs.Common.{◌≡◌, ℕ, Bool, true, false, if◌then◌else◌, List, [], ◌∷◌, ◌++◌, Option, None, Some, refl, ap, ap₂, sym, ◌∙◌, append-nil, append_assoc}
@@ -9,7 +9,7 @@ use Rattle.nr_laws.specs.FilledText.{first_margins, with_byte}
 use Rattle.nr_laws.proofs.FilledLines.{rows_at}
 use Rattle.nr_laws.proofs.PlainLines.{NoSoft, Clean, add_cell-clean, end_word-clean}
 
--- the pieces of what is collected and of these bytes behind it
+-- the pieces of what is collected and of these bytes after it
 abbrev pub pieces_after : Collected → List ℕ → List Piece
 pieces_after c bs = (end_word (fold with_byte c bs)).pieces
 
@@ -17,9 +17,9 @@ pieces_after c bs = (end_word (fold with_byte c bs)).pieces
 abbrev pub rows_after : Collected → List ℕ → List (List Cell)
 rows_after c bs = rows_at c.turn (pieces_after c bs)
 
--- ---- pieces behind others
+-- ---- pieces after others
 
--- what of the collected line tells which pieces come behind those that it has
+-- what of the collected line tells which pieces come after those that it has
 abbrev pub core : Collected → Collected
 core c = record nothing_collected { word = c.word; gap = c.gap; sentence = c.sentence }
 
@@ -57,7 +57,7 @@ pub pieces_after-clean : (c : Collected) (bs : List ℕ) → Clean c → NoSoft 
 pieces_after-clean c [] clean = (end_word-clean c clean).pieces
 pieces_after-clean c (b ∷ bs) clean = pieces_after-clean (with_byte c b) bs (byte_clean (b == 10) (b == 32) b c clean)
 
--- the newline that is added behind the last line makes no piece
+-- the newline that is added after the last line makes no piece
 pub added-newline : (c : Collected) → rows_after c (10 ∷ []) ≡ rows_after c []
 added-newline c = ap (rows_at c.turn) (append-nil (c.pieces ++ word_pieces c.word))
 

@@ -1,4 +1,4 @@
--- What is cut of the pieces is the longest front that fits.
+-- What is cut of the pieces is the longest prefix that fits.
 use Rattle.std.proofs.lemmas.Bool.{cases_lt}
 use Rattle.std.proofs.Common.{◌≡◌, ℕ, zero, suc, ◌<◌, ◌≤◌, Bool, true, false, if◌then◌else◌, List, length, refl, subst, inl, inr, arith}
 use Rattle.nr_fill.specs.Piece.{Piece}

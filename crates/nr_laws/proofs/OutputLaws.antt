@@ -51,7 +51,7 @@ broken s out b (Some xs) ended front =
           ∙ ap (λ z. (z ++ front.0) ++ front.1) (sym ended) ∙ ap (λ z. z ++ front.1) (sym front.3);
     }
 
--- a front of what the next move brings
+-- a prefix of what the next move brings
 wrote_front : (s : State) (o : Outcome) (out : List ℕ) → Stops s o → Writes s o (Some []) (Some out) → IsFrontOf (text s.pages) (text (step s).pages) → IsFrontOf out (text (step s).pages)
 wrote_front s Done out stops w grows = subst (λ z. IsFrontOf z (text (step s).pages)) (sym w) grows
 wrote_front s (Limit which at) out stops w grows = subst (λ z. IsFrontOf z (text (step s).pages)) (sym w) grows
@@ -129,7 +129,7 @@ no_earlier b b' options supply n n' o' h told runs runs' stops less =
     let e' = at b' options supply n' in
     goes-stops (state_under b' t) o' (settled_after o' n' (start nothing_allowed options supply) told) (goes-wider b b' t h (subst Goes e (runs n' less))) (subst (λ (s : State). Stops s o') e' stops)
 
--- what went out, a page of which a fault broke off among it, is a front of what goes out without limits where the run goes as far
+-- what went out, a page of which a fault broke off among it, is a prefix of what goes out without limits where the run goes as far
 front_at : (b : Bounds) (options : Options) (supply : Supply) (n m : ℕ) (o : Outcome) (out : List ℕ) → AnswersWith b options supply n o out → n ≤ m
     → (Goes (state_after n (start b options supply)) → n + 1 ≤ m) → IsFrontOf out (unlimited_text options supply m)
 front_at b options supply n m WriteFault out a far further = limits_cut b options supply n WriteFault out a m (further a.stops.0)

@@ -115,7 +115,7 @@ module _ (m : Mode) (d : Due) (k : Task) (p : Step) (bs : List ℕ) (i : Bool) (
   abbrev pub left : Going → Collected
   left g = rest_behind g at.formatter
 
-  -- the state behind it, where the margins are these
+  -- the state after it, where the margins are these
   abbrev placed : Going → Indents → State
   placed g indents =
       let t = place (row_going g (offset at.formatter) at.formatter) (spacing at.formatter) (behind_line g at.formatter) at in

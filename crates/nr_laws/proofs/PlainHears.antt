@@ -173,7 +173,7 @@ module _ (s : State) (o : OrderlyIn tasks.Read steps.NotYet s) where
   orderly_by true k clean = record { clean = clean; ascends = o.ascends; above = o.above; shut = o.shut; drained = tt; closed = tt }
   orderly_by false k clean = changed tasks.Read k tt clean
 
-  -- of filled text, the same behind a word
+  -- of filled text, the same after a word
   goes_by : (b : Bool) → is_unbroken (if b then tasks.Flow afters.Text false else tasks.Read) ≡ true
   goes_by true = refl
   goes_by false = refl

@@ -197,7 +197,7 @@ row-ink s c n clean =
     ap (λ h. ink (replicate before blank ++ (cells_in_line x (take n c.pieces) ++ replicate h (record { byte = 45; under = false })))) (no_hyphen (drop n c.pieces) (no_soft-drop n c.pieces clean))
     ∙ ink-append (replicate before blank) (cells_in_line x (take n c.pieces) ++ []) ∙ ap₂ (λ a b. a ++ b) (ink-blanks before) (ap ink (append-nil (cells_in_line x (take n c.pieces))) ∙ line-ink x (take n c.pieces))
 
--- and of what is left behind it
+-- and of what is left after it
 pub cut-ink : (s : Setting) (m : Margins) (c : Collected) (n : ℕ) → NoSoft c.pieces → ink (line_row s c n) ++ collected_ink (behind m s.align c n) ≡ collected_ink c
 cut-ink s m c n clean =
     ap (λ z. z ++ (pieces_ink (drop n c.pieces) ++ word_ink c.word)) (row-ink s c n clean)

@@ -55,7 +55,7 @@ same_if false x = refl
 suffix_behind : (xs : List Cell) (x : Cell) → suffix_len is_blank (xs ++ x ∷ []) ≡ (if is_blank x then 1 + suffix_len is_blank xs else 0)
 suffix_behind xs x = ap (prefix_len is_blank) (reverse-append xs (x ∷ []))
 
--- a blank behind cells is trimmed away
+-- a blank after cells is trimmed away
 trimmed-blank : (xs : List Cell) (x : Cell) → is_blank x ≡ true → trimmed (xs ++ x ∷ []) ≡ trimmed xs
 trimmed-blank xs x is =
     let more : suffix_len is_blank (xs ++ x ∷ []) ≡ 1 + suffix_len is_blank xs = suffix_behind xs x ∙ if-true (is_blank x) (1 + suffix_len is_blank xs) 0 is in
@@ -69,7 +69,7 @@ trimmed-shown xs x is =
     let none : suffix_len is_blank (xs ++ x ∷ []) ≡ 0 = suffix_behind xs x ∙ if-false (is_blank x) (1 + suffix_len is_blank xs) 0 is in
     ap (λ n. take (length (xs ++ x ∷ []) - n) (xs ++ x ∷ [])) none ∙ take_all (length (xs ++ x ∷ []) - 0) (xs ++ x ∷ []) (omega arith)
 
--- what holds of no cells, and of cells with one more behind them where it holds of those, holds of all
+-- what holds of no cells, and of cells with one more after them where it holds of those, holds of all
 pub by_last : (P : List Cell → Type 0) → P [] → ((xs : List Cell) (x : Cell) (b : Bool) → is_blank x ≡ b → P xs → P (xs ++ x ∷ [])) → (xs : List Cell) → P xs
 by_last P none more xs = subst P (reverse-reverse xs) (back (reverse xs))
   where

@@ -132,7 +132,7 @@ unsigned b bs r plain =
     if-false (b == 46) (start_control false q) (if b == 39 then start_control true q else behind) (neither-left (b == 46) (b == 39) (no_sign b bs plain))
     ∙ if-false (b == 39) (start_control true q) behind (neither-right (b == 46) (b == 39) (no_sign b bs plain))
 
--- behind blanks, where it is no newline
+-- after blanks, where it is no newline
 abbrev lead_text : ℕ → ℕ → Reading → ReadStep
 lead_text b n r =
     if b == 32 then go (record r { mode = modes.Leading (one_blank_more n) })
@@ -235,7 +235,7 @@ module _ (s : State) (o : OrderlyIn tasks.Read steps.NotYet s) where
       keeps c (step c) (step c) modes.Start dues.Look events.Over tasks.Read steps.NotYet [] false refl refl HearsOver o refl
       (λ r p. record { reads = record { goes = refl; bytes = refl; inside = λ begins. refl }; prints = p; same = refl })
 
-  -- ---- behind blanks at a line's beginning
+  -- ---- after blanks at a line's beginning
 
   lead_byte_by : (n b : ℕ) (bs : List ℕ) (i newline x : Bool) → is_plain_from false (b ∷ bs) ≡ true → (b == 10) ≡ newline → (b == 32) ≡ x
       → Keeps (reading (modes.Leading n) dues.Look (b ∷ bs) i s) (step (reading (modes.Leading n) dues.Look (b ∷ bs) i s))

@@ -93,7 +93,7 @@ pub data Phase : Mode → Due → Event → Task → Step → List ℕ → Bool 
   Ejects : Phase modes.Start dues.Look events.Nothing (tasks.Eject ejecteds.Finish) steps.LastPage [] false
   Halts : Phase modes.Start dues.Look events.Nothing tasks.Halted steps.LastPage [] false
 
--- behind the first break of the end nothing is collected
+-- after the first break of the end nothing is collected
 abbrev pub Drained : Step → Collected → Type 0
 Drained steps.NotYet c = Unit {0}
 Drained steps.FirstBreak c = Unit {0}

@@ -67,7 +67,7 @@ FilledTextIsRows =
     → is_plain supply.bytes ≡ true → is_filled_from true supply.bytes ≡ true → options.select ≡ None → AnswersWith b options supply n Done out
     → out ≡ text_of (rows_of (pieces_of supply.bytes))
 
--- Each of these rows is cut as long as it may be: of the pieces that are left no longer front fits a line,
+-- Each of these rows is cut as long as it may be: of the pieces that are left no longer prefix fits a line,
 abbrev pub CutIsLongest : Type 0
 CutIsLongest = (line : ℕ) (ps : List Piece) (n : ℕ) → cut line ps < n → n ≤ length ps → fits line n ps ≡ false
 

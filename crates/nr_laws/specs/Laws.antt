@@ -13,7 +13,7 @@ use Rattle.nr_laws.specs.Limited.{state_under}
 
 -- ---- the words of the laws
 
--- the whole begins with this front
+-- the whole begins with this prefix
 pub record IsFrontOf (front whole : List ℕ) : Type 0 where
   pub rest : List ℕ
   pub whole_is : whole ≡ front ++ rest
@@ -25,7 +25,7 @@ pub record AtLeast (b b' : Bounds) : Type 0 where
   pub cells : b.cells ≤ b'.cells
   pub expansions : b.expansions ≤ b'.expansions
 
--- a source fails at no call, or at each call behind so many bytes
+-- a source fails at no call, or at each call after so many bytes
 abbrev pub are_told : Faults → Bool
 are_told Never = true
 are_told (After n) = true
@@ -79,13 +79,13 @@ LimitsOnlyStop =
 
 -- ---- a prefix
 
--- What goes out under limits is a front of what goes out without, one move later and from then on.
+-- What goes out under limits is a prefix of what goes out without, one move later and from then on.
 abbrev pub LimitsCut : Type 0
 LimitsCut =
     (b : Bounds) (options : Options) (supply : Supply) (n : ℕ) (outcome : Outcome) (out : List ℕ)
     → AnswersWith b options supply n outcome out → (m : ℕ) → n + 1 ≤ m → IsFrontOf out (unlimited_text options supply m)
 
--- Where the run without limits ends, it is a front of all that goes out there.
+-- Where the run without limits ends, it is a prefix of all that goes out there.
 abbrev pub LimitsCutOutput : Type 0
 LimitsCutOutput =
     (b : Bounds) (options : Options) (supply : Supply) (n : ℕ) (outcome : Outcome) (out whole : List ℕ)

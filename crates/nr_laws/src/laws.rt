@@ -9,7 +9,7 @@ pub fn limits_only_stop()
     ensures unasked { NoLimitAsked }
 {}
 
-/// What goes out under limits is a front of what goes out without; for a run that never ends, of what has gone out after some
+/// What goes out under limits is a prefix of what goes out without; for a run that never ends, of what has gone out after some
 /// number of moves.
 pub fn limits_cut()
     ensures after { LimitsCut }
@@ -22,13 +22,13 @@ pub fn done_is_whole()
     ensures one { OneWhole }
 {}
 
-/// Where each limit is at least as wide, what goes out under the narrower ones is a front of what goes out under the wider ones,
+/// Where each limit is at least as wide, what goes out under the narrower ones is a prefix of what goes out under the wider ones,
 /// unless the second run is ended by a fault of the sink, or of a source that may fail at any call.
 pub fn wider_limits()
     ensures { WiderLimits }
 {}
 
-/// A run that ends otherwise than at a limit, also at a read fault behind a stated byte or at too long an input, is the same
+/// A run that ends otherwise than at a limit, also at a read fault after a stated byte or at too long an input, is the same
 /// under wider limits.
 pub fn limits_unmet()
     ensures { LimitsUnmet }

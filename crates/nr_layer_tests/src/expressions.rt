@@ -2,7 +2,7 @@
 use nr_units::{Ctx, Scale, read_expr};
 use std::process::Abort;
 
-/// A text, the value of its longest front that is an expression, and the length of that front.
+/// A text, the value of its longest prefix that is an expression, and the length of that prefix.
 type Row = (&'static str, Option<i64>, usize);
 
 /// Read at the place 0.
@@ -19,7 +19,7 @@ static FROM_0: [Row; 61] = [
     ("0.5", Some(1), 3),
     ("-0.5", Some(-1), 4),
     ("5.", Some(5), 2),
-    // the longest front that is an expression
+    // the longest prefix that is an expression
     ("1+", Some(1), 1),
     ("(1+2", None, 0),
     ("1+(2", Some(1), 1),

@@ -7,7 +7,7 @@ use nr_units::fakes::Slate;
 use std::test::Fail;
 
 /// The lines placed, each a row and its text; how many rows are asked for; and the bytes of the page.
-/// In a text `^` underlines the cell behind it.
+/// In a text `^` underlines the cell after it.
 struct Case {
     name: &'static str,
     lines: &'static [(u32, &'static [u8])],

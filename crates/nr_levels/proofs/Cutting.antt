@@ -7,7 +7,7 @@ use Rattle.nr_levels.specs.Levels.{cut}
 use Rattle.nr_levels.specs.Laws.{sum-cons, length-joined, with_bytes-full, with_bytes-more}
 use Rattle.nr_levels.specs.Gathering.{Gathered, joined, gathered_len, with_byte, with_bytes, with_end, gathered_of, IsGathering}
 
--- more bytes behind change nothing
+-- more bytes after change nothing
 pub cut_more : (lens bytes more : List ℕ) → sum lens ≤ length bytes → cut lens (bytes ++ more) ≡ cut lens bytes
 cut_more [] bytes more within = refl
 cut_more (n ∷ ns) bytes more within =

@@ -158,6 +158,6 @@ end_at h (s ∷ ss) (suc n) e = end_at h ss n e.1
 pub length_part : (xs : List ℕ) (s : Span) → s.last ≤ length xs → length (part xs s) ≡ s.last - s.first
 length_part xs s within = omega (arith, length-drop s.first (take s.last xs), length-take s.last xs)
 
--- the bytes behind the others
+-- the bytes after the others
 pub part_last : (xs more : List ℕ) (s : Span) → s.first ≡ length xs → s.last ≡ length (xs ++ more) → part (xs ++ more) s ≡ more
 part_last xs more s first last = part_new xs more s first last

@@ -20,7 +20,7 @@ abbrev pub mode_of : {K : Type 0} → Bool → List K → Option K
 mode_of true modes = slice_get modes 0
 mode_of false modes = None
 
--- the modes of the frames behind it
+-- the modes of the frames after it
 abbrev pub modes_behind : {K : Type 0} → Bool → List K → List K
 modes_behind true modes = drop 1 modes
 modes_behind false modes = modes
@@ -32,7 +32,7 @@ source_of bytes (reads.Own s) mode = Own (part bytes s)
 source_of bytes reads.Mark (Some mode) = Mark mode
 source_of bytes reads.Mark None = Own []
 
--- the mode that is resumed behind its end
+-- the mode that is resumed after its end
 abbrev pub resume_of : {K : Type 0} → Reads → Option K → Option K
 resume_of (reads.Text id place) mode = mode
 resume_of (reads.Own s) mode = mode
@@ -128,7 +128,7 @@ pub record IsOn (places : List Span) (f : Frame) (inforce : Span) (h : ℕ) : Ty
   pub above : f.old.last ≤ inforce.last
   pub few : inforce.last ≤ f.old.last + 9 * reader f.reads
 
--- frames, each on those behind it
+-- frames, each on those after it
 abbrev pub IsStacked : List Span → List Frame → Span → ℕ → Type 0
 IsStacked places [] inforce h = (inforce.last ≡ 0) × (h ≡ 0)
 IsStacked places (f ∷ fs) inforce h = IsOn places f inforce h × IsStacked places fs f.old f.height

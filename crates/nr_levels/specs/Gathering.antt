@@ -11,7 +11,7 @@ pub record Gathered : Type 0 where
 abbrev pub none_gathered : Gathered
 none_gathered = record { kept = []; last = [] }
 
--- their bytes, one behind another
+-- their bytes, one after another
 abbrev pub joined : List (List ℕ) → List ℕ
 joined [] = []
 joined (t ∷ ts) = t ++ joined ts
@@ -42,7 +42,7 @@ pub record Gathering : Type 0 where
   pub gathered : Gathered
   pub room : ℕ
 
--- the arguments of these lengths, one behind another
+-- the arguments of these lengths, one after another
 abbrev pub gathered_of : List ℕ → List ℕ → ℕ → Gathered
 gathered_of lens bytes start = record { kept = cut lens bytes; last = drop start bytes }
 

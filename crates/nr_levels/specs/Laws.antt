@@ -42,7 +42,7 @@ pub with_bytes-full : (bs : List ℕ) (g : Gathered) → (length g.kept == 9) �
 with_bytes-full [] g full = refl
 with_bytes-full (b ∷ bs) g full = ap (with_bytes bs) (with_byte-full b g full) ∙ with_bytes-full bs g full
 
--- else they come behind the others
+-- else they come after the others
 pub with_bytes-more : (bs : List ℕ) (g : Gathered) → (length g.kept == 9) ≡ false → with_bytes bs g ≡ record g { last = g.last ++ bs }
 with_bytes-more [] g more = ap (λ ys. record g { last = ys }) (sym (append-nil g.last))
 with_bytes-more (b ∷ bs) g more =

@@ -9,7 +9,7 @@ pub data Source (K : Type 0) : Type 0 where
   Own : List ℕ → Source K
   Mark : K → Source K
 
--- a level: the arguments that its end restores, what it is charged, and the mode that is resumed behind its end
+-- a level: the arguments that its end restores, what it is charged, and the mode that is resumed after its end
 pub record Open (K : Type 0) : Type 0 where
   pub source : Source K
   pub old : List (List ℕ)
@@ -48,13 +48,13 @@ abbrev pub front_of : {K : Type 0} → List (Open K) → Option (Front K)
 front_of [] = None
 front_of (l ∷ ls) = Some (front l.source)
 
--- a source behind what comes next
+-- a source after what comes next
 abbrev pub behind : {K : Type 0} → Source K → Source K
 behind (Text id place) = Text id (place + 1)
 behind (Own bytes) = Own (drop 1 bytes)
 behind (Mark mode) = Mark mode
 
--- the newest level behind what comes next
+-- the newest level after what comes next
 abbrev pub advanced : {K : Type 0} → List (Open K) → List (Open K)
 advanced [] = []
 advanced (l ∷ ls) = record l { source = behind l.source } ∷ ls

@@ -51,7 +51,7 @@ impl Reads {
     }
 }
 
-/// A level, but for the mode that is resumed behind its end: the levels keep it.
+/// A level, but for the mode that is resumed after its end: the levels keep it.
 //
 // The arguments in force before it are a part of the row of places, and below `height` lie the bytes that were kept
 // before it.
@@ -76,7 +76,7 @@ pub enum Next {
     Byte(u8),
     /// The level's end.
     End,
-    /// The mode that is resumed behind a level whose end was taken.
+    /// The mode that is resumed after a level whose end was taken.
     Resume,
 }
 
@@ -89,7 +89,7 @@ pub enum Front<K> {
     Byte(u8),
     /// The level's end.
     End,
-    /// The mode that is resumed behind a level whose end was taken.
+    /// The mode that is resumed after a level whose end was taken.
     Resume(K),
 }
 

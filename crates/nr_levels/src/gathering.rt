@@ -124,7 +124,7 @@ impl Gathering {
         self.start = 0;
     }
 
-    /// The bytes of the arguments that are read whole, one behind another.
+    /// The bytes of the arguments that are read whole, one after another.
     pub fn kept_bytes(&self) -> &[u8]
         ensures { result.now ≡ joined self.now.gathered.kept }
     {

@@ -20,7 +20,7 @@ use std::marker::Model;
 /// moved. The modes to resume lie on a stack of their own. Each call takes constant time, and that of a copy of the
 /// bytes that it is given; `new` is the only one that allocates.
 ///
-/// A level whose end was taken stays while the mode behind it is still to be resumed.
+/// A level whose end was taken stays while the mode after it is still to be resumed.
 #[derive(Drop)]
 pub struct Levels<K: Copy> {
     frames: Stack<Frame>,
@@ -193,7 +193,7 @@ impl<K: Copy> Levels<K> {
         self.modes.pop();
     }
 
-    /// The newest level goes on behind the element that it gave.
+    /// The newest level goes on after the element that it gave.
     #[inline]
     pub fn advance(&mut self)
         requires { HasNext (front_of self.old.levels) }
@@ -202,7 +202,7 @@ impl<K: Copy> Levels<K> {
         self.frames.go_on(1);
     }
 
-    /// The newest level goes on behind so many elements.
+    /// The newest level goes on after so many elements.
     #[inline(always)]
     pub fn skip(&mut self, n: u32)
         requires { NewestReaches n self.old.levels }
@@ -214,7 +214,7 @@ impl<K: Copy> Levels<K> {
         self.frames.go_on(n);
     }
 
-    /// Opens a level that reads a text, with no arguments in force, and with a mode to resume behind its end.
+    /// Opens a level that reads a text, with no arguments in force, and with a mode to resume after its end.
     #[inline(always)]
     pub fn open_text(&mut self, id: Id, charge: u32, resume: Option<K>)
         requires room { length self.old.levels < self.old.most }

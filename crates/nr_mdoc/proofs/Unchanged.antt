@@ -107,7 +107,7 @@ half_bytes : (lines b : ℕ) (s : State) → (read_with None fronts.Half lines b
 unfolding at once said meet lay_out read_with
 half_bytes lines b s = refl
 
--- behind all of `.Dd`, by whether its word ends
+-- after all of `.Dd`, by whether its word ends
 whole_with : Bool → ℕ → ℕ → State → Told
 whole_with ends lines b s =
     let st = at (scans.Asleep fronts.Whole lines) s in
@@ -148,7 +148,7 @@ grown_front fronts.Other more b e = absurd (let no : None ≡ Some more = e in c
 
 -- ---- all bytes
 
--- what holds of the bytes that come behind
+-- what holds of the bytes that come after
 Rest : List ℕ → Type 0
 Rest bs = (front : Front) (lines : ℕ) (s : State) → is_some (leads_on (Some (scans.Asleep front lines)) bs) ≡ true
     → all_of (at (scans.Asleep front lines) s) bs ≡ front_of front ++ bs
@@ -163,7 +163,7 @@ by-scan true u lines s bs rest h = rest fronts.Other lines s h
 by-scan false true lines s bs rest h = rest fronts.Nothing (lines + 1) s h
 by-scan false false lines s bs rest h = all-passes s bs
 
--- a byte that goes on no `.Dd` passes, behind what was read of one
+-- a byte that goes on no `.Dd` passes, after what was read of one
 passed : (front : Front) (lines b : ℕ) (s : State) (bs xs : List ℕ) → Rest bs
     → (read b (at (scans.Asleep front lines) s)).state ≡ at (passes_to lines b) s
     → (read b (at (scans.Asleep front lines) s)).bytes ≡ xs ++ b ∷ []
@@ -179,7 +179,7 @@ none_leads : (bs : List ℕ) → is_some (leads_on None bs) ≡ true → ⊥
 none_leads [] h = cc
 none_leads (b ∷ bs) h = none_leads bs h
 
--- by whether the word behind `.Dd` ends
+-- by whether the word after `.Dd` ends
 whole : (ends : Bool) (lines b : ℕ) (s : State) (bs : List ℕ) → Rest bs → front_grows fronts.Whole b ≡ None → ends_word b ≡ ends
     → is_some (leads_on (if ends then None else Some (passes_to lines b)) bs) ≡ true
     → all_of (at (scans.Asleep fronts.Whole lines) s) (b ∷ bs) ≡ front_of fronts.Whole ++ b ∷ bs

@@ -47,7 +47,7 @@ usual_width kinds.Dash = 2
 usual_width kinds.Number = 3
 usual_width kind = 8
 
--- what tags take, with the gap of two behind them
+-- what tags take, with the gap of two after them
 abbrev pub tag_width : Block → ℕ
 tag_width b = if b.width == 0 then usual_width b.kind + 2 else at_most 900 b.width + 2
 

@@ -53,7 +53,7 @@ guard first = if is_control first then codes "\\&" else []
 abbrev pub line_guard : ℕ → List ℕ
 line_guard first = if is_control first then codes "\n\\&" else codes "\n"
 
--- no line is broken behind a hyphen that begins a word
+-- no line is broken after a hyphen that begins a word
 abbrev pub before_hyphen : List ℕ → List ℕ
 before_hyphen [] = []
 before_hyphen (b ∷ bs) = if b == code "-" then codes "\\" else []

@@ -194,7 +194,7 @@ abbrev pub wants_column : Wanted → Bool
 wants_column wanteds.Column = true
 wants_column w = false
 
--- tab stops, one behind the other
+-- tab stops, one after the other
 abbrev pub column : Page → Met
 column p =
     if not (is_column p.block.kind) then none p else

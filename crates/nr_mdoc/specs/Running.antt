@@ -27,7 +27,7 @@ abbrev pub FrontAtErr : {T E : Type 0} → Result T E → Option (List ℕ) → 
 FrontAtErr (Ok x) old new bytes = Unit {0}
 FrontAtErr (Err e) old new bytes = AppendsFront old new bytes
 
--- a front of what is pending went out, and the rest is left
+-- a prefix of what is pending went out, and the rest is left
 pub record Flushes (held new : Option (List ℕ)) (pending left : List ℕ) : Type 0 where
   pub out : List ℕ
   pub went_out : Appends held new out
@@ -98,7 +98,7 @@ pub record IsCut (first last : Option Supply) (held new : Option (List ℕ)) (at
   pub made : steps ≡ (fed first_state bytes).steps
   pub quick : steps ≤ 96 * (length bytes + 1)
 
--- some bytes came, and a front of what they come to went out; that took so many steps
+-- some bytes came, and a prefix of what they come to went out; that took so many steps
 pub record IsBroken (first last : Option Supply) (held new : Option (List ℕ)) (steps : ℕ) : Type 0 where
   pub bytes : List ℕ
   pub came : Comes first bytes last

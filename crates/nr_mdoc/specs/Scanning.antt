@@ -22,7 +22,7 @@ use Rattle.nr_mdoc.specs.Words.{given, long, goes_on, is_none, with_scan}
 abbrev pub ends_word : ℕ → Bool
 ends_word b = (b == 32) || (b == code "\t") || (b == code "\n")
 
--- a hyphen behind such a byte may break a line, or is a part of an escape
+-- a hyphen after such a byte may break a line, or is a part of an escape
 abbrev pub is_inside : ℕ → Bool
 is_inside b = (nat_le 48 b && nat_le b 57) || (nat_le 65 b && nat_le b 90) || (nat_le 97 b && nat_le b 122) || (b == code "\\")
 
@@ -43,7 +43,7 @@ at_start b p =
     if ((b == 32) || (b == code "\t")) && not p.lay.literal then met p (taken acts.Nothing) else
     turns (scans.Text (is_inside b)) (taken (acts.Begin b)) p
 
--- no line is broken behind a hyphen that begins a word
+-- no line is broken after a hyphen that begins a word
 abbrev pub in_text : Bool → ℕ → Page → Met
 in_text inside b p =
     if b == code "\n" then turns scans.Start (taken acts.Ends) p else
@@ -110,7 +110,7 @@ keep_escape b quoted p =
 abbrev pub is_behind_sign : List ℕ → Bool
 is_behind_sign word = nat_lt 0 (length word) && not (is_inside (slice_index word (length word - 1)))
 
--- a hyphen behind a sign is kept as an escape, since no line is broken behind that
+-- a hyphen after a sign is kept as an escape, since no line is broken after that
 abbrev pub keep_byte : ℕ → Bool → Page → Met
 keep_byte b quoted p = if (b == code "-") && is_behind_sign p.word then keep_escape b quoted p else keep b quoted p
 

@@ -109,7 +109,7 @@ heads_line p = p.call.first && not p.call.some && is_synopsis p
 abbrev pub after_name : Page → Page
 after_name p = with_place (record p.place { last = lasts.Name }) p
 
--- a synopsis sets the name apart from what it hangs behind
+-- a synopsis sets the name apart from what it hangs after
 abbrev pub own_name : Page → Met
 own_name p =
     if heads_line p then met (after_name p) (two (acts.Hanging (length p.name + 1)) acts.Own) else met p (left acts.Own)
@@ -251,7 +251,7 @@ release p =
 abbrev pub prefix : Page → Met
 prefix p = met (takes_no_more p) (two (acts.Word Roman) acts.Join)
 
--- a parenthesis stands behind a function's name, all of it
+-- a parenthesis stands after a function's name, all of it
 abbrev pub function_begins : Page → Met
 function_begins p =
     if p.lay.front then met (with_call (record p.call { opens = true }) p) (left (acts.Word Bold)) else

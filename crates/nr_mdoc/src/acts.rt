@@ -40,13 +40,13 @@ pub(crate) enum Text {
     Include,
     /// `The`, before the names of utilities.
     The,
-    /// What `.Ex` says behind them.
+    /// What `.Ex` says after them.
     Exits,
-    /// What `.Rv` says behind functions.
+    /// What `.Rv` says after functions.
     Returns,
     /// What it says without one.
     Succeeds,
-    /// What stands behind a function's name.
+    /// What stands after a function's name.
     Parentheses,
 }
 
@@ -97,7 +97,7 @@ pub(crate) enum Act {
     Nothing,
     /// A byte as it is.
     Byte(u8),
-    /// A hyphen behind which no line is broken.
+    /// A hyphen after which no line is broken.
     Hyphen,
     /// What was read of `.Dd`.
     Front(Front),
@@ -161,7 +161,7 @@ pub(crate) enum Act {
     Control,
     /// Tab stops begin.
     Columns,
-    /// A tab stop behind the ones before.
+    /// A tab stop after the ones before.
     Column(u16),
     /// A cell of a table ends.
     Cell,

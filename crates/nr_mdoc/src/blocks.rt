@@ -64,7 +64,7 @@ fn usual_width(kind: Kind) -> u16
     }
 }
 
-/// What tags take, with the gap behind them.
+/// What tags take, with the gap after them.
 fn tag_width(block: Block) -> u16
     ensures value { result ≡ specs.tag_width block }
     ensures few { result ≤ 902 }

@@ -34,7 +34,7 @@ fn line_guard(first: u8) -> &'static [u8]
     if is_control(first) { b"\n\\&" } else { b"\n" }
 }
 
-/// What stands before a word that begins with a hyphen: no line is broken behind that.
+/// What stands before a word that begins with a hyphen: no line is broken after that.
 fn before_hyphen(word: &[u8]) -> &'static [u8]
     ensures value { result.now ≡ specs.before_hyphen word.now }
     ensures few { length result.now ≤ 1 }
@@ -515,7 +515,7 @@ impl Page {
         out.extend(self.word.as_bytes());
     }
 
-    /// A tab stop behind the ones before.
+    /// A tab stop after the ones before.
     fn put_column(&self, width: u16, out: &mut SliceVec<'_, u8>)
         requires { length out.old.items + 16 ≤ out.old.room }
         ensures items { out.new.items ≡ out.old.items ++ specs.column_text width }

@@ -37,7 +37,7 @@ pub(crate) fn call_of(line: Macro) -> Call
     }
 }
 
-/// Whether a line of this kind stands right behind one of that kind in a synopsis.
+/// Whether a line of this kind stands right after one of that kind in a synopsis.
 fn stands_behind(last: Last, kind: Last) -> bool
     ensures { result ≡ specs.stands_behind last kind }
 {

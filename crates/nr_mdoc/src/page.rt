@@ -42,9 +42,9 @@ pub(crate) enum Scan {
     Start,
     /// In a comment.
     Comment,
-    /// In a text line, behind a letter or a digit or not.
+    /// In a text line, after a letter or a digit or not.
     Text(bool),
-    /// Behind the control character.
+    /// After the control character.
     Control,
     /// In the name of a macro.
     Name,
@@ -52,17 +52,17 @@ pub(crate) enum Scan {
     Between,
     /// In a word.
     Word,
-    /// In a word, behind a backslash.
+    /// In a word, after a backslash.
     Escape,
     /// In a word between quotes.
     Quoted,
-    /// In a word between quotes, behind a backslash.
+    /// In a word between quotes, after a backslash.
     QuotedEscape,
-    /// Behind a quote that may be the last of its word.
+    /// After a quote that may be the last of its word.
     Closing,
     /// A word is whole: between quotes or not.
     Given(bool),
-    /// A word is longer than what is kept of one: between quotes or not, behind a backslash or not.
+    /// A word is longer than what is kept of one: between quotes or not, after a backslash or not.
     Long(bool, bool),
     /// Its front went out.
     Goes(bool, bool),
@@ -126,7 +126,7 @@ pub(crate) enum Parameters {
     Outside,
     /// Before the first.
     First,
-    /// Behind one.
+    /// After one.
     Further,
 }
 
@@ -236,9 +236,9 @@ pub(crate) struct Call {
     pub first: bool,
     /// It took a word.
     pub some: bool,
-    /// A parameter came, and no mark behind it.
+    /// A parameter came, and no mark after it.
     pub listed: bool,
-    /// A parenthesis comes behind the word.
+    /// A parenthesis comes after the word.
     pub opens: bool,
     /// The front of the word went out.
     pub going: bool,

@@ -22,7 +22,7 @@ const MOST: usize = 73_984;
 pub enum Outcome {
     /// All was turned and went out.
     Done,
-    /// The input failed behind so many bytes.
+    /// The input failed after so many bytes.
     ReadFault {
         /// How many.
         at: u64,
@@ -156,7 +156,7 @@ fn run<R: Source, W: Sink>(
 /// and the buffer, of 73984 bytes at least, holds what goes out; what they held is of no account. Nothing is allocated.
 ///
 /// What goes out is one function of the bytes that came, however they came. At a read fault, and where the input is
-/// too long, it is that of the bytes before, but for a line that is half read; at a write fault a front of it.
+/// too long, it is that of the bytes before, but for a line that is half read; at a write fault a prefix of it.
 ///
 /// `steps` is set to the number of steps that this took: in each a byte meets what is half read. There are at most
 /// ninety-six for each byte that came, and as many more.

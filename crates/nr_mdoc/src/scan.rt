@@ -10,7 +10,7 @@ use super::page::{Dots, Front, Page, Scan};
 use super::seen::Seen;
 use nr_units::Name;
 
-/// So many bytes of a word are kept: an escape fits behind them.
+/// So many bytes of a word are kept: an escape fits after them.
 const MOST_KEPT: usize = 30;
 
 /// So many lines are looked at for `.Dd`.
@@ -23,7 +23,7 @@ pub(crate) fn ends_word(byte: u8) -> bool
     byte == b' ' || byte == b'\t' || byte == b'\n'
 }
 
-/// Behind which a hyphen may break a line, or is a part of an escape.
+/// After which a hyphen may break a line, or is a part of an escape.
 fn is_inside(byte: u8) -> bool
     ensures { result ≡ specs.is_inside byte }
 {
@@ -99,7 +99,7 @@ impl Page {
         Seen::taken(Act::Space)
     }
 
-    /// In a text line, behind a letter or a digit or not.
+    /// In a text line, after a letter or a digit or not.
     fn in_text(&mut self, inside: bool, byte: u8) -> Seen
         ensures { met self.new result ≡ specs.in_text inside byte self.old }
     {
@@ -111,7 +111,7 @@ impl Page {
         self.turns(Scan::Text(is_inside(byte)), Seen::taken(act))
     }
 
-    /// Behind the control character.
+    /// After the control character.
     fn behind_control(&mut self, byte: u8) -> Seen
         ensures { met self.new result ≡ specs.behind_control byte self.old }
     {
@@ -201,7 +201,7 @@ impl Page {
         Seen::taken(Act::Nothing)
     }
 
-    /// A byte of a word is kept: a hyphen behind a sign as an escape, since no line is broken behind that.
+    /// A byte of a word is kept: a hyphen after a sign as an escape, since no line is broken after that.
     fn keep_byte(&mut self, byte: u8, quoted: bool) -> Seen
         ensures { met self.new result ≡ specs.keep_byte byte quoted self.old }
     {
@@ -236,7 +236,7 @@ impl Page {
         }
     }
 
-    /// Behind a quote that may be the last of its word.
+    /// After a quote that may be the last of its word.
     fn closing(&mut self, byte: u8) -> Seen
         ensures { met self.new result ≡ specs.closing byte self.old }
     {
@@ -290,7 +290,7 @@ impl Page {
         self.turns(scan, Seen::taken(Act::Nothing))
     }
 
-    /// Behind a backslash in a word: a line that ends so goes on with the next.
+    /// After a backslash in a word: a line that ends so goes on with the next.
     fn in_escape(&mut self, byte: u8, quoted: bool) -> Seen
         ensures { met self.new result ≡ specs.in_escape byte quoted self.old }
     {
@@ -422,7 +422,7 @@ fn in_word_of(quoted: bool) -> Scan
     if quoted { Scan::Quoted } else { Scan::Word }
 }
 
-/// What comes behind a byte that passes, of which so many lines came before.
+/// What comes after a byte that passes, of which so many lines came before.
 pub(crate) fn passes_to(lines: u8, byte: u8) -> Scan
     ensures { result ≡ specs.passes_to lines byte }
 {

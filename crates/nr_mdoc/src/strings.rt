@@ -23,7 +23,7 @@ pub(crate) enum Pending {
     Open,
     /// And a byte.
     Pair(u8),
-    /// `[` behind the star.
+    /// `[` after the star.
     Bracket,
     /// And a byte.
     One(u8),
@@ -98,7 +98,7 @@ fn takes_strings(scan: Scan) -> bool
     }
 }
 
-/// Behind a star.
+/// After a star.
 fn behind_star(byte: u8) -> Next
     ensures { result ≡ strings.behind_star byte }
 {

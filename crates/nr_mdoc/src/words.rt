@@ -64,7 +64,7 @@ fn called_by(quoted: bool, word: &[u8]) -> Option<Macro>
     }
 }
 
-/// The width of a hanging line, behind a name of this width.
+/// The width of a hanging line, after a name of this width.
 fn hanging(width: u16) -> u16
     ensures value { result ≡ specs.hanging width }
     ensures few { result ≤ 900 }
@@ -387,7 +387,7 @@ impl Page {
         Seen::left(Act::Word(Font::Bold))
     }
 
-    /// A parameter came before, on this line and no mark behind it, or on another line.
+    /// A parameter came before, on this line and no mark after it, or on another line.
     fn is_listed(&self) -> bool
         ensures { result ≡ specs.is_listed self.now }
     {
@@ -479,7 +479,7 @@ impl Page {
         Seen::two(Act::Close(Text::Comma), Act::Word(Font::Italic))
     }
 
-    /// The name of a function, and a parenthesis, which stands behind all of the name.
+    /// The name of a function, and a parenthesis, which stands after all of the name.
     fn function_begins(&mut self) -> Seen
         ensures { met self.new result ≡ specs.function_begins self.old }
     {

@@ -4,7 +4,7 @@ use nr_command_line::fakes::System;
 use nr_command_line::{SystemWords, words_of};
 use std::alloc::{AllocError, Global};
 
-/// The words of a system behind its program's name.
+/// The words of a system after its program's name.
 fn words_in(words: &[&[u8]], alloc: Global) -> Result<Vec<String>, AllocError> {
     let system = System { words, texts: &[] };
     words_of(&SystemWords::new(&system, alloc), alloc)

@@ -33,7 +33,7 @@ fn taken<S: Source>(
     (used, Ok(()))
 }
 
-/// The same of files one after the other, and what the call behind that answers.
+/// The same of files one after the other, and what the call after that answers.
 fn taken_of(
     files: &mut [Script<'_>],
     windows: bool,

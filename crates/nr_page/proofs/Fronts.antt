@@ -28,7 +28,7 @@ pub Gathers-both : {a b c : Option (List ℕ)} {p q r xs ys : List ℕ} (s zs al
     → s ≡ r ++ zs → all ≡ (xs ++ ys) ++ zs → Gathers a c p s all
 Gathers-both s zs all g h left_is all_is = rw (left_is, all_is) (Gathers-push (Gathers-append g h) zs)
 
--- bytes were gathered, and of those that came then only a front went out
+-- bytes were gathered, and of those that came then only a prefix went out
 pub Gathers-front : (a b c : Option (List ℕ)) (p q xs ys rest all : List ℕ) → Gathers a b p q xs → AppendsFront b c (q ++ ys) → all ≡ (xs ++ ys) ++ rest
     → AppendsFront a c (p ++ all)
 Gathers-front a b c p q xs ys rest all g h all_is =
@@ -47,7 +47,7 @@ flat_map-take-add f cells i n =
     ap (flat_map f) (take-add i n cells) ∙ flat_map-append f (take i cells) (take n (drop i cells))
     ∙ rw (append-nil (flat_map f (take i cells)), n_is)
 
--- what it gives for the first elements is a front of what it gives for all
+-- what it gives for the first elements is a prefix of what it gives for all
 pub flat_map-take-front : {X : Type 0} (f : X → List ℕ) (cells : List X) (i : ℕ) → flat_map f cells ≡ (flat_map f (take i cells) ++ []) ++ flat_map f (drop i cells)
 flat_map-take-front f cells i = ap (flat_map f) (sym (take-append-drop i cells)) ∙ flat_map-append f (take i cells) (drop i cells) ∙ rw (append-nil (flat_map f (take i cells)))
 
@@ -59,7 +59,7 @@ replicate-front i n y h =
     let all : i + (n - i) ≡ n = omega arith in
     rw (append-nil (replicate i y)) (ap (λ m. replicate m y) (sym all) ∙ sym (replicate-append-replicate i (n - i) y))
 
--- what failed before bytes were all there took a front of what was to follow too
+-- what failed before bytes were all there took a prefix of what was to follow too
 pub front_of_more : (a b : Option (List ℕ)) (p xs ys : List ℕ) → AppendsFront a b (p ++ xs) → AppendsFront a b (p ++ (xs ++ ys))
 front_of_more a b p xs ys h = rw (← append_assoc p xs ys) (AppendsFront-append a b (p ++ xs) ys h)
 

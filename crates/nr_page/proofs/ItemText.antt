@@ -1,4 +1,4 @@
--- How the text of an item falls apart: its first number, and what stands behind it.
+-- How the text of an item falls apart: its first number, and what stands after it.
 use Rattle.std.proofs.Common.{◌≡◌, ◌⊎◌, ℕ, ◌≤◌, List, [], ◌∷◌, ◌++◌, refl, sym, ap, subst, ◌∙◌, inl, inr, append_assoc, append-nil, arith}
 use Rattle.std.specs.Char.{digit_value}
 use Rattle.nr_page.specs.declared.selection.PageRange.{PageRange}
@@ -14,7 +14,7 @@ number_at_front n (x ∷ front) after (y ∷ text) writes other is =
     let same : y ≡ x = cc in
     absurd (omega (arith, ap digit_value same, other, writes.digits.1.0))
 
--- what may stand behind an item begins with no digit
+-- what may stand after an item begins with no digit
 pub after_item_no_digit : (after : List ℕ) → BeginsAfterItem after → BeginsNoDigit after
 after_item_no_digit [] ends = tt
 after_item_no_digit (byte ∷ after) ends = omega (arith, ap digit_value ends)
@@ -34,7 +34,7 @@ up_to_item (From n) front after rest (first, front_is, writes) is =
     absurd (number_at_front n first (hyphen ∷ after) (hyphen ∷ rest) writes (omega arith)
     (is ∙ (ap (λ (xs : List ℕ). xs ++ after) front_is ∙ append_assoc first (hyphen ∷ []) after)))
 
--- how an item goes on behind its first number, n
+-- how an item goes on after its first number, n
 abbrev pub GoesOn : ℕ → PageRange → List ℕ → Type 0
 GoesOn n (One first) tail = (n ≡ first) × (tail ≡ [])
 GoesOn n (Between first m) tail = (last : List ℕ) × (n ≡ first) × (tail ≡ hyphen ∷ last) × WritesNumber m last × (n ≤ m)
@@ -61,7 +61,7 @@ first_number (UpTo n) front after (last, front_is, writes) other = absurd (other
 first_number (From n) front after (first, front_is, writes) other =
     record { number = n; digits = first; tail = hyphen ∷ []; writes = writes; front_is = front_is; goes_on = (refl, refl) }
 
--- what stands behind an item's first number begins with no digit
+-- what stands after an item's first number begins with no digit
 pub GoesOn-no_digit : (n : ℕ) (item : PageRange) (tail after : List ℕ) → GoesOn n item tail → BeginsAfterItem after → BeginsNoDigit (tail ++ after)
 GoesOn-no_digit n (One first) [] after goes_on ends = after_item_no_digit after ends
 GoesOn-no_digit n (One first) (x ∷ tail) after (_, tail_is) ends = cc
@@ -77,7 +77,7 @@ pub first_number_cut : (item : PageRange) (front after text : List ℕ) (first :
 first_number_cut item front after text first is =
     is ∙ (ap (λ (xs : List ℕ). xs ++ after) first.front_is ∙ append_assoc first.digits first.tail after)
 
--- an item goes on behind the number that a reader of numbers finds at its front
+-- an item goes on after the number that a reader of numbers finds at its front
 pub goes_on_behind : (item : PageRange) (front after text : List ℕ) (found : ℕ) (behind : List ℕ)
     → ((n : ℕ) (digits rest : List ℕ) → WritesNumber n digits → BeginsNoDigit rest → text ≡ digits ++ rest → (found ≡ n) × (behind ≡ rest))
     → ((rest : List ℕ) → text ≡ hyphen ∷ rest → ⊥)
@@ -90,7 +90,7 @@ goes_on_behind item front after text found behind read other spelled ends is =
     let same = read first.number first.digits (first.tail ++ after) first.writes ends_digits cut in
     (first.tail, subst (λ (n : ℕ). GoesOn n item first.tail) (sym same.0) first.goes_on, same.1)
 
--- with no hyphen behind its first number an item is `N`
+-- with no hyphen after its first number an item is `N`
 pub one_item : (n : ℕ) (item : PageRange) (tail after behind : List ℕ) → GoesOn n item tail → behind ≡ tail ++ after
     → ((rest : List ℕ) → behind ≡ hyphen ∷ rest → ⊥) → (One n ≡ item) × (behind ≡ after)
 one_item n (One first) tail after behind (same, tail_is) is other = (ap One same, is ∙ ap (λ (xs : List ℕ). xs ++ after) tail_is)

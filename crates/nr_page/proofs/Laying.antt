@@ -19,7 +19,7 @@ length-overlaid [] above = omega arith
 length-overlaid (cell ∷ below) [] = omega arith
 length-overlaid (cell ∷ below) (over ∷ above) = omega (arith, length-overlaid below above)
 
--- behind the cells that were laid, what was there before
+-- after the cells that were laid, what was there before
 overlaid-behind : (below above : List Cell) (i : ℕ) → i < length below → i < length above → cell_or_blank (overlaid below (take i above)) i ≡ cell_or_blank below i
 overlaid-behind [] above i low within = absurd (omega arith)
 overlaid-behind (cell ∷ below) [] i low within = absurd (omega arith)
@@ -54,7 +54,7 @@ overlaid-longer [] above long = refl
 overlaid-longer (cell ∷ below) [] long = absurd (omega arith)
 overlaid-longer (cell ∷ below) (over ∷ above) long = ap (λ cells. covered cell over ∷ cells) (overlaid-longer below above (omega arith))
 
--- the cells behind those of the text
+-- the cells after those of the text
 pub overlaid-rest : (below above : List Cell) (n : ℕ) → n ≡ min (length below) (length above) → overlaid below (take n above) ++ drop n above ≡ overlaid below above
 overlaid-rest below above n is = elim (cases_lt (length above) (length below)) [
   | inl short ↦
@@ -96,7 +96,7 @@ laid-blank p q id i cells cell first low within cell_is nothing =
     let hides : is_blank (cell_or_blank cells i) ≡ true = rw (← cell_is) (eq-eqb cell.byte 32 nothing) in
     first ∙ ap (with_text p id) (sym (overlaid-take_blank (text p id) cells i low within hides))
 
--- the cells behind those of the text were added
+-- the cells after those of the text were added
 pub laid-all : (p q r : Texts Cell) (id n : ℕ) (cells rest : List Cell) → IsOpen p id → q ≡ with_text p id (overlaid (text p id) (take n cells))
     → r ≡ with_text q id (text q id ++ rest) → n ≡ min (length (text p id)) (length cells) → rest ≡ drop n cells
     → r ≡ with_text p id (overlaid (text p id) cells)

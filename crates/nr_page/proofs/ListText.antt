@@ -1,10 +1,10 @@
--- How the text of a page list falls apart: its first item, and what stands behind it.
+-- How the text of a page list falls apart: its first item, and what stands after it.
 use Rattle.std.proofs.Common.{◌≡◌, ℕ, List, [], ◌∷◌, ◌++◌, refl, sym, subst, append-nil}
 use Rattle.nr_page.specs.declared.selection.PageRange.{PageRange}
 use Rattle.nr_page.specs.Selection.{SpellsItem, Spells, comma}
 use Rattle.nr_page.specs.SelectionReading.{BeginsAfterItem}
 
--- what stands behind an item: nothing, or a comma and the other items
+-- what stands after an item: nothing, or a comma and the other items
 abbrev pub Continues : List PageRange → List ℕ → Type 0
 Continues [] after = after ≡ []
 Continues (next ∷ others) after = (rest : List ℕ) × (after ≡ comma ∷ rest) × Spells (next ∷ others) rest
@@ -53,12 +53,12 @@ pub Spells-cons : (item : PageRange) (others : List PageRange) (front rest text 
 Spells-cons item [] front rest text spelled is rest_spelled = absurd rest_spelled
 Spells-cons item (next ∷ others) front rest text spelled is rest_spelled = (front, rest, is, spelled, rest_spelled)
 
--- behind an item at which the text ends there is none
+-- after an item at which the text ends there is none
 pub Continues-nil : (others : List PageRange) (after : List ℕ) → Continues others after → after ≡ [] → others ≡ []
 Continues-nil [] after continues is = refl
 Continues-nil (next ∷ others) after (rest, after_is, _) is = cc
 
--- behind a comma there are more
+-- after a comma there are more
 pub Continues-comma : (others : List PageRange) (after rest : List ℕ) → Continues others after → after ≡ comma ∷ rest → Spells others rest
 Continues-comma [] after rest continues is = cc
 Continues-comma (next ∷ others) after rest (more, after_is, spelled) is =

@@ -40,7 +40,7 @@ shown-past (line ∷ lines) most column past =
     let short : length line.cells ≤ column = omega arith in
     rw (past_cells line.cells column short) (shown-past lines (max most (length line.cells)) column past)
 
--- what lines of one row show, behind the longest of them
+-- what lines of one row show, after the longest of them
 cell_at-past : (lines : List Placed) (row column : ℕ) → column_count (on_row lines row) ≤ column → cell_at lines row column ≡ blank
 cell_at-past lines row column past = rw (shown-past (on_row lines row) 0 column past) refl
 
@@ -63,7 +63,7 @@ range_with_len-append a (suc n) m =
     let far : a + 1 + n ≡ a + suc n = omega arith in
     rw (suc-add n m) (ap (λ l. a ∷ l) (rest ∙ ap (λ b. range_with_len (a + 1) n ++ range_with_len b m) far))
 
--- columns behind the last that shows something
+-- columns after the last that shows something
 trimmed-columns : (f : ℕ → Cell) (n m : ℕ) → ((column : ℕ) → n ≤ column → f column ≡ blank) → trimmed (map f (range_with_len 0 (n + m))) ≡ trimmed (map f (range_with_len 0 n))
 trimmed-columns f n zero nothing = rw (add-zero n) refl
 trimmed-columns f n (suc m) nothing =
@@ -199,7 +199,7 @@ rows_bytes-next lines done number cells le none shown =
     ∙ rw (zero-add number, append-nil (row_bytes lines number), before, shown)
     (append_assoc (rows_bytes lines 0 done) (replicate (number - done) 10) (line_bytes cells))
 
--- the rows up to a place, and those behind it
+-- the rows up to a place, and those after it
 pub rows_bytes-front : (lines : List Placed) (n all : ℕ) → n ≤ all → rows_bytes lines 0 all ≡ rows_bytes lines 0 n ++ rows_bytes lines n (all - n)
 rows_bytes-front lines n all h =
     let sum : n + (all - n) ≡ all = omega arith in

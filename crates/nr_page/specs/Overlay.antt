@@ -1,4 +1,4 @@
--- Cells laid over others, and cells without the blanks behind them.
+-- Cells laid over others, and cells without the blanks after them.
 use Rattle.std.specs.Prelude.{◌≡◌, ℕ, ◌-◌, ◌<◌, ◌≤◌, List, [], ◌∷◌, slice_index_or, true, false, not, if◌then◌else◌}
 use Rattle.std.specs.List.{flat_map, range_with_len}
 use Rattle.nr_units.specs.declared.cell.Cell.{Cell}
@@ -15,7 +15,7 @@ overlaid [] above = above
 overlaid (cell ∷ below) [] = cell ∷ below
 overlaid (cell ∷ below) (over ∷ above) = covered cell over ∷ overlaid below above
 
--- the cell at a place, or a blank behind the last
+-- the cell at a place, or a blank after the last
 abbrev pub cell_or_blank : List Cell → ℕ → Cell
 cell_or_blank cells column = slice_index_or cells column blank
 

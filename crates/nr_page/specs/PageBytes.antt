@@ -23,7 +23,7 @@ row_count lines = fold (λ most line. max most (line.row + 1)) 0 lines
 abbrev pub row_cells : List Placed → ℕ → List Cell
 row_cells lines row = trimmed (map (cell_at lines row) (range_with_len 0 (column_count (on_row lines row))))
 
--- the bytes of a row, with the newline behind it
+-- the bytes of a row, with the newline after it
 abbrev pub row_bytes : List Placed → ℕ → List ℕ
 row_bytes lines row = flat_map cell_bytes (row_cells lines row) ++ code "\n" ∷ []
 

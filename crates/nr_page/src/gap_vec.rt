@@ -11,7 +11,7 @@ use std::marker::Model;
 #[derive(Drop)]
 pub(crate) struct GapVec<T: Copy> {
     slots: Vec<T>,
-    // The items before the gap stand at the front of the slots, and those behind it at their end.
+    // The items before the gap stand at the front of the slots, and those after it at their end.
     front: usize,
     gap: usize,
     room: usize,

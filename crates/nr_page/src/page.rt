@@ -147,8 +147,8 @@ impl Page {
     }
 
     /// Writes the page: as many rows as asked for, or down to the lowest line where that is more. Each row is without
-    /// trailing blanks and has a newline behind it, and an underlined letter or digit is `_`, a backspace and the byte.
-    /// `WriteFault` where the sink failed; a front of the bytes went out then.
+    /// trailing blanks and has a newline after it, and an underlined letter or digit is `_`, a backspace and the byte.
+    /// `WriteFault` where the sink failed; a prefix of the bytes went out then.
     pub fn write_page<W: Sink>(&self, rows: u32, output: &mut W) -> Result<(), WriteFault>
         ensures ok { OnOk result ((lines : List Placed) → Holds lines self.now → Appends (W.held output.old) (W.held output.new) (page_bytes rows lines)) }
         ensures err { OnErr result ((lines : List Placed) → Holds lines self.now → AppendsFront (W.held output.old) (W.held output.new) (page_bytes rows lines)) }

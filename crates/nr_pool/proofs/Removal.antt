@@ -13,7 +13,7 @@ use Rattle.nr_pool.proofs.Places.{same_map, same_part, same_slot, written_at, en
 use Rattle.nr_pool.proofs.Rotation.{IsMoved, moved_at, side_of, apart_moved}
 use Rattle.nr_pool.proofs.Spares.{spares_close, spares_same}
 
--- ---- a gap of n elements is closed behind the slot at i, which has none then
+-- ---- a gap of n elements is closed after the slot at i, which has none then
 
 module _ (capacity u : ℕ) (slots : List Slot) (i n e : ℕ) (new : Slot) (packed : IsPacked capacity slots u) (within : i < length slots) (n_is : n ≡ (slot_at slots i).len) (some : 0 < n)
     (e_is : e ≡ (slot_at slots i).start + n) (none : new.len ≡ 0) where
@@ -69,7 +69,7 @@ module _ (capacity u : ℕ) (slots : List Slot) (i n e : ℕ) (new : Slot) (pack
         ];
       }
 
--- what lies behind the gap moved to its front
+-- what lies after the gap moved to its front
 pub record IsClosed {T : Type 0} (E F : List T) (a n u : ℕ) : Type 0 where
   pub same_length : length F ≡ length E
   pub before : SameBelow E F a
@@ -125,7 +125,7 @@ module _ {T : Type 0} (E F : List T) (u : ℕ) (slots : List Slot) (i n e : ℕ)
 -- ---- the text is removed
 
 module _ {T : Type 0} (E : List T) (slots : List Slot) (u i next : ℕ) (packed : IsPacked (length E) slots u) (within : i < length slots) (held : 0 < (slot_at slots i).holders) where
-  -- where others lie behind it, which move
+  -- where others lie after it, which move
   pub gap_removed : (F : List T) (news : List Slot) → 0 < (slot_at slots i).len → IsClosed E F (slot_at slots i).start (slot_at slots i).len u
       → news ≡ map (shifted ((slot_at slots i).start + (slot_at slots i).len) (slot_at slots i).len) (set slots i (spare_before next)) → IsRemoved E F slots news u i next
   gap_removed F news some closing news_is =

@@ -11,7 +11,7 @@ use borrow.Rule.Slice.PartMut.{put_mid}
 use Rattle.nr_pool.specs.declared.slot.Slot.{Slot}
 use Rattle.nr_pool.proofs.Places.{same_map, same_part, same_slot, used_is, IsExtended, part_more}
 
--- what stands behind a list by default changes none of its elements
+-- what stands after a list by default changes none of its elements
 get_or_padded : {X : Type 0} (xs : List X) (k i : ℕ) (d : X) → get_or (xs ++ replicate k d) i d ≡ get_or xs i d
 get_or_padded [] zero i d = refl
 get_or_padded [] (suc k) zero d = refl
@@ -59,7 +59,7 @@ module _ {T : Type 0} (c m : ℕ) (p q : Texts T) (view : with_room c m q ≡ p)
       lifted r id (record { elements = text q id; holders = f (holders q id) }) within is
       ∙ ap (λ (t : Held _). with_entry p id (record { elements = t.elements; holders = f t.holders })) (sym (same_entry id))
 
--- ---- elements behind those of all texts
+-- ---- elements after those of all texts
 
 pub packed_within : (c d n : ℕ) (slots : List Slot) → c ≤ d → d < 2 ^ 32 → IsPacked c slots n → IsPacked d slots n
 packed_within c d n slots more fits packed = record {

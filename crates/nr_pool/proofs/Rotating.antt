@@ -1,8 +1,8 @@
--- The first elements of a list go behind the others one by one.
+-- The first elements of a list go after the others one by one.
 use Rattle.std.proofs.Common.{◌≡◌, ℕ, zero, suc, ◌<◌, List, [], ◌∷◌, ◌++◌, length, take, drop, refl, ap, sym, ◌∙◌, arith}
 use Rattle.std.proofs.lemmas.List.{append_assoc}
 
--- the element behind the first i
+-- the element after the first i
 record NextIs {A : Type 0} (i : ℕ) (xs : List A) : Type 0 where
   next : A
   behind : drop i xs ≡ next ∷ drop (suc i) xs

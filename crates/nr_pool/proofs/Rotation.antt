@@ -1,4 +1,4 @@
--- What it does to the slots and the elements to move one text behind all others.
+-- What it does to the slots and the elements to move one text after all others.
 use Rattle.std.proofs.Common.{◌≡◌, ◌≢◌, ℕ, ◌+◌, ◌-◌, ◌<◌, ◌≤◌, ◌⊎◌, min, ltb, leb, true, false, List, ◌++◌, length, map, take, drop, set, get_or, sum, refl, sym, ap, ap₂, ◌∙◌, inl, inr, arith, rules}
 use Rattle.std.proofs.lemmas.List.{get_or-map, get_or_past, length-map, length-set, places, get_or_default, take_all, drop_all, append-nil}
 use Rattle.std.proofs.lemmas.List.Edits.{map_over_more}
@@ -12,7 +12,7 @@ use Rattle.nr_pool.specs.declared.slot.Slot.{Slot}
 use Rattle.nr_pool.proofs.Places.{same_map, same_part, same_slot, written_at}
 use Rattle.nr_pool.proofs.Spares.{spares_same}
 
--- t is s, n further down if it has elements and began at e or behind
+-- t is s, n further down if it has elements and began at e or after
 pub record IsMoved (e n : ℕ) (s t : Slot) : Type 0 where
   pub len : t.len ≡ s.len
   pub holders : t.holders ≡ s.holders
@@ -61,7 +61,7 @@ rotated_at u slots i new n e within last j = elim (written_at (map (shifted e n)
   | inr h ↦ inr (h.0, rw h.1 (moved_at e n slots j))
 ]
 
--- a text that stays in its part lies before the one that doesn't, or behind it and then goes n down
+-- a text that stays in its part lies before the one that doesn't, or after it and then goes n down
 pub record IsBefore (e n u : ℕ) (moving s t : Slot) : Type 0 where
   pub len : t.len ≡ s.len
   pub start : t.start ≡ s.start

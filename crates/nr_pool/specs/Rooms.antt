@@ -9,7 +9,7 @@ use Rattle.nr_pool.specs.Spares.{HasSpares}
 abbrev pub with_room : {T : Type 0} → ℕ → ℕ → Texts T → Texts T
 with_room capacity most p = record { capacity = capacity; texts = p.texts ++ replicate (most - length p.texts) no_text }
 
--- the texts that all slots stand for; a number behind them has none
+-- the texts that all slots stand for; a number after them has none
 abbrev pub texts_within : {T : Type 0} → ℕ → ℕ → List T → List Slot → Texts T
 texts_within capacity most elements slots = with_room capacity most (texts_of elements slots)
 

@@ -19,11 +19,11 @@ held_of elements s = record { elements = take s.len (drop s.start elements); hol
 abbrev pub texts_of : {T : Type 0} → List T → List Slot → Texts T
 texts_of elements slots = record { capacity = length elements; texts = map (held_of elements) slots }
 
--- the text of a slot has elements, and begins at an end or behind it
+-- the text of a slot has elements, and begins at an end or after it
 abbrev pub is_behind : ℕ → Slot → Bool
 is_behind end s = nat_lt 0 s.len && nat_le end s.start
 
--- a slot, n further down if its text has elements and begins at an end or behind it
+-- a slot, n further down if its text has elements and begins at an end or after it
 abbrev pub shifted : ℕ → ℕ → Slot → Slot
 shifted end n s = if is_behind end s then record s { start = s.start - n } else s
 

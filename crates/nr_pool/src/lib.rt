@@ -41,16 +41,16 @@ impl Model for Id {
 /// happens to other texts; the `Id` of a removed text may be given again. Beside each text stands how many hold it, which
 /// only `open`, `hold`, `release` and `close` change.
 ///
-/// A call that makes a text longer or shorter first brings its elements behind those of all other texts: in constant time
+/// A call that makes a text longer or shorter first brings its elements after those of all other texts: in constant time
 /// where they lie there or there are none; else in one pass over the slots that have had a text since all were removed, and
 /// as many steps as it has elements where the text that lies last is as long, for then the two change places; else in such
 /// a pass and one rotation of the elements from the text on. A call that removes a text takes constant time where it lies
-/// last or has no elements; else such passes, and as many steps as it has elements where more than 64 lie behind it and
-/// the text that lies last is as long; else one move of the elements behind it. Beside that each takes constant time, and
+/// last or has no elements; else such passes, and as many steps as it has elements where more than 64 lie after it and
+/// the text that lies last is as long; else one move of the elements after it. Beside that each takes constant time, and
 /// that of a copy of the elements that it is given.
 #[derive(Drop)]
 pub struct Pool<T: Copy> {
-    // The elements of the texts lie at the front. What lies behind them is of no account.
+    // The elements of the texts lie at the front. What lies after them is of no account.
     elements: Vec<T>,
     capacity: usize,
     // The slots that have had a text since all were removed.

@@ -10,7 +10,7 @@ const FEW: usize = 8;
 
 const SHORT: usize = 64;
 
-/// How many elements behind a text that is removed move to the front in any case.
+/// How many elements after a text that is removed move to the front in any case.
 const MUCH: u32 = 64;
 
 /// What a `Pool` keeps for one text: 12 bytes.
@@ -48,7 +48,7 @@ impl Slot {
         }
     }
 
-    // Whether the text has elements and begins at `end` or behind it.
+    // Whether the text has elements and begins at `end` or after it.
     fn is_behind(&self, end: u32) -> bool
         ensures { result ≡ is_behind end self.now }
     {
@@ -56,7 +56,7 @@ impl Slot {
     }
 }
 
-// How many spare slots there are, and the first of them: where there was none, a new one behind all others, if there may be
+// How many spare slots there are, and the first of them: where there was none, a new one after all others, if there may be
 // so many.
 pub(crate) fn spare_of(
     slots: &mut Vec<Slot>,
@@ -111,7 +111,7 @@ fn swap_parts<T: Copy>(elements: &mut [T], first: usize, second: usize, len: usi
     }
 }
 
-// Exchanges the places of the text at `index` and of the text at `last`, which lies behind all others and is as long.
+// Exchanges the places of the text at `index` and of the text at `last`, which lies after all others and is as long.
 fn exchange<T: Copy>(elements: &mut [T], slots: &mut [Slot], used: u32, index: usize, last: usize)
     requires packed { IsPacked (length elements.old) slots.old used }
     requires within { index < length slots.old }
@@ -126,7 +126,7 @@ fn exchange<T: Copy>(elements: &mut [T], slots: &mut [Slot], used: u32, index: u
     slots[last].start = start;
 }
 
-// Moves the first n elements behind the others. Where they are few they go one by one: the room in which `rotate_left` has them wait
+// Moves the first n elements after the others. Where they are few they go one by one: the room in which `rotate_left` has them wait
 // is large, and cleared each time.
 #[inline]
 fn rotate<T: Copy>(part: &mut [T], n: usize)
@@ -142,7 +142,7 @@ fn rotate<T: Copy>(part: &mut [T], n: usize)
     }
 }
 
-// The texts with elements that begin at `end` or behind it begin n further down.
+// The texts with elements that begin at `end` or after it begin n further down.
 #[inline(always)]
 fn shift_behind(slots: &mut [Slot], end: u32, n: u32)
     requires { n ≤ end }
@@ -156,7 +156,7 @@ fn shift_behind(slots: &mut [Slot], end: u32, n: u32)
     }
 }
 
-// Moves the text at `index` behind all others: the elements from it on are rotated, and the texts behind it begin earlier.
+// Moves the text at `index` after all others: the elements from it on are rotated, and the texts after it begin earlier.
 fn rotate_last<T: Copy>(elements: &mut [T], slots: &mut [Slot], used: u32, index: usize)
     requires packed { IsPacked (length elements.old) slots.old used }
     requires within { index < length slots.old }
@@ -180,7 +180,7 @@ fn rotate_last<T: Copy>(elements: &mut [T], slots: &mut [Slot], used: u32, index
     slots[index].start = used - len;
 }
 
-// Moves the text at `index` behind all others, into the elements that end at `used`. Where the text that lies last is
+// Moves the text at `index` after all others, into the elements that end at `used`. Where the text that lies last is
 // as long, the two change places.
 #[inline(never)]
 fn move_last<T: Copy>(elements: &mut [T], slots: &mut [Slot], used: u32, index: usize)
@@ -233,8 +233,8 @@ pub(crate) fn bring_last<T: Copy>(
     move_last(elements.as_mut_slice(), slots.as_mut_slice(), used, index);
 }
 
-// Removes the text at `index`, behind which others lie; its slot is the first spare one then, before `next`. What lies
-// behind it moves to the front. Where that is much and the text that lies last is as long, the two change places first,
+// Removes the text at `index`, after which others lie; its slot is the first spare one then, before `next`. What lies
+// after it moves to the front. Where that is much and the text that lies last is as long, the two change places first,
 // so that nothing else moves.
 #[inline(never)]
 fn remove_before_others<T: Copy>(
@@ -264,7 +264,7 @@ fn remove_before_others<T: Copy>(
     shift_behind(slots, end, len);
 }
 
-// The same in vectors, at once where no others lie behind it or it has no elements. It gives how many it had.
+// The same in vectors, at once where no others lie after it or it has no elements. It gives how many it had.
 #[inline(always)]
 pub(crate) fn remove_text<T: Copy>(
     elements: &mut Vec<T>,

@@ -80,7 +80,7 @@ other_on (b ∷ bs) r p =
     ∙ ap (λ (d : Dots). (fed (at (lines.Ignored d) r) (bs ++ 10 ∷ [])).reader) (stays_other (b == 46))
     ∙ other_on bs r (and-second (not (b == 10)) (is_in_line bs) p)
 
--- behind the first byte
+-- after the first byte
 first_is : Bool → Dots
 first_is x = if x then dots.One else dots.Other
 

@@ -49,12 +49,12 @@ ends_with b h = ended_kept (keeping b h)
 abbrev pub dropped : Half → Met
 dropped h = ended (if is_beginning h.line then says.Escape 38 else says.Nothing) h
 
--- ---- behind the backslash
+-- ---- after the backslash
 
 abbrev pub comment : Said → Half → Met
 comment said h = taken said (record (without_escape h) { before = Other; line = lines.Comment })
 
--- where nothing has begun behind a condition, a newline behind a backslash is dropped
+-- where nothing has begun after a condition, a newline after a backslash is dropped
 abbrev pub hidden_by : Line → Said → Said
 hidden_by lines.Part said = says.Nothing
 hidden_by lines.Condition said = says.Nothing
@@ -63,7 +63,7 @@ hidden_by line said = said
 abbrev pub newline_hidden : Half → Met
 newline_hidden h = taken (hidden_by h.line (says.Kept (with_byte 10 h.kept))) (without_escape h)
 
--- behind a condition a part begins
+-- after a condition a part begins
 abbrev pub brace : Half → Met
 brace h =
     let m = ends_with 123 h in
@@ -104,7 +104,7 @@ is_skipped b = (b == code "H") || (b == code "R") || (b == code "S") || (b == co
 abbrev pub embed : Half → Met
 embed h = taken says.Nothing (record h { kept = []; escape = escapes.Embedded false })
 
--- by the byte behind the backslash
+-- by the byte after the backslash
 abbrev pub letter : ℕ → Half → Met
 letter b h =
     if b == 40 then going_on b (escapes.Pair kinds.Glyph) h else

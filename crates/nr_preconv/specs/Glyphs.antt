@@ -12,7 +12,7 @@ is_pair a b (x ∷ []) = false
 is_pair a b (x ∷ y ∷ []) = (x == a) && (y == b)
 is_pair a b (x ∷ y ∷ z ∷ rest) = false
 
--- what a table has behind a name of two bytes
+-- what a table has after a name of two bytes
 abbrev pub looked_up : {T : Type 0} → List (ℕ × ℕ × T) → ℕ → ℕ → Option T
 looked_up [] a b = None
 looked_up (entry ∷ entries) a b = if (entry.0 == a) && (entry.1 == b) then Some entry.2 else looked_up entries a b
@@ -29,7 +29,7 @@ code_of digits = below_codes (number_from 10 0 digits)
 unfoldable pub pair_code : ℕ → ℕ → Option ℕ
 pair_code a b = looked_up PAIRS a b
 
--- what a table has behind a longer name
+-- what a table has after a longer name
 abbrev pub named_in : List (List ℕ × ℕ) → List ℕ → Option ℕ
 named_in [] name = None
 named_in (entry ∷ entries) name = if bytes_eq (before_nul entry.0) name then Some entry.1 else named_in entries name

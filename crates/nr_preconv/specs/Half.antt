@@ -56,7 +56,7 @@ is_space code = (code == 32) || (code == 160) || is_blank code
 abbrev pub character_said : Line → ℕ → Said
 character_said line code = if is_space code && not (is_text line) then says.Escape 48 else says.Character code
 
--- behind a condition, where `\{` begins a part
+-- after a condition, where `\{` begins a part
 abbrev pub takes_brace : Line → Bool
 takes_brace lines.Part = true
 takes_brace lines.Braced = true

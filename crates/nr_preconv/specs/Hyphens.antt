@@ -1,4 +1,4 @@
--- Hyphens of a manual page: a line may be broken behind one only where it stands between two letters (groff(7), `.cflags`).
+-- Hyphens of a manual page: a line may be broken after one only where it stands between two letters (groff(7), `.cflags`).
 -- A text line may hang to the left of its paragraph.
 use Prim.Native.Char.{code}
 use Rattle.std.specs.Prelude.{ℕ, List, [], ◌∷◌, Bool, true, false, not, ◌==◌, ◌&&◌, ◌||◌, nat_le, if◌then◌else◌}
@@ -36,17 +36,17 @@ placed letter h = if h.manual then record h { before = followed letter h.before 
 abbrev pub gone_by : ℕ → Half → Half
 gone_by b h = if b == code "\n" then record h { before = Other } else placed (is_ascii_letter b) h
 
--- Behind an escape with a number or a text hyphens may stand in its argument: up to the end of the line they stay as they are.
+-- After an escape with a number or a text hyphens may stand in its argument: up to the end of the line they stay as they are.
 abbrev pub leaving_hyphens : Half → Half
 leaving_hyphens h = if h.manual then record h { before = Argument } else h
 
 -- ---- hyphens
 
--- they are read behind a title, and in no table
+-- they are read after a title, and in no table
 abbrev pub turns_hyphens : Half → Bool
 turns_hyphens h = h.manual && not h.table
 
--- behind a letter what comes decides; else it goes out as `\-`, behind which no line is broken
+-- after a letter what comes decides; else it goes out as `\-`, after which no line is broken
 abbrev pub hyphen_by : Before → Half → Met
 hyphen_by Letter h = taken says.Nothing (record h { before = Other; escape = escapes.Hyphen; kept = code "-" ∷ [] })
 hyphen_by Other h = taken (says.Escape (code "-")) h
@@ -83,7 +83,7 @@ is_hang (sign ∷ digit ∷ []) = (sign == code "-") && is_digit digit
 is_hang (sign ∷ tens ∷ ones ∷ []) = (sign == code "-") && is_digit tens && is_digit ones
 is_hang (sign ∷ tens ∷ ones ∷ more ∷ rest) = false
 
--- only a line that begins in no condition, or behind its `\{`, may become two
+-- only a line that begins in no condition, or after its `\{`, may become two
 abbrev pub begins_line : Line → Bool
 begins_line lines.Start = true
 begins_line lines.Braced = true

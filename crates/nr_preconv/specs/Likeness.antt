@@ -28,7 +28,7 @@ no_blank (Some letter) = if letter == 32 then None else Some letter
 abbrev pub letter_in : List ℕ → ℕ → ℕ → Option ℕ
 letter_in row first code = if nat_lt code first then None else no_blank (slice_get row (code - first))
 
--- the text behind a code in a table
+-- the text after a code in a table
 abbrev pub text_in : List (ℕ × List ℕ) → ℕ → Option (List ℕ)
 text_in [] code = None
 text_in (entry ∷ entries) code = if entry.0 == code then Some entry.1 else text_in entries code

@@ -37,7 +37,7 @@ at_start b h =
     if is_control b then control false b h else
     if b == 10 then saying b lines.Start h else in_text b h
 
--- behind a condition, where blanks are skipped
+-- after a condition, where blanks are skipped
 abbrev pub at_part : ℕ → Half → Met
 at_part b h =
     if is_control b then control true b h else
@@ -52,7 +52,7 @@ naming name line h = taken Nothing (record h { name = name; line = line })
 abbrev pub blanks_said : Line → Half → Met
 blanks_said line h = left (Kept h.name) (record h { name = []; line = line })
 
--- Blanks behind the control character are kept. In a definition they are dropped before a second one, which ends it.
+-- Blanks after the control character are kept. In a definition they are dropped before a second one, which ends it.
 abbrev pub behind_control : ℕ → Half → Met
 behind_control b h =
     if (b == 46) && h.defining then naming (46 ∷ []) lines.Name h else
@@ -60,7 +60,7 @@ behind_control b h =
     if not (length h.name == 0) then blanks_said lines.Control h else
     if ends_name b then blanks_said lines.Request h else naming (b ∷ []) lines.Name h
 
--- Lines are ignored up to one that begins with two dots. Behind a condition that isn't known, nor where a name ends them.
+-- Lines are ignored up to one that begins with two dots. After a condition that isn't known, nor where a name ends them.
 abbrev pub line_of : Opens → Bool → Line
 line_of opens.Rest ignores = lines.Request
 line_of opens.Definition ignores = lines.Request

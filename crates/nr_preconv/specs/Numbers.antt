@@ -25,7 +25,7 @@ digit base b =
     if is_within 65 70 b then digit_below base (b - 65 + 10) else
     if is_within 97 102 b then digit_below base (b - 97 + 10) else None
 
--- The number that digits go on with, up to a `_`, behind which marks stand, or the end. One more digit is too many where
+-- The number that digits go on with, up to a `_`, after which marks stand, or the end. One more digit is too many where
 -- the number is no character's code.
 abbrev pub number_from : ℕ → ℕ → List ℕ → Option ℕ
 number_from base n [] = Some n

@@ -30,7 +30,7 @@ abbrev pub FrontAtErr : {T E : Type 0} → Result T E → Option (List ℕ) → 
 FrontAtErr (Ok x) old new bytes = Unit {0}
 FrontAtErr (Err e) old new bytes = AppendsFront old new bytes
 
--- a front of what is pending went out, and the rest is left
+-- a prefix of what is pending went out, and the rest is left
 pub record Flushes (held new : Option (List ℕ)) (pending left : List ℕ) : Type 0 where
   pub out : List ℕ
   pub went_out : Appends held new out
@@ -99,7 +99,7 @@ pub record IsCut (eight_bit : Bool) (first last : Option Supply) (held new : Opt
   pub made : steps ≡ (fed (first_reader eight_bit) bytes).steps
   pub quick : steps ≤ 6 * length bytes
 
--- some bytes came, and a front of what they come to went out; that took so many steps
+-- some bytes came, and a prefix of what they come to went out; that took so many steps
 pub record IsBroken (eight_bit : Bool) (first last : Option Supply) (held new : Option (List ℕ)) (steps : ℕ) : Type 0 where
   pub bytes : List ℕ
   pub came : Comes first bytes last

@@ -16,12 +16,12 @@ begins_with_dots [] = false
 begins_with_dots (a ∷ []) = false
 begins_with_dots (a ∷ b ∷ bs) = (a == code ".") && (b == code ".")
 
--- behind a comment stands what would stand there if it were empty
+-- after a comment stands what would stand there if it were empty
 abbrev pub CommentsAreUnread : Type 0
 CommentsAreUnread = (r : Reader) (text : List ℕ) → r.half.line ≡ lines.Comment → is_in_line text ≡ true
     → (fed r (text ++ code "\n" ∷ [])).reader ≡ (fed r (code "\n" ∷ [])).reader
 
--- behind an ignored line that does not begin with two dots stands what stood before it
+-- after an ignored line that does not begin with two dots stands what stood before it
 abbrev pub IgnoredLinesAreUnread : Type 0
 IgnoredLinesAreUnread = (r : Reader) (text : List ℕ) → r.half.line ≡ lines.Ignored dots.Start → is_in_line text ≡ true → begins_with_dots text ≡ false
     → (fed r (text ++ code "\n" ∷ [])).reader ≡ r

@@ -1,5 +1,5 @@
--- The words of a font macro's line. No more than nine are taken, so the ninth and all behind it are one word in quotes;
--- where two fonts take turns, the words behind the ninth follow one another with their fonts.
+-- The words of a font macro's line. No more than nine are taken, so the ninth and all after it are one word in quotes;
+-- where two fonts take turns, the words after the ninth follow one another with their fonts.
 use Rattle.std.specs.Prelude.{ℕ, ◌+◌, Bool, true, false, not, ◌==◌, nat_le, if◌then◌else◌}
 use Rattle.nr_preconv.specs.declared.said.Said.{Said}
 use Rattle.nr_preconv.specs.declared.said.Said.TheVariants.{Nothing, Byte, Quotes, Font}
@@ -54,7 +54,7 @@ abbrev pub turned : Fonts → Bool → Said
 turned One second = Nothing
 turned (Turn a b) second = Font (if second then a else b)
 
--- behind the ninth word the font changes
+-- after the ninth word the font changes
 abbrev pub font_said : Words → Said
 font_said w = turned w.fonts w.second
 
@@ -81,7 +81,7 @@ blank_said said w = blank_by w.fonts (is_ninth w) said
 abbrev pub quoted_said : Said → Said → Words → Said
 quoted_said said ninth w = if is_ninth w then ninth else said
 
--- what stands right behind a last quote is a word of its own
+-- what stands right after a last quote is a word of its own
 abbrev pub met_closing : Class → Said → Words → Told
 met_closing Quote said w = told Quoted (quoted_said said Quotes w) true w
 met_closing Space said w = told Between (blank_said said w) true w

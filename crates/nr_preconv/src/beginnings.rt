@@ -26,7 +26,7 @@ pub(crate) enum Opens {
     Translation,
     /// The text of a string.
     Stored,
-    /// A line of its own behind the name.
+    /// A line of its own after the name.
     Nop,
     /// The title of a manual page.
     Title,

@@ -62,7 +62,7 @@ impl Half {
         self.spelled = Name::new();
     }
 
-    /// The escape goes on behind a byte.
+    /// The escape goes on after a byte.
     fn goes_on(&mut self, byte: u8, escape: Escape) -> Seen
         ensures { met self.new result ≡ specs.going_on byte escape self.old }
     {
@@ -130,7 +130,7 @@ impl Half {
         Seen::taken(said)
     }
 
-    /// A newline behind a backslash. Where nothing of a line has begun behind a condition, it is dropped.
+    /// A newline after a backslash. Where nothing of a line has begun after a condition, it is dropped.
     fn newline_hidden(&mut self) -> Seen
         ensures { met self.new result ≡ specs.newline_hidden self.old }
     {
@@ -182,7 +182,7 @@ impl Half {
         Seen::taken(Said::Nothing)
     }
 
-    /// A byte behind a backslash.
+    /// A byte after a backslash.
     fn letter(&mut self, byte: u8) -> Seen
         ensures { met self.new result ≡ specs.letter byte self.old }
     {
@@ -221,7 +221,7 @@ impl Half {
         self.ends_with(byte)
     }
 
-    /// A text line may hang behind a title, and in no table, where the line before has ended.
+    /// A text line may hang after a title, and in no table, where the line before has ended.
     fn may_hang(&self) -> bool
         ensures { result ≡ may_hang self.now }
     {
@@ -271,7 +271,7 @@ impl Half {
         }
     }
 
-    /// A byte behind one backslash or more.
+    /// A byte after one backslash or more.
     fn behind_backslash(&mut self, byte: u8) -> Seen
         ensures { met self.new result ≡ specs.behind_backslash byte self.old }
     {
@@ -299,7 +299,7 @@ impl Half {
         }
     }
 
-    /// A byte behind `\$`.
+    /// A byte after `\$`.
     fn argument(&mut self, byte: u8) -> Seen
         ensures { met self.new result ≡ specs.argument byte self.old }
     {
@@ -420,7 +420,7 @@ impl Half {
         }
     }
 
-    /// A byte behind the letter of an escape with a name.
+    /// A byte after the letter of an escape with a name.
     fn target(&mut self, kind: Kind, byte: u8) -> Seen
         ensures { met self.new result ≡ specs.target kind byte self.old }
     {

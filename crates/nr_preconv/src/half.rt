@@ -13,7 +13,7 @@ use nr_units::Name;
 pub(crate) enum Line {
     /// At its beginning.
     Start,
-    /// Behind its control character and blanks, which are kept as the name.
+    /// After its control character and blanks, which are kept as the name.
     Control,
     /// In its name.
     Name,
@@ -35,9 +35,9 @@ pub(crate) enum Line {
     Strings(u8, bool),
     /// In the name that a condition asks for.
     Asked(Asked),
-    /// Behind a condition.
+    /// After a condition.
     Part,
-    /// Behind a condition and `\\{`.
+    /// After a condition and `\\{`.
     Braced,
     /// In a comment.
     Comment,
@@ -76,7 +76,7 @@ pub(crate) enum Before {
     Letter,
     /// No letter.
     Other,
-    /// Anything, behind an escape with a number or a text: up to the end of the line hyphens stay as they are.
+    /// Anything, after an escape with a number or a text: up to the end of the line hyphens stay as they are.
     Argument,
 }
 
@@ -95,7 +95,7 @@ pub(crate) enum Escape {
     Pair(Kind),
     /// `[` and a part of a name.
     Bracket(Kind),
-    /// The same behind another `[`.
+    /// The same after another `[`.
     Nested(Kind),
     /// The letter of an escape with a delimited name.
     Delimiter(Kind),
@@ -105,11 +105,11 @@ pub(crate) enum Escape {
     Skip,
     /// `\\Z` and its delimiter.
     Skipped(u8),
-    /// `\\?`, and whether a backslash came behind it.
+    /// `\\?`, and whether a backslash came after it.
     Embedded(bool),
     /// `\\#` in a text line.
     Note,
-    /// No escape, but a hyphen behind a letter.
+    /// No escape, but a hyphen after a letter.
     Hyphen,
 }
 
@@ -232,7 +232,7 @@ impl Line {
         }
     }
 
-    /// Behind a condition, where `\\{` begins a part.
+    /// After a condition, where `\\{` begins a part.
     pub(crate) fn takes_brace(self) -> bool
         ensures { result ≡ takes_brace self }
     {

@@ -1,4 +1,4 @@
-//! Hyphens of a manual page: a line may be broken behind one only where it stands between two letters.
+//! Hyphens of a manual page: a line may be broken after one only where it stands between two letters.
 ghost use Rattle.std.specs.Prelude.{◌≡◌};
 ghost use Rattle.nr_preconv.specs.Half.{met};
 ghost use Rattle.nr_preconv.specs.Hyphens as specs;
@@ -40,7 +40,7 @@ pub(crate) fn is_hang(number: &[u8]) -> bool
 }
 
 impl Before {
-    /// What stands there behind one more character, a letter or not.
+    /// What stands there after one more character, a letter or not.
     fn followed(self, letter: bool) -> Before
         ensures { result ≡ specs.followed letter self }
     {
@@ -82,7 +82,7 @@ impl Half {
         }
     }
 
-    /// Whether hyphens are read: behind a title, and in no table.
+    /// Whether hyphens are read: after a title, and in no table.
     pub(crate) fn turns_hyphens(&self) -> bool
         ensures { result ≡ specs.turns_hyphens self.now }
     {
@@ -106,7 +106,7 @@ impl Half {
         }
     }
 
-    /// A byte behind a letter and a hyphen. Behind an escape, which may be that of a font, it stays as well.
+    /// A byte after a letter and a hyphen. After an escape, which may be that of a font, it stays as well.
     pub(crate) fn behind_hyphen(&mut self, byte: u8) -> Seen
         ensures { met self.new result ≡ specs.behind_hyphen byte self.old }
     {

@@ -37,7 +37,7 @@ fn text_in<const N: usize>(table: &[(u32, [u8; N])], code: u32) -> Option<[u8; N
     None
 }
 
-/// Puts the bytes before the first NUL behind what goes out.
+/// Puts the bytes before the first NUL after what goes out.
 fn put_text(text: &[u8], out: &mut SliceVec<'_, u8>)
     requires { length out.old.items + length text.now ≤ out.old.room }
     ensures items { out.new.items ≡ out.old.items ++ before_nul text.now }
@@ -64,7 +64,7 @@ fn hex_digit(value: u32) -> u8
     }
 }
 
-/// Puts `<U+XXXX>`, at most ten bytes, behind what goes out.
+/// Puts `<U+XXXX>`, at most ten bytes, after what goes out.
 fn put_code(code: u32, out: &mut SliceVec<'_, u8>)
     requires { length out.old.items + 10 ≤ out.old.room }
     ensures items { out.new.items ≡ out.old.items ++ code_told code }
@@ -227,7 +227,7 @@ pub(crate) fn put_struck(code: u32, eight_bit: bool, out: &mut SliceVec<'_, u8>)
     put_likeness(code, eight_bit, out);
 }
 
-/// Puts what a character looks like behind what goes out: at most 24 bytes.
+/// Puts what a character looks like after what goes out: at most 24 bytes.
 pub(crate) fn put_likeness(code: u32, eight_bit: bool, out: &mut SliceVec<'_, u8>)
     requires { length out.old.items + 24 ≤ out.old.room }
     ensures items { out.new.items ≡ out.old.items ++ likeness eight_bit code }

@@ -18,7 +18,7 @@ fn ends_name(byte: u8) -> bool
 }
 
 impl Half {
-    /// A control character begins a control line, behind a condition or not.
+    /// A control character begins a control line, after a condition or not.
     fn control(&mut self, conditional: bool, byte: u8) -> Seen
         ensures { met self.new result ≡ specs.control conditional byte self.old }
     {
@@ -38,7 +38,7 @@ impl Half {
         }
     }
 
-    /// A byte behind a condition.
+    /// A byte after a condition.
     fn at_part(&mut self, byte: u8) -> Seen
         ensures { met self.new result ≡ specs.at_part byte self.old }
     {
@@ -72,7 +72,7 @@ impl Half {
         Seen::left(Said::Kept(blanks))
     }
 
-    /// A byte behind a control character and blanks. In a definition these are dropped before another
+    /// A byte after a control character and blanks. In a definition these are dropped before another
     /// control character, which ends it.
     fn behind_control(&mut self, byte: u8) -> Seen
         ensures { met self.new result ≡ specs.behind_control byte self.old }
@@ -94,7 +94,7 @@ impl Half {
         self.names(Name::of(&[byte]), Line::Name)
     }
 
-    /// Where a line goes on whose name has ended before this byte. Whether lines are ignored behind a
+    /// Where a line goes on whose name has ended before this byte. Whether lines are ignored after a
     /// condition is not known, nor where they end that have a name of their own.
     fn opens(&mut self, opens: Opens, byte: u8)
         ensures { self.new ≡ specs.opening opens byte self.old }
@@ -134,7 +134,7 @@ impl Half {
         Seen::left(said_name(opens, name, byte))
     }
 
-    /// A byte of a name, or behind it.
+    /// A byte of a name, or after it.
     fn in_name(&mut self, byte: u8) -> Seen
         ensures { met self.new result ≡ specs.in_name byte self.old }
     {

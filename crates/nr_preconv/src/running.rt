@@ -24,7 +24,7 @@ const MOST: usize = 1536;
 pub enum Outcome {
     /// All was turned and went out.
     Done,
-    /// The input failed behind so many bytes.
+    /// The input failed after so many bytes.
     ReadFault {
         /// How many.
         at: u64,
@@ -184,7 +184,7 @@ fn run<R: Source, W: Sink>(
 ///
 /// What goes out is one function of the bytes that came, however they came. At a read fault, and where the
 /// input is too long, it is that of the bytes before, but for a character, an escape or a name that is
-/// half read; at a write fault a front of it.
+/// half read; at a write fault a prefix of it.
 ///
 /// `steps` is set to the number of steps that this took: in each a character meets what is half read, or a byte
 /// passes as it is. There are at most six for each byte that came.

@@ -69,7 +69,7 @@ pub(crate) fn sent(eight_bit: bool, byte: u8) -> u8
     }
 }
 
-/// Puts these bytes, as they may go out, behind what goes out.
+/// Puts these bytes, as they may go out, after what goes out.
 pub(crate) fn put_sent(text: &[u8], eight_bit: bool, out: &mut SliceVec<'_, u8>)
     requires { length out.old.items + length text.now ≤ out.old.room }
     ensures items { out.new.items ≡ out.old.items ++ all_sent eight_bit text.now }
@@ -122,7 +122,7 @@ fn say_through(said: Said, eight_bit: bool, out: &mut SliceVec<'_, u8>)
     put_sent(text.as_slice(), eight_bit, out);
 }
 
-/// Puts what is said, as it may go out, behind what goes out: at most 64 bytes.
+/// Puts what is said, as it may go out, after what goes out: at most 64 bytes.
 pub(crate) fn say(said: Said, eight_bit: bool, out: &mut SliceVec<'_, u8>)
     requires { length out.old.items + 64 ≤ out.old.room }
     ensures items { out.new.items ≡ out.old.items ++ bytes_of eight_bit said }

@@ -1,4 +1,4 @@
-//! The words of a font macro's line. Behind the eighth all that follows is one word in quotes, since no
+//! The words of a font macro's line. After the eighth all that follows is one word in quotes, since no
 //! more than nine are taken.
 ghost use Rattle.std.specs.Prelude.{◌≡◌};
 ghost use Rattle.nr_preconv.specs.Words.{begun, begins_word, blank_said, class_of, first_words, font_said, goes_on_with, is_ninth, met_closing, met_words, quoted_said, told, words_at};
@@ -25,7 +25,7 @@ pub(crate) enum Place {
     Inside,
     /// In a word between quotes.
     Quoted,
-    /// Behind a quote that may be its last.
+    /// After a quote that may be its last.
     Closing,
 }
 
@@ -116,7 +116,7 @@ impl Words {
         Told { words, said, takes }
     }
 
-    /// How the font changes for a word behind the ninth.
+    /// How the font changes for a word after the ninth.
     fn font_said(self) -> Said
         ensures { result ≡ font_said self }
     {
@@ -161,7 +161,7 @@ impl Words {
         }
     }
 
-    /// A blank between words: those behind the ninth stand without blanks where fonts change.
+    /// A blank between words: those after the ninth stand without blanks where fonts change.
     fn blank_said(self, said: Said) -> Said
         ensures { result ≡ blank_said said self }
     {
@@ -178,7 +178,7 @@ impl Words {
         if self.is_ninth() { ninth } else { said }
     }
 
-    /// What a character does right behind a quote that may be the last of its word.
+    /// What a character does right after a quote that may be the last of its word.
     fn met_closing(self, class: Class, said: Said) -> Told
         ensures { result ≡ met_closing class said self }
     {

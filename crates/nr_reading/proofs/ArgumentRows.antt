@@ -22,7 +22,7 @@ with_due m x h = record h { reading = record h.reading { mode = m; due = x } }
 
 -- ---- before an argument
 
--- behind the blanks the arguments begin
+-- after the blanks the arguments begin
 pub meet-arguments_begin : (b : ℕ) (h : Half) → h.reading.mode ≡ modes.MacroBlanks → reads_next h ≡ true → (b == 92) ≡ false → is_blank b ≡ false → MeetsByte b h (in_mode modes.MacroGap h) events.Nothing false
 meet-arguments_begin b h mode next plain other = subst (λ (k : Half). MeetsByte b k (in_mode modes.MacroGap k) events.Nothing false) (sym (standing modes.MacroBlanks h mode next)) (rw (plain, other) refl)
 

@@ -1,4 +1,4 @@
--- Items behind a `\` pay for what comes of them.
+-- Items after a `\` pay for what comes of them.
 use Rattle.std.specs.Prelude.{◌||◌}
 use Rattle.std.proofs.Common.{◌≡◌, ℕ, ◌==◌, Bool, true, false, if◌then◌else◌, Option, None, Some, refl, arith}
 use Rattle.nr_reading.specs.declared.ask.Ask.{Ask}

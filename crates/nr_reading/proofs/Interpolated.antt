@@ -65,7 +65,7 @@ lone b is = by (b == 92) (b == 10) (b == 40) (b == 91) (b == 43) (b == 45) refl 
     by false false false false false false p q r s t u is = record { escape = p; newline = q; two = r; bracket = s; plus = t; minus = u }
     by u v w x y z p q r s t o is = absurd (let wrong : false ≡ true = is in cc)
 
--- ---- a `\`, and the byte behind it that says what is asked for
+-- ---- a `\`, and the byte after it that says what is asked for
 
 module _ (c n : Bool) (s : Signs) (d : Texts) (o : Notes) where
   -- with nothing of an escape read; with a `\`; and with this asked
@@ -220,7 +220,7 @@ module _ (fs : List Front) (place : ℕ) (j : Half) (is : interpolates j ≡ tru
   in_mode : interpolates_in j.reading.mode j.signs ≡ true
   in_mode = (plainly j is look).1
 
-  -- the `\` and the byte behind it
+  -- the `\` and the byte after it
   asked : (k : Kind) (b : ℕ) → place + 1 < length fs → slice_get fs place ≡ Some (fronts.Byte 92) → slice_get fs (place + 1) ≡ Some (fronts.Byte b) → Tells b escaped_there (asking_there (begun_ask k)) events.Nothing
       → (h : Half) (m : ℕ) → HasMet m fs h (quiet place j) → HasMet (m + 2) fs h (quiet (place + 2) (begun k j))
   asked k b within first second tells = λ h m has.
@@ -314,7 +314,7 @@ module _ (fs : List Front) (place : ℕ) (j : Half) (is : interpolates j ≡ tru
         recount (m + before + 1 + 1 + 1) (m + (before + 3)) (place + before + 1 + 1 + 1) (place + (before + 3)) (named k (a ∷ b ∷ []) there) (named k (a ∷ b ∷ []) j) (event_of k (a ∷ b ∷ [])) fs h three (omega arith) (omega arith)
         (ap (named k (a ∷ b ∷ [])) (sym j_is))
 
--- ---- behind the name of a font
+-- ---- after the name of a font
 
 -- nothing of an escape is half read in text
 reads_text : (asks : List Ask) (e : Escape) → reads_plainly_at asks e ≡ true → is_in_text_at modes.Text e dues.Look asks ≡ true

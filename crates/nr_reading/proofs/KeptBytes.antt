@@ -80,7 +80,7 @@ pub in_number-drop : (bytes : List ℕ) (i level : ℕ) → i < length bytes
     → are_in_number (drop i bytes) level ≡ (not ((get_or bytes i 0 == 92) || ends_number (get_or bytes i 0) level) && are_in_number (drop (i + 1) bytes) (parentheses (get_or bytes i 0) level))
 in_number-drop bytes i level within = ap (λ bs. are_in_number bs level) (drop-cons bytes i 0 within ∙ ap (λ k. get_or bytes i 0 ∷ drop k bytes) (sym (add-one i)))
 
--- one of them neither begins an escape nor ends the number, and none behind it does
+-- one of them neither begins an escape nor ends the number, and none after it does
 pub record IsInNumber (b depth : ℕ) (behind : List ℕ) : Type 0 where
   pub escape : (b == 92) ≡ false
   pub ends : ends_number b depth ≡ false

@@ -1,4 +1,4 @@
--- The parts behind conditions in a row of items.
+-- The parts after conditions in a row of items.
 use Rattle.std.specs.Prelude.{◌==◌, slice_get}
 use Rattle.std.proofs.Common.{◌≡◌, ℕ, ◌+◌, ◌<◌, Bool, true, false, List, [], length, Some, Option, refl, sym, subst, ap, arith}
 use Rattle.std.proofs.lemmas.Bool.{eqb-true, and_parts}
@@ -18,7 +18,7 @@ use Rattle.nr_reading.proofs.Asked.{half_at}
 use Rattle.nr_reading.proofs.Rows.{MeetsByte, standing, looks, stays, recount, apart_from, taken_more, left_more}
 use Rattle.nr_reading.proofs.Weighing.{at}
 
--- behind the blanks a line begins
+-- after the blanks a line begins
 pub meet-part_begins : (b : ℕ) (h : Half) → h.reading.mode ≡ modes.Accepted → reads_next h ≡ true → is_plain b ≡ true → is_blank b ≡ false → MeetsByte b h (record h { reading = record h.reading { mode = modes.Start } }) events.Nothing false
 meet-part_begins b h mode next plain other =
     let apart : (c : ℕ) → is_plain c ≡ false → (b == c) ≡ false = λ c. apart_from is_plain b c plain in
@@ -34,7 +34,7 @@ brace_stands place fs is =
     let two = and_parts (is_byte 92 (slice_get fs place)) (is_byte 123 (slice_get fs (place + 1))) is in
     (byte_stands 92 (slice_get fs place) two.0, byte_stands 123 (slice_get fs (place + 1)) two.1)
 
--- `\{`, and behind it a line begins
+-- `\{`, and after it a line begins
 pub opened : (fs : List Front) (place b : ℕ) (h : Half) → h.reading.mode ≡ modes.Accepted → reads_next h ≡ true → place + 2 < length fs → slice_get fs place ≡ Some (fronts.Byte 92) → slice_get fs (place + 1) ≡ Some (fronts.Byte 123)
     → slice_get fs (place + 2) ≡ Some (fronts.Byte b) → is_plain b ≡ true → is_blank b ≡ false → LeadsOn fs place place h (place + 2) (place + 3) (record h { reading = record h.reading { mode = modes.Start } })
 opened fs place b h mode next within first second third plain other =
@@ -62,7 +62,7 @@ meet-dropped b count h mode next plain goes = subst (λ (k : Half). MeetsByte b 
 pub meet-rejected_end : (count : ℕ) (h : Half) → h.reading.mode ≡ modes.Skip count → reads_next h ≡ true → count ≡ 0 → MeetsByte 10 h (record h { reading = record h.reading { mode = modes.Start } }) events.Nothing true
 meet-rejected_end count h mode next none = subst (λ (k : Half). MeetsByte 10 k (record k { reading = record k.reading { mode = modes.Start } }) events.Nothing true) (sym (standing (modes.Skip count) h mode next)) (rw none refl)
 
--- `\` and the byte behind it
+-- `\` and the byte after it
 pub skipped : (fs : List Front) (from made to moves b count left : ℕ) (old h : Half) → LeadsOn fs from made old to moves h → h.reading.mode ≡ modes.Skip count → reads_next h ≡ true → to + 1 < length fs → slice_get fs to ≡ Some (fronts.Byte 92) → slice_get fs (to + 1) ≡ Some (fronts.Byte b)
     → left ≡ braces b count → LeadsOn fs from made old (to + 1 + 1) (moves + 1 + 1) (record h { reading = record h.reading { mode = modes.Skip left } })
 skipped fs from made to moves b count left old h leads mode next within first second is =

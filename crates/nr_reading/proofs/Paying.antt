@@ -73,7 +73,7 @@ weight_of_backslash-copied (modes.Title d n) is = let wrong : ⊥ = cc in absurd
 weight_of_backslash-copied modes.Diverted is = let wrong : ⊥ = cc in absurd wrong
 weight_of_backslash-copied m is = refl
 
--- what is half read behind a step: its escape ends, or stays as far as it was read
+-- what is half read after a step: its escape ends, or stays as far as it was read
 settled_weighs : (e : Escape) (r : Reading) (n : Note) (h : Half) → h.reading ≡ r
     → weight_of_half (record (asked_by n h) { reading = record (asked_by n h).reading { escape = e } }) ≤ weight_by r.due r.mode e + sum_by weight_of_ask h.asks + weight_of_note n
 settled_weighs e r n h is =
@@ -89,7 +89,7 @@ settled_owes e r n h is = ap blanks_in (step_reads n h ∙ is)
 abbrev stepping : Reading → Note → Event → Bool → Step
 stepping r n e takes = record { reading = r; note = n; event = e; takes = takes }
 
--- the half behind it, before its escape ends
+-- the half after it, before its escape ends
 abbrev behind : Reading → Note → Half → Half
 behind r n h = record h { reading = r; notes = noted n h.notes }
 

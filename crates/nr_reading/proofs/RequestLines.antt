@@ -113,7 +113,7 @@ module _ (bs : List ℕ) (c n : Bool) (s : Signs) (d : Texts) (o : Notes) where
       (blanks_met k (omega (arith, few)) (λ i less. all i (omega (arith, less)))) (omega (arith, few, length-map bs fronts.Byte)) refl (got k (omega (arith, few)))
       (meets_blank c n s d o (get_or bs k 0) (all k (omega arith))))
 
-  -- behind k blanks the arguments begin, of which so many bytes are noted
+  -- after k blanks the arguments begin, of which so many bytes are noted
   module _ (k : ℕ) (line : List ℕ) (begins : HasMet (k + 1) fs (before c n s d o) (quiet k (within c n s d o []))) (fits : k + length line ≤ length bs) (same : (i : ℕ) → i < length line → get_or bs (k + i) 0 ≡ get_or line i 0)
       (plain : (i : ℕ) → i < length line → IsPlain 10 (get_or line i 0)) where
     noted : (i : ℕ) → i ≤ length line → HasMet (k + 1 + i) fs (before c n s d o) (quiet (k + i) (within c n s d o (take 256 (take i line))))

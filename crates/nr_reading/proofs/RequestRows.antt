@@ -11,7 +11,7 @@ use Rattle.nr_reading.specs.Noting.{noted}
 use Rattle.nr_reading.specs.Spelled.{is_blank}
 use Rattle.nr_reading.proofs.Rows.{MeetsByte, standing}
 
--- the first byte behind the blanks is left to the line
+-- the first byte after the blanks is left to the line
 pub meet-line_begins : (b : ℕ) (o : Notes) (h : Half) → h.reading.mode ≡ modes.RequestBlanks → reads_next h ≡ true → (b == 92) ≡ false → is_blank b ≡ false → o ≡ noted notes.NewLine h.notes
     → MeetsByte b h (record h { reading = record h.reading { mode = modes.RequestLine }; notes = o }) events.Nothing false
 meet-line_begins b o h mode next plain other is =

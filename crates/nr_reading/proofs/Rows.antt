@@ -35,7 +35,7 @@ use Rattle.nr_reading.proofs.Weighing.{at}
 abbrev pub MeetsByte : ℕ → Half → Half → Event → Bool → Type 0
 MeetsByte b h k e takes = meet (fronts.Byte b) h ≡ record { half = k; event = e; takes = takes }
 
--- where an item is read next, behind no part of an escape, in this mode
+-- where an item is read next, after no part of an escape, in this mode
 pub standing : (m : Mode) (h : Half) → h.reading.mode ≡ m → reads_next h ≡ true → h ≡ half_at (at m escapes.Plain h.reading.continued h.reading.no_break) h.signs [] h.delimited h.notes
 standing m h mode next = by h.reading.due h.asks h.reading.escape h.reading.mode mode next
   where
@@ -78,7 +78,7 @@ module _ (fs : List Front) (from made : ℕ) where
       let none : to + 0 ≡ to = omega arith in
       subst (λ t. LeadsOn fs from made old t (moves + 1) new) none (record { met = one_more to moves b old mid new events.Nothing false 0 leads within look some meets refl })
 
-  -- the last byte tells something, or something is due behind it
+  -- the last byte tells something, or something is due after it
   pub taken_last : (to moves b : ℕ) (old mid new : Half) (e : Event) → LeadsOn fs from made old to moves mid → to < length fs → mid.reading.due ≡ dues.Look → slice_get fs to ≡ Some (fronts.Byte b) → MeetsByte b mid new e true
       → moves < 65536 → (e ≡ events.Nothing → new.reading.due ≡ dues.Look → ⊥) → MeetsRest fs from made old (record { taken = to + 1; moves = moves + 1; event = e }) new
   taken_last to moves b old mid new e leads within look some meets few stops = record {
@@ -111,7 +111,7 @@ module _ (fs : List Front) (from made : ℕ) where
             (met_counted moves to more b fs h mid new seen (leads.met h has) within look some meets_mid (pays_for (fronts.Byte b) mid new seen meets_mid look) is);
       }
 
-  -- behind a place that was led to the rest is met
+  -- after a place that was led to the rest is met
   pub rest_behind : (to moves : ℕ) (old mid new : Half) (run : Run) → LeadsOn fs from made old to moves mid → MeetsRest fs to moves mid run new → MeetsRest fs from made old run new
   rest_behind to moves old mid new run leads rest = record { met = λ h has. rest.met h (leads.met h has); few = rest.few; longest = rest.longest }
 

@@ -110,7 +110,7 @@ answer_bracket b a =
     if b == code "]" then answers.Ends a
     else (if is_blank b then answers.Goes (spoiled a) else answers.Goes (with_byte b a))
 
--- `\sN`: one digit, and another behind an unsigned 1, 2 or 3
+-- `\sN`: one digit, and another after an unsigned 1, 2 or 3
 abbrev pub answer_digit : ℕ → Bool → Ask → Answer
 answer_digit b signed a =
     if not (is_digit b) then answers.Stops a

@@ -14,7 +14,7 @@ part_mode false = modes.Skip 0
 abbrev pub in_mode : Mode → Half → Half
 in_mode m h = record h { reading = record h.reading { mode = m } }
 
--- the condition's answer: what was found, or its opposite behind `!`
+-- the condition's answer: what was found, or its opposite after `!`
 abbrev pub answer_of : Bool → Notes → Bool
 answer_of found n = if n.condition.negated then not found else found
 

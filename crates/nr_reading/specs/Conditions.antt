@@ -28,7 +28,7 @@ read_condition_byte b r =
     else (if begins_number b then leave_noting notes.NewLine (to (modes.Number 0) r)
     else noting notes.Strings (to (modes.First b) r)))))
 
--- Blanks before it are skipped, `!` negates it; a newline is false, and so is a blank behind `!`.
+-- Blanks before it are skipped, `!` negates it; a newline is false, and so is a blank after `!`.
 abbrev pub read_condition : ℕ → Bool → Reading → Step
 read_condition b negated r =
     if b == code "\n" then leave (due (dues.Judge false) r)
@@ -36,7 +36,7 @@ read_condition b negated r =
     else (if (b == code "!") && not negated then noting notes.Negated r
     else read_condition_byte b r))
 
--- the parentheses that are open behind a byte; `)` without `(` doesn't count
+-- the parentheses that are open after a byte; `)` without `(` doesn't count
 abbrev pub parentheses : ℕ → ℕ → ℕ
 parentheses b depth = if b == code "(" then one_more depth else (if b == code ")" then depth - 1 else depth)
 

@@ -19,7 +19,7 @@ read_control b r = if is_blank b then go r else leave (to modes.Name r)
 abbrev pub completes : Bool → Spelled → Bool
 completes long name = not long && (length name.bytes == 1)
 
--- A name ends before a blank, a newline or another control byte, and behind its second byte where names aren't long.
+-- A name ends before a blank, a newline or another control byte, and after its second byte where names aren't long.
 abbrev pub read_name : ℕ → Bool → Spelled → Reading → Step
 read_name b long name r =
     if ends_name b then leave (due dues.Seek r)
@@ -51,7 +51,7 @@ read_macro_gap b r =
     else (if b == code "\"" then go (to modes.Quoted r)
     else go (due (dues.Put b) (to modes.Word r))))
 
--- A newline stays behind the argument that it ends.
+-- A newline stays after the argument that it ends.
 abbrev pub read_word : ℕ → Reading → Step
 read_word b r =
     if b == code "\n" then leave (due dues.EndArgument (to modes.MacroGap r))

@@ -2,7 +2,7 @@
 use Rattle.std.specs.Prelude.{ℕ, nat_lt, if◌then◌else◌, List, [], ◌∷◌, length}
 use Rattle.nr_reading.specs.Kept.{kept}
 
--- those that are half read, the newest first, and the one that ended last, if none began behind it
+-- those that are half read, the newest first, and the one that ended last, if none began after it
 pub record Texts : Type 0 where
   pub begun : List (List ℕ)
   pub last : List ℕ

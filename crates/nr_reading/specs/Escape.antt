@@ -11,7 +11,7 @@ use Rattle.nr_reading.specs.declared.front.Front.TheVariants as fronts
 use Rattle.nr_reading.specs.declared.mode.Escape.{Escape}
 use Rattle.nr_reading.specs.declared.mode.Escape.TheVariants as escapes
 
--- A byte behind `\`: `\n`, `\*`, `\$` interpolate, in arguments `\w` too; `\` with a newline vanishes; `\"` begins a comment;
+-- A byte after `\`: `\n`, `\*`, `\$` interpolate, in arguments `\w` too; `\` with a newline vanishes; `\"` begins a comment;
 -- `\t` and `\a` become tab and SOH, `\\` becomes `\`, `\.` becomes `.`. Before any other byte the `\` is kept.
 abbrev pub escaped : ℕ → Bool → Offer
 escaped b argument =
@@ -49,7 +49,7 @@ abbrev pub offer_over : Escape → Offer
 offer_over escapes.Begun = offers.Backslash
 offer_over e = offers.Over
 
--- A level's end mark is taken before what is behind it is looked at.
+-- A level's end mark is taken before what is after it is looked at.
 abbrev pub offer : Front → Escape → Bool → Offer
 offer fronts.Mark e argument = offers.Skip e
 offer (fronts.Byte b) e argument = offer_byte b e argument

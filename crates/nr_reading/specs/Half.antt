@@ -30,7 +30,7 @@ use Rattle.nr_reading.specs.Noting.{noted, no_notes}
 use Rattle.nr_reading.specs.Reader.{read, read_over, direct}
 use Rattle.nr_reading.specs.Spelled.{name_of}
 
--- what is half read behind an item, what it tells, and whether it is taken
+-- what is half read after an item, what it tells, and whether it is taken
 pub record Met : Type 0 where
   pub half : Half
   pub event : Event
@@ -178,7 +178,7 @@ abbrev pub offer_by : List Ask → Front → Half → Offer
 offer_by [] f h = offer f h.reading.escape (reads_arguments h.reading.mode)
 offer_by (a ∷ asks) f h = offer_to a.kind f h.reading.escape
 
--- items are read as they are, behind no escape whose argument is half read
+-- items are read as they are, after no escape whose argument is half read
 abbrev pub reads_directly : Half → Bool
 reads_directly h = is_none h.asks && is_direct h.reading.mode
 

@@ -9,6 +9,6 @@ abbrev pub is_byte : ℕ → Option ℕ → Bool
 is_byte b None = false
 is_byte b (Some c) = c == b
 
--- a text has this byte at this place, or the place is behind those that count
+-- a text has this byte at this place, or the place is after those that count
 abbrev pub fits_at : ℕ → ℕ → List ℕ → Bool
 fits_at place b bytes = if nat_lt place 256 then is_byte b (slice_get bytes place) else true

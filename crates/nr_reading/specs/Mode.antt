@@ -55,7 +55,7 @@ standing_of modes.Text = standings.Text
 standing_of modes.Interrupted = standings.Text
 standing_of m = standings.Start
 
--- where it goes on behind that macro; of its blanks the first was read
+-- where it goes on after that macro; of its blanks the first was read
 abbrev pub mode_of : Standing → Mode
 mode_of standings.Start = modes.Start
 mode_of standings.Leading = modes.Leading 1

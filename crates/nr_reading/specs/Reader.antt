@@ -76,7 +76,7 @@ unescaped modes.Accepted f s r = accepted f r
 unescaped (modes.Skip n) f s r = skip f n r
 unescaped m f s r = start f s r
 
--- behind a `\`
+-- after a `\`
 abbrev pub behind_backslash : Mode → Front → Signs → Reading → Step
 behind_backslash modes.Accepted f s r = accepted_escape f r
 behind_backslash (modes.Skip n) f s r = skip_escape f n r

@@ -36,7 +36,7 @@ sprung h = record h {
   delimited = no_texts;
 }
 
--- behind it the line goes on where it stood
+-- after it the line goes on where it stood
 abbrev pub resumed : Standing → Half → Half
 resumed s h = in_mode (mode_of s) h
 

@@ -36,7 +36,7 @@ abbrev pub start_blank : Reading → Step
 start_blank r =
     if r.continued then tell (events.Byte (code " ")) (continuing false (to modes.Continued r)) else tell events.Leading (to (modes.Leading 1) r)
 
--- An empty text line; behind `\c` it only ends the word.
+-- An empty text line; after `\c` it only ends the word.
 abbrev pub start_newline : Reading → Step
 start_newline r = if r.continued then tell events.EndContinued (continuing false r) else tell events.Empty r
 
@@ -62,7 +62,7 @@ start (fronts.LineEnd h) s r = leave_telling events.Diverted (to modes.Diverting
 start fronts.Resume s r = go r
 start fronts.Over s r = leave_telling events.Over r
 
--- ---- behind leading blanks
+-- ---- after leading blanks
 
 -- a count of leading blanks: each becomes a cell before the next is taken, so that no line has so many
 abbrev pub one_blank_more : ℕ → ℕ
@@ -86,7 +86,7 @@ leading (fronts.LineEnd h) n r = tell events.Empty (to modes.Start r)
 leading fronts.Resume n r = leave_telling events.Empty (to modes.Start r)
 leading fronts.Over n r = leave_telling events.Empty (to modes.Start r)
 
--- ---- behind the blanks of a line that continues a word
+-- ---- after the blanks of a line that continues a word
 
 abbrev pub end_continued : Reading → Reading
 end_continued r = continuing false (to modes.Start r)

@@ -25,7 +25,7 @@ plain r = escaping escapes.Plain r
 
 -- ---- what vanishes or is spliced: it begins no line
 
--- what is interpolated, by the byte behind `\`
+-- what is interpolated, by the byte after `\`
 abbrev pub interpolated : ℕ → Option Kind
 interpolated b =
     if b == code "n" then Some (kinds.Register signs.None)
@@ -35,7 +35,7 @@ interpolated b =
 
 -- ---- the other escapes
 
--- an escape whose argument is still to be read, by the byte behind `\`
+-- an escape whose argument is still to be read, by the byte after `\`
 abbrev pub asked_in_text : ℕ → Bool → Option Ask
 asked_in_text b long =
     if b == code "(" then Some (begun_ask kinds.Special)
@@ -56,7 +56,7 @@ is_nothing b =
 abbrev pub is_plain : ℕ → Bool
 is_plain b = (b == code "-") || (b == code ".") || (b == code "'") || (b == code "`")
 
--- what any other byte behind `\` tells: the byte as text; in a title a cell, and no delimiter
+-- what any other byte after `\` tells: the byte as text; in a title a cell, and no delimiter
 abbrev pub other_byte : Bool → ℕ → Event
 other_byte titled b =
     if b == code "\t" then events.Tab
@@ -111,7 +111,7 @@ spliced_or b None long r =
     if b == code "\n" then go (plain r)
     else (if b == code "\"" then go (escaping escapes.Comment r) else escape_by b long r.mode r)
 
--- a byte behind `\`
+-- a byte after `\`
 abbrev pub escaped_byte : ℕ → Bool → Reading → Step
 escaped_byte b long r = spliced_or b (interpolated b) long r
 
@@ -124,7 +124,7 @@ lone_escape modes.Continued r = leave (plain (continuing false (to modes.Text r)
 lone_escape modes.Interrupted r = leave (plain (to modes.Text r))
 lone_escape m r = leave (plain r)
 
--- the item behind `\`; an end mark is taken before what is behind it is looked at
+-- the item after `\`; an end mark is taken before what is after it is looked at
 abbrev pub escaped : Front → Bool → Reading → Step
 escaped fronts.Mark long r = go r
 escaped (fronts.Byte b) long r = escaped_byte b long r

@@ -30,7 +30,7 @@ before_title (fronts.LineEnd h) r = tell events.TitleEnd (ended_title r)
 before_title fronts.Resume r = leave_telling events.TitleEnd (ended_title r)
 before_title fronts.Over r = leave_telling events.TitleEnd (ended_title r)
 
--- behind the right part the rest of the line is dropped
+-- after the right part the rest of the line is dropped
 abbrev pub next_part : ℕ → ℕ → Reading → Reading
 next_part d n r = if n == 0 then to (modes.Title d 1) r else (if n == 1 then to (modes.Title d 2) r else to modes.TitleRest r)
 

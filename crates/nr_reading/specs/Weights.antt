@@ -129,7 +129,7 @@ abbrev pub held_by_mode : Mode → ℕ
 held_by_mode (modes.BodyStart held) = held
 held_by_mode m = 0
 
--- Behind a name that is looked up, and behind a condition that is judged, another mode follows.
+-- After a name that is looked up, and after a condition that is judged, another mode follows.
 abbrev pub weight_by : Due → Mode → Escape → ℕ
 weight_by dues.Seek m e = 112 + held_by_mode m + weight_of_escape 156 e
 weight_by (dues.Judge b) m e = 22 + held_by_mode m + weight_of_escape 156 e

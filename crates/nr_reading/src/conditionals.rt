@@ -16,7 +16,7 @@ fn part_mode(accepted: bool) -> Mode
     Mode::Skip(0)
 }
 
-// The part behind `.el`, by the newest answer.
+// The part after `.el`, by the newest answer.
 fn else_mode(answer: Option<bool>) -> Mode
     ensures { result ≡ else_mode answer }
 {

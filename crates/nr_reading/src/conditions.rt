@@ -69,7 +69,7 @@ pub(crate) fn read_condition(byte: u8, negated: bool, reading: &mut Reading) -> 
     read_condition_byte(byte, reading)
 }
 
-// The parentheses that are open behind a byte.
+// The parentheses that are open after a byte.
 #[inline(always)]
 pub(crate) fn parentheses(byte: u8, depth: u64) -> u64
     ensures { result ≡ parentheses byte depth }

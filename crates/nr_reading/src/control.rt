@@ -8,7 +8,7 @@ use super::mode::{Due, Mode, Reading};
 use super::spelled::{Spelled, ends_name, is_blank};
 use super::step::{Jot, Said, go, leave, leave_noting, noting, tell};
 
-/// Behind the control character.
+/// After the control character.
 #[inline(always)]
 pub(crate) fn read_control(byte: u8, reading: &mut Reading) -> Said
     ensures { joined reading.new result ≡ read_control byte reading.old }
@@ -150,7 +150,7 @@ pub(crate) fn read_quoted(byte: u8, reading: &mut Reading) -> Said
     go()
 }
 
-/// In such an argument, behind a quote.
+/// In such an argument, after a quote.
 #[inline(always)]
 pub(crate) fn read_quote(byte: u8, reading: &mut Reading) -> Said
     ensures { joined reading.new result ≡ read_quote byte reading.old }

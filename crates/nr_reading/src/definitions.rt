@@ -153,7 +153,7 @@ fn in_body(byte: u8) -> Mode
     Mode::Body
 }
 
-/// In the last line, behind what tells it.
+/// In the last line, after what tells it.
 #[inline(always)]
 pub(crate) fn read_body_end(byte: u8, reading: &mut Reading) -> Said
     ensures { joined reading.new result ≡ read_body_end byte reading.old }

@@ -9,7 +9,7 @@ use std::marker::Model;
 const MOST: usize = 10;
 
 /// Arguments between delimiters: those that are half read, the newest first, and the one that ended last, if
-/// none began behind it.
+/// none began after it.
 #[derive(Drop)]
 pub struct Delimited {
     texts: [Kept; MOST],

@@ -21,7 +21,7 @@ pub(crate) enum Offer {
     Over,
 }
 
-// A byte behind `\`.
+// A byte after `\`.
 fn escaped(byte: u8, argument: bool) -> Offer
     ensures { result ≡ escaped byte argument }
 {

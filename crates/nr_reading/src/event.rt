@@ -21,7 +21,7 @@ pub enum Event {
     Over,
     /// An empty text line, or one of blanks alone.
     Empty,
-    /// An empty line, or one of blanks alone, behind one that `\c` ended.
+    /// An empty line, or one of blanks alone, after one that `\c` ended.
     EndContinued,
     /// A text line has ended.
     EndLine,
@@ -57,7 +57,7 @@ pub enum Event {
     Horizontal,
     /// `\l`, with its argument.
     Rule,
-    /// A given register, by the name that was asked for: its text is to be given.
+    /// A built-in register, by the name that was asked for: its text is to be given.
     Given,
     /// `\w`, with its argument: the text of its width is to be given.
     Width,

@@ -13,7 +13,7 @@ pub enum Front {
     Cell(Cell),
     /// The end of a diverted line of this height, in u.
     LineEnd(u32),
-    /// The mark behind a sprung text: what was under way before it goes on.
+    /// The mark after a sprung text: what was under way before it goes on.
     Resume,
     /// The list is empty.
     Over,

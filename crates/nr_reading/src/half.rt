@@ -80,7 +80,7 @@ impl Half {
         }
     }
 
-    /// Whether the next item is read in the midst of a text line, behind no part of an escape.
+    /// Whether the next item is read in the midst of a text line, after no part of an escape.
     #[inline]
     pub fn is_in_text(&self) -> bool
         ensures { result ≡ is_in_text self.now }
@@ -88,7 +88,7 @@ impl Half {
         matches!(self.reading.mode, Mode::Text) && self.reads_next()
     }
 
-    /// Whether the next item is read in the midst of a text line or at the beginning of a line, behind no part of an escape.
+    /// Whether the next item is read in the midst of a text line or at the beginning of a line, after no part of an escape.
     #[inline]
     pub fn is_at_text(&self) -> bool
         ensures { result ≡ is_at_text self.now }
@@ -326,14 +326,14 @@ impl Half {
         }
     }
 
-    // Whether items are read as they are, behind no escape whose argument is half read.
+    // Whether items are read as they are, after no escape whose argument is half read.
     fn reads_directly(&self) -> bool
         ensures { result ≡ reads_directly self.now }
     {
         self.asks.is_empty() && self.reading.mode.is_direct()
     }
 
-    /// Whether an item is read next, behind no part of an escape.
+    /// Whether an item is read next, after no part of an escape.
     #[inline(always)]
     pub(crate) fn reads_next(&self) -> bool
         ensures { result ≡ reads_next self.now }

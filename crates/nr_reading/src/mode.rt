@@ -13,9 +13,9 @@ pub enum Mode {
     Start,
     /// At the beginning of a line, which may be a diverted one.
     Diverting,
-    /// Behind so many blanks that a text line begins with.
+    /// After so many blanks that a text line begins with.
     Leading(u32),
-    /// Behind the blanks of a line that continues a word.
+    /// After the blanks of a line that continues a word.
     Continued,
     /// In a text line.
     Text,
@@ -27,19 +27,19 @@ pub enum Mode {
     Title(u8, u8),
     /// In a diverted line.
     Diverted,
-    /// Behind an accepted condition.
+    /// After an accepted condition.
     Accepted,
     /// In a rejected part, in which so many braces are open.
     Skip(u64),
 
     // ---- copied elements
-    /// Behind a control character, in the blanks before the name.
+    /// After a control character, in the blanks before the name.
     Control,
     /// In a control line's name.
     Name,
     /// In a line that does nothing.
     Drop,
-    /// Behind the last delimiter of a title.
+    /// After the last delimiter of a title.
     TitleRest,
     /// In the blanks before a request's arguments.
     RequestBlanks,
@@ -47,13 +47,13 @@ pub enum Mode {
     RequestLine,
     /// In the blanks before a macro's arguments.
     MacroBlanks,
-    /// Before an argument of a macro, or behind the last.
+    /// Before an argument of a macro, or after the last.
     MacroGap,
     /// In an argument of a macro.
     Word,
     /// In an argument of a macro that began with a quote.
     Quoted,
-    /// In such an argument, behind a quote.
+    /// In such an argument, after a quote.
     Quote,
     /// In the blanks before a string's name.
     StringBefore,
@@ -67,7 +67,7 @@ pub enum Mode {
     BodyStart(u8),
     /// In another line of a definition.
     Body,
-    /// In the line that ends a definition, behind what tells it.
+    /// In the line that ends a definition, after what tells it.
     BodyEnd,
     /// Before or in a condition.
     Condition,
@@ -166,7 +166,7 @@ pub enum Calls {
 pub enum Standing {
     /// At its beginning.
     Start,
-    /// Behind the first of its blanks.
+    /// After the first of its blanks.
     Leading,
     /// In its text.
     Text,

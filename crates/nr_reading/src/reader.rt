@@ -83,7 +83,7 @@ pub(crate) fn unescaped(front: Front, signs: Signs, reading: &mut Reading) -> Sa
     }
 }
 
-// An item behind a `\`.
+// An item after a `\`.
 fn behind_backslash(front: Front, signs: Signs, reading: &mut Reading) -> Said
     ensures { joined reading.new result ≡ behind_backslash reading.old.mode front signs reading.old }
 {

@@ -10,7 +10,7 @@ use super::spelled::is_blank;
 use super::step::{Said, go, leave, leave_telling, tell};
 use super::text::{begin_escape, start};
 
-// A byte behind an accepted condition.
+// A byte after an accepted condition.
 #[inline(always)]
 fn accepted_byte(byte: u8, reading: &mut Reading) -> Said
     ensures { joined reading.new result ≡ accepted_byte byte reading.old }
@@ -29,7 +29,7 @@ fn accepted_byte(byte: u8, reading: &mut Reading) -> Said
     leave()
 }
 
-/// Behind an accepted condition.
+/// After an accepted condition.
 #[inline(always)]
 pub(crate) fn accepted(front: Front, reading: &mut Reading) -> Said
     ensures { joined reading.new result ≡ accepted front reading.old }
@@ -44,7 +44,7 @@ pub(crate) fn accepted(front: Front, reading: &mut Reading) -> Said
     }
 }
 
-/// Behind an accepted condition and `\`.
+/// After an accepted condition and `\`.
 pub(crate) fn accepted_escape(front: Front, reading: &mut Reading) -> Said
     ensures { joined reading.new result ≡ accepted_escape front reading.old }
 {
@@ -107,7 +107,7 @@ pub(crate) fn skip(front: Front, count: u64, reading: &mut Reading) -> Said
     }
 }
 
-// The braces that are open behind `\` and a byte.
+// The braces that are open after `\` and a byte.
 #[inline(always)]
 pub(crate) fn braces(byte: u8, count: u64) -> u64
     ensures { result ≡ braces byte count }
@@ -119,7 +119,7 @@ pub(crate) fn braces(byte: u8, count: u64) -> u64
     }
 }
 
-/// In a rejected part, behind `\`.
+/// In a rejected part, after `\`.
 pub(crate) fn skip_escape(front: Front, count: u64, reading: &mut Reading) -> Said
     ensures { joined reading.new result ≡ skip_escape front count reading.old }
 {

@@ -133,7 +133,7 @@ fn one_blank_more(count: u32) -> u32
     count.saturating_add(1)
 }
 
-/// The text behind leading blanks.
+/// The text after leading blanks.
 #[inline(always)]
 pub(crate) fn text_behind_blanks(count: u32, reading: &mut Reading) -> Said
     ensures { joined reading.new result ≡ text_behind_blanks count reading.old }
@@ -143,7 +143,7 @@ pub(crate) fn text_behind_blanks(count: u32, reading: &mut Reading) -> Said
     leave()
 }
 
-// A byte behind leading blanks.
+// A byte after leading blanks.
 #[inline(always)]
 fn leading_byte(byte: u8, count: u32, reading: &mut Reading) -> Said
     ensures { joined reading.new result ≡ leading_byte byte count reading.old }
@@ -162,7 +162,7 @@ fn leading_byte(byte: u8, count: u32, reading: &mut Reading) -> Said
     text_behind_blanks(count, reading)
 }
 
-/// Behind leading blanks.
+/// After leading blanks.
 #[inline(always)]
 pub(crate) fn leading(front: Front, count: u32, reading: &mut Reading) -> Said
     ensures { joined reading.new result ≡ leading front count reading.old }
@@ -182,7 +182,7 @@ pub(crate) fn leading(front: Front, count: u32, reading: &mut Reading) -> Said
     }
 }
 
-// A byte behind the blanks of a line that continues a word.
+// A byte after the blanks of a line that continues a word.
 #[inline(always)]
 fn continued_byte(byte: u8, reading: &mut Reading) -> Said
     ensures { joined reading.new result ≡ continued_byte byte reading.old }
@@ -201,7 +201,7 @@ fn continued_byte(byte: u8, reading: &mut Reading) -> Said
     in_text(Event::Byte(byte), reading)
 }
 
-/// Behind the blanks of a line that continues a word.
+/// After the blanks of a line that continues a word.
 #[inline(always)]
 pub(crate) fn continued(front: Front, reading: &mut Reading) -> Said
     ensures { joined reading.new result ≡ continued front reading.old }

@@ -11,7 +11,7 @@ use super::mode::{Escape, Mode, Reading};
 use super::step::{Jot, Said, go, leave, noting, tell};
 use super::text::text_behind_blanks;
 
-// What is interpolated, by the byte behind `\`.
+// What is interpolated, by the byte after `\`.
 fn interpolated(byte: u8) -> Option<Kind>
     ensures { result ≡ interpolated byte }
 {
@@ -24,7 +24,7 @@ fn interpolated(byte: u8) -> Option<Kind>
     }
 }
 
-// An escape whose argument is still to be read, by the byte behind `\`.
+// An escape whose argument is still to be read, by the byte after `\`.
 fn asked_in_text(byte: u8, long: bool) -> Option<Begun>
     ensures { option_map ask_of result ≡ asked_in_text byte long }
 {
@@ -58,7 +58,7 @@ fn is_plain(byte: u8) -> bool
     matches!(byte, b'-' | b'.' | b'\'' | b'`')
 }
 
-// What any other byte behind `\` tells.
+// What any other byte after `\` tells.
 fn other_byte(titled: bool, byte: u8) -> Event
     ensures { result ≡ other_byte titled byte }
 {
@@ -109,7 +109,7 @@ fn is_titled(mode: Mode) -> bool
     matches!(mode, Mode::TitleBefore | Mode::Title(_, _))
 }
 
-// The mode behind an escape.
+// The mode after an escape.
 fn behind_escape(byte: u8, mode: Mode) -> Mode
     ensures { result ≡ behind_escape byte mode }
 {
@@ -172,7 +172,7 @@ fn escape_by(byte: u8, long: bool, reading: &mut Reading) -> Said
     }
 }
 
-// A byte behind `\`.
+// A byte after `\`.
 fn escaped_byte(byte: u8, long: bool, reading: &mut Reading) -> Said
     ensures { joined reading.new result ≡ escaped_byte byte long reading.old }
 {
@@ -218,7 +218,7 @@ fn lone_escape(reading: &mut Reading) -> Said
     }
 }
 
-/// The item behind `\`.
+/// The item after `\`.
 pub(crate) fn escaped(front: Front, long: bool, reading: &mut Reading) -> Said
     ensures { joined reading.new result ≡ escaped front long reading.old }
 {

@@ -105,7 +105,7 @@ pub(crate) fn title(front: Front, delimiter: u8, part: u8, reading: &mut Reading
     }
 }
 
-/// Behind the last delimiter.
+/// After the last delimiter.
 #[inline(always)]
 pub(crate) fn read_title_rest(byte: u8, reading: &mut Reading) -> Said
     ensures { joined reading.new result ≡ read_title_rest byte reading.old }

@@ -1,4 +1,4 @@
--- What stands at the front of a vector where something was written behind it.
+-- What stands at the front of a vector where something was written after it.
 use Rattle.std.proofs.Common.{◌≡◌, ℕ, ◌+◌, ◌<◌, ◌≤◌, List, [], ◌∷◌, ◌++◌, length, take, drop, replicate, set, get_or, ap, ap₂, sym, ◌∙◌, append_assoc, arith, length-append, length-drop}
 use Rattle.std.proofs.lemmas.List.{take_at, take-append-le, take-take, take-replicate, take_more, set_at, length-take-le, length-replicate}
 use Rattle.nr_units.proofs.Copying.{front_put}
@@ -22,7 +22,7 @@ take_written xs zs ys a k n size same all within long few = rw same
     ap (take (a + n)) (take_at (put_mid a k xs ys) (drop (length (put_mid a k xs ys)) xs) size whole)
     ∙ front_put a k n xs ys (omega arith) (omega arith))
 
--- copies of an item were written over the vector's slots, and then items behind the first m of them, `size` of each
+-- copies of an item were written over the vector's slots, and then items after the first m of them, `size` of each
 pub take_written_behind : {X : Type 0} (xs zs cs rest ys more : List X) (x : X) (a j k m n size len : ℕ) → zs ≡ xs → len ≡ length xs → a + j ≤ length xs → j ≡ size + size → k ≡ size
     → cs ≡ replicate size x → length rest ≡ size → ys ≡ take size more → m ≤ size → n ≤ size → size ≤ length more
     → take (a + m + n) (take len (put_mid a j zs (put_mid m k (cs ++ rest) ys) ++ drop (length (put_mid a j zs (put_mid m k (cs ++ rest) ys))) xs)) ≡ take a xs ++ replicate m x ++ take n more

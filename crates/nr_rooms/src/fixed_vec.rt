@@ -16,7 +16,7 @@ const CHUNK: usize = 8;
 /// memory.
 #[derive(Drop)]
 pub struct FixedVec<T: Copy> {
-    // The items stand at the front. What lies behind them is of no account.
+    // The items stand at the front. What lies after them is of no account.
     slots: Vec<T>,
     len: usize,
     room: usize,
@@ -166,7 +166,7 @@ impl<T: Copy> FixedVec<T> {
         self.len = len + n;
     }
 
-    /// Adds copies of an item, and behind them the first n of these items. A few more of both are written than are added where
+    /// Adds copies of an item, and after them the first n of these items. A few more of both are written than are added where
     /// there are places for them, as with `extend_front`.
     #[inline(always)]
     pub fn extend_behind_copies(&mut self, item: T, copies: usize, more: &[T], n: usize)
@@ -239,7 +239,7 @@ impl<T: Copy> FixedVec<T> {
     }
 }
 
-/// Makes sure that there are places for all these items behind the first `len`.
+/// Makes sure that there are places for all these items after the first `len`.
 #[inline]
 fn fit<T: Copy>(slots: &mut Vec<T>, len: usize, more: &[T], room: usize)
     requires len { len ≤ vec_len slots.old }

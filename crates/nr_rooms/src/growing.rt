@@ -4,7 +4,7 @@ ghost use Rattle.std.specs.Prelude.{◌≡◌, ◌-◌, ◌<◌, ◌≤◌, ◌+
 /// How long a vector becomes at least, where it has room for so many items.
 const LEAST: usize = 64;
 
-/// Makes a vector as long as asked for, within its room, by copies of an item behind what it has. It becomes twice as long
+/// Makes a vector as long as asked for, within its room, by copies of an item after what it has. It becomes twice as long
 /// as it was where there is room for it, so that all calls together write no more than twice what was asked for. It doesn't
 /// allocate.
 #[inline]

@@ -1,4 +1,4 @@
--- Digits, and a scale's letter behind them, are the longest front that is an expression, and their value is its.
+-- Digits, and a scale's letter after them, are the longest prefix that is an expression, and their value is its.
 use Rattle.std.specs.Prelude.{Bool, IfSome, nat_eq, nat_lt, unwrap_or}
 use Rattle.std.specs.Ordering.{int_eq}
 use Rattle.std.proofs.Common.{◌≡◌, ℕ, zero, suc, ◌+◌, ◌-◌, ◌*◌, ◌/◌, ◌<◌, ◌≤◌, true, false, Option, None, Some, List, [], ◌∷◌, length, drop, get_or, ℤ, pos, unsigned_abs, arith, refl, ap, sym, subst, ◌∙◌}
@@ -124,7 +124,7 @@ digits_value c text (suc i) n x some ends reads is near =
     ∙ ap (λ k. number_value c c.default nothing_waits (10000 * k)) (whole_is n reads.most)
     ∙ unsigned_is c c.default (10000 * n) x is near
 
--- a letter behind them
+-- a letter after them
 letter_on : (c : Ctx) (scale : Scale) (i n : ℕ) → (read_on c (whole start n) i nothing_read (letter scale ∷ [])).value ≡ number_value c scale nothing_waits (10000 * capped (capped (0 * 10) + n))
 letter_on c Inch i n = refl
 letter_on c Centimetre i n = refl
@@ -183,7 +183,7 @@ compared ByLess n m = nat_lt n m
 compared ByGreater n m = nat_lt m n
 compared ByEqual n m = nat_eq n m
 
--- the scan behind a sign, where its left side was read
+-- the scan after a sign, where its left side was read
 abbrev behind_sign : Ctx → ℕ → Sign → Scan
 behind_sign c n sign = unwrap_or (after_byte c (whole start n) (byte_of sign)) start
 
@@ -251,7 +251,7 @@ comparison_on v text sign (suc i) n (suc j) m some inside is more ends left righ
     ∙ ap (read_on c (whole (behind_sign c n sign) m) (suc i + 1 + suc j) l) none)
     ∙ joined_true c sign n m (suc i + 1 + suc j) l (side_is c n left.most refl) (side_is c m right.most refl)
 
--- the right side stands behind the sign
+-- the right side stands after the sign
 pub comparison_is : (v : ℕ) (text behind : List ℕ) (sign : Sign) (i n j m : ℕ) → 0 < i → i < length text → get_or text i 0 ≡ byte_of sign → 0 < j → j ≡ length behind
     → behind ≡ drop (i + 1) text → ReadsDigits text i n → ReadsDigits behind j m → is_true_number v text ≡ compared sign n m
 comparison_is v text behind sign i n j m some inside is more ends rest_is left right =

@@ -6,7 +6,7 @@ use Rattle.std.specs.List.{prefix_len}
 abbrev pub is_blank : ℕ → Bool
 is_blank b = b == code " " || b == code "\t"
 
--- what stands behind the blanks in front
+-- what stands after the blanks in front
 abbrev pub behind_blanks : List ℕ → List ℕ
 behind_blanks text = drop (prefix_len is_blank text) text
 
@@ -33,7 +33,7 @@ name_len long text = if long then prefix_len is_name_byte text else min 2 (prefi
 abbrev pub name_of : List ℕ → Option (List ℕ)
 name_of bytes = if length bytes == 0 || nat_lt 32 (length bytes) then None else Some bytes
 
--- The next argument, and what stands behind it. An empty word or number is none.
+-- The next argument, and what stands after it. An empty word or number is none.
 abbrev pub word_in : List ℕ → List ℕ
 word_in line = take (word_len (behind_blanks line)) (behind_blanks line)
 

@@ -1,4 +1,4 @@
--- Which escapes there are, by the byte behind the `\`, and how far each goes (CSTR 54, summary of escape sequences).
+-- Which escapes there are, by the byte after the `\`, and how far each goes (CSTR 54, summary of escape sequences).
 use Prim.Native.Char.{code}
 use Rattle.std.specs.Prelude.{ℕ, ◌+◌, Bool, not, ◌&&◌, ◌||◌, List, [], ◌∷◌, length, take, drop, ◌==◌, nat_le, if◌then◌else◌, codes}
 use Rattle.std.specs.List.{prefix_len, list_any}
@@ -29,7 +29,7 @@ escape_of long b =
 abbrev pub len_before : ℕ → List ℕ → ℕ
 len_before b text = prefix_len (λ x. not (x == b)) text
 
--- A name: one byte, or two behind `(`, or with long names those up to a `]` behind `[`.
+-- A name: one byte, or two after `(`, or with long names those up to a `]` after `[`.
 abbrev pub escape_name_len : Bool → List ℕ → ℕ
 escape_name_len long [] = 0
 escape_name_len long (b ∷ bs) =
@@ -61,7 +61,7 @@ abbrev pub delimited : List ℕ → List ℕ
 delimited [] = []
 delimited (d ∷ bs) = take (len_before d bs) bs
 
--- a size: a sign and a digit, or a digit, behind which 1, 2 and 3 take another
+-- a size: a sign and a digit, or a digit, after which 1, 2 and 3 take another
 abbrev pub digit_len : List ℕ → ℕ
 digit_len [] = 0
 digit_len (b ∷ bs) = if is_digit b then 1 else 0

@@ -19,7 +19,7 @@ motion_by (Some units) = if int_lt (nearest_multiple 24 units) (pos 0) then None
 abbrev pub motion : ℕ → ℤ → List ℕ → Option ℕ
 motion v here argument = motion_by (read_of (context Em v here) argument).value
 
--- `\l'Nc'`: c behind the number, without c `_`. A `\&` before c is dropped; another escape, or a byte that prints
+-- `\l'Nc'`: c after the number, without c `_`. A `\&` before c is dropped; another escape, or a byte that prints
 -- nothing, gives `_`.
 abbrev pub first_printing : List ℕ → ℕ
 first_printing [] = code "_"

@@ -15,7 +15,7 @@ use Rattle.nr_settings.specs.declared.numbers.Change.TheVariants.{To, By}
 abbrev pub context : Scale → ℕ → ℤ → Ctx
 context scale v here = record { v = pos v; here = here; default = scale }
 
--- The value of an argument is that of its longest front that is an expression; the rest is dropped. With no such
+-- The value of an argument is that of its longest prefix that is an expression; the rest is dropped. With no such
 -- front, or an invalid one, it counts as absent.
 abbrev pub value_of : Scale → ℕ → ℤ → List ℕ → Option ℤ
 value_of scale v here argument = (read_of (context scale v here) argument).value

@@ -13,11 +13,11 @@ pub record IsWhole (scale : Scale) (v units : ℕ) : Type 0 where
   pub divisor : denominator scale ≡ 1
   pub most : units ≤ 32760
 
--- where a scan stands behind digits that write n, where an operand of them began at s
+-- where a scan stands after digits that write n, where an operand of them began at s
 abbrev pub whole : Scan → ℕ → Scan
 whole s n = outermost (in_mode s.level (more_whole 0 n))
 
--- the same behind so many digits
+-- the same after so many digits
 abbrev pub behind_digits : Scan → ℕ → ℕ → Scan
 behind_digits s zero n = s
 behind_digits s (suc i) n = whole s n

@@ -28,7 +28,7 @@ abbrev pub behind_plus : List ℕ → List ℕ
 behind_plus [] = []
 behind_plus (b ∷ bs) = if b == code "+" then bs else b ∷ bs
 
--- right behind the number, R is a right stop and C a centre stop; any other is a left one
+-- right after the number, R is a right stop and C a centre stop; any other is a left one
 abbrev pub kind_of : Option ℕ → StopKind
 kind_of None = Left
 kind_of (Some c) = if c == code "R" then Right else if c == code "C" then Centre else Left

@@ -18,11 +18,11 @@ abbrev pub special_width : Option Special → ℕ
 special_width None = 0
 special_width (Some special) = 24 * cells_of special
 
--- an element that has so many bytes behind its first, and this width
+-- an element that has so many bytes after its first, and this width
 abbrev pub of_width : ℕ → ℕ → Element
 of_width more width = record { more = more; width = width }
 
--- Of an escape, what stands behind its two bytes, and its width. What it would take past the end isn't there.
+-- Of an escape, what stands after its two bytes, and its width. What it would take past the end isn't there.
 abbrev pub escaped : Bool → ℕ → ℕ → List ℕ → Escape → Element
 escaped long v c text OneCell = of_width 1 24
 escaped long v c text Nothing = of_width 1 0

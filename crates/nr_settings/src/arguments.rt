@@ -27,7 +27,7 @@ fn blanks_len(text: &[u8]) -> usize
     text.iter().take_while(|byte| is_blank(**byte)).count()
 }
 
-/// What stands behind the blanks in front.
+/// What stands after the blanks in front.
 fn behind_blanks(text: &[u8]) -> &[u8]
     ensures { result.now ≡ behind_blanks text.now }
 {
@@ -85,7 +85,7 @@ pub struct Arguments<'a> {
 }
 
 impl<'a> Arguments<'a> {
-    /// A whole line, behind the request's name.
+    /// A whole line, after the request's name.
     pub fn of(line: &'a [u8]) -> Self
         ensures { result.rest.now ≡ line.now }
     {

@@ -39,7 +39,7 @@ pub fn c2(line: &[u8]) -> u8
     Arguments::of(line).byte().unwrap_or(b'\'')
 }
 
-/// Whether long names are on behind `.cp`.
+/// Whether long names are on after `.cp`.
 pub fn cp(line: &[u8], v: Height) -> bool
     ensures { result ≡ cp line.now v }
 {

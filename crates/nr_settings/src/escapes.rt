@@ -4,7 +4,7 @@ ghost use Rattle.nr_settings.specs.Escapes.{escape_of, len_before, escape_name_l
 
 use crate::registers::is_digit;
 
-/// What an escape is, by the byte behind the `\`.
+/// What an escape is, by the byte after the `\`.
 #[derive(Clone, Copy)]
 pub(crate) enum Escape {
     /// One cell.

@@ -10,7 +10,7 @@ pub struct Kept {
     pub previous: Width,
 }
 
-/// The margins of a line, in characters: its indent, and the length that is left behind it.
+/// The margins of a line, in characters: its indent, and the length that is left after it.
 #[derive(Clone, Copy)]
 pub struct Margins {
     pub indent: u32,

@@ -54,7 +54,7 @@ fn first_printing(text: &[u8]) -> u8
     }
 }
 
-/// The byte of a line, from what stands behind its number.
+/// The byte of a line, from what stands after its number.
 fn rule_byte(text: &[u8]) -> u8
     ensures { result ≡ rule_byte text.now }
 {
@@ -70,7 +70,7 @@ fn rule_byte(text: &[u8]) -> u8
     }
 }
 
-/// What stands behind the first bytes of a text.
+/// What stands after the first bytes of a text.
 fn behind(text: &[u8], used: usize) -> &[u8]
     ensures { result.now ≡ drop used text.now }
 {

@@ -8,7 +8,7 @@ ghost use Rattle.nr_settings.specs.PlainNumbers.{IsWhole, ReadsDigits};
 use crate::lengths::Height;
 use nr_units::Scale;
 
-/// The greatest number behind which a digit more is read.
+/// The greatest number after which a digit more is read.
 const MOST: u32 = 999;
 
 /// The units of one of this scale, if they are a whole number. `v` is the vertical space.
@@ -54,7 +54,7 @@ fn units_of(number: u32, scale: Scale, v: Height) -> Option<i32>
     }
 }
 
-/// The value of an argument of digits that write no more than 9999, alone or with a letter of a scale behind them. None of most others.
+/// The value of an argument of digits that write no more than 9999, alone or with a letter of a scale after them. None of most others.
 #[inline]
 pub(crate) fn plain_value(argument: &[u8], scale: Scale, v: Height) -> Option<i32>
     ensures value { (here : ℤ) → IfSome result (λ n. value_of scale v here argument.now ≡ Some n) }
@@ -92,7 +92,7 @@ struct Digits {
     number: u32,
 }
 
-/// The digits that a text begins with: up to the first byte that is none, or behind which they would write more than 9999.
+/// The digits that a text begins with: up to the first byte that is none, or after which they would write more than 9999.
 #[inline(always)]
 fn digits_of(text: &[u8]) -> Digits
     ensures reads { ReadsDigits text.now result.count result.number }

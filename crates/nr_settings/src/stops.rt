@@ -7,7 +7,7 @@ const MOST: usize = 32;
 /// Where text stands at a stop.
 #[derive(Clone, Copy)]
 pub enum StopKind {
-    /// Behind it.
+    /// After it.
     Left,
     /// Before it.
     Right,

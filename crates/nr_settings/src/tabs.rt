@@ -44,7 +44,7 @@ fn behind_plus(argument: &[u8]) -> &[u8]
     }
 }
 
-/// The kind of a stop, by the byte behind its number.
+/// The kind of a stop, by the byte after its number.
 fn kind_of(byte: Option<u8>) -> StopKind
     ensures { result ≡ kind_of byte }
 {
@@ -77,7 +77,7 @@ fn place_of(before: i64, n: i64, relative: bool) -> i64
     }
 }
 
-/// The kind of the stop of a number, by the byte behind what was read of it.
+/// The kind of the stop of a number, by the byte after what was read of it.
 fn kind_behind(number: &[u8], used: usize) -> StopKind
     ensures { result ≡ kind_of (slice_get number.now used) }
 {

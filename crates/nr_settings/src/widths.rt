@@ -14,7 +14,7 @@ use crate::lengths::Height;
 use crate::motions::motion;
 use crate::specials::Special;
 
-/// An element of a text: the number of its bytes behind the first, and its width in units.
+/// An element of a text: the number of its bytes after the first, and its width in units.
 #[derive(Clone, Copy)]
 pub(crate) struct Element {
     pub more: usize,
@@ -65,7 +65,7 @@ fn motion_width(argument: &[u8], v: Height) -> u32
     }
 }
 
-/// The escape of a byte behind a `\`, with what stands behind that byte.
+/// The escape of a byte after a `\`, with what stands after that byte.
 fn escaped(byte: u8, text: &[u8], long: bool, v: Height) -> Element
     requires { length text.now ≤ 256 }
     ensures value { result ≡ escaped long v byte text.now (escape_of long byte) }
@@ -93,7 +93,7 @@ fn escaped(byte: u8, text: &[u8], long: bool, v: Height) -> Element
     }
 }
 
-/// The element that begins with a byte, with what stands behind that byte.
+/// The element that begins with a byte, with what stands after that byte.
 fn element_of(byte: u8, text: &[u8], long: bool, v: Height) -> Element
     requires { length text.now ≤ 256 }
     ensures value { result ≡ element_of long v byte text.now }

@@ -44,7 +44,7 @@ module _ (p : Texts Element) (id : ℕ) (is_open : IsOpen p id) where
       let all = length-append (text p id) xs in
       omega arith
 
-  -- more behind what is more already
+  -- more after what is more already
   pub more_more : (q r : Texts Element) (xs ys : List Element) → q ≡ with_more xs → r ≡ with_text q id (text q id ++ ys) → r ≡ with_more (xs ++ ys)
   more_more q r xs ys wrote more =
       append_more p q r id (text p id ++ xs) ys (within_of_open p id is_open) wrote more ∙ ap (with_text p id) (append_assoc (text p id) xs ys)

@@ -344,7 +344,7 @@ text_gone p names drafts levels beside limit id place n =
     ∙ ap (λ ts. record (stored_of p names drafts levels beside limit) { levels = mark_of n.level.resume ++ map (level_of p) rest; texts = ts; arguments = n.level.old })
     (ap (λ ks. drop 1 (texts_in p names ks)) n.first ∙ ap (λ s. drop 1 (text_in p names (ids_of rest) s ++ texts_in p names rest)) n.reads)
 
--- how many times a level can go: once more where a mode is behind its end
+-- how many times a level can go: once more where a mode is after its end
 abbrev pub times : {K : Type 0} → Level K → ℕ
 times (Read l) = 2
 times (Mark mode) = 1

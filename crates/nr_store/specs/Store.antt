@@ -35,14 +35,14 @@ pub record Built : Type 0 where
   pub diversion : Option Diversion
 
 -- a text that is being read: what is left of it, the arguments that its end restores, what it is charged, and the mode
--- that is resumed behind its end
+-- that is resumed after its end
 pub record Reading (K : Type 0) : Type 0 where
   pub rest : List Element
   pub old : List (List ℕ)
   pub charge : ℕ
   pub resume : Option K
 
--- a level: a text that is being read, or the mode that is still to be resumed behind one whose end was taken
+-- a level: a text that is being read, or the mode that is still to be resumed after one whose end was taken
 pub data Level (K : Type 0) : Type 0 where
   Read : Reading K → Level K
   Mark : K → Level K
@@ -344,17 +344,17 @@ abbrev pub mark_of : {K : Type 0} → Option K → List (Level K)
 mark_of None = []
 mark_of (Some mode) = Mark mode ∷ []
 
--- behind what a text gives
+-- after what a text gives
 abbrev pub left_of : {K : Type 0} → List Element → Reading K → List (Level K) → Stored K → Stored K
 left_of [] l ls v = record v { levels = mark_of l.resume ++ ls; texts = drop 1 v.texts; arguments = l.old }
 left_of (x ∷ xs) l ls v = record v { levels = Read (record l { rest = xs }) ∷ ls }
 
--- behind what a level gives
+-- after what a level gives
 abbrev pub left_in : {K : Type 0} → Level K → List (Level K) → Stored K → Stored K
 left_in (Read l) ls v = left_of l.rest l ls v
 left_in (Mark mode) ls v = record v { levels = ls }
 
--- behind what comes next
+-- after what comes next
 abbrev pub left : {K : Type 0} → List (Level K) → Stored K → Stored K
 left [] v = v
 left (l ∷ ls) v = left_in l ls v
@@ -374,7 +374,7 @@ emptied v = record v { levels = []; texts = []; arguments = []; gathered = none_
 
 -- ---- the spliced input
 
--- the mode that is resumed behind an end
+-- the mode that is resumed after an end
 abbrev pub resumes : {K : Type 0} → Option K → List (Shown K)
 resumes None = []
 resumes (Some mode) = shows.Resume mode ∷ []

@@ -21,17 +21,17 @@ abbrev pub elements_in : Rest → List Element
 elements_in (rests.Text text) = text.now
 elements_in (rests.Bytes bytes) = map elements.Byte bytes.now
 
--- behind what comes next, so many times
+-- after what comes next, so many times
 abbrev pub left_times : {K : Type 0} → ℕ → Stored K → Stored K
 left_times zero v = v
 left_times (suc n) v = left_times n (left v.levels v)
 
--- a level behind so many elements of its text
+-- a level after so many elements of its text
 abbrev pub level_behind : {K : Type 0} → ℕ → Level K → Level K
 level_behind n (Read l) = Read (record l { rest = drop n l.rest })
 level_behind n (Mark mode) = Mark mode
 
--- with the newest level behind so many elements of its text
+-- with the newest level after so many elements of its text
 abbrev pub levels_behind : {K : Type 0} → ℕ → List (Level K) → List (Level K)
 levels_behind n [] = []
 levels_behind n (l ∷ ls) = level_behind n l ∷ ls

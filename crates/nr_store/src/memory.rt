@@ -15,7 +15,7 @@ pub struct Room {
     pub drafts: usize,
     /// The levels.
     pub frames: usize,
-    /// The modes that are resumed behind levels.
+    /// The modes that are resumed after levels.
     pub modes: usize,
     /// The bytes that levels bring.
     pub bytes: usize,

@@ -117,7 +117,7 @@ pub enum Request {
     Wh,
 }
 
-/// The requests, each behind the two bytes of its name.
+/// The requests, each after the two bytes of its name.
 pub const REQUESTS: [(u8, u8, Request); 56] = [
     (b'a', b'd', Request::Ad),
     (b'a', b'f', Request::Af),

@@ -15,7 +15,7 @@ pub enum Sight {
 }
 
 /// What comes next of the levels, with the modes `K` that sprung texts resume. A level gives its text, then its end;
-/// behind the end of a sprung one comes its mode.
+/// after the end of a sprung one comes its mode.
 #[derive(Clone, Copy)]
 pub enum Shown<K> {
     /// An element of the newest level.

@@ -84,7 +84,7 @@ impl<K: Copy> Store<K> {
         self.charge
     }
 
-    /// How many levels there are. A mode that is still to be resumed counts as the level that it stands behind.
+    /// How many levels there are. A mode that is still to be resumed counts as the level that it stands after.
     #[inline]
     pub fn depth(&self) -> usize
         ensures value { result ≡ length self.now.levels }

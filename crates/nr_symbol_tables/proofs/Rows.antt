@@ -170,7 +170,7 @@ below_half row name m sorted inside low k d below = elim (cases_lt k m) [
   | inr over ↦ let is : k ≡ m = omega arith in before_along _ _ _ _ (ap (key row d) is) refl (low d)
 ]
 
--- the names from one that comes behind this name
+-- the names from one that comes after this name
 pub above_half : {V : Type 0} (row : List (Entry V)) (name : List ℕ) (m : ℕ) → IsSorted row → ((d : Entry V) → IsBefore name (key row d m)) → (k : ℕ) (d : Entry V) → m ≤ k → k < length row → IsBefore name (key row d k)
 above_half row name m sorted high k d over inside = elim (cases_lt m k) [
   | inl under ↦ before_trans _ (key row d m) _ (high d) (sorted.ascends m k d under inside)

@@ -12,7 +12,7 @@ use Rattle.nr_symbol_tables.specs.Word.{Word, bytes_of, closes, letters_of, poin
 use Rattle.nr_symbol_tables.specs.Given.{IsLonger}
 use Rattle.nr_symbol_tables.specs.declared.word.HyphenationWord.{HyphenationWord}
 
--- ---- the letters and the places of a front
+-- ---- the letters and the places of a prefix
 
 letters_at_minus : (b : ℕ) (bs : List ℕ) → eqb b 45 ≡ true → letters_of (b ∷ bs) ≡ letters_of bs
 letters_at_minus b bs minus = cond-true (eqb b 45) _ _ minus
@@ -86,7 +86,7 @@ module _ (xs : List ℕ) (i d : ℕ) (below : i < length xs) where
   pub points_other : eqb x 45 ≡ false → points_from 0 (take (i + 1) xs) ≡ points_from 0 (take i xs) ++ []
   points_other other = points_one ∙ ap (λ l. points_from 0 (take i xs) ++ l) (points_at_other (length (letters_of (take i xs))) x [] other)
 
-  -- a place of a front is one of all
+  -- a place of a prefix is one of all
   pub points_fit : eqb x 45 ≡ true → length (points_from 0 (take i xs)) + 1 ≤ length (points_from 0 xs)
   points_fit minus =
       let ys = take (i + 1) xs in
@@ -95,7 +95,7 @@ module _ (xs : List ℕ) (i d : ℕ) (below : i < length xs) where
       let whole : length (points_from 0 xs) ≡ length (points_from 0 ys) + length (points_from (0 + length (letters_of ys)) zs) = ap (λ l. length (points_from 0 l)) (sym (take-append-drop (i + 1) xs)) ∙ ap length (points_from-append 0 ys zs) ∙ length-append (points_from 0 ys) (points_from (0 + length (letters_of ys)) zs) in
       omega arith
 
--- the letters of a front are no more than its bytes
+-- the letters of a prefix are no more than its bytes
 pub letters_few : (xs : List ℕ) (i : ℕ) → length (letters_of (take i xs)) ≤ i
 letters_few xs i = let all = length-parts 0 (take i xs) in let long = length-take i xs in omega arith
 

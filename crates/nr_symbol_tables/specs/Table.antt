@@ -26,7 +26,7 @@ abbrev pub replaced : {X : Type 0} → List ℕ → X → List (Named X) → Lis
 replaced name x [] = []
 replaced name x (e ∷ es) = if is_same e.name name then record { name = name; value = x } ∷ es else e ∷ replaced name x es
 
--- a new name, before the first that comes behind it
+-- a new name, before the first that comes after it
 abbrev pub inserted : {X : Type 0} → List ℕ → X → List (Named X) → List (Named X)
 inserted name x [] = record { name = name; value = x } ∷ []
 inserted name x (e ∷ es) = if is_before name e.name then record { name = name; value = x } ∷ (e ∷ es) else e ∷ inserted name x es

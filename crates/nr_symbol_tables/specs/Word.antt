@@ -33,7 +33,7 @@ word_of given = record { letters = letters_of given; points = points_from 0 give
 abbrev pub bytes_of : List Cell → List ℕ
 bytes_of cells = map (λ (x : Cell). x.byte) cells
 
--- a byte that may stand behind a word: `.,;:!?)`
+-- a byte that may stand after a word: `.,;:!?)`
 abbrev pub closes : ℕ → Bool
 closes b = b == code "." || b == code "," || b == code ";" || b == code ":" || b == code "!" || b == code "?" || b == code ")"
 
@@ -41,7 +41,7 @@ closes b = b == code "." || b == code "," || b == code ";" || b == code ":" || b
 abbrev pub stem : List ℕ → List ℕ
 stem bytes = take (length bytes - suffix_len closes bytes) bytes
 
--- whether bytes are a word, or that word with an `s` behind it; a word of no letters is none
+-- whether bytes are a word, or that word with an `s` after it; a word of no letters is none
 abbrev pub is_given : List ℕ → Word → Bool
 is_given bytes w = not (length w.letters == 0) && (bytes_eq bytes w.letters || bytes_eq bytes (w.letters ++ code "s" ∷ []))
 

@@ -22,7 +22,7 @@ fn place_behind(place: u16, from: u16) -> u16 {
     place.saturating_add(u16::from(place >= from))
 }
 
-// One place before, behind a place.
+// One place before, after a place.
 fn place_before(place: u16, gone: u16) -> u16 {
     place.saturating_sub(u16::from(place > gone))
 }
@@ -55,7 +55,7 @@ impl Hints {
         }
     }
 
-    /// The name that stood here is gone, and those behind it stand one place before.
+    /// The name that stood here is gone, and those after it stand one place before.
     pub(crate) fn closed(&mut self, at: usize) {
         let at = low_place(at);
         for kind in 0..KINDS {

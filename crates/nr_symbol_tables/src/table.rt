@@ -61,7 +61,7 @@ fn place_near<V: Copy>(row: &[Entry<V>], near: usize, name: Name) -> Result<usiz
 }
 
 /// What has a name, with room for a number of names that stays, in the order of the names. A name is found at once, or in as many steps as
-/// the logarithm of the number of names; one that is new or goes moves those behind it at once.
+/// the logarithm of the number of names; one that is new or goes moves those after it at once.
 ///
 /// Clauses see the list of names with their values, and the room, the greatest number of names.
 #[derive(Drop)]

@@ -10,7 +10,7 @@ pub const LONGEST: usize = 64;
 
 /// A word of `.hw` and the places in it where it may be cut (CSTR 54, hyphenation).
 //
-// The letters stand first in `bytes`, and the places behind them.
+// The letters stand first in `bytes`, and the places after them.
 #[derive(Clone, Copy)]
 pub struct HyphenationWord {
     pub(crate) bytes: [u8; LONGEST],
@@ -46,7 +46,7 @@ impl HyphenationWord {
         word
     }
 
-    // Adds a byte behind those that there are.
+    // Adds a byte after those that there are.
     fn push(&mut self, byte: u8)
         requires { self.old.len < 64 }
         ensures { IsLonger self.old self.new (byte ∷ []) }
@@ -102,7 +102,7 @@ impl HyphenationWord {
         &self.bytes[usize::from(self.letters)..usize::from(self.len)]
     }
 
-    /// Whether the bytes of these cells are the word, or the word with an `s` behind it. A word of no letters is none.
+    /// Whether the bytes of these cells are the word, or the word with an `s` after it. A word of no letters is none.
     #[inline]
     pub fn is_given(&self, cells: &[Cell]) -> bool
         ensures { result ≡ is_given (bytes_of cells.now) (word_in self.now) }
@@ -135,7 +135,7 @@ fn has_bytes(cells: &[Cell], bytes: &[u8]) -> bool
     true
 }
 
-// Whether a byte may stand behind a word: `.,;:!?)`.
+// Whether a byte may stand after a word: `.,;:!?)`.
 fn closes(byte: u8) -> bool
     ensures { result ≡ closes byte }
 {

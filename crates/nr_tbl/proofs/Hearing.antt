@@ -58,7 +58,7 @@ room_kept a b room x y m e p q = omega arith
 few_more : (a b c x y m : ℕ) → x ≡ m + y → b ≤ a + m → c ≤ b + y → c ≤ a + x
 few_more a b c x y m e p q = omega arith
 
--- behind one of n meetings there is room for the others, and they put no more than that
+-- after one of n meetings there is room for the others, and they put no more than that
 pub room_for : (a b room n m k : ℕ) → 0 < n → k ≡ m → a + n * m ≤ room → b ≤ a + m → b + (n - 1) * k ≤ room
 room_for a b room n m k l e p q =
     let P : ℕ → Type 0 = λ i. b + (n - 1) * i ≤ room in

@@ -1,4 +1,4 @@
--- Bytes behind others.
+-- Bytes after others.
 use Rattle.std.proofs.Common.{◌≡◌, ℕ, List, ◌++◌, ◌∙◌, ap, append_assoc}
 
 -- first these, then those

@@ -11,7 +11,7 @@ none_before n = omega arith
 pub told-eq : (r s : Page) (xs ys : List ℕ) (m n : ℕ) → r ≡ s → xs ≡ ys → m ≡ n → told r xs m ≡ told s ys n
 told-eq r s xs ys m n p q e = cc
 
--- behind nothing
+-- after nothing
 pub behind-none : (t : Told) → behind [] 0 t ≡ t
 behind-none t = told-eq _ _ _ _ _ _ refl refl (none_before t.steps)
 

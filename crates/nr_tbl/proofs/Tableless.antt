@@ -32,7 +32,7 @@ or-second true y h = absurd (let no : true ≡ false = h in cc)
 outside : ℕ → ℕ → ℕ → Mode → Page
 outside fl rl ll mode = record { half = record (first_half ll) { mode = mode }; formats = record { items = []; room = fl }; row = record { items = []; room = rl }; from = 0 }
 
--- where it is behind a byte
+-- where it is after a byte
 behind_byte : Bool → Mode
 behind_byte newline = if newline then modes.Start helds.Nothing else modes.Passing
 
@@ -107,7 +107,7 @@ held_grows helds.End next b e = absurd (let no : None ≡ Some next = e in cc)
 held_grows helds.More next b e = absurd (let no : None ≡ Some next = e in cc)
 held_grows helds.T next b e = absurd (let no : None ≡ Some next = e in cc)
 
--- where no table begins behind what is held
+-- where no table begins after what is held
 no_begin : (held : Held) (b : ℕ) (bs : List ℕ) → has_table_from true (held_bytes held ++ b ∷ bs) ≡ false → (is_begin held && ends_name b) ≡ false
 no_begin helds.Begin b bs h = or-first (ends_name b) (has_table_from (b == 10) bs) h
 no_begin helds.Nothing b bs h = refl
@@ -126,7 +126,7 @@ none_behind helds.End b bs h = or-second (begins_table (46 ∷ 84 ∷ 69 ∷ b �
 none_behind helds.More b bs h = or-second (begins_table (46 ∷ 84 ∷ 38 ∷ b ∷ bs)) (has_table_from (b == 10) bs) h
 none_behind helds.T b bs h = or-second (begins_table (84 ∷ b ∷ bs)) (has_table_from (b == 10) bs) h
 
--- what comes of bytes outside of tables, in the midst of a line and behind what is held
+-- what comes of bytes outside of tables, in the midst of a line and after what is held
 record Untouched (fl rl ll : ℕ) (bs : List ℕ) : Type 0 where
   pub midst : has_table_from false bs ≡ false → Comes_to (outside fl rl ll modes.Passing) bs bs
   pub start : (held : Held) → has_table_from true (held_bytes held ++ bs) ≡ false → Comes_to (outside fl rl ll (modes.Start held)) bs (held_bytes held ++ bs)

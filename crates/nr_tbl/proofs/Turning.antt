@@ -120,7 +120,7 @@ Took-byte a b byte r s pending left steps newline wrong gives reader out made en
       ∙ ap (λ (x : Bool). found wrong (taken_to x place).line) (sym ends);
 }
 
--- behind nothing
+-- after nothing
 pub Took-after_none : (a b c : Option Supply) (r s : Page) (p q left : List ℕ) (n m j steps : ℕ) (newline last : Bool) (wrong other : Option Kind)
     → n ≡ 0 → Took a b r r p q n m last other → Took b c r s q left j steps newline wrong → Took a c r s p left j steps newline wrong
 Took-after_none a b c r s p q left n m j steps newline last wrong other zero f g =

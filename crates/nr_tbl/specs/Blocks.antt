@@ -36,7 +36,7 @@ at_block_start held b h = start_with (held_with held b) held b h
 abbrev pub in_block_line : ℕ → Half → Met
 in_block_line b h = taking (if b == 10 then modes.BlockStart helds.Nothing else modes.BlockLine) (Say (says.Double b)) h
 
--- behind `T}`
+-- after `T}`
 abbrev pub in_block_end : ℕ → Half → Met
 in_block_end b h =
     if b == 32 then taking modes.BlockEnd (Say says.Nothing) h else

@@ -7,7 +7,7 @@ use Rattle.nr_tbl.specs.declared.field.Shape.TheVariants.{Empty, Rule, T, Block,
 abbrev pub first : ℕ → Shape
 first b = if (b == 95) || (b == 61) then Rule else if b == 84 then T else if b == 92 then Backslash else Text
 
--- behind a backslash: _ = ^ R
+-- after a backslash: _ = ^ R
 abbrev pub escaped : ℕ → Shape
 escaped b = if (b == 95) || (b == 61) then Inner else if b == 94 then Above else if b == 82 then R else Text
 

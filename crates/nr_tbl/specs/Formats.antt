@@ -109,7 +109,7 @@ bad_byte f = told (record f { bad = true }) (only Nothing)
 abbrev pub going_on : Part → Call → Formats → Told
 going_on part call f = told (record f { part = part }) (only call)
 
--- b i e x z t d, u without effect, f w p v m, and a number for the space behind it
+-- b i e x z t d, u without effect, f w p v m, and a number for the space after it
 abbrev pub modifier : ℕ → Formats → Told
 modifier b f =
     if b == 98 then told f (only (Font 66)) else

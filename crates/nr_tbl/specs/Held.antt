@@ -7,7 +7,7 @@ use Rattle.nr_tbl.specs.declared.held.Held.TheVariants.{Nothing, Dot, DotT, Begi
 abbrev pub ends_name : ℕ → Bool
 ends_name b = (b == 10) || (b == 32) || (b == 9) || (b == 92)
 
--- behind .T: S E &
+-- after .T: S E &
 abbrev pub command : ℕ → Option Held
 command b = if b == 83 then Some Begin else if b == 69 then Some End else if b == 38 then Some More else None
 

@@ -24,7 +24,7 @@ at place c = record c { place = place }
 abbrev pub is_printing : ℕ → Bool
 is_printing b = nat_le 32 b && nat_le b 126
 
--- behind a backslash a sign, or nothing: - ' ` . e 0 | ^ & % and a blank
+-- after a backslash a sign, or nothing: - ' ` . e 0 | ^ & % and a blank
 abbrev pub is_sign : ℕ → Bool
 is_sign b =
     (b == 45) || (b == 39) || (b == 96) || (b == 46) || (b == 101) || (b == 48) || (b == 124) || (b == 94) || (b == 38) || (b == 37) || (b == 32)
@@ -93,7 +93,7 @@ overruns sure cells left = false
 abbrev pub told : Measure → Measure
 told m = record m { sure = sures.Nothing }
 
--- the field and the space behind it are taken
+-- the field and the space after it are taken
 abbrev pub taken : Sure → ℕ → Measure → Measure
 taken sures.Text cells m = record m { left = m.left - cells - m.gap }
 taken sure cells m = m

@@ -1,4 +1,4 @@
--- Where a number is aligned (tbl(1), "n"): at its first \&, else at its last point before a digit, else behind its last digit.
+-- Where a number is aligned (tbl(1), "n"): at its first \&, else at its last point before a digit, else after its last digit.
 use Rattle.std.specs.Prelude.{ℕ, ◌+◌, ◌-◌, Bool, ◌==◌, ◌&&◌, nat_le, nat_lt, if◌then◌else◌, Option, None, Some}
 use Rattle.nr_tbl.specs.declared.numbers.Marks.{Marks}
 

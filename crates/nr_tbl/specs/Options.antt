@@ -37,7 +37,7 @@ choice_of word =
     if is_word word (codes "nospaces") then choices.NoSpaces else
     if is_word word (codes "nokeep") then choices.NoKeep else frame_of word
 
--- fields are separated by tabs, and the fraction of a number stands behind a point
+-- fields are separated by tabs, and the fraction of a number stands after a point
 abbrev pub no_options : Options
 no_options = record { center = false; expand = false; frame = Open; tab = 9; point = 46; nospaces = false; nokeep = false; unknown = false }
 
@@ -74,7 +74,7 @@ word_ended r = record first_options { options = if length r.word == 0 then r.opt
 abbrev pub with_letter : ℕ → OptionsRead → OptionsRead
 with_letter b r = if length r.word == 32 then r else record r { word = r.word ++ small b ∷ [] }
 
--- behind a blank it begins another word
+-- after a blank it begins another word
 abbrev pub letter : ℕ → OptionsRead → OptionsRead
 letter b r = with_letter b (if r.spaced then word_ended r else r)
 

@@ -42,7 +42,7 @@ row_begun h = record h { fields = 0; shape = Empty; marks = first_marks; measure
 abbrev pub formats_begun : Bool → Act → Half → Met
 formats_begun first act h = taking (modes.FormatStart helds.Nothing) act (record h { first = first; dotted = false; opened = false })
 
--- a table begins behind the line
+-- a table begins after the line
 abbrev pub in_title : ℕ → Half → Met
 in_title b h =
     if b == 10

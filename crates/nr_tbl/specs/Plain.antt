@@ -21,7 +21,7 @@ start_with None held b h =
 abbrev pub at_plain_start : Held → ℕ → Half → Met
 at_plain_start held b h = start_with (held_with held b) held b h
 
--- behind `.TE`
+-- after `.TE`
 abbrev pub in_plain_end : ℕ → Half → Met
 in_plain_end b h =
     if b == 10 then taking (modes.Start helds.Nothing) (Say says.PlainDone) h else taking modes.PlainEnd (Say (says.Byte b)) h

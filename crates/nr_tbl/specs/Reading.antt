@@ -44,7 +44,7 @@ first_page formats row line = record { half = first_half line; formats = record 
 abbrev pub most : Page → ℕ
 most p = 4 * p.row.room + 32 * p.formats.room + 16384
 
--- what is half read behind an act, and what goes out
+-- what is half read after an act, and what goes out
 pub record Effect : Type 0 where
   pub page : Page
   pub bytes : List ℕ
@@ -127,7 +127,7 @@ options_told p =
 abbrev pub formats_measured : Widths → Half → Half
 formats_measured w h = record h { measure = measured_formats h.options.expand w h.measure }
 
--- what was kept is formats, up to a newline behind it
+-- what was kept is formats, up to a newline after it
 abbrev pub formats_told : Page → Effect
 formats_told p =
     let s = all_read p.formats.items p.half.formats in
@@ -223,7 +223,7 @@ abbrev pub found : Option Kind → ℕ → List Complaint
 found None line = []
 found (Some kind) line = record { kind = kind; line = line } ∷ []
 
--- of bytes behind this place: of two things that are wrong at a byte the first is told
+-- of bytes after this place: of two things that are wrong at a byte the first is told
 abbrev pub complaints_from : Place → Page → List ℕ → List Complaint
 complaints_from place p [] = []
 complaints_from place p (b ∷ bs) =

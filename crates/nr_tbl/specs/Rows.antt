@@ -53,7 +53,7 @@ abbrev pub in_request : ℕ → Half → Met
 in_request b h =
     if b == 10 then taking (modes.RowStart helds.Nothing) (Say says.RequestEnd) h else taking modes.Request (Say (says.Double b)) h
 
--- behind .T& formats begin with the next line
+-- after .T& formats begin with the next line
 abbrev pub in_command : ℕ → Half → Met
 in_command b h =
     if b == 10
@@ -113,18 +113,18 @@ ending_line h = line_with h.shape h
 
 -- ---- a byte, by where it stands
 
--- behind the last column a tab is text
+-- after the last column a tab is text
 abbrev pub in_field : ℕ → Bool → Half → Met
 in_field b full h =
     if b == 10 then ending_line h else
     if (b == h.options.tab) && not (is_beyond h) then ending_field h else
     if b == 92 then taking modes.Escaped (Say says.Nothing) h else keeping b full h
 
--- in a comment behind the last column
+-- in a comment after the last column
 abbrev pub in_comment : ℕ → Half → Met
 in_comment b h = if b == 10 then leaving modes.RowEnd (Say says.Nothing) h else taking modes.Comment (Say says.Nothing) h
 
--- behind a backslash, which is kept first: a newline there vanishes with it, and a quote makes a comment of a field beyond
+-- after a backslash, which is kept first: a newline there vanishes with it, and a quote makes a comment of a field beyond
 -- the columns
 abbrev pub in_escaped : ℕ → Bool → Half → Met
 in_escaped b full h =

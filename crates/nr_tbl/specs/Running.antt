@@ -32,7 +32,7 @@ abbrev pub FrontAtErr : {T E : Type 0} → Result T E → Option (List ℕ) → 
 FrontAtErr (Ok x) old new bytes = Unit {0}
 FrontAtErr (Err e) old new bytes = AppendsFront old new bytes
 
--- a front of what is pending went out, and the rest is left
+-- a prefix of what is pending went out, and the rest is left
 pub record Flushes (held new : Option (List ℕ)) (pending left : List ℕ) : Type 0 where
   pub out : List ℕ
   pub went_out : Appends held new out
@@ -136,7 +136,7 @@ pub record IsCut (fl rl ll : ℕ) (first last : Option Supply) (held new : Optio
   pub tells : Tells a (fed (first_page fl rl ll) bytes).steps (complaints_before_end fl rl ll bytes)
   pub quick : a.steps ≤ 10 * length bytes
 
--- some bytes came, and a front of what they come to went out; what they tell is told, without the end or with it
+-- some bytes came, and a prefix of what they come to went out; what they tell is told, without the end or with it
 pub record IsBroken (fl rl ll : ℕ) (first last : Option Supply) (held new : Option (List ℕ)) (a : Account) : Type 0 where
   pub bytes : List ℕ
   pub came : Comes first bytes last

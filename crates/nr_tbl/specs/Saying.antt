@@ -38,7 +38,7 @@ repeat_bytes b = mark_bytes marks.Repeat ++ codes ".ds *t\\n(*r,\\n(*f \"" ++ do
 abbrev pub text_bytes : List ℕ → List ℕ
 text_bytes text = codes ".ds *t\\n(*r,\\n+(*f \"" ++ doubled text ++ 10 ∷ []
 
--- string *uR,F is what of it stands before the place where it is aligned, behind a 0, so that it has a width
+-- string *uR,F is what of it stands before the place where it is aligned, after a 0, so that it has a width
 abbrev pub front_bytes : List ℕ → List ℕ
 front_bytes text = codes ".ds *u\\n(*r,\\n(*f \"0" ++ doubled text ++ 10 ∷ []
 

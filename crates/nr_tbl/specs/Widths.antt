@@ -43,7 +43,7 @@ sum_of a b = min (a + b) 18446744073709551615
 abbrev pub with_column : ℕ → Line → Line
 with_column width line = record line { cells = sum_of line.cells width }
 
--- and the space behind it: 3n, where no number gives another
+-- and the space after it: 3n, where no number gives another
 abbrev pub with_gap : ℕ → Line → Line
 with_gap width line = record (with_column width line) { gaps = sum_of line.gaps 3 }
 
@@ -94,12 +94,12 @@ called_in call begins w = w
 abbrev pub widths_with : Called → Widths → Widths
 widths_with called w = called_in called.call called.begins (if called.ends then ended w else w)
 
--- ---- all bytes, behind what was read
+-- ---- all bytes, after what was read
 
 abbrev pub all_widths : List ℕ → Formats → Widths → Widths
 all_widths [] f w = w
 all_widths (b ∷ bs) f w = let t = read b f in all_widths bs t.formats (widths_with t.called w)
 
--- with a newline behind them
+-- with a newline after them
 abbrev pub widths_of : List ℕ → Formats → Widths
 widths_of text f = all_widths (text ++ 10 ∷ []) f first_widths

@@ -48,7 +48,7 @@ impl Half {
         self.takes(mode, Act::Say(Said::Double(byte)))
     }
 
-    /// A byte behind `T}`.
+    /// A byte after `T}`.
     pub(crate) fn in_block_end(&mut self, byte: u8) -> Seen
         ensures { met self.new result ≡ specs.in_block_end byte self.old }
     {

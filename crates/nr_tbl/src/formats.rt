@@ -19,7 +19,7 @@ pub(crate) enum Part {
     Keys,
     /// `f`
     Font,
-    /// `f` and a letter, behind which another may stand.
+    /// `f` and a letter, after which another may stand.
     FontMore,
     /// `f(` and a name, by its last letter.
     FontName(u8),
@@ -27,7 +27,7 @@ pub(crate) enum Part {
     Width,
     /// `w(` and a part of a width.
     WidthIn,
-    /// Digits of a width or of the space behind a column.
+    /// Digits of a width or of the space after a column.
     Digits,
     /// `p` or `v`, whose number has no effect.
     Size,
@@ -73,7 +73,7 @@ pub(crate) enum Call {
     Font(u8),
     /// The width of a column begins.
     Width,
-    /// The space behind a column begins with this digit.
+    /// The space after a column begins with this digit.
     Gap(u8),
     /// A byte of that.
     Byte(u8),
@@ -111,7 +111,7 @@ fn bars_digit(bars: usize) -> u8
     }
 }
 
-/// Puts a call behind what goes out: at most 16 bytes.
+/// Puts a call after what goes out: at most 16 bytes.
 fn put_call(call: Call, out: &mut FixedVec<u8>)
     requires { length out.old.items + 16 ≤ out.old.room }
     ensures items { out.new.items ≡ out.old.items ++ specs.call_bytes call }
@@ -146,7 +146,7 @@ fn put_call(call: Call, out: &mut FixedVec<u8>)
     }
 }
 
-/// Puts what a byte calls behind what goes out: at most 32 bytes.
+/// Puts what a byte calls after what goes out: at most 32 bytes.
 pub(crate) fn put_called(called: Called, out: &mut FixedVec<u8>)
     requires { length out.old.items + 32 ≤ out.old.room }
     ensures items { out.new.items ≡ out.old.items ++ specs.called_bytes called }
@@ -198,7 +198,7 @@ impl Called {
 }
 
 impl Formats {
-    /// Nothing was read; behind lines that have so many columns.
+    /// Nothing was read; after lines that have so many columns.
     pub(crate) fn new(columns: usize, lines: usize, numeric: bool) -> Formats
         ensures { result ≡ specs.first_formats columns lines numeric }
     {
@@ -376,7 +376,7 @@ impl Formats {
         self.goes_on(Part::Keys, Call::Font(font_of(letter)))
     }
 
-    /// A byte behind `f`.
+    /// A byte after `f`.
     fn in_font(&mut self, byte: u8) -> Called
         ensures { specs.told self.new result ≡ specs.in_font byte self.old }
     {
@@ -388,7 +388,7 @@ impl Formats {
         }
     }
 
-    /// A byte behind `f` and a letter: a capital letter or a digit is a part of the name.
+    /// A byte after `f` and a letter: a capital letter or a digit is a part of the name.
     fn in_font_more(&mut self, byte: u8) -> Called
         ensures { specs.told self.new result ≡ specs.in_font_more byte self.old }
     {
@@ -409,7 +409,7 @@ impl Formats {
         }
     }
 
-    /// A byte behind `w`.
+    /// A byte after `w`.
     fn in_width(&mut self, byte: u8) -> Called
         ensures { specs.told self.new result ≡ specs.in_width byte self.old }
     {
@@ -442,7 +442,7 @@ impl Formats {
         }
     }
 
-    /// A byte behind `p` or `v`.
+    /// A byte after `p` or `v`.
     fn in_size(&mut self, byte: u8) -> Called
         ensures { specs.told self.new result ≡ specs.in_size byte self.old }
     {
@@ -453,7 +453,7 @@ impl Formats {
         }
     }
 
-    /// A byte among the digits behind `p` or `v`.
+    /// A byte among the digits after `p` or `v`.
     fn in_size_digits(&mut self, byte: u8) -> Called
         ensures { specs.told self.new result ≡ specs.in_size_digits byte self.old }
     {
@@ -463,7 +463,7 @@ impl Formats {
         }
     }
 
-    /// A byte in parentheses behind `p` or `v`.
+    /// A byte in parentheses after `p` or `v`.
     fn in_size_in(&mut self, byte: u8) -> Called
         ensures { specs.told self.new result ≡ specs.in_size_in byte self.old }
     {

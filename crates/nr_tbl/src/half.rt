@@ -18,7 +18,7 @@ pub(crate) enum Mode {
     Start(Held),
     /// In such a line.
     Passing,
-    /// Behind `.TS`.
+    /// After `.TS`.
     Title,
     /// At the beginning of a line of options or formats.
     FormatStart(Held),
@@ -32,29 +32,29 @@ pub(crate) enum Mode {
     RowStart(Held),
     /// In a field.
     Field,
-    /// Behind a backslash in a field, which isn't kept yet.
+    /// After a backslash in a field, which isn't kept yet.
     Escaped,
-    /// Behind a backslash that is.
+    /// After a backslash that is.
     Literal,
-    /// In a comment behind the last column.
+    /// In a comment after the last column.
     Comment,
     /// At the end of a row, whose fields were said.
     RowEnd,
     /// In a line of a request between rows.
     Request,
-    /// Behind `.T&`.
+    /// After `.T&`.
     Command,
     /// At the beginning of a line in a text block.
     BlockStart(Held),
     /// In such a line.
     BlockLine,
-    /// Behind the end of a text block.
+    /// After the end of a text block.
     BlockEnd,
     /// At the beginning of a line of a table that isn't set.
     PlainStart(Held),
     /// In such a line.
     PlainLine,
-    /// Behind its `.TE`.
+    /// After its `.TE`.
     PlainEnd,
 }
 

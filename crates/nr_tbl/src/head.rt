@@ -106,14 +106,14 @@ impl Half {
         }
     }
 
-    /// The newline behind the formats.
+    /// The newline after the formats.
     pub(crate) fn in_begun(&mut self) -> Seen
         ensures { met self.new result ≡ specs.in_begun self.old }
     {
         self.takes(Mode::RowStart(Held::Nothing), Act::Forget)
     }
 
-    /// The newline behind formats that can't be.
+    /// The newline after formats that can't be.
     pub(crate) fn in_failed(&mut self) -> Seen
         ensures { met self.new result ≡ specs.in_failed self.old }
     {

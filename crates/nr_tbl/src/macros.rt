@@ -462,7 +462,7 @@ a b ccc\n\
 ..\n\
 ";
 
-/// Puts the macros behind what goes out: at most 16128 bytes.
+/// Puts the macros after what goes out: at most 16128 bytes.
 pub(crate) fn put_macros(out: &mut FixedVec<u8>)
     requires { length out.old.items + 16128 ≤ out.old.room }
     ensures items { out.new.items ≡ out.old.items ++ macros }

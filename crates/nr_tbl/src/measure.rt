@@ -11,15 +11,15 @@ use super::widths::{GAP, Line, Widths};
 pub(crate) enum Place {
     /// In no escape.
     Text,
-    /// Behind a backslash.
+    /// After a backslash.
     Escape,
-    /// Behind `\\f`.
+    /// After `\\f`.
     Font,
     /// Before a name of two bytes.
     First,
     /// Before the second of them.
     Second,
-    /// Behind what may move back, or takes more.
+    /// After what may move back, or takes more.
     Unsure,
 }
 
@@ -52,7 +52,7 @@ pub(crate) struct Measure {
     pub gap: usize,
     /// What else is sure.
     pub sure: Sure,
-    /// What the fields of the row, and the spaces behind them, leave of the line.
+    /// What the fields of the row, and the spaces after them, leave of the line.
     pub left: usize,
 }
 
@@ -73,7 +73,7 @@ fn is_sign(byte: u8) -> bool
     )
 }
 
-/// Where the text is read behind this escape.
+/// Where the text is read after this escape.
 fn escaped(byte: u8) -> Place
     ensures { result ≡ specs.escaped byte }
 {
@@ -85,7 +85,7 @@ fn escaped(byte: u8) -> Place
     }
 }
 
-/// Where it is read behind this byte of a font.
+/// Where it is read after this byte of a font.
 fn font(byte: u8) -> Place
     ensures { result ≡ specs.font byte }
 {
@@ -217,7 +217,7 @@ impl Measure {
         }
     }
 
-    /// A field of so many cells is taken, and the space behind it.
+    /// A field of so many cells is taken, and the space after it.
     pub(crate) fn taken(self, cells: usize) -> Measure
         ensures { result ≡ specs.taken self.sure cells self }
     {

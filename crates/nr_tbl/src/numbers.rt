@@ -1,4 +1,4 @@
-//! Where a number is aligned: at `\&`, else at its last point before a digit, else behind its last digit.
+//! Where a number is aligned: at `\&`, else at its last point before a digit, else after its last digit.
 ghost use Rattle.std.specs.Prelude.{◌≡◌, ◌+◌, ◌^◌, ◌<◌};
 ghost use Rattle.nr_tbl.specs.Numbers as specs;
 
@@ -7,9 +7,9 @@ ghost use Rattle.nr_tbl.specs.Numbers as specs;
 pub(crate) struct Marks {
     /// Where its first `\&` stands.
     pub mark: Option<usize>,
-    /// Where the last point stands that has a digit behind it.
+    /// Where the last point stands that has a digit after it.
     pub point: Option<usize>,
-    /// The place behind its last digit.
+    /// The place after its last digit.
     pub digit: Option<usize>,
     /// Its last byte, or 0.
     pub last: u8,

@@ -68,7 +68,7 @@ pub(crate) struct OptionsRead {
     pub options: Options,
     /// The word.
     pub word: Name,
-    /// A blank stands behind the word.
+    /// A blank stands after the word.
     pub spaced: bool,
     /// Its argument is read.
     pub inside: bool,
@@ -217,7 +217,7 @@ impl OptionsRead {
         read
     }
 
-    /// A letter of a word: behind a blank it begins another.
+    /// A letter of a word: after a blank it begins another.
     fn letter(self, byte: u8) -> OptionsRead
         ensures { result ≡ specs.letter byte self }
     {

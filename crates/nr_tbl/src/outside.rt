@@ -48,7 +48,7 @@ impl Half {
         self.measure = self.measure.with_row();
     }
 
-    /// A line of formats begins behind this byte, or that of the options.
+    /// A line of formats begins after this byte, or that of the options.
     pub(crate) fn formats_begin(&mut self, first: bool, act: Act) -> Seen
         ensures { met self.new result ≡ specs.formats_begun first act self.old }
     {
@@ -58,7 +58,7 @@ impl Half {
         self.takes(Mode::FormatStart(Held::Nothing), act)
     }
 
-    /// A byte behind `.TS`: a table begins with the next line.
+    /// A byte after `.TS`: a table begins with the next line.
     pub(crate) fn in_title(&mut self, byte: u8) -> Seen
         ensures { met self.new result ≡ specs.in_title byte self.old }
     {

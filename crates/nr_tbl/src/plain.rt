@@ -33,7 +33,7 @@ impl Half {
         self.in_plain_line(byte)
     }
 
-    /// A byte behind `.TE`.
+    /// A byte after `.TE`.
     pub(crate) fn in_plain_end(&mut self, byte: u8) -> Seen
         ensures { met self.new result ≡ specs.in_plain_end byte self.old }
     {

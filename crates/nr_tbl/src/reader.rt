@@ -46,7 +46,7 @@ fn options_of(text: &[u8]) -> Options
     read.ended().options
 }
 
-/// Puts what formats call behind what goes out, and gives what was read of them.
+/// Puts what formats call after what goes out, and gives what was read of them.
 fn read_formats(first: Formats, text: &[u8], out: &mut FixedVec<u8>) -> Formats
     requires { length out.old.items + 32 * length text.now ≤ out.old.room }
     ensures formats { result ≡ (specs.all_read text.now first).formats }
@@ -86,7 +86,7 @@ fn put_text(text: &[u8], out: &mut FixedVec<u8>)
     out.push(b'\n');
 }
 
-/// Puts what stands before the place where a field is aligned, behind a 0.
+/// Puts what stands before the place where a field is aligned, after a 0.
 fn put_front(text: &[u8], out: &mut FixedVec<u8>)
     requires { length out.old.items + 32 + 2 * length text.now ≤ out.old.room }
     ensures items { out.new.items ≡ out.old.items ++ specs.front_bytes text.now }
@@ -190,7 +190,7 @@ impl<'a> Reader<'a> {
         say(Said::Options(options), out);
     }
 
-    /// What was kept is read as formats, up to a newline behind it.
+    /// What was kept is read as formats, up to a newline after it.
     fn read_formats(&mut self, out: &mut FixedVec<u8>)
         requires { length out.old.items + specs.most self.old ≤ out.old.room }
         ensures page { self.new ≡ (specs.formats_told self.old).page }

@@ -59,7 +59,7 @@ impl Half {
         self.takes(Mode::Request, Act::Say(Said::Double(byte)))
     }
 
-    /// A byte behind `.T&`: formats begin with the next line.
+    /// A byte after `.T&`: formats begin with the next line.
     pub(crate) fn in_command(&mut self, byte: u8) -> Seen
         ensures { met self.new result ≡ specs.in_command byte self.old }
     {
@@ -146,7 +146,7 @@ impl Half {
         }
     }
 
-    /// A tab behind a field.
+    /// A tab after a field.
     fn ends_field(&mut self) -> Seen
         ensures { met self.new result ≡ specs.ending_field self.old }
     {
@@ -155,7 +155,7 @@ impl Half {
         self.takes(Mode::Field, act)
     }
 
-    /// A newline behind a field: a rule alone is one across the table, and `T{` begins a block.
+    /// A newline after a field: a rule alone is one across the table, and `T{` begins a block.
     fn ends_line(&mut self) -> Seen
         ensures { met self.new result ≡ specs.ending_line self.old }
     {
@@ -173,7 +173,7 @@ impl Half {
         }
     }
 
-    /// A byte of a field, in no escape. Behind the last column a tab is text.
+    /// A byte of a field, in no escape. After the last column a tab is text.
     pub(crate) fn in_field(&mut self, byte: u8, full: bool) -> Seen
         ensures { met self.new result ≡ specs.in_field byte full self.old }
     {
@@ -189,7 +189,7 @@ impl Half {
         self.keeps(byte, full)
     }
 
-    /// A byte in a comment behind the last column: the row ends with its line.
+    /// A byte in a comment after the last column: the row ends with its line.
     pub(crate) fn in_comment(&mut self, byte: u8) -> Seen
         ensures { met self.new result ≡ specs.in_comment byte self.old }
     {
@@ -199,7 +199,7 @@ impl Half {
         self.takes(Mode::Comment, Act::Say(Said::Nothing))
     }
 
-    /// A byte behind a backslash, which is kept first: a newline there vanishes with it, and a quote makes a
+    /// A byte after a backslash, which is kept first: a newline there vanishes with it, and a quote makes a
     /// comment of a field beyond the columns.
     pub(crate) fn in_escaped(&mut self, byte: u8, full: bool) -> Seen
         ensures { met self.new result ≡ specs.in_escaped byte full self.old }
@@ -217,7 +217,7 @@ impl Half {
         self.leaves(Mode::Literal, Act::KeepField(b'\\'))
     }
 
-    /// A byte behind a backslash that is kept. Two are kept as `\\e`, which stays itself where it is read twice.
+    /// A byte after a backslash that is kept. Two are kept as `\\e`, which stays itself where it is read twice.
     pub(crate) fn in_literal(&mut self, byte: u8, full: bool) -> Seen
         ensures { met self.new result ≡ specs.in_literal byte full self.old }
     {
@@ -227,7 +227,7 @@ impl Half {
         self.in_field(byte, full)
     }
 
-    /// The newline behind a row.
+    /// The newline after a row.
     pub(crate) fn in_row_end(&mut self) -> Seen
         ensures { met self.new result ≡ specs.in_row_end self.old }
     {

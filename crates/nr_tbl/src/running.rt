@@ -24,7 +24,7 @@ const CHUNK: usize = 16384;
 pub enum Outcome {
     /// All was turned and went out.
     Done,
-    /// The input failed behind so many bytes.
+    /// The input failed after so many bytes.
     ReadFault {
         /// How many.
         at: u64,
@@ -268,7 +268,7 @@ fn run<R: Source, W: Sink>(
 /// `complaints` and `pending` held is of no account. `pending` is what is to go out: room beyond the least makes fewer writes.
 ///
 /// What goes out is one function of the bytes that came, however they came. At a read fault, and where the
-/// input is too long, it is that of the bytes before, but for what is half read; at a write fault a front of it.
+/// input is too long, it is that of the bytes before, but for what is half read; at a write fault a prefix of it.
 ///
 /// `complaints` holds then what was wrong with the tables of the bytes that came, each with its line, in the order of the
 /// input, as many as there is room for.

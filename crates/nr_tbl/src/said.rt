@@ -33,7 +33,7 @@ pub(crate) enum Said {
     Double(u8),
     /// What a line begins with.
     Held(Held),
-    /// The newline behind `.TS`, the macros if they aren't known, and the call that begins a table.
+    /// The newline after `.TS`, the macros if they aren't known, and the call that begins a table.
     Begin(bool),
     /// What the options set.
     Options(Options),
@@ -69,7 +69,7 @@ pub(crate) enum Said {
     GiveUpRow,
     /// All is as before.
     Done,
-    /// The newline behind `.TE`, and all is as before.
+    /// The newline after `.TE`, and all is as before.
     PlainDone,
 }
 
@@ -86,7 +86,7 @@ fn mark_digit(mark: Mark) -> u8
     }
 }
 
-/// Puts a mark behind what goes out: at most 32 bytes.
+/// Puts a mark after what goes out: at most 32 bytes.
 fn put_mark(mark: Mark, out: &mut FixedVec<u8>)
     requires { length out.old.items + 32 ≤ out.old.room }
     ensures items { out.new.items ≡ out.old.items ++ specs.mark_bytes mark }
@@ -198,7 +198,7 @@ pub(crate) fn put_call(said: Said, out: &mut FixedVec<u8>)
     }
 }
 
-/// Puts what is said behind what goes out: at most 16192 bytes.
+/// Puts what is said after what goes out: at most 16192 bytes.
 pub(crate) fn say(said: Said, out: &mut FixedVec<u8>)
     requires { length out.old.items + 16192 ≤ out.old.room }
     ensures items { out.new.items ≡ out.old.items ++ specs.bytes_of said }

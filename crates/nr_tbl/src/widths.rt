@@ -5,7 +5,7 @@ ghost use Rattle.nr_tbl.specs.Widths as specs;
 use super::formats::{Call, Called, Formats};
 use super::numbers::is_digit;
 
-/// The space behind a column where no number gives another.
+/// The space after a column where no number gives another.
 pub(crate) const GAP: usize = 3;
 
 /// What is read of a width.
@@ -43,7 +43,7 @@ pub(crate) struct Widths {
     pub line: Line,
     /// The last line in which a width stands.
     pub last: Line,
-    /// A number gives the space behind a column.
+    /// A number gives the space after a column.
     pub numbered: bool,
     /// A column may have less room than its field's text, or none.
     pub hides: bool,
@@ -114,7 +114,7 @@ impl Line {
         }
     }
 
-    /// With the space behind it too.
+    /// With the space after it too.
     fn with_gap(self, width: usize) -> Line
         ensures { result ≡ specs.with_gap width self }
     {
@@ -165,7 +165,7 @@ impl Widths {
         }
     }
 
-    /// A byte of a width, or of a space behind a column.
+    /// A byte of a width, or of a space after a column.
     fn byte_called(self, byte: u8) -> Widths
         ensures { result ≡ specs.byte_called byte self }
     {
@@ -232,7 +232,7 @@ impl Widths {
     }
 }
 
-/// What formats say of widths, up to a newline behind them.
+/// What formats say of widths, up to a newline after them.
 pub(crate) fn widths_of(first: Formats, text: &[u8]) -> Widths
     ensures { result ≡ specs.widths_of text.now first }
 {

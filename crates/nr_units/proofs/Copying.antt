@@ -6,7 +6,7 @@ use Rattle.std.proofs.lemmas.List.Edits.{take-paste}
 use Rattle.std.proofs.lemmas.Slice.{between_is, take-put_mid}
 use borrow.Rule.Slice.PartMut.{put_mid}
 
--- a front of what was copied behind the first a items
+-- a prefix of what was copied after the first a items
 pub front_put : {X : Type 0} (a k n : ℕ) (xs ys : List X) → a ≤ length xs → n ≤ length ys → take (a + n) (put_mid a k xs ys) ≡ take a xs ++ take n ys
 front_put a k n xs ys h i =
     let near : a + n ≤ a + length ys = omega arith in

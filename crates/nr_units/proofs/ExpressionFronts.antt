@@ -1,4 +1,4 @@
--- The fronts of a text that are expressions, and its open parentheses, by the scan.
+-- The prefixes of a text that are expressions, and its open parentheses, by the scan.
 use Rattle.std.proofs.Common.{◌≡◌, ℕ, ◌+◌, false, cond, ◌==◌, Option, Some, None, List, [], ◌∷◌, ◌++◌, length, ℤ, arith, refl, ap, sym, ne_eqb, append-nil, ◌∙◌}
 use Rattle.std.specs.List.{count_by}
 use Rattle.std.proofs.lemmas.List.Sums.{sum_by-cons}
@@ -92,7 +92,7 @@ read_spelled c u s v h value =
     let e = state_spelled c g.to v (ap (whole_value c) g.shows ∙ value) in
     record { expression = e.expression; text = e.text ∙ g.text; value = e.value }
 
--- ---- what is read can still become an expression, right behind an open parenthesis
+-- ---- what is read can still become an expression, right after an open parenthesis
 
 pub record CanEnd (u : List ℕ) : Type 0 where
   pub rest : List ℕ
@@ -116,7 +116,7 @@ open_ends c u s h is =
     let e = state_ends c g.to (ap (λ t. t.level) g.shows ∙ is) in
     record { rest = e.rest; expression = e.expression; text = e.text ∙ ap (λ v. v ++ e.rest) g.text }
 
--- ---- fronts of what is read are read
+-- ---- prefixes of what is read are read
 
 pub run-front : (c : Ctx) (s t : Scan) (u v : List ℕ) → run c s (u ++ v) ≡ Some t → (r : Scan) × (run c s u ≡ Some r)
 run-front c s t [] v h = (s, refl)

@@ -6,7 +6,7 @@ use Rattle.std.proofs.Math.Seq.{take-add}
 use Rattle.std.proofs.lemmas.List.{take_rest}
 use Rattle.nr_units.specs.Sink.{AppendsFront, passed_on_with}
 
--- a front and n bytes more
+-- a prefix and n bytes more
 pub front_grows : (a b c : Option (List ℕ)) (bs : List ℕ) (done n : ℕ) → done ≤ length bs → n ≤ length (take (length bs - done) (drop done bs))
     → Appends a b (take done bs) → Appends b c (take n (take (length bs - done) (drop done bs)))
     → (done + n ≤ length bs) × Appends a c (take (done + n) bs)
@@ -16,15 +16,15 @@ front_grows a b c bs done n h k p q =
     let q' = subst (λ xs. Appends b c (take n xs)) e q in
     (omega (arith, length-drop done bs), subst (Appends a c) (sym (take-add done n bs)) (Appends-trans a b c _ _ p q'))
 
--- an error that took nothing leaves a front
+-- an error that took nothing leaves a prefix
 pub front_stays : (a b c : Option (List ℕ)) (bs : List ℕ) (done : ℕ) → Appends a b (take done bs) → Keeps b c → AppendsFront a c bs
 front_stays a b c bs done p q = (take done bs, drop done bs, sym (take-append-drop done bs), Appends-kept a b c _ p q)
 
--- a front of some bytes is a front of these and more
+-- a prefix of some bytes is a prefix of these and more
 pub AppendsFront-append : (a b : Option (List ℕ)) (bs cs : List ℕ) → AppendsFront a b bs → AppendsFront a b (bs ++ cs)
 AppendsFront-append a b bs cs p = (p.0, p.1 ++ cs, ap (λ l. l ++ cs) p.2 ∙ append_assoc p.0 p.1 cs, p.3)
 
--- what was written whole, and then a front of the next bytes, is a front of all
+-- what was written whole, and then a prefix of the next bytes, is a prefix of all
 pub AppendsFront-after : (a b c : Option (List ℕ)) (bs cs : List ℕ) → Appends a b bs → AppendsFront b c cs → AppendsFront a c (bs ++ cs)
 AppendsFront-after a b c bs cs p q =
     (bs ++ q.0, q.1, ap (λ l. bs ++ l) q.2 ∙ sym (append_assoc bs q.0 q.1), Appends-trans a b c bs q.0 p q.3)

@@ -28,7 +28,7 @@ pub letters_none : (before n : ℕ) (row : List ℕ) → length row ≡ 14 → l
 unfolding letters
 letters_none before n row long = ap (λ (ys : List ℕ). letters_before 14 before n ys) (drop_all 14 row (omega arith))
 
--- behind the last
+-- after the last
 pub letters_all : (start before rest : ℕ) (more : List ℕ) → rest ≤ 0 → letters_before start before rest more ≡ more
 letters_all zero before rest more none = refl
 letters_all (suc s) before rest more none = let is : rest ≡ 0 = omega arith in rw is refl

@@ -9,8 +9,8 @@ use Rattle.nr_units.specs.declared.expression.Ctx.{Ctx}
 use Rattle.nr_units.proofs.Values.{operand_in_range, prefixed-minus, prefixed-bar}
 use Rattle.nr_units.proofs.Runs.{finished-nothing, finished-left}
 
--- Where an expression stands: outermost, or behind an open parenthesis and blanks. Where an operand stands: first, or
--- behind an expression and an operator with blanks at either side of it, or behind a sign, or behind a bar and blanks.
+-- Where an expression stands: outermost, or after an open parenthesis and blanks. Where an operand stands: first, or
+-- after an expression and an operator with blanks at either side of it, or after a sign, or after a bar and blanks.
 mutual
   pub data Slot : Type 0 where
     Outermost : Slot

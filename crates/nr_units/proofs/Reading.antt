@@ -50,7 +50,7 @@ take-more (suc i) zero text h = absurd (omega arith)
 take-more (suc i) (suc m) [] h = ([], refl)
 take-more (suc i) (suc m) (x ∷ xs) h = let v = take-more i m xs (omega arith) in (v.0, ap (λ u. x ∷ u) v.1)
 
--- ---- the answer for the fronts of at most i bytes
+-- ---- the answer for the prefixes of at most i bytes
 
 pub record Covers (c : Ctx) (text : List ℕ) (i : ℕ) (read : Read) : Type 0 where
   pub longest : (m : ℕ) (e : Expression) → m ≤ i → IsFront text m e → m ≤ read.used

@@ -20,7 +20,7 @@ use Rattle.nr_units.specs.declared.level.Mode.TheVariants.{Before, LonePoint, Wh
 use Rattle.nr_units.specs.declared.expression.Ctx.{Ctx}
 use Rattle.nr_units.proofs.Values.{IsInRange, operand_in_range, prefixed-none, prefixed-minus, prefixed-bar}
 
--- ---- one text behind another
+-- ---- one text after another
 
 pub run-append : (c : Ctx) (s t : Scan) (u v : List ℕ) → run c s u ≡ Some t → run c s (u ++ v) ≡ run c t v
 run-append c s t [] v h = let e : s ≡ t = cc in ap (λ x. run c x v) e
@@ -108,7 +108,7 @@ marks c t o v ws h k =
     ap (λ x. option_map (λ l. record { level = l; outer = x }) (with_mark c o t.level)) k
     ∙ ap (option_map (λ l. record { level = l; outer = ws })) (mark_in-value c o t.level.waiting t.level.mode v h)
 
--- what stands behind an operator
+-- what stands after an operator
 abbrev pub behind : Operator → Behind
 behind Add = AnOperator
 behind Subtract = AnOperator
@@ -228,7 +228,7 @@ fraction_runs c w ws x f p (d ∷ ds) h small =
           (more.1 ∙ ap (λ y. Some (in_number (Fraction x y more.0) w ws)) sum),
     )
 
--- digits behind a lone point, as behind 0 and a point
+-- digits after a lone point, as after 0 and a point
 lone_point : (c : Ctx) (w : Waiting) (ws : List Waiting) (d : ℕ) (ds : List ℕ) → d < 10 → run c (in_number LonePoint w ws) (digits_text (d ∷ ds)) ≡ run c (in_number (Fraction 0 0 1000) w ws) (digits_text (d ∷ ds))
 lone_point c w ws d ds h =
     let to : Mode = more_fraction 0 0 1000 d in

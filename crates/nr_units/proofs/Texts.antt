@@ -83,7 +83,7 @@ by_blank c (After k e n) s h = blank_ends c (After k e n) (ends_after c k e n) s
 
 -- ---- an operator's byte
 
--- `=` behind an operator
+-- `=` after an operator
 wider : (c : Ctx) (k : Slot) (e : Expression) (n : ℕ) (o wide : Operator) (s : Scan) → operator_text wide ≡ operator_text o ++ 61 ∷ [] → behind wide ≡ Nothing → after_symbol c (shown c (AtPlace (Next k e n o 0))) (Mark Equal) ≡ Some (record { level = record { mode = Before Nothing; waiting = record { left = Some (record { value = expression_value c e; operator = wide }); prefix = no_prefix } }; outer = outer_slot c k }) → after_symbol c (shown c (AtPlace (Next k e n o 0))) (Mark Equal) ≡ Some s → Goes c (AtPlace (Next k e n o 0)) (61 ∷ []) s
 wider c k e n o wide s text is step h =
     let i : Bool = is_inside k in

@@ -11,6 +11,6 @@ blank = record { byte = code " "; under = false }
 abbrev pub is_blank : Cell → Bool
 is_blank cell = cell.byte == code " "
 
--- the cells without the blanks behind the last that is none
+-- the cells without the blanks after the last that is none
 abbrev pub trimmed : List Cell → List Cell
 trimmed cells = take (length cells - suffix_len is_blank cells) cells

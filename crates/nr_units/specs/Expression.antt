@@ -10,12 +10,12 @@ use Rattle.nr_units.specs.declared.operators.Operator.TheVariants.{Add, Subtract
 use Rattle.nr_units.specs.declared.expression.Ctx.{Ctx}
 use Rattle.nr_units.specs.declared.expression.Read.{Read}
 
--- the number that digits write behind n
+-- the number that digits write after n
 abbrev pub whole_after : ℕ → List ℕ → ℕ
 whole_after n [] = n
 whole_after n (d ∷ ds) = whole_after (10 * n + d) ds
 
--- Digits behind the point, in ten-thousandths: the first counts 1000, the next 100, 10 and 1, the others nothing.
+-- Digits after the point, in ten-thousandths: the first counts 1000, the next 100, 10 and 1, the others nothing.
 abbrev pub fraction_by : ℕ → List ℕ → ℕ
 fraction_by place [] = 0
 fraction_by place (d ∷ ds) = place * d + fraction_by (place / 10) ds
@@ -84,7 +84,7 @@ pub record IsTooDeep (text : List ℕ) (k : ℕ) : Type 0 where
   pub depth : count_by (λ b. b == code "(") (take k text) ≡ 64 + count_by (λ b. b == code ")") (take k text)
   pub goes_on : (rest : List ℕ) × (e : Expression) × (expression_text false e ≡ take (suc k) text ++ rest)
 
--- The answer for a text: the longest front that is an expression, and its value.
+-- The answer for a text: the longest prefix that is an expression, and its value.
 pub record IsLongest (c : Ctx) (text : List ℕ) (read : Read) (e : Expression) : Type 0 where
   pub front : IsFront text read.used e
   pub longest : (m : ℕ) → (other : Expression) → IsFront text m other → m ≤ read.used

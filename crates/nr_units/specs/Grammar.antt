@@ -45,7 +45,7 @@ pub record Number : Type 0 where
   pub fraction : Option (List ℕ)
   pub scale : Option Scale
 
--- the digits behind the point, and the text of the point and them
+-- the digits after the point, and the text of the point and them
 abbrev pub fraction_digits : Option (List ℕ) → List ℕ
 fraction_digits None = []
 fraction_digits (Some ds) = ds
@@ -70,9 +70,9 @@ pub record IsNumber (n : Number) : Type 0 where
 abbrev pub number_text : Number → List ℕ
 number_text n = digits_text n.whole ++ (fraction_text n.fraction ++ scale_text n.scale)
 
--- An operand is a number, one with a sign in front, one behind a bar, or an expression in parentheses. An
+-- An operand is a number, one with a sign in front, one after a bar, or an expression in parentheses. An
 -- expression is an operand, and then any number of operators, each with an operand. The numbers say how many blanks
--- stand behind a bar, inside the parentheses at either end, and before and behind an operator.
+-- stand after a bar, inside the parentheses at either end, and before and after an operator.
 mutual
   pub data Operand : Type 0 where
     Numeral : (n : Number) → IsNumber n → Operand

@@ -1,4 +1,4 @@
--- What is read of a text, computed byte after byte: the longest front that is an expression, and its value.
+-- What is read of a text, computed byte after byte: the longest prefix that is an expression, and its value.
 use Rattle.std.specs.Prelude.{ℕ, ◌+◌, Bool, true, false, List, [], ◌∷◌, length, Option, Some, None, nat_le}
 use Rattle.nr_units.specs.Scan.{Scan, symbol_of, after_symbol, start, whole_value}
 use Rattle.nr_units.specs.Scanner.{read_at, noted}

@@ -8,7 +8,7 @@ use Rattle.std.specs.Cmp.Lexicographic.{slice_cmp}
 abbrev pub IsName : List ℕ → Type 0
 IsName bytes = length bytes ≤ 32
 
--- the order of names: by the first byte in which they differ, and a front before what it is a front of
+-- the order of names: by the first byte in which they differ, and a prefix before what it is a prefix of
 abbrev pub name_order : List ℕ → List ℕ → Ordering
 name_order = slice_cmp nat_cmp
 
@@ -16,7 +16,7 @@ name_order = slice_cmp nat_cmp
 abbrev pub kind_of_name : List ℕ → ℕ
 kind_of_name bytes = (45 * slice_index bytes 0 + slice_index bytes 1) % 512
 
--- a name as it lies in memory: its bytes, and zeros behind them to 32
+-- a name as it lies in memory: its bytes, and zeros after them to 32
 abbrev pub padded : List ℕ → List ℕ
 padded bytes = bytes ++ replicate (32 - length bytes) 0
 

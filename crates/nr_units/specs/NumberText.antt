@@ -40,7 +40,7 @@ abbrev pub AreLetters : ℕ → List ℕ → Type 0
 AreLetters before [] = Unit {0}
 AreLetters before (b ∷ bs) = (before < b) × (b ≤ before + 26) × AreLetters before bs
 
--- the number in base 26 that letters valued 1 to 26 write behind n
+-- the number in base 26 that letters valued 1 to 26 write after n
 abbrev pub letters_value_after : ℕ → ℕ → List ℕ → ℕ
 letters_value_after before n [] = n
 letters_value_after before n (b ∷ bs) = letters_value_after before (26 * n + (b - before)) bs
@@ -64,7 +64,7 @@ abbrev pub IsNumberText : Format → ℤ → List ℕ → Type 0
 IsNumberText format (pos n) text = IsForm format n text
 IsNumberText format (negsuc n) text = (form : List ℕ) × (text ≡ code "-" ∷ form) × IsForm format (suc n) form
 
--- new is old and behind it a text of which P holds
+-- new is old and after it a text of which P holds
 abbrev pub Appends : List ℕ → List ℕ → (List ℕ → Type 0) → Type 0
 Appends old new P = (form : List ℕ) × (new ≡ old ++ form) × P form
 

@@ -37,7 +37,7 @@ symbols =
 abbrev pub symbol_of : ℕ → Option Symbol
 symbol_of b = if nat_le (code "0") b && nat_le b (code "9") then Some (Digit (b - 48)) else found b symbols
 
--- an operator with `=` behind it, where that is one
+-- an operator with `=` after it, where that is one
 abbrev pub widened : Operator → Option Operator
 widened Less = Some LessOrEqual
 widened Greater = Some GreaterOrEqual
@@ -120,7 +120,7 @@ completed v = record { mode = Complete v; waiting = nothing_waits }
 abbrev pub in_mode : Level → Mode → Level
 in_mode l m = record { mode = m; waiting = l.waiting }
 
--- a digit of the whole part, and one behind the point
+-- a digit of the whole part, and one after the point
 abbrev pub capped : ℕ → ℕ
 capped n = min n (2 ^ 32 - 1)
 
@@ -147,7 +147,7 @@ with_point (Complete v) = None
 abbrev pub with_letter : Ctx → Scale → Level → Option Level
 with_letter c scale l = option_map (λ n. completed (number_value c scale l.waiting n)) (number_of l.mode)
 
--- `=` behind an operator
+-- `=` after an operator
 abbrev pub widened_left : Option Left → Option Left
 widened_left None = None
 widened_left (Some l) = option_map (λ o. record { value = l.value; operator = o }) (widened l.operator)
@@ -158,7 +158,7 @@ with_equal AnOperator w =
 with_equal Nothing w = None
 with_equal ASign w = None
 
--- an operator's byte where an operand is wanted: a sign, or `=` behind an operator
+-- an operator's byte where an operand is wanted: a sign, or `=` after an operator
 abbrev pub with_sign : Behind → Operator → Waiting → Option Level
 with_sign b Add w = Some (record { mode = Before ASign; waiting = w })
 with_sign b Subtract w = Some (record { mode = Before ASign; waiting = record { left = w.left; prefix = behind_minus w.prefix } })

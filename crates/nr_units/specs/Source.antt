@@ -71,7 +71,7 @@ abbrev pub Offers : Option Supply → List ℕ → Type 0
 Offers None bs = ⊤
 Offers (Some q) bs = (take (length bs) q.bytes ≡ bs) × MayGiveAll (length bs) q.faults
 
--- what is to come behind the next n bytes
+-- what is to come after the next n bytes
 abbrev pub skipped : ℕ → Supply → Supply
 skipped n q = record { bytes = drop n q.bytes; faults = later n q.faults }
 

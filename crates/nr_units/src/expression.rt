@@ -99,7 +99,7 @@ fn read_nested(text: &[u8], ctx: &Ctx) -> Read
     scanner.read(ctx, text.len(), longest)
 }
 
-/// Reads the longest front of a text that is a number expression (CSTR 54, numerical input).
+/// Reads the longest prefix of a text that is a number expression (CSTR 54, numerical input).
 ///
 /// An expression is evaluated from left to right without precedence; blanks stand in it inside parentheses only,
 /// before or after an operand or operator. Where a parenthesis is opened while 64 are open, the reading ends: there is

@@ -84,7 +84,7 @@ impl Prefix {
         }
     }
 
-    /// With a minus sign behind it.
+    /// With a minus sign after it.
     fn behind_minus(self) -> Self
         ensures { result ≡ behind_minus self }
     {
@@ -94,7 +94,7 @@ impl Prefix {
         }
     }
 
-    /// The shift with a bar behind, as near as it fits: one so far makes every value out of range.
+    /// The shift with a bar after, as near as it fits: one so far makes every value out of range.
     fn shift_behind_bar(self, here: i64) -> i64
         ensures { result ≡ shift_behind_bar here self }
     {
@@ -105,7 +105,7 @@ impl Prefix {
         }
     }
 
-    /// With a bar behind it.
+    /// With a bar after it.
     fn behind_bar(self, here: i64) -> Self
         ensures { result ≡ behind_bar here self }
     {
@@ -165,7 +165,7 @@ impl Waiting {
         }
     }
 
-    /// Behind this value and operator.
+    /// After this value and operator.
     pub(crate) fn behind(value: Option<i32>, operator: Operator) -> Self
         ensures { result ≡ record { left = Some (record { value = value; operator = operator }); prefix = no_prefix } }
     {
@@ -191,14 +191,14 @@ impl Mode {
     ghost use Rattle.nr_units.specs.Scan.{more_whole, more_fraction, with_digit, with_point, number_of, symbol_of};
     ghost use Rattle.nr_units.specs.declared.symbols.Symbol.TheVariants.{Digit};
 
-    /// With a digit behind the whole part.
+    /// With a digit after the whole part.
     pub(crate) fn more_whole(whole: u32, digit: u32) -> Self
         ensures { result ≡ more_whole whole digit }
     {
         Mode::Whole(whole.saturating_mul(10).saturating_add(digit))
     }
 
-    /// Behind the byte, if it is a digit of a whole number.
+    /// After the byte, if it is a digit of a whole number.
     #[inline(always)]
     pub(crate) fn behind_digit(self, byte: u8) -> Option<Self>
         ensures { IfSome result (λ mode. (symbol_of byte ≡ Some (Digit (byte - 48))) × (with_digit (byte - 48) self ≡ Some mode)) }
@@ -214,7 +214,7 @@ impl Mode {
         }
     }
 
-    /// With a digit behind the fraction.
+    /// With a digit after the fraction.
     pub(crate) fn more_fraction(whole: u32, fraction: u32, place: u32, digit: u32) -> Self
         ensures { result ≡ more_fraction whole fraction place digit }
     {
@@ -413,7 +413,7 @@ impl Level {
         }
     }
 
-    /// Takes a symbol that opens no parenthesis, outside parentheses, behind `at` bytes, and notes the longest expression
+    /// Takes a symbol that opens no parenthesis, outside parentheses, after `at` bytes, and notes the longest expression
     /// before it. Answers whether an expression may go on so; where none does, it is unchanged.
     #[inline(never)]
     pub(crate) fn take(&mut self, symbol: Symbol, ctx: &Ctx, at: usize, longest: &mut Read) -> bool
@@ -471,7 +471,7 @@ impl Level {
 impl Waiting {
     ghost use Rattle.nr_units.specs.Scan.{with_sign, widened_left};
 
-    /// An operator's byte where an operand is wanted: a sign, or the `=` behind an operator.
+    /// An operator's byte where an operand is wanted: a sign, or the `=` after an operator.
     fn with_sign(self, behind: Behind, operator: Operator) -> Option<Level>
         ensures { result ≡ with_sign behind operator self }
     {
@@ -507,7 +507,7 @@ impl Waiting {
 impl Left {
     ghost use Rattle.nr_units.specs.Scan.{widened};
 
-    /// With `=` behind the operator.
+    /// With `=` after the operator.
     fn widened(self) -> Option<Self>
         ensures { result ≡ option_map (λ o. record { value = self.value; operator = o }) (widened self.operator) }
     {

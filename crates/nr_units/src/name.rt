@@ -131,7 +131,7 @@ impl Name {
     }
 
     /// How it stands to another name in the order of names, which is total: by the first byte in which
-    /// they differ, and a front before what it is a front of.
+    /// they differ, and a prefix before what it is a prefix of.
     pub fn compare(&self, other: &Name) -> Ordering
         ensures { result ≡ name_order self.now other.now }
     {

@@ -164,7 +164,7 @@ impl<W: Write + Drop> ToWriter<W> {
     ghost use Rattle.std.specs.Prelude.{false};
     ghost use Rattle.nr_units.specs.Failures.{no_failures};
 
-    /// Writes behind what the writer holds, of which it may not have passed all on.
+    /// Writes after what the writer holds, of which it may not have passed all on.
     pub fn over(writer: W) -> Self
         ensures held { ⟦<ToWriter<W> as Sink>⟧.held result ≡ W.contents writer }
         ensures passed_on { ⟦<ToWriter<W> as Sink>⟧.passed_on result ≡ false }

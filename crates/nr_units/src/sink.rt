@@ -17,7 +17,7 @@ pub trait Sink {
     /// How many calls answered an error.
     ghost failures: { Self → SinkFailures };
 
-    /// Takes all of the bytes, or a front of them and answers an error.
+    /// Takes all of the bytes, or a prefix of them and answers an error.
     fn put(&mut self, bytes: &[u8]) -> Result<(), Fault>
         ensures ok { OnOk result (Appends (held self.old) (held self.new) bytes.now) }
         ensures err { OnErr result (AppendsFront (held self.old) (held self.new) bytes.now) }

@@ -9,7 +9,7 @@ use std::marker::Model;
 /// How many items are copied at once where no more than so many are added.
 const CHUNK: usize = 8;
 
-/// Items in a slice that is lent, from its start on. What lies behind them is of no account.
+/// Items in a slice that is lent, from its start on. What lies after them is of no account.
 ///
 /// Clauses see the items and the room, the greatest number of them. No call allocates; each takes
 /// constant time or one move of memory.

@@ -8,7 +8,7 @@ ghost use Rattle.nr_units.specs.Units.{nearest, with_sign_of, nearest_multiple, 
 /// The greatest magnitude that a value may have.
 const MAX_VALUE: u64 = 2_147_483_647;
 
-/// A scale of numbers, named by the letter behind the number (CSTR 54, numerical input).
+/// A scale of numbers, named by the letter after the number (CSTR 54, numerical input).
 #[derive(Clone, Copy)]
 pub enum Scale {
     /// `i`, 240u.

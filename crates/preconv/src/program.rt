@@ -49,7 +49,7 @@ fn borrowed(words: &[String], alloc: Global) -> Result<Vec<&str>, AllocError> {
     Ok(borrowed)
 }
 
-/// Runs the program over the words behind its name. All files are opened before the first is read, and
+/// Runs the program over the words after its name. All files are opened before the first is read, and
 /// nothing is opened where a word is bad.
 fn run_words<'a, R: Files, I: Read + Copy + Drop, W: Sink>(
     system: &R,

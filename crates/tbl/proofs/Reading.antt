@@ -14,7 +14,7 @@ second v w is = ap (λ (bytes : List ℕ). get_or bytes 1 0) is
 third : (v w : List ℕ) → v ≡ w → get_or v 2 0 ≡ get_or w 2 0
 third v w is = ap (λ (bytes : List ℕ). get_or bytes 2 0) is
 
--- two options that are one word set the same, and the same stands behind their fronts
+-- two options that are one word set the same, and the same stands after their fronts
 same_front : (a b : Which) (v w : List ℕ) → front_of a ++ v ≡ front_of b ++ w → (a ≡ b) × (v ≡ w)
 same_front Formats Formats v w is = (refl, cc)
 same_front Formats Row v w is = absurd (omega (arith, third (front_of Formats ++ v) (front_of Row ++ w) is))
@@ -26,7 +26,7 @@ same_front Line Formats v w is = absurd (omega (arith, second (front_of Line ++ 
 same_front Line Row v w is = absurd (omega (arith, second (front_of Line ++ v) (front_of Row ++ w) is))
 same_front Line Line v w is = (refl, cc)
 
--- each front begins with `-L` or with `-l`
+-- each prefix begins with `-L` or with `-l`
 front_known : (which : Which) (digits : List ℕ) → BeginsWith (codes "-L") (front_of which ++ digits) ⊎ BeginsWith (codes "-l") (front_of which ++ digits)
 front_known Formats digits = inl (116 ∷ digits, refl)
 front_known Row digits = inl (114 ∷ digits, refl)

@@ -37,7 +37,7 @@ least_of Formats = 1
 least_of Row = 64
 least_of Line = 1
 
--- the option sets this: decimal digits stand behind its front, and the number that they write is in range
+-- the option sets this: decimal digits stand after its front, and the number that they write is in range
 pub record Means (setting : Setting) (word : List ℕ) : Type 0 where
   pub digits : List ℕ
   pub word_is : word ≡ front_of setting.which ++ digits

@@ -49,7 +49,7 @@ fn borrowed(words: &[String], alloc: Global) -> Result<Vec<&str>, AllocError> {
     Ok(borrowed)
 }
 
-/// Runs the program over the words behind its name. All files are opened before the first is read, and
+/// Runs the program over the words after its name. All files are opened before the first is read, and
 /// nothing is opened where a word is bad.
 fn run_words<'a, R: Files, I: Read + Copy + Drop, W: Sink, E: Sink>(
     system: &R,
@@ -112,7 +112,7 @@ fn open_all<'a, R: Files>(
 }
 
 /// Turns the texts one after the other, each by itself, up to the first fault, and tells what is wrong with
-/// the tables of each behind it.
+/// the tables of each after it.
 fn run_texts<'a, F: Read + Drop, I: Read + Copy + Drop, W: Sink, E: Sink>(
     texts: Vec<(Option<F>, &'a str)>,
     standard: I,

@@ -1,4 +1,4 @@
--- Empty lines that are at hand: three moves for the one that was read, and four for each behind it.
+-- Empty lines that are at hand: three moves for the one that was read, and four for each after it.
 use Prim.Native.Char.{code}
 use Rattle.std.specs.Prelude.{◌≡◌, ◌≢◌, ℕ, ◌+◌, ◌*◌, ◌<◌, ◌≤◌, ◌^◌, true, List, length, replicate, slice_index, Option}
 use Rattle.nr_units.specs.Source.{Supply}
@@ -18,7 +18,7 @@ pub record NewlinesAtHand (bs : List ℕ) (n : ℕ) (e : Shape) (supply : Option
   pub next : 0 < n → NewlinesNext n e supply
   pub room : 0 < n → e.place.taken + n < 2 ^ 40
 
--- The empty line that was read went down if it may, and so many newlines of these bytes behind it: as many as come next there,
+-- The empty line that was read went down if it may, and so many newlines of these bytes after it: as many as come next there,
 -- and as there is room for.
 pub record WentDown (bs : List ℕ) (n made : ℕ) (f : Formatter) : Type 0 where
   pub left : lines_below f ≡ 0 → made ≡ 0

@@ -89,11 +89,11 @@ Saves saved n e f = weight f + n + saved + worth e * e.place.taken ≤ weight e 
 
 -- ---- text of the source that is at hand
 
--- behind a byte of the source nothing was spliced
+-- after a byte of the source nothing was spliced
 abbrev pub unburst : Formatter → Formatter
 unburst f = record f { reader = record f.reader { burst = 0 } }
 
--- the first n of these bytes were taken, and this is the formatter behind them
+-- the first n of these bytes were taken, and this is the formatter after them
 abbrev pub taken_shape : List ℕ → ℕ → Formatter → Shape → Shape
 taken_shape bs n g e = record e { formatter = unburst g; place = passed_run (slice_index bs (n - 1)) n e.place }
 

@@ -44,7 +44,7 @@ impl Engine {
     }
 
     /// The empty line that was read goes down the open page, if it does nothing else, and so do those that the source has at
-    /// hand behind it, as far as there is room for them. Tells how many moves that was.
+    /// hand after it, as far as there is room for them. Tells how many moves that was.
     #[inline(never)]
     fn put_empty_lines<R: Source>(&mut self, input: &mut R) -> u128
         requires empty { self.old.formatter.event ≡ events.Empty }
@@ -68,8 +68,8 @@ impl Engine {
         4 * count as u128 + 3
     }
 
-    /// Items that lie in a row are read; where an empty line is told, it goes down with those behind it, as far as it does nothing
-    /// else, and where a request is told that only sets, it takes effect with those behind it. Tells how many moves that was.
+    /// Items that lie in a row are read; where an empty line is told, it goes down with those after it, as far as it does nothing
+    /// else, and where a request is told that only sets, it takes effect with those after it. Tells how many moves that was.
     #[inline(always)]
     pub(crate) fn read_lines<R: Source>(&mut self, input: &mut R) -> u128
         ensures reads { MakesReading result (shape self.old) (shape self.new) (R.supply input.old) (R.supply input.new) (R.failures input.old) (R.failures input.new) }

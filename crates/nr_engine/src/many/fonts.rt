@@ -10,7 +10,7 @@ ghost use Rattle.nr_engine.specs.Many.Fonts.{PutsFont};
 
 use nr_formatter::formatter::Formatter;
 
-/// Whether the bytes begin with `\f` and have another byte behind it.
+/// Whether the bytes begin with `\f` and have another byte after it.
 #[inline(always)]
 fn begins_font(bytes: &[u8]) -> bool
     ensures { result ≡ false → (in_line : Bool) → BeginsFont in_line bytes.now → ⊥ }

@@ -43,7 +43,7 @@ fn put_level_newline(formatter: &mut Formatter) -> usize
     }
 }
 
-/// Puts the words that the gathered bytes begin with, in a text line that has begun, and the newline behind them, and takes them. Tells
+/// Puts the words that the gathered bytes begin with, in a text line that has begun, and the newline after them, and takes them. Tells
 /// how many moves that was.
 #[inline(always)]
 fn put_gathered(formatter: &mut Formatter, bytes: &[u8], gathered: &Gathered) -> usize
@@ -78,7 +78,7 @@ fn put_gathered(formatter: &mut Formatter, bytes: &[u8], gathered: &Gathered) ->
 }
 
 impl Engine {
-    /// Reads and puts the words that come next of levels, in a text line that has begun, with the blanks behind them and the newline, and
+    /// Reads and puts the words that come next of levels, in a text line that has begun, with the blanks after them and the newline, and
     /// tells how many moves that was.
     #[inline(always)]
     fn put_level_line(&mut self) -> u128

@@ -47,7 +47,7 @@ impl Engine {
     }
 
     /// The request whose line was read takes effect, if it only sets or makes space, is not refused, and its break does nothing, and
-    /// so do those of the lines that the source has at hand behind it, up to what is no such request, or behind which the input is
+    /// so do those of the lines that the source has at hand after it, up to what is no such request, or after which the input is
     /// not read next: of a control line that is one the name and the line are read. Tells how many moves that was.
     #[inline(never)]
     pub(crate) fn obey_lines<R: Source>(&mut self, input: &mut R) -> u128
@@ -102,8 +102,8 @@ impl Engine {
         }
     }
 
-    /// What was told behind text is done, if it is a request that only sets or makes space, or a condition to be judged, and what
-    /// levels bring behind it is read. Tells how many moves that was.
+    /// What was told after text is done, if it is a request that only sets or makes space, or a condition to be judged, and what
+    /// levels bring after it is read. Tells how many moves that was.
     #[inline(always)]
     pub(crate) fn answer_behind(&mut self) -> u128
         ensures answers { MakesInPlace result (shape self.old) (shape self.new) }

@@ -63,7 +63,7 @@ pub(crate) fn put_line_words(formatter: &mut Formatter, bytes: &[u8]) -> Words
     }
 }
 
-/// Puts the text that these bytes begin with, in a text line that has begun: its words and font escapes, and behind the newline that ends
+/// Puts the text that these bytes begin with, in a text line that has begun: its words and font escapes, and after the newline that ends
 /// it and does nothing else, where it begins with a byte that is put or with a font escape, the next line's.
 #[inline(always)]
 fn put_words(formatter: &mut Formatter, bytes: &[u8]) -> Words
@@ -147,7 +147,7 @@ impl Engine {
     }
 
     /// Reads and puts the plain bytes of a text line that are at hand, those of the newest level if there is one, and the
-    /// blanks behind them, and tells how many moves that was. At the beginning of a line only the source's are read.
+    /// blanks after them, and tells how many moves that was. At the beginning of a line only the source's are read.
     #[inline(always)]
     fn put_text<R: Source>(&mut self, input: &mut R) -> u128
         requires at_text { is_at_text self.old.formatter ≡ true }
@@ -167,8 +167,8 @@ impl Engine {
         self.put_source_text(input)
     }
 
-    /// Behind text: of levels what was told is answered, and what they bring behind it is read; of the source what can be read
-    /// there without anything being done, and empty lines behind it. Tells how many moves that was.
+    /// After text: of levels what was told is answered, and what they bring after it is read; of the source what can be read
+    /// there without anything being done, and empty lines after it. Tells how many moves that was.
     #[inline(always)]
     fn read_behind<R: Source>(&mut self, input: &mut R) -> u128
         ensures reads { MakesReading result (shape self.old) (shape self.new) (R.supply input.old) (R.supply input.new) (R.failures input.old) (R.failures input.new) }
@@ -181,7 +181,7 @@ impl Engine {
     }
 
     /// Reads and puts what is at hand, and tells how many moves that was: plain text, else cells of a diverted line, else what
-    /// can be read without anything being done, and empty lines behind it.
+    /// can be read without anything being done, and empty lines after it.
     #[inline(always)]
     pub(crate) fn put_at_hand<R: Source>(&mut self, input: &mut R) -> u128
         ensures reads { MakesReading result (shape self.old) (shape self.new) (R.supply input.old) (R.supply input.new) (R.failures input.old) (R.failures input.new) }

@@ -38,7 +38,7 @@ impl Engine {
         }
     }
 
-    /// Items that lie in a row are read, up to the first that tells something or behind which something is due. Tells how many
+    /// Items that lie in a row are read, up to the first that tells something or after which something is due. Tells how many
     /// moves that was.
     #[inline(always)]
     fn read_run<R: Source>(&mut self, input: &mut R) -> u128

@@ -14,7 +14,7 @@ use nr_store::element::Element;
 /// How many elements are looked at in one call.
 const LONGEST_RUN: usize = 4096;
 
-/// Adds a front of these elements to the row, up to the first that is no cell, and tells how many.
+/// Adds a prefix of these elements to the row, up to the first that is no cell, and tells how many.
 fn put_cells(row: &mut Out, elements: &[Element]) -> usize
     ensures front { result ≤ length elements.now }
     ensures cells { AreCells (take result elements.now) }

@@ -14,7 +14,7 @@ use Rattle.nr_formatter.specs.declared.formatter.Formatter.{Formatter}
 abbrev pub goes_to_word : ℕ → Formatter → Bool
 goes_to_word b f = if b == code " " then not (is_filling f) else (if b == code "\t" then not (reads_a_field f) else b == code "-")
 
--- what is collected behind it
+-- what is collected after it
 abbrev pub byte_added : ℕ → Formatter → Collected
 byte_added b f =
     if b == code " " then add_blank (margins f) (collected f)

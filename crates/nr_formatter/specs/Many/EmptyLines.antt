@@ -29,7 +29,7 @@ goes_down f = (is_none f.springs && begins_line (collected f)) && (has_room (out
 abbrev pub lines_below : Formatter → ℕ
 lines_below f = if goes_down f then (distance_below f.paper.place f - 1) / spacing f else 0
 
--- behind so many empty lines, once the first of them was read
+-- after so many empty lines, once the first of them was read
 abbrev pub gone_down : ℕ → Formatter → Formatter
 gone_down n f = record f {
   reader = on_half not_continued f.reader;
@@ -49,7 +49,7 @@ is_at_line_by m e d asks = false
 abbrev pub ends_lines : Signs → Bool
 ends_lines s = not (s.control == code "\n") && not (s.no_break == code "\n")
 
--- the next item is read at the beginning of a line, behind no part of an escape
+-- the next item is read at the beginning of a line, after no part of an escape
 abbrev pub is_at_line : Half → Bool
 is_at_line h = is_at_line_by h.reading.mode h.reading.escape h.reading.due h.asks && ends_lines h.signs
 

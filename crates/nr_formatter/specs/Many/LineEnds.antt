@@ -12,7 +12,7 @@ use Rattle.nr_formatter.specs.declared.many.runs.Gap.TheVariants as gaps
 use Rattle.nr_formatter.specs.declared.tasks.After.TheVariants as afters
 use Rattle.nr_formatter.specs.declared.tasks.Task.TheVariants as tasks
 
--- the word and the gap behind its line
+-- the word and the gap after its line
 abbrev pub line_gapped : Collected → Collected
 line_gapped c = after_newline (end_word c)
 

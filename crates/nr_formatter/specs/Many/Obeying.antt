@@ -94,7 +94,7 @@ abbrev pub space_made : Task → Formatter → Formatter
 space_made (tasks.Space n) f = if is_spaceless n f then to_read f else spaced n f
 space_made t f = f
 
--- behind such space; any other is not made yet
+-- after such space; any other is not made yet
 abbrev pub behind_space : Formatter → Formatter
 behind_space f = if may_space f.task f then space_made f.task f else f
 
@@ -106,7 +106,7 @@ moves_spacing f = if may_space f.task f then 1 else 0
 abbrev pub may_obey : Formatter → Bool
 may_obey f = is_none f.springs && (may_act f.reader.request (behind_break f) && (not (breaks_first f) || breaks_idly f))
 
--- behind such a request; any other is not obeyed yet
+-- after such a request; any other is not obeyed yet
 abbrev pub obeyed : Formatter → Formatter
 obeyed f = if may_obey f then behind_space (acted f) else f
 

@@ -41,7 +41,7 @@ pub record IsInLine (f : Formatter) : Type 0 where
 abbrev pub run_put : List ℕ → Formatter → Formatter
 run_put bs f = with_collected (add_run (margins f) (is_under f.settings.fonts) bs (collected f)) f
 
--- ---- a blank behind a word
+-- ---- a blank after a word
 
 -- it does nothing but end the word and widen the gap: lines are filled, no text for a stop is read, no break was asked for,
 -- and there is no hyphenation word
@@ -49,7 +49,7 @@ abbrev pub gaps_plainly : Formatter → Bool
 gaps_plainly f =
     ((is_filling f && not (is_none (collected f).word)) && not (reads_a_field f)) && (not f.breaks && not (nat_lt 0 (length f.store.words)))
 
--- the word and the gap behind it
+-- the word and the gap after it
 abbrev pub gapped : Collected → Collected
 gapped c = one_blank_more (end_word c)
 
@@ -72,13 +72,13 @@ AfterGap f gaps.Left g = g ≡ f
 AfterGap f gaps.Flows g = IsGap f × (g ≡ gap_flows f)
 AfterGap f gaps.Reads g = IsGap f × (fits_line (gapped (collected f)) ≡ true) × (g ≡ gap_put f)
 
--- behind a word: full lines go out next, or the pieces fit the line
+-- after a word: full lines go out next, or the pieces fit the line
 abbrev pub BehindWord : Formatter → Gap → Formatter → Type 0
 BehindWord f gaps.Left g = ⊥
 BehindWord f gaps.Flows g = g ≡ record f { task = tasks.Flow afters.Text false }
 BehindWord f gaps.Reads g = (fits_line (collected f) ≡ true) × (g ≡ f)
 
--- ---- words, and the blanks behind them
+-- ---- words, and the blanks after them
 
 -- how they are read: a blank ends a word where lines are filled, no break was asked for, and there is no hyphenation word
 abbrev pub manner_of : Formatter → Manner
@@ -92,7 +92,7 @@ abbrev pub is_read : Gap → Bool
 is_read gaps.Left = false
 is_read gap = true
 
--- A front of these bytes was put, and a blank behind it read: as many bytes as could be, and the blank where it could be.
+-- A front of these bytes was put, and a blank after it read: as many bytes as could be, and the blank where it could be.
 pub record PutsWord (bs : List ℕ) (f : Formatter) (word : WordPut) (g : Formatter) : Type 0 where
   pub front : word.count ≤ length bs
   pub plain : All IsPlain (take word.count bs)

@@ -31,7 +31,7 @@ impl Formatter {
         below.saturating_sub(1) / self.settings.pages.spacing.units()
     }
 
-    /// Whether the next item is read at the beginning of a line, behind no part of an escape.
+    /// Whether the next item is read at the beginning of a line, after no part of an escape.
     pub fn is_at_line(&self) -> bool
         ensures { result ≡ is_at_line self.now.reader.half }
     {

@@ -12,7 +12,7 @@ use crate::formatter::Formatter;
 use crate::tasks::{After, Task};
 use nr_input::Event;
 
-/// What became of a blank or a newline behind a word.
+/// What became of a blank or a newline after a word.
 #[derive(Clone, Copy)]
 pub enum Gap {
     /// It was left, and nothing changed.
@@ -23,7 +23,7 @@ pub enum Gap {
     Reads,
 }
 
-/// How words and the blanks behind them are read.
+/// How words and the blanks after them are read.
 #[derive(Clone, Copy)]
 pub struct Manner {
     /// Cells are underlined.
@@ -37,7 +37,7 @@ pub struct Manner {
 pub struct WordPut {
     /// How many of them are cells of a word.
     pub count: usize,
-    /// What became of a blank behind them.
+    /// What became of a blank after them.
     pub gap: Gap,
 }
 
@@ -103,7 +103,7 @@ impl Formatter {
             && (!self.breaks && !self.store.has_words())
     }
 
-    /// Reads a blank behind a word, where it does nothing but end the word and widen the gap, and passes no limit.
+    /// Reads a blank after a word, where it does nothing but end the word and widen the gap, and passes no limit.
     #[inline]
     pub fn put_gap(&mut self) -> Gap
         ensures is { AfterGap self.old result self.new }
@@ -144,7 +144,7 @@ impl Formatter {
         Gap::Flows
     }
 
-    /// How words and the blanks behind them are read.
+    /// How words and the blanks after them are read.
     #[inline]
     pub fn manner(&self) -> Manner
         ensures { result ≡ manner_of self.now }
@@ -155,8 +155,8 @@ impl Formatter {
         }
     }
 
-    /// Adds a front of these bytes to the line, up to the first that is not plain or whose cell would pass the limit, and
-    /// reads the blank behind it as `put_gap` does.
+    /// Adds a prefix of these bytes to the line, up to the first that is not plain or whose cell would pass the limit, and
+    /// reads the blank after it as `put_gap` does.
     #[inline]
     pub fn put_word(&mut self, manner: Manner, bytes: &[u8]) -> WordPut
         requires { manner ≡ manner_of self.old }
@@ -181,7 +181,7 @@ impl Formatter {
         WordPut { count, gap }
     }
 
-    /// Behind a word: full lines go out next where the pieces do not fit the line.
+    /// After a word: full lines go out next where the pieces do not fit the line.
     #[inline]
     fn flow_behind(&mut self) -> Gap
         ensures { BehindWord self.old result self.new }

@@ -15,6 +15,6 @@ pub record ComeNext (bs : List ℕ) (c : Coming) : Type 0 where
   pub faults : MayGiveAll (length bs) c.supply.faults
   pub few : c.taken + length bs < 2 ^ 40
 
--- behind the next n bytes, of which this is the last
+-- after the next n bytes, of which this is the last
 abbrev pub behind_last : ℕ → ℕ → Coming → Coming
 behind_last last n c = record { supply = skipped n c.supply; taken = c.taken + n; inside = not (last == 10) }

@@ -14,7 +14,7 @@ is_in_body_in keeps modes.Body h = keeps && reads_next h
 is_in_body_in keeps (modes.BodyStart held) h = (held == 0) && (keeps && reads_next h)
 is_in_body_in keeps m h = false
 
--- the next item is read in a line of a definition that is kept, or at its beginning, behind no part of an escape
+-- the next item is read in a line of a definition that is kept, or at its beginning, after no part of an escape
 abbrev pub is_in_body : Half → Bool
 is_in_body h = is_in_body_in h.notes.defining.keeps h.reading.mode h
 
@@ -29,7 +29,7 @@ pub record IsOther (bs : List ℕ) (d : Defining) : Type 0 where
   pub some : 1 < length bs
   pub other : slice_index bs 1 ≢ slice_index (last_line d) 1
 
--- Such bytes, which at the beginning of a line don't begin like the line that ends the definition: behind a dot the second shows so.
+-- Such bytes, which at the beginning of a line don't begin like the line that ends the definition: after a dot the second shows so.
 pub record IsOwn (n : ℕ) (bs : List ℕ) (m : Mode) (d : Defining) : Type 0 where
   pub text : IsLine n bs
   pub begins : m ≡ modes.BodyStart 0 → 0 < length (take n bs) → slice_index (take n bs) 0 ≡ code "." → IsOther (take n bs) d

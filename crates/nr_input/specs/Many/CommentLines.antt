@@ -13,7 +13,7 @@ abbrev pub is_at_start_in : Mode → Half → Bool
 is_at_start_in modes.Start h = reads_next h
 is_at_start_in m h = false
 
--- the next item is read at the beginning of a line, behind no part of an escape
+-- the next item is read at the beginning of a line, after no part of an escape
 abbrev pub is_at_start : Half → Bool
 is_at_start h = is_at_start_in h.reading.mode h
 
@@ -26,6 +26,6 @@ pub record IsComment (count : ℕ) (bs : List ℕ) (s : Signs) : Type 0 where
   pub text : All (λ b. b ≢ code "\n") (take count (drop 3 bs))
   pub newline : slice_index (drop 3 bs) count ≡ code "\n"
 
--- behind such a line that begins with this byte: its name is empty
+-- after such a line that begins with this byte: its name is empty
 abbrev pub commented : ℕ → Half → Half
 commented b h = record h { reading = record h.reading { no_break = not (b == h.signs.control) }; notes = record h.notes { name = nothing_spelled } }

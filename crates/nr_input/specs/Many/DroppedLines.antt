@@ -9,6 +9,6 @@ abbrev pub is_dropping_in : Mode → Half → Bool
 is_dropping_in modes.Drop h = reads_next h
 is_dropping_in m h = false
 
--- the next item is read in a line that does nothing, behind no part of an escape
+-- the next item is read in a line that does nothing, after no part of an escape
 abbrev pub is_dropping : Half → Bool
 is_dropping h = is_dropping_in h.reading.mode h

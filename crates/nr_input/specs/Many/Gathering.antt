@@ -37,7 +37,7 @@ Brings {K} n (b ∷ bs) v r w q =
     (k : ℕ) × (m : ℕ) × (u : Stored K) × (s : Reader) × (n ≡ k + m) × LeadsInText k v r u s
     × (shown u.levels ≡ shows.Item (elements.Byte b)) × Brings m bs (left u.levels u) s w q
 
--- They come and are taken so, n moves with those on behind the last of them, where it goes on there.
+-- They come and are taken so, n moves with those on after the last of them, where it goes on there.
 pub record Leaves {K : Type 0} (goes : Bool) (n : ℕ) (bytes : List ℕ) (v : Stored K) (r : Reader) (w : Stored K) (q : Reader) : Type 0 where
   pub before : ℕ
   pub behind : ℕ
@@ -54,7 +54,7 @@ pub record Leaves {K : Type 0} (goes : Bool) (n : ℕ) (bytes : List ℕ) (v : S
 abbrev pub spliced : ℕ → List ℕ → Reader → Reader
 spliced k name r = record r { half = record r.half { notes = record r.half.notes { asked = name } }; burst = r.burst + k }
 
--- the name that was asked for last behind these, where it was this before them
+-- the name that was asked for last after these, where it was this before them
 abbrev pub last_asked : List Splice → List ℕ → List ℕ
 last_asked [] name = name
 last_asked (s ∷ ss) name = last_asked ss s.asked
@@ -73,7 +73,7 @@ pub record AreItems (item from : ℕ) (next : Option Splice) (bytes : List ℕ) 
   pub each : (n : ℕ) → from + n < bytes_before next (length bytes) → slice_get rest (item + n) ≡ Some (elements.Byte (slice_index bytes (from + n)))
   pub last : next ≡ None → item + length bytes ≡ items + from
 
--- The k-th is spliced: its escape leads into a level of its bytes, which may be opened, and behind the end of that level come items of the
+-- The k-th is spliced: its escape leads into a level of its bytes, which may be opened, and after the end of that level come items of the
 -- level that it stands in.
 pub record IsSpliced {K : Type 0} (k : ℕ) (s : Splice) (next : Option Splice) (bytes : List ℕ) (items : ℕ) (v : Stored K) (r : Reader) : Type 0 where
   pub few : s.moves < 8 * (k + 1)
@@ -99,7 +99,7 @@ pub record AreGathered {K : Type 0} (bytes : List ℕ) (items moves : ℕ) (spli
   pub first : AreItems 0 0 (slice_get splices 0) bytes items (rest_of v.levels)
   pub each : (k : ℕ) (s : Splice) → slice_get splices k ≡ Some s → IsSpliced k s (slice_get splices (suc k)) bytes items v r
 
--- `\}` stands in a level, behind so many of its items
+-- `\}` stands in a level, after so many of its items
 abbrev pub HasBrace : ℕ → List Element → Type 0
 HasBrace items rest = (slice_get rest items ≡ Some (elements.Byte (code "\\"))) × (slice_get rest (suc items) ≡ Some (elements.Byte (code "}")))
 
@@ -108,7 +108,7 @@ abbrev pub brace_items : Bool → ℕ
 brace_items true = 2
 brace_items false = 0
 
--- These bytes were gathered. Where it closes, `\}` stands behind them; where it ends, a newline behind that.
+-- These bytes were gathered. Where it closes, `\}` stands after them; where it ends, a newline after that.
 pub record IsGathered {K : Type 0} (bytes : List ℕ) (v : Stored K) (r : Reader) (g : Gathered) : Type 0 where
   pub count : g.count ≡ length bytes
   pub gathered : AreGathered bytes g.items g.moves g.splices v r
@@ -145,11 +145,11 @@ AreBytes bytes row = (n : ℕ) → n < length bytes → slice_get row n ≡ Some
 abbrev pub EndsRun : Option Front → Type 0
 EndsRun item = (b : ℕ) → item ≡ Some (fronts.Byte b) → (b ≡ code "\n" → ⊥) → (b ≡ code "\\" → ⊥) → ⊥
 
--- As many were gathered as could be: behind the items that were met the level shows no byte but a newline or a `\`, or 64 bytes were.
+-- As many were gathered as could be: after the items that were met the level shows no byte but a newline or a `\`, or 64 bytes were.
 abbrev pub StopsGathering : List Element → ℕ → ℕ → Type 0
 StopsGathering rest items count = (b : ℕ) → slice_get rest items ≡ Some (elements.Byte b) → (b ≡ code "\n" → ⊥) → (b ≡ code "\\" → ⊥) → 64 ≤ count
 
--- The same, and a `\}` that stands behind them was not left, nor the newline behind that.
+-- The same, and a `\}` that stands after them was not left, nor the newline after that.
 pub record GathersMost (rest : List Element) (g : Gathered) : Type 0 where
   pub stops : StopsGathering rest g.items g.count
   pub closes : HasBrace g.items rest → g.closes ≡ true

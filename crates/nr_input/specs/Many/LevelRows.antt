@@ -8,7 +8,7 @@ use Rattle.nr_reading.specs.Seeking.{sought}
 use Rattle.nr_input.specs.declared.reader.Reader.{Reader}
 use Rattle.nr_input.specs.Acting.{calls_of, next, request_of}
 
--- what is half read behind a name that means this
+-- what is half read after a name that means this
 abbrev pub behind_name : Meaning → Reader → Reader
 behind_name m r = record r { half = sought (calls_of m) (next dues.Look r.half); request = request_of m r.request }
 

@@ -22,7 +22,7 @@ is_before_argument_in modes.MacroBlanks h = reads_next h
 is_before_argument_in modes.MacroGap h = reads_next h
 is_before_argument_in m h = false
 
--- the next item is read before an argument of a macro or behind the last, behind no part of an escape
+-- the next item is read before an argument of a macro or after the last, after no part of an escape
 abbrev pub is_before_argument : Half → Bool
 is_before_argument h = is_before_argument_in h.reading.mode h
 
@@ -31,7 +31,7 @@ abbrev pub blanks_left : Mode → ℕ
 blanks_left modes.MacroBlanks = 1
 blanks_left m = 0
 
--- Behind the byte that an argument begins with, or a quote before it, or behind the newline that ends the line.
+-- After the byte that an argument begins with, or a quote before it, or after the newline that ends the line.
 abbrev pub begun_with : ℕ → Half → Half
 begun_with b h =
     if b == code "\n" then record h { reading = record h.reading { mode = modes.Start; due = dues.Call } }
@@ -42,7 +42,7 @@ begun_with b h =
 abbrev pub argument_ended : Half → Half
 argument_ended h = record h { reading = record h.reading { mode = modes.MacroGap; due = dues.EndArgument } }
 
--- behind the first n of these bytes
+-- after the first n of these bytes
 abbrev pub reached_behind : ℕ → List ℕ → Reached → Reached
 reached_behind n bs p = record { ahead = Unseen; taken = p.taken + n; inside = inside_behind n bs p.inside }
 

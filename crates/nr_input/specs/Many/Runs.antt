@@ -22,7 +22,7 @@ use Rattle.nr_input.specs.Moving.{Situation, Stands, move, Goes}
 use Rattle.nr_input.specs.Many.Target.{is_read_for, with_more}
 use Rattle.nr_input.specs.Weights.{weight_before_byte, byte_worth, risen, diversions_in}
 
--- behind n moves
+-- after n moves
 abbrev pub moves : {K : Type 0} → ℕ → Situation K → Situation K
 moves zero s = s
 moves (suc n) s = (move (moves n s)).situation
@@ -71,21 +71,21 @@ abbrev pub ReadsSome : List ℕ → ℕ → Reached → Reader → Type 0
 ReadsSome bs n p r = 0 < length bs → p.taken + 1 < 2 ^ 40 → r.half.reading.due ≡ dues.Look → 0 < n
 
 -- Of the bytes that the source has at hand as many were read in n moves as can be: one move at least where nothing was due.
--- Fewer than 65,536 moves of which none told anything and behind which nothing is due took all, up to one that is left; no byte
+-- Fewer than 65,536 moves of which none told anything and after which nothing is due took all, up to one that is left; no byte
 -- is the 2^40th.
 pub record IsLongest {K : Type 0} (bs : List ℕ) (n : ℕ) (p : Reached) (r : Reader) (e : Event) (v' : Stored K) (p' : Reached) (r' : Reader) : Type 0 where
   pub some : ReadsSome bs n p r
   pub all : n < 65536 → e ≡ events.Nothing → r'.half.reading.due ≡ dues.Look → p'.taken + 1 < 2 ^ 40 → p'.taken < p.taken + length bs
       → IsLeft (slice_index bs (p'.taken - p.taken)) r.half v'
 
--- Fewer than 512 moves of which none told anything and behind which nothing is due left no byte of the newest level in front but one
+-- Fewer than 512 moves of which none told anything and after which nothing is due left no byte of the newest level in front but one
 -- that is left.
 abbrev pub StopsInLevel : {K : Type 0} → ℕ → Event → Stored K → Reader → Type 0
 StopsInLevel n e v r =
     n < 512 → e ≡ events.Nothing → r.half.reading.due ≡ dues.Look → (b : ℕ) → slice_get (rest_of v.levels) 0 ≡ Some (elements.Byte b) → IsLeft b r.half v
 
 -- Of the newest level as many bytes were read in n moves as can be: one move at least where a byte was in front and nothing was due,
--- and none behind which they go on.
+-- and none after which they go on.
 pub record IsLongestInLevel {K : Type 0} (n : ℕ) (v : Stored K) (r : Reader) (e : Event) (v' : Stored K) (r' : Reader) : Type 0 where
   pub some : (b : ℕ) → slice_get (rest_of v.levels) 0 ≡ Some (elements.Byte b) → r.half.reading.due ≡ dues.Look → 0 < n
   pub all : StopsInLevel n e v' r'
@@ -103,7 +103,7 @@ abbrev pub inside_behind : ℕ → List ℕ → Bool → Bool
 inside_behind zero bs inside = inside
 inside_behind (suc n) bs inside = not (slice_index bs n == code "\n")
 
--- behind the next n bytes
+-- after the next n bytes
 abbrev pub behind_run : ℕ → Coming → Coming
 behind_run n c = record { supply = skipped n c.supply; taken = c.taken + n; inside = inside_behind n c.supply.bytes c.inside }
 

@@ -29,7 +29,7 @@ const LONGEST: usize = 32_768;
 /// The most bytes of a level in one run.
 const CHUNK: usize = 256;
 
-// Adds a front of these bytes, as far as they find room. Answers how many.
+// Adds a prefix of these bytes, as far as they find room. Answers how many.
 #[inline(always)]
 fn add_plain<K: Copy>(target: Target, store: &mut Store<K>, bytes: &[u8]) -> usize
     ensures front { result ≤ length bytes.now }
@@ -43,7 +43,7 @@ fn add_plain<K: Copy>(target: Target, store: &mut Store<K>, bytes: &[u8]) -> usi
     }
 }
 
-/// Adds a front of these bytes, each of which stands for itself, as far as they find room. Answers how many.
+/// Adds a prefix of these bytes, each of which stands for itself, as far as they find room. Answers how many.
 #[inline(always)]
 pub(crate) fn add_front<K: Copy>(
     target: Target,

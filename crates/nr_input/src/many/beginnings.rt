@@ -20,7 +20,7 @@ use nr_store::Store;
 
 impl Reader {
     // A string's text that is not a copy of the old one begins, or the first byte of an argument is put, where that is due and
-    // so many bytes may be stored behind it twice. Tells whether that was done.
+    // so many bytes may be stored after it twice. Tells whether that was done.
     #[inline(always)]
     fn begin_target<K: Copy>(&mut self, len: usize, store: &mut Store<K>) -> bool
         requires few { len ≤ 64 }

@@ -36,7 +36,7 @@ struct Passed {
     moves: usize,
 }
 
-// Whether the next item is read in a line of a definition that is kept, or at its beginning, behind no part of an escape.
+// Whether the next item is read in a line of a definition that is kept, or at its beginning, after no part of an escape.
 #[inline(always)]
 fn is_in_body(half: &Half) -> bool
     ensures { result ≡ is_in_body half.now }
@@ -115,7 +115,7 @@ fn own_bytes(half: &Half, bytes: &[u8]) -> usize
     count
 }
 
-// How many bytes stand for themselves behind a `\` at this place: one, if it is another.
+// How many bytes stand for themselves after a `\` at this place: one, if it is another.
 #[inline(always)]
 fn backslashes_at(bytes: &[u8], place: usize) -> usize
     requires { place ≤ length bytes.now }
@@ -155,7 +155,7 @@ fn in_body(byte: u8) -> Mode
     Mode::Body
 }
 
-// The bytes that stand for themselves are read and added, up to the end of their line, and else the `\\` behind them.
+// The bytes that stand for themselves are read and added, up to the end of their line, and else the `\\` after them.
 #[inline(always)]
 fn read_part<K: Copy>(reader: &mut Reader, store: &mut Store<K>, bytes: &[u8]) -> Passed
     ensures reads { ReadsOn result.moves result.taken bytes.now store.old reader.old store.new reader.new }

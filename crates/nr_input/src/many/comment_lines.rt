@@ -19,7 +19,7 @@ use nr_units::source::Source;
 /// The most bytes that are read in one call.
 const LONGEST: usize = 16_000;
 
-// Whether the next item is read at the beginning of a line, behind no part of an escape.
+// Whether the next item is read at the beginning of a line, after no part of an escape.
 #[inline(always)]
 fn is_at_start(half: &Half) -> bool
     ensures { result ≡ is_at_start half.now }

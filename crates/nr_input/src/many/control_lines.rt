@@ -21,7 +21,7 @@ use nr_reading::{Due, Event, Half, Mode, Run};
 use nr_store::Store;
 use nr_units::source::Source;
 
-// What comes behind the name of a control line, where nothing was told of it: the line of a request, or nothing.
+// What comes after the name of a control line, where nothing was told of it: the line of a request, or nothing.
 #[inline(always)]
 fn meet_behind_name(half: &mut Half, told: Event, bytes: &[u8]) -> Run
     ensures met { told ≡ events.Nothing → HasMet result.moves (map variants.Byte bytes.now) half.old (spot result half.new) }
@@ -144,7 +144,7 @@ fn read_beginning<K: Copy, R: Source>(
     }
 }
 
-/// As `read_run`; but the name of a control line is looked up at once, and what is behind it is read: of the source the line of a
+/// As `read_run`; but the name of a control line is looked up at once, and what is after it is read: of the source the line of a
 /// request, where it is at hand and no escape stands in it, of a level its items.
 #[inline(always)]
 pub fn read_next<K: Copy, R: Source>(

@@ -17,7 +17,7 @@ use nr_units::source::Source;
 /// The most bytes that are read in one call.
 const LONGEST: usize = 16_000;
 
-// Whether the next item is read in a line that does nothing, behind no part of an escape.
+// Whether the next item is read in a line that does nothing, after no part of an escape.
 #[inline(always)]
 fn is_dropping(half: &Half) -> bool
     ensures { result ≡ is_dropping half.now }

@@ -35,11 +35,11 @@ pub struct Gathered {
     pub items: usize,
     /// How many bytes.
     pub count: usize,
-    /// Whether `\}` comes behind them, which does nothing.
+    /// Whether `\}` comes after them, which does nothing.
     pub closes: bool,
-    /// Whether a newline comes behind that.
+    /// Whether a newline comes after that.
     pub ends: bool,
-    /// How many moves lead behind the items, besides those that the bytes are put in.
+    /// How many moves lead after the items, besides those that the bytes are put in.
     moves: usize,
     /// The arguments, registers and strings whose bytes are among them.
     splices: Splices,
@@ -107,7 +107,7 @@ impl Gathered {
         self.moves += moves + 2;
     }
 
-    // How many items `\}` has behind them, each of which is a move: 0 where it does not come.
+    // How many items `\}` has after them, each of which is a move: 0 where it does not come.
     #[inline(always)]
     fn brace(&self) -> usize
         ensures { result ≡ brace_items self.now.closes }
@@ -137,7 +137,7 @@ pub(super) fn copy_run<I: Items>(row: &I, chunk: &mut [u8]) -> usize
     most
 }
 
-// Whether a row has this byte behind so many items.
+// Whether a row has this byte after so many items.
 #[inline(always)]
 fn has_byte<I: Items>(row: &I, place: usize, byte: u8) -> bool
     ensures { result ≡ is_byte byte (slice_get (I.fronts row.now) place) }
@@ -145,7 +145,7 @@ fn has_byte<I: Items>(row: &I, place: usize, byte: u8) -> bool
     place < row.count() && row.byte(place) == Some(byte)
 }
 
-// Whether a newline is in front of a row, or with `closes` behind the `\}` that it begins with.
+// Whether a newline is in front of a row, or with `closes` after the `\}` that it begins with.
 #[inline(always)]
 fn has_newline<I: Items>(row: &I, closes: bool) -> bool
     ensures { result ≡ is_byte 10 (slice_get (I.fronts row.now) (brace_items closes)) }
@@ -227,7 +227,7 @@ fn meet_splice<K: Copy, I: Items>(
     None
 }
 
-// The escape that a row begins with is met, and the bytes that it brings are put behind those that were gathered, where they are those
+// The escape that a row begins with is met, and the bytes that it brings are put after those that were gathered, where they are those
 // of an argument, a register or a string. Answers how many items it has: 0 where it is none of these.
 #[inline(always)]
 fn gather_escape<K: Copy, I: Items>(
@@ -444,7 +444,7 @@ fn enter_splice<K: Copy>(store: &mut Store<K>, bytes: &[u8], splice: &Splice, ta
     store.skip((taken - splice.before) as u32);
 }
 
-// So many of the bytes that were gathered are taken, and nothing behind the last of them: where an argument, a register or a string
+// So many of the bytes that were gathered are taken, and nothing after the last of them: where an argument, a register or a string
 // brings it, a level is opened for that.
 #[inline(never)]
 fn leave_part<K: Copy>(
@@ -476,7 +476,7 @@ fn leave_part<K: Copy>(
     splice.moves
 }
 
-/// So many of the bytes that were gathered are taken, with what is spliced between them, and with `goes` what is spliced behind them and
+/// So many of the bytes that were gathered are taken, with what is spliced between them, and with `goes` what is spliced after them and
 /// the `\}` that does nothing, up to what comes next. Answers how many moves that was besides those that the bytes are put in.
 #[inline(always)]
 pub fn leave<K: Copy>(

@@ -95,7 +95,7 @@ impl Reader {
         }
     }
 
-    // Bytes are spliced and read. Where that is all that their level brings, none is opened; else it is opened behind those that were
+    // Bytes are spliced and read. Where that is all that their level brings, none is opened; else it is opened after those that were
     // read. No move where a limit is near.
     #[inline(always)]
     fn splice_read<K: Copy>(&mut self, bytes: &[u8], store: &mut Store<K>) -> Moved
@@ -136,7 +136,7 @@ impl Reader {
         }
     }
 
-    // The same, and where no level was opened the items in front of the newest level behind it.
+    // The same, and where no level was opened the items in front of the newest level after it.
     #[inline(always)]
     fn splice_on<K: Copy>(&mut self, bytes: &[u8], store: &mut Store<K>) -> Moved
         requires due { IsSplice bytes.now store.old self.old }

@@ -55,7 +55,7 @@ fn read_name<K: Copy>(reader: &mut Reader, store: &mut Store<K>) -> Option<MetNa
     Some(name)
 }
 
-/// As `read_level`; but the name of a control line that comes next is looked up at once, and what is behind it is read.
+/// As `read_level`; but the name of a control line that comes next is looked up at once, and what is after it is read.
 #[inline(never)]
 pub(crate) fn read_level_line<K: Copy>(reader: &mut Reader, store: &mut Store<K>) -> Run
     ensures read { (c : Coming) (p : Reached) (supply : Option Supply) → HoldsComing c p supply → HasRead result.moves (situation store.old c reader.old) result.event store.new reader.new p supply }

@@ -32,7 +32,7 @@ struct Met {
 
 /// Items in a row, of which those in front can be left out.
 pub(crate) trait Tail: Items + Copy {
-    /// What is behind so many items.
+    /// What is after so many items.
     fn behind(self, n: usize) -> Self
         requires { n ≤ length (Self.fronts self) }
         ensures { Self.fronts result ≡ drop n (Self.fronts self) };
@@ -81,7 +81,7 @@ fn meet_first<I: Items>(half: &mut Half, row: &I) -> Run
     }
 }
 
-// The name that was read is looked up, and the items that are behind it in a row are met.
+// The name that was read is looked up, and the items that are after it in a row are met.
 #[inline(always)]
 fn meet_named<K: Copy, I: Tail>(reader: &mut Reader, store: &Store<K>, row: I, from: usize) -> Met
     requires row { I.fronts row ≡ map element_front (rest_of store.now.levels) }

@@ -245,7 +245,7 @@ fn read_lines<K: Copy>(reader: &mut Reader, store: &mut Store<K>) -> Moved
     }
 }
 
-// What comes next of the newest level in a text line is read: its items, and what is due behind them.
+// What comes next of the newest level in a text line is read: its items, and what is due after them.
 #[inline(never)]
 fn read_text<K: Copy>(reader: &mut Reader, store: &mut Store<K>) -> Moved
     ensures read { (c : Coming) (p : Reached) (supply : Option Supply) → HoldsComing c p supply → HasRead result.moves (situation store.old c reader.old) result.event store.new reader.new p supply }
@@ -269,7 +269,7 @@ fn read_text<K: Copy>(reader: &mut Reader, store: &mut Store<K>) -> Moved
     }
 }
 
-// The same, and what comes behind the text line.
+// The same, and what comes after the text line.
 #[inline(always)]
 fn read_text_on<K: Copy>(reader: &mut Reader, store: &mut Store<K>) -> Moved
     ensures read { (c : Coming) (p : Reached) (supply : Option Supply) → HoldsComing c p supply → HasRead result.moves (situation store.old c reader.old) result.event store.new reader.new p supply }
@@ -291,7 +291,7 @@ fn read_text_on<K: Copy>(reader: &mut Reader, store: &mut Store<K>) -> Moved
 
 /// What levels bring is read, up to what tells something and to a text line: control lines, the lines of requests, conditions, strings
 /// and arguments with what is spliced into them, ends of levels, and what is due. In a text line that has begun, the items up to what is
-/// due are read, or the end of its level. The mode behind a sprung text is left; `_mode` is of no account.
+/// due are read, or the end of its level. The mode after a sprung text is left; `_mode` is of no account.
 #[inline(always)]
 pub fn read_levels<K: Copy>(reader: &mut Reader, store: &mut Store<K>, _mode: &mut K) -> Moved
     ensures read { (c : Coming) (p : Reached) (supply : Option Supply) → HoldsComing c p supply → HasRead result.moves (situation store.old c reader.old) result.event store.new reader.new p supply }

@@ -34,7 +34,7 @@ struct Passed {
     moves: usize,
 }
 
-// Whether the next item is read before an argument of a macro or behind the last, behind no part of an escape.
+// Whether the next item is read before an argument of a macro or after the last, after no part of an escape.
 #[inline(always)]
 fn is_before_argument(half: &Half) -> bool
     ensures { result ≡ is_before_argument half.now }
@@ -74,7 +74,7 @@ fn blanks_left(mode: Mode) -> usize
     }
 }
 
-// An argument begins with this byte, or with the one behind it, or the line ends with it: so it is taken.
+// An argument begins with this byte, or with the one after it, or the line ends with it: so it is taken.
 #[inline(always)]
 fn begin_with(half: &mut Half, byte: u8)
     ensures { half.new ≡ begun_with byte half.old }
@@ -119,7 +119,7 @@ fn begin_argument(half: &mut Half, bytes: &[u8]) -> Passed
     }
 }
 
-// The argument ends, behind so many bytes of its end and in so many moves.
+// The argument ends, after so many bytes of its end and in so many moves.
 #[inline(always)]
 fn end_behind(half: &mut Half, taken: usize, moves: usize) -> Passed
     ensures half { half.new ≡ argument_ended half.old }
@@ -130,7 +130,7 @@ fn end_behind(half: &mut Half, taken: usize, moves: usize) -> Passed
     Passed { taken, moves }
 }
 
-// Whether a quote in an argument ends it, by the byte behind the quote: that is read next, and begins no escape.
+// Whether a quote in an argument ends it, by the byte after the quote: that is read next, and begins no escape.
 #[inline(always)]
 fn closes(next: u8) -> bool
     ensures quote { result ≡ true → next ≢ 34 }
@@ -215,7 +215,7 @@ fn read_argument<K: Copy>(reader: &mut Reader, store: &mut Store<K>, bytes: &[u8
     }
 }
 
-// The arguments that these bytes begin with are read, and the newline behind them.
+// The arguments that these bytes begin with are read, and the newline after them.
 #[inline(always)]
 fn read_arguments<K: Copy>(reader: &mut Reader, store: &mut Store<K>, bytes: &[u8]) -> Passed
     requires short { length bytes.now ≤ 16000 }

@@ -132,7 +132,7 @@ pub(crate) fn read_run_of_level<K: Copy>(reader: &mut Reader, store: &mut Store<
     }
 }
 
-/// Items that lie in a row are read, many moves at once: up to the first that tells something or behind which something
+/// Items that lie in a row are read, many moves at once: up to the first that tells something or after which something
 /// is due, and none where an item has to be looked at alone.
 #[inline(always)]
 pub fn read_run<K: Copy, R: Source>(

@@ -78,7 +78,7 @@ impl Splices {
         self.len
     }
 
-    /// One more, behind the others.
+    /// One more, after the others.
     #[inline(always)]
     pub(crate) fn push(&mut self, splice: Splice)
         requires { length self.old < 8 }

@@ -26,7 +26,7 @@ pub record NameEnds (fs : List Front) (place : ℕ) : Type 0 where
   pub stands : slice_get fs place ≡ Some (fronts.Byte byte)
   pub ends : ends_name byte ≡ true
 
--- behind the control character and a name, which is to be looked up
+-- after the control character and a name, which is to be looked up
 abbrev pub behind_name : Bool → Spelled → Half → Half
 behind_name no_break name h = record h {
   reading = record h.reading { mode = modes.Name; due = dues.Seek; no_break = no_break };

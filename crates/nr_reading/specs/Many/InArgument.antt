@@ -16,7 +16,7 @@ is_in_argument_at modes.Word escapes.Plain dues.Look asks = is_none asks
 is_in_argument_at modes.Quoted escapes.Plain dues.Look asks = is_none asks
 is_in_argument_at m e d asks = false
 
--- the next item is read in the midst of an argument, behind no part of an escape
+-- the next item is read in the midst of an argument, after no part of an escape
 abbrev pub is_in_argument : Half → Bool
 is_in_argument h = is_in_argument_at h.reading.mode h.reading.escape h.reading.due h.asks
 

@@ -14,7 +14,7 @@ abbrev pub is_in_text_at : Mode → Escape → Due → List Ask → Bool
 is_in_text_at modes.Text escapes.Plain dues.Look asks = is_none asks
 is_in_text_at m e d asks = false
 
--- the next item is read in the midst of a text line, behind no part of an escape
+-- the next item is read in the midst of a text line, after no part of an escape
 abbrev pub is_in_text : Half → Bool
 is_in_text h = is_in_text_at h.reading.mode h.reading.escape h.reading.due h.asks
 

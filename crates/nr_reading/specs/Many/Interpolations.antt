@@ -34,11 +34,11 @@ is_named kinds.Font = true
 is_named (kinds.Register s) = true
 is_named k = false
 
--- behind `\` and the byte that says what is asked for
+-- after `\` and the byte that says what is asked for
 abbrev pub begun : Kind → Half → Half
 begun k h = record h { asks = begun_ask k ∷ [] }
 
--- behind the name
+-- after the name
 abbrev pub named : Kind → List ℕ → Half → Half
 named k name h = record h {
   reading = record h.reading { due = due_of k name };
@@ -49,7 +49,7 @@ named k name h = record h {
 abbrev pub AsksOnly : Half → Half → Type 0
 AsksOnly h g = g ≡ record h { reading = record h.reading { due = g.reading.due }; notes = record h.notes { asked = g.notes.asked } }
 
--- A name stands there in the row: one byte, or in the midst of a line two behind `(`, where an escape begins at neither.
+-- A name stands there in the row: one byte, or in the midst of a line two after `(`, where an escape begins at neither.
 pub data IsName (in_line : Bool) (fs : List Front) (place : ℕ) : Type 0 where
   Lone : (byte : ℕ) → slice_get fs place ≡ Some (fronts.Byte byte) → is_lone_name byte ≡ true → IsName in_line fs place
   Pair : (one two : ℕ) → in_line ≡ true → slice_get fs place ≡ Some (fronts.Byte (code "(")) → slice_get fs (place + 1) ≡ Some (fronts.Byte one) → slice_get fs (place + 2) ≡ Some (fronts.Byte two)

@@ -28,7 +28,7 @@ abbrev pub BeginNumber : List ℕ → Type 0
 BeginNumber [] = ⊥
 BeginNumber (b ∷ bs) = (begins_number b ≡ true) × (are_in_number (b ∷ bs) 0 ≡ true)
 
--- what is read in this mode takes all of the bytes, and goes on behind them
+-- what is read in this mode takes all of the bytes, and goes on after them
 abbrev pub IsKept : Mode → List ℕ → Type 0
 IsKept modes.RequestLine bytes = All (IsPlain (code "\n")) bytes
 IsKept modes.RequestBlanks bytes = BeginLine bytes

@@ -27,7 +27,7 @@ is_at_text_at modes.Text escapes.Plain dues.Look asks = is_none asks
 is_at_text_at modes.Start escapes.Plain dues.Look asks = is_none asks
 is_at_text_at m e d asks = false
 
--- the next item is read in the midst of a text line or at the beginning of a line, behind no part of an escape
+-- the next item is read in the midst of a text line or at the beginning of a line, after no part of an escape
 abbrev pub is_at_text : Half → Bool
 is_at_text h = is_at_text_at h.reading.mode h.reading.escape h.reading.due h.asks
 

@@ -9,7 +9,7 @@ use Rattle.nr_reading.specs.declared.many.runs.Run.{Run}
 use Rattle.nr_reading.specs.Half.{Met, meet}
 use Rattle.nr_reading.specs.Weights.{weight_of_half, cost_of_event, blanks_owed, is_lead}
 
--- where many moves have come in a row of items: how many were taken, what is half read behind them, and what the last told
+-- where many moves have come in a row of items: how many were taken, what is half read after them, and what the last told
 pub record Spot : Type 0 where
   pub taken : ℕ
   pub half : Half

@@ -3,6 +3,6 @@ use Rattle.nr_reading.specs.declared.half.Half.{Half}
 use Rattle.nr_reading.specs.declared.mode.Mode.TheVariants as modes
 use Rattle.nr_reading.specs.declared.spelled.Spelled.{Spelled}
 
--- behind the name of a string that is defined
+-- after the name of a string that is defined
 abbrev pub behind_name : Spelled → Half → Half
 behind_name name h = record h { reading = record h.reading { mode = modes.StringBlanks }; notes = record h.notes { name = name } }

@@ -31,7 +31,7 @@ impl Half {
         self.meet_argument(items, place, place + 1, run)
     }
 
-    /// The space between two arguments is met, and what stands behind it.
+    /// The space between two arguments is met, and what stands after it.
     #[inline(never)]
     pub(crate) fn meet_gap<I: Items>(&mut self, items: &I, run: &mut Run)
         requires mode { self.old.reading.mode ≡ modes.MacroGap }
@@ -111,7 +111,7 @@ impl Half {
         }
     }
 
-    /// A byte of an argument that began with a quote is met, or the quote that ends it and what stands behind that.
+    /// A byte of an argument that began with a quote is met, or the quote that ends it and what stands after that.
     #[inline(never)]
     pub(crate) fn meet_quoted<I: Items>(
         &mut self,
@@ -143,7 +143,7 @@ impl Half {
         };
     }
 
-    // What stands behind the quote is met.
+    // What stands after the quote is met.
     #[inline(always)]
     fn meet_quote<I: Items>(&mut self, items: &I, from: usize, made: usize, run: &mut Run)
         requires mode { self.old.reading.mode ≡ modes.Quote }

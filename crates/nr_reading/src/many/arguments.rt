@@ -31,7 +31,7 @@ pub(crate) fn plain_count(ending: u8, bytes: &[u8]) -> usize
 }
 
 impl Half {
-    /// Whether the next item is read in the midst of an argument, behind no part of an escape.
+    /// Whether the next item is read in the midst of an argument, after no part of an escape.
     #[inline]
     pub fn is_in_argument(&self) -> bool
         ensures { result ≡ is_in_argument self.now }

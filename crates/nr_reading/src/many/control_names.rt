@@ -58,7 +58,7 @@ impl Half {
         None
     }
 
-    // Behind a name of one byte in a control line, which is to be looked up.
+    // After a name of one byte in a control line, which is to be looked up.
     #[inline(always)]
     fn take_name(&mut self, no_break: bool, first: u8)
         ensures { self.new ≡ behind_name no_break (spelled first nothing_spelled) self.old }
@@ -70,7 +70,7 @@ impl Half {
         self.notes.name.push(first);
     }
 
-    // A control character and a name of one byte or two behind it are met, where they come at this place of a row. None where they
+    // A control character and a name of one byte or two after it are met, where they come at this place of a row. None where they
     // don't, and where a byte that ends the name would have to follow and does not.
     #[inline(always)]
     pub(crate) fn meet_name_at<I: Items>(&mut self, items: &I, place: usize) -> Option<MetName>
@@ -118,7 +118,7 @@ impl Half {
         })
     }
 
-    /// A control character at a line's beginning and a name of one byte or two behind it are met, where they come first in a row.
+    /// A control character at a line's beginning and a name of one byte or two after it are met, where they come first in a row.
     /// None where they don't; where names are long, or the name has one byte, the byte that ends it must be there too, and is left.
     #[inline(always)]
     pub fn meet_name<I: Items>(&mut self, items: &I) -> Option<MetName>

@@ -6,7 +6,7 @@ use crate::half::Half;
 use crate::mode::Mode;
 
 impl Half {
-    /// Whether the next item is read in the midst of a string's text, or of a line of a definition that is kept, behind no part
+    /// Whether the next item is read in the midst of a string's text, or of a line of a definition that is kept, after no part
     /// of an escape.
     #[inline]
     pub fn is_in_definition(&self) -> bool

@@ -35,7 +35,7 @@ fn is_lone_name(byte: u8) -> bool
         || byte == b'-')
 }
 
-// The byte so many items behind a place of a row, if there is one.
+// The byte so many items after a place of a row, if there is one.
 #[inline(always)]
 fn byte_at<I: Items>(items: &I, place: usize, behind: usize) -> Option<u8>
     requires { place < length (I.fronts items.now) }
@@ -63,7 +63,7 @@ impl Half {
         self.reads_plainly() && begins
     }
 
-    // What is due behind the name of a register. Answers what is told.
+    // What is due after the name of a register. Answers what is told.
     #[inline(always)]
     fn end_register(&mut self, sign: Sign, name: Name) -> Event
         ensures half { self.new ≡ record self.old { reading = record self.old.reading { due = due_of (kinds.Register sign) name } } }
@@ -77,7 +77,7 @@ impl Half {
         Event::Nothing
     }
 
-    // What is due behind the name of a string, a register or a font. Answers what is told.
+    // What is due after the name of a string, a register or a font. Answers what is told.
     #[inline(always)]
     fn end_name(&mut self, kind: Kind, name: Name) -> Event
         requires kind { is_named kind ≡ true }
@@ -113,7 +113,7 @@ impl Half {
         }
     }
 
-    // The name of a string, a register or a font is met, behind so many items of its escape, which begins at a place. None where the
+    // The name of a string, a register or a font is met, after so many items of its escape, which begins at a place. None where the
     // row has not all of it.
     #[inline(always)]
     fn meet_named<I: Items>(

@@ -190,7 +190,7 @@ impl Half {
         Some(bytes.len())
     }
 
-    /// All of these bytes are met, if a request's line, a condition's number or one of its strings takes them and goes on behind them:
+    /// All of these bytes are met, if a request's line, a condition's number or one of its strings takes them and goes on after them:
     /// in how many moves. Else nothing is done.
     #[inline(always)]
     pub fn keep_bytes(&mut self, bytes: &[u8]) -> Option<usize>

@@ -19,7 +19,7 @@ impl Half {
         !(byte == b'\\' || byte == b'\n' || byte == b' ' || self.signs.begins_control(byte))
     }
 
-    /// The items behind a line's beginning are met: the name of a control line, or the first byte of its text, and else one after another.
+    /// The items after a line's beginning are met: the name of a control line, or the first byte of its text, and else one after another.
     #[inline(never)]
     pub(crate) fn meet_beginning<I: Items>(
         &mut self,

@@ -1,4 +1,4 @@
-//! The parts behind conditions in a row of items.
+//! The parts after conditions in a row of items.
 ghost use Rattle.std.specs.Prelude.{◌≡◌, ◌≤◌, true};
 ghost use Rattle.nr_reading.specs.declared.mode.Mode.TheVariants as modes;
 ghost use Rattle.nr_reading.specs.Many.Braces.{opens_at};
@@ -22,7 +22,7 @@ fn opens<I: Items>(items: &I, place: usize) -> bool
 }
 
 impl Half {
-    /// An accepted part is met: its blanks, an opening brace behind them, and what begins a line there.
+    /// An accepted part is met: its blanks, an opening brace after them, and what begins a line there.
     #[inline(never)]
     pub(crate) fn meet_accepted<I: Items>(&mut self, items: &I, run: &mut Run)
         requires mode { self.old.reading.mode ≡ modes.Accepted }
@@ -40,7 +40,7 @@ impl Half {
         self.meet_beginning(items, place, place + 1, run)
     }
 
-    // What stands at a place of an accepted part is met, to which as many moves led: an opening brace with what begins a line behind it,
+    // What stands at a place of an accepted part is met, to which as many moves led: an opening brace with what begins a line after it,
     // and else one item after another.
     #[inline(always)]
     fn meet_opened<I: Items>(&mut self, items: &I, place: usize, run: &mut Run)
@@ -62,7 +62,7 @@ impl Half {
         self.meet_beginning(items, place + 2, place + 3, run)
     }
 
-    /// A rejected part is met, in which so many braces are open, and what begins a line behind it.
+    /// A rejected part is met, in which so many braces are open, and what begins a line after it.
     #[inline(never)]
     pub(crate) fn meet_rejected<I: Items>(&mut self, items: &I, count: u64, run: &mut Run)
         requires mode { self.old.reading.mode ≡ modes.Skip count }

@@ -42,7 +42,7 @@ impl Half {
         self.reading.mode = Mode::Start;
     }
 
-    /// The line of a request, behind its name: its blanks, its arguments and its newline are met, if these bytes begin with all of
+    /// The line of a request, after its name: its blanks, its arguments and its newline are met, if these bytes begin with all of
     /// it and no escape stands in it. No move is made where they don't, or where no such line is read.
     #[inline(always)]
     pub fn meet_request_line(&mut self, bytes: &[u8]) -> Run

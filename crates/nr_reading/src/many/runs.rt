@@ -43,7 +43,7 @@ pub struct Run {
 }
 
 impl Half {
-    /// Bytes are met, up to the first item that is none, the first that tells something, or behind which something is due;
+    /// Bytes are met, up to the first item that is none, the first that tells something, or after which something is due;
     /// in 65,536 moves at most.
     #[inline(always)]
     pub fn meet_run<I: Items>(&mut self, items: &I) -> Run
@@ -63,7 +63,7 @@ impl Half {
         run
     }
 
-    // Behind so many items and moves, the interpolation that begins with this byte, if it stands whole in the row.
+    // After so many items and moves, the interpolation that begins with this byte, if it stands whole in the row.
     #[inline(always)]
     pub(crate) fn meet_whole<I: Items>(
         &mut self,
@@ -91,7 +91,7 @@ impl Half {
         })
     }
 
-    /// The items behind a place of a row, to which so many moves led, are met one after another.
+    /// The items after a place of a row, to which so many moves led, are met one after another.
     #[inline(never)]
     pub(crate) fn meet_more<I: Items>(&mut self, items: &I, from: usize, made: usize, run: &mut Run)
         requires due { self.old.reading.due ≡ dues.Look }

@@ -14,7 +14,7 @@ use crate::mode::{Due, Mode};
 use crate::spelled::{Spelled, ends_name, is_blank};
 
 impl Half {
-    // Behind a string's name.
+    // After a string's name.
     #[inline(always)]
     fn take_string_name(&mut self, name: Spelled)
         ensures { self.new ≡ behind_name name self.old }

@@ -26,7 +26,7 @@ impl<K: Copy> Store<K> {
         self.open(name, None)
     }
 
-    /// As `enter`, with a mode that is resumed behind the level's end.
+    /// As `enter`, with a mode that is resumed after the level's end.
     pub fn spring(&mut self, name: Name, mode: K) -> Result<bool, Refusal>
         ensures answer { let text = words (find name self.old.names) in
             result ≡ checked (entered name text (Some mode) self.old) (is_some text) }
@@ -144,7 +144,7 @@ impl<K: Copy> Store<K> {
 
     /// Takes what comes next of the levels. Taking an end gives back the level's charge, with that of its text where
     /// neither a name nor another level has it, and puts the arguments before it in force again; the mode that is resumed
-    /// behind it, if there is one, comes next, and taking it puts it into `mode`.
+    /// after it, if there is one, comes next, and taking it puts it into `mode`.
     #[inline]
     pub fn take(&mut self, mode: &mut K) -> Sight
         ensures was { shown_with result mode.new ≡ shown self.old.levels }

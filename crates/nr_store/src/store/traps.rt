@@ -10,7 +10,7 @@ use nr_symbol_tables::trap::{nearest, trap_at, trap_for};
 use nr_units::Name;
 
 impl<K: Copy> Store<K> {
-    /// Plants a trap, in place of the first one at the same place if there is one, else behind all others (CSTR 54,
+    /// Plants a trap, in place of the first one at the same place if there is one, else after all others (CSTR 54,
     /// `.wh`). The place is in u.
     pub fn plant(&mut self, place: i32, name: Name) -> Result<(), StoredBytes>
         ensures answer { result ≡ afforded (trap_planted place name self.old) tt }

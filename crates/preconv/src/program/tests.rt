@@ -64,7 +64,7 @@ static ROWS: [Row; 15] = [
         status: 0,
         line: b"",
     },
-    // What stands behind a file is a file.
+    // What stands after a file is a file.
     Row {
         words: &[b"preconv", b"latin", b"-8"],
         output: b"",

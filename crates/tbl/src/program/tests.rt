@@ -52,7 +52,7 @@ static ROWS: [Row; 22] = [
         status: 0,
         lines: b"",
     },
-    // What stands behind a file is a file.
+    // What stands after a file is a file.
     Row {
         words: &[b"tbl", b"plain", b"-Lt9"],
         output: b"",

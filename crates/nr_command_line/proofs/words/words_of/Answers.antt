@@ -14,7 +14,7 @@ slice_get-last [] x i is = let same : i ≡ 0 = omega arith in ap (slice_get (x 
 slice_get-last (y ∷ xs) x zero is = absurd (omega arith)
 slice_get-last (y ∷ xs) x (suc i) is = slice_get-last xs x i (omega arith)
 
--- one more word stands behind those that were read
+-- one more word stands after those that were read
 next_stands : {X : Type 0} (view : X → List ℕ) (stands : ℕ → Option (List ℕ) → Type 0) (old new : List X) (word : X) (at : ℕ)
     → at ≡ length old → stands (at + 1) (Some (view word)) → new ≡ old ++ word ∷ []
     → ((place : ℕ) → place < length old → stands (place + 1) (slice_get (map view old) place))
@@ -30,7 +30,7 @@ next_stands view stands old new word at at_is told new_is each place within =
     let long : length new ≡ length old + 1 = ap length new_is ∙ length-append old (word ∷ []) in
     below_more P (length old) below here place (omega arith)
 
--- nothing stands behind them
+-- nothing stands after them
 none_stands : {X : Type 0} (view : X → List ℕ) (stands : ℕ → Option (List ℕ) → Type 0) (words : List X) (at : ℕ)
     → at ≡ length words → stands (at + 1) None
     → ((place : ℕ) → place < length words → stands (place + 1) (slice_get (map view words) place))

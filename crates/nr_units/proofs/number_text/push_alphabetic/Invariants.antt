@@ -2,7 +2,7 @@ use Rattle.std.proofs.Common.{◌≡◌, ◌^◌, ◌<◌, ◌≤◌, length, dr
 use Rattle.nr_units.specs.NumberText.{AreLetters, letters_value_after, letters_before, letters}
 use Rattle.nr_units.proofs.number_text.push_alphabetic.Given as goal
 
--- The letters written so far stand behind what is left.
+-- The letters written so far stand after what is left.
 abbrev pub invariant-loop-rest : goal.invariant-loop-rest
 invariant-loop-rest l =
     (length l.letters ≡ 14) × (l.start ≤ 14) × (l.rest < 26 ^ l.start)

@@ -9,7 +9,7 @@ use Rattle.nr_command.specs.Opening.{Asks}
 use Rattle.nr_command.specs.declared.disk.Text.{Text}
 use Rattle.nr_command.proofs.disk.Disk.text.Goals as goal
 
--- what several calls write stands behind what was written before
+-- what several calls write stands after what was written before
 written : {W : Type 0} (bytes : W → List ℕ) (w : W) (xs : List (List ℕ)) (v : W) → FoldsTo (λ s bs t. bytes t ≡ bytes s ++ bs) w xs v → bytes v ≡ bytes w ++ concat xs
 written bytes w [] v p = ap bytes (sym p) ∙ sym (append-nil (bytes w))
 written bytes w (x ∷ xs) v p = written bytes p.0 xs v p.2 ∙ ap (λ l. l ++ concat xs) p.1 ∙ append_assoc (bytes w) x (concat xs)

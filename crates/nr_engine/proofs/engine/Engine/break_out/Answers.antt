@@ -43,7 +43,7 @@ lightens-continues_none e f (Ok x) light =
     (falls-behind 1 0 e.formatter (continues_none e.formatter) f.formatter (falls-continues_none e.formatter) light.0, light.1)
 lightens-continues_none e f (Err stop) light = tt
 
--- a part of a break behind that
+-- a part of a break after that
 works-continues_none : (g : State → State) (e f : Shape) (old new : Option (List ℕ)) (r : Result (Unit {0}) Stop)
     → Works g (uncontinued e) f old new r → Works (λ s. g (plainly continues_none s)) e f old new r
 works-continues_none g e f old new r w = record {

@@ -10,7 +10,7 @@ use Rattle.nr_engine.proofs.LevelLines.{gathered_still, left_text, longest_ended
 use Rattle.nr_engine.proofs.many.level_text.put_gathered.Goals.{After-leave-besides, else-goes-via-then-goes+then-gathered+else-words-bytes, else-goes-via-then-goes+else-gathered, else-goes-via-else-goes}
 use Rattle.nr_engine.proofs.many.level_text.put_gathered.Goals as goal
 
--- behind the words, with those that were put taken
+-- after the words, with those that were put taken
 abbrev behind : (c : After-leave-besides) → Formatter
 behind c = with_read c.leave-besides.new.store c.leave-besides.new.reader c.put_line_words-words.new.formatter
 

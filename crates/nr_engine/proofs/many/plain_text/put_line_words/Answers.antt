@@ -34,7 +34,7 @@ run_of_flow c =
 line : (c : After-put_word-word) → is_in_line (word_put c) ≡ true
 line c = turn_line (take c.put_word-word.result.count (rest_of c.loop-formatter.taken c.args.bytes.now)) c.loop-formatter.formatter (word_put c) c.loop-formatter.invariant.line refl
 
--- a blank stands behind it
+-- a blank stands after it
 blank : (c : After-put_word-word) → c.put_word-word.result.count < length (rest_of c.loop-formatter.taken c.args.bytes.now)
     → slice_index (rest_of c.loop-formatter.taken c.args.bytes.now) c.put_word-word.result.count ≡ 32
     → (c.loop-formatter.taken + c.put_word-word.result.count < length c.args.bytes.now) × (slice_index c.args.bytes.now (c.loop-formatter.taken + c.put_word-word.result.count) ≡ 32)

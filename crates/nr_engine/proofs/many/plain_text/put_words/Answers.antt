@@ -26,7 +26,7 @@ taken c = c.loop-taken.taken + c.put_line_words-line.result.taken
 abbrev moves : (c : After-put_line_words-line) → ℕ
 moves c = c.loop-taken.moves + c.put_line_words-line.result.moves
 
--- the formatter behind a line's words
+-- the formatter after a line's words
 abbrev behind : (c : After-put_line_words-line) → Formatter
 behind c = c.put_line_words-line.new.formatter
 
