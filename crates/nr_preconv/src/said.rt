@@ -109,8 +109,8 @@ fn put_said(said: Said, eight_bit: bool, out: &mut SliceVec<'_, u8>)
     }
 }
 
-/// Puts what is said, as it may go out, behind what goes out: at most 64 bytes.
-pub(crate) fn say(said: Said, eight_bit: bool, out: &mut SliceVec<'_, u8>)
+/// Puts what is said, as it may go out, by way of a buffer: at most 64 bytes.
+fn say_through(said: Said, eight_bit: bool, out: &mut SliceVec<'_, u8>)
     requires { length out.old.items + 64 ≤ out.old.room }
     ensures items { out.new.items ≡ out.old.items ++ bytes_of eight_bit said }
     ensures few { length out.new.items ≤ length out.old.items + 64 }
@@ -120,4 +120,21 @@ pub(crate) fn say(said: Said, eight_bit: bool, out: &mut SliceVec<'_, u8>)
     let mut text = SliceVec::over(&mut bytes);
     put_said(said, eight_bit, &mut text);
     put_sent(text.as_slice(), eight_bit, out);
+}
+
+/// Puts what is said, as it may go out, behind what goes out: at most 64 bytes.
+pub(crate) fn say(said: Said, eight_bit: bool, out: &mut SliceVec<'_, u8>)
+    requires { length out.old.items + 64 ≤ out.old.room }
+    ensures items { out.new.items ≡ out.old.items ++ bytes_of eight_bit said }
+    ensures few { length out.new.items ≤ length out.old.items + 64 }
+    ensures room { out.new.room ≡ out.old.room }
+{
+    match said {
+        Said::Nothing => {}
+        Said::Byte(byte) => out.push(sent(eight_bit, byte)),
+        Said::Kept(name) => put_sent(name.as_bytes(), eight_bit, out),
+        Said::Escape(byte) => put_sent(&[b'\\', byte], eight_bit, out),
+        Said::Font(letter) => put_sent(&[b'\\', b'f', letter], eight_bit, out),
+        _ => say_through(said, eight_bit, out),
+    }
 }
