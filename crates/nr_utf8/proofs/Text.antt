@@ -1,6 +1,6 @@
 -- What goes out is a text for a terminal.
 use Prim.Native.Char.{code}
-use Rattle.std.proofs.Common.{◌≡◌, ℕ, ◌+◌, ◌<◌, List, [], ◌∷◌, ◌++◌, Bool, true, false, ◌==◌, ◌&&◌, ◌||◌, if◌then◌else◌, Option, None, Some, codes, refl, sym, subst, ap, ◌∙◌, append-nil, append_assoc, arith}
+use Rattle.std.proofs.Common.{◌≡◌, ℕ, ◌<◌, List, [], ◌∷◌, ◌++◌, Bool, true, false, ◌==◌, ◌&&◌, ◌||◌, if◌then◌else◌, Option, None, Some, codes, refl, sym, subst, ap, ◌∙◌, append-nil, append_assoc, arith}
 use Rattle.std.specs.Prelude.{encode_utf8_all}
 use Rattle.std.specs.Char.{encode_utf8}
 use Rattle.std.specs.Str.{all_scalars}
