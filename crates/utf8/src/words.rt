@@ -1,0 +1,67 @@
+// The words of the command line, and what they ask for.
+ghost use Rattle.std.specs.Prelude.{◌≡◌, ◌<◌, ◌≤◌, IfOk, length};
+ghost use Rattle.utf8.specs.Words.{IsWithin, asked, is_option, table_asked, texts};
+
+use nr_characters::Table;
+
+/// What the words ask for.
+#[derive(Clone, Copy)]
+pub struct Job {
+    /// What bytes from 128 on are.
+    pub table: Table,
+    /// Underlined text stands between escape sequences.
+    pub escapes: bool,
+    /// The place of the first file among the words: there may be none.
+    pub files: usize,
+}
+
+/// What is wrong with the words.
+#[derive(Clone, Copy)]
+pub enum Wrong {
+    /// The word at this place is no option.
+    UnknownOption(usize),
+    /// The word at this place is no table.
+    UnknownTable(usize),
+    /// No word names a table.
+    NoTable,
+}
+
+/// Whether a word is an option: it begins with `-`.
+fn is_option(word: &str) -> bool
+    ensures { result ≡ is_option word.now }
+{
+    let bytes = word.as_bytes();
+    bytes.len() > 0 && bytes[0] == b'-'
+}
+
+/// Reads the words from the table's on, at this place.
+fn read_table(words: &[&str], at: usize, escapes: bool) -> Result<Job, Wrong>
+    requires { at ≤ length words.now }
+    ensures answer { result ≡ table_asked escapes at (texts words.now) }
+    ensures within { IsWithin (length words.now) result }
+{
+    if at == words.len() {
+        return Err(Wrong::NoTable);
+    }
+    let word = words[at];
+    match Table::named(word) {
+        Some(table) => Ok(Job {
+            table,
+            escapes,
+            files: at + 1,
+        }),
+        None if is_option(word) => Err(Wrong::UnknownOption(at)),
+        None => Err(Wrong::UnknownTable(at)),
+    }
+}
+
+/// Reads the words: `-c` or not, the name of a table, and files.
+pub fn read_words(words: &[&str]) -> Result<Job, Wrong>
+    ensures answer { result ≡ asked (texts words.now) }
+    ensures within { IsWithin (length words.now) result }
+{
+    if words.len() > 0 && words[0].as_bytes() == b"-c".as_slice() {
+        return read_table(words, 1, true);
+    }
+    read_table(words, 0, false)
+}
