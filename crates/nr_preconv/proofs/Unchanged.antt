@@ -1,6 +1,7 @@
 -- Plain text is what comes of it.
-use Rattle.std.proofs.Common.{◌≡◌, ℕ, suc, ◌+◌, ◌≤◌, List, [], ◌∷◌, ◌++◌, length, drop, Bool, true, false, not, ◌==◌, ◌&&◌, nat_lt, if◌then◌else◌, refl, sym, ◌∙◌, ap, append-nil, arith}
+use Rattle.std.proofs.Common.{◌≡◌, ℕ, suc, ◌+◌, ◌≤◌, List, [], ◌∷◌, ◌++◌, length, drop, Bool, true, false, not, ◌==◌, ◌&&◌, nat_lt, if◌then◌else◌, Option, refl, sym, ◌∙◌, ap, append-nil, arith}
 use Rattle.std.proofs.lemmas.List.{drop_all}
+use Rattle.nr_characters.specs.declared.table.Table.{Table}
 use Rattle.nr_preconv.specs.declared.half.Half.{Half}
 use Rattle.nr_preconv.specs.declared.half.Line.{Line}
 use Rattle.nr_preconv.specs.declared.half.Line.TheVariants as lines
@@ -22,8 +23,8 @@ use Rattle.nr_preconv.proofs.Plain.{and-first, and-second, is_not, heard_byte_ta
 half_at : Bool → Half
 half_at starts = record first_half { line = if starts then lines.Start else lines.Text }
 
-reader_at : Bool → Bool → Reader
-reader_at e starts = record { half = half_at starts; pending = pendings.Nothing; eight_bit = e }
+reader_at : Option Table → Bool → Reader
+reader_at e starts = record { half = half_at starts; pending = pendings.Nothing; table = e }
 
 said_as : Bool → ℕ → Line → Half → Met
 said_as x b line h = taken (says.Byte b) (record (if x then record h { before = Other } else placed (is_ascii_letter b) h) { line = line })
@@ -99,11 +100,11 @@ unfolding reader_at half_at
 nothing_left e true = refl
 nothing_left e false = refl
 
-first_is : (e : Bool) → first_reader e ≡ reader_at e true
+first_is : (e : Option Table) → first_reader e ≡ reader_at e true
 unfolding reader_at half_at
 first_is e = refl
 
-pub plain_unchanged : (e : Bool) (text : List ℕ) → is_plain_text text ≡ true → converted e text ≡ text
+pub plain_unchanged : (e : Option Table) (text : List ℕ) → is_plain_text text ≡ true → converted e text ≡ text
 plain_unchanged e text p =
     ap (λ (r : Reader). (fed r text).bytes ++ finished (fed r text).reader) (first_is e)
     ∙ ap (λ (t : Told). t.bytes ++ finished t.reader) (fed_on e true text p)
@@ -119,7 +120,7 @@ none_added : (n : ℕ) → n + 0 ≡ n
 none_added n = omega arith
 
 -- one step for each byte
-pub plain_steps : (e : Bool) (text : List ℕ) → is_plain_text text ≡ true → steps_of e text ≡ length text
+pub plain_steps : (e : Option Table) (text : List ℕ) → is_plain_text text ≡ true → steps_of e text ≡ length text
 plain_steps e text p =
     ap (λ (r : Reader). (fed r text).steps + (pending_heard (fed r text).reader).steps) (first_is e)
     ∙ ap (λ (t : Told). t.steps + (pending_heard t.reader).steps) (fed_on e true text p)

