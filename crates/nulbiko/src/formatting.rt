@@ -40,7 +40,32 @@ fn options_of(first: i64) -> Options
     options
 }
 
-/// Formats the text, hands its pages over and gives the number that tells how it ended.
+/// Formats the text in a desk, hands its pages over and gives the number that tells how it ended.
+fn run_desk(
+    alloc: Global,
+    desk: &mut Desk,
+    first: i64,
+    input: &[u8],
+    output: &mut [u8],
+    told: &mut Report,
+) -> Result<u32, AllocError>
+    ensures formatted { IfOk result (λ code. FormatsText desk.old first input.now output.new told.new code) }
+    ensures not_range { IfOk result (λ code. code ≢ 2) }
+    ensures not_memory { IfOk result (λ code. code ≢ 5) }
+    ensures untouched { OnErr result ((output.new ≡ output.old) × (told.new ≡ told.old)) }
+{
+    let mut pages = Pages::new(alloc, output.len())?;
+    let options = options_of(first);
+    let mut text = Text::over(input);
+    let mut moves = 0;
+    let outcome = format(desk.lend(), &options, &mut text, &mut pages, &mut moves);
+    let bytes = pages.as_slice();
+    let written = hand_over(bytes, output);
+    *told = report_of(outcome, written, moves);
+    Ok(code_within(code(outcome), bytes.len(), output.len()))
+}
+
+/// Formats the text in a desk of its own.
 fn format_text(
     alloc: Global,
     limits: Limits,
@@ -55,15 +80,7 @@ fn format_text(
     ensures untouched { OnErr result ((output.new ≡ output.old) × (told.new ≡ told.old)) }
 {
     let mut desk = Desk::new(alloc, limits)?;
-    let mut pages = Pages::new(alloc, output.len())?;
-    let options = options_of(first);
-    let mut text = Text::over(input);
-    let mut moves = 0;
-    let outcome = format(desk.lend(), &options, &mut text, &mut pages, &mut moves);
-    let bytes = pages.as_slice();
-    let written = hand_over(bytes, output);
-    *told = report_of(outcome, written, moves);
-    Ok(code_within(code(outcome), bytes.len(), output.len()))
+    run_desk(alloc, &mut desk, first, input, output, told)
 }
 
 /// Formats a text under limits into a buffer, tells how it went, and gives the number of the outcome: 0 done, 1 a limit would
