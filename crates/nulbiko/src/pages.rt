@@ -11,6 +11,7 @@ use std::alloc::{AllocError, Global};
 #[derive(Drop)]
 pub(crate) struct Pages {
     bytes: FixedVec<u8>,
+    passed_on: bool,
     failed_puts: u64,
 }
 
@@ -22,6 +23,7 @@ impl Pages {
     {
         Ok(Pages {
             bytes: FixedVec::new(alloc, room)?,
+            passed_on: false,
             failed_puts: 0,
         })
     }
@@ -35,15 +37,18 @@ impl Pages {
 }
 
 impl Sink for Pages {
-    ghost use Rattle.std.specs.Prelude.{Some, true};
+    ghost use Rattle.std.specs.Prelude.{Some};
 
     ghost held = { λ s. Some s.bytes.items };
 
-    ghost passed_on = { λ s. true };
+    ghost passed_on = { λ s. s.passed_on };
 
     ghost failures = { λ s. record { puts = s.failed_puts; flushes = 0 } };
 
     fn put(&mut self, bytes: &[u8]) -> Result<(), Fault> {
+        if !bytes.is_empty() {
+            self.passed_on = false;
+        }
         let room = self.bytes.room() - self.bytes.len();
         if bytes.len() <= room {
             self.bytes.extend(bytes);
@@ -55,6 +60,7 @@ impl Sink for Pages {
     }
 
     fn flush(&mut self) -> Result<(), Fault> {
+        self.passed_on = true;
         Ok(())
     }
 }
