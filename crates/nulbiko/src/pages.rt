@@ -46,12 +46,12 @@ impl Sink for Pages {
     ghost failures = { λ s. record { puts = s.failed_puts; flushes = 0 } };
 
     fn put(&mut self, bytes: &[u8]) -> Result<(), Fault> {
-        if !bytes.is_empty() {
-            self.passed_on = false;
-        }
         let room = self.bytes.room() - self.bytes.len();
         if bytes.len() <= room {
             self.bytes.extend(bytes);
+            if !bytes.is_empty() {
+                self.passed_on = false;
+            }
             return Ok(());
         }
         self.bytes.extend(&bytes[..room]);

@@ -4,7 +4,7 @@ use Rattle.nulbiko.proofs.formatting.run_desk.Goals as goal
 pub returns-clause-formatted : goal.returns-clause-formatted
 returns-clause-formatted c = record {
   options = c.options_of-options.result;
-  asked = c.options_of-options.ensures;
+  asked = search rules;
   moves = c.format-outcome.new.moves;
   outcome = c.format-outcome.result;
   bytes = c.as_slice-bytes.result.now;
