@@ -1,5 +1,5 @@
 -- What a call from C is told, in numbers, and what it comes to.
-use Rattle.std.specs.Prelude.{◌≡◌, ℕ, ℤ, ◌<◌, List, [], length, take, min, Bool, true, false, Option, None, Some, nat_lt, if◌then◌else◌}
+use Rattle.std.specs.Prelude.{◌≡◌, ℕ, ℤ, List, [], length, take, min, false, None, Some, nat_lt, if◌then◌else◌}
 use Rattle.nr_units.specs.Supply.{Supply, Never}
 use Rattle.nr_options.specs.Limits.{Bounds}
 use Rattle.nr_options.specs.declared.options.Options.{Options}
