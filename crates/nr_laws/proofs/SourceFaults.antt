@@ -30,7 +30,7 @@ use Rattle.nr_formatter.specs.Pages.{begins_first_page, is_ejecting, next_spring
 use Rattle.nr_formatter.specs.Places.{outlet, to_read}
 use Rattle.nr_formatter.specs.Spacing.{is_spaceless}
 use Rattle.nr_engine.specs.State.{State, Choice, plainly}
-use Rattle.nr_engine.specs.Machine.{begin_page, turn_page, put_line_to, put_or, break_out, room_in, title_to, cell_to, line_to, space_to, put_space, eject_to, eject, act, work, hear, spring_or, choose_or, step, state_after, situation_of}
+use Rattle.nr_engine.specs.Machine.{begin_page, turn_page, put_line_to, put_or, break_part, continues_none, break_out, room_in, title_to, cell_to, line_to, space_to, put_space, eject_to, eject, act, work, hear, spring_or, choose_or, step, state_after, situation_of}
 use Rattle.nr_engine.specs.declared.outcome.Outcome.{Outcome}
 use Rattle.nr_engine.specs.declared.outcome.Outcome.TheVariants.{Done, Limit, ReadFault, TooLong, WriteFault}
 use Rattle.nr_laws.specs.Laws.{are_told, is_settled}
@@ -81,10 +81,13 @@ put : (g : Option Going) (done : Formatter → Formatter) (s : State) → Told s
 put None done s h = h
 put (Some g) done s h = line_put (outlet s.formatter) g s h
 
-broken_out : (t : Then) (s : State) → Told s.coming → Told (break_out t s).coming
-broken_out t s h =
+broken_part : (t : Then) (s : State) → Told s.coming → Told (break_part t s).coming
+broken_part t s h =
     either (not (is_none (collected s.formatter).word)) (plainly break_word_end s) (if begins_first_page t s.formatter then begin_page s else put_or (break_line s.formatter) (break_done t) s) h
     (either (begins_first_page t s.formatter) (begin_page s) (put_or (break_line s.formatter) (break_done t) s) h (put (break_line s.formatter) (break_done t) s h))
+
+broken_out : (t : Then) (s : State) → Told s.coming → Told (break_out t s).coming
+broken_out t s h = broken_part t (plainly continues_none s) h
 
 room_made : (o : Outlet) (r : Room) (s : State) → Told s.coming → Told (room_in o r s).coming
 room_made outlets.Diversion r s h = h
