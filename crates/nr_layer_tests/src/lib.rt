@@ -1,8 +1,7 @@
 //! Nothing for other crates: tests of the store and the layers below it. They have what no clause says: numbers of the
-//! manuals, worked pages, and readers and writers that fail.
+//! manuals, and worked pages.
 //!
-//! It stands on nr_page, nr_store, nr_settings and the crates below them. To read: `turns`, the readers and writers of
-//! the tests; then the others in any order.
+//! It stands on nr_page, nr_store, nr_settings and the crates below them. To read: the files in any order.
 #![tactic(auto)]
 
 #[cfg(test)]
@@ -10,16 +9,10 @@ mod expressions;
 #[cfg(test)]
 mod numbers;
 #[cfg(test)]
-mod readers;
-#[cfg(test)]
 mod shared_charges;
 #[cfg(test)]
 mod texts;
 #[cfg(test)]
-mod turns;
-#[cfg(test)]
 mod widths;
 #[cfg(test)]
 mod worked_pages;
-#[cfg(test)]
-mod writers;
