@@ -8,6 +8,7 @@ pub mod InputLimits
 pub mod LongestCut
 pub mod OutputLaws
 pub mod Over
+pub mod PageLists
 pub mod PlainFlows
 pub mod PlainHears
 pub mod PlainLaw

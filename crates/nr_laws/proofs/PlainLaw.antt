@@ -21,7 +21,6 @@ use Rattle.nr_formatter.specs.Access.{collected}
 use Rattle.nr_formatter.specs.Given.{given_named}
 use Rattle.nr_formatter.specs.Registers.{given_set, register_set_by}
 use Rattle.nr_options.specs.declared.options.Options.{Options}
-use Rattle.nr_page.specs.declared.selection.PageRange.{PageRange}
 use Rattle.nr_engine.specs.State.{State, Choice, First, Register as SetsRegister, choices, start}
 use Rattle.nr_engine.specs.Machine.{step, state_after, choose}
 use Rattle.nr_engine.specs.Printing.{text}
@@ -29,8 +28,9 @@ use Rattle.nr_engine.specs.Run.{Reads, Works, Over, kind}
 use Rattle.nr_engine.specs.declared.outcome.Outcome.TheVariants.{Done}
 use Rattle.nr_laws.specs.Laws.{nothing_allowed}
 use Rattle.nr_laws.specs.FilledText.{text_of, FilledTextIsRows}
-use Rattle.nr_laws.specs.PlainText.{squeezed, is_plain, is_plain_from, PlainTextStays}
+use Rattle.nr_laws.specs.PlainText.{squeezed, is_plain, is_plain_from, PlainTextStays, TakesAll}
 use Rattle.nr_laws.proofs.OutputLaws.{text_at, over_at}
+use Rattle.nr_laws.proofs.PageLists.{printing, state_after-printing}
 use Rattle.nr_fill.specs.Piece.{word_pieces}
 use Rattle.nr_laws.proofs.FilledLines.{rows_at}
 use Rattle.nr_laws.proofs.FilledPages.{rows_shown}
@@ -149,22 +149,28 @@ over_good s (IsChoosing c cs bs i is plain o) over = absurd (works_on (ap kind (
 
 -- ---- the law
 
--- the options but for the pages that are printed
-abbrev start_of : Options → Supply → Option (List PageRange) → State
-start_of options supply select = record (start nothing_allowed options supply) { select = select }
+-- the options but for the page list
+abbrev start_of : Options → Supply → State
+start_of options supply = printing None (start nothing_allowed options supply)
 
-begins_good : (options : Options) (supply : Supply) → is_plain supply.bytes ≡ true → options.select ≡ None → Good (start nothing_allowed options supply)
-begins_good options supply plain all =
-    subst Good (ap (start_of options supply) (sym all))
-    (good_of (choices options) supply.bytes false (start_of options supply None) plain
-    (record { clean = record { pieces = tt; word = tt }; ascends = tt; above = tt; shut = λ shut. refl; drained = tt; closed = tt }))
+begins_good : (options : Options) (supply : Supply) → is_plain supply.bytes ≡ true → Good (start_of options supply)
+begins_good options supply plain =
+    good_of (choices options) supply.bytes false (start_of options supply) plain
+    (record { clean = record { pieces = tt; word = tt }; ascends = tt; above = tt; shut = λ shut. refl; drained = tt; closed = tt })
+
+-- the states are the same but for a page list that takes all pages
+list_apart : (options : Options) (supply : Supply) → TakesAll options.select → (n : ℕ)
+    → state_after n (start nothing_allowed options supply) ≡ printing options.select (state_after n (start_of options supply))
+list_apart options supply all n = state_after-printing None options.select all n (start nothing_allowed options supply)
 
 pub plain_text_stays : PlainTextStays
 plain_text_stays b options supply n out plain all a =
-    let s = start nothing_allowed options supply in
-    let g = good_after n s (begins_good options supply plain all) in
-    let over = over_at b options supply n out a in
-    ap squeezed (text_at b options supply n Done out a refl) ∙ sym (over_good (state_after n s) g.good over) ∙ g.same
+    let s = start_of options supply in
+    let g = good_after n s (begins_good options supply plain) in
+    let is = list_apart options supply all n in
+    let over = ap kind (sym is) ∙ over_at b options supply n out a in
+    let out_is = text_at b options supply n Done out a refl ∙ ap (λ (t : State). text t.pages) is in
+    ap squeezed out_is ∙ sym (over_good (state_after n s) g.good over) ∙ g.same
 
 -- ---- filled text
 
@@ -186,9 +192,11 @@ output_over s (IsChoosing c cs bs i is plain o) over = absurd (works_on (ap kind
 
 pub filled_text_is_rows : FilledTextIsRows
 filled_text_is_rows b options supply n out plain filled all a =
-    let s = start nothing_allowed options supply in
-    let g = good_after n s (begins_good options supply plain all) in
-    let over = over_at b options supply n out a in
+    let s = start_of options supply in
+    let g = good_after n s (begins_good options supply plain) in
+    let is = list_apart options supply all n in
+    let over = ap kind (sym is) ∙ over_at b options supply n out a in
+    let out_is = text_at b options supply n Done out a refl ∙ ap (λ (t : State). text t.pages) is in
     let fills = g.fills (record { goes = refl; bytes = filled; inside = λ begins. refl })
     (record { rows = tt; down = λ is_so. refl; few = omega arith; begun = λ is_so. never_here is_so; measure = λ begun. never_here (sym begun) }) in
-    text_at b options supply n Done out a refl ∙ sym (output_over (state_after n s) g.good over) ∙ fills.same
+    out_is ∙ sym (output_over (state_after n s) g.good over) ∙ fills.same

@@ -1,6 +1,6 @@
 -- Plain text whose lines neither are empty nor begin with a blank: the rows that come of it.
 use Prim.Native.Char.{code}
-use Rattle.std.specs.Prelude.{◌≡◌, ℕ, zero, suc, ◌<◌, ◌≤◌, ◌-◌, ◌%◌, not, Bool, true, false, ◌&&◌, ◌||◌, ◌==◌, if◌then◌else◌, List, [], ◌∷◌, ◌++◌, length, replicate, None}
+use Rattle.std.specs.Prelude.{◌≡◌, ℕ, zero, suc, ◌<◌, ◌≤◌, ◌-◌, ◌%◌, not, Bool, true, false, ◌&&◌, ◌||◌, ◌==◌, if◌then◌else◌, List, [], ◌∷◌, ◌++◌, length, replicate}
 use Rattle.std.specs.List.{flat_map, fold}
 use Rattle.nr_units.specs.Source.{Supply}
 use Rattle.nr_units.specs.declared.cell.Cell.{Cell}
@@ -16,7 +16,7 @@ use Rattle.nr_options.specs.declared.options.Options.{Options}
 use Rattle.nr_formatter.specs.Text.{behind_of}
 use Rattle.nr_engine.specs.declared.outcome.Outcome.TheVariants.{Done}
 use Rattle.nr_laws.specs.Laws.{AnswersWith}
-use Rattle.nr_laws.specs.PlainText.{is_plain}
+use Rattle.nr_laws.specs.PlainText.{is_plain, TakesAll}
 
 -- no line is empty or begins with a blank; whether the text begins at a line's beginning
 abbrev pub is_filled_from : Bool → List ℕ → Bool
@@ -64,7 +64,7 @@ text_of rows = flat_map (λ (row : List Cell). flat_map cell_bytes row ++ 10 ∷
 abbrev pub FilledTextIsRows : Type 0
 FilledTextIsRows =
     (b : Bounds) (options : Options) (supply : Supply) (n : ℕ) (out : List ℕ)
-    → is_plain supply.bytes ≡ true → is_filled_from true supply.bytes ≡ true → options.select ≡ None → AnswersWith b options supply n Done out
+    → is_plain supply.bytes ≡ true → is_filled_from true supply.bytes ≡ true → TakesAll options.select → AnswersWith b options supply n Done out
     → out ≡ text_of (rows_of (pieces_of supply.bytes))
 
 -- Each of these rows is cut as long as it may be: of the pieces that are left no longer prefix fits a line,

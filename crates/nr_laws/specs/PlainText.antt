@@ -1,10 +1,12 @@
 -- Plain text, and what of it and of the output is neither a blank nor a newline.
 use Prim.Native.Char.{code}
-use Rattle.std.specs.Prelude.{◌≡◌, ℕ, nat_le, Bool, true, not, ◌&&◌, ◌||◌, ◌==◌, List, [], ◌∷◌, None}
+use Rattle.std.specs.Prelude.{◌≡◌, ℕ, nat_le, Bool, true, not, ◌&&◌, ◌||◌, ◌==◌, List, [], ◌∷◌, Option, ℤ}
 use Rattle.std.specs.List.{filter}
 use Rattle.nr_units.specs.Source.{Supply}
+use Rattle.nr_page.specs.declared.selection.PageRange.{PageRange}
 use Rattle.nr_options.specs.Limits.{Bounds}
 use Rattle.nr_options.specs.declared.options.Options.{Options}
+use Rattle.nr_engine.specs.Printing.{selects}
 use Rattle.nr_engine.specs.declared.outcome.Outcome.TheVariants.{Done}
 use Rattle.nr_laws.specs.Laws.{AnswersWith}
 
@@ -33,9 +35,13 @@ is_plain_from begins (b ∷ bs) = is_plain_byte b && (not (begins && is_sign b) 
 abbrev pub is_plain : List ℕ → Bool
 is_plain bs = is_plain_from true bs
 
+-- each page is printed: there is no page list, or one that takes them all
+abbrev pub TakesAll : Option (List PageRange) → Type 0
+TakesAll select = (page : ℤ) → selects select page ≡ true
+
 -- Of plain text all goes out, in order, with other blanks and newlines among it.
 abbrev pub PlainTextStays : Type 0
 PlainTextStays =
     (b : Bounds) (options : Options) (supply : Supply) (n : ℕ) (out : List ℕ)
-    → is_plain supply.bytes ≡ true → options.select ≡ None → AnswersWith b options supply n Done out
+    → is_plain supply.bytes ≡ true → TakesAll options.select → AnswersWith b options supply n Done out
     → squeezed out ≡ squeezed supply.bytes

@@ -40,7 +40,8 @@ pub fn one_answer()
     ensures { OneAnswer }
 {}
 
-/// Of an input of plain text alone all goes out, in order: it is the output, but for blanks and newlines.
+/// Of an input of plain text alone all goes out, in order: it is the output, but for blanks and newlines, where each page is
+/// printed.
 pub fn plain_text_stays()
     ensures { PlainTextStays }
 {}
