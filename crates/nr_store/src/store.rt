@@ -20,7 +20,7 @@ use crate::register::Register;
 use nr_levels::{Gathering, Levels, Stack};
 use nr_pool::Pool;
 use nr_rooms::FixedVec;
-use nr_symbol_tables::{HyphenationWord, Table, Trap};
+use nr_symbol_tables::{HyphenationWords, Table, Trap};
 use std::marker::Model;
 
 /// Names with their requests and texts, texts being built, and levels that read texts, with modes `K` that sprung texts
@@ -38,7 +38,7 @@ pub struct Store<K: Copy> {
     gathering: Gathering,
     registers: Table<Register>,
     traps: FixedVec<Trap>,
-    words: Stack<HyphenationWord>,
+    words: HyphenationWords,
     charge: u32,
     stored: u32,
 }

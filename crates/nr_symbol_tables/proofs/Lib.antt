@@ -1,3 +1,4 @@
+pub mod Chaining
 pub mod Order
 pub mod Rows
 pub mod Words

@@ -1,14 +1,11 @@
 -- Lemmas on hyphenation words.
-use Rattle.std.proofs.Common.{◌≡◌, ◌≢◌, ℕ, ◌+◌, ◌-◌, ◌<◌, ◌≤◌, true, false, List, [], ◌∷◌, ◌++◌, length, map, take, drop, get_or, reverse, refl, ap, sym, ◌∙◌, inl, inr, eqb, arith, append_assoc, length-append}
-use Rattle.std.specs.Prelude.{◌&&◌, ◌||◌, Bool, cond, not}
+use Rattle.std.proofs.Common.{◌≡◌, ℕ, ◌+◌, ◌-◌, ◌<◌, ◌≤◌, true, false, List, [], ◌∷◌, ◌++◌, length, map, take, drop, get_or, reverse, refl, ap, sym, ◌∙◌, inl, inr, eqb, arith, append_assoc, length-append}
+use Rattle.std.specs.Prelude.{Bool, cond}
 use Rattle.std.specs.List.{prefix_len, suffix_len}
-use Rattle.std.specs.Str.{bytes_eq}
-use Rattle.std.proofs.lemmas.Bool.{cases_Bool, cond-true, cond-false, ne_eqb}
-use Rattle.std.proofs.Math.Bool.{and_assoc, and-true}
-use Rattle.std.proofs.lemmas.List.{append-nil, get_or-map, length-map, length-take, length-take-le, map-append, reverse-append, take_all, take_more, take-append-drop, take-map}
-use Rattle.std.proofs.lemmas.Slice.Eq.{bytes_eq-Decides}
+use Rattle.std.proofs.lemmas.Bool.{cases_Bool, cond-true, cond-false}
+use Rattle.std.proofs.lemmas.List.{append-nil, length-map, length-take, map-append, reverse-append, take_more, take-append-drop, take-map}
 use Rattle.nr_units.specs.declared.cell.Cell.{Cell}
-use Rattle.nr_symbol_tables.specs.Word.{Word, bytes_of, closes, letters_of, points_from, is_given, stem}
+use Rattle.nr_symbol_tables.specs.Word.{bytes_of, closes, letters_of, points_from, stem}
 use Rattle.nr_symbol_tables.specs.Given.{IsLonger}
 use Rattle.nr_symbol_tables.specs.declared.word.HyphenationWord.{HyphenationWord}
 
@@ -127,7 +124,7 @@ prefix_len-map : {A B : Type 0} (f : A → B) (p : B → Bool) (xs : List A) →
 prefix_len-map f p [] = refl
 prefix_len-map f p (x ∷ xs) = ap (λ n. cond (p (f x)) (1 + n) 0) (prefix_len-map f p xs)
 
-reverse-map : {A B : Type 0} (f : A → B) (xs : List A) → reverse (map f xs) ≡ map f (reverse xs)
+pub reverse-map : {A B : Type 0} (f : A → B) (xs : List A) → reverse (map f xs) ≡ map f (reverse xs)
 reverse-map f [] = refl
 reverse-map f (x ∷ xs) =
     reverse-append (f x ∷ []) (map f xs) ∙ ap (λ l. l ++ f x ∷ []) (reverse-map f xs) ∙ sym (map-append f (reverse xs) (x ∷ []))
@@ -142,45 +139,3 @@ stem-bytes_of cells =
     ap (λ n. take (n - suffix_len closes (bytes_of cells)) (bytes_of cells)) (length-map cells byte)
     ∙ ap (λ n. take (length cells - n) (bytes_of cells)) (suffix_len-map byte closes cells)
     ∙ take-map byte (length cells - suffix_len (λ (x : Cell). closes x.byte) cells) cells
-
--- ---- whether bytes are a word
-
-apart_lengths : (xs ys : List ℕ) → length xs ≢ length ys → bytes_eq xs ys ≡ false
-apart_lengths xs ys apart = elim (cases_Bool (bytes_eq xs ys)) [
-  | inl same ↦ absurd (apart (ap length ((bytes_eq-Decides xs ys).0 same)))
-  | inr other ↦ other
-]
-
--- one byte more on both sides
-eq_behind : (b c : ℕ) (xs ys : List ℕ) → length xs ≡ length ys → bytes_eq (xs ++ b ∷ []) (ys ++ c ∷ []) ≡ (bytes_eq xs ys && eqb b c)
-eq_behind b c [] [] same = and-true (eqb b c)
-eq_behind b c [] (y ∷ ys) same = absurd (omega arith)
-eq_behind b c (x ∷ xs) [] same = absurd (omega arith)
-eq_behind b c (x ∷ xs) (y ∷ ys) same = ap (λ t. eqb x y && t) (eq_behind b c xs ys (omega arith)) ∙ sym (and_assoc (eqb x y) (bytes_eq xs ys) (eqb b c))
-
-module _ (bytes : List ℕ) (w : Word) (some : length w.letters ≢ 0) where
-  given_if : is_given bytes w ≡ (bytes_eq bytes w.letters || bytes_eq bytes (w.letters ++ 115 ∷ []))
-  given_if = ap (λ t. not t && (bytes_eq bytes w.letters || bytes_eq bytes (w.letters ++ 115 ∷ []))) (ne_eqb (length w.letters) 0 some)
-
-  longer : length (w.letters ++ 115 ∷ []) ≡ length w.letters + 1
-  longer = length-append w.letters (115 ∷ [])
-
-  -- one longer
-  pub given_longer : (d : ℕ) → length bytes ≡ length w.letters + 1 → (bytes_eq (take (length w.letters) bytes) w.letters && eqb (get_or bytes (length w.letters) d) 115) ≡ is_given bytes w
-  given_longer d same =
-      let n = length w.letters in
-      let whole : bytes ≡ take n bytes ++ get_or bytes n d ∷ [] = sym (take_all (n + 1) bytes (omega arith)) ∙ take_more bytes n d (omega arith) in
-      let long : length (take n bytes) ≡ n = length-take-le n bytes (omega arith) in
-      sym (given_if ∙ ap (λ t. t || bytes_eq bytes (w.letters ++ 115 ∷ [])) (apart_lengths bytes w.letters (λ e. absurd (omega arith)))
-      ∙ ap (λ l. bytes_eq l (w.letters ++ 115 ∷ [])) whole ∙ eq_behind (get_or bytes n d) 115 (take n bytes) w.letters long)
-
-pub given_cells : (cells : List Cell) (letters : List ℕ) (w : Word) (x : Cell) → letters ≡ w.letters → length letters ≢ 0 → length cells ≡ length letters + 1 →
-    (bytes_eq (bytes_of (take (length letters) cells)) letters && eqb (get_or cells (length letters) x).byte 115) ≡ is_given (bytes_of cells) w
-given_cells cells letters w x is some longer =
-    let byte : Cell → ℕ = λ y. y.byte in
-    let n = length letters in
-    let long : length (bytes_of cells) ≡ length w.letters + 1 = length-map cells byte ∙ longer ∙ ap (λ l. length l + 1) is in
-    ap (λ l. bytes_eq l letters && eqb (get_or cells n x).byte 115) (sym (take-map byte n cells))
-    ∙ ap (λ b. bytes_eq (take n (bytes_of cells)) letters && eqb b 115) (sym (get_or-map byte cells n x 0 (omega arith)))
-    ∙ ap (λ l. bytes_eq (take (length l) (bytes_of cells)) l && eqb (get_or (bytes_of cells) (length l) 0) 115) is
-    ∙ given_longer (bytes_of cells) w (λ none. some (ap length is ∙ none)) 0 long

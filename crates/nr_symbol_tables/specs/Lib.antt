@@ -1,6 +1,7 @@
 pub mod Given
+pub mod Hyphenation
 pub mod Laws
-pub mod Table
 pub mod Rows
+pub mod Table
 pub mod Trap
 pub mod Word

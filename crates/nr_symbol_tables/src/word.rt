@@ -1,7 +1,7 @@
 //! Hyphenation words.
 ghost use Rattle.std.specs.Prelude.{◌≡◌, ◌+◌, ◌++◌, ◌∷◌, [], ◌≤◌, ◌<◌, length};
 ghost use Rattle.std.specs.Str.{bytes_eq};
-ghost use Rattle.nr_symbol_tables.specs.Word.{bytes_of, closes, stem, letters_of, points_from, word_of, is_given};
+ghost use Rattle.nr_symbol_tables.specs.Word.{bytes_of, closes, stem, letters_of, points_from, word_of};
 
 use nr_units::cell::Cell;
 
@@ -102,23 +102,13 @@ impl HyphenationWord {
         &self.bytes[usize::from(self.letters)..usize::from(self.len)]
     }
 
-    /// Whether the bytes of these cells are the word, or the word with an `s` after it. A word of no letters is none.
+    /// Whether the bytes of these cells are its letters.
     #[inline]
-    pub fn is_given(&self, cells: &[Cell]) -> bool
-        ensures { result ≡ is_given (bytes_of cells.now) (word_in self.now) }
+    pub(crate) fn has_letters(&self, cells: &[Cell]) -> bool
+        ensures { result ≡ bytes_eq (bytes_of cells.now) (word_in self.now).letters }
     {
         let letters = self.letters();
-        let n = letters.len();
-        if n == 0 {
-            return false;
-        }
-        if cells.len() == n {
-            return has_bytes(cells, letters);
-        }
-        if cells.len() != n + 1 {
-            return false;
-        }
-        has_bytes(&cells[..n], letters) && cells[n].byte == b's'
+        cells.len() == letters.len() && has_bytes(cells, letters)
     }
 }
 

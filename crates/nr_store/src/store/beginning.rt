@@ -11,7 +11,7 @@ use crate::store::Store;
 use nr_levels::{Gathering, Levels, Stack};
 use nr_pool::Pool;
 use nr_rooms::FixedVec;
-use nr_symbol_tables::Table;
+use nr_symbol_tables::{HyphenationWords, Table};
 use nr_units::Name;
 use std::alloc::{AllocError, Global};
 
@@ -43,7 +43,7 @@ impl<K: Copy> Store<K> {
             gathering: Gathering::new(alloc, room.gathering)?,
             registers: Table::new(alloc, room.registers)?,
             traps: FixedVec::new(alloc, room.traps)?,
-            words: Stack::new(alloc, room.words)?,
+            words: HyphenationWords::new(alloc, room.words)?,
             charge: 0,
             stored: limit,
         })

@@ -6,7 +6,7 @@ ghost use Rattle.nr_store.specs.Store.{afforded, worded};
 use crate::refusal::StoredBytes;
 use crate::store::Store;
 use nr_symbol_tables::HyphenationWord;
-use nr_symbol_tables::word::{LONGEST, stem};
+use nr_symbol_tables::word::LONGEST;
 use nr_units::cell::Cell;
 
 impl<K: Copy> Store<K> {
@@ -40,18 +40,10 @@ impl<K: Copy> Store<K> {
     }
 
     /// The places where a word may be cut, each so many cells in, in rising order: those of the latest hyphenation word
-    /// that it is, the `.,;:!?)` at its end aside and perhaps with an `s` more. There are none where it is none. It takes
-    /// as many steps as there are hyphenation words.
+    /// that it is, the `.,;:!?)` at its end aside and perhaps with an `s` more. There are none where it is none.
     pub fn points(&self, word: &[Cell]) -> &[u8]
         ensures { result.now ≡ points_of (bytes_of word.now) self.now.words }
     {
-        let word = stem(word);
-        for n in 0..self.words.len() {
-            let given = self.words.at(n);
-            if given.is_given(word) {
-                return given.points();
-            }
-        }
-        &[]
+        self.words.points(word)
     }
 }

@@ -1,0 +1,48 @@
+use Rattle.std.proofs.Common.{◌≡◌, ◌≢◌, ℕ, ◌+◌, ◌-◌, ◌<◌, [], ◌∷◌, ◌++◌, false, length, take, get_or, ap, sym, ◌∙◌, arith}
+use Rattle.std.proofs.lemmas.List.{get_or-map, length-map, length-take-le, take_all, take_more, take-map}
+use Rattle.nr_units.specs.declared.cell.Cell.{Cell}
+use Rattle.nr_symbol_tables.specs.Word.{bytes_of}
+use Rattle.nr_symbol_tables.specs.Hyphenation.{words_in}
+use Rattle.nr_symbol_tables.proofs.Chaining.{latest_whole, latest_of_both}
+use Rattle.nr_symbol_tables.proofs.hyphenation.latest_given.Goals.{then-len-eq1-via-then-len-eq1, then-len-eq1-via-else-len-eq1+then-cells-len-ne115}
+use Rattle.nr_symbol_tables.proofs.hyphenation.latest_given.Goals as goal
+
+-- no cell
+abbrev nothing : Cell
+nothing = record { byte = 0; under = false }
+
+abbrev byte : Cell → ℕ
+byte x = x.byte
+
+pub returns-then-len-eq1 : goal.returns-then-len-eq1
+returns-then-len-eq1 c =
+    let cells = c.args.cells.now in
+    let bytes = bytes_of cells in
+    let ws = words_in c.args.row.now in
+    let at = c.latest_with-whole.result in
+    let long = length-map cells byte in
+    let some = c.if-len-eq0.false in
+    let more : 0 < length bytes = omega arith in
+    elim c.then-len-eq1.branch [
+      | then-len-eq1-via-then-len-eq1 w ↦ latest_whole bytes ws at more (λ two. (let one = w.if-len-eq1.true in absurd (two (omega arith)))) c.latest_with-whole.ensures
+      | then-len-eq1-via-else-len-eq1+then-cells-len-ne115 w ↦
+          latest_whole bytes ws at more
+          (λ two ends. absurd (w.if-cells-len-ne115.true (sym (get_or-map byte cells (length cells - 1) nothing 0 (omega arith)) ∙ ap (λ n. get_or bytes (n - 1) 0) (sym long) ∙ ends)))
+          c.latest_with-whole.ensures
+    ]
+
+pub returns : goal.returns
+returns c =
+    let cells = c.args.cells.now in
+    let bytes = bytes_of cells in
+    let ws = words_in c.args.row.now in
+    let long = length-map cells byte in
+    let n = length cells - 1 in
+    let some = c.if-len-eq0.false in
+    let two = c.if-len-eq1.false in
+    let front = bytes_of (take n cells) in
+    let front_long : length front ≡ n = length-map (take n cells) byte ∙ length-take-le n cells (omega arith) in
+    let last : get_or bytes n 0 ≡ 115 = get_or-map byte cells n nothing 0 (omega arith) ∙ c.if-cells-len-ne115.false in
+    let is : bytes ≡ front ++ 115 ∷ [] =
+    sym (take_all (n + 1) bytes (omega arith)) ∙ take_more bytes n 0 (omega arith) ∙ ap (λ l. l ++ get_or bytes n 0 ∷ []) (take-map byte n cells) ∙ ap (λ b. front ++ b ∷ []) last in
+    rw c.max.ensures (latest_of_both bytes front ws c.latest_with-whole.result c.latest_with.result is (omega arith) c.latest_with-whole.ensures c.latest_with.ensures)
