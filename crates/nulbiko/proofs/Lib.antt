@@ -1,0 +1,4 @@
+mod FormattingRun
+mod PreconvRun
+mod MdocRun
+mod TblRun

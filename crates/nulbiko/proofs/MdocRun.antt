@@ -1,0 +1,23 @@
+-- What a run of mdoc came to, said of what its caller knows.
+use Rattle.std.proofs.Common.{◌≡◌, ℕ, List, false, Option, refl, subst, arith}
+use Rattle.nr_units.specs.Failures.{next_count}
+use Rattle.nr_units.specs.Source.{Supply}
+use Rattle.nr_mdoc.specs.Running.{Ran, TellsReads, is_read_fault}
+use Rattle.nr_mdoc.specs.declared.running.Outcome.{Outcome}
+use Rattle.nr_mdoc.specs.declared.running.Outcome.TheVariants.{Done, ReadFault, TooLong, WriteFault}
+
+-- of the same bytes before and after
+pub carried : (q q' left : Option Supply) (old old' new new' : Option (List ℕ)) (steps : ℕ) (o : Outcome)
+    → Ran q left old new steps o → q ≡ q' → old ≡ old' → new ≡ new' → Ran q' left old' new' steps o
+carried q q' left old old' new new' steps o ran same before after =
+    subst (λ z. Ran q' left old' z steps o) after
+    (subst (λ y. Ran q' left y new steps o) before
+    (subst (λ x. Ran x left old new steps o) same ran))
+
+-- where no call of the source failed, none is told
+pub unread : (o : Outcome) → TellsReads o 0 0 → is_read_fault o ≡ false
+unfolding next_count
+unread Done e = refl
+unread (ReadFault at) e = absurd (omega (arith, e))
+unread TooLong e = refl
+unread WriteFault e = refl

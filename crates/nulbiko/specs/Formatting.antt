@@ -1,0 +1,66 @@
+-- What a call that formats comes to.
+use Rattle.std.specs.Prelude.{◌≡◌, ℕ, ℤ, List, [], length, false, None, Some}
+use Rattle.nr_options.specs.Limits.{Bounds}
+use Rattle.nr_options.specs.declared.options.Options.{Options}
+use Rattle.nr_engine.specs.State.{start}
+use Rattle.nr_engine.specs.Run.{Answers, is_read_fault}
+use Rattle.nr_engine.specs.declared.outcome.Measure.{Measure}
+use Rattle.nr_engine.specs.declared.outcome.Measure.TheVariants as measures
+use Rattle.nr_engine.specs.declared.outcome.Outcome.{Outcome}
+use Rattle.nr_engine.specs.declared.outcome.Outcome.TheVariants.{Done, Limit, ReadFault, TooLong, WriteFault}
+use Rattle.nulbiko.specs.Told.{IsHanded, code_within, count_told, whole_text}
+use Rattle.nulbiko.specs.declared.formatting.TextLimits.{TextLimits}
+use Rattle.nulbiko.specs.declared.told.Report.{Report}
+
+-- what the limits bound
+abbrev pub bounds_of : TextLimits → Bounds
+bounds_of limits = record { stored = limits.stored; depth = limits.depth; cells = limits.cells; expansions = limits.expansions }
+
+-- the number that tells an outcome
+abbrev pub code_of : Outcome → ℕ
+code_of Done = 0
+code_of (Limit which at) = 1
+-- there is no room for the next byte
+code_of WriteFault = 4
+code_of TooLong = 6
+-- never told
+code_of (ReadFault at) = 9
+
+abbrev pub limit_number : Measure → ℕ
+limit_number measures.Stored = 1
+limit_number measures.Depth = 2
+limit_number measures.LineCells = 3
+limit_number measures.PageCells = 4
+limit_number measures.Expansions = 5
+
+-- which limit would be passed, and 0 where none would
+abbrev pub limit_told : Outcome → ℕ
+limit_told (Limit which at) = limit_number which
+limit_told outcome = 0
+
+-- behind how many bytes of the text
+abbrev pub place_told : Outcome → ℕ
+place_told (Limit which at) = at
+place_told outcome = 0
+
+-- the first page has this number, no register is set, and all pages are printed
+pub record AreAsked (first : ℤ) (options : Options) : Type 0 where
+  pub first_page : options.first ≡ first
+  pub no_registers : options.registers.items ≡ []
+  pub all_pages : options.select ≡ None
+
+-- The text was formatted under the bounds, and its pages were handed over.
+pub record FormatsText (b : Bounds) (first : ℤ) (text output : List ℕ) (report : Report) (code : ℕ) : Type 0 where
+  pub options : Options
+  pub asked : AreAsked first options
+  pub moves : ℕ
+  pub outcome : Outcome
+  pub bytes : List ℕ
+  pub answers : Answers b (start b options (whole_text text)) moves outcome (Some []) (Some bytes)
+  pub handed : IsHanded bytes output report.written
+  pub code_is : code ≡ code_within (code_of outcome) (length bytes) (length output)
+  pub moves_told : report.moves ≡ count_told moves
+  pub limit : report.limit ≡ limit_told outcome
+  pub place : report.at ≡ place_told outcome
+  -- a slice doesn't fail
+  pub readable : is_read_fault outcome ≡ false

@@ -1,0 +1,5 @@
+pub mod Told
+pub mod Formatting
+pub mod Preconv
+pub mod Mdoc
+pub mod Tbl

@@ -1,0 +1,29 @@
+-- What a call of mdoc comes to.
+use Rattle.std.specs.Prelude.{◌≡◌, ℕ, List, [], length, false, Option, Some}
+use Rattle.nr_units.specs.Source.{Supply}
+use Rattle.nr_mdoc.specs.Running.{Ran, is_read_fault}
+use Rattle.nr_mdoc.specs.declared.running.Outcome.{Outcome}
+use Rattle.nr_mdoc.specs.declared.running.Outcome.TheVariants.{Done, ReadFault, TooLong, WriteFault}
+use Rattle.nulbiko.specs.Told.{IsHanded, code_within, whole_text}
+use Rattle.nulbiko.specs.declared.told.Report.{Report}
+
+-- the number that tells an outcome
+abbrev pub code_of : Outcome → ℕ
+code_of Done = 0
+code_of WriteFault = 4
+code_of TooLong = 6
+-- never told
+code_of (ReadFault at) = 9
+
+-- The page was turned into one of man(7), and what came out was handed over.
+pub record TurnsPage (text output : List ℕ) (report : Report) (code : ℕ) : Type 0 where
+  pub outcome : Outcome
+  pub left : Option Supply
+  pub bytes : List ℕ
+  pub ran : Ran (Some (whole_text text)) left (Some []) (Some bytes) report.moves outcome
+  pub handed : IsHanded bytes output report.written
+  pub code_is : code ≡ code_within (code_of outcome) (length bytes) (length output)
+  pub no_limit : report.limit ≡ 0
+  pub no_place : report.at ≡ 0
+  -- a slice doesn't fail
+  pub readable : is_read_fault outcome ≡ false

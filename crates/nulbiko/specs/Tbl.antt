@@ -1,0 +1,58 @@
+-- What a call of tbl comes to.
+use Rattle.std.specs.Prelude.{◌≡◌, ℕ, List, [], ◌∷◌, length, Bool, false, Option, Some}
+use Rattle.nr_units.specs.Items.{Items}
+use Rattle.nr_units.specs.Source.{Supply}
+use Rattle.nr_tbl.specs.Running.{Ran, account, is_read_fault}
+use Rattle.nr_tbl.specs.declared.complaint.Complaint.{Complaint}
+use Rattle.nr_tbl.specs.declared.complaint.Kind.{Kind}
+use Rattle.nr_tbl.specs.declared.complaint.Kind.TheVariants as kinds
+use Rattle.nr_tbl.specs.declared.running.Outcome.{Outcome}
+use Rattle.nr_tbl.specs.declared.running.Outcome.TheVariants.{Done, ReadFault, TooLong, WriteFault}
+use Rattle.nulbiko.specs.Told.{IsHanded, code_within, whole_text}
+use Rattle.nulbiko.specs.declared.told.Report.{Report}
+
+-- the number that tells an outcome
+abbrev pub code_of : Outcome → ℕ
+code_of Done = 0
+code_of WriteFault = 4
+code_of TooLong = 6
+-- never told
+code_of (ReadFault at) = 9
+
+abbrev pub kind_number : Kind → ℕ
+kind_number kinds.NoFormat = 1
+kind_number kinds.BadFormat = 2
+kind_number kinds.UnknownOption = 3
+kind_number kinds.TooManyFields = 4
+kind_number kinds.OpenBlock = 5
+kind_number kinds.OpenTable = 6
+kind_number kinds.TooManyColumns = 7
+kind_number kinds.FormatsLimit = 8
+kind_number kinds.RowLimit = 9
+kind_number kinds.TooWide = 10
+
+-- what is wrong by the first of these complaints, and 0 where there is none
+abbrev pub first_kind : List Complaint → ℕ
+first_kind [] = 0
+first_kind (c ∷ cs) = kind_number c.kind
+
+-- on which line
+abbrev pub first_line : List Complaint → ℕ
+first_line [] = 0
+first_line (c ∷ cs) = c.line
+
+-- The tables of the text were set for a line of so many cells, what came out was handed over, and what was wrong first is told.
+pub record SetsTables (line : ℕ) (text output : List ℕ) (report : Report) (code : ℕ) : Type 0 where
+  pub outcome : Outcome
+  pub left : Option Supply
+  pub bytes : List ℕ
+  pub kept : Items Complaint
+  pub missed : Bool
+  pub ran : Ran 8192 16384 line (Some (whole_text text)) left (Some []) (Some bytes) (account report.moves kept missed) outcome
+  pub room : kept.room ≡ 1
+  pub handed : IsHanded bytes output report.written
+  pub code_is : code ≡ code_within (code_of outcome) (length bytes) (length output)
+  pub wrong : report.limit ≡ first_kind kept.items
+  pub place : report.at ≡ first_line kept.items
+  -- a slice doesn't fail
+  pub readable : is_read_fault outcome ≡ false

@@ -1,0 +1,162 @@
+// A text is formatted under limits.
+ghost use Rattle.std.specs.Prelude.{◌≡◌, ◌≢◌, ◌↔◌, IfOk, OnErr};
+ghost use Rattle.nr_options.specs.Limits.{AreLimits};
+ghost use Rattle.nulbiko.specs.Told.{count_told, nothing_told};
+ghost use Rattle.nulbiko.specs.Formatting.{AreAsked, FormatsText, bounds_of, code_of, limit_number, limit_told, place_told};
+
+use super::pages::{Pages, hand_over};
+use super::text::Text;
+use super::told::{
+    DONE, FULL, LIMIT, OUT_OF_MEMORY, OUT_OF_RANGE, Report, TOO_LONG, UNREADABLE, code_within,
+    count_told,
+};
+use nr_engine::{Desk, Limits, Measure, Options, Outcome, format};
+use std::alloc::{AllocError, Global};
+
+/// The four limits.
+#[repr(C)]
+#[derive(Clone, Copy)]
+pub struct TextLimits {
+    /// The bytes stored, 64 to 2^24.
+    pub stored: u64,
+    /// The depth of the input, 1 to 4096.
+    pub depth: u64,
+    /// The cells of a line, and those of a page, 1 to 2^24.
+    pub cells: u64,
+    /// The expansions between two bytes of the input, 1 to 2^32.
+    pub expansions: u64,
+}
+
+/// What a run is told beside its text and its limits.
+#[repr(C)]
+#[derive(Clone, Copy)]
+pub struct TextOptions {
+    /// The number of the first page. One outside -2147483647 to 2147483647 sets nothing.
+    pub first: i64,
+}
+
+/// The number that tells a limit: 1 for stored bytes, 2 depth, 3 cells of a line, 4 cells of a page, 5 expansions.
+fn limit_number(which: Measure) -> u32
+    ensures { result ≡ limit_number which }
+{
+    match which {
+        Measure::Stored => 1,
+        Measure::Depth => 2,
+        Measure::LineCells => 3,
+        Measure::PageCells => 4,
+        Measure::Expansions => 5,
+    }
+}
+
+/// The number that tells an outcome.
+fn code(outcome: Outcome) -> u32
+    ensures value { result ≡ code_of outcome }
+    ensures not_range { result ≢ 2 }
+    ensures not_memory { result ≢ 5 }
+{
+    match outcome {
+        Outcome::Done => DONE,
+        Outcome::Limit { .. } => LIMIT,
+        Outcome::WriteFault => FULL,
+        Outcome::TooLong => TOO_LONG,
+        Outcome::ReadFault { .. } => UNREADABLE,
+    }
+}
+
+/// What is told of a run of so many moves that wrote so many bytes.
+fn report_of(outcome: Outcome, written: usize, moves: u128) -> Report
+    ensures written { result.written ≡ written }
+    ensures moves { result.moves ≡ count_told moves }
+    ensures limit { result.limit ≡ limit_told outcome }
+    ensures place { result.at ≡ place_told outcome }
+{
+    let (limit, at) = match outcome {
+        Outcome::Limit { which, at } => (limit_number(which), at),
+        _ => (0, 0),
+    };
+    Report {
+        written,
+        at,
+        moves: count_told(moves),
+        limit,
+    }
+}
+
+/// The options that are asked for.
+fn options_of(first: i64) -> Options
+    ensures { AreAsked first result }
+{
+    let mut options = Options::plain();
+    options.first = first;
+    options
+}
+
+/// Formats the text in a desk, hands its pages over and gives the number that tells how it ended.
+fn run_desk(
+    alloc: Global,
+    desk: &mut Desk,
+    first: i64,
+    input: &[u8],
+    output: &mut [u8],
+    told: &mut Report,
+) -> Result<u32, AllocError>
+    ensures formatted { IfOk result (λ code. FormatsText desk.old first input.now output.new told.new code) }
+    ensures not_range { IfOk result (λ code. code ≢ 2) }
+    ensures not_memory { IfOk result (λ code. code ≢ 5) }
+    ensures untouched { OnErr result ((output.new ≡ output.old) × (told.new ≡ told.old)) }
+{
+    let mut pages = Pages::new(alloc, output.len())?;
+    let options = options_of(first);
+    let mut text = Text::over(input);
+    let mut moves = 0;
+    let outcome = format(desk.lend(), &options, &mut text, &mut pages, &mut moves);
+    let bytes = pages.as_slice();
+    let written = hand_over(bytes, output);
+    *told = report_of(outcome, written, moves);
+    Ok(code_within(code(outcome), bytes.len(), output.len()))
+}
+
+/// Formats the text in a desk of its own.
+fn format_text(
+    alloc: Global,
+    limits: Limits,
+    first: i64,
+    input: &[u8],
+    output: &mut [u8],
+    told: &mut Report,
+) -> Result<u32, AllocError>
+    ensures formatted { IfOk result (λ code. FormatsText limits first input.now output.new told.new code) }
+    ensures not_range { IfOk result (λ code. code ≢ 2) }
+    ensures not_memory { IfOk result (λ code. code ≢ 5) }
+    ensures untouched { OnErr result ((output.new ≡ output.old) × (told.new ≡ told.old)) }
+{
+    let mut desk = Desk::new(alloc, limits)?;
+    run_desk(alloc, &mut desk, first, input, output, told)
+}
+
+/// Formats a text under limits into a buffer, tells how it went, and gives the number of the outcome: 0 done, 1 a limit would
+/// be passed, 2 the limits are out of range, 4 the buffer is full, 5 there is not enough memory, 6 the text is too long.
+#[unsafe(no_mangle)]
+pub extern "C" fn nulbiko_format_lent(
+    alloc: Global,
+    limits: &TextLimits,
+    options: &TextOptions,
+    input: &[u8],
+    output: &mut [u8],
+    told: &mut Report,
+) -> u32
+    ensures ranges { (result ≡ 2) ↔ (AreLimits (bounds_of limits.now) → ⊥) }
+    ensures formatted { result ≢ 2 → result ≢ 5 → FormatsText (bounds_of limits.now) options.now.first input.now output.new told.new result }
+    ensures bad { result ≡ 2 → (output.new ≡ output.old) × (told.new ≡ nothing_told) }
+    ensures no_memory { result ≡ 5 → (output.new ≡ output.old) × (told.new ≡ nothing_told) }
+{
+    *told = Report::nothing();
+    let Some(bounds) = Limits::new(limits.stored, limits.depth, limits.cells, limits.expansions)
+    else {
+        return OUT_OF_RANGE;
+    };
+    match format_text(alloc, bounds, options.first, input, output, told) {
+        Ok(code) => code,
+        Err(_) => OUT_OF_MEMORY,
+    }
+}

@@ -1,0 +1,77 @@
+// A page of mdoc(7) is turned into one of man(7), as mdoc does.
+ghost use Rattle.std.specs.Prelude.{◌≡◌, ◌≢◌, IfOk, OnErr};
+ghost use Rattle.nulbiko.specs.Told.{nothing_told};
+ghost use Rattle.nulbiko.specs.Mdoc.{TurnsPage, code_of};
+
+use super::pages::{Pages, hand_over};
+use super::text::Text;
+use super::told::{DONE, FULL, OUT_OF_MEMORY, Report, TOO_LONG, UNREADABLE, code_within};
+use nr_mdoc::{Block, Outcome, convert};
+use std::alloc::{AllocError, Global};
+
+/// The bytes of what is to go out.
+const PENDING_SIZE: usize = 131_072;
+
+/// The room for lists and displays that are open.
+const MOST_BLOCKS: usize = 64;
+
+/// The number that tells an outcome.
+fn code(outcome: Outcome) -> u32
+    ensures value { result ≡ code_of outcome }
+    ensures not_range { result ≢ 2 }
+    ensures not_memory { result ≢ 5 }
+{
+    match outcome {
+        Outcome::Done => DONE,
+        Outcome::WriteFault => FULL,
+        Outcome::TooLong => TOO_LONG,
+        Outcome::ReadFault { .. } => UNREADABLE,
+    }
+}
+
+/// Turns the page, hands over what comes out and gives the number that tells how it ended.
+fn turn_page(
+    alloc: Global,
+    input: &[u8],
+    output: &mut [u8],
+    told: &mut Report,
+) -> Result<u32, AllocError>
+    ensures turned { IfOk result (λ code. TurnsPage input.now output.new told.new code) }
+    ensures not_memory { IfOk result (λ code. code ≢ 5) }
+    ensures untouched { OnErr result ((output.new ≡ output.old) × (told.new ≡ told.old)) }
+{
+    let mut pending = vec![in alloc; 0u8; PENDING_SIZE]?;
+    let mut blocks = vec![in alloc; Block::NONE; MOST_BLOCKS]?;
+    let mut pages = Pages::new(alloc, output.len())?;
+    let mut text = Text::over(input);
+    let mut steps = 0;
+    let outcome = convert(&mut text, &mut pages, &mut blocks, &mut pending, &mut steps);
+    let bytes = pages.as_slice();
+    let written = hand_over(bytes, output);
+    *told = Report {
+        written,
+        at: 0,
+        moves: steps,
+        limit: 0,
+    };
+    Ok(code_within(code(outcome), bytes.len(), output.len()))
+}
+
+/// Turns a page of mdoc(7) into one of man(7), into a buffer, tells how it went, and gives the number of the outcome: 0 done,
+/// 4 the buffer is full, 5 there is not enough memory, 6 the text is too long. A text that isn't one goes out as it is.
+#[unsafe(no_mangle)]
+pub extern "C" fn nulbiko_mdoc_lent(
+    alloc: Global,
+    input: &[u8],
+    output: &mut [u8],
+    told: &mut Report,
+) -> u32
+    ensures turned { result ≢ 5 → TurnsPage input.now output.new told.new result }
+    ensures no_memory { result ≡ 5 → (output.new ≡ output.old) × (told.new ≡ nothing_told) }
+{
+    *told = Report::nothing();
+    match turn_page(alloc, input, output, told) {
+        Ok(code) => code,
+        Err(_) => OUT_OF_MEMORY,
+    }
+}

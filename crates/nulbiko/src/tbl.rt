@@ -1,0 +1,122 @@
+// The tables of a text become requests, as tbl makes them.
+ghost use Rattle.std.specs.Prelude.{◌≡◌, ◌≢◌, IfOk, OnErr};
+ghost use Rattle.nulbiko.specs.Told.{nothing_told};
+ghost use Rattle.nulbiko.specs.Tbl.{SetsTables, code_of, first_kind, first_line, kind_number};
+
+use super::pages::{Pages, hand_over};
+use super::text::Text;
+use super::told::{DONE, FULL, OUT_OF_MEMORY, Report, TOO_LONG, UNREADABLE, code_within};
+use nr_rooms::FixedVec;
+use nr_tbl::{Complaint, Kind, Outcome, convert, pending_size};
+use nr_units::slice_vec::SliceVec;
+use std::alloc::{AllocError, Global};
+
+/// The most bytes of a table's options and formats.
+const FORMATS: usize = 8192;
+
+/// The most bytes of the fields of a row.
+const ROW: usize = 16_384;
+
+/// The number that tells an outcome.
+fn code(outcome: Outcome) -> u32
+    ensures value { result ≡ code_of outcome }
+    ensures not_range { result ≢ 2 }
+    ensures not_memory { result ≢ 5 }
+{
+    match outcome {
+        Outcome::Done => DONE,
+        Outcome::WriteFault => FULL,
+        Outcome::TooLong => TOO_LONG,
+        Outcome::ReadFault { .. } => UNREADABLE,
+    }
+}
+
+/// The number that tells what is wrong.
+fn kind_number(kind: Kind) -> u32
+    ensures { result ≡ kind_number kind }
+{
+    match kind {
+        Kind::NoFormat => 1,
+        Kind::BadFormat => 2,
+        Kind::UnknownOption => 3,
+        Kind::TooManyFields => 4,
+        Kind::OpenBlock => 5,
+        Kind::OpenTable => 6,
+        Kind::TooManyColumns => 7,
+        Kind::FormatsLimit => 8,
+        Kind::RowLimit => 9,
+        Kind::TooWide => 10,
+    }
+}
+
+/// What is told of the first complaint: its number and its line, and 0 where there is none.
+fn first_wrong(complaints: &[Complaint]) -> (u32, u64)
+    ensures kind { result.0 ≡ first_kind complaints.now }
+    ensures place { result.1 ≡ first_line complaints.now }
+{
+    match complaints.split_first() {
+        Some((first, _)) => (kind_number(first.kind), first.line),
+        None => (0, 0),
+    }
+}
+
+/// Sets the tables, hands over what comes out and gives the number that tells how it ended.
+fn set_tables(
+    alloc: Global,
+    line: usize,
+    input: &[u8],
+    output: &mut [u8],
+    told: &mut Report,
+) -> Result<u32, AllocError>
+    ensures set { IfOk result (λ code. SetsTables line input.now output.new told.new code) }
+    ensures not_memory { IfOk result (λ code. code ≢ 5) }
+    ensures untouched { OnErr result ((output.new ≡ output.old) × (told.new ≡ told.old)) }
+{
+    let mut formats = vec![in alloc; 0u8; FORMATS]?;
+    let mut row = vec![in alloc; 0u8; ROW]?;
+    let mut pending = FixedVec::new(alloc, pending_size(FORMATS, ROW))?;
+    let mut pages = Pages::new(alloc, output.len())?;
+    let mut text = Text::over(input);
+    let mut slots = [Complaint::NONE];
+    let mut complaints = SliceVec::over(&mut slots);
+    let report = convert(
+        &mut text,
+        &mut pages,
+        &mut formats,
+        &mut row,
+        line,
+        &mut complaints,
+        &mut pending,
+    );
+    let (limit, at) = first_wrong(complaints.as_slice());
+    let bytes = pages.as_slice();
+    let written = hand_over(bytes, output);
+    *told = Report {
+        written,
+        at,
+        moves: report.steps,
+        limit,
+    };
+    Ok(code_within(code(report.outcome), bytes.len(), output.len()))
+}
+
+/// Turns the tables of a text into the language of the formatter, for a line of so many cells, into a buffer, tells how it went
+/// and what was wrong first, and gives the number of the outcome: 0 done, 4 the buffer is full, 5 there is not enough memory,
+/// 6 the text is too long.
+#[unsafe(no_mangle)]
+pub extern "C" fn nulbiko_tbl_lent(
+    alloc: Global,
+    line: usize,
+    input: &[u8],
+    output: &mut [u8],
+    told: &mut Report,
+) -> u32
+    ensures set { result ≢ 5 → SetsTables line input.now output.new told.new result }
+    ensures no_memory { result ≡ 5 → (output.new ≡ output.old) × (told.new ≡ nothing_told) }
+{
+    *told = Report::nothing();
+    match set_tables(alloc, line, input, output, told) {
+        Ok(code) => code,
+        Err(_) => OUT_OF_MEMORY,
+    }
+}

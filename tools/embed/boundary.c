@@ -1,0 +1,156 @@
+/* Tries the boundary of libnulbiko: what is refused, and what the calls tell. Prints what isn't as it must be. */
+#include "nulbiko.h"
+#include <stdio.h>
+#include <string.h>
+#include <sys/resource.h>
+
+static int passed, failed;
+
+static void judge(const char *what, bool good)
+{
+    if (good) {
+        passed++;
+    } else {
+        failed++;
+        printf("not so: %s\n", what);
+    }
+}
+
+static const struct nulbiko_limits plain = {262144, 256, 65536, 1000000};
+static const struct nulbiko_options options = {1};
+static const char text[] = ".pl 1\na\n.br\nb\n.br\n";
+static struct nulbiko_report report;
+static char out[1 << 16];
+
+/* Output and report are as they are where nothing was done. */
+static bool nothing_done(void)
+{
+    for (size_t i = 0; i < sizeof out; i++)
+        if (out[i] != '#')
+            return false;
+    return !report.written && !report.at && !report.moves && !report.limit;
+}
+
+static void prepare(void)
+{
+    memset(out, '#', sizeof out);
+    memset(&report, 0x5a, sizeof report);
+}
+
+/* What went out is this and nothing behind it. */
+static bool put_out(const char *wanted)
+{
+    size_t length = strlen(wanted);
+    return report.written == length && !memcmp(out, wanted, length) && (length == sizeof out || out[length] == '#');
+}
+
+static enum nulbiko_outcome format(const struct nulbiko_limits *limits, const char *bytes, size_t capacity)
+{
+    prepare();
+    return nulbiko_format(limits, &options, bytes, strlen(bytes), out, capacity, &report);
+}
+
+static void null_pointers(void)
+{
+    prepare();
+    judge("format: no text", nulbiko_format(&plain, &options, NULL, 1, out, 9, &report) == NULBIKO_NULL && nothing_done());
+    prepare();
+    judge("format: no output", nulbiko_format(&plain, &options, text, 1, NULL, 9, &report) == NULBIKO_NULL && nothing_done());
+    prepare();
+    judge("format: no limits", nulbiko_format(NULL, &options, text, 1, out, 9, &report) == NULBIKO_NULL && nothing_done());
+    prepare();
+    judge("format: no options", nulbiko_format(&plain, NULL, text, 1, out, 9, &report) == NULBIKO_NULL && nothing_done());
+    judge("format: no report", nulbiko_format(&plain, &options, text, 1, out, 9, NULL) == NULBIKO_NULL);
+    prepare();
+    judge("format: 0 and 0", nulbiko_format(&plain, &options, NULL, 0, NULL, 0, &report) == NULBIKO_DONE && put_out(""));
+    prepare();
+    judge("preconv: no text", nulbiko_preconv(false, NULL, 1, out, 9, &report) == NULBIKO_NULL && nothing_done());
+    prepare();
+    judge("preconv: no output", nulbiko_preconv(false, text, 1, NULL, 9, &report) == NULBIKO_NULL && nothing_done());
+    judge("preconv: no report", nulbiko_preconv(false, text, 1, out, 9, NULL) == NULBIKO_NULL);
+    prepare();
+    judge("preconv: 0 and 0", nulbiko_preconv(false, NULL, 0, NULL, 0, &report) == NULBIKO_DONE && put_out(""));
+    prepare();
+    judge("mdoc: no text", nulbiko_mdoc(NULL, 1, out, 9, &report) == NULBIKO_NULL && nothing_done());
+    prepare();
+    judge("mdoc: no output", nulbiko_mdoc(text, 1, NULL, 9, &report) == NULBIKO_NULL && nothing_done());
+    judge("mdoc: no report", nulbiko_mdoc(text, 1, out, 9, NULL) == NULBIKO_NULL);
+    prepare();
+    judge("mdoc: 0 and 0", nulbiko_mdoc(NULL, 0, NULL, 0, &report) == NULBIKO_DONE && put_out(""));
+    prepare();
+    judge("tbl: no text", nulbiko_tbl(78, NULL, 1, out, 9, &report) == NULBIKO_NULL && nothing_done());
+    prepare();
+    judge("tbl: no output", nulbiko_tbl(78, text, 1, NULL, 9, &report) == NULBIKO_NULL && nothing_done());
+    prepare();
+    judge("tbl: no report", nulbiko_tbl(78, text, 1, out, 9, NULL) == NULBIKO_NULL);
+    prepare();
+    judge("tbl: 0 and 0", nulbiko_tbl(78, NULL, 0, NULL, 0, &report) == NULBIKO_DONE && put_out(""));
+}
+
+static void ranges(void)
+{
+    const struct nulbiko_limits bad[] = {
+        {63, 256, 65536, 1},        {64, 0, 65536, 1}, {64, 256, 0, 1}, {64, 256, 65536, 0}, {16777217, 256, 65536, 1},
+        {64, 4097, 65536, 1},       {64, 256, 16777217, 1}, {64, 256, 65536, 4294967297},
+        {UINT64_MAX, UINT64_MAX, UINT64_MAX, UINT64_MAX},
+    };
+    for (size_t i = 0; i < sizeof bad / sizeof *bad; i++)
+        judge("format: a limit out of range", format(&bad[i], text, sizeof out) == NULBIKO_OUT_OF_RANGE && nothing_done());
+    const struct nulbiko_limits least = {64, 1, 1, 1};
+    judge("format: the least limits", format(&least, text, sizeof out) != NULBIKO_OUT_OF_RANGE);
+}
+
+static void outcomes(void)
+{
+    judge("format: two pages", format(&plain, text, sizeof out) == NULBIKO_DONE && put_out("a\nb\n") && report.moves > 0);
+    judge("format: just enough room", format(&plain, text, 4) == NULBIKO_DONE && put_out("a\nb\n"));
+    judge("format: full", format(&plain, text, 3) == NULBIKO_FULL && put_out("a\nb"));
+    judge("format: full at once", format(&plain, text, 0) == NULBIKO_FULL && put_out(""));
+    const struct nulbiko_limits narrow = {64, 1, 6, 1};
+    judge("format: a limit", format(&narrow, "longword\n", sizeof out) == NULBIKO_LIMIT && put_out("") &&
+                                 report.limit == NULBIKO_LINE_CELLS && report.at == 7);
+    const struct nulbiko_options fifth = {5};
+    prepare();
+    judge("format: the first page's number",
+          nulbiko_format(&plain, &fifth, "\\n%\n", 4, out, 1, &report) == NULBIKO_FULL && put_out("5"));
+    prepare();
+    judge("preconv: a character", nulbiko_preconv(false, "\xe2\x80\x94\n", 4, out, sizeof out, &report) == NULBIKO_DONE &&
+                                      put_out("\\(em\n"));
+    prepare();
+    judge("preconv: full", nulbiko_preconv(false, "word\n", 5, out, 2, &report) == NULBIKO_FULL && put_out("wo"));
+    prepare();
+    judge("mdoc: a page", nulbiko_mdoc(".Dd $Mdocdate$\n.Dt A 1\n.Os\n.Sh NAME\n", 38, out, sizeof out, &report) == NULBIKO_DONE &&
+                              report.written > 4 && !memcmp(out, ".TH ", 4));
+    prepare();
+    judge("mdoc: another page", nulbiko_mdoc(".TH A 1\n", 8, out, sizeof out, &report) == NULBIKO_DONE && put_out(".TH A 1\n"));
+    prepare();
+    judge("mdoc: full", nulbiko_mdoc("word\n", 5, out, 2, &report) == NULBIKO_FULL && put_out("wo"));
+    prepare();
+    judge("tbl: no table", nulbiko_tbl(78, "word\n", 5, out, sizeof out, &report) == NULBIKO_DONE && put_out("word\n") &&
+                               report.limit == 0);
+    prepare();
+    judge("tbl: a table that doesn't end", nulbiko_tbl(78, ".TS\nl.\na\n", 9, out, sizeof out, &report) == NULBIKO_DONE &&
+                                               report.limit == NULBIKO_OPEN_TABLE && report.at == 3);
+    prepare();
+    judge("tbl: full", nulbiko_tbl(78, "word\n", 5, out, 2, &report) == NULBIKO_FULL && put_out("wo"));
+}
+
+/* Last, since it takes the program's memory away. */
+static void no_memory(void)
+{
+    const struct nulbiko_limits large = {16777216, 4096, 16777216, 1};
+    struct rlimit most = {1 << 25, 1 << 25};
+    setrlimit(RLIMIT_AS, &most);
+    judge("format: out of memory", format(&large, text, sizeof out) == NULBIKO_OUT_OF_MEMORY && nothing_done());
+    judge("format: enough again", format(&plain, text, sizeof out) == NULBIKO_DONE && put_out("a\nb\n"));
+}
+
+int main(void)
+{
+    null_pointers();
+    ranges();
+    outcomes();
+    no_memory();
+    printf("boundary: %d passed, %d failed\n", passed, failed);
+    return failed != 0;
+}
