@@ -1,0 +1,4 @@
+pub mod Idle
+pub mod Reading
+pub mod Running
+pub mod Text
