@@ -14,6 +14,13 @@ table_named name =
     if bytes_eq name (codes "greek") then Some Greek else
     if bytes_eq name (codes "latin1") then Some Latin1 else None
 
+abbrev pub name_of : Table → List ℕ
+name_of English = codes "english"
+name_of Latin = codes "latin"
+name_of Cyrillic = codes "cyrillic"
+name_of Greek = codes "greek"
+name_of Latin1 = codes "latin1"
+
 -- its characters, by their bytes from 128 on; NUL stands where there is none
 unfoldable pub characters : Table → List ℕ
 characters English = ENGLISH

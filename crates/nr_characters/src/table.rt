@@ -1,6 +1,6 @@
 //! The tables by their names, and what they say.
 ghost use Rattle.std.specs.Prelude.{◌≡◌, IfSome, Some, true};
-ghost use Rattle.nr_characters.specs.Tables.{byte_in, byte_of, character_of, characters, table_named};
+ghost use Rattle.nr_characters.specs.Tables.{byte_in, byte_of, character_of, characters, name_of, table_named};
 ghost use Rattle.nr_characters.specs.OneCell.{is_one_cell};
 
 use super::tables::{CYRILLIC, ENGLISH, GREEK, LATIN, LATIN_1};
@@ -55,9 +55,23 @@ impl Table {
         }
     }
 
-    /// The characters.
+    /// Its name.
+    pub fn name(self) -> &'static str
+        ensures value { result.now ≡ name_of self }
+        ensures back { table_named result.now ≡ Some self }
+    {
+        match self {
+            Table::English => "english",
+            Table::Latin => "latin",
+            Table::Cyrillic => "cyrillic",
+            Table::Greek => "greek",
+            Table::Latin1 => "latin1",
+        }
+    }
+
+    /// The characters of the bytes from 128 on; NUL stands where there is none.
     #[tactic(auto, unfolding(crate::specs::Tables::characters))]
-    fn characters(self) -> &'static [char; 128]
+    pub fn characters(self) -> &'static [char; 128]
         ensures { result.now ≡ characters self }
     {
         match self {

@@ -39,15 +39,15 @@ is_shown_byte b p = grind (arith, nat_tests)
 is_low_byte : (b : ℕ) → passes_as_is b ≡ true → b < 128
 is_low_byte b p = grind (arith, nat_tests)
 
-told-if : (x : Bool) (t u : Told) → x ≡ true → (if x then t else u) ≡ t
+pub told-if : (x : Bool) (t u : Told) → x ≡ true → (if x then t else u) ≡ t
 told-if true t u p = refl
 told-if false t u p = absurd (let no : false ≡ true = p in cc)
 
-told-not : (x : Bool) (t u : Told) → x ≡ false → (if x then t else u) ≡ u
+pub told-not : (x : Bool) (t u : Told) → x ≡ false → (if x then t else u) ≡ u
 told-not true t u p = absurd (let no : true ≡ false = p in cc)
 told-not false t u p = refl
 
-told-same : (r s : Reader) (xs ys : List ℕ) → r ≡ s → xs ≡ ys → told r xs 0 ≡ told s ys 0
+pub told-same : (r s : Reader) (xs ys : List ℕ) → r ≡ s → xs ≡ ys → told r xs 0 ≡ told s ys 0
 told-same r s xs ys p q = cc
 
 pub read-idle : (b : ℕ) (r : Reader) → IsIdle r → passes_as_is b ≡ true → read b r ≡ told r (b ∷ []) 0

@@ -13,7 +13,7 @@ use Rattle.nr_utf8.specs.declared.running.Outcome.{Outcome}
 use Rattle.nr_utf8.specs.declared.running.Outcome.TheVariants.{Done, ReadFault, TooLong, WriteFault}
 use Rattle.nr_utf8.specs.Reading.{Told, first_reader, read, fed, finished, left_over, converted, strays_of, told, Passes}
 use Rattle.nr_utf8.specs.Running.{Comes, Ends, Flushes, Took, Stands, IsCut, IsBroken, Ran, EndsAs}
-use Rattle.nr_utf8.proofs.Text.{fed-text, converted-text}
+use Rattle.nr_utf8.proofs.Text.{fed-text, converted-text, converted-lines}
 use Rattle.nr_utf8.proofs.Reading.{fed-append_reader, fed-append_bytes, fed-append_strays}
 
 -- ---- what comes of a source
@@ -231,7 +231,7 @@ Ran-done d e a b c h k m p left r t i j st turn l Done ends =
       went_out = subst P all (Appends-trans h k m st.sent left st.went_out ends.1);
       few = converted-few d e st.bytes p left [] r t st.count st.few st.reader turn.2 l;
       made = made;
-      text = converted-text d e st.bytes;
+      text = converted-lines d e st.bytes;
     }
 Ran-done d e a b c h k m p left r t i j st turn l (ReadFault at) ends = absurd (let no : Done ≡ ReadFault at = ends.0 in cc)
 Ran-done d e a b c h k m p left r t i j st turn l TooLong ends = absurd (let no : Done ≡ TooLong = ends.0 in cc)

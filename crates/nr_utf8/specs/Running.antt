@@ -5,6 +5,7 @@ use Rattle.nr_units.specs.Failures.{next_count}
 use Rattle.nr_units.specs.Sink.{AppendsFront}
 use Rattle.nr_units.specs.Source.{Supply}
 use Rattle.nr_characters.specs.declared.table.Table.{Table}
+use Rattle.nr_utf8.specs.Lines.{KeepsLines}
 use Rattle.nr_utf8.specs.Text.{IsText}
 use Rattle.nr_utf8.specs.declared.reader.Reader.{Reader}
 use Rattle.nr_utf8.specs.declared.running.Outcome.{Outcome}
@@ -79,14 +80,14 @@ pub record Stands (table : Table) (escapes : Bool) (first supply : Option Supply
   pub made : strays ≡ (fed (first_reader table escapes) bytes).strays
 
 -- All bytes came, and what they come to went out, at most 18 bytes for each and as many more: a text for a
--- terminal. So many were dropped.
+-- terminal, in lines of as many cells. So many were dropped.
 pub record IsDone (table : Table) (escapes : Bool) (first last : Option Supply) (held new : Option (List ℕ)) (strays : ℕ) : Type 0 where
   pub bytes : List ℕ
   pub came : Comes first bytes last
   pub ends : Ends first last
   pub went_out : Appends held new (converted table escapes bytes)
   pub few : length (converted table escapes bytes) ≤ 18 * (length bytes + 1)
-  pub text : IsText escapes (converted table escapes bytes)
+  pub text : KeepsLines table escapes bytes (converted table escapes bytes)
   pub made : strays ≡ strays_of table escapes bytes
 
 -- so many bytes came, and what they come to went out but for what is half read; so many were dropped

@@ -55,7 +55,7 @@ fn is_underlined(byte: u8) -> bool
 }
 
 /// Whether a byte is a character of ASCII that goes out.
-fn is_shown(byte: u8) -> bool
+pub(crate) fn is_shown(byte: u8) -> bool
     ensures { result ≡ specs.is_shown byte }
 {
     byte == b'\n' || (byte >= b' ' && byte < 127)
