@@ -1,5 +1,4 @@
 -- The bytes of a text become that text.
-use Prim.Native.Char.{code}
 use Rattle.std.proofs.Common.{◌≡◌, ℕ, ◌<◌, List, [], ◌∷◌, ◌++◌, Bool, true, false, ◌==◌, nat_lt, ◌-◌, slice_get, if◌then◌else◌, Option, None, Some, refl, sym, ◌∙◌, ap, subst, append_assoc, arith}
 use Rattle.std.specs.Prelude.{encode_utf8_all}
 use Rattle.std.proofs.lemmas.Bool.Decides.{nat_tests}
@@ -9,10 +8,8 @@ use Rattle.nr_characters.specs.Tables.{characters, if_any, character_of, byte_of
 use Rattle.nr_characters.proofs.Laws.{character_back}
 use Rattle.nr_utf8.specs.declared.reader.Half.{Half}
 use Rattle.nr_utf8.specs.declared.reader.Half.TheVariants.{Nothing, Underscore, Backspaced}
-use Rattle.nr_utf8.specs.declared.reader.Underlining.{Underlining}
-use Rattle.nr_utf8.specs.declared.reader.Underlining.TheVariants.{Backspaces, Closed, Open}
 use Rattle.nr_utf8.specs.declared.reader.Reader.{Reader}
-use Rattle.nr_utf8.specs.Reading.{Told, told, then_told, first_reader, with_half, spelled, closing, closed, plain, lone, is_shown, beyond, fresh, underscore, read_behind, read, ended, finished, fed, converted}
+use Rattle.nr_utf8.specs.Reading.{Told, told, then_told, first_reader, with_half, spelled, closed, plain, lone, is_shown, beyond, fresh, underscore, read_behind, read, ended, finished, fed}
 use Rattle.nr_utf8.specs.Undoing.{byte_for, joined, bytes_for, TurnsBack}
 use Rattle.nr_utf8.proofs.Plain.{IsIdle, told-if, told-not, told-same}
 
