@@ -31,19 +31,19 @@ static ROWS: [Row; 23] = [
     },
     Row {
         words: &[b"utf8", b"cyrillic", b"-"],
-        output: b"caf\xd1\x89_",
+        output: b"caf\xd2\x90_",
         status: 0,
         line: b"",
     },
     Row {
         words: &[b"utf8", b"latin", b"underlined"],
-        output: b"_\x08a_\x08b c__\n_",
+        output: b"_\x08a_\x08b c___\n_",
         status: 0,
         line: b"utf8: 1 bytes dropped that show nothing\n",
     },
     Row {
         words: &[b"utf8", b"-c", b"latin", b"underlined"],
-        output: b"\x1b[4mab\x1b[24m c__\n_",
+        output: b"\x1b[4mab\x1b[24m c___\n_",
         status: 0,
         line: b"utf8: 1 bytes dropped that show nothing\n",
     },
