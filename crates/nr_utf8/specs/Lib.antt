@@ -1,0 +1,7 @@
+pub mod Choosing
+pub mod Idle
+pub mod Lines
+pub mod Reading
+pub mod Running
+pub mod Text
+pub mod Undoing

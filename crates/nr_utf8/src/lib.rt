@@ -1,0 +1,13 @@
+//! The bytes of a table of characters, turned into UTF-8 for a terminal.
+//!
+//! It stands on nr_units and nr_characters. To read: `reader`, `running`, `undoing`, `choosing`.
+#![tactic(auto)]
+
+mod choosing;
+mod reader;
+mod running;
+mod undoing;
+
+pub use choosing::{CHARACTERS, LOOKED_AT, choose};
+pub use running::{Outcome, convert};
+pub use undoing::byte_for;
