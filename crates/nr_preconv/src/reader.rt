@@ -5,6 +5,7 @@ ghost use Rattle.nr_preconv.specs.Reading as specs;
 
 use super::half::{Coming, Half, Line};
 use super::said::{may_go_out, put_sent, say, sent};
+use nr_characters::Table;
 use nr_units::slice_vec::SliceVec;
 
 /// What was read of a character of several bytes.
@@ -27,8 +28,8 @@ pub(crate) struct Reader {
     pub half: Half,
     /// Of a character.
     pub pending: Pending,
-    /// Letters of Latin-1 stay single bytes.
-    pub eight_bit: bool,
+    /// What bytes from 128 on stand for, if anything.
+    pub table: Option<Table>,
 }
 
 /// How often a character is met at most.
@@ -71,13 +72,13 @@ fn low_six(byte: u8) -> u32
 
 impl Reader {
     /// A page begins.
-    pub(crate) fn new(eight_bit: bool) -> Reader
-        ensures { result ≡ specs.first_reader eight_bit }
+    pub(crate) fn new(table: Option<Table>) -> Reader
+        ensures { result ≡ specs.first_reader table }
     {
         Reader {
             half: Half::new(),
             pending: Pending::Nothing,
-            eight_bit,
+            table,
         }
     }
 
@@ -95,7 +96,7 @@ impl Reader {
             return 0;
         }
         let seen = self.half.meet(coming);
-        say(seen.said, self.eight_bit, out);
+        say(seen.said, self.table, out);
         if seen.takes {
             return 1;
         }
@@ -250,7 +251,7 @@ impl Reader {
     {
         if self.half.is_raw() {
             self.half.passes(byte);
-            out.push(sent(self.eight_bit, byte));
+            out.push(sent(self.table, byte));
             return 1;
         }
         self.hear_byte(byte, out)
@@ -266,9 +267,9 @@ impl Reader {
         ensures room { out.new.room ≡ out.old.room }
     {
         let steps = self.hear_pending(out);
-        put_sent(self.half.kept.as_bytes(), self.eight_bit, out);
+        put_sent(self.half.kept.as_bytes(), self.table, out);
         if matches!(self.half.line, Line::Control | Line::Name | Line::Asked(_)) {
-            put_sent(self.half.name.as_bytes(), self.eight_bit, out);
+            put_sent(self.half.name.as_bytes(), self.table, out);
         }
         steps
     }
@@ -281,7 +282,7 @@ impl Reader {
         ensures pending { self.new.pending ≡ Nothing }
     {
         if self.half.is_raw() {
-            if !may_go_out(self.eight_bit, byte) {
+            if !may_go_out(self.table, byte) {
                 return false;
             }
             self.half.passes(byte);

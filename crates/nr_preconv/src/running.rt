@@ -9,6 +9,7 @@ ghost use Rattle.nr_preconv.specs.Unread.{CommentsAreUnread, IgnoredLinesAreUnre
 ghost use Rattle.nr_preconv.specs.Running as specs;
 
 use super::reader::Reader;
+use nr_characters::Table;
 use nr_units::sink::Sink;
 use nr_units::slice_vec::SliceVec;
 use nr_units::source::{Fault, Source};
@@ -149,10 +150,10 @@ fn run<R: Source, W: Sink>(
     out: &mut SliceVec<'_, u8>,
     steps: &mut u64,
 ) -> Outcome
-    requires first { reader.old ≡ first_reader reader.old.eight_bit }
+    requires first { reader.old ≡ first_reader reader.old.table }
     requires room { 1536 ≤ out.old.room }
     requires empty { out.old.items ≡ [] }
-    ensures ran { specs.Ran reader.old.eight_bit (R.supply input.old) (R.supply input.new) (W.held output.old) (W.held output.new) steps.new result }
+    ensures ran { specs.Ran reader.old.table (R.supply input.old) (R.supply input.new) (W.held output.old) (W.held output.new) steps.new result }
     ensures read_faults { specs.TellsReads result (R.failures input.old) (R.failures input.new) }
     ensures write_faults { W.failures output.new ≡ put_counted_if (specs.is_write_fault result) (W.failures output.old) }
 {
@@ -179,7 +180,7 @@ fn run<R: Source, W: Sink>(
 }
 
 /// Turns what the input gives into the language of the formatter, and puts it to the output, which is not
-/// flushed. With `eight_bit` letters of Latin-1 stay single bytes. The buffer, of 1536 bytes at least,
+/// flushed. Characters of the table become its bytes. The buffer, of 1536 bytes at least,
 /// holds what goes out; what it held is of no account. Nothing is allocated.
 ///
 /// What goes out is one function of the bytes that came, however they came. At a read fault, and where the
@@ -191,12 +192,12 @@ fn run<R: Source, W: Sink>(
 pub fn convert<R: Source, W: Sink>(
     input: &mut R,
     output: &mut W,
-    eight_bit: bool,
+    table: Option<Table>,
     buffer: &mut [u8],
     steps: &mut u64,
 ) -> Outcome
     requires { 1536 ≤ length buffer.old }
-    ensures ran { specs.Ran eight_bit (R.supply input.old) (R.supply input.new) (W.held output.old) (W.held output.new) steps.new result }
+    ensures ran { specs.Ran table (R.supply input.old) (R.supply input.new) (W.held output.old) (W.held output.new) steps.new result }
     // A read fault is told only where the source failed once, and then always, but where the output fails too.
     ensures read_faults { specs.TellsReads result (R.failures input.old) (R.failures input.new) }
     ensures write_faults { W.failures output.new ≡ put_counted_if (specs.is_write_fault result) (W.failures output.old) }
@@ -204,9 +205,9 @@ pub fn convert<R: Source, W: Sink>(
     ensures comments { CommentsAreUnread }
     ensures ignored { IgnoredLinesAreUnread }
     // A text in UTF-8 is read as its characters.
-    ensures characters { (cs : List ℕ) → all_scalars cs ≡ true → fed (first_reader eight_bit) (encode_utf8_all cs) ≡ read_characters (first_reader eight_bit) cs }
+    ensures characters { (cs : List ℕ) → all_scalars cs ≡ true → fed (first_reader table) (encode_utf8_all cs) ≡ read_characters (first_reader table) cs }
 {
-    let mut reader = Reader::new(eight_bit);
+    let mut reader = Reader::new(table);
     let mut out = SliceVec::over(buffer);
     run(&mut reader, input, output, &mut out, steps)
 }
