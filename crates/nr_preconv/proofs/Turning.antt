@@ -1,8 +1,8 @@
 -- How a run goes on and ends.
-use Rattle.std.proofs.Common.{◌≡◌, ℕ, ◌+◌, ◌*◌, ◌≤◌, List, [], ◌∷◌, ◌++◌, length, take, drop, Bool, Option, None, Some, Result, Ok, Err, OnOk, refl, sym, ◌∙◌, ap, subst, append_assoc, append-nil, arith, length-append}
+use Rattle.std.proofs.Common.{◌≡◌, ℕ, ◌+◌, ◌*◌, ◌≤◌, List, [], ◌∷◌, ◌++◌, length, take, drop, Option, None, Some, Result, Ok, Err, OnOk, refl, sym, ◌∙◌, ap, subst, append_assoc, append-nil, arith, length-append}
 use Rattle.std.specs.Io.KnownBytes.{Appends}
 use Rattle.std.proofs.KnownBytes.{Appends-trans, Appends-nil}
-use Rattle.std.proofs.lemmas.List.{take-append-drop, take-take, length-take}
+use Rattle.std.proofs.lemmas.List.{take-append-drop, take-take}
 use Rattle.nr_units.specs.Sink.{AppendsFront}
 use Rattle.nr_units.specs.Source.{Supply, Gives, Offers, Skips, skipped}
 use Rattle.nr_units.specs.declared.source.Fault.{Fault}
@@ -11,7 +11,7 @@ use Rattle.nr_characters.specs.declared.table.Table.{Table}
 use Rattle.nr_preconv.specs.declared.reader.Reader.{Reader}
 use Rattle.nr_preconv.specs.declared.running.Outcome.{Outcome}
 use Rattle.nr_preconv.specs.declared.running.Outcome.TheVariants.{Done, ReadFault, TooLong, WriteFault}
-use Rattle.nr_preconv.specs.Reading.{Told, first_reader, read, fed, pending_heard, finished, converted, steps_of, told, Passes}
+use Rattle.nr_preconv.specs.Reading.{Told, first_reader, read, fed, pending_heard, finished, converted, steps_of}
 use Rattle.nr_preconv.specs.Running.{Comes, Ends, Flushes, Took, Stands, IsCut, IsBroken, Ran, EndsAs}
 use Rattle.nr_preconv.proofs.Sent.{fed-shown, converted-shown}
 use Rattle.nr_preconv.proofs.Reading.{fed-append_reader, fed-append_bytes, fed-append_steps}
@@ -71,23 +71,7 @@ Comes-skip (Some q) (Some t) window n l o s =
     let rest : t.bytes ≡ drop n q.bytes = skipped-bytes q t n s in
     rw (front, rest) (sym (take-append-drop n q.bytes))
 
--- ---- plain bytes are taken
-
-pub Took-plain : (a b : Option Supply) (window : List ℕ) (most n : ℕ) (r s : Reader) (pending left : List ℕ)
-    → n ≤ length (take most window) → n ≤ most → n ≤ length window → Offers a window → Skips a n b
-    → Passes n (take most window) r s → left ≡ pending ++ take n window → Took a b r s pending left n n
-Took-plain a b window most n r s pending left l m k o skips plain out =
-    let front : take n (take most window) ≡ take n window = take-take n most window m in
-    let told_so : fed r (take n window) ≡ told s (take n window) n =
-    (let P : List ℕ → Type 0 = λ xs. fed r xs ≡ told s xs n in subst P front plain) in
-    record {
-      bytes = take n window;
-      came = Comes-skip a b window n k o skips;
-      count = omega (arith, length-take n window);
-      reader = sym (ap (λ (t : Told). t.reader) told_so);
-      out = out ∙ ap (λ (xs : List ℕ). pending ++ xs) (sym (ap (λ (t : Told). t.bytes) told_so));
-      made = sym (ap (λ (t : Told). t.steps) told_so);
-    }
+-- ---- bytes are taken
 
 both_made : {a b c d : ℕ} → a ≡ c → b ≡ d → a + b ≡ c + d
 both_made p q = cc

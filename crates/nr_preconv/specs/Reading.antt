@@ -146,6 +146,14 @@ fed r (b ∷ bs) = then_told (read b r) (λ s. fed s bs)
 abbrev pub Passes : ℕ → List ℕ → Reader → Reader → Type 0
 Passes n bytes r s = fed r (take n bytes) ≡ told s (take n bytes) n
 
+-- ---- bytes are taken one after another
+
+-- the first n of these, in so many steps, and what comes of them stands after what was pending
+pub record Takes (n : ℕ) (bytes : List ℕ) (r s : Reader) (pending left : List ℕ) (steps : ℕ) : Type 0 where
+  pub reader : s ≡ (fed r (take n bytes)).reader
+  pub out : left ≡ pending ++ (fed r (take n bytes)).bytes
+  pub made : steps ≡ (fed r (take n bytes)).steps
+
 -- ---- the definition: what comes of all bytes of an input
 
 abbrev pub converted : Option Table → List ℕ → List ℕ

@@ -1,6 +1,6 @@
 -- What goes out.
 use Prim.Native.Char.{code}
-use Rattle.std.specs.Prelude.{ℕ, List, [], ◌∷◌, ◌++◌, Bool, true, false, ◌&&◌, ◌||◌, nat_le, nat_lt, if◌then◌else◌, Option, None, Some, codes}
+use Rattle.std.specs.Prelude.{ℕ, List, [], ◌∷◌, ◌++◌, Bool, true, false, ◌||◌, nat_lt, if◌then◌else◌, Option, None, Some, codes}
 use Rattle.nr_characters.specs.declared.table.Table.{Table}
 use Rattle.nr_characters.specs.Tables.{character_of}
 use Rattle.nr_preconv.specs.declared.said.Said.{Said}

@@ -1,5 +1,5 @@
 //! A whole page is turned.
-ghost use Rattle.std.specs.Prelude.{◌≡◌, ◌+◌, ◌<◌, ◌≤◌, [], ℕ, List, length, true, false, OnOk, encode_utf8_all};
+ghost use Rattle.std.specs.Prelude.{◌≡◌, ◌+◌, ◌*◌, ◌<◌, ◌≤◌, [], ℕ, List, length, true, false, OnOk, encode_utf8_all};
 ghost use Rattle.std.specs.Str.{all_scalars};
 ghost use Rattle.std.specs.Io.KnownBytes.{Appends};
 ghost use Rattle.nr_units.specs.Failures.{counted_if, put_counted, put_counted_if};
@@ -8,7 +8,7 @@ ghost use Rattle.nr_preconv.specs.Characters.{read_characters};
 ghost use Rattle.nr_preconv.specs.Unread.{CommentsAreUnread, IgnoredLinesAreUnread};
 ghost use Rattle.nr_preconv.specs.Running as specs;
 
-use super::reader::Reader;
+use super::reader::{MOST, Reader, Taken};
 use nr_characters::Table;
 use nr_units::sink::Sink;
 use nr_units::slice_vec::SliceVec;
@@ -16,9 +16,6 @@ use nr_units::source::{Fault, Source};
 
 /// The number of bytes that are too many.
 const TOO_MANY: u64 = 1_099_511_627_776;
-
-/// How many bytes go out for one that comes, at most, and how many plain ones are taken at once.
-const MOST: usize = 1536;
 
 /// How a run ended.
 #[derive(Clone, Copy, Debug, PartialEq, Eq)]
@@ -75,29 +72,29 @@ fn make_room<W: Sink>(out: &mut SliceVec<'_, u8>, output: &mut W) -> Result<(), 
     put_pending(out, output)
 }
 
-/// Plain bytes at hand are taken, each in one step, and tells how many.
-fn take_plain<R: Source>(
+/// Bytes at hand are taken, one after another. Tells how many, and in how many steps.
+fn take_some<R: Source>(
     reader: &mut Reader,
     input: &mut R,
     out: &mut SliceVec<'_, u8>,
     most: u64,
-) -> u64
+) -> Taken
     requires { length out.old.items + 1536 ≤ out.old.room }
-    ensures took { specs.Took (R.supply input.old) (R.supply input.new) reader.old reader.new out.old.items out.new.items result result }
-    ensures few { (result ≤ 1536) × (result ≤ most) }
-    ensures grown { length out.new.items ≤ length out.old.items + result }
+    ensures took { specs.Took (R.supply input.old) (R.supply input.new) reader.old reader.new out.old.items out.new.items result.count result.steps }
+    ensures few { result.count ≤ most }
+    ensures grown { length out.new.items ≤ length out.old.items + 1536 * result.count }
+    ensures quick { result.steps ≤ 24 * result.count }
     ensures failures { R.failures input.new ≡ R.failures input.old }
     ensures room { out.new.room ≡ out.old.room }
 {
     let window = input.window();
     let len = window.len().min(MOST).min(most as usize);
-    let count = reader.pass(&window[..len]);
-    out.extend(&window[..count]);
-    input.skip(count);
-    count as u64
+    let taken = reader.take(&window[..len], out);
+    input.skip(taken.count);
+    taken
 }
 
-/// One turn: plain bytes at hand are taken, or one byte.
+/// One turn: bytes at hand are taken, or the next byte.
 fn make_turn<R: Source>(
     reader: &mut Reader,
     input: &mut R,
@@ -111,11 +108,11 @@ fn make_turn<R: Source>(
     ensures failures { R.failures input.new ≡ counted_if (specs.is_fault result) (R.failures input.old) }
     ensures room { out.new.room ≡ out.old.room }
 {
-    let count = take_plain(reader, input, out, most);
-    if count > 0 {
+    let taken = take_some(reader, input, out, most);
+    if taken.count > 0 {
         return Turn::Took {
-            bytes: count,
-            steps: count,
+            bytes: taken.count as u64,
+            steps: taken.steps,
         };
     }
     match input.next() {
