@@ -44,7 +44,7 @@ tail b low high = within 128 191 b low (omega (arith, high))
 -- ---- one after the other
 
 cooked_read : (b : ℕ) (r : Reader) → is_raw r.half.line ≡ false → read b r ≡ heard_byte b r
-cooked_read b r cooked = ap (λ (x : Bool). if x then told (with_half (passing b r.half) r) (sent r.eight_bit b ∷ []) 1 else heard_byte b r) cooked
+cooked_read b r cooked = ap (λ (x : Bool). if x then told (with_half (passing b r.half) r) (sent r.table b ∷ []) 1 else heard_byte b r) cooked
 
 fresh_read : (b : ℕ) (r : Reader) → is_raw r.half.line ≡ false → r.pending ≡ Nothing → read b r ≡ fresh b r
 fresh_read b r cooked none = cooked_read b r cooked ∙ nothing_pending b r none
@@ -177,8 +177,8 @@ cooked_character c r is cooked none = heard_by (nat_lt c 128) (nat_lt c 2048) (n
 
 -- ---- in comments and ignored lines nothing becomes pending
 
-raw_read : (b : ℕ) (r : Reader) → is_raw r.half.line ≡ true → read b r ≡ told (with_half (passing b r.half) r) (sent r.eight_bit b ∷ []) 1
-raw_read b r raw = ap (λ (x : Bool). if x then told (with_half (passing b r.half) r) (sent r.eight_bit b ∷ []) 1 else heard_byte b r) raw
+raw_read : (b : ℕ) (r : Reader) → is_raw r.half.line ≡ true → read b r ≡ told (with_half (passing b r.half) r) (sent r.table b ∷ []) 1
+raw_read b r raw = ap (λ (x : Bool). if x then told (with_half (passing b r.half) r) (sent r.table b ∷ []) 1 else heard_byte b r) raw
 
 no_newline : (b : ℕ) → 128 ≤ b → (b == 10) ≡ false
 no_newline b l = grind (arith, nat_tests)

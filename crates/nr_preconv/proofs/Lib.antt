@@ -1,9 +1,13 @@
+pub mod AtOnce
 pub mod Characters
 pub mod Hearing
+pub mod Names
 pub mod Plain
+pub mod PlainEscapes
 pub mod Reading
 pub mod Sent
 pub mod Steps
+pub mod Taking
 pub mod Turning
 pub mod Unchanged
 pub mod Unread

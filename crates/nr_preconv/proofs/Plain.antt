@@ -188,8 +188,8 @@ pub heard_byte_taken : (b : ℕ) (r : Reader) (h : Half) → nat_lt b 127 ≡ tr
     → heard (comings.Byte b) r ≡ told (with_half h r) (b ∷ []) 1
 unfolding heard
 heard_byte_taken b r h ascii e =
-    ap (λ (m : Met). behind (bytes_of r.eight_bit m.said) 1 (if m.takes then told (with_half m.half r) [] 0 else heard_in 5 (comings.Byte b) (with_half m.half r))) e
-    ∙ ap (λ (x : ℕ). told (with_half h r) (x ∷ []) 1) (sent_is r.eight_bit b (ascii-goes r.eight_bit b ascii))
+    ap (λ (m : Met). behind (bytes_of r.table m.said) 1 (if m.takes then told (with_half m.half r) [] 0 else heard_in 5 (comings.Byte b) (with_half m.half r))) e
+    ∙ ap (λ (x : ℕ). told (with_half h r) (x ∷ []) 1) (sent_is r.table b (ascii-goes r.table b ascii))
 
 -- where nothing is pending, nothing is heard of it
 pub none_heard : (p : Pending) (r : Reader) → p ≡ pendings.Nothing → r.pending ≡ p → pending_with pendings.Nothing r ≡ r
@@ -212,7 +212,7 @@ read_as_is b r none cooked p =
     let at = is_as_is_at r.half.line b r.half in
     let three = and-first (ascii && back && plain) at p in
     let two = and-first (ascii && back) plain three in
-    ap (λ (x : Bool). if x then told (with_half (passing b r.half) r) (sent r.eight_bit b ∷ []) 1 else heard_byte b r) cooked
+    ap (λ (x : Bool). if x then told (with_half (passing b r.half) r) (sent r.table b ∷ []) 1 else heard_byte b r) cooked
     ∙ nothing_pending b r none
     ∙ ap (λ (x : Bool). if x then heard (comings.Byte b) r else (if is_lead b then told (pending_with (pendings.One b) r) [] 0 else stray b r)) (and-first ascii back two)
     ∙ heard_byte_taken b r (in_line b r.half).half (and-first ascii back two)

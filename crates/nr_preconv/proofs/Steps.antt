@@ -1,5 +1,6 @@
 -- How many steps bytes take.
-use Rattle.std.proofs.Common.{◌≡◌, ℕ, zero, suc, ◌+◌, ◌*◌, ◌≤◌, List, [], ◌∷◌, length, Bool, true, false, nat_lt, if◌then◌else◌, refl, ◌∙◌, ap, arith}
+use Rattle.std.proofs.Common.{◌≡◌, ℕ, zero, suc, ◌+◌, ◌*◌, ◌≤◌, List, [], ◌∷◌, length, Bool, true, false, nat_lt, if◌then◌else◌, Option, refl, ◌∙◌, ap, arith}
+use Rattle.nr_characters.specs.declared.table.Table.{Table}
 use Rattle.nr_preconv.specs.declared.half.Coming.{Coming}
 use Rattle.nr_preconv.specs.declared.half.Coming.TheVariants.{Byte, Wide}
 use Rattle.nr_preconv.specs.declared.reader.Reader.{Reader}
@@ -27,7 +28,7 @@ heard_in-quick zero c r = record { quick = omega arith; stays = refl }
 heard_in-quick (suc n) c r =
     let m = meet c r.half in
     let taken : Hears n r.pending (told (with_half m.half r) [] 0) = record { quick = omega arith; stays = refl } in
-    Hears-step (bytes_of r.eight_bit m.said) n r.pending _ (Hears-split m.takes taken (heard_in-quick n c (with_half m.half r)))
+    Hears-step (bytes_of r.table m.said) n r.pending _ (Hears-split m.takes taken (heard_in-quick n c (with_half m.half r)))
 
 heard-quick : (c : Coming) (r : Reader) → Hears 6 r.pending (heard c r)
 unfolding heard
@@ -115,7 +116,7 @@ heard_behind-pays (Two a b) c r e =
 heard_behind-pays (Three a b c) d r e = Pays-split (is_tail d) (whole-pays _ r) (apart-pays d r)
 
 read-pays : (b : ℕ) (r : Reader) → Paid r (read b r)
-read-pays b r = Pays-split (is_raw r.half.line) (pays (6 * count r.pending + 6) (told _ (sent r.eight_bit b ∷ []) 1) (omega arith)) (heard_behind-pays r.pending b r refl)
+read-pays b r = Pays-split (is_raw r.half.line) (pays (6 * count r.pending + 6) (told _ (sent r.table b ∷ []) 1) (omega arith)) (heard_behind-pays r.pending b r refl)
 
 -- ---- many bytes
 
@@ -126,10 +127,10 @@ fed-paid (b ∷ bs) r =
     let one = (read-pays b r).enough in
     let more = fed-paid bs t.reader in omega (arith, one, more)
 
-pub fed_quick : (e : Bool) (bs : List ℕ) → (fed (first_reader e) bs).steps ≤ 6 * length bs
+pub fed_quick : (e : Option Table) (bs : List ℕ) → (fed (first_reader e) bs).steps ≤ 6 * length bs
 fed_quick e bs = let all = fed-paid bs (first_reader e) in omega (arith, all)
 
-pub steps_of_quick : (e : Bool) (bs : List ℕ) → steps_of e bs ≤ 6 * length bs
+pub steps_of_quick : (e : Option Table) (bs : List ℕ) → steps_of e bs ≤ 6 * length bs
 steps_of_quick e bs =
     let all = fed-paid bs (first_reader e) in
     let r = (fed (first_reader e) bs).reader in

@@ -1,16 +1,17 @@
 -- How a run goes on and ends.
-use Rattle.std.proofs.Common.{◌≡◌, ℕ, ◌+◌, ◌*◌, ◌≤◌, List, [], ◌∷◌, ◌++◌, length, take, drop, Bool, Option, None, Some, Result, Ok, Err, OnOk, refl, sym, ◌∙◌, ap, subst, append_assoc, append-nil, arith, length-append}
+use Rattle.std.proofs.Common.{◌≡◌, ℕ, ◌+◌, ◌*◌, ◌≤◌, List, [], ◌∷◌, ◌++◌, length, take, drop, Option, None, Some, Result, Ok, Err, OnOk, refl, sym, ◌∙◌, ap, subst, append_assoc, append-nil, arith, length-append}
 use Rattle.std.specs.Io.KnownBytes.{Appends}
 use Rattle.std.proofs.KnownBytes.{Appends-trans, Appends-nil}
-use Rattle.std.proofs.lemmas.List.{take-append-drop, take-take, length-take}
+use Rattle.std.proofs.lemmas.List.{take-append-drop, take-take}
 use Rattle.nr_units.specs.Sink.{AppendsFront}
 use Rattle.nr_units.specs.Source.{Supply, Gives, Offers, Skips, skipped}
 use Rattle.nr_units.specs.declared.source.Fault.{Fault}
 use Rattle.nr_units.proofs.Fronts.{AppendsFront-append, AppendsFront-after}
+use Rattle.nr_characters.specs.declared.table.Table.{Table}
 use Rattle.nr_preconv.specs.declared.reader.Reader.{Reader}
 use Rattle.nr_preconv.specs.declared.running.Outcome.{Outcome}
 use Rattle.nr_preconv.specs.declared.running.Outcome.TheVariants.{Done, ReadFault, TooLong, WriteFault}
-use Rattle.nr_preconv.specs.Reading.{Told, first_reader, read, fed, pending_heard, finished, converted, steps_of, told, Passes}
+use Rattle.nr_preconv.specs.Reading.{Told, first_reader, read, fed, pending_heard, finished, converted, steps_of}
 use Rattle.nr_preconv.specs.Running.{Comes, Ends, Flushes, Took, Stands, IsCut, IsBroken, Ran, EndsAs}
 use Rattle.nr_preconv.proofs.Sent.{fed-shown, converted-shown}
 use Rattle.nr_preconv.proofs.Reading.{fed-append_reader, fed-append_bytes, fed-append_steps}
@@ -70,23 +71,7 @@ Comes-skip (Some q) (Some t) window n l o s =
     let rest : t.bytes ≡ drop n q.bytes = skipped-bytes q t n s in
     rw (front, rest) (sym (take-append-drop n q.bytes))
 
--- ---- plain bytes are taken
-
-pub Took-plain : (a b : Option Supply) (window : List ℕ) (most n : ℕ) (r s : Reader) (pending left : List ℕ)
-    → n ≤ length (take most window) → n ≤ most → n ≤ length window → Offers a window → Skips a n b
-    → Passes n (take most window) r s → left ≡ pending ++ take n window → Took a b r s pending left n n
-Took-plain a b window most n r s pending left l m k o skips plain out =
-    let front : take n (take most window) ≡ take n window = take-take n most window m in
-    let told_so : fed r (take n window) ≡ told s (take n window) n =
-    (let P : List ℕ → Type 0 = λ xs. fed r xs ≡ told s xs n in subst P front plain) in
-    record {
-      bytes = take n window;
-      came = Comes-skip a b window n k o skips;
-      count = omega (arith, length-take n window);
-      reader = sym (ap (λ (t : Told). t.reader) told_so);
-      out = out ∙ ap (λ (xs : List ℕ). pending ++ xs) (sym (ap (λ (t : Told). t.bytes) told_so));
-      made = sym (ap (λ (t : Told). t.steps) told_so);
-    }
+-- ---- bytes are taken
 
 both_made : {a b c d : ℕ} → a ≡ c → b ≡ d → a + b ≡ c + d
 both_made p q = cc
@@ -110,7 +95,7 @@ Took-trans a b c r s u p q left n m i j f g =
 
 -- ---- a run goes on
 
-pub Stands-first : (e : Bool) (a : Option Supply) (h : Option (List ℕ)) (p : List ℕ) (r : Reader)
+pub Stands-first : (e : Option Table) (a : Option Supply) (h : Option (List ℕ)) (p : List ℕ) (r : Reader)
     → r ≡ first_reader e → p ≡ [] → Stands e a a h h p r 0 0
 Stands-first e a h p r is none = record {
   bytes = [];
@@ -128,7 +113,7 @@ grown : (xs ys zs : List ℕ) (n : ℕ) → zs ≡ xs ++ ys → length zs ≤ le
 grown xs ys zs n e l =
     let lengths : length zs ≡ length xs + length ys = ap length e ∙ length-append xs ys in omega arith
 
-pub Stands-took : (e : Bool) (a b c : Option Supply) (h k : Option (List ℕ)) (p left : List ℕ) (r s : Reader) (t n i j : ℕ)
+pub Stands-took : (e : Option Table) (a b c : Option Supply) (h k : Option (List ℕ)) (p left : List ℕ) (r s : Reader) (t n i j : ℕ)
     → Stands e a b h k p r t i → Took b c r s p left n j → length left ≤ length p + 1536 * n → Stands e a c h k left s (t + n) (i + j)
 Stands-took e a b c h k p left r s t n i j st w l =
     let before = fed (first_reader e) st.bytes in
@@ -153,7 +138,7 @@ Stands-took e a b c h k p left r s t n i j st w l =
       made = both_made st.made (w.made ∙ ap (λ (x : Told). x.steps) (sym here)) ∙ sym (fed-append_steps (first_reader e) st.bytes w.bytes);
     }
 
-pub Stands-flushed : (e : Bool) (a b : Option Supply) (h k m : Option (List ℕ)) (p left : List ℕ) (r : Reader) (t i : ℕ)
+pub Stands-flushed : (e : Option Table) (a b : Option Supply) (h k m : Option (List ℕ)) (p left : List ℕ) (r : Reader) (t i : ℕ)
     → Stands e a b h k p r t i → Flushes k m p left → Stands e a b h m left r t i
 Stands-flushed e a b h k m p left r t i st f = record {
   bytes = st.bytes;
@@ -195,14 +180,14 @@ Took-byte a b byte r s pending left steps gives reader out made = record {
 
 -- ---- a run ends
 
-ended-all : (e : Bool) (sent p left bytes : List ℕ) (r : Reader) → sent ++ p ≡ (fed (first_reader e) bytes).bytes
+ended-all : (e : Option Table) (sent p left bytes : List ℕ) (r : Reader) → sent ++ p ≡ (fed (first_reader e) bytes).bytes
     → r ≡ (fed (first_reader e) bytes).reader → left ≡ p ++ finished r → sent ++ left ≡ converted e bytes
 ended-all e sent p left bytes r all reader out =
     ap (λ (xs : List ℕ). sent ++ xs) out ∙ sym (append_assoc sent p (finished r))
     ∙ ap (λ (xs : List ℕ). xs ++ finished r) all
     ∙ ap (λ (x : Reader). (fed (first_reader e) bytes).bytes ++ finished x) reader
 
-converted-few : (e : Bool) (bytes p left rest : List ℕ) (r : Reader) (t : ℕ) → length bytes ≡ t
+converted-few : (e : Option Table) (bytes p left rest : List ℕ) (r : Reader) (t : ℕ) → length bytes ≡ t
     → length (fed (first_reader e) bytes).bytes ≤ 1536 * t → r ≡ (fed (first_reader e) bytes).reader
     → left ≡ p ++ finished r → length left ≤ length p + 1536 → length (converted e bytes) ≤ 1536 * (length bytes + 1)
 converted-few e bytes p left rest r t count few reader out l =
@@ -212,12 +197,12 @@ converted-few e bytes p left rest r t count few reader out l =
     let same : length (finished after.reader) ≡ length (finished r) = ap (λ (x : Reader). length (finished x)) (sym reader) in
     let split : length left ≡ length p + length (finished r) = ap length out ∙ length-append p (finished r) in omega arith
 
-ended-made : (e : Bool) (bytes : List ℕ) (r : Reader) (i j : ℕ) → i ≡ (fed (first_reader e) bytes).steps
+ended-made : (e : Option Table) (bytes : List ℕ) (r : Reader) (i j : ℕ) → i ≡ (fed (first_reader e) bytes).steps
     → r ≡ (fed (first_reader e) bytes).reader → j ≡ (pending_heard r).steps → i + j ≡ steps_of e bytes
 ended-made e bytes r i j made reader last =
     both_made made (last ∙ ap (λ (x : Reader). (pending_heard x).steps) reader)
 
-pub Ran-done : (e : Bool) (a b c : Option Supply) (h k m : Option (List ℕ)) (p left : List ℕ) (r : Reader) (t i j : ℕ)
+pub Ran-done : (e : Option Table) (a b c : Option Supply) (h k m : Option (List ℕ)) (p left : List ℕ) (r : Reader) (t i j : ℕ)
     → Stands e a b h k p r t i → Comes b [] c × Ends b c × (left ≡ p ++ finished r) × (j ≡ (pending_heard r).steps)
     → length left ≤ length p + 1536 → (outcome : Outcome) → EndsAs Done outcome k m left → Ran e a c h m (i + j) outcome
 Ran-done e a b c h k m p left r t i j st turn l Done ends =
@@ -249,7 +234,7 @@ Ran-done e a b c h k m p left r t i j st turn l WriteFault ends =
     }
 
 -- what went out and what is pending, cut by a write fault
-Stands-broken : (e : Bool) (a b c : Option Supply) (h k m : Option (List ℕ)) (p : List ℕ) (r : Reader) (t i : ℕ)
+Stands-broken : (e : Option Table) (a b c : Option Supply) (h k m : Option (List ℕ)) (p : List ℕ) (r : Reader) (t i : ℕ)
     → Stands e a b h k p r t i → Comes b [] c → AppendsFront k m p → IsBroken e a c h m i
 Stands-broken e a b c h k m p r t i st came front =
     let after = fed (first_reader e) st.bytes in
@@ -263,7 +248,7 @@ Stands-broken e a b c h k m p r t i st came front =
       quick = rw st.made (fed_quick e st.bytes);
     }
 
-Stands-cut : (e : Bool) (a b c : Option Supply) (h k m : Option (List ℕ)) (p : List ℕ) (r : Reader) (t i : ℕ)
+Stands-cut : (e : Option Table) (a b c : Option Supply) (h k m : Option (List ℕ)) (p : List ℕ) (r : Reader) (t i : ℕ)
     → Stands e a b h k p r t i → Comes b [] c → Appends k m p → IsCut e a c h m t i
 Stands-cut e a b c h k m p r t i st came went =
     let P : List ℕ → Type 0 = λ xs. Appends h m xs in
@@ -277,11 +262,11 @@ Stands-cut e a b c h k m p r t i st came went =
       quick = rw st.made (fed_quick e st.bytes);
     }
 
-pub Ran-broken : (e : Bool) (a b : Option Supply) (h k m : Option (List ℕ)) (p : List ℕ) (r : Reader) (t i : ℕ)
+pub Ran-broken : (e : Option Table) (a b : Option Supply) (h k m : Option (List ℕ)) (p : List ℕ) (r : Reader) (t i : ℕ)
     → Stands e a b h k p r t i → AppendsFront k m p → Ran e a b h m i WriteFault
 Ran-broken e a b h k m p r t i st front = Stands-broken e a b b h k m p r t i st (Comes-nil b) front
 
-ran-fault : (e : Bool) (a b c : Option Supply) (h k m : Option (List ℕ)) (p : List ℕ) (r : Reader) (t i : ℕ)
+ran-fault : (e : Option Table) (a b c : Option Supply) (h k m : Option (List ℕ)) (p : List ℕ) (r : Reader) (t i : ℕ)
     → Stands e a b h k p r t i → Comes b [] c
     → (outcome : Outcome) → EndsAs (ReadFault t) outcome k m p → Ran e a c h m i outcome
 ran-fault e a b c h k m p r t i st came Done ends = absurd (let no : ReadFault t ≡ Done = ends.0 in cc)
@@ -293,14 +278,14 @@ ran-fault e a b c h k m p r t i st came (ReadFault at) ends =
 ran-fault e a b c h k m p r t i st came TooLong ends = absurd (let no : ReadFault t ≡ TooLong = ends.0 in cc)
 ran-fault e a b c h k m p r t i st came WriteFault ends = Stands-broken e a b c h k m p r t i st came ends
 
-pub Ran-fault : (e : Bool) (a b c : Option Supply) (h k m : Option (List ℕ)) (p left : List ℕ) (r : Reader) (t i : ℕ)
+pub Ran-fault : (e : Option Table) (a b c : Option Supply) (h k m : Option (List ℕ)) (p left : List ℕ) (r : Reader) (t i : ℕ)
     → Stands e a b h k p r t i → Comes b [] c × (left ≡ p)
     → (outcome : Outcome) → EndsAs (ReadFault t) outcome k m left → Ran e a c h m i outcome
 Ran-fault e a b c h k m p left r t i st turn outcome ends =
     let P : List ℕ → Type 0 = λ xs. EndsAs (ReadFault t) outcome k m xs in
     ran-fault e a b c h k m p r t i st turn.0 outcome (subst P turn.1 ends)
 
-pub Ran-long : (e : Bool) (a b : Option Supply) (h k m : Option (List ℕ)) (p : List ℕ) (r : Reader) (t i : ℕ)
+pub Ran-long : (e : Option Table) (a b : Option Supply) (h k m : Option (List ℕ)) (p : List ℕ) (r : Reader) (t i : ℕ)
     → t ≡ 1099511627776 → Stands e a b h k p r t i
     → (outcome : Outcome) → EndsAs TooLong outcome k m p → Ran e a b h m i outcome
 Ran-long e a b h k m p r t i n st Done ends = absurd (let no : TooLong ≡ Done = ends.0 in cc)

@@ -1,6 +1,7 @@
 -- Plain text is what comes of it.
-use Rattle.std.proofs.Common.{◌≡◌, ℕ, suc, ◌+◌, ◌≤◌, List, [], ◌∷◌, ◌++◌, length, drop, Bool, true, false, not, ◌==◌, ◌&&◌, nat_lt, if◌then◌else◌, refl, sym, ◌∙◌, ap, append-nil, arith}
+use Rattle.std.proofs.Common.{◌≡◌, ℕ, suc, ◌+◌, ◌≤◌, List, [], ◌∷◌, ◌++◌, length, drop, Bool, true, false, not, ◌==◌, ◌&&◌, nat_lt, if◌then◌else◌, Option, refl, sym, ◌∙◌, ap, append-nil, arith}
 use Rattle.std.proofs.lemmas.List.{drop_all}
+use Rattle.nr_characters.specs.declared.table.Table.{Table}
 use Rattle.nr_preconv.specs.declared.half.Half.{Half}
 use Rattle.nr_preconv.specs.declared.half.Line.{Line}
 use Rattle.nr_preconv.specs.declared.half.Line.TheVariants as lines
@@ -22,8 +23,8 @@ use Rattle.nr_preconv.proofs.Plain.{and-first, and-second, is_not, heard_byte_ta
 half_at : Bool → Half
 half_at starts = record first_half { line = if starts then lines.Start else lines.Text }
 
-reader_at : Bool → Bool → Reader
-reader_at e starts = record { half = half_at starts; pending = pendings.Nothing; eight_bit = e }
+reader_at : Option Table → Bool → Reader
+reader_at e starts = record { half = half_at starts; pending = pendings.Nothing; table = e }
 
 said_as : Bool → ℕ → Line → Half → Met
 said_as x b line h = taken (says.Byte b) (record (if x then record h { before = Other } else placed (is_ascii_letter b) h) { line = line })
@@ -63,7 +64,7 @@ goes_meets true b g =
 goes_meets false b g =
     text_meets b (is_not (b == 92) (and-second (nat_lt b 127) (not (b == 92)) (and-first (nat_lt b 127 && not (b == 92)) true g)))
 
-read_going : (e starts : Bool) (b : ℕ) → goes_on starts b ≡ true → fresh b (reader_at e starts) ≡ told (reader_at e (b == 10)) (b ∷ []) 1
+read_going : (e : Option Table) (starts : Bool) (b : ℕ) → goes_on starts b ≡ true → fresh b (reader_at e starts) ≡ told (reader_at e (b == 10)) (b ∷ []) 1
 unfolding reader_at
 read_going e starts b g =
     let ascii : nat_lt b 127 ≡ true = and-first (nat_lt b 127) (not (b == 92)) (and-first (nat_lt b 127 && not (b == 92)) (not (starts && is_control b)) g) in
@@ -71,7 +72,7 @@ read_going e starts b g =
     ap (λ (x : Bool). if x then heard (comings.Byte b) r else (if is_lead b then told (pending_with (pendings.One b) r) [] 0 else stray b r)) ascii
     ∙ heard_byte_taken b r (half_at (b == 10)) ascii (goes_meets starts b g)
 
-read_on : (e starts : Bool) (b : ℕ) → goes_on starts b ≡ true → read b (reader_at e starts) ≡ told (reader_at e (b == 10)) (b ∷ []) 1
+read_on : (e : Option Table) (starts : Bool) (b : ℕ) → goes_on starts b ≡ true → read b (reader_at e starts) ≡ told (reader_at e (b == 10)) (b ∷ []) 1
 unfolding reader_at half_at
 read_on e true b g = ap (behind [] 0) (read_going e true b g)
 read_on e false b g = ap (behind [] 0) (read_going e false b g)
@@ -84,7 +85,7 @@ ends starts (b ∷ bs) = ends (b == 10) bs
 one_before : (n : ℕ) → 1 + n ≡ suc n
 one_before n = omega arith
 
-fed_on : (e starts : Bool) (bs : List ℕ) → is_plain_from starts bs ≡ true → fed (reader_at e starts) bs ≡ told (reader_at e (ends starts bs)) bs (length bs)
+fed_on : (e : Option Table) (starts : Bool) (bs : List ℕ) → is_plain_from starts bs ≡ true → fed (reader_at e starts) bs ≡ told (reader_at e (ends starts bs)) bs (length bs)
 unfolding ends
 fed_on e starts [] p = refl
 fed_on e starts (b ∷ bs) p =
@@ -94,23 +95,23 @@ fed_on e starts (b ∷ bs) p =
     ∙ ap (behind (b ∷ []) 1) (fed_on e (b == 10) bs rest)
     ∙ told-eq _ _ _ _ _ _ refl refl (one_before (length bs))
 
-nothing_left : (e starts : Bool) → finished (reader_at e starts) ≡ []
+nothing_left : (e : Option Table) (starts : Bool) → finished (reader_at e starts) ≡ []
 unfolding reader_at half_at
 nothing_left e true = refl
 nothing_left e false = refl
 
-first_is : (e : Bool) → first_reader e ≡ reader_at e true
+first_is : (e : Option Table) → first_reader e ≡ reader_at e true
 unfolding reader_at half_at
 first_is e = refl
 
-pub plain_unchanged : (e : Bool) (text : List ℕ) → is_plain_text text ≡ true → converted e text ≡ text
+pub plain_unchanged : (e : Option Table) (text : List ℕ) → is_plain_text text ≡ true → converted e text ≡ text
 plain_unchanged e text p =
     ap (λ (r : Reader). (fed r text).bytes ++ finished (fed r text).reader) (first_is e)
     ∙ ap (λ (t : Told). t.bytes ++ finished t.reader) (fed_on e true text p)
     ∙ ap (λ (xs : List ℕ). text ++ xs) (nothing_left e (ends true text))
     ∙ append-nil text
 
-no_steps_left : (e starts : Bool) → (pending_heard (reader_at e starts)).steps ≡ 0
+no_steps_left : (e : Option Table) (starts : Bool) → (pending_heard (reader_at e starts)).steps ≡ 0
 unfolding reader_at half_at
 no_steps_left e true = refl
 no_steps_left e false = refl
@@ -119,7 +120,7 @@ none_added : (n : ℕ) → n + 0 ≡ n
 none_added n = omega arith
 
 -- one step for each byte
-pub plain_steps : (e : Bool) (text : List ℕ) → is_plain_text text ≡ true → steps_of e text ≡ length text
+pub plain_steps : (e : Option Table) (text : List ℕ) → is_plain_text text ≡ true → steps_of e text ≡ length text
 plain_steps e text p =
     ap (λ (r : Reader). (fed r text).steps + (pending_heard (fed r text).reader).steps) (first_is e)
     ∙ ap (λ (t : Told). t.steps + (pending_heard t.reader).steps) (fed_on e true text p)

@@ -25,7 +25,7 @@ passes : (b : ℕ) (line : Line) (r : Reader) → is_raw line ≡ true → (read
 unfolding at
 passes b line r raw =
     let s = at line r in
-    ap (λ (x : Bool). (if x then told (with_half (passing b s.half) s) (sent s.eight_bit b ∷ []) 1 else heard_byte b s).reader) raw
+    ap (λ (x : Bool). (if x then told (with_half (passing b s.half) s) (sent s.table b ∷ []) 1 else heard_byte b s).reader) raw
 
 -- ---- comments
 

@@ -189,10 +189,15 @@ abbrev pub is_translation : Line → Bool
 is_translation lines.Translation = true
 is_translation line = false
 
+-- one that the language has goes out as it was kept, or as a byte
+abbrev pub native : Option ℕ → Half → Met
+native None h = ended_kept h
+native (Some c) h = ended (says.Native h.kept c) (placed false h)
+
 -- A character by its name. `.tr \(*W-` makes \(*W a dash.
 abbrev pub glyph : Half → Met
 glyph h =
-    if is_native h.spelled && not (is_delimited h.escape) then ended_kept h else
+    if is_native h.spelled && not (is_delimited h.escape) then native (glyph_code h.spelled) h else
     if is_pair 42 87 h.spelled && is_translation h.line then ended_kept (record h { dashes = true }) else
     if is_pair 42 87 h.spelled && h.dashes then ended (says.Escape 45) (placed false h) else
     if is_struck h.spelled then struck (glyph_code h.spelled) h else character (glyph_code h.spelled) h

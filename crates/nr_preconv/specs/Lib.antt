@@ -12,6 +12,7 @@ pub mod Numbers
 pub mod PlainText
 pub mod Reading
 pub mod Running
+pub mod Runs
 pub mod Saying
 pub mod Unread
 pub mod Words

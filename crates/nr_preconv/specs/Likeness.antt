@@ -1,5 +1,7 @@
 -- What a character looks like on a terminal of single bytes (groff_char(7)).
-use Rattle.std.specs.Prelude.{ℕ, ◌+◌, ◌-◌, ◌/◌, ◌%◌, List, [], ◌∷◌, ◌++◌, Bool, ◌==◌, ◌&&◌, ◌||◌, nat_le, nat_lt, if◌then◌else◌, Option, None, Some, codes, slice_get}
+use Rattle.std.specs.Prelude.{ℕ, ◌+◌, ◌-◌, ◌/◌, ◌%◌, List, [], ◌∷◌, ◌++◌, Bool, ◌==◌, ◌||◌, nat_le, nat_lt, if◌then◌else◌, Option, None, Some, codes, slice_get}
+use Rattle.nr_characters.specs.declared.table.Table.{Table}
+use Rattle.nr_characters.specs.Tables.{byte_of}
 use Rattle.nr_preconv.specs.Numbers.{is_within}
 use Rattle.nr_preconv.specs.declared.signs.TheConstants.{LATIN, LATIN_ADDITIONAL, SIGNS, WORDS}
 
@@ -113,12 +115,17 @@ beyond_like code =
     if is_within 65281 65374 code then ascii_like (code - 65248) else
     byte_or (plain_letter code) (byte_or (box_like code) (sign_like code))
 
--- letters of Latin-1 may stay single bytes
-abbrev pub likeness : Bool → ℕ → List ℕ
-likeness eight_bit code =
+-- the byte of a character of the table in force
+abbrev pub byte_in_force : Option Table → ℕ → Option ℕ
+byte_in_force None code = None
+byte_in_force (Some table) code = byte_of table code
+
+-- a character of the table in force is its byte
+abbrev pub likeness : Option Table → ℕ → List ℕ
+likeness table code =
     if nat_lt code 128 then ascii_like code else
-    if eight_bit && nat_lt code 256 && is_latin_letter code then code ∷ [] else beyond_like code
+    byte_or (byte_in_force table code) (beyond_like code)
 
 -- with a stroke through it
-abbrev pub struck_like : Bool → ℕ → List ℕ
-struck_like eight_bit code = 33 ∷ likeness eight_bit code
+abbrev pub struck_like : Option Table → ℕ → List ℕ
+struck_like table code = 33 ∷ likeness table code

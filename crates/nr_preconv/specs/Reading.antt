@@ -1,5 +1,6 @@
 -- Bytes become characters (RFC 3629; ISO 8859-1), and these are heard.
-use Rattle.std.specs.Prelude.{◌≡◌, ℕ, zero, suc, ◌+◌, ◌*◌, ◌%◌, List, [], ◌∷◌, ◌++◌, take, Bool, ◌==◌, nat_lt, if◌then◌else◌}
+use Rattle.std.specs.Prelude.{◌≡◌, ℕ, zero, suc, ◌+◌, ◌*◌, ◌%◌, List, [], ◌∷◌, ◌++◌, take, Bool, ◌==◌, nat_lt, if◌then◌else◌, Option}
+use Rattle.nr_characters.specs.declared.table.Table.{Table}
 use Rattle.nr_preconv.specs.declared.half.Half.{Half}
 use Rattle.nr_preconv.specs.declared.half.Coming.{Coming}
 use Rattle.nr_preconv.specs.declared.half.Coming.TheVariants.{Byte, Wide}
@@ -32,8 +33,8 @@ abbrev pub then_told : Told → (Reader → Told) → Told
 then_told t next = behind t.bytes t.steps (next t.reader)
 
 -- a page begins
-abbrev pub first_reader : Bool → Reader
-first_reader eight_bit = record { half = first_half; pending = Nothing; eight_bit = eight_bit }
+abbrev pub first_reader : Option Table → Reader
+first_reader table = record { half = first_half; pending = Nothing; table = table }
 
 -- ---- a character is heard: it is met again until it is taken
 
@@ -44,7 +45,7 @@ abbrev pub heard_in : ℕ → Coming → Reader → Told
 heard_in zero coming r = told r [] 0
 heard_in (suc n) coming r =
     let m = meet coming r.half in
-    behind (bytes_of r.eight_bit m.said) 1 (if m.takes then told (with_half m.half r) [] 0 else heard_in n coming (with_half m.half r))
+    behind (bytes_of r.table m.said) 1 (if m.takes then told (with_half m.half r) [] 0 else heard_in n coming (with_half m.half r))
 
 -- six times are enough: an escape that is none, and words that end and begin
 unfoldable pub heard : Coming → Reader → Told
@@ -117,7 +118,7 @@ heard_byte b r = heard_behind r.pending b r
 -- ---- a byte, and the end
 
 abbrev pub read : ℕ → Reader → Told
-read b r = if is_raw r.half.line then told (with_half (passing b r.half) r) (sent r.eight_bit b ∷ []) 1 else heard_byte b r
+read b r = if is_raw r.half.line then told (with_half (passing b r.half) r) (sent r.table b ∷ []) 1 else heard_byte b r
 
 -- a name that is half read
 abbrev pub name_left : Line → List ℕ → List ℕ
@@ -128,7 +129,7 @@ name_left line name = []
 
 -- what is half read at the end goes out as it is
 abbrev pub ended : Reader → List ℕ
-ended r = all_sent r.eight_bit r.half.kept ++ all_sent r.eight_bit (name_left r.half.line r.half.name)
+ended r = all_sent r.table r.half.kept ++ all_sent r.table (name_left r.half.line r.half.name)
 
 abbrev pub finished : Reader → List ℕ
 finished r = (pending_heard r).bytes ++ ended (pending_heard r).reader
@@ -145,15 +146,23 @@ fed r (b ∷ bs) = then_told (read b r) (λ s. fed s bs)
 abbrev pub Passes : ℕ → List ℕ → Reader → Reader → Type 0
 Passes n bytes r s = fed r (take n bytes) ≡ told s (take n bytes) n
 
+-- ---- bytes are taken one after another
+
+-- the first n of these, in so many steps, and what comes of them stands after what was pending
+pub record Takes (n : ℕ) (bytes : List ℕ) (r s : Reader) (pending left : List ℕ) (steps : ℕ) : Type 0 where
+  pub reader : s ≡ (fed r (take n bytes)).reader
+  pub out : left ≡ pending ++ (fed r (take n bytes)).bytes
+  pub made : steps ≡ (fed r (take n bytes)).steps
+
 -- ---- the definition: what comes of all bytes of an input
 
-abbrev pub converted : Bool → List ℕ → List ℕ
-converted eight_bit input =
-    let t = fed (first_reader eight_bit) input in
+abbrev pub converted : Option Table → List ℕ → List ℕ
+converted table input =
+    let t = fed (first_reader table) input in
     t.bytes ++ finished t.reader
 
 -- in how many steps that comes
-abbrev pub steps_of : Bool → List ℕ → ℕ
-steps_of eight_bit input =
-    let t = fed (first_reader eight_bit) input in
+abbrev pub steps_of : Option Table → List ℕ → ℕ
+steps_of table input =
+    let t = fed (first_reader table) input in
     t.steps + (pending_heard t.reader).steps

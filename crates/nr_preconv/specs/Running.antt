@@ -5,6 +5,7 @@ use Rattle.std.specs.Io.KnownBytes.{Appends}
 use Rattle.nr_units.specs.Failures.{next_count}
 use Rattle.nr_units.specs.Sink.{AppendsFront}
 use Rattle.nr_units.specs.Source.{Supply}
+use Rattle.nr_characters.specs.declared.table.Table.{Table}
 use Rattle.nr_preconv.specs.declared.reader.Reader.{Reader}
 use Rattle.nr_preconv.specs.declared.running.Outcome.{Outcome}
 use Rattle.nr_preconv.specs.declared.running.Outcome.TheVariants.{Done, ReadFault, TooLong, WriteFault}
@@ -66,52 +67,52 @@ is_fault turn = false
 -- ---- a run
 
 -- where a run stands that took these bytes, in so many steps: what they come to went out, or is pending
-pub record Stands (eight_bit : Bool) (first supply : Option Supply) (held new : Option (List ℕ)) (pending : List ℕ) (r : Reader) (taken steps : ℕ) : Type 0 where
+pub record Stands (table : Option Table) (first supply : Option Supply) (held new : Option (List ℕ)) (pending : List ℕ) (r : Reader) (taken steps : ℕ) : Type 0 where
   pub bytes : List ℕ
   pub came : Comes first bytes supply
   pub count : length bytes ≡ taken
-  pub reader : r ≡ (fed (first_reader eight_bit) bytes).reader
+  pub reader : r ≡ (fed (first_reader table) bytes).reader
   pub sent : List ℕ
   pub went_out : Appends held new sent
-  pub all : sent ++ pending ≡ (fed (first_reader eight_bit) bytes).bytes
-  pub few : length (fed (first_reader eight_bit) bytes).bytes ≤ 1536 * taken
-  pub made : steps ≡ (fed (first_reader eight_bit) bytes).steps
+  pub all : sent ++ pending ≡ (fed (first_reader table) bytes).bytes
+  pub few : length (fed (first_reader table) bytes).bytes ≤ 1536 * taken
+  pub made : steps ≡ (fed (first_reader table) bytes).steps
 
 -- All bytes came, and what they come to went out, at most 1536 bytes for each and as many more, and none that may not go out. That took so many steps, at most
 -- six for each byte.
-pub record IsDone (eight_bit : Bool) (first last : Option Supply) (held new : Option (List ℕ)) (steps : ℕ) : Type 0 where
+pub record IsDone (table : Option Table) (first last : Option Supply) (held new : Option (List ℕ)) (steps : ℕ) : Type 0 where
   pub bytes : List ℕ
   pub came : Comes first bytes last
   pub ends : Ends first last
-  pub went_out : Appends held new (converted eight_bit bytes)
-  pub few : length (converted eight_bit bytes) ≤ 1536 * (length bytes + 1)
-  pub shown : AllPass (may_go_out eight_bit) (converted eight_bit bytes)
-  pub made : steps ≡ steps_of eight_bit bytes
+  pub went_out : Appends held new (converted table bytes)
+  pub few : length (converted table bytes) ≤ 1536 * (length bytes + 1)
+  pub shown : AllPass (may_go_out table) (converted table bytes)
+  pub made : steps ≡ steps_of table bytes
   pub quick : steps ≤ 6 * length bytes
 
 -- so many bytes came, and what they come to went out but for what is half read; that took so many steps
-pub record IsCut (eight_bit : Bool) (first last : Option Supply) (held new : Option (List ℕ)) (at steps : ℕ) : Type 0 where
+pub record IsCut (table : Option Table) (first last : Option Supply) (held new : Option (List ℕ)) (at steps : ℕ) : Type 0 where
   pub bytes : List ℕ
   pub came : Comes first bytes last
   pub count : length bytes ≡ at
-  pub went_out : Appends held new (fed (first_reader eight_bit) bytes).bytes
-  pub shown : AllPass (may_go_out eight_bit) (fed (first_reader eight_bit) bytes).bytes
-  pub made : steps ≡ (fed (first_reader eight_bit) bytes).steps
+  pub went_out : Appends held new (fed (first_reader table) bytes).bytes
+  pub shown : AllPass (may_go_out table) (fed (first_reader table) bytes).bytes
+  pub made : steps ≡ (fed (first_reader table) bytes).steps
   pub quick : steps ≤ 6 * length bytes
 
 -- some bytes came, and a prefix of what they come to went out; that took so many steps
-pub record IsBroken (eight_bit : Bool) (first last : Option Supply) (held new : Option (List ℕ)) (steps : ℕ) : Type 0 where
+pub record IsBroken (table : Option Table) (first last : Option Supply) (held new : Option (List ℕ)) (steps : ℕ) : Type 0 where
   pub bytes : List ℕ
   pub came : Comes first bytes last
-  pub went_out : AppendsFront held new (converted eight_bit bytes)
-  pub shown : AllPass (may_go_out eight_bit) (converted eight_bit bytes)
+  pub went_out : AppendsFront held new (converted table bytes)
+  pub shown : AllPass (may_go_out table) (converted table bytes)
   pub quick : steps ≤ 6 * length bytes
 
-abbrev pub Ran : Bool → Option Supply → Option Supply → Option (List ℕ) → Option (List ℕ) → ℕ → Outcome → Type 0
-Ran eight_bit first last held new steps Done = IsDone eight_bit first last held new steps
-Ran eight_bit first last held new steps (ReadFault at) = IsCut eight_bit first last held new at steps
-Ran eight_bit first last held new steps TooLong = IsCut eight_bit first last held new 1099511627776 steps
-Ran eight_bit first last held new steps WriteFault = IsBroken eight_bit first last held new steps
+abbrev pub Ran : Option Table → Option Supply → Option Supply → Option (List ℕ) → Option (List ℕ) → ℕ → Outcome → Type 0
+Ran table first last held new steps Done = IsDone table first last held new steps
+Ran table first last held new steps (ReadFault at) = IsCut table first last held new at steps
+Ran table first last held new steps TooLong = IsCut table first last held new 1099511627776 steps
+Ran table first last held new steps WriteFault = IsBroken table first last held new steps
 
 abbrev pub is_read_fault : Outcome → Bool
 is_read_fault (ReadFault at) = true

@@ -1,9 +1,11 @@
 -- What goes out.
 use Prim.Native.Char.{code}
-use Rattle.std.specs.Prelude.{ℕ, List, [], ◌∷◌, ◌++◌, Bool, true, false, ◌&&◌, ◌||◌, nat_le, nat_lt, if◌then◌else◌, codes}
+use Rattle.std.specs.Prelude.{ℕ, List, [], ◌∷◌, ◌++◌, Bool, true, false, ◌||◌, nat_lt, if◌then◌else◌, Option, None, Some, codes}
+use Rattle.nr_characters.specs.declared.table.Table.{Table}
+use Rattle.nr_characters.specs.Tables.{character_of}
 use Rattle.nr_preconv.specs.declared.said.Said.{Said}
-use Rattle.nr_preconv.specs.declared.said.Said.TheVariants.{Nothing, Byte, Kept, Hang, Escape, Font, Quotes, Comment, Character, Struck, Arguments, QuotedArguments}
-use Rattle.nr_preconv.specs.Likeness.{likeness, struck_like}
+use Rattle.nr_preconv.specs.declared.said.Said.TheVariants.{Nothing, Byte, Kept, Native, Hang, Escape, Font, Quotes, Comment, Character, Struck, Arguments, QuotedArguments}
+use Rattle.nr_preconv.specs.Likeness.{byte_in_force, likeness, struck_like}
 
 -- the nine arguments of a macro: where they are replaced, or once a definition was read; as they are, or each between quotes
 abbrev pub arguments : Bool → Bool → List ℕ
@@ -12,34 +14,48 @@ arguments true false = codes "\\\\$1 \\\\$2 \\\\$3 \\\\$4 \\\\$5 \\\\$6 \\\\$7 \
 arguments false true = codes "\"\\$1\" \"\\$2\" \"\\$3\" \"\\$4\" \"\\$5\" \"\\$6\" \"\\$7\" \"\\$8\" \"\\$9\""
 arguments true true = codes "\"\\\\$1\" \"\\\\$2\" \"\\\\$3\" \"\\\\$4\" \"\\\\$5\" \"\\\\$6\" \"\\\\$7\" \"\\\\$8\" \"\\\\$9\""
 
--- A byte may go out if it is one of ASCII, and with -8 one that Latin-1 shows: the others are control characters.
-abbrev pub may_go_out : Bool → ℕ → Bool
-may_go_out eight_bit b = nat_lt b 127 || (eight_bit && nat_le 160 b)
+abbrev pub is_some : Option ℕ → Bool
+is_some None = false
+is_some (Some x) = true
+
+abbrev pub has_byte : Option Table → ℕ → Bool
+has_byte None b = false
+has_byte (Some table) b = is_some (character_of table b)
+
+-- A byte may go out if it is one of ASCII, or one that the table in force has.
+abbrev pub may_go_out : Option Table → ℕ → Bool
+may_go_out table b = nat_lt b 127 || has_byte table b
 
 -- the byte that goes out for one
-abbrev pub sent : Bool → ℕ → ℕ
-sent eight_bit b = if may_go_out eight_bit b then b else code "?"
+abbrev pub sent : Option Table → ℕ → ℕ
+sent table b = if may_go_out table b then b else code "?"
 
-abbrev pub all_sent : Bool → List ℕ → List ℕ
-all_sent eight_bit [] = []
-all_sent eight_bit (b ∷ bs) = sent eight_bit b ∷ all_sent eight_bit bs
+abbrev pub all_sent : Option Table → List ℕ → List ℕ
+all_sent table [] = []
+all_sent table (b ∷ bs) = sent table b ∷ all_sent table bs
 
--- what is said; letters of Latin-1 may stay single bytes
-abbrev pub text_of : Bool → Said → List ℕ
-text_of eight_bit Nothing = []
-text_of eight_bit (Byte b) = b ∷ []
-text_of eight_bit (Kept name) = name
-text_of eight_bit (Hang number) = codes ".ti " ++ number ++ codes "\n\\&"
-text_of eight_bit (Escape b) = 92 ∷ b ∷ []
-text_of eight_bit (Font letter) = 92 ∷ 102 ∷ letter ∷ []
-text_of eight_bit Quotes = codes "\"\""
-text_of eight_bit (Comment true) = codes ".\\\""
-text_of eight_bit (Comment false) = codes "\\\""
-text_of eight_bit (Character c) = likeness eight_bit c
-text_of eight_bit (Struck c) = struck_like eight_bit c
-text_of eight_bit (Arguments doubled) = arguments doubled false
-text_of eight_bit (QuotedArguments doubled) = arguments doubled true
+-- a byte, or else what was kept
+abbrev pub byte_or_kept : Option ℕ → List ℕ → List ℕ
+byte_or_kept None kept = kept
+byte_or_kept (Some b) kept = b ∷ []
+
+-- what is said; characters of the table in force are bytes
+abbrev pub text_of : Option Table → Said → List ℕ
+text_of table Nothing = []
+text_of table (Byte b) = b ∷ []
+text_of table (Kept name) = name
+text_of table (Native name c) = byte_or_kept (byte_in_force table c) name
+text_of table (Hang number) = codes ".ti " ++ number ++ codes "\n\\&"
+text_of table (Escape b) = 92 ∷ b ∷ []
+text_of table (Font letter) = 92 ∷ 102 ∷ letter ∷ []
+text_of table Quotes = codes "\"\""
+text_of table (Comment true) = codes ".\\\""
+text_of table (Comment false) = codes "\\\""
+text_of table (Character c) = likeness table c
+text_of table (Struck c) = struck_like table c
+text_of table (Arguments doubled) = arguments doubled false
+text_of table (QuotedArguments doubled) = arguments doubled true
 
 -- the bytes that go out for it
-abbrev pub bytes_of : Bool → Said → List ℕ
-bytes_of eight_bit said = all_sent eight_bit (text_of eight_bit said)
+abbrev pub bytes_of : Option Table → Said → List ℕ
+bytes_of table said = all_sent table (text_of table said)

@@ -347,13 +347,25 @@ impl Half {
         }
     }
 
+    /// A character that the language has: it goes out as it was kept, or as a byte.
+    fn native(&mut self, code: Option<u32>) -> Seen
+        ensures { met self.new result ≡ specs.native code self.old }
+    {
+        let Some(code) = code else {
+            return self.ended_kept();
+        };
+        let kept = self.kept;
+        self.places(false);
+        self.ended(Said::Native(kept, code))
+    }
+
     /// A character by its name.
     fn glyph(&mut self) -> Seen
         ensures { met self.new result ≡ specs.glyph self.old }
     {
         let name = self.spelled;
         if is_native(name.as_bytes()) && !self.escape.is_delimited() {
-            return self.ended_kept();
+            return self.native(glyph_code(name.as_bytes()));
         }
         if is_pair(name.as_bytes(), b'*', b'W') {
             if matches!(self.line, Line::Translation) {

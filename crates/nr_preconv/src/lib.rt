@@ -1,7 +1,7 @@
 //! What manual pages use, turned into the language of the formatter.
 //!
-//! It stands on nr_units. To read: `numbers`, `pairs`, `glyphs`; `signs`, `likeness`, `said`; `words`, `half`;
-//! `beginnings`, `lines`, `conditions`, `escapes`; `meeting`, which puts them together; `reader`, `running`;
+//! It stands on nr_units and nr_characters. To read: `numbers`, `pairs`, `glyphs`; `signs`, `likeness`, `said`; `words`, `half`;
+//! `beginnings`, `lines`, `conditions`, `escapes`; `meeting`, which puts them together; `runs`, `reader`, `running`;
 //! `plain_text`.
 #![tactic(auto)]
 
@@ -19,6 +19,7 @@ mod pairs;
 mod plain_text;
 mod reader;
 mod running;
+mod runs;
 mod said;
 mod signs;
 mod words;

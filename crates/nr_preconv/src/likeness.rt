@@ -1,8 +1,9 @@
 //! What a character looks like.
 ghost use Rattle.std.specs.Prelude.{◌≡◌, ◌+◌, ◌≤◌, ◌<◌, ◌++◌, length};
-ghost use Rattle.nr_preconv.specs.Likeness.{ascii_like, before_nul, beyond_like, box_like, code_told, hex_digit, is_blank, is_latin_letter, is_mark, letter_in, likeness, plain_letter, sign_like, sign_text, struck_like, text_in, word_text};
+ghost use Rattle.nr_preconv.specs.Likeness.{ascii_like, before_nul, beyond_like, box_like, byte_in_force, code_told, hex_digit, is_blank, is_latin_letter, is_mark, letter_in, likeness, plain_letter, sign_like, sign_text, struck_like, text_in, word_text};
 
 use super::signs::{LATIN, LATIN_ADDITIONAL, SIGNS, WORDS};
+use nr_characters::Table;
 use nr_units::slice_vec::SliceVec;
 
 /// A letter of Latin-1 beyond ASCII.
@@ -10,6 +11,16 @@ pub(crate) fn is_latin_letter(code: u32) -> bool
     ensures { result ≡ is_latin_letter code }
 {
     matches!(code, 0xAA | 0xB5 | 0xBA | 0xC0..=0xD6 | 0xD8..=0xF6 | 0xF8..=0xFF)
+}
+
+/// The byte of a character of the table in force.
+pub(crate) fn byte_in_force(table: Option<Table>, code: u32) -> Option<u8>
+    ensures { result ≡ byte_in_force table code }
+{
+    match table {
+        Some(table) => table.byte(code),
+        None => None,
+    }
 }
 
 /// The letter of a row of letters that begins with `first`, if it has one for the code.
@@ -217,27 +228,27 @@ fn put_ascii(byte: u8, out: &mut SliceVec<'_, u8>)
 }
 
 /// Puts a character with a stroke through it: at most 25 bytes.
-pub(crate) fn put_struck(code: u32, eight_bit: bool, out: &mut SliceVec<'_, u8>)
+pub(crate) fn put_struck(code: u32, table: Option<Table>, out: &mut SliceVec<'_, u8>)
     requires { length out.old.items + 25 ≤ out.old.room }
-    ensures items { out.new.items ≡ out.old.items ++ struck_like eight_bit code }
+    ensures items { out.new.items ≡ out.old.items ++ struck_like table code }
     ensures few { length out.new.items ≤ length out.old.items + 25 }
     ensures room { out.new.room ≡ out.old.room }
 {
     out.push(b'!');
-    put_likeness(code, eight_bit, out);
+    put_likeness(code, table, out);
 }
 
 /// Puts what a character looks like after what goes out: at most 24 bytes.
-pub(crate) fn put_likeness(code: u32, eight_bit: bool, out: &mut SliceVec<'_, u8>)
+pub(crate) fn put_likeness(code: u32, table: Option<Table>, out: &mut SliceVec<'_, u8>)
     requires { length out.old.items + 24 ≤ out.old.room }
-    ensures items { out.new.items ≡ out.old.items ++ likeness eight_bit code }
+    ensures items { out.new.items ≡ out.old.items ++ likeness table code }
     ensures few { length out.new.items ≤ length out.old.items + 24 }
     ensures room { out.new.room ≡ out.old.room }
 {
     if code < 128 {
         put_ascii(code as u8, out);
-    } else if eight_bit && code < 256 && is_latin_letter(code) {
-        out.push(code as u8);
+    } else if let Some(byte) = byte_in_force(table, code) {
+        out.push(byte);
     } else {
         put_beyond(code, out);
     }

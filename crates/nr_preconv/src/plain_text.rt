@@ -1,5 +1,6 @@
 //! Text that goes out as it is.
-ghost use Rattle.std.specs.Prelude.{◌≡◌, Bool, IsTrue, length};
+ghost use Rattle.std.specs.Prelude.{◌≡◌, IsTrue, Option, length};
+ghost use Rattle.nr_characters.specs.declared.table.Table.{Table};
 ghost use Rattle.nr_preconv.specs.PlainText.{goes_on, is_plain_text};
 ghost use Rattle.nr_preconv.specs.Reading.{converted, steps_of};
 
@@ -14,8 +15,8 @@ fn goes_on(starts: bool, byte: u8) -> bool
 /// text is what `convert` makes of it, in one step for each byte.
 pub fn passes_unchanged(text: &[u8]) -> bool
     ensures value { result ≡ is_plain_text text.now }
-    ensures law { IsTrue result → (eight_bit : Bool) → converted eight_bit text.now ≡ text.now }
-    ensures steps { IsTrue result → (eight_bit : Bool) → steps_of eight_bit text.now ≡ length text.now }
+    ensures law { IsTrue result → (table : Option Table) → converted table text.now ≡ text.now }
+    ensures steps { IsTrue result → (table : Option Table) → steps_of table text.now ≡ length text.now }
 {
     let mut starts = true;
     for byte in text {

@@ -1,10 +1,14 @@
 //! Bytes become characters: UTF-8, and Latin-1 where they are none.
-ghost use Rattle.std.specs.Prelude.{◌≡◌, ◌+◌, ◌*◌, ◌<◌, ◌≤◌, ◌∷◌, ◌++◌, [], length, true, false};
+ghost use Rattle.std.specs.Prelude.{◌≡◌, ◌+◌, ◌*◌, ◌<◌, ◌≤◌, ◌∷◌, ◌++◌, [], length, take, true, false};
 ghost use Rattle.nr_preconv.specs.declared.reader.Pending.TheVariants.{Nothing};
+ghost use Rattle.nr_preconv.specs.Runs.{dot};
 ghost use Rattle.nr_preconv.specs.Reading as specs;
 
 use super::half::{Coming, Half, Line};
+use super::runs::{begins_font, begins_minus};
 use super::said::{may_go_out, put_sent, say, sent};
+use nr_characters::Table;
+use nr_units::Name;
 use nr_units::slice_vec::SliceVec;
 
 /// What was read of a character of several bytes.
@@ -27,9 +31,21 @@ pub(crate) struct Reader {
     pub half: Half,
     /// Of a character.
     pub pending: Pending,
-    /// Letters of Latin-1 stay single bytes.
-    pub eight_bit: bool,
+    /// What bytes from 128 on stand for, if anything.
+    pub table: Option<Table>,
 }
+
+/// So many bytes were taken, in so many steps.
+#[derive(Clone, Copy)]
+pub(crate) struct Taken {
+    /// How many bytes.
+    pub count: usize,
+    /// How many steps.
+    pub steps: u64,
+}
+
+/// How many bytes go out for one that comes, at most, and how many are taken at once.
+pub(crate) const MOST: usize = 1536;
 
 /// How often a character is met at most.
 const MEETINGS: u8 = 6;
@@ -71,13 +87,13 @@ fn low_six(byte: u8) -> u32
 
 impl Reader {
     /// A page begins.
-    pub(crate) fn new(eight_bit: bool) -> Reader
-        ensures { result ≡ specs.first_reader eight_bit }
+    pub(crate) fn new(table: Option<Table>) -> Reader
+        ensures { result ≡ specs.first_reader table }
     {
         Reader {
             half: Half::new(),
             pending: Pending::Nothing,
-            eight_bit,
+            table,
         }
     }
 
@@ -95,7 +111,7 @@ impl Reader {
             return 0;
         }
         let seen = self.half.meet(coming);
-        say(seen.said, self.eight_bit, out);
+        say(seen.said, self.table, out);
         if seen.takes {
             return 1;
         }
@@ -152,6 +168,7 @@ impl Reader {
     }
 
     /// A byte comes, and no part of a character is pending.
+    #[inline]
     fn hear_fresh(&mut self, byte: u8, out: &mut SliceVec<'_, u8>) -> u64
         requires { length out.old.items + 384 ≤ out.old.room }
         ensures reader { self.new ≡ (specs.fresh byte self.old).reader }
@@ -199,6 +216,7 @@ impl Reader {
     }
 
     /// A byte comes that is read.
+    #[inline]
     fn hear_byte(&mut self, byte: u8, out: &mut SliceVec<'_, u8>) -> u64
         requires { length out.old.items + 1536 ≤ out.old.room }
         ensures reader { self.new ≡ (specs.heard_byte byte self.old).reader }
@@ -209,6 +227,7 @@ impl Reader {
         ensures room { out.new.room ≡ out.old.room }
     {
         match self.pending {
+            Pending::Nothing => self.hear_fresh(byte, out),
             Pending::One(a) if is_second(a, byte) => {
                 if a < 0xE0 {
                     let code = u32::from(a % 32) * 64 + low_six(byte);
@@ -239,6 +258,7 @@ impl Reader {
     }
 
     /// A byte comes. At most 1536 bytes go out, in 24 steps at most.
+    #[inline]
     pub(crate) fn read(&mut self, byte: u8, out: &mut SliceVec<'_, u8>) -> u64
         requires { length out.old.items + 1536 ≤ out.old.room }
         ensures reader { self.new ≡ (specs.read byte self.old).reader }
@@ -250,7 +270,7 @@ impl Reader {
     {
         if self.half.is_raw() {
             self.half.passes(byte);
-            out.push(sent(self.eight_bit, byte));
+            out.push(sent(self.table, byte));
             return 1;
         }
         self.hear_byte(byte, out)
@@ -266,9 +286,9 @@ impl Reader {
         ensures room { out.new.room ≡ out.old.room }
     {
         let steps = self.hear_pending(out);
-        put_sent(self.half.kept.as_bytes(), self.eight_bit, out);
+        put_sent(self.half.kept.as_bytes(), self.table, out);
         if matches!(self.half.line, Line::Control | Line::Name | Line::Asked(_)) {
-            put_sent(self.half.name.as_bytes(), self.eight_bit, out);
+            put_sent(self.half.name.as_bytes(), self.table, out);
         }
         steps
     }
@@ -281,7 +301,7 @@ impl Reader {
         ensures pending { self.new.pending ≡ Nothing }
     {
         if self.half.is_raw() {
-            if !may_go_out(self.eight_bit, byte) {
+            if !may_go_out(self.table, byte) {
                 return false;
             }
             self.half.passes(byte);
@@ -294,19 +314,115 @@ impl Reader {
         true
     }
 
-    /// Takes those of these bytes that come first and go out as they are, each in one step.
-    pub(crate) fn pass(&mut self, bytes: &[u8]) -> usize
+    /// Takes those of these bytes that come first and go out as they are, each in one step: a run of those that
+    /// only go on the line, or one byte. There may be none.
+    fn pass(&mut self, bytes: &[u8]) -> usize
+        requires { 0 < length bytes.now }
         ensures within { result ≤ length bytes.now }
         ensures plain { specs.Passes result bytes.now self.old self.new }
     {
         if !matches!(self.pending, Pending::Nothing) {
             return 0;
         }
-        for (i, byte) in bytes.iter().enumerate() {
-            if !self.passes(*byte) {
-                return i;
-            }
+        let run = self.half.run_len(bytes);
+        if run > 0 {
+            self.half.takes(bytes[run - 1]);
+            return run;
         }
-        bytes.len()
+        if bytes[0] == b'\\' {
+            return self.pass_escape(bytes);
+        }
+        if self.passes(bytes[0]) { 1 } else { 0 }
+    }
+
+    /// Takes a minus sign or a font that these bytes begin with, each byte in one step, and tells their number.
+    fn pass_escape(&mut self, bytes: &[u8]) -> usize
+        requires { self.old.pending ≡ Nothing }
+        ensures within { result ≤ length bytes.now }
+        ensures plain { specs.Passes result bytes.now self.old self.new }
+    {
+        if !self.half.takes_plain_escape() {
+            return 0;
+        }
+        if begins_minus(bytes) {
+            self.half.takes_minus();
+            return 2;
+        }
+        if begins_font(bytes) {
+            self.half.takes_font();
+            return 3;
+        }
+        0
+    }
+
+    /// Takes a dot and a name that these bytes begin with, each in one step, and tells how long the name is.
+    fn pass_name(&mut self, bytes: &[u8]) -> usize
+        ensures few { result ≤ 32 }
+        ensures within { 0 < result → result + 1 ≤ length bytes.now }
+        ensures none { result ≡ 0 → self.new ≡ self.old }
+        ensures named { 0 < result → specs.fed self.old (take (result + 1) bytes.now) ≡ specs.told self.new dot (result + 1) }
+    {
+        if !matches!(self.pending, Pending::Nothing) {
+            return 0;
+        }
+        let len = self.half.name_len(bytes);
+        if len > 0 {
+            let rest = &bytes[1..];
+            self.half.takes_name(Name::of(&rest[..len]));
+            return len;
+        }
+        0
+    }
+
+    /// Takes those of these bytes that come first: a run, or one. Tells how many, and in how many steps.
+    fn take_front(&mut self, bytes: &[u8], out: &mut SliceVec<'_, u8>) -> Taken
+        requires some { 0 < length bytes.now }
+        requires few { length bytes.now ≤ 1536 }
+        requires room { length out.old.items + 1536 ≤ out.old.room }
+        ensures taken { specs.Takes result.count bytes.now self.old self.new out.old.items out.new.items result.steps }
+        ensures within { result.count ≤ length bytes.now }
+        ensures some { 0 < result.count }
+        ensures few { length out.new.items ≤ length out.old.items + 1536 * result.count }
+        ensures quick { result.steps ≤ 24 * result.count }
+        ensures room { out.new.room ≡ out.old.room }
+    {
+        let run = self.pass(bytes);
+        if run > 0 {
+            out.extend_front(bytes, run);
+            return Taken {
+                count: run,
+                steps: run as u64,
+            };
+        }
+        let len = self.pass_name(bytes);
+        if len > 0 {
+            out.push(b'.');
+            return Taken {
+                count: len + 1,
+                steps: len as u64 + 1,
+            };
+        }
+        let steps = self.read(bytes[0], out);
+        Taken { count: 1, steps }
+    }
+
+    /// Takes these bytes, at most 1536, one after another while there is room for what one of them may say.
+    /// Tells how many, and in how many steps.
+    pub(crate) fn take(&mut self, bytes: &[u8], out: &mut SliceVec<'_, u8>) -> Taken
+        requires { length bytes.now ≤ 1536 }
+        ensures taken { specs.Takes result.count bytes.now self.old self.new out.old.items out.new.items result.steps }
+        ensures within { result.count ≤ length bytes.now }
+        ensures few { length out.new.items ≤ length out.old.items + 1536 * result.count }
+        ensures quick { result.steps ≤ 24 * result.count }
+        ensures room { out.new.room ≡ out.old.room }
+    {
+        let mut count = 0;
+        let mut steps = 0;
+        while count < bytes.len() && out.room() - out.len() >= MOST {
+            let more = self.take_front(&bytes[count..], out);
+            count += more.count;
+            steps += more.steps;
+        }
+        Taken { count, steps }
     }
 }

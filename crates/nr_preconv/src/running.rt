@@ -1,5 +1,5 @@
 //! A whole page is turned.
-ghost use Rattle.std.specs.Prelude.{◌≡◌, ◌+◌, ◌<◌, ◌≤◌, [], ℕ, List, length, true, false, OnOk, encode_utf8_all};
+ghost use Rattle.std.specs.Prelude.{◌≡◌, ◌+◌, ◌*◌, ◌<◌, ◌≤◌, [], ℕ, List, length, true, false, OnOk, encode_utf8_all};
 ghost use Rattle.std.specs.Str.{all_scalars};
 ghost use Rattle.std.specs.Io.KnownBytes.{Appends};
 ghost use Rattle.nr_units.specs.Failures.{counted_if, put_counted, put_counted_if};
@@ -8,16 +8,14 @@ ghost use Rattle.nr_preconv.specs.Characters.{read_characters};
 ghost use Rattle.nr_preconv.specs.Unread.{CommentsAreUnread, IgnoredLinesAreUnread};
 ghost use Rattle.nr_preconv.specs.Running as specs;
 
-use super::reader::Reader;
+use super::reader::{MOST, Reader, Taken};
+use nr_characters::Table;
 use nr_units::sink::Sink;
 use nr_units::slice_vec::SliceVec;
 use nr_units::source::{Fault, Source};
 
 /// The number of bytes that are too many.
 const TOO_MANY: u64 = 1_099_511_627_776;
-
-/// How many bytes go out for one that comes, at most, and how many plain ones are taken at once.
-const MOST: usize = 1536;
 
 /// How a run ended.
 #[derive(Clone, Copy, Debug, PartialEq, Eq)]
@@ -74,29 +72,29 @@ fn make_room<W: Sink>(out: &mut SliceVec<'_, u8>, output: &mut W) -> Result<(), 
     put_pending(out, output)
 }
 
-/// Plain bytes at hand are taken, each in one step, and tells how many.
-fn take_plain<R: Source>(
+/// Bytes at hand are taken, one after another. Tells how many, and in how many steps.
+fn take_some<R: Source>(
     reader: &mut Reader,
     input: &mut R,
     out: &mut SliceVec<'_, u8>,
     most: u64,
-) -> u64
+) -> Taken
     requires { length out.old.items + 1536 ≤ out.old.room }
-    ensures took { specs.Took (R.supply input.old) (R.supply input.new) reader.old reader.new out.old.items out.new.items result result }
-    ensures few { (result ≤ 1536) × (result ≤ most) }
-    ensures grown { length out.new.items ≤ length out.old.items + result }
+    ensures took { specs.Took (R.supply input.old) (R.supply input.new) reader.old reader.new out.old.items out.new.items result.count result.steps }
+    ensures few { result.count ≤ most }
+    ensures grown { length out.new.items ≤ length out.old.items + 1536 * result.count }
+    ensures quick { result.steps ≤ 24 * result.count }
     ensures failures { R.failures input.new ≡ R.failures input.old }
     ensures room { out.new.room ≡ out.old.room }
 {
     let window = input.window();
     let len = window.len().min(MOST).min(most as usize);
-    let count = reader.pass(&window[..len]);
-    out.extend(&window[..count]);
-    input.skip(count);
-    count as u64
+    let taken = reader.take(&window[..len], out);
+    input.skip(taken.count);
+    taken
 }
 
-/// One turn: plain bytes at hand are taken, or one byte.
+/// One turn: bytes at hand are taken, or the next byte.
 fn make_turn<R: Source>(
     reader: &mut Reader,
     input: &mut R,
@@ -110,11 +108,11 @@ fn make_turn<R: Source>(
     ensures failures { R.failures input.new ≡ counted_if (specs.is_fault result) (R.failures input.old) }
     ensures room { out.new.room ≡ out.old.room }
 {
-    let count = take_plain(reader, input, out, most);
-    if count > 0 {
+    let taken = take_some(reader, input, out, most);
+    if taken.count > 0 {
         return Turn::Took {
-            bytes: count,
-            steps: count,
+            bytes: taken.count as u64,
+            steps: taken.steps,
         };
     }
     match input.next() {
@@ -149,10 +147,10 @@ fn run<R: Source, W: Sink>(
     out: &mut SliceVec<'_, u8>,
     steps: &mut u64,
 ) -> Outcome
-    requires first { reader.old ≡ first_reader reader.old.eight_bit }
+    requires first { reader.old ≡ first_reader reader.old.table }
     requires room { 1536 ≤ out.old.room }
     requires empty { out.old.items ≡ [] }
-    ensures ran { specs.Ran reader.old.eight_bit (R.supply input.old) (R.supply input.new) (W.held output.old) (W.held output.new) steps.new result }
+    ensures ran { specs.Ran reader.old.table (R.supply input.old) (R.supply input.new) (W.held output.old) (W.held output.new) steps.new result }
     ensures read_faults { specs.TellsReads result (R.failures input.old) (R.failures input.new) }
     ensures write_faults { W.failures output.new ≡ put_counted_if (specs.is_write_fault result) (W.failures output.old) }
 {
@@ -179,7 +177,7 @@ fn run<R: Source, W: Sink>(
 }
 
 /// Turns what the input gives into the language of the formatter, and puts it to the output, which is not
-/// flushed. With `eight_bit` letters of Latin-1 stay single bytes. The buffer, of 1536 bytes at least,
+/// flushed. Characters of the table become its bytes. The buffer, of 1536 bytes at least,
 /// holds what goes out; what it held is of no account. Nothing is allocated.
 ///
 /// What goes out is one function of the bytes that came, however they came. At a read fault, and where the
@@ -191,12 +189,12 @@ fn run<R: Source, W: Sink>(
 pub fn convert<R: Source, W: Sink>(
     input: &mut R,
     output: &mut W,
-    eight_bit: bool,
+    table: Option<Table>,
     buffer: &mut [u8],
     steps: &mut u64,
 ) -> Outcome
     requires { 1536 ≤ length buffer.old }
-    ensures ran { specs.Ran eight_bit (R.supply input.old) (R.supply input.new) (W.held output.old) (W.held output.new) steps.new result }
+    ensures ran { specs.Ran table (R.supply input.old) (R.supply input.new) (W.held output.old) (W.held output.new) steps.new result }
     // A read fault is told only where the source failed once, and then always, but where the output fails too.
     ensures read_faults { specs.TellsReads result (R.failures input.old) (R.failures input.new) }
     ensures write_faults { W.failures output.new ≡ put_counted_if (specs.is_write_fault result) (W.failures output.old) }
@@ -204,9 +202,9 @@ pub fn convert<R: Source, W: Sink>(
     ensures comments { CommentsAreUnread }
     ensures ignored { IgnoredLinesAreUnread }
     // A text in UTF-8 is read as its characters.
-    ensures characters { (cs : List ℕ) → all_scalars cs ≡ true → fed (first_reader eight_bit) (encode_utf8_all cs) ≡ read_characters (first_reader eight_bit) cs }
+    ensures characters { (cs : List ℕ) → all_scalars cs ≡ true → fed (first_reader table) (encode_utf8_all cs) ≡ read_characters (first_reader table) cs }
 {
-    let mut reader = Reader::new(eight_bit);
+    let mut reader = Reader::new(table);
     let mut out = SliceVec::over(buffer);
     run(&mut reader, input, output, &mut out, steps)
 }

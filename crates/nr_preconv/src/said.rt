@@ -2,7 +2,8 @@
 ghost use Rattle.std.specs.Prelude.{◌≡◌, ◌+◌, ◌≤◌, ◌++◌, length};
 ghost use Rattle.nr_preconv.specs.Saying.{all_sent, arguments, bytes_of, may_go_out, sent, text_of};
 
-use super::likeness::{put_likeness, put_struck};
+use super::likeness::{byte_in_force, put_likeness, put_struck};
+use nr_characters::Table;
 use nr_units::Name;
 use nr_units::slice_vec::SliceVec;
 
@@ -17,6 +18,8 @@ pub(crate) enum Said {
     Kept(Name),
     /// `.ti` and this number, as a line, and the beginning of a text line.
     Hang(Name),
+    /// What was kept, the name of a character that the language has.
+    Native(Name, u32),
     /// `\` and this byte.
     Escape(u8),
     /// `\f` and this letter.
@@ -51,40 +54,42 @@ fn arguments(doubled: bool, quoted: bool) -> &'static [u8]
     }
 }
 
-/// Whether a byte may go out: one of ASCII, and with `eight_bit` one that Latin-1 shows.
-pub(crate) fn may_go_out(eight_bit: bool, byte: u8) -> bool
-    ensures { result ≡ may_go_out eight_bit byte }
+/// Whether a byte may go out: one of ASCII, and one that the table in force has.
+pub(crate) fn may_go_out(table: Option<Table>, byte: u8) -> bool
+    ensures { result ≡ may_go_out table byte }
 {
-    byte < 127 || (eight_bit && byte >= 160)
-}
-
-/// The byte that goes out for one.
-pub(crate) fn sent(eight_bit: bool, byte: u8) -> u8
-    ensures { result ≡ sent eight_bit byte }
-{
-    if may_go_out(eight_bit, byte) {
-        byte
-    } else {
-        b'?'
+    if byte < 127 {
+        return true;
+    }
+    match table {
+        Some(table) => table.character(byte).is_some(),
+        None => false,
     }
 }
 
+/// The byte that goes out for one.
+pub(crate) fn sent(table: Option<Table>, byte: u8) -> u8
+    ensures { result ≡ sent table byte }
+{
+    if may_go_out(table, byte) { byte } else { b'?' }
+}
+
 /// Puts these bytes, as they may go out, after what goes out.
-pub(crate) fn put_sent(text: &[u8], eight_bit: bool, out: &mut SliceVec<'_, u8>)
+pub(crate) fn put_sent(text: &[u8], table: Option<Table>, out: &mut SliceVec<'_, u8>)
     requires { length out.old.items + length text.now ≤ out.old.room }
-    ensures items { out.new.items ≡ out.old.items ++ all_sent eight_bit text.now }
+    ensures items { out.new.items ≡ out.old.items ++ all_sent table text.now }
     ensures few { length out.new.items ≤ length out.old.items + length text.now }
     ensures room { out.new.room ≡ out.old.room }
 {
     for byte in text {
-        out.push(sent(eight_bit, *byte));
+        out.push(sent(table, *byte));
     }
 }
 
 /// Puts what is said: at most 64 bytes.
-fn put_said(said: Said, eight_bit: bool, out: &mut SliceVec<'_, u8>)
+fn put_said(said: Said, table: Option<Table>, out: &mut SliceVec<'_, u8>)
     requires { length out.old.items + 64 ≤ out.old.room }
-    ensures items { out.new.items ≡ out.old.items ++ text_of eight_bit said }
+    ensures items { out.new.items ≡ out.old.items ++ text_of table said }
     ensures few { length out.new.items ≤ length out.old.items + 64 }
     ensures room { out.new.room ≡ out.old.room }
 {
@@ -92,6 +97,10 @@ fn put_said(said: Said, eight_bit: bool, out: &mut SliceVec<'_, u8>)
         Said::Nothing => {}
         Said::Byte(byte) => out.push(byte),
         Said::Kept(name) => out.extend(name.as_bytes()),
+        Said::Native(name, code) => match byte_in_force(table, code) {
+            Some(byte) => out.push(byte),
+            None => out.extend(name.as_bytes()),
+        },
         Said::Hang(number) => {
             out.extend(b".ti ");
             out.extend(number.as_bytes());
@@ -102,39 +111,39 @@ fn put_said(said: Said, eight_bit: bool, out: &mut SliceVec<'_, u8>)
         Said::Quotes => out.extend(b"\"\""),
         Said::Comment(true) => out.extend(b".\\\""),
         Said::Comment(false) => out.extend(b"\\\""),
-        Said::Character(code) => put_likeness(code, eight_bit, out),
-        Said::Struck(code) => put_struck(code, eight_bit, out),
+        Said::Character(code) => put_likeness(code, table, out),
+        Said::Struck(code) => put_struck(code, table, out),
         Said::Arguments(doubled) => out.extend(arguments(doubled, false)),
         Said::QuotedArguments(doubled) => out.extend(arguments(doubled, true)),
     }
 }
 
 /// Puts what is said, as it may go out, by way of a buffer: at most 64 bytes.
-fn say_through(said: Said, eight_bit: bool, out: &mut SliceVec<'_, u8>)
+fn say_through(said: Said, table: Option<Table>, out: &mut SliceVec<'_, u8>)
     requires { length out.old.items + 64 ≤ out.old.room }
-    ensures items { out.new.items ≡ out.old.items ++ bytes_of eight_bit said }
+    ensures items { out.new.items ≡ out.old.items ++ bytes_of table said }
     ensures few { length out.new.items ≤ length out.old.items + 64 }
     ensures room { out.new.room ≡ out.old.room }
 {
     let mut bytes = [0; 64];
     let mut text = SliceVec::over(&mut bytes);
-    put_said(said, eight_bit, &mut text);
-    put_sent(text.as_slice(), eight_bit, out);
+    put_said(said, table, &mut text);
+    put_sent(text.as_slice(), table, out);
 }
 
 /// Puts what is said, as it may go out, after what goes out: at most 64 bytes.
-pub(crate) fn say(said: Said, eight_bit: bool, out: &mut SliceVec<'_, u8>)
+pub(crate) fn say(said: Said, table: Option<Table>, out: &mut SliceVec<'_, u8>)
     requires { length out.old.items + 64 ≤ out.old.room }
-    ensures items { out.new.items ≡ out.old.items ++ bytes_of eight_bit said }
+    ensures items { out.new.items ≡ out.old.items ++ bytes_of table said }
     ensures few { length out.new.items ≤ length out.old.items + 64 }
     ensures room { out.new.room ≡ out.old.room }
 {
     match said {
         Said::Nothing => {}
-        Said::Byte(byte) => out.push(sent(eight_bit, byte)),
-        Said::Kept(name) => put_sent(name.as_bytes(), eight_bit, out),
-        Said::Escape(byte) => put_sent(&[b'\\', byte], eight_bit, out),
-        Said::Font(letter) => put_sent(&[b'\\', b'f', letter], eight_bit, out),
-        _ => say_through(said, eight_bit, out),
+        Said::Byte(byte) => out.push(sent(table, byte)),
+        Said::Kept(name) => put_sent(name.as_bytes(), table, out),
+        Said::Escape(byte) => put_sent(&[b'\\', byte], table, out),
+        Said::Font(letter) => put_sent(&[b'\\', b'f', letter], table, out),
+        _ => say_through(said, table, out),
     }
 }

@@ -1,8 +1,14 @@
 -- What the words of the command line come to.
-use Rattle.std.specs.Prelude.{◌≡◌, ℕ, List, [], ◌∷◌, length, take, map, Bool, false, ◌==◌, nat_lt, Some, Result, Ok, Err, codes, slice_get}
+use Prim.Native.Char.{code}
+use Rattle.std.specs.Prelude.{ℕ, ◌+◌, ◌<◌, ◌≤◌, List, [], ◌∷◌, map, Bool, true, false, not, ◌==◌, if◌then◌else◌, Option, None, Some, Result, Ok, Err, codes}
 use Rattle.std.specs.Borrow.{Bor}
-use Rattle.std.specs.List.{take_while, All}
+use Rattle.std.specs.Str.{bytes_eq}
+use Rattle.nr_characters.specs.declared.table.Table.{Table}
+use Rattle.nr_characters.specs.declared.table.Table.TheVariants.{Latin1}
+use Rattle.nr_characters.specs.Tables.{table_named}
 use Rattle.preconv.specs.declared.words.Job.{Job}
+use Rattle.preconv.specs.declared.words.Wrong.{Wrong}
+use Rattle.preconv.specs.declared.words.Wrong.TheVariants.{UnknownOption, UnknownTable, NoTable}
 
 -- the texts that references point to
 abbrev pub texts : List (Bor (List ℕ)) → List (List ℕ)
@@ -12,29 +18,32 @@ texts words = map (λ (word : Bor (List ℕ)). word.now) words
 abbrev pub is_option : List ℕ → Bool
 is_option [] = false
 is_option (byte ∷ []) = false
-is_option (byte ∷ next ∷ rest) = byte == 45
+is_option (byte ∷ next ∷ rest) = byte == code "-"
 
--- the words before the first that is no option
-abbrev pub options : List (List ℕ) → List (List ℕ)
-options words = take_while is_option words
+abbrev pub job : Option Table → ℕ → Result Job Wrong
+job table place = Ok (record { table = table; files = place })
 
--- the option of the program
-abbrev pub IsKnown : List ℕ → Type 0
-IsKnown word = word ≡ codes "-8"
+-- what a name comes to that stands at this place
+abbrev pub with_table : ℕ → Option Table → (Table → Result Job Wrong) → Result Job Wrong
+with_table place None next = Err (UnknownTable place)
+with_table place (Some table) next = next table
 
--- each option is known, and this is what is asked for
-pub record IsGood (words : List (List ℕ)) (job : Job) : Type 0 where
-  pub known : All IsKnown (options words)
-  pub job_is : job ≡ record { eight_bit = nat_lt 0 (length (options words)); files = length (options words) }
+-- Options from this place on, up to the first file: `-8`, and `-u` with a table, whose name may be awaited. The last of them counts.
+abbrev pub asked_from : Bool → Option Table → ℕ → List (List ℕ) → Result Job Wrong
+asked_from true table place [] = Err NoTable
+asked_from false table place [] = job table place
+asked_from true table place (name ∷ words) = with_table place (table_named name) (λ t. asked_from false (Some t) (place + 1) words)
+asked_from false table place (word ∷ words) =
+    if not (is_option word) then job table place else
+    if bytes_eq word (codes "-8") then asked_from false (Some Latin1) (place + 1) words else
+    if bytes_eq word (codes "-u") then asked_from true table (place + 1) words else Err (UnknownOption place)
 
--- the place of the first option that is not known
-pub record IsFirstBad (words : List (List ℕ)) (place : ℕ) : Type 0 where
-  pub known : All IsKnown (take place (options words))
-  pub word : List ℕ
-  pub there : slice_get (options words) place ≡ Some word
-  pub unknown : ¬ IsKnown word
+abbrev pub asked : List (List ℕ) → Result Job Wrong
+asked words = asked_from false None 0 words
 
--- what the words come to: a job, or the first bad word
-abbrev pub IsAnswer : List (List ℕ) → Result Job ℕ → Type 0
-IsAnswer words (Ok job) = IsGood words job
-IsAnswer words (Err place) = IsFirstBad words place
+-- no place lies after that of the last of so many words, but that of the first file where there is none
+abbrev pub IsWithin : ℕ → Result Job Wrong → Type 0
+IsWithin count (Ok job) = job.files ≤ count
+IsWithin count (Err (UnknownOption place)) = place < count
+IsWithin count (Err (UnknownTable place)) = place < count
+IsWithin count (Err NoTable) = Unit {0}

@@ -15,7 +15,11 @@ pub enum Ending<'a> {
     /// The output failed at its end.
     WriteFault,
     /// A word that is no option.
-    BadWord(&'a str),
+    UnknownOption(&'a str),
+    /// A word that is no table.
+    UnknownTable(&'a str),
+    /// No word behind `-u` names a table.
+    NoTable,
     /// A file that can't be opened.
     CannotOpen(&'a str),
     /// There was not enough memory for the words, the files or the buffers.
@@ -27,7 +31,7 @@ fn status(ending: Ending<'_>) -> u8 {
     match ending {
         Ending::Done | Ending::Stopped(_, Outcome::Done) => 0,
         Ending::Stopped(_, Outcome::TooLong) => 1,
-        Ending::BadWord(_) => 2,
+        Ending::UnknownOption(_) | Ending::UnknownTable(_) | Ending::NoTable => 2,
         Ending::Stopped(_, Outcome::ReadFault { .. }) | Ending::CannotOpen(_) => 3,
         Ending::Stopped(_, Outcome::WriteFault) | Ending::WriteFault => 4,
         Ending::OutOfMemory => 5,
@@ -63,7 +67,9 @@ fn put_ending<W: Sink>(ending: Ending<'_>, errors: &mut W) -> Result<(), Fault> 
         Ending::Stopped(_, Outcome::WriteFault) | Ending::WriteFault => errors.put(
             b"preconv: write fault\n",
         ),
-        Ending::BadWord(word) => put_line(b"preconv: unknown option ", word, errors),
+        Ending::UnknownOption(word) => put_line(b"preconv: unknown option ", word, errors),
+        Ending::UnknownTable(word) => put_line(b"preconv: unknown table ", word, errors),
+        Ending::NoTable => errors.put(b"preconv: no table is named\n"),
         Ending::CannotOpen(name) => put_line(b"preconv: cannot open ", name, errors),
         Ending::OutOfMemory => errors.put(b"preconv: out of memory\n"),
     }

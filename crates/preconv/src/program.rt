@@ -3,7 +3,8 @@ ghost use Rattle.std.specs.Prelude.{◌≤◌, length};
 
 use super::endings::{Ending, tell};
 use super::lines::Lines;
-use super::words::read_words;
+use super::words::{Wrong, read_words};
+use nr_characters::Table;
 use nr_command_line::{SystemWords, words_of};
 use nr_preconv::{Outcome, convert};
 use nr_units::buffered::Buffered;
@@ -60,7 +61,9 @@ fn run_words<'a, R: Files, I: Read + Copy + Drop, W: Sink>(
 ) -> Ending<'a> {
     let job = match read_words(words) {
         Ok(job) => job,
-        Err(place) => return Ending::BadWord(words[place]),
+        Err(Wrong::UnknownOption(place)) => return Ending::UnknownOption(words[place]),
+        Err(Wrong::UnknownTable(place)) => return Ending::UnknownTable(words[place]),
+        Err(Wrong::NoTable) => return Ending::NoTable,
     };
     let texts = match open_all(system, alloc, &words[job.files..]) {
         Ok(texts) => texts,
@@ -72,14 +75,7 @@ fn run_words<'a, R: Files, I: Read + Copy + Drop, W: Sink>(
     let Ok(mut pending) = vec![in alloc; 0u8; BUFFER_SIZE] else {
         return Ending::OutOfMemory;
     };
-    let ending = run_texts(
-        job.eight_bit,
-        texts,
-        standard,
-        output,
-        &mut input,
-        &mut pending,
-    );
+    let ending = run_texts(job.table, texts, standard, output, &mut input, &mut pending);
     match output.flush() {
         Ok(()) => ending,
         Err(_) => Ending::WriteFault,
@@ -125,7 +121,7 @@ fn open_all<'a, R: Files>(
 
 /// Turns one text. What comes of it ends with a newline, if it is not empty.
 fn run_text<T: Read + Drop, W: Sink>(
-    eight_bit: bool,
+    table: Option<Table>,
     text: T,
     output: &mut W,
     input: &mut [u8],
@@ -136,7 +132,7 @@ fn run_text<T: Read + Drop, W: Sink>(
     let mut source = Buffered::over(text, input);
     let mut lines = Lines::over(output);
     let mut steps = 0;
-    let outcome = convert(&mut source, &mut lines, eight_bit, pending, &mut steps);
+    let outcome = convert(&mut source, &mut lines, table, pending, &mut steps);
     if matches!(outcome, Outcome::Done) && lines.end_line().is_err() {
         return Outcome::WriteFault;
     }
@@ -145,7 +141,7 @@ fn run_text<T: Read + Drop, W: Sink>(
 
 /// Turns the texts one after the other, each by itself, up to the first fault.
 fn run_texts<'a, F: Read + Drop, I: Read + Copy + Drop, W: Sink>(
-    eight_bit: bool,
+    table: Option<Table>,
     texts: Vec<Text<'a, F>>,
     standard: I,
     output: &mut W,
@@ -157,8 +153,8 @@ fn run_texts<'a, F: Read + Drop, I: Read + Copy + Drop, W: Sink>(
     for text in texts {
         let Text { name, file } = text;
         let outcome = match file {
-            Some(file) => run_text(eight_bit, file, output, input, pending),
-            None => run_text(eight_bit, standard, output, input, pending),
+            Some(file) => run_text(table, file, output, input, pending),
+            None => run_text(table, standard, output, input, pending),
         };
         if !matches!(outcome, Outcome::Done) {
             return Ending::Stopped(name, outcome);

@@ -1,14 +1,27 @@
 // The words of the command line, and what they ask for.
-ghost use Rattle.std.specs.Prelude.{◌≡◌, ℕ, ◌<◌, ◌≤◌, ◌↔◌, IfErr, IfOk, IsTrue, Result, length};
-ghost use Rattle.preconv.specs.Words.{IsAnswer, IsKnown, is_option, options, texts};
+ghost use Rattle.std.specs.Prelude.{◌≡◌, length};
+ghost use Rattle.preconv.specs.Words.{IsWithin, asked, is_option, texts};
+
+use nr_characters::Table;
 
 /// What the words ask for.
 #[derive(Clone, Copy)]
 pub struct Job {
-    /// Letters of Latin-1 stay single bytes.
-    pub eight_bit: bool,
+    /// What bytes from 128 on stand for, if anything.
+    pub table: Option<Table>,
     /// The place of the first file among the words: there may be none.
     pub files: usize,
+}
+
+/// What is wrong with a word.
+#[derive(Clone, Copy)]
+pub enum Wrong {
+    /// The word at this place is no option.
+    UnknownOption(usize),
+    /// The word at this place is no table.
+    UnknownTable(usize),
+    /// No word stands after the last, which is `-u`.
+    NoTable,
 }
 
 /// Whether a word is an option: it begins with `-` and isn't `-` alone.
@@ -19,44 +32,39 @@ fn is_option(word: &str) -> bool
     bytes.len() > 1 && bytes[0] == b'-'
 }
 
-/// Whether an option is the program's, `-8`.
-fn is_known(option: &str) -> bool
-    ensures { IsTrue result ↔ IsKnown option.now }
+/// Reads the words: options up to the first file, of which the last that names a table counts.
+pub fn read_words(words: &[&str]) -> Result<Job, Wrong>
+    ensures answer { result ≡ asked (texts words.now) }
+    ensures within { IsWithin (length words.now) result }
 {
-    option.as_bytes() == b"-8".as_slice()
-}
-
-/// How many words stand before the files.
-fn options_len(words: &[&str]) -> usize
-    ensures value { result ≡ length (options (texts words.now)) }
-    ensures within { result ≤ length words.now }
-{
-    for (at, word) in words.iter().enumerate() {
-        if !is_option(word) {
-            return at;
+    let mut table = None;
+    let mut awaits = false;
+    for (place, word) in words.iter().enumerate() {
+        let bytes = word.as_bytes();
+        if awaits {
+            match Table::named(word) {
+                Some(named) => table = Some(named),
+                None => return Err(Wrong::UnknownTable(place)),
+            }
+            awaits = false;
+        } else if !is_option(word) {
+            return Ok(Job {
+                table,
+                files: place,
+            });
+        } else if bytes == b"-8".as_slice() {
+            table = Some(Table::Latin1);
+        } else if bytes == b"-u".as_slice() {
+            awaits = true;
+        } else {
+            return Err(Wrong::UnknownOption(place));
         }
     }
-    words.len()
-}
-
-/// Reads the words: options up to the first file. The first that is no option of the program is
-/// told by its place.
-pub fn read_words(words: &[&str]) -> Result<Job, usize>
-    ensures answer { IsAnswer (texts words.now) result }
-
-    // There is no other answer.
-    ensures only { (answer : Result Job ℕ) → IsAnswer (texts words.now) answer → answer ≡ result }
-    ensures files { IfOk result (λ job. job.files ≤ length words.now) }
-    ensures bad { IfErr result (λ place. place < length words.now) }
-{
-    let options = &words[..options_len(words)];
-    for (place, word) in options.iter().enumerate() {
-        if !is_known(word) {
-            return Err(place);
-        }
+    if awaits {
+        return Err(Wrong::NoTable);
     }
     Ok(Job {
-        eight_bit: !options.is_empty(),
-        files: options.len(),
+        table,
+        files: words.len(),
     })
 }

@@ -24,7 +24,7 @@ static TEXTS: [(&str, Page<'static>); 7] = [
     ("cut", Page::Cut(b"a\\~b\n.BR c\\(l")),
 ];
 
-static ROWS: [Row; 15] = [
+static ROWS: [Row; 18] = [
     Row {
         words: &[b"preconv"],
         output: b"cafe\n",
@@ -42,6 +42,25 @@ static ROWS: [Row; 15] = [
         output: b"na\xefve \xe9\n",
         status: 0,
         line: b"",
+    },
+    // Characters of the table are its bytes, by their names too.
+    Row {
+        words: &[b"preconv", b"-u", b"latin", b"quotes"],
+        output: b"\xbaa\xbc \xb4 \\fIb\\fP\n",
+        status: 0,
+        line: b"",
+    },
+    Row {
+        words: &[b"preconv", b"-u"],
+        output: b"",
+        status: 2,
+        line: b"preconv: no table is named\n",
+    },
+    Row {
+        words: &[b"preconv", b"-8", b"-u", b"Latin"],
+        output: b"",
+        status: 2,
+        line: b"preconv: unknown table Latin\n",
     },
     // Standard input stands where it is named, and ends once.
     Row {

@@ -11,4 +11,4 @@ pub returns-clause-ignored : goal.returns-clause-ignored
 returns-clause-ignored g c = ignored-unread
 
 pub returns-clause-characters : goal.returns-clause-characters
-returns-clause-characters g c = λ cs is. fed-characters cs (first_reader c.args.eight_bit) is refl
+returns-clause-characters g c = λ cs is. fed-characters cs (first_reader c.args.table) is refl

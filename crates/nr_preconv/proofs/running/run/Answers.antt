@@ -4,7 +4,7 @@ use Rattle.nr_preconv.proofs.running.run.Goals as goal
 
 pub loop-taken-init : goal.loop-taken-init
 loop-taken-init g c = record {
-  stands = Stands-first c.args.reader.now.eight_bit (g.R.Source.supply c.args.input.now) (g.W.Sink.held c.args.output.now) c.args.out.now.items c.args.reader.now c.requires.first c.requires.empty;
+  stands = Stands-first c.args.reader.now.table (g.R.Source.supply c.args.input.now) (g.W.Sink.held c.args.output.now) c.args.out.now.items c.args.reader.now c.requires.first c.requires.empty;
   source = refl;
   sink = refl;
   room = refl;
@@ -14,13 +14,13 @@ loop-taken-init g c = record {
 
 pub returns-in-Err-clause-ran : goal.returns-in-Err-clause-ran
 returns-in-Err-clause-ran g c =
-    Ran-broken c.args.reader.now.eight_bit (g.R.Source.supply c.args.input.now) (g.R.Source.supply c.loop-taken.input)
+    Ran-broken c.args.reader.now.table (g.R.Source.supply c.args.input.now) (g.R.Source.supply c.loop-taken.input)
     (g.W.Sink.held c.args.output.now) (g.W.Sink.held c.loop-taken.output) (g.W.Sink.held c.make_room.new.output)
     c.loop-taken.out.items c.loop-taken.reader c.loop-taken.taken c.loop-taken.steps c.loop-taken.invariant.stands c.in-Err.ensures.err
 
 pub loop-taken-preserved : goal.loop-taken-preserved
 loop-taken-preserved g c =
-    let e = c.args.reader.now.eight_bit in
+    let e = c.args.reader.now.table in
     let a = g.R.Source.supply c.args.input.now in
     let b = g.R.Source.supply c.loop-taken.input in
     let h = g.W.Sink.held c.args.output.now in
@@ -39,7 +39,7 @@ loop-taken-preserved g c =
 
 pub returns-in-End-clause-ran : goal.returns-in-End-clause-ran
 returns-in-End-clause-ran g c =
-    let e = c.args.reader.now.eight_bit in
+    let e = c.args.reader.now.table in
     let a = g.R.Source.supply c.args.input.now in
     let b = g.R.Source.supply c.loop-taken.input in
     let h = g.W.Sink.held c.args.output.now in
@@ -51,7 +51,7 @@ returns-in-End-clause-ran g c =
 
 pub returns-in-ReadFault-clause-ran : goal.returns-in-ReadFault-clause-ran
 returns-in-ReadFault-clause-ran g c =
-    let e = c.args.reader.now.eight_bit in
+    let e = c.args.reader.now.table in
     let a = g.R.Source.supply c.args.input.now in
     let b = g.R.Source.supply c.loop-taken.input in
     let h = g.W.Sink.held c.args.output.now in
@@ -65,6 +65,6 @@ pub returns-clause-ran : goal.returns-clause-ran
 returns-clause-ran g c =
     let all : c.loop-taken.taken ≡ 1099511627776 =
     (let most = c.loop-taken.invariant.taken in let least = c.loop-taken-test.false in omega (arith, most, least)) in
-    Ran-long c.args.reader.now.eight_bit (g.R.Source.supply c.args.input.now) (g.R.Source.supply c.loop-taken.input)
+    Ran-long c.args.reader.now.table (g.R.Source.supply c.args.input.now) (g.R.Source.supply c.loop-taken.input)
     (g.W.Sink.held c.args.output.now) (g.W.Sink.held c.loop-taken.output) (g.W.Sink.held c.ended-2.new.output)
     c.loop-taken.out.items c.loop-taken.reader c.loop-taken.taken c.loop-taken.steps all c.loop-taken.invariant.stands c.ended-2.result c.ended-2.ensures.ends

@@ -4,7 +4,7 @@ use Rattle.nr_preconv.proofs.running.run.Given as goal
 
 abbrev pub invariant-loop-taken : goal.invariant-loop-taken
 invariant-loop-taken g l = record {
-  stands : Stands l.fn.reader.eight_bit (g.R.Source.supply l.fn.input) (g.R.Source.supply l.input) (g.W.Sink.held l.fn.output) (g.W.Sink.held l.output) l.out.items l.reader l.taken l.steps;
+  stands : Stands l.fn.reader.table (g.R.Source.supply l.fn.input) (g.R.Source.supply l.input) (g.W.Sink.held l.fn.output) (g.W.Sink.held l.output) l.out.items l.reader l.taken l.steps;
   source : g.R.Source.failures l.input ≡ g.R.Source.failures l.fn.input;
   sink : g.W.Sink.failures l.output ≡ g.W.Sink.failures l.fn.output;
   room : l.out.room ≡ l.fn.out.room;

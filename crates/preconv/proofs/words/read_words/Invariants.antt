@@ -1,8 +1,7 @@
--- The options before `place` are known.
-use Rattle.std.proofs.Common.{take}
-use Rattle.std.specs.List.{All}
-use Rattle.preconv.specs.Words.{IsKnown, texts}
+-- The words before `place` are options, of which the last says what is in force.
+use Rattle.std.proofs.Common.{◌≡◌, drop}
+use Rattle.preconv.specs.Words.{asked, asked_from, texts}
 use Rattle.preconv.proofs.words.read_words.Given as goal
 
 abbrev pub invariant-loop-place : goal.invariant-loop-place
-invariant-loop-place l = All IsKnown (texts (take l.place l.options))
+invariant-loop-place l = asked (texts l.words) ≡ asked_from l.awaits l.table l.place (texts (drop l.place l.words))

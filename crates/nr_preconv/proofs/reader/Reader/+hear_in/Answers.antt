@@ -7,7 +7,7 @@ use Rattle.nr_preconv.proofs.reader.Reader.+hear_in.Goals as goal
 pub returns-then-seen-clause-items : goal.returns-then-seen-clause-items
 returns-then-seen-clause-items t c =
     let r = c.args.self.now in
-    let said = bytes_of r.eight_bit c.meet-seen.result.said in
+    let said = bytes_of r.table c.meet-seen.result.said in
     let heard = heard_taken c.args.most c.args.coming r c.meet-seen.new.self c.meet-seen.result c.meet-seen.ensures (omega arith) c.if-seen.true in
     c.say.ensures.items
     ∙ ap (λ (xs : List ℕ). c.args.out.now.items ++ xs) (sym (append-nil said))
@@ -21,7 +21,7 @@ returns-then-seen-clause-steps t c =
 pub returns-clause-items : goal.returns-clause-items
 returns-clause-items t c =
     let r = c.args.self.now in
-    let said = bytes_of r.eight_bit c.meet-seen.result.said in
+    let said = bytes_of r.table c.meet-seen.result.said in
     let heard = heard_left c.args.most c.args.coming r c.meet-seen.new.self c.meet-seen.result c.meet-seen.ensures (omega arith) c.if-seen.false in
     let rest = (heard_in (c.args.most - 1) c.args.coming (with_half c.meet-seen.new.self r)).bytes in
     c.hear_in.ensures.items

@@ -1,0 +1,205 @@
+-- A run is taken at once: what is half read then is known by its last byte.
+use Rattle.std.proofs.Common.{◌≡◌, ℕ, zero, suc, ◌+◌, ◌-◌, ◌<◌, ◌≤◌, List, [], ◌∷◌, length, get_or, Bool, true, false, not, ◌==◌, ◌&&◌, ◌||◌, nat_lt, if◌then◌else◌, refl, sym, ◌∙◌, ap, subst, add-one, arith}
+use Rattle.std.specs.List.{prefix_len}
+use Rattle.std.proofs.lemmas.Bool.Decides.{nat_tests}
+use Rattle.std.proofs.lemmas.List.Sums.{prefix_len_passes, prefix_len-le-length}
+use Rattle.nr_preconv.specs.declared.half.Half.{Half}
+use Rattle.nr_preconv.specs.declared.half.Line.{Line}
+use Rattle.nr_preconv.specs.declared.half.Line.TheVariants as lines
+use Rattle.nr_preconv.specs.declared.half.Before.{Before}
+use Rattle.nr_preconv.specs.declared.half.Before.TheVariants.{Letter, Other, Argument}
+use Rattle.nr_preconv.specs.declared.reader.Reader.{Reader}
+use Rattle.nr_preconv.specs.declared.reader.Pending.TheVariants.{Nothing}
+use Rattle.nr_preconv.specs.Half.{is_plain}
+use Rattle.nr_preconv.specs.Hyphens.{is_ascii_letter, followed, placed, turns_hyphens}
+use Rattle.nr_preconv.specs.Words.{class_of, goes_on_with}
+use Rattle.nr_preconv.specs.Meeting.{is_raw, is_as_is, is_as_is_at, started, taken_as_is}
+use Rattle.nr_preconv.specs.Reading.{told, with_half, read, Passes}
+use Rattle.nr_preconv.specs.Runs.{goes_on_text, goes_on_word, run_at, run_len}
+use Rattle.nr_preconv.proofs.Plain.{and-first, and-second, read_as_is, Passes-more}
+
+-- ---- bytes that only go on
+
+is_ascii : (b : ℕ) → goes_on_text b ≡ true → nat_lt b 127 ≡ true
+is_ascii b p = grind (arith, nat_tests)
+
+no_backslash : (b : ℕ) → goes_on_text b ≡ true → (b == 92) ≡ false
+no_backslash b p = grind (arith, nat_tests)
+
+no_hyphen : (b : ℕ) → goes_on_text b ≡ true → (b == 45) ≡ false
+no_hyphen b p = grind (arith, nat_tests)
+
+no_newline : (b : ℕ) → goes_on_text b ≡ true → (b == 10) ≡ false
+no_newline b p = grind (arith, nat_tests)
+
+-- in a line of this kind
+run_in : Line → ℕ → Bool
+run_in lines.Text = goes_on_text
+run_in lines.Request = goes_on_text
+run_in (lines.Words words) = goes_on_word words
+run_in line = λ b. false
+
+is_text : (l : Line) (b : ℕ) → run_in l b ≡ true → goes_on_text b ≡ true
+unfolding run_in
+is_text lines.Text b p = p
+is_text lines.Request b p = p
+is_text (lines.Words words) b p = and-first (goes_on_text b) (goes_on_with (class_of b) words) p
+is_text line b p = absurd (let no : false ≡ true = p in cc)
+
+not_raw : (l : Line) (b : ℕ) → run_in l b ≡ true → is_raw l ≡ false
+unfolding run_in
+not_raw lines.Text b p = refl
+not_raw lines.Request b p = refl
+not_raw (lines.Words words) b p = refl
+not_raw line b p = absurd (let no : false ≡ true = p in cc)
+
+same_line : (l : Line) (b : ℕ) → run_in l b ≡ true → started l ≡ l
+unfolding run_in
+same_line lines.Text b p = refl
+same_line lines.Request b p = refl
+same_line (lines.Words words) b p = refl
+same_line line b p = absurd (let no : false ≡ true = p in cc)
+
+or-true : (x : Bool) → (x || true) ≡ true
+or-true true = refl
+or-true false = refl
+
+as_is_at : (l : Line) (b : ℕ) (h : Half) → run_in l b ≡ true → is_as_is_at l b h ≡ true
+unfolding run_in
+as_is_at lines.Request b h p = refl
+as_is_at lines.Text b h p =
+    ap (λ (x : Bool). not (turns_hyphens h) || not x) (no_hyphen b p) ∙ or-true (not (turns_hyphens h))
+as_is_at (lines.Words words) b h p =
+    let text = and-first (goes_on_text b) (goes_on_with (class_of b) words) p in
+    ap (λ (x : Bool). not x && not (b == 45) && goes_on_with (class_of b) words) (no_newline b text)
+    ∙ ap (λ (x : Bool). not x && goes_on_with (class_of b) words) (no_hyphen b text)
+    ∙ and-second (goes_on_text b) (goes_on_with (class_of b) words) p
+as_is_at line b h p = absurd (let no : false ≡ true = p in cc)
+
+as_is : (l : Line) (b : ℕ) (h : Half) → h.line ≡ l → is_plain h.escape ≡ true → run_in l b ≡ true → is_as_is b h ≡ true
+as_is l b h line plain p =
+    let text = is_text l b p in
+    ap (λ (x : Bool). x && not (b == 92) && is_plain h.escape && is_as_is_at h.line b h) (is_ascii b text)
+    ∙ ap (λ (x : Bool). not x && is_plain h.escape && is_as_is_at h.line b h) (no_backslash b text)
+    ∙ ap (λ (x : Bool). x && is_as_is_at h.line b h) plain
+    ∙ ap (λ (m : Line). is_as_is_at m b h) line
+    ∙ as_is_at l b h p
+
+-- ---- what stands before the next character is known by the last one
+
+followed_twice : (x y : Bool) (b : Before) → followed y (followed x b) ≡ followed y b
+followed_twice x y Argument = refl
+followed_twice true true Letter = refl
+followed_twice true false Letter = refl
+followed_twice false true Letter = refl
+followed_twice false false Letter = refl
+followed_twice true true Other = refl
+followed_twice true false Other = refl
+followed_twice false true Other = refl
+followed_twice false false Other = refl
+
+abbrev pub placed_as : Bool → Bool → Half → Half
+placed_as m x h = if m then record h { before = followed x h.before } else h
+
+twice_by : (m x y : Bool) (h : Half) → h.manual ≡ m → placed y (placed_as m x h) ≡ placed_as m y h
+twice_by true x y h e =
+    ap (λ (z : Bool). if z then record h { before = followed y (followed x h.before) } else record h { before = followed x h.before }) e
+    ∙ ap (λ (w : Before). record h { before = w }) (followed_twice x y h.before)
+twice_by false x y h e = ap (λ (z : Bool). if z then record h { before = followed y h.before } else h) e
+
+placed_twice : (x y : Bool) (h : Half) → placed y (placed x h) ≡ placed y h
+placed_twice x y h = twice_by h.manual x y h refl
+
+line_by : (m x : Bool) (h : Half) → (placed_as m x h).line ≡ h.line
+line_by true x h = refl
+line_by false x h = refl
+
+placed_line : (x : Bool) (h : Half) → (placed x h).line ≡ h.line
+placed_line x h = line_by h.manual x h
+
+escape_by : (m x : Bool) (h : Half) → is_plain (placed_as m x h).escape ≡ is_plain h.escape
+escape_by true x h = refl
+escape_by false x h = refl
+
+pub placed_escape : (x : Bool) (h : Half) → is_plain (placed x h).escape ≡ is_plain h.escape
+placed_escape x h = escape_by h.manual x h
+
+-- in the midst of a line
+taken_is : (b : ℕ) (h : Half) → (b == 10) ≡ false → started h.line ≡ h.line → taken_as_is b h ≡ placed (is_ascii_letter b) h
+taken_is b h line same =
+    let at : Bool → Half = λ (x : Bool). record h { line = if x then lines.Start else started h.line } in
+    ap (λ (x : Bool). if x then record (at x) { before = Other } else placed (is_ascii_letter b) (at x)) line
+    ∙ ap (λ (l : Line). placed (is_ascii_letter b) (record h { line = l })) same
+
+taken_twice : (a b : ℕ) (h : Half) → (a == 10) ≡ false → (b == 10) ≡ false → started h.line ≡ h.line
+    → taken_as_is b (taken_as_is a h) ≡ taken_as_is b h
+taken_twice a b h first second same =
+    let x = is_ascii_letter a in
+    let later : started (placed x h).line ≡ (placed x h).line =
+    ap started (placed_line x h) ∙ same ∙ sym (placed_line x h) in
+    ap (taken_as_is b) (taken_is a h first same)
+    ∙ taken_is b (placed x h) second later
+    ∙ placed_twice x (is_ascii_letter b) h
+    ∙ sym (taken_is b h second same)
+
+-- ---- a run
+
+run_step : (b : ℕ) (l : Line) (r : Reader) → r.pending ≡ Nothing → is_plain r.half.escape ≡ true → r.half.line ≡ l → run_in l b ≡ true
+    → read b r ≡ told (with_half (taken_as_is b r.half) r) (b ∷ []) 1
+run_step b l r none plain line p =
+    read_as_is b r none (ap is_raw line ∙ not_raw l b p) (as_is l b r.half line plain p)
+
+run_next : (a b : ℕ) (l : Line) (r : Reader) → r.pending ≡ Nothing → is_plain r.half.escape ≡ true → r.half.line ≡ l
+    → run_in l a ≡ true → run_in l b ≡ true
+    → read b (with_half (taken_as_is a r.half) r) ≡ told (with_half (taken_as_is b r.half) r) (b ∷ []) 1
+run_next a b l r none plain line p q =
+    let first = no_newline a (is_text l a p) in
+    let second = no_newline b (is_text l b q) in
+    let same : started r.half.line ≡ r.half.line = ap started line ∙ same_line l a p ∙ sym line in
+    let is = taken_is a r.half first same in
+    let x = is_ascii_letter a in
+    let s = with_half (taken_as_is a r.half) r in
+    let still : is_plain s.half.escape ≡ true = ap (λ (h : Half). is_plain h.escape) is ∙ placed_escape x r.half ∙ plain in
+    let there : s.half.line ≡ l = ap (λ (h : Half). h.line) is ∙ placed_line x r.half ∙ line in
+    run_step b l s none still there q
+    ∙ ap (λ (h : Half). told (with_half h r) (b ∷ []) 1) (taken_twice a b r.half first second same)
+
+run_passes : (n : ℕ) (bs : List ℕ) (l : Line) (r : Reader) → r.pending ≡ Nothing → is_plain r.half.escape ≡ true → r.half.line ≡ l
+    → ((i : ℕ) → i < n + 1 → run_in l (get_or bs i 0) ≡ true) → n < length bs
+    → Passes (n + 1) bs r (with_half (taken_as_is (get_or bs n 0) r.half) r)
+run_passes zero bs l r none plain line goes within =
+    Passes-more r r (with_half (taken_as_is (get_or bs 0 0) r.half) r) bs 0 refl within
+    (run_step (get_or bs 0 0) l r none plain line (goes 0 (omega arith)))
+run_passes (suc n) bs l r none plain line goes within =
+    let s = with_half (taken_as_is (get_or bs n 0) r.half) r in
+    let P : ℕ → Type 0 = λ k. Passes k bs r s in
+    let before : Passes (suc n) bs r s =
+    subst P (add-one n) (run_passes n bs l r none plain line (λ i below. goes i (omega arith)) (omega arith)) in
+    Passes-more r s (with_half (taken_as_is (get_or bs (suc n) 0) r.half) r) bs (suc n) before within
+    (run_next (get_or bs n 0) (get_or bs (suc n) 0) l r none plain line (goes n (omega arith)) (goes (suc n) (omega arith)))
+
+run_at-is : (l : Line) (bs : List ℕ) → 0 < run_at l bs → run_at l bs ≡ prefix_len (run_in l) bs
+unfolding run_in
+run_at-is lines.Text bs some = refl
+run_at-is lines.Request bs some = refl
+run_at-is (lines.Words words) bs some = refl
+run_at-is line bs some = absurd (omega arith)
+
+run_plain : (x : Bool) (l : Line) (bs : List ℕ) → 0 < (if x then run_at l bs else 0) → x ≡ true
+run_plain true l bs some = refl
+run_plain false l bs some = absurd (omega arith)
+
+pub run_all : (n : ℕ) (bs : List ℕ) (r : Reader) → r.pending ≡ Nothing → n ≡ run_len bs r.half → 0 < n
+    → Passes n bs r (with_half (taken_as_is (get_or bs (n - 1) 0) r.half) r)
+run_all n bs r none is some =
+    let l = r.half.line in
+    let has : 0 < run_len bs r.half = subst (λ (k : ℕ). 0 < k) is some in
+    let plain = run_plain (is_plain r.half.escape) l bs has in
+    let there : run_len bs r.half ≡ run_at l bs = ap (λ (x : Bool). if x then run_at l bs else 0) plain in
+    let at : 0 < run_at l bs = subst (λ (k : ℕ). 0 < k) there has in
+    let all : n ≡ prefix_len (run_in l) bs = is ∙ there ∙ run_at-is l bs at in
+    let within : prefix_len (run_in l) bs ≤ length bs = prefix_len-le-length (run_in l) bs in
+    let back : n - 1 + 1 ≡ n = omega arith in
+    let P : ℕ → Type 0 = λ k. Passes k bs r (with_half (taken_as_is (get_or bs (n - 1) 0) r.half) r) in
+    subst P back (run_passes (n - 1) bs l r none plain refl
+    (λ i below. prefix_len_passes (run_in l) bs i 0 (omega arith)) (omega arith))

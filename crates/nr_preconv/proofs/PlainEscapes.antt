@@ -1,0 +1,186 @@
+-- Escapes that go out as they are: the minus sign, and fonts.
+use Rattle.std.proofs.Common.{◌≡◌, ℕ, List, [], ◌∷◌, ◌++◌, Bool, true, false, ◌==◌, ◌&&◌, ◌||◌, nat_lt, if◌then◌else◌, refl, sym, ◌∙◌, ap, subst, arith}
+use Rattle.std.proofs.lemmas.Bool.Decides.{nat_tests}
+use Rattle.nr_preconv.specs.declared.half.Half.{Half}
+use Rattle.nr_preconv.specs.declared.half.Line.{Line}
+use Rattle.nr_preconv.specs.declared.half.Line.TheVariants as lines
+use Rattle.nr_preconv.specs.declared.half.Escape.{Escape}
+use Rattle.nr_preconv.specs.declared.half.Escape.TheVariants as escapes
+use Rattle.nr_preconv.specs.declared.half.Kind.TheVariants as kinds
+use Rattle.nr_preconv.specs.declared.half.Coming.TheVariants as comings
+use Rattle.nr_preconv.specs.declared.said.Said.{Said}
+use Rattle.nr_preconv.specs.declared.said.Said.TheVariants as says
+use Rattle.nr_preconv.specs.declared.reader.Reader.{Reader}
+use Rattle.nr_preconv.specs.declared.reader.Pending.TheVariants.{Nothing, One}
+use Rattle.nr_preconv.specs.Half.{Met, taken, is_plain, without_escape, in_text}
+use Rattle.nr_preconv.specs.Hyphens.{placed}
+use Rattle.nr_preconv.specs.Words.{begins_word}
+use Rattle.nr_preconv.specs.Saying.{bytes_of, sent}
+use Rattle.nr_preconv.specs.Escapes.{in_escape, waits, made_way, letter}
+use Rattle.nr_preconv.specs.Lines.{in_line, takes_escape, passing}
+use Rattle.nr_preconv.specs.Meeting.{meet, plain_byte, beginning, is_raw}
+use Rattle.nr_preconv.specs.Reading.{Told, told, behind, then_told, heard, heard_in, heard_byte, with_half, pending_with, read, fed, is_lead, stray, Passes}
+use Rattle.nr_preconv.specs.Runs.{takes_plain_at, takes_plain_escape, begins_minus, begins_font, is_font, behind_font, behind_minus}
+use Rattle.nr_preconv.proofs.Plain.{and-first, and-second, is_not, nothing_pending}
+use Rattle.nr_preconv.proofs.AtOnce.{placed_as}
+
+-- ---- an ASCII character that is taken at once
+
+pub meets : (b : ℕ) (r : Reader) (said : Said) (h : Half) → r.pending ≡ Nothing → is_raw r.half.line ≡ false → nat_lt b 127 ≡ true
+    → meet (comings.Byte b) r.half ≡ taken said h → read b r ≡ told (with_half h r) (bytes_of r.table said ++ []) 1
+unfolding heard
+meets b r said h none cooked ascii e =
+    ap (λ (x : Bool). if x then told (with_half (passing b r.half) r) (sent r.table b ∷ []) 1 else heard_byte b r) cooked
+    ∙ nothing_pending b r none
+    ∙ ap (λ (x : Bool). if x then heard (comings.Byte b) r else (if is_lead b then told (pending_with (One b) r) [] 0 else stray b r)) ascii
+    ∙ ap (λ (m : Met). behind (bytes_of r.table m.said) 1 (if m.takes then told (with_half m.half r) [] 0 else heard_in 5 (comings.Byte b) (with_half m.half r))) e
+
+-- ---- where they may stand
+
+backslash_at : (l : Line) → takes_plain_at l ≡ true → takes_escape l ≡ true
+backslash_at lines.Start p = refl
+backslash_at lines.Text p = refl
+backslash_at lines.Request p = refl
+backslash_at (lines.Words words) p = refl
+backslash_at line p = absurd (let no : false ≡ true = p in cc)
+
+cooked_at : (l : Line) → takes_plain_at l ≡ true → is_raw l ≡ false
+cooked_at lines.Start p = refl
+cooked_at lines.Text p = refl
+cooked_at lines.Request p = refl
+cooked_at (lines.Words words) p = refl
+cooked_at line p = absurd (let no : false ≡ true = p in cc)
+
+ready_at : (l : Line) → takes_plain_at l ≡ true → waits l ≡ false
+ready_at lines.Start p = refl
+ready_at lines.Text p = refl
+ready_at lines.Request p = refl
+ready_at (lines.Words words) p = is_not (begins_word words) p
+ready_at line p = absurd (let no : false ≡ true = p in cc)
+
+-- ---- after the backslash
+
+begun : Half → Half
+begun h = record h { escape = escapes.Begun; kept = 92 ∷ []; spelled = [] }
+
+backslash_met : (h : Half) → is_plain h.escape ≡ true → takes_plain_at h.line ≡ true → meet (comings.Byte 92) h ≡ taken says.Nothing (begun h)
+unfolding begun
+backslash_met h plain at =
+    ap (λ (x : Bool). if x then plain_byte 92 h else in_escape 92 h) plain
+    ∙ ap (λ (x : Bool). if x then beginning h else in_line 92 h) (backslash_at h.line at)
+
+backslash_read : (r : Reader) → r.pending ≡ Nothing → is_plain r.half.escape ≡ true → takes_plain_at r.half.line ≡ true
+    → read 92 r ≡ told (with_half (begun r.half) r) [] 1
+backslash_read r none plain at =
+    meets 92 r says.Nothing (begun r.half) none (cooked_at r.half.line at) refl (backslash_met r.half plain at)
+
+-- ---- the minus sign
+
+forgotten_by : (m : Bool) (h : Half) (e : Escape) (k s : List ℕ)
+    → without_escape (placed_as m false (record h { escape = e; kept = k; spelled = s })) ≡ without_escape (placed_as m false h)
+forgotten_by true h e k s = refl
+forgotten_by false h e k s = refl
+
+minus_half : (h : Half) → in_text (without_escape (placed false (record h { escape = escapes.Begun; kept = 92 ∷ 45 ∷ []; spelled = [] }))) ≡ behind_minus h
+minus_half h = ap in_text (forgotten_by h.manual h escapes.Begun (92 ∷ 45 ∷ []) [])
+
+minus_met : (h : Half) → takes_plain_at h.line ≡ true → meet (comings.Byte 45) (begun h) ≡ taken (says.Kept (92 ∷ 45 ∷ [])) (behind_minus h)
+unfolding begun
+minus_met h at =
+    ap (λ (x : Bool). if x then made_way h.line (begun h) else letter 45 (begun h)) (ready_at h.line at)
+    ∙ ap (taken (says.Kept (92 ∷ 45 ∷ []))) (minus_half h)
+
+minus_read : (r : Reader) → r.pending ≡ Nothing → takes_plain_at r.half.line ≡ true
+    → read 45 (with_half (begun r.half) r) ≡ told (with_half (behind_minus r.half) r) (92 ∷ 45 ∷ []) 1
+unfolding begun
+minus_read r none at =
+    meets 45 (with_half (begun r.half) r) (says.Kept (92 ∷ 45 ∷ [])) (behind_minus r.half) none (cooked_at r.half.line at) refl (minus_met r.half at)
+
+minus_fed : (r : Reader) → r.pending ≡ Nothing → is_plain r.half.escape ≡ true → takes_plain_at r.half.line ≡ true
+    → fed r (92 ∷ 45 ∷ []) ≡ told (with_half (behind_minus r.half) r) (92 ∷ 45 ∷ []) 2
+minus_fed r none plain at =
+    ap (λ (t : Told). then_told t (λ s. fed s (45 ∷ []))) (backslash_read r none plain at)
+    ∙ ap (λ (t : Told). behind [] 1 (then_told t (λ s. told s [] 0))) (minus_read r none at)
+
+-- ---- a font
+
+named : Half → Half
+named h = record h { escape = escapes.Target kinds.Font; kept = 92 ∷ 102 ∷ []; spelled = [] }
+
+letter_met : (h : Half) → takes_plain_at h.line ≡ true → meet (comings.Byte 102) (begun h) ≡ taken says.Nothing (named h)
+unfolding begun named
+letter_met h at = ap (λ (x : Bool). if x then made_way h.line (begun h) else letter 102 (begun h)) (ready_at h.line at)
+
+letter_read : (r : Reader) → r.pending ≡ Nothing → takes_plain_at r.half.line ≡ true
+    → read 102 (with_half (begun r.half) r) ≡ told (with_half (named r.half) r) [] 1
+unfolding begun
+letter_read r none at =
+    meets 102 (with_half (begun r.half) r) says.Nothing (named r.half) none (cooked_at r.half.line at) refl (letter_met r.half at)
+
+-- these four are its letters
+pub is_one : (c x : ℕ) → (c == x) ≡ true → c ≡ x
+is_one c x p = grind (arith, nat_tests)
+
+by_letter : (P : ℕ → Type 0) → P 66 → P 73 → P 80 → P 82 → (c : ℕ) (w x y z : Bool) → (c == 66) ≡ w → (c == 73) ≡ x → (c == 80) ≡ y → (c == 82) ≡ z
+    → (w || x || y || z) ≡ true → P c
+by_letter P p q s t c true x y z e f g h is = subst P (sym (is_one c 66 e)) p
+by_letter P p q s t c false true y z e f g h is = subst P (sym (is_one c 73 f)) q
+by_letter P p q s t c false false true z e f g h is = subst P (sym (is_one c 80 g)) s
+by_letter P p q s t c false false false true e f g h is = subst P (sym (is_one c 82 h)) t
+by_letter P p q s t c false false false false e f g h is = absurd (let no : false ≡ true = is in cc)
+
+FontRead : Reader → ℕ → Type 0
+FontRead r c = read c (with_half (named r.half) r) ≡ told (with_half (behind_font r.half) r) (92 ∷ 102 ∷ c ∷ []) 1
+
+font_read : (r : Reader) → r.pending ≡ Nothing → takes_plain_at r.half.line ≡ true → (c : ℕ) → is_font c ≡ true → FontRead r c
+unfolding FontRead named
+font_read r none at c p =
+    let s = with_half (named r.half) r in
+    let cooked = cooked_at r.half.line at in
+    let h = behind_font r.half in
+    by_letter (FontRead r) (meets 66 s (says.Font 66) h none cooked refl refl) (meets 73 s (says.Font 73) h none cooked refl refl)
+    (meets 80 s (says.Font 80) h none cooked refl refl) (meets 82 s (says.Font 82) h none cooked refl refl)
+    c (c == 66) (c == 73) (c == 80) (c == 82) refl refl refl refl p
+
+font_fed : (r : Reader) (c : ℕ) → r.pending ≡ Nothing → is_plain r.half.escape ≡ true → takes_plain_at r.half.line ≡ true → is_font c ≡ true
+    → fed r (92 ∷ 102 ∷ c ∷ []) ≡ told (with_half (behind_font r.half) r) (92 ∷ 102 ∷ c ∷ []) 3
+unfolding FontRead
+font_fed r c none plain at p =
+    ap (λ (t : Told). then_told t (λ s. fed s (102 ∷ c ∷ []))) (backslash_read r none plain at)
+    ∙ ap (λ (t : Told). behind [] 1 (then_told t (λ s. fed s (c ∷ [])))) (letter_read r none at)
+    ∙ ap (λ (t : Told). behind [] 1 (behind [] 1 (then_told t (λ s. told s [] 0)))) (font_read r none at c p)
+
+-- ---- so they pass
+
+plain_first : (x y : Bool) → (if x then y else false) ≡ true → x ≡ true
+plain_first true y p = refl
+plain_first false y p = absurd (let no : false ≡ true = p in cc)
+
+plain_second : (x y : Bool) → (if x then y else false) ≡ true → y ≡ true
+plain_second true y p = p
+plain_second false y p = absurd (let no : false ≡ true = p in cc)
+
+pub minus_passes : (bs : List ℕ) (r : Reader) → r.pending ≡ Nothing → takes_plain_escape r.half ≡ true → begins_minus bs ≡ true
+    → Passes 2 bs r (with_half (behind_minus r.half) r)
+minus_passes [] r none may is = absurd (let no : false ≡ true = is in cc)
+minus_passes (a ∷ []) r none may is = absurd (let no : false ≡ true = is in cc)
+minus_passes (a ∷ b ∷ bs) r none may is =
+    let P : ℕ → ℕ → Type 0 = λ x y. fed r (x ∷ y ∷ []) ≡ told (with_half (behind_minus r.half) r) (x ∷ y ∷ []) 2 in
+    let whole : P 92 45 =
+    minus_fed r none (plain_first (is_plain r.half.escape) (takes_plain_at r.half.line) may) (plain_second (is_plain r.half.escape) (takes_plain_at r.half.line) may) in
+    let one : P a 45 = subst (λ (x : ℕ). P x 45) (sym (is_one a 92 (and-first (a == 92) (b == 45) is))) whole in
+    subst (P a) (sym (is_one b 45 (and-second (a == 92) (b == 45) is))) one
+
+pub font_passes : (bs : List ℕ) (r : Reader) → r.pending ≡ Nothing → takes_plain_escape r.half ≡ true → begins_font bs ≡ true
+    → Passes 3 bs r (with_half (behind_font r.half) r)
+font_passes [] r none may is = absurd (let no : false ≡ true = is in cc)
+font_passes (a ∷ []) r none may is = absurd (let no : false ≡ true = is in cc)
+font_passes (a ∷ b ∷ []) r none may is = absurd (let no : false ≡ true = is in cc)
+font_passes (a ∷ b ∷ c ∷ bs) r none may is =
+    let front = and-first ((a == 92) && (b == 102)) (is_font c) is in
+    let P : ℕ → ℕ → Type 0 = λ x y. fed r (x ∷ y ∷ c ∷ []) ≡ told (with_half (behind_font r.half) r) (x ∷ y ∷ c ∷ []) 3 in
+    let whole : P 92 102 =
+    font_fed r c none (plain_first (is_plain r.half.escape) (takes_plain_at r.half.line) may) (plain_second (is_plain r.half.escape) (takes_plain_at r.half.line) may)
+    (and-second ((a == 92) && (b == 102)) (is_font c) is) in
+    let one : P a 102 = subst (λ (x : ℕ). P x 102) (sym (is_one a 92 (and-first (a == 92) (b == 102) front))) whole in
+    subst (P a) (sym (is_one b 102 (and-second (a == 92) (b == 102) front))) one

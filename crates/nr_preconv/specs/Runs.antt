@@ -1,0 +1,91 @@
+-- Runs of bytes that only go on a line.
+use Prim.Native.Char.{code}
+use Rattle.std.specs.Prelude.{ℕ, List, [], ◌∷◌, Bool, true, false, not, ◌==◌, ◌&&◌, ◌||◌, nat_lt, if◌then◌else◌, min}
+use Rattle.std.specs.List.{prefix_len}
+use Rattle.nr_preconv.specs.declared.half.Half.{Half}
+use Rattle.nr_preconv.specs.declared.half.Line.{Line}
+use Rattle.nr_preconv.specs.declared.half.Line.TheVariants as lines
+use Rattle.nr_preconv.specs.declared.words.Words.{Words}
+use Rattle.nr_preconv.specs.Half.{is_plain, without_escape, in_text}
+use Rattle.nr_preconv.specs.Hyphens.{placed}
+use Rattle.nr_preconv.specs.Numbers.{is_within}
+use Rattle.nr_preconv.specs.Lines.{ends_name}
+use Rattle.nr_preconv.specs.Words.{class_of, goes_on_with, begins_word}
+
+-- a printing byte that is neither a hyphen nor a backslash
+abbrev pub goes_on_text : ℕ → Bool
+goes_on_text b = is_within (code " ") (code ",") b || is_within (code ".") (code "[") b || is_within (code "]") (code "~") b
+
+abbrev pub goes_on_word : Words → ℕ → Bool
+goes_on_word words b = goes_on_text b && goes_on_with (class_of b) words
+
+-- how many bytes come first that only go on a line
+abbrev pub run_at : Line → List ℕ → ℕ
+run_at lines.Text bs = prefix_len goes_on_text bs
+run_at lines.Request bs = prefix_len goes_on_text bs
+run_at (lines.Words words) bs = prefix_len (goes_on_word words) bs
+run_at line bs = 0
+
+abbrev pub run_len : List ℕ → Half → ℕ
+run_len bs h = if is_plain h.escape then run_at h.line bs else 0
+
+-- ---- names of control lines
+
+abbrev pub goes_on_name : ℕ → Bool
+goes_on_name b = nat_lt b 127 && not (ends_name b)
+
+-- what is said for such a line up to the end of its name
+abbrev pub dot : List ℕ
+dot = code "." ∷ []
+
+-- how long the name is after a dot, which doesn't begin with one
+abbrev pub dotted_len : List ℕ → ℕ
+dotted_len [] = 0
+dotted_len (a ∷ []) = 0
+dotted_len (a ∷ first ∷ bs) =
+    if (a == code ".") && not (first == code ".") then min (prefix_len goes_on_name (first ∷ bs)) 32 else 0
+
+abbrev pub is_start : Line → Bool
+is_start lines.Start = true
+is_start line = false
+
+abbrev pub name_len : List ℕ → Half → ℕ
+name_len bs h = if is_plain h.escape && is_start h.line then dotted_len bs else 0
+
+-- the dot and the name were read
+abbrev pub behind_name : List ℕ → Half → Half
+behind_name name h = record (placed false h) { conditional = false; name = name; line = lines.Name }
+
+-- ---- escapes that go out as they are: the minus sign, and fonts
+
+-- no word begins with it
+abbrev pub takes_plain_at : Line → Bool
+takes_plain_at lines.Start = true
+takes_plain_at lines.Text = true
+takes_plain_at lines.Request = true
+takes_plain_at (lines.Words words) = not (begins_word words)
+takes_plain_at line = false
+
+abbrev pub takes_plain_escape : Half → Bool
+takes_plain_escape h = if is_plain h.escape then takes_plain_at h.line else false
+
+abbrev pub begins_minus : List ℕ → Bool
+begins_minus [] = false
+begins_minus (a ∷ []) = false
+begins_minus (a ∷ b ∷ bs) = (a == code "\\") && (b == code "-")
+
+abbrev pub is_font : ℕ → Bool
+is_font b = (b == code "B") || (b == code "I") || (b == code "P") || (b == code "R")
+
+abbrev pub begins_font : List ℕ → Bool
+begins_font [] = false
+begins_font (a ∷ []) = false
+begins_font (a ∷ b ∷ []) = false
+begins_font (a ∷ b ∷ c ∷ bs) = (a == code "\\") && (b == code "f") && is_font c
+
+-- what is half read then
+abbrev pub behind_font : Half → Half
+behind_font h = in_text (without_escape h)
+
+abbrev pub behind_minus : Half → Half
+behind_minus h = behind_font (placed false h)

@@ -1,0 +1,169 @@
+//! Runs of bytes that only go on a line, which are taken at once.
+ghost use Rattle.std.specs.Prelude.{◌≡◌, ◌+◌, ◌<◌, ◌≤◌, length};
+ghost use Rattle.std.specs.List.{prefix_len};
+ghost use Rattle.nr_preconv.specs.Runs as specs;
+
+use super::half::{Escape, Half, Line};
+use super::words::{Class, Words};
+use nr_units::Name;
+
+/// Whether a byte only goes on a text line or a request: it prints, and is neither a hyphen nor a backslash.
+fn goes_on_text(byte: u8) -> bool
+    ensures { result ≡ specs.goes_on_text byte }
+{
+    matches!(byte, b' '..=b',' | b'.'..=b'[' | b']'..=b'~')
+}
+
+/// Whether a byte only goes on a word of a font macro's line.
+fn goes_on_word(words: Words, byte: u8) -> bool
+    ensures { result ≡ specs.goes_on_word words byte }
+{
+    goes_on_text(byte) && words.goes_on_with(Class::of(byte))
+}
+
+/// How many of these bytes come first that only go on a text line or a request.
+fn text_run(bytes: &[u8]) -> usize
+    ensures len { result ≡ prefix_len specs.goes_on_text bytes.now }
+    ensures within { result ≤ length bytes.now }
+{
+    bytes.iter().take_while(|byte| goes_on_text(**byte)).count()
+}
+
+/// How many of these bytes come first that only go on a word.
+fn word_run(words: Words, bytes: &[u8]) -> usize
+    ensures len { result ≡ prefix_len (specs.goes_on_word words) bytes.now }
+    ensures within { result ≤ length bytes.now }
+{
+    bytes
+        .iter()
+        .take_while(|byte| goes_on_word(words, **byte))
+        .count()
+}
+
+impl Half {
+    /// How many of these bytes come first that only go on the line, in no escape.
+    pub(crate) fn run_len(&self, bytes: &[u8]) -> usize
+        ensures len { result ≡ specs.run_len bytes.now self.now }
+        ensures within { result ≤ length bytes.now }
+    {
+        if !matches!(self.escape, Escape::Plain) {
+            return 0;
+        }
+        match self.line {
+            Line::Text | Line::Request => text_run(bytes),
+            Line::Words(words) => word_run(words, bytes),
+            _ => 0,
+        }
+    }
+
+    /// How long the name is that these bytes begin with after a dot, at the beginning of a line: up to 32 bytes,
+    /// none of which ends it.
+    pub(crate) fn name_len(&self, bytes: &[u8]) -> usize
+        ensures len { result ≡ specs.name_len bytes.now self.now }
+        ensures few { result ≤ 32 }
+        ensures within { 0 < result → result + 1 ≤ length bytes.now }
+    {
+        if !matches!(self.escape, Escape::Plain) || !matches!(self.line, Line::Start) {
+            return 0;
+        }
+        dotted_len(bytes)
+    }
+
+    /// Takes the dot and this name.
+    pub(crate) fn takes_name(&mut self, name: Name)
+        ensures { self.new ≡ specs.behind_name name self.old }
+    {
+        self.places(false);
+        self.conditional = false;
+        self.name = name;
+        self.line = Line::Name;
+    }
+
+    /// Whether an escape may begin here that goes out as it is: in no other, and where no word begins with it.
+    pub(crate) fn takes_plain_escape(&self) -> bool
+        ensures { result ≡ specs.takes_plain_escape self.now }
+    {
+        if !matches!(self.escape, Escape::Plain) {
+            return false;
+        }
+        match self.line {
+            Line::Start | Line::Text | Line::Request => true,
+            Line::Words(words) => !words.begins_word(),
+            _ => false,
+        }
+    }
+
+    /// Takes a font, as `\\fB`.
+    pub(crate) fn takes_font(&mut self)
+        ensures { self.new ≡ specs.behind_font self.old }
+    {
+        self.forget();
+        if self.line.is_beginning() {
+            self.line = Line::Text;
+        }
+    }
+
+    /// Takes the minus sign `\\-`.
+    pub(crate) fn takes_minus(&mut self)
+        ensures { self.new ≡ specs.behind_minus self.old }
+    {
+        self.places(false);
+        self.takes_font();
+    }
+}
+
+/// Whether a byte goes on a name.
+fn goes_on_name(byte: u8) -> bool
+    ensures { result ≡ specs.goes_on_name byte }
+{
+    byte < 127 && byte > b' ' && byte != b'\\'
+}
+
+/// How many of these bytes come first that go on a name.
+fn name_run(bytes: &[u8]) -> usize
+    ensures len { result ≡ prefix_len specs.goes_on_name bytes.now }
+    ensures within { result ≤ length bytes.now }
+{
+    bytes.iter().take_while(|byte| goes_on_name(**byte)).count()
+}
+
+/// How long the name is that stands after a dot, and doesn't begin with one.
+fn dotted_len(bytes: &[u8]) -> usize
+    ensures len { result ≡ specs.dotted_len bytes.now }
+    ensures few { result ≤ 32 }
+    ensures within { 0 < result → result + 1 ≤ length bytes.now }
+{
+    match bytes {
+        [dot, first, ..] if *dot == b'.' && *first != b'.' => name_run(&bytes[1..]).min(32),
+        _ => 0,
+    }
+}
+
+/// Whether a text begins with a minus sign.
+pub(crate) fn begins_minus(bytes: &[u8]) -> bool
+    ensures { result ≡ specs.begins_minus bytes.now }
+{
+    match bytes {
+        [backslash, minus, ..] => *backslash == b'\\' && *minus == b'-',
+        _ => false,
+    }
+}
+
+/// Whether a text begins with one of the fonts that the language has.
+pub(crate) fn begins_font(bytes: &[u8]) -> bool
+    ensures { result ≡ specs.begins_font bytes.now }
+{
+    match bytes {
+        [backslash, letter, font, ..] => {
+            *backslash == b'\\' && *letter == b'f' && is_font(*font)
+        }
+        _ => false,
+    }
+}
+
+/// The letter of a font that the language has.
+fn is_font(byte: u8) -> bool
+    ensures { result ≡ specs.is_font byte }
+{
+    matches!(byte, b'B' | b'I' | b'P' | b'R')
+}
