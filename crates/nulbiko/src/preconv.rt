@@ -1,11 +1,12 @@
 // A text is turned into the language of the formatter, as preconv does.
 ghost use Rattle.std.specs.Prelude.{◌≡◌, ◌≢◌, IfOk, OnErr};
 ghost use Rattle.nulbiko.specs.Told.{nothing_told};
-ghost use Rattle.nulbiko.specs.Preconv.{TurnsText, code_of};
+ghost use Rattle.nulbiko.specs.Preconv.{TurnsText, code_of, table_of};
 
 use super::pages::{Pages, hand_over};
 use super::text::Text;
 use super::told::{DONE, FULL, OUT_OF_MEMORY, Report, TOO_LONG, UNREADABLE, code_within};
+use nr_characters::Table;
 use nr_preconv::{Outcome, convert};
 use std::alloc::{AllocError, Global};
 
@@ -26,6 +27,13 @@ fn code(outcome: Outcome) -> u32
     }
 }
 
+/// The table whose characters stay single bytes: with `eight_bit` that of Latin-1.
+fn table_for(eight_bit: bool) -> Option<Table>
+    ensures { result ≡ table_of eight_bit }
+{
+    if eight_bit { Some(Table::Latin1) } else { None }
+}
+
 /// Turns the text, hands over what comes out and gives the number that tells how it ended.
 fn turn_text(
     alloc: Global,
@@ -42,7 +50,8 @@ fn turn_text(
     let mut pages = Pages::new(alloc, output.len())?;
     let mut text = Text::over(input);
     let mut steps = 0;
-    let outcome = convert(&mut text, &mut pages, eight_bit, &mut pending, &mut steps);
+    let table = table_for(eight_bit);
+    let outcome = convert(&mut text, &mut pages, table, &mut pending, &mut steps);
     let bytes = pages.as_slice();
     let written = hand_over(bytes, output);
     *told = Report {
