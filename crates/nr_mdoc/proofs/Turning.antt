@@ -1,10 +1,9 @@
 -- How a run goes on and ends.
-use Rattle.std.proofs.Common.{◌≡◌, ℕ, ◌+◌, ◌*◌, ◌≤◌, List, [], ◌∷◌, ◌++◌, length, take, drop, Bool, Option, None, Some, Result, Ok, Err, OnOk, refl, sym, ◌∙◌, ap, subst, append_assoc, append-nil, arith, length-append}
+use Rattle.std.proofs.Common.{◌≡◌, ℕ, ◌+◌, ◌*◌, ◌≤◌, List, [], ◌∷◌, ◌++◌, length, Option, None, Some, Result, Ok, Err, OnOk, refl, sym, ◌∙◌, ap, subst, append_assoc, append-nil, arith, length-append}
 use Rattle.std.specs.Io.KnownBytes.{Appends}
 use Rattle.std.proofs.KnownBytes.{Appends-trans, Appends-nil}
-use Rattle.std.proofs.lemmas.List.{take-append-drop, take-take, length-take}
 use Rattle.nr_units.specs.Sink.{AppendsFront}
-use Rattle.nr_units.specs.Source.{Supply, Gives, Offers, Skips, skipped}
+use Rattle.nr_units.specs.Source.{Supply, Gives}
 use Rattle.nr_units.specs.declared.source.Fault.{Fault}
 use Rattle.nr_units.proofs.Fronts.{AppendsFront-append, AppendsFront-after}
 use Rattle.nr_mdoc.specs.declared.page.Block.{Block}

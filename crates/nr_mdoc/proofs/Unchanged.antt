@@ -1,5 +1,6 @@
 -- Pages that are no mdoc(7) go out as they are.
 use Rattle.std.proofs.Common.{◌≡◌, ℕ, ◌+◌, ◌≤◌, length, drop, ◌==◌, List, [], ◌∷◌, ◌++◌, Bool, true, false, not, nat_lt, if◌then◌else◌, Option, None, Some, is_some, refl, sym, ◌∙◌, ap, append_assoc, append-nil, arith}
+use Prim.Native.Char.{code}
 use Rattle.std.proofs.lemmas.Bool.Decides.{nat_tests}
 use Rattle.std.proofs.lemmas.List.{drop_all}
 use Rattle.nr_mdoc.specs.declared.page.Front.{Front}
@@ -7,7 +8,7 @@ use Rattle.nr_mdoc.specs.declared.page.Front.TheVariants as fronts
 use Rattle.nr_mdoc.specs.declared.page.Scan.{Scan}
 use Rattle.nr_mdoc.specs.declared.page.Scan.TheVariants as scans
 use Rattle.nr_mdoc.specs.declared.strings.Pending.TheVariants.{Nothing}
-use Rattle.nr_mdoc.specs.Laying.{lay_out}
+use Rattle.nr_mdoc.specs.LayingOut.{lay_out}
 use Rattle.nr_mdoc.specs.Passing.{leads_behind, leads_with, leads_on, is_other}
 use Rattle.nr_mdoc.specs.Reading.{State, Told, told, behind, said, once, once_seen, heard_in, heard, read, fed, finished, first_state, converted}
 use Rattle.nr_mdoc.specs.Scanning.{asleep_with, ends_word, front_grows, gives_up, meet, meet_whole, passes_to, wakes}
@@ -128,21 +129,21 @@ whole_bytes lines b s = refl
 
 -- ---- what the front grows to
 
-is_46 : (b n : ℕ) → (b == n) ≡ true → b ≡ n
-is_46 b n e = grind (arith, nat_tests)
+same_byte : (b n : ℕ) → (b == n) ≡ true → b ≡ n
+same_byte b n e = grind (arith, nat_tests)
 
 grown : (t : Bool) (b n : ℕ) (to more : Front) (xs : List ℕ) → (b == n) ≡ t → front_of to ≡ xs ++ n ∷ []
     → (if t then Some to else None) ≡ Some more → front_of more ≡ xs ++ b ∷ []
 grown true b n to more xs e f g =
     let same : more ≡ to = cc in
-    let byte : b ≡ n = is_46 b n e in
+    let byte : b ≡ n = same_byte b n e in
     ap front_of same ∙ f ∙ ap (λ (k : ℕ). xs ++ k ∷ []) (sym byte)
 grown false b n to more xs e f g = absurd (let no : None ≡ Some more = g in cc)
 
 grown_front : (front more : Front) (b : ℕ) → front_grows front b ≡ Some more → front_of more ≡ front_of front ++ b ∷ []
-grown_front fronts.Nothing more b e = grown (b == 46) b 46 fronts.Dot more [] refl refl e
-grown_front fronts.Dot more b e = grown (b == 68) b 68 fronts.Half more (front_of fronts.Dot) refl refl e
-grown_front fronts.Half more b e = grown (b == 100) b 100 fronts.Whole more (front_of fronts.Half) refl refl e
+grown_front fronts.Nothing more b e = grown (b == code ".") b (code ".") fronts.Dot more [] refl refl e
+grown_front fronts.Dot more b e = grown (b == code "D") b (code "D") fronts.Half more (front_of fronts.Dot) refl refl e
+grown_front fronts.Half more b e = grown (b == code "d") b (code "d") fronts.Whole more (front_of fronts.Half) refl refl e
 grown_front fronts.Whole more b e = absurd (let no : None ≡ Some more = e in cc)
 grown_front fronts.Other more b e = absurd (let no : None ≡ Some more = e in cc)
 
@@ -172,7 +173,7 @@ passed : (front : Front) (lines b : ℕ) (s : State) (bs xs : List ℕ) → Rest
 unfolding scan_by
 passed front lines b s bs xs rest p q h =
     all-by (at (scans.Asleep front lines) s) (at (passes_to lines b) s) b bs (xs ++ b ∷ []) bs p q
-    (by-scan (not (b == 10)) (nat_lt lines 63) lines s bs rest h)
+    (by-scan (not (b == code "\n")) (nat_lt lines 63) lines s bs rest h)
     ∙ append_assoc xs (b ∷ []) bs
 
 none_leads : (bs : List ℕ) → is_some (leads_on None bs) ≡ true → ⊥

@@ -1,5 +1,5 @@
 -- Lists, their items, and displays (mdoc(7), Bl, It, El, Bd, Ed, D1, Dl).
-use Rattle.std.specs.Prelude.{ℕ, ◌+◌, Bool, true, false, not, ◌==◌, ◌&&◌, ◌||◌, nat_lt, if◌then◌else◌}
+use Rattle.std.specs.Prelude.{ℕ, ◌+◌, ◌-◌, Bool, true, false, not, ◌==◌, ◌&&◌, ◌||◌, nat_lt, if◌then◌else◌}
 use Rattle.nr_mdoc.specs.declared.acts.Act.{Act}
 use Rattle.nr_mdoc.specs.declared.acts.Act.TheVariants as acts
 use Rattle.nr_mdoc.specs.declared.acts.Request.TheVariants as requests
@@ -10,7 +10,6 @@ use Rattle.nr_mdoc.specs.declared.macros.Font.{Font}
 use Rattle.nr_mdoc.specs.declared.macros.Font.TheVariants.{Roman, Bold}
 use Rattle.nr_mdoc.specs.declared.macros.Macro.TheVariants as macros
 use Rattle.nr_mdoc.specs.declared.page.Block.{Block}
-use Rattle.nr_mdoc.specs.declared.page.Call.{Call}
 use Rattle.nr_mdoc.specs.declared.page.Kind.{Kind}
 use Rattle.nr_mdoc.specs.declared.page.Kind.TheVariants as kinds
 use Rattle.nr_mdoc.specs.declared.page.Page.{Page}
@@ -84,7 +83,7 @@ with_literal literal p = record p { lay = record p.lay { literal = literal } }
 abbrev pub display_begins : Page → Met
 display_begins p =
     if is_literal p.block.kind
-    then met (with_literal true p) (three (space p.block.compact) (indent p) (acts.Request requests.NoFill))
+    then met (with_literal true p) (three (space p.block.compact) (indent p) (acts.Request requests.Literal))
     else met p (two (space p.block.compact) (indent p))
 
 abbrev pub list_ends : Page → Met
@@ -96,16 +95,16 @@ list_ends p =
 
 abbrev pub display_ends_of : Kind → Page → Met
 display_ends_of kinds.Literal p =
-    met (with_literal false p) (with_stack Closes (two (acts.Request requests.Fill) (acts.Request requests.IndentEnds)))
+    met (with_literal false p) (with_stack Closes (two (acts.Request requests.LiteralEnds) (acts.Request requests.IndentEnds)))
 display_ends_of kinds.Filled p = met p (with_stack Closes (left (acts.Request requests.IndentEnds)))
 display_ends_of kind p = none p
 
 abbrev pub display_ends : Page → Met
 display_ends p = display_ends_of p.block.kind p
 
--- the item around what ended goes on, without a tag
+-- the item around what ended goes on, as far to the right as its text
 abbrev pub outer_goes_on : Act → Page → Seen
-outer_goes_on act p = if is_tagged p.block then two act (acts.Sized sizes.Untagged (tag_width p.block)) else left act
+outer_goes_on act p = if is_tagged p.block then two act (acts.Sized sizes.Inner (tag_width p.block)) else left act
 
 abbrev pub taking : Font → Page → Page
 taking font p = record p { call = record p.call { taker = macros.Words font } }
@@ -143,11 +142,27 @@ new_item p = taking Roman (record p { place = record p.place { depth = 0 } })
 abbrev pub counted_item : Page → Page
 counted_item p = if is_diagnosis p.block.kind then taking Bold (counts p) else counts p
 
+abbrev pub stands_close : Block → Bool
+stands_close b = b.compact || is_column b.kind
+
+-- space before an item; one that has a tag alone has space behind it too
+abbrev pub before_item : Page → Act
+before_item p =
+    if stands_close p.block || not p.block.begun then space (stands_close p.block) else acts.Request requests.Space
+
 abbrev pub item : Page → Met
 item p =
     if not (is_list p.block.kind) then none (new_item p) else
     met (counted_item (new_item p))
-    (two (space (p.block.compact || is_column p.block.kind)) (item_head (counted_item (new_item p))))
+    (two (before_item p) (item_head (counted_item (new_item p))))
+
+-- a tag that would stand one blank before its text stands alone
+abbrev pub tag_ends_of : Kind → Block → Act
+tag_ends_of kinds.Tag b = acts.TagEnds (tag_width b - 1)
+tag_ends_of kind b = acts.Fresh
+
+abbrev pub tag_ends : Page → Act
+tag_ends p = tag_ends_of p.block.kind p.block
 
 abbrev pub item_ends_of : Kind → Seen
 item_ends_of kinds.Overhang = left (acts.Request requests.Break)

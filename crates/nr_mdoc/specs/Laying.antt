@@ -1,12 +1,8 @@
--- Parts with fonts and joints are laid out as text.
-use Rattle.std.specs.Prelude.{ℕ, ◌+◌, ◌/◌, ◌%◌, List, [], ◌∷◌, ◌++◌, Bool, true, false, not, ◌==◌, ◌&&◌, ◌||◌, nat_lt, if◌then◌else◌, codes, Option, None, Some}
+-- Words with fonts and joints are laid out as text.
+use Rattle.std.specs.Prelude.{ℕ, List, [], ◌∷◌, ◌++◌, Bool, true, false, not, ◌==◌, ◌&&◌, ◌||◌, if◌then◌else◌, codes, Option, None, Some}
 use Prim.Native.Char.{code}
 use Rattle.nr_mdoc.specs.declared.acts.Act.{Act}
 use Rattle.nr_mdoc.specs.declared.acts.Act.TheVariants as acts
-use Rattle.nr_mdoc.specs.declared.acts.Request.{Request}
-use Rattle.nr_mdoc.specs.declared.acts.Request.TheVariants as requests
-use Rattle.nr_mdoc.specs.declared.acts.Sized.{Sized}
-use Rattle.nr_mdoc.specs.declared.acts.Sized.TheVariants as sizes
 use Rattle.nr_mdoc.specs.declared.macros.Font.{Font}
 use Rattle.nr_mdoc.specs.declared.macros.Font.TheVariants.{Roman, Bold, Italic}
 use Rattle.nr_mdoc.specs.declared.page.At.{At}
@@ -15,7 +11,7 @@ use Rattle.nr_mdoc.specs.declared.page.Lay.{Lay}
 use Rattle.nr_mdoc.specs.declared.page.Page.{Page}
 use Rattle.nr_mdoc.specs.declared.names.TheConstants.{STANDARDS, LIBRARIES, SYSTEMS}
 use Rattle.nr_mdoc.specs.Lookup.{before_nul, named_in}
-use Rattle.nr_mdoc.specs.Texts.{font_begin, font_end, text_of, front_of, request_of, sized_of}
+use Rattle.nr_mdoc.specs.Texts.{font_begin, font_end}
 
 -- a page then, and what goes out
 pub record Laid : Type 0 where
@@ -59,7 +55,7 @@ before_hyphen [] = []
 before_hyphen (b ∷ bs) = if b == code "-" then codes "\\" else []
 
 abbrev pub first_of : List ℕ → ℕ
-first_of [] = 32
+first_of [] = code " "
 first_of (b ∷ bs) = b
 
 abbrev pub first_in : Font → List ℕ → ℕ
@@ -67,13 +63,13 @@ first_in Roman word = first_of word
 first_in Bold word = code "\\"
 first_in Italic word = code "\\"
 
-abbrev pub gap_at : At → Bool → Bool → ℕ → List ℕ
-gap_at Start tag joined first = guard first
-gap_at Middle tag joined first = if joined then [] else codes " "
-gap_at Ended tag joined first = if joined then [] else if tag then codes " " else line_guard first
+abbrev pub gap_at : Lay → At → Bool → ℕ → List ℕ
+gap_at l Start joined first = guard first
+gap_at l Middle joined first = if joined then [] else if l.kept then codes "\\~" else codes " "
+gap_at l Ended joined first = if joined then [] else if l.tag then codes " " else line_guard first
 
 abbrev pub gap : Bool → ℕ → Page → List ℕ
-gap joined first p = gap_at p.lay.at p.lay.tag joined first
+gap joined first p = gap_at p.lay p.lay.at joined first
 
 abbrev pub was_put : Page → Page
 was_put p = with_lay (record p.lay { at = Middle; joined = not p.lay.spaced; quiet = false }) p
@@ -101,18 +97,38 @@ abbrev pub put_word : Bool → Font → Page → Laid
 put_word joined font p =
     behind (gap joined (first_in font p.word) p ++ font_begin font ++ before_hyphen p.word ++ p.word) (end_word font (was_put p))
 
-abbrev pub put_part : Page → Laid
-put_part p = laid (was_put p) p.word
+abbrev pub put_more : Page → Laid
+put_more p = laid (was_put p) (before_hyphen p.word ++ p.word)
 
-abbrev pub put_last_part : Page → Laid
-put_last_part p = laid (was_put (with_lay (record p.lay { font = Roman }) p)) (p.word ++ font_end p.lay.font)
+abbrev pub put_last_more : Page → Laid
+put_last_more p = laid (was_put (with_lay (record p.lay { font = Roman }) p)) (before_hyphen p.word ++ p.word ++ font_end p.lay.font)
 
 abbrev pub put_flag : Page → Laid
 put_flag p =
     behind (gap (is_joined p) (code "\\") p ++ codes "\\fB\\-" ++ before_hyphen p.word ++ p.word) (end_word Bold (was_put p))
 
-abbrev pub put_own : Page → Laid
-put_own p = laid (was_put p) (gap (is_joined p) (code "\\") p ++ codes "\\fB" ++ p.name ++ codes "\\fR")
+-- a name in bold
+abbrev pub put_name : List ℕ → Page → Laid
+put_name name p = laid (was_put p) (gap (is_joined p) (code "\\") p ++ codes "\\fB" ++ name ++ codes "\\fR")
+
+abbrev pub holding_back : List ℕ → Page → Page
+holding_back name p = record p { held = name }
+
+abbrev pub and_hold : List ℕ → Laid → Laid
+and_hold name l = laid (holding_back name l.page) l.bytes
+
+-- the name that was held back stands after a comma, and the word is held back
+abbrev pub put_held : Page → Laid
+put_held p = and_hold p.word (then_laid (put true (codes ",") p) (λ q. put_name p.held q))
+
+abbrev pub comma_if : Bool → Page → Laid
+comma_if many p = if many then put true (codes ",") p else laid p []
+
+abbrev pub put_and : Page → Laid
+put_and p = put (is_joined p) (codes "and") p
+
+abbrev pub put_last_held : Bool → Page → Laid
+put_last_held many p = and_hold [] (then_laid (then_laid (comma_if many p) (λ q. put_and q)) (λ q. put_name p.held q))
 
 abbrev pub without_marks : Page → Page
 without_marks p = record p { marks = [] }
@@ -134,95 +150,6 @@ put_library (Some text) p = put (is_joined p) (before_nul text) p
 
 abbrev pub put_release : Page → Laid
 put_release p = behind (codes "-") (put_word true Roman p)
-
--- ---- lines of their own
-
-abbrev pub line_end_at : At → Bool → List ℕ
-line_end_at Start tag = if tag then codes "\\&\n" else []
-line_end_at Middle tag = codes "\n"
-line_end_at Ended tag = codes "\n"
-
-abbrev pub line_end : Page → List ℕ
-line_end p = line_end_at p.lay.at p.lay.tag
-
-abbrev pub fresh : Page → Page
-fresh p = with_lay (record p.lay { at = Start; joined = false; quiet = p.lay.quiet || p.lay.tag; tag = false }) p
-
-abbrev pub freshen : Page → Laid
-freshen p = laid (fresh p) (line_end p)
-
-abbrev pub quiet : Page → Page
-quiet p = with_lay (record p.lay { quiet = true }) p
-
-abbrev pub quiet_down : Page → Laid
-quiet_down p = laid (quiet (fresh p)) (line_end p)
-
--- space as before a paragraph, once
-abbrev pub put_space : Page → Laid
-put_space p = laid (quiet (fresh p)) (line_end p ++ (if not (fresh p).lay.quiet then request_of requests.Space else []))
-
-abbrev pub put_request : Request → Page → Laid
-put_request request p = laid (fresh p) (line_end p ++ request_of request)
-
--- ---- numbers
-
-abbrev pub digit : ℕ → ℕ
-digit n = 48 + n % 10
-
--- the digits of a number below ten thousand
-abbrev pub digits : ℕ → List ℕ
-digits n =
-    if nat_lt n 10 then digit n ∷ [] else
-    if nat_lt n 100 then digit (n / 10) ∷ digit n ∷ [] else
-    if nat_lt n 1000 then digit (n / 100) ∷ digit (n / 10) ∷ digit n ∷ [] else
-    digit (n / 1000) ∷ digit (n / 100) ∷ digit (n / 10) ∷ digit n ∷ []
-
-abbrev pub was_sized : Sized → Page → Page
-was_sized sizes.Indent p = p
-was_sized sizes.Tagged p = with_lay (record p.lay { tag = true; quiet = true }) p
-was_sized sized p = quiet p
-
-abbrev pub put_sized : Sized → ℕ → Page → Laid
-put_sized sized n p = laid (was_sized sized (fresh p)) (line_end p ++ sized_of sized ++ digits n ++ codes "n\n")
-
-abbrev pub put_hanging : ℕ → Page → Laid
-put_hanging n p = with_end (request_of requests.Distance) (put_sized sizes.Hanging n p)
-
-abbrev pub put_numbered : ℕ → ℕ → Page → Laid
-put_numbered n width p =
-    laid (quiet (fresh p)) (line_end p ++ codes ".PD 0\n.IP " ++ digits n ++ codes ". " ++ digits width ++ codes "n\n")
-
--- ---- the page's title
-
-abbrev pub put_date : Page → Laid
-put_date p = laid p (p.month ++ 32 ∷ p.day ++ 32 ∷ p.year)
-
-abbrev pub titled : Page → Page
-titled p = record p { lay = record p.lay { at = Middle; joined = true }; place = record p.place { titled = true } }
-
-abbrev pub put_title : Page → Laid
-put_title p =
-    laid (titled (fresh p))
-    (line_end p ++ codes ".TH " ++ p.title ++ codes " " ++ p.chapter ++ codes " \"" ++ (put_date p).bytes ++ codes "\" \"")
-
-abbrev pub end_title : Page → Laid
-end_title p = laid (with_lay (record p.lay { at = Start; joined = false; quiet = true }) p) (codes "\"\n")
-
--- ---- headings, and requests of the page itself
-
-abbrev pub put_head : List ℕ → Page → Laid
-put_head head p = laid (with_lay (record (fresh p).lay { at = Middle }) (fresh p)) (line_end p ++ head)
-
-abbrev pub put_control : Page → Laid
-put_control p = laid (fresh p) (line_end p ++ codes "." ++ p.word)
-
--- ---- columns
-
-abbrev pub column_text : ℕ → List ℕ
-column_text width = codes " +" ++ digits width ++ codes "n"
-
-abbrev pub put_cell : Page → Laid
-put_cell p = laid (with_lay (record (was_put p).lay { joined = true }) (was_put p)) (codes "\t")
 
 -- ---- a line of the input ends
 
@@ -246,43 +173,14 @@ abbrev pub lay_word : Act → Page → Laid
 lay_word (acts.Word font) p = put_word (is_joined p) font p
 lay_word (acts.Joined font) p = put_word true font p
 lay_word acts.Flag p = put_flag p
-lay_word acts.Part p = put_part p
-lay_word acts.LastPart p = put_last_part p
-lay_word acts.Own p = put_own p
+lay_word acts.More p = put_more p
+lay_word acts.LastMore p = put_last_more p
+lay_word acts.Own p = put_name p.name p
+lay_word acts.Held p = put_held p
+lay_word (acts.LastHeld many) p = put_last_held many p
 lay_word acts.Marks p = put_marks p
 lay_word acts.Standard p = put_named (standard_named p.word) p
 lay_word acts.Library p = put_library (library_named p.word) p
 lay_word acts.Att p = put_named (version_named p.word) p
 lay_word acts.Release p = put_release p
 lay_word act p = laid p []
-
-abbrev pub lay_request : Act → Page → Laid
-lay_request acts.Fresh p = freshen p
-lay_request acts.Quiet p = quiet_down p
-lay_request acts.Space p = put_space p
-lay_request (acts.Request request) p = put_request request p
-lay_request (acts.Sized sized n) p = put_sized sized n p
-lay_request (acts.Hanging n) p = put_hanging n p
-lay_request (acts.Numbered n width) p = put_numbered n width p
-lay_request acts.Title p = put_title p
-lay_request acts.TitleEnds p = end_title p
-lay_request acts.Section p = put_head (codes ".SH") p
-lay_request acts.Subsection p = put_head (codes ".SS") p
-lay_request acts.Columns p = put_head (codes ".ta") p
-lay_request (acts.Column width) p = laid p (column_text width)
-lay_request acts.Cell p = put_cell p
-lay_request acts.Control p = put_control p
-lay_request act p = lay_word act p
-
-unfoldable pub lay_out : Act → Page → Laid
-lay_out acts.Nothing p = laid p []
-lay_out (acts.Byte b) p = laid p (b ∷ [])
-lay_out acts.Hyphen p = laid p (codes "\\-")
-lay_out (acts.Front front) p = laid p (front_of front)
-lay_out (acts.Begin b) p = put p.lay.joined (b ∷ []) p
-lay_out (acts.Text text) p = put (is_joined p) (text_of text) p
-lay_out (acts.Close text) p = put true (text_of text) p
-lay_out acts.Join p = laid (with_lay (record p.lay { joined = true }) p) []
-lay_out acts.Apart p = laid (with_lay (record p.lay { joined = false }) p) []
-lay_out acts.Ends p = laid (end_line p) []
-lay_out act p = lay_request act p

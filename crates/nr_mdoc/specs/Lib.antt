@@ -1,11 +1,14 @@
 pub mod Blocks
 pub mod Laying
+pub mod LayingOut
 pub mod Lines
 pub mod Lookup
 pub mod Macros
 pub mod Options
+pub mod OwnLines
 pub mod Passing
 pub mod Reading
+pub mod References
 pub mod Running
 pub mod Scanning
 pub mod Seeing

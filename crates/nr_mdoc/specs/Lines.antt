@@ -1,5 +1,5 @@
 -- Lines: what the macro that begins one says, and what its end says (mdoc(7), MACRO OVERVIEW).
-use Rattle.std.specs.Prelude.{◌≡◌, ℕ, ◌-◌, List, [], ◌∷◌, length, take, Bool, true, false, not, ◌==◌, ◌&&◌, ◌||◌, nat_le, if◌then◌else◌, slice_index, Option, None, Some}
+use Rattle.std.specs.Prelude.{◌≡◌, ℕ, ◌-◌, List, [], ◌∷◌, length, take, Bool, true, false, not, ◌==◌, ◌&&◌, nat_le, if◌then◌else◌, slice_index, Option, None, Some}
 use Prim.Native.Char.{code}
 use Rattle.nr_mdoc.specs.declared.acts.Act.{Act}
 use Rattle.nr_mdoc.specs.declared.acts.Act.TheVariants as acts
@@ -15,10 +15,12 @@ use Rattle.nr_mdoc.specs.declared.page.Last.{Last}
 use Rattle.nr_mdoc.specs.declared.page.Last.TheVariants as lasts
 use Rattle.nr_mdoc.specs.declared.page.Page.{Page}
 use Rattle.nr_mdoc.specs.declared.page.Scan.TheVariants as scans
+use Rattle.nr_mdoc.specs.declared.page.Section.{Section}
 use Rattle.nr_mdoc.specs.declared.page.Section.TheVariants as sections
+use Rattle.nr_mdoc.specs.declared.page.Split.TheVariants as splits
 use Rattle.nr_mdoc.specs.declared.page.Wanted.TheVariants as wanteds
 use Rattle.nr_mdoc.specs.declared.seen.Seen.{Seen}
-use Rattle.nr_mdoc.specs.Blocks.{block_opens, item, item_ends, list_begins, list_ends, display_begins, display_ends, outer_goes_on, line_opens}
+use Rattle.nr_mdoc.specs.Blocks.{block_opens, item, item_ends, list_begins, list_ends, display_begins, display_ends, outer_goes_on, line_opens, tag_ends, with_literal, is_literal}
 use Rattle.nr_mdoc.specs.Macros.{macro_of}
 use Rattle.nr_mdoc.specs.Options.{none}
 use Rattle.nr_mdoc.specs.Seeing.{Met, met, left, two, three, and_taken}
@@ -27,7 +29,7 @@ use Rattle.nr_mdoc.specs.Words.{called, is_due, leaves, is_none, is_synopsis, wi
 -- names of macros begin with a capital letter, or with a percent sign
 abbrev pub is_request : List ℕ → Bool
 is_request [] = false
-is_request (b ∷ bs) = not (nat_le 65 b && nat_le b 90) && not (b == code "%")
+is_request (b ∷ bs) = not (nat_le (code "A") b && nat_le b (code "Z")) && not (b == code "%")
 
 abbrev pub call_of : Macro → Call
 call_of m = record {
@@ -36,6 +38,7 @@ call_of m = record {
   first = true;
   some = false;
   listed = false;
+  many = false;
   opens = false;
   going = false;
   comment = false;
@@ -78,6 +81,12 @@ after kind p = with_place (record p.place { last = kind }) p
 abbrev pub synopsis_line : Last → Page → Met
 synopsis_line kind p = if not (is_synopsis p) then none p else met (after kind p) (left (line_before kind p))
 
+-- a function hangs
+abbrev pub function_line : Page → Met
+function_line p =
+    if not (is_synopsis p) then none p else
+    met (after lasts.Function p) (two (line_before lasts.Function p) (acts.Request requests.Hangs))
+
 abbrev pub include_line : Page → Met
 include_line p =
     if not (is_synopsis p) then none p else
@@ -97,11 +106,19 @@ system p =
     if p.place.titled then silent (record p { call = record p.call { line = macros.Silent } }) else met p (left acts.Title)
 
 abbrev pub in_section : Page → Page
-in_section p = with_place (record p.place { section = sections.Other; last = lasts.Heading; split = false; depth = 0 }) p
+in_section p =
+    record p {
+      place = record p.place { section = sections.Other; last = lasts.Heading; split = splits.Never; depth = 0 };
+      lay = record p.lay { kept = false };
+    }
 
 abbrev pub section : Page → Met
 section p =
     met (in_section p) (if p.place.titled then left acts.Section else three acts.Title acts.TitleEnds acts.Section)
+
+abbrev pub subsection : Page → Met
+subsection p =
+    met (after lasts.Heading (record p { call = record p.call { taker = macros.Words Roman } })) (left acts.Subsection)
 
 abbrev pub paragraph : Page → Met
 paragraph p = met (after lasts.Heading p) (left acts.Space)
@@ -109,19 +126,38 @@ paragraph p = met (after lasts.Heading p) (left acts.Space)
 abbrev pub defines : Page → Met
 defines p = met (with_scan (scans.Ignored dots.Other) p) (left acts.Control)
 
--- ---- references: commas stand between their parts
+-- the words of a line stay together between `.Bk` and `.Ek`
+abbrev pub keeps : Bool → Page → Met
+keeps kept p = silent (record p { lay = record p.lay { kept = kept } })
 
-abbrev pub parting : Bool → Page → Page
-parting part p = with_place (record p.place { part = part }) p
+-- ---- lines for tbl stay as they are, but for macros
+
+abbrev pub table : Page → Met
+table p = met (with_scan scans.Rest (with_literal true p)) (left acts.Control)
+
+abbrev pub table_ends : Page → Met
+table_ends p = met (with_scan scans.Rest (with_literal (is_literal p.block.kind) p)) (left acts.Control)
+
+-- ---- references
+
+abbrev pub is_see_also : Section → Bool
+is_see_also sections.SeeAlso = true
+is_see_also s = false
 
 abbrev pub book : Page → Met
-book p = none (parting false p)
+book p =
+    met (record p { place = record p.place { reference = true; authors = 0 }; parts = [] })
+    (left (if is_see_also p.place.section then acts.Space else acts.Nothing))
 
 abbrev pub book_ends : Page → Met
-book_ends p = if not p.place.part then none p else met (parting false p) (left (acts.Close texts.Period))
+book_ends p =
+    if not p.place.reference then none p else met (with_place (record p.place { reference = false }) p) (left acts.Reference)
 
-abbrev pub book_part : Page → Met
-book_part p = if p.place.part then met p (left (acts.Close texts.Comma)) else none (parting true p)
+abbrev pub part_begins : ℕ → Page → Met
+part_begins letter p = if not p.place.reference then none p else met p (two (acts.Part letter) acts.Join)
+
+abbrev pub part_ends : Page → Seen
+part_ends p = left (if p.place.reference then acts.Fresh else acts.Nothing)
 
 -- ---- a line begins
 
@@ -134,8 +170,8 @@ begins_block macros.DisplayEnds p = display_ends p
 begins_block macros.Line p = line_opens p
 begins_block macros.LiteralLine p = line_opens p
 begins_block macros.ResultType p = synopsis_line lasts.ResultType p
-begins_block macros.Function p = synopsis_line lasts.Function p
-begins_block macros.FunctionOpens p = synopsis_line lasts.Function p
+begins_block macros.Function p = function_line p
+begins_block macros.FunctionOpens p = function_line p
 begins_block macros.Variable p = synopsis_line lasts.Variable p
 begins_block macros.Declaration p = synopsis_line lasts.Declaration p
 begins_block macros.Include p = include_line p
@@ -145,7 +181,7 @@ unfoldable pub begins : Macro → Page → Met
 begins macros.Title p = titles p
 begins macros.System p = system p
 begins macros.Section p = section p
-begins macros.Subsection p = met p (left acts.Subsection)
+begins macros.Subsection p = subsection p
 begins macros.Paragraph p = paragraph p
 begins macros.Describes p = met p (left (acts.Text texts.Description))
 begins macros.Silent p = silent p
@@ -154,9 +190,14 @@ begins macros.Spaces p = met p (two (acts.Request requests.Space) acts.Quiet)
 begins macros.Defines p = defines p
 begins macros.Book p = book p
 begins macros.BookEnds p = book_ends p
-begins (macros.Part font) p = book_part p
+begins (macros.Part letter) p = part_begins letter p
+begins macros.Keeps p = keeps true p
+begins macros.KeepEnds p = keeps false p
+begins macros.Table p = table p
+begins macros.TableEnds p = table_ends p
 begins macros.FontEnds p = met p (left (acts.Request (requests.Font Roman)))
-begins macros.Exits p = met p (left (acts.Text texts.The))
+begins macros.Exits p = met p (two (acts.Request requests.Break) (acts.Text texts.The))
+begins macros.Returns p = met p (left (acts.Request requests.Break))
 begins m p = begins_block m p
 
 -- requests pass; the words of a macro that is none are printed
@@ -174,14 +215,16 @@ named_line p = begins_or_other (macro_of p.word) (record p { scan = scans.Betwee
 
 -- ---- a line ends
 
-abbrev pub synopsis_line_ends : Page → Seen
-synopsis_line_ends p = left (if is_synopsis p then acts.Request requests.Break else acts.Nothing)
-
 abbrev pub exits : Page → Seen
-exits p = if p.call.listed then left (acts.Text texts.Exits) else two acts.Own (acts.Text texts.Exits)
+exits p =
+    if not p.call.listed then two acts.Own (acts.Text texts.Exits) else
+    if is_none p.held then left (acts.Text texts.Exits) else two (acts.LastHeld p.call.many) (acts.Text texts.AllExit)
 
 abbrev pub returns : Page → Seen
-returns p = left (acts.Text (if p.call.listed then texts.Returns else texts.Succeeds))
+returns p =
+    if not p.call.listed then left (acts.Text texts.Succeeds) else
+    if is_none p.held then left (acts.Text texts.Returns) else
+    three (acts.LastHeld p.call.many) (acts.Close texts.Parentheses) (acts.Text texts.AllReturn)
 
 abbrev pub spacing : Page → Met
 spacing p =
@@ -197,9 +240,8 @@ end_of macros.ListEnds p = met p (outer_goes_on (acts.Request requests.Distance)
 end_of macros.DisplayEnds p = met p (outer_goes_on acts.Nothing p)
 end_of macros.Line p = met p (outer_goes_on (acts.Request requests.IndentEnds) p)
 end_of macros.LiteralLine p = met p (outer_goes_on (acts.Request requests.IndentEnds) p)
-end_of macros.Include p = met p (synopsis_line_ends p)
-end_of macros.ResultType p = met p (synopsis_line_ends p)
 end_of macros.Item p = met p (item_ends p)
+end_of (macros.Part letter) p = met p (part_ends p)
 end_of macros.Exits p = met p (exits p)
 end_of macros.Returns p = met p (returns p)
 end_of macros.Spacing p = spacing p
@@ -211,7 +253,7 @@ is_nothing act = false
 
 -- a tag is whole once no enclosure is open in it
 abbrev pub last_act : Page → Act
-last_act p = if p.lay.tag && (p.place.depth == 0) then acts.Fresh else acts.Ends
+last_act p = if p.lay.tag && (p.place.depth == 0) then tag_ends p else acts.Ends
 
 abbrev pub ended_seen : Page → Seen → Seen
 ended_seen p seen = if is_nothing seen.third then record seen { third = last_act p } else seen
@@ -223,11 +265,20 @@ line_ends p =
 abbrev pub is_some_closer : Page → Type 0
 is_some_closer p = is_none p.closers ≡ false
 
+abbrev pub is_joins : Macro → Bool
+is_joins macros.Joins = true
+is_joins m = false
+
+-- `.Ns` ends the line: what comes next joins what the line closes
+abbrev pub ends_joined : Page → Bool
+ends_joined p = is_joins p.call.taker && not p.call.some
+
 -- the last of the enclosures that the line opened is closed
 unfoldable pub closes_last : Page → Met
 closes_last p =
     let n = length p.closers - 1 in
-    met (record p { closers = take n p.closers }) (left (acts.Close (texts.Closing (slice_index p.closers n))))
+    let close = acts.Close (texts.Closing (slice_index p.closers n)) in
+    met (record p { closers = take n p.closers }) (if ends_joined p then two close acts.Join else left close)
 
 -- what is due comes first, then what closes enclosures, the last first, then marks, and then what ends the line
 abbrev pub ends : Page → Met

@@ -4,7 +4,7 @@ use Prim.Native.Char.{code}
 use Rattle.nr_mdoc.specs.declared.macros.Macro.{Macro}
 use Rattle.nr_mdoc.specs.declared.macros.Macro.TheVariants as macros
 use Rattle.nr_mdoc.specs.declared.macros.Font.{Font}
-use Rattle.nr_mdoc.specs.declared.macros.Font.TheVariants.{Roman, Bold, Italic}
+use Rattle.nr_mdoc.specs.declared.macros.Font.TheVariants.{Roman, Italic}
 use Rattle.nr_mdoc.specs.declared.macros.Pair.TheVariants.{Braces}
 use Rattle.nr_mdoc.specs.declared.macros.System.TheVariants.{BsdOs}
 use Rattle.nr_mdoc.specs.declared.macros.TheConstants.{NAMES}
@@ -17,12 +17,12 @@ looked_up (entry ∷ entries) a b = if (entry.0 == a) && (entry.1 == b) then Som
 unfoldable pub letters_macro : ℕ → ℕ → Option Macro
 letters_macro a b = looked_up NAMES a b
 
--- a part of a reference: books, publishers, journals and titles of articles are in italics
+-- a part of a reference: books, publishers and journals are in italics
 abbrev pub part_font : ℕ → Font
-part_font b = if (b == code "B") || (b == code "I") || (b == code "J") || (b == code "T") then Italic else Roman
+part_font b = if (b == code "B") || (b == code "I") || (b == code "J") then Italic else Roman
 
 abbrev pub short_macro : ℕ → ℕ → Option Macro
-short_macro a b = if a == code "%" then Some (macros.Part (part_font b)) else letters_macro a b
+short_macro a b = if a == code "%" then Some (macros.Part b) else letters_macro a b
 
 abbrev pub brace_macro : ℕ → Option Macro
 brace_macro c =
@@ -44,6 +44,26 @@ macro_of (a ∷ b ∷ []) = short_macro a b
 macro_of (a ∷ b ∷ c ∷ []) = long_macro a b c
 macro_of (a ∷ b ∷ c ∷ d ∷ rest) = None
 
+-- macros that stand for text, joints, and those of functions and tables
+abbrev pub is_callable_too : Macro → Bool
+is_callable_too (macros.Stands x) = true
+is_callable_too macros.Att = true
+is_callable_too macros.Bsd = true
+is_callable_too macros.Standard = true
+is_callable_too macros.Library = true
+is_callable_too macros.Joins = true
+is_callable_too macros.Apostrophe = true
+is_callable_too macros.Prefix = true
+is_callable_too macros.Function = true
+is_callable_too macros.FunctionOpens = true
+is_callable_too macros.FunctionCloses = true
+is_callable_too macros.Include = true
+is_callable_too macros.Cell = true
+is_callable_too macros.ResultType = true
+is_callable_too macros.Variable = true
+is_callable_too macros.Declaration = true
+is_callable_too m = false
+
 -- a word of a line that another macro began calls it
 abbrev pub is_callable : Macro → Bool
 is_callable (macros.Words x) = true
@@ -59,20 +79,4 @@ is_callable (macros.Opens x) = true
 is_callable (macros.Closes x) = true
 is_callable macros.OwnOpens = true
 is_callable macros.OwnCloses = true
-is_callable (macros.Stands x) = true
-is_callable macros.Att = true
-is_callable macros.Bsd = true
-is_callable macros.Standard = true
-is_callable macros.Library = true
-is_callable macros.Joins = true
-is_callable macros.Apostrophe = true
-is_callable macros.Prefix = true
-is_callable macros.Function = true
-is_callable macros.FunctionOpens = true
-is_callable macros.FunctionCloses = true
-is_callable macros.Include = true
-is_callable macros.Cell = true
-is_callable macros.ResultType = true
-is_callable macros.Variable = true
-is_callable macros.Declaration = true
-is_callable m = false
+is_callable m = is_callable_too m

@@ -2,25 +2,25 @@
 use Rattle.std.specs.Prelude.{ℕ, ◌+◌, ◌-◌, ◌*◌, List, [], ◌∷◌, length, Bool, true, false, not, ◌==◌, ◌&&◌, ◌||◌, nat_lt, nat_le, if◌then◌else◌, codes, Option, None, Some}
 use Rattle.std.specs.Str.{bytes_eq}
 use Prim.Native.Char.{code}
-use Rattle.nr_mdoc.specs.declared.acts.Act.{Act}
 use Rattle.nr_mdoc.specs.declared.acts.Act.TheVariants as acts
 use Rattle.nr_mdoc.specs.declared.acts.Request.TheVariants as requests
 use Rattle.nr_mdoc.specs.declared.acts.Text.TheVariants as texts
 use Rattle.nr_mdoc.specs.declared.macros.Font.{Font}
-use Rattle.nr_mdoc.specs.declared.macros.Font.TheVariants.{Roman, Bold, Italic}
+use Rattle.nr_mdoc.specs.declared.macros.Font.TheVariants.{Roman, Bold}
 use Rattle.nr_mdoc.specs.declared.macros.Macro.{Macro}
 use Rattle.nr_mdoc.specs.declared.macros.Macro.TheVariants as macros
 use Rattle.nr_mdoc.specs.declared.options.TheConstants.{ASKED, WIDTHS, FONTS, SECTIONS}
 use Rattle.nr_mdoc.specs.declared.page.Asks.{Asks}
 use Rattle.nr_mdoc.specs.declared.page.Asks.TheVariants as asks
 use Rattle.nr_mdoc.specs.declared.page.Block.{Block}
-use Rattle.nr_mdoc.specs.declared.page.Call.{Call}
 use Rattle.nr_mdoc.specs.declared.page.Kind.{Kind}
 use Rattle.nr_mdoc.specs.declared.page.Kind.TheVariants as kinds
 use Rattle.nr_mdoc.specs.declared.page.Page.{Page}
 use Rattle.nr_mdoc.specs.declared.page.Scan.TheVariants as scans
 use Rattle.nr_mdoc.specs.declared.page.Section.{Section}
 use Rattle.nr_mdoc.specs.declared.page.Section.TheVariants as sections
+use Rattle.nr_mdoc.specs.declared.page.Split.{Split}
+use Rattle.nr_mdoc.specs.declared.page.Split.TheVariants as splits
 use Rattle.nr_mdoc.specs.declared.page.Wanted.{Wanted}
 use Rattle.nr_mdoc.specs.declared.page.Wanted.TheVariants as wanteds
 use Rattle.nr_mdoc.specs.Lookup.{named_in}
@@ -29,7 +29,7 @@ use Rattle.nr_mdoc.specs.Seeing.{Met, met, left, two, three}
 -- ---- what words say
 
 abbrev pub digit : ℕ → Option ℕ
-digit b = if nat_le 48 b && nat_le b 57 then Some (b - 48) else None
+digit b = if nat_le (code "0") b && nat_le b (code "9") then Some (b - code "0") else None
 
 abbrev pub tens : Option ℕ → Option ℕ → Option ℕ
 tens None b = None
@@ -82,7 +82,6 @@ reads_for macros.Spacing = true
 reads_for macros.Exits = true
 reads_for macros.Returns = true
 reads_for macros.Section = true
-reads_for macros.Subsection = true
 reads_for m = false
 
 abbrev pub reads_options : Page → Bool
@@ -90,7 +89,6 @@ reads_options p = reads_for p.call.taker
 
 abbrev pub is_heading : Macro → Bool
 is_heading macros.Section = true
-is_heading macros.Subsection = true
 is_heading m = false
 
 abbrev pub is_shown : Page → Bool
@@ -119,22 +117,19 @@ abbrev pub section_or : Option Section → Section
 section_or None = sections.Other
 section_or (Some s) = s
 
-abbrev pub is_authors : Section → Bool
-is_authors sections.Authors = true
-is_authors s = false
+-- all authors but the first begin lines in their own section
+abbrev pub splits_in : Section → Split
+splits_in sections.Authors = splits.Next
+splits_in s = splits.Never
 
--- authors begin lines in their own section
 abbrev pub enters : Page → Page
 enters p =
-    let s = section_or (section_named p.word) in record p { place = record p.place { section = s; split = is_authors s } }
+    let s = section_or (section_named p.word) in record p { place = record p.place { section = s; split = splits_in s } }
 
-abbrev pub is_section : Macro → Bool
-is_section macros.Section = true
-is_section m = false
-
+-- the words after the first are printed, and may call macros
 abbrev pub heading_word : Page → Met
 heading_word p =
-    met (if is_section p.call.taker && not p.call.some then enters p else p) (left (acts.Word Roman))
+    let q = enters p in met (record q { call = record q.call { taker = macros.Words Roman } }) (left (acts.Word Roman))
 
 -- ---- fonts, spacing, utilities and functions
 
@@ -154,14 +149,27 @@ is_usual p = bytes_eq p.word (codes "-std")
 abbrev pub listed : Page → Page
 listed p = record p { call = record p.call { listed = true } }
 
+-- a name behind the first is held back, as it may be the last: the one that was held back before it is not
+abbrev pub holds : Page → Met
+holds p =
+    if length p.held == 0 then met (record p { held = p.word }) (left acts.Nothing) else
+    met (record p { call = record p.call { many = true } }) (left acts.Held)
+
 abbrev pub utility : Page → Met
-utility p = if is_usual p then none p else met (listed p) (left (acts.Word Bold))
+utility p =
+    if is_usual p then none p else if not p.call.listed then met (listed p) (left (acts.Word Bold)) else holds p
+
+-- the name of a function has parentheses
+abbrev pub holds_function : Page → Met
+holds_function p =
+    let m = holds p in
+    if m.page.call.many then met m.page (record m.seen { second = acts.Close texts.Parentheses }) else m
 
 abbrev pub returning : Page → Met
 returning p =
     if is_usual p then none p else
-    met (listed p)
-    (three (if p.call.listed then acts.Nothing else acts.Text texts.The) (acts.Word Bold) (acts.Close texts.Parentheses))
+    if p.call.listed then holds_function p else
+    met (listed p) (three (acts.Text texts.The) (acts.Word Bold) (acts.Close texts.Parentheses))
 
 -- ---- options of lists and displays
 

@@ -15,13 +15,16 @@ use Rattle.nr_mdoc.specs.declared.page.Place.{Place}
 use Rattle.nr_mdoc.specs.declared.page.Scan.{Scan}
 use Rattle.nr_mdoc.specs.declared.page.Scan.TheVariants as scans
 use Rattle.nr_mdoc.specs.declared.page.Section.TheVariants as sections
+use Rattle.nr_mdoc.specs.declared.page.Split.TheVariants as splits
 use Rattle.nr_mdoc.specs.declared.reader.Reader.{Reader}
 use Rattle.nr_mdoc.specs.declared.seen.Seen.{Seen}
 use Rattle.nr_mdoc.specs.declared.strings.Pending.{Pending}
 use Rattle.nr_mdoc.specs.declared.strings.Pending.TheVariants as pendings
 use Rattle.nr_mdoc.specs.declared.strings.Pending.TheVariants.{Nothing}
 use Rattle.nr_mdoc.specs.Blocks.{no_block}
-use Rattle.nr_mdoc.specs.Laying.{Laid, then_laid, lay_out, freshen, line_end}
+use Rattle.nr_mdoc.specs.Laying.{Laid, then_laid}
+use Rattle.nr_mdoc.specs.LayingOut.{lay_out}
+use Rattle.nr_mdoc.specs.OwnLines.{line_end}
 use Rattle.nr_mdoc.specs.Lines.{call_of}
 use Rattle.nr_mdoc.specs.Scanning.{meet}
 use Rattle.nr_mdoc.specs.Seeing.{Met}
@@ -65,6 +68,7 @@ first_lay = record {
   spaced = true;
   tag = false;
   literal = false;
+  kept = false;
   quiet = true;
   font = Roman;
   front = false;
@@ -74,11 +78,14 @@ abbrev pub first_place : Place
 first_place = record {
   section = sections.Other;
   last = lasts.Other;
-  split = false;
+  split = splits.Never;
   parameters = Outside;
   depth = 0;
-  part = false;
+  reference = false;
+  listed = false;
+  authors = 0;
   titled = false;
+  width = 0;
 }
 
 abbrev pub first_page : Page
@@ -86,6 +93,8 @@ first_page = record {
   scan = scans.Asleep fronts.Nothing 0;
   word = [];
   marks = [];
+  held = [];
+  parts = [];
   closers = [];
   name = [];
   title = [];

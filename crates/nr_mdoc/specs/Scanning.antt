@@ -1,30 +1,36 @@
 -- A byte meets what is half read: lines become words (mdoc(7), MACRO SYNTAX; groff(7), control lines and comments).
-use Rattle.std.specs.Prelude.{ℕ, ◌+◌, ◌-◌, List, [], ◌∷◌, ◌++◌, length, Bool, true, false, not, ◌==◌, ◌&&◌, ◌||◌, nat_lt, nat_le, if◌then◌else◌, slice_index, Option, None, Some}
+use Rattle.std.specs.Prelude.{ℕ, ◌+◌, List, [], ◌∷◌, ◌++◌, length, Bool, true, false, not, ◌==◌, ◌&&◌, ◌||◌, nat_lt, nat_le, if◌then◌else◌, codes, Option, None, Some}
 use Prim.Native.Char.{code}
 use Rattle.nr_mdoc.specs.declared.acts.Act.TheVariants as acts
 use Rattle.nr_mdoc.specs.declared.acts.Text.TheVariants as texts
+use Rattle.nr_mdoc.specs.declared.macros.Macro.{Macro}
 use Rattle.nr_mdoc.specs.declared.macros.Macro.TheVariants as macros
-use Rattle.nr_mdoc.specs.declared.page.Call.{Call}
+use Rattle.nr_mdoc.specs.declared.page.Before.{Before}
+use Rattle.nr_mdoc.specs.declared.page.Before.TheVariants as befores
 use Rattle.nr_mdoc.specs.declared.page.Dots.{Dots}
 use Rattle.nr_mdoc.specs.declared.page.Dots.TheVariants as dots
 use Rattle.nr_mdoc.specs.declared.page.Front.{Front}
 use Rattle.nr_mdoc.specs.declared.page.Front.TheVariants as fronts
+use Rattle.nr_mdoc.specs.declared.page.Last.TheVariants as lasts
 use Rattle.nr_mdoc.specs.declared.page.Page.{Page}
 use Rattle.nr_mdoc.specs.declared.page.Scan.{Scan}
 use Rattle.nr_mdoc.specs.declared.page.Scan.TheVariants as scans
 use Rattle.nr_mdoc.specs.declared.seen.Seen.{Seen}
 use Rattle.nr_mdoc.specs.Laying.{is_control}
 use Rattle.nr_mdoc.specs.Lines.{call_of, named_line, ends}
-use Rattle.nr_mdoc.specs.Options.{is_shown, none}
+use Rattle.nr_mdoc.specs.Options.{is_shown, reads_for}
 use Rattle.nr_mdoc.specs.Seeing.{Met, met, left, taken, two, and_taken}
-use Rattle.nr_mdoc.specs.Words.{given, long, goes_on, is_none, with_scan}
+use Rattle.nr_mdoc.specs.Words.{given, long, goes_on, is_none, is_outside, is_synopsis, with_scan}
 
 abbrev pub ends_word : ℕ → Bool
-ends_word b = (b == 32) || (b == code "\t") || (b == code "\n")
+ends_word b = (b == code " ") || (b == code "\t") || (b == code "\n")
 
--- a hyphen after such a byte may break a line, or is a part of an escape
-abbrev pub is_inside : ℕ → Bool
-is_inside b = (nat_le 48 b && nat_le b 57) || (nat_le 65 b && nat_le b 90) || (nat_le 97 b && nat_le b 122) || (b == code "\\")
+abbrev pub is_letter : ℕ → Bool
+is_letter b = (nat_le (code "A") b && nat_le b (code "Z")) || (nat_le (code "a") b && nat_le b (code "z"))
+
+-- what a byte is for the one after it
+abbrev pub before_next : ℕ → Before
+before_next b = if is_letter b then befores.Letter else if b == code "\\" then befores.Backslash else befores.Other
 
 abbrev pub turns : Scan → Seen → Page → Met
 turns scan seen p = met (with_scan scan p) seen
@@ -35,19 +41,33 @@ abbrev pub empty_line : Page → Seen
 empty_line p =
     if p.lay.literal then and_taken (two (acts.Text texts.Empty) acts.Ends) else taken acts.Space
 
+-- a line of a synopsis behind text begins no paragraph
+abbrev pub behind_text : Page → Page
+behind_text p = record p { place = record p.place { last = lasts.Heading } }
+
 -- blanks that begin a line stay where lines do
 abbrev pub at_start : ℕ → Page → Met
 at_start b p =
     if is_control b then turns scans.Control (taken acts.Nothing) p else
     if b == code "\n" then met p (empty_line p) else
-    if ((b == 32) || (b == code "\t")) && not p.lay.literal then met p (taken acts.Nothing) else
-    turns (scans.Text (is_inside b)) (taken (acts.Begin b)) p
+    if ((b == code " ") || (b == code "\t")) && not p.lay.literal then met p (taken acts.Nothing) else
+    turns (scans.Text (before_next b)) (taken (acts.Begin b)) (behind_text p)
 
--- no line is broken after a hyphen that begins a word
-abbrev pub in_text : Bool → ℕ → Page → Met
-in_text inside b p =
+-- a line may be broken after a hyphen between letters: one behind a letter is held back
+abbrev pub hyphen_in_text : Before → Page → Met
+hyphen_in_text befores.Letter p = turns scans.Hyphen (taken acts.Nothing) p
+hyphen_in_text befores.Backslash p = turns (scans.Text befores.Other) (taken (acts.Byte (code "-"))) p
+hyphen_in_text befores.Other p = turns (scans.Text befores.Other) (taken acts.Hyphen) p
+
+abbrev pub behind_hyphen : ℕ → Page → Met
+behind_hyphen b p =
+    turns (scans.Text befores.Other) (left (if is_letter b then acts.Byte (code "-") else acts.Hyphen)) p
+
+abbrev pub in_text : Before → ℕ → Page → Met
+in_text before b p =
     if b == code "\n" then turns scans.Start (taken acts.Ends) p else
-    turns (scans.Text (is_inside b)) (taken (if (b == code "-") && not inside then acts.Hyphen else acts.Byte b)) p
+    if b == code "-" then hyphen_in_text before p else
+    turns (scans.Text (before_next b)) (taken (acts.Byte b)) p
 
 -- ---- control lines and their names
 
@@ -56,9 +76,15 @@ name_begins b p = turns scans.Name (taken acts.Nothing) (record p { word = b ∷
 
 abbrev pub behind_control : ℕ → Page → Met
 behind_control b p =
-    if (b == 32) || (b == code "\t") then met p (taken acts.Nothing) else
+    if (b == code " ") || (b == code "\t") then met p (taken acts.Nothing) else
     if b == code "\n" then turns scans.Start (taken acts.Nothing) p else
-    if b == code "\\" then turns scans.Comment (taken acts.Nothing) p else name_begins b p
+    if b == code "\\" then turns scans.ControlEscape (taken acts.Nothing) p else name_begins b p
+
+-- `.\"` and `.\#` begin comments; another line that begins with an escape passes
+abbrev pub behind_escape : ℕ → Page → Met
+behind_escape b p =
+    if (b == code "\"") || (b == code "#") then turns scans.Comment (taken acts.Nothing) p else
+    turns scans.Rest (left acts.Control) (record p { word = codes "\\" })
 
 abbrev pub in_comment : ℕ → Page → Met
 in_comment b p = turns (if b == code "\n" then scans.Start else scans.Comment) (taken acts.Nothing) p
@@ -76,7 +102,7 @@ word_begins scan seen p = turns scan seen (record p { word = []; call = record p
 abbrev pub between : ℕ → Page → Met
 between b p =
     if p.call.comment then turns scans.Dropped (left acts.Nothing) p else
-    if b == 32 then met p (taken acts.Nothing) else
+    if b == code " " then met p (taken acts.Nothing) else
     if b == code "\t" then met p (taken acts.Cell) else
     if b == code "\n" then turns scans.Ends (left acts.Nothing) p else
     if b == code "\"" then word_begins scans.Quoted (taken acts.Nothing) p else
@@ -103,16 +129,36 @@ wider b p = if not (b == code "&") then widens p else p
 
 abbrev pub keep_escape : ℕ → Bool → Page → Met
 keep_escape b quoted p =
-    if nat_lt (length p.word) 30 then turns (in_word_of quoted) (taken acts.Nothing) (wider b (keeping (b ∷ []) (keeping (92 ∷ []) p))) else
+    if nat_lt (length p.word) 30 then turns (in_word_of quoted) (taken acts.Nothing) (wider b (keeping (b ∷ []) (keeping (code "\\" ∷ []) p))) else
     if is_shown p then turns (scans.Long quoted true) (left acts.Nothing) p else
     turns (in_word_of quoted) (taken acts.Nothing) (wider b p)
 
-abbrev pub is_behind_sign : List ℕ → Bool
-is_behind_sign word = nat_lt 0 (length word) && not (is_inside (slice_index word (length word - 1)))
+abbrev pub is_title : ℕ → Bool
+is_title b = (b == code "B") || (b == code "N") || (b == code "O") || (b == code "R") || (b == code "T")
 
--- a hyphen after a sign is kept as an escape, since no line is broken after that
+-- hyphens stay as they are in words that tables have, and in descriptions and titles
+abbrev pub looks_up : Macro → Bool
+looks_up macros.Standard = true
+looks_up macros.Describes = true
+looks_up (macros.Part letter) = is_title letter
+looks_up m = reads_for m
+
+abbrev pub is_looked_up : Page → Bool
+is_looked_up p = looks_up p.call.taker
+
+-- another hyphen that doesn't begin its word is kept as an escape, since no line is broken after that
 abbrev pub keep_byte : ℕ → Bool → Page → Met
-keep_byte b quoted p = if (b == code "-") && is_behind_sign p.word then keep_escape b quoted p else keep b quoted p
+keep_byte b quoted p =
+    if (b == code "-") && not (is_none p.word) && not (is_looked_up p) then keep_escape b quoted p else keep b quoted p
+
+abbrev pub whole_for : Macro → Page → Bool
+whole_for macros.Parameter p = not (is_outside p.place.parameters)
+whole_for macros.Function p = is_synopsis p
+whole_for m p = false
+
+-- the words of a parameter stay together
+abbrev pub is_whole : Page → Bool
+is_whole p = whole_for p.call.taker p
 
 abbrev pub in_word : ℕ → Page → Met
 in_word b p =
@@ -123,7 +169,8 @@ abbrev pub in_quotes : ℕ → Page → Met
 in_quotes b p =
     if b == code "\"" then turns scans.Closing (taken acts.Nothing) p else
     if b == code "\n" then turns (scans.Given true) (left acts.Nothing) p else
-    if b == code "\\" then turns scans.QuotedEscape (taken acts.Nothing) p else keep_byte b true p
+    if b == code "\\" then turns scans.QuotedEscape (taken acts.Nothing) p else
+    if (b == code " ") && is_whole p then keep_escape (code "~") true p else keep_byte b true p
 
 -- two quotes within quotes are one
 abbrev pub closing : ℕ → Page → Met
@@ -223,8 +270,10 @@ meet_whole b p = meet_whole_at p.scan b p
 abbrev pub meet_at : Scan → ℕ → Page → Met
 meet_at (scans.Asleep front lines) b p = asleep front lines b p
 meet_at scans.Start b p = at_start b p
-meet_at (scans.Text inside) b p = in_text inside b p
+meet_at (scans.Text before) b p = in_text before b p
+meet_at scans.Hyphen b p = behind_hyphen b p
 meet_at scans.Control b p = behind_control b p
+meet_at scans.ControlEscape b p = behind_escape b p
 meet_at scans.Comment b p = in_comment b p
 meet_at scans.Name b p = in_name b p
 meet_at scans.Between b p = between b p

@@ -1,5 +1,5 @@
 -- What a byte does: what is said, what becomes of the open blocks, and whether it is taken.
-use Rattle.std.specs.Prelude.{Bool, true, false}
+use Rattle.std.specs.Prelude.{true, false}
 use Rattle.nr_mdoc.specs.declared.acts.Act.{Act}
 use Rattle.nr_mdoc.specs.declared.acts.Act.TheVariants.{Nothing}
 use Rattle.nr_mdoc.specs.declared.acts.Stack.{Stack}

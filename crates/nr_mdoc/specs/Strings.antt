@@ -1,5 +1,5 @@
 -- Strings that mdoc names (mdoc(7), Predefined Strings): `\*(xx` and `\*[xx]`.
-use Rattle.std.specs.Prelude.{ℕ, List, [], ◌∷◌, Bool, true, false, ◌==◌, ◌&&◌, if◌then◌else◌, slice_index, Option, None, Some}
+use Rattle.std.specs.Prelude.{ℕ, List, Bool, true, false, ◌==◌, ◌&&◌, if◌then◌else◌, slice_index, Option, None, Some}
 use Prim.Native.Char.{code}
 use Rattle.nr_mdoc.specs.declared.page.Scan.{Scan}
 use Rattle.nr_mdoc.specs.declared.page.Scan.TheVariants as scans
@@ -27,6 +27,7 @@ takes_strings (scans.Asleep front lines) = false
 takes_strings scans.Passes = false
 takes_strings scans.Comment = false
 takes_strings scans.Control = false
+takes_strings scans.ControlEscape = false
 takes_strings scans.Name = false
 takes_strings scans.Rest = false
 takes_strings scans.Dropped = false
@@ -35,7 +36,10 @@ takes_strings scan = true
 
 abbrev pub behind_star : ℕ → Next
 behind_star b =
-    if b == code "(" then Waits pendings.Open else if b == code "[" then Waits pendings.Bracket else Breaks
+    if b == code "(" then Waits pendings.Open else
+    if b == code "[" then Waits pendings.Bracket else
+    if b == code "q" then Says (code "\\") (code "(") (code "d") (code "q") else
+    if b == code "R" then Says (code "\\") (code "(") (code "r") (code "g") else Breaks
 
 -- what a byte does to what was read of an escape, or begins
 abbrev pub met_by : Pending → ℕ → Bool → Next

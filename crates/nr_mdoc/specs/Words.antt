@@ -5,7 +5,6 @@ use Prim.Native.Char.{code}
 use Rattle.nr_mdoc.specs.declared.acts.Act.{Act}
 use Rattle.nr_mdoc.specs.declared.acts.Act.TheVariants as acts
 use Rattle.nr_mdoc.specs.declared.acts.Request.TheVariants as requests
-use Rattle.nr_mdoc.specs.declared.acts.Text.{Text}
 use Rattle.nr_mdoc.specs.declared.acts.Text.TheVariants as texts
 use Rattle.nr_mdoc.specs.declared.macros.Font.TheVariants.{Roman, Bold, Italic}
 use Rattle.nr_mdoc.specs.declared.macros.Macro.{Macro}
@@ -22,8 +21,9 @@ use Rattle.nr_mdoc.specs.declared.page.Scan.{Scan}
 use Rattle.nr_mdoc.specs.declared.page.Scan.TheVariants as scans
 use Rattle.nr_mdoc.specs.declared.page.Section.{Section}
 use Rattle.nr_mdoc.specs.declared.page.Section.TheVariants.{Synopsis}
-use Rattle.nr_mdoc.specs.Laying.{with_lay}
-use Rattle.nr_mdoc.specs.Macros.{macro_of, is_callable}
+use Rattle.nr_mdoc.specs.declared.page.Split.{Split}
+use Rattle.nr_mdoc.specs.declared.page.Split.TheVariants.{Never, Next, Always}
+use Rattle.nr_mdoc.specs.Macros.{macro_of, is_callable, part_font}
 use Rattle.nr_mdoc.specs.Options.{option, reads_options}
 use Rattle.nr_mdoc.specs.Seeing.{Met, met, left, two, three}
 use Rattle.nr_mdoc.specs.Texts.{closer}
@@ -87,6 +87,19 @@ is_synopsis p = is_in_synopsis p.place.section
 abbrev pub is_none : List ℕ → Bool
 is_none xs = length xs == 0
 
+abbrev pub is_nothing : Pair → Bool
+is_nothing pairs.Nothing = true
+is_nothing pair = false
+
+-- an enclosure that has no words yet: what opens it stands behind the opening marks that come first in it
+abbrev pub is_opened_by : Macro → Bool
+is_opened_by (macros.Encloses pair) = true
+is_opened_by (macros.Opens pair) = not (is_nothing pair)
+is_opened_by m = false
+
+abbrev pub is_enclosure_due : Page → Bool
+is_enclosure_due p = is_opened_by p.call.taker && not p.call.some
+
 abbrev pub is_due_from : Macro → Bool → Bool → Bool
 is_due_from macros.Flag some named = not some
 is_due_from macros.Argument some named = not some
@@ -95,39 +108,42 @@ is_due_from macros.Att some named = not some
 is_due_from macros.Bsd some named = not some
 is_due_from macros.Name some named = not some && named
 is_due_from macros.Function some named = some
-is_due_from m some named = false
+is_due_from m some named = is_opened_by m && not some
 
 abbrev pub is_due : Page → Bool
 is_due p = is_due_from p.call.taker p.call.some (not (is_none p.name))
 
 abbrev pub takes_no_more : Page → Page
-takes_no_more p = with_call (record p.call { taker = macros.Words Roman; first = false }) p
+takes_no_more p = with_call (record p.call { taker = macros.Words Roman; first = false; some = true }) p
 
 abbrev pub heads_line : Page → Bool
 heads_line p = p.call.first && not p.call.some && is_synopsis p
 
+-- the words of a line stay together there
 abbrev pub after_name : Page → Page
-after_name p = with_place (record p.place { last = lasts.Name }) p
+after_name p = record p { place = record p.place { last = lasts.Name }; lay = record p.lay { kept = true } }
 
 -- a synopsis sets the name apart from what it hangs after
 abbrev pub own_name : Page → Met
 own_name p =
-    if heads_line p then met (after_name p) (two (acts.Hanging (length p.name + 1)) acts.Own) else met p (left acts.Own)
-
-abbrev pub function_end : Page → Text
-function_end p = if is_synopsis p then texts.FunctionEnds else texts.Closing (code ")")
+    if heads_line p then met (after_name p) (two (acts.Hanging (hanging p.place.width)) acts.Own) else met p (left acts.Own)
 
 abbrev pub function_closes : Page → Met
-function_closes p = met (with_place (record p.place { parameters = Outside }) p) (left (acts.Close (function_end p)))
+function_closes p =
+    met (with_place (record p.place { parameters = Outside }) p)
+    (if is_synopsis p then two (acts.Close texts.FunctionEnds) (acts.Request requests.HangEnds)
+    else left (acts.Close (texts.Closing (code ")"))))
 
 abbrev pub due_from : Macro → Page → Met
 due_from macros.Flag p = met p (left (acts.Text texts.Dash))
-due_from macros.Argument p = met p (left (acts.Text texts.File))
+due_from macros.Argument p = met p (two (acts.Text texts.File) (acts.Text texts.Dots))
 due_from macros.Path p = met p (left (acts.Text texts.Home))
 due_from macros.Att p = met p (left (acts.Text texts.Att))
 due_from macros.Bsd p = met p (left (acts.Text texts.Bsd))
 due_from macros.Name p = own_name p
 due_from macros.Function p = function_closes p
+due_from (macros.Encloses pair) p = met p (two (acts.Text (texts.Opening pair)) acts.Join)
+due_from (macros.Opens pair) p = met p (two (acts.Text (texts.Opening pair)) acts.Join)
 due_from m p = met p (left acts.Nothing)
 
 abbrev pub due : Page → Met
@@ -141,12 +157,7 @@ leaves p = seen_with (takes_no_more (due p).page) (due p)
 -- to the end of the line: what closes it is kept
 abbrev pub encloses : Pair → Page → Met
 encloses pair p =
-    met (if nat_lt (length p.closers) 8 then record p { closers = p.closers ++ closer pair ∷ [] } else p)
-    (two (acts.Text (texts.Opening pair)) acts.Join)
-
-abbrev pub is_nothing : Pair → Bool
-is_nothing pairs.Nothing = true
-is_nothing pair = false
+    met (if nat_lt (length p.closers) 8 then record p { closers = p.closers ++ closer pair ∷ [] } else p) (left acts.Nothing)
 
 abbrev pub deeper : Page → Page
 deeper p = if nat_lt p.place.depth 255 then with_place (record p.place { depth = p.place.depth + 1 }) p else p
@@ -155,9 +166,8 @@ abbrev pub shallower : Page → Page
 shallower p = if nat_lt 0 p.place.depth then with_place (record p.place { depth = p.place.depth - 1 }) p else p
 
 -- to its partner, on this line or another
-abbrev pub opens : Pair → Page → Met
-opens pair p =
-    met (deeper p) (if is_nothing pair then left acts.Nothing else two (acts.Text (texts.Opening pair)) acts.Join)
+abbrev pub opens : Page → Met
+opens p = met (deeper p) (left acts.Nothing)
 
 abbrev pub closes : Pair → Page → Met
 closes pair p =
@@ -167,7 +177,7 @@ closes pair p =
 
 abbrev pub called : Macro → Page → Met
 called (macros.Encloses pair) p = encloses pair p
-called (macros.Opens pair) p = opens pair p
+called (macros.Opens pair) p = opens p
 called (macros.Closes pair) p = closes pair p
 called (macros.Stands system) p = met p (left (acts.Text (texts.System system)))
 called macros.Joins p = met p (left acts.Join)
@@ -198,7 +208,8 @@ alone act p = met (takes_no_more p) (left act)
 
 -- the first word of `.Nm` is the page's name
 abbrev pub naming : Page → Page
-naming p = if is_none p.name then record p { name = p.word } else p
+naming p =
+    if is_none p.name then record p { name = p.word; place = record p.place { width = p.call.width } } else p
 
 abbrev pub named : Page → Met
 named p =
@@ -208,6 +219,10 @@ named p =
 abbrev pub is_further : Parameters → Bool
 is_further Further = true
 is_further parameters = false
+
+abbrev pub is_outside : Parameters → Bool
+is_outside Outside = true
+is_outside parameters = false
 
 abbrev pub is_first : Parameters → Bool
 is_first First = true
@@ -222,9 +237,10 @@ behind_first p = if is_first p.place.parameters then with_place (record p.place 
 abbrev pub listing : Page → Page
 listing p = with_call (record p.call { listed = true }) p
 
--- commas stand between parameters
+-- commas stand between the parameters of a function
 abbrev pub parameter : Page → Met
 parameter p =
+    if is_outside p.place.parameters then met p (left (acts.Word Italic)) else
     met (listing (behind_first p))
     (if is_listed p then two (acts.Close texts.Comma) (acts.Word Italic) else left (acts.Word Italic))
 
@@ -234,15 +250,30 @@ reference p =
     met (takes_no_more p)
     (three (acts.Close (texts.Opening pairs.Parentheses)) (acts.Joined Roman) (acts.Close (texts.Closing (code ")"))))
 
-abbrev pub splits : Bool → Page → Met
+-- the version of a system stays with its name
+abbrev pub version : Page → Met
+version p = met (takes_no_more p) (two (acts.Close texts.FixedSpace) (acts.Joined Roman))
+
+abbrev pub splits : Split → Page → Met
 splits split p = met (with_place (record p.place { split = split }) p) (left acts.Nothing)
+
+abbrev pub author_line_by : Split → Page → Met
+author_line_by Always p = met p (two (acts.Request requests.Break) (acts.Word Roman))
+author_line_by Next p = met (with_place (record p.place { split = Always }) p) (left (acts.Word Roman))
+author_line_by Never p = met p (left (acts.Word Roman))
+
+-- an author who may begin a line
+abbrev pub author_line : Page → Met
+author_line p = author_line_by p.place.split p
+
+unfoldable pub named_author : Page → Met
+named_author p = if p.call.first && not p.call.some then author_line p else met p (left (acts.Word Roman))
 
 abbrev pub author : Page → Met
 author p =
-    if bytes_eq p.word (codes "-split") then splits true p else
-    if bytes_eq p.word (codes "-nosplit") then splits false p else
-    met p (if p.call.first && not p.call.some && p.place.split
-    then two (acts.Request requests.Break) (acts.Word Roman) else left (acts.Word Roman))
+    if bytes_eq p.word (codes "-split") then splits Always p else
+    if bytes_eq p.word (codes "-nosplit") then splits Never p else
+    named_author p
 
 abbrev pub release : Page → Met
 release p =
@@ -289,7 +320,7 @@ taken_alone p = taken_alone_by p.call.taker p
 
 abbrev pub taken_by : Macro → Page → Met
 taken_by (macros.Words font) p = met p (left (acts.Word font))
-taken_by (macros.Part font) p = met p (left (acts.Word font))
+taken_by (macros.Part letter) p = met p (left (acts.Word (part_font letter)))
 taken_by macros.Flag p = met p (left acts.Flag)
 taken_by macros.Argument p = met p (left (acts.Word Italic))
 taken_by macros.Path p = met p (left (acts.Word Italic))
@@ -301,6 +332,7 @@ taken_by macros.Parameter p = parameter p
 taken_by macros.Reference p = reference p
 taken_by macros.Author p = author p
 taken_by macros.Function p = function p
+taken_by (macros.Stands system) p = version p
 taken_by m p = taken_alone p
 
 unfoldable pub taken_word : Page → Met
@@ -313,6 +345,7 @@ unfoldable pub argument : Bool → Page → Met
 argument quoted p =
     let q = with_scan scans.Between p in
     if not quoted && is_bar p.word && is_due p then leaves p else
+    if is_enclosure_due p && (quoted || not (is_opening p.word)) then leaves p else
     if not quoted && is_bar p.word then met q (left (acts.Word Roman)) else
     if not quoted && is_opening p.word then met q (two (acts.Word Roman) acts.Join) else
     seen_with (some_taken (taken_word q).page) (taken_word q)
@@ -322,9 +355,28 @@ argument quoted p =
 abbrev pub holding : ℕ → Page → Page
 holding b p = record p { scan = scans.Between; marks = p.marks ++ b ∷ []; call = record p.call { some = true; listed = false } }
 
+abbrev pub is_prefix : Macro → Bool
+is_prefix macros.Prefix = true
+is_prefix m = false
+
+abbrev pub takes_marks : Macro → Bool
+takes_marks (macros.Words font) = true
+takes_marks m = is_prefix m
+
+-- a closing mark that comes first is a word for some macros, one that ends no sentence
+abbrev pub is_text : Page → Bool
+is_text p = not p.call.some && takes_marks p.call.taker
+
+abbrev pub mark_as_word : Page → Met
+mark_as_word p =
+    let q = with_scan scans.Between p in
+    if is_prefix p.call.taker then prefix q else
+    met (with_call (record q.call { some = true }) q) (two (acts.Word Roman) (acts.Close texts.Empty))
+
 unfoldable pub mark : ℕ → Page → Met
 mark b p =
     if is_due p then leaves p else
+    if is_text p then mark_as_word p else
     if length p.marks == 32 then met p (left acts.Marks) else met (holding b p) (left acts.Nothing)
 
 -- ---- a word is whole
@@ -347,8 +399,8 @@ parsed quoted p = marked_or (closing_mark quoted p.word) quoted p
 abbrev pub ends_long : Page → Met
 ends_long p =
     let q = record p { scan = scans.Between; call = record p.call { going = false; opens = false } } in
-    if not p.call.opens then met (record p { scan = scans.Between; call = record p.call { going = false } }) (left acts.LastPart) else
-    met q (three acts.LastPart (acts.Close (texts.Opening pairs.Parentheses)) acts.Join)
+    if not p.call.opens then met (record p { scan = scans.Between; call = record p.call { going = false } }) (left acts.LastMore) else
+    met q (three acts.LastMore (acts.Close (texts.Opening pairs.Parentheses)) acts.Join)
 
 abbrev pub given : Bool → Page → Met
 given quoted p =
@@ -365,8 +417,9 @@ long_begins quoted escape p =
 
 abbrev pub long : Bool → Bool → Page → Met
 long quoted escape p =
-    if p.call.going then met (with_scan (scans.Goes quoted escape) p) (left acts.Part) else
-    if not (is_none p.marks) then met p (left acts.Marks) else long_begins quoted escape p
+    if p.call.going then met (with_scan (scans.Goes quoted escape) p) (left acts.More) else
+    if not (is_none p.marks) then met p (left acts.Marks) else
+    if is_enclosure_due p then leaves p else long_begins quoted escape p
 
 abbrev pub goes_to : Bool → Bool → Scan
 goes_to false false = scans.Word

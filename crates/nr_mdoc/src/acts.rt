@@ -20,6 +20,8 @@ pub(crate) enum Text {
     Dash,
     /// `.Ar` without words.
     File,
+    /// And what it says then.
+    Dots,
     /// `.Pa` without words.
     Home,
     /// An apostrophe.
@@ -40,10 +42,14 @@ pub(crate) enum Text {
     Include,
     /// `The`, before the names of utilities.
     The,
-    /// What `.Ex` says after them.
+    /// What `.Ex` says after one of them.
     Exits,
-    /// What `.Rv` says after functions.
+    /// What it says after several.
+    AllExit,
+    /// What `.Rv` says after a function.
     Returns,
+    /// What it says after several.
+    AllReturn,
     /// What it says without one.
     Succeeds,
     /// What stands after a function's name.
@@ -69,6 +75,14 @@ pub(crate) enum Request {
     Tabs,
     /// An indent ends.
     IndentEnds,
+    /// Lines stay, with the tab stops of programs.
+    Literal,
+    /// They stay no more.
+    LiteralEnds,
+    /// A line hangs.
+    Hangs,
+    /// It ends.
+    HangEnds,
     /// A font.
     Font(Font),
 }
@@ -82,8 +96,8 @@ pub(crate) enum Sized {
     Bullet,
     /// An item with a dash.
     Dash,
-    /// An item without a tag.
-    Untagged,
+    /// Text goes on, further to the right.
+    Inner,
     /// A tag is the next line.
     Tagged,
     /// A paragraph hangs.
@@ -110,11 +124,15 @@ pub(crate) enum Act {
     /// The word joined to what is before.
     Joined(Font),
     /// A further part of a long word.
-    Part,
+    More,
     /// The last part of one.
-    LastPart,
+    LastMore,
     /// The page's name.
     Own,
+    /// The name that was held back, after a comma.
+    Held,
+    /// The last of the names, after `and`, and after a comma too where there are more than two.
+    LastHeld(bool),
     /// A text.
     Text(Text),
     /// A text joined to what is before.
@@ -137,6 +155,8 @@ pub(crate) enum Act {
     Ends,
     /// What was begun is put on a line, and a tag is whole.
     Fresh,
+    /// A tag is whole: one of so many ens stands alone on its line.
+    TagEnds(u16),
     /// The same, and nothing was put since space was made.
     Quiet,
     /// Space as before a paragraph, once.
@@ -165,6 +185,10 @@ pub(crate) enum Act {
     Column(u16),
     /// A cell of a table ends.
     Cell,
+    /// A part of a reference begins, by its letter: its line sets a string.
+    Part(u8),
+    /// The parts of a reference stand in their order.
+    Reference,
 }
 
 /// What becomes of the open blocks.

@@ -68,6 +68,7 @@ fn usual_width(kind: Kind) -> u16
 fn tag_width(block: Block) -> u16
     ensures value { result ≡ specs.tag_width block }
     ensures few { result ≤ 902 }
+    ensures some { 2 ≤ result }
 {
     if block.width == 0 {
         usual_width(block.kind) + 2
@@ -140,7 +141,7 @@ impl Page {
         let indent = self.indent();
         if matches!(self.block.kind, Kind::Literal) {
             self.lay.literal = true;
-            return Seen::three(space, indent, Act::Request(Request::NoFill));
+            return Seen::three(space, indent, Act::Request(Request::Literal));
         }
         Seen::two(space, indent)
     }
@@ -172,7 +173,7 @@ impl Page {
         match self.block.kind {
             Kind::Literal => {
                 self.lay.literal = false;
-                Seen::two(Act::Request(Request::Fill), end).with(Stack::Closes)
+                Seen::two(Act::Request(Request::LiteralEnds), end).with(Stack::Closes)
             }
             Kind::Filled => Seen::left(end).with(Stack::Closes),
             _ => Seen::left(Act::Nothing),
@@ -184,7 +185,7 @@ impl Page {
         ensures { result ≡ specs.outer_goes_on act self.now }
     {
         if is_tagged(self.block) {
-            return Seen::two(act, Act::Sized(Sized::Untagged, tag_width(self.block)));
+            return Seen::two(act, Act::Sized(Sized::Inner, tag_width(self.block)));
         }
         Seen::left(act)
     }
@@ -216,12 +217,23 @@ impl Page {
         if !is_list(self.block.kind) {
             return Seen::left(Act::Nothing);
         }
+        let before = self.before_item();
         self.counts();
         if matches!(self.block.kind, Kind::Diagnosis) {
             self.call.taker = Macro::Words(Font::Bold);
         }
+        Seen::two(before, self.item_head())
+    }
+
+    /// What stands before an item: space, unless the list is compact. An item that has a tag alone has space behind it too.
+    fn before_item(&self) -> Act
+        ensures { result ≡ specs.before_item self.now }
+    {
         let close = self.block.compact || matches!(self.block.kind, Kind::Column);
-        Seen::two(space(close), self.item_head())
+        if close || !self.block.begun {
+            return space(close);
+        }
+        Act::Request(Request::Space)
     }
 
     /// What begins it.
@@ -236,6 +248,16 @@ impl Page {
             Kind::Tag | Kind::Hang => Act::Sized(Sized::Tagged, width),
             Kind::Column => Act::Nothing,
             _ => Act::Request(Request::Break),
+        }
+    }
+
+    /// A tag is whole.
+    pub(crate) fn tag_ends(&self) -> Act
+        ensures { result ≡ specs.tag_ends self.now }
+    {
+        match self.block.kind {
+            Kind::Tag => Act::TagEnds(tag_width(self.block) - 1),
+            _ => Act::Fresh,
         }
     }
 

@@ -5,7 +5,7 @@ ghost use Rattle.nr_mdoc.specs.Lines as specs;
 
 use super::acts::{Act, Request, Text};
 use super::macros::{Font, Macro, macro_of};
-use super::page::{Call, Dots, Kind, Last, Page, Scan, Section, Wanted};
+use super::page::{Call, Dots, Kind, Last, Page, Scan, Section, Split, Wanted};
 use super::seen::Seen;
 use nr_units::Name;
 
@@ -29,6 +29,7 @@ pub(crate) fn call_of(line: Macro) -> Call
         first: true,
         some: false,
         listed: false,
+        many: false,
         opens: false,
         going: false,
         comment: false,
@@ -88,7 +89,7 @@ impl Page {
             Macro::Title => self.titles(),
             Macro::System => self.system(),
             Macro::Section => self.section(),
-            Macro::Subsection => Seen::left(Act::Subsection),
+            Macro::Subsection => self.subsection(),
             Macro::Paragraph => self.paragraph(),
             Macro::Describes => Seen::left(Act::Text(Text::Description)),
             Macro::Silent => self.silent(),
@@ -97,9 +98,14 @@ impl Page {
             Macro::Defines => self.defines(),
             Macro::Book => self.book(),
             Macro::BookEnds => self.book_ends(),
-            Macro::Part(_) => self.book_part(),
+            Macro::Part(letter) => self.part_begins(letter),
+            Macro::Keeps => self.keeps(true),
+            Macro::KeepEnds => self.keeps(false),
+            Macro::Table => self.table(),
+            Macro::TableEnds => self.table_ends(),
             Macro::FontEnds => Seen::left(Act::Request(Request::Font(Font::Roman))),
-            Macro::Exits => Seen::left(Act::Text(Text::The)),
+            Macro::Exits => Seen::two(Act::Request(Request::Break), Act::Text(Text::The)),
+            Macro::Returns => Seen::left(Act::Request(Request::Break)),
             _ => self.begins_block(line),
         }
     }
@@ -116,7 +122,7 @@ impl Page {
             Macro::DisplayEnds => self.display_ends(),
             Macro::Line | Macro::LiteralLine => self.line_opens(),
             Macro::ResultType => self.synopsis_line(Last::ResultType),
-            Macro::Function | Macro::FunctionOpens => self.synopsis_line(Last::Function),
+            Macro::Function | Macro::FunctionOpens => self.function_line(),
             Macro::Variable => self.synopsis_line(Last::Variable),
             Macro::Declaration => self.synopsis_line(Last::Declaration),
             Macro::Include => self.include_line(),
@@ -150,12 +156,22 @@ impl Page {
     {
         self.place.section = Section::Other;
         self.place.last = Last::Heading;
-        self.place.split = false;
+        self.place.split = Split::Never;
         self.place.depth = 0;
+        self.lay.kept = false;
         if self.place.titled {
             return Seen::left(Act::Section);
         }
         Seen::three(Act::Title, Act::TitleEnds, Act::Section)
+    }
+
+    /// A subsection begins.
+    fn subsection(&mut self) -> Seen
+        ensures { met self.new result ≡ specs.subsection self.old }
+    {
+        self.call.taker = Macro::Words(Font::Roman);
+        self.place.last = Last::Heading;
+        Seen::left(Act::Subsection)
     }
 
     /// A paragraph begins.
@@ -182,11 +198,42 @@ impl Page {
         Seen::left(Act::Control)
     }
 
+    /// The words of a line stay together, or no more.
+    fn keeps(&mut self, kept: bool) -> Seen
+        ensures { met self.new result ≡ specs.keeps kept self.old }
+    {
+        self.lay.kept = kept;
+        self.silent()
+    }
+
+    /// Lines for tbl come: they stay as they are, but for macros.
+    fn table(&mut self) -> Seen
+        ensures { met self.new result ≡ specs.table self.old }
+    {
+        self.lay.literal = true;
+        self.scan = Scan::Rest;
+        Seen::left(Act::Control)
+    }
+
+    /// They have ended.
+    fn table_ends(&mut self) -> Seen
+        ensures { met self.new result ≡ specs.table_ends self.old }
+    {
+        self.lay.literal = matches!(self.block.kind, Kind::Literal);
+        self.scan = Scan::Rest;
+        Seen::left(Act::Control)
+    }
+
     /// A reference begins.
     fn book(&mut self) -> Seen
         ensures { met self.new result ≡ specs.book self.old }
     {
-        self.place.part = false;
+        self.place.reference = true;
+        self.place.authors = 0;
+        self.parts = Name::new();
+        if matches!(self.place.section, Section::SeeAlso) {
+            return Seen::left(Act::Space);
+        }
         Seen::left(Act::Nothing)
     }
 
@@ -194,21 +241,30 @@ impl Page {
     fn book_ends(&mut self) -> Seen
         ensures { met self.new result ≡ specs.book_ends self.old }
     {
-        if !self.place.part {
+        if !self.place.reference {
             return Seen::left(Act::Nothing);
         }
-        self.place.part = false;
-        Seen::left(Act::Close(Text::Period))
+        self.place.reference = false;
+        Seen::left(Act::Reference)
     }
 
     /// A part of it comes.
-    fn book_part(&mut self) -> Seen
-        ensures { met self.new result ≡ specs.book_part self.old }
+    fn part_begins(&mut self, letter: u8) -> Seen
+        ensures { met self.new result ≡ specs.part_begins letter self.old }
     {
-        if self.place.part {
-            return Seen::left(Act::Close(Text::Comma));
+        if !self.place.reference {
+            return Seen::left(Act::Nothing);
         }
-        self.place.part = true;
+        Seen::two(Act::Part(letter), Act::Join)
+    }
+
+    /// Its line ends.
+    fn part_ends(&self) -> Seen
+        ensures { result ≡ specs.part_ends self.now }
+    {
+        if self.place.reference {
+            return Seen::left(Act::Fresh);
+        }
         Seen::left(Act::Nothing)
     }
 
@@ -233,6 +289,18 @@ impl Page {
         let act = self.line_before(kind);
         self.place.last = kind;
         Seen::left(act)
+    }
+
+    /// A function hangs in the synopsis.
+    fn function_line(&mut self) -> Seen
+        ensures { met self.new result ≡ specs.function_line self.old }
+    {
+        if !self.is_synopsis() {
+            return Seen::left(Act::Nothing);
+        }
+        let act = self.line_before(Last::Function);
+        self.place.last = Last::Function;
+        Seen::two(act, Act::Request(Request::Hangs))
     }
 
     /// A file that a line includes.
@@ -273,7 +341,17 @@ impl Page {
         let bytes = closers.as_bytes();
         let rest = bytes.len() - 1;
         self.closers = Name::of(&bytes[..rest]);
+        if self.ends_joined() {
+            return Seen::two(Act::Close(Text::Closing(bytes[rest])), Act::Join);
+        }
         Seen::left(Act::Close(Text::Closing(bytes[rest])))
+    }
+
+    /// `.Ns` ends the line: what comes next joins what the line closes.
+    fn ends_joined(&self) -> bool
+        ensures { result ≡ specs.ends_joined self.now }
+    {
+        matches!(self.call.taker, Macro::Joins) && !self.call.some
     }
 
     /// All of the line was said.
@@ -285,7 +363,7 @@ impl Page {
         self.scan = Scan::Start;
         if matches!(seen.third, Act::Nothing) {
             let whole = self.lay.tag && self.place.depth == 0;
-            seen.third = if whole { Act::Fresh } else { Act::Ends };
+            seen.third = if whole { self.tag_ends() } else { Act::Ends };
         }
         seen
     }
@@ -305,8 +383,8 @@ impl Page {
             Macro::Line | Macro::LiteralLine => self.outer_goes_on(Act::Request(
                 Request::IndentEnds,
             )),
-            Macro::Include | Macro::ResultType => self.synopsis_line_ends(),
             Macro::Item => self.item_ends(),
+            Macro::Part(_) => self.part_ends(),
             Macro::Exits => self.exits(),
             Macro::Returns => self.returns(),
             Macro::Spacing => self.spacing(),
@@ -314,34 +392,34 @@ impl Page {
         }
     }
 
-    /// A line of the synopsis ends.
-    fn synopsis_line_ends(&self) -> Seen
-        ensures { result ≡ specs.synopsis_line_ends self.now }
-    {
-        if self.is_synopsis() {
-            return Seen::left(Act::Request(Request::Break));
-        }
-        Seen::left(Act::Nothing)
-    }
-
     /// What a utility's status is: the page's, where none is named.
     fn exits(&self) -> Seen
         ensures { result ≡ specs.exits self.now }
     {
-        if self.call.listed {
+        if !self.call.listed {
+            return Seen::two(Act::Own, Act::Text(Text::Exits));
+        }
+        if self.held.is_empty() {
             return Seen::left(Act::Text(Text::Exits));
         }
-        Seen::two(Act::Own, Act::Text(Text::Exits))
+        Seen::two(Act::LastHeld(self.call.many), Act::Text(Text::AllExit))
     }
 
     /// What functions return.
     fn returns(&self) -> Seen
         ensures { result ≡ specs.returns self.now }
     {
-        if self.call.listed {
+        if !self.call.listed {
+            return Seen::left(Act::Text(Text::Succeeds));
+        }
+        if self.held.is_empty() {
             return Seen::left(Act::Text(Text::Returns));
         }
-        Seen::left(Act::Text(Text::Succeeds))
+        Seen::three(
+            Act::LastHeld(self.call.many),
+            Act::Close(Text::Parentheses),
+            Act::Text(Text::AllReturn),
+        )
     }
 
     /// Without a word the spacing turns.

@@ -1,5 +1,5 @@
 //! The table of macros.
-ghost use Rattle.std.specs.Prelude.{◌≡◌};
+ghost use Rattle.std.specs.Prelude.{◌≡◌, is_some};
 ghost use Rattle.nr_mdoc.specs.Macros as specs;
 
 /// A font.
@@ -152,8 +152,8 @@ pub(crate) enum Macro {
     Book,
     /// `.Re`.
     BookEnds,
-    /// A part of a reference, in a font.
-    Part(Font),
+    /// A part of a reference, by its letter.
+    Part(u8),
     /// `.Bf`.
     FontBegins,
     /// `.Ef`.
@@ -164,8 +164,16 @@ pub(crate) enum Macro {
     Exits,
     /// `.Rv`.
     Returns,
-    /// `.Bk`, `.Ek` and such as print nothing.
+    /// `.Bk`.
+    Keeps,
+    /// `.Ek`.
+    KeepEnds,
+    /// Such as print nothing.
     Silent,
+    /// `.TS` and `.T&`: lines for tbl come.
+    Table,
+    /// `.TE`: they have ended.
+    TableEnds,
     /// `.br`.
     Breaks,
     /// `.sp`.
@@ -175,7 +183,7 @@ pub(crate) enum Macro {
 }
 
 /// The macros with names of two bytes, and the requests that are of account here.
-static NAMES: [(u8, u8, Macro); 108] = [
+static NAMES: [(u8, u8, Macro); 111] = [
     (b'A', b'c', Macro::Closes(Pair::Angles)),
     (b'A', b'd', Macro::Words(Font::Italic)),
     (b'A', b'n', Macro::Author),
@@ -187,7 +195,7 @@ static NAMES: [(u8, u8, Macro); 108] = [
     (b'B', b'c', Macro::Closes(Pair::Brackets)),
     (b'B', b'd', Macro::Display),
     (b'B', b'f', Macro::FontBegins),
-    (b'B', b'k', Macro::Silent),
+    (b'B', b'k', Macro::Keeps),
     (b'B', b'l', Macro::List),
     (b'B', b'o', Macro::Opens(Pair::Brackets)),
     (b'B', b'q', Macro::Encloses(Pair::Brackets)),
@@ -208,7 +216,7 @@ static NAMES: [(u8, u8, Macro); 108] = [
     (b'E', b'c', Macro::OwnCloses),
     (b'E', b'd', Macro::DisplayEnds),
     (b'E', b'f', Macro::FontEnds),
-    (b'E', b'k', Macro::Silent),
+    (b'E', b'k', Macro::KeepEnds),
     (b'E', b'l', Macro::ListEnds),
     (b'E', b'm', Macro::Words(Font::Italic)),
     (b'E', b'n', Macro::Words(Font::Roman)),
@@ -269,6 +277,9 @@ static NAMES: [(u8, u8, Macro); 108] = [
     (b'S', b't', Macro::Standard),
     (b'S', b'x', Macro::Words(Font::Italic)),
     (b'S', b'y', Macro::Words(Font::Bold)),
+    (b'T', b'&', Macro::Table),
+    (b'T', b'E', Macro::TableEnds),
+    (b'T', b'S', Macro::Table),
     (b'T', b'a', Macro::Cell),
     (b'T', b'g', Macro::Silent),
     (b'T', b'n', Macro::Words(Font::Roman)),
@@ -306,11 +317,11 @@ fn letters_macro(first: u8, second: u8) -> Option<Macro>
 }
 
 /// The font of a part of a reference.
-fn part_font(letter: u8) -> Font
+pub(crate) fn part_font(letter: u8) -> Font
     ensures { result ≡ specs.part_font letter }
 {
     match letter {
-        b'B' | b'I' | b'J' | b'T' => Font::Italic,
+        b'B' | b'I' | b'J' => Font::Italic,
         _ => Font::Roman,
     }
 }
@@ -320,7 +331,7 @@ fn short_macro(first: u8, second: u8) -> Option<Macro>
     ensures { result ≡ specs.short_macro first second }
 {
     if first == b'%' {
-        return Some(Macro::Part(part_font(second)));
+        return Some(Macro::Part(second));
     }
     letters_macro(first, second)
 }
@@ -354,6 +365,13 @@ pub(crate) fn macro_of(name: &[u8]) -> Option<Macro>
     }
 }
 
+/// Whether a name is that of a macro of mdoc(7), or of a request that is read as one.
+pub fn is_macro(name: &[u8]) -> bool
+    ensures { result ≡ is_some (specs.macro_of name.now) }
+{
+    macro_of(name).is_some()
+}
+
 impl Macro {
     /// Whether it is called by a word of a line that another macro began.
     pub(crate) fn is_callable(self) -> bool
@@ -372,8 +390,17 @@ impl Macro {
             | Macro::Opens(_)
             | Macro::Closes(_)
             | Macro::OwnOpens
-            | Macro::OwnCloses
-            | Macro::Stands(_)
+            | Macro::OwnCloses => true,
+            _ => self.is_callable_too(),
+        }
+    }
+
+    /// Those that stand for text, joints, and those of functions and tables.
+    fn is_callable_too(self) -> bool
+        ensures { result ≡ specs.is_callable_too self }
+    {
+        match self {
+            Macro::Stands(_)
             | Macro::Att
             | Macro::Bsd
             | Macro::Standard

@@ -6,7 +6,7 @@ ghost use Rattle.nr_mdoc.specs.Options as specs;
 use super::acts::{Act, Request, Text};
 use super::lookup::named_in;
 use super::macros::{Font, Macro};
-use super::page::{Asks, Kind, Page, Scan, Section, Wanted};
+use super::page::{Asks, Kind, Page, Scan, Section, Split, Wanted};
 use super::seen::Seen;
 
 /// What the options of lists and displays ask.
@@ -73,9 +73,10 @@ static FONTS: [([u8; 15], Font); 4] = [
 ];
 
 /// The sections in which macros print otherwise, by the first word of their headings.
-static SECTIONS: [([u8; 15], Section); 2] = [
+static SECTIONS: [([u8; 15], Section); 3] = [
     (*b"SYNOPSIS\0\0\0\0\0\0\0", Section::Synopsis),
     (*b"AUTHORS\0\0\0\0\0\0\0\0", Section::Authors),
+    (*b"SEE\0\0\0\0\0\0\0\0\0\0\0\0", Section::SeeAlso),
 ];
 
 /// The value of a digit.
@@ -177,7 +178,6 @@ impl Page {
                 | Macro::Exits
                 | Macro::Returns
                 | Macro::Section
-                | Macro::Subsection
         )
     }
 
@@ -185,7 +185,7 @@ impl Page {
     pub(crate) fn is_shown(&self) -> bool
         ensures { result ≡ specs.is_shown self.now }
     {
-        !self.reads_options() || matches!(self.call.taker, Macro::Section | Macro::Subsection)
+        !self.reads_options() || matches!(self.call.taker, Macro::Section)
     }
 
     /// A word comes for what it asks.
@@ -252,16 +252,18 @@ impl Page {
             Some(section) => section,
             None => Section::Other,
         };
-        self.place.split = matches!(self.place.section, Section::Authors);
+        self.place.split = match self.place.section {
+            Section::Authors => Split::Next,
+            _ => Split::Never,
+        };
     }
 
-    /// A word of a heading.
+    /// The first word of a section's heading.
     fn heading_word(&mut self) -> Seen
         ensures { met self.new result ≡ specs.heading_word self.old }
     {
-        if matches!(self.call.taker, Macro::Section) && !self.call.some {
-            self.enters();
-        }
+        self.enters();
+        self.call.taker = Macro::Words(Font::Roman);
         Seen::left(Act::Word(Font::Roman))
     }
 
@@ -297,8 +299,23 @@ impl Page {
         if self.is_usual() {
             return Seen::left(Act::Nothing);
         }
-        self.call.listed = true;
-        Seen::left(Act::Word(Font::Bold))
+        if !self.call.listed {
+            self.call.listed = true;
+            return Seen::left(Act::Word(Font::Bold));
+        }
+        self.holds()
+    }
+
+    /// A name is held back, as it may be the last: the one that was held back before it is not.
+    fn holds(&mut self) -> Seen
+        ensures { met self.new result ≡ specs.holds self.old }
+    {
+        if self.held.is_empty() {
+            self.held = self.word;
+            return Seen::left(Act::Nothing);
+        }
+        self.call.many = true;
+        Seen::left(Act::Held)
     }
 
     /// The name of a function.
@@ -308,13 +325,26 @@ impl Page {
         if self.is_usual() {
             return Seen::left(Act::Nothing);
         }
-        let the = if self.call.listed {
-            Act::Nothing
-        } else {
-            Act::Text(Text::The)
-        };
+        if self.call.listed {
+            return self.holds_function();
+        }
         self.call.listed = true;
-        Seen::three(the, Act::Word(Font::Bold), Act::Close(Text::Parentheses))
+        Seen::three(
+            Act::Text(Text::The),
+            Act::Word(Font::Bold),
+            Act::Close(Text::Parentheses),
+        )
+    }
+
+    /// The same of a function.
+    fn holds_function(&mut self) -> Seen
+        ensures { met self.new result ≡ specs.holds_function self.old }
+    {
+        let mut seen = self.holds();
+        if self.call.many {
+            seen.second = Act::Close(Text::Parentheses);
+        }
+        seen
     }
 
     /// The width that the word says: by its name, by a number, or by its length.

@@ -31,6 +31,17 @@ pub(crate) enum Front {
     Other,
 }
 
+/// What stands before a byte of a text line.
+#[derive(Clone, Copy)]
+pub(crate) enum Before {
+    /// A letter.
+    Letter,
+    /// A backslash.
+    Backslash,
+    /// Another byte.
+    Other,
+}
+
 /// Where a line is read.
 #[derive(Clone, Copy)]
 pub(crate) enum Scan {
@@ -42,10 +53,14 @@ pub(crate) enum Scan {
     Start,
     /// In a comment.
     Comment,
-    /// In a text line, after a letter or a digit or not.
-    Text(bool),
+    /// In a text line, after such a byte.
+    Text(Before),
+    /// In a text line, after a hyphen behind a letter.
+    Hyphen,
     /// After the control character.
     Control,
+    /// After the control character and a backslash.
+    ControlEscape,
     /// In the name of a macro.
     Name,
     /// Between words.
@@ -96,6 +111,19 @@ pub(crate) enum Section {
     Synopsis,
     /// AUTHORS.
     Authors,
+    /// SEE ALSO.
+    SeeAlso,
+}
+
+/// Whether authors begin lines.
+#[derive(Clone, Copy)]
+pub(crate) enum Split {
+    /// None does.
+    Never,
+    /// All but the next.
+    Next,
+    /// All.
+    Always,
 }
 
 /// What began the line before in a synopsis.
@@ -217,6 +245,8 @@ pub(crate) struct Lay {
     pub tag: bool,
     /// Lines stay as they are.
     pub literal: bool,
+    /// No line is broken between the words of a line.
+    pub kept: bool,
     /// Nothing was put since space was made.
     pub quiet: bool,
     /// The font of a word that goes on.
@@ -236,8 +266,10 @@ pub(crate) struct Call {
     pub first: bool,
     /// It took a word.
     pub some: bool,
-    /// A parameter came, and no mark after it.
+    /// A parameter or a name came, and no mark after it.
     pub listed: bool,
+    /// More than two names came.
+    pub many: bool,
     /// A parenthesis comes after the word.
     pub opens: bool,
     /// The front of the word went out.
@@ -257,16 +289,22 @@ pub(crate) struct Place {
     pub section: Section,
     /// What began the line before in a synopsis.
     pub last: Last,
-    /// Authors begin lines.
-    pub split: bool,
+    /// Whether authors begin lines.
+    pub split: Split,
     /// In a function's parameters.
     pub parameters: Parameters,
     /// How many enclosures are open that may end on another line.
     pub depth: u8,
-    /// A part of a reference was printed.
-    pub part: bool,
+    /// In a reference.
+    pub reference: bool,
+    /// Some of it was printed.
+    pub listed: bool,
+    /// How many authors it has, of three at most.
+    pub authors: u8,
     /// The page's title went out.
     pub titled: bool,
+    /// The width of the page's name.
+    pub width: u16,
 }
 
 /// What is half read.
@@ -278,6 +316,10 @@ pub(crate) struct Page {
     pub word: Name,
     /// Closing marks that may be the last of the line.
     pub marks: Name,
+    /// A name that `.Ex` or `.Rv` holds back.
+    pub held: Name,
+    /// The letters of the parts of a reference.
+    pub parts: Name,
     /// What closes the enclosures that the line opened: the last stands last.
     pub closers: Name,
     /// The page's name.

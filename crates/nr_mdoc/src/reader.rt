@@ -6,7 +6,7 @@ ghost use Rattle.nr_mdoc.specs.Reading.{state};
 use super::acts::Stack;
 use super::lines::call_of;
 use super::macros::{Font, Macro};
-use super::page::{At, Block, Front, Last, Lay, Page, Parameters, Place, Scan, Section};
+use super::page::{At, Block, Front, Last, Lay, Page, Parameters, Place, Scan, Section, Split};
 use super::seen::Seen;
 use super::strings::Pending;
 use nr_units::Name;
@@ -28,6 +28,7 @@ fn first_lay() -> Lay
         spaced: true,
         tag: false,
         literal: false,
+        kept: false,
         quiet: true,
         font: Font::Roman,
         front: false,
@@ -41,11 +42,14 @@ fn first_place() -> Place
     Place {
         section: Section::Other,
         last: Last::Other,
-        split: false,
+        split: Split::Never,
         parameters: Parameters::Outside,
         depth: 0,
-        part: false,
+        reference: false,
+        listed: false,
+        authors: 0,
         titled: false,
+        width: 0,
     }
 }
 
@@ -196,6 +200,8 @@ impl Page {
             scan: Scan::Asleep(Front::Nothing, 0),
             word: Name::new(),
             marks: Name::new(),
+            held: Name::new(),
+            parts: Name::new(),
             closers: Name::new(),
             name: Name::new(),
             title: Name::new(),

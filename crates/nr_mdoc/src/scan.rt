@@ -6,7 +6,7 @@ ghost use Rattle.nr_mdoc.specs.Scanning as specs;
 use super::acts::{Act, Text};
 use super::lines::call_of;
 use super::macros::Macro;
-use super::page::{Dots, Front, Page, Scan};
+use super::page::{Before, Dots, Front, Last, Page, Parameters, Scan};
 use super::seen::Seen;
 use nr_units::Name;
 
@@ -23,11 +23,24 @@ pub(crate) fn ends_word(byte: u8) -> bool
     byte == b' ' || byte == b'\t' || byte == b'\n'
 }
 
-/// After which a hyphen may break a line, or is a part of an escape.
-fn is_inside(byte: u8) -> bool
-    ensures { result ≡ specs.is_inside byte }
+/// A letter: between two of them a line may be broken after a hyphen.
+fn is_letter(byte: u8) -> bool
+    ensures { result ≡ specs.is_letter byte }
 {
-    matches!(byte, b'0'..=b'9' | b'A'..=b'Z' | b'a'..=b'z' | b'\\')
+    matches!(byte, b'A'..=b'Z' | b'a'..=b'z')
+}
+
+/// What a byte is for the one after it.
+fn before_next(byte: u8) -> Before
+    ensures { result ≡ specs.before_next byte }
+{
+    if is_letter(byte) {
+        Before::Letter
+    } else if byte == b'\\' {
+        Before::Backslash
+    } else {
+        Before::Other
+    }
 }
 
 /// One more byte of `.Dd`.
@@ -86,7 +99,8 @@ impl Page {
         if (byte == b' ' || byte == b'\t') && !self.lay.literal {
             return Seen::taken(Act::Nothing);
         }
-        self.turns(Scan::Text(is_inside(byte)), Seen::taken(Act::Begin(byte)))
+        self.place.last = Last::Heading;
+        self.turns(Scan::Text(before_next(byte)), Seen::taken(Act::Begin(byte)))
     }
 
     /// An empty line.
@@ -99,16 +113,42 @@ impl Page {
         Seen::taken(Act::Space)
     }
 
-    /// In a text line, after a letter or a digit or not.
-    fn in_text(&mut self, inside: bool, byte: u8) -> Seen
-        ensures { met self.new result ≡ specs.in_text inside byte self.old }
+    /// In a text line, after such a byte.
+    fn in_text(&mut self, before: Before, byte: u8) -> Seen
+        ensures { met self.new result ≡ specs.in_text before byte self.old }
     {
         if byte == b'\n' {
             return self.turns(Scan::Start, Seen::taken(Act::Ends));
         }
-        let hyphen = byte == b'-' && !inside;
-        let act = if hyphen { Act::Hyphen } else { Act::Byte(byte) };
-        self.turns(Scan::Text(is_inside(byte)), Seen::taken(act))
+        if byte == b'-' {
+            return self.hyphen_in_text(before);
+        }
+        self.turns(Scan::Text(before_next(byte)), Seen::taken(Act::Byte(byte)))
+    }
+
+    /// A hyphen in a text line: behind a letter it is held back, since a line may be broken after it before another.
+    fn hyphen_in_text(&mut self, before: Before) -> Seen
+        ensures { met self.new result ≡ specs.hyphen_in_text before self.old }
+    {
+        match before {
+            Before::Letter => self.turns(Scan::Hyphen, Seen::taken(Act::Nothing)),
+            Before::Backslash => {
+                self.turns(Scan::Text(Before::Other), Seen::taken(Act::Byte(b'-')))
+            }
+            Before::Other => self.turns(Scan::Text(Before::Other), Seen::taken(Act::Hyphen)),
+        }
+    }
+
+    /// After a hyphen that was held back.
+    fn behind_hyphen(&mut self, byte: u8) -> Seen
+        ensures { met self.new result ≡ specs.behind_hyphen byte self.old }
+    {
+        let act = if is_letter(byte) {
+            Act::Byte(b'-')
+        } else {
+            Act::Hyphen
+        };
+        self.turns(Scan::Text(Before::Other), Seen::left(act))
     }
 
     /// After the control character.
@@ -118,7 +158,7 @@ impl Page {
         match byte {
             b' ' | b'\t' => Seen::taken(Act::Nothing),
             b'\n' => self.turns(Scan::Start, Seen::taken(Act::Nothing)),
-            b'\\' => self.turns(Scan::Comment, Seen::taken(Act::Nothing)),
+            b'\\' => self.turns(Scan::ControlEscape, Seen::taken(Act::Nothing)),
             _ => self.name_begins(byte),
         }
     }
@@ -129,6 +169,17 @@ impl Page {
     {
         self.word = Name::of(&[byte]);
         self.turns(Scan::Name, Seen::taken(Act::Nothing))
+    }
+
+    /// After the control character and a backslash: a comment, or a line that passes.
+    fn behind_escape(&mut self, byte: u8) -> Seen
+        ensures { met self.new result ≡ specs.behind_escape byte self.old }
+    {
+        if byte == b'"' || byte == b'#' {
+            return self.turns(Scan::Comment, Seen::taken(Act::Nothing));
+        }
+        self.word = Name::of(&[b'\\']);
+        self.turns(Scan::Rest, Seen::left(Act::Control))
     }
 
     /// In a comment.
@@ -201,14 +252,36 @@ impl Page {
         Seen::taken(Act::Nothing)
     }
 
-    /// A byte of a word is kept: a hyphen after a sign as an escape, since no line is broken after that.
+    /// Whether hyphens in the word stay as they are: it may be one that a table has, or a title.
+    fn is_looked_up(&self) -> bool
+        ensures { result ≡ specs.is_looked_up self.now }
+    {
+        match self.call.taker {
+            Macro::Standard | Macro::Describes => true,
+            Macro::Part(letter) => is_title(letter),
+            _ => self.reads_options(),
+        }
+    }
+
+    /// A byte of a word is kept: a hyphen that doesn't begin it as an escape, since no line is broken after that.
     fn keep_byte(&mut self, byte: u8, quoted: bool) -> Seen
         ensures { met self.new result ≡ specs.keep_byte byte quoted self.old }
     {
-        if byte == b'-' && is_behind_sign(self.word.as_bytes()) {
+        if byte == b'-' && !self.word.is_empty() && !self.is_looked_up() {
             return self.keep_escape(byte, quoted);
         }
         self.keep(byte, quoted)
+    }
+
+    /// The words of parameters stay together.
+    fn is_whole(&self) -> bool
+        ensures { result ≡ specs.is_whole self.now }
+    {
+        match self.call.taker {
+            Macro::Parameter => !matches!(self.place.parameters, Parameters::Outside),
+            Macro::Function => self.is_synopsis(),
+            _ => false,
+        }
     }
 
     /// In a word.
@@ -232,6 +305,7 @@ impl Page {
             b'"' => self.turns(Scan::Closing, Seen::taken(Act::Nothing)),
             b'\n' => self.turns(Scan::Given(true), Seen::left(Act::Nothing)),
             b'\\' => self.turns(Scan::QuotedEscape, Seen::taken(Act::Nothing)),
+            b' ' if self.is_whole() => self.keep_escape(b'~', true),
             _ => self.keep_byte(byte, true),
         }
     }
@@ -375,8 +449,10 @@ impl Page {
         match self.scan {
             Scan::Asleep(front, lines) => self.asleep(front, lines, byte),
             Scan::Start => self.at_start(byte),
-            Scan::Text(inside) => self.in_text(inside, byte),
+            Scan::Text(before) => self.in_text(before, byte),
+            Scan::Hyphen => self.behind_hyphen(byte),
             Scan::Control => self.behind_control(byte),
+            Scan::ControlEscape => self.behind_escape(byte),
             Scan::Comment => self.in_comment(byte),
             Scan::Name => self.in_name(byte),
             Scan::Between => self.between(byte),
@@ -407,12 +483,11 @@ impl Page {
     }
 }
 
-/// Whether a word ends with a sign.
-fn is_behind_sign(word: &[u8]) -> bool
-    ensures { result ≡ specs.is_behind_sign word.now }
+/// A part of a reference that may be broken after a hyphen.
+fn is_title(letter: u8) -> bool
+    ensures { result ≡ specs.is_title letter }
 {
-    let len = word.len();
-    len > 0 && !is_inside(word[len - 1])
+    matches!(letter, b'B' | b'N' | b'O' | b'R' | b'T')
 }
 
 /// In a word between quotes, or not.

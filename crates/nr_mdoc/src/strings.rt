@@ -43,7 +43,7 @@ pub(crate) enum Next {
 }
 
 /// The strings of mdoc, and what they stand for.
-static STRINGS: [(u8, u8, [u8; 4]); 18] = [
+static STRINGS: [(u8, u8, [u8; 4]); 24] = [
     (b'L', b't', *b"<\0\0\0"),
     (b'G', b't', *b">\0\0\0"),
     (b'L', b'e', *b"<=\0\0"),
@@ -62,6 +62,12 @@ static STRINGS: [(u8, u8, [u8; 4]); 18] = [
     (b'l', b'p', *b"(\0\0\0"),
     (b'r', b'p', *b")\0\0\0"),
     (b'a', b'a', *b"\\(aq"),
+    (b'g', b'a', *b"\\(ga"),
+    (b'u', b'a', *b"\\(ua"),
+    (b'v', b'a', *b"\\(va"),
+    (b'T', b'm', *b"\\(tm"),
+    (b'<', b'=', *b"<=\0\0"),
+    (b'>', b'=', *b">=\0\0"),
 ];
 
 /// What a string stands for.
@@ -90,6 +96,7 @@ fn takes_strings(scan: Scan) -> bool
         | Scan::Passes
         | Scan::Comment
         | Scan::Control
+        | Scan::ControlEscape
         | Scan::Name
         | Scan::Rest
         | Scan::Dropped
@@ -105,6 +112,8 @@ fn behind_star(byte: u8) -> Next
     match byte {
         b'(' => Next::Waits(Pending::Open),
         b'[' => Next::Waits(Pending::Bracket),
+        b'q' => Next::Says(b'\\', b'(', b'd', b'q'),
+        b'R' => Next::Says(b'\\', b'(', b'r', b'g'),
         _ => Next::Breaks,
     }
 }

@@ -106,7 +106,8 @@ pub(crate) fn text_of(text: Text) -> &'static [u8]
         Text::Att => b"AT&T UNIX",
         Text::Bsd => b"BSD",
         Text::Dash => b"\\fB\\-\\fR",
-        Text::File => b"\\fIfile\\fR \\fI...\\fR",
+        Text::File => b"\\fIfile\\fR",
+        Text::Dots => b"\\fI...\\fR",
         Text::Home => b"\\fI~\\fR",
         Text::Apostrophe => b"\\(aq",
         Text::Description => b"\\(en",
@@ -117,12 +118,15 @@ pub(crate) fn text_of(text: Text) -> &'static [u8]
         Text::FixedSpace => b"\\~",
         Text::Include => b"#include",
         Text::The => b"The",
-        Text::Exits => b"utility exits 0 on success, and >0 if an error occurs.",
+        Text::Exits => b"utility exits\\~0 on success, and\\~>0 if an error occurs.",
+        Text::AllExit => b"utilities exit\\~0 on success, and\\~>0 if an error occurs.",
         Text::Parentheses => b"()",
         Text::Succeeds =>
-            b"Upon successful completion, the value 0 is returned; otherwise the value \\-1 is returned and the global variable \\fIerrno\\fR is set to indicate the error.",
+            b"Upon successful completion, the value\\~0 is returned; otherwise the value\\~\\-1 is returned and the global variable \\fIerrno\\fR is set to indicate the error.",
         Text::Returns =>
-            b"function returns the value 0 if successful; otherwise the value \\-1 is returned and the global variable \\fIerrno\\fR is set to indicate the error.",
+            b"function returns the value\\~0 if successful; otherwise the value\\~\\-1 is returned and the global variable \\fIerrno\\fR is set to indicate the error.",
+        Text::AllReturn =>
+            b"functions return the value\\~0 if successful; otherwise the value\\~\\-1 is returned and the global variable \\fIerrno\\fR is set to indicate the error.",
     }
 }
 
@@ -142,7 +146,7 @@ pub(crate) fn front_of(front: Front) -> &'static [u8]
 /// A request, as a line.
 pub(crate) fn request_of(request: Request) -> &'static [u8]
     ensures value { result.now ≡ specs.request_of request }
-    ensures few { length result.now ≤ 8 }
+    ensures few { length result.now ≤ 48 }
 {
     match request {
         Request::Break => b".br\n",
@@ -153,6 +157,10 @@ pub(crate) fn request_of(request: Request) -> &'static [u8]
         Request::Fill => b".fi\n",
         Request::Tabs => b".DT\n",
         Request::IndentEnds => b".RE\n",
+        Request::Literal => b".nf\n.ta 8n 16n 24n 32n 40n 48n 56n 64n 72n 80n\n",
+        Request::LiteralEnds => b".fi\n.DT\n",
+        Request::Hangs => b".in +4n\n.ti -4n\n",
+        Request::HangEnds => b".br\n.in -4n\n",
         Request::Font(Font::Roman) => b".ft R\n",
         Request::Font(Font::Bold) => b".ft B\n",
         Request::Font(Font::Italic) => b".ft I\n",
@@ -168,7 +176,7 @@ pub(crate) fn sized_of(sized: Sized) -> &'static [u8]
         Sized::Indent => b".RS ",
         Sized::Bullet => b".PD 0\n.IP \\(bu ",
         Sized::Dash => b".PD 0\n.IP \\- ",
-        Sized::Untagged => b".PD 0\n.IP \"\" ",
+        Sized::Inner => b".in +",
         Sized::Tagged => b".PD 0\n.TP ",
         Sized::Hanging => b".PD 0\n.HP ",
     }

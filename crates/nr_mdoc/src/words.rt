@@ -4,8 +4,8 @@ ghost use Rattle.nr_mdoc.specs.Seeing.{met};
 ghost use Rattle.nr_mdoc.specs.Words as specs;
 
 use super::acts::{Act, Request, Text};
-use super::macros::{Font, Macro, Pair, macro_of};
-use super::page::{Last, Page, Parameters, Scan, Section};
+use super::macros::{Font, Macro, Pair, macro_of, part_font};
+use super::page::{Last, Page, Parameters, Scan, Section, Split};
 use super::seen::Seen;
 use super::texts::closer;
 use nr_units::Name;
@@ -90,6 +90,17 @@ impl Page {
                 .some,
             Macro::Name => !self.call.some && !self.name.is_empty(),
             Macro::Function => self.call.some,
+            _ => self.is_enclosure_due(),
+        }
+    }
+
+    /// What opens an enclosure stands after the opening marks that come first in it.
+    fn is_enclosure_due(&self) -> bool
+        ensures { result ≡ specs.is_enclosure_due self.now }
+    {
+        match self.call.taker {
+            Macro::Encloses(_) => !self.call.some,
+            Macro::Opens(pair) => !self.call.some && !matches!(pair, Pair::Nothing),
             _ => false,
         }
     }
@@ -100,6 +111,7 @@ impl Page {
     {
         self.call.taker = Macro::Words(Font::Roman);
         self.call.first = false;
+        self.call.some = true;
     }
 
     /// A name begins a line of the synopsis.
@@ -115,7 +127,8 @@ impl Page {
     {
         if self.heads_line() {
             self.place.last = Last::Name;
-            return Seen::two(Act::Hanging(self.name.len() as u16 + 1), Act::Own);
+            self.lay.kept = true;
+            return Seen::two(Act::Hanging(hanging(self.place.width)), Act::Own);
         }
         Seen::left(Act::Own)
     }
@@ -126,12 +139,16 @@ impl Page {
     {
         match self.call.taker {
             Macro::Flag => Seen::left(Act::Text(Text::Dash)),
-            Macro::Argument => Seen::left(Act::Text(Text::File)),
+            Macro::Argument => Seen::two(Act::Text(Text::File), Act::Text(Text::Dots)),
             Macro::Path => Seen::left(Act::Text(Text::Home)),
             Macro::Att => Seen::left(Act::Text(Text::Att)),
             Macro::Bsd => Seen::left(Act::Text(Text::Bsd)),
             Macro::Name => self.own_name(),
             Macro::Function => self.function_closes(),
+            Macro::Encloses(pair) | Macro::Opens(pair) => Seen::two(
+                Act::Text(Text::Opening(pair)),
+                Act::Join,
+            ),
             _ => Seen::left(Act::Nothing),
         }
     }
@@ -146,24 +163,18 @@ impl Page {
         seen
     }
 
-    /// What ends a function.
-    fn function_end(&self) -> Text
-        ensures { result ≡ specs.function_end self.now }
-    {
-        if self.is_synopsis() {
-            Text::FunctionEnds
-        } else {
-            Text::Closing(b')')
-        }
-    }
-
     /// A function's parameters end.
     fn function_closes(&mut self) -> Seen
         ensures { met self.new result ≡ specs.function_closes self.old }
     {
-        let end = self.function_end();
         self.place.parameters = Parameters::Outside;
-        Seen::left(Act::Close(end))
+        if self.is_synopsis() {
+            return Seen::two(
+                Act::Close(Text::FunctionEnds),
+                Act::Request(Request::HangEnds),
+            );
+        }
+        Seen::left(Act::Close(Text::Closing(b')')))
     }
 
     /// A word is whole.
@@ -212,6 +223,9 @@ impl Page {
         if self.is_due() {
             return self.leaves();
         }
+        if self.is_text() {
+            return self.mark_as_word();
+        }
         if self.marks.is_full() {
             return Seen::left(Act::Marks);
         }
@@ -220,6 +234,25 @@ impl Page {
         self.call.listed = false;
         self.scan = Scan::Between;
         Seen::left(Act::Nothing)
+    }
+
+    /// A closing mark that comes first is a word for some macros.
+    fn is_text(&self) -> bool
+        ensures { result ≡ specs.is_text self.now }
+    {
+        !self.call.some && matches!(self.call.taker, Macro::Words(_) | Macro::Prefix)
+    }
+
+    /// Such a word ends no sentence.
+    fn mark_as_word(&mut self) -> Seen
+        ensures { met self.new result ≡ specs.mark_as_word self.old }
+    {
+        self.scan = Scan::Between;
+        if matches!(self.call.taker, Macro::Prefix) {
+            return self.prefix();
+        }
+        self.call.some = true;
+        Seen::two(Act::Word(Font::Roman), Act::Close(Text::Empty))
     }
 
     /// A macro is called: what is due from the one before comes first.
@@ -256,7 +289,7 @@ impl Page {
     {
         match called {
             Macro::Encloses(pair) => self.encloses(pair),
-            Macro::Opens(pair) => self.opens(pair),
+            Macro::Opens(_) => self.opens(),
             Macro::Closes(pair) => self.closes(pair),
             Macro::Stands(system) => Seen::left(Act::Text(Text::System(system))),
             Macro::Joins => Seen::left(Act::Join),
@@ -274,20 +307,17 @@ impl Page {
         if self.closers.len() < MOST_CLOSERS {
             self.closers.push(closer(pair));
         }
-        Seen::two(Act::Text(Text::Opening(pair)), Act::Join)
+        Seen::left(Act::Nothing)
     }
 
     /// An enclosure begins that may end on another line.
-    fn opens(&mut self, pair: Pair) -> Seen
-        ensures { met self.new result ≡ specs.opens pair self.old }
+    fn opens(&mut self) -> Seen
+        ensures { met self.new result ≡ specs.opens self.old }
     {
         if self.place.depth < 255 {
             self.place.depth += 1;
         }
-        if matches!(pair, Pair::Nothing) {
-            return Seen::left(Act::Nothing);
-        }
-        Seen::two(Act::Text(Text::Opening(pair)), Act::Join)
+        Seen::left(Act::Nothing)
     }
 
     /// It ends.
@@ -311,6 +341,9 @@ impl Page {
         if !quoted && is_bar(self.word.as_bytes()) && self.is_due() {
             return self.leaves();
         }
+        if self.is_enclosure_due() && (quoted || !is_opening(self.word.as_bytes())) {
+            return self.leaves();
+        }
         self.scan = Scan::Between;
         if !quoted && is_bar(self.word.as_bytes()) {
             return Seen::left(Act::Word(Font::Roman));
@@ -329,7 +362,8 @@ impl Page {
         ensures { met self.new result ≡ specs.taken_word self.old }
     {
         match self.call.taker {
-            Macro::Words(font) | Macro::Part(font) => Seen::left(Act::Word(font)),
+            Macro::Words(font) => Seen::left(Act::Word(font)),
+            Macro::Part(letter) => Seen::left(Act::Word(part_font(letter))),
             Macro::Flag => Seen::left(Act::Flag),
             Macro::Argument | Macro::Path | Macro::Variable | Macro::ResultType => Seen::left(
                 Act::Word(Font::Italic),
@@ -340,6 +374,7 @@ impl Page {
             Macro::Reference => self.reference(),
             Macro::Author => self.author(),
             Macro::Function => self.function(),
+            Macro::Stands(_) => self.version(),
             _ => self.taken_alone(),
         }
     }
@@ -376,9 +411,11 @@ impl Page {
     {
         if self.name.is_empty() {
             self.name = self.word;
+            self.place.width = self.call.width;
         }
         if self.heads_line() {
             self.place.last = Last::Name;
+            self.lay.kept = true;
             return Seen::two(
                 Act::Hanging(hanging(self.call.width)),
                 Act::Word(Font::Bold),
@@ -399,6 +436,9 @@ impl Page {
     fn parameter(&mut self) -> Seen
         ensures { met self.new result ≡ specs.parameter self.old }
     {
+        if matches!(self.place.parameters, Parameters::Outside) {
+            return Seen::left(Act::Word(Font::Italic));
+        }
         let further = self.is_listed();
         if matches!(self.place.parameters, Parameters::First) {
             self.place.parameters = Parameters::Further;
@@ -425,8 +465,16 @@ impl Page {
         )
     }
 
+    /// The version of a system, which stays with its name.
+    fn version(&mut self) -> Seen
+        ensures { met self.new result ≡ specs.version self.old }
+    {
+        self.takes_no_more();
+        Seen::two(Act::Close(Text::FixedSpace), Act::Joined(Font::Roman))
+    }
+
     /// Authors begin lines, or not.
-    fn splits(&mut self, split: bool) -> Seen
+    fn splits(&mut self, split: Split) -> Seen
         ensures { met self.new result ≡ specs.splits split self.old }
     {
         self.place.split = split;
@@ -438,15 +486,37 @@ impl Page {
         ensures { met self.new result ≡ specs.author self.old }
     {
         if self.word.as_bytes() == b"-split".as_slice() {
-            return self.splits(true);
+            return self.splits(Split::Always);
         }
         if self.word.as_bytes() == b"-nosplit".as_slice() {
-            return self.splits(false);
+            return self.splits(Split::Never);
         }
-        if self.call.first && !self.call.some && self.place.split {
-            return Seen::two(Act::Request(Request::Break), Act::Word(Font::Roman));
+        self.named_author()
+    }
+
+    /// An author by name.
+    #[tactic(auto, unfolding(crate::specs::Words::named_author))]
+    fn named_author(&mut self) -> Seen
+        ensures { met self.new result ≡ specs.named_author self.old }
+    {
+        if self.call.first && !self.call.some {
+            return self.author_line();
         }
         Seen::left(Act::Word(Font::Roman))
+    }
+
+    /// An author who may begin a line.
+    fn author_line(&mut self) -> Seen
+        ensures { met self.new result ≡ specs.author_line self.old }
+    {
+        match self.place.split {
+            Split::Always => Seen::two(Act::Request(Request::Break), Act::Word(Font::Roman)),
+            Split::Next => {
+                self.place.split = Split::Always;
+                Seen::left(Act::Word(Font::Roman))
+            }
+            Split::Never => Seen::left(Act::Word(Font::Roman)),
+        }
     }
 
     /// The version of BSD.
@@ -522,11 +592,11 @@ impl Page {
         self.call.going = false;
         self.scan = Scan::Between;
         if !self.call.opens {
-            return Seen::left(Act::LastPart);
+            return Seen::left(Act::LastMore);
         }
         self.call.opens = false;
         Seen::three(
-            Act::LastPart,
+            Act::LastMore,
             Act::Close(Text::Opening(Pair::Parentheses)),
             Act::Join,
         )
@@ -549,10 +619,13 @@ impl Page {
     {
         if self.call.going {
             self.scan = Scan::Goes(quoted, escape);
-            return Seen::left(Act::Part);
+            return Seen::left(Act::More);
         }
         if !self.marks.is_empty() {
             return Seen::left(Act::Marks);
+        }
+        if self.is_enclosure_due() {
+            return self.leaves();
         }
         self.long_begins(quoted, escape)
     }

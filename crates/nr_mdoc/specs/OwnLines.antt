@@ -1,0 +1,113 @@
+-- Lines of their own: requests, the title, headings and columns.
+use Rattle.std.specs.Prelude.{ℕ, ◌+◌, ◌-◌, ◌/◌, ◌%◌, List, [], ◌∷◌, ◌++◌, length, Bool, true, false, not, ◌==◌, ◌&&◌, ◌||◌, nat_lt, if◌then◌else◌, slice_index, codes}
+use Prim.Native.Char.{code}
+use Rattle.nr_mdoc.specs.declared.acts.Request.{Request}
+use Rattle.nr_mdoc.specs.declared.acts.Request.TheVariants as requests
+use Rattle.nr_mdoc.specs.declared.acts.Sized.{Sized}
+use Rattle.nr_mdoc.specs.declared.acts.Sized.TheVariants as sizes
+use Rattle.nr_mdoc.specs.declared.page.At.{At}
+use Rattle.nr_mdoc.specs.declared.page.At.TheVariants.{Start, Middle, Ended}
+use Rattle.nr_mdoc.specs.declared.page.Page.{Page}
+use Rattle.nr_mdoc.specs.Laying.{Laid, laid, with_end, with_lay, was_put}
+use Rattle.nr_mdoc.specs.Texts.{request_of, sized_of}
+
+-- ---- numbers
+
+abbrev pub digit : ℕ → ℕ
+digit n = code "0" + n % 10
+
+-- the digits of a number below ten thousand
+abbrev pub digits : ℕ → List ℕ
+digits n =
+    if nat_lt n 10 then digit n ∷ [] else
+    if nat_lt n 100 then digit (n / 10) ∷ digit n ∷ [] else
+    if nat_lt n 1000 then digit (n / 100) ∷ digit (n / 10) ∷ digit n ∷ [] else
+    digit (n / 1000) ∷ digit (n / 100) ∷ digit (n / 10) ∷ digit n ∷ []
+
+-- ---- lines of their own
+
+abbrev pub line_end_at : At → Bool → List ℕ
+line_end_at Start tag = if tag then codes "\\&\n" else []
+line_end_at Middle tag = codes "\n"
+line_end_at Ended tag = codes "\n"
+
+abbrev pub line_end : Page → List ℕ
+line_end p = line_end_at p.lay.at p.lay.tag
+
+abbrev pub fresh : Page → Page
+fresh p = with_lay (record p.lay { at = Start; joined = false; quiet = p.lay.quiet || p.lay.tag; tag = false }) p
+
+abbrev pub freshen : Page → Laid
+freshen p = laid (fresh p) (line_end p)
+
+-- a tag is whole: one that is as wide as this has no two blanks behind it, and stands alone on its line
+abbrev pub end_tag : ℕ → Page → Laid
+end_tag width p = laid (fresh p) (line_end p ++ codes ".if \\n(.nu=" ++ digits width ++ codes "n .br\n")
+
+abbrev pub quiet : Page → Page
+quiet p = with_lay (record p.lay { quiet = true }) p
+
+abbrev pub quiet_down : Page → Laid
+quiet_down p = laid (quiet (fresh p)) (line_end p)
+
+-- space as before a paragraph, once
+abbrev pub put_space : Page → Laid
+put_space p = laid (quiet (fresh p)) (line_end p ++ (if not (fresh p).lay.quiet then request_of requests.Space else []))
+
+abbrev pub put_request : Request → Page → Laid
+put_request request p = laid (fresh p) (line_end p ++ request_of request)
+
+abbrev pub was_sized : Sized → Page → Page
+was_sized sizes.Indent p = p
+was_sized sizes.Inner p = p
+was_sized sizes.Tagged p = with_lay (record p.lay { tag = true; quiet = true }) p
+was_sized sized p = quiet p
+
+abbrev pub put_sized : Sized → ℕ → Page → Laid
+put_sized sized n p = laid (was_sized sized (fresh p)) (line_end p ++ sized_of sized ++ digits n ++ codes "n\n")
+
+abbrev pub put_hanging : ℕ → Page → Laid
+put_hanging n p = with_end (request_of requests.Distance) (put_sized sizes.Hanging n p)
+
+abbrev pub put_numbered : ℕ → ℕ → Page → Laid
+put_numbered n width p =
+    laid (quiet (fresh p)) (line_end p ++ codes ".PD 0\n.IP " ++ digits n ++ codes ". " ++ digits width ++ codes "n\n")
+
+-- ---- the page's title
+
+abbrev pub is_comma_last : List ℕ → Bool
+is_comma_last day = slice_index day (length day - 1) == code ","
+
+-- a comma stands behind the day
+abbrev pub behind_day : List ℕ → List ℕ
+behind_day day = if nat_lt 0 (length day) && not (is_comma_last day) then codes ", " else codes " "
+
+abbrev pub put_date : Page → Laid
+put_date p = laid p (p.month ++ codes " " ++ p.day ++ behind_day p.day ++ p.year)
+
+abbrev pub titled : Page → Page
+titled p = record p { lay = record p.lay { at = Middle; joined = true }; place = record p.place { titled = true } }
+
+abbrev pub put_title : Page → Laid
+put_title p =
+    laid (titled (fresh p))
+    (line_end p ++ codes ".TH " ++ p.title ++ codes " " ++ p.chapter ++ codes " \"" ++ (put_date p).bytes ++ codes "\" \"")
+
+abbrev pub end_title : Page → Laid
+end_title p = laid (with_lay (record p.lay { at = Start; joined = false; quiet = true }) p) (codes "\"\n.nr IN 5n\n")
+
+-- ---- headings, and requests of the page itself
+
+abbrev pub put_head : List ℕ → Page → Laid
+put_head head p = laid (with_lay (record (fresh p).lay { at = Middle }) (fresh p)) (line_end p ++ head)
+
+abbrev pub put_control : Page → Laid
+put_control p = laid (fresh p) (line_end p ++ codes "." ++ p.word)
+
+-- ---- columns
+
+abbrev pub column_text : ℕ → List ℕ
+column_text width = codes " +" ++ digits width ++ codes "n"
+
+abbrev pub put_cell : Page → Laid
+put_cell p = laid (with_lay (record (was_put p).lay { joined = true }) (was_put p)) (codes "\t")

@@ -1,0 +1,285 @@
+//! Lines of their own: requests, the title, headings and columns.
+ghost use Rattle.std.specs.Prelude.{◌≡◌, ◌+◌, ◌≤◌, ◌++◌, length};
+ghost use Rattle.nr_mdoc.specs.OwnLines as specs;
+
+use super::acts::{Request, Sized};
+use super::page::{At, Page};
+use super::texts::{request_of, sized_of};
+use nr_units::slice_vec::SliceVec;
+
+/// What stands between the day of a date and its year.
+fn behind_day(day: &[u8]) -> &'static [u8]
+    ensures value { result.now ≡ specs.behind_day day.now }
+    ensures few { length result.now ≤ 2 }
+{
+    let len = day.len();
+    if len > 0 && day[len - 1] != b',' {
+        b", "
+    } else {
+        b" "
+    }
+}
+
+/// The last digit of a number.
+fn digit(n: u16) -> u8
+    ensures { result ≡ specs.digit n }
+{
+    b'0' + (n % 10) as u8
+}
+
+/// A number below ten thousand.
+fn put_number(n: u16, out: &mut SliceVec<'_, u8>)
+    requires { length out.old.items + 4 ≤ out.old.room }
+    ensures items { out.new.items ≡ out.old.items ++ specs.digits n }
+    ensures few { length out.new.items ≤ length out.old.items + 4 }
+    ensures room { out.new.room ≡ out.old.room }
+{
+    if n < 10 {
+        out.extend(&[digit(n)]);
+    } else if n < 100 {
+        out.extend(&[digit(n / 10), digit(n)]);
+    } else if n < 1000 {
+        out.extend(&[digit(n / 100), digit(n / 10), digit(n)]);
+    } else {
+        out.extend(&[digit(n / 1000), digit(n / 100), digit(n / 10), digit(n)]);
+    }
+}
+
+impl Page {
+    /// What ends the line that was begun: an empty tag shows nothing.
+    fn line_end(&self) -> &'static [u8]
+        ensures value { result.now ≡ specs.line_end self.now }
+        ensures few { length result.now ≤ 3 }
+    {
+        match self.lay.at {
+            At::Start => if self.lay.tag { b"\\&\n" } else { b"" },
+            At::Middle | At::Ended => b"\n",
+        }
+    }
+
+    /// What was begun is put on a line, and a tag is whole.
+    pub(crate) fn freshen(&mut self, out: &mut SliceVec<'_, u8>)
+        requires { length out.old.items + 3 ≤ out.old.room }
+        ensures page { self.new ≡ (specs.freshen self.old).page }
+        ensures items { out.new.items ≡ out.old.items ++ (specs.freshen self.old).bytes }
+        ensures few { length out.new.items ≤ length out.old.items + 3 }
+        ensures room { out.new.room ≡ out.old.room }
+    {
+        out.extend(self.line_end());
+        self.lay.at = At::Start;
+        self.lay.joined = false;
+        self.lay.quiet = self.lay.quiet || self.lay.tag;
+        self.lay.tag = false;
+    }
+
+    /// A tag is whole: it needs two blanks behind it, or stands alone on its line.
+    pub(crate) fn end_tag(&mut self, width: u16, out: &mut SliceVec<'_, u8>)
+        requires { length out.old.items + 48 ≤ out.old.room }
+        ensures page { self.new ≡ (specs.end_tag width self.old).page }
+        ensures items { out.new.items ≡ out.old.items ++ (specs.end_tag width self.old).bytes }
+        ensures few { length out.new.items ≤ length out.old.items + 48 }
+        ensures room { out.new.room ≡ out.old.room }
+    {
+        self.freshen(out);
+        out.extend(b".if \\n(.nu=");
+        put_number(width, out);
+        out.extend(b"n .br\n");
+    }
+
+    /// The same, and nothing was put since space was made.
+    pub(crate) fn quiet_down(&mut self, out: &mut SliceVec<'_, u8>)
+        requires { length out.old.items + 3 ≤ out.old.room }
+        ensures page { self.new ≡ (specs.quiet_down self.old).page }
+        ensures items { out.new.items ≡ out.old.items ++ (specs.quiet_down self.old).bytes }
+        ensures few { length out.new.items ≤ length out.old.items + 3 }
+        ensures room { out.new.room ≡ out.old.room }
+    {
+        self.freshen(out);
+        self.lay.quiet = true;
+    }
+
+    /// Space as before a paragraph, once.
+    pub(crate) fn put_space(&mut self, out: &mut SliceVec<'_, u8>)
+        requires { length out.old.items + 16 ≤ out.old.room }
+        ensures page { self.new ≡ (specs.put_space self.old).page }
+        ensures items { out.new.items ≡ out.old.items ++ (specs.put_space self.old).bytes }
+        ensures few { length out.new.items ≤ length out.old.items + 16 }
+        ensures room { out.new.room ≡ out.old.room }
+    {
+        self.freshen(out);
+        if !self.lay.quiet {
+            out.extend(request_of(Request::Space));
+        }
+        self.lay.quiet = true;
+    }
+
+    /// A request on a line.
+    pub(crate) fn put_request(&mut self, request: Request, out: &mut SliceVec<'_, u8>)
+        requires { length out.old.items + 64 ≤ out.old.room }
+        ensures page { self.new ≡ (specs.put_request request self.old).page }
+        ensures items { out.new.items ≡ out.old.items ++ (specs.put_request request self.old).bytes }
+        ensures few { length out.new.items ≤ length out.old.items + 64 }
+        ensures room { out.new.room ≡ out.old.room }
+    {
+        self.freshen(out);
+        out.extend(request_of(request));
+    }
+
+    /// What a request with a number leaves.
+    fn was_sized(&mut self, sized: Sized)
+        ensures { self.new ≡ specs.was_sized sized self.old }
+    {
+        match sized {
+            Sized::Indent | Sized::Inner => {}
+            Sized::Tagged => {
+                self.lay.tag = true;
+                self.lay.quiet = true;
+            }
+            _ => self.lay.quiet = true,
+        }
+    }
+
+    /// A request with a number of ens.
+    pub(crate) fn put_sized(&mut self, sized: Sized, n: u16, out: &mut SliceVec<'_, u8>)
+        requires { length out.old.items + 48 ≤ out.old.room }
+        ensures page { self.new ≡ (specs.put_sized sized n self.old).page }
+        ensures items { out.new.items ≡ out.old.items ++ (specs.put_sized sized n self.old).bytes }
+        ensures few { length out.new.items ≤ length out.old.items + 48 }
+        ensures room { out.new.room ≡ out.old.room }
+    {
+        self.freshen(out);
+        out.extend(sized_of(sized));
+        put_number(n, out);
+        out.extend(b"n\n");
+        self.was_sized(sized);
+    }
+
+    /// A paragraph that hangs.
+    pub(crate) fn put_hanging(&mut self, n: u16, out: &mut SliceVec<'_, u8>)
+        requires { length out.old.items + 64 ≤ out.old.room }
+        ensures page { self.new ≡ (specs.put_hanging n self.old).page }
+        ensures items { out.new.items ≡ out.old.items ++ (specs.put_hanging n self.old).bytes }
+        ensures few { length out.new.items ≤ length out.old.items + 64 }
+        ensures room { out.new.room ≡ out.old.room }
+    {
+        self.put_sized(Sized::Hanging, n, out);
+        out.extend(request_of(Request::Distance));
+    }
+
+    /// A numbered item.
+    pub(crate) fn put_numbered(&mut self, n: u16, width: u16, out: &mut SliceVec<'_, u8>)
+        requires { length out.old.items + 48 ≤ out.old.room }
+        ensures page { self.new ≡ (specs.put_numbered n width self.old).page }
+        ensures items { out.new.items ≡ out.old.items ++ (specs.put_numbered n width self.old).bytes }
+        ensures few { length out.new.items ≤ length out.old.items + 48 }
+        ensures room { out.new.room ≡ out.old.room }
+    {
+        self.quiet_down(out);
+        out.extend(b".PD 0\n.IP ");
+        put_number(n, out);
+        out.extend(b". ");
+        put_number(width, out);
+        out.extend(b"n\n");
+    }
+
+    /// The page's date.
+    fn put_date(&mut self, out: &mut SliceVec<'_, u8>)
+        requires { length out.old.items + 100 ≤ out.old.room }
+        ensures page { self.new ≡ (specs.put_date self.old).page }
+        ensures items { out.new.items ≡ out.old.items ++ (specs.put_date self.old).bytes }
+        ensures few { length out.new.items ≤ length out.old.items + 100 }
+        ensures room { out.new.room ≡ out.old.room }
+    {
+        out.extend(self.month.as_bytes());
+        out.push(b' ');
+        out.extend(self.day.as_bytes());
+        out.extend(behind_day(self.day.as_bytes()));
+        out.extend(self.year.as_bytes());
+    }
+
+    /// The page's title, up to its source.
+    pub(crate) fn put_title(&mut self, out: &mut SliceVec<'_, u8>)
+        requires { length out.old.items + 192 ≤ out.old.room }
+        ensures page { self.new ≡ (specs.put_title self.old).page }
+        ensures items { out.new.items ≡ out.old.items ++ (specs.put_title self.old).bytes }
+        ensures few { length out.new.items ≤ length out.old.items + 192 }
+        ensures room { out.new.room ≡ out.old.room }
+    {
+        self.freshen(out);
+        out.extend(b".TH ");
+        out.extend(self.title.as_bytes());
+        out.push(b' ');
+        out.extend(self.chapter.as_bytes());
+        out.extend(b" \"");
+        self.put_date(out);
+        out.extend(b"\" \"");
+        self.lay.at = At::Middle;
+        self.lay.joined = true;
+        self.place.titled = true;
+    }
+
+    /// The title's line ends.
+    pub(crate) fn end_title(&mut self, out: &mut SliceVec<'_, u8>)
+        requires { length out.old.items + 16 ≤ out.old.room }
+        ensures page { self.new ≡ (specs.end_title self.old).page }
+        ensures items { out.new.items ≡ out.old.items ++ (specs.end_title self.old).bytes }
+        ensures few { length out.new.items ≤ length out.old.items + 16 }
+        ensures room { out.new.room ≡ out.old.room }
+    {
+        out.extend(b"\"\n.nr IN 5n\n");
+        self.lay.at = At::Start;
+        self.lay.joined = false;
+        self.lay.quiet = true;
+    }
+
+    /// A line that goes on with words.
+    pub(crate) fn put_head(&mut self, head: &[u8], out: &mut SliceVec<'_, u8>)
+        requires { length out.old.items + length head.now + 3 ≤ out.old.room }
+        ensures page { self.new ≡ (specs.put_head head.now self.old).page }
+        ensures items { out.new.items ≡ out.old.items ++ (specs.put_head head.now self.old).bytes }
+        ensures few { length out.new.items ≤ length out.old.items + length head.now + 3 }
+        ensures room { out.new.room ≡ out.old.room }
+    {
+        self.freshen(out);
+        out.extend(head);
+        self.lay.at = At::Middle;
+    }
+
+    /// A request of the page itself.
+    pub(crate) fn put_control(&mut self, out: &mut SliceVec<'_, u8>)
+        requires { length out.old.items + 48 ≤ out.old.room }
+        ensures page { self.new ≡ (specs.put_control self.old).page }
+        ensures items { out.new.items ≡ out.old.items ++ (specs.put_control self.old).bytes }
+        ensures few { length out.new.items ≤ length out.old.items + 48 }
+        ensures room { out.new.room ≡ out.old.room }
+    {
+        self.freshen(out);
+        out.push(b'.');
+        out.extend(self.word.as_bytes());
+    }
+
+    /// A tab stop after the ones before.
+    pub(crate) fn put_column(&self, width: u16, out: &mut SliceVec<'_, u8>)
+        requires { length out.old.items + 16 ≤ out.old.room }
+        ensures items { out.new.items ≡ out.old.items ++ specs.column_text width }
+        ensures few { length out.new.items ≤ length out.old.items + 16 }
+        ensures room { out.new.room ≡ out.old.room }
+    {
+        out.extend(b" +");
+        put_number(width, out);
+        out.push(b'n');
+    }
+
+    /// A cell of a table ends.
+    pub(crate) fn put_cell(&mut self, out: &mut SliceVec<'_, u8>)
+        requires { length out.old.items + 3 ≤ out.old.room }
+        ensures page { self.new ≡ (specs.put_cell self.old).page }
+        ensures items { out.new.items ≡ out.old.items ++ (specs.put_cell self.old).bytes }
+        ensures few { length out.new.items ≤ length out.old.items + 3 }
+        ensures room { out.new.room ≡ out.old.room }
+    {
+        out.push(b'\t');
+        self.was_put();
+        self.lay.joined = true;
+    }
+}
