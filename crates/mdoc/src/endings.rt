@@ -10,6 +10,8 @@ use nr_units::source::Fault;
 pub enum Ending<'a> {
     /// The run came to this.
     Ran(Outcome),
+    /// All went out, and something was wrong with a page, which is told by now.
+    Complained,
     /// A word that is no option.
     BadWord(&'a str),
     /// A file that can't be opened.
@@ -22,7 +24,7 @@ pub enum Ending<'a> {
 fn status(ending: Ending<'_>) -> u8 {
     match ending {
         Ending::Ran(Outcome::Done) => 0,
-        Ending::Ran(Outcome::TooLong) => 1,
+        Ending::Ran(Outcome::TooLong) | Ending::Complained => 1,
         Ending::BadWord(_) => 2,
         Ending::Ran(Outcome::ReadFault { .. }) | Ending::CannotOpen(_) => 3,
         Ending::Ran(Outcome::WriteFault) => 4,
@@ -40,7 +42,7 @@ fn put_line<W: Sink>(text: &[u8], word: &str, errors: &mut W) -> Result<(), Faul
 /// Writes the line that tells an ending, and nothing where all is done.
 fn put_ending<W: Sink>(ending: Ending<'_>, errors: &mut W) -> Result<(), Fault> {
     match ending {
-        Ending::Ran(Outcome::Done) => Ok(()),
+        Ending::Ran(Outcome::Done) | Ending::Complained => Ok(()),
         Ending::Ran(Outcome::TooLong) => errors.put(b"mdoc: input too long\n"),
         Ending::Ran(Outcome::ReadFault { at }) => {
             let mut digits = Buffer::new();

@@ -1,10 +1,14 @@
 //! The program mdoc: it turns manual pages of mdoc(7) into pages of man(7), to standard output.
 //!
-//! It stands on nr_mdoc, nr_units and nr_command_line. To read: `words`, `endings`, `program`.
+//! It stands on nr_mdoc, nr_units and nr_command_line. To read: `words`, `watch`, `watched`, `complaints`, `endings`, `rooms`, `program`.
 #![tactic(auto)]
 
+mod complaints;
 mod endings;
 mod program;
+mod rooms;
+mod watch;
+mod watched;
 mod words;
 
 use program::run_program;

@@ -1,26 +1,15 @@
 // The program over its words, its files and given streams.
-ghost use Rattle.std.specs.Prelude.{◌≤◌, length};
-
 use super::endings::{Ending, tell};
+use super::rooms::Rooms;
 use super::words::is_option;
 use nr_command_line::{SystemWords, words_of};
-use nr_mdoc::{Block, Outcome, convert};
-use nr_units::buffered::Buffered;
+use nr_mdoc::Outcome;
 use nr_units::over_std::ToWriter;
 use nr_units::sink::Sink;
 use std::alloc::{AllocError, Global};
 use std::fs;
 use std::io::{Read, Write};
 use std::rt::{Env, Files};
-
-/// The bytes of the buffer for what comes.
-const BUFFER_SIZE: usize = 65_536;
-
-/// The bytes of the buffer for what goes out.
-const PENDING_SIZE: usize = 131_072;
-
-/// The room for lists and displays that are open.
-const MOST_BLOCKS: usize = 64;
 
 /// Runs the program in a system, and gives its status.
 pub fn run_program<R: Env + Files, I: Read + Copy + Drop, W: Write + Drop, E: Write + Drop>(
@@ -38,7 +27,7 @@ pub fn run_program<R: Env + Files, I: Read + Copy + Drop, W: Write + Drop, E: Wr
         return tell(Ending::OutOfMemory, &mut errors);
     };
     let mut output = ToWriter::over(output);
-    let ending = run_words(system, alloc, &words, input, &mut output);
+    let ending = run_words(system, alloc, &words, input, &mut output, &mut errors);
     tell(ending, &mut errors)
 }
 
@@ -53,12 +42,13 @@ fn borrowed(words: &[String], alloc: Global) -> Result<Vec<&str>, AllocError> {
 
 /// Runs the program over the words after its name. All files are opened before the first is read, and
 /// nothing is opened where the first word is an option.
-fn run_words<'a, R: Files, I: Read + Copy + Drop, W: Sink>(
+fn run_words<'a, R: Files, I: Read + Copy + Drop, W: Sink, E: Sink>(
     system: &R,
     alloc: Global,
     words: &[&'a str],
     standard: I,
     output: &mut W,
+    errors: &mut E,
 ) -> Ending<'a> {
     if !words.is_empty() && is_option(words[0]) {
         return Ending::BadWord(words[0]);
@@ -67,38 +57,28 @@ fn run_words<'a, R: Files, I: Read + Copy + Drop, W: Sink>(
         Ok(texts) => texts,
         Err(ending) => return ending,
     };
-    let Ok(mut input) = vec![in alloc; 0u8; BUFFER_SIZE] else {
+    let Ok(mut rooms) = Rooms::new(alloc) else {
         return Ending::OutOfMemory;
     };
-    let Ok(mut pending) = vec![in alloc; 0u8; PENDING_SIZE] else {
-        return Ending::OutOfMemory;
-    };
-    let Ok(mut blocks) = vec![in alloc; Block::NONE; MOST_BLOCKS] else {
-        return Ending::OutOfMemory;
-    };
-    let outcome = run_texts(
-        texts,
-        standard,
-        output,
-        &mut input,
-        &mut pending,
-        &mut blocks,
-    );
+    let ending = run_texts(texts, standard, output, errors, &mut rooms);
     match output.flush() {
-        Ok(()) => Ending::Ran(outcome),
+        Ok(()) => ending,
         Err(_) => Ending::Ran(Outcome::WriteFault),
     }
 }
 
-/// The files of these names. Standard input stands as none: it is read where a name is `-`, and where
+/// The name of standard input.
+const STANDARD: &str = "-";
+
+/// The files of these names, and the names. Standard input stands as none: it is read where a name is `-`, and where
 /// there is no name.
 fn open_all<'a, R: Files>(
     system: &R,
     alloc: Global,
     names: &[&'a str],
-) -> Result<Vec<Option<R::File>>, Ending<'a>> {
+) -> Result<Vec<(Option<R::File>, &'a str)>, Ending<'a>> {
     let mut texts = Vec::new(alloc);
-    if names.is_empty() && texts.push(None).is_err() {
+    if names.is_empty() && texts.push((None, STANDARD)).is_err() {
         return Err(Ending::OutOfMemory);
     }
     for name in names {
@@ -110,49 +90,33 @@ fn open_all<'a, R: Files>(
                 Err(_) => return Err(Ending::CannotOpen(name)),
             }
         };
-        if texts.push(text).is_err() {
+        if texts.push((text, *name)).is_err() {
             return Err(Ending::OutOfMemory);
         }
     }
     Ok(texts)
 }
 
-/// Turns one text.
-fn run_text<T: Read + Drop, W: Sink>(
-    text: T,
-    output: &mut W,
-    input: &mut [u8],
-    pending: &mut [u8],
-    blocks: &mut [Block],
-) -> Outcome
-    requires pending { 73984 ≤ length pending.old }
-    requires blocks { 64 ≤ length blocks.old }
-{
-    let mut source = Buffered::over(text, input);
-    let mut steps = 0;
-    convert(&mut source, output, blocks, pending, &mut steps)
-}
-
-/// Turns the texts one after the other, each by itself, up to the first fault.
-fn run_texts<F: Read + Drop, I: Read + Copy + Drop, W: Sink>(
-    texts: Vec<Option<F>>,
+/// Turns the texts one after the other, each by itself, up to the first fault, and tells what is wrong with each after it.
+fn run_texts<'a, F: Read + Drop, I: Read + Copy + Drop, W: Sink, E: Sink>(
+    texts: Vec<(Option<F>, &'a str)>,
     standard: I,
     output: &mut W,
-    input: &mut [u8],
-    pending: &mut [u8],
-    blocks: &mut [Block],
-) -> Outcome
-    requires pending { 73984 ≤ length pending.old }
-    requires blocks { 64 ≤ length blocks.old }
-{
-    for text in texts {
-        let outcome = match text {
-            Some(file) => run_text(file, output, input, pending, blocks),
-            None => run_text(standard, output, input, pending, blocks),
+    errors: &mut E,
+    rooms: &mut Rooms,
+) -> Ending<'a> {
+    let mut ending = Ending::Ran(Outcome::Done);
+    for (text, name) in texts {
+        let (outcome, wrong) = match text {
+            Some(file) => rooms.turn(file, name, output, errors),
+            None => rooms.turn(standard, name, output, errors),
         };
+        if wrong {
+            ending = Ending::Complained;
+        }
         if !matches!(outcome, Outcome::Done) {
-            return outcome;
+            return Ending::Ran(outcome);
         }
     }
-    Outcome::Done
+    ending
 }

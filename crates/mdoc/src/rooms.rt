@@ -1,0 +1,71 @@
+// The memory that texts are turned in.
+ghost use Rattle.std.specs.Prelude.{◌≤◌, length};
+
+use super::complaints::tell_complaints;
+use super::watched::{Complaint, Watched};
+use nr_mdoc::{Block, Outcome, convert};
+use nr_units::buffered::Buffered;
+use nr_units::sink::Sink;
+use std::alloc::{AllocError, Global};
+use std::io::Read;
+
+/// The bytes of the buffer for what comes.
+const BUFFER_SIZE: usize = 65_536;
+
+/// The bytes of the buffer for what goes out.
+const PENDING_SIZE: usize = 131_072;
+
+/// The room for lists and displays that are open.
+const MOST_BLOCKS: usize = 64;
+
+/// How many complaints about a text are told.
+const MOST_COMPLAINTS: usize = 64;
+
+/// The memory that texts are turned in, taken once.
+#[derive(Drop)]
+pub struct Rooms {
+    /// What was read of a text and is not taken yet.
+    input: Vec<u8>,
+    /// What is to go out.
+    pending: Vec<u8>,
+    /// The open blocks.
+    blocks: Vec<Block>,
+    /// What is wrong with a text.
+    complaints: Vec<Complaint>,
+    ghost for_pages: { 73984 ≤ length pending.items },
+    ghost for_blocks: { 64 ≤ length blocks.items },
+}
+
+impl Rooms {
+    /// Takes it.
+    pub fn new(alloc: Global) -> Result<Rooms, AllocError> {
+        Ok(Rooms {
+            input: vec![in alloc; 0u8; BUFFER_SIZE]?,
+            pending: vec![in alloc; 0u8; PENDING_SIZE]?,
+            blocks: vec![in alloc; Block::NONE; MOST_BLOCKS]?,
+            complaints: vec![in alloc; Complaint::NONE; MOST_COMPLAINTS]?,
+        })
+    }
+
+    /// Turns the text of this name, and tells what is wrong with it, and whether something is.
+    pub fn turn<T: Read + Drop, W: Sink, E: Sink>(
+        &mut self,
+        text: T,
+        name: &str,
+        output: &mut W,
+        errors: &mut E,
+    ) -> (Outcome, bool) {
+        let source = Buffered::over(text, &mut self.input);
+        let mut watched = Watched::over(source, &mut self.complaints);
+        let mut steps = 0;
+        let outcome = convert(
+            &mut watched,
+            output,
+            &mut self.blocks,
+            &mut self.pending,
+            &mut steps,
+        );
+        let wrong = tell_complaints(name, watched.complaints(), watched.has_missed(), errors);
+        (outcome, wrong)
+    }
+}
