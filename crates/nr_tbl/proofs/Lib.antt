@@ -1,7 +1,0 @@
-pub mod Complaints
-pub mod Hearing
-pub mod Passing
-pub mod Putting
-pub mod Reading
-pub mod Tableless
-pub mod Turning

@@ -5,16 +5,12 @@ pub mod Half
 pub mod Head
 pub mod Held
 pub mod Lines
-pub mod Macros
 pub mod Measure
 pub mod Meeting
 pub mod Numbers
 pub mod Options
 pub mod Outside
 pub mod Plain
-pub mod Reading
 pub mod Rows
-pub mod Running
-pub mod Saying
-pub mod Untouched
+pub mod Telling
 pub mod Widths

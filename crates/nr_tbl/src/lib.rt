@@ -1,19 +1,17 @@
-//! tbl: tables become requests of the language of the formatter.
+//! tbl: tables are measured, and their rows go out as lines of text; where only the formatter knows a width, as requests.
 //!
-//! It stands on nr_units and nr_rooms. To read: `complaint`, `held`, `field`, `numbers`; `options`, `formats`, `widths`, `measure`;
-//! `macros`, `drawing`, `said`; `half`, `outside`, `head`, `rows`, `blocks`, `plain`, `meeting`; `reader`, `running`;
-//! `untouched`.
+//! It stands on nr_units, nr_rooms and nr_layout. To read: `complaint`, `held`, `field`, `numbers`; `options`, `formats`,
+//! `widths`, `measure`; `said`, `half`, `outside`, `head`, `rows`, `blocks`, `plain`, `meeting`; `telling`, `reader`,
+//! `running`; `untouched`.
 #![tactic(auto)]
 
 mod blocks;
 mod complaint;
-mod drawing;
 mod field;
 mod formats;
 mod half;
 mod head;
 mod held;
-mod macros;
 mod measure;
 mod meeting;
 mod numbers;
@@ -24,9 +22,10 @@ mod reader;
 mod rows;
 mod running;
 mod said;
+mod telling;
 mod untouched;
 mod widths;
 
 pub use complaint::{Complaint, Kind};
-pub use running::{Outcome, Report, convert, pending_size};
+pub use running::{Outcome, Report, Rooms, convert};
 pub use untouched::passes_unchanged;

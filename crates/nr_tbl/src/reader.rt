@@ -1,35 +1,35 @@
-//! A page is read byte by byte, and what it says goes out.
-ghost use Rattle.std.specs.Prelude.{◌≡◌, ◌+◌, ◌*◌, ◌<◌, ◌≤◌, ◌++◌, [], length};
-ghost use Rattle.nr_tbl.specs.Reading as specs;
+//! A page is read byte by byte, and what it says of tables is told to what holds them.
+ghost use Rattle.std.specs.Prelude.{◌≡◌, ◌≤◌, length};
+ghost use Rattle.nr_tbl.specs.Options.{options_of};
 
 use super::complaint::Kind;
-use super::formats::{Formats, put_called};
+use super::field::Shape;
 use super::half::{Act, Coming, Full, Half, Mode};
+use super::held::Held;
 use super::measure::cells_of;
 use super::options::{Options, OptionsRead};
-use super::said::{Said, put_call, put_double, say};
+use super::said::Said;
+use super::telling::{form_of, looks_of, tell_called};
 use super::widths::widths_of;
+use nr_layout::{Form, Out, Table};
 use nr_rooms::FixedVec;
-use nr_units::slice_vec::SliceVec;
-use std::marker::Model;
+use nr_units::sink::Sink;
+use nr_units::source::Fault;
+
+/// What stands before the lines of a table that isn't set, and after them.
+static PLAIN: [u8; 21] = *b".br\n.nr *u \\n(.u\n.nf\n";
+
+static PLAIN_END: [u8; 14] = *b".if \\n(*u .fi\n";
 
 /// What is half read of a page, with what is kept of a table: its options and formats, and the fields of a row, as they
-/// stand.
-#[derive(Drop)]
+/// stand, and all that was read of it.
 pub(crate) struct Reader<'a> {
     half: Half,
-    formats: SliceVec<'a, u8>,
-    row: SliceVec<'a, u8>,
+    formats: &'a mut FixedVec<u8>,
+    row: &'a mut FixedVec<u8>,
     /// The place in it where the field begins.
     from: usize,
-}
-
-impl<'a> Model for Reader<'a> {
-    ghost use Rattle.nr_tbl.specs.Reading.{Page};
-
-    ghost Value = { Page };
-
-    ghost view = { λ r. record { half = r.half; formats = r.formats; row = r.row; from = r.from } };
+    table: &'a mut Table,
 }
 
 /// How often what comes is met at most.
@@ -37,7 +37,7 @@ const MEETINGS: u8 = 10;
 
 /// The options of a text.
 fn options_of(text: &[u8]) -> Options
-    ensures { result ≡ specs.options_of text.now }
+    ensures { result ≡ options_of text.now }
 {
     let mut read = OptionsRead::new();
     for byte in text {
@@ -46,88 +46,17 @@ fn options_of(text: &[u8]) -> Options
     read.ended().options
 }
 
-/// Puts what formats call after what goes out, and gives what was read of them.
-fn read_formats(first: Formats, text: &[u8], out: &mut FixedVec<u8>) -> Formats
-    requires { length out.old.items + 32 * length text.now ≤ out.old.room }
-    ensures formats { result ≡ (specs.all_read text.now first).formats }
-    ensures items { out.new.items ≡ out.old.items ++ (specs.all_read text.now first).bytes }
-    ensures few { length out.new.items ≤ length out.old.items + 32 * length text.now }
-    ensures room { out.new.room ≡ out.old.room }
-{
-    let mut formats = first;
-    for byte in text {
-        let called = formats.read(*byte);
-        put_called(called, out);
-    }
-    formats
-}
-
-/// Puts a text with its backslashes twice.
-fn put_doubled(text: &[u8], out: &mut FixedVec<u8>)
-    requires { length out.old.items + 2 * length text.now ≤ out.old.room }
-    ensures items { out.new.items ≡ out.old.items ++ specs.doubled text.now }
-    ensures few { length out.new.items ≤ length out.old.items + 2 * length text.now }
-    ensures room { out.new.room ≡ out.old.room }
-{
-    for byte in text {
-        put_double(*byte, out);
-    }
-}
-
-/// Puts the text of a field.
-fn put_text(text: &[u8], out: &mut FixedVec<u8>)
-    requires { length out.old.items + 32 + 2 * length text.now ≤ out.old.room }
-    ensures items { out.new.items ≡ out.old.items ++ specs.text_bytes text.now }
-    ensures few { length out.new.items ≤ length out.old.items + 32 + 2 * length text.now }
-    ensures room { out.new.room ≡ out.old.room }
-{
-    out.extend(b".ds *t\\n(*r,\\n+(*f \"");
-    put_doubled(text, out);
-    out.push(b'\n');
-}
-
-/// Puts what stands before the place where a field is aligned, after a 0.
-fn put_front(text: &[u8], out: &mut FixedVec<u8>)
-    requires { length out.old.items + 32 + 2 * length text.now ≤ out.old.room }
-    ensures items { out.new.items ≡ out.old.items ++ specs.front_bytes text.now }
-    ensures few { length out.new.items ≤ length out.old.items + 32 + 2 * length text.now }
-    ensures room { out.new.room ≡ out.old.room }
-{
-    out.extend(b".ds *u\\n(*r,\\n(*f \"0");
-    put_doubled(text, out);
-    out.push(b'\n');
-}
-
 /// The first bytes of a text, of so many at most.
-fn front_of(text: &[u8], len: Option<usize>) -> &[u8]
-    ensures value { result.now ≡ specs.front_of text.now len }
-    ensures few { length result.now ≤ length text.now }
-{
+fn front_of(text: &[u8], len: Option<usize>) -> &[u8] {
     match len {
         Some(len) if len < text.len() => &text[..len],
         _ => text,
     }
 }
 
-/// Puts a field: its text, and where numbers are aligned what stands before that place.
-fn put_field(text: &[u8], front: Option<usize>, out: &mut FixedVec<u8>)
-    requires { length out.old.items + 64 + 4 * length text.now ≤ out.old.room }
-    ensures items { out.new.items ≡ out.old.items ++ specs.field_bytes text.now front }
-    ensures few { length out.new.items ≤ length out.old.items + 64 + 4 * length text.now }
-    ensures room { out.new.room ≡ out.old.room }
-{
-    put_text(text, out);
-    match front {
-        Some(place) => put_front(front_of(text, Some(place)), out),
-        None => {}
-    }
-}
-
 impl Half {
     /// A field of so many cells passes the end of the line, or is taken. One beyond the columns stands below its row.
-    fn takes_field(&mut self, cells: usize)
-        ensures { self.new ≡ specs.field_taken cells self.old }
-    {
+    fn takes_field(&mut self, cells: usize) {
         if self.fields > self.formats.columns {
             return;
         }
@@ -141,30 +70,33 @@ impl Half {
 
 impl<'a> Reader<'a> {
     /// A page begins, and the line has so many cells.
-    pub(crate) fn over(formats: &'a mut [u8], row: &'a mut [u8], line: usize) -> Reader<'a>
-        ensures { result ≡ specs.first_page (length formats.entry.now) (length row.entry.now) line }
-    {
+    pub(crate) fn over(
+        formats: &'a mut FixedVec<u8>,
+        row: &'a mut FixedVec<u8>,
+        table: &'a mut Table,
+        line: usize,
+    ) -> Reader<'a> {
+        formats.clear();
+        row.clear();
+        table.begin_page();
         Reader {
             half: Half::new(line),
-            formats: SliceVec::over(formats),
-            row: SliceVec::over(row),
+            formats,
+            row,
             from: 0,
+            table,
         }
     }
 
     /// A byte of options or formats is kept, if there is room.
-    fn keep_format(&mut self, byte: u8)
-        ensures { self.new ≡ specs.format_kept byte self.old }
-    {
-        if !self.formats.is_full() {
+    fn keep_format(&mut self, byte: u8) {
+        if self.formats.len() < self.formats.room() {
             self.formats.push(byte);
         }
     }
 
     /// A byte of a field is kept, if there is room.
-    fn keep_field(&mut self, byte: u8)
-        ensures { self.new ≡ specs.field_kept byte self.old }
-    {
+    fn keep_field(&mut self, byte: u8) {
         let len = self.row.len();
         if len >= self.row.room() {
             return;
@@ -177,54 +109,72 @@ impl<'a> Reader<'a> {
     }
 
     /// What was kept is read as options.
-    fn read_options(&mut self, out: &mut FixedVec<u8>)
-        requires { length out.old.items + specs.most self.old ≤ out.old.room }
-        ensures page { self.new ≡ (specs.options_told self.old).page }
-        ensures items { out.new.items ≡ out.old.items ++ (specs.options_told self.old).bytes }
-        ensures few { length out.new.items ≤ length out.old.items + specs.most self.old }
-        ensures room { out.new.room ≡ out.old.room }
-    {
+    fn read_options(&mut self) {
         let options = options_of(self.formats.as_slice());
         self.half.with_options(options);
+        self.table.set_looks(looks_of(options));
         self.formats.clear();
-        say(Said::Options(options), out);
     }
 
     /// What was kept is read as formats, up to a newline after it.
-    fn read_formats(&mut self, out: &mut FixedVec<u8>)
-        requires { length out.old.items + specs.most self.old ≤ out.old.room }
-        ensures page { self.new ≡ (specs.formats_told self.old).page }
-        ensures items { out.new.items ≡ out.old.items ++ (specs.formats_told self.old).bytes }
-        ensures few { length out.new.items ≤ length out.old.items + specs.most self.old }
-        ensures room { out.new.room ≡ out.old.room }
-    {
+    fn read_formats(&mut self) {
         let widths = widths_of(self.half.formats, self.formats.as_slice());
         let expand = self.half.options.expand;
         self.half.measure = self.half.measure.with_formats(expand, widths);
-        let mut formats = read_formats(self.half.formats, self.formats.as_slice(), out);
+        let mut formats = self.half.formats;
+        for byte in self.formats.as_slice() {
+            let called = formats.read(*byte);
+            tell_called(called, self.table);
+        }
         let called = formats.read(b'\n');
-        put_called(called, out);
+        tell_called(called, self.table);
+        self.table.formats_end();
         self.half.with_formats(formats, widths.last);
     }
 
+    /// The table that was read goes out, if anything of it was.
+    fn put_read<W: Sink>(&mut self, out: &mut Out<'_, W>) -> Result<(), Fault> {
+        if self.table.has_begun() {
+            self.table.put_table(true, out)?;
+        }
+        Ok(())
+    }
+
+    /// The rows that were read go out, if they take all the room that there is.
+    fn relieve<W: Sink>(&mut self, out: &mut Out<'_, W>) -> Result<(), Fault> {
+        if self.table.is_tight() {
+            self.table.put_table(false, out)?;
+        }
+        Ok(())
+    }
+
+    /// A byte of a block or a request. Where there is no room for it the row ends, and the block goes on in the next.
+    fn keep_text<W: Sink>(&mut self, byte: u8, out: &mut Out<'_, W>) -> Result<(), Fault> {
+        if self.table.is_full() && !matches!(self.half.mode, Mode::Request) {
+            let column = self.table.row_len();
+            self.table.block_ends();
+            self.table.end_row();
+            self.table.put_table(false, out)?;
+            for _ in 0..column {
+                self.table.add_mark(Form::Text);
+            }
+            self.table.text_begins();
+        }
+        self.table.add_text(byte);
+        Ok(())
+    }
+
     /// What was kept of options and formats goes out as it stands.
-    fn give_up(&mut self, out: &mut FixedVec<u8>)
-        requires { length out.old.items + specs.most self.old ≤ out.old.room }
-        ensures page { self.new ≡ (specs.given_up self.old).page }
-        ensures items { out.new.items ≡ out.old.items ++ (specs.given_up self.old).bytes }
-        ensures few { length out.new.items ≤ length out.old.items + specs.most self.old }
-        ensures room { out.new.room ≡ out.old.room }
-    {
-        say(Said::GiveUp, out);
-        out.extend(self.formats.as_slice());
+    fn give_up<W: Sink>(&mut self, out: &mut Out<'_, W>) -> Result<(), Fault> {
+        self.put_read(out)?;
+        out.put(&PLAIN)?;
+        out.put(self.formats.as_slice())?;
         self.formats.clear();
+        Ok(())
     }
 
     /// What is kept of the field.
-    fn field(&self) -> &[u8]
-        ensures value { result.now ≡ specs.field_of self.now }
-        ensures few { length result.now ≤ self.now.row.room }
-    {
+    fn field(&self) -> &[u8] {
         let kept = self.row.as_slice();
         if self.from < kept.len() {
             &kept[self.from..]
@@ -234,181 +184,213 @@ impl<'a> Reader<'a> {
     }
 
     /// Nothing is kept of a row.
-    fn forget_row(&mut self)
-        ensures { self.new ≡ specs.row_forgotten self.old }
-    {
+    fn forget_row(&mut self) {
         self.row.clear();
         self.from = 0;
     }
 
     /// What was kept of a field goes out as it stands, and this.
-    fn give_up_row(&mut self, said: Said, out: &mut FixedVec<u8>)
-        requires { length out.old.items + specs.most self.old ≤ out.old.room }
-        ensures page { self.new ≡ (specs.row_given_up said self.old).page }
-        ensures items { out.new.items ≡ out.old.items ++ (specs.row_given_up said self.old).bytes }
-        ensures few { length out.new.items ≤ length out.old.items + specs.most self.old }
-        ensures room { out.new.room ≡ out.old.room }
-    {
-        put_call(Said::GiveUpRow, out);
-        out.extend(self.field());
-        say(said, out);
+    fn give_up_row<W: Sink>(&mut self, said: Said, out: &mut Out<'_, W>) -> Result<(), Fault> {
+        self.table.end_row();
+        self.put_read(out)?;
+        out.put(&PLAIN)?;
+        out.put(b"\\&")?;
+        out.put(self.field())?;
+        self.say(said, out)?;
         self.forget_row();
+        Ok(())
     }
 
-    /// The row ends, and this goes out.
-    fn end_row(&mut self, said: Said, out: &mut FixedVec<u8>)
-        requires { length out.old.items + specs.most self.old ≤ out.old.room }
-        ensures page { self.new ≡ (specs.row_ended said self.old).page }
-        ensures items { out.new.items ≡ out.old.items ++ (specs.row_ended said self.old).bytes }
-        ensures few { length out.new.items ≤ length out.old.items + specs.most self.old }
-        ensures room { out.new.room ≡ out.old.room }
-    {
-        say(said, out);
+    /// The row ends, and this is said.
+    fn end_row<W: Sink>(&mut self, said: Said, out: &mut Out<'_, W>) -> Result<(), Fault> {
+        self.say(said, out)?;
         self.forget_row();
+        self.relieve(out)
     }
 
-    /// The field goes out as text.
-    fn say_field(&mut self, front: Option<usize>, solid: Option<usize>, out: &mut FixedVec<u8>)
-        requires { length out.old.items + specs.most self.old ≤ out.old.room }
-        ensures page { self.new ≡ (specs.field_told front solid self.old).page }
-        ensures items { out.new.items ≡ out.old.items ++ (specs.field_told front solid self.old).bytes }
-        ensures few { length out.new.items ≤ length out.old.items + specs.most self.old }
-        ensures room { out.new.room ≡ out.old.room }
-    {
-        let text = front_of(self.field(), solid);
-        put_field(text, front, out);
+    /// The field is text.
+    fn say_field(&mut self, front: Option<usize>, solid: Option<usize>) {
+        let kept = self.row.as_slice();
+        let start = self.from.min(kept.len());
+        let text = front_of(&kept[start..], solid);
+        self.table.add_field(text, front);
         let cells = cells_of(text);
         self.half.takes_field(cells);
         self.from = self.row.len();
     }
 
-    /// This goes out in place of the field.
-    fn replace_field(&mut self, said: Said, out: &mut FixedVec<u8>)
-        requires { length out.old.items + specs.most self.old ≤ out.old.room }
-        ensures page { self.new ≡ (specs.field_replaced said self.old).page }
-        ensures items { out.new.items ≡ out.old.items ++ (specs.field_replaced said self.old).bytes }
-        ensures few { length out.new.items ≤ length out.old.items + specs.most self.old }
-        ensures room { out.new.room ≡ out.old.room }
-    {
-        say(said, out);
+    /// This is said in place of the field.
+    fn replace_field<W: Sink>(&mut self, said: Said, out: &mut Out<'_, W>) -> Result<(), Fault> {
+        self.say(said, out)?;
         self.from = self.row.len();
+        Ok(())
+    }
+
+    /// A line begins so: in a block it is the block's.
+    fn hold<W: Sink>(&mut self, held: Held, out: &mut Out<'_, W>) -> Result<(), Fault> {
+        if !matches!(self.half.mode, Mode::BlockLine) {
+            return out.put(held.bytes());
+        }
+        for byte in held.bytes() {
+            self.keep_text(*byte, out)?;
+        }
+        Ok(())
+    }
+
+    /// What was read is said of the table.
+    fn say<W: Sink>(&mut self, said: Said, out: &mut Out<'_, W>) -> Result<(), Fault> {
+        match said {
+            Said::Nothing | Said::Options(_) => {}
+            Said::Byte(byte) => return out.put(&[byte]),
+            Said::Double(byte) => return self.keep_text(byte, out),
+            Said::Held(held) => return self.hold(held, out),
+            Said::Begin(_) => {
+                self.table.begin();
+                return out.put(b"\n");
+            }
+            Said::More => self.table.formats_begin(),
+            Said::Request(held) => {
+                self.table.text_begins();
+                for byte in held.bytes() {
+                    self.table.add_text(*byte);
+                }
+            }
+            Said::RequestEnd => {
+                self.table.request_ends();
+                return self.relieve(out);
+            }
+            Said::Skip => self.table.add_mark(Form::Text),
+            Said::Mark(mark) => self.table.add_mark(form_of(mark)),
+            Said::Repeat(byte) => self.table.add_mark(Form::Repeat(byte)),
+            Said::Block => self.table.text_begins(),
+            Said::BlockEnd => self.table.block_ends(),
+            Said::CloseBlock => {
+                self.table.block_ends();
+                self.table.end_row();
+            }
+            Said::Rule => self.table.add_rule(),
+            Said::Row => self.table.end_row(),
+            Said::End => {
+                self.table.put_table(true, out)?;
+                return out.put(b".TE");
+            }
+            Said::EndOpen => return self.table.put_table(true, out),
+            Said::GiveUp | Said::GiveUpRow => {}
+            Said::Done => return out.put(&PLAIN_END),
+            Said::PlainDone => {
+                out.put(b"\n")?;
+                return out.put(&PLAIN_END);
+            }
+        }
+        Ok(())
     }
 
     /// What is done.
-    fn act(&mut self, act: Act, out: &mut FixedVec<u8>)
-        requires { length out.old.items + specs.most self.old ≤ out.old.room }
-        ensures page { self.new ≡ (specs.acted act self.old).page }
-        ensures items { out.new.items ≡ out.old.items ++ (specs.acted act self.old).bytes }
-        ensures few { length out.new.items ≤ length out.old.items + specs.most self.old }
-        ensures room { out.new.room ≡ out.old.room }
-    {
+    fn act<W: Sink>(&mut self, act: Act, out: &mut Out<'_, W>) -> Result<(), Fault> {
         match act {
-            Act::Say(said) => say(said, out),
+            Act::Say(said) => return self.say(said, out),
             Act::KeepFormat(byte) => self.keep_format(byte),
-            Act::ReadOptions => self.read_options(out),
-            Act::ReadFormats => self.read_formats(out),
+            Act::ReadOptions => self.read_options(),
+            Act::ReadFormats => self.read_formats(),
             Act::Forget => self.formats.clear(),
-            Act::GiveUp => self.give_up(out),
+            Act::GiveUp => return self.give_up(out),
             Act::KeepField(byte) => self.keep_field(byte),
-            Act::Field(front, solid) => self.say_field(front, solid, out),
-            Act::Replace(said) => self.replace_field(said, out),
-            Act::EndRow(said) => self.end_row(said, out),
-            Act::GiveUpRow(said) => self.give_up_row(said, out),
+            Act::Field(front, solid) => self.say_field(front, solid),
+            Act::Replace(said) => return self.replace_field(said, out),
+            Act::EndRow(said) => return self.end_row(said, out),
+            Act::GiveUpRow(said) => return self.give_up_row(said, out),
         }
+        Ok(())
     }
 
     /// Whether there is room for no byte more.
-    fn full(&self) -> Full
-        ensures { result ≡ specs.full self.now }
-    {
+    fn full(&self) -> Full {
         Full {
-            formats: self.formats.is_full(),
-            row: self.row.is_full(),
+            formats: self.formats.len() >= self.formats.room(),
+            row: self.row.len() >= self.row.room(),
         }
     }
 
     /// What comes is met so many times at most. Tells how many steps that took, as all below do.
-    fn hear_in(&mut self, coming: Coming, most: u8, out: &mut FixedVec<u8>) -> u64
-        requires { length out.old.items + most * specs.most self.old ≤ out.old.room }
-        ensures page { self.new ≡ (specs.heard_in most coming self.old).page }
-        ensures items { out.new.items ≡ out.old.items ++ (specs.heard_in most coming self.old).bytes }
-        ensures steps { result ≡ (specs.heard_in most coming self.old).steps }
-        ensures few { length out.new.items ≤ length out.old.items + most * specs.most self.old }
-        ensures quick { result ≤ most }
-        ensures room { out.new.room ≡ out.old.room }
-    {
+    fn hear_in<W: Sink>(
+        &mut self,
+        coming: Coming,
+        most: u8,
+        out: &mut Out<'_, W>,
+    ) -> Result<u64, Fault> {
         if most == 0 {
-            return 0;
+            return Ok(0);
         }
         let full = self.full();
         let seen = self.half.meet(coming, full);
-        self.act(seen.act, out);
+        self.act(seen.act, out)?;
         if seen.takes {
-            return 1;
+            return Ok(1);
         }
-        1 + self.hear_in(coming, most - 1, out)
-    }
-
-    /// What comes is met until it is taken.
-    #[tactic(auto, unfolding(crate::specs::Reading::heard))]
-    fn hear(&mut self, coming: Coming, out: &mut FixedVec<u8>) -> u64
-        requires { length out.old.items + 10 * specs.most self.old ≤ out.old.room }
-        ensures page { self.new ≡ (specs.heard coming self.old).page }
-        ensures items { out.new.items ≡ out.old.items ++ (specs.heard coming self.old).bytes }
-        ensures steps { result ≡ (specs.heard coming self.old).steps }
-        ensures few { length out.new.items ≤ length out.old.items + 10 * specs.most self.old }
-        ensures quick { result ≤ 10 }
-        ensures room { out.new.room ≡ out.old.room }
-    {
-        self.hear_in(coming, MEETINGS, out)
+        let more = self.hear_in(coming, most - 1, out)?;
+        Ok(more.saturating_add(1))
     }
 
     /// A byte comes.
-    pub(crate) fn read(&mut self, byte: u8, out: &mut FixedVec<u8>) -> u64
-        requires { length out.old.items + 10 * specs.most self.old ≤ out.old.room }
-        ensures page { self.new ≡ (specs.read byte self.old).page }
-        ensures items { out.new.items ≡ out.old.items ++ (specs.read byte self.old).bytes }
-        ensures steps { result ≡ (specs.read byte self.old).steps }
-        ensures few { length out.new.items ≤ length out.old.items + 10 * specs.most self.old }
-        ensures quick { result ≤ 10 }
-        ensures room { out.new.room ≡ out.old.room }
-    {
+    pub(crate) fn read<W: Sink>(&mut self, byte: u8, out: &mut Out<'_, W>) -> Result<u64, Fault> {
         self.half.complaint = None;
-        self.hear(Coming::Byte(byte), out)
+        self.hear_in(Coming::Byte(byte), MEETINGS, out)
     }
 
     /// The end comes.
-    pub(crate) fn finish(&mut self, out: &mut FixedVec<u8>) -> u64
-        requires { length out.old.items + 10 * specs.most self.old ≤ out.old.room }
-        ensures page { self.new ≡ (specs.finished self.old).page }
-        ensures items { out.new.items ≡ out.old.items ++ (specs.finished self.old).bytes }
-        ensures steps { result ≡ (specs.finished self.old).steps }
-        ensures few { length out.new.items ≤ length out.old.items + 10 * specs.most self.old }
-        ensures quick { result ≤ 10 }
-        ensures room { out.new.room ≡ out.old.room }
-    {
+    pub(crate) fn finish<W: Sink>(&mut self, out: &mut Out<'_, W>) -> Result<u64, Fault> {
         self.half.complaint = None;
-        self.hear(Coming::End, out)
+        self.hear_in(Coming::End, MEETINGS, out)
     }
 
     /// What was found wrong at what came last.
-    pub(crate) fn complaint(&self) -> Option<Kind>
-        ensures { result ≡ self.now.half.complaint }
-    {
+    pub(crate) fn complaint(&self) -> Option<Kind> {
         self.half.complaint
     }
 
-    /// Whether bytes pass up to a newline.
-    fn passes(&self) -> bool
-        ensures { result ≡ specs.passes self.now }
+    /// How many of these bytes come first that a field takes as its text, each in one step.
+    pub(crate) fn text_front(&self, bytes: &[u8]) -> usize
+        ensures within { result ≤ length bytes.now }
     {
+        let begun = matches!(self.half.mode, Mode::Field) && matches!(self.half.shape, Shape::Text);
+        if !begun {
+            return 0;
+        }
+        let tab = self.half.options.tab;
+        let most = bytes.len().min(self.row.room() - self.row.len());
+        for (at, byte) in bytes[..most].iter().enumerate() {
+            if *byte == tab || *byte == b'\n' || *byte == b'\\' {
+                return at;
+            }
+        }
+        most
+    }
+
+    /// The field takes a byte of its text.
+    fn take_text_byte(&mut self, byte: u8, point: u8) {
+        if self.row.len() < self.row.room() {
+            let place = self.row.len().saturating_sub(self.from);
+            self.half.marks = self.half.marks.with(byte, place, point);
+            self.row.push(byte);
+        }
+    }
+
+    /// The field takes these bytes.
+    pub(crate) fn take_text(&mut self, bytes: &[u8]) {
+        let point = self.half.options.point;
+        for byte in bytes {
+            self.take_text_byte(*byte, point);
+        }
+    }
+
+    /// Whether bytes pass up to a newline.
+    fn passes(&self) -> bool {
         matches!(self.half.mode, Mode::Passing) && self.half.complaint.is_none()
     }
 
     /// How many of these bytes come first that go out as they are and change nothing, each in one step.
     pub(crate) fn plain_front(&self, bytes: &[u8]) -> usize
         ensures within { result ≤ length bytes.now }
-        ensures plain { specs.IsPlainFront result bytes.now self.now }
     {
         if !self.passes() {
             return 0;
@@ -423,8 +405,6 @@ impl<'a> Reader<'a> {
 }
 
 /// A byte that ends no line.
-fn is_plain_byte(byte: u8) -> bool
-    ensures { result ≡ specs.is_plain_byte byte }
-{
+fn is_plain_byte(byte: u8) -> bool {
     byte != b'\n'
 }

@@ -1,14 +1,9 @@
 //! Text that goes out as it is.
-ghost use Rattle.std.specs.Prelude.{◌≡◌, ℕ, ◌+◌, ◌*◌, ◌≤◌, [], length, IsTrue};
-ghost use Rattle.nr_tbl.specs.Reading.{tables_set, steps_of, complaints_of};
-ghost use Rattle.nr_tbl.specs.Untouched.{begins_table, is_untouched};
 
 use super::held::ends_name;
 
 /// Whether a table begins with these bytes.
-fn begins_table(bytes: &[u8]) -> bool
-    ensures { result ≡ begins_table bytes.now }
-{
+fn begins_table(bytes: &[u8]) -> bool {
     bytes.len() > 3
         && bytes[0] == b'.'
         && bytes[1] == b'T'
@@ -16,14 +11,8 @@ fn begins_table(bytes: &[u8]) -> bool
         && ends_name(bytes[3])
 }
 
-/// Whether no line of a text begins a table, with `.TS` and a byte that ends a name. Such a text is what `convert`
-/// makes of it, in two steps for each byte at most and one for the end, with nothing to complain of.
-pub fn passes_unchanged(text: &[u8]) -> bool
-    ensures value { result ≡ is_untouched text.now }
-    ensures law { IsTrue result → (formats row line : ℕ) → tables_set formats row line text.now ≡ text.now }
-    ensures quick { IsTrue result → (formats row line : ℕ) → steps_of formats row line text.now ≤ 2 * length text.now + 1 }
-    ensures well { IsTrue result → (formats row line : ℕ) → complaints_of formats row line text.now ≡ [] }
-{
+/// Whether no line of a text begins a table, with `.TS` and a byte that ends a name.
+pub fn passes_unchanged(text: &[u8]) -> bool {
     let mut starts = true;
     for i in 0..text.len() {
         if starts && begins_table(&text[i..]) {

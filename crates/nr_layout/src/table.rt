@@ -1,0 +1,882 @@
+//! A table as it is held while it is measured: its formats, and its rows with their fields.
+
+use super::lists::{add_item, item_at, set_item};
+use super::places::Place;
+use nr_rooms::FixedVec;
+use std::alloc::{AllocError, Global};
+
+/// The greatest number of columns.
+pub(crate) const COLUMNS: usize = 64;
+
+/// The greatest number of lines of formats.
+const LINES: usize = 256;
+
+/// The space after a column where no number gives another.
+const GAP: usize = 3;
+
+/// The greatest number that a gap may have.
+const MOST_GAP: usize = 100_000;
+
+/// The frame of a table.
+#[derive(Clone, Copy)]
+pub enum Frame {
+    /// None.
+    Open,
+    /// A box around it.
+    Single,
+    /// A box around each field.
+    All,
+    /// A box of two lines.
+    Double,
+}
+
+/// What the options of a table say of its looks.
+#[derive(Clone, Copy)]
+pub struct Looks {
+    /// It stands in the middle of the line.
+    pub center: bool,
+    /// It is as wide as the line.
+    pub expand: bool,
+    /// Its frame.
+    pub frame: Frame,
+    /// It may be cut by the end of a page.
+    pub nokeep: bool,
+}
+
+/// A part of the text that is held.
+#[derive(Clone, Copy)]
+pub(crate) struct Span {
+    /// Where it begins.
+    pub start: usize,
+    /// Where it ends.
+    pub end: usize,
+}
+
+/// What a field is.
+#[derive(Clone, Copy)]
+pub enum Form {
+    /// Text, or nothing.
+    Text,
+    /// A rule through the column.
+    Rule,
+    /// A rule as wide as what stands in the column.
+    Inner,
+    /// A byte that is repeated over its width.
+    Repeat(u8),
+    /// Nothing: the field above goes on.
+    Above,
+    /// A text block.
+    Block,
+}
+
+/// A field of a row.
+#[derive(Clone, Copy)]
+pub(crate) struct Field {
+    /// What it is.
+    pub form: Form,
+    /// Its text.
+    pub span: Span,
+    /// How many bytes of a number stand before the place where it is aligned.
+    pub front: Option<usize>,
+}
+
+/// Where a field stands that goes on over rows below.
+#[derive(Clone, Copy)]
+pub enum Stand {
+    /// At the top of its rows.
+    Top,
+    /// In their middle.
+    Middle,
+    /// At their bottom.
+    Low,
+}
+
+/// A letter of a line of formats, and what modifies it.
+#[derive(Clone, Copy)]
+pub(crate) struct Key {
+    /// The letter.
+    pub kind: u8,
+    /// The bars before it.
+    pub bars: usize,
+    /// The letter of its font, or 0.
+    pub font: u8,
+    /// What `w` says.
+    pub width: Option<Span>,
+    /// The space after it.
+    pub gap: Option<usize>,
+    /// `e`
+    pub equal: bool,
+    /// `x`
+    pub wide: bool,
+    /// `z`
+    pub zero: bool,
+    /// `t`, `d` or none.
+    pub stand: Stand,
+}
+
+/// A line of formats.
+#[derive(Clone, Copy)]
+pub(crate) struct Line {
+    /// Its first key.
+    pub first: usize,
+    /// How many it has.
+    pub count: usize,
+    /// The bars at its end.
+    pub bars: usize,
+}
+
+/// A row.
+#[derive(Clone, Copy)]
+pub(crate) struct Row {
+    /// Its first field.
+    pub first: usize,
+    /// Behind its last one.
+    pub end: usize,
+    /// The first that stands in no column.
+    pub beyond: usize,
+    /// Its line of formats.
+    pub line: usize,
+    /// Its first cell.
+    pub cells: usize,
+    /// Behind its last one.
+    pub cells_end: usize,
+    /// A field of it is its own: it takes room.
+    pub own: bool,
+    /// The last row that takes room, from this one upward.
+    pub last_own: usize,
+    /// Its step.
+    pub step: usize,
+    /// Which item it is.
+    pub item: usize,
+    /// How high it is.
+    pub tall: Tall,
+}
+
+/// How high a row is.
+#[derive(Clone, Copy)]
+pub(crate) enum Tall {
+    /// One line.
+    Line,
+    /// As high as this block.
+    Block(usize),
+    /// As high as a register says.
+    Told,
+}
+
+/// What stands below one another in a table.
+#[derive(Clone, Copy)]
+pub(crate) enum Item {
+    /// A row.
+    Row(usize),
+    /// A rule across the table.
+    Rule,
+    /// A line of a request.
+    Request(Span),
+}
+
+/// A field in its place.
+#[derive(Clone, Copy)]
+pub(crate) struct Cell {
+    /// The field.
+    pub field: Field,
+    /// Its key.
+    pub key: Key,
+    /// Its first column.
+    pub first: usize,
+    /// Its last one.
+    pub last: usize,
+    /// Its first row.
+    pub top: usize,
+    /// Its last one.
+    pub bottom: usize,
+    /// It goes on over rows below, which may take no room.
+    pub falls: bool,
+    /// How many cells of the page its text takes, where that shows in it.
+    pub width: Option<usize>,
+    /// The number of its string or diversion, or 0.
+    pub name: usize,
+    /// It is read as a string.
+    pub stored: bool,
+    /// The line of the table on which it stands, where it goes on over rows below.
+    pub line: usize,
+}
+
+/// A column.
+#[derive(Clone, Copy)]
+pub(crate) struct Column {
+    /// Its width.
+    pub width: usize,
+    /// What `w` says.
+    pub least: Option<Span>,
+    /// That in cells, where it shows.
+    pub least_cells: Option<usize>,
+    /// The greatest width of fields of `a`.
+    pub alpha: usize,
+    /// There is one.
+    pub alphas: bool,
+    /// The most that stands before the place where numbers are aligned.
+    pub front: usize,
+    /// And after it.
+    pub back: usize,
+    /// There are numbers.
+    pub numbers: bool,
+    /// The space after it.
+    pub gap: usize,
+    /// `e`
+    pub equal: bool,
+    /// `x`
+    pub wide: bool,
+    /// Its width is known before the table is printed.
+    pub known: bool,
+    /// Where it begins.
+    pub left: Place,
+    /// Where it ends.
+    pub right: Place,
+    /// Where bars before the next one stand.
+    pub bar: Place,
+}
+
+/// What is read of a key's modifier.
+#[derive(Clone, Copy)]
+enum Open {
+    /// None.
+    Nothing,
+    /// A width, whose text begins here.
+    Width(usize),
+    /// A space so far.
+    Gap(usize),
+}
+
+/// A table, as far as it was read.
+#[derive(Drop)]
+pub struct Table {
+    pub(crate) looks: Looks,
+    pub(crate) text: FixedVec<u8>,
+    pub(crate) keys: FixedVec<Key>,
+    pub(crate) lines: FixedVec<Line>,
+    pub(crate) fields: FixedVec<Field>,
+    pub(crate) rows: FixedVec<Row>,
+    pub(crate) items: FixedVec<Item>,
+    pub(crate) cells: FixedVec<Cell>,
+    pub(crate) grid: FixedVec<usize>,
+    pub(crate) columns: FixedVec<Column>,
+    pub(crate) steps: FixedVec<Step>,
+    open: Open,
+    /// The line of formats of the next row.
+    now: usize,
+    /// The first field of the row that is read.
+    row_from: usize,
+    /// Where its block or request begins.
+    pub(crate) from: usize,
+    /// Where the text of rows begins.
+    rows_from: usize,
+    /// A part of the table went out.
+    pub(crate) begun: bool,
+    /// Its lines of text went out so far, and its columns stay as they are.
+    pub(crate) measured: bool,
+    /// The macros that draw bars went out.
+    pub(crate) bars_known: bool,
+    most_text: usize,
+}
+
+/// A line of the table, or a request.
+#[derive(Clone, Copy)]
+pub(crate) struct Step {
+    /// What.
+    pub kind: StepKind,
+    /// The number of its line.
+    pub line: usize,
+}
+
+/// What a line of a table is.
+#[derive(Clone, Copy)]
+pub(crate) enum StepKind {
+    /// The outer rule of a double box.
+    Edge,
+    /// A rule between two rows.
+    Rule(Option<usize>, Option<usize>),
+    /// Room is asked for the rows that begin here, below a rule or not.
+    Before(usize, bool),
+    /// A row.
+    Row(usize),
+    /// So many lines of a row's bars.
+    Bars(usize, usize),
+    /// A request.
+    Request(Span),
+    /// The fields of a row that stand in no column.
+    Beyond(usize),
+}
+
+impl Key {
+    /// A column without a letter.
+    pub(crate) fn usual() -> Key {
+        Key {
+            kind: b'l',
+            bars: 0,
+            font: 0,
+            width: None,
+            gap: None,
+            equal: false,
+            wide: false,
+            zero: false,
+            stand: Stand::Middle,
+        }
+    }
+}
+
+impl Looks {
+    /// Without options.
+    pub(crate) fn plain() -> Looks {
+        Looks {
+            center: false,
+            expand: false,
+            frame: Frame::Open,
+            nokeep: false,
+        }
+    }
+}
+
+impl Line {
+    /// One without keys.
+    pub(crate) fn empty() -> Line {
+        Line {
+            first: 0,
+            count: 0,
+            bars: 0,
+        }
+    }
+}
+
+impl Row {
+    /// One without fields.
+    pub(crate) fn empty() -> Row {
+        Row {
+            first: 0,
+            end: 0,
+            beyond: 0,
+            line: 0,
+            cells: 0,
+            cells_end: 0,
+            own: true,
+            last_own: 0,
+            step: 0,
+            item: 0,
+            tall: Tall::Line,
+        }
+    }
+}
+
+impl Cell {
+    /// One without text.
+    pub(crate) fn empty() -> Cell {
+        Cell {
+            field: Field::empty(),
+            key: Key::usual(),
+            first: 0,
+            last: 0,
+            top: 0,
+            bottom: 0,
+            falls: false,
+            width: Some(0),
+            name: 0,
+            stored: false,
+            line: 0,
+        }
+    }
+}
+
+impl Column {
+    /// One without fields.
+    pub(crate) fn fresh() -> Column {
+        Column {
+            width: 0,
+            least: None,
+            least_cells: Some(0),
+            alpha: 0,
+            alphas: false,
+            front: 0,
+            back: 0,
+            numbers: false,
+            gap: GAP,
+            equal: false,
+            wide: false,
+            known: true,
+            left: Place::edge(),
+            right: Place::edge(),
+            bar: Place::edge(),
+        }
+    }
+}
+
+impl Step {
+    /// One that does nothing.
+    pub(crate) fn nothing() -> Step {
+        Step {
+            kind: StepKind::Bars(0, 0),
+            line: 0,
+        }
+    }
+}
+
+/// Whether a text ends with `\\c`.
+fn joins(text: &[u8]) -> bool {
+    text.len() >= 2 && text[text.len() - 2] == b'\\' && text[text.len() - 1] == b'c'
+}
+
+/// Whether a request is a comment.
+fn is_comment(text: &[u8]) -> bool {
+    text.len() >= 3 && text[1] == b'\\' && text[2] == b'"'
+}
+
+impl Field {
+    /// A field without text.
+    pub(crate) fn empty() -> Field {
+        Field {
+            form: Form::Text,
+            span: Span { start: 0, end: 0 },
+            front: None,
+        }
+    }
+
+    /// Whether it is text, and has some.
+    pub(crate) fn has_text(self) -> bool {
+        matches!(self.form, Form::Text) && self.span.start < self.span.end
+    }
+}
+
+impl Table {
+    /// Takes the memory for a table of so many bytes, whose rows have so many at most.
+    pub fn new(alloc: Global, most: usize, row: usize) -> Result<Table, AllocError> {
+        let text = most.saturating_add(row).saturating_add(64);
+        let rows = most / COLUMNS + 2;
+        let cells = rows.saturating_mul(COLUMNS);
+        Ok(Table {
+            looks: Looks::plain(),
+            text: FixedVec::new(alloc, text)?,
+            keys: FixedVec::new(alloc, COLUMNS * LINES)?,
+            lines: FixedVec::new(alloc, LINES)?,
+            fields: FixedVec::new(alloc, text)?,
+            rows: FixedVec::new(alloc, rows)?,
+            items: FixedVec::new(alloc, text)?,
+            cells: FixedVec::new(alloc, cells)?,
+            grid: FixedVec::new(alloc, cells)?,
+            columns: FixedVec::new(alloc, COLUMNS)?,
+            steps: FixedVec::new(alloc, text.saturating_mul(4))?,
+            open: Open::Nothing,
+            now: 0,
+            row_from: 0,
+            from: 0,
+            rows_from: 0,
+            begun: false,
+            measured: false,
+            bars_known: false,
+            most_text: most,
+        })
+    }
+
+    /// A table begins.
+    pub fn begin(&mut self) {
+        self.looks = Looks::plain();
+        self.text.clear();
+        self.keys.clear();
+        self.lines.clear();
+        self.columns.clear();
+        self.open = Open::Nothing;
+        self.now = 0;
+        self.begun = false;
+        self.measured = false;
+        self.rows_from = 0;
+        self.forget_rows();
+    }
+
+    /// How it looks.
+    pub fn set_looks(&mut self, looks: Looks) {
+        self.looks = looks;
+    }
+
+    /// A page begins.
+    pub fn begin_page(&mut self) {
+        self.bars_known = false;
+    }
+
+    /// Its rows are forgotten.
+    pub(crate) fn forget_rows(&mut self) {
+        let kept = self.rows_from.min(self.text.len());
+        self.text.truncate(kept);
+        self.fields.clear();
+        self.rows.clear();
+        self.items.clear();
+        self.cells.clear();
+        self.grid.clear();
+        self.steps.clear();
+        self.row_from = 0;
+        self.from = self.rows_from;
+    }
+
+    /// The bytes of a part of the text.
+    pub(crate) fn bytes(&self, span: Span) -> &[u8] {
+        let text = self.text.as_slice();
+        if span.start <= span.end && span.end <= text.len() {
+            &text[span.start..span.end]
+        } else {
+            b""
+        }
+    }
+
+    /// The greatest number of columns of a line.
+    pub(crate) fn width(&self) -> usize {
+        let mut most = 0;
+        for line in self.lines.as_slice() {
+            most = line.count.max(most);
+        }
+        most.min(COLUMNS)
+    }
+
+    /// A modifier ends.
+    pub fn close(&mut self) {
+        let end = self.text.len();
+        let key = self.last_key();
+        match self.open {
+            Open::Width(start) if start < end => {
+                let width = Some(Span { start, end });
+                self.set_last_key(Key { width, ..key });
+            }
+            Open::Gap(gap) => self.set_last_key(Key {
+                gap: Some(gap),
+                ..key
+            }),
+            _ => {}
+        }
+        self.open = Open::Nothing;
+    }
+
+    /// A byte of a modifier.
+    pub fn add_byte(&mut self, byte: u8) {
+        match self.open {
+            Open::Nothing => {}
+            Open::Width(_) if byte == b'\n' => self.close(),
+            Open::Width(_) => self.add_text(byte),
+            Open::Gap(gap) => {
+                let digit = usize::from(byte.saturating_sub(b'0'));
+                let more = gap.saturating_mul(10).saturating_add(digit);
+                self.open = Open::Gap(more.min(MOST_GAP));
+            }
+        }
+    }
+
+    /// The last key, if there is one.
+    fn last_key(&self) -> Key {
+        item_at(&self.keys, self.keys.len().saturating_sub(1), Key::usual())
+    }
+
+    /// Another in its place.
+    fn set_last_key(&mut self, key: Key) {
+        let last = self.keys.len().saturating_sub(1);
+        set_item(&mut self.keys, last, key);
+    }
+
+    /// The last line of formats, if there is one.
+    fn last_line(&self) -> Line {
+        item_at(
+            &self.lines,
+            self.lines.len().saturating_sub(1),
+            Line::empty(),
+        )
+    }
+
+    /// Another in its place.
+    fn set_last_line(&mut self, line: Line) {
+        let last = self.lines.len().saturating_sub(1);
+        set_item(&mut self.lines, last, line);
+    }
+
+    /// A line of formats begins.
+    pub fn begin_line(&mut self) {
+        let first = self.keys.len();
+        add_item(
+            &mut self.lines,
+            Line {
+                first,
+                count: 0,
+                bars: 0,
+            },
+        );
+    }
+
+    /// It ends with so many bars.
+    pub fn end_line(&mut self, bars: usize) {
+        let line = self.last_line();
+        self.set_last_line(Line { bars, ..line });
+    }
+
+    /// A key of the line that is read.
+    pub fn add_key(&mut self, kind: u8, bars: usize) {
+        if self.keys.len() >= self.keys.room() {
+            return;
+        }
+        let key = Key::usual();
+        add_item(&mut self.keys, Key { kind, bars, ..key });
+        let line = self.last_line();
+        let count = line.count.saturating_add(1);
+        self.set_last_line(Line { count, ..line });
+    }
+
+    /// The font of the last key.
+    pub fn set_font(&mut self, font: u8) {
+        let key = self.last_key();
+        self.set_last_key(Key { font, ..key });
+    }
+
+    /// The last key has `e`.
+    pub fn set_equal(&mut self) {
+        let key = self.last_key();
+        self.set_last_key(Key { equal: true, ..key });
+    }
+
+    /// It has `x`.
+    pub fn set_wide(&mut self) {
+        let key = self.last_key();
+        self.set_last_key(Key { wide: true, ..key });
+    }
+
+    /// It has `z`.
+    pub fn set_zero(&mut self) {
+        let key = self.last_key();
+        self.set_last_key(Key { zero: true, ..key });
+    }
+
+    /// Where its fields stand that go on over rows below.
+    pub fn set_stand(&mut self, stand: Stand) {
+        let key = self.last_key();
+        self.set_last_key(Key { stand, ..key });
+    }
+
+    /// A width begins.
+    pub fn begin_width(&mut self) {
+        self.open = Open::Width(self.text.len());
+    }
+
+    /// A space begins with this digit.
+    pub fn begin_gap(&mut self, digit: u8) {
+        self.open = Open::Gap(usize::from(digit.saturating_sub(b'0')));
+    }
+
+    /// Formats begin, after `.T&` or at first.
+    pub fn formats_begin(&mut self) {
+        self.now = self.lines.len();
+    }
+
+    /// They have ended: without a letter they are one of `l`.
+    pub fn formats_end(&mut self) {
+        self.close();
+        if self.now >= self.lines.len() {
+            self.now = self.lines.len();
+            self.begin_line();
+            self.add_key(b'l', 0);
+        }
+        if self.rows.len() == 0 && self.items.len() == 0 {
+            self.rows_from = self.text.len();
+        }
+        self.from = self.text.len();
+    }
+
+    /// A byte of text is held, if there is room.
+    pub fn add_text(&mut self, byte: u8) {
+        add_item(&mut self.text, byte);
+    }
+
+    /// A field whose text was added ends.
+    fn push_field(&mut self, form: Form, end: usize, front: Option<usize>) {
+        let span = Span {
+            start: self.from,
+            end,
+        };
+        add_item(&mut self.fields, Field { form, span, front });
+        self.from = self.text.len();
+    }
+
+    /// A field without text, or one that stands for another.
+    pub fn add_mark(&mut self, form: Form) {
+        let end = self.text.len();
+        self.from = end;
+        self.push_field(form, end, None);
+    }
+
+    /// A field of text. A `\\c` at its end would join rows, and is dropped.
+    pub fn add_field(&mut self, text: &[u8], front: Option<usize>) {
+        self.from = self.text.len();
+        if text.len() <= self.text.room() - self.text.len() {
+            self.text.extend(text);
+        }
+        let end = self.text.len();
+        let joined = if joins(text) { 2 } else { 0 };
+        self.push_field(Form::Text, end.saturating_sub(joined), front);
+    }
+
+    /// A block or a request begins.
+    pub fn text_begins(&mut self) {
+        self.from = self.text.len();
+    }
+
+    /// A block ends.
+    pub fn block_ends(&mut self) {
+        let end = self.text.len();
+        self.push_field(Form::Block, end, None);
+    }
+
+    /// A request ends. A comment is none.
+    pub fn request_ends(&mut self) {
+        let span = Span {
+            start: self.from,
+            end: self.text.len(),
+        };
+        if !is_comment(self.bytes(span)) {
+            add_item(&mut self.items, Item::Request(span));
+        }
+        self.from = self.text.len();
+    }
+
+    /// Whether a line of formats takes no row.
+    fn is_rule(&self, line: Line) -> bool {
+        for column in 0..line.count {
+            let kind = self.key(line, column).kind;
+            if kind != b'_' && kind != b'=' {
+                return false;
+            }
+        }
+        true
+    }
+
+    /// A rule across the table.
+    pub fn add_rule(&mut self) {
+        add_item(&mut self.items, Item::Rule);
+    }
+
+    /// Lines of formats that are rules take no row.
+    fn skip_rules(&mut self) {
+        for number in self.now..self.lines.len().saturating_sub(1) {
+            if !self.is_rule(item_at(&self.lines, number, Line::empty())) {
+                return;
+            }
+            self.add_rule();
+            self.now = number + 1;
+        }
+    }
+
+    /// The row ends.
+    pub fn end_row(&mut self) {
+        self.skip_rules();
+        let number = self.rows.len();
+        let item = self.items.len();
+        if number >= self.rows.room() || item >= self.items.room() {
+            return;
+        }
+        let first = self.row_from;
+        let end = self.fields.len();
+        add_item(
+            &mut self.rows,
+            Row {
+                first,
+                end,
+                line: self.now,
+                item,
+                last_own: number,
+                ..Row::empty()
+            },
+        );
+        add_item(&mut self.items, Item::Row(number));
+        self.row_from = end;
+        if self.now.saturating_add(1) < self.lines.len() {
+            self.now = self.now.saturating_add(1);
+        }
+    }
+
+    /// Whether there is no room for more text.
+    pub fn is_full(&self) -> bool {
+        self.text.len() >= self.text.room()
+    }
+
+    /// How many fields the row has that is read.
+    pub fn row_len(&self) -> usize {
+        self.fields.len().saturating_sub(self.row_from)
+    }
+
+    /// Whether rows or requests were read, or went out.
+    pub fn has_begun(&self) -> bool {
+        self.begun || self.items.len() > 0
+    }
+
+    /// Whether the rows that were read should go out before another comes.
+    pub fn is_tight(&self) -> bool {
+        self.text.len().saturating_sub(self.rows_from) >= self.most_text
+            || self.rows.room() - self.rows.len() < 2
+            || self.fields.room() - self.fields.len() < COLUMNS + 2
+            || self.items.room() - self.items.len() < LINES + 2
+    }
+
+    /// The key of a column in a line of formats.
+    pub(crate) fn key(&self, line: Line, column: usize) -> Key {
+        if column >= line.count {
+            return Key::usual();
+        }
+        item_at(&self.keys, line.first.saturating_add(column), Key::usual())
+    }
+
+    /// The bars before a column in a line of formats, or at its end.
+    pub(crate) fn bars_in(&self, line: Line, column: usize) -> usize {
+        if column == line.count {
+            return line.bars;
+        }
+        self.key(line, column).bars
+    }
+
+    /// A line of formats.
+    pub(crate) fn line(&self, number: usize) -> Line {
+        item_at(&self.lines, number, Line::empty())
+    }
+
+    /// A row.
+    pub(crate) fn row(&self, number: usize) -> Row {
+        item_at(&self.rows, number, Row::empty())
+    }
+
+    /// A field that was read.
+    pub(crate) fn field(&self, number: usize) -> Field {
+        item_at(&self.fields, number, Field::empty())
+    }
+
+    /// An item.
+    pub(crate) fn item(&self, number: usize) -> Item {
+        item_at(&self.items, number, Item::Rule)
+    }
+
+    /// A cell, by its number.
+    pub(crate) fn cell_of(&self, number: usize) -> Cell {
+        item_at(&self.cells, number, Cell::empty())
+    }
+
+    /// A column.
+    pub(crate) fn column(&self, number: usize) -> Column {
+        item_at(&self.columns, number, Column::fresh())
+    }
+
+    /// A step.
+    pub(crate) fn step(&self, number: usize) -> Step {
+        item_at(&self.steps, number, Step::nothing())
+    }
+
+    /// Whether it has a box.
+    pub(crate) fn is_boxed(&self) -> bool {
+        !matches!(self.looks.frame, Frame::Open)
+    }
+
+    /// Whether each field has one.
+    pub(crate) fn is_all_boxed(&self) -> bool {
+        matches!(self.looks.frame, Frame::All)
+    }
+
+    /// Whether it has two.
+    pub(crate) fn is_double(&self) -> bool {
+        matches!(self.looks.frame, Frame::Double)
+    }
+}
