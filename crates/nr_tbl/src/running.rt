@@ -238,10 +238,7 @@ pub fn convert<R: Source, W: Sink>(
     };
     rooms.pending.clear();
     complaints.clear();
-    let mut out = Out {
-        pending: &mut rooms.pending,
-        sink: output,
-    };
+    let mut out = Out::over(&mut rooms.pending, output);
     let mut reader = Reader::over(
         &mut rooms.formats,
         &mut rooms.row,
