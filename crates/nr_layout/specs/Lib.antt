@@ -1,7 +1,12 @@
 pub mod Cells
+pub mod Drawing
 pub mod Drawn
 pub mod Extent
 pub mod Frames
+pub mod Held
 pub mod Lines
+pub mod Pens
+pub mod Places
 pub mod Tables
+pub mod Tapes
 pub mod Widths

@@ -1,5 +1,8 @@
 //! Which field stands in which columns and rows.
 
+ghost use Rattle.std.specs.Prelude.{◌≡◌};
+ghost use Rattle.nr_layout.specs.Held as held;
+
 use super::extent::cells_of;
 use super::lists::{add_item, item_at, set_item};
 use super::table::{Cell, Field, Form, Key, Line, Row, Table};
@@ -21,13 +24,17 @@ fn is_ruled(key: Key, field: Field) -> bool {
 
 impl Table {
     /// The number of the cell in a column of a row.
-    pub(crate) fn cell_number(&self, row: usize, column: usize) -> usize {
+    pub(crate) fn cell_number(&self, row: usize, column: usize) -> usize
+        ensures { result ≡ held.cell_number self.now row column }
+    {
         let place = row.saturating_mul(self.columns.len());
         item_at(&self.grid, place.saturating_add(column), 0)
     }
 
     /// The cell in a column of a row.
-    pub(crate) fn cell(&self, row: usize, column: usize) -> Cell {
+    pub(crate) fn cell(&self, row: usize, column: usize) -> Cell
+        ensures { result ≡ held.cell self.now row column }
+    {
         self.cell_of(self.cell_number(row, column))
     }
 

@@ -1,6 +1,10 @@
 //! The widths of columns.
 
+ghost use Rattle.std.specs.Prelude.{◌≡◌};
+ghost use Rattle.nr_layout.specs.Drawing as drawing;
+
 use super::extent::cells_of;
+use super::fields::or_nothing;
 use super::lists::{add_item, set_item};
 use super::table::{Cell, Column, Form, Key, Span, Table};
 use nr_units::{Ctx, Scale, read_expr};
@@ -21,7 +25,9 @@ impl Cell {
     }
 
     /// Whether it stands in more than one column.
-    pub(crate) fn spans(&self) -> bool {
+    pub(crate) fn spans(&self) -> bool
+        ensures { result ≡ drawing.spans self.now }
+    {
         self.first < self.last
     }
 }
@@ -135,17 +141,18 @@ impl Table {
     }
 
     /// Whether a field is a number that is aligned with others.
-    pub(crate) fn is_number(&self, cell: Cell) -> bool {
+    pub(crate) fn is_number(&self, cell: Cell) -> bool
+        ensures { result ≡ drawing.is_number cell }
+    {
         cell.key.kind == b'n' && matches!(cell.field.form, Form::Text) && cell.field.front.is_some()
     }
 
     /// What of a number stands before the place where it is aligned.
-    pub(crate) fn front_span(&self, cell: Cell) -> Span {
+    pub(crate) fn front_span(&self, cell: Cell) -> Span
+        ensures { result ≡ drawing.front_span cell }
+    {
         let span = cell.field.span;
-        let front = match cell.field.front {
-            Some(front) => front,
-            None => 0,
-        };
+        let front = or_nothing(cell.field.front);
         Span {
             start: span.start,
             end: span.start.saturating_add(front).min(span.end),
@@ -153,7 +160,9 @@ impl Table {
     }
 
     /// How many cells that takes, where it shows.
-    pub(crate) fn front_cells(&self, cell: Cell) -> Option<usize> {
+    pub(crate) fn front_cells(&self, cell: Cell) -> Option<usize>
+        ensures { result ≡ drawing.front_cells self.now cell }
+    {
         cells_of(self.bytes(self.front_span(cell)))
     }
 

@@ -493,9 +493,7 @@ impl Table {
 
     /// A row, with what stands beside it.
     pub(crate) fn put_told_row<W: Sink>(&self, row: usize, told: &mut Told, out: &mut Out<'_, W>) {
-        out.start();
-        self.draw_row(row, None, out);
-        out.end(true);
+        self.put_row_line(row, None, true, out);
         if self.is_tall(row) && !self.is_alone(row) {
             self.put_more_lines(row, told, out);
         }
@@ -581,9 +579,7 @@ impl Table {
         if matches!(cell.field.form, Form::Block) {
             self.put_block_lines(cell, out);
         } else {
-            out.start();
-            self.draw_field(cell, out);
-            out.end(true);
+            self.put_field_line(cell, true, out);
         }
         out.pieces(&[T(&LATER), T(b".sp ")]);
         self.put_between(cell.top, row, true, out);
@@ -592,56 +588,5 @@ impl Table {
         out.add(b")-");
         self.put_own_height(cell, out);
         out.add(b"\n")
-    }
-
-    /// Whether a field begins at a place that is known.
-    pub(crate) fn begin_of(&self, cell: Cell) -> Begin {
-        let column = self.column(cell.first);
-        let right = self.column(cell.last).right;
-        let text = matches!(cell.field.form, Form::Text);
-        if matches!(cell.key.kind, b'l' | b'^' | b'_' | b'=') || cell.key.kind == b'n' && !text {
-            return Begin::At(column.left);
-        }
-        if cell.key.kind == b'a' && cell.spans() {
-            return Begin::At(column.left.on(1));
-        }
-        if text && cell.name == 0 && !cell.spans() && column.known {
-            return Begin::At(self.begin_in(cell, column.width));
-        }
-        match column.left.steps_to(right) {
-            Some(room) if text && cell.name == 0 => Begin::At(self.begin_in(cell, room)),
-            _ => Begin::Told,
-        }
-    }
-
-    /// Where it begins, as an expression.
-    pub(crate) fn put_begin<W: Sink>(&self, cell: Cell, out: &mut Out<'_, W>) {
-        let left = self.column(cell.first).left;
-        let right = self.column(cell.last).right;
-        let number = !cell.spans() && self.is_number(cell);
-        if cell.key.kind == b'r' {
-            out.pieces(&[T(b"("), P(right), T(b"-")]);
-            self.put_width(cell, out);
-            return out.add(b")");
-        }
-        if cell.key.kind == b'a' && !matches!(cell.field.form, Form::Block) {
-            out.pieces(&[
-                T(b"("),
-                P(right),
-                T(b"-("),
-                P(left),
-                T(b")-\\n[*a"),
-                N(cell.first),
-            ]);
-            return out.pieces(&[T(b"]u/48u*24u+"), P(left), T(b")")]);
-        }
-        if number {
-            out.pieces(&[T(b"(\\n[*p"), N(cell.first), T(b"]u-")]);
-            self.put_front(cell, out);
-            return out.add(b")");
-        }
-        out.pieces(&[T(b"("), P(right), T(b"-("), P(left), T(b")-")]);
-        self.put_width(cell, out);
-        out.pieces(&[T(b"/48u*24u+"), P(left), T(b")")])
     }
 }

@@ -1,12 +1,17 @@
 //! Bars, rules and frames: what meets where.
 
+ghost use Rattle.std.specs.Prelude.{◌≡◌};
+ghost use Rattle.nr_layout.specs.Frames as specs;
+
 use super::lists::set_item;
 use super::places::{Mark, Place};
 use super::table::{Cell, Column, Form, Table};
 
 impl Table {
     /// Whether a column of a row goes on from the left.
-    fn is_inside(&self, row: usize, column: usize) -> bool {
+    fn is_inside(&self, row: usize, column: usize) -> bool
+        ensures { result ≡ specs.is_inside self.now row column }
+    {
         let line = self.line(self.row(row).line);
         let left = column.saturating_sub(1);
         self.key(line, column).kind == b's'
@@ -14,7 +19,9 @@ impl Table {
     }
 
     /// The bars that a frame puts before a column, or after the last one.
-    fn framing_bars(&self, inside: bool) -> usize {
+    fn framing_bars(&self, inside: bool) -> usize
+        ensures { result ≡ specs.framing self.now inside }
+    {
         let framed = if inside {
             self.is_all_boxed()
         } else {
@@ -23,20 +30,29 @@ impl Table {
         if framed { 1 } else { 0 }
     }
 
-    /// How many bars stand before a column of a row, or after the last one.
-    pub(crate) fn bars_at(&self, row: Option<usize>, column: usize) -> usize {
-        let Some(row) = row else {
-            return 0;
-        };
-        let inside = 0 < column && column < self.columns.len();
-        if inside && self.is_inside(row, column) {
+    /// How many bars stand before a column of this row, or after the last one.
+    pub(crate) fn bars_of(&self, row: usize, column: usize) -> usize
+        ensures { result ≡ specs.bars_of self.now row column }
+    {
+        let between = 0 < column && column < self.columns.len();
+        if between && self.is_inside(row, column) {
             return 0;
         }
         let bars = self.bars_in(self.line(self.row(row).line), column);
         if bars > 0 {
             return bars;
         }
-        self.framing_bars(inside)
+        self.framing_bars(between)
+    }
+
+    /// How many bars stand before a column of a row, if there is one, or after the last one.
+    pub(crate) fn bars_at(&self, row: Option<usize>, column: usize) -> usize
+        ensures { result ≡ specs.bars_at self.now row column }
+    {
+        match row {
+            Some(row) => self.bars_of(row, column),
+            None => 0,
+        }
     }
 
     /// Whether a row has bars.
@@ -55,15 +71,22 @@ impl Table {
         above: Option<usize>,
         below: Option<usize>,
         column: usize,
-    ) -> bool {
-        match (above, below) {
-            (Some(above), Some(below)) => above != below && self.cell(below, column).top < below,
-            _ => false,
-        }
+    ) -> bool
+        ensures { result ≡ specs.is_covered self.now above below column }
+    {
+        let Some(above) = above else {
+            return false;
+        };
+        let Some(below) = below else {
+            return false;
+        };
+        above != below && self.cell(below, column).top < below
     }
 
     /// The most bars that a line of formats has before a column, or after the last one.
-    fn most_bars(&self, column: usize) -> usize {
+    fn most_bars(&self, column: usize) -> usize
+        ensures { result ≡ specs.most_bars self.now column }
+    {
         let mut bars = 0;
         for line in 0..self.lines.len() {
             bars = self.bars_in(self.line(line), column).max(bars);
@@ -72,12 +95,16 @@ impl Table {
     }
 
     /// What stands at the left edge.
-    pub(crate) fn left_edge(&self) -> usize {
+    pub(crate) fn left_edge(&self) -> usize
+        ensures { result ≡ specs.left_edge self.now }
+    {
         self.most_bars(0).max(self.framing_bars(false))
     }
 
     /// What stands at the right edge.
-    pub(crate) fn right_edge(&self) -> usize {
+    pub(crate) fn right_edge(&self) -> usize
+        ensures { result ≡ specs.right_edge self.now }
+    {
         let bars = self.most_bars(self.columns.len());
         bars.max(self.framing_bars(false)).min(1)
     }
@@ -171,7 +198,9 @@ impl Table {
     }
 
     /// Where the table ends.
-    pub(crate) fn end(&self) -> Place {
+    pub(crate) fn end(&self) -> Place
+        ensures { result ≡ specs.table_end self.now }
+    {
         let columns = self.columns.len();
         if columns == 0 {
             return Place::edge();
@@ -180,7 +209,9 @@ impl Table {
     }
 
     /// Where bars before a column stand, or after the last one.
-    pub(crate) fn bar_place(&self, column: usize) -> Place {
+    pub(crate) fn bar_place(&self, column: usize) -> Place
+        ensures { result ≡ specs.bar_place self.now column }
+    {
         if column == 0 {
             Place::edge()
         } else if column >= self.columns.len() {

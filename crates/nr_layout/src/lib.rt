@@ -1,7 +1,7 @@
 //! Tables as they are held, measured and laid out.
 //!
 //! It stands on nr_units and nr_rooms. To read: `lists`, `places`, `table`; `extent`, `cells`, `columns`, `frames`;
-//! `requests`, `steps`; `pen`, `writing`, `drawing`, `measured`; `told`, `divided`.
+//! `requests`, `steps`; `pen`, `writing`, `fields`, `drawing`, `measured`; `told`, `divided`.
 #![tactic(auto)]
 
 mod cells;
@@ -9,6 +9,7 @@ mod columns;
 mod divided;
 mod drawing;
 mod extent;
+mod fields;
 mod frames;
 mod lists;
 mod measured;

@@ -1,5 +1,8 @@
 //! A table whose widths all show in its text goes out as lines of text.
 
+ghost use Rattle.nr_layout.specs.Drawing as specs;
+ghost use Rattle.nr_layout.specs.Tapes.{Draws};
+
 use super::requests::is_harmless;
 use super::table::{Item, Span, Step, StepKind, Table};
 use super::writing::{Out, Piece};
@@ -66,28 +69,55 @@ impl Table {
     }
 
     /// Lines of a row's bars.
-    fn put_bars<W: Sink>(&self, row: usize, count: usize, line: usize, out: &mut Out<'_, W>) {
+    fn put_bars<W: Sink>(&self, row: usize, count: usize, line: usize, out: &mut Out<'_, W>)
+        ensures { Draws out.old out.new (specs.bars_lines count self.now row line) }
+    {
         for place in 0..count {
-            out.start();
-            self.draw_bars(row, Some(line.saturating_add(place)), out);
-            out.end(false);
+            self.put_bars_on(row, line, place, out);
         }
+    }
+
+    /// The bars of a row, on a line of the table and so many further.
+    fn put_bars_on<W: Sink>(&self, row: usize, line: usize, more: usize, out: &mut Out<'_, W>)
+        ensures { Draws out.old out.new (specs.bars_on self.now row line more) }
+    {
+        self.put_bars_line(row, Some(line.saturating_add(more)), false, out);
+    }
+
+    /// A field beyond the columns, in one line.
+    fn put_joined<W: Sink>(&self, text: &[u8], out: &mut Out<'_, W>) {
+        for byte in text {
+            let byte = if *byte == b'\n' { b' ' } else { *byte };
+            out.add(&[byte]);
+        }
+    }
+
+    /// The fields of a row that stand in no column.
+    pub(crate) fn put_beyond<W: Sink>(&self, number: usize, out: &mut Out<'_, W>) {
+        let row = self.row(number);
+        out.add(b"\\&");
+        for place in row.beyond..row.end {
+            if place > row.beyond {
+                out.add(b" ");
+            }
+            self.put_joined(self.bytes(self.field(place).span), out);
+        }
+        out.add(b"\n")
     }
 
     /// A line.
     fn put_step<W: Sink>(&self, step: Step, out: &mut Out<'_, W>) {
-        out.start();
-        let line = Some(step.line);
         match step.kind {
-            StepKind::Before(row, _) => return self.put_room(row, out),
-            StepKind::Beyond(row) => return self.put_beyond(row, out),
-            StepKind::Request(span) => return self.put_request(span, out),
-            StepKind::Bars(row, count) => return self.put_bars(row, count, step.line, out),
-            StepKind::Edge => self.draw_edge(out),
-            StepKind::Rule(above, below) => self.draw_rule((above, below), line, out),
-            StepKind::Row(row) => self.draw_row(row, line, out),
+            StepKind::Before(row, _) => self.put_room(row, out),
+            StepKind::Beyond(row) => self.put_beyond(row, out),
+            StepKind::Request(span) => self.put_request(span, out),
+            StepKind::Bars(row, count) => self.put_bars(row, count, step.line, out),
+            StepKind::Edge => self.put_edge_line(false, out),
+            StepKind::Rule(above, below) => {
+                self.put_rule_line(above, below, Some(step.line), false, out);
+            }
+            StepKind::Row(row) => self.put_row_line(row, Some(step.line), false, out),
         }
-        out.end(false)
     }
 
     /// All lines.

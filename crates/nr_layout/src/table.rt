@@ -1,5 +1,8 @@
 //! A table as it is held while it is measured: its formats, and its rows with their fields.
 
+ghost use Rattle.std.specs.Prelude.{◌≡◌};
+ghost use Rattle.nr_layout.specs.Held as held;
+
 use super::lists::{add_item, item_at, set_item};
 use super::places::Place;
 use nr_rooms::FixedVec;
@@ -263,7 +266,7 @@ pub struct Table {
     pub(crate) steps: FixedVec<Step>,
     open: Open,
     /// The line of formats of the next row.
-    now: usize,
+    next_line: usize,
     /// The first field of the row that is read.
     row_from: usize,
     /// Where its block or request begins.
@@ -309,7 +312,9 @@ pub(crate) enum StepKind {
 
 impl Key {
     /// A column without a letter.
-    pub(crate) fn usual() -> Key {
+    pub(crate) fn usual() -> Key
+        ensures { result ≡ held.usual }
+    {
         Key {
             kind: b'l',
             bars: 0,
@@ -338,7 +343,9 @@ impl Looks {
 
 impl Line {
     /// One without keys.
-    pub(crate) fn empty() -> Line {
+    pub(crate) fn empty() -> Line
+        ensures { result ≡ held.no_line }
+    {
         Line {
             first: 0,
             count: 0,
@@ -349,7 +356,9 @@ impl Line {
 
 impl Row {
     /// One without fields.
-    pub(crate) fn empty() -> Row {
+    pub(crate) fn empty() -> Row
+        ensures { result ≡ held.no_row }
+    {
         Row {
             first: 0,
             end: 0,
@@ -368,7 +377,9 @@ impl Row {
 
 impl Cell {
     /// One without text.
-    pub(crate) fn empty() -> Cell {
+    pub(crate) fn empty() -> Cell
+        ensures { result ≡ held.no_cell }
+    {
         Cell {
             field: Field::empty(),
             key: Key::usual(),
@@ -387,7 +398,9 @@ impl Cell {
 
 impl Column {
     /// One without fields.
-    pub(crate) fn fresh() -> Column {
+    pub(crate) fn fresh() -> Column
+        ensures { result ≡ held.fresh }
+    {
         Column {
             width: 0,
             least: None,
@@ -430,7 +443,9 @@ fn is_comment(text: &[u8]) -> bool {
 
 impl Field {
     /// A field without text.
-    pub(crate) fn empty() -> Field {
+    pub(crate) fn empty() -> Field
+        ensures { result ≡ held.no_field }
+    {
         Field {
             form: Form::Text,
             span: Span { start: 0, end: 0 },
@@ -439,7 +454,9 @@ impl Field {
     }
 
     /// Whether it is text, and has some.
-    pub(crate) fn has_text(self) -> bool {
+    pub(crate) fn has_text(self) -> bool
+        ensures { result ≡ held.has_text self }
+    {
         matches!(self.form, Form::Text) && self.span.start < self.span.end
     }
 }
@@ -463,7 +480,7 @@ impl Table {
             columns: FixedVec::new(alloc, COLUMNS)?,
             steps: FixedVec::new(alloc, text.saturating_mul(4))?,
             open: Open::Nothing,
-            now: 0,
+            next_line: 0,
             row_from: 0,
             from: 0,
             rows_from: 0,
@@ -482,7 +499,7 @@ impl Table {
         self.lines.clear();
         self.columns.clear();
         self.open = Open::Nothing;
-        self.now = 0;
+        self.next_line = 0;
         self.begun = false;
         self.measured = false;
         self.rows_from = 0;
@@ -514,7 +531,9 @@ impl Table {
     }
 
     /// The bytes of a part of the text.
-    pub(crate) fn bytes(&self, span: Span) -> &[u8] {
+    pub(crate) fn bytes(&self, span: Span) -> &[u8]
+        ensures { result.now ≡ held.text_of self.now span }
+    {
         let text = self.text.as_slice();
         if span.start <= span.end && span.end <= text.len() {
             &text[span.start..span.end]
@@ -663,14 +682,14 @@ impl Table {
 
     /// Formats begin, after `.T&` or at first.
     pub fn formats_begin(&mut self) {
-        self.now = self.lines.len();
+        self.next_line = self.lines.len();
     }
 
     /// They have ended: without a letter they are one of `l`.
     pub fn formats_end(&mut self) {
         self.close();
-        if self.now >= self.lines.len() {
-            self.now = self.lines.len();
+        if self.next_line >= self.lines.len() {
+            self.next_line = self.lines.len();
             self.begin_line();
             self.add_key(b'l', 0);
         }
@@ -754,12 +773,12 @@ impl Table {
 
     /// Lines of formats that are rules take no row.
     fn skip_rules(&mut self) {
-        for number in self.now..self.lines.len().saturating_sub(1) {
+        for number in self.next_line..self.lines.len().saturating_sub(1) {
             if !self.is_rule(item_at(&self.lines, number, Line::empty())) {
                 return;
             }
             self.add_rule();
-            self.now = number + 1;
+            self.next_line = number + 1;
         }
     }
 
@@ -778,7 +797,7 @@ impl Table {
             Row {
                 first,
                 end,
-                line: self.now,
+                line: self.next_line,
                 item,
                 last_own: number,
                 ..Row::empty()
@@ -786,8 +805,8 @@ impl Table {
         );
         add_item(&mut self.items, Item::Row(number));
         self.row_from = end;
-        if self.now.saturating_add(1) < self.lines.len() {
-            self.now = self.now.saturating_add(1);
+        if self.next_line.saturating_add(1) < self.lines.len() {
+            self.next_line = self.next_line.saturating_add(1);
         }
     }
 
@@ -815,7 +834,9 @@ impl Table {
     }
 
     /// The key of a column in a line of formats.
-    pub(crate) fn key(&self, line: Line, column: usize) -> Key {
+    pub(crate) fn key(&self, line: Line, column: usize) -> Key
+        ensures { result ≡ held.key self.now line column }
+    {
         if column >= line.count {
             return Key::usual();
         }
@@ -823,7 +844,9 @@ impl Table {
     }
 
     /// The bars before a column in a line of formats, or at its end.
-    pub(crate) fn bars_in(&self, line: Line, column: usize) -> usize {
+    pub(crate) fn bars_in(&self, line: Line, column: usize) -> usize
+        ensures { result ≡ held.bars_in self.now line column }
+    {
         if column == line.count {
             return line.bars;
         }
@@ -831,17 +854,23 @@ impl Table {
     }
 
     /// A line of formats.
-    pub(crate) fn line(&self, number: usize) -> Line {
+    pub(crate) fn line(&self, number: usize) -> Line
+        ensures { result ≡ held.line self.now number }
+    {
         item_at(&self.lines, number, Line::empty())
     }
 
     /// A row.
-    pub(crate) fn row(&self, number: usize) -> Row {
+    pub(crate) fn row(&self, number: usize) -> Row
+        ensures { result ≡ held.row self.now number }
+    {
         item_at(&self.rows, number, Row::empty())
     }
 
     /// A field that was read.
-    pub(crate) fn field(&self, number: usize) -> Field {
+    pub(crate) fn field(&self, number: usize) -> Field
+        ensures { result ≡ held.field self.now number }
+    {
         item_at(&self.fields, number, Field::empty())
     }
 
@@ -851,12 +880,16 @@ impl Table {
     }
 
     /// A cell, by its number.
-    pub(crate) fn cell_of(&self, number: usize) -> Cell {
+    pub(crate) fn cell_of(&self, number: usize) -> Cell
+        ensures { result ≡ held.cell_of self.now number }
+    {
         item_at(&self.cells, number, Cell::empty())
     }
 
     /// A column.
-    pub(crate) fn column(&self, number: usize) -> Column {
+    pub(crate) fn column(&self, number: usize) -> Column
+        ensures { result ≡ held.column self.now number }
+    {
         item_at(&self.columns, number, Column::fresh())
     }
 
@@ -866,17 +899,23 @@ impl Table {
     }
 
     /// Whether it has a box.
-    pub(crate) fn is_boxed(&self) -> bool {
+    pub(crate) fn is_boxed(&self) -> bool
+        ensures { result ≡ held.is_boxed self.now }
+    {
         !matches!(self.looks.frame, Frame::Open)
     }
 
     /// Whether each field has one.
-    pub(crate) fn is_all_boxed(&self) -> bool {
+    pub(crate) fn is_all_boxed(&self) -> bool
+        ensures { result ≡ held.is_all self.now.looks.frame }
+    {
         matches!(self.looks.frame, Frame::All)
     }
 
     /// Whether it has two.
-    pub(crate) fn is_double(&self) -> bool {
+    pub(crate) fn is_double(&self) -> bool
+        ensures { result ≡ held.is_double self.now.looks.frame }
+    {
         matches!(self.looks.frame, Frame::Double)
     }
 }

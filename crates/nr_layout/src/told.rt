@@ -151,40 +151,6 @@ impl Table {
         }
     }
 
-    /// The width of a field, as an expression.
-    pub(crate) fn put_width<W: Sink>(&self, cell: Cell, out: &mut Out<'_, W>) {
-        if matches!(cell.field.form, Form::Block) {
-            return out.pieces(&[T(b"\\n[*x"), N(cell.name), T(b"]u")]);
-        }
-        if cell.name > 0 {
-            out.add(b"\\w\x01");
-            self.put_unset(cell, out);
-            return out.add(b"\x01u");
-        }
-        let cells = match cell.width {
-            Some(cells) => cells,
-            None => 0,
-        };
-        out.pieces(&[N(cells), T(b"n")])
-    }
-
-    /// The text of a field without its font.
-    fn put_unset<W: Sink>(&self, cell: Cell, out: &mut Out<'_, W>) {
-        if cell.stored {
-            return out.pieces(&[T(b"\\*[*t"), N(cell.name), T(b"]")]);
-        }
-        out.add(self.bytes(cell.field.span))
-    }
-
-    /// How much of a number stands before the place where it is aligned, as an expression.
-    pub(crate) fn put_front<W: Sink>(&self, cell: Cell, out: &mut Out<'_, W>) {
-        let span = self.front_span(cell);
-        match self.front_cells(cell) {
-            Some(cells) => out.pieces(&[N(cells), T(b"n")]),
-            None => out.pieces(&[T(b"\\w\x01"), T(self.bytes(span)), T(b"\x01u")]),
-        }
-    }
-
     /// A register of a column takes a greater width of a field.
     fn most_width<W: Sink>(
         &self,
@@ -758,16 +724,12 @@ impl Table {
         out.add(b".nf\n.in 0\n");
         if let Some(rule) = told.rule {
             out.add(b".di *z\n");
-            out.start();
-            self.draw_rule(rule, None, out);
-            out.end(true);
+            self.put_rule_line(rule.0, rule.1, None, true, out);
             out.add(b".di\n.ds *s0 \"\\*(*z.\n");
         }
         if let Some(row) = told.string {
             out.add(b".di *z\n");
-            out.start();
-            self.draw_bars(row, None, out);
-            out.end(true);
+            self.put_bars_line(row, None, true, out);
             out.add(b".di\n.ds *s1 \"\\*(*z.\n");
         }
     }
@@ -784,16 +746,7 @@ impl Table {
                 return out.add(b"\\*[*s0]\n");
             }
         }
-        out.start();
-        self.draw_rule(between, None, out);
-        out.end(true)
-    }
-
-    /// The outer rule of a double box.
-    fn put_edge<W: Sink>(&self, out: &mut Out<'_, W>) {
-        out.start();
-        self.draw_edge(out);
-        out.end(true)
+        self.put_rule_line(between.0, between.1, None, true, out);
     }
 
     /// Lines of a row's bars.
@@ -818,7 +771,7 @@ impl Table {
             StepKind::Beyond(row) => self.put_beyond(row, out),
             StepKind::Request(span) => self.put_told_request(span, out),
             StepKind::Bars(row, count) => self.put_bar_lines(row, count, *told, out),
-            StepKind::Edge => self.put_edge(out),
+            StepKind::Edge => self.put_edge_line(true, out),
             StepKind::Rule(above, below) => self.put_rule((above, below), *told, out),
             StepKind::Row(row) => self.put_told_row(row, told, out),
         }
@@ -828,11 +781,7 @@ impl Table {
     pub(crate) fn put_bar_line<W: Sink>(&self, row: usize, told: Told, out: &mut Out<'_, W>) {
         match told.string {
             Some(kept) if self.has_same_bars(kept, row) => out.add(b"\\*[*s1]\n"),
-            _ => {
-                out.start();
-                self.draw_bars(row, None, out);
-                out.end(true)
-            }
+            _ => self.put_bars_line(row, None, true, out),
         }
     }
 

@@ -1,8 +1,10 @@
 //! What goes out: bytes wait until there is no room for more, and then go to a sink. After a call of the sink that failed
 //! nothing more goes.
-ghost use Rattle.std.specs.Prelude.{◌≡◌, ◌++◌, ◌∷◌, [], length, replicate, true, false};
-ghost use Rattle.nr_layout.specs.Tapes.{Sends, Writes};
+ghost use Rattle.std.specs.Prelude.{◌≡◌, ◌++◌, ◌∷◌, [], replicate, true, false, decimal, codes, OnOk, OnErr};
+ghost use Rattle.nr_layout.specs.Tapes.{Draws};
 ghost use Rattle.nr_layout.specs.Pens as pens;
+ghost use Rattle.nr_layout.specs.Pens.{Bytes};
+ghost use Rattle.nr_layout.specs.Places as places;
 
 use super::pen::Pen;
 use super::places::{Mark, Place};
@@ -20,7 +22,7 @@ pub struct Out<'a, W: Sink> {
     /// The sink failed.
     failed: bool,
     /// Where the line stands that is drawn.
-    pub(crate) pen: Pen,
+    pen: Pen,
 }
 
 impl<'a, W: Sink> Model for Out<'a, W> {
@@ -44,7 +46,9 @@ pub(crate) enum Piece<'a> {
 
 impl<'a, W: Sink> Out<'a, W> {
     /// Nothing waits but what `pending` has, which is room for what is to.
-    pub fn over(pending: &'a mut FixedVec<u8>, sink: W) -> Self {
+    pub fn over(pending: &'a mut FixedVec<u8>, sink: W) -> Self
+        ensures { result ≡ record { held = W.held sink; pending = pending.entry.now.items; failed = false; pen = pens.first } }
+    {
         Out {
             pending,
             sink,
@@ -54,12 +58,32 @@ impl<'a, W: Sink> Out<'a, W> {
     }
 
     /// Whether the sink failed.
-    pub(crate) fn told(&self) -> Result<(), Fault> {
+    pub(crate) fn told(&self) -> Result<(), Fault>
+        ensures ok { OnOk result (self.now.failed ≡ false) }
+        ensures err { OnErr result (self.now.failed ≡ true) }
+    {
         if self.failed { Err(Fault) } else { Ok(()) }
     }
 
+    /// Where the line stands that is drawn.
+    pub(crate) fn pen(&self) -> Pen
+        ensures { result ≡ self.now.pen }
+    {
+        self.pen
+    }
+
+    /// The pen stands elsewhere.
+    pub(crate) fn set_pen(&mut self, pen: Pen)
+        ensures { self.new ≡ record self.old { pen = pen } }
+    {
+        self.pen = pen;
+    }
+
     /// What waits goes out.
-    fn send(&mut self) {
+    fn send(&mut self)
+        ensures draws { Draws self.old self.new (Bytes [] ∷ []) }
+        ensures empty { self.new.failed ≡ false → self.new.pending ≡ [] }
+    {
         if self.failed {
             return;
         }
@@ -70,76 +94,125 @@ impl<'a, W: Sink> Out<'a, W> {
     }
 
     /// All that waits goes out: a fault where the sink failed, now or before.
-    pub fn flush(&mut self) -> Result<(), Fault> {
+    pub fn flush(&mut self) -> Result<(), Fault>
+        ensures draws { Draws self.old self.new (Bytes [] ∷ []) }
+        ensures ok { OnOk result (self.new.failed ≡ false) }
+        ensures empty { OnOk result (self.new.pending ≡ []) }
+        ensures err { OnErr result (self.new.failed ≡ true) }
+    {
         self.send();
         self.told()
     }
 
     /// Bytes go out: a fault where the sink failed, now or before.
-    pub fn put(&mut self, bytes: &[u8]) -> Result<(), Fault> {
+    pub fn put(&mut self, bytes: &[u8]) -> Result<(), Fault>
+        ensures draws { Draws self.old self.new (Bytes bytes.now ∷ []) }
+        ensures ok { OnOk result (self.new.failed ≡ false) }
+        ensures err { OnErr result (self.new.failed ≡ true) }
+    {
         self.add(bytes);
         self.told()
     }
 
-    /// Bytes go past what waits, which is nothing.
-    fn pass(&mut self, bytes: &[u8]) {
+    /// Bytes go out where none wait.
+    fn pass(&mut self, bytes: &[u8])
+        requires { self.old.failed ≡ false → self.old.pending ≡ [] }
+        ensures { Draws self.old self.new (Bytes bytes.now ∷ []) }
+    {
+        if self.failed {
+            return;
+        }
         match self.sink.put(bytes) {
             Ok(()) => {}
             Err(Fault) => self.failed = true,
         }
     }
 
-    /// Bytes go out.
-    pub(crate) fn add(&mut self, bytes: &[u8]) {
-        if self.pending.room() - self.pending.len() < bytes.len() {
-            self.send();
-        }
+    /// Bytes go out: where there is no room for them, after all that waits.
+    pub(crate) fn add(&mut self, bytes: &[u8])
+        ensures { Draws self.old self.new (Bytes bytes.now ∷ []) }
+    {
         if self.failed {
             return;
         }
-        if self.pending.room() - self.pending.len() < bytes.len() {
-            self.pass(bytes);
+        if self.pending.room() - self.pending.len() >= bytes.len() {
+            self.pending.extend(bytes);
             return;
         }
-        self.pending.extend(bytes);
+        self.send();
+        self.pass(bytes);
     }
 
-    /// A byte so many times.
-    pub(crate) fn repeat(&mut self, byte: u8, count: usize) {
-        if !self.failed && self.pending.room() - self.pending.len() >= count {
-            self.pending.extend_copies(byte, count);
-            return;
-        }
-        for _ in 0..count {
+    /// A byte so many times, one after the other.
+    fn repeat_each(&mut self, byte: u8, count: usize)
+        ensures { Draws self.old self.new (Bytes (replicate count byte) ∷ []) }
+    {
+        for _place in 0..count {
             self.add(&[byte]);
         }
     }
 
+    /// A byte so many times.
+    pub(crate) fn repeat(&mut self, byte: u8, count: usize)
+        ensures { Draws self.old self.new (Bytes (replicate count byte) ∷ []) }
+    {
+        if !self.failed && self.pending.room() - self.pending.len() >= count {
+            self.pending.extend_copies(byte, count);
+            return;
+        }
+        self.repeat_each(byte, count);
+    }
+
     /// A number.
-    pub(crate) fn number(&mut self, number: usize) {
+    pub(crate) fn number(&mut self, number: usize)
+        ensures { Draws self.old self.new (Bytes (decimal number) ∷ []) }
+    {
         let mut digits = itoa::Buffer::new();
         self.add(digits.format(number).as_bytes());
     }
 
     /// A register of a column, and cells after it.
-    fn register(&mut self, name: &[u8], number: usize, cells: usize) {
+    fn register(&mut self, name: &[u8], number: usize, cells: usize)
+        ensures { Draws self.old self.new (Bytes (places.register name.now number cells) ∷ []) }
+    {
         self.add(name);
         self.number(number);
         self.add(b"]u");
-        if cells > 0 {
-            self.add(b"+");
-            self.number(cells);
-            self.add(b"n");
+        self.cells_more(cells);
+    }
+
+    /// Cells after it.
+    fn cells_more(&mut self, cells: usize)
+        ensures { Draws self.old self.new (Bytes (places.cells_more cells) ∷ []) }
+    {
+        if cells == 0 {
+            return self.add(b"");
         }
+        self.more(cells);
+    }
+
+    /// A sign, and cells.
+    fn more(&mut self, cells: usize)
+        ensures { Draws self.old self.new (Bytes (codes "+" ++ decimal cells ++ codes "n") ∷ []) }
+    {
+        self.add(b"+");
+        self.cells(cells);
+    }
+
+    /// So many cells.
+    pub(crate) fn cells(&mut self, cells: usize)
+        ensures { Draws self.old self.new (Bytes (decimal cells ++ codes "n") ∷ []) }
+    {
+        self.number(cells);
+        self.add(b"n");
     }
 
     /// A place.
-    pub(crate) fn place(&mut self, place: Place) {
+    pub(crate) fn place(&mut self, place: Place)
+        ensures { Draws self.old self.new (Bytes (places.place_text place) ∷ []) }
+    {
         match place.mark {
-            Mark::Edge => {
-                self.number(place.cells);
-                self.add(b"n");
-            }
+            Mark::Edge => self.cells(place.cells),
             Mark::End(number) => self.register(b"\\n[*e", number, place.cells),
             Mark::Bar(number) => self.register(b"\\n[*b", number, place.cells),
             Mark::Begin(number) => self.register(b"\\n[*o", number, place.cells),
