@@ -1,16 +1,5 @@
-pub mod Blocks
-pub mod Field
 pub mod Formats
-pub mod Half
-pub mod Head
-pub mod Held
-pub mod Lines
 pub mod Measure
-pub mod Meeting
 pub mod Numbers
 pub mod Options
-pub mod Outside
-pub mod Plain
-pub mod Rows
-pub mod Telling
 pub mod Widths

@@ -1,67 +1,86 @@
 //! Text blocks.
-ghost use Rattle.std.specs.Prelude.{◌≡◌};
-ghost use Rattle.nr_tbl.specs.Half.{met};
-ghost use Rattle.nr_tbl.specs.Blocks as specs;
 
+use super::command::is_command;
 use super::complaint::Kind;
-use super::half::{Act, Half, Mode, Seen};
-use super::held::{Held, ends_name};
-use super::said::Said;
+use super::reader::Reader;
+use super::state::Mode;
+use super::telling::{Setter, Tell};
+use nr_units::source::Fault;
 
-impl Half {
-    /// A block has no end: the table goes on so.
-    pub(crate) fn closes_block(&mut self, held: Held) -> Seen
-        ensures { met self.new result ≡ specs.closing_block held self.old }
-    {
-        self.complains(Kind::OpenBlock);
-        self.row_begins();
-        self.leaves(Mode::RowStart(held), Act::EndRow(Said::CloseBlock))
-    }
+/// Whether a line ends a text block.
+fn ends_block(line: &[u8]) -> bool {
+    line.len() > 1 && line[0] == b'T' && line[1] == b'}'
+}
 
-    /// A byte at the beginning of a line that may be the last of the block, or of the table.
-    pub(crate) fn at_block_start(&mut self, held: Held, byte: u8) -> Seen
-        ensures { met self.new result ≡ specs.at_block_start held byte self.old }
-    {
-        if let Some(held) = held.with(byte) {
-            return self.takes(Mode::BlockStart(held), Act::Say(Said::Nothing));
-        }
-        match held {
-            Held::Nothing if byte == b'T' => self.takes(
-                Mode::BlockStart(Held::T),
-                Act::Say(Said::Nothing),
-            ),
-            Held::T if byte == b'}' => self.takes(Mode::BlockEnd, Act::Say(Said::BlockEnd)),
-            Held::End if ends_name(byte) => self.closes_block(held),
-            _ => self.leaves(Mode::BlockLine, Act::Say(Said::Held(held))),
+/// Where the row goes on behind `T}`: behind the blanks there.
+fn rest_of(line: &[u8]) -> usize {
+    for at in 2..line.len() {
+        if line[at] != b' ' {
+            return at;
         }
     }
+    line.len()
+}
 
-    /// A byte in a line.
-    pub(crate) fn in_block_line(&mut self, byte: u8) -> Seen
-        ensures { met self.new result ≡ specs.in_block_line byte self.old }
-    {
-        let mode = if byte == b'\n' {
-            Mode::BlockStart(Held::Nothing)
-        } else {
-            Mode::BlockLine
-        };
-        self.takes(mode, Act::Say(Said::Double(byte)))
+impl<'a> Reader<'a> {
+    /// A line in a text block ends.
+    pub(crate) fn block_line<S: Setter>(&mut self, setter: &mut S) -> Result<(), Fault> {
+        if ends_block(self.kept.as_slice()) {
+            return self.block_ends(setter);
+        }
+        if is_command(self.kept.as_slice(), b'E') {
+            self.closes_block(setter)?;
+            return self.table_ends(setter);
+        }
+        setter.tell(Tell::BlockText, self.kept.as_slice())?;
+        setter.tell(Tell::BlockText, b"\n")?;
+        self.forgets();
+        Ok(())
     }
 
-    /// A byte after `T}`.
-    pub(crate) fn in_block_end(&mut self, byte: u8) -> Seen
-        ensures { met self.new result ≡ specs.in_block_end byte self.old }
-    {
-        if byte == b' ' {
-            return self.takes(Mode::BlockEnd, Act::Say(Said::Nothing));
+    /// A text block has ended: what stands behind `T}` belongs to the row.
+    fn leaves_block<S: Setter>(&mut self, setter: &mut S) -> Result<bool, Fault> {
+        setter.tell(Tell::BlockEnd, b"")?;
+        self.state.counts_field();
+        let rest = rest_of(self.kept.as_slice());
+        if rest >= self.kept.len() {
+            return Ok(false);
         }
-        self.counts_field();
-        if byte == b'\n' {
-            return self.leaves(Mode::RowEnd, Act::Say(Said::Nothing));
+        let separated = self.kept.get(rest) == self.state.options.tab;
+        self.from = if separated { rest + 1 } else { rest };
+        self.start = self.from;
+        self.state.mode = Mode::Row;
+        Ok(true)
+    }
+
+    /// A line that begins with `T}` ends.
+    fn block_ends<S: Setter>(&mut self, setter: &mut S) -> Result<(), Fault> {
+        if self.leaves_block(setter)? {
+            return self.row_line(setter);
         }
-        if byte == self.options.tab {
-            return self.takes(Mode::Field, Act::Say(Said::Nothing));
+        self.row_ends(setter)
+    }
+
+    /// A text block has no end: it ends with its row.
+    pub(crate) fn closes_block<S: Setter>(&mut self, setter: &mut S) -> Result<(), Fault> {
+        self.state.complains(Kind::OpenBlock, setter)?;
+        setter.tell(Tell::BlockEnd, b"")?;
+        setter.tell(Tell::Row, b"")
+    }
+
+    /// A line in a text block is longer than what is kept.
+    pub(crate) fn block_overflows<S: Setter>(&mut self, setter: &mut S) -> Result<(), Fault> {
+        if ends_block(self.kept.as_slice()) {
+            self.leaves_block(setter)?;
+            return self.row_overflows(setter);
         }
-        self.leaves(Mode::Field, Act::Say(Said::Nothing))
+        if is_command(self.kept.as_slice(), b'E') {
+            self.closes_block(setter)?;
+            return self.long_end(setter);
+        }
+        setter.tell(Tell::BlockText, self.kept.as_slice())?;
+        self.state.mode = Mode::BlockLine;
+        self.forgets();
+        Ok(())
     }
 }

@@ -1,54 +1,62 @@
-//! The form of a field, as far as it was read.
-ghost use Rattle.std.specs.Prelude.{◌≡◌};
-ghost use Rattle.nr_tbl.specs.Field as specs;
+//! What a field is.
 
-/// What a field is so far.
+use super::numbers::Marks;
+use nr_layout::Form;
+
+/// What a field is.
 #[derive(Clone, Copy)]
 pub(crate) enum Shape {
     /// Nothing.
     Empty,
-    /// `_` or `=`: a rule through the column.
-    Rule,
-    /// `T`
-    T,
+    /// It stands for something else than its text: a rule, a byte that is repeated, what goes on from above.
+    Mark(Form),
     /// `T{`: a text block begins, if the line ends here.
     Block,
-    /// A backslash.
-    Backslash,
-    /// `\_` or `\=`: a rule as wide as what stands in the column.
-    Inner,
-    /// `\^`: the field above goes on.
-    Above,
-    /// `\R`
-    R,
-    /// `\R` and a byte, which is repeated.
-    Repeat(u8),
     /// Text.
     Text,
 }
 
-impl Shape {
-    /// With one byte more.
-    pub(crate) fn with(self, byte: u8) -> Shape
-        ensures { result ≡ specs.shape_with self byte }
-    {
-        match (self, byte) {
-            (Shape::Empty, b'_' | b'=') => Shape::Rule,
-            (Shape::Empty, b'T') => Shape::T,
-            (Shape::Empty, b'\\') => Shape::Backslash,
-            (Shape::T, b'{') => Shape::Block,
-            (Shape::Backslash, b'_' | b'=') => Shape::Inner,
-            (Shape::Backslash, b'^') => Shape::Above,
-            (Shape::Backslash, b'R') => Shape::R,
-            (Shape::R, _) => Shape::Repeat(byte),
-            _ => Shape::Text,
+/// What a field is of two bytes, or three that begin with `\\R`.
+fn shape_of_more(text: &[u8]) -> Shape {
+    match (text[0], text[1], text.len()) {
+        (b'\\', b'_' | b'=', 2) => Shape::Mark(Form::Inner),
+        (b'\\', b'^', 2) => Shape::Mark(Form::Above),
+        (b'T', b'{', 2) => Shape::Block,
+        (b'\\', b'R', 3) => Shape::Mark(Form::Repeat(text[2])),
+        _ => Shape::Text,
+    }
+}
+
+/// What a field is.
+pub(crate) fn shape_of(text: &[u8]) -> Shape {
+    match text.len() {
+        0 => Shape::Empty,
+        1 if is_rule(text[0]) => Shape::Mark(Form::Rule),
+        2 | 3 => shape_of_more(text),
+        _ => Shape::Text,
+    }
+}
+
+/// Whether a byte alone is a rule.
+fn is_rule(byte: u8) -> bool {
+    matches!(byte, b'_' | b'=')
+}
+
+/// A text without the blanks before it.
+pub(crate) fn without_blanks_before(text: &[u8]) -> &[u8] {
+    for (at, byte) in text.iter().enumerate() {
+        if *byte != b' ' {
+            return &text[at..];
         }
     }
+    b""
+}
 
-    /// Whether nothing was read.
-    pub(crate) fn is_empty(self) -> bool
-        ensures { result ≡ specs.is_empty self }
-    {
-        matches!(self, Shape::Empty)
+/// The places in a field that count for where it is aligned, where this byte stands before a fraction.
+pub(crate) fn marks_of(text: &[u8], point: u8) -> Marks {
+    let mut marks = Marks::new();
+    for (place, byte) in text.iter().enumerate() {
+        marks = marks.with(*byte, place, point);
     }
+    marks
 }

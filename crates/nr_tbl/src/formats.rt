@@ -61,7 +61,7 @@ pub(crate) struct Formats {
 
 /// A call of a macro, or a part of one.
 #[derive(Clone, Copy)]
-pub(crate) enum Call {
+pub enum Call {
     /// None.
     Nothing,
     /// A column, with the bars before it.
@@ -90,7 +90,7 @@ pub(crate) enum Call {
 
 /// What a byte calls: what was called has ended, a line begins, and this.
 #[derive(Clone, Copy)]
-pub(crate) struct Called {
+pub struct Called {
     /// A call ends.
     pub ends: bool,
     /// A line begins.

@@ -1,122 +1,127 @@
 //! The options and formats of a table.
-ghost use Rattle.std.specs.Prelude.{◌≡◌};
-ghost use Rattle.nr_tbl.specs.Half.{met};
-ghost use Rattle.nr_tbl.specs.Head as specs;
 
+use super::command::{Start, is_command};
 use super::complaint::Kind;
 use super::formats::Formats;
-use super::half::{Act, Half, Mode, Seen};
-use super::held::{Held, ends_name};
-use super::options::Options;
-use super::said::Said;
-use super::widths::Line;
+use super::options::options_of;
+use super::reader::Reader;
+use super::state::{Mode, State};
+use super::telling::{Setter, Tell, looks_of};
+use super::widths::widths_of;
+use nr_units::source::Fault;
 
-impl Half {
-    /// The table isn't set: what was kept goes out, and it goes on so.
-    fn gives_up(&mut self, kind: Kind, mode: Mode) -> Seen
-        ensures { met self.new result ≡ specs.giving_up kind mode self.old }
-    {
-        self.complains(kind);
-        self.leaves(mode, Act::GiveUp)
+/// Where the semicolon stands that ends the options: none does behind an opening parenthesis.
+fn options_end(line: &[u8]) -> Option<usize> {
+    let mut opened = false;
+    for (at, byte) in line.iter().enumerate() {
+        if *byte == b';' && !opened {
+            return Some(at);
+        }
+        opened = *byte == b'(';
+    }
+    None
+}
+
+/// Whether a line ends with a point, and blanks.
+fn is_dotted(line: &[u8]) -> bool {
+    let mut dotted = false;
+    for byte in line {
+        dotted = *byte == b'.' || (dotted && matches!(*byte, b' ' | b'\t'));
+    }
+    dotted
+}
+
+/// Tells what formats say, and gives what was read of them with the newline behind them.
+fn tell_formats<S: Setter>(first: Formats, text: &[u8], setter: &mut S) -> Result<Formats, Fault> {
+    let mut formats = first;
+    for byte in text {
+        let called = formats.read(*byte);
+        setter.tell(Tell::Format(called), b"")?;
+    }
+    let called = formats.read(b'\n');
+    setter.tell(Tell::Format(called), b"")?;
+    Ok(formats)
+}
+
+impl State {
+    /// These formats were read of this text: what is wrong with them.
+    fn takes_formats(&mut self, formats: Formats, text: &[u8]) -> Option<Kind> {
+        let widths = widths_of(self.formats, text);
+        self.measure = self.measure.with_formats(self.options.expand, widths);
+        self.with_formats(formats, widths.last)
+    }
+}
+
+impl<'a> Reader<'a> {
+    /// A line of options or formats ends.
+    pub(crate) fn head_line<S: Setter>(&mut self, setter: &mut S) -> Result<(), Fault> {
+        if is_command(&self.kept.as_slice()[self.start..], b'E') {
+            return self.head_ends(setter);
+        }
+        if self.state.first {
+            self.options_line(setter)?;
+        }
+        if is_dotted(&self.kept.as_slice()[self.start..]) {
+            return self.formats_end(setter);
+        }
+        if self.kept.len() >= self.limits.formats {
+            return self.gives_up_line(Kind::FormatsLimit, setter);
+        }
+        self.kept.push(b'\n');
+        self.start = self.kept.len();
+        Ok(())
     }
 
-    /// A byte at the beginning of a line.
-    pub(crate) fn at_format_start(&mut self, held: Held, byte: u8, full: bool) -> Seen
-        ensures { met self.new result ≡ specs.at_format_start held byte full self.old }
-    {
-        if full {
-            return self.gives_up(Kind::FormatsLimit, Mode::PlainStart(held));
-        }
-        if let Some(held) = held.with(byte) {
-            self.dotted = byte == b'.';
-            return self.takes(Mode::FormatStart(held), Act::KeepFormat(byte));
-        }
-        if matches!(held, Held::End) && ends_name(byte) {
-            return self.gives_up(Kind::NoFormat, Mode::PlainEnd);
-        }
-        self.leaves(Mode::FormatLine, Act::Say(Said::Nothing))
-    }
-
-    /// A byte of a line is kept.
-    fn keeps_format(&mut self, byte: u8) -> Seen
-        ensures { met self.new result ≡ specs.keeping_format byte self.old }
-    {
-        if byte == b'\n' {
-            return self.formats_begin(false, Act::KeepFormat(byte));
-        }
-        self.dotted = byte == b'.' || (self.dotted && (byte == b' ' || byte == b'\t'));
-        self.opened = byte == b'(';
-        self.takes(Mode::FormatLine, Act::KeepFormat(byte))
-    }
-
-    /// A byte in a line. A semicolon in the first ends the options, a point at the end of one the formats.
-    pub(crate) fn in_format_line(&mut self, byte: u8, full: bool) -> Seen
-        ensures { met self.new result ≡ specs.in_format_line byte full self.old }
-    {
-        if byte == b'\n' && self.dotted {
-            return self.leaves(Mode::Begun, Act::ReadFormats);
-        }
-        if byte == b';' && self.first && !self.opened {
-            self.first = false;
-            return self.takes(Mode::FormatLine, Act::ReadOptions);
-        }
-        if full {
-            return self.gives_up(Kind::FormatsLimit, Mode::PlainLine);
-        }
-        self.keeps_format(byte)
-    }
-
-    /// The options were read.
-    pub(crate) fn with_options(&mut self, options: Options)
-        ensures { self.new ≡ specs.with_options options self.old }
-    {
-        self.options = options;
-        self.dotted = false;
+    /// Options up to a semicolon, if there is one: the formats begin behind it.
+    fn options_line<S: Setter>(&mut self, setter: &mut S) -> Result<(), Fault> {
+        self.state.first = false;
+        let Some(end) = options_end(self.kept.as_slice()) else {
+            return Ok(());
+        };
+        let options = options_of(&self.kept.as_slice()[..end]);
+        self.state.options = options;
+        self.from = end + 1;
+        self.start = end + 1;
+        setter.tell(Tell::Looks(looks_of(options)), b"")?;
         if options.unknown {
-            self.complains(Kind::UnknownOption);
+            return self.state.complains(Kind::UnknownOption, setter);
         }
+        Ok(())
     }
 
-    /// A table is wider than the line by the widths of a line of its formats, or not.
-    fn measures_line(&mut self, line: Line)
-        ensures { self.new ≡ specs.line_measured line self.old }
-    {
-        if self.measure.is_wider(self.options.frame, line) {
-            self.tells_width();
+    /// The formats end with this line.
+    fn formats_end<S: Setter>(&mut self, setter: &mut S) -> Result<(), Fault> {
+        let text = &self.kept.as_slice()[self.from..];
+        let formats = tell_formats(self.state.formats, text, setter)?;
+        setter.tell(Tell::FormatsEnd, b"")?;
+        match self.state.takes_formats(formats, text) {
+            Some(Kind::NoFormat) => return self.gives_up_line(Kind::NoFormat, setter),
+            Some(Kind::TooManyColumns) => return self.gives_up_line(Kind::TooManyColumns, setter),
+            Some(kind) => self.state.complains(kind, setter)?,
+            None => {}
         }
+        self.state.begins_row();
+        self.forgets();
+        Ok(())
     }
 
-    /// The formats were read: a table without columns, or with too many, isn't set. No line of new ones is told, or
-    /// else that the widths of this one are too much for the line.
-    pub(crate) fn with_formats(&mut self, formats: Formats, line: Line)
-        ensures { self.new ≡ specs.with_formats formats line self.old }
-    {
-        let before = self.formats.lines;
-        self.formats = formats;
-        if formats.columns == 0 {
-            self.mode = Mode::Failed;
-            self.complains(Kind::NoFormat);
-        } else if formats.many {
-            self.mode = Mode::Failed;
-            self.complains(Kind::TooManyColumns);
-        } else if formats.bad || formats.lines == before {
-            self.complains(Kind::BadFormat);
-        } else {
-            self.measures_line(line);
-        }
+    /// The table isn't set, and a line ends that is kept.
+    fn gives_up_line<S: Setter>(&mut self, kind: Kind, setter: &mut S) -> Result<(), Fault> {
+        self.gives_up(kind, setter)?;
+        setter.tell(Tell::Pass, b"\n")?;
+        self.state.mode = Mode::Plain(Start::Nothing);
+        Ok(())
     }
 
-    /// The newline after the formats.
-    pub(crate) fn in_begun(&mut self) -> Seen
-        ensures { met self.new result ≡ specs.in_begun self.old }
-    {
-        self.takes(Mode::RowStart(Held::Nothing), Act::Forget)
+    /// `.TE` comes before the formats end.
+    fn head_ends<S: Setter>(&mut self, setter: &mut S) -> Result<(), Fault> {
+        self.gives_up_line(Kind::NoFormat, setter)?;
+        self.state.mode = Mode::Passing(Start::Nothing);
+        setter.tell(Tell::PlainEnd, b"")
     }
 
-    /// The newline after formats that can't be.
-    pub(crate) fn in_failed(&mut self) -> Seen
-        ensures { met self.new result ≡ specs.in_failed self.old }
-    {
-        self.leaves(Mode::PlainLine, Act::GiveUp)
+    /// There is no room for more options or formats.
+    pub(crate) fn head_overflows<S: Setter>(&mut self, setter: &mut S) -> Result<(), Fault> {
+        self.gives_up(Kind::FormatsLimit, setter)
     }
 }

@@ -1,27 +1,26 @@
 //! tbl: tables are measured, and their rows go out as lines of text; where only the formatter knows a width, as requests.
 //!
-//! It stands on nr_units, nr_rooms and nr_layout. To read: `complaint`, `held`, `field`, `numbers`; `options`, `formats`,
-//! `widths`, `measure`; `said`, `half`, `outside`, `head`, `rows`, `blocks`, `plain`, `meeting`; `telling`, `reader`,
-//! `running`; `untouched`.
+//! It stands on nr_units, nr_rooms and nr_layout. To read: `complaint`, `command`, `passing`; `options`, `formats`, `widths`,
+//! `numbers`, `measure`, `field`; `telling`, `state`, `reader`, `head`, `rows`, `blocks`, `ending`; `press`, `running`;
+//! `untouched`.
 #![tactic(auto)]
 
 mod blocks;
+mod command;
 mod complaint;
+mod ending;
 mod field;
 mod formats;
-mod half;
 mod head;
-mod held;
 mod measure;
-mod meeting;
 mod numbers;
 mod options;
-mod outside;
-mod plain;
+mod passing;
+mod press;
 mod reader;
 mod rows;
 mod running;
-mod said;
+mod state;
 mod telling;
 mod untouched;
 mod widths;

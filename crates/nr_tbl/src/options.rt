@@ -262,3 +262,12 @@ impl OptionsRead {
         read
     }
 }
+
+/// The options of a text.
+pub(crate) fn options_of(text: &[u8]) -> Options {
+    let mut read = OptionsRead::new();
+    for byte in text {
+        read = read.with(*byte);
+    }
+    read.ended().options
+}

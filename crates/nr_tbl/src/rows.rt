@@ -1,237 +1,201 @@
-//! Rows and their fields.
-ghost use Rattle.std.specs.Prelude.{◌≡◌};
-ghost use Rattle.nr_tbl.specs.Half.{met};
-ghost use Rattle.nr_tbl.specs.Rows as specs;
+//! Rows and their fields, and what stands between rows.
 
+use super::command::is_command;
 use super::complaint::Kind;
-use super::field::Shape;
-use super::formats::Formats;
-use super::half::{Act, Half, Mode, Seen};
-use super::held::{Held, ends_name};
-use super::numbers::{Marks, is_digit, one_more};
-use super::said::{Mark, Said};
+use super::field::{Shape, marks_of, shape_of, without_blanks_before};
+use super::measure::cells_of;
+use super::numbers::is_digit;
+use super::reader::Reader;
+use super::state::{Mode, State};
+use super::telling::{Setter, Tell};
+use nr_layout::Form;
+use nr_rooms::FixedVec;
+use nr_units::source::Fault;
 
-/// One more than the greatest number of columns.
-const MOST_FIELDS: usize = 65;
+/// Whether a line between rows is a request.
+fn is_request(line: &[u8]) -> bool {
+    line.len() > 0 && line[0] == b'.' && (line.len() == 1 || !is_digit(line[1]))
+}
 
-impl Half {
-    /// There is no room for a byte of the row. This was half read before it.
-    fn gives_up_row(&mut self, said: Said) -> Seen
-        ensures { met self.new result ≡ specs.giving_up_row said self.old }
-    {
-        self.complains(Kind::RowLimit);
-        self.leaves(Mode::PlainLine, Act::GiveUpRow(said))
-    }
-
-    /// A point that a row begins with.
-    fn points(&mut self, full: bool) -> Seen
-        ensures { met self.new result ≡ specs.pointed full self.old }
-    {
-        if full {
-            return self.gives_up_row(Said::Held(Held::Dot));
-        }
-        self.leaves(Mode::Field, Act::KeepField(b'.'))
-    }
-
-    /// A byte at the beginning of a line.
-    pub(crate) fn at_row_start(&mut self, held: Held, byte: u8, full: bool) -> Seen
-        ensures { met self.new result ≡ specs.at_row_start held byte full self.old }
-    {
-        if let Some(held) = held.with(byte) {
-            return self.takes(Mode::RowStart(held), Act::Say(Said::Nothing));
-        }
-        match held {
-            Held::Nothing => self.leaves(Mode::Field, Act::Say(Said::Nothing)),
-            Held::Dot if is_digit(byte) => self.points(full),
-            Held::End if ends_name(byte) => self.leaves(Mode::Passing, Act::Say(Said::End)),
-            Held::More if ends_name(byte) => self.leaves(Mode::Command, Act::Say(Said::More)),
-            _ => self.leaves(Mode::Request, Act::Say(Said::Request(held))),
+/// Where the first of these bytes stands.
+fn place_of(byte: u8, text: &[u8]) -> Option<usize> {
+    for (at, other) in text.iter().enumerate() {
+        if *other == byte {
+            return Some(at);
         }
     }
+    None
+}
 
-    /// A byte of a request between rows.
-    pub(crate) fn in_request(&mut self, byte: u8) -> Seen
-        ensures { met self.new result ≡ specs.in_request byte self.old }
-    {
-        if byte == b'\n' {
-            return self.takes(Mode::RowStart(Held::Nothing), Act::Say(Said::RequestEnd));
+/// Two backslashes become `\\e`, which stays itself where it is read twice. Tells whether the last one stands alone.
+fn pair_backslashes(kept: &mut FixedVec<u8>, start: usize) -> bool {
+    let mut open = false;
+    for at in start..kept.len() {
+        let backslash = kept.get(at) == b'\\';
+        if open && backslash {
+            kept.set(at, b'e');
         }
-        self.takes(Mode::Request, Act::Say(Said::Double(byte)))
+        open = backslash && !open;
     }
+    open
+}
 
-    /// A byte after `.T&`: formats begin with the next line.
-    pub(crate) fn in_command(&mut self, byte: u8) -> Seen
-        ensures { met self.new result ≡ specs.in_command byte self.old }
-    {
-        if byte != b'\n' {
-            return self.takes(Mode::Command, Act::Say(Said::Nothing));
-        }
-        self.formats = Formats::new(
-            self.formats.columns,
-            self.formats.lines,
-            self.formats.numeric,
-        );
-        self.formats_begin(false, Act::Say(Said::Nothing))
-    }
+/// Whether what stands behind the last column is a comment.
+fn is_comment(text: &[u8]) -> bool {
+    text.len() > 1 && text[0] == b'\\' && text[1] == b'"'
+}
 
-    /// Whether the field is one more than there are columns.
-    fn is_beyond(&self) -> bool
-        ensures { result ≡ specs.is_beyond self.now }
-    {
-        self.fields >= self.formats.columns
-    }
-
-    /// A field beyond the columns begins.
-    fn tells_beyond(&mut self)
-        ensures { self.new ≡ specs.beyond_told self.old }
-    {
-        if self.is_beyond() && self.shape.is_empty() {
-            self.complains(Kind::TooManyFields);
+impl State {
+    /// A field as it counts: without the blanks before it, where that was said.
+    fn trimmed<'t>(&self, text: &'t [u8]) -> &'t [u8] {
+        if self.options.nospaces {
+            without_blanks_before(text)
+        } else {
+            text
         }
     }
 
-    /// A byte of a field is kept.
-    fn keeps(&mut self, byte: u8, full: bool) -> Seen
-        ensures { met self.new result ≡ specs.keeping byte full self.old }
-    {
-        if self.options.nospaces && self.shape.is_empty() && byte == b' ' {
-            return self.takes(Mode::Field, Act::Say(Said::Nothing));
-        }
-        if full {
-            return self.gives_up_row(Said::Nothing);
-        }
-        self.tells_beyond();
-        self.takes(Mode::Field, Act::KeepField(byte))
-    }
-
-    /// One field more has ended.
-    pub(crate) fn counts_field(&mut self)
-        ensures { self.new ≡ specs.counted self.old }
-    {
-        self.fields = one_more(self.fields, MOST_FIELDS);
-        self.shape = Shape::Empty;
-        self.marks = Marks::new();
-    }
-
-    /// A field goes out as text.
-    fn text_act(&self) -> Act
-        ensures { result ≡ specs.text_act self.now }
-    {
+    /// A field of text is told.
+    fn tell_text<S: Setter>(&mut self, text: &[u8], setter: &mut S) -> Result<(), Fault> {
+        let marks = marks_of(text, self.options.point);
         let front = if self.formats.numeric {
-            self.marks.front()
+            marks.front()
         } else {
             None
         };
         let solid = if self.options.nospaces {
-            Some(self.marks.solid)
+            &text[..marks.solid]
         } else {
-            None
+            text
         };
-        Act::Field(front, solid)
-    }
-
-    /// What is done for a field: one beyond the columns is text, and nothing where it is empty.
-    fn field_act(&self) -> Act
-        ensures { result ≡ specs.field_act self.now }
-    {
-        match self.shape {
-            Shape::Empty if self.is_beyond() => Act::Replace(Said::Nothing),
-            Shape::Empty => Act::Replace(Said::Skip),
-            _ if self.is_beyond() => self.text_act(),
-            Shape::Rule => Act::Replace(Said::Mark(Mark::Rule)),
-            Shape::Inner => Act::Replace(Said::Mark(Mark::Inner)),
-            Shape::Above => Act::Replace(Said::Mark(Mark::Above)),
-            Shape::Repeat(byte) => Act::Replace(Said::Repeat(byte)),
-            Shape::T | Shape::Block | Shape::Backslash | Shape::R | Shape::Text => self.text_act(),
+        setter.tell(Tell::Field(front), solid)?;
+        if !self.is_beyond() && self.passes_line(cells_of(solid)) {
+            return self.complains(Kind::TooWide, setter);
         }
+        Ok(())
     }
 
-    /// A tab after a field.
-    fn ends_field(&mut self) -> Seen
-        ensures { met self.new result ≡ specs.ending_field self.old }
-    {
-        let act = self.field_act();
+    /// A field in a column is told.
+    fn tell_field<S: Setter>(&mut self, text: &[u8], setter: &mut S) -> Result<(), Fault> {
+        let text = self.trimmed(text);
+        match shape_of(text) {
+            Shape::Empty => setter.tell(Tell::Mark(Form::Text), b"")?,
+            Shape::Mark(form) => setter.tell(Tell::Mark(form), b"")?,
+            Shape::Block | Shape::Text => self.tell_text(text, setter)?,
+        }
         self.counts_field();
-        self.takes(Mode::Field, act)
+        Ok(())
     }
 
-    /// A newline after a field: a rule alone is one across the table, and `T{` begins a block.
-    fn ends_line(&mut self) -> Seen
-        ensures { met self.new result ≡ specs.ending_line self.old }
-    {
-        match self.shape {
-            Shape::Rule if self.fields == 0 => {
-                self.row_begins();
-                self.takes(Mode::RowStart(Held::Nothing), Act::EndRow(Said::Rule))
+    /// The last field of a row is told; one beyond the columns is text, or nothing.
+    pub(crate) fn tell_last<S: Setter>(&mut self, text: &[u8], setter: &mut S) -> Result<(), Fault> {
+        if !self.is_beyond() {
+            return self.tell_field(text, setter);
+        }
+        let text = self.trimmed(text);
+        if text.is_empty() || is_comment(text) {
+            return Ok(());
+        }
+        self.complains(Kind::TooManyFields, setter)?;
+        self.tell_text(text, setter)
+    }
+}
+
+impl<'a> Reader<'a> {
+    /// A line between rows ends.
+    pub(crate) fn line_between<S: Setter>(&mut self, setter: &mut S) -> Result<(), Fault> {
+        if is_command(self.kept.as_slice(), b'E') {
+            return self.table_ends(setter);
+        }
+        if is_command(self.kept.as_slice(), b'&') {
+            self.state.begins_formats();
+            self.forgets();
+            return setter.tell(Tell::Formats, b"");
+        }
+        if is_request(self.kept.as_slice()) {
+            setter.tell(Tell::Request, self.kept.as_slice())?;
+            self.forgets();
+            return Ok(());
+        }
+        self.row_line(setter)
+    }
+
+    /// The fields of a line that something ends that separates them.
+    fn tell_ended<S: Setter>(&mut self, setter: &mut S) -> Result<(), Fault> {
+        for _ in self.state.fields..self.state.formats.columns {
+            let tab = self.state.options.tab;
+            let Some(len) = place_of(tab, &self.kept.as_slice()[self.start..]) else {
+                return Ok(());
+            };
+            let end = self.start + len;
+            let text = &self.kept.as_slice()[self.from..end];
+            self.state.tell_field(text, setter)?;
+            self.from = end + 1;
+            self.start = end + 1;
+        }
+        Ok(())
+    }
+
+    /// Whether a comment stands behind the last column.
+    fn comments(&self) -> bool {
+        self.state.is_beyond() && is_comment(self.state.trimmed(&self.kept.as_slice()[self.from..]))
+    }
+
+    /// A line of a row ends.
+    pub(crate) fn row_line<S: Setter>(&mut self, setter: &mut S) -> Result<(), Fault> {
+        let open = pair_backslashes(self.kept, self.start);
+        self.tell_ended(setter)?;
+        if open && !self.comments() {
+            self.kept.truncate(self.kept.len() - 1);
+            self.start = self.kept.len();
+            self.state.mode = Mode::Row;
+            return Ok(());
+        }
+        self.tell_rest(setter)
+    }
+
+    /// What stands behind the last of these is told: a rule, a text block or a field, and the row ends.
+    fn tell_rest<S: Setter>(&mut self, setter: &mut S) -> Result<(), Fault> {
+        let text = &self.kept.as_slice()[self.from..];
+        match shape_of(self.state.trimmed(text)) {
+            Shape::Block => {
+                setter.tell(Tell::Block, b"")?;
+                self.state.mode = Mode::Block;
+                self.forgets();
+                Ok(())
             }
-            Shape::Block => self.takes(Mode::BlockStart(Held::Nothing), Act::Replace(Said::Block)),
+            Shape::Mark(Form::Rule) if self.state.fields == 0 => {
+                setter.tell(Tell::Rule, b"")?;
+                self.state.begins_row();
+                self.forgets();
+                Ok(())
+            }
             _ => {
-                let act = self.field_act();
-                self.counts_field();
-                self.leaves(Mode::RowEnd, act)
+                self.state.tell_last(text, setter)?;
+                self.row_ends(setter)
             }
         }
     }
 
-    /// A byte of a field, in no escape. After the last column a tab is text.
-    pub(crate) fn in_field(&mut self, byte: u8, full: bool) -> Seen
-        ensures { met self.new result ≡ specs.in_field byte full self.old }
-    {
-        if byte == b'\n' {
-            return self.ends_line();
-        }
-        if byte == self.options.tab && !self.is_beyond() {
-            return self.ends_field();
-        }
-        if byte == b'\\' {
-            return self.takes(Mode::Escaped, Act::Say(Said::Nothing));
-        }
-        self.keeps(byte, full)
+    /// A row ends.
+    pub(crate) fn row_ends<S: Setter>(&mut self, setter: &mut S) -> Result<(), Fault> {
+        setter.tell(Tell::Row, b"")?;
+        self.state.begins_row();
+        self.forgets();
+        Ok(())
     }
 
-    /// A byte in a comment after the last column: the row ends with its line.
-    pub(crate) fn in_comment(&mut self, byte: u8) -> Seen
-        ensures { met self.new result ≡ specs.in_comment byte self.old }
-    {
-        if byte == b'\n' {
-            return self.leaves(Mode::RowEnd, Act::Say(Said::Nothing));
+    /// There is no room for more of a row: what was told of it is one, and the rest stands as it is.
+    pub(crate) fn row_overflows<S: Setter>(&mut self, setter: &mut S) -> Result<(), Fault> {
+        if self.state.fields > 0 {
+            setter.tell(Tell::Row, b"")?;
         }
-        self.takes(Mode::Comment, Act::Say(Said::Nothing))
-    }
-
-    /// A byte after a backslash, which is kept first: a newline there vanishes with it, and a quote makes a
-    /// comment of a field beyond the columns.
-    pub(crate) fn in_escaped(&mut self, byte: u8, full: bool) -> Seen
-        ensures { met self.new result ≡ specs.in_escaped byte full self.old }
-    {
-        if byte == b'\n' {
-            return self.takes(Mode::Field, Act::Say(Said::Nothing));
-        }
-        if byte == b'"' && self.is_beyond() && self.shape.is_empty() {
-            return self.takes(Mode::Comment, Act::Say(Said::Nothing));
-        }
-        if full {
-            return self.gives_up_row(Said::Byte(b'\\'));
-        }
-        self.tells_beyond();
-        self.leaves(Mode::Literal, Act::KeepField(b'\\'))
-    }
-
-    /// A byte after a backslash that is kept. Two are kept as `\\e`, which stays itself where it is read twice.
-    pub(crate) fn in_literal(&mut self, byte: u8, full: bool) -> Seen
-        ensures { met self.new result ≡ specs.in_literal byte full self.old }
-    {
-        if byte == b'\\' {
-            return self.keeps(b'e', full);
-        }
-        self.in_field(byte, full)
-    }
-
-    /// The newline after a row.
-    pub(crate) fn in_row_end(&mut self) -> Seen
-        ensures { met self.new result ≡ specs.in_row_end self.old }
-    {
-        self.row_begins();
-        self.takes(Mode::RowStart(Held::Nothing), Act::EndRow(Said::Row))
+        self.state.complains(Kind::RowLimit, setter)?;
+        setter.tell(Tell::Plain, b"")?;
+        setter.tell(Tell::Pass, b"\\&")?;
+        setter.tell(Tell::Pass, &self.kept.as_slice()[self.from..])?;
+        self.state.mode = Mode::Plain(super::command::Start::Other);
+        self.forgets();
+        Ok(())
     }
 }

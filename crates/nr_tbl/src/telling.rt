@@ -1,9 +1,57 @@
-//! What was read of a table is told to what holds it.
+//! What is said of what was read, to who sets the tables.
 
-use super::formats::{Call, Called};
+use super::complaint::Complaint;
+use super::formats::Called;
 use super::options::{self, Options};
-use super::said::Mark;
-use nr_layout::{Form, Frame, Looks, Stand, Table};
+use nr_layout::{Form, Frame, Looks};
+use nr_units::source::Fault;
+
+/// What is said, beside a text.
+#[derive(Clone, Copy)]
+pub enum Tell {
+    /// The text goes out as it is.
+    Pass,
+    /// A table begins.
+    Table,
+    /// How it looks.
+    Looks(Looks),
+    /// New formats begin.
+    Formats,
+    /// What a byte of formats says.
+    Format(Called),
+    /// The formats end.
+    FormatsEnd,
+    /// The text is a field, with so many bytes before the place where it is aligned.
+    Field(Option<usize>),
+    /// A field without a text.
+    Mark(Form),
+    /// A field that is a text block begins.
+    Block,
+    /// The text is a part of it.
+    BlockText,
+    /// It ends.
+    BlockEnd,
+    /// A row ends.
+    Row,
+    /// A rule across the table.
+    Rule,
+    /// The text is a request between rows.
+    Request,
+    /// The table ends.
+    TableEnd,
+    /// The table isn't set further: lines follow that stand as they are.
+    Plain,
+    /// They end.
+    PlainEnd,
+    /// Something is wrong.
+    Wrong(Complaint),
+}
+
+/// Sets tables, and lets pass what is outside of them.
+pub trait Setter {
+    /// Hears what was read.
+    fn tell(&mut self, tell: Tell, text: &[u8]) -> Result<(), Fault>;
+}
 
 /// How a table looks by its options.
 pub(crate) fn looks_of(options: Options) -> Looks {
@@ -19,43 +67,4 @@ pub(crate) fn looks_of(options: Options) -> Looks {
         frame,
         nokeep: options.nokeep,
     }
-}
-
-/// What stands in place of a field.
-pub(crate) fn form_of(mark: Mark) -> Form {
-    match mark {
-        Mark::Rule => Form::Rule,
-        Mark::Inner => Form::Inner,
-        Mark::Above => Form::Above,
-        Mark::Repeat | Mark::Block => Form::Text,
-    }
-}
-
-/// What a byte of formats says.
-fn tell_call(call: Call, table: &mut Table) {
-    match call {
-        Call::Nothing => {}
-        Call::Cell(kind, bars) => table.add_key(kind, bars),
-        Call::Bars(bars) => table.end_line(bars),
-        Call::Font(letter) => table.set_font(letter),
-        Call::Width => table.begin_width(),
-        Call::Gap(digit) => table.begin_gap(digit),
-        Call::Byte(byte) => table.add_byte(byte),
-        Call::Equal => table.set_equal(),
-        Call::Wide => table.set_wide(),
-        Call::Zero => table.set_zero(),
-        Call::Top => table.set_stand(Stand::Top),
-        Call::Low => table.set_stand(Stand::Low),
-    }
-}
-
-/// What a byte of formats says, after what has ended before it.
-pub(crate) fn tell_called(called: Called, table: &mut Table) {
-    if called.ends {
-        table.close();
-    }
-    if called.begins {
-        table.begin_line();
-    }
-    tell_call(called.call, table);
 }
