@@ -2,7 +2,7 @@
 
 use super::formatted;
 use nr_engine::{Buffered, Desk, Outcome};
-use nr_tbl::{Complaint, Report, Rooms, convert};
+use nr_tables::{Complaint, Report, Rooms, convert};
 use nr_units::fakes::{Script, Slate};
 use nr_units::slice_vec::SliceVec;
 use std::alloc::{AllocError, Global};
@@ -131,7 +131,7 @@ fn end_of(
     complaints: &[Complaint],
     outcome: Outcome,
 ) -> anyhow::Result<String> {
-    if report.missed || report.outcome != nr_tbl::Outcome::Done || outcome != Outcome::Done {
+    if report.missed || report.outcome != nr_tables::Outcome::Done || outcome != Outcome::Done {
         return Ok(format!(in alloc; "{report:?}, {outcome:?}")?);
     }
     let mut ended = String::new(alloc);

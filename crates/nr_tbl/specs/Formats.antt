@@ -1,5 +1,5 @@
 -- The formats of a table (Tbl, "Format"; tbl(1), "Column descriptors"): lines of columns, each with what modifies it.
-use Rattle.std.specs.Prelude.{ℕ, List, [], ◌∷◌, ◌++◌, codes, Bool, true, false, ◌==◌, ◌&&◌, ◌||◌, nat_le, nat_lt, if◌then◌else◌, Option, None, Some}
+use Rattle.std.specs.Prelude.{ℕ, Bool, true, false, ◌==◌, ◌&&◌, ◌||◌, nat_le, nat_lt, if◌then◌else◌, Option, None, Some}
 use Rattle.nr_tbl.specs.declared.formats.Formats.{Formats}
 use Rattle.nr_tbl.specs.declared.formats.Part.{Part}
 use Rattle.nr_tbl.specs.declared.formats.Part.TheVariants as parts
@@ -10,27 +10,6 @@ use Rattle.nr_tbl.specs.Numbers.{is_digit, one_more}
 use Rattle.nr_tbl.specs.Options.{small}
 
 -- ---- what is called
-
-abbrev pub bars_digit : ℕ → ℕ
-bars_digit n = if n == 0 then 48 else if n == 1 then 49 else 50
-
-abbrev pub call_bytes : Call → List ℕ
-call_bytes Nothing = []
-call_bytes (Cell kind bars) = codes ".*cell " ++ kind ∷ 32 ∷ bars_digit bars ∷ 10 ∷ []
-call_bytes (Bars bars) = codes ".*bars " ++ bars_digit bars ∷ 10 ∷ []
-call_bytes (Font letter) = codes ".*font " ++ letter ∷ 10 ∷ []
-call_bytes Width = codes ".*width "
-call_bytes (Gap digit) = codes ".*gap " ++ digit ∷ []
-call_bytes (Byte b) = b ∷ []
-call_bytes Equal = codes ".*equal\n"
-call_bytes Wide = codes ".*wide\n"
-call_bytes Zero = codes ".*zero\n"
-call_bytes Top = codes ".*top\n"
-call_bytes Low = codes ".*low\n"
-
--- a call ends, a line begins, and this is called
-abbrev pub called_bytes : Called → List ℕ
-called_bytes c = (if c.ends then 10 ∷ [] else []) ++ (if c.begins then codes ".*line\n" else []) ++ call_bytes c.call
 
 abbrev pub only : Call → Called
 only call = record { ends = false; begins = false; call = call }
@@ -222,16 +201,3 @@ read_in parts.SizeIn b f = in_size_in b f
 
 abbrev pub read : ℕ → Formats → Told
 read b f = read_in f.part b f
-
--- ---- all bytes: what was read, and what goes out
-
-pub record Said : Type 0 where
-  pub formats : Formats
-  pub bytes : List ℕ
-
-abbrev pub all_read : List ℕ → Formats → Said
-all_read [] f = record { formats = f; bytes = [] }
-all_read (b ∷ bs) f =
-    let t = read b f in
-    let more = all_read bs t.formats in
-    record { formats = more.formats; bytes = called_bytes t.called ++ more.bytes }

@@ -1,5 +1,17 @@
+pub mod BlockLines
+pub mod Commands
+pub mod Fields
 pub mod Formats
+pub mod HeadLines
+pub mod Heads
 pub mod Measure
 pub mod Numbers
 pub mod Options
+pub mod Outside
+pub mod Pages
+pub mod Passing
+pub mod Reading
+pub mod RowLines
+pub mod States
+pub mod Telling
 pub mod Widths

@@ -2,12 +2,12 @@
 
 use super::command::Start;
 use super::complaint::{Complaint, Kind};
-use super::reader::Reader;
+use super::reader::{Reader, behind};
 use super::state::Mode;
 use super::telling::{Setter, Tell};
 use nr_units::source::Fault;
 
-impl<'a> Reader<'a> {
+impl Reader {
     /// Something is wrong at the end: of a page that ends with a newline, on the line that this ends.
     fn complains_at_end<S: Setter>(
         &self,
@@ -34,7 +34,7 @@ impl<'a> Reader<'a> {
             Mode::Head => {
                 self.complains_at_end(Kind::NoFormat, true, setter)?;
                 setter.tell(Tell::Plain, b"")?;
-                setter.tell(Tell::Pass, &self.kept.as_slice()[self.from..])?;
+                setter.tell(Tell::Pass, self.rest())?;
                 setter.tell(Tell::PlainEnd, b"")
             }
             Mode::Rows => {
@@ -58,7 +58,7 @@ impl<'a> Reader<'a> {
 
     /// The field that was read so far is told.
     fn tell_last_field<S: Setter>(&mut self, setter: &mut S) -> Result<(), Fault> {
-        let text = &self.kept.as_slice()[self.from..];
+        let text = behind(self.kept.as_slice(), self.from);
         self.state.tell_last(text, setter)
     }
 

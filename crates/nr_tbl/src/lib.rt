@@ -1,7 +1,7 @@
-//! tbl: tables are measured, and their rows go out as lines of text; where only the formatter knows a width, as requests.
+//! tbl: the tables of a page are read, and what they say is told to who sets them.
 //!
-//! It stands on nr_units, nr_rooms and nr_layout. To read: `complaint`, `command`, `passing`; `options`, `formats`, `widths`,
-//! `numbers`, `measure`, `field`; `telling`, `state`, `reader`, `head`, `rows`, `blocks`, `ending`; `press`, `running`;
+//! It stands on nr_units and nr_rooms. To read: `complaint`, `command`, `passing`; `options`, `formats`, `widths`,
+//! `numbers`, `measure`, `field`; `telling`, `state`, `reader`, `head`, `rows`, `blocks`, `ending`; `running`;
 //! `untouched`.
 #![tactic(auto)]
 
@@ -16,7 +16,6 @@ mod measure;
 mod numbers;
 mod options;
 mod passing;
-mod press;
 mod reader;
 mod rows;
 mod running;
@@ -26,5 +25,10 @@ mod untouched;
 mod widths;
 
 pub use complaint::{Complaint, Kind};
-pub use running::{Outcome, Report, Rooms, convert};
+pub use field::Mark;
+pub use formats::{Call, Called};
+pub use options::{Frame, Options};
+pub use reader::{Limits, Reader};
+pub use running::{Outcome, read_page};
+pub use telling::{Setter, Tell};
 pub use untouched::passes_unchanged;

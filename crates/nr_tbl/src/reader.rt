@@ -1,4 +1,12 @@
 //! A page is read: lines that pass at once, and those of a table line by line.
+ghost use Rattle.std.specs.Prelude.{◌≡◌, ◌+◌, ◌^◌, ◌<◌, length, drop, true, OnOk};
+ghost use Rattle.nr_tbl.specs.Commands.{begins_command};
+ghost use Rattle.nr_tbl.specs.Pages.{Comes, forgotten, with_state, rest_of, line_of};
+ghost use Rattle.nr_tbl.specs.States.{first_state};
+ghost use Rattle.nr_tbl.specs.Reading as reading;
+ghost use Rattle.nr_tbl.specs.RowLines as rows;
+ghost use Rattle.nr_tbl.specs.Outside as specs;
+ghost use Rattle.nr_tbl.specs.declared.state.Mode.TheVariants.{Passing, Plain, BlockLine};
 
 use super::command::{Start, is_command, start_of};
 use super::complaint::Kind;
@@ -7,10 +15,12 @@ use super::state::{Mode, State};
 use super::telling::{Setter, Tell};
 use nr_rooms::FixedVec;
 use nr_units::source::Fault;
+use std::alloc::{AllocError, Global};
+use std::marker::Model;
 
 /// How many bytes are kept at most.
 #[derive(Clone, Copy)]
-pub(crate) struct Limits {
+pub struct Limits {
     /// Of the options and formats of a table.
     pub formats: usize,
     /// Of a line of a row, with those that go on from it.
@@ -19,39 +29,80 @@ pub(crate) struct Limits {
 
 /// What is known of a page, with what is kept of its lines.
 #[derive(Drop)]
-pub(crate) struct Reader<'a> {
-    pub state: State,
-    pub limits: Limits,
+pub struct Reader {
+    pub(crate) state: State,
+    pub(crate) limits: Limits,
     /// The options and formats so far; or the line so far, with those that it goes on from.
-    pub kept: &'a mut FixedVec<u8>,
+    pub(crate) kept: FixedVec<u8>,
     /// Where the formats begin in it, or the field.
-    pub from: usize,
+    pub(crate) from: usize,
     /// Where the line begins in it.
-    pub start: usize,
+    pub(crate) start: usize,
 }
 
-impl<'a> Reader<'a> {
-    /// A page begins, and the line has so many cells.
-    pub(crate) fn over(kept: &'a mut FixedVec<u8>, limits: Limits, cells: usize) -> Reader<'a> {
-        kept.clear();
-        Reader {
+impl Model for Reader {
+    ghost use Rattle.std.specs.Prelude.{◌<◌};
+    ghost use Rattle.nr_tbl.specs.Pages.{Page};
+
+    ghost Value = { Page };
+
+    ghost view = { λ r. record { state = r.state; limits = r.limits; kept = r.kept.items; from = r.from; start = r.start } };
+
+    ghost invariant = { λ r. (r.limits.formats < r.kept.room) × (r.limits.row < r.kept.room) };
+}
+
+impl Reader {
+    /// Takes the memory for what is kept, where the line has so many cells.
+    pub fn new(alloc: Global, limits: Limits, cells: usize) -> Result<Reader, AllocError> {
+        let room = limits.formats.max(limits.row).saturating_add(1);
+        let kept = FixedVec::new(alloc, room)?;
+        Ok(Reader {
             state: State::new(cells),
-            limits,
+            limits: Limits {
+                formats: limits.formats.min(room - 1),
+                row: limits.row.min(room - 1),
+            },
             kept,
             from: 0,
             start: 0,
-        }
+        })
+    }
+
+    /// A page begins.
+    pub(crate) fn begins(&mut self)
+        ensures { self.new ≡ forgotten (with_state (first_state self.old.state.measure.line) self.old) }
+    {
+        self.state = State::new(self.state.measure.line);
+        self.forgets();
+    }
+
+    /// What is kept from where the formats begin, or the field.
+    pub(crate) fn rest(&self) -> &[u8]
+        ensures { result.now ≡ rest_of self.now }
+    {
+        behind(self.kept.as_slice(), self.from)
+    }
+
+    /// What is kept of the line.
+    pub(crate) fn line(&self) -> &[u8]
+        ensures { result.now ≡ line_of self.now }
+    {
+        behind(self.kept.as_slice(), self.start)
     }
 
     /// Nothing is kept.
-    pub(crate) fn forgets(&mut self) {
+    pub(crate) fn forgets(&mut self)
+        ensures { self.new ≡ forgotten self.old }
+    {
         self.kept.clear();
         self.from = 0;
         self.start = 0;
     }
 
     /// How much may be kept.
-    fn limit(&self) -> usize {
+    fn limit(&self) -> usize
+        ensures { result ≡ reading.limit_of self.now }
+    {
         match self.state.mode {
             Mode::Head => self.limits.formats,
             _ => self.limits.row,
@@ -64,7 +115,12 @@ impl<'a> Reader<'a> {
         start: Start,
         bytes: &[u8],
         setter: &mut S,
-    ) -> Result<usize, Fault> {
+    ) -> Result<usize, Fault>
+        requires some { 0 < length bytes.now }
+        requires lines { self.old.state.line + length bytes.now < 2 ^ 64 }
+        requires mode { self.old.state.mode ≡ Passing start }
+        ensures { reading.Reads S.hears bytes.now self.old self.new (S.shown setter.old) (S.shown setter.new) result }
+    {
         if matches!(start, Start::Nothing | Start::Other) {
             let run = run_of(bytes, matches!(start, Start::Nothing));
             if run.count > 0 {
@@ -83,7 +139,10 @@ impl<'a> Reader<'a> {
     }
 
     /// A line that passed ends, and began so.
-    fn passed_line<S: Setter>(&mut self, start: Start, setter: &mut S) -> Result<(), Fault> {
+    fn passed_line<S: Setter>(&mut self, start: Start, setter: &mut S) -> Result<(), Fault>
+        requires { self.old.state.line + 1 < 2 ^ 64 }
+        ensures { OnOk result (Comes S.hears (specs.line_passed (begins_command start) self.old) self.new (S.shown setter.old) (S.shown setter.new)) }
+    {
         self.state.line += 1;
         self.state.mode = Mode::Passing(Start::Nothing);
         if start.is_command() {
@@ -100,7 +159,12 @@ impl<'a> Reader<'a> {
         start: Start,
         bytes: &[u8],
         setter: &mut S,
-    ) -> Result<usize, Fault> {
+    ) -> Result<usize, Fault>
+        requires some { 0 < length bytes.now }
+        requires lines { self.old.state.line + length bytes.now < 2 ^ 64 }
+        requires mode { self.old.state.mode ≡ Plain start }
+        ensures { reading.Reads S.hears bytes.now self.old self.new (S.shown setter.old) (S.shown setter.new) result }
+    {
         setter.tell(Tell::Pass, &bytes[..1])?;
         self.state.mode = Mode::Plain(start.with(bytes[0], b'E'));
         if bytes[0] == b'\n' {
@@ -110,7 +174,10 @@ impl<'a> Reader<'a> {
     }
 
     /// Such a line ends, and began so.
-    fn passed_plain_line<S: Setter>(&mut self, start: Start, setter: &mut S) -> Result<(), Fault> {
+    fn passed_plain_line<S: Setter>(&mut self, start: Start, setter: &mut S) -> Result<(), Fault>
+        requires { self.old.state.line + 1 < 2 ^ 64 }
+        ensures { OnOk result (Comes S.hears (specs.plain_line_passed (begins_command start) self.old) self.new (S.shown setter.old) (S.shown setter.new)) }
+    {
         self.state.line += 1;
         self.state.mode = Mode::Plain(Start::Nothing);
         if start.is_command() {
@@ -121,7 +188,12 @@ impl<'a> Reader<'a> {
     }
 
     /// Bytes of a line in a text block of which a part was told.
-    fn takes_block<S: Setter>(&mut self, bytes: &[u8], setter: &mut S) -> Result<usize, Fault> {
+    fn takes_block<S: Setter>(&mut self, bytes: &[u8], setter: &mut S) -> Result<usize, Fault>
+        requires some { 0 < length bytes.now }
+        requires lines { self.old.state.line + length bytes.now < 2 ^ 64 }
+        requires mode { self.old.state.mode ≡ BlockLine }
+        ensures { reading.Reads S.hears bytes.now self.old self.new (S.shown setter.old) (S.shown setter.new) result }
+    {
         let len = line_len(bytes);
         if len == bytes.len() {
             setter.tell(Tell::BlockText, bytes)?;
@@ -134,7 +206,13 @@ impl<'a> Reader<'a> {
     }
 
     /// Bytes of a line that is kept.
-    fn keeps<S: Setter>(&mut self, bytes: &[u8], setter: &mut S) -> Result<usize, Fault> {
+    fn keeps<S: Setter>(&mut self, bytes: &[u8], setter: &mut S) -> Result<usize, Fault>
+        requires some { 0 < length bytes.now }
+        requires lines { self.old.state.line + length bytes.now < 2 ^ 64 }
+        requires kept { reading.is_kept self.old.state.mode ≡ true }
+        requires fits { reading.Fits self.old }
+        ensures { reading.Reads S.hears bytes.now self.old self.new (S.shown setter.old) (S.shown setter.new) result }
+    {
         let len = line_len(bytes);
         let most = self.limit() + 1 - self.kept.len();
         let count = len.min(most);
@@ -152,7 +230,9 @@ impl<'a> Reader<'a> {
     }
 
     /// A line that was kept ends.
-    fn line_ends<S: Setter>(&mut self, setter: &mut S) -> Result<(), Fault> {
+    fn line_ends<S: Setter>(&mut self, setter: &mut S) -> Result<(), Fault>
+        ensures { OnOk result (Comes S.hears (reading.line_ended_in self.old.state.mode self.old) self.new (S.shown setter.old) (S.shown setter.new)) }
+    {
         match self.state.mode {
             Mode::Head => self.head_line(setter),
             Mode::Rows => self.line_between(setter),
@@ -163,7 +243,9 @@ impl<'a> Reader<'a> {
     }
 
     /// More bytes come than may be kept.
-    fn overflows<S: Setter>(&mut self, setter: &mut S) -> Result<(), Fault> {
+    fn overflows<S: Setter>(&mut self, setter: &mut S) -> Result<(), Fault>
+        ensures { OnOk result (Comes S.hears (reading.overflown self.old) self.new (S.shown setter.old) (S.shown setter.new)) }
+    {
         match self.state.mode {
             Mode::Head => self.head_overflows(setter),
             Mode::Rows if is_command(self.kept.as_slice(), b'E') => self.long_end(setter),
@@ -173,7 +255,9 @@ impl<'a> Reader<'a> {
     }
 
     /// The line of `.TE`, so far: the rest of it passes.
-    pub(crate) fn long_end<S: Setter>(&mut self, setter: &mut S) -> Result<(), Fault> {
+    pub(crate) fn long_end<S: Setter>(&mut self, setter: &mut S) -> Result<(), Fault>
+        ensures { OnOk result (Comes S.hears (rows.long_end self.old) self.new (S.shown setter.old) (S.shown setter.new)) }
+    {
         setter.tell(Tell::TableEnd, b"")?;
         setter.tell(Tell::Pass, self.kept.as_slice())?;
         self.state.mode = Mode::Passing(Start::Other);
@@ -182,7 +266,9 @@ impl<'a> Reader<'a> {
     }
 
     /// The line of `.TE`.
-    pub(crate) fn table_ends<S: Setter>(&mut self, setter: &mut S) -> Result<(), Fault> {
+    pub(crate) fn table_ends<S: Setter>(&mut self, setter: &mut S) -> Result<(), Fault>
+        ensures { OnOk result (Comes S.hears (rows.table_ended self.old) self.new (S.shown setter.old) (S.shown setter.new)) }
+    {
         setter.tell(Tell::TableEnd, b"")?;
         setter.tell(Tell::Pass, self.kept.as_slice())?;
         setter.tell(Tell::Pass, b"\n")?;
@@ -192,18 +278,25 @@ impl<'a> Reader<'a> {
     }
 
     /// The table isn't set further: what is kept of it stands as it is, from here on.
-    pub(crate) fn gives_up<S: Setter>(&mut self, kind: Kind, setter: &mut S) -> Result<(), Fault> {
+    pub(crate) fn gives_up<S: Setter>(&mut self, kind: Kind, setter: &mut S) -> Result<(), Fault>
+        ensures { OnOk result (Comes S.hears (specs.given_up kind self.old) self.new (S.shown setter.old) (S.shown setter.new)) }
+    {
         self.state.complains(kind, setter)?;
         setter.tell(Tell::Plain, b"")?;
-        setter.tell(Tell::Pass, &self.kept.as_slice()[self.from..])?;
-        let start = start_of(&self.kept.as_slice()[self.start..], b'E');
+        setter.tell(Tell::Pass, self.rest())?;
+        let start = start_of(self.line(), b'E');
         self.state.mode = Mode::Plain(start);
         self.forgets();
         Ok(())
     }
 
     /// Bytes come, of which there is one at least: so many are taken.
-    pub(crate) fn read<S: Setter>(&mut self, bytes: &[u8], setter: &mut S) -> Result<usize, Fault> {
+    pub(crate) fn read<S: Setter>(&mut self, bytes: &[u8], setter: &mut S) -> Result<usize, Fault>
+        requires some { 0 < length bytes.now }
+        requires lines { self.old.state.line + length bytes.now < 2 ^ 64 }
+        requires fits { reading.Fits self.old }
+        ensures { reading.Reads S.hears bytes.now self.old self.new (S.shown setter.old) (S.shown setter.new) result }
+    {
         match self.state.mode {
             Mode::Passing(start) => self.passes(start, bytes, setter),
             Mode::Plain(start) => self.passes_plain(start, bytes, setter),
@@ -213,7 +306,20 @@ impl<'a> Reader<'a> {
     }
 }
 
+/// What stands behind so many bytes.
+pub(crate) fn behind(bytes: &[u8], from: usize) -> &[u8]
+    ensures { result.now ≡ drop from bytes.now }
+{
+    if from < bytes.len() {
+        &bytes[from..]
+    } else {
+        b""
+    }
+}
+
 /// Where a line outside of tables is read behind a run.
-fn after_run(starts: bool) -> Start {
+fn after_run(starts: bool) -> Start
+    ensures { result ≡ specs.after_run starts }
+{
     if starts { Start::Nothing } else { Start::Other }
 }

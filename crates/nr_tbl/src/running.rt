@@ -1,24 +1,14 @@
-//! A whole page is turned.
+//! A whole page is read.
 
-use super::complaint::Complaint;
-use super::press::Press;
-use super::reader::{Limits, Reader};
+use super::reader::Reader;
 use super::telling::Setter;
-use nr_layout::{Out, Table};
-use nr_rooms::FixedVec;
-use nr_units::sink::Sink;
-use nr_units::slice_vec::SliceVec;
 use nr_units::source::{Fault, Source};
-use std::alloc::{AllocError, Global};
 
 /// The number of bytes that are too many.
 const TOO_MANY: u64 = 1_099_511_627_776;
 
 /// How many bytes are taken at once at most.
 const CHUNK: usize = 16384;
-
-/// The bytes that wait to go out at most.
-const PENDING: usize = 65_536;
 
 /// How a run ended.
 #[derive(Clone, Copy, Debug, PartialEq, Eq)]
@@ -36,15 +26,6 @@ pub enum Outcome {
     WriteFault,
 }
 
-/// How a run ended, and what it tells beside what went out.
-#[derive(Clone, Copy, Debug, PartialEq, Eq)]
-pub struct Report {
-    /// How it ended.
-    pub outcome: Outcome,
-    /// There were more complaints than there was room for.
-    pub missed: bool,
-}
-
 /// What one turn came to.
 #[derive(Clone, Copy)]
 enum Turn {
@@ -56,36 +37,9 @@ enum Turn {
     ReadFault,
 }
 
-/// The memory that texts are turned in, taken once.
-#[derive(Drop)]
-pub struct Rooms {
-    kept: FixedVec<u8>,
-    limits: Limits,
-    table: Table,
-    pending: FixedVec<u8>,
-    cells: usize,
-}
-
-impl Rooms {
-    /// Takes the memory: for a table of so many bytes, of which rows have so many at most, where the line has so many cells.
-    pub fn new(alloc: Global, table: usize, row: usize, cells: usize) -> Result<Rooms, AllocError> {
-        let limits = Limits {
-            formats: table,
-            row,
-        };
-        Ok(Rooms {
-            kept: FixedVec::new(alloc, table.max(row) + 1)?,
-            limits,
-            table: Table::new(alloc, table, row)?,
-            pending: FixedVec::new(alloc, PENDING)?,
-            cells,
-        })
-    }
-}
-
 /// Bytes at hand are taken, so many at most, and told how many: of none there is nothing at hand.
 fn take_at_hand<R: Source, S: Setter>(
-    reader: &mut Reader<'_>,
+    reader: &mut Reader,
     input: &mut R,
     setter: &mut S,
     most: u64,
@@ -102,7 +56,7 @@ fn take_at_hand<R: Source, S: Setter>(
 
 /// One turn: bytes at hand are taken, or the next byte.
 fn make_turn<R: Source, S: Setter>(
-    reader: &mut Reader<'_>,
+    reader: &mut Reader,
     input: &mut R,
     setter: &mut S,
     most: u64,
@@ -124,8 +78,13 @@ fn make_turn<R: Source, S: Setter>(
     }
 }
 
-/// All bytes are turned.
-fn run<R: Source, S: Setter>(reader: &mut Reader<'_>, input: &mut R, setter: &mut S) -> Outcome {
+/// Reads all that the input gives, and tells what it says of tables and what is outside of them. Nothing is allocated.
+pub fn read_page<R: Source, S: Setter>(
+    reader: &mut Reader,
+    input: &mut R,
+    setter: &mut S,
+) -> Outcome {
+    reader.begins();
     let mut taken = 0;
     while taken < TOO_MANY {
         match make_turn(reader, input, setter, TOO_MANY - taken) {
@@ -136,29 +95,4 @@ fn run<R: Source, S: Setter>(reader: &mut Reader<'_>, input: &mut R, setter: &mu
         }
     }
     Outcome::TooLong
-}
-
-/// Turns the tables of what the input gives into lines of text, or into requests where only the formatter knows a width,
-/// and puts it to the output, which is not flushed. Nothing is allocated.
-pub fn convert<R: Source, W: Sink>(
-    input: &mut R,
-    output: &mut W,
-    rooms: &mut Rooms,
-    complaints: &mut SliceVec<'_, Complaint>,
-) -> Report {
-    rooms.pending.clear();
-    rooms.table.begin_page();
-    complaints.clear();
-    let mut press = Press {
-        table: &mut rooms.table,
-        out: Out {
-            pending: &mut rooms.pending,
-            sink: output,
-        },
-        complaints,
-        missed: false,
-    };
-    let mut reader = Reader::over(&mut rooms.kept, rooms.limits, rooms.cells);
-    let outcome = run(&mut reader, input, &mut press);
-    press.ended(outcome)
 }

@@ -1,4 +1,7 @@
 //! What is known of a page between two bytes.
+ghost use Rattle.std.specs.Prelude.{◌≡◌, OnOk};
+ghost use Rattle.nr_tbl.specs.Pages.{wrong};
+ghost use Rattle.nr_tbl.specs.States as specs;
 
 use super::command::Start;
 use super::complaint::{Complaint, Kind};
@@ -53,7 +56,9 @@ pub(crate) struct State {
 
 impl State {
     /// A page begins, and the line has so many cells.
-    pub(crate) fn new(cells: usize) -> State {
+    pub(crate) fn new(cells: usize) -> State
+        ensures { result ≡ specs.first_state cells }
+    {
         State {
             mode: Mode::Passing(Start::Nothing),
             line: 1,
@@ -66,7 +71,9 @@ impl State {
     }
 
     /// A table begins with the next line.
-    pub(crate) fn begins_table(&mut self) {
+    pub(crate) fn begins_table(&mut self)
+        ensures { self.new ≡ specs.table_begun self.old }
+    {
         self.mode = Mode::Head;
         self.first = true;
         self.options = Options::new();
@@ -76,7 +83,9 @@ impl State {
     }
 
     /// New formats begin with the next line.
-    pub(crate) fn begins_formats(&mut self) {
+    pub(crate) fn begins_formats(&mut self)
+        ensures { self.new ≡ specs.formats_begun self.old }
+    {
         self.mode = Mode::Head;
         self.first = false;
         self.formats = Formats::new(
@@ -87,24 +96,33 @@ impl State {
     }
 
     /// The next line begins a row.
-    pub(crate) fn begins_row(&mut self) {
+    pub(crate) fn begins_row(&mut self)
+        ensures { self.new ≡ specs.row_begun self.old }
+    {
         self.mode = Mode::Rows;
         self.fields = 0;
         self.measure = self.measure.with_row();
     }
 
     /// One field more has ended.
-    pub(crate) fn counts_field(&mut self) {
+    pub(crate) fn counts_field(&mut self)
+        ensures { self.new ≡ specs.field_counted self.old }
+    {
         self.fields = one_more(self.fields, MOST_FIELDS);
     }
 
     /// Whether the next field is one more than there are columns.
-    pub(crate) fn is_beyond(&self) -> bool {
+    pub(crate) fn is_beyond(&self) -> bool
+        ensures { result ≡ specs.is_beyond self.now }
+    {
         self.fields >= self.formats.columns
     }
 
     /// Whether a field of so many cells passes the end of the line, which is told once; else it is taken.
-    pub(crate) fn passes_line(&mut self, cells: usize) -> bool {
+    pub(crate) fn passes_line(&mut self, cells: usize) -> bool
+        ensures told { result ≡ specs.passes_line cells self.old }
+        ensures state { self.new ≡ specs.cells_taken cells self.old }
+    {
         if self.measure.overruns(cells) {
             self.measure = self.measure.told();
             return true;
@@ -115,7 +133,10 @@ impl State {
 
     /// What is wrong with formats that were read, the last of which with widths is this line, after so many lines
     /// of formats before them.
-    pub(crate) fn with_formats(&mut self, formats: Formats, line: Line) -> Option<Kind> {
+    pub(crate) fn with_formats(&mut self, formats: Formats, line: Line) -> Option<Kind>
+        ensures wrong { result ≡ specs.wrong_with formats line self.old }
+        ensures state { self.new ≡ specs.with_formats formats line self.old }
+    {
         let before = self.formats.lines;
         self.formats = formats;
         if formats.columns == 0 {
@@ -135,7 +156,9 @@ impl State {
     }
 
     /// Tells that something is wrong on this line.
-    pub(crate) fn complains<S: Setter>(&self, kind: Kind, setter: &mut S) -> Result<(), Fault> {
+    pub(crate) fn complains<S: Setter>(&self, kind: Kind, setter: &mut S) -> Result<(), Fault>
+        ensures { OnOk result (S.shown setter.new ≡ S.hears (wrong kind self.now) (S.shown setter.old)) }
+    {
         let line = self.line;
         setter.tell(Tell::Wrong(Complaint { kind, line }), b"")
     }

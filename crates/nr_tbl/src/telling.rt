@@ -1,9 +1,11 @@
 //! What is said of what was read, to who sets the tables.
+ghost use Rattle.std.specs.Prelude.{◌≡◌, OnOk, OnErr};
+ghost use Rattle.nr_tbl.specs.Telling.{Piece, heard, said};
 
 use super::complaint::Complaint;
+use super::field::Mark;
 use super::formats::Called;
-use super::options::{self, Options};
-use nr_layout::{Form, Frame, Looks};
+use super::options::Options;
 use nr_units::source::Fault;
 
 /// What is said, beside a text.
@@ -13,8 +15,8 @@ pub enum Tell {
     Pass,
     /// A table begins.
     Table,
-    /// How it looks.
-    Looks(Looks),
+    /// Its options.
+    Options(Options),
     /// New formats begin.
     Formats,
     /// What a byte of formats says.
@@ -24,7 +26,7 @@ pub enum Tell {
     /// The text is a field, with so many bytes before the place where it is aligned.
     Field(Option<usize>),
     /// A field without a text.
-    Mark(Form),
+    Mark(Mark),
     /// A field that is a text block begins.
     Block,
     /// The text is a part of it.
@@ -49,22 +51,19 @@ pub enum Tell {
 
 /// Sets tables, and lets pass what is outside of them.
 pub trait Setter {
-    /// Hears what was read.
-    fn tell(&mut self, tell: Tell, text: &[u8]) -> Result<(), Fault>;
-}
+    /// What is known of it.
+    ghost Shown: { Type 0 };
 
-/// How a table looks by its options.
-pub(crate) fn looks_of(options: Options) -> Looks {
-    let frame = match options.frame {
-        options::Frame::Open => Frame::Open,
-        options::Frame::Single => Frame::Single,
-        options::Frame::All => Frame::All,
-        options::Frame::Double => Frame::Double,
-    };
-    Looks {
-        center: options.center,
-        expand: options.expand,
-        frame,
-        nokeep: options.nokeep,
-    }
+    ghost shown: { Self → Self.Shown };
+
+    /// What is known of it once it has heard a piece.
+    ghost hears: { Piece → Self.Shown → Self.Shown };
+
+    /// It heard no more than a part of what the first would have heard.
+    ghost cut: { Self.Shown → Self.Shown → Type 0 };
+
+    /// Hears what was read. An error leaves a part of it heard.
+    fn tell(&mut self, tell: Tell, text: &[u8]) -> Result<(), Fault>
+        ensures ok { OnOk result (Self.shown self.new ≡ heard Self.hears (said tell text.now) (Self.shown self.old)) }
+        ensures err { OnErr result (Self.cut (heard Self.hears (said tell text.now) (Self.shown self.old)) (Self.shown self.new)) };
 }

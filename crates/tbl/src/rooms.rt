@@ -1,7 +1,7 @@
 // The memory that texts are turned in.
 
 use super::words::Job;
-use nr_tbl::{Complaint, Report, convert};
+use nr_tables::{Complaint, Report, convert};
 use nr_units::buffered::Buffered;
 use nr_units::sink::Sink;
 use nr_units::slice_vec::SliceVec;
@@ -17,7 +17,7 @@ pub struct Rooms {
     /// What was read of a text and is not taken yet.
     input: Vec<u8>,
     /// What is held of a table, and what is to go out.
-    held: nr_tbl::Rooms,
+    held: nr_tables::Rooms,
 }
 
 impl Rooms {
@@ -25,7 +25,7 @@ impl Rooms {
     pub fn new(job: Job, alloc: Global) -> Result<Rooms, AllocError> {
         Ok(Rooms {
             input: vec![in alloc; 0u8; BUFFER_SIZE]?,
-            held: nr_tbl::Rooms::new(alloc, job.formats, job.row, job.line)?,
+            held: nr_tables::Rooms::new(alloc, job.formats, job.row, job.line)?,
         })
     }
 

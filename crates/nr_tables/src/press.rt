@@ -1,10 +1,8 @@
 //! What was read is told to what holds a table, and goes out.
+ghost use Rattle.std.specs.Prelude.{Unit, tt};
 
-use super::complaint::Complaint;
-use super::formats::{Call, Called};
-use super::running::{Outcome, Report};
-use super::telling::{Setter, Tell};
-use nr_layout::{Form, Out, Stand, Table};
+use nr_layout::{self, Form, Looks, Out, Stand, Table};
+use nr_tbl::{Call, Called, Complaint, Frame, Mark, Options, Outcome, Setter, Tell};
 use nr_units::sink::Sink;
 use nr_units::slice_vec::SliceVec;
 use nr_units::source::Fault;
@@ -21,6 +19,33 @@ pub(crate) struct Press<'a, 'c, W: Sink> {
     pub complaints: &'a mut SliceVec<'c, Complaint>,
     /// There were more complaints than there was room for.
     pub missed: bool,
+}
+
+/// How a table looks by its options.
+fn looks_of(options: Options) -> Looks {
+    let frame = match options.frame {
+        Frame::Open => nr_layout::Frame::Open,
+        Frame::Single => nr_layout::Frame::Single,
+        Frame::All => nr_layout::Frame::All,
+        Frame::Double => nr_layout::Frame::Double,
+    };
+    Looks {
+        center: options.center,
+        expand: options.expand,
+        frame,
+        nokeep: options.nokeep,
+    }
+}
+
+/// What stands in place of a field's text.
+fn form_of(mark: Mark) -> Form {
+    match mark {
+        Mark::Nothing => Form::Text,
+        Mark::Rule => Form::Rule,
+        Mark::Inner => Form::Inner,
+        Mark::Repeat(byte) => Form::Repeat(byte),
+        Mark::Above => Form::Above,
+    }
 }
 
 /// What a byte of formats says.
@@ -103,22 +128,26 @@ impl<'a, 'c, W: Sink> Press<'a, 'c, W> {
     }
 
     /// All that waits goes out, and the run has ended so.
-    pub(crate) fn ended(self, outcome: Outcome) -> Report {
+    pub(crate) fn ends(&mut self, outcome: Outcome) -> Outcome {
+        match self.out.flush() {
+            Ok(()) => outcome,
+            Err(Fault) => Outcome::WriteFault,
+        }
+    }
+
+    /// Whether there were more complaints than there was room for.
+    pub(crate) fn missed(self) -> bool {
         let Press {
             table: _,
-            mut out,
+            out,
             complaints: _,
             missed,
         } = self;
-        let outcome = match out.flush() {
-            Ok(()) => outcome,
-            Err(Fault) => Outcome::WriteFault,
-        };
         let Out {
             pending: _,
             sink: _,
         } = out;
-        Report { outcome, missed }
+        missed
     }
 
     /// Something is wrong.
@@ -132,16 +161,24 @@ impl<'a, 'c, W: Sink> Press<'a, 'c, W> {
 }
 
 impl<'a, 'c, W: Sink> Setter for Press<'a, 'c, W> {
+    ghost Shown = { Unit {0} };
+
+    ghost shown = { λ _. tt };
+
+    ghost hears = { λ _ s. s };
+
+    ghost cut = { λ _ _. Unit {0} };
+
     fn tell(&mut self, tell: Tell, text: &[u8]) -> Result<(), Fault> {
         match tell {
             Tell::Pass => return self.out.put(text),
             Tell::Table => self.table.begin(),
-            Tell::Looks(looks) => self.table.set_looks(looks),
+            Tell::Options(options) => self.table.set_looks(looks_of(options)),
             Tell::Formats => self.table.formats_begin(),
             Tell::Format(called) => tell_called(called, self.table),
             Tell::FormatsEnd => self.table.formats_end(),
             Tell::Field(front) => self.table.add_field(text, front),
-            Tell::Mark(form) => self.table.add_mark(form),
+            Tell::Mark(mark) => self.table.add_mark(form_of(mark)),
             Tell::Block => self.table.text_begins(),
             Tell::BlockText => return self.add_block(text),
             Tell::BlockEnd => self.table.block_ends(),
