@@ -1,2 +1,4 @@
 pub mod Finding
 pub mod Hearing
+pub mod Tableless
+pub mod Turning

@@ -1,5 +1,6 @@
 pub mod BlockLines
 pub mod Commands
+pub mod Ending
 pub mod Fields
 pub mod Formats
 pub mod HeadLines
@@ -12,6 +13,8 @@ pub mod Pages
 pub mod Passing
 pub mod Reading
 pub mod RowLines
+pub mod Running
 pub mod States
 pub mod Telling
+pub mod Untouched
 pub mod Widths

@@ -1,4 +1,8 @@
 //! The end of the input.
+ghost use Rattle.std.specs.Prelude.{◌≡◌, ◌+◌, ◌^◌, ◌<◌, OnOk};
+ghost use Rattle.nr_tbl.specs.Ending as specs;
+ghost use Rattle.nr_tbl.specs.Pages.{Comes};
+ghost use Rattle.nr_tbl.specs.Reading.{Fits};
 
 use super::command::Start;
 use super::complaint::{Complaint, Kind};
@@ -14,7 +18,9 @@ impl Reader {
         kind: Kind,
         starts: bool,
         setter: &mut S,
-    ) -> Result<(), Fault> {
+    ) -> Result<(), Fault>
+        ensures { OnOk result (S.shown setter.new ≡ S.hears (specs.wrong_at_end kind starts self.now.state) (S.shown setter.old)) }
+    {
         let line = if starts && self.state.line > 1 {
             self.state.line - 1
         } else {
@@ -24,7 +30,9 @@ impl Reader {
     }
 
     /// The end of the input, in a table whose last line has ended or begun.
-    fn ends_in_table<S: Setter>(&mut self, setter: &mut S) -> Result<(), Fault> {
+    fn ends_in_table<S: Setter>(&mut self, setter: &mut S) -> Result<(), Fault>
+        ensures { OnOk result (Comes S.hears (specs.closed self.old) self.new (S.shown setter.old) (S.shown setter.new)) }
+    {
         match self.state.mode {
             Mode::Passing(_) => Ok(()),
             Mode::Plain(_) => {
@@ -57,13 +65,17 @@ impl Reader {
     }
 
     /// The field that was read so far is told.
-    fn tell_last_field<S: Setter>(&mut self, setter: &mut S) -> Result<(), Fault> {
+    fn tell_last_field<S: Setter>(&mut self, setter: &mut S) -> Result<(), Fault>
+        ensures { OnOk result (Comes S.hears (specs.last_field self.old) self.new (S.shown setter.old) (S.shown setter.new)) }
+    {
         let text = behind(self.kept.as_slice(), self.from);
         self.state.tell_last(text, setter)
     }
 
     /// Whether a line is half read.
-    fn is_open(&self) -> bool {
+    fn is_open(&self) -> bool
+        ensures { result ≡ specs.is_open_in self.now.state.mode self.now }
+    {
         match self.state.mode {
             Mode::Passing(_) => false,
             Mode::Plain(start) => !matches!(start, Start::Nothing),
@@ -73,7 +85,11 @@ impl Reader {
     }
 
     /// The input ends. A line of a table that is half read ends first.
-    pub(crate) fn finish<S: Setter>(&mut self, setter: &mut S) -> Result<(), Fault> {
+    pub(crate) fn finish<S: Setter>(&mut self, setter: &mut S) -> Result<(), Fault>
+        requires lines { self.old.state.line + 1 < 2 ^ 64 }
+        requires fits { Fits self.old }
+        ensures { OnOk result (Comes S.hears (specs.finished self.old) self.new (S.shown setter.old) (S.shown setter.new)) }
+    {
         if let Mode::Passing(start) = self.state.mode
             && start.is_command()
         {

@@ -1,4 +1,7 @@
 //! A whole page is read.
+ghost use Rattle.std.specs.Prelude.{◌≡◌, ◌+◌, ◌^◌, ◌<◌};
+ghost use Rattle.nr_tbl.specs.Reading.{Fits};
+ghost use Rattle.nr_tbl.specs.Running as specs;
 
 use super::reader::Reader;
 use super::telling::Setter;
@@ -43,7 +46,12 @@ fn take_at_hand<R: Source, S: Setter>(
     input: &mut R,
     setter: &mut S,
     most: u64,
-) -> Result<u64, Fault> {
+) -> Result<u64, Fault>
+    requires lines { reader.old.state.line + most < 2 ^ 64 }
+    requires fits { Fits reader.old }
+    ensures took { specs.TookIfOk S.hears (R.supply input.old) (R.supply input.new) reader.old reader.new (S.shown setter.old) (S.shown setter.new) most result }
+    ensures failures { R.failures input.new ≡ R.failures input.old }
+{
     let window = input.window();
     let len = window.len().min(CHUNK).min(most as usize);
     if len == 0 {
@@ -60,7 +68,12 @@ fn make_turn<R: Source, S: Setter>(
     input: &mut R,
     setter: &mut S,
     most: u64,
-) -> Result<Turn, Fault> {
+) -> Result<Turn, Fault>
+    requires some { 0 < most }
+    requires lines { reader.old.state.line + most < 2 ^ 64 }
+    requires fits { Fits reader.old }
+    ensures turns { specs.TurnsIfOk S.hears (R.supply input.old) (R.supply input.new) reader.old reader.new (S.shown setter.old) (S.shown setter.new) most result }
+{
     let count = take_at_hand(reader, input, setter, most)?;
     if count > 0 {
         return Ok(Turn::Took(count));
@@ -83,7 +96,9 @@ pub fn read_page<R: Source, S: Setter>(
     reader: &mut Reader,
     input: &mut R,
     setter: &mut S,
-) -> Outcome {
+) -> Outcome
+    ensures { specs.Ran S.hears reader.old.limits reader.old.state.measure.line (R.supply input.old) (R.supply input.new) (S.shown setter.old) (S.shown setter.new) result }
+{
     reader.begins();
     let mut taken = 0;
     while taken < TOO_MANY {

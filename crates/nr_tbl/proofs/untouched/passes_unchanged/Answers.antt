@@ -1,0 +1,7 @@
+use Rattle.std.proofs.Common.{arith}
+use Rattle.nr_tbl.proofs.Tableless.{untouched, untouched_at_end}
+use Rattle.nr_tbl.proofs.untouched.passes_unchanged.Goals as goal
+
+pub returns-clause-law : goal.returns-clause-law
+returns-clause-law c = λ _ l cells. untouched l cells c.args.text.now
+    (untouched_at_end c.args.text.now c.loop-i.i c.loop-i.starts (omega arith) c.loop-i.invariant)
