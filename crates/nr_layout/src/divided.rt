@@ -3,14 +3,13 @@
 ghost use Rattle.std.specs.Prelude.{◌≤◌};
 
 use super::lists::set_item;
-use super::pen::{Begin, Pen};
+use super::pen::Begin;
 use super::requests::{adjusts, is_soft, prints};
 use super::table::{Cell, Form, Item, Row, Stand, Table, Tall};
 use super::told::{LATER, Told};
 use super::writing::{Out, Piece};
 use Piece::{N, P, T};
 use nr_units::sink::Sink;
-use nr_units::source::Fault;
 
 /// What the lines of a block do.
 #[derive(Clone, Copy)]
@@ -94,18 +93,17 @@ impl Table {
     }
 
     /// How lines are adjusted is found by one that is spread, where a block changes it.
-    pub(crate) fn put_adjusting<W: Sink>(&self, out: &mut Out<'_, W>) -> Result<(), Fault> {
+    pub(crate) fn put_adjusting<W: Sink>(&self, out: &mut Out<'_, W>) {
         if self.has_adjusting() {
-            return out.put(
+            return out.add(
                 b".di *z\n.in 0\n.ll 5n\n.fi\na b ccc\n.br\n.di\n.nr *J \\n(dl\n.rm *z\n",
             );
         }
-        Ok(())
     }
 
     /// Lines are adjusted as they were.
-    pub(crate) fn adjust<W: Sink>(&self, out: &mut Out<'_, W>) -> Result<(), Fault> {
-        out.put(b".if \\n(*J=5n .ad b\n.if \\n(*J=4n .ad c\n.if \\n(*J=3n .na\n")
+    pub(crate) fn adjust<W: Sink>(&self, out: &mut Out<'_, W>) {
+        out.add(b".if \\n(*J=5n .ad b\n.if \\n(*J=4n .ad c\n.if \\n(*J=3n .na\n")
     }
 
     /// Whether a block stands in a column that shares the line.
@@ -129,22 +127,22 @@ impl Table {
     }
 
     /// The share of the line of a block, as an expression.
-    fn put_line_share<W: Sink>(&self, cell: Cell, out: &mut Out<'_, W>) -> Result<(), Fault> {
+    fn put_line_share<W: Sink>(&self, cell: Cell, out: &mut Out<'_, W>) {
         let columns = cell.last.saturating_add(1).saturating_sub(cell.first);
         let all = self.columns.len().saturating_add(1);
         out.pieces(&[T(b"\\n(*L*"), N(columns), T(b"/"), N(all), T(b"+11/24*24")])
     }
 
     /// The length takes that share, if it is more.
-    fn put_most_share<W: Sink>(&self, cell: Cell, out: &mut Out<'_, W>) -> Result<(), Fault> {
+    fn put_most_share<W: Sink>(&self, cell: Cell, out: &mut Out<'_, W>) {
         if self.is_given(cell) || self.is_wide(cell) {
-            return Ok(());
+            return;
         }
-        out.put(b".if ")?;
-        self.put_line_share(cell, out)?;
-        out.put(b">\\n[*S] .nr *S ")?;
-        self.put_line_share(cell, out)?;
-        out.put(b"\n")
+        out.add(b".if ");
+        self.put_line_share(cell, out);
+        out.add(b">\\n[*S] .nr *S ");
+        self.put_line_share(cell, out);
+        out.add(b"\n")
     }
 
     /// Whether the line's length is that of the block before, but for what its columns grew.
@@ -157,65 +155,55 @@ impl Table {
     }
 
     /// The line's length of a block: the width of its columns; where one has no `w`, the line's share if that is more.
-    fn put_length<W: Sink>(
-        &self,
-        cell: Cell,
-        told: &mut Told,
-        out: &mut Out<'_, W>,
-    ) -> Result<(), Fault> {
+    fn put_length<W: Sink>(&self, cell: Cell, told: &mut Told, out: &mut Out<'_, W>) {
         if self.is_alike(cell, *told) {
             let number = cell.first;
-            out.pieces(&[T(b".if \\n[*w"), N(number), T(b"]>\\n(*S .ll \\n[*w")])?;
+            out.pieces(&[T(b".if \\n[*w"), N(number), T(b"]>\\n(*S .ll \\n[*w")]);
             return out.line(&[N(number), T(b"]u")]);
         }
-        out.put(b".nr *S ")?;
-        self.put_total(cell.first, cell.last, b"+", out)?;
-        out.put(b"\n")?;
-        self.put_most_share(cell, out)?;
+        out.add(b".nr *S ");
+        self.put_total(cell.first, cell.last, b"+", out);
+        out.add(b"\n");
+        self.put_most_share(cell, out);
         if cell.key.kind == b'a' {
-            out.put(b".nr *S -2n\n")?;
+            out.add(b".nr *S -2n\n");
         }
         told.columns = Some((cell.first, cell.last));
-        out.put(b".ll \\n(*Su\n")
+        out.add(b".ll \\n(*Su\n")
     }
 
     /// A block is set.
-    fn put_block<W: Sink>(
-        &self,
-        cell: Cell,
-        told: &mut Told,
-        out: &mut Out<'_, W>,
-    ) -> Result<(), Fault> {
+    fn put_block<W: Sink>(&self, cell: Cell, told: &mut Told, out: &mut Out<'_, W>) {
         let lines = self.lines_of(cell);
         if told.changed && !lines.adjusts {
-            self.adjust(out)?;
+            self.adjust(out);
             told.changed = false;
         }
         if !told.clean {
-            out.put(b".ft R\n.in 0\n.fi\n")?;
+            out.add(b".ft R\n.in 0\n.fi\n");
         }
-        self.put_length(cell, told, out)?;
-        out.line(&[T(b".di *d"), N(cell.name)])?;
+        self.put_length(cell, told, out);
+        out.line(&[T(b".di *d"), N(cell.name)]);
         if cell.key.font != 0 {
-            out.line(&[T(b".ft "), T(&[cell.key.font])])?;
+            out.line(&[T(b".ft "), T(&[cell.key.font])]);
         }
-        out.put(self.bytes(cell.field.span))?;
+        out.add(self.bytes(cell.field.span));
         if cell.key.font != 0 {
-            out.put(b".br\n.ft R\n")?;
+            out.add(b".br\n.ft R\n");
         } else {
-            out.put(b".br\n")?;
+            out.add(b".br\n");
         }
-        out.put(b".di\n")?;
+        out.add(b".di\n");
         told.clean = lines.clean;
         told.changed = told.changed || lines.adjusts;
         self.put_block_size(cell, out)
     }
 
     /// How high and how wide a block is.
-    fn put_block_size<W: Sink>(&self, cell: Cell, out: &mut Out<'_, W>) -> Result<(), Fault> {
-        out.line(&[T(b".nr *h"), N(cell.name), T(b" \\n(dn")])?;
+    fn put_block_size<W: Sink>(&self, cell: Cell, out: &mut Out<'_, W>) {
+        out.line(&[T(b".nr *h"), N(cell.name), T(b" \\n(dn")]);
         if matches!(cell.key.kind, b'r' | b'c' | b'a') {
-            out.line(&[T(b".nr *x"), N(cell.name), T(b" \\n(dl")])?;
+            out.line(&[T(b".nr *x"), N(cell.name), T(b" \\n(dl")]);
         }
         let width: &[u8] = if cell.key.kind == b'a' {
             b"\\n(dlu+2n"
@@ -223,25 +211,19 @@ impl Table {
             b"\\n(dlu"
         };
         if cell.spans() {
-            out.pieces(&[T(b".nr *S "), T(width)])?;
+            out.pieces(&[T(b".nr *S "), T(width)]);
             return self.put_widening(cell.first, cell.last, out);
         }
         self.most_of(cell.first, &[T(width)], out)
     }
 
     /// The blocks are set: those in columns that share the line after the sharing.
-    pub(crate) fn put_blocks<W: Sink>(
-        &self,
-        wide: bool,
-        told: &mut Told,
-        out: &mut Out<'_, W>,
-    ) -> Result<(), Fault> {
+    pub(crate) fn put_blocks<W: Sink>(&self, wide: bool, told: &mut Told, out: &mut Out<'_, W>) {
         for cell in self.cells.as_slice() {
             if matches!(cell.field.form, Form::Block) && self.is_wide(*cell) == wide {
-                self.put_block(*cell, told, out)?;
+                self.put_block(*cell, told, out);
             }
         }
-        Ok(())
     }
 
     /// Whether a row is higher than a line, as its blocks say.
@@ -267,43 +249,33 @@ impl Table {
     }
 
     /// A row becomes as high as its blocks need: its own, or those that go on from above.
-    fn put_most_heights<W: Sink>(
-        &self,
-        row: usize,
-        own: bool,
-        out: &mut Out<'_, W>,
-    ) -> Result<(), Fault> {
+    fn put_most_heights<W: Sink>(&self, row: usize, own: bool, out: &mut Out<'_, W>) {
         for column in 0..self.columns.len() {
             let cell = self.cell(row, column);
             if cell.first == column && self.is_high(cell, row) && (cell.top == row) == own {
-                self.put_most_height(cell, row, out)?;
+                self.put_most_height(cell, row, out);
             }
         }
-        Ok(())
     }
 
     /// How high a row is.
-    fn put_row_height<W: Sink>(
-        &mut self,
-        number: usize,
-        out: &mut Out<'_, W>,
-    ) -> Result<(), Fault> {
+    fn put_row_height<W: Sink>(&mut self, number: usize, out: &mut Out<'_, W>) {
         let own = self.count_blocks(number, true);
         let ending = self.count_blocks(number, false);
         let row = self.row(number);
         if own == 0 && ending == 0 {
-            return Ok(());
+            return;
         }
         let only = self.only_block(number);
         if own == 1 && ending == 0 && self.lines_of(only).prints {
             let tall = Tall::Block(only.name);
             set_item(&mut self.rows, number, Row { tall, ..row });
-            return Ok(());
+            return;
         }
         let tall = Tall::Told;
         set_item(&mut self.rows, number, Row { tall, ..row });
-        out.line(&[T(b".nr *h_"), N(row.item), T(b" 1v")])?;
-        self.put_most_heights(number, true, out)?;
+        out.line(&[T(b".nr *h_"), N(row.item), T(b" 1v")]);
+        self.put_most_heights(number, true, out);
         self.put_most_heights(number, false, out)
     }
 
@@ -320,61 +292,44 @@ impl Table {
     }
 
     /// What a block needs of a row, as an expression.
-    fn put_needed<W: Sink>(
-        &self,
-        cell: Cell,
-        row: usize,
-        out: &mut Out<'_, W>,
-    ) -> Result<(), Fault> {
+    fn put_needed<W: Sink>(&self, cell: Cell, row: usize, out: &mut Out<'_, W>) {
         if cell.top == row {
             return out.pieces(&[T(b"\\n[*h"), N(cell.name), T(b"]")]);
         }
-        out.pieces(&[T(b"\\n[*h"), N(cell.name), T(b"]u-(")])?;
-        self.put_between(cell.top, row, false, out)?;
-        out.put(b")")
+        out.pieces(&[T(b"\\n[*h"), N(cell.name), T(b"]u-(")]);
+        self.put_between(cell.top, row, false, out);
+        out.add(b")")
     }
 
     /// A row becomes as high as a block needs.
-    fn put_most_height<W: Sink>(
-        &self,
-        cell: Cell,
-        row: usize,
-        out: &mut Out<'_, W>,
-    ) -> Result<(), Fault> {
+    fn put_most_height<W: Sink>(&self, cell: Cell, row: usize, out: &mut Out<'_, W>) {
         let item = self.row(row).item;
-        out.put(b".if ")?;
-        self.put_needed(cell, row, out)?;
-        out.pieces(&[T(b">\\n[*h_"), N(item), T(b"] .nr *h_"), N(item), T(b" ")])?;
-        self.put_needed(cell, row, out)?;
-        out.put(b"\n")
+        out.add(b".if ");
+        self.put_needed(cell, row, out);
+        out.pieces(&[T(b">\\n[*h_"), N(item), T(b"] .nr *h_"), N(item), T(b" ")]);
+        self.put_needed(cell, row, out);
+        out.add(b"\n")
     }
 
     /// How high a row is, as an expression.
-    fn put_height<W: Sink>(&self, number: usize, out: &mut Out<'_, W>) -> Result<(), Fault> {
+    fn put_height<W: Sink>(&self, number: usize, out: &mut Out<'_, W>) {
         let row = self.row(number);
         match row.tall {
-            Tall::Line => out.put(b"1v"),
+            Tall::Line => out.add(b"1v"),
             Tall::Block(name) => out.pieces(&[T(b"\\n[*h"), N(name), T(b"]u")]),
             Tall::Told => out.pieces(&[T(b"\\n[*h_"), N(row.item), T(b"]u")]),
         }
     }
 
     /// How high rows are with the rules among them, the last one with them or not, as an expression.
-    fn put_between<W: Sink>(
-        &self,
-        top: usize,
-        bottom: usize,
-        whole: bool,
-        out: &mut Out<'_, W>,
-    ) -> Result<(), Fault> {
-        out.pieces(&[N(self.lines_between(top, bottom, whole)), T(b"v")])?;
+    fn put_between<W: Sink>(&self, top: usize, bottom: usize, whole: bool, out: &mut Out<'_, W>) {
+        out.pieces(&[N(self.lines_between(top, bottom, whole)), T(b"v")]);
         for row in top..bottom.saturating_add(1) {
             if self.row(row).own && self.is_tall(row) && (row < bottom || whole) {
-                out.put(b"+")?;
-                self.put_height(row, out)?;
+                out.add(b"+");
+                self.put_height(row, out);
             }
         }
-        Ok(())
     }
 
     /// How many lines an item takes among these rows, beside what rows take that are higher than a line.
@@ -401,13 +356,12 @@ impl Table {
     }
 
     /// How high each row is.
-    fn put_row_heights<W: Sink>(&mut self, out: &mut Out<'_, W>) -> Result<(), Fault> {
+    fn put_row_heights<W: Sink>(&mut self, out: &mut Out<'_, W>) {
         for number in 0..self.rows.len() {
             if self.row(number).own {
-                self.put_row_height(number, out)?;
+                self.put_row_height(number, out);
             }
         }
-        Ok(())
     }
 
     /// How many lines a boxed table takes beside what rows take that are higher than a line.
@@ -427,28 +381,23 @@ impl Table {
     }
 
     /// How high the table is.
-    fn put_table_height<W: Sink>(&self, out: &mut Out<'_, W>) -> Result<(), Fault> {
-        out.line(&[T(b".nr *H "), N(self.count_lines()), T(b"v")])?;
+    fn put_table_height<W: Sink>(&self, out: &mut Out<'_, W>) {
+        out.line(&[T(b".nr *H "), N(self.count_lines()), T(b"v")]);
         for number in 0..self.rows.len() {
             if self.row(number).own && self.is_tall(number) {
-                out.put(b".nr *H +(")?;
-                self.put_height(number, out)?;
-                out.put(b")\n")?;
+                out.add(b".nr *H +(");
+                self.put_height(number, out);
+                out.add(b")\n");
             }
         }
-        Ok(())
     }
 
     /// How high the rows are, and the table.
-    pub(crate) fn put_heights<W: Sink>(
-        &mut self,
-        ends: bool,
-        out: &mut Out<'_, W>,
-    ) -> Result<(), Fault> {
-        self.put_row_heights(out)?;
+    pub(crate) fn put_heights<W: Sink>(&mut self, ends: bool, out: &mut Out<'_, W>) {
+        self.put_row_heights(out);
         self.take_steps(ends);
         if !self.is_boxed() || self.looks.nokeep {
-            return Ok(());
+            return;
         }
         self.put_table_height(out)
     }
@@ -475,21 +424,16 @@ impl Table {
 
     /// Room is asked for a row and what goes on below it. One line more: a row that reaches the page's end would spring
     /// its trap, and no motion leads back over that.
-    pub(crate) fn put_before<W: Sink>(
-        &self,
-        number: usize,
-        ruled: bool,
-        out: &mut Out<'_, W>,
-    ) -> Result<(), Fault> {
+    pub(crate) fn put_before<W: Sink>(&self, number: usize, ruled: bool, out: &mut Out<'_, W>) {
         let last = self.last_below(number);
         if last == number && !self.is_tall(number) {
-            return Ok(());
+            return;
         }
-        out.pieces(&[T(&LATER), T(b".ne ")])?;
+        out.pieces(&[T(&LATER), T(b".ne ")]);
         if last > number {
-            self.put_between(number, last, true, out)?;
+            self.put_between(number, last, true, out);
         } else {
-            self.put_height(number, out)?;
+            self.put_height(number, out);
         }
         out.line(&[T(b"+"), N(1 + count_of(ruled)), T(b"v")])
     }
@@ -503,76 +447,64 @@ impl Table {
     }
 
     /// The other lines of a row that is higher than one: its bars, or space.
-    fn put_more_lines<W: Sink>(
-        &self,
-        row: usize,
-        told: &mut Told,
-        out: &mut Out<'_, W>,
-    ) -> Result<(), Fault> {
+    fn put_more_lines<W: Sink>(&self, row: usize, told: &mut Told, out: &mut Out<'_, W>) {
         if !self.has_bars(row) {
-            out.put(b".if ")?;
-            self.put_height(row, out)?;
-            out.pieces(&[T(b">1v "), T(&LATER), T(b".sp ")])?;
-            self.put_height(row, out)?;
-            return out.put(b"-1v\n");
+            out.add(b".if ");
+            self.put_height(row, out);
+            out.pieces(&[T(b">1v "), T(&LATER), T(b".sp ")]);
+            self.put_height(row, out);
+            return out.add(b"-1v\n");
         }
         let kept = match told.bars {
             Some(last) => self.has_same_bars(last, row),
             None => false,
         };
         if !kept {
-            out.put(b".ds *o \"")?;
-            self.put_bar_line(row, *told, out)?;
+            out.add(b".ds *o \"");
+            self.put_bar_line(row, *told, out);
         }
         told.bars = Some(row);
-        out.put(b".nr *t ")?;
-        self.put_height(row, out)?;
-        out.put(b"/1v-1\n.if \\n(*t .*A\n")
+        out.add(b".nr *t ");
+        self.put_height(row, out);
+        out.add(b"/1v-1\n.if \\n(*t .*A\n")
     }
 
     /// The blocks of a row that end in it.
-    fn put_blocks_beside<W: Sink>(&self, number: usize, out: &mut Out<'_, W>) -> Result<(), Fault> {
+    fn put_blocks_beside<W: Sink>(&self, number: usize, out: &mut Out<'_, W>) {
         let alone = self.is_alone(number);
         let row = self.row(number);
         for place in row.cells..row.cells_end {
             let cell = self.cell_of(place);
             if matches!(cell.field.form, Form::Block) && !cell.falls {
-                self.put_block_beside(cell, number, alone, out)?;
+                self.put_block_beside(cell, number, alone, out);
             }
         }
-        Ok(())
     }
 
     /// What goes on from above, down to a row.
-    fn put_all_falling<W: Sink>(&self, row: usize, out: &mut Out<'_, W>) -> Result<(), Fault> {
+    fn put_all_falling<W: Sink>(&self, row: usize, out: &mut Out<'_, W>) {
         for column in 0..self.columns.len() {
             let cell = self.cell(row, column);
             if cell.falls && cell.first == column && cell.bottom == row {
-                self.put_falling(cell, row, out)?;
+                self.put_falling(cell, row, out);
             }
         }
-        Ok(())
     }
 
     /// A row, with what stands beside it.
-    pub(crate) fn put_told_row<W: Sink>(
-        &self,
-        row: usize,
-        told: &mut Told,
-        out: &mut Out<'_, W>,
-    ) -> Result<(), Fault> {
-        let mut pen = Pen::new();
-        self.draw_row(&mut pen, row, None, out)?;
-        pen.end(true, out)?;
+    pub(crate) fn put_told_row<W: Sink>(&self, row: usize, told: &mut Told, out: &mut Out<'_, W>) {
+        out.start();
+        self.draw_row(row, None, out);
+        out.end(true);
         if self.is_tall(row) && !self.is_alone(row) {
-            self.put_more_lines(row, told, out)?;
+            self.put_more_lines(row, told, out);
         }
-        self.put_blocks_beside(row, out)?;
+        self.put_blocks_beside(row, out);
         self.put_all_falling(row, out)
     }
 
     /// Where a block or a field begins, after the indent.
-    fn put_begin_of<W: Sink>(&self, cell: Cell, out: &mut Out<'_, W>) -> Result<(), Fault> {
+    fn put_begin_of<W: Sink>(&self, cell: Cell, out: &mut Out<'_, W>) {
         match self.begin_of(cell) {
             Begin::At(place) => out.pieces(&[P(place)]),
             Begin::Told => self.put_begin(cell, out),
@@ -580,97 +512,86 @@ impl Table {
     }
 
     /// A block's lines, indented.
-    fn put_block_lines<W: Sink>(&self, cell: Cell, out: &mut Out<'_, W>) -> Result<(), Fault> {
-        out.put(b".in \\n(*Ou+")?;
-        self.put_begin_of(cell, out)?;
+    fn put_block_lines<W: Sink>(&self, cell: Cell, out: &mut Out<'_, W>) {
+        out.add(b".in \\n(*Ou+");
+        self.put_begin_of(cell, out);
         out.line(&[T(b"\n.*d"), N(cell.name), T(b"\n.in \\n(*Ou")])
     }
 
     /// Up by what the row took, the block, and down again.
-    fn put_block_beside<W: Sink>(
-        &self,
-        cell: Cell,
-        row: usize,
-        alone: bool,
-        out: &mut Out<'_, W>,
-    ) -> Result<(), Fault> {
-        out.pieces(&[T(&LATER), T(b".sp -(")])?;
+    fn put_block_beside<W: Sink>(&self, cell: Cell, row: usize, alone: bool, out: &mut Out<'_, W>) {
+        out.pieces(&[T(&LATER), T(b".sp -(")]);
         if alone {
-            out.put(b"1v")?;
+            out.add(b"1v");
         } else {
-            self.put_height(row, out)?;
+            self.put_height(row, out);
         }
-        out.put(b")\n")?;
-        self.put_block_lines(cell, out)?;
+        out.add(b")\n");
+        self.put_block_lines(cell, out);
         let whole = match self.row(row).tall {
             Tall::Block(name) => name == cell.name,
             _ => false,
         };
         if alone || whole {
-            return Ok(());
+            return;
         }
-        out.pieces(&[T(&LATER), T(b".sp ")])?;
-        self.put_height(row, out)?;
+        out.pieces(&[T(&LATER), T(b".sp ")]);
+        self.put_height(row, out);
         out.line(&[T(b"-(0)-\\n[*h"), N(cell.name), T(b"]u")])
     }
 
     /// The height of what goes on over rows below, as an expression.
-    fn put_own_height<W: Sink>(&self, cell: Cell, out: &mut Out<'_, W>) -> Result<(), Fault> {
+    fn put_own_height<W: Sink>(&self, cell: Cell, out: &mut Out<'_, W>) {
         if matches!(cell.field.form, Form::Block) {
             return out.pieces(&[T(b"\\n[*h"), N(cell.name), T(b"]u")]);
         }
-        out.put(b"1v")
+        out.add(b"1v")
     }
 
     /// How far below the top of its rows it stands.
-    fn put_down<W: Sink>(&self, cell: Cell, row: usize, out: &mut Out<'_, W>) -> Result<(), Fault> {
+    fn put_down<W: Sink>(&self, cell: Cell, row: usize, out: &mut Out<'_, W>) {
         if matches!(cell.key.stand, Stand::Top) {
-            return out.put(b"0");
+            return out.add(b"0");
         }
-        out.put(b"(")?;
-        self.put_between(cell.top, row, true, out)?;
-        out.put(b"-")?;
-        self.put_own_height(cell, out)?;
+        out.add(b"(");
+        self.put_between(cell.top, row, true, out);
+        out.add(b"-");
+        self.put_own_height(cell, out);
         if matches!(cell.key.stand, Stand::Low) {
-            return out.put(b")");
+            return out.add(b")");
         }
-        out.put(b"/2u/1v*1v)")
+        out.add(b"/2u/1v*1v)")
     }
 
     /// A field that goes on over rows above: up from their end.
-    fn put_falling<W: Sink>(
-        &self,
-        cell: Cell,
-        row: usize,
-        out: &mut Out<'_, W>,
-    ) -> Result<(), Fault> {
+    fn put_falling<W: Sink>(&self, cell: Cell, row: usize, out: &mut Out<'_, W>) {
         let drawn = match cell.field.form {
             Form::Text => cell.field.has_text(),
             Form::Rule | Form::Above => false,
             _ => true,
         };
         if !drawn {
-            return Ok(());
+            return;
         }
-        out.pieces(&[T(&LATER), T(b".sp ")])?;
-        self.put_down(cell, row, out)?;
-        out.put(b"-(")?;
-        self.put_between(cell.top, row, true, out)?;
-        out.put(b")\n")?;
+        out.pieces(&[T(&LATER), T(b".sp ")]);
+        self.put_down(cell, row, out);
+        out.add(b"-(");
+        self.put_between(cell.top, row, true, out);
+        out.add(b")\n");
         if matches!(cell.field.form, Form::Block) {
-            self.put_block_lines(cell, out)?;
+            self.put_block_lines(cell, out);
         } else {
-            let mut pen = Pen::new();
-            self.draw_field(&mut pen, cell, out)?;
-            pen.end(true, out)?;
+            out.start();
+            self.draw_field(cell, out);
+            out.end(true);
         }
-        out.pieces(&[T(&LATER), T(b".sp ")])?;
-        self.put_between(cell.top, row, true, out)?;
-        out.put(b"-(")?;
-        self.put_down(cell, row, out)?;
-        out.put(b")-")?;
-        self.put_own_height(cell, out)?;
-        out.put(b"\n")
+        out.pieces(&[T(&LATER), T(b".sp ")]);
+        self.put_between(cell.top, row, true, out);
+        out.add(b"-(");
+        self.put_down(cell, row, out);
+        out.add(b")-");
+        self.put_own_height(cell, out);
+        out.add(b"\n")
     }
 
     /// Whether a field begins at a place that is known.
@@ -687,21 +608,21 @@ impl Table {
         if text && cell.name == 0 && !cell.spans() && column.known {
             return Begin::At(self.begin_in(cell, column.width));
         }
-        if text && cell.name == 0 && right.mark == column.left.mark {
-            return Begin::At(self.begin_in(cell, right.cells.saturating_sub(column.left.cells)));
+        match column.left.steps_to(right) {
+            Some(room) if text && cell.name == 0 => Begin::At(self.begin_in(cell, room)),
+            _ => Begin::Told,
         }
-        Begin::Told
     }
 
     /// Where it begins, as an expression.
-    pub(crate) fn put_begin<W: Sink>(&self, cell: Cell, out: &mut Out<'_, W>) -> Result<(), Fault> {
+    pub(crate) fn put_begin<W: Sink>(&self, cell: Cell, out: &mut Out<'_, W>) {
         let left = self.column(cell.first).left;
         let right = self.column(cell.last).right;
         let number = !cell.spans() && self.is_number(cell);
         if cell.key.kind == b'r' {
-            out.pieces(&[T(b"("), P(right), T(b"-")])?;
-            self.put_width(cell, out)?;
-            return out.put(b")");
+            out.pieces(&[T(b"("), P(right), T(b"-")]);
+            self.put_width(cell, out);
+            return out.add(b")");
         }
         if cell.key.kind == b'a' && !matches!(cell.field.form, Form::Block) {
             out.pieces(&[
@@ -711,16 +632,16 @@ impl Table {
                 P(left),
                 T(b")-\\n[*a"),
                 N(cell.first),
-            ])?;
+            ]);
             return out.pieces(&[T(b"]u/48u*24u+"), P(left), T(b")")]);
         }
         if number {
-            out.pieces(&[T(b"(\\n[*p"), N(cell.first), T(b"]u-")])?;
-            self.put_front(cell, out)?;
-            return out.put(b")");
+            out.pieces(&[T(b"(\\n[*p"), N(cell.first), T(b"]u-")]);
+            self.put_front(cell, out);
+            return out.add(b")");
         }
-        out.pieces(&[T(b"("), P(right), T(b"-("), P(left), T(b")-")])?;
-        self.put_width(cell, out)?;
+        out.pieces(&[T(b"("), P(right), T(b"-("), P(left), T(b")-")]);
+        self.put_width(cell, out);
         out.pieces(&[T(b"/48u*24u+"), P(left), T(b")")])
     }
 }

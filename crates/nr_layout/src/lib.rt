@@ -1,12 +1,13 @@
 //! Tables as they are held, measured and laid out.
 //!
 //! It stands on nr_units and nr_rooms. To read: `lists`, `places`, `table`; `extent`, `cells`, `columns`, `frames`;
-//! `requests`, `steps`; `writing`, `pen`, `measured`; `told`, `divided`.
+//! `requests`, `steps`; `pen`, `writing`, `drawing`, `measured`; `told`, `divided`.
 #![tactic(auto)]
 
 mod cells;
 mod columns;
 mod divided;
+mod drawing;
 mod extent;
 mod frames;
 mod lists;

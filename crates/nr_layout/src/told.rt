@@ -2,13 +2,11 @@
 //! diversions.
 
 use super::lists::set_item;
-use super::pen::Pen;
 use super::requests::defines;
 use super::table::{Cell, Column, Form, Item, Span, Step, StepKind, Table};
 use super::writing::{Out, Piece};
 use Piece::{N, T};
 use nr_units::sink::Sink;
-use nr_units::source::Fault;
 
 /// What leads a request that waits, in a diversion, until that is printed.
 pub(crate) static LATER: [u8; 5] = *b"\\*(*!";
@@ -81,14 +79,13 @@ impl Told {
 
 impl Table {
     /// What stands before a table.
-    fn begin_told<W: Sink>(&self, told: Told, out: &mut Out<'_, W>) -> Result<(), Fault> {
-        out.put(b".br\n.nr *C 0\n.if '\\*[*none]'' .nr *C 1\n.cp 0\n.ds *!\n")?;
-        out.put(b".if !'\\n(.z'' .ds *! \\\\!\n")?;
-        out.put(b".nr *u \\n(.u\n.nr *I \\n(.i\n.nr *L \\n(.l\n")?;
+    fn begin_told<W: Sink>(&self, told: Told, out: &mut Out<'_, W>) {
+        out.add(b".br\n.nr *C 0\n.if '\\*[*none]'' .nr *C 1\n.cp 0\n.ds *!\n");
+        out.add(b".if !'\\n(.z'' .ds *! \\\\!\n");
+        out.add(b".nr *u \\n(.u\n.nr *I \\n(.i\n.nr *L \\n(.l\n");
         if told.blocks {
-            out.put(b".rs\n.ll\n.nr *P \\n(.l\n.ll \\n(*Lu\n")?;
+            out.add(b".rs\n.ll\n.nr *P \\n(.l\n.ll \\n(*Lu\n");
         }
-        Ok(())
     }
 
     /// Whether a request between rows defines something.
@@ -110,21 +107,20 @@ impl Table {
         stored: bool,
         told: &mut Told,
         out: &mut Out<'_, W>,
-    ) -> Result<(), Fault> {
+    ) {
         let mut cell = self.cell_of(number);
         let text = matches!(cell.field.form, Form::Text) && cell.width.is_none();
         if !text && !matches!(cell.field.form, Form::Block) {
-            return Ok(());
+            return;
         }
         told.names = told.names.saturating_add(1);
         cell.name = told.names;
         if text && (stored || steps_a_register(self.bytes(cell.field.span))) {
             let bytes = self.bytes(cell.field.span);
-            out.line(&[T(b".ds *t"), N(cell.name), T(b" \""), T(bytes)])?;
+            out.line(&[T(b".ds *t"), N(cell.name), T(b" \""), T(bytes)]);
             cell.stored = true;
         }
         set_item(&mut self.cells, number, cell);
-        Ok(())
     }
 
     /// The fields of a row.
@@ -134,38 +130,36 @@ impl Table {
         stored: bool,
         told: &mut Told,
         out: &mut Out<'_, W>,
-    ) -> Result<(), Fault> {
+    ) {
         let row = self.row(number);
         for cell in row.cells..row.cells_end {
-            self.name_cell(cell, stored, told, out)?;
+            self.name_cell(cell, stored, told, out);
         }
-        Ok(())
     }
 
     /// Fields that the formatter measures, as strings where they would read otherwise later.
-    fn name_cells<W: Sink>(&mut self, told: &mut Told, out: &mut Out<'_, W>) -> Result<(), Fault> {
+    fn name_cells<W: Sink>(&mut self, told: &mut Told, out: &mut Out<'_, W>) {
         let stored = self.has_definitions();
         for place in 0..self.items.len() {
             match self.item(place) {
                 Item::Request(span) if defines(self.bytes(span)) => {
-                    out.line(&[T(self.bytes(span))])?;
+                    out.line(&[T(self.bytes(span))]);
                 }
-                Item::Row(number) => self.name_row(number, stored, told, out)?,
+                Item::Row(number) => self.name_row(number, stored, told, out),
                 _ => {}
             }
         }
-        Ok(())
     }
 
     /// The width of a field, as an expression.
-    pub(crate) fn put_width<W: Sink>(&self, cell: Cell, out: &mut Out<'_, W>) -> Result<(), Fault> {
+    pub(crate) fn put_width<W: Sink>(&self, cell: Cell, out: &mut Out<'_, W>) {
         if matches!(cell.field.form, Form::Block) {
             return out.pieces(&[T(b"\\n[*x"), N(cell.name), T(b"]u")]);
         }
         if cell.name > 0 {
-            out.put(b"\\w\x01")?;
-            self.put_unset(cell, out)?;
-            return out.put(b"\x01u");
+            out.add(b"\\w\x01");
+            self.put_unset(cell, out);
+            return out.add(b"\x01u");
         }
         let cells = match cell.width {
             Some(cells) => cells,
@@ -175,15 +169,15 @@ impl Table {
     }
 
     /// The text of a field without its font.
-    fn put_unset<W: Sink>(&self, cell: Cell, out: &mut Out<'_, W>) -> Result<(), Fault> {
+    fn put_unset<W: Sink>(&self, cell: Cell, out: &mut Out<'_, W>) {
         if cell.stored {
             return out.pieces(&[T(b"\\*[*t"), N(cell.name), T(b"]")]);
         }
-        out.put(self.bytes(cell.field.span))
+        out.add(self.bytes(cell.field.span))
     }
 
     /// How much of a number stands before the place where it is aligned, as an expression.
-    pub(crate) fn put_front<W: Sink>(&self, cell: Cell, out: &mut Out<'_, W>) -> Result<(), Fault> {
+    pub(crate) fn put_front<W: Sink>(&self, cell: Cell, out: &mut Out<'_, W>) {
         let span = self.front_span(cell);
         match self.front_cells(cell) {
             Some(cells) => out.pieces(&[N(cells), T(b"n")]),
@@ -200,27 +194,27 @@ impl Table {
         front: bool,
         back: bool,
         out: &mut Out<'_, W>,
-    ) -> Result<(), Fault> {
+    ) {
         let name = [b'*', letter];
         for part in 0..2 {
-            out.put(if part == 0 { b".if " } else { b" .nr " })?;
+            out.add(if part == 0 { b".if " } else { b" .nr " });
             if part == 1 {
-                out.pieces(&[T(&name), N(column), T(b" ")])?;
+                out.pieces(&[T(&name), N(column), T(b" ")]);
             }
             if back || !front {
-                self.put_width(cell, out)?;
+                self.put_width(cell, out);
             }
             if back {
-                out.put(b"-")?;
+                out.add(b"-");
             }
             if front {
-                self.put_front(cell, out)?;
+                self.put_front(cell, out);
             }
             if part == 0 {
-                out.pieces(&[T(b">\\n["), T(&name), N(column), T(b"]")])?;
+                out.pieces(&[T(b">\\n["), T(&name), N(column), T(b"]")]);
             }
         }
-        out.put(b"\n")
+        out.add(b"\n")
     }
 
     /// The width of a column takes what this expression is, if that is more.
@@ -229,36 +223,30 @@ impl Table {
         column: usize,
         expression: &[Piece<'_>],
         out: &mut Out<'_, W>,
-    ) -> Result<(), Fault> {
-        out.put(b".if ")?;
-        out.pieces(expression)?;
-        out.pieces(&[T(b">\\n[*w"), N(column), T(b"] .nr *w"), N(column), T(b" ")])?;
-        out.pieces(expression)?;
-        out.put(b"\n")
+    ) {
+        out.add(b".if ");
+        out.pieces(expression);
+        out.pieces(&[T(b">\\n[*w"), N(column), T(b"] .nr *w"), N(column), T(b" ")]);
+        out.pieces(expression);
+        out.add(b"\n")
     }
 
     /// What a column has by its fields that show their widths.
-    fn put_column<W: Sink>(
-        &self,
-        number: usize,
-        column: Column,
-        out: &mut Out<'_, W>,
-    ) -> Result<(), Fault> {
-        out.line(&[T(b".nr *w"), N(number), T(b" "), N(column.width), T(b"n")])?;
+    fn put_column<W: Sink>(&self, number: usize, column: Column, out: &mut Out<'_, W>) {
+        out.line(&[T(b".nr *w"), N(number), T(b" "), N(column.width), T(b"n")]);
         if let (Some(span), None) = (column.least, column.least_cells) {
             let text = self.bytes(span);
             let scale: &[u8] = if is_scaled(text) { b"" } else { b"n" };
-            out.line(&[T(b".nr *t ("), T(text), T(scale), T(b")+12/24*24")])?;
-            self.most_of(number, &[T(b"\\n(*tu")], out)?;
+            out.line(&[T(b".nr *t ("), T(text), T(scale), T(b")+12/24*24")]);
+            self.most_of(number, &[T(b"\\n(*tu")], out);
         }
         if column.numbers {
-            out.line(&[T(b".nr *l"), N(number), T(b" "), N(column.front), T(b"n")])?;
-            out.line(&[T(b".nr *q"), N(number), T(b" "), N(column.back), T(b"n")])?;
+            out.line(&[T(b".nr *l"), N(number), T(b" "), N(column.front), T(b"n")]);
+            out.line(&[T(b".nr *q"), N(number), T(b" "), N(column.back), T(b"n")]);
         }
         if column.alphas {
-            out.line(&[T(b".nr *a"), N(number), T(b" "), N(column.alpha), T(b"n")])?;
+            out.line(&[T(b".nr *a"), N(number), T(b" "), N(column.alpha), T(b"n")]);
         }
-        Ok(())
     }
 
     /// The cell that begins in a column of a row, if it counts and only the formatter knows its width.
@@ -273,12 +261,7 @@ impl Table {
     }
 
     /// Numbers and fields of `a` of which only the formatter knows the widths.
-    fn put_aligned<W: Sink>(
-        &self,
-        number: usize,
-        column: Column,
-        out: &mut Out<'_, W>,
-    ) -> Result<(), Fault> {
+    fn put_aligned<W: Sink>(&self, number: usize, column: Column, out: &mut Out<'_, W>) {
         let mut numbers = false;
         let mut alphas = false;
         for row in 0..self.rows.len() {
@@ -287,11 +270,11 @@ impl Table {
             };
             if cell.key.kind == b'a' {
                 alphas = true;
-                self.most_width(b'a', number, cell, false, false, out)?;
+                self.most_width(b'a', number, cell, false, false, out);
             } else if self.is_number(cell) {
                 numbers = true;
-                self.most_width(b'l', number, cell, true, false, out)?;
-                self.most_width(b'q', number, cell, true, true, out)?;
+                self.most_width(b'l', number, cell, true, false, out);
+                self.most_width(b'q', number, cell, true, true, out);
             }
         }
         if numbers && column.numbers {
@@ -305,22 +288,21 @@ impl Table {
                     T(b"]u"),
                 ],
                 out,
-            )?;
+            );
         }
         if alphas {
-            self.most_of(number, &[T(b"\\n[*a"), N(number), T(b"]u+2n")], out)?;
+            self.most_of(number, &[T(b"\\n[*a"), N(number), T(b"]u+2n")], out);
         }
-        Ok(())
     }
 
     /// A diversion of fields that is not read tells the widest of them.
-    fn end_widest<W: Sink>(&self, number: usize, out: &mut Out<'_, W>) -> Result<(), Fault> {
-        out.put(b".di\n.rm *z\n")?;
+    fn end_widest<W: Sink>(&self, number: usize, out: &mut Out<'_, W>) {
+        out.add(b".di\n.rm *z\n");
         self.most_of(number, &[T(b"\\n(dlu")], out)
     }
 
     /// Other fields of which only the formatter knows the widths.
-    fn put_widest<W: Sink>(&self, number: usize, out: &mut Out<'_, W>) -> Result<(), Fault> {
+    fn put_widest<W: Sink>(&self, number: usize, out: &mut Out<'_, W>) {
         let mut count: usize = 0;
         for row in 0..self.rows.len() {
             let Some(cell) = self.told_cell(row, number) else {
@@ -331,19 +313,18 @@ impl Table {
             }
             if count % AT_ONCE == 0 {
                 if count > 0 {
-                    self.end_widest(number, out)?;
+                    self.end_widest(number, out);
                 }
-                out.put(b".in 0\n.nf\n.di *z\n")?;
+                out.add(b".in 0\n.nf\n.di *z\n");
             }
             count = count.saturating_add(1);
-            out.put(b"\\&")?;
-            self.put_unset(cell, out)?;
-            out.put(b"\n")?;
+            out.add(b"\\&");
+            self.put_unset(cell, out);
+            out.add(b"\n");
         }
         if count > 0 {
-            self.end_widest(number, out)?;
+            self.end_widest(number, out);
         }
-        Ok(())
     }
 
     /// The widths of columns with the spaces between them, as an expression.
@@ -353,29 +334,23 @@ impl Table {
         last: usize,
         sign: &[u8],
         out: &mut Out<'_, W>,
-    ) -> Result<(), Fault> {
+    ) {
         for number in first..last.saturating_add(1) {
             if number > first {
-                out.put(sign)?;
+                out.add(sign);
             }
-            out.pieces(&[T(b"\\n[*w"), N(number), T(b"]u")])?;
+            out.pieces(&[T(b"\\n[*w"), N(number), T(b"]u")]);
             if number < last {
-                out.pieces(&[T(sign), N(self.column(number).gap), T(b"n")])?;
+                out.pieces(&[T(sign), N(self.column(number).gap), T(b"n")]);
             }
         }
-        Ok(())
     }
 
     /// What columns lack, which `*S` is to have been set to but for their widths, is dealt out.
-    pub(crate) fn put_widening<W: Sink>(
-        &self,
-        first: usize,
-        last: usize,
-        out: &mut Out<'_, W>,
-    ) -> Result<(), Fault> {
-        out.put(b"-")?;
-        self.put_total(first, last, b"-", out)?;
-        out.put(b"/24\n.if \\n(*S>0 \\{\\\n")?;
+    pub(crate) fn put_widening<W: Sink>(&self, first: usize, last: usize, out: &mut Out<'_, W>) {
+        out.add(b"-");
+        self.put_total(first, last, b"-", out);
+        out.add(b"/24\n.if \\n(*S>0 \\{\\\n");
         for number in first..last.saturating_add(1) {
             let left = last.saturating_add(1).saturating_sub(number).max(1);
             out.line(&[
@@ -383,77 +358,74 @@ impl Table {
                 N(left.saturating_sub(1)),
                 T(b"/"),
                 N(left),
-            ])?;
-            out.line(&[T(b".nr *w"), N(number), T(b" +(\\n(*tn)")])?;
+            ]);
+            out.line(&[T(b".nr *w"), N(number), T(b" +(\\n(*tn)")]);
             if left > 1 {
-                out.put(b".nr *S -\\n(*t\n")?;
+                out.add(b".nr *S -\\n(*t\n");
             }
         }
-        out.put(b".\\}\n")
+        out.add(b".\\}\n")
     }
 
     /// The columns by their fields.
-    fn put_columns<W: Sink>(&self, out: &mut Out<'_, W>) -> Result<(), Fault> {
+    fn put_columns<W: Sink>(&self, out: &mut Out<'_, W>) {
         for number in 0..self.columns.len() {
             let column = self.column(number);
-            self.put_column(number, column, out)?;
-            self.put_aligned(number, column, out)?;
-            self.put_widest(number, out)?;
+            self.put_column(number, column, out);
+            self.put_aligned(number, column, out);
+            self.put_widest(number, out);
         }
-        Ok(())
     }
 
     /// What a field over several columns lacks is dealt out.
-    fn put_span<W: Sink>(&self, cell: Cell, out: &mut Out<'_, W>) -> Result<(), Fault> {
-        out.put(b".nr *S ")?;
-        self.put_width(cell, out)?;
+    fn put_span<W: Sink>(&self, cell: Cell, out: &mut Out<'_, W>) {
+        out.add(b".nr *S ");
+        self.put_width(cell, out);
         if cell.key.kind == b'a' {
-            out.put(b"+2n")?;
+            out.add(b"+2n");
         }
         self.put_widening(cell.first, cell.last, out)
     }
 
     /// Fields over several columns.
-    fn put_spans<W: Sink>(&self, out: &mut Out<'_, W>) -> Result<(), Fault> {
+    fn put_spans<W: Sink>(&self, out: &mut Out<'_, W>) {
         for cell in self.cells.as_slice() {
             if cell.measures() && cell.spans() {
-                self.put_span(*cell, out)?;
+                self.put_span(*cell, out);
             }
         }
-        Ok(())
     }
 
     /// The greatest width of columns of `e`; tells whether there is one.
-    fn put_most_equal<W: Sink>(&self, out: &mut Out<'_, W>) -> Result<bool, Fault> {
+    fn put_most_equal<W: Sink>(&self, out: &mut Out<'_, W>) -> bool {
         let mut some = false;
         for number in 0..self.columns.len() {
             if self.column(number).equal {
                 if !some {
-                    out.put(b".nr *S 0\n")?;
+                    out.add(b".nr *S 0\n");
                 }
                 some = true;
-                out.pieces(&[T(b".if \\n[*w"), N(number), T(b"]u>\\n[*S] .nr *S ")])?;
-                out.line(&[T(b"\\n[*w"), N(number), T(b"]u")])?;
+                out.pieces(&[T(b".if \\n[*w"), N(number), T(b"]u>\\n[*S] .nr *S ")]);
+                out.line(&[T(b"\\n[*w"), N(number), T(b"]u")]);
             }
         }
-        Ok(some)
+        some
     }
 
     /// Columns of `e`.
-    fn put_equal<W: Sink>(&self, out: &mut Out<'_, W>) -> Result<(), Fault> {
-        if !self.put_most_equal(out)? {
-            return Ok(());
+    fn put_equal<W: Sink>(&self, out: &mut Out<'_, W>) {
+        if !self.put_most_equal(out) {
+            return;
         }
         for number in 0..self.columns.len() {
             if self.column(number).equal {
-                out.line(&[T(b".nr *w"), N(number), T(b" \\n(*S")])?;
+                out.line(&[T(b".nr *w"), N(number), T(b" \\n(*S")]);
             }
         }
-        Ok(())
     }
 
     /// The space after a column, as an expression.
-    fn put_gap<W: Sink>(&self, number: usize, out: &mut Out<'_, W>) -> Result<(), Fault> {
+    fn put_gap<W: Sink>(&self, number: usize, out: &mut Out<'_, W>) {
         if self.looks.expand {
             return out.pieces(&[T(b"\\n[*s"), N(number), T(b"]u")]);
         }
@@ -461,16 +433,16 @@ impl Table {
     }
 
     /// The places of columns.
-    fn put_places<W: Sink>(&self, out: &mut Out<'_, W>) -> Result<(), Fault> {
+    fn put_places<W: Sink>(&self, out: &mut Out<'_, W>) {
         for number in 0..self.columns.len() {
-            out.pieces(&[T(b".nr *o"), N(number), T(b" ")])?;
+            out.pieces(&[T(b".nr *o"), N(number), T(b" ")]);
             if number == 0 {
-                out.pieces(&[N(self.left_edge()), T(b"n")])?;
+                out.pieces(&[N(self.left_edge()), T(b"n")]);
             } else {
-                out.pieces(&[T(b"\\n[*e"), N(number.saturating_sub(1)), T(b"]u+")])?;
-                self.put_gap(number.saturating_sub(1), out)?;
+                out.pieces(&[T(b"\\n[*e"), N(number.saturating_sub(1)), T(b"]u+")]);
+                self.put_gap(number.saturating_sub(1), out);
             }
-            out.put(b"\n")?;
+            out.add(b"\n");
             out.line(&[
                 T(b".nr *e"),
                 N(number),
@@ -479,9 +451,9 @@ impl Table {
                 T(b"]u+\\n[*w"),
                 N(number),
                 T(b"]u"),
-            ])?;
-            self.put_bar_place(number, out)?;
-            self.put_number_place(number, out)?;
+            ]);
+            self.put_bar_place(number, out);
+            self.put_number_place(number, out);
         }
         let last = self.columns.len().saturating_sub(1);
         out.line(&[
@@ -494,9 +466,9 @@ impl Table {
     }
 
     /// The place of bars after a column.
-    fn put_bar_place<W: Sink>(&self, number: usize, out: &mut Out<'_, W>) -> Result<(), Fault> {
+    fn put_bar_place<W: Sink>(&self, number: usize, out: &mut Out<'_, W>) {
         if number.saturating_add(1) >= self.columns.len() {
-            return Ok(());
+            return;
         }
         out.pieces(&[
             T(b".nr *b"),
@@ -504,7 +476,7 @@ impl Table {
             T(b" \\n[*e"),
             N(number),
             T(b"]u+"),
-        ])?;
+        ]);
         if self.looks.expand {
             return out.line(&[T(b"(\\n[*s"), N(number), T(b"]u/2/24*24)")]);
         }
@@ -512,9 +484,9 @@ impl Table {
     }
 
     /// The place where the numbers of a column are aligned.
-    fn put_number_place<W: Sink>(&self, c: usize, out: &mut Out<'_, W>) -> Result<(), Fault> {
+    fn put_number_place<W: Sink>(&self, c: usize, out: &mut Out<'_, W>) {
         if !self.column(c).numbers {
-            return Ok(());
+            return;
         }
         out.pieces(&[
             T(b".nr *p"),
@@ -525,24 +497,24 @@ impl Table {
             N(c),
             T(b"]u-\\n[*q"),
             N(c),
-        ])?;
+        ]);
         out.line(&[T(b"]u/48*24+\\n[*o"), N(c), T(b"]u+\\n[*l"), N(c), T(b"]u")])
     }
 
     /// How many columns have `x`, with what they are added to what is left of the line.
-    fn put_wide<W: Sink>(&self, out: &mut Out<'_, W>) -> Result<usize, Fault> {
+    fn put_wide<W: Sink>(&self, out: &mut Out<'_, W>) -> usize {
         let mut count: usize = 0;
         for number in 0..self.columns.len() {
             if self.column(number).wide {
                 count = count.saturating_add(1);
-                out.line(&[T(b".nr *S +(\\n[*w"), N(number), T(b"]u/24)")])?;
+                out.line(&[T(b".nr *S +(\\n[*w"), N(number), T(b"]u/24)")]);
             }
         }
-        Ok(count)
+        count
     }
 
     /// A share of what is left of the line.
-    fn put_share<W: Sink>(&self, left: usize, out: &mut Out<'_, W>) -> Result<(), Fault> {
+    fn put_share<W: Sink>(&self, left: usize, out: &mut Out<'_, W>) {
         out.line(&[
             T(b".nr *t \\n(*S+"),
             N(left.saturating_sub(1)),
@@ -552,55 +524,52 @@ impl Table {
     }
 
     /// Columns of `x` share what is left of the line.
-    fn share_columns<W: Sink>(&self, out: &mut Out<'_, W>) -> Result<(), Fault> {
-        let mut left = self.put_wide(out)?;
+    fn share_columns<W: Sink>(&self, out: &mut Out<'_, W>) {
+        let mut left = self.put_wide(out);
         for number in 0..self.columns.len() {
             if self.column(number).wide {
-                self.put_share(left, out)?;
+                self.put_share(left, out);
                 out.pieces(&[
                     T(b".if \\n[*w"),
                     N(number),
                     T(b"]<\\n(*tn .nr *w"),
                     N(number),
-                ])?;
-                out.put(b" \\n(*tn\n.nr *S -\\n(*t\n")?;
+                ]);
+                out.add(b" \\n(*tn\n.nr *S -\\n(*t\n");
                 left = left.saturating_sub(1);
             }
         }
-        Ok(())
     }
 
     /// The spaces between columns are set to nothing.
-    fn put_no_gaps<W: Sink>(&self, out: &mut Out<'_, W>) -> Result<(), Fault> {
+    fn put_no_gaps<W: Sink>(&self, out: &mut Out<'_, W>) {
         for number in 0..self.columns.len().saturating_sub(1) {
-            out.line(&[T(b".nr *s"), N(number), T(b" 0")])?;
+            out.line(&[T(b".nr *s"), N(number), T(b" 0")]);
         }
-        Ok(())
     }
 
     /// The spaces between columns share what is left of the line.
-    fn share_gaps<W: Sink>(&self, out: &mut Out<'_, W>) -> Result<(), Fault> {
+    fn share_gaps<W: Sink>(&self, out: &mut Out<'_, W>) {
         let gaps = self.columns.len().saturating_sub(1);
         if gaps == 0 {
-            return out.put(b".if \\n(*S>0 .nr *w0 +(\\n(*Sn)\n");
+            return out.add(b".if \\n(*S>0 .nr *w0 +(\\n(*Sn)\n");
         }
-        out.put(b".ie \\n(*S>0 \\{\\\n")?;
+        out.add(b".ie \\n(*S>0 \\{\\\n");
         for number in 0..gaps {
-            self.put_share(gaps.saturating_sub(number), out)?;
-            out.line(&[T(b".nr *s"), N(number), T(b" +(\\n(*tn)\n.nr *S -\\n(*t")])?;
+            self.put_share(gaps.saturating_sub(number), out);
+            out.line(&[T(b".nr *s"), N(number), T(b" +(\\n(*tn)\n.nr *S -\\n(*t")]);
         }
-        out.put(b".\\}\n.el .if \\n(*S<0 \\{\\\n")?;
-        self.put_no_gaps(out)?;
-        out.put(b".\\}\n")
+        out.add(b".\\}\n.el .if \\n(*S<0 \\{\\\n");
+        self.put_no_gaps(out);
+        out.add(b".\\}\n")
     }
 
     /// The spaces between columns, as the formats say.
-    fn put_gaps<W: Sink>(&self, out: &mut Out<'_, W>) -> Result<(), Fault> {
+    fn put_gaps<W: Sink>(&self, out: &mut Out<'_, W>) {
         for number in 0..self.columns.len() {
             let gap = self.column(number).gap;
-            out.line(&[T(b".nr *s"), N(number), T(b" "), N(gap), T(b"n")])?;
+            out.line(&[T(b".nr *s"), N(number), T(b" "), N(gap), T(b"n")]);
         }
-        Ok(())
     }
 
     /// Whether a column has `x`.
@@ -614,56 +583,54 @@ impl Table {
     }
 
     /// The places of columns, with what is left of the line.
-    fn place_told<W: Sink>(&self, told: &mut Told, out: &mut Out<'_, W>) -> Result<(), Fault> {
+    fn place_told<W: Sink>(&self, told: &mut Told, out: &mut Out<'_, W>) {
         let wide = self.has_wide();
         if self.looks.expand {
-            self.put_gaps(out)?;
+            self.put_gaps(out);
         }
-        self.put_places(out)?;
+        self.put_places(out);
         if !wide && !self.looks.expand {
-            return Ok(());
+            return;
         }
-        out.put(b".nr *S \\n(*L-\\n(*I-\\n(*W/24\n")?;
+        out.add(b".nr *S \\n(*L-\\n(*I-\\n(*W/24\n");
         if wide {
-            self.share_columns(out)?;
+            self.share_columns(out);
         } else {
-            self.share_gaps(out)?;
+            self.share_gaps(out);
         }
         told.clean = false;
         told.columns = None;
-        self.put_blocks(true, told, out)?;
+        self.put_blocks(true, told, out);
         self.put_places(out)
     }
 
     /// What a field kept is removed.
-    fn remove_name<W: Sink>(&self, cell: Cell, out: &mut Out<'_, W>) -> Result<(), Fault> {
+    fn remove_name<W: Sink>(&self, cell: Cell, out: &mut Out<'_, W>) {
         if matches!(cell.field.form, Form::Block) {
             return out.line(&[T(b".rm *d"), N(cell.name)]);
         }
         if cell.stored {
             return out.line(&[T(b".rm *t"), N(cell.name)]);
         }
-        Ok(())
     }
 
     /// What fields kept is removed.
-    fn remove_names<W: Sink>(&self, out: &mut Out<'_, W>) -> Result<(), Fault> {
+    fn remove_names<W: Sink>(&self, out: &mut Out<'_, W>) {
         for cell in self.cells.as_slice() {
-            self.remove_name(*cell, out)?;
+            self.remove_name(*cell, out);
         }
-        Ok(())
     }
 
     /// What stands after a table.
-    fn end_told<W: Sink>(&self, told: Told, out: &mut Out<'_, W>) -> Result<(), Fault> {
-        self.remove_names(out)?;
+    fn end_told<W: Sink>(&self, told: Told, out: &mut Out<'_, W>) {
+        self.remove_names(out);
         if told.blocks {
-            out.put(b".ft R\n.ll \\n(*Pu\n.ll \\n(*Lu\n")?;
+            out.add(b".ft R\n.ll \\n(*Pu\n.ll \\n(*Lu\n");
         }
         if told.blocks && told.changed {
-            self.adjust(out)?;
+            self.adjust(out);
         }
-        out.put(b".in \\n(*Iu\n.ie \\n(*u .fi\n.el .nf\n.if !\\n(*C .cp 1\n")
+        out.add(b".in \\n(*Iu\n.ie \\n(*u .fi\n.el .nf\n.if !\\n(*C .cp 1\n")
     }
 
     /// The first rule from a step on.
@@ -784,26 +751,25 @@ impl Table {
     }
 
     /// A line that stands often is set once, in a diversion, and read as plain bytes.
-    fn put_strings<W: Sink>(&self, told: Told, out: &mut Out<'_, W>) -> Result<(), Fault> {
+    fn put_strings<W: Sink>(&self, told: Told, out: &mut Out<'_, W>) {
         if told.rule.is_none() && told.string.is_none() {
-            return Ok(());
+            return;
         }
-        out.put(b".nf\n.in 0\n")?;
+        out.add(b".nf\n.in 0\n");
         if let Some(rule) = told.rule {
-            out.put(b".di *z\n")?;
-            let mut pen = Pen::new();
-            self.draw_rule(&mut pen, rule, None, out)?;
-            pen.end(true, out)?;
-            out.put(b".di\n.ds *s0 \"\\*(*z.\n")?;
+            out.add(b".di *z\n");
+            out.start();
+            self.draw_rule(rule, None, out);
+            out.end(true);
+            out.add(b".di\n.ds *s0 \"\\*(*z.\n");
         }
         if let Some(row) = told.string {
-            out.put(b".di *z\n")?;
-            let mut pen = Pen::new();
-            self.draw_bars(&mut pen, row, None, out)?;
-            pen.end(true, out)?;
-            out.put(b".di\n.ds *s1 \"\\*(*z.\n")?;
+            out.add(b".di *z\n");
+            out.start();
+            self.draw_bars(row, None, out);
+            out.end(true);
+            out.add(b".di\n.ds *s1 \"\\*(*z.\n");
         }
-        Ok(())
     }
 
     /// A rule.
@@ -812,53 +778,41 @@ impl Table {
         between: (Option<usize>, Option<usize>),
         told: Told,
         out: &mut Out<'_, W>,
-    ) -> Result<(), Fault> {
+    ) {
         if let Some(rule) = told.rule {
             if self.is_same_rule(rule, between) {
-                return out.put(b"\\*[*s0]\n");
+                return out.add(b"\\*[*s0]\n");
             }
         }
-        let mut pen = Pen::new();
-        self.draw_rule(&mut pen, between, None, out)?;
-        pen.end(true, out)
+        out.start();
+        self.draw_rule(between, None, out);
+        out.end(true)
     }
 
     /// The outer rule of a double box.
-    fn put_edge<W: Sink>(&self, out: &mut Out<'_, W>) -> Result<(), Fault> {
-        let mut pen = Pen::new();
-        self.draw_edge(&mut pen, out)?;
-        pen.end(true, out)
+    fn put_edge<W: Sink>(&self, out: &mut Out<'_, W>) {
+        out.start();
+        self.draw_edge(out);
+        out.end(true)
     }
 
     /// Lines of a row's bars.
-    fn put_bar_lines<W: Sink>(
-        &self,
-        row: usize,
-        count: usize,
-        told: Told,
-        out: &mut Out<'_, W>,
-    ) -> Result<(), Fault> {
+    fn put_bar_lines<W: Sink>(&self, row: usize, count: usize, told: Told, out: &mut Out<'_, W>) {
         for _ in 0..count {
-            self.put_bar_line(row, told, out)?;
+            self.put_bar_line(row, told, out);
         }
-        Ok(())
     }
 
     /// A request that did not go out before.
-    fn put_told_request<W: Sink>(&self, span: Span, out: &mut Out<'_, W>) -> Result<(), Fault> {
+    fn put_told_request<W: Sink>(&self, span: Span, out: &mut Out<'_, W>) {
         if defines(self.bytes(span)) {
-            return Ok(());
+            return;
         }
         self.put_request(span, out)
     }
 
     /// A line of the table, or a request.
-    fn put_told_step<W: Sink>(
-        &self,
-        step: Step,
-        told: &mut Told,
-        out: &mut Out<'_, W>,
-    ) -> Result<(), Fault> {
+    fn put_told_step<W: Sink>(&self, step: Step, told: &mut Told, out: &mut Out<'_, W>) {
         match step.kind {
             StepKind::Before(row, ruled) => self.put_before(row, ruled, out),
             StepKind::Beyond(row) => self.put_beyond(row, out),
@@ -871,45 +825,35 @@ impl Table {
     }
 
     /// A line of a row's bars.
-    pub(crate) fn put_bar_line<W: Sink>(
-        &self,
-        row: usize,
-        told: Told,
-        out: &mut Out<'_, W>,
-    ) -> Result<(), Fault> {
+    pub(crate) fn put_bar_line<W: Sink>(&self, row: usize, told: Told, out: &mut Out<'_, W>) {
         match told.string {
-            Some(kept) if self.has_same_bars(kept, row) => out.put(b"\\*[*s1]\n"),
+            Some(kept) if self.has_same_bars(kept, row) => out.add(b"\\*[*s1]\n"),
             _ => {
-                let mut pen = Pen::new();
-                self.draw_bars(&mut pen, row, None, out)?;
-                pen.end(true, out)
+                out.start();
+                self.draw_bars(row, None, out);
+                out.end(true)
             }
         }
     }
 
     /// The columns, the blocks, and where all stands.
-    fn measure_told<W: Sink>(
-        &mut self,
-        told: &mut Told,
-        out: &mut Out<'_, W>,
-    ) -> Result<(), Fault> {
-        self.name_cells(told, out)?;
+    fn measure_told<W: Sink>(&mut self, told: &mut Told, out: &mut Out<'_, W>) {
+        self.name_cells(told, out);
         self.measure_fields();
-        self.put_columns(out)?;
-        self.put_spans(out)?;
+        self.put_columns(out);
+        self.put_spans(out);
         if told.blocks {
-            self.put_adjusting(out)?;
+            self.put_adjusting(out);
         }
-        self.put_blocks(false, told, out)?;
-        self.put_equal(out)?;
+        self.put_blocks(false, told, out);
+        self.put_equal(out);
         self.know_columns();
         self.lay_out();
-        self.place_told(told, out)?;
-        out.put(b".nr *O \\n(*I\n")?;
+        self.place_told(told, out);
+        out.add(b".nr *O \\n(*I\n");
         if self.looks.center {
-            out.put(b".if \\n(*L-\\n(*I>\\n(*W .nr *O \\n(*L-\\n(*I-\\n(*W/48*24+\\n(*I\n")?;
+            out.add(b".if \\n(*L-\\n(*I>\\n(*W .nr *O \\n(*L-\\n(*I-\\n(*W/48*24+\\n(*I\n");
         }
-        Ok(())
     }
 
     /// Whether a field is a block.
@@ -923,67 +867,55 @@ impl Table {
     }
 
     /// The strings for lines go out again.
-    fn remove_strings<W: Sink>(&self, told: Told, out: &mut Out<'_, W>) -> Result<(), Fault> {
+    fn remove_strings<W: Sink>(&self, told: Told, out: &mut Out<'_, W>) {
         if told.rule.is_some() {
-            out.put(b".rm *s0\n")?;
+            out.add(b".rm *s0\n");
         }
         if told.string.is_some() {
-            out.put(b".rm *s1\n")?;
+            out.add(b".rm *s1\n");
         }
         if told.rule.is_some() || told.string.is_some() {
-            out.put(b".rm *z\n")?;
+            out.add(b".rm *z\n");
         }
-        Ok(())
     }
 
     /// What stands between the measures and the lines.
-    fn put_told_head<W: Sink>(
-        &mut self,
-        ends: bool,
-        told: &mut Told,
-        out: &mut Out<'_, W>,
-    ) -> Result<(), Fault> {
-        self.put_heights(ends, out)?;
+    fn put_told_head<W: Sink>(&mut self, ends: bool, told: &mut Told, out: &mut Out<'_, W>) {
+        self.put_heights(ends, out);
         if !self.bars_known && self.needs_bars() {
             self.bars_known = true;
-            out.put(&BARS)?;
+            out.add(&BARS);
         }
         self.choose_strings(told);
-        self.put_strings(*told, out)?;
+        self.put_strings(*told, out);
         if told.blocks && !told.clean {
-            out.put(b".ft R\n")?;
+            out.add(b".ft R\n");
         }
-        out.put(b".in \\n(*Ou\n.nf\n")?;
+        out.add(b".in \\n(*Ou\n.nf\n");
         if self.is_boxed() && !self.looks.nokeep && ends && !self.begun {
-            out.line(&[T(b".if \\n[*H]u<\\n(.p "), T(&LATER), T(b".ne \\n[*H]u")])?;
+            out.line(&[T(b".if \\n[*H]u<\\n(.p "), T(&LATER), T(b".ne \\n[*H]u")]);
         }
-        Ok(())
     }
 
     /// All lines.
-    fn put_told_steps<W: Sink>(&self, told: &mut Told, out: &mut Out<'_, W>) -> Result<(), Fault> {
+    fn put_told_steps<W: Sink>(&self, told: &mut Told, out: &mut Out<'_, W>) {
         for step in self.steps.as_slice() {
-            self.put_told_step(*step, told, out)?;
+            self.put_told_step(*step, told, out);
         }
-        Ok(())
     }
 
     /// The table, or the part of it that was read.
-    pub(crate) fn put_told<W: Sink>(
-        &mut self,
-        ends: bool,
-        out: &mut Out<'_, W>,
-    ) -> Result<(), Fault> {
+    pub(crate) fn put_told<W: Sink>(&mut self, ends: bool, out: &mut Out<'_, W>) {
         let mut told = Told::new();
         told.blocks = self.has_blocks();
-        self.begin_told(told, out)?;
+        self.begin_told(told, out);
         if self.begun {
             self.read_columns();
         }
-        self.measure_told(&mut told, out)?;
-        self.put_told_head(ends, &mut told, out)?;
-        self.put_told_steps(&mut told, out)?;
-        self.remove_strings(told, out)?;
+        self.measure_told(&mut told, out);
+        self.put_told_head(ends, &mut told, out);
+        self.put_told_steps(&mut told, out);
+        self.remove_strings(told, out);
         self.end_told(told, out)
     }
 }

@@ -13,6 +13,7 @@ static PLAIN: [u8; 21] = *b".br\n.nr *u \\n(.u\n.nf\n";
 static PLAIN_END: [u8; 14] = *b".if \\n(*u .fi\n";
 
 /// A table that is held, what goes out, and what is wrong.
+#[derive(Drop)]
 pub(crate) struct Press<'a, 'c, W: Sink> {
     pub table: &'a mut Table,
     pub out: Out<'a, W>,
@@ -133,21 +134,6 @@ impl<'a, 'c, W: Sink> Press<'a, 'c, W> {
             Ok(()) => outcome,
             Err(Fault) => Outcome::WriteFault,
         }
-    }
-
-    /// Whether there were more complaints than there was room for.
-    pub(crate) fn missed(self) -> bool {
-        let Press {
-            table: _,
-            out,
-            complaints: _,
-            missed,
-        } = self;
-        let Out {
-            pending: _,
-            sink: _,
-        } = out;
-        missed
     }
 
     /// Something is wrong.

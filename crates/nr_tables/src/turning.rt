@@ -57,10 +57,7 @@ pub fn convert<'a, 'c, R: Source, W: Sink>(
     complaints.clear();
     let mut press = Press {
         table: &mut rooms.table,
-        out: Out {
-            pending: &mut rooms.pending,
-            sink: output,
-        },
+        out: Out::over(&mut rooms.pending, output),
         complaints,
         missed: false,
     };
@@ -68,6 +65,6 @@ pub fn convert<'a, 'c, R: Source, W: Sink>(
     let outcome = press.ends(outcome);
     Report {
         outcome,
-        missed: press.missed(),
+        missed: press.missed,
     }
 }
