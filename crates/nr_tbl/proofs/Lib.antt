@@ -1,4 +1,5 @@
 pub mod Finding
 pub mod Hearing
+pub mod Runs
 pub mod Tableless
 pub mod Turning

@@ -79,12 +79,13 @@ fed-append_pieces (x ∷ xs) ys p =
 
 pub Comes-fed : {S : Type 0} (hears : Piece → S → S) (xs ys : List ℕ) (p q r : Page) (a b c : S)
     → Comes hears (fed xs p) q a b → Comes hears (fed ys q) r b c → Comes hears (fed (xs ++ ys) p) r a c
-Comes-fed hears xs ys p q r a b c h k =
-    (k.0 ∙ ap (λ (t : Page). (fed ys t).page) h.0 ∙ sym (fed-append_page xs ys p),
-    k.1 ∙ ap (λ x. heard hears (fed ys q).pieces x) h.1
-    ∙ ap (λ (t : Page). heard hears (fed ys t).pieces (heard hears (fed xs p).pieces a)) h.0
-    ∙ sym (heard_append hears (fed xs p).pieces (fed ys (fed xs p).page).pieces a)
-    ∙ ap (λ (ps : List Piece). heard hears ps a) (sym (fed-append_pieces xs ys p)))
+Comes-fed hears xs ys p q r a b c h k = (
+  k.0 ∙ ap (λ (t : Page). (fed ys t).page) h.0 ∙ sym (fed-append_page xs ys p),
+  k.1 ∙ ap (λ x. heard hears (fed ys q).pieces x) h.1
+      ∙ ap (λ (t : Page). heard hears (fed ys t).pieces (heard hears (fed xs p).pieces a)) h.0
+      ∙ sym (heard_append hears (fed xs p).pieces (fed ys (fed xs p).page).pieces a)
+      ∙ ap (λ (ps : List Piece). heard hears ps a) (sym (fed-append_pieces xs ys p)),
+)
 
 -- ---- a run goes on
 

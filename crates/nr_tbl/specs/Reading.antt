@@ -2,6 +2,7 @@
 use Rattle.std.specs.Prelude.{ℕ, ◌≡◌, ◌<◌, ◌≤◌, Result, Ok, Err, take, ◌+◌, List, [], ◌∷◌, ◌++◌, length, Bool, true, false, ◌==◌, if◌then◌else◌, nat_lt}
 use Prim.Native.Char.{code}
 use Rattle.nr_tbl.specs.declared.complaint.Kind.TheVariants.{FormatsLimit}
+use Rattle.nr_tbl.specs.declared.reader.Limits.{Limits}
 use Rattle.nr_tbl.specs.declared.state.Mode.{Mode}
 use Rattle.nr_tbl.specs.declared.state.Mode.TheVariants as modes
 use Rattle.nr_tbl.specs.declared.telling.Tell.TheVariants as tells
@@ -15,12 +16,12 @@ use Rattle.nr_tbl.specs.RowLines.{line_between, row_line, row_overflown, long_en
 use Rattle.nr_tbl.specs.Telling.{Piece, piece}
 
 -- how many bytes are kept at most
-abbrev pub limit_in : Mode → Page → ℕ
-limit_in modes.Head p = p.limits.formats
-limit_in mode p = p.limits.row
+abbrev pub limit_in : Mode → Limits → ℕ
+limit_in modes.Head limits = limits.formats
+limit_in mode limits = limits.row
 
 abbrev pub limit_of : Page → ℕ
-limit_of p = limit_in p.state.mode p
+limit_of p = limit_in p.state.mode p.limits
 
 -- a line that is kept ends, by where it stands
 abbrev pub line_ended_in : Mode → Page → Effect

@@ -195,14 +195,14 @@ impl Reader {
         ensures { reading.Reads S.hears bytes.now self.old self.new (S.shown setter.old) (S.shown setter.new) result }
     {
         let len = line_len(bytes);
-        if len == bytes.len() {
-            setter.tell(Tell::BlockText, bytes)?;
+        if len > 0 {
+            setter.tell(Tell::BlockText, &bytes[..len])?;
             return Ok(len);
         }
-        setter.tell(Tell::BlockText, &bytes[..len + 1])?;
+        setter.tell(Tell::BlockText, b"\n")?;
         self.state.line += 1;
         self.state.mode = Mode::Block;
-        Ok(len + 1)
+        Ok(1)
     }
 
     /// Bytes of a line that is kept.
@@ -214,19 +214,17 @@ impl Reader {
         ensures { reading.Reads S.hears bytes.now self.old self.new (S.shown setter.old) (S.shown setter.new) result }
     {
         let len = line_len(bytes);
-        let most = self.limit() + 1 - self.kept.len();
-        let count = len.min(most);
+        if len == 0 {
+            self.line_ends(setter)?;
+            self.state.line += 1;
+            return Ok(1);
+        }
+        let count = len.min(self.limit() + 1 - self.kept.len());
         self.kept.extend(&bytes[..count]);
         if self.kept.len() > self.limit() {
             self.overflows(setter)?;
-            return Ok(count);
         }
-        if count == bytes.len() {
-            return Ok(count);
-        }
-        self.line_ends(setter)?;
-        self.state.line += 1;
-        Ok(count + 1)
+        Ok(count)
     }
 
     /// A line that was kept ends.
