@@ -1,14 +1,22 @@
 -- Bytes that are taken at once are read as if one by one.
-use Rattle.std.proofs.Common.{◌≡◌, ℕ, zero, suc, ◌+◌, ◌-◌, ◌<◌, ◌≤◌, List, [], ◌∷◌, ◌++◌, length, take, drop, Bool, true, false, not, ◌==◌, ◌&&◌, if◌then◌else◌, refl, sym, ◌∙◌, ap, subst, append_assoc, append-nil, length-append, arith}
+use Rattle.std.proofs.Common.{◌≡◌, ℕ, zero, suc, ◌+◌, ◌-◌, ◌<◌, ◌≤◌, List, [], ◌∷◌, ◌++◌, length, take, drop, Bool, true, false, not, ◌==◌, ◌&&◌, ◌||◌, if◌then◌else◌, refl, sym, ◌∙◌, ap, subst, append_assoc, append-nil, length-append, arith}
 use Rattle.std.proofs.lemmas.Bool.{le-ltb}
 use Rattle.std.proofs.lemmas.Grind.{common_steps}
+use Rattle.std.proofs.lemmas.List.{length-take}
+use Rattle.nr_tbl.specs.declared.command.Start.{Start}
+use Rattle.nr_tbl.specs.declared.command.Start.TheVariants as starts
 use Rattle.nr_tbl.specs.declared.state.Mode.{Mode}
 use Rattle.nr_tbl.specs.declared.state.Mode.TheVariants as modes
 use Rattle.nr_tbl.specs.declared.telling.Tell.TheVariants as tells
-use Rattle.nr_tbl.specs.Pages.{Page, Effect, effect, and_then}
-use Rattle.nr_tbl.specs.Passing.{line_len}
-use Rattle.nr_tbl.specs.Reading.{read, read_in, fed, kept, kept_more, is_kept, limit_of, block_goes_on}
-use Rattle.nr_tbl.specs.Telling.{Piece, piece, each}
+use Rattle.nr_tbl.specs.Commands.{start_with, start_if, is_free, begins_command}
+use Rattle.nr_tbl.specs.Pages.{Page, Effect, effect, and_then, at_mode, with_state}
+use Rattle.nr_tbl.specs.Passing.{line_len, may_command}
+use Rattle.nr_tbl.specs.Reading.{read, read_in, fed, kept, kept_more, is_kept, limit_of, limit_in, Fits, Took}
+use Rattle.nr_tbl.specs.Telling.{Piece, piece, each, heard}
+
+or_first : (x y : Bool) → (x || y) ≡ false → x ≡ false
+or_first false y h = refl
+or_first true y h = h
 
 -- none of these bytes ends a line
 pub is_plain : List ℕ → Bool
@@ -74,7 +82,7 @@ read_kept_in modes.Rows b p k = refl
 read_kept_in modes.Row b p k = refl
 read_kept_in modes.Block b p k = refl
 
-with_kept : List ℕ → Page → Page
+pub with_kept : List ℕ → Page → Page
 with_kept bytes p = record p { kept = p.kept ++ bytes }
 
 read_kept : (b : ℕ) (p : Page) → is_kept p.state.mode ≡ true → (b == 10) ≡ false → read b p ≡ kept_more (record p { kept = p.kept ++ b ∷ [] })
@@ -96,3 +104,125 @@ fed_kept b (c ∷ cs) p k h l =
     ap (λ (x : Effect). and_then x (fed (c ∷ cs))) here
     ∙ fed_kept c cs q k (and_second (b == 10) (is_plain (c ∷ cs)) h) (omega (arith, longer, l))
     ∙ ap (λ (ks : List ℕ). kept_more (record p { kept = ks })) (append_assoc p.kept (b ∷ []) (c ∷ cs))
+
+-- ---- in a line outside of tables
+
+read_at : (b : ℕ) (s : Start) (p : Page) → (b == 10) ≡ false
+    → read b (at_mode (modes.Passing s) p) ≡ effect (at_mode (modes.Passing (start_with 83 b s)) p) (piece tells.Pass (b ∷ []) ∷ [])
+read_at b s p e = rw e refl
+
+-- one byte and then others
+then_more : (b : ℕ) (bs : List ℕ) (p q : Page) (f : Effect) → read b p ≡ effect q (piece tells.Pass (b ∷ []) ∷ []) → fed bs q ≡ f
+    → fed (b ∷ bs) p ≡ effect f.page (piece tells.Pass (b ∷ []) ∷ f.pieces)
+then_more b bs p q f e more =
+    ap (λ (x : Effect). and_then x (fed bs)) e ∙ ap (λ (x : Effect). effect x.page (piece tells.Pass (b ∷ []) ∷ x.pieces)) more
+
+in_midst : Page → Page
+in_midst p = at_mode (modes.Passing starts.Other) p
+
+fed_midst : (bs : List ℕ) (p : Page) → is_plain bs ≡ true → fed bs (in_midst p) ≡ effect (in_midst p) (each tells.Pass bs)
+unfolding is_plain in_midst
+fed_midst [] p h = refl
+fed_midst (b ∷ bs) p h =
+    then_more b bs (in_midst p) (in_midst p) (effect (in_midst p) (each tells.Pass bs))
+    (read_at b starts.Other p (and_first (b == 10) (is_plain bs) h)) (fed_midst bs p (and_second (b == 10) (is_plain bs) h))
+
+-- from the beginning of a line that is no command
+fed_point : (b c : ℕ) (cs : List ℕ) (p : Page) (point : Bool) → (b == 46) ≡ point → ((b == 46) && ((c == 84) || (c == 10))) ≡ false → is_plain (b ∷ c ∷ cs) ≡ true
+    → fed (b ∷ c ∷ cs) (at_mode (modes.Passing starts.Nothing) p) ≡ effect (in_midst p) (each tells.Pass (b ∷ c ∷ cs))
+unfolding is_plain in_midst
+fed_point b c cs p false e f h =
+    then_more b (c ∷ cs) (at_mode (modes.Passing starts.Nothing) p) (in_midst p) (effect (in_midst p) (each tells.Pass (c ∷ cs)))
+    (read_at b starts.Nothing p (and_first (b == 10) (is_plain (c ∷ cs)) h)
+    ∙ ap (λ (t : Bool). effect (at_mode (modes.Passing (start_if t starts.Dot)) p) (piece tells.Pass (b ∷ []) ∷ [])) e)
+    (fed_midst (c ∷ cs) p (and_second (b == 10) (is_plain (c ∷ cs)) h))
+fed_point b c cs p true e f h =
+    let rest = and_second (b == 10) (is_plain (c ∷ cs)) h in
+    let no : (c == 84) ≡ false = or_first (c == 84) (c == 10) (ap (λ (t : Bool). t && ((c == 84) || (c == 10))) (sym e) ∙ f) in
+    then_more b (c ∷ cs) (at_mode (modes.Passing starts.Nothing) p) (at_mode (modes.Passing starts.Dot) p) (effect (in_midst p) (each tells.Pass (c ∷ cs)))
+    (read_at b starts.Nothing p (and_first (b == 10) (is_plain (c ∷ cs)) h)
+    ∙ ap (λ (t : Bool). effect (at_mode (modes.Passing (start_if t starts.Dot)) p) (piece tells.Pass (b ∷ []) ∷ [])) e)
+    (then_more c cs (at_mode (modes.Passing starts.Dot) p) (in_midst p) (effect (in_midst p) (each tells.Pass cs))
+    (read_at c starts.Dot p (and_first (c == 10) (is_plain cs) rest)
+    ∙ ap (λ (t : Bool). effect (at_mode (modes.Passing (start_if t starts.DotT)) p) (piece tells.Pass (c ∷ []) ∷ [])) no)
+    (fed_midst cs p (and_second (c == 10) (is_plain cs) rest)))
+
+not_true : (b : Bool) → not b ≡ true → b ≡ false
+not_true false h = refl
+not_true true h = absurd (let no : false ≡ true = h in cc)
+
+fed_start : (bytes : List ℕ) (p : Page) → 0 < length bytes → may_command bytes ≡ false → is_plain bytes ≡ true
+    → fed bytes (at_mode (modes.Passing starts.Nothing) p) ≡ effect (in_midst p) (each tells.Pass bytes)
+unfolding is_plain in_midst
+fed_start [] p some f h = absurd (omega (arith, some))
+fed_start (b ∷ []) p some f h =
+    then_more b [] (at_mode (modes.Passing starts.Nothing) p) (in_midst p) (effect (in_midst p) [])
+    (read_at b starts.Nothing p (and_first (b == 10) true h)
+    ∙ ap (λ (t : Bool). effect (at_mode (modes.Passing (start_if t starts.Dot)) p) (piece tells.Pass (b ∷ []) ∷ [])) f) refl
+fed_start (b ∷ c ∷ cs) p some f h = fed_point b c cs p (b == 46) refl f h
+
+pub fed_free : (start : Start) (bytes : List ℕ) (p : Page) → is_free start bytes ≡ true → 0 < length bytes → is_plain bytes ≡ true
+    → fed bytes (at_mode (modes.Passing start) p) ≡ effect (at_mode (modes.Passing starts.Other) p) (each tells.Pass bytes)
+unfolding in_midst
+fed_free starts.Nothing bytes p f some h = fed_start bytes p some (not_true (may_command bytes) f) h
+fed_free starts.Other bytes p f some h = fed_midst bytes p h
+fed_free starts.Dot bytes p f some h = absurd (let no : false ≡ true = f in cc)
+fed_free starts.DotT bytes p f some h = absurd (let no : false ≡ true = f in cc)
+fed_free starts.Name bytes p f some h = absurd (let no : false ≡ true = f in cc)
+fed_free starts.Command bytes p f some h = absurd (let no : false ≡ true = f in cc)
+
+-- the rest of a line was taken
+pub took_part : {S : Type 0} (hears : Piece → S → S) (start : Start) (bytes : List ℕ) (n : ℕ) (p q : Page) (old new : S) → p.state.mode ≡ modes.Passing start
+    → is_free start (take n bytes) ≡ true → 0 < n → n ≤ length bytes → n ≤ line_len bytes → Fits p → q ≡ at_mode (modes.Passing starts.Other) p
+    → new ≡ heard hears (each tells.Pass (take n bytes)) old → Took hears bytes p q old new n
+took_part hears start bytes n p q old new m f some within before fits page told =
+    let cut = length-take n bytes in
+    let same : p ≡ at_mode (modes.Passing start) p = ap (λ (x : Mode). at_mode x p) m in
+    let all : fed (take n bytes) p ≡ effect (at_mode (modes.Passing starts.Other) p) (each tells.Pass (take n bytes)) =
+    ap (fed (take n bytes)) same ∙ fed_free start (take n bytes) p f (omega (arith, cut, some, within)) (plain_before n bytes before) in
+    record {
+      some = some;
+      within = within;
+      comes = (page ∙ ap (λ (x : Effect). x.page) (sym all), told ∙ ap (λ (x : Effect). heard hears x.pieces old) (sym all));
+      fits = rw page (subst (λ (x : Mode). length p.kept ≤ limit_in x p.limits) m fits);
+      lines = rw page (omega arith);
+    }
+
+-- a part of a line of a text block was taken
+pub took_block : {S : Type 0} (hears : Piece → S → S) (bytes : List ℕ) (n : ℕ) (p : Page) (old new : S) → p.state.mode ≡ modes.BlockLine → 0 < n
+    → n ≤ length bytes → n ≤ line_len bytes → Fits p → new ≡ heard hears (each tells.BlockText (take n bytes)) old → Took hears bytes p p old new n
+took_block hears bytes n p old new m some within before fits told =
+    let all = fed_block (take n bytes) p m (plain_before n bytes before) in
+    record {
+      some = some;
+      within = within;
+      comes = (ap (λ (x : Effect). x.page) (sym all), told ∙ ap (λ (x : Effect). heard hears x.pieces old) (sym all));
+      fits = fits;
+      lines = omega arith;
+    }
+
+-- ---- whole lines outside of tables
+
+is_newline : (b : ℕ) → (b == 10) ≡ true → b ≡ 10
+is_newline b e = grind (arith, common_steps)
+
+line_in : (b : ℕ) (bs : List ℕ) (newline : Bool) → (b == 10) ≡ newline
+    → (line_len bs < length bs → take (line_len bs + 1) bs ≡ take (line_len bs) bs ++ 10 ∷ []) → line_len (b ∷ bs) < length (b ∷ bs)
+    → take (line_len (b ∷ bs) + 1) (b ∷ bs) ≡ take (line_len (b ∷ bs)) (b ∷ bs) ++ 10 ∷ []
+line_in b bs true e more h = rw e (ap (λ (x : ℕ). x ∷ []) (is_newline b e))
+line_in b bs false e more h =
+    let few : 1 + line_len bs < 1 + length bs = subst (λ (t : Bool). (if t then 0 else 1 + line_len bs) < 1 + length bs) e h in
+    rw e (ap (λ (xs : List ℕ). b ∷ xs) (more (omega (arith, few))))
+
+-- a line and its newline
+pub line_taken : (bytes : List ℕ) → line_len bytes < length bytes → take (line_len bytes + 1) bytes ≡ take (line_len bytes) bytes ++ 10 ∷ []
+line_taken [] h = absurd (omega (arith, h))
+line_taken (b ∷ bs) h = line_in b bs (b == 10) refl (line_taken bs) h
+
+-- the page after a line
+pub line_on : Page → Page
+line_on p = with_state (record p.state { line = p.state.line + 1; mode = modes.Passing starts.Nothing }) p
+
+newline_read : (s : Start) (p : Page) → begins_command s ≡ false → fed (10 ∷ []) (at_mode (modes.Passing s) p) ≡ effect (line_on p) (piece tells.Pass (10 ∷ []) ∷ [])
+unfolding line_on
+newline_read s p f = rw f refl

@@ -1,6 +1,7 @@
 -- Lines that tbl obeys (Tbl, "Usage"; tbl(1), "Description"): `.TS`, `.TE` and `.T&`.
-use Rattle.std.specs.Prelude.{ℕ, List, [], ◌∷◌, Bool, true, false, ◌==◌, ◌&&◌, ◌||◌, if◌then◌else◌}
+use Rattle.std.specs.Prelude.{ℕ, List, [], ◌∷◌, Bool, true, false, not, ◌==◌, ◌&&◌, ◌||◌, if◌then◌else◌}
 use Prim.Native.Char.{code}
+use Rattle.nr_tbl.specs.Passing.{may_command}
 use Rattle.nr_tbl.specs.declared.command.Start.{Start}
 use Rattle.nr_tbl.specs.declared.command.Start.TheVariants.{Nothing, Dot, DotT, Name, Command, Other}
 
@@ -40,3 +41,9 @@ abbrev pub begins_command : Start → Bool
 begins_command Name = true
 begins_command Command = true
 begins_command start = false
+
+-- a line that begins so, and goes on with these bytes, is none
+abbrev pub is_free : Start → List ℕ → Bool
+is_free Nothing bytes = not (may_command bytes)
+is_free Other bytes = true
+is_free start bytes = false

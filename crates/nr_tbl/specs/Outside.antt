@@ -2,7 +2,7 @@
 use Rattle.std.specs.Prelude.{ℕ, ◌+◌, List, [], ◌∷◌, Bool, true, false, ◌==◌, if◌then◌else◌}
 use Prim.Native.Char.{code}
 use Rattle.nr_tbl.specs.declared.command.Start.{Start}
-use Rattle.nr_tbl.specs.declared.command.Start.TheVariants.{Nothing, Other}
+use Rattle.nr_tbl.specs.declared.command.Start.TheVariants.{Nothing}
 use Rattle.nr_tbl.specs.declared.complaint.Kind.{Kind}
 use Rattle.nr_tbl.specs.declared.state.Mode.TheVariants as modes
 use Rattle.nr_tbl.specs.declared.telling.Tell.TheVariants as tells
@@ -43,7 +43,3 @@ abbrev pub given_up : Kind → Page → Effect
 given_up kind p =
     effect (forgotten (at_mode (modes.Plain (start_of (code "E") (line_of p))) p))
     (wrong kind p.state ∷ piece tells.Plain [] ∷ each tells.Pass (rest_of p))
-
--- where a line is read behind bytes that passed at once
-abbrev pub after_run : Bool → Start
-after_run starts = if starts then Nothing else Other

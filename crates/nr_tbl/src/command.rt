@@ -2,6 +2,8 @@
 ghost use Rattle.std.specs.Prelude.{◌≡◌};
 ghost use Rattle.nr_tbl.specs.Commands as specs;
 
+use super::passing::may_command;
+
 /// The beginning of a line that passes, as far as it was read.
 #[derive(Clone, Copy)]
 pub(crate) enum Start {
@@ -56,6 +58,17 @@ impl Start {
             Start::Name => start_if(ends_name(byte), Start::Command),
             Start::Command => Start::Command,
             Start::Other => Start::Other,
+        }
+    }
+
+    /// Whether a line that begins so, and goes on with these bytes, is no command.
+    pub(crate) fn is_free(self, bytes: &[u8]) -> bool
+        ensures { result ≡ specs.is_free self bytes.now }
+    {
+        match self {
+            Start::Nothing => !may_command(bytes),
+            Start::Other => true,
+            _ => false,
         }
     }
 

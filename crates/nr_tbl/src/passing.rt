@@ -1,17 +1,6 @@
-//! Lines that pass, many at once.
+//! Lines that pass whole.
 ghost use Rattle.std.specs.Prelude.{◌≡◌, ◌≤◌, length};
 ghost use Rattle.nr_tbl.specs.Passing as specs;
-
-/// Bytes that pass at once.
-#[derive(Clone, Copy)]
-pub(crate) struct Run {
-    /// How many.
-    pub count: usize,
-    /// How many newlines are among them.
-    pub lines: usize,
-    /// The last is a newline; where there is none, a line begins.
-    pub starts: bool,
-}
 
 /// How many bytes stand before the first newline.
 pub(crate) fn line_len(bytes: &[u8]) -> usize
@@ -26,37 +15,33 @@ pub(crate) fn line_len(bytes: &[u8]) -> usize
     bytes.len()
 }
 
-/// Whether a line that begins with these bytes may begin with `.T`.
-fn may_command(bytes: &[u8]) -> bool
+/// Whether a line that begins with these bytes may begin with `.T`, or is a point alone.
+pub(crate) fn may_command(bytes: &[u8]) -> bool
     ensures { result ≡ specs.may_command bytes.now }
 {
-    bytes.len() < 2 || bytes[1] == b'T'
+    bytes.len() > 0 && bytes[0] == b'.' && (bytes.len() == 1 || matches!(bytes[1], b'T' | b'\n'))
 }
 
-/// The bytes that come before the first line that may begin with `.T`. The first of them begins a line or doesn't.
-pub(crate) fn run_of(bytes: &[u8], starts: bool) -> Run
-    ensures value { result ≡ specs.run_of starts bytes.now }
-    ensures within { result.count ≤ length bytes.now }
-    ensures lines { result.lines ≤ result.count }
-{
-    let mut starts = starts;
-    let mut lines = 0;
-    for (at, byte) in bytes.iter().enumerate() {
-        if starts && *byte == b'.' && may_command(&bytes[at..]) {
-            return Run {
-                count: at,
-                lines,
-                starts,
-            };
+/// Whole lines.
+#[derive(Clone, Copy)]
+pub(crate) struct Lines {
+    /// How many.
+    pub count: usize,
+    /// Their bytes.
+    pub len: usize,
+}
+
+/// The whole lines that come first and don't begin with `.T`.
+pub(crate) fn free_lines(bytes: &[u8]) -> Lines {
+    let mut lines = Lines { count: 0, len: 0 };
+    while lines.len < bytes.len() {
+        let rest = &bytes[lines.len..];
+        let len = line_len(rest);
+        if len == rest.len() || may_command(rest) {
+            return lines;
         }
-        starts = *byte == b'\n';
-        if starts {
-            lines += 1;
-        }
+        lines.count += 1;
+        lines.len += len + 1;
     }
-    Run {
-        count: bytes.len(),
-        lines,
-        starts,
-    }
+    lines
 }

@@ -1,6 +1,6 @@
 //! A page is read: lines that pass at once, and those of a table line by line.
 ghost use Rattle.std.specs.Prelude.{◌≡◌, ◌+◌, ◌^◌, ◌<◌, length, drop, true, OnOk};
-ghost use Rattle.nr_tbl.specs.Commands.{begins_command};
+ghost use Rattle.nr_tbl.specs.Commands.{begins_command, is_free};
 ghost use Rattle.nr_tbl.specs.Pages.{Comes, forgotten, with_state, rest_of, line_of};
 ghost use Rattle.nr_tbl.specs.States.{first_state};
 ghost use Rattle.nr_tbl.specs.Reading as reading;
@@ -10,7 +10,7 @@ ghost use Rattle.nr_tbl.specs.declared.state.Mode.TheVariants.{Passing, Plain, B
 
 use super::command::{Start, is_command, start_of};
 use super::complaint::Kind;
-use super::passing::{line_len, run_of};
+use super::passing::{Lines, free_lines, line_len};
 use super::state::{Mode, State};
 use super::telling::{Setter, Tell};
 use nr_rooms::FixedVec;
@@ -119,16 +119,17 @@ impl Reader {
         requires some { 0 < length bytes.now }
         requires lines { self.old.state.line + length bytes.now < 2 ^ 64 }
         requires mode { self.old.state.mode ≡ Passing start }
+        requires fits { reading.Fits self.old }
         ensures { reading.Reads S.hears bytes.now self.old self.new (S.shown setter.old) (S.shown setter.new) result }
     {
-        if matches!(start, Start::Nothing | Start::Other) {
-            let run = run_of(bytes, matches!(start, Start::Nothing));
-            if run.count > 0 {
-                setter.tell(Tell::Pass, &bytes[..run.count])?;
-                self.state.line += run.lines as u64;
-                self.state.mode = Mode::Passing(after_run(run.starts));
-                return Ok(run.count);
+        if matches!(start, Start::Nothing) {
+            let lines = free_lines(bytes);
+            if lines.len > 0 {
+                return self.passes_lines(lines, bytes, setter);
             }
+        }
+        if start.is_free(bytes) {
+            return self.passes_line(start, bytes, setter);
         }
         setter.tell(Tell::Pass, &bytes[..1])?;
         self.state.mode = Mode::Passing(start.with(bytes[0], b'S'));
@@ -136,6 +137,44 @@ impl Reader {
             self.passed_line(start, setter)?;
         }
         Ok(1)
+    }
+
+    /// Whole lines that are no commands.
+    fn passes_lines<S: Setter>(
+        &mut self,
+        lines: Lines,
+        bytes: &[u8],
+        setter: &mut S,
+    ) -> Result<usize, Fault> {
+        setter.tell(Tell::Pass, &bytes[..lines.len])?;
+        self.state.line += lines.count as u64;
+        Ok(lines.len)
+    }
+
+    /// The rest of a line that is no command, as far as it came; a newline alone ends it.
+    fn passes_line<S: Setter>(
+        &mut self,
+        start: Start,
+        bytes: &[u8],
+        setter: &mut S,
+    ) -> Result<usize, Fault>
+        requires some { 0 < length bytes.now }
+        requires lines { self.old.state.line + length bytes.now < 2 ^ 64 }
+        requires mode { self.old.state.mode ≡ Passing start }
+        requires free { is_free start bytes.now ≡ true }
+        requires fits { reading.Fits self.old }
+        ensures { reading.Reads S.hears bytes.now self.old self.new (S.shown setter.old) (S.shown setter.new) result }
+    {
+        let len = line_len(bytes);
+        if len == bytes.len() {
+            setter.tell(Tell::Pass, bytes)?;
+            self.state.mode = Mode::Passing(Start::Other);
+            return Ok(len);
+        }
+        setter.tell(Tell::Pass, &bytes[..len + 1])?;
+        self.state.line += 1;
+        self.state.mode = Mode::Passing(Start::Nothing);
+        Ok(len + 1)
     }
 
     /// A line that passed ends, and began so.
@@ -163,6 +202,7 @@ impl Reader {
         requires some { 0 < length bytes.now }
         requires lines { self.old.state.line + length bytes.now < 2 ^ 64 }
         requires mode { self.old.state.mode ≡ Plain start }
+        requires fits { reading.Fits self.old }
         ensures { reading.Reads S.hears bytes.now self.old self.new (S.shown setter.old) (S.shown setter.new) result }
     {
         setter.tell(Tell::Pass, &bytes[..1])?;
@@ -192,6 +232,7 @@ impl Reader {
         requires some { 0 < length bytes.now }
         requires lines { self.old.state.line + length bytes.now < 2 ^ 64 }
         requires mode { self.old.state.mode ≡ BlockLine }
+        requires fits { reading.Fits self.old }
         ensures { reading.Reads S.hears bytes.now self.old self.new (S.shown setter.old) (S.shown setter.new) result }
     {
         let len = line_len(bytes);
@@ -313,11 +354,4 @@ pub(crate) fn behind(bytes: &[u8], from: usize) -> &[u8]
     } else {
         b""
     }
-}
-
-/// Where a line outside of tables is read behind a run.
-fn after_run(starts: bool) -> Start
-    ensures { result ≡ specs.after_run starts }
-{
-    if starts { Start::Nothing } else { Start::Other }
 }
