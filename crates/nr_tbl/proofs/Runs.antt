@@ -2,11 +2,12 @@
 use Rattle.std.proofs.Common.{◌≡◌, ℕ, zero, suc, ◌+◌, ◌-◌, ◌<◌, ◌≤◌, List, [], ◌∷◌, ◌++◌, length, take, drop, Bool, true, false, not, ◌==◌, ◌&&◌, ◌||◌, if◌then◌else◌, refl, sym, ◌∙◌, ap, subst, append_assoc, append-nil, length-append, arith}
 use Rattle.std.proofs.lemmas.Bool.{le-ltb}
 use Rattle.std.proofs.lemmas.Grind.{common_steps}
-use Rattle.std.proofs.lemmas.List.{length-take}
+use Rattle.std.proofs.lemmas.List.{length-take, take_all}
 use Rattle.nr_tbl.specs.declared.command.Start.{Start}
 use Rattle.nr_tbl.specs.declared.command.Start.TheVariants as starts
 use Rattle.nr_tbl.specs.declared.state.Mode.{Mode}
 use Rattle.nr_tbl.specs.declared.state.Mode.TheVariants as modes
+use Rattle.nr_tbl.specs.declared.telling.Tell.{Tell}
 use Rattle.nr_tbl.specs.declared.telling.Tell.TheVariants as tells
 use Rattle.nr_tbl.specs.Commands.{start_with, start_if, is_free, begins_command}
 use Rattle.nr_tbl.specs.Pages.{Page, Effect, effect, and_then, at_mode, with_state}
@@ -226,3 +227,104 @@ line_on p = with_state (record p.state { line = p.state.line + 1; mode = modes.P
 newline_read : (s : Start) (p : Page) → begins_command s ≡ false → fed (10 ∷ []) (at_mode (modes.Passing s) p) ≡ effect (line_on p) (piece tells.Pass (10 ∷ []) ∷ [])
 unfolding line_on
 newline_read s p f = rw f refl
+
+-- ---- one part after another
+
+pub fed_append : (xs ys : List ℕ) (p : Page) → fed (xs ++ ys) p ≡ and_then (fed xs p) (fed ys)
+fed_append [] ys p = refl
+fed_append (x ∷ xs) ys p =
+    let e = read x p in
+    let f = fed xs e.page in
+    let g = fed ys f.page in
+    ap (λ (t : Effect). effect t.page (e.pieces ++ t.pieces)) (fed_append xs ys e.page)
+    ∙ ap (λ (ps : List Piece). effect g.page ps) (sym (append_assoc e.pieces f.pieces g.pieces))
+
+pub each_append : (t : Tell) (xs ys : List ℕ) → each t (xs ++ ys) ≡ each t xs ++ each t ys
+each_append t [] ys = refl
+each_append t (x ∷ xs) ys = ap (λ (ps : List Piece). piece t (x ∷ []) ∷ ps) (each_append t xs ys)
+
+-- ---- a line that is no command, and its newline
+
+line_of_two : (b : ℕ) (rest : List ℕ) → (b == 10) ≡ false → line_len (46 ∷ b ∷ rest) ≡ 1 + (1 + line_len rest)
+line_of_two b rest e = rw e refl
+
+is_point : (a : ℕ) → (a == 46) ≡ true → a ≡ 46
+is_point a e = grind (arith, common_steps)
+
+or_second : (x y : Bool) → (x || y) ≡ false → y ≡ false
+or_second false y h = h
+or_second true y h = absurd (let no : true ≡ false = h in cc)
+
+short_point : (a b : ℕ) (rest : List ℕ) (point : Bool) → (a == 46) ≡ point → ((a == 46) && ((b == 84) || (b == 10))) ≡ false → 1 ≡ line_len (a ∷ b ∷ rest)
+    → (a == 46) ≡ false
+short_point a b rest false e f n = e
+short_point a b rest true e f n =
+    let other : (b == 10) ≡ false = or_second (b == 84) (b == 10) (ap (λ (t : Bool). t && ((b == 84) || (b == 10))) (sym e) ∙ f) in
+    let long : line_len (a ∷ b ∷ rest) ≡ 1 + (1 + line_len rest) = ap (λ (x : ℕ). line_len (x ∷ b ∷ rest)) (is_point a e) ∙ line_of_two b rest other in
+    absurd (omega (arith, n, long))
+
+free_front : (n : ℕ) (bytes : List ℕ) → 0 < n → n ≡ line_len bytes → may_command bytes ≡ false → may_command (take n bytes) ≡ false
+free_front zero bytes some n f = absurd (omega (arith, some))
+free_front (suc m) [] some n f = refl
+free_front (suc m) (a ∷ []) some n f = f
+free_front (suc zero) (a ∷ b ∷ rest) some n f = short_point a b rest (a == 46) refl f n
+free_front (suc (suc k)) (a ∷ b ∷ rest) some n f = f
+
+pub free_take : (start : Start) (n : ℕ) (bytes : List ℕ) → 0 < n → n ≡ line_len bytes → is_free start bytes ≡ true → is_free start (take n bytes) ≡ true
+free_take starts.Nothing n bytes some same f = ap not (free_front n bytes some same (not_true (may_command bytes) f))
+free_take starts.Other n bytes some same f = refl
+free_take starts.Dot n bytes some same f = f
+free_take starts.DotT n bytes some same f = f
+free_take starts.Name n bytes some same f = f
+free_take starts.Command n bytes some same f = f
+
+no_command : (start : Start) (bytes : List ℕ) → is_free start bytes ≡ true → begins_command start ≡ false
+no_command starts.Nothing bytes f = refl
+no_command starts.Other bytes f = refl
+no_command starts.Dot bytes f = refl
+no_command starts.DotT bytes f = refl
+no_command starts.Name bytes f = absurd (let no : false ≡ true = f in cc)
+no_command starts.Command bytes f = absurd (let no : false ≡ true = f in cc)
+
+line_read : (n : ℕ) (start : Start) (bytes : List ℕ) (p : Page) → n ≡ line_len bytes → n < length bytes → is_free start bytes ≡ true
+    → fed (take n bytes ++ 10 ∷ []) (at_mode (modes.Passing start) p) ≡ effect (line_on p) (each tells.Pass (take n bytes ++ 10 ∷ []))
+unfolding line_on
+line_read zero start bytes p same less f = newline_read start p (no_command start bytes f)
+line_read (suc m) start bytes p same less f =
+    let n = suc m in
+    let front = take n bytes in
+    let cut = length-take n bytes in
+    fed_append front (10 ∷ []) (at_mode (modes.Passing start) p)
+    ∙ ap (λ (x : Effect). and_then x (fed (10 ∷ [])))
+    (fed_free start front p (free_take start n bytes (omega arith) same f) (omega (arith, cut, less)) (plain_before n bytes (omega (arith, same))))
+    ∙ ap (λ (x : Effect). effect x.page (each tells.Pass front ++ x.pieces)) (newline_read starts.Other p refl)
+    ∙ ap (λ (ps : List Piece). effect (line_on p) ps) (sym (each_append tells.Pass front (10 ∷ [])))
+
+-- a line and its newline were taken
+pub took_line : {S : Type 0} (hears : Piece → S → S) (start : Start) (bytes : List ℕ) (n : ℕ) (p q : Page) (old new : S) → p.state.mode ≡ modes.Passing start
+    → is_free start bytes ≡ true → n ≡ line_len bytes → n < length bytes → Fits p → q ≡ line_on p
+    → new ≡ heard hears (each tells.Pass (take (n + 1) bytes)) old → Took hears bytes p q old new (n + 1)
+unfolding line_on
+took_line hears start bytes n p q old new m f same less fits page told =
+    let whole : take (n + 1) bytes ≡ take n bytes ++ 10 ∷ [] =
+        rw same (line_taken bytes (omega (arith, same, less))) in
+    let here : p ≡ at_mode (modes.Passing start) p = ap (λ (x : Mode). at_mode x p) m in
+    let all : fed (take (n + 1) bytes) p ≡ effect (line_on p) (each tells.Pass (take (n + 1) bytes)) =
+        ap (fed (take (n + 1) bytes)) here ∙ ap (λ (xs : List ℕ). fed xs (at_mode (modes.Passing start) p)) whole
+        ∙ line_read n start bytes p same less f ∙ ap (λ (xs : List ℕ). effect (line_on p) (each tells.Pass xs)) (sym whole) in
+    record {
+      some = omega arith;
+      within = omega (arith, less);
+      comes = (page ∙ ap (λ (x : Effect). x.page) (sym all), told ∙ ap (λ (x : Effect). heard hears x.pieces old) (sym all));
+      fits = rw page (subst (λ (x : Mode). length p.kept ≤ limit_in x p.limits) m fits);
+      lines = rw page (omega arith);
+    }
+
+-- all that came of a line was taken
+pub took_rest : {S : Type 0} (hears : Piece → S → S) (start : Start) (bytes : List ℕ) (n : ℕ) (p q : Page) (old new : S) → p.state.mode ≡ modes.Passing start
+    → is_free start bytes ≡ true → 0 < n → n ≡ length bytes → n ≡ line_len bytes → Fits p → q ≡ at_mode (modes.Passing starts.Other) p
+    → new ≡ heard hears (each tells.Pass bytes) old → Took hears bytes p q old new n
+took_rest hears start bytes n p q old new m f some all line fits page told =
+    let whole : take n bytes ≡ bytes = take_all n bytes (omega (arith, all)) in
+    took_part hears start bytes n p q old new m (ap (is_free start) whole ∙ f) some (omega (arith, all)) (omega (arith, line)) fits page
+    (told ∙ ap (λ (xs : List ℕ). heard hears (each tells.Pass xs) old) (sym whole))
