@@ -35,9 +35,9 @@ and_second true y h = absurd (let no : false ≡ true = h in cc)
 plain_in : (n b : ℕ) (bs : List ℕ) (newline : Bool) → (b == 10) ≡ newline → (n ≤ line_len bs → is_plain (take n bs) ≡ true)
     → suc n ≤ line_len (b ∷ bs) → is_plain (take (suc n) (b ∷ bs)) ≡ true
 unfolding is_plain
-plain_in n b bs true e more h = absurd (let few : suc n ≤ 0 = subst (λ (t : Bool). suc n ≤ (if t then 0 else 1 + line_len bs)) e h in omega (arith, few))
+plain_in n b bs true e more h = absurd (let few : suc n ≤ 0 = subst (λ (t : Bool). suc n ≤ (if t then 0 else suc (line_len bs))) e h in omega (arith, few))
 plain_in n b bs false e more h =
-    let few : suc n ≤ 1 + line_len bs = subst (λ (t : Bool). suc n ≤ (if t then 0 else 1 + line_len bs)) e h in
+    let few : suc n ≤ suc (line_len bs) = subst (λ (t : Bool). suc n ≤ (if t then 0 else suc (line_len bs))) e h in
     ap (λ (t : Bool). not t && is_plain (take n bs)) e ∙ more (omega (arith, few))
 
 -- those before the first newline
@@ -49,7 +49,7 @@ plain_before (suc n) (b ∷ bs) h = plain_in n b bs (b == 10) refl (plain_before
 
 newline_in : (b : ℕ) (bs : List ℕ) (newline : Bool) → (b == 10) ≡ newline → line_len (b ∷ bs) ≡ 0 → take 1 (b ∷ bs) ≡ 10 ∷ []
 newline_in b bs true e h = grind (arith, common_steps)
-newline_in b bs false e h = absurd (let none : 1 + line_len bs ≡ 0 = subst (λ (t : Bool). (if t then 0 else 1 + line_len bs) ≡ 0) e h in omega (arith, none))
+newline_in b bs false e h = absurd (let none : suc (line_len bs) ≡ 0 = subst (λ (t : Bool). (if t then 0 else suc (line_len bs)) ≡ 0) e h in omega (arith, none))
 
 -- a newline comes first
 pub newline_first : (bytes : List ℕ) → 0 < length bytes → line_len bytes ≡ 0 → take 1 bytes ≡ 10 ∷ []
@@ -208,24 +208,23 @@ is_newline : (b : ℕ) → (b == 10) ≡ true → b ≡ 10
 is_newline b e = grind (arith, common_steps)
 
 line_in : (b : ℕ) (bs : List ℕ) (newline : Bool) → (b == 10) ≡ newline
-    → (line_len bs < length bs → take (line_len bs + 1) bs ≡ take (line_len bs) bs ++ 10 ∷ []) → line_len (b ∷ bs) < length (b ∷ bs)
-    → take (line_len (b ∷ bs) + 1) (b ∷ bs) ≡ take (line_len (b ∷ bs)) (b ∷ bs) ++ 10 ∷ []
+    → (line_len bs < length bs → take (suc (line_len bs)) bs ≡ take (line_len bs) bs ++ 10 ∷ []) → line_len (b ∷ bs) < length (b ∷ bs)
+    → take (suc (line_len (b ∷ bs))) (b ∷ bs) ≡ take (line_len (b ∷ bs)) (b ∷ bs) ++ 10 ∷ []
 line_in b bs true e more h = rw e (ap (λ (x : ℕ). x ∷ []) (is_newline b e))
 line_in b bs false e more h =
-    let few : 1 + line_len bs < 1 + length bs = subst (λ (t : Bool). (if t then 0 else 1 + line_len bs) < 1 + length bs) e h in
+    let few : suc (line_len bs) < suc (length bs) = subst (λ (t : Bool). (if t then 0 else suc (line_len bs)) < suc (length bs)) e h in
     rw e (ap (λ (xs : List ℕ). b ∷ xs) (more (omega (arith, few))))
 
 -- a line and its newline
-pub line_taken : (bytes : List ℕ) → line_len bytes < length bytes → take (line_len bytes + 1) bytes ≡ take (line_len bytes) bytes ++ 10 ∷ []
+pub line_taken : (bytes : List ℕ) → line_len bytes < length bytes → take (suc (line_len bytes)) bytes ≡ take (line_len bytes) bytes ++ 10 ∷ []
 line_taken [] h = absurd (omega (arith, h))
 line_taken (b ∷ bs) h = line_in b bs (b == 10) refl (line_taken bs) h
 
 -- the page after a line
-pub line_on : Page → Page
+abbrev pub line_on : Page → Page
 line_on p = with_state (record p.state { line = p.state.line + 1; mode = modes.Passing starts.Nothing }) p
 
 newline_read : (s : Start) (p : Page) → begins_command s ≡ false → fed (10 ∷ []) (at_mode (modes.Passing s) p) ≡ effect (line_on p) (piece tells.Pass (10 ∷ []) ∷ [])
-unfolding line_on
 newline_read s p f = rw f refl
 
 -- ---- one part after another
@@ -245,7 +244,7 @@ each_append t (x ∷ xs) ys = ap (λ (ps : List Piece). piece t (x ∷ []) ∷ p
 
 -- ---- a line that is no command, and its newline
 
-line_of_two : (b : ℕ) (rest : List ℕ) → (b == 10) ≡ false → line_len (46 ∷ b ∷ rest) ≡ 1 + (1 + line_len rest)
+line_of_two : (b : ℕ) (rest : List ℕ) → (b == 10) ≡ false → line_len (46 ∷ b ∷ rest) ≡ suc (suc (line_len rest))
 line_of_two b rest e = rw e refl
 
 is_point : (a : ℕ) → (a == 46) ≡ true → a ≡ 46
@@ -260,13 +259,14 @@ short_point : (a b : ℕ) (rest : List ℕ) (point : Bool) → (a == 46) ≡ poi
 short_point a b rest false e f n = e
 short_point a b rest true e f n =
     let other : (b == 10) ≡ false = or_second (b == 84) (b == 10) (ap (λ (t : Bool). t && ((b == 84) || (b == 10))) (sym e) ∙ f) in
-    let long : line_len (a ∷ b ∷ rest) ≡ 1 + (1 + line_len rest) = ap (λ (x : ℕ). line_len (x ∷ b ∷ rest)) (is_point a e) ∙ line_of_two b rest other in
+    let long : line_len (a ∷ b ∷ rest) ≡ suc (suc (line_len rest)) = ap (λ (x : ℕ). line_len (x ∷ b ∷ rest)) (is_point a e) ∙ line_of_two b rest other in
     absurd (omega (arith, n, long))
 
 free_front : (n : ℕ) (bytes : List ℕ) → 0 < n → n ≡ line_len bytes → may_command bytes ≡ false → may_command (take n bytes) ≡ false
 free_front zero bytes some n f = absurd (omega (arith, some))
 free_front (suc m) [] some n f = refl
-free_front (suc m) (a ∷ []) some n f = f
+free_front (suc zero) (a ∷ []) some n f = f
+free_front (suc (suc k)) (a ∷ []) some n f = f
 free_front (suc zero) (a ∷ b ∷ rest) some n f = short_point a b rest (a == 46) refl f n
 free_front (suc (suc k)) (a ∷ b ∷ rest) some n f = f
 
@@ -288,7 +288,6 @@ no_command starts.Command bytes f = absurd (let no : false ≡ true = f in cc)
 
 line_read : (n : ℕ) (start : Start) (bytes : List ℕ) (p : Page) → n ≡ line_len bytes → n < length bytes → is_free start bytes ≡ true
     → fed (take n bytes ++ 10 ∷ []) (at_mode (modes.Passing start) p) ≡ effect (line_on p) (each tells.Pass (take n bytes ++ 10 ∷ []))
-unfolding line_on
 line_read zero start bytes p same less f = newline_read start p (no_command start bytes f)
 line_read (suc m) start bytes p same less f =
     let n = suc m in
@@ -304,10 +303,10 @@ line_read (suc m) start bytes p same less f =
 pub took_line : {S : Type 0} (hears : Piece → S → S) (start : Start) (bytes : List ℕ) (n : ℕ) (p q : Page) (old new : S) → p.state.mode ≡ modes.Passing start
     → is_free start bytes ≡ true → n ≡ line_len bytes → n < length bytes → Fits p → q ≡ line_on p
     → new ≡ heard hears (each tells.Pass (take (n + 1) bytes)) old → Took hears bytes p q old new (n + 1)
-unfolding line_on
 took_line hears start bytes n p q old new m f same less fits page told =
     let whole : take (n + 1) bytes ≡ take n bytes ++ 10 ∷ [] =
-        rw same (line_taken bytes (omega (arith, same, less))) in
+        let more : n + 1 ≡ suc (line_len bytes) = omega (arith, same) in
+        rw (more, same) (line_taken bytes (omega (arith, same, less))) in
     let here : p ≡ at_mode (modes.Passing start) p = ap (λ (x : Mode). at_mode x p) m in
     let all : fed (take (n + 1) bytes) p ≡ effect (line_on p) (each tells.Pass (take (n + 1) bytes)) =
         ap (fed (take (n + 1) bytes)) here ∙ ap (λ (xs : List ℕ). fed xs (at_mode (modes.Passing start) p)) whole

@@ -1,11 +1,11 @@
 -- Lines that pass whole.
-use Rattle.std.specs.Prelude.{ℕ, ◌+◌, List, [], ◌∷◌, Bool, true, false, ◌==◌, ◌&&◌, ◌||◌, if◌then◌else◌}
+use Rattle.std.specs.Prelude.{ℕ, suc, List, [], ◌∷◌, Bool, true, false, ◌==◌, ◌&&◌, ◌||◌, if◌then◌else◌}
 use Prim.Native.Char.{code}
 
 -- the bytes before the first newline
 abbrev pub line_len : List ℕ → ℕ
 line_len [] = 0
-line_len (b ∷ bs) = if b == code "\n" then 0 else 1 + line_len bs
+line_len (b ∷ bs) = if b == code "\n" then 0 else suc (line_len bs)
 
 -- a line may begin with `.T`, or is a point alone
 abbrev pub may_command : List ℕ → Bool
