@@ -1,18 +1,20 @@
 -- Bytes that are taken at once are read as if one by one.
-use Rattle.std.proofs.Common.{◌≡◌, ℕ, zero, suc, ◌+◌, ◌-◌, ◌<◌, ◌≤◌, List, [], ◌∷◌, ◌++◌, length, take, drop, Bool, true, false, not, ◌==◌, ◌&&◌, ◌||◌, if◌then◌else◌, refl, sym, ◌∙◌, ap, subst, append_assoc, append-nil, length-append, arith}
+use Rattle.std.proofs.Common.{◌≡◌, ℕ, zero, suc, ◌+◌, ◌-◌, ◌<◌, ◌≤◌, List, [], ◌∷◌, ◌++◌, length, take, drop, Bool, true, false, not, ◌==◌, ◌&&◌, ◌||◌, if◌then◌else◌, refl, sym, ◌∙◌, ap, subst, append_assoc, append-nil, length-append, get_or, arith}
 use Rattle.std.proofs.lemmas.Bool.{le-ltb}
 use Rattle.std.proofs.lemmas.Grind.{common_steps}
 use Rattle.std.proofs.lemmas.List.{length-take, take_all}
 use Rattle.nr_tbl.specs.declared.command.Start.{Start}
 use Rattle.nr_tbl.specs.declared.command.Start.TheVariants as starts
+use Rattle.nr_tbl.specs.declared.passing.Lines.{Lines}
 use Rattle.nr_tbl.specs.declared.state.Mode.{Mode}
 use Rattle.nr_tbl.specs.declared.state.Mode.TheVariants as modes
 use Rattle.nr_tbl.specs.declared.telling.Tell.{Tell}
 use Rattle.nr_tbl.specs.declared.telling.Tell.TheVariants as tells
 use Rattle.nr_tbl.specs.Commands.{start_with, start_if, is_free, begins_command}
-use Rattle.nr_tbl.specs.Pages.{Page, Effect, effect, and_then, at_mode, with_state}
+use Rattle.nr_tbl.specs.Pages.{Page, Effect, Comes, effect, and_then, at_mode, with_state}
+use Rattle.nr_tbl.specs.Outside.{passed, line_passed}
 use Rattle.nr_tbl.specs.Passing.{line_len, may_command}
-use Rattle.nr_tbl.specs.Reading.{read, read_in, fed, kept, kept_more, is_kept, limit_of, limit_in, Fits, Took}
+use Rattle.nr_tbl.specs.Reading.{read, read_in, fed, kept, kept_more, is_kept, limit_of, limit_in, Fits, Took, AreFree, lines_on}
 use Rattle.nr_tbl.specs.Telling.{Piece, piece, each, heard}
 
 or_first : (x y : Bool) → (x || y) ≡ false → x ≡ false
@@ -305,12 +307,12 @@ pub took_line : {S : Type 0} (hears : Piece → S → S) (start : Start) (bytes 
     → new ≡ heard hears (each tells.Pass (take (n + 1) bytes)) old → Took hears bytes p q old new (n + 1)
 took_line hears start bytes n p q old new m f same less fits page told =
     let whole : take (n + 1) bytes ≡ take n bytes ++ 10 ∷ [] =
-        let more : n + 1 ≡ suc (line_len bytes) = omega (arith, same) in
-        rw (more, same) (line_taken bytes (omega (arith, same, less))) in
+    let more : n + 1 ≡ suc (line_len bytes) = omega (arith, same) in
+    rw (more, same) (line_taken bytes (omega (arith, same, less))) in
     let here : p ≡ at_mode (modes.Passing start) p = ap (λ (x : Mode). at_mode x p) m in
     let all : fed (take (n + 1) bytes) p ≡ effect (line_on p) (each tells.Pass (take (n + 1) bytes)) =
-        ap (fed (take (n + 1) bytes)) here ∙ ap (λ (xs : List ℕ). fed xs (at_mode (modes.Passing start) p)) whole
-        ∙ line_read n start bytes p same less f ∙ ap (λ (xs : List ℕ). effect (line_on p) (each tells.Pass xs)) (sym whole) in
+    ap (fed (take (n + 1) bytes)) here ∙ ap (λ (xs : List ℕ). fed xs (at_mode (modes.Passing start) p)) whole
+    ∙ line_read n start bytes p same less f ∙ ap (λ (xs : List ℕ). effect (line_on p) (each tells.Pass xs)) (sym whole) in
     record {
       some = omega arith;
       within = omega (arith, less);
@@ -327,3 +329,86 @@ took_rest hears start bytes n p q old new m f some all line fits page told =
     let whole : take n bytes ≡ bytes = take_all n bytes (omega (arith, all)) in
     took_part hears start bytes n p q old new m (ap (is_free start) whole ∙ f) some (omega (arith, all)) (omega (arith, line)) fits page
     (told ∙ ap (λ (xs : List ℕ). heard hears (each tells.Pass xs) old) (sym whole))
+
+-- ---- many lines
+
+take_nil : (n : ℕ) → take {A = ℕ} n [] ≡ []
+take_nil zero = refl
+take_nil (suc n) = refl
+
+take_add : (m n : ℕ) (xs : List ℕ) → take (m + n) xs ≡ take m xs ++ take n (drop m xs)
+take_add zero n xs = let e : 0 + n ≡ n = omega arith in rw e refl
+take_add (suc m) n [] = let e : suc m + n ≡ suc (m + n) = omega arith in rw e (sym (take_nil n))
+take_add (suc m) n (x ∷ xs) = let e : suc m + n ≡ suc (m + n) = omega arith in rw e (ap (λ (ys : List ℕ). x ∷ ys) (take_add m n xs))
+
+pub free_none : (bytes : List ℕ) → AreFree (record { count = 0; len = 0 }) bytes
+free_none bytes p = let e : p.state.line + 0 ≡ p.state.line = omega arith in rw e refl
+
+-- one line more
+pub free_more : (bytes : List ℕ) (count len n : ℕ) → AreFree (record { count = count; len = len }) bytes → n ≡ line_len (drop len bytes)
+    → n < length (drop len bytes) → may_command (drop len bytes) ≡ false → AreFree (record { count = count + 1; len = len + (n + 1) }) bytes
+free_more bytes count len n free same less other p =
+    let rest = drop len bytes in
+    let q = lines_on count p in
+    let whole : take (n + 1) rest ≡ take n rest ++ 10 ∷ [] =
+    let more : n + 1 ≡ suc (line_len rest) = omega (arith, same) in
+    rw (more, same) (line_taken rest (omega (arith, same, less))) in
+    let all : take (len + (n + 1)) bytes ≡ take len bytes ++ (take n rest ++ 10 ∷ []) =
+    take_add len (n + 1) bytes ∙ ap (λ (xs : List ℕ). take len bytes ++ xs) whole in
+    let sum : (p.state.line + count) + 1 ≡ p.state.line + (count + 1) = omega arith in
+    ap (λ (xs : List ℕ). fed xs (at_mode (modes.Passing starts.Nothing) p)) all
+    ∙ fed_append (take len bytes) (take n rest ++ 10 ∷ []) (at_mode (modes.Passing starts.Nothing) p)
+    ∙ ap (λ (x : Effect). and_then x (fed (take n rest ++ 10 ∷ []))) (free p)
+    ∙ ap (λ (x : Effect). effect x.page (each tells.Pass (take len bytes) ++ x.pieces))
+    (line_read n starts.Nothing rest q same less (ap not other))
+    ∙ ap (λ (k : ℕ). effect (with_state (record p.state { line = k; mode = modes.Passing starts.Nothing }) p) (each tells.Pass (take len bytes) ++ each tells.Pass (take n rest ++ 10 ∷ []))) sum
+    ∙ ap (λ (ps : List Piece). effect (with_state (record p.state { line = p.state.line + (count + 1); mode = modes.Passing starts.Nothing }) p) ps)
+    (sym (each_append tells.Pass (take len bytes) (take n rest ++ 10 ∷ [])) ∙ ap (each tells.Pass) (sym all))
+
+pub took_lines : {S : Type 0} (hears : Piece → S → S) (bytes : List ℕ) (lines : Lines) (p q : Page) (old new : S) → p.state.mode ≡ modes.Passing starts.Nothing
+    → AreFree lines bytes → 0 < lines.len → lines.len ≤ length bytes → lines.count ≤ lines.len → Fits p → q ≡ lines_on lines.count p
+    → new ≡ heard hears (each tells.Pass (take lines.len bytes)) old → Took hears bytes p q old new lines.len
+took_lines hears bytes lines p q old new m free some within few fits page told =
+    let here : p ≡ at_mode (modes.Passing starts.Nothing) p = ap (λ (x : Mode). at_mode x p) m in
+    let all : fed (take lines.len bytes) p ≡ effect (lines_on lines.count p) (each tells.Pass (take lines.len bytes)) =
+    ap (fed (take lines.len bytes)) here ∙ free p in
+    record {
+      some = some;
+      within = within;
+      comes = (page ∙ ap (λ (x : Effect). x.page) (sym all), told ∙ ap (λ (x : Effect). heard hears x.pieces old) (sym all));
+      fits = rw page (subst (λ (x : Mode). length p.kept ≤ limit_in x p.limits) m fits);
+      lines = rw page (omega (arith, few));
+    }
+
+-- ---- one byte
+
+first_byte : (bytes : List ℕ) (b : ℕ) → 0 < length bytes → b ≡ get_or bytes 0 0 → take 1 bytes ≡ b ∷ []
+first_byte [] b some h = absurd (omega (arith, some))
+first_byte (x ∷ xs) b some h = ap (λ (y : ℕ). y ∷ []) (sym h)
+
+record Goes (p q : Page) : Type 0 where
+  pub fits : Fits q
+  pub lines : q.state.line ≤ p.state.line + 1
+
+goes_line : (u : Bool) (s : Start) (p : Page) → Fits (at_mode (modes.Passing s) p) → Goes p (line_passed u p).page
+goes_line true s p fits = record { fits = omega arith; lines = omega arith }
+goes_line false s p fits = record { fits = fits; lines = omega arith }
+
+goes_byte : (b : ℕ) (s : Start) (p : Page) (newline : Bool) → (b == 10) ≡ newline → Fits (at_mode (modes.Passing s) p) → Goes p (passed b s p).page
+goes_byte b s p true e fits = rw e (goes_line (begins_command s) s p fits)
+goes_byte b s p false e fits = rw e (record { fits = fits; lines = omega arith })
+
+pub took_byte : {S : Type 0} (hears : Piece → S → S) (bytes : List ℕ) (b : ℕ) (s : Start) (p q : Page) (old new : S) → p.state.mode ≡ modes.Passing s
+    → 0 < length bytes → b ≡ get_or bytes 0 0 → Fits p → Comes hears (passed b s p) q old new → Took hears bytes p q old new 1
+took_byte hears bytes b s p q old new m some first fits comes =
+    let here : read b p ≡ passed b s p = rw m refl in
+    let all : fed (take 1 bytes) p ≡ passed b s p =
+    ap (λ (xs : List ℕ). fed xs p) (first_byte bytes b some first) ∙ alone (read b p) ∙ here in
+    let goes = goes_byte b s p (b == 10) refl (subst (λ (x : Mode). length p.kept ≤ limit_in x p.limits) m fits) in
+    record {
+      some = omega arith;
+      within = omega (arith, some);
+      comes = (comes.0 ∙ ap (λ (x : Effect). x.page) (sym all), comes.1 ∙ ap (λ (x : Effect). heard hears x.pieces old) (sym all));
+      fits = rw comes.0 goes.fits;
+      lines = rw comes.0 goes.lines;
+    }

@@ -13,7 +13,9 @@ use Rattle.nr_tbl.specs.Outside.{passed, plain_passed, given_up}
 use Rattle.nr_units.specs.declared.source.Fault.{Fault}
 use Rattle.nr_tbl.specs.Pages.{Page, Comes, Effect, effect, and_then, with_state, at_mode, line_counted}
 use Rattle.nr_tbl.specs.RowLines.{line_between, row_line, row_overflown, long_end}
-use Rattle.nr_tbl.specs.Telling.{Piece, piece}
+use Rattle.nr_tbl.specs.declared.command.Start.TheVariants.{Nothing}
+use Rattle.nr_tbl.specs.declared.passing.Lines.{Lines}
+use Rattle.nr_tbl.specs.Telling.{Piece, piece, each}
 
 -- how many bytes are kept at most
 abbrev pub limit_in : Mode → Limits → ℕ
@@ -95,3 +97,14 @@ pub record Took {S : Type 0} (hears : Piece → S → S) (bytes : List ℕ) (p q
 abbrev pub Reads : {S : Type 0} → (Piece → S → S) → List ℕ → Page → Page → S → S → Result ℕ Fault → Type 0
 Reads hears bytes p q old new (Ok n) = Took hears bytes p q old new n
 Reads hears bytes p q old new (Err e) = Unit {0}
+
+-- ---- whole lines
+
+-- the page behind so many lines that passed
+abbrev pub lines_on : ℕ → Page → Page
+lines_on n p = with_state (record p.state { line = p.state.line + n; mode = modes.Passing Nothing }) p
+
+-- these lines pass
+abbrev pub AreFree : Lines → List ℕ → Type 0
+AreFree lines bytes =
+    (p : Page) → fed (take lines.len bytes) (at_mode (modes.Passing Nothing) p) ≡ effect (lines_on lines.count p) (each tells.Pass (take lines.len bytes))

@@ -1,6 +1,7 @@
 //! Lines that pass whole.
 ghost use Rattle.std.specs.Prelude.{◌≡◌, ◌≤◌, length};
 ghost use Rattle.nr_tbl.specs.Passing as specs;
+ghost use Rattle.nr_tbl.specs.Reading.{AreFree};
 
 /// How many bytes stand before the first newline.
 pub(crate) fn line_len(bytes: &[u8]) -> usize
@@ -32,7 +33,11 @@ pub(crate) struct Lines {
 }
 
 /// The whole lines that come first and don't begin with `.T`.
-pub(crate) fn free_lines(bytes: &[u8]) -> Lines {
+pub(crate) fn free_lines(bytes: &[u8]) -> Lines
+    ensures within { result.len ≤ length bytes.now }
+    ensures few { result.count ≤ result.len }
+    ensures free { AreFree result bytes.now }
+{
     let mut lines = Lines { count: 0, len: 0 };
     while lines.len < bytes.len() {
         let rest = &bytes[lines.len..];

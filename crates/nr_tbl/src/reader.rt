@@ -1,5 +1,5 @@
 //! A page is read: lines that pass at once, and those of a table line by line.
-ghost use Rattle.std.specs.Prelude.{◌≡◌, ◌+◌, ◌^◌, ◌<◌, length, drop, true, OnOk};
+ghost use Rattle.std.specs.Prelude.{◌≡◌, ◌+◌, ◌^◌, ◌<◌, ◌≤◌, length, drop, true, OnOk};
 ghost use Rattle.nr_tbl.specs.Commands.{begins_command, is_free};
 ghost use Rattle.nr_tbl.specs.Pages.{Comes, forgotten, with_state, rest_of, line_of};
 ghost use Rattle.nr_tbl.specs.States.{first_state};
@@ -7,6 +7,7 @@ ghost use Rattle.nr_tbl.specs.Reading as reading;
 ghost use Rattle.nr_tbl.specs.RowLines as rows;
 ghost use Rattle.nr_tbl.specs.Outside as specs;
 ghost use Rattle.nr_tbl.specs.declared.state.Mode.TheVariants.{Passing, Plain, BlockLine};
+ghost use Rattle.nr_tbl.specs.declared.command.Start.TheVariants.{Nothing};
 
 use super::command::{Start, is_command, start_of};
 use super::complaint::Kind;
@@ -131,12 +132,26 @@ impl Reader {
         if start.is_free(bytes) {
             return self.passes_line(start, bytes, setter);
         }
-        setter.tell(Tell::Pass, &bytes[..1])?;
-        self.state.mode = Mode::Passing(start.with(bytes[0], b'S'));
-        if bytes[0] == b'\n' {
-            self.passed_line(start, setter)?;
-        }
+        self.passes_byte(start, bytes[0], setter)?;
         Ok(1)
+    }
+
+    /// A byte of a line outside of tables.
+    fn passes_byte<S: Setter>(
+        &mut self,
+        start: Start,
+        byte: u8,
+        setter: &mut S,
+    ) -> Result<(), Fault>
+        requires { self.old.state.line + 1 < 2 ^ 64 }
+        ensures { OnOk result (Comes S.hears (specs.passed byte start self.old) self.new (S.shown setter.old) (S.shown setter.new)) }
+    {
+        setter.tell(Tell::Pass, &[byte])?;
+        if byte == b'\n' {
+            return self.passed_line(start, setter);
+        }
+        self.state.mode = Mode::Passing(start.with(byte, b'S'));
+        Ok(())
     }
 
     /// Whole lines that are no commands.
@@ -145,9 +160,19 @@ impl Reader {
         lines: Lines,
         bytes: &[u8],
         setter: &mut S,
-    ) -> Result<usize, Fault> {
+    ) -> Result<usize, Fault>
+        requires some { 0 < lines.len }
+        requires within { lines.len ≤ length bytes.now }
+        requires few { lines.count ≤ lines.len }
+        requires free { reading.AreFree lines bytes.now }
+        requires lines { self.old.state.line + length bytes.now < 2 ^ 64 }
+        requires mode { self.old.state.mode ≡ Passing Nothing }
+        requires fits { reading.Fits self.old }
+        ensures { reading.Reads S.hears bytes.now self.old self.new (S.shown setter.old) (S.shown setter.new) result }
+    {
         setter.tell(Tell::Pass, &bytes[..lines.len])?;
         self.state.line += lines.count as u64;
+        self.state.mode = Mode::Passing(Start::Nothing);
         Ok(lines.len)
     }
 
@@ -205,12 +230,26 @@ impl Reader {
         requires fits { reading.Fits self.old }
         ensures { reading.Reads S.hears bytes.now self.old self.new (S.shown setter.old) (S.shown setter.new) result }
     {
-        setter.tell(Tell::Pass, &bytes[..1])?;
-        self.state.mode = Mode::Plain(start.with(bytes[0], b'E'));
-        if bytes[0] == b'\n' {
-            self.passed_plain_line(start, setter)?;
-        }
+        self.passes_plain_byte(start, bytes[0], setter)?;
         Ok(1)
+    }
+
+    /// A byte of a line of a table that isn't set.
+    fn passes_plain_byte<S: Setter>(
+        &mut self,
+        start: Start,
+        byte: u8,
+        setter: &mut S,
+    ) -> Result<(), Fault>
+        requires { self.old.state.line + 1 < 2 ^ 64 }
+        ensures { OnOk result (Comes S.hears (specs.plain_passed byte start self.old) self.new (S.shown setter.old) (S.shown setter.new)) }
+    {
+        setter.tell(Tell::Pass, &[byte])?;
+        if byte == b'\n' {
+            return self.passed_plain_line(start, setter);
+        }
+        self.state.mode = Mode::Plain(start.with(byte, b'E'));
+        Ok(())
     }
 
     /// Such a line ends, and began so.
