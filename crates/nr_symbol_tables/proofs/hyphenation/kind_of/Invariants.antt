@@ -1,5 +1,4 @@
 use Rattle.std.proofs.Common.{◌≡◌, ◌<◌, take}
-use Rattle.nr_symbol_tables.specs.Word.{bytes_of}
 use Rattle.nr_symbol_tables.specs.Hyphenation.{kind}
 use Rattle.nr_symbol_tables.proofs.hyphenation.kind_of.Given as goal
 

@@ -1,8 +1,7 @@
-use Rattle.std.proofs.Common.{◌≡◌, ◌+◌, ℕ, List, [], ◌∷◌, ◌++◌, length, map, ap, sym, ◌∙◌, arith, length-append}
-use Rattle.std.proofs.Math.ListN.{set}
+use Rattle.std.proofs.Common.{◌≡◌, ◌+◌, [], ◌∷◌, ◌++◌, length, map, ap, sym, ◌∙◌, arith, length-append}
 use Rattle.std.proofs.lemmas.List.{length-map, map-append}
 use Rattle.nr_symbol_tables.specs.Given.{word_in}
-use Rattle.nr_symbol_tables.specs.Hyphenation.{kind, kinds, earliers, number_at, IsChained}
+use Rattle.nr_symbol_tables.specs.Hyphenation.{kind, kinds, earliers, number_at}
 use Rattle.nr_symbol_tables.specs.declared.hyphenation.Linked.{Linked}
 use Rattle.nr_symbol_tables.proofs.Chaining.{chained_more, length-kinds}
 use Rattle.nr_symbol_tables.proofs.hyphenation.HyphenationWords.push.Goals as goal
