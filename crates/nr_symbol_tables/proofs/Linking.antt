@@ -81,7 +81,7 @@ module _ (ks : List ℕ) (c : ℕ) where
     }
 
     module _ (e : ℕ) (h : AreChains (ks ++ c ∷ []) (es ++ e ∷ []) ls) where
-      popped_first : (d : ℕ) → d < 1024 → d ≢ c → IsLastOf ks d (length ks) (place_in ls d)
+      popped_first : (d : ℕ) → d < 512 → d ≢ c → IsLastOf ks d (length ks) (place_in ls d)
       popped_first d few other =
           let l : IsLastOf (ks ++ c ∷ []) d (length (ks ++ c ∷ [])) (place_in ls d) = h.first d few in
           let within = l.within in
@@ -112,16 +112,16 @@ module _ (ks : List ℕ) (c : ℕ) where
 
 -- all links but that of the entry itself
 pub record AreChainsBut (kinds earlier latest : List ℕ) (p : ℕ) : Type 0 where
-  pub first : (c : ℕ) → c < 1024 → IsLastOf kinds c (length kinds) (place_in latest c)
-  pub next : (k c : ℕ) → k ≢ p → k < length kinds → place_in kinds k ≡ c → c < 1024 → IsLastOf kinds c k (place_in earlier k)
+  pub first : (c : ℕ) → c < 512 → IsLastOf kinds c (length kinds) (place_in latest c)
+  pub next : (k c : ℕ) → k ≢ p → k < length kinds → place_in kinds k ≡ c → c < 512 → IsLastOf kinds c k (place_in earlier k)
 
 module _ (ks new es ls : List ℕ) (c p over at to : ℕ)
     (same_length : length new ≡ length ks) (same : (j : ℕ) → j ≢ p → place_in new j ≡ place_in ks j)
-    (was_apart : (e : ℕ) → e < 1024 → e ≢ c → place_in ks p ≡ e → ⊥) (is_apart : (e : ℕ) → e < 1024 → e ≢ c → place_in new p ≡ e → ⊥)
-    (few : c < 1024) (low : c < length ls) (long : length es ≡ length ks) (inside : p < length ks)
+    (was_apart : (e : ℕ) → e < 512 → e ≢ c → place_in ks p ≡ e → ⊥) (is_apart : (e : ℕ) → e < 512 → e ≢ c → place_in new p ≡ e → ⊥)
+    (few : c < 512) (low : c < length ls) (long : length es ≡ length ks) (inside : p < length ks)
     (h : AreChains ks es ls) (link : IsLink ks es ls c p over at)
     (goes : (k : ℕ) → p < k → ((j : ℕ) → p < j → j < k → place_in ks j ≡ c → ⊥) → IsLastOf new c k to) where
-  other : (e k a : ℕ) → e < 1024 → e ≢ c → IsLastOf ks e k a → IsLastOf new e k a
+  other : (e k a : ℕ) → e < 512 → e ≢ c → IsLastOf ks e k a → IsLastOf new e k a
   other e k a less off l = record {
     within = l.within;
     is = λ some. elim (cases_eq (a - 1) p) [
@@ -156,14 +156,14 @@ module _ (ks new es ls : List ℕ) (c p over at to : ℕ)
       let under = link.below in
       l.last k (omega arith) below is
 
-  first_first : over ≡ 0 → (d : ℕ) → d < 1024 → IsLastOf new d (length new) (place_in (set ls c to) d)
+  first_first : over ≡ 0 → (d : ℕ) → d < 512 → IsLastOf new d (length new) (place_in (set ls c to) d)
   first_first none d less = subst (λ n. IsLastOf new d n (place_in (set ls c to) d)) (sym same_length)
       (set_at_case (λ a. IsLastOf new d (length ks) a) ls c to d low
       (λ is_c. subst (λ x. IsLastOf new x (length ks) to) (sym is_c)
       (near (length ks) (place_in ls c) inside (let begins = link.begins none in let under = link.below in omega arith) (h.first c few)))
       (λ off. other d (length ks) (place_in ls d) less off (h.first d less)))
 
-  first_next : over ≡ 0 → (k d : ℕ) → k ≢ p → k < length new → place_in new k ≡ d → d < 1024 → IsLastOf new d k (place_in es k)
+  first_next : over ≡ 0 → (k d : ℕ) → k ≢ p → k < length new → place_in new k ≡ d → d < 512 → IsLastOf new d k (place_in es k)
   first_next none k d away below is less =
       let old : place_in ks k ≡ d = sym (same k away) ∙ is in
       let l = h.next k d (omega (arith, same_length)) old less in
@@ -210,14 +210,14 @@ module _ (ks new es ls : List ℕ) (c p over at to : ℕ)
           ]
         ]
 
-    next_first : (d : ℕ) → d < 1024 → IsLastOf new d (length new) (place_in ls d)
+    next_first : (d : ℕ) → d < 512 → IsLastOf new d (length new) (place_in ls d)
     next_first d less = subst (λ n. IsLastOf new d n (place_in ls d)) (sym same_length)
         (elim (cases_eq d c) [
           | inl is_c ↦ subst (λ x. IsLastOf new x (length ks) (place_in ls x)) (sym is_c) (beyond (length ks) (place_in ls c) higher (h.first c few))
           | inr off ↦ other d (length ks) (place_in ls d) less off (h.first d less)
         ])
 
-    next_next : (k d : ℕ) → k ≢ p → k < length new → place_in new k ≡ d → d < 1024 → IsLastOf new d k (place_in (set es (over - 1) to) k)
+    next_next : (k d : ℕ) → k ≢ p → k < length new → place_in new k ≡ d → d < 512 → IsLastOf new d k (place_in (set es (over - 1) to) k)
     next_next k d away below is less =
         let old : place_in ks k ≡ d = sym (same k away) ∙ is in
         let l = h.next k d (omega (arith, same_length)) old less in
@@ -262,22 +262,22 @@ length-begun over c to ls = elim (cases_eq over 0) [
 ]
 
 module _ (ks es ls : List ℕ) (c d p over at above under : ℕ)
-    (few : c < 1024) (few_too : d < 1024) (off : d ≢ c) (many : length ls ≡ 1024) (long : length es ≡ length ks) (inside : p < length ks)
+    (few : c < 512) (few_too : d < 512) (off : d ≢ c) (many : length ls ≡ 512) (long : length es ≡ length ks) (inside : p < length ks)
     (was : place_in ks p ≡ c) (h : AreChains ks es ls) (link : IsLink ks es ls c p over at) (found : IsLink ks es ls d p above under) where
   abbrev to : ℕ
   to = place_in es p
 
   abbrev hole : List ℕ
-  hole = set ks p 1024
+  hole = set ks p 512
 
-  at_hole : place_in hole p ≡ 1024
-  at_hole = get_or-set_same ks p 1024 0 inside
+  at_hole : place_in hole p ≡ 512
+  at_hole = get_or-set_same ks p 512 0 inside
 
   away_hole : (j : ℕ) → j ≢ p → place_in hole j ≡ place_in ks j
-  away_hole j away = get_or-set_other ks p j 1024 0 away
+  away_hole j away = get_or-set_other ks p j 512 0 away
 
   same_hole : length hole ≡ length ks
-  same_hole = length-set ks p 1024
+  same_hole = length-set ks p 512
 
   left_goes : (k : ℕ) → p < k → ((j : ℕ) → p < j → j < k → place_in ks j ≡ c → ⊥) → IsLastOf hole c k to
   left_goes k past none =
@@ -287,7 +287,7 @@ module _ (ks es ls : List ℕ) (c d p over at above under : ℕ)
         within = omega arith;
         is = λ some. away_hole (to - 1) (λ e. omega arith) ∙ l.is some;
         last = λ j from below is. elim (cases_order j p) [
-          | inl here ↦ (let wrong : 1024 ≡ c = sym at_hole ∙ ap (place_in hole) (sym here) ∙ is in omega arith)
+          | inl here ↦ (let wrong : 512 ≡ c = sym at_hole ∙ ap (place_in hole) (sym here) ∙ is in omega arith)
           | inr off_p ↦ elim off_p [
             | inl before ↦ l.last j from before (sym (away_hole j (λ e. omega arith)) ∙ is)
             | inr behind ↦ none j behind below (sym (away_hole j (λ e. omega arith)) ∙ is)
@@ -303,14 +303,14 @@ module _ (ks es ls : List ℕ) (c d p over at above under : ℕ)
 
   left_but : AreChainsBut hole es1 ls1 p
   left_but = led_elsewhere ks hole es ls c p over at to same_hole away_hole
-      (λ e less apart is. apart (sym is ∙ was)) (λ e less apart is. (let wrong : 1024 ≡ e = sym at_hole ∙ is in omega arith))
+      (λ e less apart is. apart (sym is ∙ was)) (λ e less apart is. (let wrong : 512 ≡ e = sym at_hole ∙ is in omega arith))
       few (omega arith) long inside h link left_goes
 
   left_chains : AreChains hole es1 ls1
   left_chains = record {
     first = left_but.first;
     next = λ k e below is less. elim (cases_eq k p) [
-      | inl here ↦ absurd (let wrong : 1024 ≡ e = sym at_hole ∙ ap (place_in hole) (sym here) ∙ is in omega arith)
+      | inl here ↦ absurd (let wrong : 512 ≡ e = sym at_hole ∙ ap (place_in hole) (sym here) ∙ is in omega arith)
       | inr away ↦ left_but.next k e away below is less
     ];
   }
@@ -360,7 +360,7 @@ module _ (ks es ls : List ℕ) (c d p over at above under : ℕ)
 
   put_but : AreChainsBut new (led above (p + 1) es1) (begun above d (p + 1) ls1) p
   put_but = led_elsewhere hole new es1 ls1 d p above under (p + 1) same_new away_new
-      (λ e less apart is. (let wrong : 1024 ≡ e = sym at_hole ∙ is in omega arith)) (λ e less apart is. apart (sym is ∙ at_new))
+      (λ e less apart is. (let wrong : 512 ≡ e = sym at_hole ∙ is in omega arith)) (λ e less apart is. apart (sym is ∙ at_new))
       few_too (omega (arith, length-begun over c to ls)) (length-led over to es ∙ long ∙ sym same_hole) (omega (arith, same_hole)) left_chains found_there put_goes
 
   abbrev es2 : List ℕ
@@ -372,7 +372,7 @@ module _ (ks es ls : List ℕ) (c d p over at above under : ℕ)
       let low = found_there.below in
       let inside_hole : p < length hole = omega (arith, same_hole) in
       let shown : (k : ℕ) → p < k → IsLastOf hole d k under → IsLastOf hole d p under = λ k past l. (
-      let not_here : under ≡ p + 1 → ⊥ = λ e. (let wrong : 1024 ≡ d = sym at_hole ∙ ap (place_in hole) (omega arith) ∙ l.is (omega arith) in omega arith) in
+      let not_here : under ≡ p + 1 → ⊥ = λ e. (let wrong : 512 ≡ d = sym at_hole ∙ ap (place_in hole) (omega arith) ∙ l.is (omega arith) in omega arith) in
       let within : under ≤ p = elim (cases_lt p under) [
         | inl beyond ↦ absurd (not_here (omega arith))
         | inr inside ↦ inside
@@ -404,7 +404,7 @@ chains_same ks es ls p c inside is h =
     subst (λ xs. AreChains xs (set es p (place_in es p)) ls) (sym same_ks) (subst (λ xs. AreChains ks xs ls) (sym same_es) h)
 
 -- one entry in the place of another, of another kind, by the links that were found
-pub chains_put : (ks es ls : List ℕ) (c d at to over left above under : ℕ) → c < 1024 → d < 1024 → d ≢ c → length ls ≡ 1024 → length es ≡ length ks → 0 < at → at ≤ length ks
+pub chains_put : (ks es ls : List ℕ) (c d at to over left above under : ℕ) → c < 512 → d < 512 → d ≢ c → length ls ≡ 512 → length es ≡ length ks → 0 < at → at ≤ length ks
     → place_in ks (at - 1) ≡ c → place_in es (at - 1) ≡ to → AreChains ks es ls → IsLink ks es ls c (at - 1) over left → IsLink ks es ls d (at - 1) above under
     → AreChains (set ks (at - 1) d) (set (led above at (led over to es)) (at - 1) under) (begun above d at (begun over c to ls))
 chains_put ks es ls c d at to over left above under few few_too off many long some within was is h link found =

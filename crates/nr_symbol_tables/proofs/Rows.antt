@@ -41,7 +41,7 @@ length-earliers row = length-map row (λ (e : Entry _). e.earlier)
 
 -- ---- from one entry of a kind to the one before it
 
-module _ {V : Type 0} (row : List (Entry V)) (latest : List ℕ) (c : ℕ) (few : c < 1024) (h : AreChains (kinds (map named row)) (earliers row) latest) where
+module _ {V : Type 0} (row : List (Entry V)) (latest : List ℕ) (c : ℕ) (few : c < 512) (h : AreChains (kinds (map named row)) (earliers row) latest) where
   pub first_within : place_in latest c ≤ length row
   first_within = let l = h.first c few in omega (arith, l.within, length-kinds row)
 
@@ -221,8 +221,8 @@ module _ {V : Type 0} (row new : List (Entry V)) (latest : List ℕ) (at : ℕ) 
       rw (kinds_are, all_links) (chains_same ks es latest (at - 1) (kind n.name) (omega arith) there h)
 
   -- of another kind
-  module _ (first second : List (Entry V)) (ls ms : List ℕ) (c d over left above under : ℕ) (c_is : c ≡ kind gone.name) (d_is : d ≡ kind n.name) (few : c < 1024) (few_too : d < 1024) (off : c ≢ d)
-      (many : length latest ≡ 1024)
+  module _ (first second : List (Entry V)) (ls ms : List ℕ) (c d over left above under : ℕ) (c_is : c ≡ kind gone.name) (d_is : d ≡ kind n.name) (few : c < 512) (few_too : d < 512) (off : c ≢ d)
+      (many : length latest ≡ 512)
       (link : IsLink (kinds (map named row)) (earliers row) latest c (at - 1) over left) (found : IsLink (kinds (map named row)) (earliers row) latest d (at - 1) above under)
       (one : IsLed c over gone.earlier row first latest ls) (two : IsLed d above at first second ls ms) where
     pub chains_moved : map named new ≡ set (map named second) (at - 1) n → earliers new ≡ set (earliers second) (at - 1) under → AreChains (kinds (map named new)) (earliers new) ms

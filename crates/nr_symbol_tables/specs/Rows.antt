@@ -24,12 +24,12 @@ abbrev pub AreApart : {X : Type 0} → List (Named X) → Type 0
 AreApart [] = Unit {0}
 AreApart (n ∷ ns) = (find n.name ns ≡ None) × AreApart ns
 
--- the kind of a name, of 1024: those of more than two bytes have the second half
+-- the kind of a name, of 512: where it has more than two bytes, by all of them
 abbrev pub long_kind : List ℕ → ℕ
 long_kind bytes = fold (λ k b. (k * 31 + b) % 512) 0 bytes
 
 abbrev pub kind : List ℕ → ℕ
-kind name = if nat_lt 2 (length name) then 512 + long_kind name else kind_of_name name
+kind name = if nat_lt 2 (length name) then long_kind name else kind_of_name name
 
 -- the names, their kinds, and what each is linked to
 abbrev pub names : {X : Type 0} → List (Named X) → List (List ℕ)
@@ -61,8 +61,8 @@ pub record IsLastOf (kinds : List ℕ) (c k at : ℕ) : Type 0 where
 
 -- each kind has its last entry, and each entry the last of its kind before it
 pub record AreChains (kinds earlier latest : List ℕ) : Type 0 where
-  pub first : (c : ℕ) → c < 1024 → IsLastOf kinds c (length kinds) (place_in latest c)
-  pub next : (k c : ℕ) → k < length kinds → place_in kinds k ≡ c → c < 1024 → IsLastOf kinds c k (place_in earlier k)
+  pub first : (c : ℕ) → c < 512 → IsLastOf kinds c (length kinds) (place_in latest c)
+  pub next : (k c : ℕ) → k < length kinds → place_in kinds k ≡ c → c < 512 → IsLastOf kinds c k (place_in earlier k)
 
 -- the chain of a kind comes to a place or passes it: from an entry after that place, counted from 1, or from its beginning, which is 0
 pub record IsLink (kinds earlier latest : List ℕ) (c p over to : ℕ) : Type 0 where

@@ -11,7 +11,7 @@ use std::alloc::{AllocError, Global};
 use std::marker::Model;
 
 /// How many kinds of words there are.
-const KINDS: usize = 1024;
+const KINDS: usize = 256;
 
 /// A word, and the latest of its kind before it: its place counted from 1, or 0.
 #[derive(Clone, Copy, Drop)]
@@ -23,7 +23,7 @@ pub(crate) struct Linked {
 // The kind of a word with these letters.
 fn kind_of(letters: &[u8]) -> usize
     ensures is { result ≡ kind letters.now }
-    ensures few { result < 1024 }
+    ensures few { result < 256 }
 {
     let mut kind = 0;
     for letter in letters {
@@ -35,7 +35,7 @@ fn kind_of(letters: &[u8]) -> usize
 // The kind of a word whose letters are the bytes of these cells.
 fn kind_of_cells(cells: &[Cell]) -> usize
     ensures is { result ≡ kind (bytes_of cells.now) }
-    ensures few { result < 1024 }
+    ensures few { result < 256 }
 {
     let mut kind = 0;
     for cell in cells {
@@ -78,7 +78,7 @@ fn latest_given(row: &[Linked], latest: &[usize; KINDS], cells: &[Cell]) -> usiz
 
 /// Hyphenation words, with room for a number of them that stays; `new` is the only call that allocates. A clause sees
 /// the last that came as the first, and the room, the greatest number of words. A word is found among those of its
-/// kind, of 1024 kinds.
+/// kind, of 256 kinds.
 #[derive(Drop)]
 pub struct HyphenationWords {
     row: FixedVec<Linked>,

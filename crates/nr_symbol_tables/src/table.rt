@@ -8,8 +8,8 @@ use nr_units::Name;
 use std::alloc::{AllocError, Global};
 use std::marker::Model;
 
-/// How many kinds of names there are, one half of them for names of at most two bytes.
-const KINDS: usize = 1024;
+/// How many kinds of names there are.
+const KINDS: usize = 512;
 
 /// A name and what has it.
 #[derive(Clone, Copy, Drop)]
@@ -46,10 +46,10 @@ fn long_kind(bytes: &[u8]) -> usize
 // The kind of a name.
 fn kind_of(name: &Name) -> usize
     ensures is { result ≡ kind name.now }
-    ensures few { result < 1024 }
+    ensures few { result < 512 }
 {
     if name.len() > 2 {
-        return 512 + long_kind(name.as_bytes());
+        return long_kind(name.as_bytes());
     }
     usize::from(name.kind())
 }
@@ -92,7 +92,7 @@ struct Link {
 // The link of a kind at a place that is counted from 1.
 fn link_at<V: Copy>(row: &[Entry<V>], latest: &[usize; KINDS], kind: usize, at: usize) -> Link
     requires chained { AreChains (kinds (map named row.now)) (earliers row.now) latest.now }
-    requires few { kind < 1024 }
+    requires few { kind < 512 }
     requires some { 0 < at }
     ensures { IsLink (kinds (map named row.now)) (earliers row.now) latest.now kind (at - 1) result.over result.to }
 {
@@ -113,7 +113,7 @@ fn lead<V: Copy>(
     over: usize,
     to: usize,
 )
-    requires few { kind < 1024 }
+    requires few { kind < 512 }
     requires within { over ≤ length row.old.items }
     ensures led { IsLed kind over to row.old.items row.new.items latest.old latest.new }
     ensures room { row.new.room ≡ row.old.room }
@@ -133,7 +133,7 @@ fn lead<V: Copy>(
     );
 }
 
-/// What has a name, with room for a number of names that stays. A name is found among those of its kind alone, of 1024
+/// What has a name, with room for a number of names that stays. A name is found among those of its kind alone, of 512
 /// kinds, and takes no other's place when it is new or goes.
 ///
 /// Clauses see the list of names with their values, in the order of the names, and the room, the greatest number of names.

@@ -11,7 +11,7 @@ loop-at-init g c =
     let d = kind c.args.name.now in
     let low = c.kind_of.ensures.few in
     let is_kind = c.kind_of.ensures.is in
-    let few : d < 1024 = omega arith in
+    let few : d < 512 = omega arith in
     rw c.kind_of.ensures.is
     (record {
       within = first_within row latest d few c.requires;
@@ -27,7 +27,7 @@ loop-at-preserved g c =
     let d = kind name in
     let low = c.kind_of.ensures.few in
     let is_kind = c.kind_of.ensures.is in
-    let few : d < 1024 = omega arith in
+    let few : d < 512 = omega arith in
     let at = c.loop-at.at in
     let e = c.index-row-at.result in
     let some = c.loop-at-test.true in
@@ -57,7 +57,7 @@ loop-at-smaller g c =
     let d = kind c.args.name.now in
     let low = c.kind_of.ensures.few in
     let is_kind = c.kind_of.ensures.is in
-    let few : d < 1024 = omega arith in
+    let few : d < 512 = omega arith in
     let at = c.loop-at.at in
     let e = c.index-row-at.result in
     let some = c.loop-at-test.true in

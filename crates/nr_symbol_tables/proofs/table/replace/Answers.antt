@@ -63,7 +63,7 @@ returns-clause-chains g c =
     let here = get_or_from_slice_get row (c.args.at - 1) gone gone c.get-gone.ensures in
     let left = rw c.as_slice.ensures.value at c.link_at-left.ensures in
     let found = rw c.as_slice-2.ensures.value at c.link_at-found.ensures in
-    let many : length c.args.latest.now ≡ 1024 =
+    let many : length c.args.latest.now ≡ 512 =
     sym (length-begun c.link_at-left.result.over c.kind_of-from.result gone.earlier c.args.latest.now) ∙ sym (ap length c.lead.ensures.led.begins) ∙ c.lead.array_long in
     chains_moved row c.put_at-2.new.row.items c.args.latest.now c.args.at gone (named c.args.entry) c.requires.some c.requires.within here c.requires.chains
     c.lead.new.row.items c.lead-2.new.row.items c.lead.new.latest c.lead-2.new.latest c.kind_of-from.result c.kind_of-kind.result

@@ -2,4 +2,4 @@ use Rattle.nr_symbol_tables.proofs.Rows.{linked_none}
 use Rattle.nr_symbol_tables.proofs.table.Table.new.Goals as goal
 
 pub invariant_of-result : goal.invariant_of-result
-invariant_of-result g c = rw c.in_ok-new.ensures (linked_none 1024)
+invariant_of-result g c = rw c.in_ok-new.ensures (linked_none 512)
