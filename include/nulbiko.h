@@ -10,7 +10,7 @@
  *
  * Units. Lengths, and places in a text, are bytes. Cells are columns of the terminal.
  *
- * Threads. Calls share nothing: any number may run at once, each with an output and a report of its own. Not for
+ * Threads. Calls share nothing: any number may run at once, each with an output, a report and a desk of its own. Not for
  * signal handlers, since a call allocates.
  *
  * Memory. A call takes what its limits say and room for the output, and gives all of it back. It writes no file,
@@ -31,7 +31,7 @@
 extern "C" {
 #endif
 
-/* How a call went. At 2, 3 and 5 nothing was done: the output is as it was, and the report has zeros. */
+/* How a call went. At 2, 3, 5, 7 and 8 nothing was done: the output is as it was, and the report has zeros. */
 enum nulbiko_outcome {
     NULBIKO_DONE = 0,          /* All went into the output. */
     NULBIKO_LIMIT = 1,         /* The next move would pass the limit `limit`, behind `at` bytes of the text; the
@@ -41,7 +41,9 @@ enum nulbiko_outcome {
     NULBIKO_FULL = 4,          /* The output is too small: it has what fits. Call again with a larger one; there is
                                 * no call that goes on where this one stopped. */
     NULBIKO_OUT_OF_MEMORY = 5, /* malloc gave none. */
-    NULBIKO_TOO_LONG = 6       /* The text has 2^40 bytes or more. */
+    NULBIKO_TOO_LONG = 6,      /* The text has 2^40 bytes or more. */
+    NULBIKO_NO_DESK = 7,       /* The desk was not taken, or was given back. */
+    NULBIKO_DESK_IN_USE = 8    /* The desk was taken, and not given back. */
 };
 
 /* The limits of nulbiko_format, by what the report calls them. */
@@ -80,6 +82,13 @@ struct nulbiko_options {
                     * 2147483647 sets nothing. */
 };
 
+/* A desk: the memory of runs under limits, taken once. Begin with zeros, as in `struct nulbiko_desk desk = {0};`, and
+ * set or copy nothing in it. It may be used by one thread, and by one call at a time. */
+struct nulbiko_desk {
+    void *memory;
+    bool is_taken;
+};
+
 /* What a call tells beside its outcome. */
 struct nulbiko_report {
     size_t written; /* Bytes at the front of the output. */
@@ -93,6 +102,11 @@ struct nulbiko_report {
 uint32_t nulbiko_format_lent(const struct nulbiko_limits *limits, const struct nulbiko_options *options,
                              const uint8_t *input, size_t length, uint8_t *output, size_t capacity,
                              struct nulbiko_report *report);
+uint32_t nulbiko_desk_new_lent(const struct nulbiko_limits *limits, struct nulbiko_desk *desk);
+uint32_t nulbiko_desk_format_lent(struct nulbiko_desk *desk, const struct nulbiko_options *options,
+                                  const uint8_t *input, size_t length, uint8_t *output, size_t capacity,
+                                  struct nulbiko_report *report);
+uint32_t nulbiko_desk_free_lent(struct nulbiko_desk *desk);
 uint32_t nulbiko_preconv_lent(bool eight_bit, const uint8_t *input, size_t length, uint8_t *output,
                               size_t capacity, struct nulbiko_report *report);
 uint32_t nulbiko_mdoc_lent(const uint8_t *input, size_t length, uint8_t *output, size_t capacity,
@@ -120,6 +134,37 @@ static inline enum nulbiko_outcome nulbiko_format(const struct nulbiko_limits *l
         return nulbiko_null(report);
     return (enum nulbiko_outcome)nulbiko_format_lent(limits, options, input ? (const uint8_t *)input : &none,
                                                      length, output ? (uint8_t *)output : &none, capacity, report);
+}
+
+/* Takes a desk under limits. */
+static inline enum nulbiko_outcome nulbiko_desk_new(const struct nulbiko_limits *limits, struct nulbiko_desk *desk)
+{
+    if (!limits || !desk)
+        return NULBIKO_NULL;
+    return (enum nulbiko_outcome)nulbiko_desk_new_lent(limits, desk);
+}
+
+/* Formats a text in a desk, as nulbiko_format does under its limits. Whatever the outcome is, the desk is as good as
+ * new behind it. */
+static inline enum nulbiko_outcome nulbiko_desk_format(struct nulbiko_desk *desk,
+                                                       const struct nulbiko_options *options, const void *input,
+                                                       size_t length, void *output, size_t capacity,
+                                                       struct nulbiko_report *report)
+{
+    uint8_t none = 0;
+    if (!desk || !options || !report || (!input && length) || (!output && capacity))
+        return nulbiko_null(report);
+    return (enum nulbiko_outcome)nulbiko_desk_format_lent(desk, options, input ? (const uint8_t *)input : &none,
+                                                          length, output ? (uint8_t *)output : &none, capacity,
+                                                          report);
+}
+
+/* Gives a desk back. It may be taken again. */
+static inline enum nulbiko_outcome nulbiko_desk_free(struct nulbiko_desk *desk)
+{
+    if (!desk)
+        return NULBIKO_NULL;
+    return (enum nulbiko_outcome)nulbiko_desk_free_lent(desk);
 }
 
 /* Turns what manual pages use into the language of nulbiko_format, as preconv does. With `eight_bit` letters of

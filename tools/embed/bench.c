@@ -1,6 +1,8 @@
 /* Formats pages on threads, and tells pages a second and memory.
  *
- *   bench THREADS TMAC PAGE ..
+ *   bench [-d] THREADS TMAC PAGE ..
+ *
+ * With -d each thread keeps a desk.
  */
 #define _GNU_SOURCE
 #include "nulbiko.h"
@@ -20,6 +22,7 @@ static char head[1 << 20];
 static size_t head_length;
 static char **pages;
 static int count;
+static bool keeps_desk;
 static atomic_int next_page, ended[NULBIKO_TOO_LONG + 1];
 
 struct buffers {
@@ -46,7 +49,7 @@ static size_t read_file(const char *name, char *bytes, size_t most)
     return length;
 }
 
-static enum nulbiko_outcome format_page(const char *name, struct buffers *b)
+static enum nulbiko_outcome format_page(const char *name, struct buffers *b, struct nulbiko_desk *desk)
 {
     struct nulbiko_report report;
     size_t length = read_file(name, b->page, MOST);
@@ -56,15 +59,22 @@ static enum nulbiko_outcome format_page(const char *name, struct buffers *b)
     outcome = nulbiko_tbl(78, b->turned, report.written, b->whole + head_length, MOST - head_length, &report);
     if (outcome != NULBIKO_DONE)
         return outcome;
-    return nulbiko_format(&limits, &options, b->whole, head_length + report.written, b->out, MOST, &report);
+    size_t whole = head_length + report.written;
+    if (keeps_desk)
+        return nulbiko_desk_format(desk, &options, b->whole, whole, b->out, MOST, &report);
+    return nulbiko_format(&limits, &options, b->whole, whole, b->out, MOST, &report);
 }
 
 static void *work(void *nothing)
 {
     struct buffers b = {buffer(), buffer(), buffer(), buffer()};
+    struct nulbiko_desk desk = {0};
     memcpy(b.whole, head, head_length);
+    if (keeps_desk && nulbiko_desk_new(&limits, &desk) != NULBIKO_DONE)
+        exit(5);
     for (int at = next_page++; at < count; at = next_page++)
-        ended[format_page(pages[at], &b)]++;
+        ended[format_page(pages[at], &b, &desk)]++;
+    nulbiko_desk_free(&desk);
     return nothing;
 }
 
@@ -77,6 +87,9 @@ static double seconds(clockid_t clock)
 
 int main(int words, char **word)
 {
+    keeps_desk = words > 1 && !strcmp(word[1], "-d");
+    word += keeps_desk;
+    words -= keeps_desk;
     int threads = words > 3 ? atoi(word[1]) : 0;
     if (threads < 1 || threads > 64)
         return 2;
@@ -94,9 +107,9 @@ int main(int words, char **word)
     double took = seconds(CLOCK_MONOTONIC) - begun;
     struct rusage usage;
     getrusage(RUSAGE_SELF, &usage);
-    printf("%d threads: %d pages, %d done, %d at a limit, %d full; %.0f pages a second, %.1f ms of a processor a page, "
+    printf("%d threads%s: %d pages, %d done, %d at a limit, %d full; %.0f pages a second, %.1f ms of a processor a page, "
            "%ld kB at most\n",
-           threads, count, ended[NULBIKO_DONE], ended[NULBIKO_LIMIT], ended[NULBIKO_FULL], count / took,
+           threads, keeps_desk ? " with desks" : "", count, ended[NULBIKO_DONE], ended[NULBIKO_LIMIT], ended[NULBIKO_FULL], count / took,
            1000 * seconds(CLOCK_PROCESS_CPUTIME_ID) / count, usage.ru_maxrss);
     return ended[NULBIKO_DONE] != count;
 }

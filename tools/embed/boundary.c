@@ -135,6 +135,38 @@ static void outcomes(void)
     judge("tbl: full", nulbiko_tbl(78, "word\n", 5, out, 2, &report) == NULBIKO_FULL && put_out("wo"));
 }
 
+static enum nulbiko_outcome format_in(struct nulbiko_desk *desk, const char *bytes, size_t capacity)
+{
+    prepare();
+    return nulbiko_desk_format(desk, &options, bytes, strlen(bytes), out, capacity, &report);
+}
+
+static void desks(void)
+{
+    const struct nulbiko_limits narrow = {64, 1, 6, 1}, bad = {63, 1, 6, 1};
+    struct nulbiko_desk desk = {0};
+    judge("desk: null", nulbiko_desk_new(NULL, &desk) == NULBIKO_NULL && nulbiko_desk_new(&plain, NULL) == NULBIKO_NULL &&
+                            format_in(NULL, text, 9) == NULBIKO_NULL && nothing_done() && nulbiko_desk_free(NULL) == NULBIKO_NULL);
+    judge("desk: before it is taken", format_in(&desk, text, sizeof out) == NULBIKO_NO_DESK && nothing_done() &&
+                                          nulbiko_desk_free(&desk) == NULBIKO_NO_DESK && !desk.is_taken);
+    judge("desk: out of range", nulbiko_desk_new(&bad, &desk) == NULBIKO_OUT_OF_RANGE && !desk.is_taken);
+    judge("desk: after that", format_in(&desk, text, sizeof out) == NULBIKO_NO_DESK && nothing_done());
+    judge("desk: taken", nulbiko_desk_new(&narrow, &desk) == NULBIKO_DONE && desk.is_taken);
+    judge("desk: taken twice", nulbiko_desk_new(&narrow, &desk) == NULBIKO_DESK_IN_USE && desk.is_taken);
+    judge("desk: a limit", format_in(&desk, "longword\n", sizeof out) == NULBIKO_LIMIT && put_out("") &&
+                               report.limit == NULBIKO_LINE_CELLS && report.at == 7);
+    judge("desk: good after a limit", format_in(&desk, text, sizeof out) == NULBIKO_DONE && put_out("a\nb\n"));
+    judge("desk: full", format_in(&desk, text, 3) == NULBIKO_FULL && put_out("a\nb"));
+    judge("desk: good after that", format_in(&desk, text, sizeof out) == NULBIKO_DONE && put_out("a\nb\n"));
+    judge("desk: no text", nulbiko_desk_format(&desk, &options, NULL, 1, out, 9, &report) == NULBIKO_NULL);
+    judge("desk: given back", nulbiko_desk_free(&desk) == NULBIKO_DONE && !desk.is_taken);
+    judge("desk: given back twice", nulbiko_desk_free(&desk) == NULBIKO_NO_DESK);
+    judge("desk: after it is given back", format_in(&desk, text, sizeof out) == NULBIKO_NO_DESK && nothing_done());
+    judge("desk: taken again", nulbiko_desk_new(&plain, &desk) == NULBIKO_DONE &&
+                                   format_in(&desk, "longword\n", 8) == NULBIKO_FULL && put_out("longword") &&
+                                   nulbiko_desk_free(&desk) == NULBIKO_DONE);
+}
+
 /* Last, since it takes the program's memory away. */
 static void no_memory(void)
 {
@@ -142,6 +174,8 @@ static void no_memory(void)
     struct rlimit most = {1 << 25, 1 << 25};
     setrlimit(RLIMIT_AS, &most);
     judge("format: out of memory", format(&large, text, sizeof out) == NULBIKO_OUT_OF_MEMORY && nothing_done());
+    struct nulbiko_desk desk = {0};
+    judge("desk: out of memory", nulbiko_desk_new(&large, &desk) == NULBIKO_OUT_OF_MEMORY && !desk.is_taken);
     judge("format: enough again", format(&plain, text, sizeof out) == NULBIKO_DONE && put_out("a\nb\n"));
 }
 
@@ -150,6 +184,7 @@ int main(void)
     null_pointers();
     ranges();
     outcomes();
+    desks();
     no_memory();
     printf("boundary: %d passed, %d failed\n", passed, failed);
     return failed != 0;

@@ -2,3 +2,5 @@ mod FormattingRun
 mod PreconvRun
 mod MdocRun
 mod TblRun
+mod LooseSteps
+mod HandleSteps

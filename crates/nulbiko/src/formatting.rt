@@ -92,7 +92,7 @@ fn options_of(first: i64) -> Options
 }
 
 /// Formats the text in a desk, hands its pages over and gives the number that tells how it ended.
-fn run_desk(
+pub(crate) fn run_desk(
     alloc: Global,
     desk: &mut Desk,
     first: i64,
@@ -100,6 +100,7 @@ fn run_desk(
     output: &mut [u8],
     told: &mut Report,
 ) -> Result<u32, AllocError>
+    ensures limits { desk.new ≡ desk.old }
     ensures formatted { IfOk result (λ code. FormatsText desk.old first input.now output.new told.new code) }
     ensures not_range { IfOk result (λ code. code ≢ 2) }
     ensures not_memory { IfOk result (λ code. code ≢ 5) }

@@ -1,11 +1,14 @@
 //! Formatting for programs in C: calls on numbers, structs and slices of bytes, thin over those of nr_engine,
 //! nr_preconv, nr_mdoc and nr_tbl. `include/nulbiko.h` declares them for C.
 //!
-//! It stands on these, nr_options, nr_rooms and nr_units. To read: `text`, `pages`; `told`; `formatting`; `preconv`,
-//! `mdoc`, `tbl`.
+//! It stands on these, nr_options, nr_rooms and nr_units. To read: `text`, `pages`; `told`; `formatting`; `loose`,
+//! `handle`, `desk`; `preconv`, `mdoc`, `tbl`.
 #![tactic(auto)]
 
+mod desk;
 mod formatting;
+mod handle;
+mod loose;
 mod mdoc;
 mod pages;
 mod preconv;
@@ -13,5 +16,6 @@ mod tbl;
 mod text;
 mod told;
 
+pub use desk::KeptDesk;
 pub use formatting::{TextLimits, TextOptions};
 pub use told::Report;

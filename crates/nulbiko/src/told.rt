@@ -20,6 +20,12 @@ pub(crate) const OUT_OF_MEMORY: u32 = 5;
 /// The text has 2^40 bytes or more.
 pub(crate) const TOO_LONG: u32 = 6;
 
+/// There is no desk: nothing was done.
+pub(crate) const NO_DESK: u32 = 7;
+
+/// There is a desk already: nothing was done.
+pub(crate) const DESK_IN_USE: u32 = 8;
+
 /// The text can't be read: never told, as a slice doesn't fail.
 pub(crate) const UNREADABLE: u32 = 9;
 

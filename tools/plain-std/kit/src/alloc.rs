@@ -15,3 +15,8 @@ impl From<TryReserveError> for AllocError {
 /// The memory of the system.
 #[derive(Clone, Copy, Debug)]
 pub struct Global;
+
+/// Where memory comes from.
+pub trait Allocator: Copy {}
+
+impl Allocator for Global {}
