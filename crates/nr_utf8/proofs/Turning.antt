@@ -11,8 +11,10 @@ use Rattle.nr_characters.specs.declared.table.Table.{Table}
 use Rattle.nr_utf8.specs.declared.reader.Reader.{Reader}
 use Rattle.nr_utf8.specs.declared.running.Outcome.{Outcome}
 use Rattle.nr_utf8.specs.declared.running.Outcome.TheVariants.{Done, ReadFault, TooLong, WriteFault}
+use Rattle.nr_utf8.specs.declared.running.Turn.{Turn}
+use Rattle.nr_utf8.specs.declared.running.Turn.TheVariants as turns
 use Rattle.nr_utf8.specs.Reading.{Told, first_reader, read, fed, finished, left_over, converted, strays_of, told, Passes}
-use Rattle.nr_utf8.specs.Running.{Comes, Ends, Flushes, Took, Stands, IsCut, IsBroken, Ran, EndsAs}
+use Rattle.nr_utf8.specs.Running.{Comes, Ends, Flushes, Took, Turns, Stands, IsCut, IsBroken, Ran, EndsAs}
 use Rattle.nr_utf8.proofs.Text.{fed-text, converted-text, converted-lines}
 use Rattle.nr_utf8.proofs.Reading.{fed-append_reader, fed-append_bytes, fed-append_strays}
 
@@ -88,6 +90,21 @@ Took-plain a b window most n r pending left l m k o skips plain out =
       made = sym (ap (λ (t : Told). t.strays) told_so);
     }
 
+-- ---- bytes at hand are read one by one
+
+pub Took-each : (a b : Option Supply) (window : List ℕ) (n : ℕ) (r s : Reader) (pending left : List ℕ) (strays : ℕ)
+    → n ≤ length window → Offers a window → Skips a n b
+    → s ≡ (fed r (take n window)).reader → left ≡ pending ++ (fed r (take n window)).bytes → strays ≡ (fed r (take n window)).strays
+    → Took a b r s pending left n strays
+Took-each a b window n r s pending left strays k o skips reader out made = record {
+  bytes = take n window;
+  came = Comes-skip a b window n k o skips;
+  count = omega (arith, length-take n window);
+  reader = reader;
+  out = out;
+  made = made;
+}
+
 both_made : {a b c d : ℕ} → a ≡ c → b ≡ d → a + b ≡ c + d
 both_made p q = cc
 
@@ -107,6 +124,33 @@ Took-trans a b c r s u p q left n m i j f g =
           ∙ append_assoc p (fed r f.bytes).bytes (fed s g.bytes).bytes ∙ ap (λ (xs : List ℕ). p ++ xs) (sym more);
       made = both_made f.made (g.made ∙ ap (λ (x : Told). x.strays) (sym here)) ∙ sym (fed-append_strays r f.bytes g.bytes);
     }
+
+nil_where_none : (xs : List ℕ) → length xs ≡ 0 → xs ≡ []
+nil_where_none [] p = refl
+nil_where_none (x ∷ xs) p = absurd (omega (arith, p))
+
+turns_from : (a b c : Option Supply) (r s : Reader) (p left : List ℕ) (turn : Turn) → Comes a [] b → Turns b c r s p left turn → Turns a c r s p left turn
+turns_from a b c r s p left (turns.Took n i) came g = record {
+  bytes = g.bytes;
+  came = Comes-trans a b c [] g.bytes came g.came;
+  count = g.count;
+  reader = g.reader;
+  out = g.out;
+  made = g.made;
+}
+turns_from a b c r s p left (turns.End i) came g = (Comes-trans a b c [] [] came g.0, Ends-after a b c [] came g.1, g.2, g.3)
+turns_from a b c r s p left turns.ReadFault came g = (Comes-trans a b c [] [] came g.0, g.1)
+
+-- a turn in which nothing was taken before
+pub Turns-behind : (a b c : Option Supply) (r s : Reader) (p q left : List ℕ) (n : ℕ) (turn : Turn) → n ≡ 0 → Took a b r r p q n 0 → Turns b c r s q left turn
+    → Turns a c r s p left turn
+Turns-behind a b c r s p q left n turn zero f g =
+    let none = nil_where_none f.bytes (f.count ∙ zero) in
+    let P : List ℕ → Type 0 = λ xs. Comes a xs b in
+    let came : Comes a [] b = subst P none f.came in
+    let same : q ≡ p = f.out ∙ ap (λ (xs : List ℕ). p ++ (fed r xs).bytes) none ∙ append-nil p in
+    let Q : List ℕ → Type 0 = λ xs. Turns b c r s xs left turn in
+    turns_from a b c r s p left turn came (subst Q same g)
 
 -- ---- a run goes on
 

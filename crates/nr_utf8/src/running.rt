@@ -1,5 +1,5 @@
 //! All bytes are turned.
-ghost use Rattle.std.specs.Prelude.{◌≡◌, ◌+◌, ◌<◌, ◌≤◌, [], length, false, OnOk};
+ghost use Rattle.std.specs.Prelude.{◌≡◌, ◌+◌, ◌<◌, ◌≤◌, [], length, false, OnOk, IsTrue};
 ghost use Rattle.std.specs.Io.KnownBytes.{Appends};
 ghost use Rattle.nr_units.specs.Failures.{counted_if, put_counted, put_counted_if};
 ghost use Rattle.nr_utf8.specs.Running as specs;
@@ -93,7 +93,89 @@ fn take_plain<R: Source>(
     count as u64
 }
 
-/// One turn: plain bytes at hand are taken, or one byte.
+/// How many bytes are read one by one at once.
+const EACH: usize = 32;
+
+/// Whether two bytes beyond ASCII come first.
+fn is_dense(bytes: &[u8]) -> bool
+    ensures { IsTrue result → 0 < length bytes.now }
+{
+    bytes.len() > 1 && bytes[0] >= 128 && bytes[1] >= 128
+}
+
+/// One turn where bytes are at hand: some are read, one by one.
+fn take_each<R: Source>(
+    reader: &mut Reader,
+    input: &mut R,
+    out: &mut SliceVec<'_, u8>,
+    most: u64,
+) -> Turn
+    requires room { length out.old.items + 1536 ≤ out.old.room }
+    requires some { 0 < most }
+    requires hand { 0 < length (R.at_hand input.old) }
+    ensures turns { specs.Turns (R.supply input.old) (R.supply input.new) reader.old reader.new out.old.items out.new.items result }
+    ensures measured { specs.IsMeasured most (length out.old.items) (length out.new.items) result }
+    ensures failures { R.failures input.new ≡ counted_if (specs.is_fault result) (R.failures input.old) }
+    ensures room { out.new.room ≡ out.old.room }
+{
+    let window = input.window();
+    let len = window.len().min(EACH).min(most as usize);
+    let strays = reader.read_each(&window[..len], out);
+    input.skip(len);
+    Turn::Took {
+        bytes: len as u64,
+        strays,
+    }
+}
+
+/// One turn: the next byte is read.
+fn take_next<R: Source>(
+    reader: &mut Reader,
+    input: &mut R,
+    out: &mut SliceVec<'_, u8>,
+    most: u64,
+) -> Turn
+    requires room { length out.old.items + 1536 ≤ out.old.room }
+    requires some { 0 < most }
+    ensures turns { specs.Turns (R.supply input.old) (R.supply input.new) reader.old reader.new out.old.items out.new.items result }
+    ensures measured { specs.IsMeasured most (length out.old.items) (length out.new.items) result }
+    ensures failures { R.failures input.new ≡ counted_if (specs.is_fault result) (R.failures input.old) }
+    ensures room { out.new.room ≡ out.old.room }
+{
+    match input.next() {
+        Ok(Some(byte)) => {
+            let strays = reader.read(byte, out);
+            Turn::Took { bytes: 1, strays }
+        }
+        Ok(None) => {
+            let strays = reader.finish(out);
+            Turn::End { strays }
+        }
+        Err(Fault) => Turn::ReadFault,
+    }
+}
+
+/// One turn where no plain bytes are at hand: some that are dense are read, or one byte.
+fn take_other<R: Source>(
+    reader: &mut Reader,
+    input: &mut R,
+    out: &mut SliceVec<'_, u8>,
+    most: u64,
+) -> Turn
+    requires room { length out.old.items + 1536 ≤ out.old.room }
+    requires some { 0 < most }
+    ensures turns { specs.Turns (R.supply input.old) (R.supply input.new) reader.old reader.new out.old.items out.new.items result }
+    ensures measured { specs.IsMeasured most (length out.old.items) (length out.new.items) result }
+    ensures failures { R.failures input.new ≡ counted_if (specs.is_fault result) (R.failures input.old) }
+    ensures room { out.new.room ≡ out.old.room }
+{
+    if is_dense(input.window()) {
+        return take_each(reader, input, out, most);
+    }
+    take_next(reader, input, out, most)
+}
+
+/// One turn: plain bytes at hand are taken, or others are read.
 fn make_turn<R: Source>(
     reader: &mut Reader,
     input: &mut R,
@@ -114,17 +196,7 @@ fn make_turn<R: Source>(
             strays: 0,
         };
     }
-    match input.next() {
-        Ok(Some(byte)) => {
-            let strays = reader.read(byte, out);
-            Turn::Took { bytes: 1, strays }
-        }
-        Ok(None) => {
-            let strays = reader.finish(out);
-            Turn::End { strays }
-        }
-        Err(Fault) => Turn::ReadFault,
-    }
+    take_other(reader, input, out, most)
 }
 
 /// The rest goes out, and the run has ended so.
