@@ -1,4 +1,5 @@
 -- Bytes that go out as they are.
+use Prim.Native.Char.{code}
 use Rattle.std.proofs.Common.{◌≡◌, ℕ, zero, suc, ◌+◌, ◌<◌, ◌≤◌, List, [], ◌∷◌, ◌++◌, length, take, drop, get_or, Bool, true, false, ◌==◌, if◌then◌else◌, refl, sym, subst, ap, ◌∙◌, add-one, append_assoc, append-nil, length-drop, ◌-◌, ◌⊎◌, inl, inr, arith}
 use Rattle.std.proofs.lemmas.List.{get_or-drop, get_or-take, length-take-le, take_all}
 use Rattle.std.proofs.Math.Seq.{take-suc}
@@ -32,7 +33,7 @@ idle-from r p =
     let parts = idle_parts r.half r.underlining p in
     record { half = parts.0; shut = parts.1; same = ap (λ (u : Underlining). record r { underlining = u }) parts.2 }
 
-is_plain_byte : (b : ℕ) → passes_as_is b ≡ true → (b == 95) ≡ false
+is_plain_byte : (b : ℕ) → passes_as_is b ≡ true → (b == code "_") ≡ false
 is_plain_byte b p = grind (arith, nat_tests)
 
 is_shown_byte : (b : ℕ) → passes_as_is b ≡ true → is_shown b ≡ true
@@ -56,7 +57,7 @@ pub read-idle : (b : ℕ) (r : Reader) → IsIdle r → passes_as_is b ≡ true 
 read-idle b r idle p =
     let bytes : plain r.underlining b ≡ b ∷ [] = ap (λ (xs : List ℕ). xs ++ spelled b) idle.shut ∙ encode_ascii b (is_low_byte b p) in
     ap (λ (h : Half). read_behind h b r) idle.half
-    ∙ told-not (b == 95) (told (with_half _ r) [] 0) _ (is_plain_byte b p)
+    ∙ told-not (b == code "_") (told (with_half _ r) [] 0) _ (is_plain_byte b p)
     ∙ told-if (is_shown b) (told (closed r) (plain r.underlining b) 0) _ (is_shown_byte b p)
     ∙ told-same (closed r) r (plain r.underlining b) (b ∷ []) idle.same bytes
 
@@ -137,12 +138,12 @@ fed-further r bs i s l is =
 plain_reader : Table → Reader
 plain_reader t = record { half = Nothing; underlining = Backspaces; table = t }
 
-cell_of_plain : (t : Table) (b : ℕ) → is_underlined b ≡ true → fed (plain_reader t) (95 ∷ 8 ∷ b ∷ []) ≡ told (plain_reader t) (95 ∷ 8 ∷ b ∷ []) 0
+cell_of_plain : (t : Table) (b : ℕ) → is_underlined b ≡ true → fed (plain_reader t) (code "_" ∷ 8 ∷ b ∷ []) ≡ told (plain_reader t) (code "_" ∷ 8 ∷ b ∷ []) 0
 unfolding plain_reader
 cell_of_plain t b p =
     let r : Reader = record { half = Nothing; underlining = Backspaces; table = t } in
-    let last : (if is_underlined b then told r (95 ∷ 8 ∷ b ∷ []) 0 else then_told (underscore 1 r) (λ s. fresh b s)) ≡ told r (95 ∷ 8 ∷ b ∷ []) 0 =
-    told-if (is_underlined b) (told r (95 ∷ 8 ∷ b ∷ []) 0) (then_told (underscore 1 r) (λ s. fresh b s)) p in
+    let last : (if is_underlined b then told r (code "_" ∷ 8 ∷ b ∷ []) 0 else then_told (underscore 1 r) (λ s. fresh b s)) ≡ told r (code "_" ∷ 8 ∷ b ∷ []) 0 =
+    told-if (is_underlined b) (told r (code "_" ∷ 8 ∷ b ∷ []) 0) (then_told (underscore 1 r) (λ s. fresh b s)) p in
     ap (λ (u : Told). behind [] 0 (behind [] 0 (then_told u (λ s. fed s [])))) last
 
 reader_same : (r : Reader) → r.half ≡ Nothing → r.underlining ≡ Backspaces → plain_reader r.table ≡ r
@@ -151,9 +152,9 @@ reader_same r p q =
     ap (λ (h : Half). record { half = h; underlining = Backspaces; table = r.table }) (sym p)
     ∙ ap (λ (u : Underlining). record { half = r.half; underlining = u; table = r.table }) (sym q)
 
-fed_cell : (r : Reader) (b : ℕ) → IsIdle r → r.underlining ≡ Backspaces → is_underlined b ≡ true → fed r (95 ∷ 8 ∷ b ∷ []) ≡ told r (95 ∷ 8 ∷ b ∷ []) 0
+fed_cell : (r : Reader) (b : ℕ) → IsIdle r → r.underlining ≡ Backspaces → is_underlined b ≡ true → fed r (code "_" ∷ 8 ∷ b ∷ []) ≡ told r (code "_" ∷ 8 ∷ b ∷ []) 0
 fed_cell r b idle q p =
-    let P : Reader → Type 0 = λ s. fed s (95 ∷ 8 ∷ b ∷ []) ≡ told s (95 ∷ 8 ∷ b ∷ []) 0 in
+    let P : Reader → Type 0 = λ s. fed s (code "_" ∷ 8 ∷ b ∷ []) ≡ told s (code "_" ∷ 8 ∷ b ∷ []) 0 in
     subst P (reader_same r idle.half q) (cell_of_plain r.table b p)
 
 take_one : (bs : List ℕ) (i b : ℕ) → i < length bs → get_or bs i 0 ≡ b → take (i + 1) bs ≡ take i bs ++ b ∷ []
@@ -177,8 +178,8 @@ Passes-cell r bs i before cell idle =
     let b = get_or bs (i + 2) 0 in
     let xs = take i bs in
     let front = take_three bs i 95 8 b cell.within cell.first cell.second refl in
-    let both : fed r (xs ++ (95 ∷ 8 ∷ b ∷ [])) ≡ told r (xs ++ (95 ∷ 8 ∷ b ∷ [])) 0 =
-    fed-append r xs (95 ∷ 8 ∷ b ∷ []) ∙ ap (λ (u : Told). then_told u (λ v. fed v (95 ∷ 8 ∷ b ∷ []))) before
+    let both : fed r (xs ++ (code "_" ∷ 8 ∷ b ∷ [])) ≡ told r (xs ++ (code "_" ∷ 8 ∷ b ∷ [])) 0 =
+    fed-append r xs (code "_" ∷ 8 ∷ b ∷ []) ∙ ap (λ (u : Told). then_told u (λ v. fed v (code "_" ∷ 8 ∷ b ∷ []))) before
     ∙ ap (behind xs 0) (fed_cell r b idle cell.way cell.third) in
     let P : List ℕ → Type 0 = λ ys. fed r ys ≡ told r ys 0 in
     subst P (sym front) both

@@ -104,10 +104,10 @@ letter_shown c p = grind (arith, nat_tests)
 letter_low : (c : ℕ) → is_underlined c ≡ true → c < 128
 letter_low c p = grind (arith, nat_tests)
 
-letter_no_end : (c : ℕ) → is_underlined c ≡ true → (c == 10) ≡ false
+letter_no_end : (c : ℕ) → is_underlined c ≡ true → (c == code "\n") ≡ false
 letter_no_end c p = grind (arith, nat_tests)
 
-fits_no_end : (c : ℕ) → is_one_cell c ≡ true → (c == 10) ≡ false
+fits_no_end : (c : ℕ) → is_one_cell c ≡ true → (c == code "\n") ≡ false
 fits_no_end c p = grind (arith, nat_tests)
 
 marks_if : (x : Bool) (ms ns : List Mark) → x ≡ true → (if x then ms else ns) ≡ ms
@@ -134,7 +134,7 @@ text-letter : (e : Bool) (c : ℕ) → is_underlined c ≡ true → Marked e (Ce
 text-letter e c p =
     let P : List ℕ → Type 0 = λ bs. Marked e (Cell ∷ []) bs in
     let Q : List Mark → Type 0 = λ ms. Marked e ms (spelled c) in
-    subst P (encode_ascii c (letter_low c p)) (subst Q (marks_else (c == 10) (LineEnd ∷ []) (Cell ∷ []) (letter_no_end c p)) (text-shown e c (letter_shown c p)))
+    subst P (encode_ascii c (letter_low c p)) (subst Q (marks_else (c == code "\n") (LineEnd ∷ []) (Cell ∷ []) (letter_no_end c p)) (text-shown e c (letter_shown c p)))
 
 text-overstruck : (e : Bool) (c : ℕ) → is_underlined c ≡ true → Marked e (Cell ∷ []) (code "_" ∷ 8 ∷ c ∷ [])
 unfolding encode_utf8
@@ -142,7 +142,7 @@ text-overstruck e c p = record {
   parts = Overstruck c ∷ [];
   clean = and_both (is_underlined c) true p refl;
   scalars = and_both (scalar c) true (shown_scalar c (letter_shown c p)) refl;
-  spelled_is = ap (λ (bs : List ℕ). 95 ∷ 8 ∷ bs) (append-nil (encode_utf8 c) ∙ encode_ascii c (letter_low c p));
+  spelled_is = ap (λ (bs : List ℕ). code "_" ∷ 8 ∷ bs) (append-nil (encode_utf8 c) ∙ encode_ascii c (letter_low c p));
   marks_are = refl;
 }
 
@@ -233,7 +233,7 @@ kept_if : (r : Reader) (h : Half) (b : ℕ) (x : Bool) (t u : Told) → (x ≡ t
 kept_if r h b true t u p q = p refl
 kept_if r h b false t u p q = q refl
 
-is_underscore : (b : ℕ) → (b == 95) ≡ true → b ≡ 95
+is_underscore : (b : ℕ) → (b == code "_") ≡ true → b ≡ code "_"
 is_underscore b p = grind (arith, nat_tests)
 
 is_backspace : (b : ℕ) → (b == 8) ≡ true → b ≡ 8
@@ -244,10 +244,10 @@ and_false true y p = absurd (let no : true ≡ false = p in cc)
 and_false false y p = refl
 
 -- a byte that is no `_` has its own marks
-marks_other : (t : Table) (b : ℕ) (rest : List ℕ) → (b == 95) ≡ false → marks_in t (b ∷ rest) ≡ marks_of_byte t b ++ marks_in t rest
+marks_other : (t : Table) (b : ℕ) (rest : List ℕ) → (b == code "_") ≡ false → marks_in t (b ∷ rest) ≡ marks_of_byte t b ++ marks_in t rest
 marks_other t b rest p =
     ap (λ (ms : List Mark). ms ++ marks_in t rest)
-    (marks_else ((b == 95) && is_struck_over rest) [] (marks_of_byte t b) (and_false (b == 95) (is_struck_over rest) p))
+    (marks_else ((b == code "_") && is_struck_over rest) [] (marks_of_byte t b) (and_false (b == code "_") (is_struck_over rest) p))
 
 shown_by : (x y : Bool) (ms : List Mark) → y ≡ true → (if x then LineEnd ∷ [] else if y then Cell ∷ [] else ms) ≡ (if x then LineEnd ∷ [] else Cell ∷ [])
 shown_by true y ms p = refl
@@ -255,26 +255,26 @@ shown_by false true ms p = refl
 shown_by false false ms p = absurd (let no : false ≡ true = p in cc)
 
 marks_shown : (t : Table) (b : ℕ) → is_shown b ≡ true → marks_of_byte t b ≡ mark_of b
-marks_shown t b p = shown_by (b == 10) (is_shown b) (marks_beyond (character_of t b)) p
+marks_shown t b p = shown_by (b == code "\n") (is_shown b) (marks_beyond (character_of t b)) p
 
-no_end_where_not_shown : (b : ℕ) → is_shown b ≡ false → (b == 10) ≡ false
+no_end_where_not_shown : (b : ℕ) → is_shown b ≡ false → (b == code "\n") ≡ false
 no_end_where_not_shown b p = grind (arith, nat_tests)
 
 marks_not_shown : (t : Table) (b : ℕ) (o : Option ℕ) → is_shown b ≡ false → character_of t b ≡ o → marks_of_byte t b ≡ marks_beyond o
 marks_not_shown t b o p is =
-    marks_else (b == 10) (LineEnd ∷ []) _ (no_end_where_not_shown b p)
+    marks_else (b == code "\n") (LineEnd ∷ []) _ (no_end_where_not_shown b p)
     ∙ marks_else (is_shown b) (Cell ∷ []) (marks_beyond (character_of t b)) p ∙ ap marks_beyond is
 
 after_half : (t : Table) (h k : Half) (rest : List ℕ) → h ≡ k → marks_in t (half_read h ++ rest) ≡ marks_in t (half_read k ++ rest)
 after_half t h k rest e = ap (λ (x : Half). marks_in t (half_read x ++ rest)) e
 
-moves_other : (r : Reader) (b : ℕ) (ms : List Mark) (rest : List ℕ) → r.half ≡ Nothing → (b == 95) ≡ false → marks_of_byte r.table b ≡ ms
+moves_other : (r : Reader) (b : ℕ) (ms : List Mark) (rest : List ℕ) → r.half ≡ Nothing → (b == code "_") ≡ false → marks_of_byte r.table b ≡ ms
     → marks_in r.table (b ∷ rest) ≡ ms ++ marks_in r.table (half_read r.half ++ rest)
 moves_other r b ms rest e p is =
     marks_other r.table b rest p ∙ ap (λ (ks : List Mark). ks ++ marks_in r.table rest) is
     ∙ ap (λ (ks : List Mark). ms ++ ks) (sym (after_half r.table r.half Nothing rest e))
 
-kept_beyond : (o : Option ℕ) (b : ℕ) (r : Reader) → r.half ≡ Nothing → (b == 95) ≡ false → is_shown b ≡ false → character_of r.table b ≡ o → Kept r Nothing b (beyond o r)
+kept_beyond : (o : Option ℕ) (b : ℕ) (r : Reader) → r.half ≡ Nothing → (b == code "_") ≡ false → is_shown b ≡ false → character_of r.table b ≡ o → Kept r Nothing b (beyond o r)
 kept_beyond None b r e p q is = record {
   marks = [];
   fine = fine_nothing r 1;
@@ -287,14 +287,14 @@ kept_beyond (Some c) b r e p q is =
     let text = text-printed (uses_escapes r.underlining) c (or_right (is_shown c) (is_one_cell c) fits) (character_scalar r.table b c is) in
     record {
       marks = Cell ∷ [];
-      fine = fine_plain r c 0 (Cell ∷ []) (subst Q (marks_else (c == 10) (LineEnd ∷ []) (Cell ∷ []) (fits_no_end c fits)) text);
+      fine = fine_plain r c 0 (Cell ∷ []) (subst Q (marks_else (c == code "\n") (LineEnd ∷ []) (Cell ∷ []) (fits_no_end c fits)) text);
       table = refl;
       moves = λ rest. moves_other r b (Cell ∷ []) rest e p (marks_not_shown r.table b (Some c) q is);
     }
 
 kept_fresh : (b : ℕ) (r : Reader) → r.half ≡ Nothing → Kept r Nothing b (fresh b r)
 kept_fresh b r e =
-    kept_if r Nothing b (b == 95) (told (with_half Underscore r) [] 0) _
+    kept_if r Nothing b (b == code "_") (told (with_half Underscore r) [] 0) _
     (λ is. record {
       marks = [];
       fine = fine_nothing (with_half Underscore r) 0;
@@ -328,7 +328,7 @@ struck_by true y ms ns p = absurd (let no : true ≡ false = p in cc)
 struck_by false y ms ns p = refl
 
 -- `_` has a cell where no backspace and letter come behind it
-alone : (t : Table) (b : ℕ) (rest : List ℕ) → (b == 8) ≡ false → marks_in t (95 ∷ b ∷ rest) ≡ Cell ∷ marks_in t (b ∷ rest)
+alone : (t : Table) (b : ℕ) (rest : List ℕ) → (b == 8) ≡ false → marks_in t (code "_" ∷ b ∷ rest) ≡ Cell ∷ marks_in t (b ∷ rest)
 alone t b [] p = refl
 alone t b (c ∷ rest) p = struck_by (b == 8) (is_underlined c) [] (marks_in t (b ∷ c ∷ rest)) p
 
@@ -336,22 +336,22 @@ over_by : (x : Bool) (ms ns : List Mark) → x ≡ false → (if true && (true &
 over_by true ms ns p = absurd (let no : true ≡ false = p in cc)
 over_by false ms ns p = refl
 
-not_over : (t : Table) (b : ℕ) (rest : List ℕ) → is_underlined b ≡ false → marks_in t (95 ∷ 8 ∷ b ∷ rest) ≡ Cell ∷ marks_in t (b ∷ rest)
+not_over : (t : Table) (b : ℕ) (rest : List ℕ) → is_underlined b ≡ false → marks_in t (code "_" ∷ 8 ∷ b ∷ rest) ≡ Cell ∷ marks_in t (b ∷ rest)
 not_over t b rest p = over_by (is_underlined b) [] (marks_in t (8 ∷ b ∷ rest)) p
 
 over_so : (x : Bool) (ms ns : List Mark) → x ≡ true → (if true && (true && x) then [] else ms) ++ ns ≡ ns
 over_so true ms ns p = refl
 over_so false ms ns p = absurd (let no : false ≡ true = p in cc)
 
-letter_other : (b : ℕ) → is_underlined b ≡ true → (b == 95) ≡ false
+letter_other : (b : ℕ) → is_underlined b ≡ true → (b == code "_") ≡ false
 letter_other b p = grind (arith, nat_tests)
 
-is_over : (t : Table) (b : ℕ) (rest : List ℕ) → is_underlined b ≡ true → marks_in t (95 ∷ 8 ∷ b ∷ rest) ≡ Cell ∷ marks_in t rest
+is_over : (t : Table) (b : ℕ) (rest : List ℕ) → is_underlined b ≡ true → marks_in t (code "_" ∷ 8 ∷ b ∷ rest) ≡ Cell ∷ marks_in t rest
 is_over t b rest p =
     over_so (is_underlined b) (Cell ∷ []) (marks_in t (8 ∷ b ∷ rest)) p
     ∙ marks_other t b rest (letter_other b p)
     ∙ ap (λ (ks : List Mark). ks ++ marks_in t rest)
-    (marks_shown t b (letter_shown b p) ∙ marks_else (b == 10) (LineEnd ∷ []) (Cell ∷ []) (letter_no_end b p))
+    (marks_shown t b (letter_shown b p) ∙ marks_else (b == code "\n") (LineEnd ∷ []) (Cell ∷ []) (letter_no_end b p))
 
 kept_read : (h : Half) (b : ℕ) (r : Reader) → r.half ≡ h → Kept r h b (read_behind h b r)
 kept_read Nothing b r e = kept_fresh b r e
@@ -361,7 +361,7 @@ kept_read Underscore b r e =
       marks = [];
       fine = fine_nothing (with_half Backspaced r) 0;
       table = refl;
-      moves = λ rest. ap (λ (c : ℕ). marks_in r.table (95 ∷ c ∷ rest)) (is_backspace b is);
+      moves = λ rest. ap (λ (c : ℕ). marks_in r.table (code "_" ∷ c ∷ rest)) (is_backspace b is);
     })
     (λ other. kept_apart Underscore 0 b r (λ rest. alone r.table b rest other))
 kept_read Backspaced b r e =

@@ -1,4 +1,5 @@
 -- The bytes of a text become that text.
+use Prim.Native.Char.{code}
 use Rattle.std.proofs.Common.{◌≡◌, ℕ, ◌<◌, List, [], ◌∷◌, ◌++◌, Bool, true, false, ◌==◌, nat_lt, ◌-◌, slice_get, if◌then◌else◌, Option, None, Some, refl, sym, ◌∙◌, ap, subst, append_assoc, arith}
 use Rattle.std.specs.Prelude.{encode_utf8_all}
 use Rattle.std.proofs.lemmas.Bool.Decides.{nat_tests}
@@ -42,7 +43,7 @@ high_other b n l p = grind (arith, nat_tests)
 shown_no_backspace : (b : ℕ) → is_shown b ≡ true → (b == 8) ≡ false
 shown_no_backspace b p = grind (arith, nat_tests)
 
-is_underscore : (b : ℕ) → (b == 95) ≡ true → b ≡ 95
+is_underscore : (b : ℕ) → (b == code "_") ≡ true → b ≡ code "_"
 is_underscore b p = grind (arith, nat_tests)
 
 plain_same : (r : Reader) (c : ℕ) → IsIdle r → told (closed r) (plain r.underlining c) 0 ≡ told r (spelled c) 0
@@ -54,15 +55,15 @@ read_same r b idle = ap (λ (h : Half). read_behind h b r) idle.half
 -- what a byte is that stands for a character
 record Stood (t : Table) (c b : ℕ) : Type 0 where
   other : (b == 8) ≡ false
-  same : (b == 95) ≡ true → c ≡ 95
-  reads : (r : Reader) → r.table ≡ t → IsIdle r → (b == 95) ≡ false → read b r ≡ told r (spelled c) 0
+  same : (b == code "_") ≡ true → c ≡ code "_"
+  reads : (r : Reader) → r.table ≡ t → IsIdle r → (b == code "_") ≡ false → read b r ≡ told r (spelled c) 0
 
 stood_shown : (t : Table) (c : ℕ) → is_shown c ≡ true → Stood t c c
 stood_shown t c shown = record {
   other = shown_no_backspace c shown;
   same = is_underscore c;
   reads = λ r is idle p.
-      read_same r c idle ∙ told-not (c == 95) (told (with_half Underscore r) [] 0) _ p
+      read_same r c idle ∙ told-not (c == code "_") (told (with_half Underscore r) [] 0) _ p
       ∙ told-if (is_shown c) (told (closed r) (plain r.underlining c) 0) _ shown ∙ plain_same r c idle;
 }
 
@@ -74,7 +75,7 @@ stood_beyond t c b has =
       other = high_other b 8 (omega arith) above;
       same = λ p. absurd (let no : false ≡ true = sym (high_other b 95 (omega arith) above) ∙ p in cc);
       reads = λ r is idle p.
-          read_same r b idle ∙ told-not (b == 95) (told (with_half Underscore r) [] 0) _ p
+          read_same r b idle ∙ told-not (b == code "_") (told (with_half Underscore r) [] 0) _ p
           ∙ told-not (is_shown b) (told (closed r) (plain r.underlining b) 0) _ (high_hidden b above)
           ∙ ap (λ (o : Option ℕ). beyond o r) (ap (λ (u : Table). character_of u b) is ∙ back) ∙ plain_same r c idle;
     }
@@ -103,20 +104,20 @@ split (Some b) (Some rest) bs p =
     record { byte = b; rest = rest; first = refl; others = refl; whole = whole }
 
 -- `_` that is half read goes out before what comes
-under : (r : Reader) (b : ℕ) (rest : List ℕ) → IsIdle r → (b == 8) ≡ false → out (with_half Underscore r) (b ∷ rest) ≡ 95 ∷ out r (b ∷ rest)
+under : (r : Reader) (b : ℕ) (rest : List ℕ) → IsIdle r → (b == 8) ≡ false → out (with_half Underscore r) (b ∷ rest) ≡ code "_" ∷ out r (b ∷ rest)
 under r b rest idle p =
     let held = with_half Underscore r in
     let s = closed (with_half Nothing held) in
     let back : s ≡ r = ap (λ (h : Half). closed (with_half h r)) (sym idle.half) ∙ idle.same in
-    let mark : lone r.underlining ≡ 95 ∷ [] = ap (λ (xs : List ℕ). xs ++ spelled 95) idle.shut ∙ encode_ascii 95 (omega arith) in
+    let mark : lone r.underlining ≡ code "_" ∷ [] = ap (λ (xs : List ℕ). xs ++ spelled 95) idle.shut ∙ encode_ascii 95 (omega arith) in
     ap (out_after rest) (told-not (b == 8) (told (with_half Backspaced held) [] 0) (then_told (underscore 0 held) (λ q. fresh b q)) p)
     ∙ ap (λ (q : Reader). ((lone r.underlining ++ (fresh b q).bytes) ++ (fed (fresh b q).reader rest).bytes) ++ finished (fed (fresh b q).reader rest).reader) back
     ∙ ap (λ (xs : List ℕ). ((xs ++ (fresh b r).bytes) ++ (fed (fresh b r).reader rest).bytes) ++ finished (fed (fresh b r).reader rest).reader) mark
-    ∙ ap (λ (t : Told). 95 ∷ out_after rest t) (sym (read_same r b idle))
+    ∙ ap (λ (t : Told). code "_" ∷ out_after rest t) (sym (read_same r b idle))
 
 record Undone (r : Reader) (text bytes : List ℕ) : Type 0 where
   fresh_is : out r bytes ≡ encode_utf8_all text
-  under_is : out (with_half Underscore r) bytes ≡ 95 ∷ encode_utf8_all text
+  under_is : out (with_half Underscore r) bytes ≡ code "_" ∷ encode_utf8_all text
 
 undone_end : (r : Reader) → IsIdle r → Undone r [] []
 undone_end r idle = record {
@@ -125,11 +126,11 @@ undone_end r idle = record {
 }
 
 -- by whether it is `_`
-undone_by : (x : Bool) (r : Reader) (c b : ℕ) (text rest : List ℕ) → IsIdle r → (b == 95) ≡ x → Stood r.table c b → Undone r text rest
+undone_by : (x : Bool) (r : Reader) (c b : ℕ) (text rest : List ℕ) → IsIdle r → (b == code "_") ≡ x → Stood r.table c b → Undone r text rest
     → out r (b ∷ rest) ≡ encode_utf8_all (c ∷ text)
 undone_by true r c b text rest idle e is later =
     let one = is.same e in
-    ap (out_after rest) (read_same r b idle ∙ told-if (b == 95) (told (with_half Underscore r) [] 0) _ e)
+    ap (out_after rest) (read_same r b idle ∙ told-if (b == code "_") (told (with_half Underscore r) [] 0) _ e)
     ∙ later.under_is
     ∙ ap (λ (xs : List ℕ). xs ++ encode_utf8_all text) (sym (ap spelled one ∙ encode_ascii 95 (omega arith)))
 undone_by false r c b text rest idle e is later =
@@ -145,9 +146,9 @@ undone r idle (c ∷ text) bytes p =
     let parts = split (byte_for r.table c) (bytes_for r.table text) bytes p in
     let is = stood r.table c parts.byte parts.first in
     let later = undone r idle text parts.rest parts.others in
-    let now = undone_by (parts.byte == 95) r c parts.byte text parts.rest idle refl is later in
+    let now = undone_by (parts.byte == code "_") r c parts.byte text parts.rest idle refl is later in
     subst (λ (xs : List ℕ). Undone r (c ∷ text) xs) parts.whole
-    (record { fresh_is = now; under_is = under r parts.byte parts.rest idle is.other ∙ ap (λ (xs : List ℕ). 95 ∷ xs) now })
+    (record { fresh_is = now; under_is = under r parts.byte parts.rest idle is.other ∙ ap (λ (xs : List ℕ). code "_" ∷ xs) now })
 
 first_idle : (t : Table) (e : Bool) → IsIdle (first_reader t e)
 first_idle t true = record { half = refl; shut = refl; same = refl }
