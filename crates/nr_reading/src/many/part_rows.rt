@@ -7,11 +7,14 @@ ghost use Rattle.nr_reading.specs.Many.Row.{MeetsRest};
 
 use crate::half::Half;
 use crate::many::passing::is_plain;
-use crate::many::row::{byte_of, near};
+use crate::many::row::byte_of;
 use crate::many::runs::{Items, Run};
 use crate::mode::Mode;
 use crate::skipping::braces;
 use crate::spelled::is_blank;
+
+/// The most items of a rejected part that are met in one call.
+const FAR: usize = 64_000;
 
 // Whether an opening brace, `\{`, stands at a place of a row.
 #[inline(always)]
@@ -69,7 +72,7 @@ impl Half {
         requires next { reads_next self.old ≡ true }
         ensures { MeetsRest (I.fronts items.now) 0 0 self.old run.new self.new }
     {
-        let end = near(items, 0);
+        let end = items.count().min(FAR);
         let mut level = count;
         let mut place = 0;
         while place < end {

@@ -9,7 +9,7 @@ invariant-loop-place g l = record {
   leads : LeadsOn (g.I.Items.fronts l.items) 0 0 l.fn.self l.place l.place l.self;
   mode : l.self.reading.mode ≡ modes.Skip l.level;
   next : reads_next l.self ≡ true;
-  few : l.place ≤ 8193;
+  few : l.place ≤ 64001;
 }
 
 abbrev pub decreases-loop-place : goal.decreases-loop-place
