@@ -4,7 +4,6 @@ mod Refusals
 pub mod BegunTargets
 pub mod BodyBytes
 pub mod BodyLines
-pub mod CommentLines
 pub mod ControlLines
 pub mod Costs
 pub mod Digits

@@ -8,7 +8,6 @@ pub mod Gathering
 pub mod LevelRows
 pub mod MacroLines
 pub mod BodyLines
-pub mod CommentLines
 pub mod DroppedLines
 pub mod Fonts
 pub mod Target

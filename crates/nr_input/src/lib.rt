@@ -4,7 +4,7 @@
 //! It stands on nr_units, nr_pool, nr_levels, nr_symbol_tables, nr_store and nr_reading. To read: `refusal`, `told`;
 //! `place`, `reader`; `acting`, `moving`; `splicing`, `setting`; then many moves at once: `at_hand`, `target`,
 //! `adding`, `runs`, `level_lines`, `level_rows`, `beginnings`, `interpolations`, `levels`, `splices`, `gathering`,
-//! `macro_lines`, `body_lines`, `comment_lines`, `dropped_lines`, `control_lines`,
+//! `macro_lines`, `body_lines`, `dropped_lines`, `control_lines`,
 //! `fonts`.
 #![tactic(auto)]
 

@@ -4,7 +4,6 @@ pub(crate) mod adding;
 pub(crate) mod at_hand;
 pub(crate) mod beginnings;
 pub(crate) mod body_lines;
-pub(crate) mod comment_lines;
 pub(crate) mod control_lines;
 pub(crate) mod dropped_lines;
 pub(crate) mod fonts;

@@ -11,10 +11,9 @@ ghost use Rattle.nr_input.specs.Moving.{situation};
 ghost use Rattle.nr_input.specs.Many.Runs.{HasRead, PaysAll, ReadsSome, IsLongest, IsLongestInLevel};
 
 use crate::many::at_hand::window;
-use crate::many::comment_lines::read_unnamed_line;
 use crate::many::level_lines::read_level_line;
 use crate::many::macro_lines::read_macro_line;
-use crate::many::runs::{ByteRow, read_run};
+use crate::many::runs::{ByteRow, read_run, read_source};
 use crate::place::Place;
 use crate::reader::Reader;
 use nr_reading::{Due, Event, Half, Mode, Run};
@@ -140,7 +139,7 @@ fn read_beginning<K: Copy, R: Source>(
 {
     match read_control_line(place, reader, store, source) {
         Some(run) => run,
-        None => read_unnamed_line(place, reader, store, source),
+        None => read_source(place, reader, store, source),
     }
 }
 
