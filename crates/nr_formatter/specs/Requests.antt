@@ -25,7 +25,8 @@ breaks Sp = true
 breaks Ti = true
 breaks r = false
 
--- what each does; the reader acts on those that only have the input read on
+-- What each does. `to_read` has the input read on and does no more: `.br` has broken, `.ps` is ignored, and the reader obeys
+-- the rest where it reads their lines (nr_reading): `.as` and `.ds` in Strings, `.el`, `.ie` and `.if` in Conditionals, `.tl` in Titles.
 abbrev pub act : Request → Formatter → Formatter
 act Ad f = settings.ad f
 act Af f = registers.af f
