@@ -6,6 +6,7 @@
 pub use std::{cell, cmp, error, mem, ops};
 
 pub mod alloc;
+mod boxed;
 pub mod env;
 pub mod fs;
 pub mod io;
@@ -21,6 +22,7 @@ pub mod fmt {
 
 /// What stands in every module of Rattle.
 pub mod prelude {
+    pub use crate::boxed::Box;
     pub use crate::rt::HostRuntime;
     pub use crate::string::String;
     pub use crate::vec;
