@@ -27,7 +27,7 @@ use std::marker::Model;
 /// resume.
 ///
 /// Clauses see one record of plain lists. Each call makes of it what its definition says, or is refused, and then
-/// nothing has changed. A name is found in as many steps as the logarithm of their number; what comes next of the
+/// nothing has changed. A name is found among those of its kind, of 512 kinds; what comes next of the
 /// levels is found in constant time; no text is copied or moved for a level. `new` is the only call that allocates.
 #[derive(Drop)]
 pub struct Store<K: Copy> {

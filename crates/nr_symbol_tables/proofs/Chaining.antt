@@ -26,12 +26,12 @@ set_at_case P ls c v d low same other = elim (cases_lt d c) [
   ]
 ]
 
-last_at : (xs : List ℕ) (y k : ℕ) → k ≡ length xs → number_at (xs ++ y ∷ []) k ≡ y
+pub last_at : (xs : List ℕ) (y k : ℕ) → k ≡ length xs → number_at (xs ++ y ∷ []) k ≡ y
 last_at xs y k is =
     let none : k - length xs ≡ 0 = omega arith in
     get_or-append_right xs (y ∷ []) (length xs) k 0 refl (omega arith) ∙ ap (λ n. get_or (y ∷ []) n 0) none
 
-push_at_case : (P : ℕ → Type 0) (xs : List ℕ) (y k : ℕ) → k ≤ length xs → (k < length xs → P (number_at xs k)) → (k ≡ length xs → P y) → P (number_at (xs ++ y ∷ []) k)
+pub push_at_case : (P : ℕ → Type 0) (xs : List ℕ) (y k : ℕ) → k ≤ length xs → (k < length xs → P (number_at xs k)) → (k ≡ length xs → P y) → P (number_at (xs ++ y ∷ []) k)
 push_at_case P xs y k low front last = elim (cases_lt k (length xs)) [
   | inl below ↦ subst P (sym (get_or_append_left xs (y ∷ []) 0 k below)) (front below)
   | inr above ↦ (let is : k ≡ length xs = omega arith in subst P (sym (last_at xs y k is)) (last is))
@@ -39,7 +39,7 @@ push_at_case P xs y k low front last = elim (cases_lt k (length xs)) [
 
 -- ---- no words
 
-zeros : (n c : ℕ) → number_at (replicate n 0) c ≡ 0
+pub zeros : (n c : ℕ) → number_at (replicate n 0) c ≡ 0
 zeros zero c = refl
 zeros (suc n) zero = refl
 zeros (suc n) (suc c) = zeros n c

@@ -1,182 +1,240 @@
 -- Lemmas on rows of names.
-use Rattle.std.proofs.Common.{◌≡◌, ℕ, zero, suc, ◌+◌, ◌-◌, ◌<◌, ◌≤◌, List, [], ◌∷◌, length, set, map, get_or, false, Some, None, is_some, refl, ap, sym, inl, inr, ◌∙◌, arith}
-use Rattle.std.specs.List.{insert, remove}
-use Rattle.std.proofs.lemmas.Bool.{cond-true, cond-false, cases_lt, cases_eq, cases_order}
-use Rattle.std.proofs.lemmas.List.{length-set, get_or-set_same, get_or-set_other, get_or_default}
-use Rattle.std.proofs.lemmas.List.Edits.{length-insert, get_or-insert_below, get_or-insert_at, get_or-insert_above, length-remove, get_or-remove_below, get_or-remove_above}
-use Rattle.nr_symbol_tables.specs.Table.{is_same, is_before, find, put, replaced, inserted, without}
-use Rattle.nr_symbol_tables.specs.Rows.{named, IsBefore, IsSorted, IsFound, IsMissed}
+use Rattle.std.proofs.Common.{◌≡◌, ◌≢◌, ℕ, zero, suc, ◌+◌, ◌-◌, ◌<◌, ◌≤◌, List, [], ◌∷◌, ◌++◌, length, map, set, take, get_or, replicate, Some, None, refl, ap, sym, subst, ◌∙◌, arith}
+use Rattle.std.proofs.lemmas.List.{length-map, length-take-le, get_or-map, get_or-take, map-append, map-set, take_all, take_more}
+use Rattle.nr_symbol_tables.specs.Table.{Named, find, without}
+use Rattle.nr_symbol_tables.specs.Rows.{named, names, in_order, kind, kinds, earliers, name_in, place_in, led, begun, IsPlace, AreApart, AreChains, IsLink, IsLed, IsLinked}
 use Rattle.nr_symbol_tables.specs.declared.table.Entry.{Entry}
-use Rattle.nr_symbol_tables.proofs.Order.{same_itself, before_apart, behind_apart, comes_before, comes_behind, before_trans, before_along}
+use Rattle.nr_symbol_tables.proofs.Linking.{led_first, led_next, begun_first, begun_next, chains_none, chains_more, chains_fewer, chains_same, chains_put}
+use Rattle.nr_symbol_tables.proofs.Naming.{find_in_order, find_at, find_nowhere, apart_more, apart_fewer, last_apart, apart_set_same, apart_set_new, in_order_popped, in_order_replaced}
 
--- no name before this place is that one
-abbrev pub NotBefore : {V : Type 0} → List (Entry V) → List ℕ → ℕ → Type 0
-NotBefore row name place = (k : ℕ) (d : Entry _) → k < place → is_same (get_or row k d).name name ≡ false
+-- ---- the columns of a row
 
-not_before_rest : {V : Type 0} (e : Entry V) (es : List (Entry V)) (name : List ℕ) (i : ℕ) → NotBefore (e ∷ es) name (suc i) → NotBefore es name i
-not_before_rest e es name i h k d below = h (suc k) d (omega arith)
+pub name_is : {V : Type 0} (row : List (Entry V)) (k : ℕ) (e : Entry V) → k < length row → e ≡ get_or row k e → name_in (names (map named row)) k ≡ e.name
+name_is [] k e low is = absurd (omega arith)
+name_is (f ∷ fs) zero e low is = ap (λ (x : Entry _). x.name) (sym is)
+name_is (f ∷ fs) (suc k) e low is = name_is fs k e (omega arith) is
 
--- ---- a name that is at a place
+pub kind_is : {V : Type 0} (row : List (Entry V)) (k : ℕ) → k < length row → place_in (kinds (map named row)) k ≡ kind (name_in (names (map named row)) k)
+kind_is [] k low = absurd (omega arith)
+kind_is (f ∷ fs) zero low = refl
+kind_is (f ∷ fs) (suc k) low = kind_is fs k (omega arith)
 
-pub find_at : {V : Type 0} (row : List (Entry V)) (name : List ℕ) (i : ℕ) (d : Entry V) → i < length row → NotBefore row name i → (get_or row i d).name ≡ name → find name (map named row) ≡ Some (get_or row i d).value
-find_at [] name i d inside h here = absurd (omega arith)
-find_at (e ∷ es) name zero d inside h here = cond-true (is_same e.name name) _ _ (same_itself e.name name here)
-find_at (e ∷ es) name (suc i) d inside h here = cond-false (is_same e.name name) _ _ (h 0 d (omega arith)) ∙ find_at es name i d (omega arith) (not_before_rest e es name i h) here
+pub earlier_is : {V : Type 0} (row : List (Entry V)) (k : ℕ) (e : Entry V) → k < length row → e ≡ get_or row k e → place_in (earliers row) k ≡ e.earlier
+earlier_is [] k e low is = absurd (omega arith)
+earlier_is (f ∷ fs) zero e low is = ap (λ (x : Entry _). x.earlier) (sym is)
+earlier_is (f ∷ fs) (suc k) e low is = earlier_is fs k e (omega arith) is
 
-pub replaced_at : {V : Type 0} (row : List (Entry V)) (name : List ℕ) (value : V) (i : ℕ) → i < length row → NotBefore row name i → ((d : Entry V) → (get_or row i d).name ≡ name)
-    → map named (set row i (record { name = name; value = value })) ≡ replaced name value (map named row)
-replaced_at [] name value i inside h here = absurd (omega arith)
-replaced_at (e ∷ es) name value zero inside h here = sym (cond-true (is_same e.name name) _ _ (same_itself e.name name (here e)))
-replaced_at (e ∷ es) name value (suc i) inside h here =
-    ap (λ ns. named e ∷ ns) (replaced_at es name value i (omega arith) (not_before_rest e es name i h) here) ∙ sym (cond-false (is_same e.name name) _ _ (h 0 e (omega arith)))
+-- the same, whatever the default
+pub earlier_at : {V : Type 0} (row : List (Entry V)) (k : ℕ) (d : Entry V) → k < length row → place_in (earliers row) k ≡ (get_or row k d).earlier
+earlier_at [] k d low = absurd (omega arith)
+earlier_at (f ∷ fs) zero d low = refl
+earlier_at (f ∷ fs) (suc k) d low = earlier_at fs k d (omega arith)
 
-pub without_at : {V : Type 0} (row : List (Entry V)) (name : List ℕ) (i : ℕ) → i < length row → NotBefore row name i → ((d : Entry V) → (get_or row i d).name ≡ name) → map named (remove row i) ≡ without name (map named row)
-without_at [] name i inside h here = absurd (omega arith)
-without_at (e ∷ es) name zero inside h here = sym (cond-true (is_same e.name name) _ _ (same_itself e.name name (here e)))
-without_at (e ∷ es) name (suc i) inside h here =
-    ap (λ ns. named e ∷ ns) (without_at es name i (omega arith) (not_before_rest e es name i h) here) ∙ sym (cond-false (is_same e.name name) _ _ (h 0 e (omega arith)))
+pub length-kinds : {V : Type 0} (row : List (Entry V)) → length (kinds (map named row)) ≡ length row
+length-kinds row = length-map (map named row) (λ (n : Named _). kind n.name) ∙ length-map row named
 
--- ---- a name that is not there
+pub length-names : {V : Type 0} (row : List (Entry V)) → length (names (map named row)) ≡ length row
+length-names row = length-map (map named row) (λ (n : Named _). n.name) ∙ length-map row named
 
-abbrev pub NotIn : {V : Type 0} → List (Entry V) → List ℕ → Type 0
-NotIn row name = NotBefore row name (length row)
+pub length-earliers : {V : Type 0} (row : List (Entry V)) → length (earliers row) ≡ length row
+length-earliers row = length-map row (λ (e : Entry _). e.earlier)
 
-pub find_none : {V : Type 0} (row : List (Entry V)) (name : List ℕ) → NotIn row name → find name (map named row) ≡ None
-find_none [] name h = refl
-find_none (e ∷ es) name h = cond-false (is_same e.name name) _ _ (h 0 e (omega arith)) ∙ find_none es name (not_before_rest e es name (length es) h)
+-- ---- from one entry of a kind to the one before it
 
-pub without_none : {V : Type 0} (row : List (Entry V)) (name : List ℕ) → NotIn row name → map named row ≡ without name (map named row)
-without_none [] name h = refl
-without_none (e ∷ es) name h =
-    ap (λ ns. named e ∷ ns) (without_none es name (not_before_rest e es name (length es) h)) ∙ sym (cond-false (is_same e.name name) _ _ (h 0 e (omega arith)))
+module _ {V : Type 0} (row : List (Entry V)) (latest : List ℕ) (c : ℕ) (few : c < 512) (h : AreChains (kinds (map named row)) (earliers row) latest) where
+  pub first_within : place_in latest c ≤ length row
+  first_within = let l = h.first c few in omega (arith, l.within, length-kinds row)
 
-pub inserted_at : {V : Type 0} (row : List (Entry V)) (name : List ℕ) (value : V) (i : ℕ) → IsMissed row name i → map named (insert row i (record { name = name; value = value })) ≡ inserted name value (map named row)
-inserted_at [] name value zero h = refl
-inserted_at [] name value (suc i) h = absurd (let inside = h.inside in omega arith)
-inserted_at (e ∷ es) name value zero h = sym (cond-true (is_before name e.name) _ _ (comes_before name e.name (h.above 0 e (omega arith) (omega arith))))
-inserted_at (e ∷ es) name value (suc i) h =
-    let low : IsBefore e.name name = h.below 0 e (omega arith) in
-    let rest : IsMissed es name i = record { inside = let inside = h.inside in omega arith; below = λ k d under. h.below (suc k) d (omega arith); above = λ k d over under. h.above (suc k) d (omega arith) (omega arith) } in
-    ap (λ ns. named e ∷ ns) (inserted_at es name value i rest) ∙ sym (cond-false (is_before name e.name) _ _ (comes_behind name e.name low))
+  pub first_of_kind : 0 < place_in latest c → place_in (kinds (map named row)) (place_in latest c - 1) ≡ c
+  first_of_kind some = (h.first c few).is some
 
--- ---- with the names in order
+  pub first_last : (k : ℕ) → place_in latest c ≤ k → k < length row → place_in (kinds (map named row)) k ≡ c → ⊥
+  first_last k above below is = (h.first c few).last k above (omega (arith, length-kinds row)) is
 
-pub not_before : {V : Type 0} (row : List (Entry V)) (name : List ℕ) (i : ℕ) → IsSorted row → IsFound row name i → NotBefore row name i
-not_before row name i sorted found k d below = before_apart (get_or row k d).name name (before_along _ _ _ _ refl (sym (found.here d)) (sorted.ascends k i d below found.inside))
+  module _ (at e : ℕ) (some : 0 < at) (within : at ≤ length row) (is : place_in (earliers row) (at - 1) ≡ e) (of_kind : place_in (kinds (map named row)) (at - 1) ≡ c) where
+    low : at - 1 < length (kinds (map named row))
+    low = omega (arith, length-kinds row)
 
-pub not_in : {V : Type 0} (row : List (Entry V)) (name : List ℕ) (i : ℕ) → IsMissed row name i → NotIn row name
-not_in row name i missed k d inside = elim (cases_lt k i) [
-  | inl under ↦ before_apart (get_or row k d).name name (missed.below k d under)
-  | inr over ↦ behind_apart (get_or row k d).name name (missed.above k d over inside)
-]
+    pub next_lower : e < at
+    next_lower = let l = h.next (at - 1) c low of_kind few in omega (arith, l.within)
 
-pub found_is : {V : Type 0} (row : List (Entry V)) (name : List ℕ) (i : ℕ) (d : Entry V) → IsSorted row → IsFound row name i → find name (map named row) ≡ Some (get_or row i d).value
-found_is row name i d sorted found = find_at row name i d found.inside (not_before row name i sorted found) (found.here d)
+    pub next_of_kind : 0 < e → place_in (kinds (map named row)) (e - 1) ≡ c
+    next_of_kind more =
+        let l = h.next (at - 1) c low of_kind few in
+        sym (ap (λ n. place_in (kinds (map named row)) (n - 1)) is) ∙ l.is (omega arith)
 
--- a row has an entry where a name is found
-some_entry : {V : Type 0} (row : List (Entry V)) (name : List ℕ) (i : ℕ) → IsSorted row → IsFound row name i → is_some (find name (map named row)) ≡ is_some (Some zero)
-some_entry [] name i sorted found = absurd (let inside = found.inside in omega arith)
-some_entry (e ∷ es) name i sorted found = ap is_some (found_is (e ∷ es) name i e sorted found)
+    pub next_last : (k : ℕ) → e ≤ k → k < at - 1 → place_in (kinds (map named row)) k ≡ c → ⊥
+    next_last k above below = (h.next (at - 1) c low of_kind few).last k (omega arith) below
 
-pub put_found : {V : Type 0} (row : List (Entry V)) (name : List ℕ) (value : V) (i : ℕ) → IsSorted row → IsFound row name i → map named (set row i (record { name = name; value = value })) ≡ put name value (map named row)
-put_found row name value i sorted found =
-    replaced_at row name value i found.inside (not_before row name i sorted found) found.here
-    ∙ sym (cond-true (is_some (find name (map named row))) (replaced name value (map named row)) (inserted name value (map named row)) (some_entry row name i sorted found))
+-- ---- what is found
 
-pub put_missed : {V : Type 0} (row : List (Entry V)) (name : List ℕ) (value : V) (i : ℕ) → IsMissed row name i → map named (insert row i (record { name = name; value = value })) ≡ put name value (map named row)
-put_missed row name value i missed =
-    inserted_at row name value i missed
-    ∙ sym (cond-false (is_some (find name (map named row))) (replaced name value (map named row)) (inserted name value (map named row)) (ap is_some (find_none row name (not_in row name i missed))))
+pub found_value : {V : Type 0} (row : List (Entry V)) (name : List ℕ) (p : ℕ) (e : Entry V) → AreApart (map named row) → p < length row → e ≡ get_or row p e → e.name ≡ name → find name (in_order (map named row)) ≡ Some e.value
+found_value row name p e apart low is same =
+    let long = length-map row named in
+    find_in_order name (map named row) ∙ find_at name (map named row) p (named e) apart (omega arith) (name_is row p e low is ∙ same)
+    ∙ ap (λ (n : Named _). Some n.value) (get_or-map named row p e (named e) low ∙ ap named (sym is))
 
-pub without_found : {V : Type 0} (row : List (Entry V)) (name : List ℕ) (i : ℕ) → IsSorted row → IsFound row name i → map named (remove row i) ≡ without name (map named row)
-without_found row name i sorted found = without_at row name i found.inside (not_before row name i sorted found) found.here
+pub found_none : {V : Type 0} (row : List (Entry V)) (name : List ℕ) (at : ℕ) → IsPlace name (names (map named row)) at → at ≡ 0 → find name (map named row) ≡ None
+found_none row name at place none = find_nowhere name (map named row) (place.none none)
 
-abbrev pub key : {V : Type 0} → List (Entry V) → Entry V → ℕ → List ℕ
-key row d k = (get_or row k d).name
+-- ---- the chain of a kind led elsewhere
 
-pub sorted_set : {V : Type 0} (row : List (Entry V)) (name : List ℕ) (value : V) (i : ℕ) → IsSorted row → IsFound row name i → IsSorted (set row i (record { name = name; value = value }))
-sorted_set row name value i sorted found =
-    let new : Entry _ = record { name = name; value = value } in
-    let long = length-set row i new in
-    let same : (k : ℕ) (d : Entry _) → key (set row i new) d k ≡ key row d k = λ k d. elim (cases_eq k i) [
-      | inl here ↦ ap (key (set row i new) d) here ∙ ap (λ (e : Entry _). e.name) (get_or-set_same row i new d found.inside) ∙ sym (found.here d) ∙ ap (key row d) (sym here)
-      | inr other ↦ ap (λ (e : Entry _). e.name) (get_or-set_other row i k new d other)
-    ] in
-    record { ascends = λ j k d lower below. before_along _ _ _ _ (same j d) (same k d) (sorted.ascends j k d lower (omega arith)) }
+-- an element is replaced by one of which f is the same
+set_unseen : {A B : Type 0} (f : A → B) (xs : List A) (i : ℕ) (y d : A) → f y ≡ f (get_or xs i d) → map f (set xs i y) ≡ map f xs
+set_unseen f [] i y d is = refl
+set_unseen f (x ∷ xs) zero y d is = ap (λ z. z ∷ map f xs) is
+set_unseen f (x ∷ xs) (suc i) y d is = ap (λ zs. f x ∷ zs) (set_unseen f xs i y d is)
 
-pub sorted_removed : {V : Type 0} (row : List (Entry V)) (i : ℕ) → i < length row → IsSorted row → IsSorted (remove row i)
-sorted_removed row i inside sorted = record {
-  ascends = λ j k d lower below.
-      let long = length-remove row i inside in
-      let at : (n : ℕ) → n < i → key (remove row i) d n ≡ key row d n = λ n under. ap (λ (e : Entry _). e.name) (get_or-remove_below row i d n under inside) in
-      let past : (n : ℕ) → i ≤ n → key (remove row i) d n ≡ key row d (n + 1) = λ n over. ap (λ (e : Entry _). e.name) (get_or-remove_above row i d n over inside) in
-      elim (cases_lt j i) [
-        | inl j_under ↦ elim (cases_lt k i) [
-          | inl k_under ↦ before_along _ _ _ _ (at j j_under) (at k k_under) (sorted.ascends j k d lower (omega arith))
-          | inr k_over ↦ before_along _ _ _ _ (at j j_under) (past k k_over) (sorted.ascends j (k + 1) d (omega arith) (omega arith))
-        ]
-        | inr j_over ↦ before_along _ _ _ _ (past j j_over) (past k (omega arith)) (sorted.ascends (j + 1) (k + 1) d (omega arith) (omega arith))
-      ];
+pub led_from_first : {V : Type 0} (row : List (Entry V)) (latest : List ℕ) (c over to : ℕ) → over ≡ 0 → IsLed c over to row row latest (set latest c to)
+led_from_first row latest c over to none = record {
+  names = refl;
+  links = sym (led_first over to (earliers row) none);
+  begins = sym (begun_first over c to latest none);
 }
 
--- a name that was found is not there once it is taken away
-pub not_in_removed : {V : Type 0} (row : List (Entry V)) (name : List ℕ) (i : ℕ) → IsSorted row → IsFound row name i → NotIn (remove row i) name
-not_in_removed row name i sorted found k d inside =
-    let long = length-remove row i found.inside in
-    let here = found.here d in
-    elim (cases_lt k i) [
-      | inl under ↦
-          let is : key (remove row i) d k ≡ key row d k = ap (λ (e : Entry _). e.name) (get_or-remove_below row i d k under found.inside) in
-          before_apart _ name (before_along _ _ _ _ is (sym here) (sorted.ascends k i d under found.inside))
-      | inr over ↦
-          let is : key (remove row i) d k ≡ key row d (k + 1) = ap (λ (e : Entry _). e.name) (get_or-remove_above row i d k over found.inside) in
-          behind_apart _ name (before_along _ _ _ _ (sym here) is (sorted.ascends i (k + 1) d (omega arith) (omega arith)))
-    ]
-
-pub sorted_inserted : {V : Type 0} (row : List (Entry V)) (name : List ℕ) (value : V) (i : ℕ) → IsSorted row → IsMissed row name i → IsSorted (insert row i (record { name = name; value = value }))
-sorted_inserted row name value i sorted missed =
-    let new : Entry _ = record { name = name; value = value } in
-    let within = missed.inside in
-    let long = length-insert row i new within in
-    let keys = λ (d : Entry _) (k : ℕ). key (insert row i new) d k in
-    let here : (d : Entry _) (k : ℕ) → k ≡ i → keys d k ≡ name = λ d k is. ap (keys d) is ∙ ap (λ (e : Entry _). e.name) (get_or-insert_at row i new d within) in
-    let under : (d : Entry _) (k : ℕ) → k < i → keys d k ≡ key row d k = λ d k below. ap (λ (e : Entry _). e.name) (get_or-insert_below row i new d k below within) in
-    let past : (d : Entry _) (k m : ℕ) → i ≤ m → k ≡ m + 1 → keys d k ≡ key row d m = λ d k m above is. ap (keys d) is ∙ ap (λ (e : Entry _). e.name) (get_or-insert_above row i new d m above within) in
+pub led_from : {V : Type 0} (row : List (Entry V)) (latest : List ℕ) (c over to : ℕ) (e : Entry V) → over ≢ 0 → get_or row (over - 1) e ≡ e
+    → IsLed c over to row (set row (over - 1) (record { name = e.name; value = e.value; earlier = to })) latest latest
+led_from row latest c over to e some is =
+    let new : Entry _ = record { name = e.name; value = e.value; earlier = to } in
     record {
-      ascends = λ j k d lower below. elim (cases_order k i) [
-        | inl k_here ↦ before_along _ _ _ _ (under d j (omega arith)) (here d k k_here) (missed.below j d (omega arith))
-        | inr k_other ↦ elim k_other [
-          | inl k_under ↦ before_along _ _ _ _ (under d j (omega arith)) (under d k k_under) (sorted.ascends j k d lower (omega arith))
-          | inr k_over ↦
-              let at_k = past d k (k - 1) (omega arith) (omega arith) in
-              let high = missed.above (k - 1) d (omega arith) (omega arith) in
-              elim (cases_order j i) [
-                | inl j_here ↦ before_along _ _ _ _ (here d j j_here) at_k high
-                | inr j_other ↦ elim j_other [
-                  | inl j_under ↦ before_along _ _ _ _ (under d j j_under) at_k (before_trans _ name _ (missed.below j d j_under) high)
-                  | inr j_over ↦ before_along _ _ _ _ (past d j (j - 1) (omega arith) (omega arith)) at_k (sorted.ascends (j - 1) (k - 1) d (omega arith) (omega arith))
-                ]
-              ]
-        ]
-      ];
+      names = set_unseen named row (over - 1) new e (ap named (sym is));
+      links = map-set (λ (x : Entry _). x.earlier) row (over - 1) new ∙ sym (led_next over to (earliers row) some);
+      begins = sym (begun_next over c to latest some);
     }
 
--- ---- half of a row
+-- ---- what is always true of a table's entries
 
--- the names up to one that comes before this name
-pub below_half : {V : Type 0} (row : List (Entry V)) (name : List ℕ) (m : ℕ) → IsSorted row → m < length row → ((d : Entry V) → IsBefore (key row d m) name) → (k : ℕ) (d : Entry V) → k < m + 1 → IsBefore (key row d k) name
-below_half row name m sorted inside low k d below = elim (cases_lt k m) [
-  | inl under ↦ before_trans _ (key row d m) _ (sorted.ascends k m d under inside) (low d)
-  | inr over ↦ let is : k ≡ m = omega arith in before_along _ _ _ _ (ap (key row d) is) refl (low d)
-]
+kinds_of_set : {V : Type 0} (row : List (Entry V)) (p : ℕ) (new : Entry V) → kinds (map named (set row p new)) ≡ set (kinds (map named row)) p (kind new.name)
+kinds_of_set row p new = ap kinds (map-set named row p new) ∙ map-set (λ (n : Named _). kind n.name) (map named row) p (named new)
 
--- the names from one that comes after this name
-pub above_half : {V : Type 0} (row : List (Entry V)) (name : List ℕ) (m : ℕ) → IsSorted row → ((d : Entry V) → IsBefore name (key row d m)) → (k : ℕ) (d : Entry V) → m ≤ k → k < length row → IsBefore name (key row d k)
-above_half row name m sorted high k d over inside = elim (cases_lt m k) [
-  | inl under ↦ before_trans _ (key row d m) _ (high d) (sorted.ascends m k d under inside)
-  | inr same ↦ let is : k ≡ m = omega arith in before_along _ _ _ _ refl (ap (key row d) is) (high d)
-]
+pub linked_none : {V : Type 0} (n : ℕ) → IsLinked {V = V} [] (replicate n 0)
+linked_none n = record { chains = chains_none n; apart = tt }
 
--- the name at a place, whatever the default
-pub key_read : {V : Type 0} (row : List (Entry V)) (m : ℕ) (e d : Entry V) → m < length row → key row d m ≡ key row e m
-key_read row m e d inside = ap (λ (f : Entry _). f.name) (get_or_default row m d e inside)
+pub linked_more : {V : Type 0} (row : List (Entry V)) (latest : List ℕ) (e : Entry V) (c n : ℕ) → c ≡ kind e.name → c < length latest → e.earlier ≡ place_in latest c → n ≡ length row + 1
+    → find e.name (map named row) ≡ None → IsLinked row latest → IsLinked (row ++ e ∷ []) (set latest c n)
+linked_more row latest e c n is low link more none h =
+    let ks = kinds (map named row) in
+    let es = earliers row in
+    let long = length-kinds row in
+    let links = length-earliers row in
+    let names_are : map named (row ++ e ∷ []) ≡ map named row ++ named e ∷ [] = map-append named row (e ∷ []) in
+    let kinds_are : kinds (map named (row ++ e ∷ [])) ≡ ks ++ c ∷ [] = ap kinds names_are ∙ map-append (λ (m : Named _). kind m.name) (map named row) (named e ∷ []) ∙ ap (λ k. ks ++ k ∷ []) (sym is) in
+    let links_are : earliers (row ++ e ∷ []) ≡ es ++ place_in latest c ∷ [] = map-append (λ (x : Entry _). x.earlier) row (e ∷ []) ∙ ap (λ k. es ++ k ∷ []) link in
+    let count : n ≡ length ks + 1 = omega arith in
+    record {
+      chains = rw (kinds_are, links_are, count) (chains_more ks c es latest (omega arith) low h.chains);
+      apart = rw names_are (apart_more (map named row) (named e) h.apart none);
+    }
+
+pub linked_set : {V : Type 0} (row : List (Entry V)) (latest : List ℕ) (p : ℕ) (e new : Entry V) → p < length row → e ≡ get_or row p e → new.name ≡ e.name → new.earlier ≡ e.earlier → IsLinked row latest → IsLinked (set row p new) latest
+linked_set row latest p e new low is same link h =
+    let ks = kinds (map named row) in
+    let es = earliers row in
+    let long = length-kinds row in
+    let count = length-map row named in
+    let name = name_is row p e low is ∙ sym same in
+    let kind_there : place_in ks p ≡ kind new.name = kind_is row p low ∙ ap kind name in
+    let links_are : earliers (set row p new) ≡ set es p (place_in es p) = map-set (λ (x : Entry _). x.earlier) row p new ∙ ap (set es p) (link ∙ sym (earlier_is row p e low is)) in
+    record {
+      chains = rw (kinds_of_set row p new, links_are) (chains_same ks es latest p (kind new.name) (omega arith) kind_there h.chains);
+      apart = rw (map-set named row p new) (apart_set_same (map named row) p (named new) h.apart (omega arith) name);
+    }
+
+pub linked_fewer : {V : Type 0} (row : List (Entry V)) (latest : List ℕ) (e : Entry V) (c : ℕ) → c ≡ kind e.name → c < length latest → IsLinked (row ++ e ∷ []) latest → IsLinked row (set latest c e.earlier)
+linked_fewer row latest e c is low h =
+    let ks = kinds (map named row) in
+    let es = earliers row in
+    let long = length-kinds row in
+    let links = length-earliers row in
+    let names_are : map named (row ++ e ∷ []) ≡ map named row ++ named e ∷ [] = map-append named row (e ∷ []) in
+    let kinds_are : kinds (map named (row ++ e ∷ [])) ≡ ks ++ c ∷ [] = ap kinds names_are ∙ map-append (λ (m : Named _). kind m.name) (map named row) (named e ∷ []) ∙ ap (λ k. ks ++ k ∷ []) (sym is) in
+    let links_are : earliers (row ++ e ∷ []) ≡ es ++ e.earlier ∷ [] = map-append (λ (x : Entry _). x.earlier) row (e ∷ []) in
+    record {
+      chains = chains_fewer ks c es latest (omega arith) low e.earlier (rw (kinds_are, links_are) at h.chains);
+      apart = apart_fewer (map named row) (named e) (rw names_are at h.apart);
+    }
+
+-- ---- an entry that goes, and the last that comes into its place
+
+module _ {V : Type 0} (row : List (Entry V)) (e : Entry V) (last : ℕ) (many : last + 1 ≡ length row) (is : get_or row last e ≡ e) where
+  abbrev rest : List (Entry V)
+  rest = take last row
+
+  pub parted : row ≡ take last row ++ e ∷ []
+  parted = sym (take_all (last + 1) row (omega arith)) ∙ take_more row last e (omega arith) ∙ ap (λ x. take last row ++ x ∷ []) is
+
+  names_parted : map named row ≡ map named rest ++ named e ∷ []
+  names_parted = ap (map named) parted ∙ map-append named rest (e ∷ [])
+
+  pub length-rest : length (take last row) ≡ last
+  length-rest = length-take-le last row (omega arith)
+
+  length-named : length (map named rest) ≡ last
+  length-named = length-map rest named ∙ length-rest
+
+  module _ (apart : AreApart (map named row)) where
+    parted_apart : AreApart (map named rest ++ named e ∷ [])
+    parted_apart = subst (λ ns. AreApart ns) names_parted apart
+
+    pub removed_last : (name : List ℕ) → e.name ≡ name → in_order (map named (take last row)) ≡ without name (in_order (map named row))
+    removed_last name same =
+        in_order_popped (map named rest) (named e) parted_apart ∙ ap (λ m. without m (in_order (map named rest ++ named e ∷ []))) same
+        ∙ ap (λ ns. without name (in_order ns)) (sym names_parted)
+
+    pub rest_apart : AreApart (map named (take last row))
+    rest_apart = apart_fewer (map named rest) (named e) parted_apart
+
+    module _ (name : List ℕ) (p : ℕ) (f : Entry V) (inside : p < last) (there : get_or row p f ≡ f) (same : f.name ≡ name) where
+      name_there : name_in (names (map named rest)) p ≡ name
+      name_there = name_is rest p f (omega (arith, length-rest)) (sym (get_or-take last row p f inside ∙ there)) ∙ same
+
+      pub removed_other : in_order (set (map named (take last row)) p (named e)) ≡ without name (in_order (map named row))
+      removed_other =
+          in_order_replaced name (map named rest) (named e) p parted_apart (omega (arith, length-named)) name_there
+          ∙ ap (λ ns. without name (in_order ns)) (sym names_parted)
+
+      pub replaced_apart : AreApart (set (map named (take last row)) p (named e))
+      replaced_apart = apart_set_new (map named rest) p (named e) rest_apart (omega (arith, length-named)) (last_apart (map named rest) (named e) parted_apart)
+
+  pub linked_rest : (latest : List ℕ) (c : ℕ) → c ≡ kind e.name → c < length latest → IsLinked row latest → IsLinked (take last row) (set latest c e.earlier)
+  linked_rest latest c of_kind low h = linked_fewer rest latest e c of_kind low (subst (λ r. IsLinked r latest) parted h)
+
+-- ---- an entry in the place of another
+
+module _ {V : Type 0} (row new : List (Entry V)) (latest : List ℕ) (at : ℕ) (gone : Entry V) (n : Named V) (some : 0 < at) (within : at ≤ length row) (is : get_or row (at - 1) gone ≡ gone)
+    (h : AreChains (kinds (map named row)) (earliers row) latest) where
+  was_kind : place_in (kinds (map named row)) (at - 1) ≡ kind gone.name
+  was_kind = kind_is row (at - 1) (omega arith) ∙ ap kind (name_is row (at - 1) gone (omega arith) (sym is))
+
+  was_link : place_in (earliers row) (at - 1) ≡ gone.earlier
+  was_link = earlier_is row (at - 1) gone (omega arith) (sym is)
+
+  -- of its kind
+  pub chains_kept : map named new ≡ set (map named row) (at - 1) n → earliers new ≡ set (earliers row) (at - 1) gone.earlier → kind n.name ≡ kind gone.name → AreChains (kinds (map named new)) (earliers new) latest
+  chains_kept names_are links_are same =
+      let ks = kinds (map named row) in
+      let es = earliers row in
+      let long = length-kinds row in
+      let there : place_in ks (at - 1) ≡ kind n.name = was_kind ∙ sym same in
+      let kinds_are : kinds (map named new) ≡ set ks (at - 1) (kind n.name) = ap kinds names_are ∙ map-set (λ (m : Named _). kind m.name) (map named row) (at - 1) n in
+      let all_links : earliers new ≡ set es (at - 1) (place_in es (at - 1)) = links_are ∙ ap (set es (at - 1)) (sym was_link) in
+      rw (kinds_are, all_links) (chains_same ks es latest (at - 1) (kind n.name) (omega arith) there h)
+
+  -- of another kind
+  module _ (first second : List (Entry V)) (ls ms : List ℕ) (c d over left above under : ℕ) (c_is : c ≡ kind gone.name) (d_is : d ≡ kind n.name) (few : c < 512) (few_too : d < 512) (off : c ≢ d)
+      (many : length latest ≡ 512)
+      (link : IsLink (kinds (map named row)) (earliers row) latest c (at - 1) over left) (found : IsLink (kinds (map named row)) (earliers row) latest d (at - 1) above under)
+      (one : IsLed c over gone.earlier row first latest ls) (two : IsLed d above at first second ls ms) where
+    pub chains_moved : map named new ≡ set (map named second) (at - 1) n → earliers new ≡ set (earliers second) (at - 1) under → AreChains (kinds (map named new)) (earliers new) ms
+    chains_moved names_are links_are =
+        let ks = kinds (map named row) in
+        let es = earliers row in
+        let long = length-kinds row in
+        let links = length-earliers row in
+        let kinds_are : kinds (map named new) ≡ set ks (at - 1) d =
+        ap kinds names_are ∙ map-set (λ (m : Named _). kind m.name) (map named second) (at - 1) n ∙ ap (λ ns. set (kinds ns) (at - 1) (kind n.name)) (two.names ∙ one.names) ∙ ap (set ks (at - 1)) (sym d_is) in
+        let all_links : earliers new ≡ set (led above at (led over gone.earlier es)) (at - 1) under =
+        links_are ∙ ap (λ xs. set xs (at - 1) under) (two.links ∙ ap (led above at) one.links) in
+        let begins : ms ≡ begun above d at (begun over c gone.earlier latest) = two.begins ∙ ap (begun above d at) one.begins in
+        rw (kinds_are, all_links, begins)
+        (chains_put ks es latest c d at gone.earlier over left above under few few_too (λ e. off (sym e)) many (omega arith) some (omega arith) (was_kind ∙ sym c_is) was_link h link found)

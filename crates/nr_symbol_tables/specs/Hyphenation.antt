@@ -5,9 +5,9 @@ use Rattle.nr_symbol_tables.specs.Word.{Word, is_given}
 use Rattle.nr_symbol_tables.specs.Given.{word_in}
 use Rattle.nr_symbol_tables.specs.declared.hyphenation.Linked.{Linked}
 
--- the kind of a word with these letters, of 1024
+-- the kind of a word with these letters, of 256
 abbrev pub kind : List ℕ → ℕ
-kind letters = fold (λ k b. (k * 31 + b) % 1024) 0 letters
+kind letters = fold (λ k b. (k * 31 + b) % 256) 0 letters
 
 -- the words, their kinds, and what each is linked to
 abbrev pub words_in : List Linked → List Word

@@ -1,5 +1,5 @@
 //! Hyphenation words, found by their letters.
-ghost use Rattle.std.specs.Prelude.{◌≡◌, ◌<◌, ◌∷◌, [], length, map, IfOk};
+ghost use Rattle.std.specs.Prelude.{◌≡◌, ◌<◌, ◌∷◌, [], length, map, IfOk, slice_set};
 ghost use Rattle.nr_symbol_tables.specs.Word.{bytes_of, points_of};
 ghost use Rattle.nr_symbol_tables.specs.Given.{word_in};
 ghost use Rattle.nr_symbol_tables.specs.Hyphenation.{kind, kinds, earliers, words_in, IsChained, IsLatest, IsLatestGiven};
@@ -11,7 +11,7 @@ use std::alloc::{AllocError, Global};
 use std::marker::Model;
 
 /// How many kinds of words there are.
-const KINDS: usize = 1024;
+const KINDS: usize = 256;
 
 /// A word, and the latest of its kind before it: its place counted from 1, or 0.
 #[derive(Clone, Copy, Drop)]
@@ -23,7 +23,7 @@ pub(crate) struct Linked {
 // The kind of a word with these letters.
 fn kind_of(letters: &[u8]) -> usize
     ensures is { result ≡ kind letters.now }
-    ensures few { result < 1024 }
+    ensures few { result < 256 }
 {
     let mut kind = 0;
     for letter in letters {
@@ -35,7 +35,7 @@ fn kind_of(letters: &[u8]) -> usize
 // The kind of a word whose letters are the bytes of these cells.
 fn kind_of_cells(cells: &[Cell]) -> usize
     ensures is { result ≡ kind (bytes_of cells.now) }
-    ensures few { result < 1024 }
+    ensures few { result < 256 }
 {
     let mut kind = 0;
     for cell in cells {
@@ -76,14 +76,23 @@ fn latest_given(row: &[Linked], latest: &[usize; KINDS], cells: &[Cell]) -> usiz
     whole.max(latest_with(row, latest, &cells[..len - 1]))
 }
 
+// Makes a place, counted from 1, the latest of a kind.
+fn set_latest(latest: &mut [usize; KINDS], kind: usize, at: usize)
+    requires few { kind < 256 }
+    ensures long { length latest.old ≡ 256 }
+    ensures is { latest.new ≡ slice_set latest.old kind at }
+{
+    latest[kind] = at;
+}
+
 /// Hyphenation words, with room for a number of them that stays; `new` is the only call that allocates. A clause sees
 /// the last that came as the first, and the room, the greatest number of words. A word is found among those of its
-/// kind, of 1024 kinds.
+/// kind, of 256 kinds.
 #[derive(Drop)]
 pub struct HyphenationWords {
     row: FixedVec<Linked>,
     // The latest word of each kind: its place counted from 1, or 0.
-    latest: [usize; KINDS],
+    latest: Box<[usize; KINDS]>,
 }
 
 impl Model for HyphenationWords {
@@ -97,7 +106,7 @@ impl Model for HyphenationWords {
 
     ghost view = { λ w. record { items = reverse (map (λ (l : Linked). l.word) w.row.items); room = w.row.room } };
 
-    ghost invariant = { λ w. IsChained (kinds w.row.items) (earliers w.row.items) w.latest };
+    ghost invariant = { λ w. IsChained (kinds w.row.items) (earliers w.row.items) w.latest.value };
 }
 
 impl HyphenationWords {
@@ -107,7 +116,7 @@ impl HyphenationWords {
     {
         Ok(HyphenationWords {
             row: FixedVec::new(alloc, room)?,
-            latest: [0; KINDS],
+            latest: Box::new(alloc, [0; KINDS])?,
         })
     }
 
@@ -116,7 +125,7 @@ impl HyphenationWords {
         ensures { self.new ≡ record self.old { items = [] } }
     {
         self.row.clear();
-        self.latest = [0; KINDS];
+        *self.latest = [0; KINDS];
     }
 
     /// The number of words.
@@ -142,7 +151,7 @@ impl HyphenationWords {
         let kind = kind_of(word.letters());
         let earlier = self.latest[kind];
         self.row.push(Linked { word, earlier });
-        self.latest[kind] = self.row.len();
+        set_latest(&mut self.latest, kind, self.row.len());
     }
 
     /// The places where a word may be cut, each so many cells in, in rising order: those of the latest of these words

@@ -1,20 +1,23 @@
 //! A table of what has a name.
-ghost use Rattle.std.specs.Prelude.{◌≡◌, ◌<◌, length, [], MatchResult, None, IfOk};
+ghost use Rattle.std.specs.Prelude.{◌≡◌, ◌<◌, ◌≤◌, ◌-◌, ◌↔◌, length, map, [], None, IfOk, IsTrue, slice_set};
 ghost use Rattle.nr_symbol_tables.specs.Table.{find, put, without};
-ghost use Rattle.nr_symbol_tables.specs.Rows.{IsSorted, IsFound, IsMissed};
+ghost use Rattle.nr_symbol_tables.specs.Rows.{named, names, kind, long_kind, kinds, earliers, IsPlace, AreChains, IsLink, IsLed};
 
-use crate::hints::Hints;
 use nr_rooms::FixedVec;
 use nr_units::Name;
 use std::alloc::{AllocError, Global};
-use std::cmp::Ordering;
 use std::marker::Model;
+
+/// How many kinds of names there are.
+const KINDS: usize = 512;
 
 /// A name and what has it.
 #[derive(Clone, Copy, Drop)]
 pub struct Entry<V> {
     pub(crate) name: Name,
     pub(crate) value: V,
+    // The latest of its kind before it: its place counted from 1, or 0.
+    pub(crate) earlier: usize,
 }
 
 impl<V: Copy> Entry<V> {
@@ -23,62 +26,142 @@ impl<V: Copy> Entry<V> {
         Entry {
             name: Name::new(),
             value,
+            earlier: 0,
         }
     }
 }
 
-// The place of a name, or else the place of the first that is higher.
-fn place_of<V: Copy>(row: &[Entry<V>], name: Name) -> Result<usize, usize>
-    requires { IsSorted row.now }
-    ensures { MatchResult result (IsFound row.now name) (IsMissed row.now name) }
+// The kind of a name of more than two bytes.
+fn long_kind(bytes: &[u8]) -> usize
+    ensures is { result ≡ long_kind bytes.now }
+    ensures few { result < 512 }
 {
-    let mut low = 0;
-    let mut high = row.len();
-    while low < high {
-        let middle = low + (high - low) / 2;
-        match row[middle].name.compare(&name) {
-            Ordering::Less => low = middle + 1,
-            Ordering::Equal => return Ok(middle),
-            Ordering::Greater => high = middle,
+    let mut kind = 0;
+    for byte in bytes {
+        kind = (kind * 31 + usize::from(*byte)) % 512;
+    }
+    kind
+}
+
+// The kind of a name.
+fn kind_of(name: &Name) -> usize
+    ensures is { result ≡ kind name.now }
+    ensures few { result < 512 }
+{
+    if name.len() > 2 {
+        return long_kind(name.as_bytes());
+    }
+    usize::from(name.kind())
+}
+
+// Whether two names are one.
+#[inline]
+fn is_same(a: &Name, b: &Name) -> bool
+    ensures { IsTrue result ↔ (a.now ≡ b.now) }
+{
+    if b.len() <= 2 {
+        return a.is_same_short(b);
+    }
+    a.compare(b).is_eq()
+}
+
+// The place of a name, counted from 1, or 0 where it is not there.
+fn place_of<V: Copy>(row: &[Entry<V>], latest: &[usize; KINDS], name: &Name) -> usize
+    requires { AreChains (kinds (map named row.now)) (earliers row.now) latest.now }
+    ensures { IsPlace name.now (names (map named row.now)) result }
+{
+    let mut at = latest[kind_of(name)];
+    while at > 0 {
+        let entry = &row[at - 1];
+        if is_same(&entry.name, name) {
+            return at;
         }
+        at = entry.earlier;
     }
-    Err(low)
+    at
 }
 
-// The same, where the name may stand at a place that is looked at first.
-#[inline(always)]
-fn place_near<V: Copy>(row: &[Entry<V>], near: usize, name: Name) -> Result<usize, usize>
-    requires { IsSorted row.now }
-    ensures { MatchResult result (IsFound row.now name) (IsMissed row.now name) }
+// Where the chain of a kind comes to a place or passes it: from the last entry after that place, counted from 1, or
+// from the beginning of the chain, which is 0; and where it goes from there.
+#[derive(Clone, Copy)]
+struct Link {
+    over: usize,
+    to: usize,
+}
+
+// The link of a kind at a place that is counted from 1.
+fn link_at<V: Copy>(row: &[Entry<V>], latest: &[usize; KINDS], kind: usize, at: usize) -> Link
+    requires chained { AreChains (kinds (map named row.now)) (earliers row.now) latest.now }
+    requires few { kind < 512 }
+    requires some { 0 < at }
+    ensures { IsLink (kinds (map named row.now)) (earliers row.now) latest.now kind (at - 1) result.over result.to }
 {
-    if near >= row.len() {
-        return place_of(row, name);
+    let mut over = 0;
+    let mut to = latest[kind];
+    while to > at {
+        over = to;
+        to = row[to - 1].earlier;
     }
-    match row[near].name.compare(&name) {
-        Ordering::Equal => Ok(near),
-        _ => place_of(row, name),
-    }
+    Link { over, to }
 }
 
-/// What has a name, with room for a number of names that stays, in the order of the names. A name is found at once, or in as many steps as
-/// the logarithm of the number of names; one that is new or goes moves those after it at once.
+// Lets the chain of a kind go to another place from an entry, counted from 1, or from its beginning.
+fn lead<V: Copy>(
+    row: &mut FixedVec<Entry<V>>,
+    latest: &mut [usize; KINDS],
+    kind: usize,
+    over: usize,
+    to: usize,
+)
+    requires few { kind < 512 }
+    requires within { over ≤ length row.old.items }
+    ensures led { IsLed kind over to row.old.items row.new.items latest.old latest.new }
+    ensures room { row.new.room ≡ row.old.room }
+{
+    if over == 0 {
+        latest[kind] = to;
+        return;
+    }
+    let entry = row.get(over - 1);
+    row.set(
+        over - 1,
+        Entry {
+            name: entry.name,
+            value: entry.value,
+            earlier: to,
+        },
+    );
+}
+
+// Makes a place, counted from 1, the latest of a kind.
+fn set_latest(latest: &mut [usize; KINDS], kind: usize, at: usize)
+    requires few { kind < 512 }
+    ensures long { length latest.old ≡ 512 }
+    ensures is { latest.new ≡ slice_set latest.old kind at }
+{
+    latest[kind] = at;
+}
+
+/// What has a name, with room for a number of names that stays. A name is found among those of its kind alone, of 512
+/// kinds, and takes no other's place when it is new or goes.
 ///
-/// Clauses see the list of names with their values, and the room, the greatest number of names.
+/// Clauses see the list of names with their values, in the order of the names, and the room, the greatest number of names.
 #[derive(Drop)]
 pub struct Table<V: Copy> {
     entries: FixedVec<Entry<V>>,
-    hints: Hints,
+    // The latest entry of each kind: its place counted from 1, or 0.
+    latest: Box<[usize; KINDS]>,
 }
 
 impl<V: Copy> Model for Table<V> {
     ghost use Rattle.std.specs.Prelude.{map};
-    ghost use Rattle.nr_symbol_tables.specs.Rows.{Table, IsSorted, named};
+    ghost use Rattle.nr_symbol_tables.specs.Rows.{Table, IsLinked, named, in_order};
 
     ghost Value = { Table V };
 
-    ghost view = { λ t. record { entries = map named t.entries.items; room = t.entries.room } };
+    ghost view = { λ t. record { entries = in_order (map named t.entries.items); room = t.entries.room } };
 
-    ghost invariant = { λ t. IsSorted t.entries.items };
+    ghost invariant = { λ t. IsLinked t.entries.items t.latest.value };
 }
 
 impl<V: Copy> Table<V> {
@@ -88,7 +171,7 @@ impl<V: Copy> Table<V> {
     {
         Ok(Table {
             entries: FixedVec::new(alloc, room)?,
-            hints: Hints::new(),
+            latest: Box::new(alloc, [0; KINDS])?,
         })
     }
 
@@ -97,7 +180,7 @@ impl<V: Copy> Table<V> {
         ensures { self.new ≡ record self.old { entries = [] } }
     {
         self.entries.clear();
-        self.hints = Hints::new();
+        *self.latest = [0; KINDS];
     }
 
     /// How many names there is memory for, as their vector tells.
@@ -119,26 +202,25 @@ impl<V: Copy> Table<V> {
     pub fn get(&self, name: Name) -> Option<V>
         ensures { result ≡ find name self.now.entries }
     {
-        let near = self.hints.place(&name);
+        let at = self.latest[usize::from(name.kind())];
         let row = self.entries.as_slice();
-        if near < row.len() && row[near].name.is_same_short(&name) {
-            return Some(row[near].value);
+        if at > 0 && row[at - 1].name.is_same_short(&name) {
+            return Some(row[at - 1].value);
         }
-        self.look_up(near, name)
+        self.look_up(name)
     }
 
-    // The same, where no name of at most two bytes is at the place that is looked at first.
+    // The same, where no name of at most two bytes is the latest of its kind.
     #[inline(never)]
-    fn look_up(&self, near: usize, name: Name) -> Option<V>
+    fn look_up(&self, name: Name) -> Option<V>
         ensures { result ≡ find name self.now.entries }
     {
-        match place_near(self.entries.as_slice(), near, name) {
-            Ok(place) => {
-                let entry = self.entries.get(place);
-                Some(entry.value)
-            }
-            Err(_) => None,
+        let at = place_of(self.entries.as_slice(), &self.latest, &name);
+        if at == 0 {
+            return None;
         }
+        let entry = self.entries.get(at - 1);
+        Some(entry.value)
     }
 
     /// Gives a name a value, and answers the one that it had.
@@ -147,18 +229,28 @@ impl<V: Copy> Table<V> {
         ensures was { result ≡ find name self.old.entries }
         ensures is { self.new ≡ record self.old { entries = put name value self.old.entries } }
     {
-        match place_near(self.entries.as_slice(), self.hints.place(&name), name) {
-            Ok(place) => {
-                let was = self.entries.get(place);
-                self.entries.set(place, Entry { name, value });
-                Some(was.value)
-            }
-            Err(place) => {
-                self.entries.insert(place, Entry { name, value });
-                self.hints.opened(&name, place, self.entries.len());
-                None
-            }
+        let at = place_of(self.entries.as_slice(), &self.latest, &name);
+        if at == 0 {
+            let kind = kind_of(&name);
+            let earlier = self.latest[kind];
+            self.entries.push(Entry {
+                name,
+                value,
+                earlier,
+            });
+            set_latest(&mut self.latest, kind, self.entries.len());
+            return None;
         }
+        let was = self.entries.get(at - 1);
+        self.entries.set(
+            at - 1,
+            Entry {
+                name,
+                value,
+                earlier: was.earlier,
+            },
+        );
+        Some(was.value)
     }
 
     /// Takes a name away, and answers what had it.
@@ -167,14 +259,65 @@ impl<V: Copy> Table<V> {
         ensures is { self.new ≡ record self.old { entries = without name self.old.entries } }
         ensures gone { find name self.new.entries ≡ None }
     {
-        match place_near(self.entries.as_slice(), self.hints.place(&name), name) {
-            Ok(place) => {
-                let was = self.entries.get(place);
-                self.entries.remove(place);
-                self.hints.closed(place);
-                Some(was.value)
-            }
-            Err(_) => None,
+        let at = place_of(self.entries.as_slice(), &self.latest, &name);
+        if at == 0 {
+            return None;
         }
+        let was = self.entries.get(at - 1);
+        let last = self.entries.len() - 1;
+        let moved = self.entries.get(last);
+        self.entries.truncate(last);
+        set_latest(&mut self.latest, kind_of(&moved.name), moved.earlier);
+        if at > last {
+            return Some(was.value);
+        }
+        replace(&mut self.entries, &mut self.latest, at, moved);
+        Some(was.value)
     }
+}
+
+// Puts an entry at a place, counted from 1, with another link.
+fn put_at<V: Copy>(row: &mut FixedVec<Entry<V>>, at: usize, entry: Entry<V>, earlier: usize)
+    requires some { 0 < at }
+    requires within { at ≤ length row.old.items }
+    ensures named { map named row.new.items ≡ slice_set (map named row.old.items) (at - 1) (named entry) }
+    ensures earliers { earliers row.new.items ≡ slice_set (earliers row.old.items) (at - 1) earlier }
+    ensures room { row.new.room ≡ row.old.room }
+{
+    row.set(
+        at - 1,
+        Entry {
+            name: entry.name,
+            value: entry.value,
+            earlier,
+        },
+    );
+}
+
+// Puts an entry in the place of another, counted from 1, and links the entries of both kinds anew.
+fn replace<V: Copy>(
+    row: &mut FixedVec<Entry<V>>,
+    latest: &mut [usize; KINDS],
+    at: usize,
+    entry: Entry<V>,
+)
+    requires some { 0 < at }
+    requires within { at ≤ length row.old.items }
+    requires chains { AreChains (kinds (map named row.old.items)) (earliers row.old.items) latest.old }
+    ensures named { map named row.new.items ≡ slice_set (map named row.old.items) (at - 1) (named entry) }
+    ensures chains { AreChains (kinds (map named row.new.items)) (earliers row.new.items) latest.new }
+    ensures room { row.new.room ≡ row.old.room }
+{
+    let gone = row.get(at - 1);
+    let from = kind_of(&gone.name);
+    let kind = kind_of(&entry.name);
+    if from == kind {
+        put_at(row, at, entry, gone.earlier);
+        return;
+    }
+    let left = link_at(row.as_slice(), latest, from, at);
+    let found = link_at(row.as_slice(), latest, kind, at);
+    lead(row, latest, from, left.over, gone.earlier);
+    lead(row, latest, kind, found.over, at);
+    put_at(row, at, entry, found.to);
 }

@@ -1,9 +1,9 @@
-use Rattle.std.proofs.Common.{◌≡◌, ◌-◌, ℕ, List, length, true, false, get_or, ap, sym, ◌∙◌, subst, arith}
+use Rattle.std.proofs.Common.{◌≡◌, ◌-◌, ℕ, List, true, false, get_or, ap, sym, ◌∙◌, arith}
 use Rattle.std.specs.Str.{bytes_eq}
 use Rattle.std.proofs.lemmas.Slice.Eq.{bytes_eq-Decides}
 use Rattle.nr_symbol_tables.specs.Word.{bytes_of}
 use Rattle.nr_symbol_tables.specs.Given.{word_in}
-use Rattle.nr_symbol_tables.specs.Hyphenation.{kind, kinds, earliers, words_in, word_at, number_at}
+use Rattle.nr_symbol_tables.specs.Hyphenation.{earliers, words_in, word_at, number_at}
 use Rattle.nr_symbol_tables.specs.declared.hyphenation.Linked.{Linked}
 use Rattle.nr_symbol_tables.proofs.Chaining.{first_within, first_last, first_of_kind, next_lower, next_of_kind, next_last, earlier_is, word_is, length-words_in}
 use Rattle.nr_symbol_tables.proofs.hyphenation.latest_with.Goals as goal

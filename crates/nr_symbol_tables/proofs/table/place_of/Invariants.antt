@@ -1,16 +1,14 @@
-use Rattle.std.proofs.Common.{ℕ, ◌<◌, ◌≤◌, ◌-◌, length, get_or}
-use Rattle.nr_symbol_tables.specs.Rows.{IsBefore}
-use Rattle.nr_symbol_tables.specs.declared.table.Entry.{Entry}
+use Rattle.std.proofs.Common.{◌≡◌, ℕ, ◌-◌, ◌<◌, ◌≤◌, length, map}
+use Rattle.nr_symbol_tables.specs.Rows.{named, names, kind, kinds, name_in, place_in}
 use Rattle.nr_symbol_tables.proofs.table.place_of.Given as goal
 
-abbrev pub invariant-loop-low : goal.invariant-loop-low
-invariant-loop-low g l =
+abbrev pub invariant-loop-at : goal.invariant-loop-at
+invariant-loop-at g l =
     record {
-      inside : l.low ≤ l.high;
-      within : l.high ≤ length l.row;
-      below : (k : ℕ) (d : Entry g.row.V.Denot) → k < l.low → IsBefore (get_or l.row k d).name l.name;
-      above : (k : ℕ) (d : Entry g.row.V.Denot) → l.high ≤ k → k < length l.row → IsBefore l.name (get_or l.row k d).name;
+      within : l.at ≤ length l.row;
+      last : (k : ℕ) → l.at ≤ k → k < length l.row → name_in (names (map named l.row)) k ≡ l.name → ⊥;
+      of_kind : 0 < l.at → place_in (kinds (map named l.row)) (l.at - 1) ≡ kind l.name;
     }
 
-abbrev pub decreases-loop-low : goal.decreases-loop-low
-decreases-loop-low g l = l.high - l.low
+abbrev pub decreases-loop-at : goal.decreases-loop-at
+decreases-loop-at g l = l.at

@@ -1,5 +1,7 @@
+use Rattle.std.proofs.Common.{[], subst, sym}
+use Rattle.nr_symbol_tables.specs.Hyphenation.{IsChained}
 use Rattle.nr_symbol_tables.proofs.Chaining.{chained_none}
 use Rattle.nr_symbol_tables.proofs.hyphenation.HyphenationWords.new.Goals as goal
 
 pub invariant_of-result : goal.invariant_of-result
-invariant_of-result c = rw c.in_ok-new.ensures (chained_none 1024)
+invariant_of-result c = rw c.in_ok-new.ensures (subst (IsChained [] []) (sym c.in_ok-new-2.ensures.ok) (chained_none 256))

@@ -1,8 +1,8 @@
-use Rattle.std.proofs.Common.{◌≡◌, ◌-◌, ◌<◌, ℕ, List, length, map, get_or, ap, sym, ◌∙◌, arith}
+use Rattle.std.proofs.Common.{◌-◌, ◌<◌, List, length, map, get_or, ap, sym, ◌∙◌, arith}
 use Rattle.nr_units.specs.Items.{Items}
 use Rattle.nr_symbol_tables.specs.Word.{Word, bytes_of, points_of, stem}
 use Rattle.nr_symbol_tables.specs.Given.{word_in}
-use Rattle.nr_symbol_tables.specs.Hyphenation.{words_in, word_at, IsLatestGiven}
+use Rattle.nr_symbol_tables.specs.Hyphenation.{words_in, IsLatestGiven}
 use Rattle.nr_symbol_tables.specs.declared.hyphenation.Linked.{Linked}
 use Rattle.nr_symbol_tables.specs.declared.word.HyphenationWord.{HyphenationWord}
 use Rattle.nr_symbol_tables.proofs.Chaining.{points_none, points_found, word_is, length-words_in}

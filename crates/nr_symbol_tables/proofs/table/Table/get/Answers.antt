@@ -1,15 +1,24 @@
-use Rattle.std.proofs.Common.{List, Some, get_or, ap, sym, ◌∙◌, arith}
+use Rattle.std.proofs.Common.{◌≡◌, ◌-◌, ◌<◌, ap, sym, ◌∙◌, Some, arith}
 use Rattle.nr_symbol_tables.specs.Table.{find}
-use Rattle.nr_symbol_tables.specs.Rows.{Table, IsFound}
+use Rattle.nr_symbol_tables.specs.Rows.{Table, place_in}
 use Rattle.nr_symbol_tables.specs.declared.table.Entry.{Entry}
-use Rattle.nr_symbol_tables.proofs.Rows.{found_is, key_read}
+use Rattle.nr_symbol_tables.proofs.Rows.{found_value, name_is, first_within}
 use Rattle.nr_symbol_tables.proofs.table.Table.get.Goals as goal
 
 pub returns-then-is_same_short : goal.returns-then-is_same_short
 returns-then-is_same_short g c =
     let row = c.self.inside.entries.items in
-    let e = c.index-row-near.result in
     let same = c.is_same_short.ensures.0 c.if-is_same_short.true in
-    let found : IsFound c.as_slice-row.result.now c.args.name c.place-near.result = record { inside = omega arith; here = λ d. key_read c.as_slice-row.result.now c.place-near.result e d (omega arith) ∙ same.1 } in
-    let is = rw c.as_slice-row.ensures.value at found in
-    sym (sym (ap (λ (t : Table _). find c.args.name t.entries) c.self.view_is) ∙ found_is row c.args.name c.place-near.result c.index-row-near-then-is_same_short.result c.self.invariant is ∙ ap (λ (es : List (Entry _)). Some (get_or es c.place-near.result c.index-row-near-then-is_same_short.result).value) (sym c.as_slice-row.ensures.value))
+    let few = c.kind.ensures.few in
+    let wide = c.from.ensures in
+    let some : 0 < place_in c.self.inside.latest.value c.from.result = rw c.deref.ensures at c.if-at-gt0.true in
+    let at = place_in c.self.inside.latest.value c.from.result in
+    let within = first_within row c.self.inside.latest.value c.from.result (omega arith) c.self.invariant.chains in
+    let e = c.index-row-at.result in
+    let f = c.index-row-at-then-is_same_short.result in
+    let is = rw (c.as_slice-row.ensures.value, c.deref.ensures) at c.index-row-at.is in
+    let again = rw (c.as_slice-row.ensures.value, c.deref.ensures) at c.index-row-at-then-is_same_short.is in
+    let name : f.name ≡ c.args.name =
+    sym (name_is row (at - 1) f (omega arith) again) ∙ name_is row (at - 1) e (omega arith) is ∙ ap (λ (x : Entry _). x.name) c.index-row-at.is ∙ same.1 in
+    sym (sym (ap (λ (t : Table _). find c.args.name t.entries) c.self.view_is) ∙ found_value row c.args.name (at - 1) f c.self.invariant.apart (omega arith) again name
+    ∙ ap (λ (x : Entry _). Some x.value) c.index-row-at-then-is_same_short.is)
