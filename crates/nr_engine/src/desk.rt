@@ -32,6 +32,7 @@ pub fn sizes(limits: Limits) -> Sizes
         registers: store.registers,
         traps: store.traps,
         words: store.words,
+        kinds: store.kinds,
         cells: line.cells,
         pieces: line.pieces,
         row: line.row,

@@ -75,6 +75,7 @@ impl Engine {
             registers: store.registers,
             traps: store.traps,
             words: store.words,
+            kinds: store.kinds,
             cells: self.formatter.line.cell_memory(),
             pieces: self.formatter.line.piece_memory(),
             row: self.row.memory(),

@@ -15,6 +15,7 @@ pub struct Sizes {
     pub registers: usize,
     pub traps: usize,
     pub words: usize,
+    pub kinds: usize,
     pub cells: usize,
     pub pieces: usize,
     pub row: usize,

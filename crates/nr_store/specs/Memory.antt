@@ -17,4 +17,5 @@ rooms_of limit deepest = record {
   registers = limit / 48 + 1;
   traps = limit / 48 + 1;
   words = limit / 16 + 1;
+  kinds = 1280;
 }

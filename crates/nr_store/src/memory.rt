@@ -29,6 +29,8 @@ pub struct Room {
     pub traps: usize,
     /// The hyphenation words.
     pub words: usize,
+    /// The beginnings of the chains of names, of registers and of hyphenation words, as many whatever the limit.
+    pub kinds: usize,
 }
 
 impl Room {
@@ -52,6 +54,7 @@ impl Room {
             registers: limit / 48 + 1,
             traps: limit / 48 + 1,
             words: limit / 16 + 1,
+            kinds: 512 + 512 + 256,
         }
     }
 }

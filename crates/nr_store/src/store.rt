@@ -72,6 +72,7 @@ impl<K: Copy> Store<K> {
             registers: self.registers.memory(),
             traps: self.traps.memory(),
             words: self.words.memory(),
+            kinds: self.names.kinds() + self.registers.kinds() + self.words.kinds(),
         }
     }
 

@@ -143,6 +143,13 @@ impl HyphenationWords {
         self.row.memory()
     }
 
+    /// How many numbers its box has: the beginnings of the chains, one for each kind.
+    pub fn kinds(&self) -> usize
+        ensures { result ≡ 256 }
+    {
+        KINDS
+    }
+
     /// Adds a word.
     pub fn push(&mut self, word: HyphenationWord)
         requires { length self.old.items < self.old.room }

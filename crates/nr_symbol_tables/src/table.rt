@@ -190,6 +190,13 @@ impl<V: Copy> Table<V> {
         self.entries.memory()
     }
 
+    /// How many numbers its box has: the beginnings of the chains, one for each kind.
+    pub fn kinds(&self) -> usize
+        ensures { result ≡ 512 }
+    {
+        KINDS
+    }
+
     /// The number of names.
     pub fn len(&self) -> usize
         ensures { result ≡ length self.now.entries }
