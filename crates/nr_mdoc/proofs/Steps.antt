@@ -1,5 +1,6 @@
 -- In how many steps bytes are read.
 use Rattle.std.proofs.Common.{ℕ, zero, suc, ◌+◌, ◌*◌, ◌≤◌, ◌==◌, List, [], ◌∷◌, length, Bool, true, false, if◌then◌else◌, arith}
+use Prim.Native.Char.{code}
 use Rattle.nr_mdoc.specs.declared.page.Scan.{Scan}
 use Rattle.nr_mdoc.specs.declared.page.Scan.TheVariants as scans
 use Rattle.nr_mdoc.specs.declared.strings.Next.{Next}
@@ -50,7 +51,7 @@ heard_text-quick a b c d s =
     omega arith
 
 heard_star-quick : (s : State) → (heard_star s).steps ≤ 32
-heard_star-quick s = let i = heard-quick 92 s in let j = heard-quick 42 (heard 92 s).state in omega arith
+heard_star-quick s = let i = heard-quick (code "\\") s in let j = heard-quick (code "*") (heard (code "\\") s).state in omega arith
 
 star_then-quick : (a : ℕ) (s : State) → (then_told (heard_star s) (λ t. heard a t)).steps ≤ 48
 star_then-quick a s = let i = heard_star-quick s in let j = heard-quick a (heard_star s).state in omega arith
@@ -67,13 +68,13 @@ two_then-quick a b d s =
 
 heard_raw-quick : (pending : Pending) (s : State) → (heard_raw pending s).steps ≤ 80
 heard_raw-quick pendings.Nothing s = omega arith
-heard_raw-quick pendings.Backslash s = let i = heard-quick 92 s in omega arith
+heard_raw-quick pendings.Backslash s = let i = heard-quick (code "\\") s in omega arith
 heard_raw-quick pendings.Star s = let i = heard_star-quick s in omega arith
-heard_raw-quick pendings.Open s = let i = star_then-quick 40 s in omega arith
-heard_raw-quick (pendings.Pair a) s = let i = pair_then-quick 40 a s in omega arith
-heard_raw-quick pendings.Bracket s = let i = star_then-quick 91 s in omega arith
-heard_raw-quick (pendings.One a) s = let i = pair_then-quick 91 a s in omega arith
-heard_raw-quick (pendings.Two a b) s = two_then-quick 91 a b s
+heard_raw-quick pendings.Open s = let i = star_then-quick (code "(") s in omega arith
+heard_raw-quick (pendings.Pair a) s = let i = pair_then-quick (code "(") a s in omega arith
+heard_raw-quick pendings.Bracket s = let i = star_then-quick (code "[") s in omega arith
+heard_raw-quick (pendings.One a) s = let i = pair_then-quick (code "[") a s in omega arith
+heard_raw-quick (pendings.Two a b) s = two_then-quick (code "[") a b s
 
 read_by-quick : (n : Next) (b : ℕ) (s : State) → (read_by n b s).steps ≤ 96
 read_by-quick (nexts.Waits pending) b s = omega arith
@@ -95,7 +96,7 @@ fed_quick s (b ∷ bs) =
 
 line_finished-quick : (s : State) → (line_finished s).steps ≤ 16
 unfolding line_finished
-line_finished-quick s = heard-quick 10 s
+line_finished-quick s = heard-quick (code "\n") s
 
 finished_at-quick : (scan : Scan) (s : State) → (finished_at scan s).steps ≤ 16
 finished_at-quick (scans.Asleep front lines) s = none_quick

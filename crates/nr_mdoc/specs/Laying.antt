@@ -9,7 +9,8 @@ use Rattle.nr_mdoc.specs.declared.page.At.{At}
 use Rattle.nr_mdoc.specs.declared.page.At.TheVariants.{Start, Middle, Ended}
 use Rattle.nr_mdoc.specs.declared.page.Lay.{Lay}
 use Rattle.nr_mdoc.specs.declared.page.Page.{Page}
-use Rattle.nr_mdoc.specs.declared.names.TheConstants.{STANDARDS, LIBRARIES, SYSTEMS}
+use Rattle.nr_mdoc.specs.declared.libraries.TheConstants.{LIBRARIES}
+use Rattle.nr_mdoc.specs.declared.names.TheConstants.{STANDARDS, SYSTEMS}
 use Rattle.nr_mdoc.specs.Lookup.{before_nul, named_in}
 use Rattle.nr_mdoc.specs.Texts.{font_begin, font_end}
 

@@ -1,4 +1,6 @@
 pub mod Blocks
+pub mod Calls
+pub mod Keeping
 pub mod Laying
 pub mod LayingOut
 pub mod Lines
@@ -13,5 +15,6 @@ pub mod Running
 pub mod Scanning
 pub mod Seeing
 pub mod Strings
+pub mod Taking
 pub mod Texts
 pub mod Words

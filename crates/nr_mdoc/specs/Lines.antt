@@ -24,7 +24,7 @@ use Rattle.nr_mdoc.specs.Blocks.{block_opens, item, item_ends, list_begins, list
 use Rattle.nr_mdoc.specs.Macros.{macro_of}
 use Rattle.nr_mdoc.specs.Options.{none}
 use Rattle.nr_mdoc.specs.Seeing.{Met, met, left, two, three, and_taken}
-use Rattle.nr_mdoc.specs.Words.{called, is_due, leaves, is_none, is_synopsis, with_place, with_scan}
+use Rattle.nr_mdoc.specs.Calls.{called, is_due, leaves, is_none, is_synopsis, with_place, with_scan}
 
 -- names of macros begin with a capital letter, or with a percent sign
 abbrev pub is_request : List ℕ → Bool

@@ -4,7 +4,8 @@ use Rattle.nr_mdoc.specs.declared.page.Front.{Front}
 use Rattle.nr_mdoc.specs.declared.page.Front.TheVariants as fronts
 use Rattle.nr_mdoc.specs.declared.page.Scan.{Scan}
 use Rattle.nr_mdoc.specs.declared.page.Scan.TheVariants as scans
-use Rattle.nr_mdoc.specs.Scanning.{ends_word, front_grows, passes_to}
+use Rattle.nr_mdoc.specs.Keeping.{ends_word}
+use Rattle.nr_mdoc.specs.Scanning.{front_grows, passes_to}
 
 -- where a byte leads that goes on no `.Dd`: nowhere, if it ends one
 abbrev pub leads_behind : Front → ℕ → ℕ → Option Scan

@@ -1,5 +1,6 @@
 -- Bytes are read, one after another, and what comes of a whole page.
 use Rattle.std.specs.Prelude.{ℕ, zero, suc, ◌+◌, ◌-◌, List, [], ◌∷◌, ◌++◌, length, take, Bool, true, false, ◌==◌, nat_lt, if◌then◌else◌, slice_get, Option, None, Some}
+use Prim.Native.Char.{code}
 use Rattle.nr_mdoc.specs.declared.acts.Stack.{Stack}
 use Rattle.nr_mdoc.specs.declared.acts.Stack.TheVariants.{Stay, Opens, Closes}
 use Rattle.nr_mdoc.specs.declared.macros.Font.TheVariants.{Roman}
@@ -172,7 +173,7 @@ heard_text a b c d s =
     then_told (then_told (then_told (heard_some a s) (λ t. heard_some b t)) (λ t. heard_some c t)) (λ t. heard_some d t)
 
 abbrev pub heard_star : State → Told
-heard_star s = then_told (heard 92 s) (λ t. heard 42 t)
+heard_star s = then_told (heard (code "\\") s) (λ t. heard (code "*") t)
 
 abbrev pub heard_then : (State → Told) → ℕ → State → Told
 heard_then f b s = then_told (f s) (λ t. heard b t)
@@ -180,13 +181,13 @@ heard_then f b s = then_told (f s) (λ t. heard b t)
 -- what was read of an escape that names no string is heard as it is
 abbrev pub heard_raw : Pending → State → Told
 heard_raw Nothing s = told s [] 0
-heard_raw pendings.Backslash s = heard 92 s
+heard_raw pendings.Backslash s = heard (code "\\") s
 heard_raw pendings.Star s = heard_star s
-heard_raw pendings.Open s = heard_then heard_star 40 s
-heard_raw (pendings.Pair a) s = heard_then (heard_then heard_star 40) a s
-heard_raw pendings.Bracket s = heard_then heard_star 91 s
-heard_raw (pendings.One a) s = heard_then (heard_then heard_star 91) a s
-heard_raw (pendings.Two a b) s = heard_then (heard_then (heard_then heard_star 91) a) b s
+heard_raw pendings.Open s = heard_then heard_star (code "(") s
+heard_raw (pendings.Pair a) s = heard_then (heard_then heard_star (code "(")) a s
+heard_raw pendings.Bracket s = heard_then heard_star (code "[") s
+heard_raw (pendings.One a) s = heard_then (heard_then heard_star (code "[")) a s
+heard_raw (pendings.Two a b) s = heard_then (heard_then (heard_then heard_star (code "[")) a) b s
 
 abbrev pub with_pending : Pending → State → State
 with_pending pending s = record s { pending = pending }
@@ -202,7 +203,7 @@ read b s = read_by (met_by s.pending b (takes_strings s.page.scan)) b s
 -- ---- the end: a line that is begun ends, and all is put on a line
 
 unfoldable pub line_finished : State → Told
-line_finished s = let t = heard 10 s in told t.state (t.bytes ++ line_end t.state.page) t.steps
+line_finished s = let t = heard (code "\n") s in told t.state (t.bytes ++ line_end t.state.page) t.steps
 
 abbrev pub finished_at : Scan → State → Told
 finished_at (scans.Asleep front lines) s = told s (front_of front) 0

@@ -24,8 +24,12 @@ more_authors p =
 abbrev pub put_author_head : Page → Laid
 put_author_head p = let l = put_head (author_head p.place.authors) p in laid (more_authors l.page) l.bytes
 
+-- so many parts of a reference, the authors aside, are told apart
+abbrev pub most_parts : ℕ
+most_parts = 32
+
 abbrev pub with_part : ℕ → Page → Page
-with_part letter p = if not (length p.parts == 32) then record p { parts = p.parts ++ letter ∷ [] } else p
+with_part letter p = if not (length p.parts == most_parts) then record p { parts = p.parts ++ letter ∷ [] } else p
 
 -- a further part of the same letter stands after a comma
 abbrev pub put_part_head : ℕ → Page → Laid

@@ -1,29 +1,25 @@
 -- A byte meets what is half read: lines become words (mdoc(7), MACRO SYNTAX; groff(7), control lines and comments).
-use Rattle.std.specs.Prelude.{ℕ, ◌+◌, List, [], ◌∷◌, ◌++◌, length, Bool, true, false, not, ◌==◌, ◌&&◌, ◌||◌, nat_lt, nat_le, if◌then◌else◌, codes, Option, None, Some}
+use Rattle.std.specs.Prelude.{ℕ, ◌+◌, [], ◌∷◌, ◌++◌, length, Bool, true, false, not, ◌==◌, ◌&&◌, ◌||◌, nat_lt, if◌then◌else◌, codes, Option, None, Some, nat_le}
 use Prim.Native.Char.{code}
 use Rattle.nr_mdoc.specs.declared.acts.Act.TheVariants as acts
 use Rattle.nr_mdoc.specs.declared.acts.Text.TheVariants as texts
-use Rattle.nr_mdoc.specs.declared.macros.Macro.{Macro}
 use Rattle.nr_mdoc.specs.declared.macros.Macro.TheVariants as macros
+use Rattle.nr_mdoc.specs.declared.page.Last.TheVariants as lasts
+use Rattle.nr_mdoc.specs.declared.page.Page.{Page}
+use Rattle.nr_mdoc.specs.declared.page.Scan.{Scan}
+use Rattle.nr_mdoc.specs.declared.page.Scan.TheVariants as scans
 use Rattle.nr_mdoc.specs.declared.page.Before.{Before}
 use Rattle.nr_mdoc.specs.declared.page.Before.TheVariants as befores
 use Rattle.nr_mdoc.specs.declared.page.Dots.{Dots}
 use Rattle.nr_mdoc.specs.declared.page.Dots.TheVariants as dots
 use Rattle.nr_mdoc.specs.declared.page.Front.{Front}
 use Rattle.nr_mdoc.specs.declared.page.Front.TheVariants as fronts
-use Rattle.nr_mdoc.specs.declared.page.Last.TheVariants as lasts
-use Rattle.nr_mdoc.specs.declared.page.Page.{Page}
-use Rattle.nr_mdoc.specs.declared.page.Scan.{Scan}
-use Rattle.nr_mdoc.specs.declared.page.Scan.TheVariants as scans
 use Rattle.nr_mdoc.specs.declared.seen.Seen.{Seen}
+use Rattle.nr_mdoc.specs.Keeping.{ends_word, turns, word_begins, in_word, in_quotes, closing, in_escape}
 use Rattle.nr_mdoc.specs.Laying.{is_control}
 use Rattle.nr_mdoc.specs.Lines.{call_of, named_line, ends}
-use Rattle.nr_mdoc.specs.Options.{is_shown, reads_for}
-use Rattle.nr_mdoc.specs.Seeing.{Met, met, left, taken, two, and_taken}
-use Rattle.nr_mdoc.specs.Words.{given, long, goes_on, is_none, is_outside, is_synopsis, with_scan}
-
-abbrev pub ends_word : ℕ → Bool
-ends_word b = (b == code " ") || (b == code "\t") || (b == code "\n")
+use Rattle.nr_mdoc.specs.Seeing.{Met, met, left, two, taken, and_taken}
+use Rattle.nr_mdoc.specs.Words.{given, long, goes_on}
 
 abbrev pub is_letter : ℕ → Bool
 is_letter b = (nat_le (code "A") b && nat_le b (code "Z")) || (nat_le (code "a") b && nat_le b (code "z"))
@@ -31,9 +27,6 @@ is_letter b = (nat_le (code "A") b && nat_le b (code "Z")) || (nat_le (code "a")
 -- what a byte is for the one after it
 abbrev pub before_next : ℕ → Before
 before_next b = if is_letter b then befores.Letter else if b == code "\\" then befores.Backslash else befores.Other
-
-abbrev pub turns : Scan → Seen → Page → Met
-turns scan seen p = met (with_scan scan p) seen
 
 -- ---- text lines
 
@@ -94,11 +87,6 @@ in_name b p =
     if ends_word b || (b == code "\\") || (length p.word == 32) then named_line p else
     met (record p { word = p.word ++ b ∷ [] }) (taken acts.Nothing)
 
--- ---- words
-
-abbrev pub word_begins : Scan → Seen → Page → Met
-word_begins scan seen p = turns scan seen (record p { word = []; call = record p.call { width = 0 } })
-
 abbrev pub between : ℕ → Page → Met
 between b p =
     if p.call.comment then turns scans.Dropped (left acts.Nothing) p else
@@ -107,93 +95,6 @@ between b p =
     if b == code "\n" then turns scans.Ends (left acts.Nothing) p else
     if b == code "\"" then word_begins scans.Quoted (taken acts.Nothing) p else
     word_begins scans.Word (left acts.Nothing) p
-
-abbrev pub widens : Page → Page
-widens p = if nat_lt p.call.width 9999 then record p { call = record p.call { width = p.call.width + 1 } } else p
-
-abbrev pub keeping : List ℕ → Page → Page
-keeping bytes p = record p { word = p.word ++ bytes }
-
--- thirty bytes of a word are kept; more go out in parts, or are only counted where the word isn't printed
-abbrev pub keep : ℕ → Bool → Page → Met
-keep b quoted p =
-    if nat_lt (length p.word) 30 then met (widens (keeping (b ∷ []) p)) (taken acts.Nothing) else
-    if is_shown p then turns (scans.Long quoted false) (left acts.Nothing) p else met (widens p) (taken acts.Nothing)
-
-abbrev pub in_word_of : Bool → Scan
-in_word_of quoted = if quoted then scans.Quoted else scans.Word
-
--- `\&` takes no room
-abbrev pub wider : ℕ → Page → Page
-wider b p = if not (b == code "&") then widens p else p
-
-abbrev pub keep_escape : ℕ → Bool → Page → Met
-keep_escape b quoted p =
-    if nat_lt (length p.word) 30 then turns (in_word_of quoted) (taken acts.Nothing) (wider b (keeping (b ∷ []) (keeping (code "\\" ∷ []) p))) else
-    if is_shown p then turns (scans.Long quoted true) (left acts.Nothing) p else
-    turns (in_word_of quoted) (taken acts.Nothing) (wider b p)
-
-abbrev pub is_title : ℕ → Bool
-is_title b = (b == code "B") || (b == code "N") || (b == code "O") || (b == code "R") || (b == code "T")
-
--- hyphens stay as they are in words that tables have, and in descriptions and titles
-abbrev pub looks_up : Macro → Bool
-looks_up macros.Standard = true
-looks_up macros.Describes = true
-looks_up (macros.Part letter) = is_title letter
-looks_up m = reads_for m
-
-abbrev pub is_looked_up : Page → Bool
-is_looked_up p = looks_up p.call.taker
-
--- another hyphen that doesn't begin its word is kept as an escape, since no line is broken after that
-abbrev pub keep_byte : ℕ → Bool → Page → Met
-keep_byte b quoted p =
-    if (b == code "-") && not (is_none p.word) && not (is_looked_up p) then keep_escape b quoted p else keep b quoted p
-
-abbrev pub whole_for : Macro → Page → Bool
-whole_for macros.Parameter p = not (is_outside p.place.parameters)
-whole_for macros.Function p = is_synopsis p
-whole_for m p = false
-
--- the words of a parameter stay together
-abbrev pub is_whole : Page → Bool
-is_whole p = whole_for p.call.taker p
-
-abbrev pub in_word : ℕ → Page → Met
-in_word b p =
-    if ends_word b then turns (scans.Given false) (left acts.Nothing) p else
-    if b == code "\\" then turns scans.Escape (taken acts.Nothing) p else keep_byte b false p
-
-abbrev pub in_quotes : ℕ → Page → Met
-in_quotes b p =
-    if b == code "\"" then turns scans.Closing (taken acts.Nothing) p else
-    if b == code "\n" then turns (scans.Given true) (left acts.Nothing) p else
-    if b == code "\\" then turns scans.QuotedEscape (taken acts.Nothing) p else
-    if (b == code " ") && is_whole p then keep_escape (code "~") true p else keep_byte b true p
-
--- two quotes within quotes are one
-abbrev pub closing : ℕ → Page → Met
-closing b p =
-    if b == code "\"" then keep b true (with_scan scans.Quoted p) else turns (scans.Given true) (left acts.Nothing) p
-
--- ---- escapes and comments in words
-
-abbrev pub comment : Bool → Page → Met
-comment quoted p =
-    turns (if is_none p.word && not p.call.going then scans.Between else scans.Given quoted) (left acts.Nothing)
-    (record p { call = record p.call { comment = true } })
-
--- a line goes on with the next: a word that was not begun may begin there
-abbrev pub continued : Bool → Page → Met
-continued quoted p =
-    turns (if not quoted && is_none p.word && not p.call.going then scans.Between else in_word_of quoted) (taken acts.Nothing) p
-
--- a line whose last byte is a backslash goes on with the next
-abbrev pub in_escape : ℕ → Bool → Page → Met
-in_escape b quoted p =
-    if b == code "\"" then comment quoted p else
-    if b == code "\n" then continued quoted p else keep_escape b quoted p
 
 -- ---- lines that pass, or are dropped
 

@@ -3,9 +3,10 @@ ghost use Rattle.std.specs.Prelude.{◌≡◌, ◌+◌, ◌≤◌, ◌++◌, len
 ghost use Rattle.nr_mdoc.specs.Laying as specs;
 
 use super::acts::Act;
+use super::libraries::LIBRARIES;
 use super::lookup::{before_nul, named_in};
 use super::macros::Font;
-use super::names::{LIBRARIES, STANDARDS, SYSTEMS};
+use super::names::{STANDARDS, SYSTEMS};
 use super::page::{At, Page};
 use super::texts::{font_begin, font_end};
 use nr_units::Name;

@@ -1,13 +1,16 @@
 //! Pages of mdoc(7) become pages of man(7).
 //!
-//! It stands on nr_units. To read: `macros`, `page`, `acts`, `seen`; `texts`, `names`, `lookup`, `lay`, `own_lines`, `references`, `lay_out`; `options`,
-//! `words`, `blocks`, `lines`, `scan`, which puts them together; `strings`, `reader`, `running`; `passing`.
+//! It stands on nr_units. To read: `macros`, `page`, `acts`, `seen`; `texts`, `names`, `libraries`, `lookup`, `lay`, `own_lines`, `references`, `lay_out`; `options`,
+//! `calls`, `taking`, `words`, `blocks`, `lines`, `keeping`, `scan`, which puts them together; `strings`, `reader`, `running`; `passing`.
 #![tactic(auto)]
 
 mod acts;
 mod blocks;
+mod calls;
+mod keeping;
 mod lay;
 mod lay_out;
+mod libraries;
 mod lines;
 mod lookup;
 mod macros;
@@ -22,6 +25,7 @@ mod running;
 mod scan;
 mod seen;
 mod strings;
+mod taking;
 mod texts;
 mod words;
 

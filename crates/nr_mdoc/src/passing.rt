@@ -3,8 +3,9 @@ ghost use Rattle.std.specs.Prelude.{◌≡◌, IsTrue};
 ghost use Rattle.nr_mdoc.specs.Passing as specs;
 ghost use Rattle.nr_mdoc.specs.Reading.{converted};
 
+use super::keeping::ends_word;
 use super::page::{Front, Scan};
-use super::scan::{ends_word, front_grows, passes_to};
+use super::scan::{front_grows, passes_to};
 
 /// Where a byte leads that goes on no `.Dd`: nowhere, if it ends one.
 fn leads_behind(front: Front, lines: u8, byte: u8) -> Option<Scan>

@@ -1,5 +1,5 @@
 use Rattle.std.proofs.Common.{List, ℕ, ◌∙◌, ap}
-use Rattle.nr_mdoc.specs.declared.names.TheConstants.{LIBRARIES}
+use Rattle.nr_mdoc.specs.declared.libraries.TheConstants.{LIBRARIES}
 use Rattle.nr_mdoc.specs.Laying.{library_named}
 use Rattle.nr_mdoc.specs.Lookup.{named_in}
 use Rattle.nr_mdoc.proofs.lay.library_named.Goals as goal
