@@ -12,9 +12,12 @@ pub mod Passing
 pub mod Reading
 pub mod References
 pub mod Running
+pub mod Saying
 pub mod Scanning
 pub mod Seeing
 pub mod Strings
 pub mod Taking
 pub mod Texts
+pub mod WordLaws
 pub mod Words
+pub mod WrittenLines

@@ -1,7 +1,8 @@
 //! Pages of mdoc(7) become pages of man(7).
 //!
 //! It stands on nr_units. To read: `macros`, `page`, `acts`, `seen`; `texts`, `names`, `libraries`, `lookup`, `lay`, `own_lines`, `references`, `lay_out`; `options`,
-//! `calls`, `taking`, `words`, `blocks`, `lines`, `keeping`, `scan`, which puts them together; `strings`, `reader`, `running`; `passing`.
+//! `calls`, `taking`, `words`, `blocks`, `lines`, `keeping`, `scan`, which puts them together; `strings`, `reader`, `running`; `passing`,
+//! `word_laws`.
 #![tactic(auto)]
 
 mod acts;
@@ -27,9 +28,11 @@ mod seen;
 mod strings;
 mod taking;
 mod texts;
+mod word_laws;
 mod words;
 
 pub use macros::is_macro;
 pub use page::Block;
 pub use passing::passes_unchanged;
 pub use running::{Outcome, convert};
+pub use word_laws::words_are_said;

@@ -1,0 +1,199 @@
+-- What a macro says where it begins a line: nothing of its words.
+use Rattle.std.proofs.Common.{◌≡◌, ℕ, ◌+◌, List, [], ◌++◌, Bool, true, false, not, ◌||◌, if◌then◌else◌, refl, ◌∙◌, ap}
+use Rattle.nr_mdoc.specs.declared.acts.Act.TheVariants as acts
+use Rattle.nr_mdoc.specs.declared.acts.Request.TheVariants as requests
+use Rattle.nr_mdoc.specs.declared.acts.Sized.TheVariants as sizes
+use Rattle.nr_mdoc.specs.declared.acts.Text.TheVariants as texts
+use Rattle.nr_mdoc.specs.declared.macros.Font.{Font}
+use Rattle.nr_mdoc.specs.declared.macros.Font.TheVariants.{Roman, Bold}
+use Rattle.nr_mdoc.specs.declared.macros.Macro.{Macro}
+use Rattle.nr_mdoc.specs.declared.macros.Macro.TheVariants as macros
+use Rattle.nr_mdoc.specs.declared.page.Kind.{Kind}
+use Rattle.nr_mdoc.specs.declared.page.Kind.TheVariants as kinds
+use Rattle.nr_mdoc.specs.declared.page.Last.{Last}
+use Rattle.nr_mdoc.specs.declared.page.Last.TheVariants as lasts
+use Rattle.nr_mdoc.specs.declared.page.Page.{Page}
+use Rattle.nr_mdoc.specs.Blocks.{before_item, counted_item, counts, inner, is_diagnosis, is_list, item, item_head, item_head_of, line_opens, new_item, space, stands_close, taking}
+use Rattle.nr_mdoc.specs.Calls.{is_synopsis}
+use Rattle.nr_mdoc.specs.Lines.{after, begins, function_line, include_line, line_before, stands_behind, synopsis_line}
+use Rattle.nr_mdoc.specs.Options.{none}
+use Rattle.nr_mdoc.specs.WrittenLines.{heads_words}
+use Rattle.nr_mdoc.proofs.Outcomes.{is_quiet, of_word, never, takes_plain, Keeps, keeps_if, Out, out, out_if, same_page}
+use Rattle.nr_mdoc.proofs.Taken.{called_out}
+
+quiet_by : (t : Bool) → is_quiet (if t then acts.Request requests.Break else acts.Space) ≡ true
+unfolding is_quiet
+quiet_by true = refl
+quiet_by false = refl
+
+silent_by : (t : Bool) (w : List ℕ) → of_word (if t then acts.Request requests.Break else acts.Space) w ++ [] ≡ []
+unfolding of_word
+silent_by true w = refl
+silent_by false w = refl
+
+quiet_before : (kind : Last) (p : Page) → is_quiet (line_before kind p) ≡ true
+quiet_before kind p = quiet_by (stands_behind p.place.last kind)
+
+silent_before : (kind : Last) (p : Page) (w : List ℕ) → of_word (line_before kind p) w ++ [] ≡ []
+silent_before kind p w = silent_by (stands_behind p.place.last kind) w
+
+kept_after : (kind : Last) (q : Page) → takes_plain q.call.taker ≡ true → Keeps q (after kind q)
+kept_after kind q f = record { scan = refl; word = refl; marks = refl; few = λ l. l; going = refl; comment = refl; line = refl; fits = f }
+
+none_out : (q : Page) → takes_plain q.call.taker ≡ true → Out (none q) q []
+unfolding is_quiet of_word
+none_out q f = out q q acts.Nothing acts.Nothing acts.Nothing [] refl refl refl refl (same_page q f)
+
+synopsis_out : (kind : Last) (q : Page) → takes_plain q.call.taker ≡ true → Out (synopsis_line kind q) q []
+unfolding is_quiet of_word
+synopsis_out kind q f =
+    out_if (not (is_synopsis q)) _ _ q [] (none_out q f)
+    (out (after kind q) q (line_before kind q) acts.Nothing acts.Nothing [] (quiet_before kind q) refl refl (silent_before kind q q.word) (kept_after kind q f))
+
+function_out : (q : Page) → takes_plain q.call.taker ≡ true → Out (function_line q) q []
+unfolding is_quiet of_word
+function_out q f =
+    out_if (not (is_synopsis q)) _ _ q [] (none_out q f)
+    (out (after lasts.Function q) q (line_before lasts.Function q) (acts.Request requests.Hangs) acts.Nothing []
+    (quiet_before lasts.Function q) refl refl (silent_before lasts.Function q q.word) (kept_after lasts.Function q f))
+
+include_out : (q : Page) → takes_plain q.call.taker ≡ true → Out (include_line q) q []
+unfolding is_quiet of_word
+include_out q f =
+    out_if (not (is_synopsis q)) _ _ q [] (none_out q f)
+    (out (after lasts.Include q) q (line_before lasts.Include q) (acts.Text texts.Include) acts.Nothing []
+    (quiet_before lasts.Include q) refl refl (silent_before lasts.Include q q.word) (kept_after lasts.Include q f))
+
+-- ---- items, and lines that are indented
+
+kept_taking : (p q : Page) (font : Font) → Keeps q p → Keeps q (taking font p)
+unfolding takes_plain
+kept_taking p q font i = record {
+  scan = i.scan;
+  word = i.word;
+  marks = i.marks;
+  few = i.few;
+  going = i.going;
+  comment = i.comment;
+  line = i.line;
+  fits = refl;
+}
+
+kept_new : (q : Page) → takes_plain q.call.taker ≡ true → Keeps q (new_item q)
+kept_new q f =
+    kept_taking (record q { place = record q.place { depth = 0 } }) q Roman
+    (record { scan = refl; word = refl; marks = refl; few = λ l. l; going = refl; comment = refl; line = refl; fits = f })
+
+kept_counts : (p q : Page) → Keeps q p → Keeps q (counts p)
+kept_counts p q i = record {
+  scan = i.scan;
+  word = i.word;
+  marks = i.marks;
+  few = i.few;
+  going = i.going;
+  comment = i.comment;
+  line = i.line;
+  fits = i.fits;
+}
+
+kept_counted : (p q : Page) → Keeps q p → Keeps q (counted_item p)
+kept_counted p q i =
+    keeps_if (is_diagnosis p.block.kind) q (taking Bold (counts p)) (counts p) (kept_taking (counts p) q Bold (kept_counts p q i)) (kept_counts p q i)
+
+quiet_space : (t : Bool) → is_quiet (space t) ≡ true
+unfolding is_quiet
+quiet_space true = refl
+quiet_space false = refl
+
+space_word : (t : Bool) (w : List ℕ) → of_word (space t) w ≡ []
+unfolding of_word
+space_word true w = refl
+space_word false w = refl
+
+quiet_item_by : (t c : Bool) → is_quiet (if t then space c else acts.Request requests.Space) ≡ true
+unfolding is_quiet
+quiet_item_by true c = quiet_space c
+quiet_item_by false c = refl
+
+item_word_by : (t c : Bool) (w : List ℕ) → of_word (if t then space c else acts.Request requests.Space) w ≡ []
+unfolding of_word
+item_word_by true c w = space_word c w
+item_word_by false c w = refl
+
+quiet_head : (kind : Kind) (p : Page) → is_quiet (item_head_of kind p) ≡ true
+unfolding is_quiet
+quiet_head kinds.Bullet p = refl
+quiet_head kinds.Dash p = refl
+quiet_head kinds.Number p = refl
+quiet_head kinds.Tag p = refl
+quiet_head kinds.Hang p = refl
+quiet_head kinds.Column p = refl
+quiet_head kind p = refl
+
+head_word : (kind : Kind) (p : Page) (w : List ℕ) → of_word (item_head_of kind p) w ≡ []
+unfolding of_word
+head_word kinds.Bullet p w = refl
+head_word kinds.Dash p w = refl
+head_word kinds.Number p w = refl
+head_word kinds.Tag p w = refl
+head_word kinds.Hang p w = refl
+head_word kinds.Column p w = refl
+head_word kind p w = refl
+
+no_words : (xs ys : List ℕ) → xs ≡ [] → ys ≡ [] → xs ++ (ys ++ ([] ++ [])) ≡ []
+no_words xs ys e f = ap (λ (zs : List ℕ). zs ++ (ys ++ [])) e ∙ ap (λ (zs : List ℕ). zs ++ []) f
+
+item_out : (q : Page) → takes_plain q.call.taker ≡ true → Out (item q) q []
+unfolding is_quiet of_word
+item_out q f =
+    let p = counted_item (new_item q) in
+    let close = stands_close q.block || not q.block.begun in
+    out_if (not (is_list q.block.kind)) _ _ q []
+    (out (new_item q) q acts.Nothing acts.Nothing acts.Nothing [] refl refl refl refl (kept_new q f))
+    (out p q (before_item q) (item_head p) acts.Nothing []
+    (quiet_item_by close (stands_close q.block)) (quiet_head p.block.kind p) refl
+    (no_words (of_word (before_item q) q.word) (of_word (item_head p) q.word) (item_word_by close (stands_close q.block) q.word) (head_word p.block.kind p q.word))
+    (kept_counted (new_item q) q (kept_new q f)))
+
+indented_out : (q : Page) → takes_plain q.call.taker ≡ true → Out (line_opens q) q []
+unfolding is_quiet of_word
+indented_out q f =
+    out (taking Roman q) q (acts.Sized sizes.Indent (inner q.block + 6)) acts.Nothing acts.Nothing [] refl refl refl refl (kept_taking q q Roman (same_page q f))
+
+pub begins_out : (m : Macro) (q : Page) → heads_words m ≡ true → takes_plain q.call.taker ≡ true → Out (begins m q) q []
+unfolding begins is_quiet of_word
+begins_out macros.Title q h f = never h
+begins_out macros.System q h f = never h
+begins_out macros.Section q h f = never h
+begins_out macros.Subsection q h f =
+    out _ q acts.Subsection acts.Nothing acts.Nothing [] refl refl refl refl (kept_taking (after lasts.Heading q) q Roman (kept_after lasts.Heading q f))
+begins_out macros.Paragraph q h f = never h
+begins_out macros.Describes q h f = never h
+begins_out macros.Silent q h f = never h
+begins_out macros.Breaks q h f = never h
+begins_out macros.Spaces q h f = never h
+begins_out macros.Defines q h f = never h
+begins_out macros.Book q h f = never h
+begins_out macros.BookEnds q h f = never h
+begins_out (macros.Part letter) q h f = never h
+begins_out macros.Keeps q h f = never h
+begins_out macros.KeepEnds q h f = never h
+begins_out macros.Table q h f = never h
+begins_out macros.TableEnds q h f = never h
+begins_out macros.FontEnds q h f = never h
+begins_out macros.Exits q h f = never h
+begins_out macros.Returns q h f = never h
+begins_out macros.List q h f = never h
+begins_out macros.Display q h f = never h
+begins_out macros.Item q h f = item_out q f
+begins_out macros.ListEnds q h f = never h
+begins_out macros.DisplayEnds q h f = never h
+begins_out macros.Line q h f = indented_out q f
+begins_out macros.LiteralLine q h f = indented_out q f
+begins_out macros.ResultType q h f = synopsis_out lasts.ResultType q f
+begins_out macros.Function q h f = function_out q f
+begins_out macros.FunctionOpens q h f = function_out q f
+begins_out macros.Variable q h f = synopsis_out lasts.Variable q f
+begins_out macros.Declaration q h f = synopsis_out lasts.Declaration q f
+begins_out macros.Include q h f = include_out q f
+begins_out m q h f = called_out m q f

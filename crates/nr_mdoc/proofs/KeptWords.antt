@@ -1,0 +1,474 @@
+-- The bytes of a word are kept.
+use Rattle.std.proofs.Common.{◌≡◌, ℕ, ◌≤◌, ◌<◌, ◌+◌, List, [], ◌∷◌, ◌++◌, length, Bool, true, false, not, ◌&&◌, ◌||◌, ◌==◌, nat_lt, if◌then◌else◌, refl, sym, ◌∙◌, ap, subst, append_assoc, append-nil, length-append, arith}
+use Rattle.std.proofs.lemmas.Bool.Decides.{nat_tests}
+use Rattle.std.specs.Prelude.{codes}
+use Prim.Native.Char.{code}
+use Rattle.nr_mdoc.specs.declared.acts.Act.TheVariants as acts
+use Rattle.nr_mdoc.specs.declared.macros.Macro.{Macro}
+use Rattle.nr_mdoc.specs.declared.page.Page.{Page}
+use Rattle.nr_mdoc.specs.declared.page.Scan.{Scan}
+use Rattle.nr_mdoc.specs.declared.page.Scan.TheVariants as scans
+use Rattle.nr_mdoc.specs.Calls.{is_none, with_scan}
+use Rattle.nr_mdoc.specs.Keeping.{comment, continued, ends_word, keep, keep_byte, keep_escape, keeping, looks_up, turns, widens, wider, word_begins}
+use Rattle.nr_mdoc.specs.LayingOut.{lay_out}
+use Rattle.nr_mdoc.specs.Options.{is_shown}
+use Rattle.nr_mdoc.specs.Reading.{State, said}
+use Rattle.nr_mdoc.specs.Saying.{parts_of, words_of}
+use Rattle.nr_mdoc.specs.Scanning.{between, meet, meet_at}
+use Rattle.nr_mdoc.specs.Seeing.{Met, met, left, taken}
+use Rattle.nr_mdoc.specs.WrittenLines.{Letter, Plain, Escape, is_letter, are_letters, bytes_of, is_escaped, is_plain, kept, kept_in, kept_letter, written}
+use Rattle.nr_mdoc.proofs.Escapes.{and_left, and_right, is_not, same_byte}
+use Rattle.nr_mdoc.proofs.Meeting.{with_page, Leads, Takes, then_takes, leads_by, takes_by}
+use Rattle.nr_mdoc.proofs.TextSaid.{next-words, or_left, or_right}
+use Rattle.nr_mdoc.proofs.Given.{plain_looks}
+use Rattle.nr_mdoc.proofs.Stepping.{At}
+use Rattle.nr_mdoc.proofs.WholeWords.{and_false}
+
+-- ---- a byte of a word is kept
+
+pub not_ending : (b : ℕ) → is_plain b ≡ true → ends_word b ≡ false
+not_ending b h = is_not (ends_word b) (and_left (not (ends_word b)) (not (b == code "\"")) (and_left (not (ends_word b) && not (b == code "\"")) (not (b == code "\\")) h))
+
+pub no_quote : (b : ℕ) → is_plain b ≡ true → (b == code "\"") ≡ false
+no_quote b h = is_not (b == code "\"") (and_right (not (ends_word b)) (not (b == code "\"")) (and_left (not (ends_word b) && not (b == code "\"")) (not (b == code "\\")) h))
+
+pub no_escape : (b : ℕ) → is_plain b ≡ true → (b == code "\\") ≡ false
+no_escape b h = is_not (b == code "\\") (and_right (not (ends_word b) && not (b == code "\"")) (not (b == code "\\")) h)
+
+in_word_met : (head : Macro) (b : ℕ) (s : State) (word marks : List ℕ) → At head s scans.Word word marks → is_plain b ≡ true
+    → meet b s.page ≡ keep_byte b false s.page
+unfolding meet
+in_word_met head b s word marks at h =
+    let p = s.page in
+    ap (λ (sc : Scan). meet_at sc b p) at.scan_is
+    ∙ ap (λ (t : Bool). if t then met (with_scan (scans.Given false) p) (left acts.Nothing) else if b == code "\\" then met (with_scan scans.Escape p) (taken acts.Nothing) else keep_byte b false p) (not_ending b h)
+    ∙ ap (λ (t : Bool). if t then met (with_scan scans.Escape p) (taken acts.Nothing) else keep_byte b false p) (no_escape b h)
+
+-- a page that is wider by one, or not
+widened : Bool → Page → Page
+widened t p = if t then record p { call = record p.call { width = p.call.width + 1 } } else p
+
+widened_at : (t : Bool) (head : Macro) (s : State) (p : Page) (scan : Scan) (word marks : List ℕ) → At head (with_page p s) scan word marks
+    → At head (with_page (widened t p) s) scan word marks
+unfolding widened
+widened_at true head s p scan word marks at = record {
+  scan_is = at.scan_is;
+  word_is = at.word_is;
+  marks_are = at.marks_are;
+  few = at.few;
+  going = at.going;
+  comment = at.comment;
+  line = at.line;
+  fits = at.fits;
+  free = at.free;
+}
+widened_at false head s p scan word marks at = at
+
+-- a byte is taken, and the line is read further so
+record Kept (m : Macro) (b : ℕ) (s : State) (scan : Scan) (word marks : List ℕ) : Type 0 where
+  next : State
+  takes : Takes b s next 1 []
+  at : At m next scan word marks
+
+-- the word with these bytes more
+longer : (head : Macro) (s : State) (bytes word marks : List ℕ) → At head s scans.Word word marks
+    → At head (with_page (with_scan scans.Word (keeping bytes s.page)) s) scans.Word (word ++ bytes) marks
+longer head s bytes word marks at = record {
+  scan_is = refl;
+  word_is = ap (λ (xs : List ℕ). xs ++ bytes) at.word_is;
+  marks_are = at.marks_are;
+  few = at.few;
+  going = at.going;
+  comment = at.comment;
+  line = at.line;
+  fits = at.fits;
+  free = at.free;
+}
+
+widened_scan : (t : Bool) (p : Page) → with_scan scans.Word (widened t p) ≡ widened t (with_scan scans.Word p)
+unfolding widened
+widened_scan true p = refl
+widened_scan false p = refl
+
+scan_same : (p : Page) (scan : Scan) → p.scan ≡ scan → p ≡ with_scan scan p
+scan_same p scan e = ap (λ (sc : Scan). with_scan sc p) e
+
+room : (word : List ℕ) → length word < 30 → nat_lt (length word) 30 ≡ true
+room word l = grind (arith, nat_tests)
+
+-- what is done of a byte that has no room
+keep_rest : ℕ → Page → Met
+keep_rest b p = if is_shown p then turns (scans.Long false false) (left acts.Nothing) p else met (widens p) (taken acts.Nothing)
+
+kept_plain : (head : Macro) (b : ℕ) (s : State) (word marks : List ℕ) → At head s scans.Word word marks → length word < 30
+    → meet b s.page ≡ keep b false s.page → Kept head b s scans.Word (word ++ b ∷ []) marks
+unfolding said lay_out widened keep_rest
+kept_plain head b s word marks at l e =
+    let p = s.page in
+    let q = with_scan scans.Word (keeping (b ∷ []) p) in
+    let wide = nat_lt p.call.width 9999 in
+    record {
+      next = with_page (widened wide q) s;
+      takes =
+          takes_by b s (widened wide q) (widened wide q) acts.Nothing acts.Nothing acts.Nothing []
+          (e
+          ∙ ap (λ (t : Bool). if t then met (widens (keeping (b ∷ []) p)) (taken acts.Nothing) else keep_rest b p) (ap (λ (w : List ℕ). nat_lt (length w) 30) at.word_is ∙ room word l)
+          ∙ ap (λ (r : Page). met (widens (keeping (b ∷ []) r)) (taken acts.Nothing)) (scan_same p scans.Word at.scan_is))
+          refl refl;
+      at = widened_at wide head s q scans.Word (word ++ b ∷ []) marks (longer head s (b ∷ []) word marks at);
+    }
+
+-- ---- a hyphen in a word
+
+hyphen_met : (head : Macro) (s : State) (word marks : List ℕ) → At head s scans.Word word marks → is_none word ≡ false
+    → meet (code "-") s.page ≡ keep_escape (code "-") false s.page
+unfolding keep_rest
+hyphen_met head s word marks at e =
+    let p = s.page in
+    in_word_met head (code "-") s word marks at refl
+    ∙ ap (λ (w : List ℕ). if not (is_none w) && not (looks_up p.call.taker) then keep_escape (code "-") false p else keep (code "-") false p) at.word_is
+    ∙ ap (λ (t : Bool). if not t && not (looks_up p.call.taker) then keep_escape (code "-") false p else keep (code "-") false p) e
+    ∙ ap (λ (t : Bool). if not t then keep_escape (code "-") false p else keep (code "-") false p) (plain_looks p.call.taker at.fits)
+
+escape_rest : ℕ → Page → Met
+escape_rest b p =
+    if is_shown p then turns (scans.Long false true) (left acts.Nothing) p else turns scans.Word (taken acts.Nothing) (wider b p)
+
+kept_hyphen : (head : Macro) (s : State) (word marks : List ℕ) → At head s scans.Word word marks → is_none word ≡ false → length word < 30
+    → Kept head (code "-") s scans.Word (word ++ codes "\\-") marks
+unfolding said lay_out widened escape_rest
+kept_hyphen head s word marks at none l =
+    let p = s.page in
+    let q = with_scan scans.Word (keeping (codes "\\-") p) in
+    let r = keeping (code "-" ∷ []) (keeping (code "\\" ∷ []) p) in
+    let wide = nat_lt p.call.width 9999 in
+    record {
+      next = with_page (widened wide q) s;
+      takes =
+          takes_by (code "-") s (widened wide q) (widened wide q) acts.Nothing acts.Nothing acts.Nothing []
+          (hyphen_met head s word marks at none
+          ∙ ap (λ (t : Bool). if t then met (with_scan scans.Word (widens r)) (taken acts.Nothing) else escape_rest (code "-") p)
+          (ap (λ (w : List ℕ). nat_lt (length w) 30) at.word_is ∙ room word l)
+          ∙ ap (λ (ws : List ℕ). met (with_scan scans.Word (widens (record p { word = ws }))) (taken acts.Nothing)) (append_assoc p.word (code "\\" ∷ []) (code "-" ∷ []))
+          ∙ ap (λ (v : Page). met v (taken acts.Nothing)) (widened_scan wide (keeping (codes "\\-") p)))
+          refl refl;
+      at = widened_at wide head s q scans.Word (word ++ codes "\\-") marks (longer head s (codes "\\-") word marks at);
+    }
+
+-- ---- one byte, and many
+
+kept_by : (t u : Bool) (head : Macro) (b : ℕ) (s : State) (word marks : List ℕ) → At head s scans.Word word marks → is_plain b ≡ true → length word < 30
+    → (b == code "-") ≡ t → is_none word ≡ u → Kept head b s scans.Word (word ++ (if t && not u then codes "\\-" else b ∷ [])) marks
+unfolding keep_rest
+kept_by true false head b s word marks at h l e none =
+    subst (λ (k : ℕ). Kept head k s scans.Word (word ++ codes "\\-") marks) (same_byte b (code "-") e) (kept_hyphen head s word marks at none l)
+kept_by true true head b s word marks at h l e none =
+    let p = s.page in
+    kept_plain head b s word marks at l
+    (in_word_met head b s word marks at h
+    ∙ ap (λ (w : List ℕ). if (b == code "-") && not (is_none w) && not (looks_up p.call.taker) then keep_escape b false p else keep b false p) at.word_is
+    ∙ ap (λ (t : Bool). if (b == code "-") && not t && not (looks_up p.call.taker) then keep_escape b false p else keep b false p) none
+    ∙ ap (λ (t : Bool). if t && not (looks_up p.call.taker) then keep_escape b false p else keep b false p) (and_false (b == code "-") false refl))
+kept_by false u head b s word marks at h l e none =
+    let p = s.page in
+    kept_plain head b s word marks at l
+    (in_word_met head b s word marks at h
+    ∙ ap (λ (t : Bool). if t && not (is_none p.word) && not (looks_up p.call.taker) then keep_escape b false p else keep b false p) e)
+
+-- bytes are read further so, and say no word
+pub record Read (m : Macro) (s : State) (bs : List ℕ) (scan : Scan) (word marks : List ℕ) : Type 0 where
+  pub next : State
+  pub said : (rest : List ℕ) → words_of (parts_of s (bs ++ rest)) ≡ words_of (parts_of next rest)
+  pub at : At m next scan word marks
+
+pub word_at : (head : Macro) (s : State) (scan : Scan) (word word2 marks : List ℕ) → word ≡ word2 → At head s scan word marks → At head s scan word2 marks
+word_at head s scan word word2 marks e at = subst (λ (w : List ℕ). At head s scan w marks) e at
+
+one_enough : 1 ≤ 16
+one_enough = omega arith
+
+-- ---- an escape
+
+escaped_met : (head : Macro) (s : State) (word marks : List ℕ) → At head s scans.Word word marks
+    → meet (code "\\") s.page ≡ met (with_scan scans.Escape s.page) (taken acts.Nothing)
+unfolding meet
+escaped_met head s word marks at = ap (λ (sc : Scan). meet_at sc (code "\\") s.page) at.scan_is
+
+kept_slash : (head : Macro) (s : State) (word marks : List ℕ) → At head s scans.Word word marks → Kept head (code "\\") s scans.Escape word marks
+unfolding said lay_out
+kept_slash head s word marks at = record {
+  next = with_page (with_scan scans.Escape s.page) s;
+  takes =
+      takes_by (code "\\") s (with_scan scans.Escape s.page) (with_scan scans.Escape s.page) acts.Nothing acts.Nothing acts.Nothing []
+      (escaped_met head s word marks at) refl refl;
+  at = record {
+    scan_is = refl;
+    word_is = at.word_is;
+    marks_are = at.marks_are;
+    few = at.few;
+    going = at.going;
+    comment = at.comment;
+    line = at.line;
+    fits = at.fits;
+    free = at.free;
+  };
+}
+
+no_comment : (b : ℕ) → is_escaped b ≡ true → (b == code "\"") ≡ false
+no_comment b h =
+    is_not (b == code "\"")
+    (and_left (not (b == code "\"")) (not (b == code "\n"))
+    (and_left (not (b == code "\"") && not (b == code "\n")) (not (b == code "*"))
+    (and_left (not (b == code "\"") && not (b == code "\n") && not (b == code "*")) (not (b == code "\\")) h)))
+
+no_newline : (b : ℕ) → is_escaped b ≡ true → (b == code "\n") ≡ false
+no_newline b h =
+    is_not (b == code "\n")
+    (and_right (not (b == code "\"")) (not (b == code "\n"))
+    (and_left (not (b == code "\"") && not (b == code "\n")) (not (b == code "*"))
+    (and_left (not (b == code "\"") && not (b == code "\n") && not (b == code "*")) (not (b == code "\\")) h)))
+
+escape_met : (head : Macro) (b : ℕ) (s : State) (word marks : List ℕ) → At head s scans.Escape word marks → is_escaped b ≡ true
+    → meet b s.page ≡ keep_escape b false s.page
+unfolding meet
+escape_met head b s word marks at h =
+    let p = s.page in
+    ap (λ (sc : Scan). meet_at sc b p) at.scan_is
+    ∙ ap (λ (t : Bool). if t then comment false p else if b == code "\n" then continued false p else keep_escape b false p) (no_comment b h)
+    ∙ ap (λ (t : Bool). if t then continued false p else keep_escape b false p) (no_newline b h)
+
+wider_is : (t u : Bool) (p : Page) → with_scan scans.Word (if t then widened u p else p) ≡ widened (t && u) (with_scan scans.Word p)
+unfolding widened
+wider_is true true p = refl
+wider_is true false p = refl
+wider_is false u p = refl
+
+longer_from : (head : Macro) (s : State) (scan : Scan) (bytes word marks : List ℕ) → At head s scan word marks
+    → At head (with_page (with_scan scans.Word (keeping bytes s.page)) s) scans.Word (word ++ bytes) marks
+longer_from head s scan bytes word marks at = record {
+  scan_is = refl;
+  word_is = ap (λ (xs : List ℕ). xs ++ bytes) at.word_is;
+  marks_are = at.marks_are;
+  few = at.few;
+  going = at.going;
+  comment = at.comment;
+  line = at.line;
+  fits = at.fits;
+  free = at.free;
+}
+
+kept_escape : (head : Macro) (b : ℕ) (s : State) (word marks : List ℕ) → At head s scans.Escape word marks → is_escaped b ≡ true → length word < 30
+    → Kept head b s scans.Word (word ++ code "\\" ∷ b ∷ []) marks
+unfolding said lay_out widened escape_rest
+kept_escape head b s word marks at h l =
+    let p = s.page in
+    let bytes = code "\\" ∷ b ∷ [] in
+    let q = with_scan scans.Word (keeping bytes p) in
+    let r = keeping (b ∷ []) (keeping (code "\\" ∷ []) p) in
+    let wide = not (b == code "&") && nat_lt p.call.width 9999 in
+    record {
+      next = with_page (widened wide q) s;
+      takes =
+          takes_by b s (widened wide q) (widened wide q) acts.Nothing acts.Nothing acts.Nothing []
+          (escape_met head b s word marks at h
+          ∙ ap (λ (t : Bool). if t then met (with_scan scans.Word (wider b r)) (taken acts.Nothing) else escape_rest b p)
+          (ap (λ (w : List ℕ). nat_lt (length w) 30) at.word_is ∙ room word l)
+          ∙ ap (λ (ws : List ℕ). met (with_scan scans.Word (wider b (record p { word = ws }))) (taken acts.Nothing)) (append_assoc p.word (code "\\" ∷ []) (b ∷ []))
+          ∙ ap (λ (v : Page). met v (taken acts.Nothing)) (wider_is (not (b == code "&")) (nat_lt p.call.width 9999) (keeping bytes p)))
+          refl refl;
+      at = widened_at wide head s q scans.Word (word ++ bytes) marks (longer_from head s scans.Escape bytes word marks at);
+    }
+
+-- ---- letters
+
+plain_by : (t : Bool) (b : ℕ) → 1 ≤ length (if t then codes "\\-" else b ∷ [])
+plain_by true b = omega arith
+plain_by false b = omega arith
+
+letter_some : (l : Letter) → 1 ≤ length (kept_letter l)
+letter_some (Plain b) = plain_by (b == code "-") b
+letter_some (Escape b) = omega arith
+
+some_more : (word bs : List ℕ) → is_none word ≡ false → is_none (word ++ bs) ≡ false
+some_more [] bs e = absurd (let no : true ≡ false = e in cc)
+some_more (x ∷ xs) bs e = grind (arith, nat_tests)
+
+shorter : (word : List ℕ) (l : Letter) (ls : List Letter) → length word + length (kept_in (l ∷ ls)) ≤ 30 → length word < 30
+shorter word l ls h =
+    let one : 1 ≤ length (kept_letter l) = letter_some l in
+    let all : length (kept_in (l ∷ ls)) ≡ length (kept_letter l) + length (kept_in ls) = length-append (kept_letter l) (kept_in ls) in
+    omega arith
+
+shorter_then : (word : List ℕ) (l : Letter) (ls : List Letter) → length word + length (kept_in (l ∷ ls)) ≤ 30
+    → length (word ++ kept_letter l) + length (kept_in ls) ≤ 30
+shorter_then word l ls h =
+    let all : length (kept_in (l ∷ ls)) ≡ length (kept_letter l) + length (kept_in ls) = length-append (kept_letter l) (kept_in ls) in
+    let long : length (word ++ kept_letter l) ≡ length word + length (kept_letter l) = length-append word (kept_letter l) in
+    omega arith
+
+-- the word with the next byte
+plain_at : (t : Bool) (b : ℕ) (head : Macro) (s : State) (word marks : List ℕ) → (b == code "-") ≡ t
+    → At head s scans.Word (word ++ (if t && true then codes "\\-" else b ∷ [])) marks → At head s scans.Word (word ++ kept_letter (Plain b)) marks
+plain_at true b head s word marks e at =
+    word_at head s scans.Word (word ++ codes "\\-") (word ++ kept_letter (Plain b)) marks (ap (λ (t : Bool). word ++ (if t then codes "\\-" else b ∷ [])) (sym e)) at
+plain_at false b head s word marks e at =
+    word_at head s scans.Word (word ++ b ∷ []) (word ++ kept_letter (Plain b)) marks (ap (λ (t : Bool). word ++ (if t then codes "\\-" else b ∷ [])) (sym e)) at
+
+-- the first byte of a word
+first_at : (t : Bool) (b : ℕ) (head : Macro) (s : State) (marks : List ℕ)
+    → At head s scans.Word (if t && false then codes "\\-" else b ∷ []) marks → At head s scans.Word (b ∷ []) marks
+first_at true b head s marks at = at
+first_at false b head s marks at = at
+
+-- an escape is read
+read_escape : (b : ℕ) (head : Macro) (s : State) (word marks : List ℕ) → At head s scans.Word word marks → is_escaped b ≡ true → length word < 30
+    → Read head s (code "\\" ∷ b ∷ []) scans.Word (word ++ code "\\" ∷ b ∷ []) marks
+read_escape b head s word marks at h l =
+    let slash = kept_slash head s word marks at in
+    let one = kept_escape head b slash.next word marks slash.at h l in
+    record {
+      next = one.next;
+      said = λ rest.
+          next-words (code "\\") (b ∷ rest) s slash.next 1 [] _ one_enough slash.takes refl
+          ∙ next-words b rest slash.next one.next 1 [] _ one_enough one.takes refl;
+      at = one.at;
+    }
+
+-- a letter is read behind others
+read_letter : (l : Letter) (head : Macro) (s : State) (word marks : List ℕ) → At head s scans.Word word marks → is_none word ≡ false
+    → is_letter l ≡ true → length word < 30 → Read head s (bytes_of l) scans.Word (word ++ kept_letter l) marks
+read_letter (Plain b) head s word marks at none h l =
+    let one = kept_by (b == code "-") false head b s word marks at h l refl none in
+    record {
+      next = one.next;
+      said = λ rest. next-words b rest s one.next 1 [] _ one_enough one.takes refl;
+      at = plain_at (b == code "-") b head one.next word marks refl one.at;
+    }
+read_letter (Escape b) head s word marks at none h l = read_escape b head s word marks at h l
+
+read_more : (ls : List Letter) (head : Macro) (s : State) (word marks : List ℕ) → At head s scans.Word word marks → is_none word ≡ false
+    → are_letters ls ≡ true → length word + length (kept_in ls) ≤ 30 → Read head s (written ls) scans.Word (word ++ kept_in ls) marks
+read_more [] head s word marks at none h l =
+    record { next = s; said = λ rest. refl; at = word_at head s scans.Word word (word ++ []) marks (sym (append-nil word)) at }
+read_more (c ∷ cs) head s word marks at none h l =
+    let one = read_letter c head s word marks at none (and_left (is_letter c) (are_letters cs) h) (shorter word c cs l) in
+    let later = read_more cs head one.next (word ++ kept_letter c) marks one.at (some_more word (kept_letter c) none)
+    (and_right (is_letter c) (are_letters cs) h) (shorter_then word c cs l) in
+    record {
+      next = later.next;
+      said = λ rest.
+          ap (λ (xs : List ℕ). words_of (parts_of s xs)) (append_assoc (bytes_of c) (written cs) rest)
+          ∙ one.said (written cs ++ rest) ∙ later.said rest;
+      at = word_at head later.next scans.Word (word ++ kept_letter c ++ kept_in cs) (word ++ kept_in (c ∷ cs)) marks (append_assoc word (kept_letter c) (kept_in cs)) later.at;
+    }
+
+-- ---- a word begins
+
+unfoldable pub between_by : Bool → Bool → Bool → Bool → Bool → Page → Met
+between_by comment blank tab newline quote p =
+    if comment then met (with_scan scans.Dropped p) (left acts.Nothing) else
+    if blank then met p (taken acts.Nothing) else
+    if tab then met p (taken acts.Cell) else
+    if newline then met (with_scan scans.Ends p) (left acts.Nothing) else
+    if quote then word_begins scans.Quoted (taken acts.Nothing) p else word_begins scans.Word (left acts.Nothing) p
+
+between_is : (b : ℕ) (p : Page)
+    → between b p ≡ between_by p.call.comment (b == code " ") (b == code "\t") (b == code "\n") (b == code "\"") p
+unfolding between_by
+between_is b p = refl
+
+pub between_met : (head : Macro) (b : ℕ) (s : State) (word marks : List ℕ) → At head s scans.Between word marks
+    → meet b s.page ≡ between_by false (b == code " ") (b == code "\t") (b == code "\n") (b == code "\"") s.page
+unfolding meet
+between_met head b s word marks at =
+    ap (λ (sc : Scan). meet_at sc b s.page) at.scan_is ∙ between_is b s.page
+    ∙ ap (λ (t : Bool). between_by t (b == code " ") (b == code "\t") (b == code "\n") (b == code "\"") s.page) at.comment
+
+pub not_of : (t : Bool) → t ≡ false → not t ≡ true
+not_of t e = ap not e
+
+begun : Page → Page
+begun p = with_scan scans.Word (record p { word = []; call = record p.call { width = 0 } })
+
+begun_leads : (head : Macro) (b : ℕ) (s : State) (word marks : List ℕ) → At head s scans.Between word marks → ends_word b ≡ false
+    → (b == code "\"") ≡ false → Leads b s (with_page (begun s.page) s) 1 []
+unfolding between_by begun said lay_out
+begun_leads head b s word marks at no_end quote =
+    let p = s.page in
+    let blank_or = (b == code " ") || (b == code "\t") in
+    let other = not_of (ends_word b) no_end in
+    let no_blank = not_of blank_or (or_left blank_or (b == code "\n") other) in
+    leads_by b s (begun p) (begun p) acts.Nothing acts.Nothing acts.Nothing []
+    (between_met head b s word marks at
+    ∙ ap (λ (t : Bool). between_by false t (b == code "\t") (b == code "\n") (b == code "\"") p) (or_left (b == code " ") (b == code "\t") no_blank)
+    ∙ ap (λ (t : Bool). between_by false false t (b == code "\n") (b == code "\"") p) (or_right (b == code " ") (b == code "\t") no_blank)
+    ∙ ap (λ (t : Bool). between_by false false false t (b == code "\"") p) (or_right blank_or (b == code "\n") other)
+    ∙ ap (λ (t : Bool). between_by false false false false t p) quote)
+    refl refl
+
+begun_at : (head : Macro) (s : State) (word marks : List ℕ) → At head s scans.Between word marks → At head (with_page (begun s.page) s) scans.Word [] marks
+unfolding begun
+begun_at head s word marks at = record {
+  scan_is = refl;
+  word_is = refl;
+  marks_are = at.marks_are;
+  few = at.few;
+  going = at.going;
+  comment = at.comment;
+  line = at.line;
+  fits = at.fits;
+  free = at.free;
+}
+
+two_enough : 1 + 1 ≤ 16
+two_enough = omega arith
+
+-- the first letter is read
+read_first : (l : Letter) (head : Macro) (s : State) (word marks : List ℕ) → At head s scans.Between word marks → is_letter l ≡ true
+    → Read head s (bytes_of l) scans.Word (bytes_of l) marks
+read_first (Plain b) head s word marks at h =
+    let t = with_page (begun s.page) s in
+    let one = kept_by (b == code "-") true head b t [] marks (begun_at head s word marks at) h (omega arith) refl refl in
+    record {
+      next = one.next;
+      said = λ rest.
+          next-words b rest s one.next (1 + 1) [] _ two_enough
+          (then_takes b s t one.next 1 1 [] [] (begun_leads head b s word marks at (not_ending b h) (no_quote b h)) one.takes) refl;
+      at = first_at (b == code "-") b head one.next marks one.at;
+    }
+read_first (Escape b) head s word marks at h =
+    let slash = code "\\" in
+    let t = with_page (begun s.page) s in
+    let two = kept_slash head t [] marks (begun_at head s word marks at) in
+    let one = kept_escape head b two.next [] marks two.at h (omega arith) in
+    record {
+      next = one.next;
+      said = λ rest.
+          next-words slash (b ∷ rest) s two.next (1 + 1) [] _ two_enough
+          (then_takes slash s t two.next 1 1 [] [] (begun_leads head slash s word marks at refl refl) two.takes) refl
+          ∙ next-words b rest two.next one.next 1 [] _ one_enough one.takes refl;
+      at = one.at;
+    }
+
+first_some : (l : Letter) → is_none (bytes_of l) ≡ false
+first_some (Plain b) = refl
+first_some (Escape b) = refl
+
+first_room : (l : Letter) (ls : List Letter) → length (kept (l ∷ ls)) ≤ 30 → length (bytes_of l) + length (kept_in ls) ≤ 30
+first_room l ls h =
+    let all : length (kept (l ∷ ls)) ≡ length (bytes_of l) + length (kept_in ls) = length-append (bytes_of l) (kept_in ls) in
+    omega arith
+
+-- a word is read
+pub read_word : (l : Letter) (ls : List Letter) (head : Macro) (s : State) (word marks : List ℕ) → At head s scans.Between word marks
+    → are_letters (l ∷ ls) ≡ true → length (kept (l ∷ ls)) ≤ 30 → Read head s (written (l ∷ ls)) scans.Word (kept (l ∷ ls)) marks
+read_word l ls head s word marks at h few =
+    let one = read_first l head s word marks at (and_left (is_letter l) (are_letters ls) h) in
+    let later = read_more ls head one.next (bytes_of l) marks one.at (first_some l) (and_right (is_letter l) (are_letters ls) h) (first_room l ls few) in
+    record {
+      next = later.next;
+      said = λ rest.
+          ap (λ (xs : List ℕ). words_of (parts_of s xs)) (append_assoc (bytes_of l) (written ls) rest)
+          ∙ one.said (written ls ++ rest) ∙ later.said rest;
+      at = later.at;
+    }

@@ -1,0 +1,143 @@
+-- A word that is a closing mark is held back, or said where it comes first.
+use Rattle.std.proofs.Common.{◌≡◌, ℕ, ◌≤◌, List, [], ◌∷◌, ◌++◌, length, Bool, true, false, not, ◌&&◌, ◌==◌, if◌then◌else◌, Option, None, Some, refl, sym, ◌∙◌, ap, append-nil, arith}
+use Rattle.nr_mdoc.specs.declared.acts.Act.TheVariants as acts
+use Rattle.nr_mdoc.specs.declared.acts.Text.TheVariants as texts
+use Rattle.nr_mdoc.specs.declared.macros.Font.TheVariants.{Roman}
+use Rattle.nr_mdoc.specs.declared.macros.Macro.{Macro}
+use Rattle.nr_mdoc.specs.declared.page.Page.{Page}
+use Rattle.nr_mdoc.specs.declared.page.Scan.TheVariants as scans
+use Rattle.nr_mdoc.specs.Calls.{is_due, leaves, with_call, with_scan}
+use Rattle.nr_mdoc.specs.LayingOut.{lay_out}
+use Rattle.nr_mdoc.specs.Reading.{State, said}
+use Rattle.nr_mdoc.specs.Scanning.{meet}
+use Rattle.nr_mdoc.specs.Seeing.{Met, met, left}
+use Rattle.nr_mdoc.specs.Taking.{prefix}
+use Rattle.nr_mdoc.specs.Words.{closing_mark, holding, is_closing, is_prefix, is_text, mark, mark_as_word, marked_or, parsed, takes_marks}
+use Rattle.nr_mdoc.proofs.Escapes.{and_left, is_not}
+use Rattle.nr_mdoc.proofs.Given.{Whole, whole_of, whole_behind, whole_within, given_met}
+use Rattle.nr_mdoc.proofs.Meeting.{with_page, leads_by}
+use Rattle.nr_mdoc.proofs.Outcomes.{is_quiet, of_word, never, takes_plain, Out, out, out_if}
+use Rattle.nr_mdoc.proofs.Stepping.{At, out_step, leaves_step, marks_step}
+use Rattle.nr_mdoc.proofs.Taken.{no_more}
+
+-- ---- closing marks
+
+pub mark_met : (head : Macro) (b c : ℕ) (s : State) (word marks : List ℕ) → At head s (scans.Given false) word marks
+    → closing_mark false word ≡ Some c → meet b s.page ≡ mark c s.page
+unfolding parsed
+mark_met head b c s word marks at e =
+    given_met head b s word marks at
+    ∙ ap (λ (w : List ℕ). marked_or (closing_mark false w) false s.page) at.word_is
+    ∙ ap (λ (o : Option ℕ). marked_or o false s.page) e
+
+pub the_mark_by : (t : Bool) (b c : ℕ) → (if t then Some b else None) ≡ Some c → b ∷ [] ≡ c ∷ []
+the_mark_by true b c e = cc
+the_mark_by false b c e = absurd (let no : None ≡ Some c = e in cc)
+
+pub the_mark : (word : List ℕ) (c : ℕ) → closing_mark false word ≡ Some c → word ≡ c ∷ []
+the_mark [] c e = absurd (let no : None ≡ Some c = e in cc)
+the_mark (b ∷ []) c e = the_mark_by (is_closing b) b c e
+the_mark (a ∷ b ∷ rest) c e = absurd (let no : None ≡ Some c = e in cc)
+
+pub mark_by : Bool → Bool → Bool → ℕ → Page → Met
+mark_by due text full c p =
+    if due then leaves p else if text then mark_as_word p else if full then met p (left acts.Marks) else met (holding c p) (left acts.Nothing)
+
+pub mark_is : (c : ℕ) (p : Page) → mark c p ≡ mark_by (is_due p) (is_text p) (length p.marks == 32) c p
+unfolding mark mark_by
+mark_is c p = refl
+
+pub not_some : (s t : Bool) → (not s && t) ≡ true → s ≡ false
+not_some s t h = is_not s (and_left (not s) t h)
+
+pub word_out : (q : Page) → takes_plain q.call.taker ≡ true → Out (prefix q) q q.word
+unfolding is_quiet of_word
+word_out q f = out _ q (acts.Word Roman) acts.Join acts.Nothing q.word refl refl refl (append-nil q.word) (no_more q f)
+
+-- a word that is a mark, and ends no sentence
+pub mark_out : (p : Page) → takes_plain p.call.taker ≡ true → Out (mark_as_word p) (with_scan scans.Between p) p.word
+unfolding is_quiet of_word
+mark_out p f =
+    let q = with_scan scans.Between p in
+    out_if (is_prefix p.call.taker) _ _ q q.word (word_out q f)
+    (out (with_call (record q.call { some = true }) q) q (acts.Word Roman) (acts.Close texts.Empty) acts.Nothing q.word refl refl refl (append-nil q.word)
+    (record { scan = refl; word = refl; marks = refl; few = λ l. l; going = refl; comment = refl; line = refl; fits = f }))
+
+pub one_at_most : 1 ≤ 1
+one_at_most = omega arith
+
+pub two_at_most : 1 ≤ 2
+two_at_most = omega arith
+
+pub held_whole : (head : Macro) (b c : ℕ) (s : State) (word marks : List ℕ) → At head s (scans.Given false) word marks
+    → meet b s.page ≡ met (holding c s.page) (left acts.Nothing) → word ≡ c ∷ [] → Whole head b s 1 (marks ++ word)
+unfolding said lay_out
+held_whole head b c s word marks at e same =
+    whole_of head b s 1 1 [] word (marks ++ c ∷ []) (marks ++ word) one_at_most
+    (record {
+      next = with_page (holding c s.page) s;
+      leads = leads_by b s (holding c s.page) (holding c s.page) acts.Nothing acts.Nothing acts.Nothing [] e refl refl;
+      at = record {
+        scan_is = refl;
+        word_is = at.word_is;
+        marks_are = ap (λ (xs : List ℕ). xs ++ c ∷ []) at.marks_are;
+        few = at.few;
+        going = at.going;
+        comment = at.comment;
+        line = at.line;
+        fits = at.fits;
+        free = λ h. never (sym h);
+      };
+    })
+    (ap (λ (xs : List ℕ). marks ++ xs) (sym same))
+
+pub clear_mark : (head : Macro) (b c : ℕ) (s : State) (word marks : List ℕ) → At head s (scans.Given false) word marks
+    → closing_mark false word ≡ Some c → is_due s.page ≡ false → is_text s.page ≡ false → meet b s.page ≡ mark_by false false (length s.page.marks == 32) c s.page
+clear_mark head b c s word marks at e due text =
+    mark_met head b c s word marks at e ∙ mark_is c s.page
+    ∙ ap (λ (t : Bool). mark_by t (is_text s.page) (length s.page.marks == 32) c s.page) due
+    ∙ ap (λ (t : Bool). mark_by false t (length s.page.marks == 32) c s.page) text
+
+-- marks are full: they are said first
+pub full_whole : (t : Bool) (head : Macro) (b c : ℕ) (s : State) (word marks : List ℕ) → At head s (scans.Given false) word marks
+    → closing_mark false word ≡ Some c → is_due s.page ≡ false → is_text s.page ≡ false → (length s.page.marks == 32) ≡ t → Whole head b s 2 (marks ++ word)
+unfolding mark_by marks_step
+full_whole true head b c s word marks at e due text full =
+    let first = marks_step head b s (scans.Given false) word marks at
+    (clear_mark head b c s word marks at e due text ∙ ap (λ (t : Bool). mark_by false false t c s.page) full) in
+    whole_behind head b s first.next 1 marks ([] ++ word) (marks ++ word) first.leads
+    (held_whole head b c first.next word [] first.at (clear_mark head b c first.next word [] first.at e due text) (the_mark word c e))
+    refl
+full_whole false head b c s word marks at e due text full =
+    whole_within head b s 1 2 (marks ++ word) two_at_most
+    (held_whole head b c s word marks at
+    (clear_mark head b c s word marks at e due text ∙ ap (λ (t : Bool). mark_by false false t c s.page) full)
+    (the_mark word c e))
+
+pub text_whole : (t : Bool) (head : Macro) (b c : ℕ) (s : State) (word marks : List ℕ) → At head s (scans.Given false) word marks
+    → closing_mark false word ≡ Some c → is_due s.page ≡ false → is_text s.page ≡ t → Whole head b s 2 (marks ++ word)
+unfolding mark_by
+text_whole true head b c s word marks at e due text =
+    let p = s.page in
+    let none : marks ≡ [] = at.free (not_some p.call.some (takes_marks p.call.taker) text) in
+    whole_of head b s 1 2 p.word p.word marks (marks ++ word) two_at_most
+    (out_step head b s (mark_as_word p) (with_scan scans.Between p) p.word marks
+    (mark_met head b c s word marks at e ∙ mark_is c p
+    ∙ ap (λ (t : Bool). mark_by t (is_text p) (length p.marks == 32) c p) due ∙ ap (λ (t : Bool). mark_by false t (length p.marks == 32) c p) text)
+    (mark_out p at.fits) at.marks_are at.few at.going at.comment at.line (λ h. none))
+    (ap (λ (xs : List ℕ). p.word ++ xs) none ∙ append-nil p.word ∙ at.word_is ∙ ap (λ (xs : List ℕ). xs ++ word) (sym none))
+text_whole false head b c s word marks at e due text = full_whole (length s.page.marks == 32) head b c s word marks at e due text refl
+
+pub mark_whole : (t : Bool) (head : Macro) (b c : ℕ) (s : State) (word marks : List ℕ) → At head s (scans.Given false) word marks
+    → closing_mark false word ≡ Some c → is_due s.page ≡ t → Whole head b s 3 (marks ++ word)
+unfolding mark_by
+mark_whole true head b c s word marks at e due =
+    let p = s.page in
+    let first = leaves_step head b s (scans.Given false) word marks at
+    (mark_met head b c s word marks at e ∙ mark_is c p ∙ ap (λ (t : Bool). mark_by t (is_text p) (length p.marks == 32) c p) due) in
+    let t = first.step.next in
+    whole_behind head b s t 2 [] (marks ++ word) (marks ++ word) first.step.leads
+    (text_whole (is_text t.page) head b c t word marks first.step.at e first.not_due refl)
+    refl
+mark_whole false head b c s word marks at e due =
+    whole_within head b s 2 3 (marks ++ word) (omega arith) (text_whole (is_text s.page) head b c s word marks at e due refl)

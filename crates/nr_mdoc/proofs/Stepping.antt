@@ -1,0 +1,155 @@
+-- One meeting where a line of a macro is read: what is said, and how it is read further.
+use Rattle.std.proofs.Common.{◌≡◌, ℕ, ◌≤◌, List, [], ◌++◌, length, Bool, true, false, refl, sym, ◌∙◌, ap, append-nil}
+use Rattle.nr_mdoc.specs.declared.acts.Act.TheVariants as acts
+use Rattle.nr_mdoc.specs.declared.macros.Macro.{Macro}
+use Rattle.nr_mdoc.specs.declared.page.Page.{Page}
+use Rattle.nr_mdoc.specs.declared.page.Scan.{Scan}
+use Rattle.nr_mdoc.specs.Calls.{is_due, is_enclosure_due, leaves}
+use Rattle.nr_mdoc.specs.Laying.{with_lay, was_put, without_marks}
+use Rattle.nr_mdoc.specs.LayingOut.{lay_out}
+use Rattle.nr_mdoc.specs.Reading.{State, said}
+use Rattle.nr_mdoc.specs.Scanning.{meet}
+use Rattle.nr_mdoc.specs.Seeing.{Met, met, left, three}
+use Rattle.nr_mdoc.proofs.Meeting.{with_page, Leads, leads_by}
+use Rattle.nr_mdoc.proofs.Outcomes.{of_word, never, Lays, three-page, three-words, takes_plain, Out, leaves_out}
+
+-- ---- where a line of a macro is read: so, with this word, and with these marks held back
+
+pub record At (m : Macro) (s : State) (scan : Scan) (word marks : List ℕ) : Type 0 where
+  pub scan_is : s.page.scan ≡ scan
+  pub word_is : s.page.word ≡ word
+  pub marks_are : s.page.marks ≡ marks
+  pub few : length s.page.closers ≤ 8
+  pub going : s.page.call.going ≡ false
+  pub comment : s.page.call.comment ≡ false
+  pub line : s.page.call.line ≡ m
+  pub fits : takes_plain s.page.call.taker ≡ true
+  pub free : s.page.call.some ≡ false → marks ≡ []
+
+-- in so many meetings it is read further so, and these bytes of words are said
+pub record Stepped (m : Macro) (b : ℕ) (s : State) (k : ℕ) (xs : List ℕ) (scan : Scan) (word marks : List ℕ) : Type 0 where
+  pub next : State
+  pub leads : Leads b s next k xs
+  pub at : At m next scan word marks
+
+-- ---- one meeting
+
+pub out_words : (m : Met) (q : Page) (xs : List ℕ) (o : Out m q xs)
+    → of_word o.x m.page.word ++ (of_word o.y m.page.word ++ (of_word o.z m.page.word ++ [])) ≡ xs
+out_words m q xs o =
+    ap (λ (w : List ℕ). of_word o.x w ++ (of_word o.y w ++ (of_word o.z w ++ []))) o.keeps.word ∙ o.words
+
+pub out_lays : (m : Met) (q : Page) (xs : List ℕ) (o : Out m q xs) → Lays m.page (said (three o.x o.y o.z) m.page).page
+out_lays m q xs o = three-page o.x o.y o.z m.page o.quiet_x o.quiet_y o.quiet_z
+
+unfoldable pub out_next : (m : Met) (q : Page) (xs : List ℕ) → Out m q xs → State → State
+out_next m q xs o s = with_page (with_lay (out_lays m q xs o).0 m.page) s
+
+pub out_leads : (b : ℕ) (s : State) (m : Met) (q : Page) (xs : List ℕ) (o : Out m q xs) → meet b s.page ≡ m → Leads b s (out_next m q xs o s) 1 xs
+unfolding out_next
+out_leads b s m q xs o e =
+    leads_by b s m.page (with_lay (out_lays m q xs o).0 m.page) o.x o.y o.z xs (e ∙ ap (met m.page) o.seen) (out_lays m q xs o).1
+    (three-words o.x o.y o.z m.page o.quiet_x o.quiet_y o.quiet_z ∙ out_words m q xs o)
+
+-- by what is said, with a page before it
+unfoldable pub out_step : (head : Macro) (b : ℕ) (s : State) (m : Met) (q : Page) (xs marks : List ℕ) → meet b s.page ≡ m → Out m q xs
+    → q.marks ≡ marks → length q.closers ≤ 8 → q.call.going ≡ false → q.call.comment ≡ false → q.call.line ≡ head
+    → (m.page.call.some ≡ false → marks ≡ []) → Stepped head b s 1 xs q.scan q.word marks
+unfolding out_next
+out_step head b s m q xs marks e o marks_are few going comment line_is free = record {
+  next = out_next m q xs o s;
+  leads = out_leads b s m q xs o e;
+  at = record {
+    scan_is = o.keeps.scan;
+    word_is = o.keeps.word;
+    marks_are = o.keeps.marks ∙ marks_are;
+    few = o.keeps.few few;
+    going = o.keeps.going ∙ going;
+    comment = o.keeps.comment ∙ comment;
+    line = o.keeps.line ∙ line_is;
+    fits = o.keeps.fits;
+    free = free;
+  };
+}
+
+-- what was due was said: no macro takes words then
+pub record Left (m : Macro) (b : ℕ) (s : State) (scan : Scan) (word marks : List ℕ) : Type 0 where
+  pub step : Stepped m b s 1 [] scan word marks
+  pub not_due : is_due step.next.page ≡ false
+  pub no_enclosure : is_enclosure_due step.next.page ≡ false
+  pub some : step.next.page.call.some ≡ true
+
+pub no_more_due : (l : _) (p : Page) → is_due (with_lay l (leaves p).page) ≡ false
+unfolding leaves
+no_more_due l p = refl
+
+pub no_more_enclosed : (l : _) (p : Page) → is_enclosure_due (with_lay l (leaves p).page) ≡ false
+unfolding leaves
+no_more_enclosed l p = refl
+
+pub some_then : (p : Page) → (leaves p).page.call.some ≡ true
+unfolding leaves
+some_then p = refl
+
+pub true_is_false : {A : Type 0} (t : Bool) → t ≡ true → t ≡ false → A
+true_is_false t p q = never (sym q ∙ p)
+
+unfoldable pub step_at : (m : Macro) (b : ℕ) (s : State) (k : ℕ) (xs : List ℕ) (scan scan2 : Scan) (word word2 marks : List ℕ) → scan ≡ scan2 → word ≡ word2
+    → Stepped m b s k xs scan word marks → Stepped m b s k xs scan2 word2 marks
+step_at m b s k xs scan scan2 word word2 marks p q step = record {
+  next = step.next;
+  leads = step.leads;
+  at = record {
+    scan_is = step.at.scan_is ∙ p;
+    word_is = step.at.word_is ∙ q;
+    marks_are = step.at.marks_are;
+    few = step.at.few;
+    going = step.at.going;
+    comment = step.at.comment;
+    line = step.at.line;
+    fits = step.at.fits;
+    free = step.at.free;
+  };
+}
+
+pub left_step : (head : Macro) (b : ℕ) (s : State) (m : Met) (scan : Scan) (word marks : List ℕ) → At head s scan word marks
+    → meet b s.page ≡ m → Out m s.page [] → m.page ≡ (leaves s.page).page → Left head b s scan word marks
+unfolding out_next step_at out_step
+left_step head b s m scan word marks at e o same =
+    let l = (out_lays m s.page [] o).0 in
+    let then_some : m.page.call.some ≡ true = ap (λ (p : Page). p.call.some) same ∙ some_then s.page in
+    record {
+      step =
+          step_at head b s 1 [] s.page.scan scan s.page.word word marks at.scan_is at.word_is
+          (out_step head b s m s.page [] marks e o at.marks_are at.few at.going at.comment at.line
+          (λ h. true_is_false m.page.call.some then_some h));
+      not_due = ap (λ (p : Page). is_due (with_lay l p)) same ∙ no_more_due l s.page;
+      no_enclosure = ap (λ (p : Page). is_enclosure_due (with_lay l p)) same ∙ no_more_enclosed l s.page;
+      some = then_some;
+    }
+
+pub leaves_step : (head : Macro) (b : ℕ) (s : State) (scan : Scan) (word marks : List ℕ) → At head s scan word marks
+    → meet b s.page ≡ leaves s.page → Left head b s scan word marks
+leaves_step head b s scan word marks at e = left_step head b s (leaves s.page) scan word marks at e (leaves_out s.page at.fits) refl
+
+-- marks that were held back are said
+unfoldable pub marks_step : (head : Macro) (b : ℕ) (s : State) (scan : Scan) (word marks : List ℕ) → At head s scan word marks
+    → meet b s.page ≡ met s.page (left acts.Marks) → Stepped head b s 1 marks scan word []
+unfolding said lay_out
+marks_step head b s scan word marks at e = record {
+  next = with_page (without_marks (was_put s.page)) s;
+  leads =
+      leads_by b s s.page (without_marks (was_put s.page)) acts.Marks acts.Nothing acts.Nothing marks e refl
+      (append-nil s.page.marks ∙ at.marks_are);
+  at = record {
+    scan_is = at.scan_is;
+    word_is = at.word_is;
+    marks_are = refl;
+    few = at.few;
+    going = at.going;
+    comment = at.comment;
+    line = at.line;
+    fits = at.fits;
+    free = λ h. refl;
+  };
+}

@@ -1,0 +1,179 @@
+-- Macros that are called say nothing of a word, and those that take one say it once.
+use Rattle.std.proofs.Common.{◌≡◌, ℕ, ◌≤◌, ◌+◌, ◌-◌, List, [], ◌∷◌, ◌++◌, length, Bool, true, false, not, nat_lt, if◌then◌else◌, refl, sym, ◌∙◌, ap, subst, append-nil, length-append, arith}
+use Rattle.std.proofs.lemmas.Bool.Decides.{nat_tests}
+use Prim.Native.Char.{code}
+use Rattle.nr_mdoc.specs.declared.acts.Act.{Act}
+use Rattle.nr_mdoc.specs.declared.acts.Act.TheVariants as acts
+use Rattle.nr_mdoc.specs.declared.acts.Text.TheVariants as texts
+use Rattle.nr_mdoc.specs.declared.macros.Font.{Font}
+use Rattle.nr_mdoc.specs.declared.macros.Font.TheVariants.{Roman, Bold, Italic}
+use Rattle.nr_mdoc.specs.declared.macros.Macro.{Macro}
+use Rattle.nr_mdoc.specs.declared.macros.Macro.TheVariants as macros
+use Rattle.nr_mdoc.specs.declared.macros.Pair.TheVariants as pairs
+use Rattle.nr_mdoc.specs.declared.page.Page.{Page}
+use Rattle.nr_mdoc.specs.declared.page.Parameters.TheVariants.{First, Further}
+use Rattle.nr_mdoc.specs.Calls.{with_place, is_nothing, is_none, heads_line, after_name, takes_no_more, called}
+use Rattle.nr_mdoc.specs.Macros.{part_font}
+use Rattle.nr_mdoc.specs.Seeing.{met, three}
+use Rattle.nr_mdoc.specs.Taking.{taken_by, taken_word, taken_alone_by, naming, named, parameter, is_outside, is_first, is_listed, behind_first, listing, reference, function_begins, function}
+use Rattle.nr_mdoc.specs.Texts.{closer}
+use Rattle.nr_mdoc.proofs.Outcomes.{is_quiet, of_word, never, takes_plain, Keeps, keeps_if, keeps_no_more, Out, out, out_if, out_seen_if, out_act_if, same_page, function_closes_out}
+
+-- ---- macros that are called
+
+one_closer : (cs : List ℕ) (c : ℕ) → nat_lt (length cs) 8 ≡ true → length (cs ++ c ∷ []) ≤ 8
+one_closer cs c e = rw (length-append cs (c ∷ [])) (grind (arith, nat_tests))
+
+enclosed : (t : Bool) (c : ℕ) (q : Page) → takes_plain q.call.taker ≡ true → nat_lt (length q.closers) 8 ≡ t
+    → Keeps q (if t then record q { closers = q.closers ++ c ∷ [] } else q)
+enclosed true c q f e =
+    record { scan = refl; word = refl; marks = refl; few = λ l. one_closer q.closers c e; going = refl; comment = refl; line = refl; fits = f }
+enclosed false c q f e = same_page q f
+
+pub called_out : (m : Macro) (q : Page) → takes_plain q.call.taker ≡ true → Out (called m q) q []
+unfolding is_quiet of_word
+called_out (macros.Encloses pair) q f =
+    out _ q acts.Nothing acts.Nothing acts.Nothing [] refl refl refl refl (enclosed (nat_lt (length q.closers) 8) (closer pair) q f refl)
+called_out (macros.Opens pair) q f =
+    out _ q acts.Nothing acts.Nothing acts.Nothing [] refl refl refl refl (keeps_if (nat_lt q.place.depth 255) q (with_place (record q.place { depth = q.place.depth + 1 }) q) q (assumption) (same_page q f))
+called_out (macros.Closes pair) q f =
+    let keeps = keeps_if (nat_lt 0 q.place.depth) q (with_place (record q.place { depth = q.place.depth - 1 }) q) q (assumption) (same_page q f) in
+    out_act_if (is_nothing pair) acts.Apart _ _ q []
+    (out _ q acts.Apart acts.Nothing acts.Nothing [] refl refl refl refl keeps)
+    (out _ q (acts.Close (texts.Closing (closer pair))) acts.Nothing acts.Nothing [] refl refl refl refl keeps)
+called_out (macros.Stands system) q f = out q q (acts.Text (texts.System system)) acts.Nothing acts.Nothing [] refl refl refl refl (same_page q f)
+called_out macros.Joins q f = out q q acts.Join acts.Nothing acts.Nothing [] refl refl refl refl (same_page q f)
+called_out macros.Apostrophe q f = out q q (acts.Close texts.Apostrophe) acts.Join acts.Nothing [] refl refl refl refl (same_page q f)
+called_out macros.FunctionCloses q f = function_closes_out q f
+called_out macros.Cell q f = out q q acts.Cell acts.Nothing acts.Nothing [] refl refl refl refl (same_page q f)
+called_out m q f = out q q acts.Nothing acts.Nothing acts.Nothing [] refl refl refl refl (same_page q f)
+
+-- ---- macros that take a word
+
+pub said_in : (font : Font) (p q : Page) → Keeps q p → Out (met p (three (acts.Word font) acts.Nothing acts.Nothing)) q q.word
+unfolding is_quiet of_word
+said_in font p q keeps = out p q (acts.Word font) acts.Nothing acts.Nothing q.word refl refl refl (append-nil q.word) keeps
+
+behind_act : (x : Act) (font : Font) (p q : Page) → is_quiet x ≡ true → of_word x q.word ≡ [] → Keeps q p
+    → Out (met p (three x (acts.Word font) acts.Nothing)) q q.word
+unfolding is_quiet of_word
+behind_act x font p q i e keeps =
+    out p q x (acts.Word font) acts.Nothing q.word i refl refl (ap (λ (xs : List ℕ). xs ++ (q.word ++ [])) e ∙ append-nil q.word) keeps
+
+name_kept : (q : Page) → takes_plain q.call.taker ≡ true → Keeps q (naming q)
+name_kept q f = keeps_if (is_none q.name) q (record q { name = q.word; place = record q.place { width = q.call.width } }) q (assumption) (same_page q f)
+
+pub name_headed : (q p : Page) → Keeps q p → Keeps q (after_name p)
+name_headed q p i = record {
+  scan = i.scan;
+  word = i.word;
+  marks = i.marks;
+  few = i.few;
+  going = i.going;
+  comment = i.comment;
+  line = i.line;
+  fits = i.fits;
+}
+
+named_out : (q : Page) → takes_plain q.call.taker ≡ true → Out (named q) q q.word
+unfolding is_quiet of_word
+named_out q f =
+    out_if (heads_line (naming q)) _ _ q q.word
+    (behind_act (acts.Hanging _) Bold (after_name (naming q)) q refl refl (name_headed q (naming q) (name_kept q f)))
+    (said_in Bold (naming q) q (name_kept q f))
+
+listing_kept : (q p : Page) → Keeps q p → Keeps q (listing p)
+listing_kept q p i = record {
+  scan = i.scan;
+  word = i.word;
+  marks = i.marks;
+  few = i.few;
+  going = i.going;
+  comment = i.comment;
+  line = i.line;
+  fits = i.fits;
+}
+
+parameter_out : (q : Page) → takes_plain q.call.taker ≡ true → Out (parameter q) q q.word
+unfolding is_quiet of_word
+parameter_out q f =
+    let first = keeps_if (is_first q.place.parameters) q (with_place (record q.place { parameters = Further }) q) q (assumption) (same_page q f) in
+    out_if (is_outside q.place.parameters) _ _ q q.word (said_in Italic q q (same_page q f))
+    (out_seen_if (is_listed q) _ _ _ q q.word
+    (behind_act (acts.Close texts.Comma) Italic (listing (behind_first q)) q refl refl (listing_kept q (behind_first q) first))
+    (said_in Italic (listing (behind_first q)) q (listing_kept q (behind_first q) first)))
+
+pub no_more : (q : Page) → takes_plain q.call.taker ≡ true → Keeps q (takes_no_more q)
+no_more q f = keeps_no_more q q (same_page q f)
+
+reference_out : (q : Page) → takes_plain q.call.taker ≡ true → Out (reference q) q q.word
+unfolding is_quiet of_word
+reference_out q f =
+    out_if (not q.call.some) _ _ q q.word (said_in Roman q q (same_page q f))
+    (out (takes_no_more q) q (acts.Close (texts.Opening pairs.Parentheses)) (acts.Joined Roman) (acts.Close (texts.Closing (code ")"))) q.word
+    refl refl refl (append-nil q.word) (no_more q f))
+
+function_begins_out : (p q : Page) → Keeps q p → Out (function_begins p) q q.word
+unfolding is_quiet of_word
+function_begins_out p q keeps =
+    out_if p.lay.front _ _ q q.word
+    (said_in Bold _ q (record {
+      scan = keeps.scan;
+      word = keeps.word;
+      marks = keeps.marks;
+      few = keeps.few;
+      going = keeps.going;
+      comment = keeps.comment;
+      line = keeps.line;
+      fits = keeps.fits;
+    }))
+    (out p q (acts.Word Bold) (acts.Close (texts.Opening pairs.Parentheses)) acts.Join q.word refl refl refl (append-nil q.word) keeps)
+
+function_out : (q : Page) → takes_plain q.call.taker ≡ true → Out (function q) q q.word
+unfolding is_quiet of_word
+function_out q f =
+    out_if (not q.call.some) _ _ q q.word (function_begins_out q q (same_page q f))
+    (out_if (not q.call.listed) _ _ q q.word (said_in Italic (listing q) q (listing_kept q q (same_page q f)))
+    (behind_act (acts.Close texts.Comma) Italic q q refl refl (same_page q f)))
+
+alone_out : (m : Macro) (q : Page) → takes_plain m ≡ true → takes_plain q.call.taker ≡ true → Out (taken_alone_by m q) q q.word
+unfolding is_quiet of_word takes_plain
+alone_out macros.Att q h f = never h
+alone_out macros.Standard q h f = never h
+alone_out macros.Library q h f = never h
+alone_out macros.Bsd q h f =
+    out _ q (acts.Word Roman) (acts.Close texts.Bsd) acts.Nothing q.word refl refl refl (append-nil q.word) assumption
+alone_out macros.BsdRelease q h f = out _ q acts.Release acts.Nothing acts.Nothing q.word refl refl refl (append-nil q.word) (no_more q f)
+alone_out macros.Prefix q h f = out _ q (acts.Word Roman) acts.Join acts.Nothing q.word refl refl refl (append-nil q.word) (no_more q f)
+alone_out macros.OwnOpens q h f = out _ q (acts.Word Roman) acts.Join acts.Nothing q.word refl refl refl (append-nil q.word) (no_more q f)
+alone_out macros.OwnCloses q h f = out _ q (acts.Joined Roman) acts.Nothing acts.Nothing q.word refl refl refl (append-nil q.word) (no_more q f)
+alone_out macros.FunctionOpens q h f = function_begins_out (with_place (record q.place { parameters = First }) (takes_no_more q)) q (assumption)
+alone_out macros.Include q h f =
+    out _ q (acts.Text (texts.Opening pairs.Angles)) (acts.Joined Italic) (acts.Close (texts.Closing (code ">"))) q.word refl refl refl (append-nil q.word) (no_more q f)
+alone_out m q h f = said_in Roman q q (same_page q f)
+
+alone_is : (m : Macro) (q : Page) → q.call.taker ≡ m → takes_plain m ≡ true → takes_plain q.call.taker ≡ true → Out (taken_alone_by q.call.taker q) q q.word
+alone_is m q e h f = subst (λ (k : Macro). Out (taken_alone_by k q) q q.word) (sym e) (alone_out m q h f)
+
+taken_by_out : (m : Macro) (q : Page) → q.call.taker ≡ m → takes_plain m ≡ true → takes_plain q.call.taker ≡ true → Out (taken_by m q) q q.word
+unfolding is_quiet of_word takes_plain
+taken_by_out (macros.Words font) q e h f = said_in font q q (same_page q f)
+taken_by_out (macros.Part letter) q e h f = said_in (part_font letter) q q (same_page q f)
+taken_by_out macros.Flag q e h f = out q q acts.Flag acts.Nothing acts.Nothing q.word refl refl refl (append-nil q.word) (same_page q f)
+taken_by_out macros.Argument q e h f = said_in Italic q q (same_page q f)
+taken_by_out macros.Path q e h f = said_in Italic q q (same_page q f)
+taken_by_out macros.Variable q e h f = said_in Italic q q (same_page q f)
+taken_by_out macros.ResultType q e h f = said_in Italic q q (same_page q f)
+taken_by_out macros.Declaration q e h f = said_in Bold q q (same_page q f)
+taken_by_out macros.Name q e h f = named_out q f
+taken_by_out macros.Parameter q e h f = parameter_out q f
+taken_by_out macros.Reference q e h f = reference_out q f
+taken_by_out macros.Author q e h f = never h
+taken_by_out macros.Function q e h f = function_out q f
+taken_by_out (macros.Stands system) q e h f =
+    out _ q (acts.Close texts.FixedSpace) (acts.Joined Roman) acts.Nothing q.word refl refl refl (append-nil q.word) (no_more q f)
+taken_by_out m q e h f = alone_is m q e h f
+
+pub taken_out : (q : Page) → takes_plain q.call.taker ≡ true → Out (taken_word q) q q.word
+unfolding taken_word
+taken_out q f = taken_by_out q.call.taker q refl f f

@@ -1,0 +1,65 @@
+-- What is said of the words of lines and of the enclosures that a line opened, in any state of the page.
+use Rattle.std.specs.Prelude.{◌≡◌, ℕ, ◌+◌, List, [], ◌∷◌, ◌++◌, length, reverse, true, false, if◌then◌else◌, codes, Some}
+use Rattle.nr_mdoc.specs.declared.acts.Act.TheVariants as acts
+use Rattle.nr_mdoc.specs.declared.acts.Text.TheVariants as texts
+use Rattle.nr_mdoc.specs.declared.macros.Macro.{Macro}
+use Rattle.nr_mdoc.specs.declared.page.Page.{Page}
+use Rattle.nr_mdoc.specs.declared.page.Scan.{Scan}
+use Rattle.nr_mdoc.specs.declared.page.Scan.TheVariants as scans
+use Rattle.nr_mdoc.specs.declared.strings.Pending.TheVariants.{Nothing}
+use Rattle.nr_mdoc.specs.Calls.{is_due, with_scan}
+use Rattle.nr_mdoc.specs.Laying.{Laid, laid, then_laid}
+use Rattle.nr_mdoc.specs.LayingOut.{lay_out}
+use Rattle.nr_mdoc.specs.Lines.{ends_joined}
+use Rattle.nr_mdoc.specs.Macros.{macro_of}
+use Rattle.nr_mdoc.specs.Reading.{State, behind, fed, heard_in}
+use Rattle.nr_mdoc.specs.Saying.{parts_of, text_of, words_of}
+use Rattle.nr_mdoc.specs.WrittenLines.{each, names_no_string, is_text, begins_text, Letter, is_plain, heads_words, are_words, macro_line, printed}
+
+-- ---- words
+
+-- a page that is read so
+abbrev pub reads_at : Scan → State → State
+reads_at scan s = record s { page = with_scan scan s.page; pending = Nothing }
+
+-- what goes out of a line is what it says, and these are the words of it, once and in order
+pub record Says (s : State) (line said : List ℕ) : Type 0 where
+  pub text : (fed s line).bytes ≡ text_of (parts_of s line)
+  pub words : words_of (parts_of s line) ≡ said
+
+-- in any state a text line says its bytes
+abbrev pub TextIsSaid : Type 0
+TextIsSaid =
+    (s : State) (b : ℕ) (bs : List ℕ) → begins_text b ≡ true → each is_text bs ≡ true → names_no_string (b ∷ bs) ≡ true →
+    Says (reads_at scans.Start s) (b ∷ bs ++ codes "\n") (b ∷ bs)
+
+-- in any state where no marks are held back, a line of a macro says those of its words that call no macro
+abbrev pub WordsAreSaid : Type 0
+WordsAreSaid =
+    (s : State) (m : Macro) (name : List ℕ) (words : List (List Letter)) → s.page.marks ≡ [] →
+    macro_of name ≡ Some m → heads_words m ≡ true → each is_plain name ≡ true → are_words words ≡ true →
+    Says (reads_at scans.Start s) (macro_line name words) (printed words)
+
+-- ---- enclosures of a line
+
+-- what closes one joins what is before, and what comes next joins it where `.Ns` ended the line
+abbrev pub close : ℕ → Page → Laid
+close c p =
+    let l = lay_out (acts.Close (texts.Closing c)) p in if ends_joined p then then_laid l (λ q. lay_out acts.Join q) else l
+
+-- what closes several, one after another
+abbrev pub close_all : List ℕ → Page → Laid
+close_all [] p = laid p []
+close_all (c ∷ cs) p = then_laid (close c p) (λ q. close_all cs q)
+
+abbrev pub with_closers : List ℕ → Page → Page
+with_closers cs p = record p { closers = cs }
+
+-- in any state at the end of a line, where what is due was said: what closes its enclosures goes out, the last of them first, and
+-- then the line ends as one that opened none
+abbrev pub LastIsClosedFirst : Type 0
+LastIsClosedFirst =
+    (n b : ℕ) (s : State) → s.page.scan ≡ scans.Ends → is_due s.page ≡ false →
+    let cs = s.page.closers in
+    let l = close_all (reverse cs) s.page in
+    heard_in (n + length cs) b s ≡ behind l.bytes (length cs) (heard_in n b (record s { page = with_closers [] l.page }))

@@ -1,0 +1,133 @@
+-- Lines as they are written: text lines, and lines of macros with their words.
+use Rattle.std.specs.Prelude.{ℕ, List, [], ◌∷◌, ◌++◌, length, Bool, true, false, not, ◌==◌, ◌&&◌, nat_le, if◌then◌else◌, codes, Option, None, Some}
+use Prim.Native.Char.{code}
+use Rattle.nr_mdoc.specs.declared.macros.Macro.{Macro}
+use Rattle.nr_mdoc.specs.declared.macros.Macro.TheVariants as macros
+use Rattle.nr_mdoc.specs.Calls.{called_by}
+use Rattle.nr_mdoc.specs.Keeping.{ends_word}
+use Rattle.nr_mdoc.specs.Laying.{is_control}
+use Rattle.nr_mdoc.specs.Macros.{is_callable}
+
+-- ---- text lines
+
+-- each byte of a list is such
+abbrev pub each : (ℕ → Bool) → List ℕ → Bool
+each test [] = true
+each test (b ∷ bs) = test b && each test bs
+
+abbrev pub begins_star : List ℕ → Bool
+begins_star [] = false
+begins_star (b ∷ bs) = b == code "*"
+
+-- no string of mdoc's is named: nowhere a star stands behind a backslash
+abbrev pub names_no_string : List ℕ → Bool
+names_no_string [] = true
+names_no_string (b ∷ bs) = not ((b == code "\\") && begins_star bs) && names_no_string bs
+
+abbrev pub is_text : ℕ → Bool
+is_text b = not (b == code "\n")
+
+-- what begins no other line, and isn't dropped at its beginning
+abbrev pub begins_text : ℕ → Bool
+begins_text b = not (is_control b) && not (ends_word b)
+
+-- ---- words of a macro's line
+
+-- a letter of a word: a byte, or an escape, which is a backslash and a byte
+pub data Letter : Type 0 where
+  Plain : ℕ → Letter
+  Escape : ℕ → Letter
+
+-- a byte of a word without quotes and escapes
+abbrev pub is_plain : ℕ → Bool
+is_plain b = not (ends_word b) && not (b == code "\"") && not (b == code "\\")
+
+-- a byte behind a backslash: it begins no comment, goes on with no further line, and names no string
+abbrev pub is_escaped : ℕ → Bool
+is_escaped b = not (b == code "\"") && not (b == code "\n") && not (b == code "*") && not (b == code "\\")
+
+abbrev pub is_letter : Letter → Bool
+is_letter (Plain b) = is_plain b
+is_letter (Escape b) = is_escaped b
+
+abbrev pub are_letters : List Letter → Bool
+are_letters [] = true
+are_letters (l ∷ ls) = is_letter l && are_letters ls
+
+abbrev pub bytes_of : Letter → List ℕ
+bytes_of (Plain b) = b ∷ []
+bytes_of (Escape b) = code "\\" ∷ b ∷ []
+
+abbrev pub written : List Letter → List ℕ
+written [] = []
+written (l ∷ ls) = bytes_of l ++ written ls
+
+-- a word as it is kept: no line is broken after a hyphen in it
+abbrev pub kept_letter : Letter → List ℕ
+kept_letter (Plain b) = if b == code "-" then codes "\\-" else b ∷ []
+kept_letter (Escape b) = code "\\" ∷ b ∷ []
+
+abbrev pub kept_in : List Letter → List ℕ
+kept_in [] = []
+kept_in (l ∷ ls) = kept_letter l ++ kept_in ls
+
+abbrev pub kept : List Letter → List ℕ
+kept [] = []
+kept (l ∷ ls) = bytes_of l ++ kept_in ls
+
+-- ---- macros whose words are printed as they stand
+
+-- names that tables have, and options, are printed otherwise
+abbrev pub prints_otherwise : Macro → Bool
+prints_otherwise macros.Att = true
+prints_otherwise macros.Standard = true
+prints_otherwise macros.Library = true
+prints_otherwise macros.Author = true
+prints_otherwise m = false
+
+-- a macro that words call, and that prints its own as they stand
+abbrev pub prints_words : Macro → Bool
+prints_words m = is_callable m && not (prints_otherwise m)
+
+-- a macro whose line has such words: one of these, a link, an item, a subsection, or a line that is indented
+abbrev pub heads_words : Macro → Bool
+heads_words macros.Link = true
+heads_words macros.Item = true
+heads_words macros.Subsection = true
+heads_words macros.Line = true
+heads_words macros.LiteralLine = true
+heads_words m = prints_words m
+
+-- ---- lines of macros
+
+abbrev pub none_or : (Macro → Bool) → Option Macro → Bool
+none_or test None = true
+none_or test (Some m) = test m
+
+-- a word of at most thirty bytes, which calls no macro, or one that prints its words as they stand
+abbrev pub is_word : List Letter → Bool
+is_word [] = false
+is_word (l ∷ ls) =
+    are_letters (l ∷ ls) && nat_le (length (kept (l ∷ ls))) 30 && none_or prints_words (called_by false (kept (l ∷ ls)))
+
+abbrev pub are_words : List (List Letter) → Bool
+are_words [] = true
+are_words (w ∷ ws) = is_word w && are_words ws
+
+-- each word behind a blank
+abbrev pub behind_blanks : List (List Letter) → List ℕ
+behind_blanks [] = []
+behind_blanks (w ∷ ws) = codes " " ++ written w ++ behind_blanks ws
+
+abbrev pub macro_line : List ℕ → List (List Letter) → List ℕ
+macro_line name words = codes "." ++ name ++ behind_blanks words ++ codes "\n"
+
+-- a word that calls a macro is not printed
+abbrev pub unless_called : Option Macro → List ℕ → List ℕ
+unless_called None word = word
+unless_called (Some m) word = []
+
+-- the words that call no macro, in order
+abbrev pub printed : List (List Letter) → List ℕ
+printed [] = []
+printed (w ∷ ws) = unless_called (called_by false (kept w)) (kept w) ++ printed ws

@@ -1,0 +1,9 @@
+//! Laws of the words of lines, and of the enclosures that a line opens.
+ghost use Rattle.nr_mdoc.specs.WordLaws.{LastIsClosedFirst, TextIsSaid, WordsAreSaid};
+
+/// Does nothing: its contract is the laws.
+pub fn words_are_said()
+    ensures text { TextIsSaid }
+    ensures words { WordsAreSaid }
+    ensures enclosures { LastIsClosedFirst }
+{}
