@@ -11,7 +11,7 @@ use Rattle.nr_mdoc.specs.Laying.{gap, first_in, first_of, before_hyphen, is_join
 use Rattle.nr_mdoc.specs.LayingOut.{lay_out}
 use Rattle.nr_mdoc.specs.Reading.{State, once, heard}
 use Rattle.nr_mdoc.specs.Scanning.{meet}
-use Rattle.nr_mdoc.specs.Texts.{font_begin}
+use Rattle.nr_mdoc.specs.Texts.{font_begin, font_end}
 
 -- the bytes of a word, or of marks, and what a macro adds before and behind them
 pub record Part : Type 0 where
@@ -35,7 +35,7 @@ part_release p =
     part (codes "-" ++ (gap true (first_in Roman p.word) p ++ font_begin Roman ++ before_hyphen p.word)) p.word (end_word Roman (was_put p)).bytes
 
 -- What an act says: of text lines their bytes, of macros' lines their words and marks. All of another act stands before no word,
--- also parts of a word longer than what is kept of one, names that are held back, and what tables have for a word.
+-- also names that are held back, and what tables have for a word.
 abbrev pub part_of : Act → Page → Part
 part_of (acts.Byte b) p = part [] (b ∷ []) []
 part_of acts.Hyphen p = part (codes "\\") (codes "-") []
@@ -44,6 +44,8 @@ part_of (acts.Word font) p = part_word (is_joined p) font p
 part_of (acts.Joined font) p = part_word true font p
 part_of acts.Flag p = part_flag p
 part_of acts.Release p = part_release p
+part_of acts.More p = part (before_hyphen p.word) p.word []
+part_of acts.LastMore p = part (before_hyphen p.word) p.word (font_end p.lay.font)
 part_of acts.Marks p = part (gap true (first_of p.marks) p) p.marks []
 part_of act p = part (lay_out act p).bytes [] []
 
