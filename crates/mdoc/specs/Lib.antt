@@ -1,2 +1,6 @@
+pub mod Blocks
+pub mod Lines
+pub mod Names
+pub mod Telling
 pub mod Watching
 pub mod Words

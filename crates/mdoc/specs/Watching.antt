@@ -1,126 +1,109 @@
--- What is wrong with the lines of a page: macros that are none, ends of lists and displays that aren't open, and more than
--- sixty-four of these. A definition's lines are not looked at, nor is a page without `.Dd` in its first sixty-four lines.
-use Rattle.std.specs.Prelude.{ℕ, ◌+◌, ◌-◌, List, [], ◌∷◌, ◌++◌, length, Bool, true, false, not, ◌==◌, ◌&&◌, ◌||◌, nat_lt, nat_le, if◌then◌else◌, codes, Option, None, Some, is_some}
+-- What is wrong with the lines of a page: macros that are none, blocks that are not ended, ends of blocks that are not open, ends
+-- that come before those of blocks within, and too many that are open.
+use Rattle.std.specs.Prelude.{ℕ, List, [], length, take, drop, not, ◌==◌, ◌||◌, nat_lt, if◌then◌else◌, codes, Option, None, Some, is_some}
+use Rattle.std.specs.List.{insert, remove}
 use Rattle.std.specs.Str.{bytes_eq}
-use Prim.Native.Char.{code}
 use Rattle.nr_mdoc.specs.Macros.{macro_of}
-use Rattle.mdoc.specs.declared.watch.Kind.{Kind}
-use Rattle.mdoc.specs.declared.watch.Kind.TheVariants as kinds
-use Rattle.mdoc.specs.declared.watch.Line.{Line}
-use Rattle.mdoc.specs.declared.watch.Line.TheVariants as lines
-use Rattle.mdoc.specs.declared.watch.Watch.{Watch}
+use Rattle.nr_units.specs.Items.{Items}
+use Rattle.mdoc.specs.Blocks.{last_name, place_of}
+use Rattle.mdoc.specs.declared.lines.Half.{Half}
+use Rattle.mdoc.specs.declared.lines.Whole.{Whole}
+use Rattle.mdoc.specs.declared.lines.Whole.TheVariants as wholes
+use Rattle.mdoc.specs.declared.blocks.OpenBlock.{OpenBlock}
+use Rattle.mdoc.specs.declared.telling.Kind.{Kind}
+use Rattle.mdoc.specs.declared.telling.Kind.TheVariants as kinds
+use Rattle.mdoc.specs.Lines as lines
+use Rattle.mdoc.specs.Names.{opener_of, opens}
+use Rattle.mdoc.specs.Telling as telling
+use Rattle.mdoc.specs.Telling.{AllTold}
 
-abbrev pub first : Watch
-first = record { number = 1; line = lines.Start; name = []; lists = 0; displays = 0; awake = false }
+pub record Page : Type 0 where
+  pub half : Half
+  pub blocks : Items OpenBlock
+  pub told : AllTold
 
-abbrev pub with_line : Line → Watch → Watch
-with_line line w = record w { line = line }
+abbrev pub first_page : ℕ → ℕ → Page
+first_page blocks complaints = record {
+  half = lines.first;
+  blocks = record { items = []; room = blocks };
+  told = telling.nothing_told complaints;
+}
 
--- ---- names
+abbrev pub told : Kind → Page → Page
+told kind p = record p { told = telling.told kind p.half.number p.told }
 
-abbrev pub ends_name : ℕ → Bool
-ends_name b = (b == code " ") || (b == code "\t") || (b == code "\n") || (b == code "\\")
+abbrev pub with_blocks : List OpenBlock → Page → Page
+with_blocks blocks p = record p { blocks = record p.blocks { items = blocks } }
 
-abbrev pub is_request : List ℕ → Bool
-is_request [] = true
-is_request (b ∷ bs) = not (nat_le (code "A") b && nat_le b (code "Z")) && not (b == code "%")
+-- ---- blocks
 
-abbrev pub defines : List ℕ → Bool
-defines name = bytes_eq name (codes "de") || bytes_eq name (codes "am") || bytes_eq name (codes "ig")
+abbrev pub opened : List ℕ → Page → Page
+opened name p =
+    if length p.blocks.items == p.blocks.room then told (kinds.TooMany name) p else
+    with_blocks (insert p.blocks.items 0 (record { name = name; line = p.half.number })) p
 
--- ---- lists and displays
+-- blocks that were opened in the one that is ended stay open
+abbrev pub nested : List ℕ → ℕ → Page → Page
+nested opener place p =
+    if nat_lt 0 place then told (kinds.Nested opener (last_name p.blocks.items)) p else p
 
-abbrev pub is_full : Watch → Bool
-is_full w = nat_le 64 (w.lists + w.displays)
+abbrev pub ended_at : Option ℕ → List ℕ → Page → Page
+ended_at None opener p = told (kinds.NotOpen p.half.name) p
+ended_at (Some place) opener p = with_blocks (remove p.blocks.items place) (nested opener place p)
 
-abbrev pub list_opens : Watch → Watch × Option Kind
-list_opens w = if is_full w then (w, Some kinds.TooMany) else (record w { lists = w.lists + 1 }, None)
+abbrev pub ended : List ℕ → Page → Page
+ended opener p = ended_at (place_of opener p.blocks.items) opener p
 
-abbrev pub display_opens : Watch → Watch × Option Kind
-display_opens w = if is_full w then (w, Some kinds.TooMany) else (record w { displays = w.displays + 1 }, None)
+abbrev pub ended_by : Option (List ℕ) → Page → Page
+ended_by None p = p
+ended_by (Some opener) p = ended opener p
 
-abbrev pub list_closes : Watch → Watch × Option Kind
-list_closes w = if w.lists == 0 then (w, Some kinds.NotOpen) else (record w { lists = w.lists - 1 }, None)
+-- a macro opens or ends a block, or does neither
+abbrev pub called : Page → Page
+called p = if opens p.half.name then opened p.half.name p else ended_by (opener_of p.half.name) p
 
-abbrev pub display_closes : Watch → Watch × Option Kind
-display_closes w = if w.displays == 0 then (w, Some kinds.NotOpen) else (record w { displays = w.displays - 1 }, None)
+-- ---- headings end all blocks, and items what was opened in the item before
 
-abbrev pub counted : Watch → Watch × Option Kind
-counted w =
-    if bytes_eq w.name (codes "Bl") then list_opens w else
-    if bytes_eq w.name (codes "Bd") then display_opens w else
-    if bytes_eq w.name (codes "El") then list_closes w else
-    if bytes_eq w.name (codes "Ed") then display_closes w else (w, None)
+abbrev pub broken : ℕ → Page → Page
+broken n p = record p {
+  blocks = record p.blocks { items = drop n p.blocks.items };
+  told = telling.broken p.half.name p.half.number (take n p.blocks.items) p.told;
+}
 
--- ---- a name is whole
+abbrev pub item_at : Option ℕ → Page → Page
+item_at None p = p
+item_at (Some place) p = broken place p
 
-abbrev pub judged : Watch → Watch × Option Kind
-judged w =
-    if not w.awake then (record w { awake = nat_le w.number 64 && bytes_eq w.name (codes "Dd") }, None) else
-    if is_request w.name then (w, None) else
-    if not (is_some (macro_of w.name)) then (w, Some kinds.Unknown) else counted w
+abbrev pub item : Page → Page
+item p = item_at (place_of (codes "Bl") p.blocks.items) p
 
-abbrev pub behind_name : ℕ → Watch → Line
-behind_name b w =
-    let body = w.awake && defines w.name in
-    if b == code "\n" then (if body then lines.Body else lines.Start) else
-    if body then lines.BodyLine else if is_request w.name then lines.Rest else lines.Words (b == code "\\")
+-- ---- a macro begins a line
 
-abbrev pub in_name : ℕ → Watch → Watch × Option Kind
-in_name b w =
-    if not (ends_name b) && not (length w.name == 32) then (record w { name = w.name ++ b ∷ [] }, None) else
-    judged (with_line (behind_name b w) w)
+abbrev pub judged : Page → Page
+judged p =
+    if not (is_some (macro_of p.half.name)) then told (kinds.Unknown p.half.name p.half.cut) p else
+    if bytes_eq p.half.name (codes "Sh") || bytes_eq p.half.name (codes "Ss") then broken (length p.blocks.items) p else
+    if bytes_eq p.half.name (codes "It") then item p else called p
 
--- ---- lines
+-- ---- a byte comes, and the end
 
-abbrev pub starts : ℕ → Watch → Watch
-starts b w =
-    with_line (if (b == code ".") || (b == code "'") then lines.Control else if b == code "\n" then lines.Start else lines.Rest) w
+abbrev pub acted : Whole → Page → Page
+acted wholes.Nothing p = p
+acted wholes.Macro p = judged p
+acted wholes.Word p = called p
 
-abbrev pub behind_control : ℕ → Watch → Watch
-behind_control b w =
-    if (b == code " ") || (b == code "\t") then w else
-    if b == code "\n" then with_line lines.Start w else
-    if b == code "\\" then with_line lines.Rest w else record w { name = b ∷ []; line = lines.Name }
+abbrev pub with_half : Half → Page → Page
+with_half h p = record p { half = h }
 
--- a line whose last byte is a backslash goes on with the next, but in a comment
-abbrev pub in_words : Bool → ℕ → Watch → Watch
-in_words escaped b w =
-    with_line (if escaped then (if b == code "\"" then lines.Rest else lines.Words false) else
-    if b == code "\n" then lines.Start else lines.Words (b == code "\\")) w
+abbrev pub counted : ℕ → Page → Page
+counted b p = with_half (lines.counted b p.half) p
 
-abbrev pub in_rest : ℕ → Watch → Watch
-in_rest b w = if b == code "\n" then with_line lines.Start w else w
+abbrev pub heard : ℕ → Page → Page
+heard b p = let m = lines.met b p.half in counted b (acted m.1 (with_half m.0 p))
 
-abbrev pub in_body : ℕ → Watch → Watch
-in_body b w =
-    with_line (if b == code "." then lines.Dot else if b == code "\n" then lines.Body else lines.BodyLine) w
-
--- two dots end a definition
-abbrev pub behind_dot : ℕ → Watch → Watch
-behind_dot b w =
-    with_line (if b == code "." then lines.Rest else if b == code "\n" then lines.Body else lines.BodyLine) w
-
-abbrev pub in_body_line : ℕ → Watch → Watch
-in_body_line b w = if b == code "\n" then with_line lines.Body w else w
-
-abbrev pub met_at : Line → ℕ → Watch → Watch × Option Kind
-met_at lines.Start b w = (starts b w, None)
-met_at lines.Control b w = (behind_control b w, None)
-met_at lines.Name b w = in_name b w
-met_at (lines.Words escaped) b w = (in_words escaped b w, None)
-met_at lines.Rest b w = (in_rest b w, None)
-met_at lines.Body b w = (in_body b w, None)
-met_at lines.Dot b w = (behind_dot b w, None)
-met_at lines.BodyLine b w = (in_body_line b w, None)
-
-abbrev pub met : ℕ → Watch → Watch × Option Kind
-met b w = met_at w.line b w
-
-abbrev pub next_line : ℕ → Watch → Watch
-next_line b w =
-    if (b == code "\n") && nat_lt w.number 18446744073709551615 then record w { number = w.number + 1 } else w
-
--- a byte comes: what is wrong with its line
-abbrev pub heard : ℕ → Watch → Watch × Option Kind
-heard b w = let m = met b w in (next_line b m.0, m.1)
+-- the page ends: what is open is told at the lines where it was opened
+abbrev pub finished : Page → Page
+finished p = record p {
+  blocks = record p.blocks { items = [] };
+  told = telling.not_ended p.blocks.items p.told;
+}

@@ -1,17 +1,42 @@
 // The lines that tell what is wrong with pages.
 
-use super::watch::Kind;
-use super::watched::Complaint;
+use super::telling::{Complaint, Kind, Told};
 use itoa::Buffer;
+use nr_units::Name;
 use nr_units::sink::Sink;
 use nr_units::source::Fault;
 
-/// What a line says of its kind.
-fn words_of(kind: Kind) -> &'static [u8] {
+/// Writes what is wrong, and the name of a macro.
+fn put_about<E: Sink>(text: &[u8], name: Name, errors: &mut E) -> Result<(), Fault> {
+    errors.put(text)?;
+    errors.put(name.as_bytes())
+}
+
+/// Writes what is wrong, and the names of two macros, of which the first breaks the block of the second.
+fn put_breaks<E: Sink>(text: &[u8], by: Name, block: Name, errors: &mut E) -> Result<(), Fault> {
+    put_about(text, by, errors)?;
+    put_about(b" breaks ", block, errors)
+}
+
+/// Writes the name of a macro that is none; what was cut of it stands as dots.
+fn put_unknown<E: Sink>(name: Name, cut: bool, errors: &mut E) -> Result<(), Fault> {
+    put_about(b"unknown macro: ", name, errors)?;
+    errors.put(if cut {
+        b"..".as_slice()
+    } else {
+        b"".as_slice()
+    })
+}
+
+/// Writes what is wrong.
+fn put_kind<E: Sink>(kind: Kind, errors: &mut E) -> Result<(), Fault> {
     match kind {
-        Kind::Unknown => b"unknown macro".as_slice(),
-        Kind::NotOpen => b"end of a list or display that is not open".as_slice(),
-        Kind::TooMany => b"more than 64 lists and displays open".as_slice(),
+        Kind::Unknown(name, cut) => put_unknown(name, cut, errors),
+        Kind::NotOpen(name) => put_about(b"end of block that is not open: ", name, errors),
+        Kind::TooMany(name) => put_about(b"more than 64 blocks open: ", name, errors),
+        Kind::Nested(by, block) => put_breaks(b"blocks badly nested: ", by, block, errors),
+        Kind::Broken(by, block) => put_breaks(b"missing end of block: ", by, block, errors),
+        Kind::NotEnded(name) => put_about(b"missing end of block: ", name, errors),
     }
 }
 
@@ -23,7 +48,7 @@ fn put_complaint<E: Sink>(name: &str, complaint: Complaint, errors: &mut E) -> R
     let mut digits = Buffer::new();
     errors.put(digits.format(complaint.line).as_bytes())?;
     errors.put(b": ")?;
-    errors.put(words_of(complaint.kind))?;
+    put_kind(complaint.kind, errors)?;
     errors.put(b"\n")
 }
 
@@ -46,16 +71,11 @@ fn put_more<E: Sink>(name: &str, errors: &mut E) -> Result<(), Fault> {
     errors.put(b": and more\n")
 }
 
-/// Tells the complaints about the text of this name, as far as `errors` takes it, and whether there are some.
-pub fn tell_complaints<E: Sink>(
-    name: &str,
-    complaints: &[Complaint],
-    missed: bool,
-    errors: &mut E,
-) -> bool {
-    let written = put_complaints(name, complaints, errors);
-    if missed && written.is_ok() {
+/// Tells what is told of the text of this name, as far as `errors` takes it, and whether something is.
+pub fn tell_complaints<E: Sink>(name: &str, told: &Told<'_>, errors: &mut E) -> bool {
+    let written = put_complaints(name, told.complaints(), errors);
+    if told.has_missed() && written.is_ok() {
         let _ = put_more(name, errors);
     }
-    missed || !complaints.is_empty()
+    told.has_missed() || !told.complaints().is_empty()
 }

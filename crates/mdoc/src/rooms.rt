@@ -1,8 +1,11 @@
 // The memory that texts are turned in.
 ghost use Rattle.std.specs.Prelude.{◌≤◌, length};
 
+use super::blocks::OpenBlock;
 use super::complaints::tell_complaints;
-use super::watched::{Complaint, Watched};
+use super::telling::{Complaint, room_for};
+use super::watched::Watched;
+use super::watching::Watch;
 use nr_mdoc::{Block, Outcome, convert};
 use nr_units::buffered::Buffered;
 use nr_units::sink::Sink;
@@ -18,6 +21,9 @@ const PENDING_SIZE: usize = 131_072;
 /// The room for lists and displays that are open.
 const MOST_BLOCKS: usize = 64;
 
+/// How many blocks are watched at once.
+const MOST_OPEN: usize = 64;
+
 /// How many complaints about a text are told.
 const MOST_COMPLAINTS: usize = 64;
 
@@ -30,7 +36,9 @@ pub struct Rooms {
     pending: Vec<u8>,
     /// The open blocks.
     blocks: Vec<Block>,
-    /// What is wrong with a text.
+    /// Those of a text that are watched.
+    open: Vec<OpenBlock>,
+    /// What is wrong with it.
     complaints: Vec<Complaint>,
     ghost for_pages: { 73984 ≤ length pending.items },
     ghost for_blocks: { 64 ≤ length blocks.items },
@@ -43,7 +51,8 @@ impl Rooms {
             input: vec![in alloc; 0u8; BUFFER_SIZE]?,
             pending: vec![in alloc; 0u8; PENDING_SIZE]?,
             blocks: vec![in alloc; Block::NONE; MOST_BLOCKS]?,
-            complaints: vec![in alloc; Complaint::NONE; MOST_COMPLAINTS]?,
+            open: vec![in alloc; OpenBlock::none(); MOST_OPEN]?,
+            complaints: room_for(MOST_COMPLAINTS, alloc)?,
         })
     }
 
@@ -56,7 +65,8 @@ impl Rooms {
         errors: &mut E,
     ) -> (Outcome, bool) {
         let source = Buffered::over(text, &mut self.input);
-        let mut watched = Watched::over(source, &mut self.complaints);
+        let page = Watch::over(&mut self.open, &mut self.complaints);
+        let mut watched = Watched::over(source, page);
         let mut steps = 0;
         let outcome = convert(
             &mut watched,
@@ -65,7 +75,7 @@ impl Rooms {
             &mut self.pending,
             &mut steps,
         );
-        let wrong = tell_complaints(name, watched.complaints(), watched.has_missed(), errors);
+        let wrong = tell_complaints(name, watched.told(), errors);
         (outcome, wrong)
     }
 }

@@ -1,0 +1,53 @@
+-- Which names begin definitions, open blocks, and end them (mdoc(7), MACRO SYNTAX).
+use Rattle.std.specs.Prelude.{ℕ, List, [], ◌∷◌, Bool, true, false, not, ◌==◌, ◌&&◌, ◌||◌, nat_le, if◌then◌else◌, codes, Option, None, Some, slice_index}
+use Rattle.std.specs.Str.{bytes_eq}
+use Prim.Native.Char.{code}
+use Rattle.mdoc.specs.declared.names.TheConstants.{UNPARSED}
+
+-- names of macros begin with a capital letter, or with a percent sign
+abbrev pub is_request : List ℕ → Bool
+is_request [] = true
+is_request (b ∷ bs) = not (nat_le (code "A") b && nat_le b (code "Z")) && not (b == code "%")
+
+-- a request that begins a definition
+abbrev pub defines : List ℕ → Bool
+defines name = bytes_eq name (codes "de") || bytes_eq name (codes "am") || bytes_eq name (codes "ig")
+
+abbrev pub is_in : List (List ℕ) → ℕ → ℕ → Bool
+is_in [] a b = false
+is_in (name ∷ names) a b = if (slice_index name 0 == a) && (slice_index name 1 == b) then true else is_in names a b
+
+-- words of a macro's line may call macros, but those of some macros
+abbrev pub is_parsed : List ℕ → Bool
+is_parsed (a ∷ b ∷ []) = not (a == code "%") && not (is_in UNPARSED a b)
+is_parsed name = true
+
+-- `Ao` to `Xo` open enclosures, and `Ac` to `Xc` end them
+abbrev pub encloses : ℕ → Bool
+encloses b =
+    (b == code "A") || (b == code "B") || (b == code "D") || (b == code "E") || (b == code "F") ||
+    (b == code "O") || (b == code "P") || (b == code "Q") || (b == code "S") || (b == code "X")
+
+-- `Bd` to `Bl` open blocks, and `Ed` to `El` end them
+abbrev pub is_block : ℕ → Bool
+is_block b = (b == code "d") || (b == code "f") || (b == code "k") || (b == code "l")
+
+abbrev pub opens_short : ℕ → ℕ → Bool
+opens_short a b =
+    ((b == code "o") && encloses a) || ((a == code "B") && is_block b) || ((a == code "R") && (b == code "s"))
+
+-- the macro opens what another one ends
+abbrev pub opens : List ℕ → Bool
+opens (a ∷ b ∷ []) = opens_short a b
+opens name = bytes_eq name (codes "Bro")
+
+abbrev pub short_opener : ℕ → ℕ → Option (List ℕ)
+short_opener a b =
+    if (b == code "c") && encloses a then Some (a ∷ code "o" ∷ []) else
+    if (a == code "E") && is_block b then Some (code "B" ∷ b ∷ []) else
+    if (a == code "R") && (b == code "e") then Some (codes "Rs") else None
+
+-- the macro that opens what this one ends
+abbrev pub opener_of : List ℕ → Option (List ℕ)
+opener_of (a ∷ b ∷ []) = short_opener a b
+opener_of name = if bytes_eq name (codes "Brc") then Some (codes "Bro") else None
