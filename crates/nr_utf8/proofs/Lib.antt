@@ -1,3 +1,4 @@
+pub mod CellsAlone
 pub mod Choices
 pub mod Plain
 pub mod Reading

@@ -1,7 +1,7 @@
--- Bytes that go out as they are.
+-- Bytes that go out as they are, and underlined cells.
 use Prim.Native.Char.{code}
-use Rattle.std.proofs.Common.{◌≡◌, ℕ, zero, suc, ◌+◌, ◌<◌, ◌≤◌, List, [], ◌∷◌, ◌++◌, length, take, drop, get_or, Bool, true, false, ◌==◌, if◌then◌else◌, refl, sym, subst, ap, ◌∙◌, add-one, append_assoc, append-nil, length-drop, ◌-◌, ◌⊎◌, inl, inr, arith}
-use Rattle.std.proofs.lemmas.List.{get_or-drop, get_or-take, length-take-le, take_all}
+use Rattle.std.proofs.Common.{◌≡◌, ℕ, ◌+◌, ◌<◌, ◌≤◌, List, [], ◌∷◌, ◌++◌, length, take, drop, get_or, Bool, true, false, ◌==◌, if◌then◌else◌, refl, sym, subst, ap, ◌∙◌, add-one, append_assoc, length-drop, ◌-◌, arith}
+use Rattle.std.proofs.lemmas.List.{take_all}
 use Rattle.std.proofs.Math.Seq.{take-suc}
 use Rattle.std.proofs.lemmas.Bool.Decides.{nat_tests}
 use Rattle.std.proofs.lemmas.Str.{encode_ascii}
@@ -12,8 +12,7 @@ use Rattle.nr_utf8.specs.declared.reader.Underlining.TheVariants.{Backspaces, Cl
 use Rattle.nr_utf8.specs.declared.reader.Reader.{Reader}
 use Rattle.nr_utf8.specs.Idle.{idle_by, is_idle}
 use Rattle.nr_characters.specs.declared.table.Table.{Table}
-use Rattle.nr_utf8.specs.Reading.{Told, told, behind, then_told, read, read_behind, fresh, underscore, fed, PassAll, IsOwnCell, Passes, passes_as_is, is_shown, is_underlined, with_half, closed, closing, end_of, plain, spelled}
-use Rattle.nr_utf8.proofs.Reading.{fed-append}
+use Rattle.nr_utf8.specs.Reading.{Told, told, behind, then_told, read, read_behind, fresh, underscore, fed, IsOwnCell, passes_as_is, is_shown, is_underlined, with_half, closed, closing, end_of, plain, spelled}
 
 -- nothing is half read or open
 pub record IsIdle (r : Reader) : Type 0 where
@@ -61,77 +60,9 @@ read-idle b r idle p =
     ∙ told-if (is_shown b) (told (closed r) (plain r.underlining b) 0) _ (is_shown_byte b p)
     ∙ told-same (closed r) r (plain r.underlining b) (b ∷ []) idle.same bytes
 
-pub Passes-more : (r : Reader) (bs : List ℕ) (i : ℕ) → Passes i bs r → i < length bs → IsIdle r → passes_as_is (get_or bs i 0) ≡ true → Passes (i + 1) bs r
-Passes-more r bs i before l idle p =
-    let xs = take i bs in
-    let b = get_or bs i 0 in
-    let front : take (i + 1) bs ≡ xs ++ b ∷ [] = rw add-one (take-suc bs i 0 l) in
-    let one : fed r (b ∷ []) ≡ told r (b ∷ []) 0 = ap (λ (u : Told). then_told u (λ v. told v [] 0)) (read-idle b r idle p) in
-    let both : fed r (xs ++ b ∷ []) ≡ told r (xs ++ b ∷ []) 0 =
-    fed-append r xs (b ∷ []) ∙ ap (λ (u : Told). then_told u (λ v. fed v (b ∷ []))) before ∙ ap (behind xs 0) one in
-    rw front both
-
-pub Passes-run : (r : Reader) (bs : List ℕ) (i n : ℕ) → Passes i bs r → PassAll n (drop i bs) → i + n ≤ length bs → IsIdle r → Passes (i + n) bs r
-Passes-run r bs i zero before all l idle =
-    let same : i ≡ i + zero = omega arith in
-    let P : ℕ → Type 0 = λ m. Passes m bs r in
-    subst P same before
-Passes-run r bs i (suc n) before all l idle =
-    let far = Passes-run r bs i n before (λ k below. all k (omega arith)) (omega arith) idle in
-    let there : passes_as_is (get_or bs (i + n) 0) ≡ true =
-    (let P : ℕ → Type 0 = λ b. passes_as_is b ≡ true in subst P (get_or-drop i bs n 0) (all n (omega arith))) in
-    let same : i + n + 1 ≡ i + suc n = omega arith in
-    let P : ℕ → Type 0 = λ m. Passes m bs r in
-    subst P same (Passes-more r bs (i + n) far (omega arith) idle there)
-
-below_or_not : (k n : ℕ) → (k < n) ⊎ (n ≤ k)
-below_or_not k n = grind (arith, nat_tests)
-
-chunk_by : (bs : List ℕ) (i n k : ℕ) → PassAll i bs → PassAll (length (take n (drop i bs))) (take n (drop i bs)) → length (take n (drop i bs)) ≡ n → k < i + n
-    → (k < i) ⊎ (i ≤ k) → passes_as_is (get_or bs k 0) ≡ true
-chunk_by bs i n k before chunk long below (inl low) = before k low
-chunk_by bs i n k before chunk long below (inr high) =
-    let m = k - i in
-    let there : i + m ≡ k = omega (arith, high) in
-    let small : m < n = omega (arith, high, below) in
-    let P : ℕ → Type 0 = λ b. passes_as_is b ≡ true in
-    let same : get_or (take n (drop i bs)) m 0 ≡ get_or bs k 0 =
-    get_or-take n (drop i bs) m 0 small ∙ get_or-drop i bs m 0 ∙ ap (λ (x : ℕ). get_or bs x 0) there in
-    subst P same (chunk m (omega (arith, long, small)))
-
 -- what stands from a place on, as a slice has it
 pub rest-of : (bs : List ℕ) (i : ℕ) → take (length bs - i) (drop i bs) ≡ drop i bs
 rest-of bs i = let rest = length-drop i bs in take_all (length bs - i) (drop i bs) (omega (arith, rest))
-
--- those that are looked at together
-pub PassAll-chunk : (bs : List ℕ) (i n : ℕ) → PassAll i bs → PassAll (length (take n (drop i bs))) (take n (drop i bs)) → i + n ≤ length bs → PassAll (i + n) bs
-PassAll-chunk bs i n before chunk l k below =
-    let rest = length-drop i bs in
-    chunk_by bs i n k before chunk (length-take-le n (drop i bs) (omega (arith, rest, l))) below (below_or_not k i)
-
--- ---- one byte more
-
-pub record Further (r : Reader) (bs : List ℕ) (i : ℕ) (s : Reader) : Type 0 where
-  pub reader : (fed r (take (i + 1) bs)).reader ≡ (read (get_or bs i 0) s).reader
-  pub bytes : (fed r (take (i + 1) bs)).bytes ≡ (fed r (take i bs)).bytes ++ (read (get_or bs i 0) s).bytes
-  pub strays : (fed r (take (i + 1) bs)).strays ≡ (fed r (take i bs)).strays + (read (get_or bs i 0) s).strays
-
-pub fed-further : (r : Reader) (bs : List ℕ) (i : ℕ) (s : Reader) → i < length bs → s ≡ (fed r (take i bs)).reader → Further r bs i s
-fed-further r bs i s l is =
-    let xs = take i bs in
-    let b = get_or bs i 0 in
-    let front : take (i + 1) bs ≡ xs ++ b ∷ [] = rw add-one (take-suc bs i 0 l) in
-    let whole : fed r (take (i + 1) bs) ≡ then_told (fed r xs) (λ q. fed q (b ∷ [])) =
-    ap (λ (ys : List ℕ). fed r ys) front ∙ fed-append r xs (b ∷ []) in
-    let here : then_told (fed r xs) (λ q. fed q (b ∷ [])) ≡ behind (fed r xs).bytes (fed r xs).strays (fed s (b ∷ [])) =
-    ap (λ (q : Reader). behind (fed r xs).bytes (fed r xs).strays (fed q (b ∷ []))) (sym is) in
-    let t = read b s in
-    let all = whole ∙ here in
-    record {
-      reader = ap (λ (u : Told). u.reader) all;
-      bytes = ap (λ (u : Told). u.bytes) all ∙ ap (λ (ys : List ℕ). (fed r xs).bytes ++ ys) (append-nil t.bytes);
-      strays = (let e = ap (λ (u : Told). u.strays) all in omega (arith, e));
-    }
 
 -- ---- an underlined cell
 
@@ -173,16 +104,9 @@ take_three bs i a b c l p q s =
     ∙ ap (λ (xs : List ℕ). xs ++ c ∷ []) (ap (λ (n : ℕ). take n bs) (sym second) ∙ two ∙ ap (λ (xs : List ℕ). xs ++ b ∷ []) one)
     ∙ append_assoc (take i bs ++ a ∷ []) (b ∷ []) (c ∷ []) ∙ append_assoc (take i bs) (a ∷ []) (b ∷ c ∷ [])
 
-pub Passes-cell : (r : Reader) (bs : List ℕ) (i : ℕ) → Passes i bs r → IsOwnCell i bs r → IsIdle r → Passes (i + 3) bs r
-Passes-cell r bs i before cell idle =
-    let b = get_or bs (i + 2) 0 in
-    let xs = take i bs in
-    let front = take_three bs i 95 8 b cell.within cell.first cell.second refl in
-    let both : fed r (xs ++ (code "_" ∷ 8 ∷ b ∷ [])) ≡ told r (xs ++ (code "_" ∷ 8 ∷ b ∷ [])) 0 =
-    fed-append r xs (code "_" ∷ 8 ∷ b ∷ []) ∙ ap (λ (u : Told). then_told u (λ v. fed v (code "_" ∷ 8 ∷ b ∷ []))) before
-    ∙ ap (behind xs 0) (fed_cell r b idle cell.way cell.third) in
+pub read-cell : (r : Reader) (bs : List ℕ) → IsOwnCell 0 bs r → IsIdle r → fed r (take 3 bs) ≡ told r (take 3 bs) 0
+read-cell r bs cell idle =
+    let b = get_or bs 2 0 in
+    let front = take_three bs 0 95 8 b cell.within cell.first cell.second refl in
     let P : List ℕ → Type 0 = λ ys. fed r ys ≡ told r ys 0 in
-    subst P (sym front) both
-
-pub Passes-none : (r : Reader) (bs : List ℕ) → Passes 0 bs r
-Passes-none r bs = refl
+    subst P (sym front) (fed_cell r b idle cell.way cell.third)

@@ -13,9 +13,12 @@ use Rattle.nr_utf8.specs.declared.running.Outcome.{Outcome}
 use Rattle.nr_utf8.specs.declared.running.Outcome.TheVariants.{Done, ReadFault, TooLong, WriteFault}
 use Rattle.nr_utf8.specs.declared.running.Turn.{Turn}
 use Rattle.nr_utf8.specs.declared.running.Turn.TheVariants as turns
-use Rattle.nr_utf8.specs.Reading.{Told, first_reader, read, fed, finished, left_over, converted, strays_of, told, Passes}
+use Rattle.nr_utf8.specs.Reading.{Told, first_reader, read, fed, finished, left_over, converted, strays_of, told}
+use Rattle.nr_utf8.specs.Spelling.{Goes, Spells}
+use Rattle.nr_utf8.specs.declared.spelling.Spelled.{Spelled}
 use Rattle.nr_utf8.specs.Running.{Comes, Ends, Flushes, Took, Turns, Stands, IsCut, IsBroken, Ran, EndsAs}
 use Rattle.nr_utf8.proofs.Text.{fed-text, converted-text, converted-lines}
+use Rattle.nr_utf8.proofs.CellsAlone.{fed-table}
 use Rattle.nr_utf8.proofs.Reading.{fed-append_reader, fed-append_bytes, fed-append_strays}
 
 -- ---- what comes of a source
@@ -72,37 +75,32 @@ Comes-skip (Some q) (Some t) window n l o s =
     let rest : t.bytes ≡ drop n q.bytes = skipped-bytes q t n s in
     rw (front, rest) (sym (take-append-drop n q.bytes))
 
--- ---- plain bytes are taken
+-- ---- cells are taken
 
-pub Took-plain : (a b : Option Supply) (window : List ℕ) (most n : ℕ) (r : Reader) (pending left : List ℕ)
-    → n ≤ length (take most window) → n ≤ most → n ≤ length window → Offers a window → Skips a n b
-    → Passes n (take most window) r → left ≡ pending ++ take n window → Took a b r r pending left n 0
-Took-plain a b window most n r pending left l m k o skips plain out =
+pub Took-cells : (a b : Option Supply) (window old room : List ℕ) (most n end : ℕ) (r : Reader) (pending left : List ℕ)
+    → Goes r (take most window) n old 0 room end → n ≤ most → n ≤ length window → Offers a window → Skips a n b
+    → left ≡ pending ++ take end room → Took a b r r pending left n 0
+Took-cells a b window old room most n end r pending left g m k o skips out =
     let front : take n (take most window) ≡ take n window = take-take n most window m in
-    let told_so : fed r (take n window) ≡ told r (take n window) 0 =
-    (let P : List ℕ → Type 0 = λ xs. fed r xs ≡ told r xs 0 in subst P front plain) in
+    let told_so : fed r (take n window) ≡ told r g.out 0 =
+    (let P : List ℕ → Type 0 = λ xs. fed r xs ≡ told r g.out 0 in subst P front g.comes) in
     record {
       bytes = take n window;
       came = Comes-skip a b window n k o skips;
       count = omega (arith, length-take n window);
       reader = sym (ap (λ (t : Told). t.reader) told_so);
-      out = out ∙ ap (λ (xs : List ℕ). pending ++ xs) (sym (ap (λ (t : Told). t.bytes) told_so));
+      out = out ∙ ap (λ (xs : List ℕ). pending ++ xs) (g.put ∙ sym (ap (λ (t : Told). t.bytes) told_so));
       made = sym (ap (λ (t : Told). t.strays) told_so);
     }
 
--- ---- bytes at hand are read one by one
-
-pub Took-each : (a b : Option Supply) (window : List ℕ) (n : ℕ) (r s : Reader) (pending left : List ℕ) (strays : ℕ)
-    → n ≤ length window → Offers a window → Skips a n b
-    → s ≡ (fed r (take n window)).reader → left ≡ pending ++ (fed r (take n window)).bytes → strays ≡ (fed r (take n window)).strays
-    → Took a b r s pending left n strays
-Took-each a b window n r s pending left strays k o skips reader out made = record {
-  bytes = take n window;
-  came = Comes-skip a b window n k o skips;
-  count = omega (arith, length-take n window);
-  reader = reader;
-  out = out;
-  made = made;
+pub Took-none : (a : Option Supply) (r : Reader) (pending : List ℕ) → Took a a r r pending pending 0 0
+Took-none a r pending = record {
+  bytes = [];
+  came = Comes-nil a;
+  count = refl;
+  reader = refl;
+  out = sym (append-nil pending);
+  made = refl;
 }
 
 both_made : {a b c d : ℕ} → a ≡ c → b ≡ d → a + b ≡ c + d
@@ -167,6 +165,14 @@ Stands-first d e a h p r is none = record {
   few = omega arith;
   made = refl;
 }
+
+-- what is kept of the table is that of the reader's
+pub Stands-spells : (d : Table) (e : Bool) (a b : Option Supply) (h k : Option (List ℕ)) (p : List ℕ) (r : Reader) (t i : ℕ) (all : List Spelled) (whole : Bool)
+    → Stands d e a b h k p r t i → Spells d 256 all whole → Spells r.table 256 all whole
+Stands-spells d e a b h k p r t i all whole st spells =
+    let same : r.table ≡ d = ap (λ (x : Reader). x.table) st.reader ∙ fed-table (first_reader d e) st.bytes in
+    let P : Table → Type 0 = λ x. Spells x 256 all whole in
+    subst P (sym same) spells
 
 grown : (xs ys zs : List ℕ) (n : ℕ) → zs ≡ xs ++ ys → length zs ≤ length xs + 18 * n → length ys ≤ 18 * n
 grown xs ys zs n e l =

@@ -1,6 +1,6 @@
 -- Bytes are read into cells, and cells are printed.
 use Prim.Native.Char.{code}
-use Rattle.std.specs.Prelude.{◌≡◌, ℕ, ◌+◌, List, [], ◌∷◌, ◌++◌, take, Bool, not, ◌==◌, ◌&&◌, ◌||◌, nat_le, nat_lt, if◌then◌else◌, Option, None, Some, codes, ◌<◌, ◌≤◌, length, get_or, true}
+use Rattle.std.specs.Prelude.{◌≡◌, ℕ, ◌+◌, List, [], ◌∷◌, ◌++◌, Bool, not, ◌==◌, ◌&&◌, ◌||◌, nat_le, nat_lt, if◌then◌else◌, Option, None, Some, codes, ◌<◌, ◌≤◌, length, get_or, true}
 use Rattle.std.specs.Char.{encode_utf8}
 use Rattle.nr_characters.specs.declared.table.Table.{Table}
 use Rattle.nr_characters.specs.Tables.{character_of}
@@ -146,10 +146,6 @@ pub record IsOwnCell (place : ℕ) (bytes : List ℕ) (r : Reader) : Type 0 wher
   pub second : get_or bytes (place + 1) 0 ≡ 8
   pub third : is_underlined (get_or bytes (place + 2) 0) ≡ true
   pub way : r.underlining ≡ Backspaces
-
--- the first n of these go out as they are
-abbrev pub Passes : ℕ → List ℕ → Reader → Type 0
-Passes n bytes r = fed r (take n bytes) ≡ told r (take n bytes) 0
 
 -- ---- the definition: what comes of all bytes of an input
 

@@ -1,11 +1,12 @@
 //! The bytes of a table of characters, turned into UTF-8 for a terminal.
 //!
-//! It stands on nr_units and nr_characters. To read: `reader`, `running`, `undoing`, `choosing`.
+//! It stands on nr_units and nr_characters. To read: `reader`, `spelling`, `running`, `undoing`, `choosing`.
 #![tactic(auto)]
 
 mod choosing;
 mod reader;
 mod running;
+mod spelling;
 mod undoing;
 
 pub use choosing::{CHARACTERS, LOOKED_AT, choose};

@@ -41,7 +41,7 @@ pub(crate) struct Reader {
 }
 
 /// Whether a byte goes out as it is where nothing is half read or open.
-fn passes_as_is(byte: u8) -> bool
+pub(crate) fn passes_as_is(byte: u8) -> bool
     ensures { result ≡ specs.passes_as_is byte }
 {
     byte == b'\n' || (byte >= b' ' && byte < 127 && byte != b'_')
@@ -52,52 +52,6 @@ fn is_underlined(byte: u8) -> bool
     ensures { result ≡ specs.is_underlined byte }
 {
     matches!(byte, b'0'..=b'9' | b'A'..=b'Z' | b'a'..=b'z')
-}
-
-/// How many bytes are looked at together.
-const CHUNK: usize = 32;
-
-/// Whether all of these bytes go out as they are, as above.
-#[inline(never)]
-fn all_pass(bytes: &[u8]) -> bool
-    ensures { IsTrue result → specs.PassAll (length bytes.now) bytes.now }
-{
-    let mut all = true;
-    for byte in bytes {
-        all &= passes_as_is(*byte);
-    }
-    all
-}
-
-/// How many of these bytes come first and go out as they are, but for some that are looked at together.
-fn chunks_len(bytes: &[u8]) -> usize
-    ensures within { result ≤ length bytes.now }
-    ensures pass { specs.PassAll result bytes.now }
-{
-    let mut at = 0;
-    while bytes.len() - at >= CHUNK {
-        let rest = &bytes[at..];
-        if !all_pass(&rest[..CHUNK]) {
-            return at;
-        }
-        at += CHUNK;
-    }
-    at
-}
-
-/// How many of these bytes come first and go out as they are.
-fn plain_len(bytes: &[u8]) -> usize
-    ensures within { result ≤ length bytes.now }
-    ensures pass { specs.PassAll result bytes.now }
-{
-    let mut at = chunks_len(bytes);
-    while at < bytes.len() {
-        if !passes_as_is(bytes[at]) {
-            return at;
-        }
-        at += 1;
-    }
-    at
 }
 
 /// Whether a byte is a character of ASCII that goes out.
@@ -275,7 +229,7 @@ impl Reader {
     }
 
     /// Whether nothing is half read or open.
-    fn is_idle(&self) -> bool
+    pub(crate) fn is_idle(&self) -> bool
         ensures { result ≡ is_idle self.now }
     {
         match self.half {
@@ -288,7 +242,7 @@ impl Reader {
     }
 
     /// Whether an underlined cell that goes out as it is stands at a place of these bytes.
-    fn underlines(&self, bytes: &[u8], place: usize) -> bool
+    pub(crate) fn underlines(&self, bytes: &[u8], place: usize) -> bool
         requires { place ≤ length bytes.now }
         ensures { IsTrue result → specs.IsOwnCell place bytes.now self.now }
     {
@@ -297,42 +251,5 @@ impl Reader {
             && bytes[place + 1] == b'\x08'
             && is_underlined(bytes[place + 2])
             && matches!(self.underlining, Underlining::Backspaces)
-    }
-
-    /// Takes those of these bytes that come first and go out as they are.
-    pub(crate) fn pass(&self, bytes: &[u8]) -> usize
-        ensures within { result ≤ length bytes.now }
-        ensures plain { specs.Passes result bytes.now self.now }
-    {
-        if !self.is_idle() {
-            return 0;
-        }
-        let mut at = 0;
-        while at < bytes.len() {
-            at += plain_len(&bytes[at..]);
-            if !self.underlines(bytes, at) {
-                return at;
-            }
-            at += 3;
-        }
-        at
-    }
-
-    /// These bytes come, of which at most 18 go out for each.
-    pub(crate) fn read_each(&mut self, bytes: &[u8], out: &mut SliceVec<'_, u8>) -> u64
-        requires few { length bytes.now ≤ 64 }
-        requires room { length out.old.items + 18 * length bytes.now ≤ out.old.room }
-        ensures reader { self.new ≡ (specs.fed self.old bytes.now).reader }
-        ensures items { out.new.items ≡ out.old.items ++ (specs.fed self.old bytes.now).bytes }
-        ensures strays { result ≡ (specs.fed self.old bytes.now).strays }
-        ensures few { length out.new.items ≤ length out.old.items + 18 * length bytes.now }
-        ensures least { result ≤ 2 * length bytes.now }
-        ensures room { out.new.room ≡ out.old.room }
-    {
-        let mut strays = 0;
-        for byte in bytes {
-            strays += self.read(*byte, out);
-        }
-        strays
     }
 }

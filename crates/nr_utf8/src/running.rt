@@ -1,10 +1,12 @@
 //! All bytes are turned.
-ghost use Rattle.std.specs.Prelude.{◌≡◌, ◌+◌, ◌<◌, ◌≤◌, [], length, false, OnOk, IsTrue};
+ghost use Rattle.std.specs.Prelude.{◌≡◌, ◌+◌, ◌*◌, ◌<◌, ◌≤◌, [], length, false, OnOk};
 ghost use Rattle.std.specs.Io.KnownBytes.{Appends};
 ghost use Rattle.nr_units.specs.Failures.{counted_if, put_counted, put_counted_if};
 ghost use Rattle.nr_utf8.specs.Running as specs;
+ghost use Rattle.nr_utf8.specs.Spelling.{Spells};
 
 use super::reader::Reader;
+use super::spelling::Spelling;
 use nr_characters::Table;
 use nr_units::sink::Sink;
 use nr_units::slice_vec::SliceVec;
@@ -13,8 +15,11 @@ use nr_units::source::{Fault, Source};
 /// The number of bytes that are too many.
 const TOO_MANY: u64 = 1_099_511_627_776;
 
-/// How many plain bytes are taken at once, and the room that they need.
+/// The room that one turn needs.
 const MOST: usize = 1536;
+
+/// How many bytes are taken at once that are cells.
+const CELLS: usize = 320;
 
 /// How a run ended.
 #[derive(Clone, Copy, Debug, PartialEq, Eq)]
@@ -71,61 +76,32 @@ fn make_room<W: Sink>(out: &mut SliceVec<'_, u8>, output: &mut W) -> Result<(), 
     put_pending(out, output)
 }
 
-/// Plain bytes at hand are taken, and tells how many.
-fn take_plain<R: Source>(
+/// Bytes at hand that are cells by themselves are taken, and tells how many.
+fn take_cells<R: Source>(
+    spelling: &Spelling,
     reader: &Reader,
     input: &mut R,
     out: &mut SliceVec<'_, u8>,
     most: u64,
 ) -> u64
-    requires { length out.old.items + 1536 ≤ out.old.room }
+    requires room { length out.old.items + 1536 ≤ out.old.room }
+    requires spells { Spells reader.now.table 256 spelling.now.all spelling.now.whole }
     ensures took { specs.Took (R.supply input.old) (R.supply input.new) reader.now reader.now out.old.items out.new.items result 0 }
-    ensures few { (result ≤ 1536) × (result ≤ most) }
-    ensures grown { length out.new.items ≤ length out.old.items + result }
+    ensures few { (result ≤ 320) × (result ≤ most) }
+    ensures grown { length out.new.items ≤ length out.old.items + 4 * result }
     ensures failures { R.failures input.new ≡ R.failures input.old }
     ensures room { out.new.room ≡ out.old.room }
 {
-    let window = input.window();
-    let len = window.len().min(MOST).min(most as usize);
-    let count = reader.pass(&window[..len]);
-    out.extend(&window[..count]);
-    input.skip(count);
-    count as u64
-}
-
-/// How many bytes are read one by one at once.
-const EACH: usize = 32;
-
-/// Whether two bytes beyond ASCII come first.
-fn is_dense(bytes: &[u8]) -> bool
-    ensures { IsTrue result → 0 < length bytes.now }
-{
-    bytes.len() > 1 && bytes[0] >= 128 && bytes[1] >= 128
-}
-
-/// One turn where bytes are at hand: some are read, one by one.
-fn take_each<R: Source>(
-    reader: &mut Reader,
-    input: &mut R,
-    out: &mut SliceVec<'_, u8>,
-    most: u64,
-) -> Turn
-    requires room { length out.old.items + 1536 ≤ out.old.room }
-    requires some { 0 < most }
-    requires hand { 0 < length (R.at_hand input.old) }
-    ensures turns { specs.Turns (R.supply input.old) (R.supply input.new) reader.old reader.new out.old.items out.new.items result }
-    ensures measured { specs.IsMeasured most (length out.old.items) (length out.new.items) result }
-    ensures failures { R.failures input.new ≡ counted_if (specs.is_fault result) (R.failures input.old) }
-    ensures room { out.new.room ≡ out.old.room }
-{
-    let window = input.window();
-    let len = window.len().min(EACH).min(most as usize);
-    let strays = reader.read_each(&window[..len], out);
-    input.skip(len);
-    Turn::Took {
-        bytes: len as u64,
-        strays,
+    if !reader.is_idle() {
+        return 0;
     }
+    let window = input.window();
+    let len = window.len().min(CELLS).min(most as usize);
+    let mut room = [0; 4 * CELLS];
+    let reached = spelling.put_all(reader, &window[..len], &mut room);
+    out.extend(&room[..reached.end]);
+    input.skip(reached.taken);
+    reached.taken as u64
 }
 
 /// One turn: the next byte is read.
@@ -155,28 +131,9 @@ fn take_next<R: Source>(
     }
 }
 
-/// One turn where no plain bytes are at hand: some that are dense are read, or one byte.
-fn take_other<R: Source>(
-    reader: &mut Reader,
-    input: &mut R,
-    out: &mut SliceVec<'_, u8>,
-    most: u64,
-) -> Turn
-    requires room { length out.old.items + 1536 ≤ out.old.room }
-    requires some { 0 < most }
-    ensures turns { specs.Turns (R.supply input.old) (R.supply input.new) reader.old reader.new out.old.items out.new.items result }
-    ensures measured { specs.IsMeasured most (length out.old.items) (length out.new.items) result }
-    ensures failures { R.failures input.new ≡ counted_if (specs.is_fault result) (R.failures input.old) }
-    ensures room { out.new.room ≡ out.old.room }
-{
-    if is_dense(input.window()) {
-        return take_each(reader, input, out, most);
-    }
-    take_next(reader, input, out, most)
-}
-
-/// One turn: plain bytes at hand are taken, or others are read.
+/// One turn: cells at hand are taken, or the next byte is read.
 fn make_turn<R: Source>(
+    spelling: &Spelling,
     reader: &mut Reader,
     input: &mut R,
     out: &mut SliceVec<'_, u8>,
@@ -184,19 +141,20 @@ fn make_turn<R: Source>(
 ) -> Turn
     requires room { length out.old.items + 1536 ≤ out.old.room }
     requires some { 0 < most }
+    requires spells { Spells reader.old.table 256 spelling.now.all spelling.now.whole }
     ensures turns { specs.Turns (R.supply input.old) (R.supply input.new) reader.old reader.new out.old.items out.new.items result }
     ensures measured { specs.IsMeasured most (length out.old.items) (length out.new.items) result }
     ensures failures { R.failures input.new ≡ counted_if (specs.is_fault result) (R.failures input.old) }
     ensures room { out.new.room ≡ out.old.room }
 {
-    let count = take_plain(reader, input, out, most);
+    let count = take_cells(spelling, reader, input, out, most);
     if count > 0 {
         return Turn::Took {
             bytes: count,
             strays: 0,
         };
     }
-    take_other(reader, input, out, most)
+    take_next(reader, input, out, most)
 }
 
 /// The rest goes out, and the run has ended so.
@@ -225,6 +183,7 @@ fn run<R: Source, W: Sink>(
     ensures read_faults { specs.TellsReads result (R.failures input.old) (R.failures input.new) }
     ensures write_faults { W.failures output.new ≡ put_counted_if (specs.is_write_fault result) (W.failures output.old) }
 {
+    let spelling = Spelling::new(table);
     let mut reader = Reader::new(table, escapes);
     let mut taken = 0;
     *strays = 0;
@@ -233,7 +192,7 @@ fn run<R: Source, W: Sink>(
             Ok(()) => {}
             Err(Fault) => return Outcome::WriteFault,
         }
-        match make_turn(&mut reader, input, out, TOO_MANY - taken) {
+        match make_turn(&spelling, &mut reader, input, out, TOO_MANY - taken) {
             Turn::Took {
                 bytes,
                 strays: more,

@@ -1,5 +1,5 @@
 use Rattle.std.proofs.Common.{◌≡◌, ◌∙◌, refl, arith}
-use Rattle.nr_utf8.proofs.Turning.{Stands-first, Stands-flushed, Stands-took, Ran-broken, Ran-done, Ran-fault, Ran-long}
+use Rattle.nr_utf8.proofs.Turning.{Stands-first, Stands-flushed, Stands-took, Ran-broken, Ran-done, Ran-fault, Ran-long, Stands-spells}
 use Rattle.nr_utf8.proofs.running.run.Goals as goal
 
 pub loop-taken-init : goal.loop-taken-init
@@ -71,3 +71,9 @@ returns-clause-ran g c =
     Ran-long c.args.table c.args.escapes (g.R.Source.supply c.args.input.now) (g.R.Source.supply c.loop-taken.input)
     (g.W.Sink.held c.args.output.now) (g.W.Sink.held c.loop-taken.output) (g.W.Sink.held c.ended-2.new.output)
     c.loop-taken.out.items c.loop-taken.reader c.loop-taken.taken c.loop-taken.strays all c.loop-taken.invariant.stands c.ended-2.result c.ended-2.ensures.ends
+
+pub make_turn-requires-clause-spells : goal.make_turn-requires-clause-spells
+make_turn-requires-clause-spells g c =
+    Stands-spells c.args.table c.args.escapes (g.R.Source.supply c.args.input.now) (g.R.Source.supply c.loop-taken.input)
+    (g.W.Sink.held c.args.output.now) (g.W.Sink.held c.loop-taken.output) c.loop-taken.out.items c.loop-taken.reader c.loop-taken.taken c.loop-taken.strays
+    c.new-spelling.result.all c.new-spelling.result.whole c.loop-taken.invariant.stands c.new-spelling.ensures

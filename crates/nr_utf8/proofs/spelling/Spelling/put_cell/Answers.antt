@@ -1,0 +1,19 @@
+use Rattle.std.proofs.Common.{◌<◌, arith}
+use Rattle.nr_utf8.proofs.CellsAlone.{Goes-byte, Goes-underlined, Puts-front, some-spelled}
+use Rattle.nr_utf8.proofs.Plain.{idle-from}
+use Rattle.nr_utf8.proofs.spelling.Spelling.put_cell.Goals as goal
+
+pub returns-then-self-from-gt0 : goal.returns-then-self-from-gt0
+returns-then-self-from-gt0 c =
+    let small : c.from.result < 256 = (let fits = c.type_inv.bytes 0 in omega (arith, fits)) in
+    Goes-byte c.args.reader.now c.args.bytes.now c.args.room.now c.put-end.new.room c.args.end c.put-end.result
+    (idle-from c.args.reader.now c.requires.serves.idle) c.requires.some
+    (some-spelled c.args.reader.now.table c.from.result _ _ (c.requires.serves.spells.each c.from.result small) c.from.ensures c.if-self-from-gt0.true)
+    c.put-end.ensures.put c.put-end.ensures.few
+
+pub returns-then-underlines : goal.returns-then-underlines
+returns-then-underlines c =
+    let cell = c.underlines.ensures c.if-underlines.true in
+    let within = cell.within in
+    Goes-underlined c.args.reader.now c.args.bytes.now c.args.room.now _ c.args.end (idle-from c.args.reader.now c.requires.serves.idle) cell
+    (Puts-front c.args.bytes.now c.args.room.now c.copy_from_slice.new.self c.args.end _ 3 c.copy_from_slice.ensures.after within (omega arith))

@@ -1,0 +1,10 @@
+-- Those before are out.
+use Rattle.std.proofs.Common.{◌-◌, length}
+use Rattle.nr_utf8.specs.Spelling.{Goes}
+use Rattle.nr_utf8.proofs.spelling.Spelling.put_cells.Given as goal
+
+abbrev pub invariant-loop-taken : goal.invariant-loop-taken
+invariant-loop-taken l = Goes l.reader l.bytes l.taken l.fn.room l.end l.room l.to
+
+abbrev pub decreases-loop-taken : goal.decreases-loop-taken
+decreases-loop-taken l = length l.bytes - l.taken

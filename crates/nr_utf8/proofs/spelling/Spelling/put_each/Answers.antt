@@ -1,0 +1,13 @@
+use Rattle.std.proofs.Common.{arith}
+use Rattle.nr_utf8.proofs.CellsAlone.{Puts-next}
+use Rattle.nr_utf8.proofs.spelling.Spelling.put_each.Goals as goal
+
+pub loop-byte-preserved : goal.loop-byte-preserved
+loop-byte-preserved c =
+    let few = c.put-to.ensures.few in
+    let before = c.loop-byte.invariant.few in
+    record {
+      put = Puts-next c.args.reader.now.table c.args.bytes.now c.loop-byte.byte-index c.args.room.now c.loop-byte.room c.put-to.new.room c.args.end c.loop-byte.to c.put-to.result
+          c.loop-byte-test.true c.loop-byte.invariant.put c.put-to.ensures.put;
+      few = omega (arith, few, before);
+    }

@@ -1,0 +1,247 @@
+//! Bytes that are cells by themselves, many at once.
+ghost use Rattle.std.specs.Prelude.{◌≡◌, ◌+◌, ◌*◌, ◌<◌, ◌≤◌, length, nat_lt, IsTrue};
+ghost use Rattle.nr_utf8.specs.Spelling as specs;
+
+use super::reader::{Reader, passes_as_is};
+use nr_characters::Table;
+
+/// How many bytes are looked at together.
+const CHUNK: usize = 32;
+
+/// What goes out of a byte.
+#[derive(Clone, Copy)]
+pub(crate) struct Spelled {
+    /// The bytes, at the front.
+    pub bytes: [u8; 4],
+    /// How many they are.
+    pub len: u32,
+}
+
+impl Spelled {
+    /// Nothing.
+    const NONE: Spelled = Spelled {
+        bytes: [0; 4],
+        len: 0,
+    };
+}
+
+/// What goes out of each byte by itself, where nothing is half read or open.
+#[derive(Drop)]
+pub(crate) struct Spelling {
+    /// Of each byte.
+    pub all: [Spelled; 256],
+    /// Whether the table has a character for each byte from 128 on.
+    pub whole: bool,
+}
+
+/// What some bytes are.
+#[derive(Clone, Copy)]
+pub(crate) enum Kind {
+    /// All go out as they are.
+    Plain,
+    /// So they do, or are beyond ASCII.
+    Cells,
+    /// Anything.
+    Other,
+}
+
+/// How far bytes were taken, and how far a room is filled.
+#[derive(Clone, Copy)]
+pub(crate) struct Reached {
+    /// So many bytes were taken.
+    pub taken: usize,
+    /// The room is filled up to here.
+    pub end: usize,
+}
+
+/// Whether a byte goes out as it is or is beyond ASCII.
+fn may_be_cell(byte: u8) -> bool
+    ensures { result ≡ specs.may_be_cell byte }
+{
+    byte >= 128 || passes_as_is(byte)
+}
+
+/// Whether a byte is one of ASCII.
+fn is_low(byte: u8) -> bool
+    ensures { result ≡ nat_lt byte 128 }
+{
+    byte < 128
+}
+
+/// What these bytes are.
+#[inline(never)]
+fn kind_of(bytes: &[u8]) -> Kind
+    ensures { specs.IsOfKind result bytes.now }
+{
+    let mut all = true;
+    let mut low = true;
+    for byte in bytes {
+        all &= may_be_cell(*byte);
+        low &= is_low(*byte);
+    }
+    if !all {
+        Kind::Other
+    } else if low {
+        Kind::Plain
+    } else {
+        Kind::Cells
+    }
+}
+
+/// What goes out of a byte by itself.
+fn spell(table: Table, byte: u8) -> Spelled
+    ensures { specs.IsSpelled table byte result }
+{
+    let mut bytes = [0; 4];
+    if passes_as_is(byte) {
+        bytes[0] = byte;
+        return Spelled { bytes, len: 1 };
+    }
+    let Some(character) = table.character(byte) else {
+        return Spelled::NONE;
+    };
+    let mut buffer = [0; 4];
+    let text = character.encode_utf8(&mut buffer).as_bytes();
+    bytes[..text.len()].copy_from_slice(text);
+    Spelled {
+        bytes,
+        len: text.len() as u32,
+    }
+}
+
+/// Whether a byte has a character, if it is beyond ASCII.
+fn is_covered(byte: usize, len: u32) -> bool
+    ensures { IsTrue result → 128 ≤ byte → 0 < len }
+{
+    byte < 128 || len > 0
+}
+
+impl Spelling {
+    /// That of a table.
+    pub(crate) fn new(table: Table) -> Spelling
+        ensures { specs.Spells table 256 result.all result.whole }
+    {
+        let mut all = [Spelled::NONE; 256];
+        let mut whole = true;
+        for place in 0..256 {
+            let one = spell(table, place as u8);
+            all[place] = one;
+            whole &= is_covered(place, one.len);
+        }
+        Spelling { all, whole }
+    }
+
+    /// What goes out of a byte is put into a room, and tells up to where it is filled then.
+    #[inline]
+    fn put(&self, reader: &Reader, byte: u8, room: &mut [u8], end: usize) -> usize
+        requires serves { specs.Serves self.now reader.now }
+        requires room { end + 4 ≤ length room.old }
+        ensures put { specs.Puts room.old end room.new result (specs.cell_of reader.now.table byte) }
+        ensures few { result ≤ end + 4 }
+    {
+        let one = self.all[usize::from(byte)];
+        room[end..end + 4].copy_from_slice(&one.bytes);
+        end + one.len as usize
+    }
+
+    /// What goes out of these bytes, one after another, is put into a room.
+    #[inline]
+    fn put_each(&self, reader: &Reader, bytes: &[u8], room: &mut [u8], end: usize) -> usize
+        requires serves { specs.Serves self.now reader.now }
+        requires room { end + 4 * length bytes.now ≤ length room.old }
+        ensures put { specs.Puts room.old end room.new result (specs.cells_of reader.now.table bytes.now) }
+        ensures few { result ≤ end + 4 * length bytes.now }
+    {
+        let mut to = end;
+        for byte in bytes {
+            to = self.put(reader, *byte, room, to);
+        }
+        to
+    }
+
+    /// One cell goes out: that of a byte, or an underlined one. Nothing is taken where there is none.
+    fn put_cell(&self, reader: &Reader, bytes: &[u8], room: &mut [u8], end: usize) -> Reached
+        requires serves { specs.Serves self.now reader.now }
+        requires some { 0 < length bytes.now }
+        requires room { end + 4 * length bytes.now ≤ length room.old }
+        ensures { specs.Goes reader.now bytes.now result.taken room.old end room.new result.end }
+    {
+        let byte = bytes[0];
+        if self.all[usize::from(byte)].len > 0 {
+            let end = self.put(reader, byte, room, end);
+            return Reached { taken: 1, end };
+        }
+        if reader.underlines(bytes, 0) {
+            room[end..end + 3].copy_from_slice(&bytes[..3]);
+            return Reached {
+                taken: 3,
+                end: end + 3,
+            };
+        }
+        Reached { taken: 0, end }
+    }
+
+    /// Cells go out, one by one.
+    fn put_cells(&self, reader: &Reader, bytes: &[u8], room: &mut [u8], end: usize) -> Reached
+        requires serves { specs.Serves self.now reader.now }
+        requires room { end + 4 * length bytes.now ≤ length room.old }
+        ensures { specs.Goes reader.now bytes.now result.taken room.old end room.new result.end }
+    {
+        let mut taken = 0;
+        let mut to = end;
+        while taken < bytes.len() {
+            let cell = self.put_cell(reader, &bytes[taken..], room, to);
+            taken += cell.taken;
+            to = cell.end;
+            if cell.taken == 0 {
+                return Reached { taken, end: to };
+            }
+        }
+        Reached { taken, end: to }
+    }
+
+    /// Some cells go out: all of those that are looked at together, or some of them.
+    fn put_some(&self, reader: &Reader, bytes: &[u8], room: &mut [u8], end: usize) -> Reached
+        requires serves { specs.Serves self.now reader.now }
+        requires room { end + 4 * length bytes.now ≤ length room.old }
+        ensures { specs.Goes reader.now bytes.now result.taken room.old end room.new result.end }
+    {
+        if !self.whole || bytes.len() < CHUNK {
+            return self.put_cells(reader, bytes, room, end);
+        }
+        let chunk = &bytes[..CHUNK];
+        match kind_of(chunk) {
+            Kind::Plain => {
+                room[end..end + CHUNK].copy_from_slice(chunk);
+                Reached {
+                    taken: CHUNK,
+                    end: end + CHUNK,
+                }
+            }
+            Kind::Cells => {
+                let end = self.put_each(reader, chunk, room, end);
+                Reached { taken: CHUNK, end }
+            }
+            Kind::Other => self.put_cells(reader, chunk, room, end),
+        }
+    }
+
+    /// Those of these bytes that come first and are cells go out.
+    pub(crate) fn put_all(&self, reader: &Reader, bytes: &[u8], room: &mut [u8]) -> Reached
+        requires serves { specs.Serves self.now reader.now }
+        requires room { 4 * length bytes.now ≤ length room.old }
+        ensures { specs.Goes reader.now bytes.now result.taken room.old 0 room.new result.end }
+    {
+        let mut taken = 0;
+        let mut end = 0;
+        while taken < bytes.len() {
+            let some = self.put_some(reader, &bytes[taken..], room, end);
+            taken += some.taken;
+            end = some.end;
+            if some.taken == 0 {
+                return Reached { taken, end };
+            }
+        }
+        Reached { taken, end }
+    }
+}
