@@ -1,10 +1,12 @@
 -- Which table a page takes: the one that has most of its characters, and so leaves the fewest out.
-use Rattle.std.specs.Prelude.{◌≡◌, ℕ, zero, suc, ◌+◌, ◌*◌, ◌%◌, ◌<◌, ◌≤◌, List, length, take, get_or, Bool, ◌==◌, ◌&&◌, nat_lt, if◌then◌else◌, Option, None, Some, Result, Ok, Err, ⊤, ◌⊎◌}
+use Prim.Native.Char.{code}
+use Rattle.std.specs.Prelude.{◌≡◌, ℕ, zero, suc, ◌+◌, ◌*◌, ◌%◌, ◌<◌, ◌≤◌, List, [], ◌∷◌, length, take, get_or, Bool, ◌==◌, ◌&&◌, nat_lt, if◌then◌else◌, Option, None, Some, Result, Ok, Err, ⊤, ◌⊎◌}
 use Rattle.std.specs.List.{sum_by}
 use Rattle.nr_units.specs.Source.{Supply}
 use Rattle.nr_characters.specs.declared.table.Table.{Table}
 use Rattle.nr_characters.specs.declared.table.Table.TheVariants.{English, Latin, Cyrillic, Greek, Latin1}
 use Rattle.nr_characters.specs.Tables.{characters}
+use Rattle.nr_utf8.specs.declared.names.TheConstants.{NAMES}
 use Rattle.nr_utf8.specs.Reading.{is_within}
 use Rattle.nr_utf8.specs.Running.{Comes, Ends}
 
@@ -23,9 +25,23 @@ character_of_bytes a b c =
     if is_within 0xC2 0xDF a && is_tail b then (a % 32) * 64 + b % 64 else
     if is_within 0xE0 0xEF a && (is_tail b && is_tail c) then if_long ((a % 16) * 4096 + (b % 64) * 64 + c % 64) else 0
 
--- the character that begins at a place of a page, or 0
+-- The character of a name of two bytes that only some tables have (the groff manual, "Using Symbols"), or 0.
+abbrev pub character_named : List (ℕ × ℕ × ℕ) → ℕ → ℕ → ℕ
+character_named [] a b = 0
+character_named (n ∷ ns) a b = if (n.0 == a) && (n.1 == b) then n.2 else character_named ns a b
+
+-- the character that is named behind a backslash: `\'`, `\(xx` or `\[xx]`
+abbrev pub named_at : List (ℕ × ℕ × ℕ) → List ℕ → ℕ → ℕ
+named_at names page at =
+    if get_or page at 0 == code "'" then 0xB4 else
+    if get_or page at 0 == code "(" then character_named names (get_or page (at + 1) 0) (get_or page (at + 2) 0) else
+    if (get_or page at 0 == code "[") && (get_or page (at + 3) 0 == code "]") then character_named names (get_or page (at + 1) 0) (get_or page (at + 2) 0) else 0
+
+-- the character that begins at a place of a page, or is named there, or 0
 abbrev pub character_at : List ℕ → ℕ → ℕ
-character_at page at = character_of_bytes (get_or page at 0) (get_or page (at + 1) 0) (get_or page (at + 2) 0)
+character_at page at =
+    if get_or page at 0 == code "\\" then named_at NAMES page (at + 1) else
+    character_of_bytes (get_or page at 0) (get_or page (at + 1) 0) (get_or page (at + 2) 0)
 
 abbrev pub one_if : Bool → ℕ
 one_if same = if same then 1 else 0

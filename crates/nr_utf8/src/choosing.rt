@@ -4,6 +4,7 @@ ghost use Rattle.std.specs.List.{sum_by};
 ghost use Rattle.nr_units.specs.Failures.{counted};
 ghost use Rattle.nr_utf8.specs.Choosing as specs;
 
+use super::names::{NAMES, Name};
 use nr_characters::Table;
 use nr_units::slice_vec::SliceVec;
 use nr_units::source::{Fault, Source};
@@ -13,6 +14,9 @@ pub const LOOKED_AT: usize = 65_536;
 
 /// A number above that of each character of a table.
 pub const CHARACTERS: usize = 10_240;
+
+/// The acute accent, which a backslash and an apostrophe name.
+const ACUTE: usize = 0xB4;
 
 /// The byte at a place of a page, or 0 behind its end.
 #[inline]
@@ -46,12 +50,42 @@ fn character_of_bytes(a: u8, b: u8, c: u8) -> usize
     0
 }
 
-/// The character that begins at a place of a page, or 0.
+/// The character of a name among these, or 0.
+fn character_named(names: &[Name], first: u8, second: u8) -> usize
+    ensures { result ≡ specs.character_named names.now first second }
+{
+    for name in names {
+        if name.0 == first && name.1 == second {
+            return name.2 as usize;
+        }
+    }
+    0
+}
+
+/// The character that is named behind a backslash, at a place of a page, or 0.
+fn named_at(page: &[u8], place: usize) -> usize
+    requires { place ≤ length page.now }
+    ensures { result ≡ specs.named_at NAMES page.now place }
+{
+    match byte_at(page, place) {
+        b'\'' => ACUTE,
+        b'(' => character_named(&NAMES, byte_at(page, place + 1), byte_at(page, place + 2)),
+        b'[' if byte_at(page, place + 3) == b']' => {
+            character_named(&NAMES, byte_at(page, place + 1), byte_at(page, place + 2))
+        }
+        _ => 0,
+    }
+}
+
+/// The character that begins at a place of a page, or is named there, or 0.
 fn character_at(page: &[u8], place: usize) -> usize
     requires { place < length page.now }
     ensures { result ≡ specs.character_at page.now place }
 {
     let first = byte_at(page, place);
+    if first == b'\\' {
+        return named_at(page, place + 1);
+    }
     if first < 0xC2 {
         return 0;
     }
@@ -161,9 +195,10 @@ fn read_front<R: Source>(input: &mut R, page: &mut SliceVec<'_, u8>) -> Result<(
     Ok(())
 }
 
-/// Chooses a table for a page, by its first 65,536 bytes: the one that has most of the characters of UTF-8 in them, the
-/// first of `latin`, `english`, `cyrillic` and `greek` where several have as many, and `english` where none has one. The
-/// slices hold these bytes and what is counted; what they held is of no account. Nothing is allocated.
+/// Chooses a table for a page, by its first 65,536 bytes: the one that has most of the characters of UTF-8 in them, and
+/// of those that are named and that only some tables have; the first of `latin`, `english`, `cyrillic` and `greek` where
+/// several have as many, and `english` where none has one. The slices hold these bytes and what is counted; what they
+/// held is of no account. Nothing is allocated.
 pub fn choose<R: Source>(input: &mut R, page: &mut [u8], counts: &mut [u32]) -> Result<Table, Fault>
     requires page { length page.old ≡ 65536 }
     requires counts { length counts.old ≡ 10240 }

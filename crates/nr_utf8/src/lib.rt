@@ -4,6 +4,7 @@
 #![tactic(auto)]
 
 mod choosing;
+mod names;
 mod reader;
 mod running;
 mod spelling;

@@ -11,7 +11,7 @@ struct Row {
     line: &'static [u8],
 }
 
-static TEXTS: [(&str, Page<'static>); 8] = [
+static TEXTS: [(&str, Page<'static>); 10] = [
     ("underlined", Page::Bytes(b"_\x08a_\x08b c__\x08_\n_")),
     ("hostile", Page::Bytes(b"\x1b[1m\x08\x7f_\x08-\x00\r\n\xff")),
     ("half", Page::Bytes(b"a_\x08")),
@@ -20,9 +20,11 @@ static TEXTS: [(&str, Page<'static>); 8] = [
     ("greek", Page::Bytes(b"\xce\xb1\xce\xb9")),
     ("polish", Page::Bytes(b"\xc4\x99\xe2\x80\x9c")),
     ("plain", Page::Bytes(b"a\xe9\n")),
+    ("letters", Page::Bytes(b"\\(oeuvre \\[/l]")),
+    ("accents", Page::Bytes(b"\\'a \\(14 \xe2\x80\x94")),
 ];
 
-static ROWS: [Row; 23] = [
+static ROWS: [Row; 25] = [
     Row {
         words: &[b"utf8", b"latin"],
         output: b"caf\xc3\xa9_",
@@ -112,6 +114,19 @@ static ROWS: [Row; 23] = [
     Row {
         words: &[b"utf8", b"--choose", b"polish"],
         output: b"latin\n",
+        status: 0,
+        line: b"",
+    },
+    // Names count where only some tables have what they name.
+    Row {
+        words: &[b"utf8", b"--choose", b"letters"],
+        output: b"latin\n",
+        status: 0,
+        line: b"",
+    },
+    Row {
+        words: &[b"utf8", b"--choose", b"accents"],
+        output: b"english\n",
         status: 0,
         line: b"",
     },
