@@ -76,16 +76,18 @@ fn make_room<W: Sink>(out: &mut SliceVec<'_, u8>, output: &mut W) -> Result<(), 
     put_pending(out, output)
 }
 
-/// Bytes at hand that are cells by themselves are taken, and tells how many.
+/// Bytes at hand that are cells are taken, and tells how many. What they come to is put into the room first.
 fn take_cells<R: Source>(
     spelling: &Spelling,
     reader: &Reader,
+    room: &mut [u8],
     input: &mut R,
     out: &mut SliceVec<'_, u8>,
     most: u64,
 ) -> u64
     requires room { length out.old.items + 1536 ≤ out.old.room }
     requires spells { Spells reader.now.table 256 spelling.now.all spelling.now.whole }
+    requires long { length room.old ≡ 1280 }
     ensures took { specs.Took (R.supply input.old) (R.supply input.new) reader.now reader.now out.old.items out.new.items result 0 }
     ensures few { (result ≤ 320) × (result ≤ most) }
     ensures grown { length out.new.items ≤ length out.old.items + 4 * result }
@@ -97,8 +99,7 @@ fn take_cells<R: Source>(
     }
     let window = input.window();
     let len = window.len().min(CELLS).min(most as usize);
-    let mut room = [0; 4 * CELLS];
-    let reached = spelling.put_all(reader, &window[..len], &mut room);
+    let reached = spelling.put_all(reader, &window[..len], room);
     out.extend(&room[..reached.end]);
     input.skip(reached.taken);
     reached.taken as u64
@@ -135,6 +136,7 @@ fn take_next<R: Source>(
 fn make_turn<R: Source>(
     spelling: &Spelling,
     reader: &mut Reader,
+    room: &mut [u8],
     input: &mut R,
     out: &mut SliceVec<'_, u8>,
     most: u64,
@@ -142,12 +144,13 @@ fn make_turn<R: Source>(
     requires room { length out.old.items + 1536 ≤ out.old.room }
     requires some { 0 < most }
     requires spells { Spells reader.old.table 256 spelling.now.all spelling.now.whole }
+    requires long { length room.old ≡ 1280 }
     ensures turns { specs.Turns (R.supply input.old) (R.supply input.new) reader.old reader.new out.old.items out.new.items result }
     ensures measured { specs.IsMeasured most (length out.old.items) (length out.new.items) result }
     ensures failures { R.failures input.new ≡ counted_if (specs.is_fault result) (R.failures input.old) }
     ensures room { out.new.room ≡ out.old.room }
 {
-    let count = take_cells(spelling, reader, input, out, most);
+    let count = take_cells(spelling, reader, room, input, out, most);
     if count > 0 {
         return Turn::Took {
             bytes: count,
@@ -184,6 +187,7 @@ fn run<R: Source, W: Sink>(
     ensures write_faults { W.failures output.new ≡ put_counted_if (specs.is_write_fault result) (W.failures output.old) }
 {
     let spelling = Spelling::new(table);
+    let mut room = [0; 4 * CELLS];
     let mut reader = Reader::new(table, escapes);
     let mut taken = 0;
     *strays = 0;
@@ -192,7 +196,14 @@ fn run<R: Source, W: Sink>(
             Ok(()) => {}
             Err(Fault) => return Outcome::WriteFault,
         }
-        match make_turn(&spelling, &mut reader, input, out, TOO_MANY - taken) {
+        match make_turn(
+            &spelling,
+            &mut reader,
+            &mut room,
+            input,
+            out,
+            TOO_MANY - taken,
+        ) {
             Turn::Took {
                 bytes,
                 strays: more,
