@@ -1,4 +1,5 @@
 -- A run is taken at once: what is half read then is known by its last byte.
+use Prim.Native.Char.{code}
 use Rattle.std.proofs.Common.{◌≡◌, ℕ, zero, suc, ◌+◌, ◌-◌, ◌<◌, ◌≤◌, List, [], ◌∷◌, length, get_or, Bool, true, false, not, ◌==◌, ◌&&◌, ◌||◌, nat_lt, if◌then◌else◌, refl, sym, ◌∙◌, ap, subst, add-one, arith}
 use Rattle.std.specs.List.{prefix_len}
 use Rattle.std.proofs.lemmas.Bool.Decides.{nat_tests}
@@ -7,11 +8,13 @@ use Rattle.nr_preconv.specs.declared.half.Half.{Half}
 use Rattle.nr_preconv.specs.declared.half.Line.{Line}
 use Rattle.nr_preconv.specs.declared.half.Line.TheVariants as lines
 use Rattle.nr_preconv.specs.declared.half.Before.{Before}
-use Rattle.nr_preconv.specs.declared.half.Before.TheVariants.{Letter, Other, Argument}
+use Rattle.nr_preconv.specs.declared.half.Before.TheVariants.{Character, Argument}
+use Rattle.nr_preconv.specs.declared.half.Mark.{Mark}
+use Rattle.nr_preconv.specs.declared.half.Mark.TheVariants.{Other}
 use Rattle.nr_preconv.specs.declared.reader.Reader.{Reader}
 use Rattle.nr_preconv.specs.declared.reader.Pending.TheVariants.{Nothing}
 use Rattle.nr_preconv.specs.Half.{is_plain}
-use Rattle.nr_preconv.specs.Hyphens.{is_ascii_letter, followed, placed, turns_hyphens}
+use Rattle.nr_preconv.specs.Hyphens.{mark_of, followed, placed, turns_hyphens}
 use Rattle.nr_preconv.specs.Words.{class_of, goes_on_with}
 use Rattle.nr_preconv.specs.Meeting.{is_raw, is_as_is, is_as_is_at, started, taken_as_is}
 use Rattle.nr_preconv.specs.Reading.{told, with_half, read, Passes}
@@ -23,13 +26,13 @@ use Rattle.nr_preconv.proofs.Plain.{and-first, and-second, read_as_is, Passes-mo
 is_ascii : (b : ℕ) → goes_on_text b ≡ true → nat_lt b 127 ≡ true
 is_ascii b p = grind (arith, nat_tests)
 
-no_backslash : (b : ℕ) → goes_on_text b ≡ true → (b == 92) ≡ false
+no_backslash : (b : ℕ) → goes_on_text b ≡ true → (b == code "\\") ≡ false
 no_backslash b p = grind (arith, nat_tests)
 
-no_hyphen : (b : ℕ) → goes_on_text b ≡ true → (b == 45) ≡ false
+no_hyphen : (b : ℕ) → goes_on_text b ≡ true → (b == code "-") ≡ false
 no_hyphen b p = grind (arith, nat_tests)
 
-no_newline : (b : ℕ) → goes_on_text b ≡ true → (b == 10) ≡ false
+no_newline : (b : ℕ) → goes_on_text b ≡ true → (b == code "\n") ≡ false
 no_newline b p = grind (arith, nat_tests)
 
 -- in a line of this kind
@@ -71,7 +74,7 @@ as_is_at lines.Text b h p =
     ap (λ (x : Bool). not (turns_hyphens h) || not x) (no_hyphen b p) ∙ or-true (not (turns_hyphens h))
 as_is_at (lines.Words words) b h p =
     let text = and-first (goes_on_text b) (goes_on_with (class_of b) words) p in
-    ap (λ (x : Bool). not x && not (b == 45) && goes_on_with (class_of b) words) (no_newline b text)
+    ap (λ (x : Bool). not x && not (b == code "-") && goes_on_with (class_of b) words) (no_newline b text)
     ∙ ap (λ (x : Bool). not x && goes_on_with (class_of b) words) (no_hyphen b text)
     ∙ and-second (goes_on_text b) (goes_on_with (class_of b) words) p
 as_is_at line b h p = absurd (let no : false ≡ true = p in cc)
@@ -79,7 +82,7 @@ as_is_at line b h p = absurd (let no : false ≡ true = p in cc)
 as_is : (l : Line) (b : ℕ) (h : Half) → h.line ≡ l → is_plain h.escape ≡ true → run_in l b ≡ true → is_as_is b h ≡ true
 as_is l b h line plain p =
     let text = is_text l b p in
-    ap (λ (x : Bool). x && not (b == 92) && is_plain h.escape && is_as_is_at h.line b h) (is_ascii b text)
+    ap (λ (x : Bool). x && not (b == code "\\") && is_plain h.escape && is_as_is_at h.line b h) (is_ascii b text)
     ∙ ap (λ (x : Bool). not x && is_plain h.escape && is_as_is_at h.line b h) (no_backslash b text)
     ∙ ap (λ (x : Bool). x && is_as_is_at h.line b h) plain
     ∙ ap (λ (m : Line). is_as_is_at m b h) line
@@ -87,59 +90,52 @@ as_is l b h line plain p =
 
 -- ---- what stands before the next character is known by the last one
 
-followed_twice : (x y : Bool) (b : Before) → followed y (followed x b) ≡ followed y b
+followed_twice : (x y : Mark) (b : Before) → followed y (followed x b) ≡ followed y b
 followed_twice x y Argument = refl
-followed_twice true true Letter = refl
-followed_twice true false Letter = refl
-followed_twice false true Letter = refl
-followed_twice false false Letter = refl
-followed_twice true true Other = refl
-followed_twice true false Other = refl
-followed_twice false true Other = refl
-followed_twice false false Other = refl
+followed_twice x y (Character z) = refl
 
-abbrev pub placed_as : Bool → Bool → Half → Half
+abbrev pub placed_as : Bool → Mark → Half → Half
 placed_as m x h = if m then record h { before = followed x h.before } else h
 
-twice_by : (m x y : Bool) (h : Half) → h.manual ≡ m → placed y (placed_as m x h) ≡ placed_as m y h
+twice_by : (m : Bool) (x y : Mark) (h : Half) → h.manual ≡ m → placed y (placed_as m x h) ≡ placed_as m y h
 twice_by true x y h e =
     ap (λ (z : Bool). if z then record h { before = followed y (followed x h.before) } else record h { before = followed x h.before }) e
     ∙ ap (λ (w : Before). record h { before = w }) (followed_twice x y h.before)
 twice_by false x y h e = ap (λ (z : Bool). if z then record h { before = followed y h.before } else h) e
 
-placed_twice : (x y : Bool) (h : Half) → placed y (placed x h) ≡ placed y h
+placed_twice : (x y : Mark) (h : Half) → placed y (placed x h) ≡ placed y h
 placed_twice x y h = twice_by h.manual x y h refl
 
-line_by : (m x : Bool) (h : Half) → (placed_as m x h).line ≡ h.line
+line_by : (m : Bool) (x : Mark) (h : Half) → (placed_as m x h).line ≡ h.line
 line_by true x h = refl
 line_by false x h = refl
 
-placed_line : (x : Bool) (h : Half) → (placed x h).line ≡ h.line
+placed_line : (x : Mark) (h : Half) → (placed x h).line ≡ h.line
 placed_line x h = line_by h.manual x h
 
-escape_by : (m x : Bool) (h : Half) → is_plain (placed_as m x h).escape ≡ is_plain h.escape
+escape_by : (m : Bool) (x : Mark) (h : Half) → is_plain (placed_as m x h).escape ≡ is_plain h.escape
 escape_by true x h = refl
 escape_by false x h = refl
 
-pub placed_escape : (x : Bool) (h : Half) → is_plain (placed x h).escape ≡ is_plain h.escape
+pub placed_escape : (x : Mark) (h : Half) → is_plain (placed x h).escape ≡ is_plain h.escape
 placed_escape x h = escape_by h.manual x h
 
 -- in the midst of a line
-taken_is : (b : ℕ) (h : Half) → (b == 10) ≡ false → started h.line ≡ h.line → taken_as_is b h ≡ placed (is_ascii_letter b) h
+taken_is : (b : ℕ) (h : Half) → (b == code "\n") ≡ false → started h.line ≡ h.line → taken_as_is b h ≡ placed (mark_of b) h
 taken_is b h line same =
     let at : Bool → Half = λ (x : Bool). record h { line = if x then lines.Start else started h.line } in
-    ap (λ (x : Bool). if x then record (at x) { before = Other } else placed (is_ascii_letter b) (at x)) line
-    ∙ ap (λ (l : Line). placed (is_ascii_letter b) (record h { line = l })) same
+    ap (λ (x : Bool). if x then record (at x) { before = Character Other } else placed (mark_of b) (at x)) line
+    ∙ ap (λ (l : Line). placed (mark_of b) (record h { line = l })) same
 
-taken_twice : (a b : ℕ) (h : Half) → (a == 10) ≡ false → (b == 10) ≡ false → started h.line ≡ h.line
+taken_twice : (a b : ℕ) (h : Half) → (a == code "\n") ≡ false → (b == code "\n") ≡ false → started h.line ≡ h.line
     → taken_as_is b (taken_as_is a h) ≡ taken_as_is b h
 taken_twice a b h first second same =
-    let x = is_ascii_letter a in
+    let x = mark_of a in
     let later : started (placed x h).line ≡ (placed x h).line =
     ap started (placed_line x h) ∙ same ∙ sym (placed_line x h) in
     ap (taken_as_is b) (taken_is a h first same)
     ∙ taken_is b (placed x h) second later
-    ∙ placed_twice x (is_ascii_letter b) h
+    ∙ placed_twice x (mark_of b) h
     ∙ sym (taken_is b h second same)
 
 -- ---- a run
@@ -157,7 +153,7 @@ run_next a b l r none plain line p q =
     let second = no_newline b (is_text l b q) in
     let same : started r.half.line ≡ r.half.line = ap started line ∙ same_line l a p ∙ sym line in
     let is = taken_is a r.half first same in
-    let x = is_ascii_letter a in
+    let x = mark_of a in
     let s = with_half (taken_as_is a r.half) r in
     let still : is_plain s.half.escape ≡ true = ap (λ (h : Half). is_plain h.escape) is ∙ placed_escape x r.half ∙ plain in
     let there : s.half.line ≡ l = ap (λ (h : Half). h.line) is ∙ placed_line x r.half ∙ line in

@@ -1,4 +1,5 @@
 -- A text in UTF-8 is read as its characters.
+use Prim.Native.Char.{code}
 use Rattle.std.proofs.Common.{◌≡◌, ℕ, ◌+◌, ◌*◌, ◌/◌, ◌%◌, ◌<◌, ◌≤◌, List, [], ◌∷◌, Bool, true, false, nat_lt, nat_le, ◌==◌, ◌&&◌, if◌then◌else◌, inl, inr, refl, sym, ◌∙◌, ap, append-nil, arith}
 use Rattle.std.proofs.lemmas.Bool.{lt-ltb, ltb-true, ltb-false, le-ltb, le-leb, eqb-true}
 use Rattle.std.proofs.lemmas.Bool.Decides.{nat_tests}
@@ -139,7 +140,7 @@ four c r low high cooked none =
     let s = pending_with (One a) r in
     let u = pending_with (Two a b) r in
     let v = pending_with (Three a b d) r in
-    let code = (a % 8) * 262144 + low_six b * 4096 + low_six d * 64 + low_six f in
+    let whole_code = (a % 8) * 262144 + low_six b * 4096 + low_six d * 64 + low_six f in
     silent a r s (b ∷ d ∷ f ∷ []) (lead a r (omega arith) (omega arith) cooked none)
     ∙ silent b s u (d ∷ f ∷ [])
     (cooked_read b s cooked
@@ -153,8 +154,8 @@ four c r low high cooked none =
     ∙ ap (λ (x : Bool). if x then whole ((a % 16) * 4096 + low_six b * 64 + low_six d) u else told (pending_with (Three a b d) u) [] 0) (le-ltb a 240 (omega arith)))
     ∙ last f v (heard (coming_of c) r)
     (cooked_read f v cooked
-    ∙ ap (λ (x : Bool). if x then whole code v else apart f v) (tail f (omega arith) (omega arith))
-    ∙ met code c r none (four_code c low high) (omega (arith, low)))
+    ∙ ap (λ (x : Bool). if x then whole whole_code v else apart f v) (tail f (omega arith) (omega arith))
+    ∙ met whole_code c r none (four_code c low high) (omega (arith, low)))
 
 -- ---- a character
 
@@ -180,7 +181,7 @@ cooked_character c r is cooked none = heard_by (nat_lt c 128) (nat_lt c 2048) (n
 raw_read : (b : ℕ) (r : Reader) → is_raw r.half.line ≡ true → read b r ≡ told (with_half (passing b r.half) r) (sent r.table b ∷ []) 1
 raw_read b r raw = ap (λ (x : Bool). if x then told (with_half (passing b r.half) r) (sent r.table b ∷ []) 1 else heard_byte b r) raw
 
-no_newline : (b : ℕ) → 128 ≤ b → (b == 10) ≡ false
+no_newline : (b : ℕ) → 128 ≤ b → (b == code "\n") ≡ false
 no_newline b l = grind (arith, nat_tests)
 
 either_raw : (x : Bool) (d e : Dots) → is_raw (if x then lines.Ignored d else lines.Ignored e) ≡ true
@@ -190,8 +191,8 @@ either_raw false d e = refl
 raw_stays : (line : Line) (b : ℕ) → is_raw line ≡ true → 128 ≤ b → is_raw (line_passed line b) ≡ true
 raw_stays lines.Comment b p l = ap (λ (x : Bool). is_raw (if x then lines.Start else lines.Comment)) (no_newline b l)
 raw_stays (lines.Ignored d) b p l =
-    ap (λ (x : Bool). is_raw (if x then behind_ignored d else (if b == 46 then lines.Ignored (one_dot_more d) else lines.Ignored (no_dot d)))) (no_newline b l)
-    ∙ either_raw (b == 46) (one_dot_more d) (no_dot d)
+    ap (λ (x : Bool). is_raw (if x then behind_ignored d else (if b == code "." then lines.Ignored (one_dot_more d) else lines.Ignored (no_dot d)))) (no_newline b l)
+    ∙ either_raw (b == code ".") (one_dot_more d) (no_dot d)
 raw_stays line b p l = absurd (let no : false ≡ true = p in cc)
 
 high : List ℕ → Type 0

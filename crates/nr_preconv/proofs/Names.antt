@@ -1,10 +1,12 @@
 -- The name of a control line is taken at once: its bytes are kept, and say nothing yet.
+use Prim.Native.Char.{code}
 use Rattle.std.proofs.Common.{◌≡◌, ℕ, zero, suc, ◌+◌, ◌-◌, ◌<◌, ◌≤◌, List, [], ◌∷◌, ◌++◌, length, take, drop, get_or, Bool, true, false, not, ◌==◌, ◌&&◌, ◌||◌, nat_lt, if◌then◌else◌, refl, sym, ◌∙◌, ap, subst, add-one, min, arith}
 use Rattle.std.specs.List.{prefix_len}
 use Rattle.std.proofs.lemmas.Bool.Decides.{nat_tests}
 use Rattle.std.proofs.lemmas.List.{length-take, take_more}
 use Rattle.std.proofs.lemmas.List.Sums.{prefix_len_passes, prefix_len-le-length}
 use Rattle.nr_preconv.specs.declared.half.Half.{Half}
+use Rattle.nr_preconv.specs.declared.half.Mark.TheVariants.{Other}
 use Rattle.nr_preconv.specs.declared.half.Line.{Line}
 use Rattle.nr_preconv.specs.declared.half.Line.TheVariants as lines
 use Rattle.nr_preconv.specs.declared.half.Coming.TheVariants as comings
@@ -32,7 +34,7 @@ is_ascii b p = and-first (nat_lt b 127) (not (ends_name b)) p
 no_end : (b : ℕ) → goes_on_name b ≡ true → ends_name b ≡ false
 no_end b p = is_not (ends_name b) (and-second (nat_lt b 127) (not (ends_name b)) p)
 
-no_backslash : (b : ℕ) → goes_on_name b ≡ true → (b == 92) ≡ false
+no_backslash : (b : ℕ) → goes_on_name b ≡ true → (b == code "\\") ≡ false
 no_backslash b p = grind (arith, nat_tests)
 
 no_gap : (b : ℕ) → goes_on_name b ≡ true → is_gap b ≡ false
@@ -41,28 +43,28 @@ no_gap b p = grind (arith, nat_tests)
 -- ---- after the dot, and in the name
 
 after_dot : Half → Half
-after_dot h = record (placed false h) { conditional = false; name = []; line = lines.Control }
+after_dot h = record (placed Other h) { conditional = false; name = []; line = lines.Control }
 
 dot_by : (m : Bool) (h : Half)
-    → record (placed_as m false (record h { name = []; conditional = false })) { line = lines.Control } ≡ record (placed_as m false h) { conditional = false; name = []; line = lines.Control }
+    → record (placed_as m Other (record h { name = []; conditional = false })) { line = lines.Control } ≡ record (placed_as m Other h) { conditional = false; name = []; line = lines.Control }
 dot_by true h = refl
 dot_by false h = refl
 
-dot_met : (h : Half) → is_plain h.escape ≡ true → h.line ≡ lines.Start → meet (comings.Byte 46) h ≡ taken (says.Byte 46) (after_dot h)
+dot_met : (h : Half) → is_plain h.escape ≡ true → h.line ≡ lines.Start → meet (comings.Byte (code ".")) h ≡ taken (says.Byte (code ".")) (after_dot h)
 unfolding after_dot
 dot_met h plain start =
-    ap (λ (x : Bool). if x then plain_byte 46 h else in_escape 46 h) plain
-    ∙ ap (λ (l : Line). in_line_at l 46 h) start
-    ∙ ap (taken (says.Byte 46)) (dot_by h.manual h)
+    ap (λ (x : Bool). if x then plain_byte (code ".") h else in_escape (code ".") h) plain
+    ∙ ap (λ (l : Line). in_line_at l (code ".") h) start
+    ∙ ap (taken (says.Byte (code "."))) (dot_by h.manual h)
 
-first_met : (b : ℕ) (h : Half) → is_plain h.escape ≡ true → goes_on_name b ≡ true → (b == 46) ≡ false
+first_met : (b : ℕ) (h : Half) → is_plain h.escape ≡ true → goes_on_name b ≡ true → (b == code ".") ≡ false
     → meet (comings.Byte b) (after_dot h) ≡ taken says.Nothing (behind_name (b ∷ []) h)
 unfolding after_dot
 first_met b h plain goes other =
-    let k = record (placed false h) { conditional = false; name = []; line = lines.Control } in
-    ap (λ (x : Bool). if x then plain_byte b k else in_escape b k) (placed_escape false h ∙ plain)
+    let k = record (placed Other h) { conditional = false; name = []; line = lines.Control } in
+    ap (λ (x : Bool). if x then plain_byte b k else in_escape b k) (placed_escape Other h ∙ plain)
     ∙ ap (λ (x : Bool). if x && false then beginning k else in_line b k) (no_backslash b goes)
-    ∙ ap (λ (x : Bool). if x && k.defining then naming (46 ∷ []) lines.Name k else
+    ∙ ap (λ (x : Bool). if x && k.defining then naming (code "." ∷ []) lines.Name k else
     (if is_gap b && not (length k.name == 32) then naming (k.name ++ b ∷ []) lines.Control k else
     (if not (length k.name == 0) then blanks_said lines.Control k else
     (if ends_name b then blanks_said lines.Request k else naming (b ∷ []) lines.Name k)))) other
@@ -77,7 +79,7 @@ next_met : (b : ℕ) (name : List ℕ) (h : Half) → is_plain h.escape ≡ true
     → meet (comings.Byte b) (behind_name name h) ≡ taken says.Nothing (behind_name (name ++ b ∷ []) h)
 next_met b name h plain goes few =
     let k = behind_name name h in
-    ap (λ (x : Bool). if x then plain_byte b k else in_escape b k) (placed_escape false h ∙ plain)
+    ap (λ (x : Bool). if x then plain_byte b k else in_escape b k) (placed_escape Other h ∙ plain)
     ∙ ap (λ (x : Bool). if x && false then beginning k else in_line b k) (no_backslash b goes)
     ∙ ap (λ (x : Bool). if x || (length name == 32) then named_line b k else taken says.Nothing (record k { name = name ++ b ∷ [] })) (no_end b goes)
     ∙ ap (λ (x : Bool). if x then named_line b k else taken says.Nothing (record k { name = name ++ b ∷ [] })) (not_full (length name) few)
@@ -85,11 +87,11 @@ next_met b name h plain goes few =
 -- ---- the bytes come
 
 dot_read : (r : Reader) → r.pending ≡ Nothing → is_plain r.half.escape ≡ true → r.half.line ≡ lines.Start
-    → read 46 r ≡ told (with_half (after_dot r.half) r) (46 ∷ []) 1
+    → read (code ".") r ≡ told (with_half (after_dot r.half) r) (code "." ∷ []) 1
 dot_read r none plain start =
-    meets 46 r (says.Byte 46) (after_dot r.half) none (ap is_raw start) refl (dot_met r.half plain start)
+    meets (code ".") r (says.Byte (code ".")) (after_dot r.half) none (ap is_raw start) refl (dot_met r.half plain start)
 
-first_read : (b : ℕ) (r : Reader) → r.pending ≡ Nothing → is_plain r.half.escape ≡ true → goes_on_name b ≡ true → (b == 46) ≡ false
+first_read : (b : ℕ) (r : Reader) → r.pending ≡ Nothing → is_plain r.half.escape ≡ true → goes_on_name b ≡ true → (b == code ".") ≡ false
     → read b (with_half (after_dot r.half) r) ≡ told (with_half (behind_name (b ∷ []) r.half) r) [] 1
 unfolding after_dot
 first_read b r none plain goes other =
@@ -105,7 +107,7 @@ fed_one b s t bytes p = ap (λ (u : Told). then_told u (λ v. told v [] 0)) p
 
 -- the first n + 1 of these bytes
 names_fed : (n : ℕ) (bs : List ℕ) (r : Reader) → r.pending ≡ Nothing → is_plain r.half.escape ≡ true
-    → ((i : ℕ) → i < n + 1 → goes_on_name (get_or bs i 0) ≡ true) → (get_or bs 0 0 == 46) ≡ false → n < length bs → n < 32
+    → ((i : ℕ) → i < n + 1 → goes_on_name (get_or bs i 0) ≡ true) → (get_or bs 0 0 == code ".") ≡ false → n < length bs → n < 32
     → fed (with_half (after_dot r.half) r) (take (n + 1) bs) ≡ told (with_half (behind_name (take (n + 1) bs) r.half) r) [] (n + 1)
 names_fed zero bs r none plain goes other within few =
     let b = get_or bs 0 0 in
@@ -144,15 +146,15 @@ dotted_value false y k p q = absurd (let no : false ≡ true = p in cc)
 
 dotted_fed : (n : ℕ) (bs : List ℕ) (r : Reader) → r.pending ≡ Nothing → is_plain r.half.escape ≡ true → r.half.line ≡ lines.Start
     → n ≡ dotted_len bs → 0 < n
-    → fed r (take (n + 1) bs) ≡ told (with_half (behind_name (take n (drop 1 bs)) r.half) r) (46 ∷ []) (n + 1)
+    → fed r (take (n + 1) bs) ≡ told (with_half (behind_name (take n (drop 1 bs)) r.half) r) (code "." ∷ []) (n + 1)
 dotted_fed n [] r none plain start is some = absurd (omega arith)
 dotted_fed n (dot ∷ []) r none plain start is some = absurd (omega arith)
 dotted_fed n (dot ∷ first ∷ more) r none plain start is some =
     let bs = first ∷ more in
     let k = min (prefix_len goes_on_name bs) 32 in
-    let has : 0 < (if (dot == 46) && not (first == 46) then k else 0) = subst (λ (m : ℕ). 0 < m) is some in
-    let parts = dotted_is (dot == 46) (first == 46) k has in
-    let value : n ≡ k = is ∙ dotted_value (dot == 46) (first == 46) k parts.0 parts.1 in
+    let has : 0 < (if (dot == code ".") && not (first == code ".") then k else 0) = subst (λ (m : ℕ). 0 < m) is some in
+    let parts = dotted_is (dot == code ".") (first == code ".") k has in
+    let value : n ≡ k = is ∙ dotted_value (dot == code ".") (first == code ".") k parts.0 parts.1 in
     let most : n ≤ prefix_len goes_on_name bs = (let l : min (prefix_len goes_on_name bs) 32 ≤ prefix_len goes_on_name bs = omega arith in omega (arith, value)) in
     let short : n ≤ 32 = (let l : min (prefix_len goes_on_name bs) 32 ≤ 32 = omega arith in omega (arith, value)) in
     let within = prefix_len-le-length goes_on_name bs in
@@ -161,12 +163,12 @@ dotted_fed n (dot ∷ first ∷ more) r none plain start is some =
     let Q : ℕ → Type 0 = λ m. fed s (take m bs) ≡ told (with_half (behind_name (take m bs) r.half) r) [] m in
     let name : Q n = subst Q back
     (names_fed (n - 1) bs r none plain (λ i below. prefix_len_passes goes_on_name bs i 0 (omega arith)) parts.1 (omega arith) (omega arith)) in
-    let R : ℕ → Type 0 = λ d. fed r (d ∷ take n bs) ≡ told (with_half (behind_name (take n bs) r.half) r) (46 ∷ []) (1 + n) in
-    let whole : R 46 = ap (λ (t : Told). then_told t (λ v. fed v (take n bs))) (dot_read r none plain start) ∙ ap (behind (46 ∷ []) 1) name in
-    let here : R dot = subst R (sym (is_one dot 46 parts.0)) whole in
+    let R : ℕ → Type 0 = λ d. fed r (d ∷ take n bs) ≡ told (with_half (behind_name (take n bs) r.half) r) (code "." ∷ []) (1 + n) in
+    let whole : R (code ".") = ap (λ (t : Told). then_told t (λ v. fed v (take n bs))) (dot_read r none plain start) ∙ ap (behind (code "." ∷ []) 1) name in
+    let here : R dot = subst R (sym (is_one dot (code ".") parts.0)) whole in
     let cut : take (n + 1) (dot ∷ bs) ≡ dot ∷ take n bs = ap (λ (m : ℕ). take m (dot ∷ bs)) (add-one n) in
     let count : 1 + n ≡ n + 1 = omega arith in
-    ap (fed r) cut ∙ here ∙ ap (told (with_half (behind_name (take n bs) r.half) r) (46 ∷ [])) count
+    ap (fed r) cut ∙ here ∙ ap (told (with_half (behind_name (take n bs) r.half) r) (code "." ∷ [])) count
 
 start_is : (l : Line) → is_start l ≡ true → l ≡ lines.Start
 start_is lines.Start p = refl
@@ -183,7 +185,7 @@ both_value true false k p q = absurd (let no : false ≡ true = q in cc)
 both_value false y k p q = absurd (let no : false ≡ true = p in cc)
 
 pub name_fed : (n : ℕ) (bs : List ℕ) (r : Reader) → r.pending ≡ Nothing → n ≡ name_len bs r.half → 0 < n
-    → fed r (take (n + 1) bs) ≡ told (with_half (behind_name (take n (drop 1 bs)) r.half) r) (46 ∷ []) (n + 1)
+    → fed r (take (n + 1) bs) ≡ told (with_half (behind_name (take n (drop 1 bs)) r.half) r) (code "." ∷ []) (n + 1)
 name_fed n bs r none is some =
     let x = is_plain r.half.escape in
     let y = is_start r.half.line in

@@ -1,10 +1,12 @@
 -- Bytes that go out as they are, in one step.
+use Prim.Native.Char.{code}
 use Rattle.std.proofs.Common.{◌≡◌, ℕ, ◌+◌, ◌<◌, List, [], ◌∷◌, ◌++◌, length, take, get_or, Bool, true, false, not, ◌==◌, ◌&&◌, ◌||◌, nat_lt, if◌then◌else◌, refl, sym, ◌∙◌, ap, add-one}
 use Rattle.std.proofs.Math.Seq.{take-suc}
 use Rattle.nr_preconv.specs.declared.half.Half.{Half}
 use Rattle.nr_preconv.specs.declared.half.Line.{Line}
 use Rattle.nr_preconv.specs.declared.half.Line.TheVariants as lines
 use Rattle.nr_preconv.specs.declared.half.Before.TheVariants as befores
+use Rattle.nr_preconv.specs.declared.half.Mark.TheVariants as marks
 use Rattle.nr_preconv.specs.declared.half.Coming.TheVariants as comings
 use Rattle.nr_preconv.specs.declared.said.Said.{Said}
 use Rattle.nr_preconv.specs.declared.said.Said.TheVariants as says
@@ -17,7 +19,7 @@ use Rattle.nr_preconv.specs.declared.reader.Reader.{Reader}
 use Rattle.nr_preconv.specs.declared.reader.Pending.{Pending}
 use Rattle.nr_preconv.specs.declared.reader.Pending.TheVariants as pendings
 use Rattle.nr_preconv.specs.Half.{Met, taken, left, is_plain}
-use Rattle.nr_preconv.specs.Hyphens.{is_ascii_letter, followed, gone_by, saying, hyphen, turns_hyphens, in_text}
+use Rattle.nr_preconv.specs.Hyphens.{mark_of, followed, gone_by, saying, hyphen, turns_hyphens, in_text}
 use Rattle.nr_preconv.specs.Words.{goes_on_at, goes_on_with, begins_word, is_ninth, class_of, words_at, met_at, met_words}
 use Rattle.nr_preconv.specs.Saying.{bytes_of, sent}
 use Rattle.nr_preconv.specs.Escapes.{in_escape}
@@ -59,17 +61,17 @@ not_both : (x y : Bool) → (not x || not y) ≡ true → (x && y) ≡ false
 not_both false y p = refl
 not_both true y p = is_not y p
 
-text_says : (b : ℕ) (h : Half) → (not (turns_hyphens h) || not (b == 45)) ≡ true → Says b (in_text b h)
+text_says : (b : ℕ) (h : Half) → (not (turns_hyphens h) || not (b == code "-")) ≡ true → Says b (in_text b h)
 text_says b h p =
-    Says-if b (b == 10) (λ e. record { said = refl; takes = refl })
-    (λ e. Says-if b (turns_hyphens h && (b == 45))
-    (λ yes. absurd (let no : true ≡ false = sym yes ∙ not_both (turns_hyphens h) (b == 45) p in cc))
+    Says-if b (b == code "\n") (λ e. record { said = refl; takes = refl })
+    (λ e. Says-if b (turns_hyphens h && (b == code "-"))
+    (λ yes. absurd (let no : true ≡ false = sym yes ∙ not_both (turns_hyphens h) (b == code "-") p in cc))
     (λ no. record { said = refl; takes = refl }))
 
-start_says : (b : ℕ) (h : Half) → not (is_control b) ≡ true → (not (turns_hyphens h) || not (b == 45)) ≡ true → Says b (at_start b h)
+start_says : (b : ℕ) (h : Half) → not (is_control b) ≡ true → (not (turns_hyphens h) || not (b == code "-")) ≡ true → Says b (at_start b h)
 start_says b h c p =
     Says-if b (is_control b) (λ yes. absurd (let no : true ≡ false = sym yes ∙ is_not (is_control b) c in cc))
-    (λ no. Says-if b (b == 10) (λ e. record { said = refl; takes = refl }) (λ e. text_says b h p))
+    (λ no. Says-if b (b == code "\n") (λ e. record { said = refl; takes = refl }) (λ e. text_says b h p))
 
 at_says : (place : Place) (class : Class) (said : Said) (w : Words) → goes_on_at place class ≡ true
     → ((met_at place class said w).said ≡ said) × ((met_at place class said w).takes ≡ true)
@@ -78,30 +80,30 @@ at_says Quoted Other said w p = (refl, refl)
 at_says Quoted Space said w p = (refl, refl)
 at_says place class said w p = absurd (let no : false ≡ true = p in cc)
 
-words_say : (words : Words) (b : ℕ) (h : Half) → (not (b == 10) && not (b == 45) && goes_on_with (class_of b) words) ≡ true → Says b (in_words words b h)
+words_say : (words : Words) (b : ℕ) (h : Half) → (not (b == code "\n") && not (b == code "-") && goes_on_with (class_of b) words) ≡ true → Says b (in_words words b h)
 words_say words b h p =
-    let front = and-first (not (b == 10) && not (b == 45)) (goes_on_with (class_of b) words) p in
-    let line : (b == 10) ≡ false = is_not (b == 10) (and-first (not (b == 10)) (not (b == 45)) front) in
-    let hyphen_no : (b == 45) ≡ false = is_not (b == 45) (and-second (not (b == 10)) (not (b == 45)) front) in
-    let goes = at_says words.place (class_of b) (says.Byte b) words (and-second (not (b == 10) && not (b == 45)) (goes_on_with (class_of b) words) p) in
-    Says-if b ((b == 45) && turns_hyphens h && not (begins_word words))
+    let front = and-first (not (b == code "\n") && not (b == code "-")) (goes_on_with (class_of b) words) p in
+    let line : (b == code "\n") ≡ false = is_not (b == code "\n") (and-first (not (b == code "\n")) (not (b == code "-")) front) in
+    let hyphen_no : (b == code "-") ≡ false = is_not (b == code "-") (and-second (not (b == code "\n")) (not (b == code "-")) front) in
+    let goes = at_says words.place (class_of b) (says.Byte b) words (and-second (not (b == code "\n") && not (b == code "-")) (goes_on_with (class_of b) words) p) in
+    Says-if b ((b == code "-") && turns_hyphens h && not (begins_word words))
     (λ yes. absurd (let no : true ≡ false = sym yes ∙ ap (λ (x : Bool). x && turns_hyphens h && not (begins_word words)) hyphen_no in cc))
-    (λ no. Says-if b (not (b == 10)) (λ e. record { said = goes.0; takes = goes.1 })
+    (λ no. Says-if b (not (b == code "\n")) (λ e. record { said = goes.0; takes = goes.1 })
     (λ e. absurd (let no : true ≡ false = sym (ap not line) ∙ e in cc)))
 
 line_says : (line : Line) (b : ℕ) (h : Half) → is_as_is_at line b h ≡ true → Says b (in_line_at line b h)
 line_says lines.Request b h p = record { said = refl; takes = refl }
 line_says lines.Text b h p = text_says b h p
 line_says lines.Start b h p =
-    start_says b h (and-first (not (is_control b)) (not (turns_hyphens h) || not (b == 45)) p)
-    (and-second (not (is_control b)) (not (turns_hyphens h) || not (b == 45)) p)
+    start_says b h (and-first (not (is_control b)) (not (turns_hyphens h) || not (b == code "-")) p)
+    (and-second (not (is_control b)) (not (turns_hyphens h) || not (b == code "-")) p)
 line_says (lines.Words words) b h p = words_say words b h p
 line_says line b h p = absurd (let no : false ≡ true = p in cc)
 
 -- ---- what is half read then
 
 gone_as : Bool → Bool → ℕ → Half → Half
-gone_as x m b h = if x then record h { before = befores.Other } else (if m then record h { before = followed (is_ascii_letter b) h.before } else h)
+gone_as x m b h = if x then record h { before = befores.Character marks.Other } else (if m then record h { before = followed (mark_of b) h.before } else h)
 
 gone_line : (x m : Bool) (b : ℕ) (h : Half) (l : Line) → record (gone_as x m b h) { line = l } ≡ gone_as x m b (record h { line = l })
 unfolding gone_as
@@ -111,16 +113,16 @@ gone_line false false b h l = refl
 
 -- the line goes on so, or ends
 going : Line → ℕ → Half → Half
-going line b h = record (gone_by b h) { line = if b == 10 then lines.Start else line }
+going line b h = record (gone_by b h) { line = if b == code "\n" then lines.Start else line }
 
 text_by : (x y : Bool) (b : ℕ) (h : Half) (m : Met) → y ≡ false
     → (if x then saying b lines.Start h else (if y then m else saying b lines.Text h)).half ≡ record (gone_by b h) { line = if x then lines.Start else lines.Text }
 text_by true y b h m p = refl
 text_by false y b h m p = ap (λ (z : Bool). (if z then m else saying b lines.Text h).half) p
 
-text_half : (b : ℕ) (h : Half) → (not (turns_hyphens h) || not (b == 45)) ≡ true → (in_text b h).half ≡ going lines.Text b h
+text_half : (b : ℕ) (h : Half) → (not (turns_hyphens h) || not (b == code "-")) ≡ true → (in_text b h).half ≡ going lines.Text b h
 unfolding going
-text_half b h p = text_by (b == 10) (turns_hyphens h && (b == 45)) b h (hyphen lines.Text h) (not_both (turns_hyphens h) (b == 45) p)
+text_half b h p = text_by (b == code "\n") (turns_hyphens h && (b == code "-")) b h (hyphen lines.Text h) (not_both (turns_hyphens h) (b == code "-") p)
 
 start_by : (x y : Bool) (b : ℕ) (h : Half) (m : Met) → y ≡ false → (in_text b h).half ≡ record (gone_by b h) { line = if x then lines.Start else lines.Text }
     → (if y then m else (if x then saying b lines.Start h else in_text b h)).half ≡ record (gone_by b h) { line = if x then lines.Start else lines.Text }
@@ -128,9 +130,9 @@ start_by x true b h m p q = absurd (let no : true ≡ false = p in cc)
 start_by true false b h m p q = refl
 start_by false false b h m p q = q
 
-start_half : (b : ℕ) (h : Half) → not (is_control b) ≡ true → (not (turns_hyphens h) || not (b == 45)) ≡ true → (at_start b h).half ≡ going lines.Text b h
+start_half : (b : ℕ) (h : Half) → not (is_control b) ≡ true → (not (turns_hyphens h) || not (b == code "-")) ≡ true → (at_start b h).half ≡ going lines.Text b h
 unfolding going
-start_half b h c p = start_by (b == 10) (is_control b) b h (control false b h) (is_not (is_control b) c) (text_half b h p)
+start_half b h c p = start_by (b == code "\n") (is_control b) b h (control false b h) (is_not (is_control b) c) (text_half b h p)
 
 at_words : (place : Place) (class : Class) (said : Said) (w : Words) → goes_on_at place class ≡ true → (met_at place class said w).words ≡ words_at place w
 at_words Inside Other said w p = refl
@@ -145,38 +147,38 @@ words_by true y b h words m n p q = absurd (let no : true ≡ false = p in cc)
 words_by false true b h words m n p q = absurd (let no : true ≡ false = q in cc)
 words_by false false b h words m n p q = refl
 
-words_half : (words : Words) (b : ℕ) (h : Half) → (not (b == 10) && not (b == 45) && goes_on_with (class_of b) words) ≡ true
+words_half : (words : Words) (b : ℕ) (h : Half) → (not (b == code "\n") && not (b == code "-") && goes_on_with (class_of b) words) ≡ true
     → (in_words words b h).half ≡ going (lines.Words words) b h
 unfolding going
 words_half words b h p =
-    let front = and-first (not (b == 10) && not (b == 45)) (goes_on_with (class_of b) words) p in
-    let line : (b == 10) ≡ false = is_not (b == 10) (and-first (not (b == 10)) (not (b == 45)) front) in
-    let hyphen_no : (b == 45) ≡ false = is_not (b == 45) (and-second (not (b == 10)) (not (b == 45)) front) in
-    let goes = at_words words.place (class_of b) (says.Byte b) words (and-second (not (b == 10) && not (b == 45)) (goes_on_with (class_of b) words) p) in
-    words_by ((b == 45) && turns_hyphens h && not (begins_word words)) (b == 10) b h words (hyphen (lines.Words words) h)
-    (if is_ninth words then left (says.Byte 34) (record h { line = lines.Request }) else saying b lines.Start h)
+    let front = and-first (not (b == code "\n") && not (b == code "-")) (goes_on_with (class_of b) words) p in
+    let line : (b == code "\n") ≡ false = is_not (b == code "\n") (and-first (not (b == code "\n")) (not (b == code "-")) front) in
+    let hyphen_no : (b == code "-") ≡ false = is_not (b == code "-") (and-second (not (b == code "\n")) (not (b == code "-")) front) in
+    let goes = at_words words.place (class_of b) (says.Byte b) words (and-second (not (b == code "\n") && not (b == code "-")) (goes_on_with (class_of b) words) p) in
+    words_by ((b == code "-") && turns_hyphens h && not (begins_word words)) (b == code "\n") b h words (hyphen (lines.Words words) h)
+    (if is_ninth words then left (says.Byte (code "\"")) (record h { line = lines.Request }) else saying b lines.Start h)
     (ap (λ (x : Bool). x && turns_hyphens h && not (begins_word words)) hyphen_no) line
-    ∙ ap (λ (w : Words). record (gone_by b h) { line = if b == 10 then lines.Start else lines.Words w }) goes
+    ∙ ap (λ (w : Words). record (gone_by b h) { line = if b == code "\n" then lines.Start else lines.Words w }) goes
 
 line_half : (line : Line) (b : ℕ) (h : Half) → h.line ≡ line → is_as_is_at line b h ≡ true → (in_line_at line b h).half ≡ going (started line) b h
 unfolding going
-line_half lines.Request b h e p = ap (λ (l : Line). record (gone_by b h) { line = if b == 10 then lines.Start else l }) e
+line_half lines.Request b h e p = ap (λ (l : Line). record (gone_by b h) { line = if b == code "\n" then lines.Start else l }) e
 line_half lines.Text b h e p = text_half b h p
 line_half lines.Start b h e p =
-    start_half b h (and-first (not (is_control b)) (not (turns_hyphens h) || not (b == 45)) p)
-    (and-second (not (is_control b)) (not (turns_hyphens h) || not (b == 45)) p)
+    start_half b h (and-first (not (is_control b)) (not (turns_hyphens h) || not (b == code "-")) p)
+    (and-second (not (is_control b)) (not (turns_hyphens h) || not (b == code "-")) p)
 line_half (lines.Words words) b h e p = words_half words b h p
 line_half line b h e p = absurd (let no : false ≡ true = p in cc)
 
 pub takes-is : (b : ℕ) (h : Half) → is_as_is b h ≡ true → (in_line b h).half ≡ taken_as_is b h
 unfolding going gone_as
 takes-is b h p =
-    line_half h.line b h refl (and-second (nat_lt b 127 && not (b == 92) && is_plain h.escape) (is_as_is_at h.line b h) p)
-    ∙ gone_line (b == 10) h.manual b h (if b == 10 then lines.Start else started h.line)
+    line_half h.line b h refl (and-second (nat_lt b 127 && not (b == code "\\") && is_plain h.escape) (is_as_is_at h.line b h) p)
+    ∙ gone_line (b == code "\n") h.manual b h (if b == code "\n" then lines.Start else started h.line)
 
 -- ---- so it is read
 
-as_is_meets : (b : ℕ) (h : Half) → (b == 92) ≡ false → is_plain h.escape ≡ true → is_as_is_at h.line b h ≡ true
+as_is_meets : (b : ℕ) (h : Half) → (b == code "\\") ≡ false → is_plain h.escape ≡ true → is_as_is_at h.line b h ≡ true
     → meet (comings.Byte b) h ≡ taken (says.Byte b) (in_line b h).half
 as_is_meets b h back plain p =
     let is = line_says h.line b h p in
@@ -207,7 +209,7 @@ pub read_as_is : (b : ℕ) (r : Reader) → r.pending ≡ pendings.Nothing → i
     → read b r ≡ told (with_half (taken_as_is b r.half) r) (b ∷ []) 1
 read_as_is b r none cooked p =
     let ascii = nat_lt b 127 in
-    let back = not (b == 92) in
+    let back = not (b == code "\\") in
     let plain = is_plain r.half.escape in
     let at = is_as_is_at r.half.line b r.half in
     let three = and-first (ascii && back && plain) at p in
@@ -216,7 +218,7 @@ read_as_is b r none cooked p =
     ∙ nothing_pending b r none
     ∙ ap (λ (x : Bool). if x then heard (comings.Byte b) r else (if is_lead b then told (pending_with (pendings.One b) r) [] 0 else stray b r)) (and-first ascii back two)
     ∙ heard_byte_taken b r (in_line b r.half).half (and-first ascii back two)
-    (as_is_meets b r.half (is_not (b == 92) (and-second ascii back two)) (and-second (ascii && back) plain three) (and-second (ascii && back && plain) at p))
+    (as_is_meets b r.half (is_not (b == code "\\") (and-second ascii back two)) (and-second (ascii && back) plain three) (and-second (ascii && back && plain) at p))
     ∙ ap (λ (h : Half). told (with_half h r) (b ∷ []) 1) (takes-is b r.half p)
 
 pub Passes-more : (r s t : Reader) (bs : List ℕ) (i : ℕ) → Passes i bs r s → i < length bs

@@ -1,7 +1,9 @@
 -- Escapes that go out as they are: the minus sign, and fonts.
+use Prim.Native.Char.{code}
 use Rattle.std.proofs.Common.{◌≡◌, ℕ, List, [], ◌∷◌, ◌++◌, Bool, true, false, ◌==◌, ◌&&◌, ◌||◌, nat_lt, if◌then◌else◌, refl, sym, ◌∙◌, ap, subst, arith}
 use Rattle.std.proofs.lemmas.Bool.Decides.{nat_tests}
 use Rattle.nr_preconv.specs.declared.half.Half.{Half}
+use Rattle.nr_preconv.specs.declared.half.Mark.TheVariants.{Other}
 use Rattle.nr_preconv.specs.declared.half.Line.{Line}
 use Rattle.nr_preconv.specs.declared.half.Line.TheVariants as lines
 use Rattle.nr_preconv.specs.declared.half.Escape.{Escape}
@@ -61,76 +63,76 @@ ready_at line p = absurd (let no : false ≡ true = p in cc)
 -- ---- after the backslash
 
 begun : Half → Half
-begun h = record h { escape = escapes.Begun; kept = 92 ∷ []; spelled = [] }
+begun h = record h { escape = escapes.Begun; kept = code "\\" ∷ []; spelled = [] }
 
-backslash_met : (h : Half) → is_plain h.escape ≡ true → takes_plain_at h.line ≡ true → meet (comings.Byte 92) h ≡ taken says.Nothing (begun h)
+backslash_met : (h : Half) → is_plain h.escape ≡ true → takes_plain_at h.line ≡ true → meet (comings.Byte (code "\\")) h ≡ taken says.Nothing (begun h)
 unfolding begun
 backslash_met h plain at =
-    ap (λ (x : Bool). if x then plain_byte 92 h else in_escape 92 h) plain
-    ∙ ap (λ (x : Bool). if x then beginning h else in_line 92 h) (backslash_at h.line at)
+    ap (λ (x : Bool). if x then plain_byte (code "\\") h else in_escape (code "\\") h) plain
+    ∙ ap (λ (x : Bool). if x then beginning h else in_line (code "\\") h) (backslash_at h.line at)
 
 backslash_read : (r : Reader) → r.pending ≡ Nothing → is_plain r.half.escape ≡ true → takes_plain_at r.half.line ≡ true
-    → read 92 r ≡ told (with_half (begun r.half) r) [] 1
+    → read (code "\\") r ≡ told (with_half (begun r.half) r) [] 1
 backslash_read r none plain at =
-    meets 92 r says.Nothing (begun r.half) none (cooked_at r.half.line at) refl (backslash_met r.half plain at)
+    meets (code "\\") r says.Nothing (begun r.half) none (cooked_at r.half.line at) refl (backslash_met r.half plain at)
 
 -- ---- the minus sign
 
 forgotten_by : (m : Bool) (h : Half) (e : Escape) (k s : List ℕ)
-    → without_escape (placed_as m false (record h { escape = e; kept = k; spelled = s })) ≡ without_escape (placed_as m false h)
+    → without_escape (placed_as m Other (record h { escape = e; kept = k; spelled = s })) ≡ without_escape (placed_as m Other h)
 forgotten_by true h e k s = refl
 forgotten_by false h e k s = refl
 
-minus_half : (h : Half) → in_text (without_escape (placed false (record h { escape = escapes.Begun; kept = 92 ∷ 45 ∷ []; spelled = [] }))) ≡ behind_minus h
-minus_half h = ap in_text (forgotten_by h.manual h escapes.Begun (92 ∷ 45 ∷ []) [])
+minus_half : (h : Half) → in_text (without_escape (placed Other (record h { escape = escapes.Begun; kept = code "\\" ∷ code "-" ∷ []; spelled = [] }))) ≡ behind_minus h
+minus_half h = ap in_text (forgotten_by h.manual h escapes.Begun (code "\\" ∷ code "-" ∷ []) [])
 
-minus_met : (h : Half) → takes_plain_at h.line ≡ true → meet (comings.Byte 45) (begun h) ≡ taken (says.Kept (92 ∷ 45 ∷ [])) (behind_minus h)
+minus_met : (h : Half) → takes_plain_at h.line ≡ true → meet (comings.Byte (code "-")) (begun h) ≡ taken (says.Kept (code "\\" ∷ code "-" ∷ [])) (behind_minus h)
 unfolding begun
 minus_met h at =
-    ap (λ (x : Bool). if x then made_way h.line (begun h) else letter 45 (begun h)) (ready_at h.line at)
-    ∙ ap (taken (says.Kept (92 ∷ 45 ∷ []))) (minus_half h)
+    ap (λ (x : Bool). if x then made_way h.line (begun h) else letter (code "-") (begun h)) (ready_at h.line at)
+    ∙ ap (taken (says.Kept (code "\\" ∷ code "-" ∷ []))) (minus_half h)
 
 minus_read : (r : Reader) → r.pending ≡ Nothing → takes_plain_at r.half.line ≡ true
-    → read 45 (with_half (begun r.half) r) ≡ told (with_half (behind_minus r.half) r) (92 ∷ 45 ∷ []) 1
+    → read (code "-") (with_half (begun r.half) r) ≡ told (with_half (behind_minus r.half) r) (code "\\" ∷ code "-" ∷ []) 1
 unfolding begun
 minus_read r none at =
-    meets 45 (with_half (begun r.half) r) (says.Kept (92 ∷ 45 ∷ [])) (behind_minus r.half) none (cooked_at r.half.line at) refl (minus_met r.half at)
+    meets (code "-") (with_half (begun r.half) r) (says.Kept (code "\\" ∷ code "-" ∷ [])) (behind_minus r.half) none (cooked_at r.half.line at) refl (minus_met r.half at)
 
 minus_fed : (r : Reader) → r.pending ≡ Nothing → is_plain r.half.escape ≡ true → takes_plain_at r.half.line ≡ true
-    → fed r (92 ∷ 45 ∷ []) ≡ told (with_half (behind_minus r.half) r) (92 ∷ 45 ∷ []) 2
+    → fed r (code "\\" ∷ code "-" ∷ []) ≡ told (with_half (behind_minus r.half) r) (code "\\" ∷ code "-" ∷ []) 2
 minus_fed r none plain at =
-    ap (λ (t : Told). then_told t (λ s. fed s (45 ∷ []))) (backslash_read r none plain at)
+    ap (λ (t : Told). then_told t (λ s. fed s (code "-" ∷ []))) (backslash_read r none plain at)
     ∙ ap (λ (t : Told). behind [] 1 (then_told t (λ s. told s [] 0))) (minus_read r none at)
 
 -- ---- a font
 
 named : Half → Half
-named h = record h { escape = escapes.Target kinds.Font; kept = 92 ∷ 102 ∷ []; spelled = [] }
+named h = record h { escape = escapes.Target kinds.Font; kept = code "\\" ∷ code "f" ∷ []; spelled = [] }
 
-letter_met : (h : Half) → takes_plain_at h.line ≡ true → meet (comings.Byte 102) (begun h) ≡ taken says.Nothing (named h)
+letter_met : (h : Half) → takes_plain_at h.line ≡ true → meet (comings.Byte (code "f")) (begun h) ≡ taken says.Nothing (named h)
 unfolding begun named
-letter_met h at = ap (λ (x : Bool). if x then made_way h.line (begun h) else letter 102 (begun h)) (ready_at h.line at)
+letter_met h at = ap (λ (x : Bool). if x then made_way h.line (begun h) else letter (code "f") (begun h)) (ready_at h.line at)
 
 letter_read : (r : Reader) → r.pending ≡ Nothing → takes_plain_at r.half.line ≡ true
-    → read 102 (with_half (begun r.half) r) ≡ told (with_half (named r.half) r) [] 1
+    → read (code "f") (with_half (begun r.half) r) ≡ told (with_half (named r.half) r) [] 1
 unfolding begun
 letter_read r none at =
-    meets 102 (with_half (begun r.half) r) says.Nothing (named r.half) none (cooked_at r.half.line at) refl (letter_met r.half at)
+    meets (code "f") (with_half (begun r.half) r) says.Nothing (named r.half) none (cooked_at r.half.line at) refl (letter_met r.half at)
 
 -- these four are its letters
 pub is_one : (c x : ℕ) → (c == x) ≡ true → c ≡ x
 is_one c x p = grind (arith, nat_tests)
 
-by_letter : (P : ℕ → Type 0) → P 66 → P 73 → P 80 → P 82 → (c : ℕ) (w x y z : Bool) → (c == 66) ≡ w → (c == 73) ≡ x → (c == 80) ≡ y → (c == 82) ≡ z
+by_letter : (P : ℕ → Type 0) → P (code "B") → P (code "I") → P (code "P") → P (code "R") → (c : ℕ) (w x y z : Bool) → (c == code "B") ≡ w → (c == code "I") ≡ x → (c == code "P") ≡ y → (c == code "R") ≡ z
     → (w || x || y || z) ≡ true → P c
-by_letter P p q s t c true x y z e f g h is = subst P (sym (is_one c 66 e)) p
-by_letter P p q s t c false true y z e f g h is = subst P (sym (is_one c 73 f)) q
-by_letter P p q s t c false false true z e f g h is = subst P (sym (is_one c 80 g)) s
-by_letter P p q s t c false false false true e f g h is = subst P (sym (is_one c 82 h)) t
+by_letter P p q s t c true x y z e f g h is = subst P (sym (is_one c (code "B") e)) p
+by_letter P p q s t c false true y z e f g h is = subst P (sym (is_one c (code "I") f)) q
+by_letter P p q s t c false false true z e f g h is = subst P (sym (is_one c (code "P") g)) s
+by_letter P p q s t c false false false true e f g h is = subst P (sym (is_one c (code "R") h)) t
 by_letter P p q s t c false false false false e f g h is = absurd (let no : false ≡ true = is in cc)
 
 FontRead : Reader → ℕ → Type 0
-FontRead r c = read c (with_half (named r.half) r) ≡ told (with_half (behind_font r.half) r) (92 ∷ 102 ∷ c ∷ []) 1
+FontRead r c = read c (with_half (named r.half) r) ≡ told (with_half (behind_font r.half) r) (code "\\" ∷ code "f" ∷ c ∷ []) 1
 
 font_read : (r : Reader) → r.pending ≡ Nothing → takes_plain_at r.half.line ≡ true → (c : ℕ) → is_font c ≡ true → FontRead r c
 unfolding FontRead named
@@ -138,15 +140,15 @@ font_read r none at c p =
     let s = with_half (named r.half) r in
     let cooked = cooked_at r.half.line at in
     let h = behind_font r.half in
-    by_letter (FontRead r) (meets 66 s (says.Font 66) h none cooked refl refl) (meets 73 s (says.Font 73) h none cooked refl refl)
-    (meets 80 s (says.Font 80) h none cooked refl refl) (meets 82 s (says.Font 82) h none cooked refl refl)
-    c (c == 66) (c == 73) (c == 80) (c == 82) refl refl refl refl p
+    by_letter (FontRead r) (meets (code "B") s (says.Font (code "B")) h none cooked refl refl) (meets (code "I") s (says.Font (code "I")) h none cooked refl refl)
+    (meets (code "P") s (says.Font (code "P")) h none cooked refl refl) (meets (code "R") s (says.Font (code "R")) h none cooked refl refl)
+    c (c == code "B") (c == code "I") (c == code "P") (c == code "R") refl refl refl refl p
 
 font_fed : (r : Reader) (c : ℕ) → r.pending ≡ Nothing → is_plain r.half.escape ≡ true → takes_plain_at r.half.line ≡ true → is_font c ≡ true
-    → fed r (92 ∷ 102 ∷ c ∷ []) ≡ told (with_half (behind_font r.half) r) (92 ∷ 102 ∷ c ∷ []) 3
+    → fed r (code "\\" ∷ code "f" ∷ c ∷ []) ≡ told (with_half (behind_font r.half) r) (code "\\" ∷ code "f" ∷ c ∷ []) 3
 unfolding FontRead
 font_fed r c none plain at p =
-    ap (λ (t : Told). then_told t (λ s. fed s (102 ∷ c ∷ []))) (backslash_read r none plain at)
+    ap (λ (t : Told). then_told t (λ s. fed s (code "f" ∷ c ∷ []))) (backslash_read r none plain at)
     ∙ ap (λ (t : Told). behind [] 1 (then_told t (λ s. fed s (c ∷ [])))) (letter_read r none at)
     ∙ ap (λ (t : Told). behind [] 1 (behind [] 1 (then_told t (λ s. told s [] 0)))) (font_read r none at c p)
 
@@ -166,10 +168,10 @@ minus_passes [] r none may is = absurd (let no : false ≡ true = is in cc)
 minus_passes (a ∷ []) r none may is = absurd (let no : false ≡ true = is in cc)
 minus_passes (a ∷ b ∷ bs) r none may is =
     let P : ℕ → ℕ → Type 0 = λ x y. fed r (x ∷ y ∷ []) ≡ told (with_half (behind_minus r.half) r) (x ∷ y ∷ []) 2 in
-    let whole : P 92 45 =
+    let whole : P (code "\\") (code "-") =
     minus_fed r none (plain_first (is_plain r.half.escape) (takes_plain_at r.half.line) may) (plain_second (is_plain r.half.escape) (takes_plain_at r.half.line) may) in
-    let one : P a 45 = subst (λ (x : ℕ). P x 45) (sym (is_one a 92 (and-first (a == 92) (b == 45) is))) whole in
-    subst (P a) (sym (is_one b 45 (and-second (a == 92) (b == 45) is))) one
+    let one : P a (code "-") = subst (λ (x : ℕ). P x (code "-")) (sym (is_one a (code "\\") (and-first (a == code "\\") (b == code "-") is))) whole in
+    subst (P a) (sym (is_one b (code "-") (and-second (a == code "\\") (b == code "-") is))) one
 
 pub font_passes : (bs : List ℕ) (r : Reader) → r.pending ≡ Nothing → takes_plain_escape r.half ≡ true → begins_font bs ≡ true
     → Passes 3 bs r (with_half (behind_font r.half) r)
@@ -177,10 +179,10 @@ font_passes [] r none may is = absurd (let no : false ≡ true = is in cc)
 font_passes (a ∷ []) r none may is = absurd (let no : false ≡ true = is in cc)
 font_passes (a ∷ b ∷ []) r none may is = absurd (let no : false ≡ true = is in cc)
 font_passes (a ∷ b ∷ c ∷ bs) r none may is =
-    let front = and-first ((a == 92) && (b == 102)) (is_font c) is in
+    let front = and-first ((a == code "\\") && (b == code "f")) (is_font c) is in
     let P : ℕ → ℕ → Type 0 = λ x y. fed r (x ∷ y ∷ c ∷ []) ≡ told (with_half (behind_font r.half) r) (x ∷ y ∷ c ∷ []) 3 in
-    let whole : P 92 102 =
+    let whole : P (code "\\") (code "f") =
     font_fed r c none (plain_first (is_plain r.half.escape) (takes_plain_at r.half.line) may) (plain_second (is_plain r.half.escape) (takes_plain_at r.half.line) may)
-    (and-second ((a == 92) && (b == 102)) (is_font c) is) in
-    let one : P a 102 = subst (λ (x : ℕ). P x 102) (sym (is_one a 92 (and-first (a == 92) (b == 102) front))) whole in
-    subst (P a) (sym (is_one b 102 (and-second (a == 92) (b == 102) front))) one
+    (and-second ((a == code "\\") && (b == code "f")) (is_font c) is) in
+    let one : P a (code "f") = subst (λ (x : ℕ). P x (code "f")) (sym (is_one a (code "\\") (and-first (a == code "\\") (b == code "f") front))) whole in
+    subst (P a) (sym (is_one b (code "f") (and-second (a == code "\\") (b == code "f") front))) one

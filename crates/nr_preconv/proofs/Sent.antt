@@ -1,4 +1,5 @@
 -- No byte goes out that may not.
+use Prim.Native.Char.{code}
 use Rattle.std.proofs.Common.{◌≡◌, ℕ, zero, suc, List, [], ◌∷◌, ◌++◌, Bool, true, false, nat_lt, ◌||◌, if◌then◌else◌, Option, refl, sym, subst, ap}
 use Rattle.std.specs.List.{AllPass}
 use Rattle.std.proofs.lemmas.List.Elements.{All-nil, All-cons, All-append}
@@ -16,7 +17,7 @@ use Rattle.nr_preconv.specs.Reading.{Told, is_lead, is_tail, is_second, told, be
 GoesOut : Option Table → ℕ → Type 0
 GoesOut e b = may_go_out e b ≡ true
 
-sent_by : (e : Option Table) (b : ℕ) (x : Bool) → may_go_out e b ≡ x → may_go_out e (if x then b else 63) ≡ true
+sent_by : (e : Option Table) (b : ℕ) (x : Bool) → may_go_out e b ≡ x → may_go_out e (if x then b else code "?") ≡ true
 sent_by e b true p = p
 sent_by e b false p = refl
 
@@ -24,7 +25,7 @@ sent-goes : (e : Option Table) (b : ℕ) → may_go_out e (sent e b) ≡ true
 sent-goes e b = sent_by e b (may_go_out e b) refl
 
 pub sent_is : (e : Option Table) (b : ℕ) → may_go_out e b ≡ true → sent e b ≡ b
-sent_is e b p = ap (λ (x : Bool). if x then b else 63) p
+sent_is e b p = ap (λ (x : Bool). if x then b else code "?") p
 
 pub ascii-goes : (e : Option Table) (b : ℕ) → nat_lt b 127 ≡ true → may_go_out e b ≡ true
 ascii-goes e b p = ap (λ (x : Bool). x || has_byte e b) p

@@ -1,4 +1,5 @@
 -- Bytes are taken one after another.
+use Prim.Native.Char.{code}
 use Rattle.std.proofs.Common.{◌≡◌, ℕ, ◌+◌, ◌<◌, ◌≤◌, List, [], ◌∷◌, ◌++◌, length, take, drop, get_or, Option, refl, sym, ◌∙◌, ap, subst, append_assoc, append-nil, arith}
 use Rattle.std.proofs.Math.Seq.{take-add}
 use Rattle.std.proofs.lemmas.List.{take-take, length-take}
@@ -31,8 +32,8 @@ none-passed n bs r s passes none =
     sym (ap (λ (t : Told). t.reader) same)
 
 -- a dot and a name
-pub Takes-name : (n : ℕ) (bs : List ℕ) (r s : Reader) (p left : List ℕ) → fed r (take (n + 1) bs) ≡ told s (46 ∷ []) (n + 1)
-    → left ≡ p ++ 46 ∷ [] → Takes (n + 1) bs r s p left (n + 1)
+pub Takes-name : (n : ℕ) (bs : List ℕ) (r s : Reader) (p left : List ℕ) → fed r (take (n + 1) bs) ≡ told s (code "." ∷ []) (n + 1)
+    → left ≡ p ++ code "." ∷ [] → Takes (n + 1) bs r s p left (n + 1)
 Takes-name n bs r s p left named out = record {
   reader = sym (ap (λ (t : Told). t.reader) named);
   out = out ∙ ap (λ (xs : List ℕ). p ++ xs) (sym (ap (λ (t : Told). t.bytes) named));

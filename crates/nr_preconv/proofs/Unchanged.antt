@@ -1,17 +1,19 @@
 -- Plain text is what comes of it.
+use Prim.Native.Char.{code}
 use Rattle.std.proofs.Common.{◌≡◌, ℕ, suc, ◌+◌, ◌≤◌, List, [], ◌∷◌, ◌++◌, length, drop, Bool, true, false, not, ◌==◌, ◌&&◌, nat_lt, if◌then◌else◌, Option, refl, sym, ◌∙◌, ap, append-nil, arith}
 use Rattle.std.proofs.lemmas.List.{drop_all}
 use Rattle.nr_characters.specs.declared.table.Table.{Table}
 use Rattle.nr_preconv.specs.declared.half.Half.{Half}
 use Rattle.nr_preconv.specs.declared.half.Line.{Line}
 use Rattle.nr_preconv.specs.declared.half.Line.TheVariants as lines
-use Rattle.nr_preconv.specs.declared.half.Before.TheVariants.{Other}
+use Rattle.nr_preconv.specs.declared.half.Before.TheVariants.{Character}
+use Rattle.nr_preconv.specs.declared.half.Mark.TheVariants.{Other}
 use Rattle.nr_preconv.specs.declared.half.Coming.TheVariants as comings
 use Rattle.nr_preconv.specs.declared.said.Said.TheVariants as says
 use Rattle.nr_preconv.specs.declared.reader.Reader.{Reader}
 use Rattle.nr_preconv.specs.declared.reader.Pending.TheVariants as pendings
 use Rattle.nr_preconv.specs.Half.{Met, taken, first_half}
-use Rattle.nr_preconv.specs.Hyphens.{is_ascii_letter, placed, saying, in_text}
+use Rattle.nr_preconv.specs.Hyphens.{mark_of, placed, saying, in_text}
 use Rattle.nr_preconv.specs.Lines.{in_line, is_control, control}
 use Rattle.nr_preconv.specs.Meeting.{meet, beginning}
 use Rattle.nr_preconv.specs.PlainText.{goes_on, is_plain_from, is_plain_text}
@@ -27,7 +29,7 @@ reader_at : Option Table → Bool → Reader
 reader_at e starts = record { half = half_at starts; pending = pendings.Nothing; table = e }
 
 said_as : Bool → ℕ → Line → Half → Met
-said_as x b line h = taken (says.Byte b) (record (if x then record h { before = Other } else placed (is_ascii_letter b) h) { line = line })
+said_as x b line h = taken (says.Byte b) (record (if x then record h { before = Character Other } else placed (mark_of b) h) { line = line })
 
 text_as : Bool → ℕ → Half → Met
 text_as x b h = if x then said_as x b lines.Start h else said_as x b lines.Text h
@@ -43,36 +45,36 @@ start_said true b = refl
 start_said false b = refl
 
 -- a byte that goes on it
-start_meets : (b : ℕ) → (b == 92) ≡ false → is_control b ≡ false → meet (comings.Byte b) (half_at true) ≡ taken (says.Byte b) (half_at (b == 10))
+start_meets : (b : ℕ) → (b == code "\\") ≡ false → is_control b ≡ false → meet (comings.Byte b) (half_at true) ≡ taken (says.Byte b) (half_at (b == code "\n"))
 unfolding half_at text_as said_as
 start_meets b back control_no =
     ap (λ (x : Bool). if x && true then beginning (half_at true) else in_line b (half_at true)) back
     ∙ ap (λ (x : Bool). if x then control false b (half_at true) else
-    (if b == 10 then saying b lines.Start (half_at true) else in_text b (half_at true))) control_no
-    ∙ start_said (b == 10) b
+    (if b == code "\n" then saying b lines.Start (half_at true) else in_text b (half_at true))) control_no
+    ∙ start_said (b == code "\n") b
 
-text_meets : (b : ℕ) → (b == 92) ≡ false → meet (comings.Byte b) (half_at false) ≡ taken (says.Byte b) (half_at (b == 10))
+text_meets : (b : ℕ) → (b == code "\\") ≡ false → meet (comings.Byte b) (half_at false) ≡ taken (says.Byte b) (half_at (b == code "\n"))
 unfolding half_at text_as said_as
 text_meets b back =
     ap (λ (x : Bool). if x && true then beginning (half_at false) else in_line b (half_at false)) back
-    ∙ text_said (b == 10) b false
+    ∙ text_said (b == code "\n") b false
 
-goes_meets : (starts : Bool) (b : ℕ) → goes_on starts b ≡ true → meet (comings.Byte b) (half_at starts) ≡ taken (says.Byte b) (half_at (b == 10))
+goes_meets : (starts : Bool) (b : ℕ) → goes_on starts b ≡ true → meet (comings.Byte b) (half_at starts) ≡ taken (says.Byte b) (half_at (b == code "\n"))
 goes_meets true b g =
-    start_meets b (is_not (b == 92) (and-second (nat_lt b 127) (not (b == 92)) (and-first _ (not (is_control b)) g)))
-    (is_not (is_control b) (and-second (nat_lt b 127 && not (b == 92)) (not (is_control b)) g))
+    start_meets b (is_not (b == code "\\") (and-second (nat_lt b 127) (not (b == code "\\")) (and-first _ (not (is_control b)) g)))
+    (is_not (is_control b) (and-second (nat_lt b 127 && not (b == code "\\")) (not (is_control b)) g))
 goes_meets false b g =
-    text_meets b (is_not (b == 92) (and-second (nat_lt b 127) (not (b == 92)) (and-first (nat_lt b 127 && not (b == 92)) true g)))
+    text_meets b (is_not (b == code "\\") (and-second (nat_lt b 127) (not (b == code "\\")) (and-first (nat_lt b 127 && not (b == code "\\")) true g)))
 
-read_going : (e : Option Table) (starts : Bool) (b : ℕ) → goes_on starts b ≡ true → fresh b (reader_at e starts) ≡ told (reader_at e (b == 10)) (b ∷ []) 1
+read_going : (e : Option Table) (starts : Bool) (b : ℕ) → goes_on starts b ≡ true → fresh b (reader_at e starts) ≡ told (reader_at e (b == code "\n")) (b ∷ []) 1
 unfolding reader_at
 read_going e starts b g =
-    let ascii : nat_lt b 127 ≡ true = and-first (nat_lt b 127) (not (b == 92)) (and-first (nat_lt b 127 && not (b == 92)) (not (starts && is_control b)) g) in
+    let ascii : nat_lt b 127 ≡ true = and-first (nat_lt b 127) (not (b == code "\\")) (and-first (nat_lt b 127 && not (b == code "\\")) (not (starts && is_control b)) g) in
     let r = reader_at e starts in
     ap (λ (x : Bool). if x then heard (comings.Byte b) r else (if is_lead b then told (pending_with (pendings.One b) r) [] 0 else stray b r)) ascii
-    ∙ heard_byte_taken b r (half_at (b == 10)) ascii (goes_meets starts b g)
+    ∙ heard_byte_taken b r (half_at (b == code "\n")) ascii (goes_meets starts b g)
 
-read_on : (e : Option Table) (starts : Bool) (b : ℕ) → goes_on starts b ≡ true → read b (reader_at e starts) ≡ told (reader_at e (b == 10)) (b ∷ []) 1
+read_on : (e : Option Table) (starts : Bool) (b : ℕ) → goes_on starts b ≡ true → read b (reader_at e starts) ≡ told (reader_at e (b == code "\n")) (b ∷ []) 1
 unfolding reader_at half_at
 read_on e true b g = ap (behind [] 0) (read_going e true b g)
 read_on e false b g = ap (behind [] 0) (read_going e false b g)
@@ -80,7 +82,7 @@ read_on e false b g = ap (behind [] 0) (read_going e false b g)
 -- where the last line stands
 ends : Bool → List ℕ → Bool
 ends starts [] = starts
-ends starts (b ∷ bs) = ends (b == 10) bs
+ends starts (b ∷ bs) = ends (b == code "\n") bs
 
 one_before : (n : ℕ) → 1 + n ≡ suc n
 one_before n = omega arith
@@ -89,10 +91,10 @@ fed_on : (e : Option Table) (starts : Bool) (bs : List ℕ) → is_plain_from st
 unfolding ends
 fed_on e starts [] p = refl
 fed_on e starts (b ∷ bs) p =
-    let g : goes_on starts b ≡ true = and-first (goes_on starts b) (is_plain_from (b == 10) bs) p in
-    let rest : is_plain_from (b == 10) bs ≡ true = and-second (goes_on starts b) (is_plain_from (b == 10) bs) p in
+    let g : goes_on starts b ≡ true = and-first (goes_on starts b) (is_plain_from (b == code "\n") bs) p in
+    let rest : is_plain_from (b == code "\n") bs ≡ true = and-second (goes_on starts b) (is_plain_from (b == code "\n") bs) p in
     ap (λ (t : Told). then_told t (λ s. fed s bs)) (read_on e starts b g)
-    ∙ ap (behind (b ∷ []) 1) (fed_on e (b == 10) bs rest)
+    ∙ ap (behind (b ∷ []) 1) (fed_on e (b == code "\n") bs rest)
     ∙ told-eq _ _ _ _ _ _ refl refl (one_before (length bs))
 
 nothing_left : (e : Option Table) (starts : Bool) → finished (reader_at e starts) ≡ []

@@ -1,4 +1,5 @@
 -- What a comment and an ignored line have changes nothing of the rest.
+use Prim.Native.Char.{code}
 use Rattle.std.proofs.Common.{◌≡◌, ℕ, List, [], ◌∷◌, ◌++◌, Bool, true, false, not, ◌==◌, ◌&&◌, if◌then◌else◌, refl, sym, ◌∙◌, ap}
 use Rattle.nr_preconv.specs.declared.half.Dots.{Dots}
 use Rattle.nr_preconv.specs.declared.half.Dots.TheVariants as dots
@@ -30,20 +31,20 @@ passes b line r raw =
 -- ---- comments
 
 comment_on : (text : List ℕ) (r : Reader) → is_in_line text ≡ true
-    → (fed (at lines.Comment r) (text ++ 10 ∷ [])).reader ≡ (fed (at lines.Comment r) (10 ∷ [])).reader
+    → (fed (at lines.Comment r) (text ++ code "\n" ∷ [])).reader ≡ (fed (at lines.Comment r) (code "\n" ∷ [])).reader
 unfolding at
 comment_on [] r p = refl
 comment_on (b ∷ bs) r p =
-    let here : (b == 10) ≡ false = is_not (b == 10) (and-first (not (b == 10)) (is_in_line bs) p) in
-    ap (λ (s : Reader). (fed s (bs ++ 10 ∷ [])).reader) (passes b lines.Comment r refl)
-    ∙ ap (λ (x : Bool). (fed (at (if x then lines.Start else lines.Comment) r) (bs ++ 10 ∷ [])).reader) here
-    ∙ comment_on bs r (and-second (not (b == 10)) (is_in_line bs) p)
+    let here : (b == code "\n") ≡ false = is_not (b == code "\n") (and-first (not (b == code "\n")) (is_in_line bs) p) in
+    ap (λ (s : Reader). (fed s (bs ++ code "\n" ∷ [])).reader) (passes b lines.Comment r refl)
+    ∙ ap (λ (x : Bool). (fed (at (if x then lines.Start else lines.Comment) r) (bs ++ code "\n" ∷ [])).reader) here
+    ∙ comment_on bs r (and-second (not (b == code "\n")) (is_in_line bs) p)
 
 pub comments-unread : CommentsAreUnread
 comments-unread r text e p =
-    ap (λ (s : Reader). (fed s (text ++ 10 ∷ [])).reader) (is_at r lines.Comment e)
+    ap (λ (s : Reader). (fed s (text ++ code "\n" ∷ [])).reader) (is_at r lines.Comment e)
     ∙ comment_on text r p
-    ∙ sym (ap (λ (s : Reader). (fed s (10 ∷ [])).reader) (is_at r lines.Comment e))
+    ∙ sym (ap (λ (s : Reader). (fed s (code "\n" ∷ [])).reader) (is_at r lines.Comment e))
 
 -- ---- ignored lines
 
@@ -55,30 +56,30 @@ ignored_by true y d r p = absurd (let no : true ≡ false = p in cc)
 ignored_by false true d r p = refl
 ignored_by false false d r p = refl
 
-ignored_byte : (b : ℕ) (d : Dots) (r : Reader) → not (b == 10) ≡ true
-    → (read b (at (lines.Ignored d) r)).reader ≡ at (lines.Ignored (if b == 46 then one_dot_more d else no_dot d)) r
-ignored_byte b d r p = passes b (lines.Ignored d) r refl ∙ ignored_by (b == 10) (b == 46) d r (is_not (b == 10) p)
+ignored_byte : (b : ℕ) (d : Dots) (r : Reader) → not (b == code "\n") ≡ true
+    → (read b (at (lines.Ignored d) r)).reader ≡ at (lines.Ignored (if b == code "." then one_dot_more d else no_dot d)) r
+ignored_byte b d r p = passes b (lines.Ignored d) r refl ∙ ignored_by (b == code "\n") (b == code ".") d r (is_not (b == code "\n") p)
 
 abbrev is_two : Dots → Bool
 is_two dots.Two = true
 is_two d = false
 
-ends_line : (d : Dots) (r : Reader) → is_two d ≡ false → (fed (at (lines.Ignored d) r) (10 ∷ [])).reader ≡ at (lines.Ignored dots.Start) r
+ends_line : (d : Dots) (r : Reader) → is_two d ≡ false → (fed (at (lines.Ignored d) r) (code "\n" ∷ [])).reader ≡ at (lines.Ignored dots.Start) r
 ends_line dots.Two r p = absurd (let no : true ≡ false = p in cc)
-ends_line dots.Start r p = passes 10 (lines.Ignored dots.Start) r refl
-ends_line dots.One r p = passes 10 (lines.Ignored dots.One) r refl
-ends_line dots.Other r p = passes 10 (lines.Ignored dots.Other) r refl
+ends_line dots.Start r p = passes (code "\n") (lines.Ignored dots.Start) r refl
+ends_line dots.One r p = passes (code "\n") (lines.Ignored dots.One) r refl
+ends_line dots.Other r p = passes (code "\n") (lines.Ignored dots.Other) r refl
 
 stays_other : (x : Bool) → (if x then one_dot_more dots.Other else no_dot dots.Other) ≡ dots.Other
 stays_other true = refl
 stays_other false = refl
 
-other_on : (bs : List ℕ) (r : Reader) → is_in_line bs ≡ true → (fed (at (lines.Ignored dots.Other) r) (bs ++ 10 ∷ [])).reader ≡ at (lines.Ignored dots.Start) r
+other_on : (bs : List ℕ) (r : Reader) → is_in_line bs ≡ true → (fed (at (lines.Ignored dots.Other) r) (bs ++ code "\n" ∷ [])).reader ≡ at (lines.Ignored dots.Start) r
 other_on [] r p = ends_line dots.Other r refl
 other_on (b ∷ bs) r p =
-    ap (λ (s : Reader). (fed s (bs ++ 10 ∷ [])).reader) (ignored_byte b dots.Other r (and-first (not (b == 10)) (is_in_line bs) p))
-    ∙ ap (λ (d : Dots). (fed (at (lines.Ignored d) r) (bs ++ 10 ∷ [])).reader) (stays_other (b == 46))
-    ∙ other_on bs r (and-second (not (b == 10)) (is_in_line bs) p)
+    ap (λ (s : Reader). (fed s (bs ++ code "\n" ∷ [])).reader) (ignored_byte b dots.Other r (and-first (not (b == code "\n")) (is_in_line bs) p))
+    ∙ ap (λ (d : Dots). (fed (at (lines.Ignored d) r) (bs ++ code "\n" ∷ [])).reader) (stays_other (b == code "."))
+    ∙ other_on bs r (and-second (not (b == code "\n")) (is_in_line bs) p)
 
 -- after the first byte
 first_is : Bool → Dots
@@ -102,22 +103,22 @@ second_by false true p = refl
 second_by false false p = refl
 
 line_on : (text : List ℕ) (r : Reader) → is_in_line text ≡ true → begins_with_dots text ≡ false
-    → (fed (at (lines.Ignored dots.Start) r) (text ++ 10 ∷ [])).reader ≡ at (lines.Ignored dots.Start) r
+    → (fed (at (lines.Ignored dots.Start) r) (text ++ code "\n" ∷ [])).reader ≡ at (lines.Ignored dots.Start) r
 line_on [] r p q = ends_line dots.Start r refl
 line_on (a ∷ []) r p q =
-    ap (λ (s : Reader). (fed s (10 ∷ [])).reader) (ignored_byte a dots.Start r (and-first (not (a == 10)) true p))
-    ∙ ap (λ (d : Dots). (fed (at (lines.Ignored d) r) (10 ∷ [])).reader) (first_by (a == 46))
-    ∙ ends_line (first_is (a == 46)) r (one_is_not_two (a == 46))
+    ap (λ (s : Reader). (fed s (code "\n" ∷ [])).reader) (ignored_byte a dots.Start r (and-first (not (a == code "\n")) true p))
+    ∙ ap (λ (d : Dots). (fed (at (lines.Ignored d) r) (code "\n" ∷ [])).reader) (first_by (a == code "."))
+    ∙ ends_line (first_is (a == code ".")) r (one_is_not_two (a == code "."))
 line_on (a ∷ b ∷ bs) r p q =
-    let more = and-second (not (a == 10)) (is_in_line (b ∷ bs)) p in
-    ap (λ (s : Reader). (fed s ((b ∷ bs) ++ 10 ∷ [])).reader) (ignored_byte a dots.Start r (and-first (not (a == 10)) (is_in_line (b ∷ bs)) p))
-    ∙ ap (λ (d : Dots). (fed (at (lines.Ignored d) r) ((b ∷ bs) ++ 10 ∷ [])).reader) (first_by (a == 46))
-    ∙ ap (λ (s : Reader). (fed s (bs ++ 10 ∷ [])).reader) (ignored_byte b (first_is (a == 46)) r (and-first (not (b == 10)) (is_in_line bs) more))
-    ∙ ap (λ (d : Dots). (fed (at (lines.Ignored d) r) (bs ++ 10 ∷ [])).reader) (second_by (a == 46) (b == 46) q)
-    ∙ other_on bs r (and-second (not (b == 10)) (is_in_line bs) more)
+    let more = and-second (not (a == code "\n")) (is_in_line (b ∷ bs)) p in
+    ap (λ (s : Reader). (fed s ((b ∷ bs) ++ code "\n" ∷ [])).reader) (ignored_byte a dots.Start r (and-first (not (a == code "\n")) (is_in_line (b ∷ bs)) p))
+    ∙ ap (λ (d : Dots). (fed (at (lines.Ignored d) r) ((b ∷ bs) ++ code "\n" ∷ [])).reader) (first_by (a == code "."))
+    ∙ ap (λ (s : Reader). (fed s (bs ++ code "\n" ∷ [])).reader) (ignored_byte b (first_is (a == code ".")) r (and-first (not (b == code "\n")) (is_in_line bs) more))
+    ∙ ap (λ (d : Dots). (fed (at (lines.Ignored d) r) (bs ++ code "\n" ∷ [])).reader) (second_by (a == code ".") (b == code ".") q)
+    ∙ other_on bs r (and-second (not (b == code "\n")) (is_in_line bs) more)
 
 pub ignored-unread : IgnoredLinesAreUnread
 ignored-unread r text e p q =
-    ap (λ (s : Reader). (fed s (text ++ 10 ∷ [])).reader) (is_at r (lines.Ignored dots.Start) e)
+    ap (λ (s : Reader). (fed s (text ++ code "\n" ∷ [])).reader) (is_at r (lines.Ignored dots.Start) e)
     ∙ line_on text r p q
     ∙ sym (is_at r (lines.Ignored dots.Start) e)

@@ -1,4 +1,5 @@
 -- What the name of a control line makes of the rest of it.
+use Prim.Native.Char.{code}
 use Rattle.std.specs.Prelude.{ℕ, List, [], ◌∷◌, ◌++◌, length, take, Bool, not, ◌==◌, ◌&&◌, if◌then◌else◌, Option, None, Some, is_some, codes, slice_index}
 use Rattle.std.specs.Str.{bytes_eq}
 use Rattle.nr_preconv.specs.declared.said.Said.{Said}
@@ -11,7 +12,7 @@ use Rattle.nr_preconv.specs.Glyphs.{looked_up}
 -- what a table has for a name of one byte or two
 abbrev pub entry : {T : Type 0} → List (ℕ × ℕ × T) → List ℕ → Option T
 entry table [] = None
-entry table (a ∷ []) = looked_up table a 32
+entry table (a ∷ []) = looked_up table a (code " ")
 entry table (a ∷ b ∷ []) = looked_up table a b
 entry table (a ∷ b ∷ c ∷ rest) = None
 
@@ -39,13 +40,13 @@ definition_alone opens = Rest
 -- `de1` and `am1` are as `de` and `am`
 abbrev pub opened : List ℕ → Opens
 opened name =
-    if (length name == 3) && (slice_index name 2 == 49) then definition_alone (opened_by (take 2 name)) else
+    if (length name == 3) && (slice_index name 2 == code "1") then definition_alone (opened_by (take 2 name)) else
     if bytes_eq name (codes "nop") then Nop else opened_by name
 
 -- How a name goes out before this byte: that of a definition without its third byte, and that of a condition with a blank
 -- before an escape. `.nop` is a condition that holds.
 abbrev pub apart : List ℕ → ℕ → List ℕ
-apart name b = if (b == 92) && not (length name == 32) then name ++ 32 ∷ [] else name
+apart name b = if (b == code "\\") && not (length name == 32) then name ++ code " " ∷ [] else name
 
 abbrev pub said_name : Opens → List ℕ → ℕ → Said
 said_name Definition name b = Kept (if length name == 3 then take 2 name else name)

@@ -8,13 +8,14 @@ use Rattle.nr_preconv.specs.declared.half.Line.{Line}
 use Rattle.nr_preconv.specs.declared.half.Line.TheVariants as lines
 use Rattle.nr_preconv.specs.declared.half.Escape.{Escape}
 use Rattle.nr_preconv.specs.declared.half.Escape.TheVariants as escapes
-use Rattle.nr_preconv.specs.declared.half.Before.TheVariants.{Other}
+use Rattle.nr_preconv.specs.declared.half.Before.TheVariants.{Character}
+use Rattle.nr_preconv.specs.declared.half.Mark.TheVariants.{Other}
 use Rattle.nr_preconv.specs.declared.half.Kind.{Kind}
 use Rattle.nr_preconv.specs.declared.half.Kind.TheVariants as kinds
 use Rattle.nr_preconv.specs.declared.words.Class.TheVariants as classes
 use Rattle.nr_preconv.specs.declared.words.Told.{Told}
 use Rattle.nr_preconv.specs.Half.{Met, taken, left, character_said, is_beginning, is_text, takes_brace, without_escape, in_text, abandoned}
-use Rattle.nr_preconv.specs.Hyphens.{is_letter, placed, leaving_hyphens, may_hang, is_hang, behind_hyphen}
+use Rattle.nr_preconv.specs.Hyphens.{wide_mark, placed, begins_behind, leaving_hyphens, may_hang, is_hang, behind_hyphen}
 use Rattle.nr_preconv.specs.Glyphs.{is_pair, is_native, is_struck, glyph_code, code_of, font_of}
 use Rattle.nr_preconv.specs.Numbers.{is_number}
 use Rattle.nr_preconv.specs.Words.{met_words, begins_word}
@@ -40,19 +41,19 @@ ended said h = taken said (in_text (without_escape h))
 
 -- it goes out as it was kept
 abbrev pub ended_kept : Half → Met
-ended_kept h = ended (says.Kept h.kept) (placed false h)
+ended_kept h = ended (says.Kept h.kept) (placed Other h)
 
 abbrev pub ends_with : ℕ → Half → Met
 ends_with b h = ended_kept (keeping b h)
 
 -- Nothing is said for it; but a line that begins with it is a text line, whatever comes next.
 abbrev pub dropped : Half → Met
-dropped h = ended (if is_beginning h.line then says.Escape 38 else says.Nothing) h
+dropped h = ended (if is_beginning h.line then says.Escape (code "&") else says.Nothing) h
 
 -- ---- after the backslash
 
 abbrev pub comment : Said → Half → Met
-comment said h = taken said (record (without_escape h) { before = Other; line = lines.Comment })
+comment said h = taken said (record (without_escape h) { before = Character Other; line = lines.Comment })
 
 -- where nothing has begun after a condition, a newline after a backslash is dropped
 abbrev pub hidden_by : Line → Said → Said
@@ -61,17 +62,17 @@ hidden_by lines.Condition said = says.Nothing
 hidden_by line said = said
 
 abbrev pub newline_hidden : Half → Met
-newline_hidden h = taken (hidden_by h.line (says.Kept (with_byte 10 h.kept))) (without_escape h)
+newline_hidden h = taken (hidden_by h.line (says.Kept (with_byte (code "\n") h.kept))) (without_escape h)
 
 -- after a condition a part begins
 abbrev pub brace : Half → Met
 brace h =
-    let m = ends_with 123 h in
+    let m = ends_with (code "{") h in
     if takes_brace h.line then record m { half = record m.half { line = lines.Braced } } else m
 
 -- a blank that is no gap: in a control line it must not end a word
 abbrev pub blank : Half → Met
-blank h = ended (says.Escape (if is_text h.line then 32 else 48)) (placed false h)
+blank h = ended (says.Escape (if is_text h.line then code " " else code "0")) (placed Other h)
 
 abbrev pub skip : Half → Met
 skip h = taken says.Nothing (record h { kept = []; escape = escapes.Skip })
@@ -89,7 +90,7 @@ measured b h =
 -- so far to the left the line begins
 abbrev pub hang : Half → Met
 hang h =
-    if is_hang h.spelled then taken (says.Hang h.spelled) (record (without_escape h) { line = lines.Text; before = Other }) else ended_kept h
+    if is_hang h.spelled then taken (says.Hang h.spelled) (record (without_escape h) { line = lines.Text; before = Character Other }) else ended_kept h
 
 -- a name that is dropped: colours, families, devices
 abbrev pub is_unnamed : ℕ → Bool
@@ -104,24 +105,25 @@ is_skipped b = (b == code "H") || (b == code "R") || (b == code "S") || (b == co
 abbrev pub embed : Half → Met
 embed h = taken says.Nothing (record h { kept = []; escape = escapes.Embedded false })
 
--- by the byte after the backslash
+-- By the byte after the backslash. `\%` behind an opening bracket or a quote only keeps a word whole, and is no place to cut it.
 abbrev pub letter : ℕ → Half → Met
 letter b h =
-    if b == 40 then going_on b (escapes.Pair kinds.Glyph) h else
-    if b == 91 then going_on b (escapes.Bracket kinds.Glyph) h else
-    if b == 102 then going_on b (escapes.Target kinds.Font) h else
-    if b == 110 then going_on b (escapes.Target kinds.Register) h else
-    if b == 42 then going_on b (escapes.Target kinds.Text) h else
-    if b == 115 then going_on b (escapes.Target kinds.Size) h else
-    if b == 78 then going_on b (escapes.Delimiter kinds.Code) h else
-    if b == 67 then going_on b (escapes.Delimiter kinds.Glyph) h else
-    if b == 65 then going_on b (escapes.Delimiter kinds.Identifier) h else
-    if b == 66 then going_on b (escapes.Delimiter kinds.Number) h else
-    if b == 63 then embed h else
-    if (b == 44) || (b == 47) || (b == 41) || (b == 58) then dropped h else
-    if (b == 32) || (b == 126) then blank h else
-    if b == 36 then going_on b escapes.Argument h else
-    if b == 123 then brace h else
+    if b == code "(" then going_on b (escapes.Pair kinds.Glyph) h else
+    if b == code "[" then going_on b (escapes.Bracket kinds.Glyph) h else
+    if b == code "f" then going_on b (escapes.Target kinds.Font) h else
+    if b == code "n" then going_on b (escapes.Target kinds.Register) h else
+    if b == code "*" then going_on b (escapes.Target kinds.Text) h else
+    if b == code "s" then going_on b (escapes.Target kinds.Size) h else
+    if b == code "N" then going_on b (escapes.Delimiter kinds.Code) h else
+    if b == code "C" then going_on b (escapes.Delimiter kinds.Glyph) h else
+    if b == code "A" then going_on b (escapes.Delimiter kinds.Identifier) h else
+    if b == code "B" then going_on b (escapes.Delimiter kinds.Number) h else
+    if b == code "?" then embed h else
+    if (b == code ",") || (b == code "/") || (b == code ")") || (b == code ":") then dropped h else
+    if (b == code "%") && begins_behind h then dropped h else
+    if (b == code " ") || (b == code "~") then blank h else
+    if b == code "$" then going_on b escapes.Argument h else
+    if b == code "{" then brace h else
     if is_unnamed b then going_on b (escapes.Target kinds.Dropped) h else
     if is_skipped b then skip h else
     if is_measured b then measured b h else ends_with b h
@@ -155,20 +157,20 @@ is_text_line line = false
 -- In a definition, and in the text of a string, an escape may have several backslashes. In a text line a note hides its newline.
 abbrev pub behind_backslash : ℕ → Half → Met
 behind_backslash b h =
-    if b == 10 then newline_hidden h else
-    if (b == 92) && (h.defining || is_stored h.line) then going_on b escapes.Begun h else
-    if b == 34 then comment (says.Kept (with_byte b h.kept)) h else
-    if (b == 35) && is_text_line h.line then taken says.Nothing (record h { escape = escapes.Note }) else
-    if b == 35 then comment (says.Comment (is_start h.line)) h else
+    if b == code "\n" then newline_hidden h else
+    if (b == code "\\") && (h.defining || is_stored h.line) then going_on b escapes.Begun h else
+    if b == code "\"" then comment (says.Kept (with_byte b h.kept)) h else
+    if (b == code "#") && is_text_line h.line then taken says.Nothing (record h { escape = escapes.Note }) else
+    if b == code "#" then comment (says.Comment (is_start h.line)) h else
     if waits h.line then made_way h.line h else letter b h
 
 -- ---- arguments
 
 abbrev pub argument : ℕ → Half → Met
 argument b h =
-    if b == 42 then ended (says.Arguments (nat_lt 2 (length h.kept))) (placed false h) else
-    if b == 64 then ended (says.QuotedArguments (nat_lt 2 (length h.kept))) (placed false h) else
-    if b == 10 then abandoned h else ends_with b h
+    if b == code "*" then ended (says.Arguments (nat_lt 2 (length h.kept))) (placed Other h) else
+    if b == code "@" then ended (says.QuotedArguments (nat_lt 2 (length h.kept))) (placed Other h) else
+    if b == code "\n" then abandoned h else ends_with b h
 
 -- ---- names
 
@@ -179,11 +181,11 @@ is_delimited escape = false
 
 abbrev pub character : Option ℕ → Half → Met
 character None h = if is_delimited h.escape then dropped h else ended_kept h
-character (Some c) h = ended (character_said h.line c) (placed (is_letter c) h)
+character (Some c) h = ended (character_said h.line c) (placed (wide_mark c) h)
 
 abbrev pub struck : Option ℕ → Half → Met
 struck None h = character None h
-struck (Some c) h = ended (says.Struck c) (placed false h)
+struck (Some c) h = ended (says.Struck c) (placed Other h)
 
 abbrev pub is_translation : Line → Bool
 is_translation lines.Translation = true
@@ -192,28 +194,28 @@ is_translation line = false
 -- one that the language has goes out as it was kept, or as a byte
 abbrev pub native : Option ℕ → Half → Met
 native None h = ended_kept h
-native (Some c) h = ended (says.Native h.kept c) (placed false h)
+native (Some c) h = ended (says.Native h.kept c) (placed (wide_mark c) h)
 
 -- A character by its name. `.tr \(*W-` makes \(*W a dash.
 abbrev pub glyph : Half → Met
 glyph h =
     if is_native h.spelled && not (is_delimited h.escape) then native (glyph_code h.spelled) h else
-    if is_pair 42 87 h.spelled && is_translation h.line then ended_kept (record h { dashes = true }) else
-    if is_pair 42 87 h.spelled && h.dashes then ended (says.Escape 45) (placed false h) else
+    if is_pair (code "*") (code "W") h.spelled && is_translation h.line then ended_kept (record h { dashes = true }) else
+    if is_pair (code "*") (code "W") h.spelled && h.dashes then ended (says.Escape (code "-")) (placed Other h) else
     if is_struck h.spelled then struck (glyph_code h.spelled) h else character (glyph_code h.spelled) h
 
 abbrev pub numbered : Half → Met
 numbered h = character (code_of h.spelled) h
 
 abbrev pub tested : Bool → Half → Met
-tested holds h = ended (says.Byte (if holds then code "1" else code "0")) (placed false h)
+tested holds h = ended (says.Byte (if holds then code "1" else code "0")) (placed Other h)
 
 -- The register `.g` is 1. Sizes and colours are dropped.
 abbrev pub named : Kind → Half → Met
 named kinds.Glyph h = glyph h
 named kinds.Code h = numbered h
 named kinds.Font h = ended (says.Font (font_of h.spelled)) h
-named kinds.Register h = if is_pair 46 103 h.spelled then ended (says.Byte 49) (placed false h) else ended_kept h
+named kinds.Register h = if is_pair (code ".") (code "g") h.spelled then ended (says.Byte (code "1")) (placed Other h) else ended_kept h
 named kinds.Size h = dropped h
 named kinds.Dropped h = dropped h
 named kinds.Identifier h = tested (not (length h.spelled == 0)) h
@@ -238,19 +240,25 @@ abbrev pub is_size : Kind → Bool
 is_size kinds.Size = true
 is_size kind = false
 
+abbrev pub is_dropped : Kind → Bool
+is_dropped kinds.Dropped = true
+is_dropped kind = false
+
+-- one that another escape gives, as `\f\*B`, is left to the formatter
 abbrev pub target : Kind → ℕ → Half → Met
 target kind b h =
-    if b == 10 then abandoned h else
-    if b == 40 then going_on b (escapes.Pair kind) h else
-    if b == 91 then going_on b (escapes.Bracket kind) h else
-    if ((b == 43) || (b == 45)) && has_sign kind then going_on b (escapes.Target kind) h else
-    if (b == 39) && is_size kind then going_on b (escapes.Delimited kind b) h else named_by kind b h
+    if b == code "\n" then abandoned h else
+    if (b == code "\\") && not (is_dropped kind) then abandoned h else
+    if b == code "(" then going_on b (escapes.Pair kind) h else
+    if b == code "[" then going_on b (escapes.Bracket kind) h else
+    if ((b == code "+") || (b == code "-")) && has_sign kind then going_on b (escapes.Target kind) h else
+    if (b == code "'") && is_size kind then going_on b (escapes.Delimited kind b) h else named_by kind b h
 
 abbrev pub paired : Kind → Half → Met
 paired kind h = if length h.spelled == 2 then named kind h else taken says.Nothing h
 
 abbrev pub pair : Kind → ℕ → Half → Met
-pair kind b h = if b == 10 then abandoned h else paired kind (spelling b (keeping b h))
+pair kind b h = if b == code "\n" then abandoned h else paired kind (spelling b (keeping b h))
 
 -- what hangs by an escape in another is read as it stands
 abbrev pub is_hang_kind : Kind → Bool
@@ -259,17 +267,17 @@ is_hang_kind kind = false
 
 abbrev pub spelled_up_to : ℕ → Kind → ℕ → Half → Met
 spelled_up_to end kind b h =
-    if b == 10 then abandoned h else
+    if b == code "\n" then abandoned h else
     if (b == code "\\") && is_hang_kind kind then abandoned h else
     if b == end then named kind (keeping b h) else taken says.Nothing (spelling b (keeping b h))
 
 abbrev pub delimiter : Kind → ℕ → Half → Met
-delimiter kind b h = if b == 10 then abandoned h else going_on b (escapes.Delimited kind b) h
+delimiter kind b h = if b == code "\n" then abandoned h else going_on b (escapes.Delimited kind b) h
 
 -- ---- names between brackets, in which others may be
 
 abbrev pub bracketed : Kind → ℕ → Half → Met
-bracketed kind b h = if b == code "[" then going_on b (escapes.Nested kind) h else spelled_up_to 93 kind b h
+bracketed kind b h = if b == code "[" then going_on b (escapes.Nested kind) h else spelled_up_to (code "]") kind b h
 
 abbrev pub nested : Kind → ℕ → Half → Met
 nested kind b h =
@@ -279,10 +287,10 @@ nested kind b h =
 -- ---- texts that are dropped
 
 abbrev pub skipped : ℕ → ℕ → Half → Met
-skipped end b h = if b == 10 then abandoned h else if b == end then dropped h else taken says.Nothing h
+skipped end b h = if b == code "\n" then abandoned h else if b == end then dropped h else taken says.Nothing h
 
 abbrev pub skip_from : ℕ → Half → Met
-skip_from b h = if b == 10 then abandoned h else taken says.Nothing (record h { escape = escapes.Skipped b })
+skip_from b h = if b == code "\n" then abandoned h else taken says.Nothing (record h { escape = escapes.Skipped b })
 
 abbrev pub embedded : Bool → ℕ → Half → Met
 embedded backslash b h =

@@ -1,4 +1,5 @@
 -- The names of characters and fonts (groff_char(7)).
+use Prim.Native.Char.{code}
 use Rattle.std.specs.Prelude.{ℕ, ◌-◌, List, [], ◌∷◌, length, drop, Bool, false, ◌==◌, ◌&&◌, ◌||◌, nat_le, nat_lt, if◌then◌else◌, Option, None, Some, codes, slice_get, slice_index}
 use Rattle.nr_preconv.specs.Numbers.{number_from}
 use Rattle.std.specs.Str.{bytes_eq}
@@ -19,7 +20,7 @@ looked_up (entry ∷ entries) a b = if (entry.0 == a) && (entry.1 == b) then Som
 
 abbrev pub below_codes : Option ℕ → Option ℕ
 below_codes None = None
-below_codes (Some code) = if nat_lt code 1114112 then Some code else None
+below_codes (Some c) = if nat_lt c 1114112 then Some c else None
 
 -- the character with this number
 abbrev pub code_of : List ℕ → Option ℕ
@@ -41,10 +42,10 @@ long_code name = named_in NAMES name
 abbrev pub glyph_code : List ℕ → Option ℕ
 glyph_code name =
     if length name == 2 then pair_code (slice_index name 0) (slice_index name 1) else
-    if nat_lt 4 (length name) && (slice_index name 0 == 117) then below_codes (number_from 16 0 (drop 1 name)) else
-    if nat_lt 4 (length name) && (slice_index name 0 == 99) && (slice_index name 1 == 104) && (slice_index name 2 == 97) && (slice_index name 3 == 114)
+    if nat_lt 4 (length name) && (slice_index name 0 == code "u") then below_codes (number_from 16 0 (drop 1 name)) else
+    if nat_lt 4 (length name) && (slice_index name 0 == code "c") && (slice_index name 1 == code "h") && (slice_index name 2 == code "a") && (slice_index name 3 == code "r")
     then code_of (drop 4 name) else
-    if nat_lt 2 (length name) && (slice_index name 1 == 32) then Some (slice_index name 0) else long_code name
+    if nat_lt 2 (length name) && (slice_index name 1 == code " ") then Some (slice_index name 0) else long_code name
 
 -- its last mark is a stroke through the letter, U+0338
 abbrev pub is_struck : List ℕ → Bool
@@ -53,20 +54,20 @@ is_struck name = nat_le 5 (length name) && bytes_eq (drop (length name - 5) name
 -- the language has it: `hy`, `em`, `bu`, `aq`, `dq`, `rs`
 abbrev pub is_native : List ℕ → Bool
 is_native name =
-    is_pair 104 121 name || is_pair 101 109 name || is_pair 98 117 name
-    || is_pair 97 113 name || is_pair 100 113 name || is_pair 114 115 name
+    is_pair (code "h") (code "y") name || is_pair (code "e") (code "m") name || is_pair (code "b") (code "u") name
+    || is_pair (code "a") (code "q") name || is_pair (code "d") (code "q") name || is_pair (code "r") (code "s") name
 
 -- ---- fonts
 
 -- by the last byte of a name: bold, italic, the previous one, or roman
 abbrev pub letter_of : ℕ → ℕ
 letter_of last =
-    if (last == 66) || (last == 51) then 66 else
-    if (last == 73) || (last == 50) || (last == 52) then 73 else
-    if last == 80 then 80 else 82
+    if (last == code "B") || (last == code "3") then code "B" else
+    if (last == code "I") || (last == code "2") || (last == code "4") then code "I" else
+    if last == code "P" then code "P" else code "R"
 
 abbrev pub font_by : Option ℕ → ℕ
-font_by None = 80
+font_by None = code "P"
 font_by (Some last) = letter_of last
 
 abbrev pub font_of : List ℕ → ℕ

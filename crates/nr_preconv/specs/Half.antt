@@ -1,4 +1,5 @@
 -- What is half read, and what a character does to it.
+use Prim.Native.Char.{code}
 use Rattle.std.specs.Prelude.{ℕ, [], Bool, true, false, not, ◌==◌, ◌&&◌, ◌||◌, if◌then◌else◌}
 use Rattle.nr_preconv.specs.declared.said.Said.{Said}
 use Rattle.nr_preconv.specs.declared.said.Said.TheVariants as says
@@ -6,7 +7,8 @@ use Rattle.nr_preconv.specs.declared.half.Half.{Half}
 use Rattle.nr_preconv.specs.declared.half.Seen.{Seen}
 use Rattle.nr_preconv.specs.declared.half.Line.{Line}
 use Rattle.nr_preconv.specs.declared.half.Line.TheVariants as lines
-use Rattle.nr_preconv.specs.declared.half.Before.TheVariants.{Other}
+use Rattle.nr_preconv.specs.declared.half.Before.TheVariants.{Character}
+use Rattle.nr_preconv.specs.declared.half.Mark.TheVariants.{Other}
 use Rattle.nr_preconv.specs.declared.half.Escape.{Escape}
 use Rattle.nr_preconv.specs.declared.half.Escape.TheVariants as escapes
 use Rattle.nr_preconv.specs.Likeness.{is_blank}
@@ -29,7 +31,7 @@ left said h = record { half = h; said = said; takes = false }
 
 -- a page begins
 abbrev pub first_half : Half
-first_half = record { line = lines.Start; escape = escapes.Plain; kept = []; spelled = []; name = []; conditional = false; defining = false; dashes = false; manual = false; table = false; before = Other }
+first_half = record { line = lines.Start; escape = escapes.Plain; kept = []; spelled = []; name = []; conditional = false; defining = false; dashes = false; manual = false; table = false; before = Character Other }
 
 -- ---- where a line is read
 
@@ -50,11 +52,11 @@ is_text line = false
 
 -- a blank that isn't what separates words
 abbrev pub is_space : ℕ → Bool
-is_space code = (code == 32) || (code == 160) || is_blank code
+is_space c = (c == code " ") || (c == 160) || is_blank c
 
 -- what is said for a character: a blank must not end a word of a control line
 abbrev pub character_said : Line → ℕ → Said
-character_said line code = if is_space code && not (is_text line) then says.Escape 48 else says.Character code
+character_said line c = if is_space c && not (is_text line) then says.Escape (code "0") else says.Character c
 
 -- after a condition, where `\{` begins a part
 abbrev pub takes_brace : Line → Bool

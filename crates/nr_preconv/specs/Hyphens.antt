@@ -7,7 +7,9 @@ use Rattle.nr_preconv.specs.declared.half.Half.{Half}
 use Rattle.nr_preconv.specs.declared.half.Line.{Line}
 use Rattle.nr_preconv.specs.declared.half.Line.TheVariants as lines
 use Rattle.nr_preconv.specs.declared.half.Before.{Before}
-use Rattle.nr_preconv.specs.declared.half.Before.TheVariants.{Letter, Other, Argument}
+use Rattle.nr_preconv.specs.declared.half.Before.TheVariants.{Character, Argument}
+use Rattle.nr_preconv.specs.declared.half.Mark.{Mark}
+use Rattle.nr_preconv.specs.declared.half.Mark.TheVariants.{Letter, Opening, Other}
 use Rattle.nr_preconv.specs.declared.half.Escape.TheVariants as escapes
 use Rattle.nr_preconv.specs.Numbers.{is_within}
 use Rattle.nr_preconv.specs.Likeness.{is_latin_letter}
@@ -24,17 +26,39 @@ is_letter c = is_ascii_letter c || is_within 256 8191 c || nat_le 11264 c || is_
 
 -- ---- what stands before the next character
 
-abbrev pub followed : Bool → Before → Before
-followed letter Argument = Argument
-followed true before = Letter
-followed false before = Other
+-- behind an opening bracket or a quote a word begins: ( [ < " and the opening quotes of Unicode
+abbrev pub is_opening : ℕ → Bool
+is_opening c =
+    (c == code "(") || (c == code "[") || (c == code "<") || (c == code "\"") || (c == 8216) || (c == 8220)
 
--- a character is read, a letter or not
-abbrev pub placed : Bool → Half → Half
-placed letter h = if h.manual then record h { before = followed letter h.before } else h
+abbrev pub mark_by : Bool → ℕ → Mark
+mark_by letter c = if letter then Letter else if is_opening c then Opening else Other
+
+-- what an ASCII character is for what stands behind it, and another
+abbrev pub mark_of : ℕ → Mark
+mark_of b = mark_by (is_ascii_letter b) b
+
+abbrev pub wide_mark : ℕ → Mark
+wide_mark c = mark_by (is_letter c) c
+
+abbrev pub followed : Mark → Before → Before
+followed mark Argument = Argument
+followed mark (Character before) = Character mark
+
+-- a character is read
+abbrev pub placed : Mark → Half → Half
+placed mark h = if h.manual then record h { before = followed mark h.before } else h
 
 abbrev pub gone_by : ℕ → Half → Half
-gone_by b h = if b == code "\n" then record h { before = Other } else placed (is_ascii_letter b) h
+gone_by b h = if b == code "\n" then record h { before = Character Other } else placed (mark_of b) h
+
+-- a word begins there that no blank stands before
+abbrev pub is_begun : Before → Bool
+is_begun (Character Opening) = true
+is_begun before = false
+
+abbrev pub begins_behind : Half → Bool
+begins_behind h = is_begun h.before
 
 -- After an escape with a number or a text hyphens may stand in its argument: up to the end of the line they stay as they are.
 abbrev pub leaving_hyphens : Half → Half
@@ -48,8 +72,8 @@ turns_hyphens h = h.manual && not h.table
 
 -- after a letter what comes decides; else it goes out as `\-`, after which no line is broken
 abbrev pub hyphen_by : Before → Half → Met
-hyphen_by Letter h = taken says.Nothing (record h { before = Other; escape = escapes.Hyphen; kept = code "-" ∷ [] })
-hyphen_by Other h = taken (says.Escape (code "-")) h
+hyphen_by (Character Letter) h = taken says.Nothing (record h { before = Character Other; escape = escapes.Hyphen; kept = code "-" ∷ [] })
+hyphen_by (Character mark) h = taken (says.Escape (code "-")) (record h { before = Character Other })
 hyphen_by Argument h = taken (says.Byte (code "-")) h
 
 abbrev pub hyphen : Line → Half → Met

@@ -16,18 +16,18 @@ use Rattle.nr_preconv.specs.declared.words.Class.{Class}
 use Rattle.nr_preconv.specs.declared.words.Class.TheVariants.{Other}
 use Rattle.nr_preconv.specs.Half.{Met, taken, left, character_said}
 use Rattle.nr_preconv.specs.Beginnings.{opened, said_name}
-use Rattle.nr_preconv.specs.Hyphens.{is_letter, placed, gone_by, saying, in_text, hyphen, turns_hyphens}
+use Rattle.nr_preconv.specs.Hyphens.{wide_mark, placed, gone_by, saying, in_text, hyphen, turns_hyphens}
 use Rattle.nr_preconv.specs.Conditions.{is_gap, before_condition, in_number, in_strings, in_asked}
 use Rattle.nr_preconv.specs.Words.{first_words, begins_word, is_ninth, met_words, class_of}
 
 -- a blank, a control byte or a backslash ends a name
 abbrev pub ends_name : ℕ → Bool
-ends_name b = nat_le b 32 || (b == 92) || (b == 127)
+ends_name b = nat_le b (code " ") || (b == code "\\") || (b == 127)
 
 -- ---- a line begins
 
 abbrev pub is_control : ℕ → Bool
-is_control b = (b == 46) || (b == 39)
+is_control b = (b == code ".") || (b == code "'")
 
 abbrev pub control : Bool → ℕ → Half → Met
 control conditional b h = saying b lines.Control (record h { name = []; conditional = conditional })
@@ -35,13 +35,13 @@ control conditional b h = saying b lines.Control (record h { name = []; conditio
 abbrev pub at_start : ℕ → Half → Met
 at_start b h =
     if is_control b then control false b h else
-    if b == 10 then saying b lines.Start h else in_text b h
+    if b == code "\n" then saying b lines.Start h else in_text b h
 
 -- after a condition, where blanks are skipped
 abbrev pub at_part : ℕ → Half → Met
 at_part b h =
     if is_control b then control true b h else
-    if b == 10 then saying b lines.Start h else
+    if b == code "\n" then saying b lines.Start h else
     if is_gap b then saying b h.line h else in_text b h
 
 -- ---- the name of a control line
@@ -55,7 +55,7 @@ blanks_said line h = left (Kept h.name) (record h { name = []; line = line })
 -- Blanks after the control character are kept. In a definition they are dropped before a second one, which ends it.
 abbrev pub behind_control : ℕ → Half → Met
 behind_control b h =
-    if (b == 46) && h.defining then naming (46 ∷ []) lines.Name h else
+    if (b == code ".") && h.defining then naming (code "." ∷ []) lines.Name h else
     if is_gap b && not (length h.name == 32) then naming (h.name ++ b ∷ []) lines.Control h else
     if not (length h.name == 0) then blanks_said lines.Control h else
     if ends_name b then blanks_said lines.Request h else naming (b ∷ []) lines.Name h
@@ -93,7 +93,7 @@ table_by o before = before
 
 abbrev pub opening : Opens → ℕ → Half → Half
 opening o b h = record h {
-  line = line_of o ((b == 10) && not h.conditional);
+  line = line_of o ((b == code "\n") && not h.conditional);
   defining = defining_by o h.defining;
   manual = manual_by o h;
   table = table_by o h.table;
@@ -111,7 +111,7 @@ in_name b h =
 -- ---- the rest of a line
 
 abbrev pub in_rest : ℕ → Half → Met
-in_rest b h = saying b (if b == 10 then lines.Start else h.line) h
+in_rest b h = saying b (if b == code "\n" then lines.Start else h.line) h
 
 abbrev pub as_met : Told → Half → Met
 as_met told h = record { half = record h { line = lines.Words told.words }; said = told.said; takes = told.takes }
@@ -123,8 +123,8 @@ among_words words class said h = as_met (met_words class said words) h
 abbrev pub in_words : Words → ℕ → Half → Met
 in_words words b h =
     if (b == code "-") && turns_hyphens h && not (begins_word words) then hyphen (lines.Words words) h else
-    if not (b == 10) then among_words words (class_of b) (Byte b) (gone_by b h) else
-    if is_ninth words then left (Byte 34) (record h { line = lines.Request }) else saying b lines.Start h
+    if not (b == code "\n") then among_words words (class_of b) (Byte b) (gone_by b h) else
+    if is_ninth words then left (Byte (code "\"")) (record h { line = lines.Request }) else saying b lines.Start h
 
 -- ---- comments and ignored lines: bytes pass as they are
 
@@ -143,10 +143,10 @@ no_dot dots.Two = dots.Two
 no_dot d = dots.Other
 
 abbrev pub line_passed : Line → ℕ → Line
-line_passed lines.Comment b = if b == 10 then lines.Start else lines.Comment
+line_passed lines.Comment b = if b == code "\n" then lines.Start else lines.Comment
 line_passed (lines.Ignored d) b =
-    if b == 10 then behind_ignored d else
-    if b == 46 then lines.Ignored (one_dot_more d) else lines.Ignored (no_dot d)
+    if b == code "\n" then behind_ignored d else
+    if b == code "." then lines.Ignored (one_dot_more d) else lines.Ignored (no_dot d)
 line_passed line b = line
 
 abbrev pub passing : ℕ → Half → Half
@@ -176,7 +176,7 @@ in_line b h = in_line_at h.line b h
 -- ---- characters beyond ASCII
 
 abbrev pub showing : ℕ → Line → Half → Met
-showing c line h = taken (character_said h.line c) (record (placed (is_letter c) h) { line = line })
+showing c line h = taken (character_said h.line c) (record (placed (wide_mark c) h) { line = line })
 
 abbrev pub wide_at : Line → ℕ → Half → Met
 wide_at lines.Start c h = showing c lines.Text h
@@ -184,9 +184,9 @@ wide_at lines.Part c h = showing c lines.Text h
 wide_at lines.Braced c h = showing c lines.Text h
 wide_at lines.Condition c h = showing c lines.Text h
 wide_at lines.Control c h = blanks_said lines.Request h
-wide_at lines.Name c h = named_line 32 h
-wide_at (lines.Words words) c h = among_words words Other (character_said (lines.Words words) c) (placed (is_letter c) h)
-wide_at (lines.Asked asked) c h = in_asked asked 63 h
+wide_at lines.Name c h = named_line (code " ") h
+wide_at (lines.Words words) c h = among_words words Other (character_said (lines.Words words) c) (placed (wide_mark c) h)
+wide_at (lines.Asked asked) c h = in_asked asked (code "?") h
 wide_at line c h = showing c line h
 
 abbrev pub wide_in_line : ℕ → Half → Met

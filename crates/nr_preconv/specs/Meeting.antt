@@ -16,11 +16,11 @@ use Rattle.nr_preconv.specs.Escapes.{in_escape}
 use Rattle.nr_preconv.specs.Lines.{is_control, in_line, wide_in_line, takes_escape}
 
 abbrev pub beginning : Half → Met
-beginning h = taken Nothing (record h { escape = escapes.Begun; kept = 92 ∷ []; spelled = [] })
+beginning h = taken Nothing (record h { escape = escapes.Begun; kept = code "\\" ∷ []; spelled = [] })
 
 -- an ASCII character: it goes on an escape, begins one, or goes on its line
 abbrev pub plain_byte : ℕ → Half → Met
-plain_byte b h = if (b == 92) && takes_escape h.line then beginning h else in_line b h
+plain_byte b h = if (b == code "\\") && takes_escape h.line then beginning h else in_line b h
 
 abbrev pub meet_byte : ℕ → Half → Met
 meet_byte b h = if is_plain h.escape then plain_byte b h else in_escape b h

@@ -21,15 +21,15 @@ digit_below base d = if nat_lt d base then Some d else None
 -- the value of a digit
 abbrev pub digit : ℕ → ℕ → Option ℕ
 digit base b =
-    if is_within 48 57 b then digit_below base (b - 48) else
-    if is_within 65 70 b then digit_below base (b - 65 + 10) else
-    if is_within 97 102 b then digit_below base (b - 97 + 10) else None
+    if is_within (code "0") (code "9") b then digit_below base (b - code "0") else
+    if is_within (code "A") (code "F") b then digit_below base (b - code "A" + 10) else
+    if is_within (code "a") (code "f") b then digit_below base (b - code "a" + 10) else None
 
 -- The number that digits go on with, up to a `_`, after which marks stand, or the end. One more digit is too many where
 -- the number is no character's code.
 abbrev pub number_from : ℕ → ℕ → List ℕ → Option ℕ
 number_from base n [] = Some n
 number_from base n (b ∷ bs) =
-    if b == 95 then Some n else
+    if b == code "_" then Some n else
     if nat_le 1114112 n then None else
     elim (digit base b) [ None ↦ None | Some d ↦ number_from base (n * base + d) bs ]

@@ -1,15 +1,16 @@
 -- Text that goes out as it is.
+use Prim.Native.Char.{code}
 use Rattle.std.specs.Prelude.{ℕ, List, [], ◌∷◌, Bool, true, not, ◌==◌, ◌&&◌, nat_lt}
 use Rattle.nr_preconv.specs.Lines.{is_control}
 
 -- a byte of ASCII that is neither DEL nor a backslash, and at the beginning of a line no control character
 abbrev pub goes_on : Bool → ℕ → Bool
-goes_on starts b = nat_lt b 127 && not (b == 92) && not (starts && is_control b)
+goes_on starts b = nat_lt b 127 && not (b == code "\\") && not (starts && is_control b)
 
 -- from the beginning of a line, or from the midst of one
 abbrev pub is_plain_from : Bool → List ℕ → Bool
 is_plain_from starts [] = true
-is_plain_from starts (b ∷ bs) = goes_on starts b && is_plain_from (b == 10) bs
+is_plain_from starts (b ∷ bs) = goes_on starts b && is_plain_from (b == code "\n") bs
 
 -- lines of ASCII text without backslashes and control lines
 abbrev pub is_plain_text : List ℕ → Bool

@@ -6,6 +6,7 @@ use Rattle.nr_preconv.specs.declared.half.Half.{Half}
 use Rattle.nr_preconv.specs.declared.half.Line.{Line}
 use Rattle.nr_preconv.specs.declared.half.Line.TheVariants as lines
 use Rattle.nr_preconv.specs.declared.words.Words.{Words}
+use Rattle.nr_preconv.specs.declared.half.Mark.TheVariants.{Other}
 use Rattle.nr_preconv.specs.Half.{is_plain, without_escape, in_text}
 use Rattle.nr_preconv.specs.Hyphens.{placed}
 use Rattle.nr_preconv.specs.Numbers.{is_within}
@@ -54,7 +55,7 @@ name_len bs h = if is_plain h.escape && is_start h.line then dotted_len bs else 
 
 -- the dot and the name were read
 abbrev pub behind_name : List ℕ → Half → Half
-behind_name name h = record (placed false h) { conditional = false; name = name; line = lines.Name }
+behind_name name h = record (placed Other h) { conditional = false; name = name; line = lines.Name }
 
 -- ---- escapes that go out as they are: the minus sign, and fonts
 
@@ -88,4 +89,4 @@ abbrev pub behind_font : Half → Half
 behind_font h = in_text (without_escape h)
 
 abbrev pub behind_minus : Half → Half
-behind_minus h = behind_font (placed false h)
+behind_minus h = behind_font (placed Other h)

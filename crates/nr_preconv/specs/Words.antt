@@ -1,5 +1,6 @@
 -- The words of a font macro's line. No more than nine are taken, so the ninth and all after it are one word in quotes;
 -- where two fonts take turns, the words after the ninth follow one another with their fonts.
+use Prim.Native.Char.{code}
 use Rattle.std.specs.Prelude.{ℕ, ◌+◌, Bool, true, false, not, ◌==◌, nat_le, if◌then◌else◌}
 use Rattle.nr_preconv.specs.declared.said.Said.{Said}
 use Rattle.nr_preconv.specs.declared.said.Said.TheVariants.{Nothing, Byte, Quotes, Font}
@@ -13,7 +14,7 @@ use Rattle.nr_preconv.specs.declared.words.Class.{Class}
 use Rattle.nr_preconv.specs.declared.words.Class.TheVariants.{Space, Quote, Other}
 
 abbrev pub class_of : ℕ → Class
-class_of b = if b == 32 then Space else if b == 34 then Quote else Other
+class_of b = if b == code " " then Space else if b == code "\"" then Quote else Other
 
 -- no word has begun
 abbrev pub first_words : Fonts → Words
@@ -65,7 +66,7 @@ begun w =
     then record { words = record { fonts = w.fonts; count = 9; second = not w.second; place = Begun }; said = font_said w; takes = false }
     else record {
       words = record { fonts = w.fonts; count = w.count + 1; second = not w.second; place = Begun };
-      said = if w.count == 8 then Byte 34 else Nothing;
+      said = if w.count == 8 then Byte (code "\"") else Nothing;
       takes = false;
     }
 
@@ -85,7 +86,7 @@ quoted_said said ninth w = if is_ninth w then ninth else said
 abbrev pub met_closing : Class → Said → Words → Told
 met_closing Quote said w = told Quoted (quoted_said said Quotes w) true w
 met_closing Space said w = told Between (blank_said said w) true w
-met_closing Other said w = told Between (blank_said (Byte 32) w) false w
+met_closing Other said w = told Between (blank_said (Byte (code " ")) w) false w
 
 -- by where it comes, and what it is
 abbrev pub met_at : Place → Class → Said → Words → Told

@@ -5,6 +5,7 @@ ghost use Rattle.nr_preconv.specs.Conditions as specs;
 
 use super::beginnings::is_known;
 use super::half::{Asked, Half, Line, Seen};
+use super::numbers::begins_number;
 use super::said::Said;
 use nr_units::Name;
 
@@ -30,7 +31,7 @@ impl Half {
             b'd' => self.asks(Asked::Defined),
             b'c' | b'F' => self.asks(Asked::Always),
             b'r' | b'm' | b'S' => self.asks(Asked::Never),
-            b'0'..=b'9' | b'(' | b'+' | b'-' | b'.' | b'|' => self.says(byte, Line::Number),
+            _ if begins_number(byte) => self.says(byte, Line::Number),
             _ => self.says(byte, Line::Strings(byte, false)),
         }
     }

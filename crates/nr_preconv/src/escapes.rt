@@ -5,8 +5,8 @@ ghost use Rattle.nr_preconv.specs.Hyphens.{may_hang};
 ghost use Rattle.nr_preconv.specs.Escapes as specs;
 
 use super::glyphs::{code_of, font_of, glyph_code, is_native, is_pair, is_struck};
-use super::half::{Before, Escape, Half, Kind, Line, Seen};
-use super::hyphens::{is_hang, is_letter};
+use super::half::{Before, Escape, Half, Kind, Line, Mark, Seen};
+use super::hyphens::{is_hang, wide_mark};
 use super::numbers::is_number;
 use super::said::Said;
 use nr_units::Name;
@@ -86,7 +86,7 @@ impl Half {
     fn ended_kept(&mut self) -> Seen
         ensures { met self.new result ≡ specs.ended_kept self.old }
     {
-        self.places(false);
+        self.places(Mark::Other);
         let kept = self.kept;
         self.ended(Said::Kept(kept))
     }
@@ -125,7 +125,7 @@ impl Half {
         ensures { met self.new result ≡ specs.comment said self.old }
     {
         self.forget();
-        self.before = Before::Other;
+        self.before = Before::Character(Mark::Other);
         self.line = Line::Comment;
         Seen::taken(said)
     }
@@ -160,7 +160,7 @@ impl Half {
         ensures { met self.new result ≡ specs.blank self.old }
     {
         let byte = if self.line.is_text() { b' ' } else { b'0' };
-        self.places(false);
+        self.places(Mark::Other);
         self.ended(Said::Escape(byte))
     }
 
@@ -199,6 +199,7 @@ impl Half {
             b'B' => self.goes_on(byte, Escape::Delimiter(Kind::Number)),
             b'?' => self.embed(),
             b',' | b'/' | b')' | b':' => self.dropped(),
+            b'%' if self.begins_behind() => self.dropped(),
             b' ' | b'~' => self.blank(),
             b'$' => self.goes_on(byte, Escape::Argument),
             b'{' => self.brace(),
@@ -238,7 +239,7 @@ impl Half {
         }
         self.forget();
         self.line = Line::Text;
-        self.before = Before::Other;
+        self.before = Before::Character(Mark::Other);
         Seen::taken(Said::Hang(number))
     }
 
@@ -306,11 +307,11 @@ impl Half {
         let doubled = self.kept.len() > 2;
         match byte {
             b'*' => {
-                self.places(false);
+                self.places(Mark::Other);
                 self.ended(Said::Arguments(doubled))
             }
             b'@' => {
-                self.places(false);
+                self.places(Mark::Other);
                 self.ended(Said::QuotedArguments(doubled))
             }
             b'\n' => self.abandoned(),
@@ -326,7 +327,7 @@ impl Half {
         match code {
             Some(code) => {
                 let said = self.line.character(code);
-                self.places(is_letter(code));
+                self.places(wide_mark(code));
                 self.ended(said)
             }
             None if self.escape.is_delimited() => self.dropped(),
@@ -340,7 +341,7 @@ impl Half {
     {
         match code {
             Some(code) => {
-                self.places(false);
+                self.places(Mark::Other);
                 self.ended(Said::Struck(code))
             }
             None => self.character(None),
@@ -355,7 +356,7 @@ impl Half {
             return self.ended_kept();
         };
         let kept = self.kept;
-        self.places(false);
+        self.places(wide_mark(code));
         self.ended(Said::Native(kept, code))
     }
 
@@ -373,7 +374,7 @@ impl Half {
                 return self.ended_kept();
             }
             if self.dashes {
-                self.places(false);
+                self.places(Mark::Other);
                 return self.ended(Said::Escape(b'-'));
             }
         }
@@ -401,7 +402,7 @@ impl Half {
             Kind::Code => self.numbered(),
             Kind::Font => self.ended(Said::Font(font_of(name.as_bytes()))),
             Kind::Register if is_pair(name.as_bytes(), b'.', b'g') => {
-                self.places(false);
+                self.places(Mark::Other);
                 self.ended(Said::Byte(b'1'))
             }
             Kind::Register | Kind::Text => self.ended_kept(),
@@ -416,7 +417,7 @@ impl Half {
     fn tested(&mut self, holds: bool) -> Seen
         ensures { met self.new result ≡ specs.tested holds self.old }
     {
-        self.places(false);
+        self.places(Mark::Other);
         self.ended(Said::Byte(if holds { b'1' } else { b'0' }))
     }
 
@@ -432,12 +433,14 @@ impl Half {
         }
     }
 
-    /// A byte after the letter of an escape with a name.
+    /// A byte after the letter of an escape with a name. One that another escape gives, as `\f\*B`, is left to
+    /// the formatter.
     fn target(&mut self, kind: Kind, byte: u8) -> Seen
         ensures { met self.new result ≡ specs.target kind byte self.old }
     {
         match (byte, kind) {
             (b'\n', _) => self.abandoned(),
+            (b'\\', _) if !matches!(kind, Kind::Dropped) => self.abandoned(),
             (b'(', _) => self.goes_on(byte, Escape::Pair(kind)),
             (b'[', _) => self.goes_on(byte, Escape::Bracket(kind)),
             (b'+' | b'-', Kind::Register | Kind::Size) => self.goes_on(byte, Escape::Target(kind)),

@@ -69,13 +69,22 @@ pub(crate) enum Dots {
     Other,
 }
 
+/// What a character is for what stands behind it.
+#[derive(Clone, Copy)]
+pub(crate) enum Mark {
+    /// A letter.
+    Letter,
+    /// An opening bracket or a quote, behind which a word begins.
+    Opening,
+    /// Anything else.
+    Other,
+}
+
 /// What stands before the next character of a line in a manual page.
 #[derive(Clone, Copy)]
 pub(crate) enum Before {
-    /// A letter.
-    Letter,
-    /// No letter.
-    Other,
+    /// A character.
+    Character(Mark),
     /// Anything, after an escape with a number or a text: up to the end of the line hyphens stay as they are.
     Argument,
 }
@@ -268,7 +277,7 @@ impl Half {
             dashes: false,
             manual: false,
             table: false,
-            before: Before::Other,
+            before: Before::Character(Mark::Other),
         }
     }
 }

@@ -3,7 +3,7 @@ ghost use Rattle.std.specs.Prelude.{◌≡◌};
 ghost use Rattle.nr_preconv.specs.Half.{met};
 ghost use Rattle.nr_preconv.specs.Hyphens as specs;
 
-use super::half::{Before, Escape, Half, Line, Seen};
+use super::half::{Before, Escape, Half, Line, Mark, Seen};
 use super::likeness::is_latin_letter;
 use super::said::Said;
 use nr_units::Name;
@@ -20,6 +20,40 @@ pub(crate) fn is_letter(code: u32) -> bool
     ensures { result ≡ specs.is_letter code }
 {
     matches!(code, 0x41..=0x5A | 0x61..=0x7A | 0x0100..=0x1FFF | 0x2C00..) || is_latin_letter(code)
+}
+
+/// An opening bracket or a quote.
+fn is_opening(code: u32) -> bool
+    ensures { result ≡ specs.is_opening code }
+{
+    matches!(code, 0x22 | 0x28 | 0x3C | 0x5B | 0x2018 | 0x201C)
+}
+
+/// What a character is, a letter or not.
+fn mark_by(letter: bool, code: u32) -> Mark
+    ensures { result ≡ specs.mark_by letter code }
+{
+    if letter {
+        Mark::Letter
+    } else if is_opening(code) {
+        Mark::Opening
+    } else {
+        Mark::Other
+    }
+}
+
+/// What an ASCII character is.
+fn mark_of(byte: u8) -> Mark
+    ensures { result ≡ specs.mark_of byte }
+{
+    mark_by(is_ascii_letter(byte), u32::from(byte))
+}
+
+/// What another character is.
+pub(crate) fn wide_mark(code: u32) -> Mark
+    ensures { result ≡ specs.wide_mark code }
+{
+    mark_by(is_letter(code), code)
 }
 
 fn is_digit(byte: u8) -> bool
@@ -40,25 +74,24 @@ pub(crate) fn is_hang(number: &[u8]) -> bool
 }
 
 impl Before {
-    /// What stands there after one more character, a letter or not.
-    fn followed(self, letter: bool) -> Before
-        ensures { result ≡ specs.followed letter self }
+    /// What stands there after one more character.
+    fn followed(self, mark: Mark) -> Before
+        ensures { result ≡ specs.followed mark self }
     {
         match self {
             Before::Argument => Before::Argument,
-            _ if letter => Before::Letter,
-            _ => Before::Other,
+            Before::Character(_) => Before::Character(mark),
         }
     }
 }
 
 impl Half {
-    /// A character is read, a letter or not.
-    pub(crate) fn places(&mut self, letter: bool)
-        ensures { self.new ≡ specs.placed letter self.old }
+    /// A character is read.
+    pub(crate) fn places(&mut self, mark: Mark)
+        ensures { self.new ≡ specs.placed mark self.old }
     {
         if self.manual {
-            self.before = self.before.followed(letter);
+            self.before = self.before.followed(mark);
         }
     }
 
@@ -67,10 +100,17 @@ impl Half {
         ensures { self.new ≡ specs.gone_by byte self.old }
     {
         if byte == b'\n' {
-            self.before = Before::Other;
+            self.before = Before::Character(Mark::Other);
         } else {
-            self.places(is_ascii_letter(byte));
+            self.places(mark_of(byte));
         }
+    }
+
+    /// Whether an opening bracket or a quote stands before the next character.
+    pub(crate) fn begins_behind(&self) -> bool
+        ensures { result ≡ specs.begins_behind self.now }
+    {
+        matches!(self.before, Before::Character(Mark::Opening))
     }
 
     /// The hyphens of this line are left as they are from here on.
@@ -95,13 +135,16 @@ impl Half {
     {
         self.line = line;
         match self.before {
-            Before::Letter => {
-                self.before = Before::Other;
+            Before::Character(Mark::Letter) => {
+                self.before = Before::Character(Mark::Other);
                 self.escape = Escape::Hyphen;
                 self.kept = Name::of(b"-");
                 Seen::taken(Said::Nothing)
             }
-            Before::Other => Seen::taken(Said::Escape(b'-')),
+            Before::Character(_) => {
+                self.before = Before::Character(Mark::Other);
+                Seen::taken(Said::Escape(b'-'))
+            }
             Before::Argument => Seen::taken(Said::Byte(b'-')),
         }
     }

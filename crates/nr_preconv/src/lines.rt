@@ -5,7 +5,7 @@ ghost use Rattle.nr_preconv.specs.Lines as specs;
 
 use super::beginnings::{Opens, opened, said_name};
 use super::half::{Dots, Half, Line, Seen};
-use super::hyphens::is_letter;
+use super::hyphens::wide_mark;
 use super::said::Said;
 use super::words::{Class, Words};
 use nr_units::Name;
@@ -231,7 +231,7 @@ impl Half {
         ensures { met self.new result ≡ specs.showing code line self.old }
     {
         let said = self.line.character(code);
-        self.places(is_letter(code));
+        self.places(wide_mark(code));
         self.line = line;
         Seen::taken(said)
     }
@@ -248,7 +248,7 @@ impl Half {
             Line::Control => self.blanks_said(Line::Request),
             Line::Name => self.named_line(b' '),
             Line::Words(words) => {
-                self.places(is_letter(code));
+                self.places(wide_mark(code));
                 self.among_words(words, Class::Other, self.line.character(code))
             }
             Line::Asked(asked) => self.in_asked(asked, b'?'),

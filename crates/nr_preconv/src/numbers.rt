@@ -6,7 +6,7 @@ ghost use Rattle.nr_preconv.specs.Numbers.{begins_number, digit, is_number, numb
 const CODES: u32 = 0x0011_0000;
 
 /// A byte that a number begins with.
-fn begins_number(byte: u8) -> bool
+pub(crate) fn begins_number(byte: u8) -> bool
     ensures { result ≡ begins_number byte }
 {
     matches!(byte, b'0'..=b'9' | b'(' | b'+' | b'-' | b'.' | b'|')

@@ -3,7 +3,7 @@ ghost use Rattle.std.specs.Prelude.{◌≡◌, ◌+◌, ◌<◌, ◌≤◌, leng
 ghost use Rattle.std.specs.List.{prefix_len};
 ghost use Rattle.nr_preconv.specs.Runs as specs;
 
-use super::half::{Escape, Half, Line};
+use super::half::{Escape, Half, Line, Mark};
 use super::words::{Class, Words};
 use nr_units::Name;
 
@@ -73,7 +73,7 @@ impl Half {
     pub(crate) fn takes_name(&mut self, name: Name)
         ensures { self.new ≡ specs.behind_name name self.old }
     {
-        self.places(false);
+        self.places(Mark::Other);
         self.conditional = false;
         self.name = name;
         self.line = Line::Name;
@@ -107,7 +107,7 @@ impl Half {
     pub(crate) fn takes_minus(&mut self)
         ensures { self.new ≡ specs.behind_minus self.old }
     {
-        self.places(false);
+        self.places(Mark::Other);
         self.takes_font();
     }
 }

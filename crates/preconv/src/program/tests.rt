@@ -11,7 +11,7 @@ struct Row {
     line: &'static [u8],
 }
 
-static TEXTS: [(&str, Page<'static>); 7] = [
+static TEXTS: [(&str, Page<'static>); 8] = [
     (
         "quotes",
         Page::Bytes(b"\xe2\x80\x9ca\xe2\x80\x9d \\(em \\fIb\\fP\n"),
@@ -20,11 +20,15 @@ static TEXTS: [(&str, Page<'static>); 7] = [
     ("half", Page::Bytes(b"\\(l")),
     ("signs", Page::Bytes(b"\\(ul\t\\[eq]\n")),
     ("other", Page::Bytes(b"q\n.tr x")),
+    (
+        "names",
+        Page::Bytes(b".TH x\n(\\%a b\\%c \\%d \\f\\*[B]e\n"),
+    ),
     ("folder", Page::Cut(b"")),
     ("cut", Page::Cut(b"a\\~b\n.BR c\\(l")),
 ];
 
-static ROWS: [Row; 18] = [
+static ROWS: [Row; 19] = [
     Row {
         words: &[b"preconv"],
         output: b"cafe\n",
@@ -73,6 +77,13 @@ static ROWS: [Row; 18] = [
     Row {
         words: &[b"preconv", b"signs"],
         output: b"\\&_\t\\&=\n",
+        status: 0,
+        line: b"",
+    },
+    // A word is cut behind a letter alone, and what names a font is left.
+    Row {
+        words: &[b"preconv", b"names"],
+        output: b".TH x\n(a b\\%c \\%d \\f\\*[B]e\n",
         status: 0,
         line: b"",
     },
