@@ -1,0 +1,249 @@
+-- What is to come after each call, and that a call ends.
+use Rattle.std.proofs.Common.{◌≡◌, ℕ, suc, ◌<◌, List, [], ◌∷◌, ◌++◌, length, take, drop, get_or, Bool, true, false, ◌==◌, ◌&&◌, if◌then◌else◌, Option, None, Some, Result, Ok, Err, refl, sym, ◌∙◌, ap, subst, append-nil, length-append, nat_lt, arith}
+use Rattle.std.proofs.lemmas.Bool.{eqb-true}
+use Rattle.std.proofs.lemmas.List.{nil_from_length}
+use Rattle.std.specs.Prelude.{⊤}
+use Rattle.std.specs.Char.{encode_utf8}
+use Rattle.nr_units.specs.Source.{Supply, Faults, Never, After, Anytime, Gives, Offers, Skips, MayGiveAll}
+use Rattle.nr_units.specs.declared.source.Fault.{Fault}
+use Rattle.nr_coding.specs.declared.part.Part.{Part}
+use Rattle.nr_coding.specs.declared.part.Part.TheVariants.{Start, Mark, LongMark, Head, Plain, Latin1, Wide}
+use Rattle.nr_coding.specs.declared.part.Step.{Step}
+use Rattle.nr_coding.specs.declared.wide.Units.{Units}
+use Rattle.nr_coding.specs.declared.wide.Wide.{Wide as Wides}
+use Rattle.nr_coding.specs.Wide.{replacement, character_of, is_high, is_low, pair_code, unit, first_wide, fresh, behind_high, behind_first}
+use Rattle.nr_coding.specs.Part.{taken, ended, is_marking}
+use Rattle.nr_coding.specs.UnderCoding.{text_from, given, supply_from, hand_of}
+
+-- what was known is as it was
+abbrev pub Stays : Option Supply → Option Supply → Type 0
+Stays None new = ⊤
+Stays (Some q) new = new ≡ Some q
+
+Stays-trans : (a b c : Option Supply) → Stays a b → Stays b c → Stays a c
+Stays-trans None b c p q = tt
+Stays-trans (Some x) None c p q = cc
+Stays-trans (Some x) (Some y) c p q = q ∙ p
+
+pub Stays-first : (a : Option Supply) → Stays a a
+Stays-first None = tt
+Stays-first (Some q) = refl
+
+Stays-gives : (a b c : Option Supply) (r : Result (Option ℕ) Fault) → Stays a b → Gives b r c → Gives a r c
+Stays-gives None b c r p q = tt
+Stays-gives (Some x) b c r p q = subst (λ (known : Option Supply). Gives known r c) p q
+
+-- ---- one call
+
+-- a byte came
+byte_came : (part : Part) (b : ℕ) (known new : Option Supply) → Gives {E = Fault} known (Ok (Some b)) new
+    → Stays (supply_from part [] known) (supply_from (taken b part).part (taken b part).text new)
+byte_came part b None new gives = tt
+byte_came part b (Some q) None gives = absurd gives
+byte_came part b (Some q) (Some t) gives =
+    ap (λ (bytes : List ℕ). Some (record { bytes = text_from part bytes; faults = Anytime })) (sym gives.0)
+
+pub byte_stays : (a : Option Supply) (part : Part) (b : ℕ) (ready : List ℕ) (known new : Option Supply) → ready ≡ [] → Stays a (supply_from part ready known) → Gives {E = Fault} known (Ok (Some b)) new
+    → Stays a (supply_from (taken b part).part (taken b part).text new)
+byte_stays a part b ready known new none stays gives =
+    Stays-trans a (supply_from part [] known) _ (subst (λ (xs : List ℕ). Stays a (supply_from part xs known)) none stays) (byte_came part b known new gives)
+
+-- the end came
+end_same : (part : Part) (q t : Supply) → q.bytes ≡ [] → t ≡ q → given Plain (ended part) t ≡ given part [] q
+end_same part q t none same =
+    let left : t.bytes ≡ [] = ap (λ (s : Supply). s.bytes) same ∙ none in
+    let P : List ℕ → Supply = λ bytes. record { bytes = bytes; faults = Anytime } in
+    ap (λ (bytes : List ℕ). P (ended part ++ text_from Plain bytes)) left
+    ∙ ap P (append-nil (ended part))
+    ∙ ap (λ (bytes : List ℕ). P (text_from part bytes)) (sym none)
+
+end_came : (part : Part) (known new : Option Supply) → Gives {E = Fault} known (Ok None) new → Stays (supply_from part [] known) (supply_from Plain (ended part) new)
+end_came part None new gives = tt
+end_came part (Some q) None gives = absurd gives
+end_came part (Some q) (Some t) gives = ap (λ (s : Supply). Some s) (end_same part q t gives.0 gives.1)
+
+pub end_stays : (a : Option Supply) (part : Part) (ready : List ℕ) (known new : Option Supply) → ready ≡ [] → Stays a (supply_from part ready known) → Gives {E = Fault} known (Ok None) new
+    → Stays a (supply_from Plain (ended part) new)
+end_stays a part ready known new none stays gives =
+    Stays-trans a (supply_from part [] known) _ (subst (λ (xs : List ℕ). Stays a (supply_from part xs known)) none stays) (end_came part known new gives)
+
+end_told : (part : Part) (known new : Option Supply) → Gives {E = Fault} known (Ok None) new → ended part ≡ []
+    → Gives {E = Fault} (supply_from part [] known) (Ok None) (supply_from Plain (ended part) new)
+end_told part None new gives none = tt
+end_told part (Some q) None gives none = absurd gives
+end_told part (Some q) (Some t) gives none = (ap (text_from part) gives.0 ∙ none, end_same part q t gives.0 gives.1, tt)
+
+pub end_gives : (a : Option Supply) (part : Part) (ready : List ℕ) (known new : Option Supply) → ready ≡ [] → Stays a (supply_from part ready known) → Gives {E = Fault} known (Ok None) new → ended part ≡ []
+    → Gives {E = Fault} a (Ok None) (supply_from Plain (ended part) new)
+end_gives a part ready known new none stays gives last =
+    Stays-gives a (supply_from part [] known) _ (Ok None) (subst (λ (xs : List ℕ). Stays a (supply_from part xs known)) none stays) (end_told part known new gives last)
+
+-- a call failed
+fault_told : (part : Part) (ready : List ℕ) (known new : Option Supply) (e : Fault) → Gives known (Err e) new → Gives (supply_from part ready known) (Err e) (supply_from part ready new)
+fault_told part ready None new e gives = tt
+fault_told part ready (Some q) None e gives = absurd gives
+fault_told part ready (Some q) (Some t) e gives = (ap (given part ready) gives.0, tt)
+
+pub fault_gives : (a : Option Supply) (part : Part) (ready : List ℕ) (known new : Option Supply) (e : Fault) → Stays a (supply_from part ready known) → Gives known (Err e) new
+    → Gives a (Err e) (supply_from part ready new)
+fault_gives a part ready known new e stays gives =
+    Stays-gives a (supply_from part ready known) _ (Err e) stays (fault_told part ready known new e gives)
+
+-- the first byte of what is ready goes out
+ready_told : (part : Part) (ready : List ℕ) (known : Option Supply) → 0 < length ready
+    → Gives {E = Fault} (supply_from part ready known) (Ok (Some (get_or ready 0 0))) (supply_from part (drop 1 ready) known)
+ready_told part [] known some = absurd (omega arith)
+ready_told part (b ∷ rest) None some = tt
+ready_told part (b ∷ rest) (Some q) some = (refl, refl, tt)
+
+pub ready_gives : (a : Option Supply) (part : Part) (ready : List ℕ) (known : Option Supply) → 0 < length ready → Stays a (supply_from part ready known)
+    → Gives {E = Fault} a (Ok (Some (get_or ready 0 0))) (supply_from part (drop 1 ready) known)
+ready_gives a part ready known some stays =
+    Stays-gives a (supply_from part ready known) _ (Ok (Some (get_or ready 0 0))) stays (ready_told part ready known some)
+
+-- ---- bytes at hand
+
+-- bytes that go out as they are
+pub plain_text : (bs : List ℕ) → text_from Plain bs ≡ bs
+plain_text [] = refl
+plain_text (b ∷ bs) = ap (λ (xs : List ℕ). b ∷ xs) (plain_text bs)
+
+pub plain_offers : (known : Option Supply) (bs : List ℕ) → Offers known bs → Offers (supply_from Plain [] known) bs
+plain_offers None bs offers = tt
+plain_offers (Some q) bs offers = (ap (take (length bs)) (plain_text q.bytes) ∙ offers.0, tt)
+
+pub none_offered : (known : Option Supply) → Offers known []
+none_offered None = tt
+none_offered (Some q) = (refl, may_give_none q.faults)
+  where
+    may_give_none : (f : Faults) → MayGiveAll 0 f
+    may_give_none Never = tt
+    may_give_none (After m) = omega arith
+    may_give_none Anytime = tt
+
+pub plain_skips : (known new : Option Supply) (n : ℕ) → Skips known n new → Skips (supply_from Plain [] known) n (supply_from Plain [] new)
+plain_skips None new n skips = tt
+plain_skips (Some q) new n skips =
+    ap (supply_from Plain []) skips
+    ∙ ap (λ (bytes : List ℕ). Some (record { bytes = bytes; faults = Anytime })) (plain_text (drop n q.bytes) ∙ ap (drop n) (sym (plain_text q.bytes)))
+
+-- bytes are at hand only where nothing is ready, and they go out as they are
+pub hand_plain : (part : Part) (ready hand : List ℕ) → 0 < length (hand_of part ready hand) → (part ≡ Plain) × (ready ≡ [])
+hand_plain Plain [] hand some = (refl, refl)
+hand_plain Plain (b ∷ rest) hand some = absurd (omega arith)
+hand_plain Start ready hand some = absurd (omega arith)
+hand_plain (Mark a) ready hand some = absurd (omega arith)
+hand_plain (Head head) ready hand some = absurd (omega arith)
+hand_plain Latin1 ready hand some = absurd (omega arith)
+hand_plain LongMark ready hand some = absurd (omega arith)
+hand_plain (Wide w) ready hand some = absurd (omega arith)
+
+-- ---- a call ends: so many bytes may come at most before some text does
+
+abbrev pub rank_by : Option ℕ → Option ℕ → ℕ
+rank_by None None = 3
+rank_by None (Some a) = 2
+rank_by (Some high) None = 1
+rank_by (Some high) (Some a) = 0
+
+abbrev pub rank : Part → ℕ
+rank Start = 6
+rank (Mark a) = 5
+rank LongMark = 4
+rank (Head head) = 0
+rank Plain = 0
+rank Latin1 = 0
+rank (Wide w) = rank_by w.high w.first
+
+abbrev pub patience : Part → List ℕ → ℕ
+patience part [] = suc (rank part)
+patience part (b ∷ bs) = 0
+
+pub ready_patience : (part : Part) (bs : List ℕ) → 0 < length bs → patience part bs ≡ 0
+ready_patience part [] some = absurd (omega arith)
+ready_patience part (b ∷ bs) some = refl
+
+some_split : (x : Bool) (a b : List ℕ) → 0 < length a → 0 < length b → 0 < length (if x then a else b)
+some_split true a b p q = p
+some_split false a b p q = q
+
+-- a character has bytes
+pub encoded : (c : ℕ) → 0 < length (encode_utf8 c)
+unfolding encode_utf8
+encoded c = some_split (nat_lt c 128) _ _ (omega arith) (some_split (nat_lt c 2048) _ _ (omega arith) (some_split (nat_lt c 65536) _ _ (omega arith) (omega arith)))
+
+lost_behind : (text : List ℕ) → 0 < length (encode_utf8 replacement ++ text)
+lost_behind text = omega (arith, length-append (encode_utf8 replacement) text, encoded replacement)
+
+-- where text came, none is waited for
+abbrev pub Nearer : ℕ → Part → List ℕ → Type 0
+Nearer n part text = patience part text < suc n
+
+nearer : (n : ℕ) (part : Part) (text : List ℕ) → 0 < length text → Nearer n part text
+nearer n part text some = let none = ready_patience part text some in omega (arith, none)
+
+abbrev pub NearerStep : ℕ → Step → Type 0
+NearerStep n s = Nearer n s.part s.text
+
+step_split : (n : ℕ) (x : Bool) (s t : Step) → NearerStep n s → NearerStep n t → NearerStep n (if x then s else t)
+step_split n true s t p q = p
+step_split n false s t p q = q
+
+abbrev pub NearerUnits : ℕ → Units → Type 0
+NearerUnits n u = Nearer n (Wide u.wide) u.text
+
+units_split : (n : ℕ) (x : Bool) (u v : Units) → NearerUnits n u → NearerUnits n v → NearerUnits n (if x then u else v)
+units_split n true u v p q = p
+units_split n false u v p q = q
+
+fresh_by : (u : ℕ) (w : Wides) (x : Bool)
+    → Nearer 2 (Wide (record { order = w.order; high = if x then Some u else None; first = None })) (if x then [] else encode_utf8 (character_of u))
+fresh_by u w true = omega arith
+fresh_by u w false = let none = ready_patience (Wide (record { order = w.order; high = None; first = None })) (encode_utf8 (character_of u)) (encoded (character_of u)) in omega (arith, none)
+
+unit_nearer : (u : ℕ) (w : Wides) (high : Option ℕ) → NearerUnits (rank_by high (Some 0)) (behind_high high u w)
+unit_nearer u w None = fresh_by u w (is_high u)
+unit_nearer u w (Some high) =
+    units_split 0 (is_low u) _ _ (nearer 0 (Wide (first_wide w.order)) (encode_utf8 (character_of (pair_code high u))) (encoded (character_of (pair_code high u))))
+    (nearer 0 (Wide (fresh u w).wide) (encode_utf8 replacement ++ (fresh u w).text) (lost_behind (fresh u w).text))
+
+byte_nearer : (b : ℕ) (w : Wides) (high first : Option ℕ) → w.high ≡ high → NearerUnits (rank_by high first) (behind_first first b w)
+byte_nearer b w None None is = rw is (omega arith)
+byte_nearer b w (Some h) None is = rw is (omega arith)
+byte_nearer b w None (Some a) is = subst (λ (h : Option ℕ). NearerUnits 2 (behind_high h (unit w.order a b) w)) (sym is) (unit_nearer (unit w.order a b) w None)
+byte_nearer b w (Some h) (Some a) is =
+    subst (λ (high : Option ℕ). NearerUnits 0 (behind_high high (unit w.order a b) w)) (sym is) (unit_nearer (unit w.order a b) w (Some h))
+
+pub takes_nearer : (b : ℕ) (part : Part) → NearerStep (rank part) (taken b part)
+takes_nearer b Start = step_split 6 (is_marking b) _ _ (omega arith) (omega arith)
+takes_nearer b (Mark a) =
+    step_split 5 ((a == 0xFE) && (b == 0xFF)) _ _ (omega arith) (step_split 5 ((a == 0xFF) && (b == 0xFE)) _ _ (omega arith) (step_split 5 ((a == 0xEF) && (b == 0xBB)) _ _ (omega arith) (omega arith)))
+takes_nearer b LongMark = step_split 4 (b == 0xBF) _ _ (omega arith) (omega arith)
+takes_nearer b (Head head) = omega arith
+takes_nearer b Plain = omega arith
+takes_nearer b Latin1 = nearer 0 Latin1 (encode_utf8 b) (encoded b)
+takes_nearer b (Wide w) = byte_nearer b w w.high w.first refl
+
+-- ---- nothing is ready, or something is
+
+pub no_bytes : (bs : List ℕ) → (length bs == 0) ≡ true → bs ≡ []
+no_bytes bs is = nil_from_length bs (eqb-true (length bs) 0 is)
+
+some_bytes : (bs : List ℕ) → (length bs == 0) ≡ false → 0 < length bs
+some_bytes [] is = absurd (let no : true ≡ false = is in cc)
+some_bytes (b ∷ bs) is = omega arith
+
+pub step_stays : (a : Option Supply) (part : Part) (b : ℕ) (ready : List ℕ) (known new : Option Supply) (s : Step) → s ≡ taken b part → (length ready == 0) ≡ true
+    → Stays a (supply_from part ready known) → Gives {E = Fault} known (Ok (Some b)) new → Stays a (supply_from s.part s.text new)
+step_stays a part b ready known new s is none stays gives =
+    subst (λ (t : Step). Stays a (supply_from t.part t.text new)) (sym is) (byte_stays a part b ready known new (no_bytes ready none) stays gives)
+
+pub step_nearer : (b : ℕ) (part : Part) (ready : List ℕ) (s : Step) → s ≡ taken b part → (length ready == 0) ≡ true → patience s.part s.text < patience part ready
+step_nearer b part ready s is none =
+    let near : patience s.part s.text < patience part [] = subst (λ (t : Step). NearerStep (rank part) t) (sym is) (takes_nearer b part) in
+    subst (λ (bs : List ℕ). patience s.part s.text < patience part bs) (sym (no_bytes ready none)) near
+
+pub end_nearer : (part : Part) (ready text : List ℕ) → (length ready == 0) ≡ true → (length text == 0) ≡ false → patience Plain text < patience part ready
+end_nearer part ready text none some =
+    let near : patience Plain text < patience part [] = nearer (rank part) Plain text (some_bytes text some) in
+    subst (λ (bs : List ℕ). patience Plain text < patience part bs) (sym (no_bytes ready none)) near

@@ -1,0 +1,5 @@
+pub mod Laws
+pub mod Part
+pub mod Tag
+pub mod UnderCoding
+pub mod Wide

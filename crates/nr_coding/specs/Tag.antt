@@ -1,0 +1,72 @@
+-- A coding that is named in a page's first two lines, as in `.\" -*- coding: latin-1 -*-` (groff's preconv(1), Coding Tags).
+use Prim.Native.Char.{code}
+use Rattle.std.specs.Prelude.{ℕ, ◌+◌, List, [], ◌∷◌, ◌++◌, length, Bool, true, false, not, ◌==◌, ◌&&◌, ◌||◌, nat_le, if◌then◌else◌, Option, None, Some, codes, slice_get}
+use Rattle.std.specs.Str.{bytes_eq}
+use Rattle.nr_coding.specs.declared.tag.Tag.{Tag}
+use Rattle.nr_coding.specs.declared.tag.Tag.TheVariants.{Key, Blanks, Value}
+use Rattle.nr_coding.specs.declared.tag.Head.{Head}
+use Rattle.nr_coding.specs.declared.tag.Tells.{Tells}
+use Rattle.nr_coding.specs.declared.tag.Tells.TheVariants.{More, Plain, Latin1}
+
+abbrev pub key : List ℕ
+key = codes "coding:"
+
+abbrev pub is_within : ℕ → ℕ → ℕ → Bool
+is_within first last b = nat_le first b && nat_le b last
+
+-- the names of Latin-1; any other is read as if none were named
+abbrev pub is_latin1 : List ℕ → Bool
+is_latin1 name =
+    bytes_eq name (codes "latin-1") || bytes_eq name (codes "latin1") || bytes_eq name (codes "iso-8859-1") || bytes_eq name (codes "iso-latin-1")
+
+abbrev pub goes_on : ℕ → Bool
+goes_on b =
+    is_within (code "A") (code "Z") b || is_within (code "a") (code "z") b || is_within (code "0") (code "9") b || (b == code "-")
+
+abbrev pub lowered : ℕ → ℕ
+lowered b = if is_within (code "A") (code "Z") b then b + 32 else b
+
+-- one byte more of the key, or its beginning
+abbrev pub key_by : Option ℕ → ℕ → ℕ → ℕ
+key_by None count b = if b == code "c" then 1 else 0
+key_by (Some next) count b = if next == b then count + 1 else if b == code "c" then 1 else 0
+
+abbrev pub key_read : ℕ → ℕ → ℕ
+key_read count b = key_by (slice_get key count) count b
+
+abbrev pub first_head : Head
+first_head = record { second = false; tag = Key 0; name = [] }
+
+abbrev pub going : Tag → Head → Tells
+going tag h = More (record { second = h.second; tag = tag; name = h.name })
+
+abbrev pub spelling : ℕ → Head → Tells
+spelling b h = More (record { second = h.second; tag = Value; name = h.name ++ lowered b ∷ [] })
+
+abbrev pub line_ended : Head → Tells
+line_ended h = if h.second then Plain else More (record { second = true; tag = Key 0; name = [] })
+
+abbrev pub behind_key : ℕ → Head → Tells
+behind_key read h = going (if read == 7 then Blanks else Key read) h
+
+abbrev pub in_value : ℕ → Head → Tells
+in_value b h =
+    if goes_on b && not (length h.name == 32) then spelling b h else
+    if is_latin1 h.name then Latin1 else Plain
+
+abbrev pub in_blanks : ℕ → Head → Tells
+in_blanks b h =
+    if b == code "\n" then line_ended h else
+    if b == code " " then going Blanks h else in_value b h
+
+abbrev pub in_key : ℕ → ℕ → Head → Tells
+in_key count b h = if b == code "\n" then line_ended h else behind_key (key_read count b) h
+
+-- a byte comes: in the name, behind the key, or before it
+abbrev pub taken_at : Tag → ℕ → Head → Tells
+taken_at Value b h = in_value b h
+taken_at Blanks b h = in_blanks b h
+taken_at (Key count) b h = in_key count b h
+
+abbrev pub taken : ℕ → Head → Tells
+taken b h = taken_at h.tag b h

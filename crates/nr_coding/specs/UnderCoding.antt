@@ -1,0 +1,31 @@
+-- The text of bytes, read as UTF-8.
+use Rattle.std.specs.Prelude.{ℕ, List, [], ◌∷◌, ◌++◌, Option}
+use Rattle.std.specs.Option.{option_map}
+use Rattle.nr_units.specs.Source.{Supply, Anytime}
+use Rattle.nr_coding.specs.declared.part.Part.{Part}
+use Rattle.nr_coding.specs.declared.part.Part.TheVariants.{Start, Plain}
+use Rattle.nr_coding.specs.Part.{taken, ended}
+
+-- the text of the bytes that are to come
+abbrev pub text_from : Part → List ℕ → List ℕ
+text_from part [] = ended part
+text_from part (b ∷ bs) = (taken b part).text ++ text_from (taken b part).part bs
+
+-- the text of all bytes
+abbrev pub text_of : List ℕ → List ℕ
+text_of bs = text_from Start bs
+
+-- it may fail at any call
+abbrev pub given : Part → List ℕ → Supply → Supply
+given part ready q = record { bytes = ready ++ text_from part q.bytes; faults = Anytime }
+
+abbrev pub supply_from : Part → List ℕ → Option Supply → Option Supply
+supply_from part ready known = option_map (given part ready) known
+
+abbrev pub text_supply : Option Supply → Option Supply
+text_supply known = option_map (λ (q : Supply). record { bytes = text_of q.bytes; faults = Anytime }) known
+
+-- bytes that go out as they are may be taken many at once
+abbrev pub hand_of : Part → List ℕ → List ℕ → List ℕ
+hand_of Plain [] hand = hand
+hand_of part ready hand = []
