@@ -6,8 +6,11 @@ pub mod FormatterLimits
 pub mod Growing
 pub mod InputLimits
 pub mod LongestCut
+pub mod MoveLaws
+pub mod MovesPaid
 pub mod OutputLaws
 pub mod Over
+pub mod PageLengths
 pub mod PageLists
 pub mod PlainFlows
 pub mod PlainHears
@@ -18,8 +21,13 @@ pub mod PlainPages
 pub mod PlainReads
 pub mod PlainStates
 pub mod PlainWorks
+pub mod ReadMoves
+pub mod ReadsPaid
+pub mod RefusedMoves
 pub mod SourceFaults
 pub mod StepLimits
 pub mod Stopping
 pub mod StoreLimits
+pub mod TrapTexts
 pub mod Wider
+pub mod WithinRun

@@ -30,19 +30,19 @@ use Rattle.nr_laws.specs.Limited.{state_under}
 -- ---- a look refuses nothing for a limit
 
 -- a refusal for a limit
-data ForLimit : Refusal → Type 0 where
+pub data ForLimit : Refusal → Type 0 where
   ForStored : ForLimit refusals.Stored
   ForDepth : ForLimit refusals.Depth
   ForExpansions : ForLimit refusals.Expansions
 
-for_limit : (m : Measure) (r : Refusal) → IsRefusal m r → ForLimit r
+pub for_limit : (m : Measure) (r : Refusal) → IsRefusal m r → ForLimit r
 for_limit measures.Stored r is = subst ForLimit (sym is) ForStored
 for_limit measures.Depth r is = subst ForLimit (sym is) ForDepth
 for_limit measures.LineCells r is = absurd is
 for_limit measures.PageCells r is = absurd is
 for_limit measures.Expansions r is = subst ForLimit (sym is) ForExpansions
 
-no_sight : (s : Shown Resume) (c : Coming) (r : Refusal) → ForLimit r → RefusesLook s c r → ⊥
+pub no_sight : (s : Shown Resume) (c : Coming) (r : Refusal) → ForLimit r → RefusesLook s c r → ⊥
 no_sight shows.Nothing c refusals.Stored ForStored h = h
 no_sight shows.Nothing c refusals.Depth ForDepth h = h
 no_sight shows.Nothing c refusals.Expansions ForExpansions h = h

@@ -1,4 +1,5 @@
 pub mod FilledText
 pub mod Laws
 pub mod Limited
+pub mod Moves
 pub mod PlainText

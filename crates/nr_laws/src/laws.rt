@@ -1,5 +1,6 @@
 //! Laws of the output, each the contract of a function that does nothing: they speak of the definitions alone, over an empty sink.
 ghost use Rattle.nr_laws.specs.Laws.{LimitsOnlyStop, NoLimitAsked, LimitsCut, LimitsCutOutput, DoneIsWhole, OneWhole, WiderLimits, LimitsUnmet, OneAnswer};
+ghost use Rattle.nr_laws.specs.Moves.{RefusedIsAbove, MovesAreFew, MovesBeforeByte, MovesBetween};
 ghost use Rattle.nr_laws.specs.PlainText.{PlainTextStays};
 ghost use Rattle.nr_laws.specs.FilledText.{FilledTextIsRows, CutIsLongest, CutFits};
 
@@ -38,6 +39,21 @@ pub fn limits_unmet()
 /// of a source that may fail at any call.
 pub fn one_answer()
     ensures { OneAnswer }
+{}
+
+/// A move is refused at a limit only where it would lead to a state above that limit, also a move that reads; it is the first limit
+/// that the state is above.
+pub fn refused_is_above()
+    ensures { RefusedIsAbove }
+{}
+
+/// Each beginning of a run keeps the bound on moves that the whole of it keeps. From each state of a run there are so many moves at
+/// most before a byte is taken, by what is read, half read and collected. Between two takings that is the number for a byte, and on
+/// top of it moves for the blanks that the line begins with beyond those that a line may hold, and for what is half read there.
+pub fn moves_between()
+    ensures few { MovesAreFew }
+    ensures before { MovesBeforeByte }
+    ensures between { MovesBetween }
 {}
 
 /// Of an input of plain text alone all goes out, in order: it is the output, but for blanks and newlines, where each page is

@@ -1,0 +1,267 @@
+-- How many moves a run makes, up to a byte of the input and between two.
+use Rattle.std.proofs.lemmas.List.{length-map}
+use Rattle.std.proofs.lemmas.List.Sums.{sum_by-cons}
+use Rattle.std.proofs.lemmas.Nat.{mul-le}
+use Rattle.std.proofs.Common.{◌≡◌, ℕ, zero, suc, ◌+◌, ◌-◌, ◌*◌, ◌≤◌, Bool, true, false, List, [], ◌∷◌, length, sum_by, Option, None, Some, ℤ, refl, ap, sym, subst, ◌∙◌, arith}
+use Rattle.nr_units.specs.Source.{Supply}
+use Rattle.nr_fill.specs.Piece.{Piece, Word}
+use Rattle.nr_fill.specs.declared.stops.Pending.{Pending}
+use Rattle.nr_fill.specs.declared.stops.Pending.TheVariants as pendings
+use Rattle.nr_store.specs.Store.{Built}
+use Rattle.nr_store.specs.declared.element.Diversion.{Diversion}
+use Rattle.nr_reading.specs.declared.event.Event.{Event}
+use Rattle.nr_reading.specs.declared.event.Event.TheVariants as events
+use Rattle.nr_reading.specs.declared.half.Half.{Half}
+use Rattle.nr_reading.proofs.Weighing.{cost_of_event-le}
+use Rattle.nr_input.specs.Laws.{weight_of_half-le}
+use Rattle.nr_input.specs.Place.{whole}
+use Rattle.nr_input.specs.Weights.{byte_worth, expansions_worth, items_left, newline_left}
+use Rattle.nr_input.proofs.Costs.{title_costs}
+use Rattle.nr_options.specs.Limits.{Bounds}
+use Rattle.nr_options.specs.declared.options.Options.{Options}
+use Rattle.nr_formatter.specs.Access.{collected}
+use Rattle.nr_formatter.specs.Places.{page_outlet}
+use Rattle.nr_formatter.specs.Weights.{weight, owed, steps_left, owed_by_event, owed_by_task, owed_by_then, weight_of_agenda, weight_of_task, weight_of_word, weight_of_pending, weight_of_diversion, weight_of_built, weight_of_diversions, weight_of_step}
+use Rattle.nr_formatter.specs.declared.formatter.Formatter.{Formatter}
+use Rattle.nr_formatter.specs.declared.tasks.Room.TheVariants as rooms
+use Rattle.nr_formatter.specs.declared.tasks.Step.{Step}
+use Rattle.nr_formatter.specs.declared.tasks.Step.TheVariants as steps
+use Rattle.nr_formatter.specs.declared.tasks.Task.{Task}
+use Rattle.nr_formatter.specs.declared.tasks.Task.TheVariants as tasks
+use Rattle.nr_formatter.specs.declared.tasks.Then.{Then}
+use Rattle.nr_formatter.specs.declared.tasks.Then.TheVariants as thens
+use Rattle.nr_formatter.proofs.Falling.{weight_of_name-le, weight_of_outlet-le, weight_of_task-le}
+use Rattle.nr_engine.specs.State.{State, Choice, Register, start, formatter_at_first}
+use Rattle.nr_engine.specs.Machine.{state_after}
+use Rattle.nr_engine.specs.Run.{Runs, Goes, moves_a_byte}
+use Rattle.nr_laws.specs.Moves.{IsBehindByte, NoneIsTaken, MovesAreFew, MovesBeforeByte, MovesBetween, moves_of_texts, moves_of_rest, parts_of}
+use Rattle.nr_laws.specs.Laws.{nothing_allowed}
+use Rattle.nr_laws.proofs.Growing.{state_after-add}
+use Rattle.nr_laws.proofs.MovesPaid.{step-paid}
+use Rattle.nr_laws.proofs.PageLengths.{HasHeight, height-after}
+use Rattle.nr_laws.proofs.ReadsPaid.{Paid, reached, worth, may_come}
+use Rattle.nr_laws.proofs.StepLimits.{state_after-under}
+use Rattle.nr_laws.proofs.WithinRun.{IsKept, kept-after}
+
+-- ---- many moves
+
+record AllPaid (n : ℕ) (s t : State) : Type 0 where
+  limit : t.formatter.store.limit ≡ s.formatter.store.limit
+  most : t.formatter.reader.most ≡ s.formatter.reader.most
+  pays : may_come t + n + worth s * s.coming.taken ≤ may_come s + worth s * t.coming.taken
+
+one_more : (n : ℕ) (s t u : State) → AllPaid n s t → Paid t u → AllPaid (suc n) s u
+one_more n s t u all one =
+    let same : worth t ≡ worth s = ap (λ m. byte_worth m t.formatter.store.limit) all.most ∙ ap (λ l. byte_worth s.formatter.reader.most l) all.limit in
+    let before = all.pays in
+    let next : may_come u + 1 + worth s * t.coming.taken ≤ may_come t + worth s * u.coming.taken =
+    subst (λ w. may_come u + 1 + w * t.coming.taken ≤ may_come t + w * u.coming.taken) same one.pays in
+    record { limit = one.limit ∙ all.limit; most = one.most ∙ all.most; pays = omega (arith, before, next) }
+
+all_paid : (n : ℕ) (s : State) → HasHeight s.formatter → Runs n s → AllPaid n s (state_after n s)
+all_paid zero s height runs = record { limit = refl; most = refl; pays = omega arith }
+all_paid (suc n) s height runs =
+    one_more n s (state_after n s) (state_after (suc n) s) (all_paid n s height (λ m less. runs m (omega arith)))
+    (step-paid (state_after n s) (height-after n s height) (runs n (omega arith)))
+
+-- ---- from the beginning
+
+first_weight : (b : Bounds) (supply : Supply) → weight (reached (whole supply)) (formatter_at_first b) + 33 ≤ expansions_worth b.expansions 0 b.stored + 512
+unfolding weight owed steps_left
+first_weight b supply = omega arith
+
+expansions-is : (x s : ℕ) → expansions_worth x 0 s ≡ x * (256 * (s + 3))
+unfolding expansions_worth
+expansions-is x s = let e : x - 0 ≡ x = omega arith in ap (λ k. k * (256 * (s + 3))) e
+
+few : (x s p d : ℕ) → x * (256 * (s + 3)) + 512 ≤ 256 * (x + 1) * (s + p + d + 4)
+few x s p d =
+    let a : x * (256 * (s + 3)) ≡ 256 * (x * (s + 3)) = grind arith in
+    let more = mul-le x (s + 3) x (s + p + d + 4) (omega arith) (omega arith) in
+    let b : 256 * (x + 1) * (s + p + d + 4) ≡ 256 * (x * (s + p + d + 4)) + 256 * (s + p + d + 4) = grind arith in
+    omega (arith, a, more, b)
+
+starts_light : (b : Bounds) (options : Options) (supply : Supply) → length options.registers.items ≤ 32 → let s = start b options supply in may_come s ≤ worth s
+starts_light b options supply registers =
+    let register : ℕ × ℤ → Choice = λ r. Register r.0 r.1 in
+    omega (arith, first_weight b supply, registers, length-map options.registers.items register)
+
+worth-le : (b : Bounds) (options : Options) (supply : Supply) → worth (start b options supply) ≤ moves_a_byte b
+worth-le b options supply = omega (arith, expansions-is b.expansions b.stored, few b.expansions b.stored b.cells b.depth)
+
+pub moves_are_few : MovesAreFew
+moves_are_few b options supply n registers runs =
+    let s = start b options supply in
+    let t = state_after n s in
+    let paid = (all_paid n s (omega arith) runs).pays in
+    let light = starts_light b options supply registers in
+    let within : n ≤ worth s * (t.coming.taken + 1) = omega (arith, paid, light) in
+    let all = mul-le (worth s) (t.coming.taken + 1) (moves_a_byte b) (t.coming.taken + 1) (worth-le b options supply) (omega arith) in
+    omega (arith, within, all)
+
+-- ---- what may still come, by what there is
+
+event-le : (e : Event) (t : Task) (s : Step) → weight_of_agenda e t s ≤ 366 + weight_of_task t s
+event-le events.Nothing t s = omega arith
+event-le events.Over t s = omega arith
+event-le events.Lead t s = omega arith
+event-le e t s = omega (arith, cost_of_event-le e)
+
+owed_event-le : (e : Event) → owed_by_event e ≤ 40
+owed_event-le events.Request = omega arith
+owed_event-le (events.Judge q) = omega arith
+owed_event-le events.Title = omega arith
+owed_event-le events.Diverted = omega arith
+owed_event-le e = omega arith
+
+owed_then-le : (t : Then) → owed_by_then t ≤ 23
+owed_then-le (thens.Act r) = omega arith
+owed_then-le thens.Diverted = omega arith
+owed_then-le t = omega arith
+
+owed_task-le : (t : Task) (h : Half) → owed_by_task t h ≤ 40
+owed_task-le (tasks.Act r) h = omega arith
+owed_task-le (tasks.Break t) h = omega (arith, owed_then-le t)
+owed_task-le (tasks.Room rooms.Line) h = omega arith
+owed_task-le (tasks.Room rooms.Title) h = let costs = title_costs h in omega (arith, costs)
+owed_task-le t h = omega arith
+
+step-le : (s : Step) → weight_of_step s ≤ 50
+step-le steps.NotYet = omega arith
+step-le steps.FirstBreak = omega arith
+step-le steps.Macro = omega arith
+step-le steps.SecondBreak = omega arith
+step-le steps.Diversions = omega arith
+step-le steps.LastPage = omega arith
+
+pending-le : (p : Pending) → weight_of_pending p ≤ 1
+pending-le (pendings.ForStop f) = omega arith
+pending-le p = omega arith
+
+word-le : (w : Option Word) → weight_of_word w ≤ 171 + 5 * parts_of w
+word-le None = omega arith
+word-le (Some w) = omega (arith, pending-le w.pending)
+
+diversion-le : (d : Option Diversion) → weight_of_diversion d ≤ 1
+diversion-le None = omega arith
+diversion-le (Some d) = omega arith
+
+diversions-le : (bs : List Built) → weight_of_diversions bs ≤ length bs
+diversions-le [] = omega arith
+diversions-le (b ∷ bs) = omega (arith, sum_by-cons weight_of_built b bs, diversion-le b.diversion, diversions-le bs)
+
+newline-le : (b : Bool) → newline_left b ≤ 1
+newline-le true = omega arith
+newline-le false = omega arith
+
+splices-are : (most burst stored : ℕ) → expansions_worth most burst stored ≡ 256 * ((most - burst) * (stored + 3))
+unfolding expansions_worth
+splices-are most burst stored = let k = most - burst in let e : k * (256 * (stored + 3)) ≡ 256 * (k * (stored + 3)) = grind arith in e
+
+-- and 33 less
+may_come-le : (s : State) → may_come s + 33 ≤ length s.chosen + moves_of_texts s.formatter + moves_of_rest s.formatter
+unfolding weight owed steps_left
+may_come-le s =
+    let f = s.formatter in
+    omega (
+      arith,
+      newline-le s.coming.inside,
+      splices-are f.reader.most f.reader.burst f.store.limit,
+      weight_of_half-le f.reader.half,
+      owed_event-le f.event,
+      owed_task-le f.task f.reader.half,
+      event-le f.event f.task f.step,
+      weight_of_task-le f.task f.step,
+      weight_of_name-le f.springs,
+      word-le (collected f).word,
+      weight_of_outlet-le (page_outlet f.paper.state f.paper.place f.settings.pages.page_length),
+      diversions-le f.store.building,
+      step-le f.step,
+    )
+
+-- ---- from a state on
+
+module _ (b : Bounds) (options : Options) (supply : Supply) where
+  abbrev first : State
+  first = start b options supply
+
+  height : (m : ℕ) → HasHeight (state_after m first).formatter
+  height m = height-after m first (omega arith)
+
+  -- the moves after the first m
+  later : (m n : ℕ) → Runs (m + n) first → Runs n (state_after m first)
+  later m n runs = λ k less. subst Goes (state_after-add first m k) (runs (m + k) (omega arith))
+
+  between : (m n : ℕ) → Runs (m + n) first → NoneIsTaken m n first → n ≤ may_come (state_after m first)
+  between m n runs same =
+      let s = state_after m first in
+      let paid = (all_paid n s (height m) (later m n runs)).pays in
+      let taken : (state_after n s).coming.taken ≡ s.coming.taken = ap (λ (t : State). t.coming.taken) (sym (state_after-add first m n)) ∙ same in
+      let bytes : worth s * (state_after n s).coming.taken ≡ worth s * s.coming.taken = ap (λ k. worth s * k) taken in
+      omega (arith, paid, bytes)
+
+  -- behind a byte no text is read, and all splices are allowed
+
+  texts-are : (f : Formatter) → f.store.levels ≡ [] → f.reader.burst ≡ 0 → f.reader.most ≡ b.expansions → f.store.limit ≡ b.stored → moves_of_texts f ≡ 256 * (b.expansions * (b.stored + 3))
+  texts-are f levels burst most limit =
+      let none : items_left f.store.levels ≡ 0 = ap items_left levels in
+      let all : f.reader.most - f.reader.burst ≡ b.expansions = omega (arith, burst, most) in
+      let splices : (f.reader.most - f.reader.burst) * (f.store.limit + 3) ≡ b.expansions * (b.stored + 3) = rw (all, limit) refl in
+      omega (arith, none, splices)
+
+  behind : (m : ℕ) → length options.registers.items ≤ 32 → Runs m first → IsBehindByte m first → let s = state_after m first in length s.chosen + moves_of_texts s.formatter ≤ 33 + 256 * (b.expansions * (b.stored + 3))
+  behind zero registers runs taken =
+      let register : ℕ × ℤ → Choice = λ r. Register r.0 r.1 in
+      omega (arith, registers, length-map options.registers.items register, texts-are first.formatter refl refl refl refl)
+  behind (suc m) registers runs taken =
+      let s = state_after m first in
+      let t = state_after (suc m) first in
+      let all = all_paid (suc m) first (height zero) runs in
+      let fresh = (step-paid s (height m) (runs m (omega arith))).fresh taken in
+      let none : length t.chosen ≡ 0 = ap (λ (cs : List Choice). length cs) fresh.chosen in
+      omega (arith, none, texts-are t.formatter fresh.levels fresh.burst all.most all.limit)
+
+pub moves_before_byte : MovesBeforeByte
+moves_before_byte b options supply m n runs same = let most = between b options supply m n runs same in omega (arith, most, may_come-le (state_after m (start b options supply)))
+
+-- ---- between two bytes
+
+pieces-le : (ps : List Piece) → length ps ≤ sum_by (λ (p : Piece). 1 + length p.cells) ps
+pieces-le [] = omega arith
+pieces-le (p ∷ ps) = omega (arith, pieces-le ps, sum_by-cons (λ (q : Piece). 1 + length q.cells) p ps)
+
+kept : (b : Bounds) (options : Options) (supply : Supply) (m : ℕ) → Runs m (start b options supply) → IsKept (state_after m (start b options supply)).formatter
+kept b options supply m runs =
+    kept-after m (start b options supply) runs (record { line = omega arith; few = omega arith })
+
+-- the rest of the number for a byte
+enough : (x s p d : ℕ) → 64 ≤ s → 256 * (x * (s + 3)) + 183 * p + s + 5110 ≤ 256 * (x + 1) * (s + p + d + 4)
+enough x s p d large =
+    let more = mul-le x (s + 3) x (s + p + d + 4) (omega arith) (omega arith) in
+    let b : 256 * (x + 1) * (s + p + d + 4) ≡ 256 * (x * (s + p + d + 4)) + 256 * (s + p + d + 4) = grind arith in
+    omega (arith, more, b, large)
+
+pub moves_between : MovesBetween
+moves_between b options supply m n limits registers runs taken same =
+    let s = state_after m (start b options supply) in
+    let f = s.formatter in
+    let so_far : Runs m (start b options supply) = λ k less. runs k (omega arith) in
+    let most = between b options supply m n runs same in
+    let before = behind b options supply m registers so_far taken in
+    let all = all_paid m (start b options supply) (omega arith) so_far in
+    let keeps = kept b options supply m so_far in
+    let line = keeps.line in
+    let few = keeps.few in
+    let cells : f.line.limit ≡ b.cells = ap (λ (t : State). t.formatter.line.limit) (state_after-under b m (start nothing_allowed options supply)) in
+    omega (
+      arith,
+      most,
+      before,
+      may_come-le s,
+      line,
+      few,
+      cells,
+      all.limit,
+      pieces-le (collected f).pieces,
+      enough b.expansions b.stored b.cells b.depth limits.0,
+    )
