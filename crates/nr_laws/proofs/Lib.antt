@@ -6,6 +6,7 @@ pub mod FormatterLimits
 pub mod Growing
 pub mod InputLimits
 pub mod LongestCut
+pub mod MadeMoves
 pub mod MoveLaws
 pub mod MovesPaid
 pub mod OutputLaws

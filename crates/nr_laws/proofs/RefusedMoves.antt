@@ -71,10 +71,10 @@ storing_passes true deep over x m is refused =
 storing_passes false deep over x m is refused = let wrong : ⊥ = cc in absurd wrong
 
 -- by the tests that a splice meets
-abbrev text_answer : Bool → Bool → Bool → Result (Unit {0}) Refusal
+abbrev pub text_answer : Bool → Bool → Bool → Result (Unit {0}) Refusal
 text_answer charged deep full = if charged then Err refusals.Stored else (if deep then Err refusals.Depth else (if full then Err refusals.Expansions else Ok tt))
 
-text_same : (charged deep : Bool) (r : Reader)
+pub text_same : (charged deep : Bool) (r : Reader)
     → splicing_by (if charged then Err stores.Stored else (if deep then Err stores.Depth else Ok true)) r ≡ text_answer charged deep (nat_le r.most r.burst)
 text_same true deep r = refl
 text_same false true r = refl

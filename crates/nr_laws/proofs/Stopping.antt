@@ -88,7 +88,7 @@ answering Bytes new r e is = storing (afforded new tt) e is
 answering (Splice is_text) new r e is = splicing (checked new is_text) r e is
 answering Refused new r e is = (let same : refusals.Expansions ≡ e = cc in subst ForLimit same ForExpansions)
 
-answer_for_limit : (q : Situation Resume) (e : Refusal) → answer_at q ≡ Err e → ForLimit e
+pub answer_for_limit : (q : Situation Resume) (e : Refusal) → answer_at q ≡ Err e → ForLimit e
 answer_for_limit q e is = answering (asking q.reader.half.reading.due q.stored q.reader) (input.acting q).stored q.reader e is
 
 same_limit : (m m' : Measure) (r : Refusal) → IsRefusal m r → IsRefusal m' r → m ≡ m'
