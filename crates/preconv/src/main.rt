@@ -1,6 +1,6 @@
 //! The program preconv: it turns what manual pages use into the language of nroff, to standard output.
 //!
-//! It stands on nr_preconv, nr_characters, nr_units and nr_command_line. To read: `words`, `endings`, `lines`, `program`.
+//! It stands on nr_preconv, nr_coding, nr_characters, nr_units and nr_command_line. To read: `words`, `endings`, `lines`, `program`.
 #![tactic(auto)]
 
 mod endings;

@@ -5,6 +5,7 @@ use super::endings::{Ending, tell};
 use super::lines::Lines;
 use super::words::{Wrong, read_words};
 use nr_characters::Table;
+use nr_coding::UnderCoding;
 use nr_command_line::{SystemWords, words_of};
 use nr_preconv::{Outcome, convert};
 use nr_units::buffered::Buffered;
@@ -119,7 +120,7 @@ fn open_all<'a, R: Files>(
     Ok(texts)
 }
 
-/// Turns one text. What comes of it ends with a newline, if it is not empty.
+/// Turns one text, under its coding. What comes of it ends with a newline, if it is not empty.
 fn run_text<T: Read + Drop, W: Sink>(
     table: Option<Table>,
     text: T,
@@ -129,7 +130,7 @@ fn run_text<T: Read + Drop, W: Sink>(
 ) -> Outcome
     requires { 1536 ≤ length pending.old }
 {
-    let mut source = Buffered::over(text, input);
+    let mut source = UnderCoding::over(Buffered::over(text, input));
     let mut lines = Lines::over(output);
     let mut steps = 0;
     let outcome = convert(&mut source, &mut lines, table, pending, &mut steps);

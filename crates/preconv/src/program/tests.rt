@@ -11,7 +11,7 @@ struct Row {
     line: &'static [u8],
 }
 
-static TEXTS: [(&str, Page<'static>); 8] = [
+static TEXTS: [(&str, Page<'static>); 13] = [
     (
         "quotes",
         Page::Bytes(b"\xe2\x80\x9ca\xe2\x80\x9d \\(em \\fIb\\fP\n"),
@@ -24,11 +24,23 @@ static TEXTS: [(&str, Page<'static>); 8] = [
         "names",
         Page::Bytes(b".TH x\n(\\%a b\\%c \\%d \\f\\*[B]e\n"),
     ),
+    // UTF-16, either byte of a unit first: a pair, a half of one, half a unit.
+    (
+        "little",
+        Page::Bytes(b"\xff\xfea\0\xe9\0\x00\xd8\x48\xdf\n\0"),
+    ),
+    ("big", Page::Bytes(b"\xfe\xff\0a\xd8\0\0b\xdf\x48\0c\0")),
+    ("marked", Page::Bytes(b"\xef\xbb\xbf.de1 x\n..\n")),
+    (
+        "named",
+        Page::Bytes(b".\\\" coding: Latin-1 -*-\na\xc3\xa9\n"),
+    ),
+    ("unnamed", Page::Bytes(b"a\nb\ncoding: latin-1\n\xc3\xa9\n")),
     ("folder", Page::Cut(b"")),
     ("cut", Page::Cut(b"a\\~b\n.BR c\\(l")),
 ];
 
-static ROWS: [Row; 19] = [
+static ROWS: [Row; 21] = [
     Row {
         words: &[b"preconv"],
         output: b"cafe\n",
@@ -84,6 +96,19 @@ static ROWS: [Row; 19] = [
     Row {
         words: &[b"preconv", b"names"],
         output: b".TH x\n(a b\\%c \\%d \\f\\*[B]e\n",
+        status: 0,
+        line: b"",
+    },
+    // Text is read under its coding.
+    Row {
+        words: &[b"preconv", b"little", b"big", b"marked"],
+        output: b"ae<U+10348>\na<U+FFFD>b<U+FFFD>c<U+FFFD>\n.de x\n..\n",
+        status: 0,
+        line: b"",
+    },
+    Row {
+        words: &[b"preconv", b"-8", b"named", b"unnamed"],
+        output: b".\\\" coding: Latin-1 -*-\na\xc3\xa9\na\nb\ncoding: latin-1\n\xe9\n",
         status: 0,
         line: b"",
     },
