@@ -1,0 +1,5 @@
+use Rattle.nr_layout.proofs.Whole.{writes_then}
+use Rattle.nr_layout.proofs.table.Table.put_need.Goals as goal
+
+pub returns : goal.returns
+returns g c = writes_then c.line.ensures c.line-2.ensures

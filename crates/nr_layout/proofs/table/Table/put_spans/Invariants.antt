@@ -1,0 +1,5 @@
+use Rattle.nr_layout.specs.Additions.{Adds}
+use Rattle.nr_layout.proofs.table.Table.put_spans.Given as goal
+
+abbrev pub invariant-loop-cell : goal.invariant-loop-cell
+invariant-loop-cell g l = Adds l.initial.out l.out

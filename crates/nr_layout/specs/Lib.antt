@@ -1,0 +1,12 @@
+pub mod Additions
+pub mod Contents
+pub mod Drawing
+pub mod Ends
+pub mod Extent
+pub mod Frames
+pub mod Held
+pub mod Pens
+pub mod Places
+pub mod Tapes
+pub mod Texts
+pub mod Whole
