@@ -1,12 +1,17 @@
 pub mod Additions
+pub mod Cells
 pub mod Contents
 pub mod Drawing
+pub mod Drawn
 pub mod Ends
 pub mod Extent
 pub mod Frames
 pub mod Held
+pub mod Lines
 pub mod Pens
 pub mod Places
+pub mod Tables
 pub mod Tapes
 pub mod Texts
 pub mod Whole
+pub mod Widths
