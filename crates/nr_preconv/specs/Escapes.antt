@@ -105,6 +105,14 @@ is_skipped b = (b == code "H") || (b == code "R") || (b == code "S") || (b == co
 abbrev pub embed : Half → Met
 embed h = taken says.Nothing (record h { kept = []; escape = escapes.Embedded false })
 
+-- What the language has under an escape of its own goes out as it was kept, or as the byte of this character.
+abbrev pub kept_or : ℕ → Half → Met
+kept_or c h = ended (says.Native h.kept c) (placed Other h)
+
+-- `\'` is an acute accent (groff_char(7))
+abbrev pub acute : Half → Met
+acute h = kept_or (code "´") (keeping (code "'") h)
+
 -- By the byte after the backslash. `\%` behind an opening bracket or a quote only keeps a word whole, and is no place to cut it.
 abbrev pub letter : ℕ → Half → Met
 letter b h =
@@ -124,6 +132,7 @@ letter b h =
     if (b == code " ") || (b == code "~") then blank h else
     if b == code "$" then going_on b escapes.Argument h else
     if b == code "{" then brace h else
+    if b == code "'" then acute h else
     if is_unnamed b then going_on b (escapes.Target kinds.Dropped) h else
     if is_skipped b then skip h else
     if is_measured b then measured b h else ends_with b h

@@ -182,6 +182,23 @@ impl Half {
         Seen::taken(Said::Nothing)
     }
 
+    /// It has ended, and goes out as it was kept, or as the byte of this character.
+    fn kept_or(&mut self, code: u32) -> Seen
+        ensures { met self.new result ≡ specs.kept_or code self.old }
+    {
+        self.places(Mark::Other);
+        let kept = self.kept;
+        self.ended(Said::Native(kept, code))
+    }
+
+    /// `\'`, an acute accent.
+    fn acute(&mut self) -> Seen
+        ensures { met self.new result ≡ specs.acute self.old }
+    {
+        self.keep(b'\'');
+        self.kept_or(u32::from('´'))
+    }
+
     /// A byte after a backslash.
     fn letter(&mut self, byte: u8) -> Seen
         ensures { met self.new result ≡ specs.letter byte self.old }
@@ -203,6 +220,7 @@ impl Half {
             b' ' | b'~' => self.blank(),
             b'$' => self.goes_on(byte, Escape::Argument),
             b'{' => self.brace(),
+            b'\'' => self.acute(),
             _ if is_unnamed(byte) => self.goes_on(byte, Escape::Target(Kind::Dropped)),
             _ if is_skipped(byte) => self.skip(),
             _ if is_measured(byte) => self.measured(byte),
