@@ -16,7 +16,7 @@ use Rattle.nr_preconv.specs.declared.words.Class.TheVariants as classes
 use Rattle.nr_preconv.specs.declared.words.Told.{Told}
 use Rattle.nr_preconv.specs.Half.{Met, taken, left, character_said, is_beginning, is_text, takes_brace, without_escape, in_text, abandoned}
 use Rattle.nr_preconv.specs.Hyphens.{wide_mark, placed, begins_behind, leaving_hyphens, may_hang, is_hang, behind_hyphen}
-use Rattle.nr_preconv.specs.Glyphs.{is_pair, is_native, is_struck, glyph_code, code_of, font_of}
+use Rattle.nr_preconv.specs.Glyphs.{is_pair, is_native, is_struck, glyph_code, code_of, string_code, font_of}
 use Rattle.nr_preconv.specs.Numbers.{is_number}
 use Rattle.nr_preconv.specs.Words.{met_words, begins_word}
 
@@ -216,6 +216,11 @@ glyph h =
 abbrev pub numbered : Half → Met
 numbered h = character (code_of h.spelled) h
 
+-- a string of man(7) that is a character
+abbrev pub string : Option ℕ → Half → Met
+string None h = ended_kept h
+string (Some c) h = kept_or c h
+
 abbrev pub tested : Bool → Half → Met
 tested holds h = ended (says.Byte (if holds then code "1" else code "0")) (placed Other h)
 
@@ -229,7 +234,7 @@ named kinds.Size h = dropped h
 named kinds.Dropped h = dropped h
 named kinds.Identifier h = tested (not (length h.spelled == 0)) h
 named kinds.Number h = tested (is_number h.spelled) h
-named kinds.Text h = ended_kept h
+named kinds.Text h = string (string_code h.spelled) h
 named kinds.Hang h = hang h
 
 -- a name of one byte; the language has sizes of one digit

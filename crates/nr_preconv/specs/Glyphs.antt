@@ -57,6 +57,15 @@ is_native name =
     is_pair (code "h") (code "y") name || is_pair (code "e") (code "m") name || is_pair (code "b") (code "u") name
     || is_pair (code "a") (code "q") name || is_pair (code "d") (code "q") name || is_pair (code "r") (code "s") name
 
+-- ---- strings
+
+-- the strings of man(7) that are a character: quotes, and `R`, a registered sign
+abbrev pub string_code : List ℕ → Option ℕ
+string_code name =
+    if is_pair (code "l") (code "q") name then Some (code "“") else
+    if is_pair (code "r") (code "q") name then Some (code "”") else
+    if bytes_eq name (codes "R") then Some (code "®") else None
+
 -- ---- fonts
 
 -- by the last byte of a name: bold, italic, the previous one, or roman

@@ -4,7 +4,7 @@ ghost use Rattle.nr_preconv.specs.Half.{abandoned, met, without_escape};
 ghost use Rattle.nr_preconv.specs.Hyphens.{may_hang};
 ghost use Rattle.nr_preconv.specs.Escapes as specs;
 
-use super::glyphs::{code_of, font_of, glyph_code, is_native, is_pair, is_struck};
+use super::glyphs::{code_of, font_of, glyph_code, is_native, is_pair, is_struck, string_code};
 use super::half::{Before, Escape, Half, Kind, Line, Mark, Seen};
 use super::hyphens::{is_hang, wide_mark};
 use super::numbers::is_number;
@@ -423,11 +423,22 @@ impl Half {
                 self.places(Mark::Other);
                 self.ended(Said::Byte(b'1'))
             }
-            Kind::Register | Kind::Text => self.ended_kept(),
+            Kind::Register => self.ended_kept(),
+            Kind::Text => self.string(string_code(name.as_bytes())),
             Kind::Hang => self.hang(),
             Kind::Identifier => self.tested(!name.is_empty()),
             Kind::Number => self.tested(is_number(name.as_bytes())),
             Kind::Size | Kind::Dropped => self.dropped(),
+        }
+    }
+
+    /// A string. Those of man(7) that are a character go out as its byte.
+    fn string(&mut self, code: Option<u32>) -> Seen
+        ensures { met self.new result ≡ specs.string code self.old }
+    {
+        match code {
+            Some(code) => self.kept_or(code),
+            None => self.ended_kept(),
         }
     }
 

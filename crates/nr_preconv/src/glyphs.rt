@@ -1,6 +1,6 @@
 //! The names of characters (groff_char(7)).
 ghost use Rattle.std.specs.Prelude.{◌≡◌};
-ghost use Rattle.nr_preconv.specs.Glyphs.{code_of, glyph_code, is_native, is_pair, is_struck, long_code, looked_up, below_codes, font_of, letter_of, named_in, pair_code};
+ghost use Rattle.nr_preconv.specs.Glyphs.{code_of, glyph_code, is_native, is_pair, is_struck, long_code, looked_up, below_codes, font_of, letter_of, named_in, pair_code, string_code};
 ghost use Rattle.nr_preconv.specs.Likeness.{before_nul};
 
 use super::numbers::number_from;
@@ -122,6 +122,22 @@ pub(crate) fn is_native(name: &[u8]) -> bool
         || is_pair(name, b'a', b'q')
         || is_pair(name, b'd', b'q')
         || is_pair(name, b'r', b's')
+}
+
+/// The character that a string of man(7) is.
+pub(crate) fn string_code(name: &[u8]) -> Option<u32>
+    ensures { result ≡ string_code name.now }
+{
+    if is_pair(name, b'l', b'q') {
+        return Some(u32::from('“'));
+    }
+    if is_pair(name, b'r', b'q') {
+        return Some(u32::from('”'));
+    }
+    if name == b"R".as_slice() {
+        return Some(u32::from('®'));
+    }
+    None
 }
 
 /// The letter of a font by the last byte of its name.

@@ -18,7 +18,7 @@ pub(crate) enum Said {
     Kept(Name),
     /// `.ti` and this number, as a line, and the beginning of a text line.
     Hang(Name),
-    /// What was kept, the name of a character that the language has.
+    /// What was kept, by which the language knows a character, or the byte of that in the table.
     Native(Name, u32),
     /// `\` and this byte.
     Escape(u8),
