@@ -16,7 +16,7 @@ use Rattle.nr_preconv.specs.declared.words.Class.TheVariants as classes
 use Rattle.nr_preconv.specs.declared.words.Told.{Told}
 use Rattle.nr_preconv.specs.Half.{Met, taken, left, character_said, is_beginning, is_text, takes_brace, without_escape, in_text, abandoned}
 use Rattle.nr_preconv.specs.Hyphens.{wide_mark, placed, begins_behind, leaving_hyphens, may_hang, is_hang, behind_hyphen}
-use Rattle.nr_preconv.specs.Glyphs.{is_pair, is_native, is_struck, glyph_code, code_of, string_code, font_of}
+use Rattle.nr_preconv.specs.Glyphs.{is_pair, is_native, is_struck, glyph_code, code_of, quote_of, string_code, font_of}
 use Rattle.nr_preconv.specs.Numbers.{is_number}
 use Rattle.nr_preconv.specs.Words.{met_words, begins_word}
 
@@ -205,13 +205,21 @@ abbrev pub native : Option ℕ → Half → Met
 native None h = ended_kept h
 native (Some c) h = ended (says.Native h.kept c) (placed (wide_mark c) h)
 
--- A character by its name. `.tr \(*W-` makes \(*W a dash.
+abbrev pub sign : Half → Met
+sign h = if is_struck h.spelled then struck (glyph_code h.spelled) h else character (glyph_code h.spelled) h
+
+abbrev pub quoted : Option (List ℕ) → Half → Met
+quoted None h = sign h
+quoted (Some quote) h = ended (says.Kept quote) (placed Other h)
+
+-- A character by its name. `.tr \(*W-` makes \(*W a dash; where `.tr \(is'` came, three signs are quotes.
 abbrev pub glyph : Half → Met
 glyph h =
     if is_native h.spelled && not (is_delimited h.escape) then native (glyph_code h.spelled) h else
     if is_pair (code "*") (code "W") h.spelled && is_translation h.line then ended_kept (record h { dashes = true }) else
     if is_pair (code "*") (code "W") h.spelled && h.dashes then ended (says.Escape (code "-")) (placed Other h) else
-    if is_struck h.spelled then struck (glyph_code h.spelled) h else character (glyph_code h.spelled) h
+    if is_pair (code "i") (code "s") h.spelled && is_translation h.line then ended_kept (record h { quotes = true }) else
+    if h.quotes && not (is_translation h.line) then quoted (quote_of h.spelled) h else sign h
 
 abbrev pub numbered : Half → Met
 numbered h = character (code_of h.spelled) h

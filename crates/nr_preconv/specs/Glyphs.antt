@@ -57,6 +57,15 @@ is_native name =
     is_pair (code "h") (code "y") name || is_pair (code "e") (code "m") name || is_pair (code "b") (code "u") name
     || is_pair (code "a") (code "q") name || is_pair (code "d") (code "q") name || is_pair (code "r") (code "s") name
 
+-- ---- translations
+
+-- the quotes that `.tr \(is'`, `.tr \(if` and a backquote, and `.tr \(pd"` make of these signs (the groff manual, Character Translations)
+abbrev pub quote_of : List ℕ → Option (List ℕ)
+quote_of name =
+    if is_pair (code "i") (code "s") name then Some (codes "\\(aq") else
+    if is_pair (code "i") (code "f") name then Some (codes "\\`") else
+    if is_pair (code "p") (code "d") name then Some (codes "\\(dq") else None
+
 -- ---- strings
 
 -- the strings of man(7) that are a character: quotes, and `R`, a registered sign

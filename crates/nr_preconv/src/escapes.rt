@@ -4,7 +4,9 @@ ghost use Rattle.nr_preconv.specs.Half.{abandoned, met, without_escape};
 ghost use Rattle.nr_preconv.specs.Hyphens.{may_hang};
 ghost use Rattle.nr_preconv.specs.Escapes as specs;
 
-use super::glyphs::{code_of, font_of, glyph_code, is_native, is_pair, is_struck, string_code};
+use super::glyphs::{
+    code_of, font_of, glyph_code, is_native, is_pair, is_struck, quote_of, string_code,
+};
 use super::half::{Before, Escape, Half, Kind, Line, Mark, Seen};
 use super::hyphens::{is_hang, wide_mark};
 use super::numbers::is_number;
@@ -396,10 +398,40 @@ impl Half {
                 return self.ended(Said::Escape(b'-'));
             }
         }
-        if is_struck(name.as_bytes()) {
-            return self.struck(glyph_code(name.as_bytes()));
+        let translates = matches!(self.line, Line::Translation);
+        if is_pair(name.as_bytes(), b'i', b's') && translates {
+            self.quotes = true;
+            return self.ended_kept();
         }
-        self.character(glyph_code(name.as_bytes()))
+        if self.quotes && !translates {
+            return self.quoted(quote_of(name.as_bytes()));
+        }
+        self.sign()
+    }
+
+    /// A sign that `.tr` made a quote, if it is one.
+    fn quoted(&mut self, quote: Option<Name>) -> Seen
+        ensures { met self.new result ≡ specs.quoted quote self.old }
+    {
+        match quote {
+            Some(quote) => {
+                self.places(Mark::Other);
+                self.ended(Said::Kept(quote))
+            }
+            None => self.sign(),
+        }
+    }
+
+    /// The character of a name as it is, maybe with a stroke through it.
+    fn sign(&mut self) -> Seen
+        ensures { met self.new result ≡ specs.sign self.old }
+    {
+        let name = self.spelled;
+        let code = glyph_code(name.as_bytes());
+        if is_struck(name.as_bytes()) {
+            return self.struck(code);
+        }
+        self.character(code)
     }
 
     /// A character by its number.

@@ -1,10 +1,11 @@
 //! The names of characters (groff_char(7)).
 ghost use Rattle.std.specs.Prelude.{◌≡◌};
-ghost use Rattle.nr_preconv.specs.Glyphs.{code_of, glyph_code, is_native, is_pair, is_struck, long_code, looked_up, below_codes, font_of, letter_of, named_in, pair_code, string_code};
+ghost use Rattle.nr_preconv.specs.Glyphs.{code_of, glyph_code, is_native, is_pair, is_struck, long_code, looked_up, below_codes, font_of, letter_of, named_in, pair_code, quote_of, string_code};
 ghost use Rattle.nr_preconv.specs.Likeness.{before_nul};
 
 use super::numbers::number_from;
 use super::pairs::{NAMES, PAIRS};
+use nr_units::Name;
 
 /// The greatest code of a character, and one.
 const CODES: u32 = 0x0011_0000;
@@ -122,6 +123,22 @@ pub(crate) fn is_native(name: &[u8]) -> bool
         || is_pair(name, b'a', b'q')
         || is_pair(name, b'd', b'q')
         || is_pair(name, b'r', b's')
+}
+
+/// What spells the quote that a sign is once it was translated.
+pub(crate) fn quote_of(name: &[u8]) -> Option<Name>
+    ensures { result ≡ quote_of name.now }
+{
+    if is_pair(name, b'i', b's') {
+        return Some(Name::of(b"\\(aq"));
+    }
+    if is_pair(name, b'i', b'f') {
+        return Some(Name::of(b"\\`"));
+    }
+    if is_pair(name, b'p', b'd') {
+        return Some(Name::of(b"\\(dq"));
+    }
+    None
 }
 
 /// The character that a string of man(7) is.

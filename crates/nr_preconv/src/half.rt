@@ -191,6 +191,8 @@ pub(crate) struct Half {
     pub defining: bool,
     /// `\\(*W` is a dash.
     pub dashes: bool,
+    /// `\\(is`, `\\(if` and `\\(pd` are quotes.
+    pub quotes: bool,
     /// It is a manual page: a title came.
     pub manual: bool,
     /// A table is read.
@@ -275,6 +277,7 @@ impl Half {
             conditional: false,
             defining: false,
             dashes: false,
+            quotes: false,
             manual: false,
             table: false,
             before: Before::Character(Mark::Other),
