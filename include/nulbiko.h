@@ -36,7 +36,7 @@ enum nulbiko_outcome {
     NULBIKO_DONE = 0,          /* All went into the output. */
     NULBIKO_LIMIT = 1,         /* The next move would pass the limit `limit`, behind `at` bytes of the text; the
                                 * output has the pages that had ended. */
-    NULBIKO_OUT_OF_RANGE = 2,  /* A limit is outside its range. */
+    NULBIKO_OUT_OF_RANGE = 2,  /* A limit is outside its range, or no table has the number. */
     NULBIKO_NULL = 3,          /* A pointer is null: of a text that has bytes, or of a struct. */
     NULBIKO_FULL = 4,          /* The output is too small: it has what fits. Call again with a larger one; there is
                                 * no call that goes on where this one stopped. */
@@ -67,6 +67,16 @@ enum nulbiko_wrong {
     NULBIKO_TOO_WIDE = 10         /* The table is wider than the line. */
 };
 
+/* Tables of characters: bytes from 128 on stand for characters beyond ASCII between nulbiko_preconv and nulbiko_utf8. */
+enum nulbiko_table {
+    NULBIKO_NO_TABLE = 0, /* All is spelled in ASCII. */
+    NULBIKO_ENGLISH = 1,  /* Signs, and Latin-1. */
+    NULBIKO_LATIN = 2,    /* Letters from Czech to Turkish, and common signs. */
+    NULBIKO_CYRILLIC = 3,
+    NULBIKO_GREEK = 4,
+    NULBIKO_LATIN1 = 5 /* Latin-1 at its own bytes: for a program that prints it as it is. */
+};
+
 /* What a text may cost. nroff's own: 262144, 256, 65536, 1000000. */
 struct nulbiko_limits {
     uint64_t stored;     /* Bytes stored: texts under names, registers, traps, open levels. 64 to 2^24. */
@@ -87,23 +97,27 @@ struct nulbiko_report {
                      * taken, of nulbiko_tbl the line, counted from 1. */
     uint64_t moves; /* Moves or steps that were made, at most 2^64 - 1. */
     uint32_t limit; /* Of nulbiko_format: which limit. Of nulbiko_tbl: what was wrong first. Else 0. */
+    uint64_t dropped; /* Of nulbiko_utf8: bytes that are no character, which became nothing. Else 0. */
 };
 
 /* The calls of the library. No pointer may be null: call those below, which see to that. */
 uint32_t nulbiko_format_lent(const struct nulbiko_limits *limits, const struct nulbiko_options *options,
                              const uint8_t *input, size_t length, uint8_t *output, size_t capacity,
                              struct nulbiko_report *report);
-uint32_t nulbiko_preconv_lent(bool eight_bit, const uint8_t *input, size_t length, uint8_t *output,
+uint32_t nulbiko_preconv_lent(uint32_t table, const uint8_t *input, size_t length, uint8_t *output,
                               size_t capacity, struct nulbiko_report *report);
 uint32_t nulbiko_mdoc_lent(const uint8_t *input, size_t length, uint8_t *output, size_t capacity,
                            struct nulbiko_report *report);
 uint32_t nulbiko_tbl_lent(size_t line, const uint8_t *input, size_t length, uint8_t *output, size_t capacity,
                           struct nulbiko_report *report);
+uint32_t nulbiko_utf8_lent(uint32_t table, bool escapes, const uint8_t *input, size_t length, uint8_t *output,
+                           size_t capacity, struct nulbiko_report *report);
+uint32_t nulbiko_choose_lent(const uint8_t *input, size_t length);
 
 /* Nothing is told. */
 static inline enum nulbiko_outcome nulbiko_null(struct nulbiko_report *report)
 {
-    const struct nulbiko_report nothing = {0, 0, 0, 0};
+    const struct nulbiko_report nothing = {0, 0, 0, 0, 0};
     if (report)
         *report = nothing;
     return NULBIKO_NULL;
@@ -122,15 +136,15 @@ static inline enum nulbiko_outcome nulbiko_format(const struct nulbiko_limits *l
                                                      length, output ? (uint8_t *)output : &none, capacity, report);
 }
 
-/* Turns what manual pages use into the language of nulbiko_format, as preconv does. With `eight_bit` letters of
- * Latin-1 stay single bytes. */
-static inline enum nulbiko_outcome nulbiko_preconv(bool eight_bit, const void *input, size_t length, void *output,
-                                                   size_t capacity, struct nulbiko_report *report)
+/* Turns what manual pages use into the language of nulbiko_format, as preconv does. Characters of the table become its
+ * bytes, which nulbiko_utf8 turns back with the same table. */
+static inline enum nulbiko_outcome nulbiko_preconv(enum nulbiko_table table, const void *input, size_t length,
+                                                   void *output, size_t capacity, struct nulbiko_report *report)
 {
     uint8_t none = 0;
     if (!report || (!input && length) || (!output && capacity))
         return nulbiko_null(report);
-    return (enum nulbiko_outcome)nulbiko_preconv_lent(eight_bit, input ? (const uint8_t *)input : &none, length,
+    return (enum nulbiko_outcome)nulbiko_preconv_lent((uint32_t)table, input ? (const uint8_t *)input : &none, length,
                                                       output ? (uint8_t *)output : &none, capacity, report);
 }
 
@@ -156,6 +170,30 @@ static inline enum nulbiko_outcome nulbiko_tbl(size_t line, const void *input, s
         return nulbiko_null(report);
     return (enum nulbiko_outcome)nulbiko_tbl_lent(line, input ? (const uint8_t *)input : &none, length,
                                                   output ? (uint8_t *)output : &none, capacity, report);
+}
+
+/* Turns bytes of a table into its characters, in UTF-8, behind nulbiko_format, as utf8 does. With `escapes` underlined
+ * text stands between the terminal's escape sequences, and else behind `_` and a backspace. Whatever comes, no other
+ * control character goes out but newline. NULBIKO_NO_TABLE is out of range. */
+static inline enum nulbiko_outcome nulbiko_utf8(enum nulbiko_table table, bool escapes, const void *input,
+                                                size_t length, void *output, size_t capacity,
+                                                struct nulbiko_report *report)
+{
+    uint8_t none = 0;
+    if (!report || (!input && length) || (!output && capacity))
+        return nulbiko_null(report);
+    return (enum nulbiko_outcome)nulbiko_utf8_lent((uint32_t)table, escapes, input ? (const uint8_t *)input : &none,
+                                                   length, output ? (uint8_t *)output : &none, capacity, report);
+}
+
+/* The table that a page takes, by its first 65,536 bytes: never NULBIKO_LATIN1. NULBIKO_NO_TABLE where malloc gave no
+ * memory, or the pointer of a text that has bytes is null. */
+static inline enum nulbiko_table nulbiko_choose(const void *input, size_t length)
+{
+    uint8_t none = 0;
+    if (!input && length)
+        return NULBIKO_NO_TABLE;
+    return (enum nulbiko_table)nulbiko_choose_lent(input ? (const uint8_t *)input : &none, length);
 }
 
 #ifdef __cplusplus

@@ -1,4 +1,4 @@
-/* Formats a stranger's manual page under limits, to standard output, and tells how it went.
+/* Formats a stranger's manual page under limits, to standard output in UTF-8, and tells how it went.
  *
  *   page TMAC PAGE
  *
@@ -15,9 +15,7 @@ static const char *const outcomes[] = {
     "done", "a limit would be passed", "a limit is out of range", "a pointer is null",
     "the output is too small", "out of memory", "the text is too long",
 };
-static const char *const limits_told[] = {
-    "", "stored bytes", "input depth", "cells of a line", "cells of a page", "expansions",
-};
+static const char *const limits_told[] = {"", "stored bytes", "input depth", "line cells", "page cells", "expansions"};
 
 struct text {
     char *bytes;
@@ -62,12 +60,13 @@ int main(int count, char **words)
         return 2;
     const struct nulbiko_limits limits = {262144, 64, 65536, 1000000};
     const struct nulbiko_options options = {1};
-    struct nulbiko_report report = {0};
-    struct text page = empty(), man = empty(), turned = empty(), whole = empty(), pages = empty();
+    struct nulbiko_report report = {0}, shown = {0};
+    struct text page = empty(), man = empty(), turned = empty(), whole = empty(), pages = empty(), out = empty();
 
     add_file(&page, words[2]);
+    const enum nulbiko_table table = nulbiko_choose(page.bytes, page.length);
     judge("mdoc", nulbiko_mdoc(page.bytes, page.length, man.bytes, MOST, &report), &report);
-    judge("preconv", nulbiko_preconv(false, man.bytes, report.written, turned.bytes, MOST, &report), &report);
+    judge("preconv", nulbiko_preconv(table, man.bytes, report.written, turned.bytes, MOST, &report), &report);
     whole.length = (size_t)sprintf(whole.bytes, ".nr C 1\n.nr L 78\n"); /* one long page, 78 cells wide */
     add_file(&whole, words[1]);
     char *behind = whole.bytes + whole.length;
@@ -75,6 +74,7 @@ int main(int count, char **words)
     whole.length += report.written;
     enum nulbiko_outcome outcome =
         nulbiko_format(&limits, &options, whole.bytes, whole.length, pages.bytes, MOST, &report);
-    fwrite(pages.bytes, 1, report.written, stdout);
+    judge("utf8", nulbiko_utf8(table, false, pages.bytes, report.written, out.bytes, MOST, &shown), &shown);
+    fwrite(out.bytes, 1, shown.written, stdout);
     judge("nroff", outcome, &report);
 }

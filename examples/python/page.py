@@ -23,7 +23,8 @@ class Options(ctypes.Structure):
 
 
 class Report(ctypes.Structure):
-    _fields_ = [('written', c_size_t), ('at', c_uint64), ('moves', c_uint64), ('limit', c_uint32)]
+    _fields_ = [('written', c_size_t), ('at', c_uint64), ('moves', c_uint64), ('limit', c_uint32),
+                ('dropped', c_uint64)]
 
 
 class Stopped(Exception):
@@ -41,7 +42,8 @@ class Nulbiko:
     def __init__(self, path):
         self.library = ctypes.CDLL(path)
         slices = [c_char_p, c_size_t, c_void_p, c_size_t, c_void_p]
-        firsts = {'format': [c_void_p, c_void_p], 'mdoc': [], 'preconv': [c_bool], 'tbl': [c_size_t]}
+        firsts = {'format': [c_void_p, c_void_p], 'mdoc': [], 'preconv': [c_uint32], 'tbl': [c_size_t],
+                  'utf8': [c_uint32, c_bool]}
         for name, first in firsts.items():
             call = getattr(self.library, f'nulbiko_{name}_lent')
             call.argtypes, call.restype = first + slices, c_uint32
@@ -60,10 +62,12 @@ class Nulbiko:
         return output.raw[:report.written]
 
     def page(self, macros, page):
-        turned = self.call('preconv', [False], self.call('mdoc', [], page))
+        table = self.library.nulbiko_choose_lent(page, c_size_t(len(page)))
+        turned = self.call('preconv', [table], self.call('mdoc', [], page))
         tables = self.call('tbl', [78], turned)
         limits, options = Limits(262144, 64, 65536, 1000000), Options(1)
-        return self.call('format', [byref(limits), byref(options)], b'.nr C 1\n.nr L 78\n' + macros + tables)
+        text = b'.nr C 1\n.nr L 78\n' + macros + tables
+        return self.call('utf8', [table, False], self.call('format', [byref(limits), byref(options)], text))
 
 
 if __name__ == '__main__':

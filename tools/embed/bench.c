@@ -50,7 +50,7 @@ static enum nulbiko_outcome format_page(const char *name, struct buffers *b)
 {
     struct nulbiko_report report;
     size_t length = read_file(name, b->page, MOST);
-    enum nulbiko_outcome outcome = nulbiko_preconv(false, b->page, length, b->turned, MOST, &report);
+    enum nulbiko_outcome outcome = nulbiko_preconv(NULBIKO_NO_TABLE, b->page, length, b->turned, MOST, &report);
     if (outcome != NULBIKO_DONE)
         return outcome;
     outcome = nulbiko_tbl(78, b->turned, report.written, b->whole + head_length, MOST - head_length, &report);

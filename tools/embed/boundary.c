@@ -28,7 +28,7 @@ static bool nothing_done(void)
     for (size_t i = 0; i < sizeof out; i++)
         if (out[i] != '#')
             return false;
-    return !report.written && !report.at && !report.moves && !report.limit;
+    return !report.written && !report.at && !report.moves && !report.limit && !report.dropped;
 }
 
 static void prepare(void)
@@ -64,12 +64,12 @@ static void null_pointers(void)
     prepare();
     judge("format: 0 and 0", nulbiko_format(&plain, &options, NULL, 0, NULL, 0, &report) == NULBIKO_DONE && put_out(""));
     prepare();
-    judge("preconv: no text", nulbiko_preconv(false, NULL, 1, out, 9, &report) == NULBIKO_NULL && nothing_done());
+    judge("preconv: no text", nulbiko_preconv(NULBIKO_NO_TABLE, NULL, 1, out, 9, &report) == NULBIKO_NULL && nothing_done());
     prepare();
-    judge("preconv: no output", nulbiko_preconv(false, text, 1, NULL, 9, &report) == NULBIKO_NULL && nothing_done());
-    judge("preconv: no report", nulbiko_preconv(false, text, 1, out, 9, NULL) == NULBIKO_NULL);
+    judge("preconv: no output", nulbiko_preconv(NULBIKO_NO_TABLE, text, 1, NULL, 9, &report) == NULBIKO_NULL && nothing_done());
+    judge("preconv: no report", nulbiko_preconv(NULBIKO_NO_TABLE, text, 1, out, 9, NULL) == NULBIKO_NULL);
     prepare();
-    judge("preconv: 0 and 0", nulbiko_preconv(false, NULL, 0, NULL, 0, &report) == NULBIKO_DONE && put_out(""));
+    judge("preconv: 0 and 0", nulbiko_preconv(NULBIKO_NO_TABLE, NULL, 0, NULL, 0, &report) == NULBIKO_DONE && put_out(""));
     prepare();
     judge("mdoc: no text", nulbiko_mdoc(NULL, 1, out, 9, &report) == NULBIKO_NULL && nothing_done());
     prepare();
@@ -77,6 +77,14 @@ static void null_pointers(void)
     judge("mdoc: no report", nulbiko_mdoc(text, 1, out, 9, NULL) == NULBIKO_NULL);
     prepare();
     judge("mdoc: 0 and 0", nulbiko_mdoc(NULL, 0, NULL, 0, &report) == NULBIKO_DONE && put_out(""));
+    prepare();
+    judge("utf8: no text", nulbiko_utf8(NULBIKO_LATIN, false, NULL, 1, out, 9, &report) == NULBIKO_NULL && nothing_done());
+    prepare();
+    judge("utf8: no output", nulbiko_utf8(NULBIKO_LATIN, false, text, 1, NULL, 9, &report) == NULBIKO_NULL && nothing_done());
+    judge("utf8: no report", nulbiko_utf8(NULBIKO_LATIN, false, text, 1, out, 9, NULL) == NULBIKO_NULL);
+    prepare();
+    judge("utf8: 0 and 0", nulbiko_utf8(NULBIKO_LATIN, false, NULL, 0, NULL, 0, &report) == NULBIKO_DONE && put_out(""));
+    judge("choose: no text", nulbiko_choose(NULL, 1) == NULBIKO_NO_TABLE);
     prepare();
     judge("tbl: no text", nulbiko_tbl(78, NULL, 1, out, 9, &report) == NULBIKO_NULL && nothing_done());
     prepare();
@@ -96,6 +104,15 @@ static void ranges(void)
     };
     for (size_t i = 0; i < sizeof bad / sizeof *bad; i++)
         judge("format: a limit out of range", format(&bad[i], text, sizeof out) == NULBIKO_OUT_OF_RANGE && nothing_done());
+    const uint32_t tables[] = {NULBIKO_NO_TABLE, NULBIKO_LATIN1 + 1, UINT32_MAX};
+    for (size_t i = 0; i < sizeof tables / sizeof *tables; i++) {
+        prepare();
+        judge("utf8: no such table", nulbiko_utf8((enum nulbiko_table)tables[i], false, text, sizeof text, out, sizeof out, &report) ==
+                                         NULBIKO_OUT_OF_RANGE && nothing_done());
+    }
+    prepare();
+    judge("preconv: no such table", nulbiko_preconv((enum nulbiko_table)6, text, sizeof text, out, sizeof out, &report) ==
+                                        NULBIKO_OUT_OF_RANGE && nothing_done());
     const struct nulbiko_limits least = {64, 1, 1, 1};
     judge("format: the least limits", format(&least, text, sizeof out) != NULBIKO_OUT_OF_RANGE);
 }
@@ -114,10 +131,10 @@ static void outcomes(void)
     judge("format: the first page's number",
           nulbiko_format(&plain, &fifth, "\\n%\n", 4, out, 1, &report) == NULBIKO_FULL && put_out("5"));
     prepare();
-    judge("preconv: a character", nulbiko_preconv(false, "\xe2\x80\x94\n", 4, out, sizeof out, &report) == NULBIKO_DONE &&
+    judge("preconv: a character", nulbiko_preconv(NULBIKO_NO_TABLE, "\xe2\x80\x94\n", 4, out, sizeof out, &report) == NULBIKO_DONE &&
                                       put_out("\\(em\n"));
     prepare();
-    judge("preconv: full", nulbiko_preconv(false, "word\n", 5, out, 2, &report) == NULBIKO_FULL && put_out("wo"));
+    judge("preconv: full", nulbiko_preconv(NULBIKO_NO_TABLE, "word\n", 5, out, 2, &report) == NULBIKO_FULL && put_out("wo"));
     prepare();
     judge("mdoc: a page", nulbiko_mdoc(".Dd $Mdocdate$\n.Dt A 1\n.Os\n.Sh NAME\n", 38, out, sizeof out, &report) == NULBIKO_DONE &&
                               report.written > 4 && !memcmp(out, ".TH ", 4));
@@ -133,6 +150,26 @@ static void outcomes(void)
                                                report.limit == NULBIKO_OPEN_TABLE && report.at == 3);
     prepare();
     judge("tbl: full", nulbiko_tbl(78, "word\n", 5, out, 2, &report) == NULBIKO_FULL && put_out("wo"));
+    prepare();
+    judge("preconv: a byte of a table", nulbiko_preconv(NULBIKO_LATIN, "\xc3\xa4\n", 3, out, sizeof out, &report) == NULBIKO_DONE &&
+                                            put_out("\xe4\n"));
+    prepare();
+    judge("utf8: a character", nulbiko_utf8(NULBIKO_LATIN, false, "\xe4\n", 2, out, sizeof out, &report) == NULBIKO_DONE &&
+                                   put_out("\xc3\xa4\n") && report.dropped == 0);
+    prepare();
+    judge("utf8: dropped", nulbiko_utf8(NULBIKO_LATIN, false, "a\033[2J\rb\n", 8, out, sizeof out, &report) == NULBIKO_DONE &&
+                               put_out("a[2Jb\n") && report.dropped == 2);
+    prepare();
+    judge("utf8: underlined", nulbiko_utf8(NULBIKO_LATIN, false, "_\ba", 3, out, sizeof out, &report) == NULBIKO_DONE &&
+                                  put_out("_\ba"));
+    prepare();
+    judge("utf8: escapes", nulbiko_utf8(NULBIKO_LATIN, true, "_\ba", 3, out, sizeof out, &report) == NULBIKO_DONE &&
+                               put_out("\033[4ma\033[24m"));
+    prepare();
+    judge("utf8: full", nulbiko_utf8(NULBIKO_LATIN, false, "\xe4\n", 2, out, 1, &report) == NULBIKO_FULL && put_out("\xc3"));
+    judge("choose: latin", nulbiko_choose("\xc5\x82", 2) == NULBIKO_LATIN);
+    judge("choose: cyrillic", nulbiko_choose("\xd1\x82", 2) == NULBIKO_CYRILLIC);
+    judge("choose: nothing to go by", nulbiko_choose("abc", 3) == NULBIKO_ENGLISH);
 }
 
 /* Last, since it takes the program's memory away. */

@@ -2,3 +2,4 @@ mod FormattingRun
 mod PreconvRun
 mod MdocRun
 mod TblRun
+mod Utf8Run

@@ -7,14 +7,13 @@ use Rattle.nr_preconv.specs.Running.{Ran, TellsReads, is_read_fault}
 use Rattle.nr_preconv.specs.declared.running.Outcome.{Outcome}
 use Rattle.nr_preconv.specs.declared.running.Outcome.TheVariants.{Done, ReadFault, TooLong, WriteFault}
 
--- of the same table, and of the same bytes before and after
-pub carried : (e e' : Option Table) (q q' left : Option Supply) (old old' new new' : Option (List ℕ)) (steps : ℕ) (o : Outcome)
-    → Ran e q left old new steps o → e ≡ e' → q ≡ q' → old ≡ old' → new ≡ new' → Ran e' q' left old' new' steps o
-carried e e' q q' left old old' new new' steps o ran table same before after =
-    subst (λ z. Ran e' q' left old' z steps o) after
-    (subst (λ y. Ran e' q' left y new steps o) before
-    (subst (λ x. Ran e' x left old new steps o) same
-    (subst (λ t. Ran t q left old new steps o) table ran)))
+-- of the same bytes before and after
+pub carried : (e : Option Table) (q q' left : Option Supply) (old old' new new' : Option (List ℕ)) (steps : ℕ) (o : Outcome)
+    → Ran e q left old new steps o → q ≡ q' → old ≡ old' → new ≡ new' → Ran e q' left old' new' steps o
+carried e q q' left old old' new new' steps o ran same before after =
+    subst (λ z. Ran e q' left old' z steps o) after
+    (subst (λ y. Ran e q' left y new steps o) before
+    (subst (λ x. Ran e x left old new steps o) same ran))
 
 -- where no call of the source failed, none is told
 pub unread : (o : Outcome) → TellsReads o 0 0 → is_read_fault o ≡ false

@@ -62,5 +62,6 @@ pub record FormatsText (b : Bounds) (first : ℤ) (text output : List ℕ) (repo
   pub moves_told : report.moves ≡ count_told moves
   pub limit : report.limit ≡ limit_told outcome
   pub place : report.at ≡ place_told outcome
+  pub none_dropped : report.dropped ≡ 0
   -- a slice doesn't fail
   pub readable : is_read_fault outcome ≡ false

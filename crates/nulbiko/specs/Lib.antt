@@ -1,5 +1,7 @@
 pub mod Told
+pub mod Tables
 pub mod Formatting
 pub mod Preconv
 pub mod Mdoc
 pub mod Tbl
+pub mod Utf8

@@ -25,5 +25,6 @@ pub record TurnsPage (text output : List ℕ) (report : Report) (code : ℕ) : T
   pub code_is : code ≡ code_within (code_of outcome) (length bytes) (length output)
   pub no_limit : report.limit ≡ 0
   pub no_place : report.at ≡ 0
+  pub none_dropped : report.dropped ≡ 0
   -- a slice doesn't fail
   pub readable : is_read_fault outcome ≡ false

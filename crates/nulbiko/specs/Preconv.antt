@@ -1,8 +1,7 @@
 -- What a call of preconv comes to.
-use Rattle.std.specs.Prelude.{◌≡◌, ℕ, List, [], length, Bool, true, false, Option, None, Some}
+use Rattle.std.specs.Prelude.{◌≡◌, ℕ, List, [], length, false, Option, Some}
 use Rattle.nr_units.specs.Source.{Supply}
 use Rattle.nr_characters.specs.declared.table.Table.{Table}
-use Rattle.nr_characters.specs.declared.table.Table.TheVariants.{Latin1}
 use Rattle.nr_preconv.specs.Running.{Ran, is_read_fault}
 use Rattle.nr_preconv.specs.declared.running.Outcome.{Outcome}
 use Rattle.nr_preconv.specs.declared.running.Outcome.TheVariants.{Done, ReadFault, TooLong, WriteFault}
@@ -17,20 +16,16 @@ code_of TooLong = 6
 -- never told
 code_of (ReadFault at) = 9
 
--- the table whose characters stay single bytes, if there is one
-abbrev pub table_of : Bool → Option Table
-table_of true = Some Latin1
-table_of false = None
-
--- The text was turned into the language, and what came out was handed over.
-pub record TurnsText (eight_bit : Bool) (text output : List ℕ) (report : Report) (code : ℕ) : Type 0 where
+-- The text was turned into the language, with bytes for characters of the table if there is one, and what came out was handed over.
+pub record TurnsText (table : Option Table) (text output : List ℕ) (report : Report) (code : ℕ) : Type 0 where
   pub outcome : Outcome
   pub left : Option Supply
   pub bytes : List ℕ
-  pub ran : Ran (table_of eight_bit) (Some (whole_text text)) left (Some []) (Some bytes) report.moves outcome
+  pub ran : Ran table (Some (whole_text text)) left (Some []) (Some bytes) report.moves outcome
   pub handed : IsHanded bytes output report.written
   pub code_is : code ≡ code_within (code_of outcome) (length bytes) (length output)
   pub no_limit : report.limit ≡ 0
   pub no_place : report.at ≡ 0
+  pub none_dropped : report.dropped ≡ 0
   -- a slice doesn't fail
   pub readable : is_read_fault outcome ≡ false

@@ -54,5 +54,6 @@ pub record SetsTables (line : ℕ) (text output : List ℕ) (report : Report) (c
   pub code_is : code ≡ code_within (code_of outcome) (length bytes) (length output)
   pub wrong : report.limit ≡ first_kind kept.items
   pub place : report.at ≡ first_line kept.items
+  pub none_dropped : report.dropped ≡ 0
   -- a slice doesn't fail
   pub readable : is_read_fault outcome ≡ false

@@ -69,6 +69,7 @@ fn report_of(outcome: Outcome, written: usize, moves: u128) -> Report
     ensures moves { result.moves ≡ count_told moves }
     ensures limit { result.limit ≡ limit_told outcome }
     ensures place { result.at ≡ place_told outcome }
+    ensures none_dropped { result.dropped ≡ 0 }
 {
     let (limit, at) = match outcome {
         Outcome::Limit { which, at } => (limit_number(which), at),
@@ -79,6 +80,7 @@ fn report_of(outcome: Outcome, written: usize, moves: u128) -> Report
         at,
         moves: count_told(moves),
         limit,
+        dropped: 0,
     }
 }
 

@@ -53,6 +53,7 @@ fn turn_page(
         at: 0,
         moves: steps,
         limit: 0,
+        dropped: 0,
     };
     Ok(code_within(code(outcome), bytes.len(), output.len()))
 }

@@ -96,6 +96,7 @@ fn set_tables(
         at,
         moves: report.steps,
         limit,
+        dropped: 0,
     };
     Ok(code_within(code(report.outcome), bytes.len(), output.len()))
 }

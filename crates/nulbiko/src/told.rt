@@ -8,7 +8,7 @@ pub(crate) const DONE: u32 = 0;
 /// A limit would be passed.
 pub(crate) const LIMIT: u32 = 1;
 
-/// The limits are outside their ranges: nothing was done.
+/// A limit is outside its range, or no table has the number: nothing was done.
 pub(crate) const OUT_OF_RANGE: u32 = 2;
 
 /// The output is too small: it has what fits.
@@ -35,6 +35,8 @@ pub struct Report {
     pub moves: u64,
     /// Which limit would be passed or what is wrong, or 0.
     pub limit: u32,
+    /// How many bytes of the text became nothing: those that are no character of a table.
+    pub dropped: u64,
 }
 
 impl Report {
@@ -47,6 +49,7 @@ impl Report {
             at: 0,
             moves: 0,
             limit: 0,
+            dropped: 0,
         }
     }
 }

@@ -15,5 +15,6 @@ returns-clause-formatted c = record {
   moves_told = search rules;
   limit = search rules;
   place = search rules;
+  none_dropped = search rules;
   readable = unread _ c.format-outcome.ensures.faults.read_failures;
 }

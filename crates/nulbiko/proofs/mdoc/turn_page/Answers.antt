@@ -12,5 +12,6 @@ returns-clause-turned c = record {
   code_is = search rules;
   no_limit = search rules;
   no_place = search rules;
+  none_dropped = search rules;
   readable = unread _ c.convert-outcome.ensures.read_faults;
 }

@@ -7,10 +7,11 @@ returns-clause-turned c = record {
   outcome = c.convert-outcome.result;
   left = _;
   bytes = c.as_slice-bytes.result.now;
-  ran = carried _ _ _ _ _ _ _ _ _ _ _ c.convert-outcome.ensures.ran c.table_for-table.ensures c.over-text.ensures.supply c.in_ok-pages.ensures.held c.as_slice-bytes.ensures;
+  ran = carried _ _ _ _ _ _ _ _ _ _ c.convert-outcome.ensures.ran c.over-text.ensures.supply c.in_ok-pages.ensures.held c.as_slice-bytes.ensures;
   handed = search rules;
   code_is = search rules;
   no_limit = search rules;
   no_place = search rules;
+  none_dropped = search rules;
   readable = unread _ c.convert-outcome.ensures.read_faults;
 }

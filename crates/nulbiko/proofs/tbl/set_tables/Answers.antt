@@ -15,5 +15,6 @@ returns-clause-set c = record {
   code_is = search rules;
   wrong = search rules;
   place = search rules;
+  none_dropped = search rules;
   readable = unread _ c.convert-report.ensures.read_faults;
 }

@@ -1,0 +1,17 @@
+use Rattle.std.proofs.Common.{rules}
+use Rattle.nulbiko.proofs.Utf8Run.{carried, unread}
+use Rattle.nulbiko.proofs.utf8.turn_bytes.Goals as goal
+
+pub returns-clause-turned : goal.returns-clause-turned
+returns-clause-turned c = record {
+  outcome = c.convert-outcome.result;
+  left = _;
+  bytes = c.as_slice-bytes.result.now;
+  ran = carried _ _ _ _ _ _ _ _ _ _ _ c.convert-outcome.ensures.ran c.over-text.ensures.supply c.in_ok-pages.ensures.held c.as_slice-bytes.ensures;
+  handed = search rules;
+  code_is = search rules;
+  no_moves = search rules;
+  no_limit = search rules;
+  no_place = search rules;
+  readable = unread _ c.convert-outcome.ensures.read_faults;
+}

@@ -1,0 +1,123 @@
+// Bytes that a table has become its characters, as utf8 makes them.
+ghost use Rattle.std.specs.Prelude.{◌≡◌, ◌≢◌, ◌↔◌, IfOk, OnErr};
+ghost use Rattle.nr_characters.specs.declared.table.Table.{Table};
+ghost use Rattle.nulbiko.specs.Tables.{table_numbered};
+ghost use Rattle.nulbiko.specs.Told.{nothing_told};
+ghost use Rattle.nulbiko.specs.Utf8.{ChoosesNumber, TurnsBytes, code_of};
+
+use super::pages::{Pages, hand_over};
+use super::tables::{number_of, table_of};
+use super::text::Text;
+use super::told::{
+    DONE, FULL, OUT_OF_MEMORY, OUT_OF_RANGE, Report, TOO_LONG, UNREADABLE, code_within,
+};
+use nr_characters::Table;
+use nr_utf8::{CHARACTERS, LOOKED_AT, Outcome, choose, convert};
+use std::alloc::{AllocError, Global};
+
+/// The bytes of what is to go out.
+const PENDING_SIZE: usize = 65_536;
+
+/// The number that tells an outcome.
+fn code(outcome: Outcome) -> u32
+    ensures value { result ≡ code_of outcome }
+    ensures not_range { result ≢ 2 }
+    ensures not_memory { result ≢ 5 }
+{
+    match outcome {
+        Outcome::Done => DONE,
+        Outcome::WriteFault => FULL,
+        Outcome::TooLong => TOO_LONG,
+        Outcome::ReadFault { .. } => UNREADABLE,
+    }
+}
+
+/// Turns the bytes, hands over what comes out and gives the number that tells how it ended.
+fn turn_bytes(
+    alloc: Global,
+    table: Table,
+    escapes: bool,
+    input: &[u8],
+    output: &mut [u8],
+    told: &mut Report,
+) -> Result<u32, AllocError>
+    ensures turned { IfOk result (λ code. TurnsBytes table escapes input.now output.new told.new code) }
+    ensures not_range { IfOk result (λ code. code ≢ 2) }
+    ensures not_memory { IfOk result (λ code. code ≢ 5) }
+    ensures untouched { OnErr result ((output.new ≡ output.old) × (told.new ≡ told.old)) }
+{
+    let mut pending = vec![in alloc; 0u8; PENDING_SIZE]?;
+    let mut pages = Pages::new(alloc, output.len())?;
+    let mut text = Text::over(input);
+    let mut dropped = 0;
+    let outcome = convert(
+        &mut text,
+        &mut pages,
+        table,
+        escapes,
+        &mut pending,
+        &mut dropped,
+    );
+    let bytes = pages.as_slice();
+    let written = hand_over(bytes, output);
+    *told = Report {
+        written,
+        at: 0,
+        moves: 0,
+        limit: 0,
+        dropped,
+    };
+    Ok(code_within(code(outcome), bytes.len(), output.len()))
+}
+
+/// Turns the bytes that a table has into its characters, in UTF-8, into a buffer, tells how it went and how many bytes were
+/// dropped, and gives the number of the outcome: 0 done, 2 no table has the number, 4 the buffer is full, 5 there is not
+/// enough memory, 6 the text is too long. With `escapes` underlined text stands between escape sequences.
+#[unsafe(no_mangle)]
+pub extern "C" fn nulbiko_utf8_lent(
+    alloc: Global,
+    table: u32,
+    escapes: bool,
+    input: &[u8],
+    output: &mut [u8],
+    told: &mut Report,
+) -> u32
+    ensures ranges { (result ≡ 2) ↔ (table_numbered table ≡ None) }
+    ensures turned { (t : Table) → table_numbered table ≡ Some t → result ≢ 5 → TurnsBytes t escapes input.now output.new told.new result }
+    ensures bad { result ≡ 2 → (output.new ≡ output.old) × (told.new ≡ nothing_told) }
+    ensures no_memory { result ≡ 5 → (output.new ≡ output.old) × (told.new ≡ nothing_told) }
+{
+    *told = Report::nothing();
+    let Some(table) = table_of(table) else {
+        return OUT_OF_RANGE;
+    };
+    match turn_bytes(alloc, table, escapes, input, output, told) {
+        Ok(code) => code,
+        Err(_) => OUT_OF_MEMORY,
+    }
+}
+
+/// Looks at a page and gives the number of its table.
+fn look(alloc: Global, input: &[u8]) -> Result<u32, AllocError>
+    ensures { IfOk result (λ number. ChoosesNumber input.now number) }
+{
+    let mut page = vec![in alloc; 0u8; LOOKED_AT]?;
+    let mut counts = vec![in alloc; 0u32; CHARACTERS]?;
+    let mut text = Text::over(input);
+    match choose(&mut text, &mut page, &mut counts) {
+        Ok(table) => Ok(number_of(table)),
+        // A slice doesn't fail.
+        Err(_) => unreachable!(),
+    }
+}
+
+/// Gives the number of the table that a page takes, by its first 65,536 bytes, or 0 where there is not enough memory.
+#[unsafe(no_mangle)]
+pub extern "C" fn nulbiko_choose_lent(alloc: Global, input: &[u8]) -> u32
+    ensures { result ≢ 0 → ChoosesNumber input.now result }
+{
+    match look(alloc, input) {
+        Ok(number) => number,
+        Err(_) => 0,
+    }
+}
