@@ -11,13 +11,17 @@ struct Row {
     line: &'static [u8],
 }
 
-static TEXTS: [(&str, Page<'static>); 13] = [
+static TEXTS: [(&str, Page<'static>); 14] = [
     (
         "quotes",
         Page::Bytes(b"\xe2\x80\x9ca\xe2\x80\x9d \\(em \\fIb\\fP\n"),
     ),
     ("latin", Page::Bytes(b"na\xefve \xc3\xa9\n")),
     ("half", Page::Bytes(b"\\(l")),
+    (
+        "quoted",
+        Page::Bytes(b"\\'a \\*(lqb\\*[rq] \\*R\n.tr \\(is'\n\\(isc\\(is \\(ifd \\(pde\n"),
+    ),
     ("signs", Page::Bytes(b"\\(ul\t\\[eq]\n")),
     ("other", Page::Bytes(b"q\n.tr x")),
     (
@@ -40,7 +44,7 @@ static TEXTS: [(&str, Page<'static>); 13] = [
     ("cut", Page::Cut(b"a\\~b\n.BR c\\(l")),
 ];
 
-static ROWS: [Row; 21] = [
+static ROWS: [Row; 23] = [
     Row {
         words: &[b"preconv"],
         output: b"cafe\n",
@@ -63,6 +67,19 @@ static ROWS: [Row; 21] = [
     Row {
         words: &[b"preconv", b"-u", b"latin", b"quotes"],
         output: b"\xbaa\xbc \xb4 \\fIb\\fP\n",
+        status: 0,
+        line: b"",
+    },
+    // So are the acute accent's escape and the strings for quotes of -man; `.tr` of a sign to a quote makes it one.
+    Row {
+        words: &[b"preconv", b"-u", b"english", b"quoted"],
+        output: b"\xb4a \x88b\x89 \xae\n.tr \\(is'\n\\(aqc\\(aq \\`d \\(dqe\n",
+        status: 0,
+        line: b"",
+    },
+    Row {
+        words: &[b"preconv", b"quoted"],
+        output: b"\\'a \\*(lqb\\*[rq] \\*R\n.tr \\(is'\n\\(aqc\\(aq \\`d \\(dqe\n",
         status: 0,
         line: b"",
     },
