@@ -1,5 +1,5 @@
 -- Pages that are no mdoc(7) go out as they are.
-use Rattle.std.proofs.Common.{◌≡◌, ℕ, ◌+◌, ◌≤◌, length, drop, ◌==◌, List, [], ◌∷◌, ◌++◌, Bool, true, false, not, nat_lt, if◌then◌else◌, Option, None, Some, is_some, refl, sym, ◌∙◌, ap, append_assoc, append-nil, arith}
+use Rattle.std.proofs.Common.{◌≡◌, ℕ, ◌+◌, ◌≤◌, length, drop, ◌==◌, List, [], ◌∷◌, ◌++◌, Bool, true, false, not, ◌||◌, nat_lt, if◌then◌else◌, Option, None, Some, is_some, refl, sym, ◌∙◌, ap, append_assoc, append-nil, arith}
 use Prim.Native.Char.{code}
 use Rattle.std.proofs.lemmas.Bool.Decides.{nat_tests}
 use Rattle.std.proofs.lemmas.List.{drop_all}
@@ -12,7 +12,7 @@ use Rattle.nr_mdoc.specs.LayingOut.{lay_out}
 use Rattle.nr_mdoc.specs.Passing.{leads_behind, leads_with, leads_on, is_other}
 use Rattle.nr_mdoc.specs.Reading.{State, Told, told, behind, said, once, once_seen, heard_in, heard, read, fed, finished, first_state, converted}
 use Rattle.nr_mdoc.specs.Keeping.{ends_word}
-use Rattle.nr_mdoc.specs.Scanning.{asleep_with, front_grows, gives_up, meet, meet_whole, passes_to, wakes}
+use Rattle.nr_mdoc.specs.Scanning.{asleep_with, front_grows, front_then, given_up, gives_up, is_blank, meet, meet_whole, passes_to, wakes}
 use Rattle.nr_mdoc.specs.Texts.{front_of}
 use Rattle.nr_mdoc.specs.Calls.{with_scan}
 
@@ -77,7 +77,7 @@ grows_bytes : (front more : Front) (lines b : ℕ) (s : State) → (read_with (S
 unfolding at said lay_out read_with
 grows_bytes front more lines b s = refl
 
-nothing_state : (lines b : ℕ) (s : State) → (read_with None fronts.Nothing lines b s).state ≡ at (passes_to lines b) s
+nothing_state : (lines b : ℕ) (s : State) → (read_with None fronts.Nothing lines b s).state ≡ at (passes_to fronts.Nothing lines b) s
 unfolding at said lay_out read_with
 nothing_state lines b s = refl
 
@@ -85,7 +85,7 @@ nothing_bytes : (lines b : ℕ) (s : State) → (read_with None fronts.Nothing l
 unfolding at said lay_out read_with
 nothing_bytes lines b s = refl
 
-other_state : (lines b : ℕ) (s : State) → (read_with None fronts.Other lines b s).state ≡ at (passes_to lines b) s
+other_state : (lines b : ℕ) (s : State) → (read_with None fronts.Other lines b s).state ≡ at (passes_to fronts.Other lines b) s
 unfolding at said lay_out read_with
 other_state lines b s = refl
 
@@ -93,7 +93,31 @@ other_bytes : (lines b : ℕ) (s : State) → (read_with None fronts.Other lines
 unfolding at said lay_out read_with
 other_bytes lines b s = refl
 
-dot_state : (lines b : ℕ) (s : State) → (read_with None fronts.Dot lines b s).state ≡ at (passes_to lines b) s
+control_state : (lines b : ℕ) (s : State) → (read_with None fronts.Control lines b s).state ≡ at (passes_to fronts.Control lines b) s
+unfolding at said lay_out read_with
+control_state lines b s = refl
+
+control_bytes : (lines b : ℕ) (s : State) → (read_with None fronts.Control lines b s).bytes ≡ b ∷ []
+unfolding at said lay_out read_with
+control_bytes lines b s = refl
+
+escape_state : (lines b : ℕ) (s : State) → (read_with None fronts.Escape lines b s).state ≡ at (passes_to fronts.Escape lines b) s
+unfolding at said lay_out read_with
+escape_state lines b s = refl
+
+escape_bytes : (lines b : ℕ) (s : State) → (read_with None fronts.Escape lines b s).bytes ≡ b ∷ []
+unfolding at said lay_out read_with
+escape_bytes lines b s = refl
+
+comment_state : (lines b : ℕ) (s : State) → (read_with None fronts.Comment lines b s).state ≡ at (passes_to fronts.Comment lines b) s
+unfolding at said lay_out read_with
+comment_state lines b s = refl
+
+comment_bytes : (lines b : ℕ) (s : State) → (read_with None fronts.Comment lines b s).bytes ≡ b ∷ []
+unfolding at said lay_out read_with
+comment_bytes lines b s = refl
+
+dot_state : (lines b : ℕ) (s : State) → (read_with None fronts.Dot lines b s).state ≡ at (passes_to fronts.Control lines b) s
 unfolding at once said meet lay_out read_with
 dot_state lines b s = refl
 
@@ -101,7 +125,7 @@ dot_bytes : (lines b : ℕ) (s : State) → (read_with None fronts.Dot lines b s
 unfolding at once said meet lay_out read_with
 dot_bytes lines b s = refl
 
-half_state : (lines b : ℕ) (s : State) → (read_with None fronts.Half lines b s).state ≡ at (passes_to lines b) s
+half_state : (lines b : ℕ) (s : State) → (read_with None fronts.Half lines b s).state ≡ at (passes_to fronts.Other lines b) s
 unfolding at once said meet lay_out read_with
 half_state lines b s = refl
 
@@ -120,7 +144,7 @@ whole-is : (lines b : ℕ) (s : State) → read_with None fronts.Whole lines b s
 unfolding at read_with whole_with
 whole-is lines b s = refl
 
-whole_state : (lines b : ℕ) (s : State) → (whole_with false lines b s).state ≡ at (passes_to lines b) s
+whole_state : (lines b : ℕ) (s : State) → (whole_with false lines b s).state ≡ at (passes_to fronts.Other lines b) s
 unfolding at once said meet lay_out whole_with
 whole_state lines b s = refl
 
@@ -146,6 +170,9 @@ grown_front fronts.Nothing more b e = grown (b == code ".") b (code ".") fronts.
 grown_front fronts.Dot more b e = grown (b == code "D") b (code "D") fronts.Half more (front_of fronts.Dot) refl refl e
 grown_front fronts.Half more b e = grown (b == code "d") b (code "d") fronts.Whole more (front_of fronts.Half) refl refl e
 grown_front fronts.Whole more b e = absurd (let no : None ≡ Some more = e in cc)
+grown_front fronts.Control more b e = absurd (let no : None ≡ Some more = e in cc)
+grown_front fronts.Escape more b e = absurd (let no : None ≡ Some more = e in cc)
+grown_front fronts.Comment more b e = absurd (let no : None ≡ Some more = e in cc)
 grown_front fronts.Other more b e = absurd (let no : None ≡ Some more = e in cc)
 
 -- ---- all bytes
@@ -155,26 +182,45 @@ Rest : List ℕ → Type 0
 Rest bs = (front : Front) (lines : ℕ) (s : State) → is_some (leads_on (Some (scans.Asleep front lines)) bs) ≡ true
     → all_of (at (scans.Asleep front lines) s) bs ≡ front_of front ++ bs
 
-scan_by : Bool → Bool → ℕ → Scan
-scan_by t u lines = if t then scans.Asleep fronts.Other lines else if u then scans.Asleep fronts.Nothing (lines + 1) else scans.Passes
+scan_by : Bool → Bool → Bool → Front → ℕ → Scan
+scan_by inside blank few front lines =
+    if inside then scans.Asleep front lines else
+    if blank then scans.Asleep fronts.Nothing lines else
+    if few then scans.Asleep fronts.Nothing (lines + 1) else scans.Passes
 
-by-scan : (t u : Bool) (lines : ℕ) (s : State) (bs : List ℕ) → Rest bs
-    → is_some (leads_on (Some (scan_by t u lines)) bs) ≡ true → all_of (at (scan_by t u lines) s) bs ≡ bs
+by-scan : (inside blank few : Bool) (front : Front) (lines : ℕ) (s : State) (bs : List ℕ) → front_of front ≡ [] → Rest bs
+    → is_some (leads_on (Some (scan_by inside blank few front lines)) bs) ≡ true
+    → all_of (at (scan_by inside blank few front lines) s) bs ≡ bs
 unfolding scan_by Rest
-by-scan true u lines s bs rest h = rest fronts.Other lines s h
-by-scan false true lines s bs rest h = rest fronts.Nothing (lines + 1) s h
-by-scan false false lines s bs rest h = all-passes s bs
+by-scan true blank few front lines s bs e rest h = rest front lines s h ∙ ap (λ (xs : List ℕ). xs ++ bs) e
+by-scan false true few front lines s bs e rest h = rest fronts.Nothing lines s h
+by-scan false false true front lines s bs e rest h = rest fronts.Nothing (lines + 1) s h
+by-scan false false false front lines s bs e rest h = all-passes s bs
+
+none_of : (t : Bool) (front : Front) → front_of front ≡ [] → front_of (if t then front else fronts.Other) ≡ []
+none_of true front e = e
+none_of false front e = refl
+
+none_then : (front : Front) (b : ℕ) → front_of (front_then front b) ≡ []
+none_then fronts.Nothing b = none_of (b == code "'") fronts.Control refl
+none_then fronts.Control b = none_of (b == code "\\") fronts.Escape refl
+none_then fronts.Escape b = none_of ((b == code "\"") || (b == code "#")) fronts.Comment refl
+none_then fronts.Comment b = refl
+none_then fronts.Dot b = refl
+none_then fronts.Half b = refl
+none_then fronts.Whole b = refl
+none_then fronts.Other b = refl
 
 -- a byte that goes on no `.Dd` passes, after what was read of one
-passed : (front : Front) (lines b : ℕ) (s : State) (bs xs : List ℕ) → Rest bs
-    → (read b (at (scans.Asleep front lines) s)).state ≡ at (passes_to lines b) s
+passed : (front kept : Front) (lines b : ℕ) (s : State) (bs xs : List ℕ) → Rest bs
+    → (read b (at (scans.Asleep front lines) s)).state ≡ at (passes_to kept lines b) s
     → (read b (at (scans.Asleep front lines) s)).bytes ≡ xs ++ b ∷ []
-    → is_some (leads_on (Some (passes_to lines b)) bs) ≡ true
+    → is_some (leads_on (Some (passes_to kept lines b)) bs) ≡ true
     → all_of (at (scans.Asleep front lines) s) (b ∷ bs) ≡ xs ++ b ∷ bs
 unfolding scan_by
-passed front lines b s bs xs rest p q h =
-    all-by (at (scans.Asleep front lines) s) (at (passes_to lines b) s) b bs (xs ++ b ∷ []) bs p q
-    (by-scan (not (b == code "\n")) (nat_lt lines 63) lines s bs rest h)
+passed front kept lines b s bs xs rest p q h =
+    all-by (at (scans.Asleep front lines) s) (at (passes_to kept lines b) s) b bs (xs ++ b ∷ []) bs p q
+    (by-scan (not (b == code "\n")) (is_blank kept) (nat_lt lines 63) (front_then kept b) lines s bs (none_then kept b) rest h)
     ∙ append_assoc xs (b ∷ []) bs
 
 none_leads : (bs : List ℕ) → is_some (leads_on None bs) ≡ true → ⊥
@@ -183,13 +229,13 @@ none_leads (b ∷ bs) h = none_leads bs h
 
 -- by whether the word after `.Dd` ends
 whole : (ends : Bool) (lines b : ℕ) (s : State) (bs : List ℕ) → Rest bs → front_grows fronts.Whole b ≡ None → ends_word b ≡ ends
-    → is_some (leads_on (if ends then None else Some (passes_to lines b)) bs) ≡ true
+    → is_some (leads_on (if ends then None else Some (passes_to fronts.Other lines b)) bs) ≡ true
     → all_of (at (scans.Asleep fronts.Whole lines) s) (b ∷ bs) ≡ front_of fronts.Whole ++ b ∷ bs
 whole true lines b s bs rest g e h = absurd (none_leads bs h)
 whole false lines b s bs rest g e h =
     let here : read b (at (scans.Asleep fronts.Whole lines) s) ≡ whole_with false lines b s =
     read-is fronts.Whole lines b s ∙ whole-is lines b s ∙ ap (λ (t : Bool). whole_with t lines b s) e in
-    passed fronts.Whole lines b s bs (front_of fronts.Whole) rest
+    passed fronts.Whole fronts.Other lines b s bs (front_of fronts.Whole) rest
     (ap (λ (t : Told). t.state) here ∙ whole_state lines b s) (ap (λ (t : Told). t.bytes) here ∙ whole_bytes lines b s) h
 
 by-front : (front : Front) (lines b : ℕ) (s : State) (bs : List ℕ) → Rest bs → front_grows front b ≡ None
@@ -197,19 +243,31 @@ by-front : (front : Front) (lines b : ℕ) (s : State) (bs : List ℕ) → Rest 
     → all_of (at (scans.Asleep front lines) s) (b ∷ bs) ≡ front_of front ++ b ∷ bs
 by-front fronts.Nothing lines b s bs rest g h =
     let here = read-is fronts.Nothing lines b s ∙ ap (λ (x : Option Front). read_with x fronts.Nothing lines b s) g in
-    passed fronts.Nothing lines b s bs [] rest
+    passed fronts.Nothing fronts.Nothing lines b s bs [] rest
     (ap (λ (t : Told). t.state) here ∙ nothing_state lines b s) (ap (λ (t : Told). t.bytes) here ∙ nothing_bytes lines b s) h
 by-front fronts.Other lines b s bs rest g h =
     let here = read-is fronts.Other lines b s ∙ ap (λ (x : Option Front). read_with x fronts.Other lines b s) g in
-    passed fronts.Other lines b s bs [] rest
+    passed fronts.Other fronts.Other lines b s bs [] rest
     (ap (λ (t : Told). t.state) here ∙ other_state lines b s) (ap (λ (t : Told). t.bytes) here ∙ other_bytes lines b s) h
+by-front fronts.Control lines b s bs rest g h =
+    let here = read-is fronts.Control lines b s ∙ ap (λ (x : Option Front). read_with x fronts.Control lines b s) g in
+    passed fronts.Control fronts.Control lines b s bs [] rest
+    (ap (λ (t : Told). t.state) here ∙ control_state lines b s) (ap (λ (t : Told). t.bytes) here ∙ control_bytes lines b s) h
+by-front fronts.Escape lines b s bs rest g h =
+    let here = read-is fronts.Escape lines b s ∙ ap (λ (x : Option Front). read_with x fronts.Escape lines b s) g in
+    passed fronts.Escape fronts.Escape lines b s bs [] rest
+    (ap (λ (t : Told). t.state) here ∙ escape_state lines b s) (ap (λ (t : Told). t.bytes) here ∙ escape_bytes lines b s) h
+by-front fronts.Comment lines b s bs rest g h =
+    let here = read-is fronts.Comment lines b s ∙ ap (λ (x : Option Front). read_with x fronts.Comment lines b s) g in
+    passed fronts.Comment fronts.Comment lines b s bs [] rest
+    (ap (λ (t : Told). t.state) here ∙ comment_state lines b s) (ap (λ (t : Told). t.bytes) here ∙ comment_bytes lines b s) h
 by-front fronts.Dot lines b s bs rest g h =
     let here = read-is fronts.Dot lines b s ∙ ap (λ (x : Option Front). read_with x fronts.Dot lines b s) g in
-    passed fronts.Dot lines b s bs (front_of fronts.Dot) rest
+    passed fronts.Dot fronts.Control lines b s bs (front_of fronts.Dot) rest
     (ap (λ (t : Told). t.state) here ∙ dot_state lines b s) (ap (λ (t : Told). t.bytes) here ∙ dot_bytes lines b s) h
 by-front fronts.Half lines b s bs rest g h =
     let here = read-is fronts.Half lines b s ∙ ap (λ (x : Option Front). read_with x fronts.Half lines b s) g in
-    passed fronts.Half lines b s bs (front_of fronts.Half) rest
+    passed fronts.Half fronts.Other lines b s bs (front_of fronts.Half) rest
     (ap (λ (t : Told). t.state) here ∙ half_state lines b s) (ap (λ (t : Told). t.bytes) here ∙ half_bytes lines b s) h
 by-front fronts.Whole lines b s bs rest g h = whole (ends_word b) lines b s bs rest g refl h
 

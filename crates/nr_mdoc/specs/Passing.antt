@@ -1,16 +1,17 @@
--- Pages that are no mdoc(7): no line of the first sixty-four begins with `.Dd` and what ends a word.
+-- Pages that are no mdoc(7): none of the first sixty-four lines that are neither empty nor comments begins with `.Dd`
+-- and what ends a word.
 use Rattle.std.specs.Prelude.{ℕ, List, [], ◌∷◌, Bool, if◌then◌else◌, Option, None, Some, is_some}
 use Rattle.nr_mdoc.specs.declared.page.Front.{Front}
 use Rattle.nr_mdoc.specs.declared.page.Front.TheVariants as fronts
 use Rattle.nr_mdoc.specs.declared.page.Scan.{Scan}
 use Rattle.nr_mdoc.specs.declared.page.Scan.TheVariants as scans
 use Rattle.nr_mdoc.specs.Keeping.{ends_word}
-use Rattle.nr_mdoc.specs.Scanning.{front_grows, passes_to}
+use Rattle.nr_mdoc.specs.Scanning.{front_grows, given_up, passes_to}
 
 -- where a byte leads that goes on no `.Dd`: nowhere, if it ends one
 abbrev pub leads_behind : Front → ℕ → ℕ → Option Scan
-leads_behind fronts.Whole lines b = if ends_word b then None else Some (passes_to lines b)
-leads_behind front lines b = Some (passes_to lines b)
+leads_behind fronts.Whole lines b = if ends_word b then None else Some (passes_to (given_up fronts.Whole) lines b)
+leads_behind front lines b = Some (passes_to (given_up front) lines b)
 
 abbrev pub leads_with : Option Front → Front → ℕ → ℕ → Option Scan
 leads_with None front lines b = leads_behind front lines b

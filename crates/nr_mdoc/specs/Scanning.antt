@@ -118,7 +118,7 @@ after_ignored d = scans.Ignored dots.Start
 abbrev pub ignored : Dots → ℕ → Page → Met
 ignored d b p = turns (if b == code "\n" then after_ignored d else scans.Ignored (dots_then d b)) (taken (acts.Byte b)) p
 
--- ---- before a page is known to be one of mdoc: `.Dd` begins one of its first 64 lines
+-- ---- before a page is known to be one of mdoc: `.Dd` begins one of its first 64 lines that are neither empty nor comments
 
 abbrev pub front_grows : Front → ℕ → Option Front
 front_grows fronts.Nothing b = if b == code "." then Some fronts.Dot else None
@@ -126,25 +126,46 @@ front_grows fronts.Dot b = if b == code "D" then Some fronts.Half else None
 front_grows fronts.Half b = if b == code "d" then Some fronts.Whole else None
 front_grows front b = None
 
-abbrev pub passes_to : ℕ → ℕ → Scan
-passes_to lines b =
-    if not (b == code "\n") then scans.Asleep fronts.Other lines else
+-- what a line begins with, after a byte that passes
+abbrev pub front_then : Front → ℕ → Front
+front_then fronts.Nothing b = if b == code "'" then fronts.Control else fronts.Other
+front_then fronts.Control b = if b == code "\\" then fronts.Escape else fronts.Other
+front_then fronts.Escape b = if (b == code "\"") || (b == code "#") then fronts.Comment else fronts.Other
+front_then fronts.Comment b = fronts.Comment
+front_then front b = fronts.Other
+
+-- the same, where it goes on no `.Dd`
+abbrev pub given_up : Front → Front
+given_up fronts.Dot = fronts.Control
+given_up fronts.Half = fronts.Other
+given_up fronts.Whole = fronts.Other
+given_up front = front
+
+abbrev pub is_blank : Front → Bool
+is_blank fronts.Nothing = true
+is_blank fronts.Comment = true
+is_blank front = false
+
+abbrev pub passes_to : Front → ℕ → ℕ → Scan
+passes_to front lines b =
+    if not (b == code "\n") then scans.Asleep (front_then front b) lines else
+    if is_blank front then scans.Asleep fronts.Nothing lines else
     if nat_lt lines 63 then scans.Asleep fronts.Nothing (lines + 1) else scans.Passes
 
-abbrev pub passes : ℕ → ℕ → Page → Met
-passes lines b p = turns (passes_to lines b) (taken (acts.Byte b)) p
+abbrev pub passes : Front → ℕ → ℕ → Page → Met
+passes front lines b p = turns (passes_to front lines b) (taken (acts.Byte b)) p
 
 abbrev pub wakes : Page → Met
 wakes p = turns scans.Between (left acts.Nothing) (record p { call = call_of macros.Date })
 
 abbrev pub gives_up : Front → ℕ → Page → Met
-gives_up front lines p = turns (scans.Asleep fronts.Other lines) (left (acts.Front front)) p
+gives_up front lines p = turns (scans.Asleep (given_up front) lines) (left (acts.Front front)) p
 
 abbrev pub asleep_behind : Front → ℕ → ℕ → Page → Met
-asleep_behind fronts.Nothing lines b p = passes lines b p
-asleep_behind fronts.Other lines b p = passes lines b p
+asleep_behind fronts.Dot lines b p = gives_up fronts.Dot lines p
+asleep_behind fronts.Half lines b p = gives_up fronts.Half lines p
 asleep_behind fronts.Whole lines b p = if ends_word b then wakes p else gives_up fronts.Whole lines p
-asleep_behind front lines b p = gives_up front lines p
+asleep_behind front lines b p = passes front lines b p
 
 abbrev pub asleep_with : Option Front → Front → ℕ → ℕ → Page → Met
 asleep_with None front lines b p = asleep_behind front lines b p

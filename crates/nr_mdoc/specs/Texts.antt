@@ -101,11 +101,10 @@ text_of texts.AllReturn = codes "functions return the value\\~0 if successful; o
 
 -- what was read of `.Dd`
 abbrev pub front_of : Front → List ℕ
-front_of fronts.Nothing = []
-front_of fronts.Other = []
 front_of fronts.Dot = codes "."
 front_of fronts.Half = codes ".D"
 front_of fronts.Whole = codes ".Dd"
+front_of front = []
 
 -- a request, as a line
 abbrev pub request_of : Request → List ℕ

@@ -27,6 +27,12 @@ pub(crate) enum Front {
     Half,
     /// `.Dd`.
     Whole,
+    /// A control character, which passed.
+    Control,
+    /// A control character and a backslash.
+    Escape,
+    /// A comment.
+    Comment,
     /// Something else: the line passes.
     Other,
 }

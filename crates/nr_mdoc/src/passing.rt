@@ -5,7 +5,7 @@ ghost use Rattle.nr_mdoc.specs.Reading.{converted};
 
 use super::keeping::ends_word;
 use super::page::{Front, Scan};
-use super::scan::{front_grows, passes_to};
+use super::scan::{front_grows, given_up, passes_to};
 
 /// Where a byte leads that goes on no `.Dd`: nowhere, if it ends one.
 fn leads_behind(front: Front, lines: u8, byte: u8) -> Option<Scan>
@@ -13,7 +13,7 @@ fn leads_behind(front: Front, lines: u8, byte: u8) -> Option<Scan>
 {
     match front {
         Front::Whole if ends_word(byte) => None,
-        _ => Some(passes_to(lines, byte)),
+        _ => Some(passes_to(given_up(front), lines, byte)),
     }
 }
 
@@ -40,7 +40,7 @@ fn leads(scan: Option<Scan>, byte: u8) -> Option<Scan>
     }
 }
 
-/// Whether no line of the first 64 of a text begins with `.Dd`. Such a text is what `convert` makes of it.
+/// Whether none of the first 64 lines of a text that are neither empty nor comments begins with `.Dd`. Such a text is what `convert` makes of it.
 pub fn passes_unchanged(text: &[u8]) -> bool
     ensures value { result ≡ specs.is_other text.now }
     ensures law { IsTrue result → converted text.now ≡ text.now }

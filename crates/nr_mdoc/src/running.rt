@@ -152,7 +152,7 @@ fn run<R: Source, W: Sink>(
 }
 
 /// Turns what the input gives into man(7), and puts it to the output, which is not flushed. A page without `.Dd`
-/// in its first 64 lines passes as it is. `blocks` is the room for lists and displays that are open, of 64 at least,
+/// in its first 64 lines, besides those that are empty or comments, passes as it is. `blocks` is the room for lists and displays that are open, of 64 at least,
 /// and the buffer, of 73984 bytes at least, holds what goes out; what they held is of no account. Nothing is allocated.
 ///
 /// What goes out is one function of the bytes that came, however they came. At a read fault, and where the input is

@@ -11,7 +11,7 @@ use super::page::{Before, Dots, Front, Last, Page, Parameters, Scan};
 use super::seen::Seen;
 use nr_units::Name;
 
-/// So many lines are looked at for `.Dd`.
+/// So many lines are looked at for `.Dd`, besides those that are empty or comments.
 const MOST_LINES: u8 = 64;
 
 /// A letter: between two of them a line may be broken after a hyphen.
@@ -44,6 +44,37 @@ pub(crate) fn front_grows(front: Front, byte: u8) -> Option<Front>
         Front::Half if byte == b'd' => Some(Front::Whole),
         _ => None,
     }
+}
+
+/// What a line begins with, after one more byte that passes.
+fn front_then(front: Front, byte: u8) -> Front
+    ensures { result ≡ specs.front_then front byte }
+{
+    match front {
+        Front::Nothing if byte == b'\'' => Front::Control,
+        Front::Control if byte == b'\\' => Front::Escape,
+        Front::Escape if byte == b'"' || byte == b'#' => Front::Comment,
+        Front::Comment => Front::Comment,
+        _ => Front::Other,
+    }
+}
+
+/// What a line begins with, where it goes on no `.Dd`.
+pub(crate) fn given_up(front: Front) -> Front
+    ensures { result ≡ specs.given_up front }
+{
+    match front {
+        Front::Dot => Front::Control,
+        Front::Half | Front::Whole => Front::Other,
+        _ => front,
+    }
+}
+
+/// Whether a line that begins so is empty, or a comment.
+fn is_blank(front: Front) -> bool
+    ensures { result ≡ specs.is_blank front }
+{
+    matches!(front, Front::Nothing | Front::Comment)
 }
 
 /// One dot more at the beginning of a line.
@@ -246,12 +277,12 @@ impl Page {
             return self.turns(Scan::Asleep(more, lines), Seen::taken(Act::Nothing));
         }
         match front {
-            Front::Nothing | Front::Other => self.passes(lines, byte),
             Front::Whole if ends_word(byte) => self.wakes(),
-            _ => self.turns(
-                Scan::Asleep(Front::Other, lines),
+            Front::Dot | Front::Half | Front::Whole => self.turns(
+                Scan::Asleep(given_up(front), lines),
                 Seen::left(Act::Front(front)),
             ),
+            _ => self.passes(front, lines, byte),
         }
     }
 
@@ -264,10 +295,10 @@ impl Page {
     }
 
     /// A byte passes.
-    fn passes(&mut self, lines: u8, byte: u8) -> Seen
-        ensures { met self.new result ≡ specs.passes lines byte self.old }
+    fn passes(&mut self, front: Front, lines: u8, byte: u8) -> Seen
+        ensures { met self.new result ≡ specs.passes front lines byte self.old }
     {
-        self.turns(passes_to(lines, byte), Seen::taken(Act::Byte(byte)))
+        self.turns(passes_to(front, lines, byte), Seen::taken(Act::Byte(byte)))
     }
 
     /// What a byte does.
@@ -312,12 +343,15 @@ impl Page {
     }
 }
 
-/// What comes after a byte that passes, of which so many lines came before.
-pub(crate) fn passes_to(lines: u8, byte: u8) -> Scan
-    ensures { result ≡ specs.passes_to lines byte }
+/// What comes after a byte that passes, in a line that begins so. So many came before.
+pub(crate) fn passes_to(front: Front, lines: u8, byte: u8) -> Scan
+    ensures { result ≡ specs.passes_to front lines byte }
 {
     if byte != b'\n' {
-        return Scan::Asleep(Front::Other, lines);
+        return Scan::Asleep(front_then(front, byte), lines);
+    }
+    if is_blank(front) {
+        return Scan::Asleep(Front::Nothing, lines);
     }
     if lines < MOST_LINES - 1 {
         return Scan::Asleep(Front::Nothing, lines + 1);

@@ -136,10 +136,10 @@ pub(crate) fn front_of(front: Front) -> &'static [u8]
     ensures few { length result.now ≤ 3 }
 {
     match front {
-        Front::Nothing | Front::Other => b"",
         Front::Dot => b".",
         Front::Half => b".D",
         Front::Whole => b".Dd",
+        _ => b"",
     }
 }
 
