@@ -4,20 +4,23 @@ use Rattle.nr_mdoc.specs.declared.acts.Act.TheVariants as acts
 use Rattle.nr_mdoc.specs.declared.acts.Text.TheVariants as texts
 use Rattle.nr_mdoc.specs.declared.macros.Font.TheVariants.{Roman}
 use Rattle.nr_mdoc.specs.declared.macros.Macro.{Macro}
+use Rattle.nr_mdoc.specs.declared.macros.Macro.TheVariants as macros
 use Rattle.nr_mdoc.specs.declared.page.Page.{Page}
+use Rattle.nr_mdoc.specs.declared.page.Scan.{Scan}
 use Rattle.nr_mdoc.specs.declared.page.Scan.TheVariants as scans
-use Rattle.nr_mdoc.specs.Calls.{is_due, leaves, with_call, with_scan}
+use Rattle.nr_mdoc.specs.Calls.{is_due, is_due_from, is_enclosure_due, is_opened_by, leaves, with_call, with_scan}
+use Rattle.nr_mdoc.specs.Laying.{with_lay}
 use Rattle.nr_mdoc.specs.LayingOut.{lay_out}
 use Rattle.nr_mdoc.specs.Reading.{State, said}
 use Rattle.nr_mdoc.specs.Scanning.{meet}
 use Rattle.nr_mdoc.specs.Seeing.{Met, met, left}
 use Rattle.nr_mdoc.specs.Taking.{prefix}
-use Rattle.nr_mdoc.specs.Words.{closing_mark, holding, is_closing, is_prefix, is_text, mark, mark_as_word, marked_or, parsed, takes_marks}
+use Rattle.nr_mdoc.specs.Words.{begins_anew, closing_mark, holding, is_closing, is_prefix, is_text, mark, mark_as_word, marked_or, parsed, stands, takes_marks, taken_by_same}
 use Rattle.nr_mdoc.proofs.Escapes.{and_left, is_not}
 use Rattle.nr_mdoc.proofs.Given.{Whole, whole_of, whole_behind, whole_within, given_met}
 use Rattle.nr_mdoc.proofs.Meeting.{with_page, leads_by}
-use Rattle.nr_mdoc.proofs.Outcomes.{is_quiet, of_word, never, takes_plain, Out, out, out_if}
-use Rattle.nr_mdoc.proofs.Stepping.{At, out_step, leaves_step, marks_step}
+use Rattle.nr_mdoc.proofs.Outcomes.{is_quiet, of_word, never, takes_plain, Out, out, out_if, leaves_out}
+use Rattle.nr_mdoc.proofs.Stepping.{At, Left, out_lays, out_step, out_next, step_at, leaves_step, marks_step, true_is_false}
 use Rattle.nr_mdoc.proofs.Taken.{no_more}
 
 -- ---- closing marks
@@ -41,7 +44,7 @@ the_mark (a ∷ b ∷ rest) c e = absurd (let no : None ≡ Some c = e in cc)
 
 pub mark_by : Bool → Bool → Bool → ℕ → Page → Met
 mark_by due text full c p =
-    if due then leaves p else if text then mark_as_word p else if full then met p (left acts.Marks) else met (holding c p) (left acts.Nothing)
+    if due then stands p else if text then mark_as_word p else if full then met p (left acts.Marks) else met (holding c p) (left acts.Nothing)
 
 pub mark_is : (c : ℕ) (p : Page) → mark c p ≡ mark_by (is_due p) (is_text p) (length p.marks == 32) c p
 unfolding mark mark_by
@@ -128,12 +131,98 @@ text_whole true head b c s word marks at e due text =
     (ap (λ (xs : List ℕ). p.word ++ xs) none ∙ append-nil p.word ∙ at.word_is ∙ ap (λ (xs : List ℕ). xs ++ word) (sym none))
 text_whole false head b c s word marks at e due text = full_whole (length s.page.marks == 32) head b c s word marks at e due text refl
 
+-- ---- a mark comes first
+
+stands_by : Bool → Page → Met
+stands_by anew p = if anew then taken_by_same p.call.taker (leaves p) else leaves p
+
+stands_is : (p : Page) → stands p ≡ stands_by (begins_anew p.call.taker) p
+unfolding stands stands_by
+stands_is p = refl
+
+-- what begins anew took a word
+anew_due : (m : Macro) (named : Bool) → begins_anew m ≡ true → is_due_from m true named ≡ false
+anew_due macros.Flag named h = refl
+anew_due macros.Argument named h = refl
+anew_due macros.Path named h = refl
+anew_due macros.Name named h = refl
+anew_due m named h = never h
+
+anew_opened : (m : Macro) → begins_anew m ≡ true → is_opened_by m ≡ false
+anew_opened macros.Flag h = refl
+anew_opened macros.Argument h = refl
+anew_opened macros.Path h = refl
+anew_opened macros.Name h = refl
+anew_opened m h = never h
+
+anew_out : (p : Page) → takes_plain p.call.taker ≡ true → Out (taken_by_same p.call.taker (leaves p)) p []
+anew_out p f =
+    let o = leaves_out p f in
+    record {
+      x = o.x;
+      y = o.y;
+      z = o.z;
+      seen = o.seen;
+      quiet_x = o.quiet_x;
+      quiet_y = o.quiet_y;
+      quiet_z = o.quiet_z;
+      words = o.words;
+      keeps = record {
+        scan = o.keeps.scan;
+        word = o.keeps.word;
+        marks = o.keeps.marks;
+        few = o.keeps.few;
+        going = o.keeps.going;
+        comment = o.keeps.comment;
+        line = o.keeps.line;
+        fits = f;
+      };
+    }
+
+anew_not_due : (l : _) (m : Macro) (p : Page) → begins_anew m ≡ true → is_due (with_lay l (taken_by_same m (leaves p)).page) ≡ false
+unfolding leaves
+anew_not_due l m p h = anew_due m _ h
+
+anew_no_enclosure : (l : _) (m : Macro) (p : Page) → begins_anew m ≡ true → is_enclosure_due (with_lay l (taken_by_same m (leaves p)).page) ≡ false
+unfolding leaves
+anew_no_enclosure l m p h = ap (λ (t : Bool). t && false) (anew_opened m h)
+
+anew_some : (m : Macro) (p : Page) → (taken_by_same m (leaves p)).page.call.some ≡ true
+unfolding leaves
+anew_some m p = refl
+
+anew_step : (head : Macro) (b : ℕ) (s : State) (scan : Scan) (word marks : List ℕ) → At head s scan word marks
+    → begins_anew s.page.call.taker ≡ true → meet b s.page ≡ taken_by_same s.page.call.taker (leaves s.page) → Left head b s scan word marks
+unfolding out_next step_at out_step
+anew_step head b s scan word marks at h e =
+    let p = s.page in
+    let m = taken_by_same p.call.taker (leaves p) in
+    let o = anew_out p at.fits in
+    let l = (out_lays m p [] o).0 in
+    record {
+      step =
+          step_at head b s 1 [] p.scan scan p.word word marks at.scan_is at.word_is
+          (out_step head b s m p [] marks e o at.marks_are at.few at.going at.comment at.line
+          (λ g. true_is_false m.page.call.some (anew_some p.call.taker p) g));
+      not_due = anew_not_due l p.call.taker p h;
+      no_enclosure = anew_no_enclosure l p.call.taker p h;
+      some = anew_some p.call.taker p;
+    }
+
+stands_step : (t : Bool) (head : Macro) (b : ℕ) (s : State) (scan : Scan) (word marks : List ℕ) → At head s scan word marks
+    → begins_anew s.page.call.taker ≡ t → meet b s.page ≡ stands s.page → Left head b s scan word marks
+unfolding stands_by
+stands_step true head b s scan word marks at h e =
+    anew_step head b s scan word marks at h (e ∙ stands_is s.page ∙ ap (λ (t : Bool). stands_by t s.page) h)
+stands_step false head b s scan word marks at h e =
+    leaves_step head b s scan word marks at (e ∙ stands_is s.page ∙ ap (λ (t : Bool). stands_by t s.page) h)
+
 pub mark_whole : (t : Bool) (head : Macro) (b c : ℕ) (s : State) (word marks : List ℕ) → At head s (scans.Given false) word marks
     → closing_mark false word ≡ Some c → is_due s.page ≡ t → Whole head b s 3 (marks ++ word)
 unfolding mark_by
 mark_whole true head b c s word marks at e due =
     let p = s.page in
-    let first = leaves_step head b s (scans.Given false) word marks at
+    let first = stands_step (begins_anew s.page.call.taker) head b s (scans.Given false) word marks at refl
     (mark_met head b c s word marks at e ∙ mark_is c p ∙ ap (λ (t : Bool). mark_by t (is_text p) (length p.marks == 32) c p) due) in
     let t = first.step.next in
     whole_behind head b s t 2 [] (marks ++ word) (marks ++ word) first.step.leads

@@ -48,9 +48,24 @@ mark_as_word p =
     if is_prefix p.call.taker then prefix q else
     met (with_call (record q.call { some = true }) q) (two (acts.Word Roman) (acts.Close texts.Empty))
 
+-- a macro whose element a mark ends: behind marks it begins another
+abbrev pub begins_anew : Macro → Bool
+begins_anew macros.Flag = true
+begins_anew macros.Argument = true
+begins_anew macros.Path = true
+begins_anew macros.Name = true
+begins_anew m = false
+
+abbrev pub taken_by_same : Macro → Met → Met
+taken_by_same m l = seen_with (with_call (record l.page.call { taker = m }) l.page) l
+
+-- a mark comes first: the macro stands for text
+unfoldable pub stands : Page → Met
+stands p = if begins_anew p.call.taker then taken_by_same p.call.taker (leaves p) else leaves p
+
 unfoldable pub mark : ℕ → Page → Met
 mark b p =
-    if is_due p then leaves p else
+    if is_due p then stands p else
     if is_text p then mark_as_word p else
     if length p.marks == 32 then met p (left acts.Marks) else met (holding b p) (left acts.Nothing)
 

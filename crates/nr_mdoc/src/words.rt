@@ -31,6 +31,16 @@ fn is_closing(mark: u8) -> bool
     matches!(mark, b'.' | b',' | b':' | b';' | b')' | b']' | b'?' | b'!')
 }
 
+/// A macro whose element a mark ends: behind marks it begins another.
+fn begins_anew(called: Macro) -> bool
+    ensures { result ≡ specs.begins_anew called }
+{
+    matches!(
+        called,
+        Macro::Flag | Macro::Argument | Macro::Path | Macro::Name
+    )
+}
+
 impl Page {
     /// A word is whole.
     pub(crate) fn given(&mut self, quoted: bool) -> Seen
@@ -76,7 +86,7 @@ impl Page {
         ensures { met self.new result ≡ specs.mark mark self.old }
     {
         if self.is_due() {
-            return self.leaves();
+            return self.stands();
         }
         if self.is_text() {
             return self.mark_as_word();
@@ -89,6 +99,19 @@ impl Page {
         self.call.listed = false;
         self.scan = Scan::Between;
         Seen::left(Act::Nothing)
+    }
+
+    /// A mark comes first: the macro stands for text, and may go on behind marks.
+    #[tactic(auto, unfolding(crate::specs::Words::stands))]
+    fn stands(&mut self) -> Seen
+        ensures { met self.new result ≡ specs.stands self.old }
+    {
+        let taker = self.call.taker;
+        let seen = self.leaves();
+        if begins_anew(taker) {
+            self.call.taker = taker;
+        }
+        seen
     }
 
     /// A closing mark that comes first is a word for some macros.
