@@ -1,7 +1,7 @@
 //! The names of standards and systems, each up to its first NUL.
 
 /// The standards that `.St` names.
-pub(crate) static STANDARDS: [([u8; 15], [u8; 78]); 43] = [
+pub(crate) static STANDARDS: [([u8; 15], [u8; 78]); 46] = [
     (
         *b"-ansiC\0\0\0\0\0\0\0\0\0",
         *b"ANSI X3.159-1989 (\\(lqANSI C89\\(rq)\0\0\0\0\0\0\0\0\0\0\0\0\0\0\0\0\0\0\0\0\0\0\0\0\0\0\0\0\0\0\0\0\0\0\0\0\0\0\0\0\0\0\0",
@@ -127,12 +127,20 @@ pub(crate) static STANDARDS: [([u8; 15], [u8; 78]); 43] = [
         *b"IEEE Std 1003.2a-1992 (\\(lqPOSIX.2\\(rq)\0\0\0\0\0\0\0\0\0\0\0\0\0\0\0\0\0\0\0\0\0\0\0\0\0\0\0\0\0\0\0\0\0\0\0\0\0\0\0",
     ),
     (
+        *b"-susv1\0\0\0\0\0\0\0\0\0",
+        *b"Version 1 of the Single UNIX Specification (\\(lqSUSv1\\(rq)\0\0\0\0\0\0\0\0\0\0\0\0\0\0\0\0\0\0\0\0",
+    ),
+    (
         *b"-susv2\0\0\0\0\0\0\0\0\0",
         *b"Version 2 of the Single UNIX Specification (\\(lqSUSv2\\(rq)\0\0\0\0\0\0\0\0\0\0\0\0\0\0\0\0\0\0\0\0",
     ),
     (
         *b"-susv3\0\0\0\0\0\0\0\0\0",
         *b"Version 3 of the Single UNIX Specification (\\(lqSUSv3\\(rq)\0\0\0\0\0\0\0\0\0\0\0\0\0\0\0\0\0\0\0\0",
+    ),
+    (
+        *b"-susv4\0\0\0\0\0\0\0\0\0",
+        *b"Version 4 of the Single UNIX Specification (\\(lqSUSv4\\(rq)\0\0\0\0\0\0\0\0\0\0\0\0\0\0\0\0\0\0\0\0",
     ),
     (
         *b"-svid4\0\0\0\0\0\0\0\0\0",
@@ -169,6 +177,10 @@ pub(crate) static STANDARDS: [([u8; 15], [u8; 78]); 43] = [
     (
         *b"-xpg4.2\0\0\0\0\0\0\0\0",
         *b"X/Open Portability Guide Issue 4, Version 2 (\\(lqXPG4.2\\(rq)\0\0\0\0\0\0\0\0\0\0\0\0\0\0\0\0\0\0",
+    ),
+    (
+        *b"-xsh4.2\0\0\0\0\0\0\0\0",
+        *b"X/Open System Interfaces and Headers Issue 4, Version 2 (\\(lqXSH4.2\\(rq)\0\0\0\0\0\0",
     ),
     (
         *b"-xsh5\0\0\0\0\0\0\0\0\0\0",
