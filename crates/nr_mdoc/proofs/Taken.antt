@@ -1,5 +1,5 @@
 -- Macros that are called say nothing of a word, and those that take one say it once.
-use Rattle.std.proofs.Common.{◌≡◌, ℕ, ◌≤◌, ◌+◌, ◌-◌, List, [], ◌∷◌, ◌++◌, length, Bool, true, false, not, nat_lt, if◌then◌else◌, refl, sym, ◌∙◌, ap, subst, append-nil, length-append, arith}
+use Rattle.std.proofs.Common.{◌≡◌, ℕ, ◌≤◌, ◌+◌, ◌-◌, List, [], ◌∷◌, ◌++◌, length, Bool, true, false, not, nat_lt, if◌then◌else◌, refl, sym, ◌∙◌, ap, subst, append-nil, length-append, arith, ◌&&◌}
 use Rattle.std.proofs.lemmas.Bool.Decides.{nat_tests}
 use Prim.Native.Char.{code}
 use Rattle.nr_mdoc.specs.declared.acts.Act.{Act}
@@ -42,7 +42,10 @@ called_out (macros.Closes pair) q f =
     (out _ q acts.Apart acts.Nothing acts.Nothing [] refl refl refl refl keeps)
     (out _ q (acts.Close (texts.Closing (closer pair))) acts.Nothing acts.Nothing [] refl refl refl refl keeps)
 called_out (macros.Stands system) q f = out q q (acts.Text (texts.System system)) acts.Nothing acts.Nothing [] refl refl refl refl (same_page q f)
-called_out macros.Joins q f = out q q acts.Join acts.Nothing acts.Nothing [] refl refl refl refl (same_page q f)
+called_out macros.Joins q f =
+    out_seen_if (q.call.first && q.lay.literal) _ _ q q []
+    (out q q acts.Nothing acts.Nothing acts.Nothing [] refl refl refl refl (same_page q f))
+    (out q q acts.Join acts.Nothing acts.Nothing [] refl refl refl refl (same_page q f))
 called_out macros.Apostrophe q f = out q q (acts.Close texts.Apostrophe) acts.Join acts.Nothing [] refl refl refl refl (same_page q f)
 called_out macros.FunctionCloses q f = function_closes_out q f
 called_out macros.Cell q f = out q q acts.Cell acts.Nothing acts.Nothing [] refl refl refl refl (same_page q f)

@@ -18,6 +18,7 @@ use Rattle.nr_mdoc.specs.declared.page.Scan.{Scan}
 use Rattle.nr_mdoc.specs.declared.page.Scan.TheVariants as scans
 use Rattle.nr_mdoc.specs.declared.page.Section.{Section}
 use Rattle.nr_mdoc.specs.declared.page.Section.TheVariants.{Synopsis}
+use Rattle.nr_mdoc.specs.declared.seen.Seen.{Seen}
 use Rattle.nr_mdoc.specs.Macros.{macro_of, is_callable}
 use Rattle.nr_mdoc.specs.Seeing.{Met, met, left, two}
 use Rattle.nr_mdoc.specs.Texts.{closer}
@@ -149,12 +150,16 @@ closes pair p =
 
 -- ---- macros are called
 
+-- what begins a line that stays as it is joins nothing
+abbrev pub joins : Page → Seen
+joins p = if p.call.first && p.lay.literal then left acts.Nothing else left acts.Join
+
 abbrev pub called : Macro → Page → Met
 called (macros.Encloses pair) p = encloses pair p
 called (macros.Opens pair) p = opens p
 called (macros.Closes pair) p = closes pair p
 called (macros.Stands system) p = met p (left (acts.Text (texts.System system)))
-called macros.Joins p = met p (left acts.Join)
+called macros.Joins p = met p (joins p)
 called macros.Apostrophe p = met p (two (acts.Close texts.Apostrophe) acts.Join)
 called macros.FunctionCloses p = function_closes p
 called macros.Cell p = met p (left acts.Cell)

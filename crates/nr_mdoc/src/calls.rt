@@ -172,12 +172,22 @@ impl Page {
             Macro::Opens(_) => self.opens(),
             Macro::Closes(pair) => self.closes(pair),
             Macro::Stands(system) => Seen::left(Act::Text(Text::System(system))),
-            Macro::Joins => Seen::left(Act::Join),
+            Macro::Joins => self.joins(),
             Macro::Apostrophe => Seen::two(Act::Close(Text::Apostrophe), Act::Join),
             Macro::FunctionCloses => self.function_closes(),
             Macro::Cell => Seen::left(Act::Cell),
             _ => Seen::left(Act::Nothing),
         }
+    }
+
+    /// What comes next joins what is before, but where it begins a line that stays as it is.
+    fn joins(&self) -> Seen
+        ensures { result ≡ specs.joins self.now }
+    {
+        if self.call.first && self.lay.literal {
+            return Seen::left(Act::Nothing);
+        }
+        Seen::left(Act::Join)
     }
 
     /// The rest of the line is enclosed.
