@@ -1,5 +1,5 @@
 -- Lists, their items, and displays (mdoc(7), Bl, It, El, Bd, Ed, D1, Dl).
-use Rattle.std.specs.Prelude.{ℕ, ◌+◌, ◌-◌, Bool, true, false, not, ◌==◌, ◌&&◌, ◌||◌, nat_lt, if◌then◌else◌}
+use Rattle.std.specs.Prelude.{ℕ, ◌+◌, ◌-◌, Bool, true, false, not, ◌&&◌, ◌||◌, nat_lt, if◌then◌else◌, Option, None, Some}
 use Rattle.nr_mdoc.specs.declared.acts.Act.{Act}
 use Rattle.nr_mdoc.specs.declared.acts.Act.TheVariants as acts
 use Rattle.nr_mdoc.specs.declared.acts.Request.TheVariants as requests
@@ -20,7 +20,7 @@ use Rattle.nr_mdoc.specs.Seeing.{Met, met, left, two, three, with_stack}
 -- ---- blocks
 
 abbrev pub fresh_block : Kind → ℕ → Block
-fresh_block kind offset = record { kind = kind; width = 0; offset = offset; items = 0; compact = false; begun = false }
+fresh_block kind offset = record { kind = kind; width = None; offset = offset; items = 0; compact = false; begun = false }
 
 -- no block, or none of whose options was read
 abbrev pub no_block : Block
@@ -47,8 +47,12 @@ usual_width kinds.Number = 3
 usual_width kind = 8
 
 -- what tags take, with the gap of two after them
+abbrev pub tag_width_of : Option ℕ → Kind → ℕ
+tag_width_of None kind = usual_width kind + 2
+tag_width_of (Some width) kind = at_most 900 width + 2
+
 abbrev pub tag_width : Block → ℕ
-tag_width b = if b.width == 0 then usual_width b.kind + 2 else at_most 900 b.width + 2
+tag_width b = tag_width_of b.width b.kind
 
 abbrev pub is_tagged : Block → Bool
 is_tagged b = b.begun && has_tags b.kind
@@ -86,10 +90,14 @@ display_begins p =
     then met (with_literal true p) (three (space p.block.compact) (indent p) (acts.Request requests.Literal))
     else met p (two (space p.block.compact) (indent p))
 
+-- space may stand behind a tag that stands alone
+abbrev pub behind_list : Page → Page
+behind_list p = record p { lay = record p.lay { quiet = p.lay.quiet && not p.lay.alone } }
+
 abbrev pub list_ends : Page → Met
 list_ends p =
     if not (is_list p.block.kind) then none p else
-    met p (with_stack Closes (if is_column p.block.kind
+    met (behind_list p) (with_stack Closes (if is_column p.block.kind
     then three (acts.Request requests.Fill) (acts.Request requests.Tabs) (acts.Request requests.IndentEnds)
     else left (acts.Request requests.IndentEnds)))
 

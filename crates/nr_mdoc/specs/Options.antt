@@ -42,11 +42,11 @@ two_digits a b = tens (digit a) (digit b)
 abbrev pub is_unit : ℕ → Bool
 is_unit b = (b == code "n") || (b == code "m")
 
--- a number below a hundred, of characters
+-- a number below a hundred, of characters: digits alone are a text
 abbrev pub number_said : List ℕ → Option ℕ
 number_said [] = None
-number_said (a ∷ []) = digit a
-number_said (a ∷ b ∷ []) = if is_unit b then digit a else two_digits a b
+number_said (a ∷ []) = None
+number_said (a ∷ b ∷ []) = if is_unit b then digit a else None
 number_said (a ∷ b ∷ c ∷ []) = if is_unit c then two_digits a b else None
 number_said (a ∷ b ∷ c ∷ d ∷ rest) = None
 
@@ -185,7 +185,7 @@ abbrev pub wanting : Wanted → Block → Page → Page
 wanting w b p = record p { call = record p.call { wanted = w }; block = b }
 
 abbrev pub wide : Page → Met
-wide p = none (wanting wanteds.Option (record p.block { width = at_most 900 (width_said p) }) p)
+wide p = none (wanting wanteds.Option (record p.block { width = Some (at_most 900 (width_said p)) }) p)
 
 abbrev pub indented : Page → Met
 indented p =

@@ -35,7 +35,7 @@ abbrev pub line_end : Page → List ℕ
 line_end p = line_end_at p.lay.at p.lay.tag
 
 abbrev pub fresh : Page → Page
-fresh p = with_lay (record p.lay { at = Start; joined = false; quiet = p.lay.quiet || p.lay.tag; tag = false }) p
+fresh p = with_lay (record p.lay { at = Start; joined = false; quiet = p.lay.quiet || p.lay.tag; alone = p.lay.alone || p.lay.tag; tag = false }) p
 
 abbrev pub freshen : Page → Laid
 freshen p = laid (fresh p) (line_end p)

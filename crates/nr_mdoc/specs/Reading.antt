@@ -71,6 +71,7 @@ first_lay = record {
   literal = false;
   kept = false;
   quiet = true;
+  alone = false;
   font = Roman;
   front = false;
 }

@@ -13,7 +13,7 @@ impl Block {
     /// No block: room for blocks is made of it.
     pub const NONE: Block = Block {
         kind: Kind::Page,
-        width: 0,
+        width: None,
         offset: 0,
         items: 0,
         compact: false,
@@ -27,7 +27,7 @@ fn fresh_block(kind: Kind, offset: u16) -> Block
 {
     Block {
         kind,
-        width: 0,
+        width: None,
         offset,
         items: 0,
         compact: false,
@@ -70,10 +70,9 @@ fn tag_width(block: Block) -> u16
     ensures few { result ≤ 902 }
     ensures some { 2 ≤ result }
 {
-    if block.width == 0 {
-        usual_width(block.kind) + 2
-    } else {
-        at_most(900, block.width) + 2
+    match block.width {
+        Some(width) => at_most(900, width) + 2,
+        None => usual_width(block.kind) + 2,
     }
 }
 
@@ -146,13 +145,14 @@ impl Page {
         Seen::two(space, indent)
     }
 
-    /// A list ends.
+    /// A list ends: space may stand behind a tag that stands alone.
     pub(crate) fn list_ends(&mut self) -> Seen
         ensures { met self.new result ≡ specs.list_ends self.old }
     {
         if !is_list(self.block.kind) {
             return Seen::left(Act::Nothing);
         }
+        self.lay.quiet = self.lay.quiet && !self.lay.alone;
         let end = Act::Request(Request::IndentEnds);
         if matches!(self.block.kind, Kind::Column) {
             let seen = Seen::three(

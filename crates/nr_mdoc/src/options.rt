@@ -111,12 +111,7 @@ fn number_said(word: &[u8]) -> Option<u16>
     ensures { result ≡ specs.number_said word.now }
 {
     match word {
-        [a] => digit(*a),
-        [a, b] => if is_unit(*b) {
-            digit(*a)
-        } else {
-            two_digits(*a, *b)
-        },
+        [a, b] => if is_unit(*b) { digit(*a) } else { None },
         [a, b, c] => if is_unit(*c) {
             two_digits(*a, *b)
         } else {
@@ -375,7 +370,7 @@ impl Page {
     fn wide(&mut self) -> Seen
         ensures { met self.new result ≡ specs.wide self.old }
     {
-        self.block.width = at_most(900, self.width_said());
+        self.block.width = Some(at_most(900, self.width_said()));
         self.call.wanted = Wanted::Option;
         Seen::left(Act::Nothing)
     }

@@ -69,6 +69,7 @@ impl Page {
         self.lay.at = At::Start;
         self.lay.joined = false;
         self.lay.quiet = self.lay.quiet || self.lay.tag;
+        self.lay.alone = self.lay.alone || self.lay.tag;
         self.lay.tag = false;
     }
 

@@ -226,8 +226,8 @@ pub(crate) enum Asks {
 pub struct Block {
     /// Its kind.
     pub(crate) kind: Kind,
-    /// The width of its tags.
-    pub(crate) width: u16,
+    /// The width of its tags, where it is said.
+    pub(crate) width: Option<u16>,
     /// Its indent.
     pub(crate) offset: u16,
     /// How many items it has.
@@ -255,6 +255,8 @@ pub(crate) struct Lay {
     pub kept: bool,
     /// Nothing was put since space was made.
     pub quiet: bool,
+    /// A tag stands alone: nothing was put behind it.
+    pub alone: bool,
     /// The font of a word that goes on.
     pub font: Font,
     /// The next word is only the front of a longer one.

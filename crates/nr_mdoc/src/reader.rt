@@ -30,6 +30,7 @@ fn first_lay() -> Lay
         literal: false,
         kept: false,
         quiet: true,
+        alone: false,
         font: Font::Roman,
         front: false,
     }
