@@ -1,4 +1,5 @@
 -- Each move that is made is paid.
+use Prim.Native.Char.{code}
 use Rattle.std.specs.Prelude.{nat_lt, is_some, is_none, not, decimal, unsigned_abs, ◌==◌, ◌&&◌}
 use Rattle.std.proofs.lemmas.Bool.{ltb-false}
 use Rattle.std.proofs.Common.{◌≡◌, ◌≢◌, ℕ, ◌+◌, ◌*◌, ◌<◌, ◌≤◌, Bool, true, false, if◌then◌else◌, List, [], ◌∷◌, length, Option, None, Some, Ok, ℤ, refl, ap, sym, ◌∙◌, arith}
@@ -428,7 +429,7 @@ by_byte false false name n f = by_written (set_to n None (register_of (find name
 
 chosen : (c : Choice) (f : Formatter) → Chosen f (machine.choose c f)
 chosen (First n) f = by_first (is_held n) n f
-chosen (Register name n) f = by_byte (name == 37) (name == 46) (name ∷ []) n f
+chosen (Register name n) f = by_byte (name == code "%") (name == code ".") (name ∷ []) n f
 
 weighs_so : (rs : List (Named Numbered)) (n : ℤ) (p : Reached) (f : Formatter) → weight p (set_so rs n f) ≡ weight p f
 unfolding weight owed steps_left

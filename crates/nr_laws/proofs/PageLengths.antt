@@ -1,4 +1,5 @@
 -- A page is as high as a line at least, whatever move is made.
+use Prim.Native.Char.{code}
 use Rattle.std.specs.Prelude.{nat_lt, int_lt, is_none, not, ◌==◌, ◌&&◌, ◌||◌}
 use Rattle.std.proofs.Common.{ℕ, zero, suc, ◌-◌, ◌+◌, ◌<◌, Bool, true, false, if◌then◌else◌, List, [], ◌∷◌, Option, None, Some, ℤ, pos, negsuc, arith}
 use Rattle.nr_units.specs.Units.{nearest_multiple}
@@ -117,7 +118,7 @@ tab filler f h = either (lines.reads_a_field f) (lines.field_ended f) _ h h
 text_byte : (b : ℕ) (f : Formatter) → HasHeight f → HasHeight (texts.text_byte b f)
 unfolding texts.text_byte
 text_byte b f h =
-    either (b == 32) (texts.blank f) _ (blank f h)
+    either (b == code " ") (texts.blank f) _ (blank f h)
     (either (b == 9) (texts.tab f.settings.tabs.tab f) _ (tab f.settings.tabs.tab f h)
     (either (b == 1) (texts.tab f.settings.tabs.leader f) _ (tab f.settings.tabs.leader f h)
     (either (prints b) (texts.character b f) _ h h)))
