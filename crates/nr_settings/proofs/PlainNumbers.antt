@@ -10,7 +10,8 @@ use Rattle.std.proofs.lemmas.Nat.{div-mul-add, mul-le}
 use Rattle.nr_units.specs.Expression.{truth}
 use Rattle.nr_units.specs.Grammar.{letter}
 use Rattle.nr_units.specs.LongestFront.{nothing_read, read_of, read_on}
-use Rattle.nr_units.specs.Scan.{Scan, after_byte, capped, in_mode, more_whole, no_prefix, nothing_waits, number_value, outermost, prefixed, start}
+use Rattle.nr_units.specs.Prefix.{no_prefix, prefixed}
+use Rattle.nr_units.specs.Scan.{Scan, after_byte, capped, in_mode, more_whole, nothing_waits, number_value, outermost, start}
 use Rattle.nr_units.specs.Units.{denominator, in_range, nearest, numerator, scaled, with_sign_of}
 use Rattle.nr_units.specs.declared.expression.Ctx.{Ctx}
 use Rattle.nr_units.specs.declared.expression.Read.{Read}

@@ -2,7 +2,8 @@
 use Rattle.std.proofs.Common.{◌≡◌, ℕ, Bool, true, false, Some, List, [], ◌∷◌, ◌++◌, refl, ap, append_assoc, append-nil, ◌∙◌}
 use Rattle.nr_units.specs.Grammar.{Operand, Expression, Plus, Minus, Past, Parentheses, Single, Joined, blanks, operator_text, operand_text, expression_text}
 use Rattle.nr_units.specs.Expression.{operand_value, expression_value}
-use Rattle.nr_units.specs.Scan.{no_prefix, behind_minus, behind_bar, nothing_waits, joined_left, finished}
+use Rattle.nr_units.specs.Prefix.{no_prefix, behind_minus, behind_bar}
+use Rattle.nr_units.specs.Scan.{nothing_waits, joined_left, finished}
 use Rattle.nr_units.specs.declared.operators.Operator.{Operator}
 use Rattle.nr_units.specs.declared.level.Waiting.{Waiting}
 use Rattle.nr_units.specs.declared.expression.Ctx.{Ctx}

@@ -6,7 +6,8 @@ use Rattle.nr_units.proofs.Rounding.{scaled-capped}
 use Rattle.nr_units.specs.Units.{scaled}
 use Rattle.nr_units.specs.Grammar.{Number, IsNumber, AreDigits, Operand, Expression, Numeral, Plus, Minus, Past, Parentheses, Single, Joined, blanks, operator_text, letter, digits_text, fraction_digits, fraction_text, scale_text, number_text, operand_text, expression_text}
 use Rattle.nr_units.specs.Expression.{joined, past, operand_value, expression_value, whole_after, fraction_by}
-use Rattle.nr_units.specs.Scan.{symbol_of, no_prefix, behind_minus, behind_bar, nothing_waits, joined_left, finished, number_of, number_value, value_in, level_value, completed, in_mode, capped, more_fraction, with_digit, behind_operator, mark_in, blank_in, with_mark, with_close, Scan, on_level, after_symbol, after_byte, run}
+use Rattle.nr_units.specs.Prefix.{no_prefix, behind_minus, behind_bar}
+use Rattle.nr_units.specs.Scan.{symbol_of, nothing_waits, joined_left, finished, number_of, number_value, value_in, level_value, completed, in_mode, capped, more_fraction, with_digit, behind_operator, mark_in, blank_in, with_mark, with_close, Scan, on_level, after_symbol, after_byte, run}
 use Rattle.nr_units.specs.declared.units.Scale.{Scale}
 use Rattle.nr_units.specs.declared.units.Scale.TheVariants.{Inch, Centimetre, Pica, VerticalSpace, Em, En, Point as PointScale, Unit as OneUnit}
 use Rattle.nr_units.specs.declared.operators.Operator.{Operator}

@@ -3,7 +3,8 @@ use Rattle.std.proofs.Common.{◌≡◌, ℕ, zero, suc, ◌+◌, ◌*◌, ◌/�
 use Rattle.std.specs.Option.{option_map}
 use Rattle.nr_units.specs.Grammar.{AreDigits, Operand, Expression, Numeral, Parentheses, blanks, operator_text, letter, digits_text, fraction_digits, operand_text, expression_text}
 use Rattle.nr_units.specs.Expression.{expression_value, whole_after, fraction_by}
-use Rattle.nr_units.specs.Scan.{no_prefix, finished, number_value, level_value, completed, capped, behind_operator, blank_in, with_mark, with_close, with_blank, on_level, Scan, after_symbol}
+use Rattle.nr_units.specs.Prefix.{no_prefix}
+use Rattle.nr_units.specs.Scan.{finished, number_value, level_value, completed, capped, behind_operator, blank_in, with_mark, with_close, with_blank, on_level, Scan, after_symbol}
 use Rattle.nr_units.specs.declared.units.Scale.{Scale}
 use Rattle.nr_units.specs.declared.operators.Operator.{Operator}
 use Rattle.nr_units.specs.declared.symbols.Symbol.TheVariants.{Digit, Point, Letter, Mark, Bar, Open, Close, Blank}

@@ -3,7 +3,8 @@ use Rattle.std.proofs.Common.{◌≡◌, ℕ, zero, suc, ◌+◌, ◌-◌, ◌<�
 use Rattle.std.specs.Option.{option_and_then}
 use Rattle.nr_units.specs.Grammar.{Expression, blanks, operator_text, letter, expression_text}
 use Rattle.nr_units.specs.Expression.{expression_value}
-use Rattle.nr_units.specs.Scan.{found, symbols, symbol_of, no_prefix, blank_in, with_blank, on_level, Scan, after_symbol, after_byte, run}
+use Rattle.nr_units.specs.Prefix.{no_prefix}
+use Rattle.nr_units.specs.Scan.{found, symbols, symbol_of, blank_in, with_blank, on_level, Scan, after_symbol, after_byte, run}
 use Rattle.nr_units.specs.declared.operators.Operator.{Operator}
 use Rattle.nr_units.specs.declared.operators.Operator.TheVariants.{Add, Subtract, Multiply, Divide, Remainder, Less, LessOrEqual, Greater, GreaterOrEqual, Equal, DoubleEqual, And, Or}
 use Rattle.nr_units.specs.declared.symbols.Symbol.{Symbol}

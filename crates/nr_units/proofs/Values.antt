@@ -12,9 +12,9 @@ use Rattle.nr_units.specs.Units.{in_range, scaled, numerator, denominator, neare
 use Rattle.nr_units.specs.declared.units.Scale.{Scale}
 use Rattle.nr_units.specs.Grammar.{Operand, Expression, Numeral, Plus, Minus, Past, Parentheses, Single, Joined}
 use Rattle.nr_units.specs.Expression.{applied, quotient, remainder, truth, joined, past, operand_value, expression_value}
-use Rattle.nr_units.specs.Scan.{prefixed, shifted, checked, no_prefix, behind_minus, behind_bar}
+use Rattle.nr_units.specs.Prefix.{prefixed, shifted, checked, no_prefix, behind_minus, behind_bar}
 use Rattle.nr_units.specs.declared.expression.Ctx.{Ctx}
-use Rattle.nr_units.specs.declared.level.Prefix.{Prefix}
+use Rattle.nr_units.specs.declared.prefix.Prefix.{Prefix}
 use Rattle.nr_units.specs.declared.operators.Operator.{Operator}
 use Rattle.nr_units.specs.declared.operators.Operator.TheVariants.{Add, Subtract, Multiply, Divide, Remainder, Less, LessOrEqual, Greater, GreaterOrEqual, Equal, DoubleEqual, And, Or}
 

@@ -8,6 +8,7 @@ pub mod LongestFront
 pub mod Name
 pub mod NumberText
 pub mod Padding
+pub mod Prefix
 pub mod Scan
 pub mod Scanner
 pub mod Source

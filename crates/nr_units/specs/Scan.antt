@@ -1,9 +1,9 @@
 -- How a text is scanned: what is kept of the bytes before, and what the next byte does to it.
 use Prim.Native.Char.{code}
-use Rattle.std.specs.Prelude.{ℕ, ◌+◌, ◌-◌, ◌*◌, ◌/◌, ◌^◌, min, Bool, false, not, ◌&&◌, List, [], ◌∷◌, Option, Some, None, ℤ, pos, ◌+ℤ◌, ◌-ℤ◌, int_le, if◌then◌else◌, nat_le, ◌==◌}
+use Rattle.std.specs.Prelude.{ℕ, ◌+◌, ◌-◌, ◌*◌, ◌/◌, ◌^◌, min, Bool, ◌&&◌, List, [], ◌∷◌, Option, Some, None, ℤ, if◌then◌else◌, nat_le, ◌==◌}
 use Rattle.std.specs.Option.{option_map, option_and_then}
-use Rattle.std.specs.Int.{w64, saturate_signed, int_max, int_min}
-use Rattle.nr_units.specs.Units.{in_range, scaled}
+use Rattle.nr_units.specs.Prefix.{prefixed, no_prefix, behind_minus, behind_bar}
+use Rattle.nr_units.specs.Units.{scaled}
 use Rattle.nr_units.specs.Expression.{joined}
 use Rattle.nr_units.specs.declared.units.Scale.{Scale}
 use Rattle.nr_units.specs.declared.units.Scale.TheVariants.{Inch, Centimetre, Pica, VerticalSpace, Em, En, Point as PointScale, Unit as OneUnit}
@@ -11,7 +11,6 @@ use Rattle.nr_units.specs.declared.operators.Operator.{Operator}
 use Rattle.nr_units.specs.declared.operators.Operator.TheVariants.{Add, Subtract, Multiply, Divide, Remainder, Less, LessOrEqual, Greater, GreaterOrEqual, Equal, DoubleEqual, And, Or}
 use Rattle.nr_units.specs.declared.symbols.Symbol.{Symbol}
 use Rattle.nr_units.specs.declared.symbols.Symbol.TheVariants.{Digit, Point, Letter, Mark, Bar, Open, Close, Blank}
-use Rattle.nr_units.specs.declared.level.Prefix.{Prefix}
 use Rattle.nr_units.specs.declared.level.Left.{Left}
 use Rattle.nr_units.specs.declared.level.Waiting.{Waiting}
 use Rattle.nr_units.specs.declared.level.Behind.{Behind}
@@ -52,34 +51,6 @@ widened GreaterOrEqual = None
 widened DoubleEqual = None
 widened And = None
 widened Or = None
-
--- what signs and bars in front of a value make of it
-abbrev pub shifted : Prefix → ℤ → ℤ
-shifted p x = if p.negated then p.shift -ℤ x else p.shift +ℤ x
-
-abbrev pub checked : Prefix → ℤ → Option ℤ
-checked p z =
-    if int_le p.greatest (z +ℤ pos 2147483647) && int_le (z -ℤ pos 2147483647) p.least then Some z else None
-
-abbrev pub prefixed : Prefix → Option ℤ → Option ℤ
-prefixed p v = option_and_then (λ x. option_and_then (checked p) (in_range (shifted p x))) v
-
-abbrev pub no_prefix : Prefix
-no_prefix = record { negated = false; shift = pos 0; least = pos 0; greatest = pos 0 }
-
-abbrev pub behind_minus : Prefix → Prefix
-behind_minus p = record { negated = not p.negated; shift = p.shift; least = p.least; greatest = p.greatest }
-
-abbrev pub shift_behind_bar : ℤ → Prefix → ℤ
-shift_behind_bar here p = saturate_signed w64 (if p.negated then p.shift +ℤ here else p.shift -ℤ here)
-
-abbrev pub behind_bar : ℤ → Prefix → Prefix
-behind_bar here p = record {
-  negated = p.negated;
-  shift = shift_behind_bar here p;
-  least = int_min p.least p.shift;
-  greatest = int_max p.greatest p.shift;
-}
 
 -- what waits for an operand: the value and operator on its left, and the signs and bars in front of it
 abbrev pub nothing_waits : Waiting

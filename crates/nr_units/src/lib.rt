@@ -1,8 +1,9 @@
 //! What the other crates of the formatter stand on: units, number expressions, the texts of numbers, names,
 //! cells, vectors over lent slices, and where bytes come from and go to.
 //!
-//! It stands on no crate of the repository. To read: `units`; `operators`, `symbols`, `level`, `scanner`,
-//! `expression`; `number_text`; `name`; `cell`, `slice_vec`; `source`, `sink`, `over_std`, `buffered`; `fakes`.
+//! It stands on no crate of the repository. To read: `units`; `operators`, `symbols`, `expression`, `prefix`,
+//! `level`, `scanner`, `longest_front`; `number_text`; `name`; `cell`, `slice_vec`; `source`, `sink`, `over_std`,
+//! `buffered`; `fakes`.
 #![tactic(auto)]
 
 pub mod buffered;
@@ -10,10 +11,12 @@ pub mod cell;
 mod expression;
 pub mod fakes;
 mod level;
+mod longest_front;
 mod name;
 mod number_text;
 mod operators;
 pub mod over_std;
+mod prefix;
 mod scanner;
 pub mod sink;
 pub mod slice_vec;
@@ -21,7 +24,8 @@ pub mod source;
 mod symbols;
 mod units;
 
-pub use expression::{Ctx, Read, read_expr};
+pub use expression::{Ctx, Read};
+pub use longest_front::read_expr;
 pub use name::Name;
 pub use number_text::{Format, format_number};
 pub use units::{Scale, round_h, round_v};

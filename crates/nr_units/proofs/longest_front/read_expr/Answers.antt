@@ -1,5 +1,5 @@
 use Rattle.std.proofs.Common.{rules}
-use Rattle.nr_units.proofs.expression.read_expr.Goals as goal
+use Rattle.nr_units.proofs.longest_front.read_expr.Goals as goal
 
 pub returns-in-Some-clause-answer : goal.returns-in-Some-clause-answer
 returns-in-Some-clause-answer c = search rules

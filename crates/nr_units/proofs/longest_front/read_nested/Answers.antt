@@ -7,7 +7,7 @@ use Rattle.nr_units.specs.Scanner.{scan_of, noted}
 use Rattle.nr_units.specs.declared.expression.Read.{Read}
 use Rattle.nr_units.proofs.Reading.{Along, advances, stops, ends, too_deep}
 use Rattle.nr_units.proofs.Longest.{Reads, computed_more, computed_stuck, answer_in_range, reads_first, stuck_read}
-use Rattle.nr_units.proofs.expression.read_nested.Goals as goal
+use Rattle.nr_units.proofs.longest_front.read_nested.Goals as goal
 
 pub loop-at-init : goal.loop-at-init
 loop-at-init c =

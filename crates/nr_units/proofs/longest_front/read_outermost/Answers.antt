@@ -10,7 +10,7 @@ use Rattle.nr_units.specs.declared.symbols.Symbol.{Symbol}
 use Rattle.nr_units.specs.declared.symbols.Symbol.TheVariants.{Digit}
 use Rattle.nr_units.proofs.Reading.{Along, advances, stops, ends}
 use Rattle.nr_units.proofs.Longest.{Reads, computed_more, computed_stuck, answer_in_range, reads_first, stuck_read}
-use Rattle.nr_units.proofs.expression.read_outermost.Goals as goal
+use Rattle.nr_units.proofs.longest_front.read_outermost.Goals as goal
 
 pub loop-at-init : goal.loop-at-init
 loop-at-init c =

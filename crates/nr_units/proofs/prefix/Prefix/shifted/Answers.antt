@@ -1,7 +1,7 @@
 use Rattle.std.proofs.Common.{true, false, rules, ◌∙◌, FitsSigned}
 use Rattle.std.specs.Int.{w64}
 use Rattle.nr_units.proofs.Values.{shifted_code}
-use Rattle.nr_units.proofs.level.Prefix.shifted.Goals as goal
+use Rattle.nr_units.proofs.prefix.Prefix.shifted.Goals as goal
 
 pub returns-then-self : goal.returns-then-self
 returns-then-self c =
