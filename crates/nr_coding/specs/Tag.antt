@@ -1,7 +1,8 @@
 -- A coding that is named in a page's first two lines, as in `.\" -*- coding: latin-1 -*-` (groff's preconv(1), Coding Tags).
 use Prim.Native.Char.{code}
-use Rattle.std.specs.Prelude.{ℕ, ◌+◌, List, [], ◌∷◌, ◌++◌, length, Bool, true, false, not, ◌==◌, ◌&&◌, ◌||◌, nat_le, if◌then◌else◌, Option, None, Some, codes, slice_get}
+use Rattle.std.specs.Prelude.{ℕ, ◌+◌, List, [], ◌∷◌, ◌++◌, Bool, true, false, not, ◌==◌, ◌&&◌, ◌||◌, nat_le, if◌then◌else◌, Option, None, Some, codes, slice_get}
 use Rattle.std.specs.Str.{bytes_eq}
+use Rattle.nr_units.specs.Name.{is_full}
 use Rattle.nr_coding.specs.declared.tag.Tag.{Tag}
 use Rattle.nr_coding.specs.declared.tag.Tag.TheVariants.{Key, Blanks, Value}
 use Rattle.nr_coding.specs.declared.tag.Head.{Head}
@@ -51,7 +52,7 @@ behind_key read h = going (if read == 7 then Blanks else Key read) h
 
 abbrev pub in_value : ℕ → Head → Tells
 in_value b h =
-    if goes_on b && not (length h.name == 32) then spelling b h else
+    if goes_on b && not (is_full h.name) then spelling b h else
     if is_latin1 h.name then Latin1 else Plain
 
 abbrev pub in_blanks : ℕ → Head → Tells

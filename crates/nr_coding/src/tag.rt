@@ -1,6 +1,7 @@
 //! A coding that is named in a page's first two lines, as in `.\" -*- coding: latin-1 -*-` (groff's preconv(1), Coding Tags).
 ghost use Rattle.std.specs.Prelude.{◌≡◌, ◌<◌, length};
 ghost use Rattle.nr_coding.specs.Tag as specs;
+ghost use Rattle.nr_units.specs.Name.{capacity};
 
 use nr_units::Name;
 
@@ -104,7 +105,7 @@ impl Head {
 
     /// The name goes on with a byte.
     fn spells(self, byte: u8) -> Tells
-        requires { length self.name < 32 }
+        requires { length self.name < capacity }
         ensures { result ≡ specs.spelling byte self }
     {
         let mut name = self.name;

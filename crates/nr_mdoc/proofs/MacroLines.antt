@@ -3,6 +3,7 @@ use Rattle.std.proofs.Common.{◌≡◌, ℕ, ◌≤◌, ◌<◌, ◌+◌, List,
 use Rattle.std.proofs.lemmas.Bool.Decides.{nat_tests}
 use Rattle.std.specs.Prelude.{codes}
 use Prim.Native.Char.{code}
+use Rattle.nr_units.specs.Name.{capacity, is_full}
 use Rattle.nr_mdoc.specs.declared.acts.Act.TheVariants as acts
 use Rattle.nr_mdoc.specs.declared.macros.Macro.{Macro}
 use Rattle.nr_mdoc.specs.declared.page.Page.{Page}
@@ -263,14 +264,14 @@ name_by : Bool → Bool → Bool → ℕ → Page → Met
 name_by ends escape full b p = if ends || escape || full then named_line p else met (record p { word = p.word ++ b ∷ [] }) (taken acts.Nothing)
 
 name_met : (b : ℕ) (name : List ℕ) (s : State)
-    → meet b (reads_name name s).page ≡ name_by (ends_word b) (b == code "\\") (length name == 32) b (reads_name name s).page
+    → meet b (reads_name name s).page ≡ name_by (ends_word b) (b == code "\\") (is_full name) b (reads_name name s).page
 unfolding meet name_by reads_name
 name_met b name s = refl
 
-not_full : (name : List ℕ) → length name < 32 → (length name == 32) ≡ false
+not_full : (name : List ℕ) → length name < capacity → is_full name ≡ false
 not_full name l = grind (arith, nat_tests)
 
-name_taken : (b : ℕ) (name : List ℕ) (s : State) → is_plain b ≡ true → length name < 32
+name_taken : (b : ℕ) (name : List ℕ) (s : State) → is_plain b ≡ true → length name < capacity
     → Takes b (reads_name name s) (reads_name (name ++ b ∷ []) s) 1 []
 unfolding said lay_out name_by reads_name
 name_taken b name s h l =
@@ -278,15 +279,15 @@ name_taken b name s h l =
     let q = record s.page { scan = scans.Name; word = name ++ b ∷ [] } in
     takes_by b (reads_name name s) q q acts.Nothing acts.Nothing acts.Nothing []
     (name_met b name s
-    ∙ ap (λ (t : Bool). name_by t (b == code "\\") (length name == 32) b p) (not_ending b h)
-    ∙ ap (λ (t : Bool). name_by false t (length name == 32) b p) (no_escape b h)
+    ∙ ap (λ (t : Bool). name_by t (b == code "\\") (is_full name) b p) (not_ending b h)
+    ∙ ap (λ (t : Bool). name_by false t (is_full name) b p) (no_escape b h)
     ∙ ap (λ (t : Bool). name_by false false t b p) (not_full name l))
     refl refl
 
 one_enough : 1 ≤ 16
 one_enough = omega arith
 
-name_more : (bs name : List ℕ) (s : State) (rest : List ℕ) → each is_plain bs ≡ true → length name + length bs ≤ 32
+name_more : (bs name : List ℕ) (s : State) (rest : List ℕ) → each is_plain bs ≡ true → length name + length bs ≤ capacity
     → words_of (parts_of (reads_name name s) (bs ++ rest)) ≡ words_of (parts_of (reads_name (name ++ bs) s) rest)
 name_more [] name s rest h l = ap (λ (xs : List ℕ). words_of (parts_of (reads_name xs s) rest)) (sym (append-nil name))
 name_more (b ∷ bs) name s rest h l =
@@ -307,7 +308,7 @@ macro_met : (b : ℕ) (m : Macro) (name : List ℕ) (s : State) → ends_word b 
 unfolding name_by reads_name beginning
 macro_met b m name s e f =
     let p = record s.page { scan = scans.Name; word = name } in
-    name_met b name s ∙ ap (λ (t : Bool). name_by t (b == code "\\") (length name == 32) b p) e
+    name_met b name s ∙ ap (λ (t : Bool). name_by t (b == code "\\") (is_full name) b p) e
     ∙ ap (λ (o : Option Macro). begins_or_other o (record p { scan = scans.Between; closers = [] })) f
 
 macro_step : (b : ℕ) (m : Macro) (name : List ℕ) (s : State) → s.page.marks ≡ [] → ends_word b ≡ true → macro_of name ≡ Some m → heads_words m ≡ true

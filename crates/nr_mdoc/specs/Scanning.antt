@@ -1,6 +1,7 @@
 -- A byte meets what is half read: lines become words (mdoc(7), MACRO SYNTAX; groff(7), control lines and comments).
-use Rattle.std.specs.Prelude.{ℕ, ◌+◌, [], ◌∷◌, ◌++◌, length, Bool, true, false, not, ◌==◌, ◌&&◌, ◌||◌, nat_lt, if◌then◌else◌, codes, Option, None, Some, nat_le}
+use Rattle.std.specs.Prelude.{ℕ, ◌+◌, [], ◌∷◌, ◌++◌, Bool, true, false, not, ◌==◌, ◌&&◌, ◌||◌, nat_lt, if◌then◌else◌, codes, Option, None, Some, nat_le}
 use Prim.Native.Char.{code}
+use Rattle.nr_units.specs.Name.{is_full}
 use Rattle.nr_mdoc.specs.declared.acts.Act.TheVariants as acts
 use Rattle.nr_mdoc.specs.declared.acts.Text.TheVariants as texts
 use Rattle.nr_mdoc.specs.declared.macros.Macro.TheVariants as macros
@@ -84,7 +85,7 @@ in_comment b p = turns (if b == code "\n" then scans.Start else scans.Comment) (
 
 abbrev pub in_name : ℕ → Page → Met
 in_name b p =
-    if ends_word b || (b == code "\\") || (length p.word == 32) then named_line p else
+    if ends_word b || (b == code "\\") || is_full p.word then named_line p else
     met (record p { word = p.word ++ b ∷ [] }) (taken acts.Nothing)
 
 abbrev pub between : ℕ → Page → Met

@@ -5,6 +5,7 @@ use Rattle.std.specs.List.{prefix_len}
 use Rattle.std.proofs.lemmas.Bool.Decides.{nat_tests}
 use Rattle.std.proofs.lemmas.List.{length-take, take_more}
 use Rattle.std.proofs.lemmas.List.Sums.{prefix_len_passes, prefix_len-le-length}
+use Rattle.nr_units.specs.Name.{capacity, is_full}
 use Rattle.nr_preconv.specs.declared.half.Half.{Half}
 use Rattle.nr_preconv.specs.declared.half.Mark.TheVariants.{Other}
 use Rattle.nr_preconv.specs.declared.half.Line.{Line}
@@ -65,24 +66,24 @@ first_met b h plain goes other =
     ap (λ (x : Bool). if x then plain_byte b k else in_escape b k) (placed_escape Other h ∙ plain)
     ∙ ap (λ (x : Bool). if x && false then beginning k else in_line b k) (no_backslash b goes)
     ∙ ap (λ (x : Bool). if x && k.defining then naming (code "." ∷ []) lines.Name k else
-    (if is_gap b && not (length k.name == 32) then naming (k.name ++ b ∷ []) lines.Control k else
+    (if is_gap b && not (is_full k.name) then naming (k.name ++ b ∷ []) lines.Control k else
     (if not (length k.name == 0) then blanks_said lines.Control k else
     (if ends_name b then blanks_said lines.Request k else naming (b ∷ []) lines.Name k)))) other
     ∙ ap (λ (x : Bool). if x && true then naming (b ∷ []) lines.Control k else
     (if ends_name b then blanks_said lines.Request k else naming (b ∷ []) lines.Name k)) (no_gap b goes)
     ∙ ap (λ (x : Bool). if x then blanks_said lines.Request k else naming (b ∷ []) lines.Name k) (no_end b goes)
 
-not_full : (n : ℕ) → n < 32 → (n == 32) ≡ false
-not_full n l = grind (arith, nat_tests)
+not_full : (name : List ℕ) → length name < capacity → is_full name ≡ false
+not_full name l = grind (arith, nat_tests)
 
-next_met : (b : ℕ) (name : List ℕ) (h : Half) → is_plain h.escape ≡ true → goes_on_name b ≡ true → length name < 32
+next_met : (b : ℕ) (name : List ℕ) (h : Half) → is_plain h.escape ≡ true → goes_on_name b ≡ true → length name < capacity
     → meet (comings.Byte b) (behind_name name h) ≡ taken says.Nothing (behind_name (name ++ b ∷ []) h)
 next_met b name h plain goes few =
     let k = behind_name name h in
     ap (λ (x : Bool). if x then plain_byte b k else in_escape b k) (placed_escape Other h ∙ plain)
     ∙ ap (λ (x : Bool). if x && false then beginning k else in_line b k) (no_backslash b goes)
-    ∙ ap (λ (x : Bool). if x || (length name == 32) then named_line b k else taken says.Nothing (record k { name = name ++ b ∷ [] })) (no_end b goes)
-    ∙ ap (λ (x : Bool). if x then named_line b k else taken says.Nothing (record k { name = name ++ b ∷ [] })) (not_full (length name) few)
+    ∙ ap (λ (x : Bool). if x || is_full name then named_line b k else taken says.Nothing (record k { name = name ++ b ∷ [] })) (no_end b goes)
+    ∙ ap (λ (x : Bool). if x then named_line b k else taken says.Nothing (record k { name = name ++ b ∷ [] })) (not_full name few)
 
 -- ---- the bytes come
 
@@ -97,7 +98,7 @@ unfolding after_dot
 first_read b r none plain goes other =
     meets b (with_half (after_dot r.half) r) says.Nothing (behind_name (b ∷ []) r.half) none refl (is_ascii b goes) (first_met b r.half plain goes other)
 
-next_read : (b : ℕ) (name : List ℕ) (r : Reader) → r.pending ≡ Nothing → is_plain r.half.escape ≡ true → goes_on_name b ≡ true → length name < 32
+next_read : (b : ℕ) (name : List ℕ) (r : Reader) → r.pending ≡ Nothing → is_plain r.half.escape ≡ true → goes_on_name b ≡ true → length name < capacity
     → read b (with_half (behind_name name r.half) r) ≡ told (with_half (behind_name (name ++ b ∷ []) r.half) r) [] 1
 next_read b name r none plain goes few =
     meets b (with_half (behind_name name r.half) r) says.Nothing (behind_name (name ++ b ∷ []) r.half) none refl (is_ascii b goes) (next_met b name r.half plain goes few)
@@ -107,7 +108,7 @@ fed_one b s t bytes p = ap (λ (u : Told). then_told u (λ v. told v [] 0)) p
 
 -- the first n + 1 of these bytes
 names_fed : (n : ℕ) (bs : List ℕ) (r : Reader) → r.pending ≡ Nothing → is_plain r.half.escape ≡ true
-    → ((i : ℕ) → i < n + 1 → goes_on_name (get_or bs i 0) ≡ true) → (get_or bs 0 0 == code ".") ≡ false → n < length bs → n < 32
+    → ((i : ℕ) → i < n + 1 → goes_on_name (get_or bs i 0) ≡ true) → (get_or bs 0 0 == code ".") ≡ false → n < length bs → n < capacity
     → fed (with_half (after_dot r.half) r) (take (n + 1) bs) ≡ told (with_half (behind_name (take (n + 1) bs) r.half) r) [] (n + 1)
 names_fed zero bs r none plain goes other within few =
     let b = get_or bs 0 0 in
@@ -124,7 +125,7 @@ names_fed (suc n) bs r none plain goes other within few =
     let before : Q (suc n) = subst Q back (names_fed n bs r none plain (λ i below. goes i (omega arith)) other (omega arith) (omega arith)) in
     let xs = take (suc n) bs in
     let front : take (suc n + 1) bs ≡ xs ++ b ∷ [] = take_more bs (suc n) 0 within in
-    let short : length xs < 32 = omega (arith, length-take (suc n) bs) in
+    let short : length xs < capacity = omega (arith, length-take (suc n) bs) in
     let one = fed_one b (with_half (behind_name xs r.half) r) (with_half (behind_name (xs ++ b ∷ []) r.half) r) []
     (next_read b xs r none plain (goes (suc n) (omega arith)) short) in
     let P : List ℕ → Type 0 = λ ys. fed s ys ≡ told (with_half (behind_name ys r.half) r) [] (suc n + 1) in
@@ -151,12 +152,12 @@ dotted_fed n [] r none plain start is some = absurd (omega arith)
 dotted_fed n (dot ∷ []) r none plain start is some = absurd (omega arith)
 dotted_fed n (dot ∷ first ∷ more) r none plain start is some =
     let bs = first ∷ more in
-    let k = min (prefix_len goes_on_name bs) 32 in
+    let k = min (prefix_len goes_on_name bs) capacity in
     let has : 0 < (if (dot == code ".") && not (first == code ".") then k else 0) = subst (λ (m : ℕ). 0 < m) is some in
     let parts = dotted_is (dot == code ".") (first == code ".") k has in
     let value : n ≡ k = is ∙ dotted_value (dot == code ".") (first == code ".") k parts.0 parts.1 in
-    let most : n ≤ prefix_len goes_on_name bs = (let l : min (prefix_len goes_on_name bs) 32 ≤ prefix_len goes_on_name bs = omega arith in omega (arith, value)) in
-    let short : n ≤ 32 = (let l : min (prefix_len goes_on_name bs) 32 ≤ 32 = omega arith in omega (arith, value)) in
+    let most : n ≤ prefix_len goes_on_name bs = (let l : min (prefix_len goes_on_name bs) capacity ≤ prefix_len goes_on_name bs = omega arith in omega (arith, value)) in
+    let short : n ≤ capacity = (let l : min (prefix_len goes_on_name bs) capacity ≤ capacity = omega arith in omega (arith, value)) in
     let within = prefix_len-le-length goes_on_name bs in
     let back : n - 1 + 1 ≡ n = omega arith in
     let s = with_half (after_dot r.half) r in

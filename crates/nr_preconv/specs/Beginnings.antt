@@ -2,6 +2,7 @@
 use Prim.Native.Char.{code}
 use Rattle.std.specs.Prelude.{ℕ, List, [], ◌∷◌, ◌++◌, length, take, Bool, not, ◌==◌, ◌&&◌, if◌then◌else◌, Option, None, Some, is_some, codes, slice_index}
 use Rattle.std.specs.Str.{bytes_eq}
+use Rattle.nr_units.specs.Name.{is_full}
 use Rattle.nr_preconv.specs.declared.said.Said.{Said}
 use Rattle.nr_preconv.specs.declared.said.Said.TheVariants.{Kept}
 use Rattle.nr_preconv.specs.declared.beginnings.Opens.{Opens}
@@ -46,7 +47,7 @@ opened name =
 -- How a name goes out before this byte: that of a definition without its third byte, and that of a condition with a blank
 -- before an escape. `.nop` is a condition that holds.
 abbrev pub apart : List ℕ → ℕ → List ℕ
-apart name b = if (b == code "\\") && not (length name == 32) then name ++ code " " ∷ [] else name
+apart name b = if (b == code "\\") && not (is_full name) then name ++ code " " ∷ [] else name
 
 abbrev pub said_name : Opens → List ℕ → ℕ → Said
 said_name Definition name b = Kept (if length name == 3 then take 2 name else name)

@@ -1,6 +1,7 @@
 -- Escapes (the groff manual, Escapes; groff(7)): which go out as they are, which become others, and which are dropped.
 use Prim.Native.Char.{code}
 use Rattle.std.specs.Prelude.{ℕ, List, [], ◌∷◌, ◌++◌, length, Bool, true, false, not, ◌==◌, ◌&&◌, ◌||◌, nat_lt, if◌then◌else◌, Option, None, Some}
+use Rattle.nr_units.specs.Name.{is_full}
 use Rattle.nr_preconv.specs.declared.said.Said.{Said}
 use Rattle.nr_preconv.specs.declared.said.Said.TheVariants as says
 use Rattle.nr_preconv.specs.declared.half.Half.{Half}
@@ -22,9 +23,9 @@ use Rattle.nr_preconv.specs.Words.{met_words, begins_word}
 
 -- ---- how an escape goes on and ends
 
--- one byte more of at most 32
+-- one byte more, of those that a name holds
 abbrev pub with_byte : ℕ → List ℕ → List ℕ
-with_byte b bs = if length bs == 32 then bs else bs ++ b ∷ []
+with_byte b bs = if is_full bs then bs else bs ++ b ∷ []
 
 abbrev pub keeping : ℕ → Half → Half
 keeping b h = record h { kept = with_byte b h.kept }
@@ -342,4 +343,4 @@ in_part escapes.Hyphen b h = behind_hyphen b h
 
 -- an escape that is longer than what is kept goes out
 abbrev pub in_escape : ℕ → Half → Met
-in_escape b h = if length h.kept == 32 then abandoned h else in_part h.escape b h
+in_escape b h = if is_full h.kept then abandoned h else in_part h.escape b h

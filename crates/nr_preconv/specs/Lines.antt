@@ -1,6 +1,7 @@
 -- Lines: control lines and their names, text lines, lines that pass as they are.
 use Prim.Native.Char.{code}
 use Rattle.std.specs.Prelude.{ℕ, List, [], ◌∷◌, ◌++◌, length, Bool, true, false, not, ◌==◌, ◌&&◌, ◌||◌, nat_le, if◌then◌else◌}
+use Rattle.nr_units.specs.Name.{is_full}
 use Rattle.nr_preconv.specs.declared.said.Said.{Said}
 use Rattle.nr_preconv.specs.declared.said.Said.TheVariants.{Nothing, Byte, Kept}
 use Rattle.nr_preconv.specs.declared.half.Half.{Half}
@@ -56,7 +57,7 @@ blanks_said line h = left (Kept h.name) (record h { name = []; line = line })
 abbrev pub behind_control : ℕ → Half → Met
 behind_control b h =
     if (b == code ".") && h.defining then naming (code "." ∷ []) lines.Name h else
-    if is_gap b && not (length h.name == 32) then naming (h.name ++ b ∷ []) lines.Control h else
+    if is_gap b && not (is_full h.name) then naming (h.name ++ b ∷ []) lines.Control h else
     if not (length h.name == 0) then blanks_said lines.Control h else
     if ends_name b then blanks_said lines.Request h else naming (b ∷ []) lines.Name h
 
@@ -105,7 +106,7 @@ named_line b h = left (said_name (opened h.name) h.name b) (record (opening (ope
 
 abbrev pub in_name : ℕ → Half → Met
 in_name b h =
-    if ends_name b || (length h.name == 32) then named_line b h
+    if ends_name b || is_full h.name then named_line b h
     else taken Nothing (record h { name = h.name ++ b ∷ [] })
 
 -- ---- the rest of a line

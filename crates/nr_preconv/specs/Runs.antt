@@ -2,6 +2,7 @@
 use Prim.Native.Char.{code}
 use Rattle.std.specs.Prelude.{ℕ, List, [], ◌∷◌, Bool, true, false, not, ◌==◌, ◌&&◌, ◌||◌, nat_lt, if◌then◌else◌, min}
 use Rattle.std.specs.List.{prefix_len}
+use Rattle.nr_units.specs.Name.{capacity}
 use Rattle.nr_preconv.specs.declared.half.Half.{Half}
 use Rattle.nr_preconv.specs.declared.half.Line.{Line}
 use Rattle.nr_preconv.specs.declared.half.Line.TheVariants as lines
@@ -44,7 +45,7 @@ abbrev pub dotted_len : List ℕ → ℕ
 dotted_len [] = 0
 dotted_len (a ∷ []) = 0
 dotted_len (a ∷ first ∷ bs) =
-    if (a == code ".") && not (first == code ".") then min (prefix_len goes_on_name (first ∷ bs)) 32 else 0
+    if (a == code ".") && not (first == code ".") then min (prefix_len goes_on_name (first ∷ bs)) capacity else 0
 
 abbrev pub is_start : Line → Bool
 is_start lines.Start = true

@@ -1,6 +1,7 @@
 -- Names as far as they were read (CSTR 54, 7.5; the groff manual, Identifiers).
 use Prim.Native.Char.{code}
-use Rattle.std.specs.Prelude.{ℕ, ◌==◌, ◌||◌, nat_le, Bool, true, false, if◌then◌else◌, List, [], ◌∷◌, ◌++◌, length}
+use Rattle.std.specs.Prelude.{ℕ, ◌==◌, ◌||◌, nat_le, Bool, true, false, if◌then◌else◌, List, [], ◌∷◌, ◌++◌}
+use Rattle.nr_units.specs.Name.{is_full}
 use Rattle.nr_reading.specs.declared.spelled.Spelled.{Spelled}
 
 -- a blank is a space or a tab
@@ -14,9 +15,9 @@ ends_name b = nat_le b 32 || (b == 127)
 abbrev pub nothing_spelled : Spelled
 nothing_spelled = record { bytes = []; bad = false }
 
--- with one byte more: a name has up to 32 bytes, and a longer one is read whole
+-- with one byte more; a name that is too long is read whole
 abbrev pub spelled : ℕ → Spelled → Spelled
-spelled b s = if length s.bytes == 32 then record s { bad = true } else record s { bytes = s.bytes ++ b ∷ [] }
+spelled b s = if is_full s.bytes then record s { bad = true } else record s { bytes = s.bytes ++ b ∷ [] }
 
 -- a bad name is the empty one, which names nothing
 abbrev pub name_of : Spelled → List ℕ

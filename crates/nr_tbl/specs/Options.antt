@@ -1,6 +1,7 @@
 -- The options of a table (Tbl, "Options"; tbl(1), "Region options"): words, some with an argument, up to the semicolon.
 use Rattle.std.specs.Prelude.{ℕ, ◌+◌, List, [], ◌∷◌, ◌++◌, length, codes, Bool, true, false, ◌==◌, ◌&&◌, ◌||◌, nat_eq, nat_le, if◌then◌else◌, Option, None, Some}
 use Rattle.std.specs.Cmp.Lexicographic.{pointwise}
+use Rattle.nr_units.specs.Name.{is_full}
 use Rattle.nr_tbl.specs.declared.options.Options.{Options}
 use Rattle.nr_tbl.specs.declared.options.OptionsRead.{OptionsRead}
 use Rattle.nr_tbl.specs.declared.options.Choice.{Choice}
@@ -72,7 +73,7 @@ abbrev pub word_ended : OptionsRead → OptionsRead
 word_ended r = record first_options { options = if length r.word == 0 then r.options else options_with (choice_of r.word) r.argument r.options }
 
 abbrev pub with_letter : ℕ → OptionsRead → OptionsRead
-with_letter b r = if length r.word == 32 then r else record r { word = r.word ++ small b ∷ [] }
+with_letter b r = if is_full r.word then r else record r { word = r.word ++ small b ∷ [] }
 
 -- after a blank it begins another word
 abbrev pub letter : ℕ → OptionsRead → OptionsRead

@@ -3,20 +3,20 @@ ghost use Rattle.std.specs.Prelude.{◌≡◌, ◌==◌, ◌<◌, ◌≤◌, ◌
 ghost use Rattle.std.specs.Ordering.{nat_cmp};
 ghost use Rattle.std.specs.Cmp.{partial_equiv_from_equiv};
 ghost use Rattle.std.specs.Cmp.Lexicographic.{pointwise, slice_cmp, nat_list_eq_equiv, nat_list_cmp_total, texts_po, texts_ties};
-ghost use Rattle.nr_units.specs.Name.{name_order, kind_of_name};
+ghost use Rattle.nr_units.specs.Name.{capacity, is_full, name_order, kind_of_name};
 
 use std::cmp::Ordering;
 use std::marker::Model;
 
 /// The greatest number of bytes of a name.
-pub(crate) const LONGEST: usize = 32;
+const CAPACITY: usize = 32;
 
 /// A name of at most 32 bytes. The empty name names nothing.
 ///
 /// Clauses see its bytes as a list. Names compare by their bytes.
 #[derive(Clone, Copy)]
 pub struct Name {
-    bytes: [u8; LONGEST],
+    bytes: [u8; CAPACITY],
     len: u8,
 }
 
@@ -53,14 +53,14 @@ impl Name {
         ensures { result ≡ [] }
     {
         Name {
-            bytes: [0; LONGEST],
+            bytes: [0; CAPACITY],
             len: 0,
         }
     }
 
     /// The name of these bytes.
     pub fn of(bytes: &[u8]) -> Self
-        requires { length bytes.now ≤ 32 }
+        requires { length bytes.now ≤ capacity }
         ensures { result ≡ bytes.now }
     {
         let mut name = Name::new();
@@ -72,7 +72,7 @@ impl Name {
 
     /// Adds a byte at the end.
     pub fn push(&mut self, byte: u8)
-        requires { length self.old < 32 }
+        requires { length self.old < capacity }
         ensures { self.new ≡ self.old ++ byte ∷ [] }
     {
         self.bytes[usize::from(self.len)] = byte;
@@ -81,16 +81,16 @@ impl Name {
 
     /// Whether no byte can be added.
     pub fn is_full(&self) -> bool
-        ensures value { result ≡ (length self.now == 32) }
-        ensures at_most { length self.now ≤ 32 }
+        ensures value { result ≡ is_full self.now }
+        ensures at_most { length self.now ≤ capacity }
     {
-        self.len() == LONGEST
+        self.len() == CAPACITY
     }
 
     /// The number of bytes.
     pub fn len(&self) -> usize
         ensures value { result ≡ length self.now }
-        ensures at_most { result ≤ 32 }
+        ensures at_most { result ≤ capacity }
     {
         usize::from(self.len)
     }
@@ -105,7 +105,7 @@ impl Name {
     /// The bytes.
     pub fn as_bytes(&self) -> &[u8]
         ensures value { result.now ≡ self.now }
-        ensures at_most { length result.now ≤ 32 }
+        ensures at_most { length result.now ≤ capacity }
     {
         &self.bytes[..usize::from(self.len)]
     }
