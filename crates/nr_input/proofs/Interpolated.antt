@@ -18,12 +18,9 @@ use Rattle.nr_store.specs.declared.refusal.Refusal.TheVariants as stores
 use Rattle.nr_reading.specs.declared.event.Event.{Event}
 use Rattle.nr_reading.specs.declared.event.Event.TheVariants as events
 use Rattle.nr_reading.specs.declared.front.Front.TheVariants as fronts
-use Rattle.nr_reading.specs.declared.half.Half.{Half}
 use Rattle.nr_reading.specs.declared.mode.Due.TheVariants as dues
 use Rattle.nr_reading.specs.Many.InArgument.{ending_of, IsPlain}
-use Rattle.nr_reading.specs.Many.KeptBytes.{HasKept}
 use Rattle.nr_reading.specs.Half.{Met, meet, silent}
-use Rattle.nr_reading.specs.Many.Passing as passing
 use Rattle.nr_reading.specs.Many.Runs.{Spot, HasMet}
 use Rattle.nr_reading.proofs.Marks.{meet-mark}
 use Rattle.nr_input.specs.declared.reader.Reader.{Reader}
@@ -212,16 +209,6 @@ module _ {K : Type 0} (n m : ℕ) (bytes : List ℕ) (v w : Stored K) (r r2 : Re
         subst (λ k. PaysAll k v p r events.Nothing w p r2) same
         (pays_then 1 (m + 1) v (left_times n (reading_bytes bytes w)) w p p p r r2 r2 events.Nothing first (end_pays n bytes w.arguments (32 + length bytes) own_text w all r2 due p))
 
--- ---- the same reader
-
-module _ {K : Type 0} (n m : ℕ) (bytes : List ℕ) (v w : Stored K) (s r r2 : Reader) (e : Event) (same : s ≡ r) where
-  pub read_same : ((c : Coming) (p : Reached) (supply : Option Supply) → HoldsComing c p supply → HasRead m (situation (reading_bytes bytes v) c s) e (left_times n (reading_bytes bytes w)) r2 p supply)
-      → (c : Coming) (p : Reached) (supply : Option Supply) → HoldsComing c p supply → HasRead m (situation (reading_bytes bytes v) c r) e (left_times n (reading_bytes bytes w)) r2 p supply
-  read_same reads c p supply holds = subst (λ (x : Reader). HasRead m (situation (reading_bytes bytes v) c x) e (left_times n (reading_bytes bytes w)) r2 p supply) same (reads c p supply holds)
-
-  pub pays_same : ((p : Reached) → PaysAll m (reading_bytes bytes v) p s e (left_times n (reading_bytes bytes w)) p r2) → (p : Reached) → PaysAll m (reading_bytes bytes v) p r e (left_times n (reading_bytes bytes w)) p r2
-  pays_same pays p = subst (λ (x : Reader). PaysAll m (reading_bytes bytes v) p x e (left_times n (reading_bytes bytes w)) p r2) same (pays p)
-
 -- ---- its bytes are met
 
 module _ {K : Type 0} (m : ℕ) (bytes : List ℕ) (v : Stored K) (r : Reader) (p : Spot) (met : HasMet m (map fronts.Byte bytes) r.half p) where
@@ -237,22 +224,6 @@ module _ {K : Type 0} (m : ℕ) (bytes : List ℕ) (v : Stored K) (r : Reader) (
 
   pub met_within : p.taken ≤ length bytes
   met_within = omega (arith, met.within, length-map bytes fronts.Byte)
-
--- ---- all of them are met where they lie
-
-module _ {K : Type 0} (m : ℕ) (bytes : List ℕ) (v : Stored K) (r : Reader) (new : Half) (splice : IsSplice bytes v r) (room : HasRoom bytes v r) (kept : HasKept m bytes (expanded r).half new) where
-  abbrev reader_behind : Reader
-  reader_behind = record (expanded r) { half = new }
-
-  pub kept_read : (c : Coming) (q : Reached) (supply : Option Supply) → HoldsComing c q supply → HasRead (m + 2) (situation v c r) events.Nothing v reader_behind q supply
-  kept_read =
-      let p = passing.quiet (length bytes) new in
-      whole_read (length bytes) m bytes v v r reader_behind events.Nothing splice room (met_read m bytes v (expanded r) p kept.met) (met_pays m bytes v (expanded r) p kept.met) refl refl kept.due
-
-  pub kept_pays : (q : Reached) → PaysAll (m + 2) v q r events.Nothing v q reader_behind
-  kept_pays =
-      let p = passing.quiet (length bytes) new in
-      whole_pays (length bytes) m bytes v v r reader_behind events.Nothing splice room (met_read m bytes v (expanded r) p kept.met) (met_pays m bytes v (expanded r) p kept.met) refl refl kept.due
 
 -- ---- they are added
 

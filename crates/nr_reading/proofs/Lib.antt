@@ -26,4 +26,3 @@ pub mod StringRows
 pub mod ControlNames
 pub mod RequestLines
 pub mod Interpolated
-pub mod KeptBytes

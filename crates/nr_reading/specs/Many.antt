@@ -12,5 +12,4 @@ pub mod InText
 pub mod InArgument
 pub mod InDefinition
 pub mod Rereading
-pub mod KeptBytes
 pub mod LineBeginnings

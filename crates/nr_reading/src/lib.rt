@@ -4,9 +4,9 @@
 //! `delimited`, `asks`; `escape`, `step`; a file for each group of modes, `text`, `text_escape`, `titles`,
 //! `control`, `strings`, `definitions`, `conditions`, `skipping`; `reader`, which puts them together, and
 //! `half`, where an item is met; `seeking`, `conditionals` and `setting`, what comes from outside; `runs`, many
-//! items at once, with `passing`, `control_names`, `interpolations`, `request_lines`, `arguments`, `braces` and `defined_texts`;
+//! items at once, with `passing`, `control_names`, `interpolations`, `request_lines`, `arguments`, `braces` and `defined_texts`; and
 //! `row` and a file for each group of modes whose rows have loops of their own, `line_rows`, `condition_rows`,
-//! `request_rows`, `part_rows`, `argument_rows`, `string_rows`; and `kept_bytes`, where few bytes are met with no row.
+//! `request_rows`, `part_rows`, `argument_rows`, `string_rows`.
 #![tactic(auto)]
 
 mod answers;

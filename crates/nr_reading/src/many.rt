@@ -7,7 +7,6 @@ pub(crate) mod condition_rows;
 pub(crate) mod control_names;
 pub(crate) mod defined_texts;
 pub(crate) mod interpolations;
-pub(crate) mod kept_bytes;
 pub(crate) mod line_rows;
 pub(crate) mod part_rows;
 pub(crate) mod passing;

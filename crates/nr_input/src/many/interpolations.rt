@@ -115,12 +115,6 @@ impl Reader {
         }
         self.burst += 1;
         self.half.reading.due = Due::Look;
-        if let Some(moves) = self.half.keep_bytes(bytes) {
-            return Moved {
-                moves: moves + 2,
-                event: Event::Nothing,
-            };
-        }
         let run = self.read_bytes(bytes, store);
         if run.taken == bytes.len() && matches!(run.event, Event::Nothing) && self.looks() {
             return Moved {

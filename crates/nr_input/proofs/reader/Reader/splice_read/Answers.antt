@@ -3,18 +3,15 @@ use Rattle.std.proofs.lemmas.Bool.{false≢true}
 use Rattle.nr_store.specs.Store.{Stored, reading_bytes}
 use Rattle.nr_store.specs.Windows.{left_times}
 use Rattle.nr_reading.specs.declared.event.Event.TheVariants as events
-use Rattle.nr_reading.specs.declared.half.Half.{Half}
-use Rattle.nr_input.specs.declared.reader.Reader.{Reader}
-use Rattle.nr_input.specs.Acting.{expanded}
 use Rattle.nr_input.specs.Limits.{limits_of}
 use Rattle.nr_input.specs.Moving.{situation}
 use Rattle.nr_input.specs.Many.Runs.{HasRead, PaysMany}
 use Rattle.nr_input.specs.Many.Interpolations.{HasRoom}
-use Rattle.nr_input.proofs.Interpolated.{entered_bytes, spliced_read, spliced_pays, whole_read, whole_pays, kept_read, kept_pays, read_same, pays_same}
+use Rattle.nr_input.proofs.Interpolated.{entered_bytes, spliced_read, spliced_pays, whole_read, whole_pays}
 use Rattle.nr_input.proofs.LevelParts.{many_of_all}
 use Rattle.nr_input.proofs.LimitsStay.{left_times-limits}
 use Rattle.nr_input.proofs.Taking.{due_look}
-use Rattle.nr_input.proofs.reader.Reader.splice_read.Goals.{in-Nothing, in_default-matches}
+use Rattle.nr_input.proofs.reader.Reader.splice_read.Goals.{in-Nothing, in_default}
 use Rattle.nr_input.proofs.reader.Reader.splice_read.Goals as goal
 
 pub returns-then-looks-clause-read : goal.returns-then-looks-clause-read
@@ -26,11 +23,9 @@ returns-then-looks-clause-read g c =
     let yes = c.if-not-may_splice.false in
     let may = c.may_splice.ensures in
     let room : HasRoom c.args.bytes.now v r = record { charge = let some = may.charge yes in omega (arith, some); depth = may.depth yes; burst = may.burst yes } in
-    let here : Reader = record (expanded r) { half = c.keep_bytes.new.self } in
-    let same : here ≡ expanded r = ap (λ (h : Half). record (expanded r) { half = h }) (c.keep_bytes.ensures.left c.in_default.is) in
-    let reads = read_same run.taken run.moves c.args.bytes.now v c.read_bytes-run.new.store here (expanded r) s run.event same c.read_bytes-run.ensures.read in
-    let pays = pays_same run.taken run.moves c.args.bytes.now v c.read_bytes-run.new.store here (expanded r) s run.event same c.read_bytes-run.ensures.pays in
-    let silent : run.event ≡ events.Nothing = elim c.match-matches.branch [ in-Nothing b ↦ b.in-Nothing.is | in_default-matches b ↦ absurd (false≢true (sym b.matches-is ∙ c.if-matches.true)) ] in
+    let reads = c.read_bytes-run.ensures.read in
+    let pays = c.read_bytes-run.ensures.pays in
+    let silent : run.event ≡ events.Nothing = elim c.match-matches.branch [ in-Nothing b ↦ b.in-Nothing.is | in_default b ↦ absurd (false≢true (sym b.matches-is ∙ c.if-matches.true)) ] in
     whole_read run.taken run.moves c.args.bytes.now v c.read_bytes-run.new.store r s run.event c.requires.due room reads pays silent c.if-run-bytes.true
     (due_look s.half.reading.due (sym c.looks.ensures ∙ c.if-looks.true))
 
@@ -44,11 +39,9 @@ returns-then-looks-clause-pays g c = λ p.
     let yes = c.if-not-may_splice.false in
     let may = c.may_splice.ensures in
     let room : HasRoom c.args.bytes.now v r = record { charge = let some = may.charge yes in omega (arith, some); depth = may.depth yes; burst = may.burst yes } in
-    let here : Reader = record (expanded r) { half = c.keep_bytes.new.self } in
-    let same : here ≡ expanded r = ap (λ (h : Half). record (expanded r) { half = h }) (c.keep_bytes.ensures.left c.in_default.is) in
-    let reads = read_same run.taken run.moves c.args.bytes.now v w here (expanded r) s run.event same c.read_bytes-run.ensures.read in
-    let pays = pays_same run.taken run.moves c.args.bytes.now v w here (expanded r) s run.event same c.read_bytes-run.ensures.pays in
-    let silent : run.event ≡ events.Nothing = elim c.match-matches.branch [ in-Nothing b ↦ b.in-Nothing.is | in_default-matches b ↦ absurd (false≢true (sym b.matches-is ∙ c.if-matches.true)) ] in
+    let reads = c.read_bytes-run.ensures.read in
+    let pays = c.read_bytes-run.ensures.pays in
+    let silent : run.event ≡ events.Nothing = elim c.match-matches.branch [ in-Nothing b ↦ b.in-Nothing.is | in_default b ↦ absurd (false≢true (sym b.matches-is ∙ c.if-matches.true)) ] in
     many_of_all (run.moves + 2) v w p p r s events.Nothing
     (whole_pays run.taken run.moves c.args.bytes.now v w r s run.event c.requires.due room reads pays silent c.if-run-bytes.true
     (due_look s.half.reading.due (sym c.looks.ensures ∙ c.if-looks.true)) p)
@@ -64,10 +57,8 @@ returns-clause-read g c = λ k p supply holds.
     let yes = c.if-not-may_splice.false in
     let may = c.may_splice.ensures in
     let room : HasRoom bytes v r = record { charge = let some = may.charge yes in omega (arith, some); depth = may.depth yes; burst = may.burst yes } in
-    let here : Reader = record (expanded r) { half = c.keep_bytes.new.self } in
-    let same : here ≡ expanded r = ap (λ (h : Half). record (expanded r) { half = h }) (c.keep_bytes.ensures.left c.in_default.is) in
-    let reads = read_same run.taken run.moves bytes v w here (expanded r) s run.event same c.read_bytes-run.ensures.read in
-    let pays = pays_same run.taken run.moves bytes v w here (expanded r) s run.event same c.read_bytes-run.ensures.pays in
+    let reads = c.read_bytes-run.ensures.read in
+    let pays = c.read_bytes-run.ensures.pays in
     let depth : length w.levels < w.deepest = (let same = ap length c.read_bytes-run.ensures.levels in let deepest = c.read_bytes-run.ensures.deepest in let some = may.depth yes in omega (arith, same, deepest, some)) in
     let entered = entered_bytes bytes w c.enter_bytes.new.self c.enter_bytes.result c.read_bytes-run.ensures.room depth c.enter_bytes.ensures.answer c.enter_bytes.ensures.ok in
     subst (λ (x : Stored _). HasRead (run.moves + 1) (situation v k r) run.event x s p supply) (sym (c.skip.ensures ∙ ap (λ (x : Stored _). left_times run.taken x) entered))
@@ -84,36 +75,13 @@ returns-clause-pays g c = λ p.
     let yes = c.if-not-may_splice.false in
     let may = c.may_splice.ensures in
     let room : HasRoom bytes v r = record { charge = let some = may.charge yes in omega (arith, some); depth = may.depth yes; burst = may.burst yes } in
-    let here : Reader = record (expanded r) { half = c.keep_bytes.new.self } in
-    let same : here ≡ expanded r = ap (λ (h : Half). record (expanded r) { half = h }) (c.keep_bytes.ensures.left c.in_default.is) in
-    let reads = read_same run.taken run.moves bytes v w here (expanded r) s run.event same c.read_bytes-run.ensures.read in
-    let pays = pays_same run.taken run.moves bytes v w here (expanded r) s run.event same c.read_bytes-run.ensures.pays in
+    let reads = c.read_bytes-run.ensures.read in
+    let pays = c.read_bytes-run.ensures.pays in
     let depth : length w.levels < w.deepest = (let same = ap length c.read_bytes-run.ensures.levels in let deepest = c.read_bytes-run.ensures.deepest in let some = may.depth yes in omega (arith, same, deepest, some)) in
     let entered = entered_bytes bytes w c.enter_bytes.new.self c.enter_bytes.result c.read_bytes-run.ensures.room depth c.enter_bytes.ensures.answer c.enter_bytes.ensures.ok in
     subst (λ (x : Stored _). PaysMany (run.moves + 1) v p r run.event x p s) (sym (c.skip.ensures ∙ ap (λ (x : Stored _). left_times run.taken x) entered))
     (many_of_all (run.moves + 1) v (left_times run.taken (reading_bytes bytes w)) p p r s run.event
     (spliced_pays run.taken run.moves bytes v w r s run.event c.requires.due room reads pays p))
-
-pub returns-in-Some-clause-read : goal.returns-in-Some-clause-read
-returns-in-Some-clause-read g c = λ k p supply holds.
-    let bytes = c.args.bytes.now in
-    let v = c.args.store.now in
-    let r = c.args.self.now in
-    let yes = c.if-not-may_splice.false in
-    let may = c.may_splice.ensures in
-    let room : HasRoom bytes v r = record { charge = let some = may.charge yes in omega (arith, some); depth = may.depth yes; burst = may.burst yes } in
-    kept_read c.in-Some.moves bytes v r c.keep_bytes.new.self c.requires.due room c.in-Some.ensures.kept k p supply holds
-
-pub returns-in-Some-clause-pays : goal.returns-in-Some-clause-pays
-returns-in-Some-clause-pays g c = λ p.
-    let bytes = c.args.bytes.now in
-    let v = c.args.store.now in
-    let r = c.args.self.now in
-    let yes = c.if-not-may_splice.false in
-    let may = c.may_splice.ensures in
-    let room : HasRoom bytes v r = record { charge = let some = may.charge yes in omega (arith, some); depth = may.depth yes; burst = may.burst yes } in
-    many_of_all (c.in-Some.moves + 2) v v p p r (record (expanded r) { half = c.keep_bytes.new.self }) events.Nothing
-    (kept_pays c.in-Some.moves bytes v r c.keep_bytes.new.self c.requires.due room c.in-Some.ensures.kept p)
 
 pub returns-clause-limits : goal.returns-clause-limits
 returns-clause-limits g c =

@@ -1,5 +1,0 @@
-use Rattle.nr_reading.proofs.KeptBytes.{all_kept}
-use Rattle.nr_reading.proofs.half.Half.keep_first.Goals as goal
-
-pub returns-clause-kept : goal.returns-clause-kept
-returns-clause-kept c = all_kept c.args.bytes.now c.args.self.now c.note_first.new.self c.note_first.ensures.leads c.note_first.ensures.next
