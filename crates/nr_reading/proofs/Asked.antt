@@ -21,7 +21,8 @@ use Rattle.nr_reading.specs.declared.mode.Reading.{Reading}
 use Rattle.nr_reading.specs.declared.mode.Signs.{Signs}
 use Rattle.nr_reading.specs.declared.notes.Notes.{Notes}
 use Rattle.nr_reading.specs.declared.spelled.Spelled.{Spelled}
-use Rattle.nr_reading.specs.Ask.{is_argument, is_digit, is_unsigned, is_given, answer_byte, answer, due_of, event_of}
+use Rattle.nr_reading.specs.Ask.{is_argument, is_digit, is_unsigned, is_given, answer_byte, answer}
+use Rattle.nr_reading.specs.Ended.{due_of, event_of}
 use Rattle.nr_reading.specs.Delimited.{Texts}
 use Rattle.nr_reading.specs.Half.{Met, answered, left_escape}
 use Rattle.nr_reading.specs.Spelled.{is_blank, is_empty, name_of}

@@ -20,7 +20,8 @@ use Rattle.nr_reading.specs.declared.mode.Mode.{Mode}
 use Rattle.nr_reading.specs.declared.mode.Mode.TheVariants as modes
 use Rattle.nr_reading.specs.declared.mode.Signs.{Signs}
 use Rattle.nr_reading.specs.declared.notes.Notes.{Notes}
-use Rattle.nr_reading.specs.Ask.{begun_ask, at_stage, with_byte, is_given, due_of, event_of}
+use Rattle.nr_reading.specs.Ask.{begun_ask, at_stage, with_byte, is_given}
+use Rattle.nr_reading.specs.Ended.{due_of, event_of}
 use Rattle.nr_reading.specs.Delimited.{Texts}
 use Rattle.nr_reading.specs.Many.InText.{is_in_text, is_in_text_at}
 use Rattle.nr_reading.specs.Many.Interpolations.{interpolates_in, interpolates, is_lone_name, is_named, begun, named}

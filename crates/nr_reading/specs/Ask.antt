@@ -9,10 +9,6 @@ use Rattle.nr_reading.specs.declared.ask.Stage.TheVariants as stages
 use Rattle.nr_reading.specs.declared.ask.Ask.{Ask}
 use Rattle.nr_reading.specs.declared.ask.Answer.{Answer}
 use Rattle.nr_reading.specs.declared.ask.Answer.TheVariants as answers
-use Rattle.nr_reading.specs.declared.event.Event.{Event}
-use Rattle.nr_reading.specs.declared.event.Event.TheVariants as events
-use Rattle.nr_reading.specs.declared.mode.Due.{Due}
-use Rattle.nr_reading.specs.declared.mode.Due.TheVariants as dues
 use Rattle.nr_reading.specs.Spelled.{is_blank, nothing_spelled, spelled, is_empty}
 
 -- names and widths count as names in which interpolations nest
@@ -137,27 +133,9 @@ cut s a = a
 abbrev pub answer : ℕ → Bool → Ask → Answer
 answer b long a = if b == code "\n" then answers.Stops (cut a.stage a) else answer_byte b long a.stage a
 
--- ---- it has ended
-
 -- The formatter gives the values of `%`, `nl`, `dn`, `dl`, and of all registers whose names begin with `.`.
 abbrev pub is_given : List ℕ → Bool
 is_given [] = false
 is_given (b ∷ []) = (b == code ".") || (b == code "%")
 is_given (b ∷ c ∷ []) = (b == code ".") || ((b == code "n") && (c == code "l")) || ((b == code "d") && ((c == code "n") || (c == code "l")))
 is_given (b ∷ c ∷ d ∷ bs) = b == code "."
-
--- a string or a register is spliced
-abbrev pub due_of : Kind → List ℕ → Due
-due_of kinds.String name = dues.Splice
-due_of (kinds.Register s) name = if is_given name then dues.Look else dues.Register s
-due_of k name = dues.Look
-
--- what its name or its text is told for
-abbrev pub event_of : Kind → List ℕ → Event
-event_of (kinds.Register s) name = if is_given name then events.Given else events.Nothing
-event_of kinds.Width name = events.Width
-event_of kinds.Font name = events.Font
-event_of kinds.Special name = events.Special
-event_of kinds.Horizontal name = events.Horizontal
-event_of kinds.Rule name = events.Rule
-event_of k name = events.Nothing

@@ -21,7 +21,8 @@ use Rattle.nr_reading.specs.declared.mode.Escape.TheVariants as escapes
 use Rattle.nr_reading.specs.Notes.{Note}
 use Rattle.nr_reading.specs.Notes as notes
 use Rattle.nr_reading.specs.Step.{Step}
-use Rattle.nr_reading.specs.Ask.{has_text, reads_argument, is_size, begun_ask, answer, due_of, event_of}
+use Rattle.nr_reading.specs.Ask.{has_text, reads_argument, is_size, begun_ask, answer}
+use Rattle.nr_reading.specs.Ended.{due_of, event_of}
 use Rattle.nr_reading.specs.Escape.{offer, raw_offer}
 use Rattle.nr_reading.specs.Delimited.{begun_text, with_text_byte, ended_text, no_texts}
 use Rattle.nr_reading.specs.Mode.{is_direct, reads_arguments, at_a_line, first_signs}

@@ -1,4 +1,5 @@
 pub mod Ask
+pub mod Ended
 pub mod Conditionals
 pub mod Conditions
 pub mod Control

@@ -1,10 +1,7 @@
 //! What an escape still has to read.
 ghost use Rattle.std.specs.Prelude.{◌≡◌};
-ghost use Rattle.nr_reading.specs.Ask.{counts, has_text, reads_argument, is_size, is_unsigned, is_argument, is_digit, begun_ask, bracketed_ask, at_stage, of_kind, with_byte, spoiled, answer, answer_byte, answer_first, answer_two, answer_bracket, answer_digit, argument_asked, is_given, due_of, event_of};
-ghost use Rattle.nr_reading.specs.Spelled.{name_of};
+ghost use Rattle.nr_reading.specs.Ask.{counts, has_text, reads_argument, is_size, is_unsigned, is_argument, is_digit, begun_ask, bracketed_ask, at_stage, of_kind, with_byte, spoiled, answer, answer_byte, answer_first, answer_two, answer_bracket, answer_digit, argument_asked, is_given};
 
-use super::event::Event;
-use super::mode::Due;
 use super::spelled::{Spelled, is_blank};
 
 /// What is done to a register before it is read.
@@ -377,41 +374,5 @@ impl Ask {
             return Answer::Stops(self);
         }
         self.answer_byte(byte, long)
-    }
-
-    /// What is due once it has ended.
-    pub(crate) fn due(&self) -> Due
-        ensures { result ≡ due_of self.now.kind (name_of self.now.name) }
-    {
-        match self.kind {
-            Kind::String => Due::Splice,
-            Kind::Register(sign) => {
-                if is_given(self.name.name().as_bytes()) {
-                    return Due::Look;
-                }
-                Due::Register(sign)
-            }
-            _ => Due::Look,
-        }
-    }
-
-    /// What is told once it has ended.
-    pub(crate) fn event(&self) -> Event
-        ensures { result ≡ event_of self.now.kind (name_of self.now.name) }
-    {
-        match self.kind {
-            Kind::Register(_) => {
-                if is_given(self.name.name().as_bytes()) {
-                    return Event::Given;
-                }
-                Event::Nothing
-            }
-            Kind::Width => Event::Width,
-            Kind::Font => Event::Font,
-            Kind::Special => Event::Special,
-            Kind::Horizontal => Event::Horizontal,
-            Kind::Rule => Event::Rule,
-            _ => Event::Nothing,
-        }
     }
 }

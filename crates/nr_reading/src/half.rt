@@ -56,7 +56,7 @@ impl Seen {
 
 impl Half {
     ghost use Rattle.std.specs.Prelude.{[]};
-    ghost use Rattle.nr_reading.specs.Ask.{event_of};
+    ghost use Rattle.nr_reading.specs.Ended.{event_of};
     ghost use Rattle.nr_reading.specs.Many.InText.{is_in_text};
     ghost use Rattle.nr_reading.specs.Many.LineBeginnings.{is_at_text, text_begun, text_ended};
     ghost use Rattle.nr_reading.specs.Many.Rereading.{is_rereading};

@@ -1,6 +1,6 @@
 //! Reading: what each item of the input does to what is half read. Plain data, and functions of it.
 //!
-//! It stands on nr_units. To read: `front`, `event`, `spelled`, `ask`, `mode`; `answers`, `kept`, `notes`,
+//! It stands on nr_units. To read: `front`, `event`, `spelled`, `ask`, `mode`, `ended`; `answers`, `kept`, `notes`,
 //! `delimited`, `asks`; `escape`, `step`; a file for each group of modes, `text`, `text_escape`, `titles`,
 //! `control`, `strings`, `definitions`, `conditions`, `skipping`; `reader`, which puts them together, and
 //! `half`, where an item is met; `seeking`, `conditionals` and `setting`, what comes from outside; `runs`, many
@@ -17,6 +17,7 @@ mod conditions;
 mod control;
 mod definitions;
 mod delimited;
+mod ended;
 mod escape;
 mod event;
 mod front;

@@ -9,7 +9,8 @@ use Rattle.nr_reading.specs.declared.half.Half.{Half}
 use Rattle.nr_reading.specs.declared.mode.Mode.{Mode}
 use Rattle.nr_reading.specs.declared.mode.Mode.TheVariants as modes
 use Rattle.nr_reading.specs.declared.mode.Signs.{Signs}
-use Rattle.nr_reading.specs.Ask.{begun_ask, due_of}
+use Rattle.nr_reading.specs.Ask.{begun_ask}
+use Rattle.nr_reading.specs.Ended.{due_of}
 use Rattle.nr_reading.specs.Half.{reads_plainly}
 use Rattle.nr_reading.specs.Mode.{is_direct}
 use Rattle.nr_reading.specs.Many.Passing.{is_plain}

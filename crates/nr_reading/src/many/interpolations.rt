@@ -7,7 +7,7 @@ ghost use Rattle.nr_reading.specs.declared.front.Front.TheVariants as variants;
 ghost use Rattle.nr_reading.specs.declared.half.Half.{Half as HalfRead};
 ghost use Rattle.nr_reading.specs.declared.mode.Due.TheVariants as dues;
 ghost use Rattle.nr_reading.specs.declared.mode.Mode.TheVariants as modes;
-ghost use Rattle.nr_reading.specs.Ask.{due_of, event_of};
+ghost use Rattle.nr_reading.specs.Ended.{due_of, event_of};
 ghost use Rattle.nr_reading.specs.Many.InText.{is_in_text};
 ghost use Rattle.nr_reading.specs.Many.Interpolations.{AsksOnly, IsFont, IsName, interpolates, is_lone_name, is_named, begun, named};
 ghost use Rattle.nr_reading.specs.Many.LineBeginnings.{is_at_text};
