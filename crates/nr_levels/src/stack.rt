@@ -2,6 +2,7 @@
 ghost use Rattle.std.specs.Prelude.{◌≡◌, ◌==◌, ◌<◌, ◌≤◌, [], ◌∷◌, length, drop, slice_get, Some, IfOk};
 
 use crate::frame::Frame;
+use nr_rooms::ReservedVec;
 use std::alloc::{AllocError, Global};
 use std::marker::Model;
 
@@ -9,19 +10,19 @@ use std::marker::Model;
 /// came as the first, and the room, the greatest number of items. Each call takes constant time.
 #[derive(Drop)]
 pub struct Stack<T: Copy> {
-    items: Vec<T>,
+    items: ReservedVec<T>,
     room: usize,
 }
 
 impl<T: Copy> Model for Stack<T> {
-    ghost use Rattle.std.specs.Prelude.{◌≡◌, ◌≤◌, reverse, vec_len, vec_capacity};
+    ghost use Rattle.std.specs.Prelude.{◌≡◌, ◌≤◌, length, reverse};
     ghost use Rattle.nr_units.specs.Items.{Items};
 
     ghost Value = { Items T };
 
     ghost view = { λ v. record { items = reverse v.items.items; room = v.room } };
 
-    ghost invariant = { λ v. (vec_len v.items ≤ v.room) × (vec_capacity v.items ≡ v.room) };
+    ghost invariant = { λ v. (length v.items.items ≤ v.room) × (v.items.room ≡ v.room) };
 }
 
 impl<T: Copy> Stack<T> {
@@ -29,7 +30,7 @@ impl<T: Copy> Stack<T> {
     pub fn new(alloc: Global, room: usize) -> Result<Stack<T>, AllocError>
         ensures { IfOk result (λ made. made ≡ record { items = []; room = room }) }
     {
-        let items = Vec::with_capacity(alloc, room)?;
+        let items = ReservedVec::new(alloc, room)?;
         Ok(Stack { items, room })
     }
 
@@ -82,7 +83,7 @@ impl<T: Copy> Stack<T> {
         requires { length self.old.items < self.old.room }
         ensures { self.new ≡ record self.old { items = item ∷ self.old.items } }
     {
-        self.items.push_reserved(item);
+        self.items.push(item);
     }
 
     /// The n-th item from the last that came, counted from 0, where it lies.

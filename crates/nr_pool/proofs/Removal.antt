@@ -1,7 +1,7 @@
 -- What it does to the slots and the elements to remove one text.
-use Rattle.std.proofs.Common.{◌≡◌, ◌≢◌, ℕ, ◌+◌, ◌-◌, ◌<◌, ◌≤◌, ◌⊎◌, List, ◌++◌, length, map, take, drop, set, get_or, sum, sum_by, min, refl, sym, ap, ◌∙◌, subst, inl, inr, arith}
+use Rattle.std.proofs.Common.{◌≡◌, ◌≢◌, ℕ, ◌+◌, ◌-◌, ◌<◌, ◌≤◌, ◌⊎◌, List, length, map, set, get_or, sum, sum_by, min, refl, sym, ap, ◌∙◌, subst, inl, inr, arith}
 use Rattle.std.specs.List.{SameBelow, CopiedTo}
-use Rattle.std.proofs.lemmas.List.{length-map, length-set, get_or-set_same, map-set, take_at}
+use Rattle.std.proofs.lemmas.List.{length-map, length-set, get_or-set_same, map-set}
 use Rattle.std.proofs.lemmas.List.Sums.{sum-map, sum_by-set}
 use Rattle.std.proofs.lemmas.Bool.{cases_lt}
 use Rattle.nr_pool.specs.Texts.{Held, no_text, IsOpen, without_text}

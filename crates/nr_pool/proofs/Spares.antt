@@ -1,7 +1,7 @@
 -- Lemmas on the slots with no text.
-use Rattle.std.proofs.Common.{◌≡◌, ◌≢◌, ℕ, zero, suc, ◌+◌, ◌<◌, ◌⊎◌, List, [], ◌∷◌, ◌++◌, length, map, set, sum, sum_by, refl, sym, ap, ◌∙◌, inl, inr, arith}
-use Rattle.std.proofs.lemmas.List.{length-set, length-append, get_or-set_same}
-use Rattle.std.proofs.lemmas.List.Sums.{sum-map, sum_by-set, sum_by-le, sum_by-append}
+use Rattle.std.proofs.Common.{◌≡◌, ◌≢◌, ℕ, zero, suc, ◌+◌, ◌<◌, ◌⊎◌, List, length, map, set, sum, sum_by, refl, sym, ap, ◌∙◌, inl, inr, arith}
+use Rattle.std.proofs.lemmas.List.{length-set, get_or-set_same}
+use Rattle.std.proofs.lemmas.List.Sums.{sum-map, sum_by-set, sum_by-le}
 use Rattle.std.proofs.lemmas.Bool.{cases_lt}
 use Rattle.nr_pool.specs.Slot.{blank_slot, slot_at}
 use Rattle.nr_pool.specs.Spares.{spare_at, taken, HasSpares}

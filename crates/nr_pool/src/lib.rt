@@ -4,13 +4,13 @@
 //! It stands on nr_rooms. To read: this file, and then `slot`.
 #![tactic(auto)]
 
-ghost use Rattle.std.specs.Prelude.{◌≡◌, ◌≢◌, ℕ, ◌+◌, ◌^◌, ◌<◌, ◌≤◌, ◌↔◌, [], ◌∷◌, ◌++◌, length, take, replicate, All, IsErr, IfOk, OnOk, OnErr, IsTrue, slice_get, slice_set, Some, vec_capacity};
+ghost use Rattle.std.specs.Prelude.{◌≡◌, ◌≢◌, ℕ, ◌+◌, ◌^◌, ◌<◌, ◌≤◌, ◌↔◌, [], ◌∷◌, ◌++◌, length, take, replicate, All, IsErr, IfOk, OnOk, OnErr, IsTrue, slice_get, slice_set, Some};
 ghost use Rattle.nr_pool.specs.Rooms.{written};
 ghost use Rattle.nr_pool.specs.Texts.{IsOpen, text, holders, used, no_text, opened, with_text, with_holders, without_text, released};
 
 pub use crate::slot::Slot;
 use crate::slot::{bring_last, remove_text, spare_of};
-use nr_rooms::lengthen;
+use nr_rooms::ReservedVec;
 use std::alloc::{AllocError, Global};
 use std::marker::Model;
 
@@ -51,10 +51,10 @@ impl Model for Id {
 #[derive(Drop)]
 pub struct Pool<T: Copy> {
     // The elements of the texts lie at the front. What lies after them is of no account.
-    elements: Vec<T>,
+    elements: ReservedVec<T>,
     capacity: usize,
     // The slots that have had a text since all were removed.
-    slots: Vec<Slot>,
+    slots: ReservedVec<Slot>,
     most: usize,
     // How many elements the texts have.
     used: u32,
@@ -64,7 +64,7 @@ pub struct Pool<T: Copy> {
 }
 
 impl<T: Copy> Model for Pool<T> {
-    ghost use Rattle.std.specs.Prelude.{◌≡◌, vec_capacity};
+    ghost use Rattle.std.specs.Prelude.{◌≡◌};
     ghost use Rattle.nr_pool.specs.Texts.{Texts};
     ghost use Rattle.nr_pool.specs.Rooms.{texts_within, IsKept};
 
@@ -72,7 +72,7 @@ impl<T: Copy> Model for Pool<T> {
 
     ghost view = { λ p. texts_within p.capacity p.most p.elements.items p.slots.items };
 
-    ghost invariant = { λ p. IsKept p.elements.items p.slots.items p.used p.spares p.first_spare p.capacity p.most × ((vec_capacity p.elements ≡ p.capacity) × (vec_capacity p.slots ≡ p.most)) };
+    ghost invariant = { λ p. IsKept p.elements.items p.slots.items p.used p.spares p.first_spare p.capacity p.most × ((p.elements.room ≡ p.capacity) × (p.slots.room ≡ p.most)) };
 }
 
 impl Id {
@@ -93,8 +93,8 @@ impl<T: Copy> Pool<T> {
         ensures capacity { IfOk result (λ made. made.capacity ≡ capacity) }
         ensures empty { IfOk result (λ made. made.texts ≡ replicate most no_text) }
     {
-        let elements = Vec::with_capacity(alloc, capacity)?;
-        let slots = Vec::with_capacity(alloc, most)?;
+        let elements = ReservedVec::new(alloc, capacity)?;
+        let slots = ReservedVec::new(alloc, most)?;
         Ok(Pool {
             elements,
             capacity,
@@ -279,7 +279,7 @@ impl<T: Copy> Pool<T> {
             return Err(Full);
         }
         let index = id.index as usize;
-        lengthen(&mut self.elements, used + 1, self.capacity, element);
+        self.elements.lengthen(used + 1, element);
         bring_last(&mut self.elements, &mut self.slots, self.used, index);
         self.elements[used] = element;
         self.slots[index].len += 1;
@@ -305,7 +305,7 @@ impl<T: Copy> Pool<T> {
             return Ok(());
         }
         let index = id.index as usize;
-        lengthen(&mut self.elements, used + count, self.capacity, elements[0]);
+        self.elements.lengthen(used + count, elements[0]);
         bring_last(&mut self.elements, &mut self.slots, self.used, index);
         write_at(&mut self.elements, used, elements);
         self.slots[index].len += count as u32;
@@ -333,7 +333,7 @@ impl<T: Copy> Pool<T> {
         }
         let index = to.index as usize;
         let element = self.get(from, 0);
-        lengthen(&mut self.elements, used + len, self.capacity, element);
+        self.elements.lengthen(used + len, element);
         bring_last(&mut self.elements, &mut self.slots, self.used, index);
         let start = self.slots[from.index as usize].start as usize;
         self.elements.copy_within(start..start + len, used);
@@ -369,11 +369,11 @@ impl<T: Copy> Pool<T> {
 }
 
 /// Writes elements from a place on over those that stand there.
-fn write_at<T: Copy>(elements: &mut Vec<T>, place: usize, more: &[T])
+fn write_at<T: Copy>(elements: &mut ReservedVec<T>, place: usize, more: &[T])
     requires { place + length more.now ≤ length elements.old.items }
     ensures items { elements.new.items ≡ written elements.old.items place more.now }
     ensures len { length elements.new.items ≡ length elements.old.items }
-    ensures room { vec_capacity elements.new ≡ vec_capacity elements.old }
+    ensures room { elements.new.room ≡ elements.old.room }
 {
     let places = elements.as_mut_slice();
     places[place..place + more.len()].copy_from_slice(more);

@@ -1,9 +1,11 @@
 //! Where the texts of a pool lie.
-ghost use Rattle.std.specs.Prelude.{◌≡◌, ◌≢◌, ℕ, ◌+◌, ◌-◌, ◌^◌, ◌<◌, ◌≤◌, ◌⊎◌, [], ◌∷◌, ◌++◌, length, map, take, drop, IfSome, None, vec_len, vec_capacity};
+ghost use Rattle.std.specs.Prelude.{◌≡◌, ◌≢◌, ℕ, ◌+◌, ◌-◌, ◌^◌, ◌<◌, ◌≤◌, ◌⊎◌, [], ◌∷◌, ◌++◌, length, map, take, drop, IfSome, None};
 ghost use Rattle.nr_pool.specs.Slot.{texts_of, slot_at, blank_slot, is_behind, shifted, IsPacked};
 ghost use Rattle.nr_pool.specs.Spares.{HasSpares};
 ghost use Rattle.nr_pool.specs.Exchange.{LiesAt, IsSwapped, IsExchanged};
 ghost use Rattle.nr_pool.specs.Removal.{spare_before, IsRemoved};
+
+use nr_rooms::ReservedVec;
 
 /// How many elements are moved one by one, and among how many.
 const FEW: usize = 8;
@@ -59,21 +61,21 @@ impl Slot {
 // How many spare slots there are, and the first of them: where there was none, a new one after all others, if there may be
 // so many.
 pub(crate) fn spare_of(
-    slots: &mut Vec<Slot>,
+    slots: &mut ReservedVec<Slot>,
     most: usize,
     count: usize,
     first: u32,
 ) -> Option<(usize, u32)>
     requires spares { HasSpares slots.old.items count first }
-    requires few { vec_len slots.old ≤ most }
+    requires few { length slots.old.items ≤ most }
     requires small { most < 2 ^ 32 }
-    requires room { most ≤ vec_capacity slots.old }
-    ensures none { result ≡ None → (count ≡ 0) × ((vec_len slots.old ≡ most) × (slots.new ≡ slots.old)) }
+    requires room { most ≤ slots.old.room }
+    ensures none { result ≡ None → (count ≡ 0) × ((length slots.old.items ≡ most) × (slots.new ≡ slots.old)) }
     ensures some { IfSome result (λ found. 0 < found.0) }
     ensures spares { IfSome result (λ found. HasSpares slots.new.items found.0 found.1) }
     ensures same { (slots.new.items ≡ slots.old.items) ⊎ (slots.new.items ≡ slots.old.items ++ blank_slot ∷ []) }
-    ensures few { vec_len slots.new ≤ most }
-    ensures room { vec_capacity slots.new ≡ vec_capacity slots.old }
+    ensures few { length slots.new.items ≤ most }
+    ensures room { slots.new.room ≡ slots.old.room }
 {
     if count > 0 {
         return Some((count, first));
@@ -82,7 +84,7 @@ pub(crate) fn spare_of(
     if index == most {
         return None;
     }
-    slots.push_reserved(Slot::blank());
+    slots.push(Slot::blank());
     Some((1, index as u32))
 }
 
@@ -205,8 +207,8 @@ fn move_last<T: Copy>(elements: &mut [T], slots: &mut [Slot], used: u32, index: 
 // The same in vectors: at once where the text lies there or has no elements.
 #[inline(always)]
 pub(crate) fn bring_last<T: Copy>(
-    elements: &mut Vec<T>,
-    slots: &mut Vec<Slot>,
+    elements: &mut ReservedVec<T>,
+    slots: &mut ReservedVec<Slot>,
     used: u32,
     index: usize,
 )
@@ -219,8 +221,8 @@ pub(crate) fn bring_last<T: Copy>(
     ensures same { texts_of elements.new.items slots.new.items ≡ texts_of elements.old.items slots.old.items }
     ensures elements { length elements.new.items ≡ length elements.old.items }
     ensures slots { length slots.new.items ≡ length slots.old.items }
-    ensures elements_room { vec_capacity elements.new ≡ vec_capacity elements.old }
-    ensures slots_room { vec_capacity slots.new ≡ vec_capacity slots.old }
+    ensures elements_room { elements.new.room ≡ elements.old.room }
+    ensures slots_room { slots.new.room ≡ slots.old.room }
 {
     let Slot { start, len, .. } = slots[index];
     if len == 0 {
@@ -267,8 +269,8 @@ fn remove_before_others<T: Copy>(
 // The same in vectors, at once where no others lie after it or it has no elements. It gives how many it had.
 #[inline(always)]
 pub(crate) fn remove_text<T: Copy>(
-    elements: &mut Vec<T>,
-    slots: &mut Vec<Slot>,
+    elements: &mut ReservedVec<T>,
+    slots: &mut ReservedVec<Slot>,
     used: u32,
     index: usize,
     next: u32,
@@ -281,8 +283,8 @@ pub(crate) fn remove_text<T: Copy>(
     ensures within { result ≤ used }
     ensures elements { length elements.new.items ≡ length elements.old.items }
     ensures slots { length slots.new.items ≡ length slots.old.items }
-    ensures elements_room { vec_capacity elements.new ≡ vec_capacity elements.old }
-    ensures slots_room { vec_capacity slots.new ≡ vec_capacity slots.old }
+    ensures elements_room { elements.new.room ≡ elements.old.room }
+    ensures slots_room { slots.new.room ≡ slots.old.room }
 {
     let Slot { start, len, .. } = slots[index];
     if len == 0 || start + len == used {

@@ -1,8 +1,8 @@
 //! A vector for which room is taken once.
-ghost use Rattle.std.specs.Prelude.{◌≡◌, ◌+◌, ◌<◌, ◌≤◌, [], ◌∷◌, ◌++◌, length, take, replicate, slice_get, slice_set, Some, IfOk, vec_len, vec_capacity};
+ghost use Rattle.std.specs.Prelude.{◌≡◌, ◌+◌, ◌<◌, ◌≤◌, [], ◌∷◌, ◌++◌, length, take, replicate, slice_get, slice_set, Some, IfOk};
 ghost use Rattle.std.specs.List.{insert, remove};
 
-use crate::growing::lengthen;
+use crate::reserved_vec::ReservedVec;
 use std::alloc::{AllocError, Global};
 use std::marker::Model;
 
@@ -17,20 +17,20 @@ const CHUNK: usize = 8;
 #[derive(Drop)]
 pub struct FixedVec<T: Copy> {
     // The items stand at the front. What lies after them is of no account.
-    slots: Vec<T>,
+    slots: ReservedVec<T>,
     len: usize,
     room: usize,
 }
 
 impl<T: Copy> Model for FixedVec<T> {
-    ghost use Rattle.std.specs.Prelude.{◌≡◌, ◌≤◌, take, vec_len, vec_capacity};
+    ghost use Rattle.std.specs.Prelude.{◌≡◌, ◌≤◌, length, take};
     ghost use Rattle.nr_units.specs.Items.{Items};
 
     ghost Value = { Items T };
 
     ghost view = { λ v. record { items = take v.len v.slots.items; room = v.room } };
 
-    ghost invariant = { λ v. (v.len ≤ vec_len v.slots) × ((vec_len v.slots ≤ v.room) × (vec_capacity v.slots ≡ v.room)) };
+    ghost invariant = { λ v. (v.len ≤ length v.slots.items) × ((length v.slots.items ≤ v.room) × (v.slots.room ≡ v.room)) };
 }
 
 impl<T: Copy> FixedVec<T> {
@@ -38,7 +38,7 @@ impl<T: Copy> FixedVec<T> {
     pub fn new(alloc: Global, room: usize) -> Result<FixedVec<T>, AllocError>
         ensures { IfOk result (λ made. made ≡ record { items = []; room = room }) }
     {
-        let slots = Vec::with_capacity(alloc, room)?;
+        let slots = ReservedVec::new(alloc, room)?;
         Ok(FixedVec {
             slots,
             len: 0,
@@ -108,7 +108,7 @@ impl<T: Copy> FixedVec<T> {
         ensures room { self.new.room ≡ self.old.room }
     {
         let len = self.len;
-        lengthen(&mut self.slots, len + 1, self.room, item);
+        self.slots.lengthen(len + 1, item);
         self.slots[len] = item;
         self.len = len + 1;
     }
@@ -121,7 +121,7 @@ impl<T: Copy> FixedVec<T> {
         ensures room { self.new.room ≡ self.old.room }
     {
         let end = self.len + more.len();
-        fit(&mut self.slots, self.len, more, self.room);
+        fit(&mut self.slots, self.len, end, more);
         let slots = self.slots.as_mut_slice();
         slots[self.len..end].copy_from_slice(more);
         self.len = end;
@@ -160,7 +160,7 @@ impl<T: Copy> FixedVec<T> {
             self.len = len + n;
             return;
         }
-        lengthen(&mut self.slots, len + n, self.room, item);
+        self.slots.lengthen(len + n, item);
         let slots = self.slots.as_mut_slice();
         set_all(&mut slots[len..len + n], item);
         self.len = len + n;
@@ -201,7 +201,7 @@ impl<T: Copy> FixedVec<T> {
         ensures room { self.new.room ≡ self.old.room }
     {
         let len = self.len;
-        lengthen(&mut self.slots, len + 1, self.room, item);
+        self.slots.lengthen(len + 1, item);
         self.slots.copy_within(place..len, place + 1);
         self.slots[place] = item;
         self.len = len + 1;
@@ -239,21 +239,20 @@ impl<T: Copy> FixedVec<T> {
     }
 }
 
-/// Makes sure that there are places for all these items after the first `len`.
+/// Makes sure that there are places for all these items after the first `len`, up to `end`.
 #[inline]
-fn fit<T: Copy>(slots: &mut Vec<T>, len: usize, more: &[T], room: usize)
-    requires len { len ≤ vec_len slots.old }
-    requires asked { len + length more.now ≤ room }
-    requires held { vec_len slots.old ≤ room }
-    requires room { room ≤ vec_capacity slots.old }
+fn fit<T: Copy>(slots: &mut ReservedVec<T>, len: usize, end: usize, more: &[T])
+    requires len { len ≤ length slots.old.items }
+    requires end { end ≡ len + length more.now }
+    requires asked { end ≤ slots.old.room }
+    requires held { length slots.old.items ≤ slots.old.room }
     ensures front { take len slots.new.items ≡ take len slots.old.items }
-    ensures least { len + length more.now ≤ vec_len slots.new }
-    ensures held { vec_len slots.new ≤ room }
-    ensures room { vec_capacity slots.new ≡ vec_capacity slots.old }
+    ensures least { end ≤ length slots.new.items }
+    ensures held { length slots.new.items ≤ slots.new.room }
+    ensures room { slots.new.room ≡ slots.old.room }
 {
-    let end = len + more.len();
     if end > slots.len() {
-        lengthen(slots, end, room, more[0]);
+        slots.lengthen(end, more[0]);
     }
 }
 

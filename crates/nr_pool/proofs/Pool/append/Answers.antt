@@ -22,21 +22,21 @@ returns-clause-full g c = (
 
 pub bring_last-requires-clause-packed : goal.bring_last-requires-clause-packed
 bring_last-requires-clause-packed g c =
-    (longer _ _ _ _ _ _ _ _ _ _ c.self.invariant.0 c.self.view_is c.lengthen.ensures.items (omega (arith, c.lengthen.ensures.held))).packed
+    (longer _ _ _ _ _ _ _ _ _ _ c.self.invariant.0 c.self.view_is c.lengthen.ensures.items (omega (arith, c.lengthen.ensures.held, c.lengthen.ensures.room, c.self.invariant.1.0))).packed
 
 pub invariant_of-self : goal.invariant_of-self
 invariant_of-self g c =
     let last = c.bring_last.ensures in
     let kept = c.self.invariant.0 in
-    let more = longer _ _ _ _ _ _ _ _ _ _ kept c.self.view_is c.lengthen.ensures.items (omega (arith, c.lengthen.ensures.held)) in
-    let is_open = open_in c.self.inside.capacity c.self.inside.most _ (texts_of c.lengthen.new.items.items c.self.inside.slots.items) more.view _ c.requires in
+    let more = longer _ _ _ _ _ _ _ _ _ _ kept c.self.view_is c.lengthen.ensures.items (omega (arith, c.lengthen.ensures.held, c.lengthen.ensures.room, c.self.invariant.1.0)) in
+    let is_open = open_in c.self.inside.capacity c.self.inside.most _ (texts_of c.lengthen.new.self.items c.self.inside.slots.items) more.view _ c.requires in
     let lengths = c.bring_last.ensures.elements in
     let room = (let below : c.self.inside.used < length c.bring_last.new.elements.items = omega (arith, c.lengthen.ensures.least) in below) in
     let here = found _ _ _ _ _ _ last.packed last.same c.id.view_is is_open in
     let at = slot_is c.bring_last.new.slots.items c.id.inside.index _ c.index_mut-2.ensures.value here.within in
     rw at (
       kept_after _ _ _ _ _ _ _ _ _ _ _ _ _ _ kept (after_more _ _ _ _ _ _ _ _ last.packed (last.spares _ _ kept.spares) last.same c.id.view_is is_open _ _ _ _ (one_more _ _ c.args.element room) last.last (omega arith) refl refl refl refl)
-          (let same = (one_more c.bring_last.new.elements.items c.self.inside.used c.args.element room).same_length in omega (arith, c.lengthen.ensures.held)) (omega (arith, c.bring_last.ensures.slots, kept.slots_within)),
+          (let same = (one_more c.bring_last.new.elements.items c.self.inside.used c.args.element room).same_length in omega (arith, c.lengthen.ensures.held, c.lengthen.ensures.room, c.self.invariant.1.0)) (omega (arith, c.bring_last.ensures.slots, kept.slots_within)),
       (omega (arith, c.lengthen.ensures.room, c.bring_last.ensures.elements_room), omega (arith, c.bring_last.ensures.slots_room, c.self.invariant.1.1)),
     )
 
@@ -44,13 +44,13 @@ pub returns-clause-ok : goal.returns-clause-ok
 returns-clause-ok g c =
     let last = c.bring_last.ensures in
     let kept = c.self.invariant.0 in
-    let more = longer _ _ _ _ _ _ _ _ _ _ kept c.self.view_is c.lengthen.ensures.items (omega (arith, c.lengthen.ensures.held)) in
-    let is_open = open_in c.self.inside.capacity c.self.inside.most _ (texts_of c.lengthen.new.items.items c.self.inside.slots.items) more.view _ c.requires in
+    let more = longer _ _ _ _ _ _ _ _ _ _ kept c.self.view_is c.lengthen.ensures.items (omega (arith, c.lengthen.ensures.held, c.lengthen.ensures.room, c.self.invariant.1.0)) in
+    let is_open = open_in c.self.inside.capacity c.self.inside.most _ (texts_of c.lengthen.new.self.items c.self.inside.slots.items) more.view _ c.requires in
     let lengths = c.bring_last.ensures.elements in
     let room = (let below : c.self.inside.used < length c.bring_last.new.elements.items = omega (arith, c.lengthen.ensures.least) in below) in
     let here = found _ _ _ _ _ _ last.packed last.same c.id.view_is is_open in
     let at = slot_is c.bring_last.new.slots.items c.id.inside.index _ c.index_mut-2.ensures.value here.within in
-    rw at (lifted_text c.self.inside.capacity c.self.inside.most _ (texts_of c.lengthen.new.items.items c.self.inside.slots.items) more.view _ _ (λ ys. ys ++ c.args.element ∷ []) (within_of_open (texts_of c.lengthen.new.items.items c.self.inside.slots.items) _ is_open)
+    rw at (lifted_text c.self.inside.capacity c.self.inside.most _ (texts_of c.lengthen.new.self.items c.self.inside.slots.items) more.view _ _ (λ ys. ys ++ c.args.element ∷ []) (within_of_open (texts_of c.lengthen.new.self.items c.self.inside.slots.items) _ is_open)
     (extended _ _ _ _ _ _ _ _ last.packed last.same c.id.view_is is_open last.last (omega arith) (one_more _ _ c.args.element room) _ refl refl refl))
 
 pub returns-clause-keeps : goal.returns-clause-keeps

@@ -16,7 +16,7 @@ returns-in_default-clause-full g c =
     let kept = c.self.invariant.0 in
     let none = c.in_default.ensures.none refl in
     let q = texts_of s.elements.items s.slots.items in
-    (λ _. all_within s.capacity s.most _ q c.self.view_is (omega (arith, length-map s.slots.items (held_of s.elements.items), none.1.0, s.slots.ok.0)) (all_open s.elements.items s.slots.items q refl (none_spare _ _ _ kept.spares none.0)), λ _. refl)
+    (λ _. all_within s.capacity s.most _ q c.self.view_is (omega (arith, length-map s.slots.items (held_of s.elements.items), none.1.0)) (all_open s.elements.items s.slots.items q refl (none_spare _ _ _ kept.spares none.0)), λ _. refl)
 
 pub invariant_of-self-2 : goal.invariant_of-self-2
 invariant_of-self-2 g c =
@@ -26,10 +26,10 @@ invariant_of-self-2 g c =
     let spares = c.in-Some.ensures.spares in
     let some : 0 < c.in-Some.spares = c.in-Some.ensures.some in
     let few = c.in-Some.ensures.few in
-    let now = spared s.elements.items s.slots.items news _ _ _ s.capacity s.most _ kept c.self.view_is c.in-Some.ensures.same (omega (arith, c.spare_of.new.slots.ok.0)) in
+    let now = spared s.elements.items s.slots.items news _ _ _ s.capacity s.most _ kept c.self.view_is c.in-Some.ensures.same (omega arith) in
     let at = slot_is news c.in-Some.index _ c.index_mut-slot.ensures.value (spares.within 0 some) in
     rw at (
-      kept_after _ _ _ news _ _ _ _ _ _ _ _ _ _ kept (after_open _ news _ _ (c.in-Some.spares - 1) _ _ now.packed spares (omega arith) refl refl (omega arith)) kept.elements_within (omega (arith, c.spare_of.new.slots.ok.0)),
+      kept_after _ _ _ news _ _ _ _ _ _ _ _ _ _ kept (after_open _ news _ _ (c.in-Some.spares - 1) _ _ now.packed spares (omega arith) refl refl (omega arith)) kept.elements_within (omega arith),
       (c.self.invariant.1.0, omega (arith, c.in-Some.ensures.room)),
     )
 
@@ -41,7 +41,7 @@ returns-clause-unused g c =
     let spares = c.in-Some.ensures.spares in
     let some : 0 < c.in-Some.spares = c.in-Some.ensures.some in
     let few = c.in-Some.ensures.few in
-    let now = spared s.elements.items s.slots.items news _ _ _ s.capacity s.most _ kept c.self.view_is c.in-Some.ensures.same (omega (arith, c.spare_of.new.slots.ok.0)) in
+    let now = spared s.elements.items s.slots.items news _ _ _ s.capacity s.most _ kept c.self.view_is c.in-Some.ensures.same (omega arith) in
     free_within s.capacity s.most _ (texts_of s.elements.items news) c.in-Some.index now.view (free_entry _ _ _ _ _ now.packed refl (spares.within 0 some) (spares.unheld 0 some))
 
 pub returns-clause-full : goal.returns-clause-full
@@ -55,7 +55,7 @@ returns-clause-ok g c =
     let spares = c.in-Some.ensures.spares in
     let some : 0 < c.in-Some.spares = c.in-Some.ensures.some in
     let few = c.in-Some.ensures.few in
-    let now = spared s.elements.items s.slots.items news _ _ _ s.capacity s.most _ kept c.self.view_is c.in-Some.ensures.same (omega (arith, c.spare_of.new.slots.ok.0)) in
+    let now = spared s.elements.items s.slots.items news _ _ _ s.capacity s.most _ kept c.self.view_is c.in-Some.ensures.same (omega arith) in
     let within = spares.within 0 some in
     let at = slot_is news c.in-Some.index _ c.index_mut-slot.ensures.value within in
     rw at (lifted s.capacity s.most _ (texts_of s.elements.items news) now.view _ c.in-Some.index (record { elements = []; holders = 1 }) (omega (arith, length-map news (held_of s.elements.items)))

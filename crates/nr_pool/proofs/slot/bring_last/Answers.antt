@@ -11,7 +11,7 @@ returns-clause-spares g c =
     let v = c.args.slots.now in
     let ws = c.move_last.new.slots in
     let is = c.as_mut_slice-2.ensures.value in
-    λ count first spares. subst (λ ys. HasSpares ys count first) (sym (take_at ws (drop (length ws) v.items) v.len (omega (arith, c.move_last.auto.slots, c.as_mut_slice-2.ensures.len, v.ok.0))))
+    λ count first spares. subst (λ ys. HasSpares ys count first) (sym (take_at ws (drop (length ws) v.items) (length v.items) (omega (arith, c.move_last.auto.slots, c.as_mut_slice-2.ensures.len))))
     (c.move_last.ensures.spares count first (subst (λ ys. HasSpares ys count first) (sym is) spares))
 
 pub returns-then-len-eq0-clause-spares : goal.returns-then-len-eq0-clause-spares

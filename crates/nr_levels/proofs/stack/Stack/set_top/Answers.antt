@@ -8,5 +8,5 @@ pub returns : goal.returns
 returns g c =
     let s = c.self.inside in
     let some : length (reverse s.items.items) ≡ length c.args.self.now.items = ap (λ (w : Items _). length w.items) c.self.view_is in
-    let top = new_top s.items.items (c.len-last.result - 1) c.args.item (omega (arith, c.requires, c.len-last.ensures, s.items.ok.0, length-reverse s.items.items)) in
+    let top = new_top s.items.items (c.len-last.result - 1) c.args.item (omega (arith, c.requires, c.len-last.ensures, length-reverse s.items.items)) in
     ap (λ (ys : List _). record { items = ys; room = s.room }) top ∙ ap (λ (w : Items _). record { items = c.args.item ∷ drop 1 w.items; room = w.room }) c.self.view_is

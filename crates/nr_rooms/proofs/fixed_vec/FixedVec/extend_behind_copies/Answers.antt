@@ -1,4 +1,4 @@
-use Rattle.std.proofs.Common.{◌≡◌, ◌+◌, ◌-◌, ◌++◌, length, take, drop, replicate, ap, ◌∙◌, arith, length-take, length-drop}
+use Rattle.std.proofs.Common.{◌≡◌, ◌+◌, ◌-◌, ◌++◌, length, take, drop, replicate, refl, ap, ◌∙◌, arith, length-take, length-drop}
 use Rattle.nr_units.specs.Items.{Items}
 use Rattle.nr_rooms.proofs.Written.{take_written_behind}
 use Rattle.nr_rooms.proofs.fixed_vec.FixedVec.extend_behind_copies.Goals as goal
@@ -13,7 +13,7 @@ returns-then-len-clause-items g c =
     let value = c.as_mut_slice-slots.ensures.value in
     let all : length slots ≡ length s.slots.items = ap length value in
     let free = c.if-len.true in
-    let rest : length (drop 8 (take size (drop s.len slots))) ≡ 8 = omega (arith, length-drop 8 (take size (drop s.len slots)), length-take size (drop s.len slots), length-drop s.len slots, c.len.ensures, s.slots.ok.0) in
-    take_written_behind s.slots.items _ _ _ _ c.args.more.now c.args.item s.len size (m + 8 - m) m n 8 s.slots.len value s.slots.ok.0 (omega (arith, c.len.ensures, s.slots.ok.0)) (omega arith) (omega arith)
+    let rest : length (drop 8 (take size (drop s.len slots))) ≡ 8 = omega (arith, length-drop 8 (take size (drop s.len slots)), length-take size (drop s.len slots), length-drop s.len slots, c.len.ensures) in
+    take_written_behind s.slots.items _ _ _ _ c.args.more.now c.args.item s.len size (m + 8 - m) m n 8 (length s.slots.items) value refl (omega (arith, c.len.ensures)) (omega arith) (omega arith)
     c.copy_from_slice.ensures.after rest c.copy_from_slice-then-len.ensures.after c.if-copies-le-CHUNK.true c.if-n-le-CHUNK.true c.if-more-ge-CHUNK.true
     ∙ ap (λ (v : Items _). v.items ++ replicate m c.args.item ++ take n c.args.more.now) c.self.view_is

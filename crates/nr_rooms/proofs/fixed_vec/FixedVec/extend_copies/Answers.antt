@@ -1,4 +1,4 @@
-use Rattle.std.proofs.Common.{◌≡◌, ◌++◌, length, take, replicate, ap, ap₂, ◌∙◌, arith}
+use Rattle.std.proofs.Common.{◌≡◌, ◌++◌, length, take, replicate, refl, ap, ap₂, ◌∙◌, arith}
 use Rattle.std.proofs.lemmas.List.{length-replicate, take-replicate}
 use Rattle.nr_units.specs.Items.{Items}
 use Rattle.nr_rooms.proofs.Written.{take_written}
@@ -14,5 +14,5 @@ returns-then-len-ge-CHUNK-clause-items g c =
     let long : length ys ≡ 8 = ap length copied ∙ length-replicate 8 item in
     let free = c.if-len-ge-CHUNK.true in
     let few = c.if-n-le-CHUNK.true in
-    take_written s.slots.items _ ys s.len _ n s.slots.len c.as_mut_slice-slots.ensures.value s.slots.ok.0 (omega (arith, c.len.ensures, s.slots.ok.0)) (omega (arith, long)) (omega arith)
+    take_written s.slots.items _ ys s.len _ n (length s.slots.items) c.as_mut_slice-slots.ensures.value refl (omega (arith, c.len.ensures)) (omega (arith, long)) (omega arith)
     ∙ ap₂ (λ (xs zs : _). xs ++ zs) (ap (λ (v : Items _). v.items) c.self.view_is) (ap (take n) copied ∙ take-replicate n 8 item (omega arith))

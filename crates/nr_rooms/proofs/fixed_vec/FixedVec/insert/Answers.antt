@@ -9,7 +9,7 @@ use Rattle.nr_rooms.proofs.fixed_vec.FixedVec.insert.Goals as goal
 pub returns-clause-items : goal.returns-clause-items
 returns-clause-items g c =
     let s = c.self.inside in
-    let xs = c.lengthen.new.items.items in
+    let xs = c.lengthen.new.self.items in
     let within = c.self.invariant.0 in
     let long : length (take s.len s.slots.items) ≡ length c.args.self.now.items = ap (λ (v : Items _). length v.items) c.self.view_is in
     let taken = length-take-le s.len s.slots.items (omega arith) in
