@@ -1,9 +1,9 @@
 // Items that come in at the end and go out at the front, for which room is taken once.
-ghost use Rattle.std.specs.Prelude.{◌≡◌, ◌+◌, ◌-◌, ◌<◌, ◌≤◌, [], ◌∷◌, ◌++◌, length, map, take, drop, replicate, slice_index, All, IfOk, vec_len, vec_capacity};
+ghost use Rattle.std.specs.Prelude.{◌≡◌, ◌+◌, ◌-◌, ◌<◌, ◌≤◌, [], ◌∷◌, ◌++◌, length, map, take, drop, replicate, slice_index, All, IfOk};
 ghost use Rattle.nr_fill.specs.Runs.{IsPlain, run_cell};
 
 use crate::runs::set_plain;
-use nr_rooms::lengthen;
+use nr_rooms::ReservedVec;
 use nr_units::cell::Cell;
 use std::alloc::{AllocError, Global};
 use std::marker::Model;
@@ -14,21 +14,21 @@ use std::marker::Model;
 #[derive(Drop)]
 pub(crate) struct Queue<T: Copy> {
     // The items stand from `start` to `end`. What lies beside them is of no account.
-    slots: Vec<T>,
+    slots: ReservedVec<T>,
     start: usize,
     end: usize,
     room: usize,
 }
 
 impl<T: Copy> Model for Queue<T> {
-    ghost use Rattle.std.specs.Prelude.{◌≡◌, ◌≤◌, take, drop, vec_len, vec_capacity};
+    ghost use Rattle.std.specs.Prelude.{◌≡◌, ◌≤◌, length, take, drop};
     ghost use Rattle.nr_units.specs.Items.{Items};
 
     ghost Value = { Items T };
 
     ghost view = { λ q. record { items = drop q.start (take q.end q.slots.items); room = q.room } };
 
-    ghost invariant = { λ q. (q.start ≤ q.end) × ((q.end ≤ vec_len q.slots) × ((vec_len q.slots ≤ q.room) × (vec_capacity q.slots ≡ q.room))) };
+    ghost invariant = { λ q. (q.start ≤ q.end) × ((q.end ≤ length q.slots.items) × ((length q.slots.items ≤ q.room) × (q.slots.room ≡ q.room))) };
 }
 
 /// Where items stand in a vector.
@@ -40,17 +40,23 @@ struct Span {
 
 /// Makes sure that there are n free slots after the items of the span, and tells where they are then.
 #[inline]
-fn make_room<T: Copy>(slots: &mut Vec<T>, room: usize, span: Span, n: usize, item: T) -> Span
+fn make_room<T: Copy>(
+    slots: &mut ReservedVec<T>,
+    room: usize,
+    span: Span,
+    n: usize,
+    item: T,
+) -> Span
     requires ordered { span.start ≤ span.end }
-    requires within { span.end ≤ vec_len slots.old }
-    requires held { vec_len slots.old ≤ room }
-    requires capacity { room ≤ vec_capacity slots.old }
+    requires within { span.end ≤ length slots.old.items }
+    requires held { length slots.old.items ≤ room }
+    requires capacity { slots.old.room ≡ room }
     requires room { span.end - span.start + n ≤ room }
     ensures items { drop result.start (take result.end slots.new.items) ≡ drop span.start (take span.end slots.old.items) }
     ensures ordered { result.start ≤ result.end }
-    ensures free { result.end + n ≤ vec_len slots.new }
-    ensures held { vec_len slots.new ≤ room }
-    ensures capacity { vec_capacity slots.new ≡ vec_capacity slots.old }
+    ensures free { result.end + n ≤ length slots.new.items }
+    ensures held { length slots.new.items ≤ room }
+    ensures capacity { slots.new.room ≡ slots.old.room }
 {
     if n <= slots.len() - span.end {
         return span;
@@ -61,22 +67,28 @@ fn make_room<T: Copy>(slots: &mut Vec<T>, room: usize, span: Span, n: usize, ite
 /// The same where there are not so many: the items move to the front. Where they and n more would fill more than half of the
 /// slots, there are more slots then, if there is room for more.
 #[cold]
-fn move_to_front<T: Copy>(slots: &mut Vec<T>, room: usize, span: Span, n: usize, item: T) -> Span
+fn move_to_front<T: Copy>(
+    slots: &mut ReservedVec<T>,
+    room: usize,
+    span: Span,
+    n: usize,
+    item: T,
+) -> Span
     requires ordered { span.start ≤ span.end }
-    requires within { span.end ≤ vec_len slots.old }
-    requires held { vec_len slots.old ≤ room }
-    requires capacity { room ≤ vec_capacity slots.old }
+    requires within { span.end ≤ length slots.old.items }
+    requires held { length slots.old.items ≤ room }
+    requires capacity { slots.old.room ≡ room }
     requires room { span.end - span.start + n ≤ room }
     ensures items { drop result.start (take result.end slots.new.items) ≡ drop span.start (take span.end slots.old.items) }
     ensures ordered { result.start ≤ result.end }
-    ensures free { result.end + n ≤ vec_len slots.new }
-    ensures held { vec_len slots.new ≤ room }
-    ensures capacity { vec_capacity slots.new ≡ vec_capacity slots.old }
+    ensures free { result.end + n ≤ length slots.new.items }
+    ensures held { length slots.new.items ≤ room }
+    ensures capacity { slots.new.room ≡ slots.old.room }
 {
     slots.copy_within(span.start..span.end, 0);
     let end = span.end - span.start;
     let least = (end + n).saturating_mul(2).min(room);
-    lengthen(slots, least, room, item);
+    slots.lengthen(least, item);
     Span { start: 0, end }
 }
 
@@ -119,7 +131,7 @@ impl<T: Copy> Queue<T> {
     pub(crate) fn new(alloc: Global, room: usize) -> Result<Queue<T>, AllocError>
         ensures { IfOk result (λ made. made ≡ record { items = []; room = room }) }
     {
-        let slots = Vec::with_capacity(alloc, room)?;
+        let slots = ReservedVec::new(alloc, room)?;
         Ok(Queue {
             slots,
             start: 0,

@@ -1,7 +1,7 @@
 // A list that grows at any place, for which room is taken once.
-ghost use Rattle.std.specs.Prelude.{◌≡◌, ℕ, ◌+◌, ◌<◌, ◌≤◌, List, [], ◌++◌, length, take, drop, insert, slice_get, slice_set, Some, IfOk, vec_len, vec_capacity};
+ghost use Rattle.std.specs.Prelude.{◌≡◌, ℕ, ◌+◌, ◌<◌, ◌≤◌, List, [], ◌++◌, length, take, drop, insert, slice_get, slice_set, Some, IfOk};
 
-use nr_rooms::lengthen;
+use nr_rooms::ReservedVec;
 use std::alloc::{AllocError, Global};
 use std::marker::Model;
 
@@ -10,7 +10,7 @@ use std::marker::Model;
 /// there come as many slots more as there are, so that is seldom.
 #[derive(Drop)]
 pub(crate) struct GapVec<T: Copy> {
-    slots: Vec<T>,
+    slots: ReservedVec<T>,
     // The items before the gap stand at the front of the slots, and those after it at their end.
     front: usize,
     gap: usize,
@@ -18,14 +18,14 @@ pub(crate) struct GapVec<T: Copy> {
 }
 
 impl<T: Copy> Model for GapVec<T> {
-    ghost use Rattle.std.specs.Prelude.{◌≡◌, ◌+◌, ◌≤◌, ◌++◌, take, drop, vec_len, vec_capacity};
+    ghost use Rattle.std.specs.Prelude.{◌≡◌, ◌+◌, ◌≤◌, ◌++◌, length, take, drop};
     ghost use Rattle.nr_units.specs.Items.{Items};
 
     ghost Value = { Items T };
 
     ghost view = { λ v. record { items = take v.front v.slots.items ++ drop (v.front + v.gap) v.slots.items; room = v.room } };
 
-    ghost invariant = { λ v. (v.front + v.gap ≤ vec_len v.slots) × ((vec_len v.slots ≤ v.room) × (vec_capacity v.slots ≡ v.room)) };
+    ghost invariant = { λ v. (v.front + v.gap ≤ length v.slots.items) × ((length v.slots.items ≤ v.room) × (v.slots.room ≡ v.room)) };
 }
 
 impl<T: Copy> GapVec<T> {
@@ -33,7 +33,7 @@ impl<T: Copy> GapVec<T> {
     pub(crate) fn new(alloc: Global, room: usize) -> Result<GapVec<T>, AllocError>
         ensures { IfOk result (λ made. made ≡ record { items = []; room = room }) }
     {
-        let slots = Vec::with_capacity(alloc, room)?;
+        let slots = ReservedVec::new(alloc, room)?;
         Ok(GapVec {
             slots,
             front: 0,
@@ -58,10 +58,11 @@ impl<T: Copy> GapVec<T> {
         requires { place < length self.now.items }
         ensures { slice_get self.now.items place ≡ Some result }
     {
+        let slots = self.slots.as_slice();
         if place < self.front {
-            self.slots[place]
+            slots[place]
         } else {
-            self.slots[self.gap + place]
+            slots[self.gap + place]
         }
     }
 
@@ -83,7 +84,7 @@ impl<T: Copy> GapVec<T> {
         ensures items { self.new.items ≡ insert self.old.items place item }
         ensures room { self.new.room ≡ self.old.room }
     {
-        move_gap(&mut self.slots, self.front, self.gap, place);
+        move_gap(self.slots.as_mut_slice(), self.front, self.gap, place);
         let gap = make_gap(&mut self.slots, self.room, place, self.gap, item);
         self.slots[place] = item;
         self.front = place + 1;
@@ -101,22 +102,28 @@ impl<T: Copy> GapVec<T> {
 
 /// Makes sure that there is a gap at a place, where it is or would be, and tells how long it is then.
 #[inline]
-fn make_gap<T: Copy>(slots: &mut Vec<T>, room: usize, place: usize, gap: usize, item: T) -> usize
-    requires here { place + gap ≤ vec_len slots.old }
-    requires held { vec_len slots.old < room + gap }
-    requires within { vec_len slots.old ≤ room }
-    requires capacity { room ≤ vec_capacity slots.old }
+fn make_gap<T: Copy>(
+    slots: &mut ReservedVec<T>,
+    room: usize,
+    place: usize,
+    gap: usize,
+    item: T,
+) -> usize
+    requires here { place + gap ≤ length slots.old.items }
+    requires held { length slots.old.items < room + gap }
+    requires within { length slots.old.items ≤ room }
+    requires capacity { slots.old.room ≡ room }
     ensures items { take place slots.new.items ++ drop (place + result) slots.new.items ≡ take place slots.old.items ++ drop (place + gap) slots.old.items }
     ensures some { 0 < result }
-    ensures here { place + result ≤ vec_len slots.new }
-    ensures within { vec_len slots.new ≤ room }
-    ensures capacity { vec_capacity slots.new ≡ vec_capacity slots.old }
+    ensures here { place + result ≤ length slots.new.items }
+    ensures within { length slots.new.items ≤ room }
+    ensures capacity { slots.new.room ≡ slots.old.room }
 {
     if gap > 0 {
         return gap;
     }
     let len = slots.len();
-    lengthen(slots, len + 1, room, item);
+    slots.lengthen(len + 1, item);
     let gap = slots.len() - len;
     slots.copy_within(place..len, place + gap);
     gap

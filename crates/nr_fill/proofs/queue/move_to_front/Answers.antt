@@ -7,6 +7,6 @@ pub returns-clause-items : goal.returns-clause-items
 returns-clause-items g c =
     let n = c.args.span.end - c.args.span.start in
     ap (take n) c.lengthen.ensures.items
-    ∙ take-append-le n c.copy_within.new.self.items _ (omega (arith, c.copy_within.ensures.len, c.requires.within, c.copy_within.new.self.ok.0))
+    ∙ take-append-le n c.copy_within.new.self.items _ (omega (arith, c.copy_within.ensures.len, c.requires.within))
     ∙ ap (take n) c.copy_within.ensures.items
-    ∙ moved_to_front c.args.slots.now.items c.args.span.start c.args.span.end c.requires.ordered (omega (arith, c.requires.within, c.args.slots.now.ok.0))
+    ∙ moved_to_front c.args.slots.now.items c.args.span.start c.args.span.end c.requires.ordered (omega (arith, c.requires.within))

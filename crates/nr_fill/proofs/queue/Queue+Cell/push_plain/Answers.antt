@@ -1,4 +1,4 @@
-use Rattle.std.proofs.Common.{◌≡◌, ◌+◌, ◌-◌, ◌≤◌, ◌++◌, List, length, take, drop, ap, ap₂, ◌∙◌, arith}
+use Rattle.std.proofs.Common.{◌≡◌, ◌+◌, ◌-◌, ◌≤◌, ◌++◌, List, length, take, drop, refl, ap, ap₂, ◌∙◌, arith}
 use borrow.Rule.Slice.PartMut.{put_mid}
 use Rattle.nr_units.specs.Items.{Items}
 use Rattle.nr_units.specs.declared.cell.Cell.{Cell}
@@ -12,11 +12,11 @@ returns-clause-items c =
     let slots = v.items in
     let n = length c.args.bytes.now in
     let count = c.set_plain-count.result in
-    let free : s.end + n ≤ length slots = omega (arith, c.make_room-span.ensures.free, v.ok.0) in
+    let free : s.end + n ≤ length slots = omega (arith, c.make_room-span.ensures.free) in
     let zs = c.set_plain-count.new.slots in
     let span : s.end + n - s.end ≡ n = omega arith in
     let long : length zs ≡ n = omega (arith, c.set_plain-count.ensures.length) in
-    ap (λ ws. drop s.start (take (s.end + count) ws)) (written_back slots c.as_mut_slice-slots.result.now zs s.end (s.end + n - s.end) v.len c.as_mut_slice-slots.ensures.value v.ok.0 (omega arith) (omega (arith, long)))
+    ap (λ ws. drop s.start (take (s.end + count) ws)) (written_back slots c.as_mut_slice-slots.result.now zs s.end (s.end + n - s.end) (length v.items) c.as_mut_slice-slots.ensures.value refl (omega arith) (omega (arith, long)))
     ∙ ap (λ k. drop s.start (take (s.end + count) (put_mid s.end k slots zs))) span
     ∙ extended_front slots zs s.start s.end n count c.make_room-span.ensures.ordered free long c.set_plain-count.ensures.front
     ∙ ap₂ (λ (xs ys : List Cell). xs ++ ys) (c.make_room-span.ensures.items ∙ ap (λ (v : Items Cell). v.items) c.self.view_is) c.set_plain-count.ensures.cells

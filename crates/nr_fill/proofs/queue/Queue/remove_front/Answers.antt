@@ -8,9 +8,9 @@ pub returns-clause-items : goal.returns-clause-items
 returns-clause-items g c =
     let s = c.self.inside in
     let start = s.start + c.args.n in
-    let long : length c.args.self.now.items ≡ s.end - s.start = ap (λ (v : Items _). length v.items) (sym c.self.view_is) ∙ length_between s.slots.items s.start s.end (omega (arith, c.self.invariant.1.0, s.slots.ok.0)) in
+    let long : length c.args.self.now.items ≡ s.end - s.start = ap (λ (v : Items _). length v.items) (sym c.self.view_is) ∙ length_between s.slots.items s.start s.end (omega (arith, c.self.invariant.1.0)) in
     let within = c.requires in
     ap (take (s.end - start)) c.copy_within.ensures.items
-    ∙ moved_to_front s.slots.items start s.end (omega (arith, c.self.invariant.0)) (omega (arith, c.self.invariant.1.0, s.slots.ok.0))
+    ∙ moved_to_front s.slots.items start s.end (omega (arith, c.self.invariant.0)) (omega (arith, c.self.invariant.1.0))
     ∙ sym (drop-drop c.args.n s.start (take s.end s.slots.items))
     ∙ ap (λ (v : Items _). drop c.args.n v.items) c.self.view_is
