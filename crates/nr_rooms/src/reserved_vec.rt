@@ -7,8 +7,8 @@ use std::alloc::{AllocError, Global};
 use std::marker::Model;
 use std::ops::{Index, IndexMut, Range};
 
-/// How long a vector becomes at least, where it has room for so many items.
-const LEAST: usize = 64;
+/// By how many items a vector becomes longer at least, where it has room for so many.
+const STEP: usize = 64;
 
 /// Items, and memory for a number of them, which `new` takes and no other call does. It has no call that gives its allocator,
 /// so whatever holds items in it can't take memory by it.
@@ -124,8 +124,8 @@ impl<T: Copy> ReservedVec<T> {
         self.items.copy_within(from, to);
     }
 
-    /// Makes it as long as asked for, by copies of an item after what it has. It becomes twice as long as it was where there is
-    /// room for it, so that all calls together write no more than twice what was asked for.
+    /// Makes it as long as asked for, by copies of an item after what it has. It becomes 64 items longer at least, where there
+    /// is room for them, so that few calls write, and all calls together no more than 64 items beyond what was asked for.
     #[inline]
     pub fn lengthen(&mut self, least: usize, item: T)
         requires asked { least ≤ self.old.room }
@@ -152,8 +152,8 @@ impl<T: Copy> ReservedVec<T> {
         ensures held { length self.new.items ≤ self.new.room }
         ensures room { self.new.room ≡ self.old.room }
     {
-        let doubled = self.items.len().saturating_mul(2);
-        let longer = least.max(doubled).max(LEAST).min(self.items.capacity());
+        let stepped = self.items.len().saturating_add(STEP);
+        let longer = least.max(stepped).min(self.items.capacity());
         for _ in self.items.len()..longer {
             self.items.push_reserved(item);
         }
