@@ -17,6 +17,7 @@ sizes_of b = record {
   gathering = b.stored;
   registers = b.stored / 48 + 1;
   traps = b.stored / 48 + 1;
+  trap_order = b.stored / 48 + 1;
   words = b.stored / 16 + 1;
   kinds = 1280;
   cells = b.cells;
@@ -31,4 +32,4 @@ sizes_of b = record {
 abbrev pub sum_of : Sizes → ℕ
 sum_of s =
     s.elements + s.slots + s.names + s.drafts + s.frames + s.modes + s.bytes + s.places + s.gathering
-    + s.registers + s.traps + s.words + s.kinds + s.cells + s.pieces + s.row + s.page_cells + s.page_texts + s.page_rows
+    + s.registers + s.traps + s.trap_order + s.words + s.kinds + s.cells + s.pieces + s.row + s.page_cells + s.page_texts + s.page_rows

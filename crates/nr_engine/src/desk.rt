@@ -31,6 +31,7 @@ pub fn sizes(limits: Limits) -> Sizes
         gathering: store.gathering,
         registers: store.registers,
         traps: store.traps,
+        trap_order: store.trap_order,
         words: store.words,
         kinds: store.kinds,
         cells: line.cells,

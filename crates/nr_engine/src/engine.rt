@@ -74,6 +74,7 @@ impl Engine {
             gathering: store.gathering,
             registers: store.registers,
             traps: store.traps,
+            trap_order: store.trap_order,
             words: store.words,
             kinds: store.kinds,
             cells: self.formatter.line.cell_memory(),

@@ -14,6 +14,7 @@ pub struct Sizes {
     pub gathering: usize,
     pub registers: usize,
     pub traps: usize,
+    pub trap_order: usize,
     pub words: usize,
     pub kinds: usize,
     pub cells: usize,

@@ -16,6 +16,7 @@ rooms_of limit deepest = record {
   gathering = limit;
   registers = limit / 48 + 1;
   traps = limit / 48 + 1;
+  trap_order = limit / 48 + 1;
   words = limit / 16 + 1;
   kinds = 1280;
 }

@@ -27,6 +27,8 @@ pub struct Room {
     pub registers: usize,
     /// The traps.
     pub traps: usize,
+    /// The numbers of the traps in the order of their places.
+    pub trap_order: usize,
     /// The hyphenation words.
     pub words: usize,
     /// The beginnings of the chains of names, of registers and of hyphenation words, as many whatever the limit.
@@ -53,6 +55,7 @@ impl Room {
             gathering: limit,
             registers: limit / 48 + 1,
             traps: limit / 48 + 1,
+            trap_order: limit / 48 + 1,
             words: limit / 16 + 1,
             kinds: 512 + 512 + 256,
         }

@@ -19,8 +19,7 @@ use crate::named::Sense;
 use crate::register::Register;
 use nr_levels::{Gathering, Levels, Stack};
 use nr_pool::Pool;
-use nr_rooms::FixedVec;
-use nr_symbol_tables::{HyphenationWords, Table, Trap};
+use nr_symbol_tables::{HyphenationWords, Table, Traps};
 use std::marker::Model;
 
 /// Names with their requests and texts, texts being built, and levels that read texts, with modes `K` that sprung texts
@@ -37,7 +36,7 @@ pub struct Store<K: Copy> {
     levels: Levels<K>,
     gathering: Gathering,
     registers: Table<Register>,
-    traps: FixedVec<Trap>,
+    traps: Traps,
     words: HyphenationWords,
     charge: u32,
     stored: u32,
@@ -71,6 +70,7 @@ impl<K: Copy> Store<K> {
             gathering: self.gathering.memory(),
             registers: self.registers.memory(),
             traps: self.traps.memory(),
+            trap_order: self.traps.order_memory(),
             words: self.words.memory(),
             kinds: self.names.kinds() + self.registers.kinds() + self.words.kinds(),
         }

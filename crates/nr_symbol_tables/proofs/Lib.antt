@@ -1,6 +1,9 @@
+pub mod Ahead
 pub mod Chaining
 pub mod Linking
 pub mod Naming
+pub mod NearestTrap
 pub mod Order
+pub mod Placing
 pub mod Rows
 pub mod Words

@@ -4,4 +4,5 @@ pub mod Laws
 pub mod Rows
 pub mod Table
 pub mod Trap
+pub mod Traps
 pub mod Word

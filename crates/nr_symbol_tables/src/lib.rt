@@ -6,9 +6,11 @@
 pub mod hyphenation;
 pub mod table;
 pub mod trap;
+pub mod traps;
 pub mod word;
 
 pub use hyphenation::HyphenationWords;
 pub use table::{Entry, Table};
 pub use trap::Trap;
+pub use traps::Traps;
 pub use word::HyphenationWord;

@@ -1,6 +1,6 @@
 //! Traps.
 ghost use Rattle.std.specs.Prelude.{◌≡◌, position};
-ghost use Rattle.nr_symbol_tables.specs.Trap.{is_at, is_for, on_page, is_ahead, lower, nearer, nearest};
+ghost use Rattle.nr_symbol_tables.specs.Trap.{is_at, is_for, on_page, is_ahead, lower, nearer};
 
 use nr_units::Name;
 
@@ -71,7 +71,7 @@ fn lower(best: Option<Trap>, trap: Trap) -> Option<Trap>
 }
 
 // The best trap so far and one more.
-fn nearer(above: i32, length: i32, best: Option<Trap>, trap: Trap) -> Option<Trap>
+pub(crate) fn nearer(above: i32, length: i32, best: Option<Trap>, trap: Trap) -> Option<Trap>
     ensures { result ≡ nearer above length best trap }
 {
     let Trap { place, name } = trap;
@@ -86,16 +86,4 @@ fn nearer(above: i32, length: i32, best: Option<Trap>, trap: Trap) -> Option<Tra
             name,
         },
     )
-}
-
-/// The nearest trap of those that lie beyond a place and have effect on a page of this length: that of least place, and
-/// of these the first planted. Its place is told from the top.
-pub fn nearest(traps: &[Trap], above: i32, length: i32) -> Option<Trap>
-    ensures { result ≡ nearest above length traps.now }
-{
-    let mut best = None;
-    for trap in traps {
-        best = nearer(above, length, best, *trap);
-    }
-    best
 }

@@ -10,8 +10,7 @@ use crate::request::{REQUESTS, Request};
 use crate::store::Store;
 use nr_levels::{Gathering, Levels, Stack};
 use nr_pool::Pool;
-use nr_rooms::FixedVec;
-use nr_symbol_tables::{HyphenationWords, Table};
+use nr_symbol_tables::{HyphenationWords, Table, Traps};
 use nr_units::Name;
 use std::alloc::{AllocError, Global};
 
@@ -42,7 +41,7 @@ impl<K: Copy> Store<K> {
             levels: Levels::new(alloc, room.bytes, room.frames)?,
             gathering: Gathering::new(alloc, room.gathering)?,
             registers: Table::new(alloc, room.registers)?,
-            traps: FixedVec::new(alloc, room.traps)?,
+            traps: Traps::new(alloc, room.traps)?,
             words: HyphenationWords::new(alloc, room.words)?,
             charge: 0,
             stored: limit,

@@ -6,7 +6,7 @@ ghost use Rattle.nr_store.specs.Store.{afforded, trap_planted, trap_changed, tra
 use crate::refusal::StoredBytes;
 use crate::store::Store;
 use nr_symbol_tables::Trap;
-use nr_symbol_tables::trap::{nearest, trap_at, trap_for};
+use nr_symbol_tables::trap::{trap_at, trap_for};
 use nr_units::Name;
 
 impl<K: Copy> Store<K> {
@@ -62,6 +62,6 @@ impl<K: Copy> Store<K> {
     pub fn next_trap(&self, above: i32, length: i32) -> Option<Trap>
         ensures { result ≡ nearest above length self.now.traps }
     {
-        nearest(self.traps.as_slice(), above, length)
+        self.traps.nearest(above, length)
     }
 }
