@@ -1,5 +1,6 @@
 -- The lines of a page: what they begin with, and the words of macros (mdoc(7), MACRO SYNTAX; groff(7), control lines). The
--- lines of a definition are not looked at, nor is a page without `.Dd` in its first sixty-four lines.
+-- lines of a definition are not looked at, nor is a page that nr_mdoc lets pass: one without `.Dd` in its first sixty-four
+-- lines, besides those that are empty or comments.
 use Rattle.std.specs.Prelude.{ℕ, ◌+◌, [], ◌∷◌, ◌++◌, length, Bool, true, false, not, ◌==◌, ◌&&◌, ◌||◌, nat_lt, nat_le, if◌then◌else◌, codes}
 use Rattle.std.specs.Str.{bytes_eq}
 use Prim.Native.Char.{code}
@@ -15,7 +16,7 @@ abbrev pub name_capacity : ℕ
 name_capacity = 32
 
 abbrev pub first : Half
-first = record { number = 1; line = lines.Start; name = []; cut = false; calls = false; awake = false }
+first = record { number = 1; looked = 0; line = lines.Start; dotted = false; name = []; cut = false; calls = false; awake = false }
 
 abbrev pub with_line : Line → Half → Half
 with_line line h = record h { line = line }
@@ -29,19 +30,33 @@ rest_after b = if b == code "\n" then lines.Start else lines.Rest
 abbrev pub body_after : ℕ → Line
 body_after b = if b == code "\n" then lines.Body else lines.BodyLine
 
+-- `.\"` and `.\#` begin comments
+abbrev pub escape_after : ℕ → Line
+escape_after b = if (b == code "\"") || (b == code "#") then lines.Comment else rest_after b
+
+abbrev pub comment_after : ℕ → Line
+comment_after b = if b == code "\n" then lines.Start else lines.Comment
+
 abbrev pub words_after : ℕ → Line
 words_after b = if b == code "\n" then lines.Start else if b == code "\\" then lines.Escape else lines.Between
 
 -- ---- names
 
 abbrev pub starts : ℕ → Half → Half
-starts b h = with_line (if (b == code ".") || (b == code "'") then lines.Control else rest_after b) h
+starts b h =
+    record h { line = if (b == code ".") || (b == code "'") then lines.Control else rest_after b; dotted = b == code "." }
 
 abbrev pub begins : Line → ℕ → Half → Half
 begins line b h = record h { line = line; name = b ∷ []; cut = false }
 
 abbrev pub behind_control : ℕ → Half → Half
 behind_control b h =
+    if (b == code " ") || (b == code "\t") then record h { line = lines.Apart; dotted = false } else
+    if b == code "\n" then with_line lines.Start h else
+    if b == code "\\" then with_line lines.ControlEscape h else begins lines.Name b h
+
+abbrev pub apart : ℕ → Half → Half
+apart b h =
     if (b == code " ") || (b == code "\t") then h else
     if b == code "\n" then with_line lines.Start h else
     if b == code "\\" then with_line lines.Rest h else begins lines.Name b h
@@ -56,14 +71,17 @@ behind_name b h =
     if is_request h.name then (with_line (rest_after b) h, wholes.Nothing) else
     (record h { line = words_after b; calls = is_parsed h.name }, wholes.Macro)
 
+abbrev pub is_date : Half → Bool
+is_date h = h.dotted && nat_lt h.looked 64 && bytes_eq h.name (codes "Dd")
+
 -- `.Dd` tells that a page is one of mdoc
-abbrev pub wakes : Half → Half
-wakes h = record h { awake = nat_le h.number 64 && bytes_eq h.name (codes "Dd") }
+abbrev pub wakes : ℕ → Half → Half
+wakes b h = record h { awake = is_date h && ends_word b }
 
 abbrev pub in_name : ℕ → Half → Half × Whole
 in_name b h =
     if not (ends_word b) && not (b == code "\\") then (grows b h, wholes.Nothing) else
-    if not h.awake then (with_line (rest_after b) (wakes h), wholes.Nothing) else behind_name b h
+    if not h.awake then (with_line (rest_after b) (wakes b h), wholes.Nothing) else behind_name b h
 
 -- ---- words
 
@@ -129,6 +147,7 @@ behind_dot b h = with_line (if b == code "." then lines.Rest else body_after b) 
 abbrev pub passed_at : Line → ℕ → Half → Half
 passed_at lines.Start b h = starts b h
 passed_at lines.Control b h = behind_control b h
+passed_at lines.Apart b h = apart b h
 passed_at lines.Between b h = between b h
 passed_at (lines.Text escaped) b h = in_text escaped b h
 passed_at (lines.Quoted escaped) b h = in_quotes escaped b h
@@ -136,6 +155,8 @@ passed_at lines.Closed b h = closed b h
 passed_at lines.Body b h = in_body b h
 passed_at lines.Dot b h = behind_dot b h
 passed_at lines.BodyLine b h = with_line (body_after b) h
+passed_at lines.ControlEscape b h = with_line (escape_after b) h
+passed_at lines.Comment b h = with_line (comment_after b) h
 passed_at line b h = with_line (rest_after b) h
 
 abbrev pub passed : ℕ → Half → Half
@@ -147,9 +168,19 @@ met_at lines.Word b h = in_word b h
 met_at lines.Escape b h = in_escape b h
 met_at line b h = (passed b h, wholes.Nothing)
 
+-- empty lines and comments are not counted among the first
+abbrev pub is_looked_at : Line → Bool
+is_looked_at lines.Start = false
+is_looked_at lines.Comment = false
+is_looked_at line = true
+
+abbrev pub looked_at : Line → ℕ → Half → Half
+looked_at line b h =
+    if (b == code "\n") && is_looked_at line && nat_lt h.looked 64 then record h { looked = h.looked + 1 } else h
+
 -- a byte meets the line: what is whole with it
 abbrev pub met : ℕ → Half → Half × Whole
-met b h = met_at h.line b h
+met b h = let m = met_at h.line b h in (looked_at h.line b m.0, m.1)
 
 abbrev pub counted : ℕ → Half → Half
 counted b h =

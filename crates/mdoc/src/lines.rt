@@ -5,8 +5,8 @@ ghost use Rattle.mdoc.specs.Lines as specs;
 use super::names::{defines, is_parsed, is_request};
 use nr_units::Name;
 
-/// So many lines are looked at for `.Dd`.
-const MOST_LINES: u64 = 64;
+/// So many lines are looked at for `.Dd`, besides those that are empty or comments.
+const MOST_LINES: u8 = 64;
 
 /// Where a line is read.
 #[derive(Clone, Copy)]
@@ -29,6 +29,12 @@ pub enum Line {
     Quoted(bool),
     /// After the quote that ends them.
     Closed,
+    /// After blanks behind it.
+    Apart,
+    /// After the control character and a backslash.
+    ControlEscape,
+    /// In a comment.
+    Comment,
     /// In a line that is not looked at.
     Rest,
     /// At the beginning of a line of a definition.
@@ -55,8 +61,12 @@ pub enum Whole {
 pub struct Half {
     /// The line, from 1 on.
     pub number: u64,
+    /// So many lines were looked at for `.Dd`.
+    pub looked: u8,
     /// Where it is read.
     pub line: Line,
+    /// It begins with a dot, and nothing stands behind that before the name.
+    pub dotted: bool,
     /// The first bytes of the name of its macro, or of a word.
     pub name: Name,
     /// There were more of them than are kept.
@@ -82,6 +92,33 @@ fn rest_after(byte: u8) -> Line
         b'\n' => Line::Start,
         _ => Line::Rest,
     }
+}
+
+/// How a line is read whose control character and backslash came before the byte.
+fn escape_after(byte: u8) -> Line
+    ensures { result ≡ specs.escape_after byte }
+{
+    match byte {
+        b'"' | b'#' => Line::Comment,
+        _ => rest_after(byte),
+    }
+}
+
+/// How a comment is read.
+fn comment_after(byte: u8) -> Line
+    ensures { result ≡ specs.comment_after byte }
+{
+    match byte {
+        b'\n' => Line::Start,
+        _ => Line::Comment,
+    }
+}
+
+/// Whether a line that ends here is one that is looked at for `.Dd`.
+fn is_looked_at(line: Line) -> bool
+    ensures { result ≡ specs.is_looked_at line }
+{
+    !matches!(line, Line::Start | Line::Comment)
 }
 
 /// How the lines of a definition are read.
@@ -112,7 +149,9 @@ impl Half {
     {
         Half {
             number: 1,
+            looked: 0,
             line: Line::Start,
+            dotted: false,
             name: Name::new(),
             cut: false,
             calls: false,
@@ -129,10 +168,30 @@ impl Half {
         }
     }
 
-    /// A byte meets the line, by where it is read.
+    /// A byte meets the line.
     pub fn meet(&mut self, byte: u8) -> Whole
         ensures half { self.new ≡ (specs.met byte self.old).0 }
         ensures whole { result ≡ (specs.met byte self.old).1 }
+    {
+        let line = self.line;
+        let whole = self.meet_line(byte);
+        self.look(line, byte);
+        whole
+    }
+
+    /// A line that was read so is looked at for `.Dd` where it ends.
+    fn look(&mut self, line: Line, byte: u8)
+        ensures { self.new ≡ specs.looked_at line byte self.old }
+    {
+        if byte == b'\n' && is_looked_at(line) && self.looked < MOST_LINES {
+            self.looked += 1;
+        }
+    }
+
+    /// It meets it by where it is read.
+    fn meet_line(&mut self, byte: u8) -> Whole
+        ensures half { self.new ≡ (specs.met_at self.old.line byte self.old).0 }
+        ensures whole { result ≡ (specs.met_at self.old.line byte self.old).1 }
     {
         match self.line {
             Line::Name => return self.in_name(byte),
@@ -150,6 +209,7 @@ impl Half {
         match self.line {
             Line::Start => self.starts(byte),
             Line::Control => self.behind_control(byte),
+            Line::Apart => self.apart(byte),
             Line::Between => self.between(byte),
             Line::Text(escaped) => self.in_text(escaped, byte),
             Line::Quoted(escaped) => self.in_quotes(escaped, byte),
@@ -157,6 +217,8 @@ impl Half {
             Line::Body => self.in_body(byte),
             Line::Dot => self.behind_dot(byte),
             Line::BodyLine => self.line = body_after(byte),
+            Line::ControlEscape => self.line = escape_after(byte),
+            Line::Comment => self.line = comment_after(byte),
             _ => self.line = rest_after(byte),
         }
     }
@@ -165,6 +227,7 @@ impl Half {
     fn starts(&mut self, byte: u8)
         ensures { self.new ≡ specs.starts byte self.old }
     {
+        self.dotted = byte == b'.';
         self.line = match byte {
             b'.' | b'\'' => Line::Control,
             _ => rest_after(byte),
@@ -174,6 +237,21 @@ impl Half {
     /// After the control character.
     fn behind_control(&mut self, byte: u8)
         ensures { self.new ≡ specs.behind_control byte self.old }
+    {
+        match byte {
+            b' ' | b'\t' => {
+                self.line = Line::Apart;
+                self.dotted = false;
+            }
+            b'\n' => self.line = Line::Start,
+            b'\\' => self.line = Line::ControlEscape,
+            _ => self.begins(Line::Name, byte),
+        }
+    }
+
+    /// After blanks behind the control character.
+    fn apart(&mut self, byte: u8)
+        ensures { self.new ≡ specs.apart byte self.old }
     {
         match byte {
             b' ' | b'\t' => {}
@@ -213,11 +291,18 @@ impl Half {
             return Whole::Nothing;
         }
         if !self.awake {
-            self.awake = self.number <= MOST_LINES && self.name.as_bytes() == b"Dd".as_slice();
+            self.awake = self.is_date() && ends_word(byte);
             self.line = rest_after(byte);
             return Whole::Nothing;
         }
         self.behind_name(byte)
+    }
+
+    /// The name is that of `.Dd`, in one of the first lines.
+    fn is_date(&self) -> bool
+        ensures { result ≡ specs.is_date self.now }
+    {
+        self.dotted && self.looked < MOST_LINES && self.name.as_bytes() == b"Dd".as_slice()
     }
 
     /// The name is whole, of a request or a macro.
