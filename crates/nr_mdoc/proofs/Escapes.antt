@@ -7,8 +7,8 @@ use Rattle.nr_mdoc.specs.declared.acts.Stack.{Stack}
 use Rattle.nr_mdoc.specs.declared.acts.Stack.TheVariants.{Stay, Opens, Closes}
 use Rattle.nr_mdoc.specs.declared.page.Block.{Block}
 use Rattle.nr_mdoc.specs.declared.strings.Next.TheVariants.{Waits, Breaks}
-use Rattle.nr_mdoc.specs.declared.strings.Pending.{Pending}
-use Rattle.nr_mdoc.specs.declared.strings.Pending.TheVariants.{Nothing, Backslash, Star}
+use Rattle.nr_mdoc.specs.declared.pending.Pending.{Pending}
+use Rattle.nr_mdoc.specs.declared.pending.Pending.TheVariants.{Nothing, Backslash, Star}
 use Rattle.nr_mdoc.specs.Reading.{State, Told, told, then_told, refused, stacked, once, heard_in, heard, with_pending, heard_raw, read_by, read, fed}
 use Rattle.nr_mdoc.specs.Saying.{parts_at, parts_of, text_of}
 use Rattle.nr_mdoc.specs.Scanning.{meet}

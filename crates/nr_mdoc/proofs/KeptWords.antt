@@ -9,7 +9,7 @@ use Rattle.nr_mdoc.specs.declared.page.Page.{Page}
 use Rattle.nr_mdoc.specs.declared.page.Scan.{Scan}
 use Rattle.nr_mdoc.specs.declared.page.Scan.TheVariants as scans
 use Rattle.nr_mdoc.specs.Calls.{is_none, with_scan}
-use Rattle.nr_mdoc.specs.Keeping.{comment, continued, ends_word, keep, keep_byte, keep_escape, keeping, looks_up, turns, widens, wider, word_begins}
+use Rattle.nr_mdoc.specs.Keeping.{comment, continued, ends_word, is_dash, keep, keep_byte, keep_escape, keeping, looks_up, turns, widens, wider, word_begins}
 use Rattle.nr_mdoc.specs.LayingOut.{lay_out}
 use Rattle.nr_mdoc.specs.Options.{is_shown}
 use Rattle.nr_mdoc.specs.Reading.{State, said}
@@ -126,9 +126,9 @@ unfolding keep_rest
 hyphen_met head s word marks at e =
     let p = s.page in
     in_word_met head (code "-") s word marks at refl
-    ∙ ap (λ (w : List ℕ). if not (is_none w) && not (looks_up p.call.taker) then keep_escape (code "-") false p else keep (code "-") false p) at.word_is
-    ∙ ap (λ (t : Bool). if not t && not (looks_up p.call.taker) then keep_escape (code "-") false p else keep (code "-") false p) e
-    ∙ ap (λ (t : Bool). if not t then keep_escape (code "-") false p else keep (code "-") false p) (plain_looks p.call.taker at.fits)
+    ∙ ap (λ (w : List ℕ). if not (is_none w) && (not (looks_up p.call.taker) || is_dash p) then keep_escape (code "-") false p else keep (code "-") false p) at.word_is
+    ∙ ap (λ (t : Bool). if not t && (not (looks_up p.call.taker) || is_dash p) then keep_escape (code "-") false p else keep (code "-") false p) e
+    ∙ ap (λ (t : Bool). if not t || is_dash p then keep_escape (code "-") false p else keep (code "-") false p) (plain_looks p.call.taker at.fits)
 
 escape_rest : ℕ → Page → Met
 escape_rest b p =
@@ -166,14 +166,14 @@ kept_by true true head b s word marks at h l e none =
     let p = s.page in
     kept_plain head b s word marks at l
     (in_word_met head b s word marks at h
-    ∙ ap (λ (w : List ℕ). if (b == code "-") && not (is_none w) && not (looks_up p.call.taker) then keep_escape b false p else keep b false p) at.word_is
-    ∙ ap (λ (t : Bool). if (b == code "-") && not t && not (looks_up p.call.taker) then keep_escape b false p else keep b false p) none
-    ∙ ap (λ (t : Bool). if t && not (looks_up p.call.taker) then keep_escape b false p else keep b false p) (and_false (b == code "-") false refl))
+    ∙ ap (λ (w : List ℕ). if (b == code "-") && not (is_none w) && (not (looks_up p.call.taker) || is_dash p) then keep_escape b false p else keep b false p) at.word_is
+    ∙ ap (λ (t : Bool). if (b == code "-") && not t && (not (looks_up p.call.taker) || is_dash p) then keep_escape b false p else keep b false p) none
+    ∙ ap (λ (t : Bool). if t && (not (looks_up p.call.taker) || is_dash p) then keep_escape b false p else keep b false p) (and_false (b == code "-") false refl))
 kept_by false u head b s word marks at h l e none =
     let p = s.page in
     kept_plain head b s word marks at l
     (in_word_met head b s word marks at h
-    ∙ ap (λ (t : Bool). if t && not (is_none p.word) && not (looks_up p.call.taker) then keep_escape b false p else keep b false p) e)
+    ∙ ap (λ (t : Bool). if t && not (is_none p.word) && (not (looks_up p.call.taker) || is_dash p) then keep_escape b false p else keep b false p) e)
 
 -- bytes are read further so, and say no word
 pub record Read (m : Macro) (s : State) (bs : List ℕ) (scan : Scan) (word marks : List ℕ) : Type 0 where

@@ -9,7 +9,7 @@ use Rattle.nr_mdoc.specs.declared.macros.Macro.{Macro}
 use Rattle.nr_mdoc.specs.declared.page.Page.{Page}
 use Rattle.nr_mdoc.specs.declared.page.Scan.{Scan}
 use Rattle.nr_mdoc.specs.declared.page.Scan.TheVariants as scans
-use Rattle.nr_mdoc.specs.declared.strings.Pending.TheVariants.{Nothing}
+use Rattle.nr_mdoc.specs.declared.pending.Pending.TheVariants.{Nothing}
 use Rattle.nr_mdoc.specs.Calls.{called_by, with_scan}
 use Rattle.nr_mdoc.specs.Keeping.{ends_word, keep_byte}
 use Rattle.nr_mdoc.specs.LayingOut.{lay_out}

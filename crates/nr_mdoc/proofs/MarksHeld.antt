@@ -14,14 +14,13 @@ use Rattle.nr_mdoc.specs.LayingOut.{lay_out}
 use Rattle.nr_mdoc.specs.Reading.{State, said}
 use Rattle.nr_mdoc.specs.Scanning.{meet}
 use Rattle.nr_mdoc.specs.Seeing.{Met, met, left}
-use Rattle.nr_mdoc.specs.Taking.{prefix}
 use Rattle.nr_mdoc.specs.Words.{begins_anew, closing_mark, holding, is_closing, is_prefix, is_text, mark, mark_as_word, marked_or, parsed, stands, takes_marks, taken_by_same}
 use Rattle.nr_mdoc.proofs.Escapes.{and_left, is_not}
 use Rattle.nr_mdoc.proofs.Given.{Whole, whole_of, whole_behind, whole_within, given_met}
 use Rattle.nr_mdoc.proofs.Meeting.{with_page, leads_by}
 use Rattle.nr_mdoc.proofs.Outcomes.{is_quiet, of_word, never, takes_plain, Out, out, out_if, leaves_out}
 use Rattle.nr_mdoc.proofs.Stepping.{At, Left, out_lays, out_step, out_next, step_at, leaves_step, marks_step, true_is_false}
-use Rattle.nr_mdoc.proofs.Taken.{no_more}
+use Rattle.nr_mdoc.proofs.Taken.{prefix_out}
 
 -- ---- closing marks
 
@@ -53,16 +52,12 @@ mark_is c p = refl
 pub not_some : (s t : Bool) → (not s && t) ≡ true → s ≡ false
 not_some s t h = is_not s (and_left (not s) t h)
 
-pub word_out : (q : Page) → takes_plain q.call.taker ≡ true → Out (prefix q) q q.word
-unfolding is_quiet of_word
-word_out q f = out _ q (acts.Word Roman) acts.Join acts.Nothing q.word refl refl refl (append-nil q.word) (no_more q f)
-
 -- a word that is a mark, and ends no sentence
 pub mark_out : (p : Page) → takes_plain p.call.taker ≡ true → Out (mark_as_word p) (with_scan scans.Between p) p.word
 unfolding is_quiet of_word
 mark_out p f =
     let q = with_scan scans.Between p in
-    out_if (is_prefix p.call.taker) _ _ q q.word (word_out q f)
+    out_if (is_prefix p.call.taker) _ _ q q.word (prefix_out q f)
     (out (with_call (record q.call { some = true }) q) q (acts.Word Roman) (acts.Close texts.Empty) acts.Nothing q.word refl refl refl (append-nil q.word)
     (record { scan = refl; word = refl; marks = refl; few = λ l. l; going = refl; comment = refl; line = refl; fits = f }))
 

@@ -247,6 +247,10 @@ due_out macros.Name p f =
     (out (after_name p) p (acts.Hanging _) acts.Own acts.Nothing [] refl refl refl refl assumption)
     (out p p acts.Own acts.Nothing acts.Nothing [] refl refl refl refl (same_page p f))
 due_out macros.Function p f = function_closes_out p f
+due_out macros.Link p f =
+    out_seen_if p.call.listed _ _ p p []
+    (out p p (acts.Close texts.Colon) (acts.Text texts.Link) acts.Nothing [] refl refl refl refl (same_page p f))
+    (out p p acts.Fresh (acts.Text texts.Link) acts.Nothing [] refl refl refl refl (same_page p f))
 due_out (macros.Encloses pair) p f = out p p (acts.Text (texts.Opening pair)) acts.Join acts.Nothing [] refl refl refl refl (same_page p f)
 due_out (macros.Opens pair) p f = out p p (acts.Text (texts.Opening pair)) acts.Join acts.Nothing [] refl refl refl refl (same_page p f)
 due_out m p f = out p p acts.Nothing acts.Nothing acts.Nothing [] refl refl refl refl (same_page p f)

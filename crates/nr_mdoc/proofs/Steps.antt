@@ -5,8 +5,8 @@ use Rattle.nr_mdoc.specs.declared.page.Scan.{Scan}
 use Rattle.nr_mdoc.specs.declared.page.Scan.TheVariants as scans
 use Rattle.nr_mdoc.specs.declared.strings.Next.{Next}
 use Rattle.nr_mdoc.specs.declared.strings.Next.TheVariants as nexts
-use Rattle.nr_mdoc.specs.declared.strings.Pending.{Pending}
-use Rattle.nr_mdoc.specs.declared.strings.Pending.TheVariants as pendings
+use Rattle.nr_mdoc.specs.declared.pending.Pending.{Pending}
+use Rattle.nr_mdoc.specs.declared.pending.Pending.TheVariants as pendings
 use Rattle.nr_mdoc.specs.Reading.{State, Told, Once, told, once, then_told, heard_in, heard, heard_some, heard_text, heard_star, heard_raw, read_by, read, with_pending, fed, line_finished, finished_at, finished, first_state, steps_of}
 use Rattle.nr_mdoc.specs.Strings.{met_by, takes_strings}
 

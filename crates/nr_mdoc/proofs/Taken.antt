@@ -4,18 +4,21 @@ use Rattle.std.proofs.lemmas.Bool.Decides.{nat_tests}
 use Prim.Native.Char.{code}
 use Rattle.nr_mdoc.specs.declared.acts.Act.{Act}
 use Rattle.nr_mdoc.specs.declared.acts.Act.TheVariants as acts
+use Rattle.nr_mdoc.specs.declared.acts.Request.TheVariants as requests
 use Rattle.nr_mdoc.specs.declared.acts.Text.TheVariants as texts
 use Rattle.nr_mdoc.specs.declared.macros.Font.{Font}
 use Rattle.nr_mdoc.specs.declared.macros.Font.TheVariants.{Roman, Bold, Italic}
 use Rattle.nr_mdoc.specs.declared.macros.Macro.{Macro}
 use Rattle.nr_mdoc.specs.declared.macros.Macro.TheVariants as macros
 use Rattle.nr_mdoc.specs.declared.macros.Pair.TheVariants as pairs
+use Rattle.nr_mdoc.specs.declared.page.Behind.{Behind}
+use Rattle.nr_mdoc.specs.declared.page.Behind.TheVariants as behinds
 use Rattle.nr_mdoc.specs.declared.page.Page.{Page}
 use Rattle.nr_mdoc.specs.declared.page.Parameters.TheVariants.{First, Further}
 use Rattle.nr_mdoc.specs.Calls.{with_place, is_nothing, is_none, heads_line, after_name, takes_no_more, called}
 use Rattle.nr_mdoc.specs.Macros.{part_font}
 use Rattle.nr_mdoc.specs.Seeing.{met, three}
-use Rattle.nr_mdoc.specs.Taking.{taken_by, taken_word, taken_alone_by, naming, named, parameter, is_outside, is_first, is_listed, behind_first, listing, reference, function_begins, function}
+use Rattle.nr_mdoc.specs.Taking.{behind_later, include, keeps_link, link, prefix, taken_by, taken_word, taken_alone_by, naming, named, parameter, is_outside, is_first, is_listed, behind_first, listing, reference, function_begins, function}
 use Rattle.nr_mdoc.specs.Texts.{closer}
 use Rattle.nr_mdoc.proofs.Outcomes.{is_quiet, of_word, never, takes_plain, Keeps, keeps_if, keeps_no_more, Out, out, out_if, out_seen_if, out_act_if, same_page, function_closes_out}
 
@@ -43,7 +46,7 @@ called_out (macros.Closes pair) q f =
     (out _ q (acts.Close (texts.Closing (closer pair))) acts.Nothing acts.Nothing [] refl refl refl refl keeps)
 called_out (macros.Stands system) q f = out q q (acts.Text (texts.System system)) acts.Nothing acts.Nothing [] refl refl refl refl (same_page q f)
 called_out macros.Joins q f =
-    out_seen_if (q.call.first && q.lay.literal) _ _ q q []
+    out_seen_if q.call.first _ _ q q []
     (out q q acts.Nothing acts.Nothing acts.Nothing [] refl refl refl refl (same_page q f))
     (out q q acts.Join acts.Nothing acts.Nothing [] refl refl refl refl (same_page q f))
 called_out macros.Apostrophe q f = out q q (acts.Close texts.Apostrophe) acts.Join acts.Nothing [] refl refl refl refl (same_page q f)
@@ -116,6 +119,43 @@ reference_out q f =
     (out (takes_no_more q) q (acts.Close (texts.Opening pairs.Parentheses)) (acts.Joined Roman) (acts.Close (texts.Closing (code ")"))) q.word
     refl refl refl (append-nil q.word) (no_more q f))
 
+-- what stands behind a long word comes later
+behind_kept : (behind : Behind) (q p : Page) → Keeps q p → Keeps q (behind_later behind p)
+behind_kept behind q p i = record {
+  scan = i.scan;
+  word = i.word;
+  marks = i.marks;
+  few = i.few;
+  going = i.going;
+  comment = i.comment;
+  line = i.line;
+  fits = i.fits;
+}
+
+pub prefix_out : (q : Page) → takes_plain q.call.taker ≡ true → Out (prefix q) q q.word
+unfolding is_quiet of_word
+prefix_out q f =
+    out_if q.lay.front _ _ q q.word (said_in Roman _ q (behind_kept behinds.Joint q (takes_no_more q) (no_more q f)))
+    (out (takes_no_more q) q (acts.Word Roman) acts.Join acts.Nothing q.word refl refl refl (append-nil q.word) (no_more q f))
+
+include_out : (q : Page) → takes_plain q.call.taker ≡ true → Out (include q) q q.word
+unfolding is_quiet of_word
+include_out q f =
+    out_if q.lay.front _ _ q q.word
+    (out _ q (acts.Text (texts.Opening pairs.Angles)) (acts.Joined Italic) acts.Nothing q.word refl refl refl (append-nil q.word)
+    (behind_kept behinds.Angle q (takes_no_more q) (no_more q f)))
+    (out (takes_no_more q) q (acts.Text (texts.Opening pairs.Angles)) (acts.Joined Italic) (acts.Close (texts.Closing (code ">"))) q.word
+    refl refl refl (append-nil q.word) (no_more q f))
+
+link_out : (q : Page) → takes_plain q.call.taker ≡ true → Out (link q) q q.word
+unfolding is_quiet of_word takes_plain
+link_out q f =
+    out_if q.call.some _ _ q q.word
+    (out_if q.call.listed _ _ q q.word (said_in Italic q q (same_page q f))
+    (behind_act acts.Fresh Italic (listing q) q refl refl (listing_kept q q (same_page q f))))
+    (out_if (keeps_link q) _ _ q q.word (behind_act (acts.Request requests.Link) Bold q q refl refl (same_page q f))
+    (said_in Bold _ q assumption))
+
 function_begins_out : (p q : Page) → Keeps q p → Out (function_begins p) q q.word
 unfolding is_quiet of_word
 function_begins_out p q keeps =
@@ -147,12 +187,11 @@ alone_out macros.Library q h f = never h
 alone_out macros.Bsd q h f =
     out _ q (acts.Word Roman) (acts.Close texts.Bsd) acts.Nothing q.word refl refl refl (append-nil q.word) assumption
 alone_out macros.BsdRelease q h f = out _ q acts.Release acts.Nothing acts.Nothing q.word refl refl refl (append-nil q.word) (no_more q f)
-alone_out macros.Prefix q h f = out _ q (acts.Word Roman) acts.Join acts.Nothing q.word refl refl refl (append-nil q.word) (no_more q f)
-alone_out macros.OwnOpens q h f = out _ q (acts.Word Roman) acts.Join acts.Nothing q.word refl refl refl (append-nil q.word) (no_more q f)
+alone_out macros.Prefix q h f = prefix_out q f
+alone_out macros.OwnOpens q h f = prefix_out q f
 alone_out macros.OwnCloses q h f = out _ q (acts.Joined Roman) acts.Nothing acts.Nothing q.word refl refl refl (append-nil q.word) (no_more q f)
 alone_out macros.FunctionOpens q h f = function_begins_out (with_place (record q.place { parameters = First }) (takes_no_more q)) q (assumption)
-alone_out macros.Include q h f =
-    out _ q (acts.Text (texts.Opening pairs.Angles)) (acts.Joined Italic) (acts.Close (texts.Closing (code ">"))) q.word refl refl refl (append-nil q.word) (no_more q f)
+alone_out macros.Include q h f = include_out q f
 alone_out m q h f = said_in Roman q q (same_page q f)
 
 alone_is : (m : Macro) (q : Page) → q.call.taker ≡ m → takes_plain m ≡ true → takes_plain q.call.taker ≡ true → Out (taken_alone_by q.call.taker q) q q.word
@@ -172,6 +211,7 @@ taken_by_out macros.Name q e h f = named_out q f
 taken_by_out macros.Parameter q e h f = parameter_out q f
 taken_by_out macros.Reference q e h f = reference_out q f
 taken_by_out macros.Author q e h f = never h
+taken_by_out macros.Link q e h f = link_out q f
 taken_by_out macros.Function q e h f = function_out q f
 taken_by_out (macros.Stands system) q e h f =
     out _ q (acts.Close texts.FixedSpace) (acts.Joined Roman) acts.Nothing q.word refl refl refl (append-nil q.word) (no_more q f)

@@ -7,7 +7,7 @@ use Rattle.nr_mdoc.specs.declared.page.Front.{Front}
 use Rattle.nr_mdoc.specs.declared.page.Front.TheVariants as fronts
 use Rattle.nr_mdoc.specs.declared.page.Scan.{Scan}
 use Rattle.nr_mdoc.specs.declared.page.Scan.TheVariants as scans
-use Rattle.nr_mdoc.specs.declared.strings.Pending.TheVariants.{Nothing}
+use Rattle.nr_mdoc.specs.declared.pending.Pending.TheVariants.{Nothing}
 use Rattle.nr_mdoc.specs.LayingOut.{lay_out}
 use Rattle.nr_mdoc.specs.Passing.{leads_behind, leads_with, leads_on, is_other}
 use Rattle.nr_mdoc.specs.Reading.{State, Told, told, behind, said, once, once_seen, heard_in, heard, read, fed, finished, first_state, converted}

@@ -83,6 +83,7 @@ is_due_from macros.Att some named = not some
 is_due_from macros.Bsd some named = not some
 is_due_from macros.Name some named = not some && named
 is_due_from macros.Function some named = some
+is_due_from macros.Link some named = some
 is_due_from m some named = is_opened_by m && not some
 
 abbrev pub is_due : Page → Bool
@@ -109,6 +110,11 @@ function_closes p =
     (if is_synopsis p then two (acts.Close texts.FunctionEnds) (acts.Request requests.HangEnds)
     else left (acts.Close (texts.Closing (code ")"))))
 
+-- a link stands behind its name, and behind a colon
+abbrev pub link_closes : Page → Seen
+link_closes p =
+    if p.call.listed then two (acts.Close texts.Colon) (acts.Text texts.Link) else two acts.Fresh (acts.Text texts.Link)
+
 abbrev pub due_from : Macro → Page → Met
 due_from macros.Flag p = met p (left (acts.Text texts.Dash))
 due_from macros.Argument p = met p (two (acts.Text texts.File) (acts.Text texts.Dots))
@@ -117,6 +123,7 @@ due_from macros.Att p = met p (left (acts.Text texts.Att))
 due_from macros.Bsd p = met p (left (acts.Text texts.Bsd))
 due_from macros.Name p = own_name p
 due_from macros.Function p = function_closes p
+due_from macros.Link p = met p (link_closes p)
 due_from (macros.Encloses pair) p = met p (two (acts.Text (texts.Opening pair)) acts.Join)
 due_from (macros.Opens pair) p = met p (two (acts.Text (texts.Opening pair)) acts.Join)
 due_from m p = met p (left acts.Nothing)
@@ -150,9 +157,9 @@ closes pair p =
 
 -- ---- macros are called
 
--- what begins a line that stays as it is joins nothing
+-- at the beginning of a line it has no effect
 abbrev pub joins : Page → Seen
-joins p = if p.call.first && p.lay.literal then left acts.Nothing else left acts.Join
+joins p = if p.call.first then left acts.Nothing else left acts.Join
 
 abbrev pub called : Macro → Page → Met
 called (macros.Encloses pair) p = encloses pair p

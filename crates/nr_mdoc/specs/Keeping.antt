@@ -1,5 +1,5 @@
 -- The bytes of a word are kept (mdoc(7), MACRO SYNTAX; groff(7), comments).
-use Rattle.std.specs.Prelude.{ℕ, ◌+◌, List, [], ◌∷◌, ◌++◌, length, Bool, true, false, not, ◌==◌, ◌&&◌, ◌||◌, nat_lt, if◌then◌else◌}
+use Rattle.std.specs.Prelude.{ℕ, ◌+◌, ◌-◌, List, [], ◌∷◌, ◌++◌, length, Bool, true, false, not, ◌==◌, ◌&&◌, ◌||◌, nat_lt, if◌then◌else◌, slice_index}
 use Prim.Native.Char.{code}
 use Rattle.nr_mdoc.specs.declared.acts.Act.TheVariants as acts
 use Rattle.nr_mdoc.specs.declared.macros.Macro.{Macro}
@@ -52,6 +52,9 @@ keep_escape b quoted p =
 abbrev pub is_title : ℕ → Bool
 is_title b = (b == code "B") || (b == code "N") || (b == code "O") || (b == code "R") || (b == code "T")
 
+abbrev pub ends_in_hyphen : List ℕ → Bool
+ends_in_hyphen bs = nat_lt 0 (length bs) && (slice_index bs (length bs - 1) == code "-")
+
 -- hyphens stay as they are in words that tables have, and in descriptions and titles
 abbrev pub looks_up : Macro → Bool
 looks_up macros.Standard = true
@@ -62,10 +65,19 @@ looks_up m = reads_for m
 abbrev pub is_looked_up : Page → Bool
 is_looked_up p = looks_up p.call.taker
 
+abbrev pub has_dashes : Macro → Bool
+has_dashes macros.Describes = true
+has_dashes (macros.Part letter) = true
+has_dashes m = false
+
+-- but for the second of a dash in them
+abbrev pub is_dash : Page → Bool
+is_dash p = has_dashes p.call.taker && ends_in_hyphen p.word
+
 -- another hyphen that doesn't begin its word is kept as an escape, since no line is broken after that
 abbrev pub keep_byte : ℕ → Bool → Page → Met
 keep_byte b quoted p =
-    if (b == code "-") && not (is_none p.word) && not (is_looked_up p) then keep_escape b quoted p else keep b quoted p
+    if (b == code "-") && not (is_none p.word) && (not (is_looked_up p) || is_dash p) then keep_escape b quoted p else keep b quoted p
 
 abbrev pub whole_for : Macro → Page → Bool
 whole_for macros.Parameter p = not (is_outside p.place.parameters)

@@ -8,6 +8,7 @@ use Rattle.nr_mdoc.specs.declared.acts.Text.TheVariants as texts
 use Rattle.nr_mdoc.specs.declared.macros.Font.TheVariants.{Roman}
 use Rattle.nr_mdoc.specs.declared.macros.Macro.{Macro}
 use Rattle.nr_mdoc.specs.declared.macros.Macro.TheVariants as macros
+use Rattle.nr_mdoc.specs.declared.page.Behind.TheVariants as behinds
 use Rattle.nr_mdoc.specs.declared.page.Call.{Call}
 use Rattle.nr_mdoc.specs.declared.page.Dots.TheVariants as dots
 use Rattle.nr_mdoc.specs.declared.page.Kind.TheVariants as kinds
@@ -39,7 +40,7 @@ call_of m = record {
   some = false;
   listed = false;
   many = false;
-  opens = false;
+  behind = behinds.Nothing;
   going = false;
   comment = false;
   wanted = wanteds.Option;
@@ -226,9 +227,13 @@ returns p =
     if is_none p.held then left (acts.Text texts.Returns) else
     three (acts.LastHeld p.call.many) (acts.Close texts.Parentheses) (acts.Text texts.AllReturn)
 
+abbrev pub turned : Page → Page
+turned p = if not p.call.some then record p { lay = record p.lay { spaced = not p.lay.spaced } } else p
+
+-- without a word the spacing turns; a joint stays where words join
 abbrev pub spacing : Page → Met
 spacing p =
-    none (record p { lay = record p.lay { spaced = if not p.call.some then not p.lay.spaced else p.lay.spaced; joined = false } })
+    let q = turned p in none (record q { lay = record q.lay { joined = q.lay.joined && not q.lay.spaced } })
 
 unfoldable pub end_of : Macro → Page → Met
 end_of macros.Section p = met p (left acts.Quiet)

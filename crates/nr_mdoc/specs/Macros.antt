@@ -58,6 +58,7 @@ is_callable_too macros.Function = true
 is_callable_too macros.FunctionOpens = true
 is_callable_too macros.FunctionCloses = true
 is_callable_too macros.Include = true
+is_callable_too macros.Link = true
 is_callable_too macros.Cell = true
 is_callable_too macros.ResultType = true
 is_callable_too macros.Variable = true

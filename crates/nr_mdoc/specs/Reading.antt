@@ -19,9 +19,9 @@ use Rattle.nr_mdoc.specs.declared.page.Section.TheVariants as sections
 use Rattle.nr_mdoc.specs.declared.page.Split.TheVariants as splits
 use Rattle.nr_mdoc.specs.declared.reader.Reader.{Reader}
 use Rattle.nr_mdoc.specs.declared.seen.Seen.{Seen}
-use Rattle.nr_mdoc.specs.declared.strings.Pending.{Pending}
-use Rattle.nr_mdoc.specs.declared.strings.Pending.TheVariants as pendings
-use Rattle.nr_mdoc.specs.declared.strings.Pending.TheVariants.{Nothing}
+use Rattle.nr_mdoc.specs.declared.pending.Pending.{Pending}
+use Rattle.nr_mdoc.specs.declared.pending.Pending.TheVariants as pendings
+use Rattle.nr_mdoc.specs.declared.pending.Pending.TheVariants.{Nothing}
 use Rattle.nr_mdoc.specs.Blocks.{no_block}
 use Rattle.nr_mdoc.specs.Laying.{Laid, then_laid}
 use Rattle.nr_mdoc.specs.LayingOut.{lay_out}

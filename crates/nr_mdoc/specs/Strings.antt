@@ -6,8 +6,8 @@ use Rattle.nr_mdoc.specs.declared.page.Scan.TheVariants as scans
 use Rattle.nr_mdoc.specs.declared.strings.TheConstants.{STRINGS}
 use Rattle.nr_mdoc.specs.declared.strings.Next.{Next}
 use Rattle.nr_mdoc.specs.declared.strings.Next.TheVariants.{Waits, Says, Breaks}
-use Rattle.nr_mdoc.specs.declared.strings.Pending.{Pending}
-use Rattle.nr_mdoc.specs.declared.strings.Pending.TheVariants as pendings
+use Rattle.nr_mdoc.specs.declared.pending.Pending.{Pending}
+use Rattle.nr_mdoc.specs.declared.pending.Pending.TheVariants as pendings
 use Rattle.nr_mdoc.specs.Macros.{looked_up}
 
 -- what a string stands for

@@ -10,6 +10,8 @@ use Rattle.nr_mdoc.specs.declared.macros.Font.TheVariants.{Roman, Bold, Italic}
 use Rattle.nr_mdoc.specs.declared.macros.Macro.{Macro}
 use Rattle.nr_mdoc.specs.declared.macros.Macro.TheVariants as macros
 use Rattle.nr_mdoc.specs.declared.macros.Pair.TheVariants as pairs
+use Rattle.nr_mdoc.specs.declared.page.Behind.{Behind}
+use Rattle.nr_mdoc.specs.declared.page.Behind.TheVariants as behinds
 use Rattle.nr_mdoc.specs.declared.page.Page.{Page}
 use Rattle.nr_mdoc.specs.declared.page.Parameters.{Parameters}
 use Rattle.nr_mdoc.specs.declared.page.Parameters.TheVariants.{Outside, First, Further}
@@ -108,13 +110,19 @@ abbrev pub release : Page → Met
 release p =
     met (with_call (record p.call { taker = macros.BsdRelease }) p) (two (acts.Word Roman) (acts.Close texts.Bsd))
 
+-- what stands behind a word that is only the front of a longer one comes later
+abbrev pub behind_later : Behind → Page → Page
+behind_later behind p = with_call (record p.call { behind = behind }) p
+
 abbrev pub prefix : Page → Met
-prefix p = met (takes_no_more p) (two (acts.Word Roman) acts.Join)
+prefix p =
+    if p.lay.front then met (behind_later behinds.Joint (takes_no_more p)) (left (acts.Word Roman)) else
+    met (takes_no_more p) (two (acts.Word Roman) acts.Join)
 
 -- a parenthesis stands after a function's name, all of it
 abbrev pub function_begins : Page → Met
 function_begins p =
-    if p.lay.front then met (with_call (record p.call { opens = true }) p) (left (acts.Word Bold)) else
+    if p.lay.front then met (behind_later behinds.Parenthesis p) (left (acts.Word Bold)) else
     met p (three (acts.Word Bold) (acts.Close (texts.Opening pairs.Parentheses)) acts.Join)
 
 abbrev pub function : Page → Met
@@ -128,8 +136,24 @@ function_opens p = function_begins (with_place (record p.place { parameters = Fi
 
 abbrev pub include : Page → Met
 include p =
+    if p.lay.front then
+    met (behind_later behinds.Angle (takes_no_more p)) (two (acts.Text (texts.Opening pairs.Angles)) (acts.Joined Italic)) else
     met (takes_no_more p)
     (three (acts.Text (texts.Opening pairs.Angles)) (acts.Joined Italic) (acts.Close (texts.Closing (code ">"))))
+
+-- A link stands behind its name: a string keeps it meanwhile, where its line may be broken off.
+abbrev pub keeps_link : Page → Bool
+keeps_link p = p.call.first && not (p.lay.tag || p.lay.joined || p.place.reference)
+
+abbrev pub link_name : Page → Met
+link_name p =
+    if p.call.listed then met p (left (acts.Word Italic)) else met (listing p) (two acts.Fresh (acts.Word Italic))
+
+abbrev pub link : Page → Met
+link p =
+    if p.call.some then link_name p else
+    if keeps_link p then met p (two (acts.Request requests.Link) (acts.Word Bold)) else
+    met (with_call (record p.call { taker = macros.Words Italic }) p) (left (acts.Word Bold))
 
 abbrev pub taken_alone_by : Macro → Page → Met
 taken_alone_by macros.Att p = alone acts.Att p
@@ -160,6 +184,7 @@ taken_by macros.Name p = named p
 taken_by macros.Parameter p = parameter p
 taken_by macros.Reference p = reference p
 taken_by macros.Author p = author p
+taken_by macros.Link p = link p
 taken_by macros.Function p = function p
 taken_by (macros.Stands system) p = version p
 taken_by m p = taken_alone p

@@ -7,9 +7,12 @@ use Rattle.nr_mdoc.specs.declared.macros.Font.TheVariants.{Roman}
 use Rattle.nr_mdoc.specs.declared.macros.Macro.{Macro}
 use Rattle.nr_mdoc.specs.declared.macros.Macro.TheVariants as macros
 use Rattle.nr_mdoc.specs.declared.macros.Pair.TheVariants as pairs
+use Rattle.nr_mdoc.specs.declared.page.Behind.{Behind}
+use Rattle.nr_mdoc.specs.declared.page.Behind.TheVariants as behinds
 use Rattle.nr_mdoc.specs.declared.page.Page.{Page}
 use Rattle.nr_mdoc.specs.declared.page.Scan.{Scan}
 use Rattle.nr_mdoc.specs.declared.page.Scan.TheVariants as scans
+use Rattle.nr_mdoc.specs.declared.seen.Seen.{Seen}
 use Rattle.nr_mdoc.specs.Calls.{called_by, with_call, with_scan, seen_with, is_none, is_enclosure_due, is_due, leaves, call}
 use Rattle.nr_mdoc.specs.Options.{option, reads_options}
 use Rattle.nr_mdoc.specs.Seeing.{Met, met, left, two, three}
@@ -86,11 +89,16 @@ marked_or (Some b) quoted p = mark b p
 unfoldable pub parsed : Bool → Page → Met
 parsed quoted p = marked_or (closing_mark quoted p.word) quoted p
 
+-- its last part, and what stands behind all of it
+abbrev pub behind_long : Behind → Seen
+behind_long behinds.Nothing = left acts.LastMore
+behind_long behinds.Parenthesis = three acts.LastMore (acts.Close (texts.Opening pairs.Parentheses)) acts.Join
+behind_long behinds.Angle = two acts.LastMore (acts.Close (texts.Closing (code ">")))
+behind_long behinds.Joint = two acts.LastMore acts.Join
+
 abbrev pub ends_long : Page → Met
 ends_long p =
-    let q = record p { scan = scans.Between; call = record p.call { going = false; opens = false } } in
-    if not p.call.opens then met (record p { scan = scans.Between; call = record p.call { going = false } }) (left acts.LastMore) else
-    met q (three acts.LastMore (acts.Close (texts.Opening pairs.Parentheses)) acts.Join)
+    met (record p { scan = scans.Between; call = record p.call { going = false; behind = behinds.Nothing } }) (behind_long p.call.behind)
 
 abbrev pub given : Bool → Page → Met
 given quoted p =

@@ -30,6 +30,10 @@ pub(crate) enum Text {
     Description,
     /// A comma.
     Comma,
+    /// A colon.
+    Colon,
+    /// The link that is kept.
+    Link,
     /// A full stop.
     Period,
     /// The end of a function of a synopsis.
@@ -83,6 +87,8 @@ pub(crate) enum Request {
     Hangs,
     /// It ends.
     HangEnds,
+    /// A string begins, which keeps a link.
+    Link,
     /// A font.
     Font(Font),
 }

@@ -47,7 +47,7 @@ impl Page {
                 .call
                 .some,
             Macro::Name => !self.call.some && !self.name.is_empty(),
-            Macro::Function => self.call.some,
+            Macro::Function | Macro::Link => self.call.some,
             _ => self.is_enclosure_due(),
         }
     }
@@ -103,6 +103,7 @@ impl Page {
             Macro::Bsd => Seen::left(Act::Text(Text::Bsd)),
             Macro::Name => self.own_name(),
             Macro::Function => self.function_closes(),
+            Macro::Link => self.link_closes(),
             Macro::Encloses(pair) | Macro::Opens(pair) => Seen::two(
                 Act::Text(Text::Opening(pair)),
                 Act::Join,
@@ -133,6 +134,16 @@ impl Page {
             );
         }
         Seen::left(Act::Close(Text::Closing(b')')))
+    }
+
+    /// A link comes behind its name.
+    fn link_closes(&self) -> Seen
+        ensures { result ≡ specs.link_closes self.now }
+    {
+        if self.call.listed {
+            return Seen::two(Act::Close(Text::Colon), Act::Text(Text::Link));
+        }
+        Seen::two(Act::Fresh, Act::Text(Text::Link))
     }
 
     /// A macro is called: what is due from the one before comes first.
@@ -180,11 +191,11 @@ impl Page {
         }
     }
 
-    /// What comes next joins what is before, but where it begins a line that stays as it is.
+    /// What comes next joins what is before, but where it begins a line.
     fn joins(&self) -> Seen
         ensures { result ≡ specs.joins self.now }
     {
-        if self.call.first && self.lay.literal {
+        if self.call.first {
             return Seen::left(Act::Nothing);
         }
         Seen::left(Act::Join)

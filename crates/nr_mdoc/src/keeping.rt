@@ -70,11 +70,19 @@ impl Page {
         }
     }
 
+    /// Whether a hyphen that comes is the second of a dash in a title.
+    fn is_dash(&self) -> bool
+        ensures { result ≡ specs.is_dash self.now }
+    {
+        matches!(self.call.taker, Macro::Describes | Macro::Part(_))
+            && ends_in_hyphen(self.word.as_bytes())
+    }
+
     /// A byte of a word is kept: a hyphen that doesn't begin it as an escape, since no line is broken after that.
     fn keep_byte(&mut self, byte: u8, quoted: bool) -> Seen
         ensures { met self.new result ≡ specs.keep_byte byte quoted self.old }
     {
-        if byte == b'-' && !self.word.is_empty() && !self.is_looked_up() {
+        if byte == b'-' && !self.word.is_empty() && (!self.is_looked_up() || self.is_dash()) {
             return self.keep_escape(byte, quoted);
         }
         self.keep(byte, quoted)
@@ -188,6 +196,14 @@ fn is_title(letter: u8) -> bool
     ensures { result ≡ specs.is_title letter }
 {
     matches!(letter, b'B' | b'N' | b'O' | b'R' | b'T')
+}
+
+/// Whether the last byte is a hyphen.
+fn ends_in_hyphen(word: &[u8]) -> bool
+    ensures { result ≡ specs.ends_in_hyphen word.now }
+{
+    let len = word.len();
+    len > 0 && word[len - 1] == b'-'
 }
 
 /// In a word between quotes, or not.

@@ -1,7 +1,7 @@
 //! Pages of mdoc(7) become pages of man(7).
 //!
 //! It stands on nr_units. To read: `macros`, `page`, `acts`, `seen`; `texts`, `names`, `libraries`, `lookup`, `lay`, `own_lines`, `references`, `lay_out`; `options`,
-//! `calls`, `taking`, `words`, `blocks`, `lines`, `keeping`, `scan`, which puts them together; `strings`, `reader`, `running`; `passing`,
+//! `calls`, `taking`, `words`, `blocks`, `lines`, `keeping`, `scan`, which puts them together; `pending`, `strings`, `reader`, `running`; `passing`,
 //! `word_laws`.
 #![tactic(auto)]
 
@@ -20,6 +20,7 @@ mod options;
 mod own_lines;
 mod page;
 mod passing;
+mod pending;
 mod reader;
 mod references;
 mod running;

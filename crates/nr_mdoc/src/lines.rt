@@ -5,7 +5,7 @@ ghost use Rattle.nr_mdoc.specs.Lines as specs;
 
 use super::acts::{Act, Request, Text};
 use super::macros::{Font, Macro, macro_of};
-use super::page::{Call, Dots, Kind, Last, Page, Scan, Section, Split, Wanted};
+use super::page::{Behind, Call, Dots, Kind, Last, Page, Scan, Section, Split, Wanted};
 use super::seen::Seen;
 use nr_units::Name;
 
@@ -30,7 +30,7 @@ pub(crate) fn call_of(line: Macro) -> Call
         some: false,
         listed: false,
         many: false,
-        opens: false,
+        behind: Behind::Nothing,
         going: false,
         comment: false,
         wanted: Wanted::Option,
@@ -422,14 +422,14 @@ impl Page {
         )
     }
 
-    /// Without a word the spacing turns.
+    /// Without a word the spacing turns. What stands open at the end of the line before goes on where words join.
     fn spacing(&mut self) -> Seen
         ensures { met self.new result ≡ specs.spacing self.old }
     {
         if !self.call.some {
             self.lay.spaced = !self.lay.spaced;
         }
-        self.lay.joined = false;
+        self.lay.joined = self.lay.joined && !self.lay.spaced;
         Seen::left(Act::Nothing)
     }
 }

@@ -412,6 +412,7 @@ impl Macro {
             | Macro::FunctionOpens
             | Macro::FunctionCloses
             | Macro::Include
+            | Macro::Link
             | Macro::Cell
             | Macro::ResultType
             | Macro::Variable

@@ -263,6 +263,19 @@ pub(crate) struct Lay {
     pub front: bool,
 }
 
+/// What stands behind a long word, all of it.
+#[derive(Clone, Copy)]
+pub(crate) enum Behind {
+    /// Nothing.
+    Nothing,
+    /// A parenthesis, which the next word joins.
+    Parenthesis,
+    /// What closes the name of a file that is included.
+    Angle,
+    /// A joint.
+    Joint,
+}
+
 /// What the words of a line are read for.
 #[derive(Clone, Copy)]
 pub(crate) struct Call {
@@ -278,8 +291,8 @@ pub(crate) struct Call {
     pub listed: bool,
     /// More than two names came.
     pub many: bool,
-    /// A parenthesis comes after the word.
-    pub opens: bool,
+    /// What stands behind the long word.
+    pub behind: Behind,
     /// The front of the word went out.
     pub going: bool,
     /// A comment ends the line.

@@ -7,8 +7,8 @@ use super::acts::Stack;
 use super::lines::call_of;
 use super::macros::{Font, Macro};
 use super::page::{At, Block, Front, Last, Lay, Page, Parameters, Place, Scan, Section, Split};
+use super::pending::Pending;
 use super::seen::Seen;
-use super::strings::Pending;
 use nr_units::Name;
 use nr_units::slice_vec::SliceVec;
 

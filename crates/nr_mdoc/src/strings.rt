@@ -6,30 +6,10 @@ ghost use Rattle.nr_mdoc.specs.Strings as strings;
 
 use super::macros::looked_up;
 use super::page::{Block, Scan};
+use super::pending::Pending;
 use super::reader::Reader;
 use super::texts::front_of;
 use nr_units::slice_vec::SliceVec;
-
-/// What was read of an escape that may name a string.
-#[derive(Clone, Copy)]
-pub(crate) enum Pending {
-    /// Nothing.
-    Nothing,
-    /// A backslash.
-    Backslash,
-    /// And `*`.
-    Star,
-    /// And `(`.
-    Open,
-    /// And a byte.
-    Pair(u8),
-    /// `[` after the star.
-    Bracket,
-    /// And a byte.
-    One(u8),
-    /// And two.
-    Two(u8, u8),
-}
 
 /// What a byte does to that.
 #[derive(Clone, Copy)]

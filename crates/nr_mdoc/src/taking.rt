@@ -6,7 +6,7 @@ ghost use Rattle.nr_mdoc.specs.Taking as specs;
 use super::acts::{Act, Request, Text};
 use super::calls::hanging;
 use super::macros::{Font, Macro, Pair, part_font};
-use super::page::{Last, Page, Parameters, Scan, Split};
+use super::page::{Behind, Last, Page, Parameters, Scan, Split};
 use super::seen::Seen;
 
 /// Whether a word is an opening mark.
@@ -70,6 +70,7 @@ impl Page {
             Macro::Parameter => self.parameter(),
             Macro::Reference => self.reference(),
             Macro::Author => self.author(),
+            Macro::Link => self.link(),
             Macro::Function => self.function(),
             Macro::Stands(_) => self.version(),
             _ => self.taken_alone(),
@@ -229,6 +230,10 @@ impl Page {
         ensures { met self.new result ≡ specs.prefix self.old }
     {
         self.takes_no_more();
+        if self.lay.front {
+            self.call.behind = Behind::Joint;
+            return Seen::left(Act::Word(Font::Roman));
+        }
         Seen::two(Act::Word(Font::Roman), Act::Join)
     }
 
@@ -251,7 +256,7 @@ impl Page {
         ensures { met self.new result ≡ specs.function_begins self.old }
     {
         if self.lay.front {
-            self.call.opens = true;
+            self.call.behind = Behind::Parenthesis;
             return Seen::left(Act::Word(Font::Bold));
         }
         Seen::three(
@@ -275,10 +280,50 @@ impl Page {
         ensures { met self.new result ≡ specs.include self.old }
     {
         self.takes_no_more();
+        if self.lay.front {
+            self.call.behind = Behind::Angle;
+            return Seen::two(
+                Act::Text(Text::Opening(Pair::Angles)),
+                Act::Joined(Font::Italic),
+            );
+        }
         Seen::three(
             Act::Text(Text::Opening(Pair::Angles)),
             Act::Joined(Font::Italic),
             Act::Close(Text::Closing(b'>')),
         )
+    }
+
+    /// A link, which a string keeps up to the end of its name. On a line that can't be broken off it goes out itself.
+    fn link(&mut self) -> Seen
+        ensures { met self.new result ≡ specs.link self.old }
+    {
+        if self.call.some {
+            return self.link_name();
+        }
+        if self.keeps_link() {
+            return Seen::two(Act::Request(Request::Link), Act::Word(Font::Bold));
+        }
+        self.call.taker = Macro::Words(Font::Italic);
+        Seen::left(Act::Word(Font::Bold))
+    }
+
+    /// Whether a string may be set here: the link begins a line that no tag, reference or joint goes on with.
+    fn keeps_link(&self) -> bool
+        ensures { result ≡ specs.keeps_link self.now }
+    {
+        let goes_on = self.lay.tag || self.lay.joined || self.place.reference;
+        self.call.first && !goes_on
+    }
+
+    /// A word of the link's name: the string is set before the first.
+    fn link_name(&mut self) -> Seen
+        ensures { met self.new result ≡ specs.link_name self.old }
+    {
+        if self.call.listed {
+            return Seen::left(Act::Word(Font::Italic));
+        }
+        self.call.listed = true;
+        Seen::two(Act::Fresh, Act::Word(Font::Italic))
     }
 }

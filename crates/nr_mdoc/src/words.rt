@@ -6,7 +6,7 @@ ghost use Rattle.nr_mdoc.specs.Words as specs;
 use super::acts::{Act, Text};
 use super::calls::called_by;
 use super::macros::{Font, Macro, Pair};
-use super::page::{Page, Scan};
+use super::page::{Behind, Page, Scan};
 use super::seen::Seen;
 use nr_units::Name;
 
@@ -39,6 +39,22 @@ fn begins_anew(called: Macro) -> bool
         called,
         Macro::Flag | Macro::Argument | Macro::Path | Macro::Name
     )
+}
+
+/// The last part of a long word, and what stands behind it.
+fn behind_long(behind: Behind) -> Seen
+    ensures { result ≡ specs.behind_long behind }
+{
+    match behind {
+        Behind::Nothing => Seen::left(Act::LastMore),
+        Behind::Parenthesis => Seen::three(
+            Act::LastMore,
+            Act::Close(Text::Opening(Pair::Parentheses)),
+            Act::Join,
+        ),
+        Behind::Angle => Seen::two(Act::LastMore, Act::Close(Text::Closing(b'>'))),
+        Behind::Joint => Seen::two(Act::LastMore, Act::Join),
+    }
 }
 
 impl Page {
@@ -139,15 +155,9 @@ impl Page {
     {
         self.call.going = false;
         self.scan = Scan::Between;
-        if !self.call.opens {
-            return Seen::left(Act::LastMore);
-        }
-        self.call.opens = false;
-        Seen::three(
-            Act::LastMore,
-            Act::Close(Text::Opening(Pair::Parentheses)),
-            Act::Join,
-        )
+        let behind = self.call.behind;
+        self.call.behind = Behind::Nothing;
+        behind_long(behind)
     }
 
     /// The front of a long word is read as a word, and more of it comes.
