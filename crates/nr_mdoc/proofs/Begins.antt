@@ -15,10 +15,10 @@ use Rattle.nr_mdoc.specs.declared.page.Last.TheVariants as lasts
 use Rattle.nr_mdoc.specs.declared.page.Page.{Page}
 use Rattle.nr_mdoc.specs.Blocks.{before_item, counted_item, counts, inner, is_diagnosis, is_list, item, item_head, item_head_of, line_opens, new_item, space, stands_close, taking}
 use Rattle.nr_mdoc.specs.Calls.{is_synopsis}
-use Rattle.nr_mdoc.specs.Lines.{after, begins, function_line, include_line, line_before, stands_behind, synopsis_line}
+use Rattle.nr_mdoc.specs.Lines.{after, begins, book, function_line, is_see_also, include_line, line_before, stands_behind, synopsis_line}
 use Rattle.nr_mdoc.specs.Options.{none}
 use Rattle.nr_mdoc.specs.WrittenLines.{heads_words}
-use Rattle.nr_mdoc.proofs.Outcomes.{is_quiet, of_word, never, takes_plain, Keeps, keeps_if, Out, out, out_if, same_page}
+use Rattle.nr_mdoc.proofs.Outcomes.{is_quiet, of_word, never, takes_plain, Keeps, keeps_if, Out, out, out_if, out_act_if, same_page}
 use Rattle.nr_mdoc.proofs.Taken.{called_out}
 
 quiet_by : (t : Bool) → is_quiet (if t then acts.Request requests.Break else acts.Space) ≡ true
@@ -160,6 +160,16 @@ unfolding is_quiet of_word
 indented_out q f =
     out (taking Roman q) q (acts.Sized sizes.Indent (inner q.block + 6)) acts.Nothing acts.Nothing [] refl refl refl refl (kept_taking q q Roman (same_page q f))
 
+book_out : (q : Page) → takes_plain q.call.taker ≡ true → Out (book q) q []
+unfolding is_quiet of_word
+book_out q f =
+    let p = record q { place = record q.place { reference = true; authors = 0 }; parts = [] } in
+    let keeps : Keeps q p =
+    record { scan = refl; word = refl; marks = refl; few = λ l. l; going = refl; comment = refl; line = refl; fits = f } in
+    out_act_if (is_see_also q.place.section) acts.Space acts.Nothing p q []
+    (out p q acts.Space acts.Nothing acts.Nothing [] refl refl refl refl keeps)
+    (out p q acts.Nothing acts.Nothing acts.Nothing [] refl refl refl refl keeps)
+
 pub begins_out : (m : Macro) (q : Page) → heads_words m ≡ true → takes_plain q.call.taker ≡ true → Out (begins m q) q []
 unfolding begins is_quiet of_word
 begins_out macros.Title q h f = never h
@@ -167,20 +177,20 @@ begins_out macros.System q h f = never h
 begins_out macros.Section q h f = never h
 begins_out macros.Subsection q h f =
     out _ q acts.Subsection acts.Nothing acts.Nothing [] refl refl refl refl (kept_taking (after lasts.Heading q) q Roman (kept_after lasts.Heading q f))
-begins_out macros.Paragraph q h f = never h
+begins_out macros.Paragraph q h f = out _ q acts.Space acts.Nothing acts.Nothing [] refl refl refl refl (kept_after lasts.Heading q f)
 begins_out macros.Describes q h f = never h
 begins_out macros.Silent q h f = never h
-begins_out macros.Breaks q h f = never h
+begins_out macros.Breaks q h f = out q q (acts.Request requests.Break) acts.Nothing acts.Nothing [] refl refl refl refl (same_page q f)
 begins_out macros.Spaces q h f = never h
 begins_out macros.Defines q h f = never h
-begins_out macros.Book q h f = never h
+begins_out macros.Book q h f = book_out q f
 begins_out macros.BookEnds q h f = never h
 begins_out (macros.Part letter) q h f = never h
 begins_out macros.Keeps q h f = never h
 begins_out macros.KeepEnds q h f = never h
 begins_out macros.Table q h f = never h
 begins_out macros.TableEnds q h f = never h
-begins_out macros.FontEnds q h f = never h
+begins_out macros.FontEnds q h f = out q q (acts.Request (requests.Font Roman)) acts.Nothing acts.Nothing [] refl refl refl refl (same_page q f)
 begins_out macros.Exits q h f = never h
 begins_out macros.Returns q h f = never h
 begins_out macros.List q h f = never h

@@ -18,6 +18,8 @@ use Rattle.nr_mdoc.specs.declared.page.Scan.{Scan}
 use Rattle.nr_mdoc.specs.declared.page.Scan.TheVariants as scans
 use Rattle.nr_mdoc.specs.Blocks.{is_tagged, item_ends_of, tag_ends, tag_ends_of, tag_width}
 use Rattle.nr_mdoc.specs.Calls.{is_due, is_none, leaves, with_scan}
+use Rattle.nr_mdoc.specs.Laying.{is_middle, with_lay}
+use Rattle.nr_mdoc.specs.LayingOut.{lay_out}
 use Rattle.nr_mdoc.specs.Lines.{closes_last, end_of, ended_seen, ends, ends_joined, last_act, line_ends}
 use Rattle.nr_mdoc.specs.Options.{none}
 use Rattle.nr_mdoc.specs.Reading.{State, said}
@@ -25,8 +27,9 @@ use Rattle.nr_mdoc.specs.Saying.{part_of}
 use Rattle.nr_mdoc.specs.Scanning.{meet, meet_at, meet_whole, meet_whole_at}
 use Rattle.nr_mdoc.specs.Seeing.{Met, met, left, three, two, and_taken}
 use Rattle.nr_mdoc.specs.WrittenLines.{heads_words}
+use Rattle.nr_mdoc.proofs.After.{Fresh}
 use Rattle.nr_mdoc.proofs.Meeting.{with_page, Leads, Takes, then_takes, takes_by}
-use Rattle.nr_mdoc.proofs.Outcomes.{is_quiet, of_word, never, takes_plain, Keeps, Out, out, out_seen_if}
+use Rattle.nr_mdoc.proofs.Outcomes.{is_quiet, of_word, never, Lays, quiet-page, takes_plain, Keeps, Out, out, out_seen_if}
 use Rattle.nr_mdoc.proofs.Stepping.{At, Stepped, leaves_step, marks_step, out_step, out_next, step_at}
 use Rattle.nr_mdoc.proofs.WholeWords.{is_none-nil}
 
@@ -59,6 +62,7 @@ pub record Ended (b : ℕ) (s : State) (k : ℕ) (xs : List ℕ) : Type 0 where
   pub steps : ℕ
   pub few : steps ≤ k
   pub takes : Takes b s next steps xs
+  pub fresh : Fresh next
 
 ended_behind : (b : ℕ) (s t : State) (j k : ℕ) (xs ys : List ℕ) → Leads b s t j xs → Ended b t k ys → Ended b s (j + k) (xs ++ ys)
 ended_behind b s t j k xs ys p e = record {
@@ -66,6 +70,7 @@ ended_behind b s t j k xs ys p e = record {
   steps = j + e.steps;
   few = (let few = e.few in omega arith);
   takes = then_takes b s t e.next j e.steps xs ys p e.takes;
+  fresh = e.fresh;
 }
 
 pub ended_within : (b : ℕ) (s : State) (j k : ℕ) (xs ys : List ℕ) → j ≤ k → xs ≡ ys → Ended b s j xs → Ended b s k ys
@@ -74,6 +79,7 @@ ended_within b s j k xs ys l e w = record {
   steps = w.steps;
   few = (let few = w.few in omega arith);
   takes = record { words = λ n. w.takes.words n ∙ e; state = w.takes.state };
+  fresh = w.fresh;
 }
 
 pub ended_after : (b : ℕ) (s t : State) (j k : ℕ) (xs ys : List ℕ) → Leads b s t j xs → Ended b t k ys → Ended b s (j + k) (xs ++ ys)
@@ -88,6 +94,34 @@ line_ends_is : (p : Page) → line_ends p ≡ line_over (end_of p.call.line p)
 unfolding line_ends line_over
 line_ends_is p = refl
 
+-- acts that leave all of the page but how text is laid out
+unfoldable pub is_laid : Act → Bool
+is_laid acts.Quiet = true
+is_laid acts.Ends = true
+is_laid (acts.TagEnds n) = true
+is_laid act = is_quiet act
+
+end_laid : (t : Bool) (l : _) (p : Page) → Lays p (if t then with_lay l p else p)
+end_laid true l p = (l, refl)
+end_laid false l p = (p.lay, refl)
+
+laid_page : (act : Act) (p : Page) → is_laid act ≡ true → Lays p (lay_out act p).page
+unfolding is_laid lay_out
+laid_page acts.Quiet p h = (_, refl)
+laid_page acts.Ends p h = end_laid (is_middle p.lay.at) _ p
+laid_page (acts.TagEnds n) p h = (_, refl)
+laid_page act p h = quiet-page act p h
+
+pub three_laid : (x y z : Act) (p : Page) → is_laid x ≡ true → is_laid y ≡ true → is_laid z ≡ true → Lays p (said (three x y z) p).page
+unfolding said
+three_laid x y z p i j k =
+    let q = (lay_out x p).page in
+    let r = (lay_out y q).page in
+    let a = laid_page x p i in
+    let b = laid_page y q j in
+    let c = laid_page z r k in
+    (c.0, c.1 ∙ ap (with_lay c.0) (b.1 ∙ ap (with_lay b.0) a.1))
+
 -- what a macro says where its line ends: nothing of words
 record Silent (m : Met) (p : Page) : Type 0 where
   x : Act
@@ -95,24 +129,29 @@ record Silent (m : Met) (p : Page) : Type 0 where
   met_is : m ≡ met p (three x y acts.Nothing)
   no_x : (q : Page) → (part_of x q).word ≡ []
   no_y : (q : Page) → (part_of y q).word ≡ []
+  laid_x : is_laid x ≡ true
+  laid_y : is_laid y ≡ true
 
 silent_none : (p : Page) → Silent (none p) p
-silent_none p = record { x = acts.Nothing; y = acts.Nothing; met_is = refl; no_x = λ q. refl; no_y = λ q. refl }
+unfolding is_laid is_quiet
+silent_none p = record { x = acts.Nothing; y = acts.Nothing; met_is = refl; no_x = λ q. refl; no_y = λ q. refl; laid_x = refl; laid_y = refl }
 
 silent_item : (kind : Kind) (p : Page) → Silent (met p (item_ends_of kind)) p
-silent_item kinds.Overhang p = record { x = acts.Request requests.Break; y = acts.Nothing; met_is = refl; no_x = λ q. refl; no_y = λ q. refl }
-silent_item kinds.Diagnosis p = record { x = acts.Close texts.FixedSpace; y = acts.Nothing; met_is = refl; no_x = λ q. refl; no_y = λ q. refl }
-silent_item kind p = record { x = acts.Nothing; y = acts.Nothing; met_is = refl; no_x = λ q. refl; no_y = λ q. refl }
+unfolding is_laid is_quiet
+silent_item kinds.Overhang p = record { x = acts.Request requests.Break; y = acts.Nothing; met_is = refl; no_x = λ q. refl; no_y = λ q. refl; laid_x = refl; laid_y = refl }
+silent_item kinds.Diagnosis p = record { x = acts.Close texts.FixedSpace; y = acts.Nothing; met_is = refl; no_x = λ q. refl; no_y = λ q. refl; laid_x = refl; laid_y = refl }
+silent_item kind p = record { x = acts.Nothing; y = acts.Nothing; met_is = refl; no_x = λ q. refl; no_y = λ q. refl; laid_x = refl; laid_y = refl }
 
 silent_outer : (t : Bool) (n : ℕ) (p : Page)
     → Silent (met p (if t then two (acts.Request requests.IndentEnds) (acts.Sized sizes.Inner n) else left (acts.Request requests.IndentEnds))) p
+unfolding is_laid is_quiet
 silent_outer true n p =
-    record { x = acts.Request requests.IndentEnds; y = acts.Sized sizes.Inner n; met_is = refl; no_x = λ q. refl; no_y = λ q. refl }
+    record { x = acts.Request requests.IndentEnds; y = acts.Sized sizes.Inner n; met_is = refl; no_x = λ q. refl; no_y = λ q. refl; laid_x = refl; laid_y = refl }
 silent_outer false n p =
-    record { x = acts.Request requests.IndentEnds; y = acts.Nothing; met_is = refl; no_x = λ q. refl; no_y = λ q. refl }
+    record { x = acts.Request requests.IndentEnds; y = acts.Nothing; met_is = refl; no_x = λ q. refl; no_y = λ q. refl; laid_x = refl; laid_y = refl }
 
 silent_end : (m : Macro) (p : Page) → heads_words m ≡ true → Silent (end_of m p) p
-unfolding end_of
+unfolding end_of is_laid is_quiet
 silent_end macros.Section p h = never h
 silent_end macros.System p h = never h
 silent_end macros.List p h = never h
@@ -123,7 +162,7 @@ silent_end (macros.Part letter) p h = never h
 silent_end macros.Exits p h = never h
 silent_end macros.Returns p h = never h
 silent_end macros.Spacing p h = never h
-silent_end macros.Subsection p h = record { x = acts.Quiet; y = acts.Nothing; met_is = refl; no_x = λ q. refl; no_y = λ q. refl }
+silent_end macros.Subsection p h = record { x = acts.Quiet; y = acts.Nothing; met_is = refl; no_x = λ q. refl; no_y = λ q. refl; laid_x = refl; laid_y = refl }
 silent_end macros.Item p h = silent_item p.block.kind p
 silent_end macros.Line p h = silent_outer (is_tagged p.block) (tag_width p.block) p
 silent_end macros.LiteralLine p h = silent_outer (is_tagged p.block) (tag_width p.block) p
@@ -148,9 +187,25 @@ last_word p q = last_word_by (p.lay.tag && (p.place.depth == 0)) p q
 no_words : (xs ys zs : List ℕ) → xs ≡ [] → ys ≡ [] → zs ++ [] ≡ [] → xs ++ (ys ++ (zs ++ [])) ≡ []
 no_words xs ys zs e f g = ap (λ (us : List ℕ). us ++ (ys ++ (zs ++ []))) e ∙ ap (λ (us : List ℕ). us ++ (zs ++ [])) f ∙ g
 
+tag_laid : (kind : Kind) (k : Block) → is_laid (tag_ends_of kind k) ≡ true
+unfolding is_laid is_quiet
+tag_laid kinds.Tag k = refl
+tag_laid kind k = refl
+
+last_laid_by : (t : Bool) (p : Page) → is_laid (if t then tag_ends p else acts.Ends) ≡ true
+unfolding is_laid
+last_laid_by true p = tag_laid p.block.kind p.block
+last_laid_by false p = refl
+
+over_fresh : (x y : Act) (s : State) (p : Page) → is_laid x ≡ true → is_laid y ≡ true → p.marks ≡ []
+    → Fresh (with_page (said (three x y (last_act p)) (with_scan scans.Start p)).page s)
+over_fresh x y s p i j none =
+    let l = three_laid x y (last_act p) (with_scan scans.Start p) i j (last_laid_by (p.lay.tag && (p.place.depth == 0)) p) in
+    record { scan_is = ap (λ (r : Page). r.scan) l.1; marks_are = ap (λ (r : Page). r.marks) l.1 ∙ none }
+
 over_ended : (head : Macro) (b : ℕ) (s : State) (word marks : List ℕ) → At head s scans.Ends word marks → heads_words head ≡ true
-    → meet b s.page ≡ line_ends s.page → Ended b s 1 []
-over_ended head b s word marks at h e =
+    → s.page.marks ≡ [] → meet b s.page ≡ line_ends s.page → Ended b s 1 []
+over_ended head b s word marks at h none e =
     let p = s.page in
     let q = with_scan scans.Start p in
     let end = silent_end head p h in
@@ -163,6 +218,7 @@ over_ended head b s word marks at h e =
           takes_by b s q (said seen q).page end.x end.y (last_act p) []
           (e ∙ line_ends_is p ∙ ap (λ (m : Macro). line_over (end_of m p)) at.line ∙ ap line_over end.met_is ∙ line_over_silent p end.x end.y)
           refl (no_words (part_of end.x q).word _ _ (end.no_x q) (end.no_y _) (last_word p _));
+      fresh = over_fresh end.x end.y s p end.laid_x end.laid_y none;
     }
 
 -- ---- marks
@@ -172,12 +228,12 @@ marked_ended : (t : Bool) (head : Macro) (b : ℕ) (s : State) (word marks : Lis
 unfolding ends_by marks_step
 marked_ended true head b s word marks at h due closers none =
     ended_within b s 1 2 [] marks (omega arith) (sym (is_none-nil s.page.marks none) ∙ at.marks_are)
-    (over_ended head b s word marks at h (met_by head b s word marks false true true at due closers none))
+    (over_ended head b s word marks at h (is_none-nil s.page.marks none) (met_by head b s word marks false true true at due closers none))
 marked_ended false head b s word marks at h due closers none =
     let first = marks_step head b s scans.Ends word marks at (met_by head b s word marks false true false at due closers none) in
     ended_within b s (1 + 1) 2 (marks ++ []) marks (omega arith) (append-nil marks)
     (ended_behind b s first.next 1 1 marks [] first.leads
-    (over_ended head b first.next word [] first.at h (met_by head b first.next word [] false true true first.at due closers refl)))
+    (over_ended head b first.next word [] first.at h first.at.marks_are (met_by head b first.next word [] false true true first.at due closers refl)))
 
 -- ---- enclosures that the line opened
 

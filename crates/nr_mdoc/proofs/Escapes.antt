@@ -79,7 +79,7 @@ in-pending (suc n) b s =
     let o = once b s in
     rest-pending o.takes o.state (heard_in n b o.state) s.pending (once-pending b s) (in-pending n b o.state ∙ once-pending b s)
 
-heard-pending : (b : ℕ) (s : State) → (heard b s).state.pending ≡ s.pending
+pub heard-pending : (b : ℕ) (s : State) → (heard b s).state.pending ≡ s.pending
 unfolding heard
 heard-pending b s = in-pending 16 b s
 

@@ -18,6 +18,7 @@ use Rattle.nr_mdoc.specs.Scanning.{between, meet, meet_at}
 use Rattle.nr_mdoc.specs.Seeing.{Met, met, left, taken}
 use Rattle.nr_mdoc.specs.WrittenLines.{Letter, Plain, Escape, is_letter, are_letters, bytes_of, is_escaped, is_plain, kept, kept_in, kept_letter, written}
 use Rattle.nr_mdoc.proofs.Escapes.{and_left, and_right, is_not, same_byte}
+use Rattle.nr_mdoc.proofs.After.{after, after-append, next-state}
 use Rattle.nr_mdoc.proofs.Meeting.{with_page, Leads, Takes, then_takes, leads_by, takes_by}
 use Rattle.nr_mdoc.proofs.TextSaid.{next-words, or_left, or_right}
 use Rattle.nr_mdoc.proofs.Given.{plain_looks}
@@ -179,6 +180,7 @@ kept_by false u head b s word marks at h l e none =
 pub record Read (m : Macro) (s : State) (bs : List ℕ) (scan : Scan) (word marks : List ℕ) : Type 0 where
   pub next : State
   pub said : (rest : List ℕ) → words_of (parts_of s (bs ++ rest)) ≡ words_of (parts_of next rest)
+  pub state : after s bs ≡ next
   pub at : At m next scan word marks
 
 pub word_at : (head : Macro) (s : State) (scan : Scan) (word word2 marks : List ℕ) → word ≡ word2 → At head s scan word marks → At head s scan word2 marks
@@ -331,6 +333,9 @@ read_escape b head s word marks at h l =
       said = λ rest.
           next-words (code "\\") (b ∷ rest) s slash.next 1 [] _ one_enough slash.takes refl
           ∙ next-words b rest slash.next one.next 1 [] _ one_enough one.takes refl;
+      state =
+          next-state (code "\\") (b ∷ []) s slash.next 1 [] one_enough slash.takes
+          ∙ next-state b [] slash.next one.next 1 [] one_enough one.takes;
       at = one.at;
     }
 
@@ -342,6 +347,7 @@ read_letter (Plain b) head s word marks at none h l =
     record {
       next = one.next;
       said = λ rest. next-words b rest s one.next 1 [] _ one_enough one.takes refl;
+      state = next-state b [] s one.next 1 [] one_enough one.takes;
       at = plain_at (b == code "-") b head one.next word marks refl one.at;
     }
 read_letter (Escape b) head s word marks at none h l = read_escape b head s word marks at h l
@@ -349,7 +355,7 @@ read_letter (Escape b) head s word marks at none h l = read_escape b head s word
 read_more : (ls : List Letter) (head : Macro) (s : State) (word marks : List ℕ) → At head s scans.Word word marks → is_none word ≡ false
     → are_letters ls ≡ true → length word + length (kept_in ls) ≤ 30 → Read head s (written ls) scans.Word (word ++ kept_in ls) marks
 read_more [] head s word marks at none h l =
-    record { next = s; said = λ rest. refl; at = word_at head s scans.Word word (word ++ []) marks (sym (append-nil word)) at }
+    record { next = s; said = λ rest. refl; state = refl; at = word_at head s scans.Word word (word ++ []) marks (sym (append-nil word)) at }
 read_more (c ∷ cs) head s word marks at none h l =
     let one = read_letter c head s word marks at none (and_left (is_letter c) (are_letters cs) h) (shorter word c cs l) in
     let later = read_more cs head one.next (word ++ kept_letter c) marks one.at (some_more word (kept_letter c) none)
@@ -359,6 +365,7 @@ read_more (c ∷ cs) head s word marks at none h l =
       said = λ rest.
           ap (λ (xs : List ℕ). words_of (parts_of s xs)) (append_assoc (bytes_of c) (written cs) rest)
           ∙ one.said (written cs ++ rest) ∙ later.said rest;
+      state = after-append s (bytes_of c) (written cs) ∙ ap (λ (t : State). after t (written cs)) one.state ∙ later.state;
       at = word_at head later.next scans.Word (word ++ kept_letter c ++ kept_in cs) (word ++ kept_in (c ∷ cs)) marks (append_assoc word (kept_letter c) (kept_in cs)) later.at;
     }
 
@@ -434,6 +441,9 @@ read_first (Plain b) head s word marks at h =
       said = λ rest.
           next-words b rest s one.next (1 + 1) [] _ two_enough
           (then_takes b s t one.next 1 1 [] [] (begun_leads head b s word marks at (not_ending b h) (no_quote b h)) one.takes) refl;
+      state =
+          next-state b [] s one.next (1 + 1) [] two_enough
+          (then_takes b s t one.next 1 1 [] [] (begun_leads head b s word marks at (not_ending b h) (no_quote b h)) one.takes);
       at = first_at (b == code "-") b head one.next marks one.at;
     }
 read_first (Escape b) head s word marks at h =
@@ -447,6 +457,10 @@ read_first (Escape b) head s word marks at h =
           next-words slash (b ∷ rest) s two.next (1 + 1) [] _ two_enough
           (then_takes slash s t two.next 1 1 [] [] (begun_leads head slash s word marks at refl refl) two.takes) refl
           ∙ next-words b rest two.next one.next 1 [] _ one_enough one.takes refl;
+      state =
+          next-state slash (b ∷ []) s two.next (1 + 1) [] two_enough
+          (then_takes slash s t two.next 1 1 [] [] (begun_leads head slash s word marks at refl refl) two.takes)
+          ∙ next-state b [] two.next one.next 1 [] one_enough one.takes;
       at = one.at;
     }
 
@@ -470,5 +484,6 @@ read_word l ls head s word marks at h few =
       said = λ rest.
           ap (λ (xs : List ℕ). words_of (parts_of s xs)) (append_assoc (bytes_of l) (written ls) rest)
           ∙ one.said (written ls ++ rest) ∙ later.said rest;
+      state = after-append s (bytes_of l) (written ls) ∙ ap (λ (t : State). after t (written ls)) one.state ∙ later.state;
       at = later.at;
     }

@@ -1,3 +1,4 @@
+mod After
 mod Begins
 mod Closing
 mod Endings
@@ -5,9 +6,11 @@ mod Escapes
 mod Given
 mod Hearing
 mod KeptWords
+mod LinesSaid
 mod MacroLines
 mod MarksHeld
 mod Meeting
+mod OtherLines
 mod Outcomes
 mod Reading
 mod Saying

@@ -21,6 +21,7 @@ use Rattle.nr_mdoc.specs.Scanning.{meet, meet_at, name_begins}
 use Rattle.nr_mdoc.specs.Seeing.{Met, met, left, taken}
 use Rattle.nr_mdoc.specs.WordLaws.{reads_at, WordsAreSaid}
 use Rattle.nr_mdoc.specs.WrittenLines.{begins_star, each, names_no_string, Letter, Plain, Escape, are_letters, bytes_of, is_escaped, is_letter, is_plain, written, heads_words, kept, prints_words, none_or, is_word, are_words, behind_blanks, macro_line, unless_called, printed}
+use Rattle.nr_mdoc.proofs.After.{after, after-append, next-state, Fresh}
 use Rattle.nr_mdoc.proofs.Begins.{begins_out}
 use Rattle.nr_mdoc.proofs.Endings.{Ended, line_ended}
 use Rattle.nr_mdoc.proofs.Escapes.{and_left, and_right, both, is_not, line-text}
@@ -78,6 +79,7 @@ over head s word marks at h =
       steps = 1 + e.steps;
       few = (let few = e.few in omega arith);
       takes = then_takes (code "\n") s (at_end s) e.next 1 e.steps [] marks (newline_leads head s word marks at) e.takes;
+      fresh = e.fresh;
     }
 
 -- ---- a word ends
@@ -122,6 +124,7 @@ record Said (m : Macro) (s : State) (all : List ℕ) : Type 0 where
   word : List ℕ
   marks : List ℕ
   said : (rest : List ℕ) → words_of (parts_of s (code " " ∷ rest)) ≡ xs ++ words_of (parts_of next rest)
+  state : after s (codes " ") ≡ next
   at : At m next scans.Between word marks
   total : xs ++ marks ≡ all
 
@@ -144,6 +147,10 @@ blank_said head s word marks at f =
           (then_takes b s (given s) t 1 (w.steps + 1) [] (w.xs ++ []) (given_leads head b s word marks at refl)
           (then_takes b (given s) t t w.steps 1 w.xs [] w.step.leads (blank_taken head t w.word w.marks w.step.at))) refl
           ∙ ap (λ (zs : List ℕ). zs ++ words_of (parts_of t rest)) (append-nil w.xs);
+      state =
+          next-state b [] s t (1 + (w.steps + 1)) ([] ++ (w.xs ++ [])) (five w.steps w.few)
+          (then_takes b s (given s) t 1 (w.steps + 1) [] (w.xs ++ []) (given_leads head b s word marks at refl)
+          (then_takes b (given s) t t w.steps 1 w.xs [] w.step.leads (blank_taken head t w.word w.marks w.step.at)));
       at = w.step.at;
       total = w.total;
     }
@@ -163,6 +170,19 @@ newline_said head s word marks at h f =
     (then_takes b s (given s) e.next 1 (w.steps + e.steps) [] (w.xs ++ w.marks) (given_leads head b s word marks at refl)
     (then_takes b (given s) t e.next w.steps e.steps w.xs w.marks w.step.leads e.takes)) refl
     ∙ append-nil (w.xs ++ w.marks) ∙ w.total
+
+newline_fresh : (head : Macro) (s : State) (word marks : List ℕ) → At head s scans.Word word marks → heads_words head ≡ true
+    → none_or prints_words (called_by false word) ≡ true → Fresh (after s (codes "\n"))
+newline_fresh head s word marks at h f =
+    let b = code "\n" in
+    let w = given_whole head b (given s) word marks (given_at head s word marks at) f in
+    let t = w.step.next in
+    let e = over head t w.word w.marks w.step.at h in
+    subst Fresh
+    (sym (next-state b [] s e.next (1 + (w.steps + e.steps)) ([] ++ (w.xs ++ w.marks)) (sixteen w.steps e.steps w.few e.few)
+    (then_takes b s (given s) e.next 1 (w.steps + e.steps) [] (w.xs ++ w.marks) (given_leads head b s word marks at refl)
+    (then_takes b (given s) t e.next w.steps e.steps w.xs w.marks w.step.leads e.takes))))
+    e.fresh
 
 -- ---- the words of a line
 
@@ -218,6 +238,31 @@ in_line ((l ∷ ls) ∷ ws) head s word marks at h f all =
     (first_word l ls ws head one.next one.word one.marks one.at here
     (λ t at2. in_line ws head t (kept (l ∷ ls)) one.marks at2 h (word_prints l ls here) (and_right (is_word (l ∷ ls)) (are_words ws) all)))
     ∙ regrouped one.xs one.marks (marks ++ of_kept word) (of_kept (kept (l ∷ ls))) (printed ws) one.total
+
+-- ---- behind the words of a line another begins
+
+first_fresh : (l : Letter) (ls : List Letter) (ws : List (List Letter)) (head : Macro) (s : State) (word marks : List ℕ) → At head s scans.Between word marks
+    → is_word (l ∷ ls) ≡ true
+    → ((t : State) → At head t scans.Word (kept (l ∷ ls)) marks → Fresh (after t (behind_blanks ws ++ codes "\n")))
+    → Fresh (after s ((written (l ∷ ls) ++ behind_blanks ws) ++ codes "\n"))
+first_fresh l ls ws head s word marks at h rest =
+    let one = read_word l ls head s word marks at (word_letters l ls h) (word_short l ls h) in
+    let behind = behind_blanks ws ++ codes "\n" in
+    subst Fresh
+    (sym (ap (λ (xs : List ℕ). after s xs) (append_assoc (written (l ∷ ls)) (behind_blanks ws) (codes "\n"))
+    ∙ after-append s (written (l ∷ ls)) behind ∙ ap (λ (t : State). after t behind) one.state))
+    (rest one.next one.at)
+
+in_line_fresh : (ws : List (List Letter)) (head : Macro) (s : State) (word marks : List ℕ) → At head s scans.Word word marks → heads_words head ≡ true
+    → none_or prints_words (called_by false word) ≡ true → are_words ws ≡ true → Fresh (after s (behind_blanks ws ++ codes "\n"))
+in_line_fresh [] head s word marks at h f all = newline_fresh head s word marks at h f
+in_line_fresh ([] ∷ ws) head s word marks at h f all = absurd (let no : false ≡ true = and_left false (are_words ws) all in cc)
+in_line_fresh ((l ∷ ls) ∷ ws) head s word marks at h f all =
+    let here = and_left (is_word (l ∷ ls)) (are_words ws) all in
+    let one = blank_said head s word marks at f in
+    subst Fresh (sym (ap (λ (t : State). after t ((written (l ∷ ls) ++ behind_blanks ws) ++ codes "\n")) one.state))
+    (first_fresh l ls ws head one.next one.word one.marks one.at here
+    (λ t at2. in_line_fresh ws head t (kept (l ∷ ls)) one.marks at2 h (word_prints l ls here) (and_right (is_word (l ∷ ls)) (are_words ws) all)))
 
 -- ---- the name of a line
 
@@ -297,6 +342,16 @@ name_more (b ∷ bs) name s rest h l =
     (let longer : length (name ++ b ∷ []) ≡ length name + length (b ∷ []) = length-append name (b ∷ []) in omega arith)
     ∙ ap (λ (xs : List ℕ). words_of (parts_of (reads_name xs s) rest)) (append_assoc name (b ∷ []) bs)
 
+name_more_state : (bs name : List ℕ) (s : State) (rest : List ℕ) → each is_plain bs ≡ true → length name + length bs ≤ 32
+    → after (reads_name name s) (bs ++ rest) ≡ after (reads_name (name ++ bs) s) rest
+name_more_state [] name s rest h l = ap (λ (xs : List ℕ). after (reads_name xs s) rest) (sym (append-nil name))
+name_more_state (b ∷ bs) name s rest h l =
+    next-state b (bs ++ rest) (reads_name name s) (reads_name (name ++ b ∷ []) s) 1 [] one_enough
+    (name_taken b name s (and_left (is_plain b) (each is_plain bs) h) (omega arith))
+    ∙ name_more_state bs (name ++ b ∷ []) s rest (and_right (is_plain b) (each is_plain bs) h)
+    (let longer : length (name ++ b ∷ []) ≡ length name + length (b ∷ []) = length-append name (b ∷ []) in omega arith)
+    ∙ ap (λ (xs : List ℕ). after (reads_name xs s) rest) (append_assoc name (b ∷ []) bs)
+
 -- ---- the macro begins the line
 
 -- the page that it begins on
@@ -343,6 +398,26 @@ behind_name ((l ∷ ls) ∷ ws) m name s marks f h all =
     ∙ first_word l ls ws m one.next name [] one.at here
     (λ t at. in_line ws m t (kept (l ∷ ls)) [] at h (word_prints l ls here) (and_right (is_word (l ∷ ls)) (are_words ws) all))
 
+behind_name_fresh : (ws : List (List Letter)) (m : Macro) (name : List ℕ) (s : State) → s.page.marks ≡ [] → macro_of name ≡ Some m → heads_words m ≡ true
+    → are_words ws ≡ true → Fresh (after (reads_name name s) (behind_blanks ws ++ codes "\n"))
+behind_name_fresh [] m name s marks f h all =
+    let b = code "\n" in
+    let one = macro_step b m name s marks refl f h in
+    let e = over m one.next name [] one.at h in
+    subst Fresh
+    (sym (next-state b [] (reads_name name s) e.next (1 + e.steps) ([] ++ []) (thirteen e.steps e.few)
+    (then_takes b (reads_name name s) one.next e.next 1 e.steps [] [] one.leads e.takes)))
+    e.fresh
+behind_name_fresh ([] ∷ ws) m name s marks f h all = absurd (let no : false ≡ true = and_left false (are_words ws) all in cc)
+behind_name_fresh ((l ∷ ls) ∷ ws) m name s marks f h all =
+    let here = and_left (is_word (l ∷ ls)) (are_words ws) all in
+    let one = macro_step (code " ") m name s marks refl f h in
+    subst Fresh
+    (sym (next-state (code " ") ((written (l ∷ ls) ++ behind_blanks ws) ++ codes "\n") (reads_name name s) one.next (1 + 1) ([] ++ []) two_enough
+    (then_takes (code " ") (reads_name name s) one.next one.next 1 1 [] [] one.leads (blank_taken m one.next name [] one.at))))
+    (first_fresh l ls ws m one.next name [] one.at here
+    (λ t at. in_line_fresh ws m t (kept (l ∷ ls)) [] at h (word_prints l ls here) (and_right (is_word (l ∷ ls)) (are_words ws) all)))
+
 -- ---- the whole line
 
 short_name : (name : List ℕ) (m : Macro) → macro_of name ≡ Some m → length name ≤ 3
@@ -365,12 +440,26 @@ line_words (b ∷ bs) ws m s marks f h plain all =
     ∙ name_more bs (b ∷ []) s rest (and_right (is_plain b) (each is_plain bs) plain) (omega arith)
     ∙ behind_name ws m (b ∷ bs) s marks f h all
 
+pub line_fresh : (name : List ℕ) (ws : List (List Letter)) (m : Macro) (s : State) → s.page.marks ≡ [] → macro_of name ≡ Some m → heads_words m ≡ true
+    → each is_plain name ≡ true → are_words ws ≡ true → Fresh (after (reads_at scans.Start s) (macro_line name ws))
+line_fresh [] ws m s marks f h plain all = absurd (let no : None ≡ Some m = f in cc)
+line_fresh (b ∷ bs) ws m s marks f h plain all =
+    let rest = behind_blanks ws ++ codes "\n" in
+    let short = short_name (b ∷ bs) m f in
+    subst Fresh
+    (sym (next-state (code ".") ((b ∷ bs ++ behind_blanks ws) ++ codes "\n") (reads_at scans.Start s) (reads_at scans.Control s) 1 [] one_enough (control_taken s)
+    ∙ ap (λ (xs : List ℕ). after (reads_at scans.Control s) xs) (append_assoc (b ∷ bs) (behind_blanks ws) (codes "\n"))
+    ∙ next-state b (bs ++ rest) (reads_at scans.Control s) (reads_name (b ∷ []) s) 1 [] one_enough
+    (name_begun b s (and_left (is_plain b) (each is_plain bs) plain))
+    ∙ name_more_state bs (b ∷ []) s rest (and_right (is_plain b) (each is_plain bs) plain) (omega arith)))
+    (behind_name_fresh ws m (b ∷ bs) s marks f h all)
+
 -- ---- no string is named in it
 
 not_and : (a b : Bool) → a ≡ false → not (a && b) ≡ true
 not_and a b e = ap (λ (t : Bool). not (t && b)) e
 
-plain_names : (bs rest : List ℕ) → each is_plain bs ≡ true → names_no_string rest ≡ true → names_no_string (bs ++ rest) ≡ true
+pub plain_names : (bs rest : List ℕ) → each is_plain bs ≡ true → names_no_string rest ≡ true → names_no_string (bs ++ rest) ≡ true
 plain_names [] rest h e = e
 plain_names (b ∷ bs) rest h e =
     both (not ((b == code "\\") && begins_star (bs ++ rest))) (names_no_string (bs ++ rest))
@@ -400,7 +489,7 @@ letters_names (l ∷ ls) rest h e =
     subst (λ (xs : List ℕ). names_no_string xs ≡ true) (sym (append_assoc (bytes_of l) (written ls) rest))
     (letter_names l (written ls ++ rest) (and_left (is_letter l) (are_letters ls) h) (letters_names ls rest (and_right (is_letter l) (are_letters ls) h) e))
 
-words_names : (ws : List (List Letter)) → are_words ws ≡ true → names_no_string (behind_blanks ws) ≡ true
+pub words_names : (ws : List (List Letter)) → are_words ws ≡ true → names_no_string (behind_blanks ws) ≡ true
 words_names [] all = refl
 words_names ([] ∷ ws) all = absurd (let no : false ≡ true = and_left false (are_words ws) all in cc)
 words_names ((l ∷ ls) ∷ ws) all =

@@ -1,5 +1,5 @@
 -- Macros that are called say nothing of a word, and those that take one say it once.
-use Rattle.std.proofs.Common.{◌≡◌, ℕ, ◌≤◌, ◌+◌, ◌-◌, List, [], ◌∷◌, ◌++◌, length, Bool, true, false, not, nat_lt, if◌then◌else◌, refl, sym, ◌∙◌, ap, subst, append-nil, length-append, arith, ◌&&◌}
+use Rattle.std.proofs.Common.{◌≡◌, ℕ, ◌≤◌, ◌+◌, ◌-◌, List, [], ◌∷◌, ◌++◌, length, Bool, true, false, not, nat_lt, if◌then◌else◌, refl, sym, ◌∙◌, ap, subst, append-nil, length-append, arith}
 use Rattle.std.proofs.lemmas.Bool.Decides.{nat_tests}
 use Prim.Native.Char.{code}
 use Rattle.nr_mdoc.specs.declared.acts.Act.{Act}

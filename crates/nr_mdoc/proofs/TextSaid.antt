@@ -1,5 +1,5 @@
 -- A text line says its bytes.
-use Rattle.std.proofs.Common.{◌≡◌, ℕ, ◌+◌, ◌==◌, ◌≤◌, List, [], ◌∷◌, ◌++◌, Bool, true, false, not, ◌||◌, if◌then◌else◌, refl, ◌∙◌, ap, arith}
+use Rattle.std.proofs.Common.{◌≡◌, ℕ, ◌+◌, ◌==◌, ◌≤◌, List, [], ◌∷◌, ◌++◌, Bool, true, false, not, ◌||◌, if◌then◌else◌, refl, sym, ◌∙◌, ap, subst, arith}
 use Rattle.std.specs.Prelude.{codes}
 use Prim.Native.Char.{code}
 use Rattle.nr_mdoc.specs.declared.acts.Act.{Act}
@@ -10,16 +10,18 @@ use Rattle.nr_mdoc.specs.declared.page.Page.{Page}
 use Rattle.nr_mdoc.specs.declared.page.Scan.TheVariants as scans
 use Rattle.nr_mdoc.specs.Calls.{with_scan}
 use Rattle.nr_mdoc.specs.Keeping.{ends_word}
-use Rattle.nr_mdoc.specs.Laying.{is_control}
+use Rattle.nr_mdoc.specs.Laying.{is_control, is_middle, with_lay}
 use Rattle.nr_mdoc.specs.LayingOut.{lay_out}
 use Rattle.nr_mdoc.specs.Reading.{State, said, heard}
 use Rattle.nr_mdoc.specs.Saying.{part_of, parts_at, parts_of, words_of}
 use Rattle.nr_mdoc.specs.Scanning.{before_next, behind_hyphen, behind_text, hyphen_in_text, is_letter, meet}
 use Rattle.nr_mdoc.specs.Seeing.{met, taken}
 use Rattle.nr_mdoc.specs.WordLaws.{reads_at, TextIsSaid}
-use Rattle.nr_mdoc.specs.WrittenLines.{each, is_text}
+use Rattle.nr_mdoc.specs.WrittenLines.{begins_text, each, is_text}
+use Rattle.nr_mdoc.proofs.After.{after, next-state, Fresh}
 use Rattle.nr_mdoc.proofs.Escapes.{and_left, and_right, is_not, line-text, same_byte}
 use Rattle.nr_mdoc.proofs.Meeting.{with_page, Leads, Takes, then_takes, leads_by, takes_by, takes-words, takes-state}
+use Rattle.nr_mdoc.proofs.Outcomes.{Lays}
 use Rattle.nr_mdoc.proofs.Saying.{words_of-append}
 
 -- ---- what many bytes say, from what the first says
@@ -111,11 +113,24 @@ hyphen_leads b s =
     leads_by b (reads_at scans.Hyphen s) p p (hyphen_or (is_letter b)) acts.Nothing acts.Nothing (codes "-")
     (behind_met b s.page) (hyphen_page (is_letter b) p) (hyphen_word (is_letter b) p)
 
+ended_lays : (t : Bool) (l : _) (p : Page) → Lays p (if t then with_lay l p else p)
+ended_lays true l p = (l, refl)
+ended_lays false l p = (p.lay, refl)
+
+-- the line ended
+ended_fresh : (s : State) → s.page.marks ≡ [] → Fresh (with_page (ended s.page) (reads_at scans.Start s))
+unfolding ended lay_out
+ended_fresh s none =
+    let l = ended_lays (is_middle s.page.lay.at) _ (with_scan scans.Start s.page) in
+    record { scan_is = ap (λ (r : Page). r.scan) l.1; marks_are = ap (λ (r : Page). r.marks) l.1 ∙ none }
+
 -- ---- all bytes of the line
 
 record Rest (bs : List ℕ) : Type 0 where
   text : (before : Before) (s : State) → words_of (parts_of (reads_at (scans.Text before) s) (bs ++ codes "\n")) ≡ bs
   hyphen : (s : State) → words_of (parts_of (reads_at scans.Hyphen s) (bs ++ codes "\n")) ≡ code "-" ∷ bs
+  text_fresh : (before : Before) (s : State) → s.page.marks ≡ [] → Fresh (after (reads_at (scans.Text before) s) (bs ++ codes "\n"))
+  hyphen_fresh : (s : State) → s.page.marks ≡ [] → Fresh (after (reads_at scans.Hyphen s) (bs ++ codes "\n"))
 
 -- a byte of the line is taken, and what comes after it is said as it comes
 record Taken (b : ℕ) (before : Before) (s : State) : Type 0 where
@@ -123,13 +138,14 @@ record Taken (b : ℕ) (before : Before) (s : State) : Type 0 where
   xs : List ℕ
   takes : Takes b (reads_at (scans.Text before) s) next 1 xs
   rest : (bs : List ℕ) → Rest bs → xs ++ words_of (parts_of next (bs ++ codes "\n")) ≡ b ∷ bs
+  fresh : (bs : List ℕ) → Rest bs → s.page.marks ≡ [] → Fresh (after next (bs ++ codes "\n"))
 
 taken_hyphen : (before : Before) (s : State) → Taken (code "-") before s
-taken_hyphen befores.Letter s = record { next = reads_at scans.Hyphen s; xs = []; takes = held_back s; rest = λ bs rest. rest.hyphen s }
+taken_hyphen befores.Letter s = record { next = reads_at scans.Hyphen s; xs = []; takes = held_back s; rest = λ bs rest. rest.hyphen s; fresh = λ bs rest none. rest.hyphen_fresh s none }
 taken_hyphen befores.Backslash s =
-    record { next = reads_at (scans.Text befores.Other) s; xs = codes "-"; takes = behind_backslash s; rest = λ bs rest. ap (λ (zs : List ℕ). code "-" ∷ zs) (rest.text befores.Other s) }
+    record { next = reads_at (scans.Text befores.Other) s; xs = codes "-"; takes = behind_backslash s; rest = λ bs rest. ap (λ (zs : List ℕ). code "-" ∷ zs) (rest.text befores.Other s); fresh = λ bs rest none. rest.text_fresh befores.Other s none }
 taken_hyphen befores.Other s =
-    record { next = reads_at (scans.Text befores.Other) s; xs = codes "-"; takes = behind_other s; rest = λ bs rest. ap (λ (zs : List ℕ). code "-" ∷ zs) (rest.text befores.Other s) }
+    record { next = reads_at (scans.Text befores.Other) s; xs = codes "-"; takes = behind_other s; rest = λ bs rest. ap (λ (zs : List ℕ). code "-" ∷ zs) (rest.text befores.Other s); fresh = λ bs rest none. rest.text_fresh befores.Other s none }
 
 taken_by : (t : Bool) (b : ℕ) (before : Before) (s : State) → (b == code "\n") ≡ false → (b == code "-") ≡ t → Taken b before s
 taken_by true b before s e f = rw (same_byte b (code "-") f) at (taken_hyphen before s)
@@ -139,6 +155,7 @@ taken_by false b before s e f =
       xs = b ∷ [];
       takes = byte_taken before b s e f;
       rest = λ bs rest. ap (λ (zs : List ℕ). b ∷ zs) (rest.text (before_next b) s);
+      fresh = λ bs rest none. rest.text_fresh (before_next b) s none;
     }
 
 one_of : (k : ℕ) → 1 ≤ 16
@@ -154,6 +171,14 @@ all_said [] h = record {
   hyphen = λ s.
       next-words (code "\n") [] (reads_at scans.Hyphen s) _ (1 + 1) (codes "-" ++ []) [] (two_of 0)
       (then_takes (code "\n") _ _ _ 1 1 (codes "-") [] (hyphen_leads (code "\n") s) (newline_taken befores.Other s)) refl;
+  text_fresh = λ before s none.
+      subst Fresh (sym (next-state (code "\n") [] (reads_at (scans.Text before) s) _ 1 [] (one_of 0) (newline_taken before s)))
+      (ended_fresh s none);
+  hyphen_fresh = λ s none.
+      subst Fresh
+      (sym (next-state (code "\n") [] (reads_at scans.Hyphen s) _ (1 + 1) (codes "-" ++ []) (two_of 0)
+      (then_takes (code "\n") _ _ _ 1 1 (codes "-") [] (hyphen_leads (code "\n") s) (newline_taken befores.Other s))))
+      (ended_fresh s none);
 }
 all_said (b ∷ bs) h =
     let later = all_said bs (and_right (is_text b) (each is_text bs) h) in
@@ -167,6 +192,16 @@ all_said (b ∷ bs) h =
           next-words b (bs ++ codes "\n") (reads_at scans.Hyphen s) one.next (1 + 1) (codes "-" ++ one.xs) _ (two_of 0)
           (then_takes b _ _ _ 1 1 (codes "-") one.xs (hyphen_leads b s) one.takes) refl
           ∙ ap (λ (zs : List ℕ). code "-" ∷ zs) (one.rest bs later);
+      text_fresh = λ before s none.
+          let one = taken_by (b == code "-") b before s other refl in
+          subst Fresh (sym (next-state b (bs ++ codes "\n") (reads_at (scans.Text before) s) one.next 1 one.xs (one_of 0) one.takes))
+          (one.fresh bs later none);
+      hyphen_fresh = λ s none.
+          let one = taken_by (b == code "-") b befores.Other s other refl in
+          subst Fresh
+          (sym (next-state b (bs ++ codes "\n") (reads_at scans.Hyphen s) one.next (1 + 1) (codes "-" ++ one.xs) (two_of 0)
+          (then_takes b _ _ _ 1 1 (codes "-") one.xs (hyphen_leads b s) one.takes)))
+          (one.fresh bs later none);
     }
 
 -- ---- the first byte
@@ -210,3 +245,18 @@ text_is_said s b bs first rest strings =
           (or_left (b == code " ") (b == code "\t") no_blank) (or_right (b == code " ") (b == code "\t") no_blank))
           (later.text (before_next b) (with_page (begun b (behind_text s.page)) s));
     }
+
+pub text_fresh : (b : ℕ) (bs : List ℕ) (s : State) → s.page.marks ≡ [] → begins_text b ≡ true → each is_text bs ≡ true
+    → Fresh (after (reads_at scans.Start s) (b ∷ bs ++ codes "\n"))
+unfolding begun lay_out
+text_fresh b bs s none first rest =
+    let not_control = is_not (is_control b) (and_left (not (is_control b)) (not (ends_word b)) first) in
+    let no_end = and_right (not (is_control b)) (not (ends_word b)) first in
+    let blank_or = (b == code " ") || (b == code "\t") in
+    let no_blank : not blank_or ≡ true = ap not (or_left blank_or (b == code "\n") no_end) in
+    let later = all_said bs rest in
+    subst Fresh
+    (sym (next-state b (bs ++ codes "\n") (reads_at scans.Start s) _ 1 (b ∷ []) (one_of 0)
+    (start_taken b s not_control (or_right blank_or (b == code "\n") no_end)
+    (or_left (b == code " ") (b == code "\t") no_blank) (or_right (b == code " ") (b == code "\t") no_blank))))
+    (later.text_fresh (before_next b) (with_page (begun b (behind_text s.page)) s) none)

@@ -79,11 +79,14 @@ prints_plain m h =
 
 pub heads_plain : (m : Macro) → heads_words m ≡ true → takes_plain m ≡ true
 unfolding takes_plain
-heads_plain macros.Link h = refl
 heads_plain macros.Item h = refl
 heads_plain macros.Subsection h = refl
 heads_plain macros.Line h = refl
 heads_plain macros.LiteralLine h = refl
+heads_plain macros.Paragraph h = refl
+heads_plain macros.Book h = refl
+heads_plain macros.FontEnds h = refl
+heads_plain macros.Breaks h = refl
 heads_plain m h = prints_plain m h
 
 none_left : (xs ys : List ℕ) → xs ++ ys ≡ [] → xs ≡ []

@@ -14,7 +14,7 @@ use Rattle.nr_mdoc.specs.Lines.{ends_joined}
 use Rattle.nr_mdoc.specs.Macros.{macro_of}
 use Rattle.nr_mdoc.specs.Reading.{State, behind, fed, heard_in}
 use Rattle.nr_mdoc.specs.Saying.{parts_of, text_of, words_of}
-use Rattle.nr_mdoc.specs.WrittenLines.{each, names_no_string, is_text, begins_text, Letter, is_plain, heads_words, are_words, macro_line, printed}
+use Rattle.nr_mdoc.specs.WrittenLines.{each, names_no_string, is_text, begins_text, Letter, is_plain, heads_words, are_words, macro_line, printed, Line, are_lines, written_lines, printed_lines}
 
 -- ---- words
 
@@ -39,6 +39,12 @@ WordsAreSaid =
     (s : State) (m : Macro) (name : List ℕ) (words : List (List Letter)) → s.page.marks ≡ [] →
     macro_of name ≡ Some m → heads_words m ≡ true → each is_plain name ≡ true → are_words words ≡ true →
     Says (reads_at scans.Start s) (macro_line name words) (printed words)
+
+-- in any state where no marks are held back, lines that follow one another say what each of them says, in order
+abbrev pub LinesAreSaid : Type 0
+LinesAreSaid =
+    (s : State) (lines : List Line) → s.page.marks ≡ [] → are_lines lines ≡ true →
+    Says (reads_at scans.Start s) (written_lines lines) (printed_lines lines)
 
 -- ---- enclosures of a line
 

@@ -6,7 +6,7 @@ use Rattle.nr_mdoc.specs.declared.macros.Macro.TheVariants as macros
 use Rattle.nr_mdoc.specs.Calls.{called_by}
 use Rattle.nr_mdoc.specs.Keeping.{ends_word}
 use Rattle.nr_mdoc.specs.Laying.{is_control}
-use Rattle.nr_mdoc.specs.Macros.{is_callable}
+use Rattle.nr_mdoc.specs.Macros.{is_callable, macro_of}
 
 -- ---- text lines
 
@@ -89,13 +89,17 @@ prints_otherwise m = false
 abbrev pub prints_words : Macro → Bool
 prints_words m = is_callable m && not (prints_otherwise m)
 
--- a macro whose line has such words: one of these, a link, an item, a subsection, or a line that is indented
+-- a macro whose line has such words: one of these, an item, a subsection, a paragraph, a line that is indented, the beginning
+-- of a reference, the end of a font, or `.br`
 abbrev pub heads_words : Macro → Bool
-heads_words macros.Link = true
 heads_words macros.Item = true
 heads_words macros.Subsection = true
 heads_words macros.Line = true
 heads_words macros.LiteralLine = true
+heads_words macros.Paragraph = true
+heads_words macros.Book = true
+heads_words macros.FontEnds = true
+heads_words macros.Breaks = true
 heads_words m = prints_words m
 
 -- ---- lines of macros
@@ -131,3 +135,48 @@ unless_called (Some m) word = []
 abbrev pub printed : List (List Letter) → List ℕ
 printed [] = []
 printed (w ∷ ws) = unless_called (called_by false (kept w)) (kept w) ++ printed ws
+
+-- ---- lines of a page
+
+-- an empty line, a comment, by its bytes, a text line, by its first byte and the others, or a line of a macro, by its name and
+-- its words
+pub data Line : Type 0 where
+  EmptyLine : Line
+  CommentLine : List ℕ → Line
+  TextLine : ℕ → List ℕ → Line
+  MacroLine : List ℕ → List (List Letter) → Line
+
+abbrev pub heads_some : Option Macro → Bool
+heads_some None = false
+heads_some (Some m) = heads_words m
+
+abbrev pub is_line : Line → Bool
+is_line EmptyLine = true
+is_line (CommentLine bs) = each is_text bs && names_no_string bs
+is_line (TextLine b bs) = begins_text b && each is_text bs && names_no_string (b ∷ bs)
+is_line (MacroLine name words) = heads_some (macro_of name) && each is_plain name && are_words words
+
+abbrev pub are_lines : List Line → Bool
+are_lines [] = true
+are_lines (l ∷ ls) = is_line l && are_lines ls
+
+abbrev pub written_line : Line → List ℕ
+written_line EmptyLine = codes "\n"
+written_line (CommentLine bs) = codes ".\\\"" ++ bs ++ codes "\n"
+written_line (TextLine b bs) = b ∷ bs ++ codes "\n"
+written_line (MacroLine name words) = macro_line name words
+
+abbrev pub written_lines : List Line → List ℕ
+written_lines [] = []
+written_lines (l ∷ ls) = written_line l ++ written_lines ls
+
+-- what they say
+abbrev pub printed_line : Line → List ℕ
+printed_line EmptyLine = []
+printed_line (CommentLine bs) = []
+printed_line (TextLine b bs) = b ∷ bs
+printed_line (MacroLine name words) = printed words
+
+abbrev pub printed_lines : List Line → List ℕ
+printed_lines [] = []
+printed_lines (l ∷ ls) = printed_line l ++ printed_lines ls

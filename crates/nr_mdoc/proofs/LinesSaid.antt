@@ -1,0 +1,129 @@
+-- Lines that follow one another say what each of them says.
+use Rattle.std.proofs.Common.{◌≡◌, ℕ, List, [], ◌∷◌, ◌++◌, true, false, not, ◌&&◌, ◌==◌, Option, None, Some, refl, sym, ◌∙◌, ap, subst, append_assoc, append-nil}
+use Rattle.std.specs.Prelude.{codes}
+use Prim.Native.Char.{code}
+use Rattle.nr_mdoc.specs.declared.macros.Macro.{Macro}
+use Rattle.nr_mdoc.specs.declared.page.Page.{Page}
+use Rattle.nr_mdoc.specs.declared.page.Scan.TheVariants as scans
+use Rattle.nr_mdoc.specs.declared.pending.Pending.{Pending}
+use Rattle.nr_mdoc.specs.declared.pending.Pending.TheVariants.{Nothing}
+use Rattle.nr_mdoc.specs.Calls.{with_scan}
+use Rattle.nr_mdoc.specs.Macros.{macro_of}
+use Rattle.nr_mdoc.specs.Reading.{State, fed}
+use Rattle.nr_mdoc.specs.Saying.{parts_of, text_of, words_of}
+use Rattle.nr_mdoc.specs.WordLaws.{reads_at, LinesAreSaid}
+use Rattle.nr_mdoc.specs.WrittenLines.{begins_star, begins_text, each, is_plain, is_text, names_no_string, Letter, are_words, behind_blanks, macro_line, printed, Line, EmptyLine, CommentLine, TextLine, MacroLine, heads_some, is_line, are_lines, written_line, written_lines, printed_line, printed_lines}
+use Rattle.nr_mdoc.proofs.After.{after, after-pending, words-append, Fresh}
+use Rattle.nr_mdoc.proofs.Escapes.{and_left, and_right, both, line-text}
+use Rattle.nr_mdoc.proofs.MacroLines.{line_fresh, plain_names, words_are_said, words_names}
+use Rattle.nr_mdoc.proofs.OtherLines.{Said, comment_said, empty_said}
+use Rattle.nr_mdoc.proofs.TextSaid.{text_fresh, text_is_said}
+
+-- ---- one line
+
+heads_some_said : (o : Option Macro) (name : List ℕ) (ws : List (List Letter)) (s : State) → s.page.marks ≡ [] → macro_of name ≡ o
+    → heads_some o ≡ true → each is_plain name ≡ true → are_words ws ≡ true → Said s (macro_line name ws) (printed ws)
+heads_some_said None name ws s none e h plain all = absurd (let no : false ≡ true = h in cc)
+heads_some_said (Some m) name ws s none e h plain all =
+    record { words = (words_are_said s m name ws none e h plain all).words; fresh = line_fresh name ws m s none e h plain all }
+
+line_said : (l : Line) (s : State) → s.page.marks ≡ [] → is_line l ≡ true → Said s (written_line l) (printed_line l)
+line_said EmptyLine s none h = empty_said s none
+line_said (CommentLine bs) s none h = comment_said bs s none (and_left (each is_text bs) (names_no_string bs) h)
+line_said (TextLine b bs) s none h =
+    let front = and_left (begins_text b && each is_text bs) (names_no_string (b ∷ bs)) h in
+    let first = and_left (begins_text b) (each is_text bs) front in
+    let rest = and_right (begins_text b) (each is_text bs) front in
+    record {
+      words = (text_is_said s b bs first rest (and_right (begins_text b && each is_text bs) (names_no_string (b ∷ bs)) h)).words;
+      fresh = text_fresh b bs s none first rest;
+    }
+line_said (MacroLine name ws) s none h =
+    let front = and_left (heads_some (macro_of name) && each is_plain name) (are_words ws) h in
+    heads_some_said (macro_of name) name ws s none refl (and_left (heads_some (macro_of name)) (each is_plain name) front)
+    (and_right (heads_some (macro_of name)) (each is_plain name) front)
+    (and_right (heads_some (macro_of name) && each is_plain name) (are_words ws) h)
+
+-- ---- the lines
+
+begins_again : (s t : State) → Fresh t → t.pending ≡ Nothing → t ≡ reads_at scans.Start t
+begins_again s t f none =
+    ap (λ (x : Pending). record t { pending = x }) none
+    ∙ ap (λ (p : Page). record t { page = p; pending = Nothing }) (ap (λ (sc : _). with_scan sc t.page) f.scan_is)
+
+lines_said : (ls : List Line) (s : State) → s.page.marks ≡ [] → are_lines ls ≡ true
+    → words_of (parts_of (reads_at scans.Start s) (written_lines ls)) ≡ printed_lines ls
+lines_said [] s none h = refl
+lines_said (l ∷ ls) s none h =
+    let one = line_said l s none (and_left (is_line l) (are_lines ls) h) in
+    let start = reads_at scans.Start s in
+    let t = after start (written_line l) in
+    words-append start (written_line l) (written_lines ls)
+    ∙ ap (λ (zs : List ℕ). zs ++ words_of (parts_of t (written_lines ls))) one.words
+    ∙ ap (λ (u : State). printed_line l ++ words_of (parts_of u (written_lines ls)))
+    (begins_again s t one.fresh (after-pending start (written_line l)))
+    ∙ ap (λ (zs : List ℕ). printed_line l ++ zs) (lines_said ls t one.fresh.marks_are (and_right (is_line l) (are_lines ls) h))
+
+-- ---- no string is named in them
+
+-- a line but for its end
+abbrev body : Line → List ℕ
+body EmptyLine = []
+body (CommentLine bs) = codes ".\\\"" ++ bs
+body (TextLine b bs) = b ∷ bs
+body (MacroLine name ws) = codes "." ++ name ++ behind_blanks ws
+
+body_written : (l : Line) → written_line l ≡ body l ++ codes "\n"
+body_written EmptyLine = refl
+body_written (CommentLine bs) = refl
+body_written (TextLine b bs) = refl
+body_written (MacroLine name ws) = refl
+
+body_names : (l : Line) → is_line l ≡ true → names_no_string (body l) ≡ true
+body_names EmptyLine h = refl
+body_names (CommentLine bs) h = and_right (each is_text bs) (names_no_string bs) h
+body_names (TextLine b bs) h = and_right (begins_text b && each is_text bs) (names_no_string (b ∷ bs)) h
+body_names (MacroLine name ws) h =
+    plain_names name (behind_blanks ws)
+    (and_right (heads_some (macro_of name)) (each is_plain name)
+    (and_left (heads_some (macro_of name) && each is_plain name) (are_words ws) h))
+    (words_names ws (and_right (heads_some (macro_of name) && each is_plain name) (are_words ws) h))
+
+joined_names : (bs rest : List ℕ) → names_no_string bs ≡ true → names_no_string rest ≡ true → names_no_string (bs ++ code "\n" ∷ rest) ≡ true
+joined_names [] rest h e = e
+joined_names (b ∷ []) rest h e =
+    both (not ((b == code "\\") && false)) (names_no_string rest) (and_left (not ((b == code "\\") && false)) true h) e
+joined_names (b ∷ c ∷ cs) rest h e =
+    both (not ((b == code "\\") && begins_star (c ∷ cs))) (names_no_string (c ∷ cs ++ code "\n" ∷ rest))
+    (and_left (not ((b == code "\\") && begins_star (c ∷ cs))) (names_no_string (c ∷ cs)) h)
+    (joined_names (c ∷ cs) rest (and_right (not ((b == code "\\") && begins_star (c ∷ cs))) (names_no_string (c ∷ cs)) h) e)
+
+-- some lines, up to the end of the last
+abbrev all_but_end : Line → List Line → List ℕ
+all_but_end l [] = body l
+all_but_end l (k ∷ ks) = body l ++ code "\n" ∷ all_but_end k ks
+
+all_written : (l : Line) (ls : List Line) → written_lines (l ∷ ls) ≡ all_but_end l ls ++ codes "\n"
+all_written l [] = append-nil (written_line l) ∙ body_written l
+all_written l (k ∷ ks) =
+    ap (λ (xs : List ℕ). xs ++ written_lines (k ∷ ks)) (body_written l)
+    ∙ append_assoc (body l) (codes "\n") (written_lines (k ∷ ks))
+    ∙ ap (λ (xs : List ℕ). body l ++ code "\n" ∷ xs) (all_written k ks)
+    ∙ sym (append_assoc (body l) (code "\n" ∷ all_but_end k ks) (codes "\n"))
+
+all_names : (l : Line) (ls : List Line) → are_lines (l ∷ ls) ≡ true → names_no_string (all_but_end l ls) ≡ true
+all_names l [] h = body_names l (and_left (is_line l) true h)
+all_names l (k ∷ ks) h =
+    joined_names (body l) (all_but_end k ks) (body_names l (and_left (is_line l) (are_lines (k ∷ ks)) h))
+    (all_names k ks (and_right (is_line l) (are_lines (k ∷ ks)) h))
+
+lines_text : (ls : List Line) (s : State) → are_lines ls ≡ true
+    → (fed (reads_at scans.Start s) (written_lines ls)).bytes ≡ text_of (parts_of (reads_at scans.Start s) (written_lines ls))
+lines_text [] s h = refl
+lines_text (l ∷ ls) s h =
+    let start = reads_at scans.Start s in
+    subst (λ (xs : List ℕ). (fed start xs).bytes ≡ text_of (parts_of start xs)) (sym (all_written l ls))
+    (line-text (all_but_end l ls) start refl (all_names l ls h))
+
+pub lines_are_said : LinesAreSaid
+lines_are_said s ls none h = record { text = lines_text ls s h; words = lines_said ls s none h }
