@@ -46,10 +46,10 @@ in_word_met head b s word marks at h =
     ∙ ap (λ (t : Bool). if t then met (with_scan scans.Escape p) (taken acts.Nothing) else keep_byte b false p) (no_escape b h)
 
 -- a page that is wider by one, or not
-widened : Bool → Page → Page
+unfoldable pub widened : Bool → Page → Page
 widened t p = if t then record p { call = record p.call { width = p.call.width + 1 } } else p
 
-widened_at : (t : Bool) (head : Macro) (s : State) (p : Page) (scan : Scan) (word marks : List ℕ) → At head (with_page p s) scan word marks
+pub widened_at : (t : Bool) (head : Macro) (s : State) (p : Page) (scan : Scan) (word marks : List ℕ) → At head (with_page p s) scan word marks
     → At head (with_page (widened t p) s) scan word marks
 unfolding widened
 widened_at true head s p scan word marks at = record {
@@ -91,10 +91,10 @@ unfolding widened
 widened_scan true p = refl
 widened_scan false p = refl
 
-scan_same : (p : Page) (scan : Scan) → p.scan ≡ scan → p ≡ with_scan scan p
+pub scan_same : (p : Page) (scan : Scan) → p.scan ≡ scan → p ≡ with_scan scan p
 scan_same p scan e = ap (λ (sc : Scan). with_scan sc p) e
 
-room : (word : List ℕ) → length word < 30 → nat_lt (length word) 30 ≡ true
+pub room : (word : List ℕ) → length word < 30 → nat_lt (length word) 30 ≡ true
 room word l = grind (arith, nat_tests)
 
 -- what is done of a byte that has no room
@@ -186,7 +186,7 @@ pub record Read (m : Macro) (s : State) (bs : List ℕ) (scan : Scan) (word mark
 pub word_at : (head : Macro) (s : State) (scan : Scan) (word word2 marks : List ℕ) → word ≡ word2 → At head s scan word marks → At head s scan word2 marks
 word_at head s scan word word2 marks e at = subst (λ (w : List ℕ). At head s scan w marks) e at
 
-one_enough : 1 ≤ 16
+pub one_enough : 1 ≤ 16
 one_enough = omega arith
 
 -- ---- an escape
@@ -291,7 +291,7 @@ letter_some : (l : Letter) → 1 ≤ length (kept_letter l)
 letter_some (Plain b) = plain_by (b == code "-") b
 letter_some (Escape b) = omega arith
 
-some_more : (word bs : List ℕ) → is_none word ≡ false → is_none (word ++ bs) ≡ false
+pub some_more : (word bs : List ℕ) → is_none word ≡ false → is_none (word ++ bs) ≡ false
 some_more [] bs e = absurd (let no : true ≡ false = e in cc)
 some_more (x ∷ xs) bs e = grind (arith, nat_tests)
 

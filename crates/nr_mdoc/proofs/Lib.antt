@@ -12,6 +12,8 @@ mod MarksHeld
 mod Meeting
 mod OtherLines
 mod Outcomes
+mod QuotedLines
+mod QuotedWords
 mod Reading
 mod Saying
 mod Stepping

@@ -1,5 +1,5 @@
 -- Lines that follow one another say what each of them says.
-use Rattle.std.proofs.Common.{◌≡◌, ℕ, List, [], ◌∷◌, ◌++◌, true, false, not, ◌&&◌, ◌==◌, Option, None, Some, refl, sym, ◌∙◌, ap, subst, append_assoc, append-nil}
+use Rattle.std.proofs.Common.{◌≡◌, ℕ, Bool, List, [], ◌∷◌, ◌++◌, true, false, not, ◌&&◌, ◌==◌, Option, None, Some, refl, sym, ◌∙◌, ap, subst, append_assoc, append-nil}
 use Rattle.std.specs.Prelude.{codes}
 use Prim.Native.Char.{code}
 use Rattle.nr_mdoc.specs.declared.macros.Macro.{Macro}
@@ -12,37 +12,48 @@ use Rattle.nr_mdoc.specs.Macros.{macro_of}
 use Rattle.nr_mdoc.specs.Reading.{State, fed}
 use Rattle.nr_mdoc.specs.Saying.{parts_of, text_of, words_of}
 use Rattle.nr_mdoc.specs.WordLaws.{reads_at, LinesAreSaid}
-use Rattle.nr_mdoc.specs.WrittenLines.{begins_star, begins_text, each, is_plain, is_text, names_no_string, Letter, are_words, behind_blanks, macro_line, printed, Line, EmptyLine, CommentLine, TextLine, MacroLine, heads_some, is_line, are_lines, written_line, written_lines, printed_line, printed_lines}
+use Rattle.nr_mdoc.specs.WrittenLines.{begins_star, begins_text, each, is_plain, is_text, names_no_string, Word, are_written, behind_each, Line, EmptyLine, CommentLine, TextLine, MacroLine, heads_some, is_line, are_lines, written_line, written_lines, printed_line, printed_lines}
 use Rattle.nr_mdoc.proofs.After.{after, after-pending, words-append, Fresh}
 use Rattle.nr_mdoc.proofs.Escapes.{and_left, and_right, both, line-text}
-use Rattle.nr_mdoc.proofs.MacroLines.{line_fresh, plain_names, words_are_said, words_names}
+use Rattle.nr_mdoc.proofs.MacroLines.{plain_names}
 use Rattle.nr_mdoc.proofs.OtherLines.{Said, comment_said, empty_said}
+use Rattle.nr_mdoc.proofs.QuotedLines.{each_names, quoted_line}
 use Rattle.nr_mdoc.proofs.TextSaid.{text_fresh, text_is_said}
 
 -- ---- one line
 
-heads_some_said : (o : Option Macro) (name : List ℕ) (ws : List (List Letter)) (s : State) → s.page.marks ≡ [] → macro_of name ≡ o
-    → heads_some o ≡ true → each is_plain name ≡ true → are_words ws ≡ true → Said s (macro_line name ws) (printed ws)
+-- so does a line of a macro, where the blanks of some words between quotes stay together
+record SaidAs (s : State) (l : Line) : Type 0 where
+  wholes : List Bool
+  said : Said s (written_line l) (printed_line wholes l)
+
+heads_some_said : (o : Option Macro) (name : List ℕ) (ws : List Word) (s : State) → s.page.marks ≡ [] → macro_of name ≡ o
+    → heads_some o ≡ true → each is_plain name ≡ true → are_written ws ≡ true → SaidAs s (MacroLine name ws)
 heads_some_said None name ws s none e h plain all = absurd (let no : false ≡ true = h in cc)
 heads_some_said (Some m) name ws s none e h plain all =
-    record { words = (words_are_said s m name ws none e h plain all).words; fresh = line_fresh name ws m s none e h plain all }
+    let line = quoted_line name ws m s none e h plain all in
+    record { wholes = line.wholes; said = record { words = line.words; fresh = line.fresh } }
 
-line_said : (l : Line) (s : State) → s.page.marks ≡ [] → is_line l ≡ true → Said s (written_line l) (printed_line l)
-line_said EmptyLine s none h = empty_said s none
-line_said (CommentLine bs) s none h = comment_said bs s none (and_left (each is_text bs) (names_no_string bs) h)
+line_said : (l : Line) (s : State) → s.page.marks ≡ [] → is_line l ≡ true → SaidAs s l
+line_said EmptyLine s none h = record { wholes = []; said = empty_said s none }
+line_said (CommentLine bs) s none h =
+    record { wholes = []; said = comment_said bs s none (and_left (each is_text bs) (names_no_string bs) h) }
 line_said (TextLine b bs) s none h =
     let front = and_left (begins_text b && each is_text bs) (names_no_string (b ∷ bs)) h in
     let first = and_left (begins_text b) (each is_text bs) front in
     let rest = and_right (begins_text b) (each is_text bs) front in
     record {
-      words = (text_is_said s b bs first rest (and_right (begins_text b && each is_text bs) (names_no_string (b ∷ bs)) h)).words;
-      fresh = text_fresh b bs s none first rest;
+      wholes = [];
+      said = record {
+        words = (text_is_said s b bs first rest (and_right (begins_text b && each is_text bs) (names_no_string (b ∷ bs)) h)).words;
+        fresh = text_fresh b bs s none first rest;
+      };
     }
 line_said (MacroLine name ws) s none h =
-    let front = and_left (heads_some (macro_of name) && each is_plain name) (are_words ws) h in
+    let front = and_left (heads_some (macro_of name) && each is_plain name) (are_written ws) h in
     heads_some_said (macro_of name) name ws s none refl (and_left (heads_some (macro_of name)) (each is_plain name) front)
     (and_right (heads_some (macro_of name)) (each is_plain name) front)
-    (and_right (heads_some (macro_of name) && each is_plain name) (are_words ws) h)
+    (and_right (heads_some (macro_of name) && each is_plain name) (are_written ws) h)
 
 -- ---- the lines
 
@@ -51,18 +62,26 @@ begins_again s t f none =
     ap (λ (x : Pending). record t { pending = x }) none
     ∙ ap (λ (p : Page). record t { page = p; pending = Nothing }) (ap (λ (sc : _). with_scan sc t.page) f.scan_is)
 
-lines_said : (ls : List Line) (s : State) → s.page.marks ≡ [] → are_lines ls ≡ true
-    → words_of (parts_of (reads_at scans.Start s) (written_lines ls)) ≡ printed_lines ls
-lines_said [] s none h = refl
+record AllSaid (s : State) (ls : List Line) : Type 0 where
+  wholes : List (List Bool)
+  words : words_of (parts_of (reads_at scans.Start s) (written_lines ls)) ≡ printed_lines wholes ls
+
+lines_said : (ls : List Line) (s : State) → s.page.marks ≡ [] → are_lines ls ≡ true → AllSaid s ls
+lines_said [] s none h = record { wholes = []; words = refl }
 lines_said (l ∷ ls) s none h =
     let one = line_said l s none (and_left (is_line l) (are_lines ls) h) in
     let start = reads_at scans.Start s in
     let t = after start (written_line l) in
-    words-append start (written_line l) (written_lines ls)
-    ∙ ap (λ (zs : List ℕ). zs ++ words_of (parts_of t (written_lines ls))) one.words
-    ∙ ap (λ (u : State). printed_line l ++ words_of (parts_of u (written_lines ls)))
-    (begins_again s t one.fresh (after-pending start (written_line l)))
-    ∙ ap (λ (zs : List ℕ). printed_line l ++ zs) (lines_said ls t one.fresh.marks_are (and_right (is_line l) (are_lines ls) h))
+    let rest = lines_said ls t one.said.fresh.marks_are (and_right (is_line l) (are_lines ls) h) in
+    record {
+      wholes = one.wholes ∷ rest.wholes;
+      words =
+          words-append start (written_line l) (written_lines ls)
+          ∙ ap (λ (zs : List ℕ). zs ++ words_of (parts_of t (written_lines ls))) one.said.words
+          ∙ ap (λ (u : State). printed_line one.wholes l ++ words_of (parts_of u (written_lines ls)))
+          (begins_again s t one.said.fresh (after-pending start (written_line l)))
+          ∙ ap (λ (zs : List ℕ). printed_line one.wholes l ++ zs) rest.words;
+    }
 
 -- ---- no string is named in them
 
@@ -71,7 +90,7 @@ abbrev body : Line → List ℕ
 body EmptyLine = []
 body (CommentLine bs) = codes ".\\\"" ++ bs
 body (TextLine b bs) = b ∷ bs
-body (MacroLine name ws) = codes "." ++ name ++ behind_blanks ws
+body (MacroLine name ws) = codes "." ++ name ++ behind_each ws
 
 body_written : (l : Line) → written_line l ≡ body l ++ codes "\n"
 body_written EmptyLine = refl
@@ -84,10 +103,10 @@ body_names EmptyLine h = refl
 body_names (CommentLine bs) h = and_right (each is_text bs) (names_no_string bs) h
 body_names (TextLine b bs) h = and_right (begins_text b && each is_text bs) (names_no_string (b ∷ bs)) h
 body_names (MacroLine name ws) h =
-    plain_names name (behind_blanks ws)
+    plain_names name (behind_each ws)
     (and_right (heads_some (macro_of name)) (each is_plain name)
-    (and_left (heads_some (macro_of name) && each is_plain name) (are_words ws) h))
-    (words_names ws (and_right (heads_some (macro_of name) && each is_plain name) (are_words ws) h))
+    (and_left (heads_some (macro_of name) && each is_plain name) (are_written ws) h))
+    (each_names ws (and_right (heads_some (macro_of name) && each is_plain name) (are_written ws) h))
 
 joined_names : (bs rest : List ℕ) → names_no_string bs ≡ true → names_no_string rest ≡ true → names_no_string (bs ++ code "\n" ∷ rest) ≡ true
 joined_names [] rest h e = e
@@ -126,4 +145,5 @@ lines_text (l ∷ ls) s h =
     (line-text (all_but_end l ls) start refl (all_names l ls h))
 
 pub lines_are_said : LinesAreSaid
-lines_are_said s ls none h = record { text = lines_text ls s h; words = lines_said ls s none h }
+lines_are_said s ls none h =
+    let all = lines_said ls s none h in (all.wholes, record { text = lines_text ls s h; words = all.words })

@@ -21,7 +21,7 @@ use Rattle.nr_mdoc.specs.Scanning.{meet, meet_at, name_begins}
 use Rattle.nr_mdoc.specs.Seeing.{Met, met, left, taken}
 use Rattle.nr_mdoc.specs.WordLaws.{reads_at, WordsAreSaid}
 use Rattle.nr_mdoc.specs.WrittenLines.{begins_star, each, names_no_string, Letter, Plain, Escape, are_letters, bytes_of, is_escaped, is_letter, is_plain, written, heads_words, kept, prints_words, none_or, is_word, are_words, behind_blanks, macro_line, unless_called, printed}
-use Rattle.nr_mdoc.proofs.After.{after, after-append, next-state, Fresh}
+use Rattle.nr_mdoc.proofs.After.{after, next-state}
 use Rattle.nr_mdoc.proofs.Begins.{begins_out}
 use Rattle.nr_mdoc.proofs.Endings.{Ended, line_ended}
 use Rattle.nr_mdoc.proofs.Escapes.{and_left, and_right, both, is_not, line-text}
@@ -37,7 +37,7 @@ blank_met : (head : Macro) (s : State) (word marks : List ℕ) → At head s sca
 unfolding between_by
 blank_met head s word marks at = between_met head (code " ") s word marks at
 
-blank_taken : (head : Macro) (s : State) (word marks : List ℕ) → At head s scans.Between word marks → Takes (code " ") s s 1 []
+pub blank_taken : (head : Macro) (s : State) (word marks : List ℕ) → At head s scans.Between word marks → Takes (code " ") s s 1 []
 unfolding said lay_out
 blank_taken head s word marks at =
     takes_by (code " ") s s.page s.page acts.Nothing acts.Nothing acts.Nothing [] (blank_met head s word marks at) refl refl
@@ -71,7 +71,7 @@ ends_at head s scan word marks at = record {
 }
 
 -- the line ends between words
-over : (head : Macro) (s : State) (word marks : List ℕ) → At head s scans.Between word marks → heads_words head ≡ true → Ended (code "\n") s 12 marks
+pub over : (head : Macro) (s : State) (word marks : List ℕ) → At head s scans.Between word marks → heads_words head ≡ true → Ended (code "\n") s 12 marks
 over head s word marks at h =
     let e = line_ended head (code "\n") (at_end s) word marks (ends_at head s scans.Between word marks at) h in
     record {
@@ -84,10 +84,10 @@ over head s word marks at h =
 
 -- ---- a word ends
 
-given : State → State
+unfoldable pub given : State → State
 given s = with_page (with_scan (scans.Given false) s.page) s
 
-given_at : (head : Macro) (s : State) (word marks : List ℕ) → At head s scans.Word word marks → At head (given s) (scans.Given false) word marks
+pub given_at : (head : Macro) (s : State) (word marks : List ℕ) → At head s scans.Word word marks → At head (given s) (scans.Given false) word marks
 unfolding given
 given_at head s word marks at = record {
   scan_is = refl;
@@ -111,24 +111,24 @@ given_met head b s word marks at e =
     let p = s.page in
     ap (λ (sc : Scan). meet_at sc b p) at.scan_is ∙ ap (λ (t : Bool). if t then met (with_scan (scans.Given false) p) (left acts.Nothing) else in_word_rest b p) e
 
-given_leads : (head : Macro) (b : ℕ) (s : State) (word marks : List ℕ) → At head s scans.Word word marks → ends_word b ≡ true → Leads b s (given s) 1 []
+pub given_leads : (head : Macro) (b : ℕ) (s : State) (word marks : List ℕ) → At head s scans.Word word marks → ends_word b ≡ true → Leads b s (given s) 1 []
 unfolding said lay_out given
 given_leads head b s word marks at e =
     leads_by b s (with_scan (scans.Given false) s.page) (with_scan (scans.Given false) s.page) acts.Nothing acts.Nothing acts.Nothing []
     (given_met head b s word marks at e) refl refl
 
 -- a blank ends a word: these bytes of words were said, and the line is read between words
-record Said (m : Macro) (s : State) (all : List ℕ) : Type 0 where
-  next : State
-  xs : List ℕ
-  word : List ℕ
-  marks : List ℕ
-  said : (rest : List ℕ) → words_of (parts_of s (code " " ∷ rest)) ≡ xs ++ words_of (parts_of next rest)
-  state : after s (codes " ") ≡ next
-  at : At m next scans.Between word marks
-  total : xs ++ marks ≡ all
+pub record Said (m : Macro) (s : State) (all : List ℕ) : Type 0 where
+  pub next : State
+  pub xs : List ℕ
+  pub word : List ℕ
+  pub marks : List ℕ
+  pub said : (rest : List ℕ) → words_of (parts_of s (code " " ∷ rest)) ≡ xs ++ words_of (parts_of next rest)
+  pub state : after s (codes " ") ≡ next
+  pub at : At m next scans.Between word marks
+  pub total : xs ++ marks ≡ all
 
-five : (k : ℕ) → k ≤ 3 → 1 + (k + 1) ≤ 16
+pub five : (k : ℕ) → k ≤ 3 → 1 + (k + 1) ≤ 16
 five k l = omega arith
 
 blank_said : (head : Macro) (s : State) (word marks : List ℕ) → At head s scans.Word word marks → none_or prints_words (called_by false word) ≡ true
@@ -155,7 +155,7 @@ blank_said head s word marks at f =
       total = w.total;
     }
 
-sixteen : (j k : ℕ) → j ≤ 3 → k ≤ 12 → 1 + (j + k) ≤ 16
+pub sixteen : (j k : ℕ) → j ≤ 3 → k ≤ 12 → 1 + (j + k) ≤ 16
 sixteen j k l m = omega arith
 
 -- the line ends with a word
@@ -171,22 +171,9 @@ newline_said head s word marks at h f =
     (then_takes b (given s) t e.next w.steps e.steps w.xs w.marks w.step.leads e.takes)) refl
     ∙ append-nil (w.xs ++ w.marks) ∙ w.total
 
-newline_fresh : (head : Macro) (s : State) (word marks : List ℕ) → At head s scans.Word word marks → heads_words head ≡ true
-    → none_or prints_words (called_by false word) ≡ true → Fresh (after s (codes "\n"))
-newline_fresh head s word marks at h f =
-    let b = code "\n" in
-    let w = given_whole head b (given s) word marks (given_at head s word marks at) f in
-    let t = w.step.next in
-    let e = over head t w.word w.marks w.step.at h in
-    subst Fresh
-    (sym (next-state b [] s e.next (1 + (w.steps + e.steps)) ([] ++ (w.xs ++ w.marks)) (sixteen w.steps e.steps w.few e.few)
-    (then_takes b s (given s) e.next 1 (w.steps + e.steps) [] (w.xs ++ w.marks) (given_leads head b s word marks at refl)
-    (then_takes b (given s) t e.next w.steps e.steps w.xs w.marks w.step.leads e.takes))))
-    e.fresh
-
 -- ---- the words of a line
 
-word_letters : (l : Letter) (ls : List Letter) → is_word (l ∷ ls) ≡ true → are_letters (l ∷ ls) ≡ true
+pub word_letters : (l : Letter) (ls : List Letter) → is_word (l ∷ ls) ≡ true → are_letters (l ∷ ls) ≡ true
 word_letters l ls h =
     and_left (are_letters (l ∷ ls)) (nat_le (length (kept (l ∷ ls))) 30)
     (and_left (are_letters (l ∷ ls) && nat_le (length (kept (l ∷ ls))) 30) (none_or prints_words (called_by false (kept (l ∷ ls)))) h)
@@ -194,17 +181,17 @@ word_letters l ls h =
 at_most_thirty : (n : ℕ) → nat_le n 30 ≡ true → n ≤ 30
 at_most_thirty n e = grind (arith, nat_tests)
 
-word_short : (l : Letter) (ls : List Letter) → is_word (l ∷ ls) ≡ true → length (kept (l ∷ ls)) ≤ 30
+pub word_short : (l : Letter) (ls : List Letter) → is_word (l ∷ ls) ≡ true → length (kept (l ∷ ls)) ≤ 30
 word_short l ls h =
     at_most_thirty (length (kept (l ∷ ls)))
     (and_right (are_letters (l ∷ ls)) (nat_le (length (kept (l ∷ ls))) 30)
     (and_left (are_letters (l ∷ ls) && nat_le (length (kept (l ∷ ls))) 30) (none_or prints_words (called_by false (kept (l ∷ ls)))) h))
 
-word_prints : (l : Letter) (ls : List Letter) → is_word (l ∷ ls) ≡ true → none_or prints_words (called_by false (kept (l ∷ ls))) ≡ true
+pub word_prints : (l : Letter) (ls : List Letter) → is_word (l ∷ ls) ≡ true → none_or prints_words (called_by false (kept (l ∷ ls))) ≡ true
 word_prints l ls h = and_right (are_letters (l ∷ ls) && nat_le (length (kept (l ∷ ls))) 30) (none_or prints_words (called_by false (kept (l ∷ ls)))) h
 
 -- what is printed of a word that is kept so
-of_kept : List ℕ → List ℕ
+unfoldable pub of_kept : List ℕ → List ℕ
 of_kept word = unless_called (called_by false word) word
 
 -- the first of the words is read between words
@@ -218,7 +205,7 @@ first_word l ls ws head s word marks at h rest =
     ap (λ (xs : List ℕ). words_of (parts_of s xs)) (append_assoc (written (l ∷ ls)) (behind_blanks ws) (codes "\n"))
     ∙ one.said (behind_blanks ws ++ codes "\n") ∙ rest one.next one.at
 
-regrouped : (xs marks all us vs : List ℕ) → xs ++ marks ≡ all → xs ++ (marks ++ us ++ vs) ≡ all ++ (us ++ vs)
+pub regrouped : (xs marks all us vs : List ℕ) → xs ++ marks ≡ all → xs ++ (marks ++ us ++ vs) ≡ all ++ (us ++ vs)
 regrouped xs marks all us vs e =
     ap (λ (zs : List ℕ). xs ++ zs) (append_assoc marks us vs) ∙ sym (append_assoc xs marks (us ++ vs)) ∙ ap (λ (zs : List ℕ). zs ++ (us ++ vs)) e
 
@@ -239,45 +226,20 @@ in_line ((l ∷ ls) ∷ ws) head s word marks at h f all =
     (λ t at2. in_line ws head t (kept (l ∷ ls)) one.marks at2 h (word_prints l ls here) (and_right (is_word (l ∷ ls)) (are_words ws) all)))
     ∙ regrouped one.xs one.marks (marks ++ of_kept word) (of_kept (kept (l ∷ ls))) (printed ws) one.total
 
--- ---- behind the words of a line another begins
-
-first_fresh : (l : Letter) (ls : List Letter) (ws : List (List Letter)) (head : Macro) (s : State) (word marks : List ℕ) → At head s scans.Between word marks
-    → is_word (l ∷ ls) ≡ true
-    → ((t : State) → At head t scans.Word (kept (l ∷ ls)) marks → Fresh (after t (behind_blanks ws ++ codes "\n")))
-    → Fresh (after s ((written (l ∷ ls) ++ behind_blanks ws) ++ codes "\n"))
-first_fresh l ls ws head s word marks at h rest =
-    let one = read_word l ls head s word marks at (word_letters l ls h) (word_short l ls h) in
-    let behind = behind_blanks ws ++ codes "\n" in
-    subst Fresh
-    (sym (ap (λ (xs : List ℕ). after s xs) (append_assoc (written (l ∷ ls)) (behind_blanks ws) (codes "\n"))
-    ∙ after-append s (written (l ∷ ls)) behind ∙ ap (λ (t : State). after t behind) one.state))
-    (rest one.next one.at)
-
-in_line_fresh : (ws : List (List Letter)) (head : Macro) (s : State) (word marks : List ℕ) → At head s scans.Word word marks → heads_words head ≡ true
-    → none_or prints_words (called_by false word) ≡ true → are_words ws ≡ true → Fresh (after s (behind_blanks ws ++ codes "\n"))
-in_line_fresh [] head s word marks at h f all = newline_fresh head s word marks at h f
-in_line_fresh ([] ∷ ws) head s word marks at h f all = absurd (let no : false ≡ true = and_left false (are_words ws) all in cc)
-in_line_fresh ((l ∷ ls) ∷ ws) head s word marks at h f all =
-    let here = and_left (is_word (l ∷ ls)) (are_words ws) all in
-    let one = blank_said head s word marks at f in
-    subst Fresh (sym (ap (λ (t : State). after t ((written (l ∷ ls) ++ behind_blanks ws) ++ codes "\n")) one.state))
-    (first_fresh l ls ws head one.next one.word one.marks one.at here
-    (λ t at2. in_line_fresh ws head t (kept (l ∷ ls)) one.marks at2 h (word_prints l ls here) (and_right (is_word (l ∷ ls)) (are_words ws) all)))
-
 -- ---- the name of a line
 
 control_met : (p : Page) → meet (code ".") (with_scan scans.Start p) ≡ met (with_scan scans.Control p) (taken acts.Nothing)
 unfolding meet
 control_met p = refl
 
-control_taken : (s : State) → Takes (code ".") (reads_at scans.Start s) (reads_at scans.Control s) 1 []
+pub control_taken : (s : State) → Takes (code ".") (reads_at scans.Start s) (reads_at scans.Control s) 1 []
 unfolding said lay_out
 control_taken s =
     takes_by (code ".") (reads_at scans.Start s) (with_scan scans.Control s.page) (with_scan scans.Control s.page) acts.Nothing acts.Nothing acts.Nothing []
     (control_met s.page) refl refl
 
 -- so much of a name was read
-reads_name : List ℕ → State → State
+unfoldable pub reads_name : List ℕ → State → State
 reads_name name s = record s { page = record s.page { scan = scans.Name; word = name }; pending = Nothing }
 
 behind_by : Bool → Bool → Bool → ℕ → Page → Met
@@ -291,7 +253,7 @@ begins_met : (b : ℕ) (p : Page)
 unfolding meet behind_by
 begins_met b p = refl
 
-name_begun : (b : ℕ) (s : State) → is_plain b ≡ true → Takes b (reads_at scans.Control s) (reads_name (b ∷ []) s) 1 []
+pub name_begun : (b : ℕ) (s : State) → is_plain b ≡ true → Takes b (reads_at scans.Control s) (reads_name (b ∷ []) s) 1 []
 unfolding said lay_out behind_by reads_name
 name_begun b s h =
     let p = with_scan scans.Control s.page in
@@ -329,10 +291,10 @@ name_taken b name s h l =
     ∙ ap (λ (t : Bool). name_by false false t b p) (not_full name l))
     refl refl
 
-one_enough : 1 ≤ 16
+pub one_enough : 1 ≤ 16
 one_enough = omega arith
 
-name_more : (bs name : List ℕ) (s : State) (rest : List ℕ) → each is_plain bs ≡ true → length name + length bs ≤ capacity
+pub name_more : (bs name : List ℕ) (s : State) (rest : List ℕ) → each is_plain bs ≡ true → length name + length bs ≤ capacity
     → words_of (parts_of (reads_name name s) (bs ++ rest)) ≡ words_of (parts_of (reads_name (name ++ bs) s) rest)
 name_more [] name s rest h l = ap (λ (xs : List ℕ). words_of (parts_of (reads_name xs s) rest)) (sym (append-nil name))
 name_more (b ∷ bs) name s rest h l =
@@ -342,7 +304,7 @@ name_more (b ∷ bs) name s rest h l =
     (let longer : length (name ++ b ∷ []) ≡ length name + length (b ∷ []) = length-append name (b ∷ []) in omega arith)
     ∙ ap (λ (xs : List ℕ). words_of (parts_of (reads_name xs s) rest)) (append_assoc name (b ∷ []) bs)
 
-name_more_state : (bs name : List ℕ) (s : State) (rest : List ℕ) → each is_plain bs ≡ true → length name + length bs ≤ 32
+pub name_more_state : (bs name : List ℕ) (s : State) (rest : List ℕ) → each is_plain bs ≡ true → length name + length bs ≤ 32
     → after (reads_name name s) (bs ++ rest) ≡ after (reads_name (name ++ bs) s) rest
 name_more_state [] name s rest h l = ap (λ (xs : List ℕ). after (reads_name xs s) rest) (sym (append-nil name))
 name_more_state (b ∷ bs) name s rest h l =
@@ -366,7 +328,7 @@ macro_met b m name s e f =
     name_met b name s ∙ ap (λ (t : Bool). name_by t (b == code "\\") (is_full name) b p) e
     ∙ ap (λ (o : Option Macro). begins_or_other o (record p { scan = scans.Between; closers = [] })) f
 
-macro_step : (b : ℕ) (m : Macro) (name : List ℕ) (s : State) → s.page.marks ≡ [] → ends_word b ≡ true → macro_of name ≡ Some m → heads_words m ≡ true
+pub macro_step : (b : ℕ) (m : Macro) (name : List ℕ) (s : State) → s.page.marks ≡ [] → ends_word b ≡ true → macro_of name ≡ Some m → heads_words m ≡ true
     → Stepped m b (reads_name name s) 1 [] scans.Between name []
 unfolding beginning
 macro_step b m name s marks e f h =
@@ -374,10 +336,10 @@ macro_step b m name s marks e f h =
     out_step m b (reads_name name s) (begins m q) q [] [] (macro_met b m name s e f)
     (begins_out m q h (heads_plain m h)) marks (omega arith) refl refl refl (λ k. refl)
 
-thirteen : (k : ℕ) → k ≤ 12 → 1 + k ≤ 16
+pub thirteen : (k : ℕ) → k ≤ 12 → 1 + k ≤ 16
 thirteen k l = omega arith
 
-two_enough : 1 + 1 ≤ 16
+pub two_enough : 1 + 1 ≤ 16
 two_enough = omega arith
 
 behind_name : (ws : List (List Letter)) (m : Macro) (name : List ℕ) (s : State) → s.page.marks ≡ [] → macro_of name ≡ Some m → heads_words m ≡ true
@@ -398,29 +360,9 @@ behind_name ((l ∷ ls) ∷ ws) m name s marks f h all =
     ∙ first_word l ls ws m one.next name [] one.at here
     (λ t at. in_line ws m t (kept (l ∷ ls)) [] at h (word_prints l ls here) (and_right (is_word (l ∷ ls)) (are_words ws) all))
 
-behind_name_fresh : (ws : List (List Letter)) (m : Macro) (name : List ℕ) (s : State) → s.page.marks ≡ [] → macro_of name ≡ Some m → heads_words m ≡ true
-    → are_words ws ≡ true → Fresh (after (reads_name name s) (behind_blanks ws ++ codes "\n"))
-behind_name_fresh [] m name s marks f h all =
-    let b = code "\n" in
-    let one = macro_step b m name s marks refl f h in
-    let e = over m one.next name [] one.at h in
-    subst Fresh
-    (sym (next-state b [] (reads_name name s) e.next (1 + e.steps) ([] ++ []) (thirteen e.steps e.few)
-    (then_takes b (reads_name name s) one.next e.next 1 e.steps [] [] one.leads e.takes)))
-    e.fresh
-behind_name_fresh ([] ∷ ws) m name s marks f h all = absurd (let no : false ≡ true = and_left false (are_words ws) all in cc)
-behind_name_fresh ((l ∷ ls) ∷ ws) m name s marks f h all =
-    let here = and_left (is_word (l ∷ ls)) (are_words ws) all in
-    let one = macro_step (code " ") m name s marks refl f h in
-    subst Fresh
-    (sym (next-state (code " ") ((written (l ∷ ls) ++ behind_blanks ws) ++ codes "\n") (reads_name name s) one.next (1 + 1) ([] ++ []) two_enough
-    (then_takes (code " ") (reads_name name s) one.next one.next 1 1 [] [] one.leads (blank_taken m one.next name [] one.at))))
-    (first_fresh l ls ws m one.next name [] one.at here
-    (λ t at. in_line_fresh ws m t (kept (l ∷ ls)) [] at h (word_prints l ls here) (and_right (is_word (l ∷ ls)) (are_words ws) all)))
-
 -- ---- the whole line
 
-short_name : (name : List ℕ) (m : Macro) → macro_of name ≡ Some m → length name ≤ 3
+pub short_name : (name : List ℕ) (m : Macro) → macro_of name ≡ Some m → length name ≤ 3
 short_name [] m e = absurd (let no : None ≡ Some m = e in cc)
 short_name (a ∷ []) m e = absurd (let no : None ≡ Some m = e in cc)
 short_name (a ∷ b ∷ []) m e = omega arith
@@ -439,20 +381,6 @@ line_words (b ∷ bs) ws m s marks f h plain all =
     (name_begun b s (and_left (is_plain b) (each is_plain bs) plain)) refl
     ∙ name_more bs (b ∷ []) s rest (and_right (is_plain b) (each is_plain bs) plain) (omega arith)
     ∙ behind_name ws m (b ∷ bs) s marks f h all
-
-pub line_fresh : (name : List ℕ) (ws : List (List Letter)) (m : Macro) (s : State) → s.page.marks ≡ [] → macro_of name ≡ Some m → heads_words m ≡ true
-    → each is_plain name ≡ true → are_words ws ≡ true → Fresh (after (reads_at scans.Start s) (macro_line name ws))
-line_fresh [] ws m s marks f h plain all = absurd (let no : None ≡ Some m = f in cc)
-line_fresh (b ∷ bs) ws m s marks f h plain all =
-    let rest = behind_blanks ws ++ codes "\n" in
-    let short = short_name (b ∷ bs) m f in
-    subst Fresh
-    (sym (next-state (code ".") ((b ∷ bs ++ behind_blanks ws) ++ codes "\n") (reads_at scans.Start s) (reads_at scans.Control s) 1 [] one_enough (control_taken s)
-    ∙ ap (λ (xs : List ℕ). after (reads_at scans.Control s) xs) (append_assoc (b ∷ bs) (behind_blanks ws) (codes "\n"))
-    ∙ next-state b (bs ++ rest) (reads_at scans.Control s) (reads_name (b ∷ []) s) 1 [] one_enough
-    (name_begun b s (and_left (is_plain b) (each is_plain bs) plain))
-    ∙ name_more_state bs (b ∷ []) s rest (and_right (is_plain b) (each is_plain bs) plain) (omega arith)))
-    (behind_name_fresh ws m (b ∷ bs) s marks f h all)
 
 -- ---- no string is named in it
 
@@ -483,7 +411,7 @@ letter_names (Escape b) rest h e =
     both (not (b == code "*")) (not ((b == code "\\") && begins_star rest) && names_no_string rest) (ap not (no_star b h))
     (both (not ((b == code "\\") && begins_star rest)) (names_no_string rest) (not_and (b == code "\\") (begins_star rest) (no_slash b h)) e)
 
-letters_names : (ls : List Letter) (rest : List ℕ) → are_letters ls ≡ true → names_no_string rest ≡ true → names_no_string (written ls ++ rest) ≡ true
+pub letters_names : (ls : List Letter) (rest : List ℕ) → are_letters ls ≡ true → names_no_string rest ≡ true → names_no_string (written ls ++ rest) ≡ true
 letters_names [] rest h e = e
 letters_names (l ∷ ls) rest h e =
     subst (λ (xs : List ℕ). names_no_string xs ≡ true) (sym (append_assoc (bytes_of l) (written ls) rest))

@@ -12,7 +12,7 @@ use Rattle.nr_mdoc.specs.LayingOut.{lay_out}
 use Rattle.nr_mdoc.specs.Passing.{leads_behind, leads_with, leads_on, is_other}
 use Rattle.nr_mdoc.specs.Reading.{State, Told, told, behind, said, once, once_seen, heard_in, heard, read, fed, finished, first_state, converted}
 use Rattle.nr_mdoc.specs.Keeping.{ends_word}
-use Rattle.nr_mdoc.specs.Scanning.{asleep_with, front_grows, front_then, given_up, gives_up, is_blank, meet, meet_whole, passes_to, wakes}
+use Rattle.nr_mdoc.specs.Scanning.{asleep_with, front_grows, front_then, gives_up, is_blank, meet, meet_whole, passes_to, wakes}
 use Rattle.nr_mdoc.specs.Texts.{front_of}
 use Rattle.nr_mdoc.specs.Calls.{with_scan}
 

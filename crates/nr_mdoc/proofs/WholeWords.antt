@@ -173,7 +173,7 @@ argument_is : (p : Page) → argument false p ≡ argument_by (is_bar p.word && 
 unfolding argument argument_by
 argument_is p = refl
 
-some_kept : (q p : Page) → Keeps q p → Keeps q (some_taken p)
+pub some_kept : (q p : Page) → Keeps q p → Keeps q (some_taken p)
 some_kept q p i = record {
   scan = i.scan;
   word = i.word;

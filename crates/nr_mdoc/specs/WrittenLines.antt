@@ -136,6 +136,55 @@ abbrev pub printed : List (List Letter) → List ℕ
 printed [] = []
 printed (w ∷ ws) = unless_called (called_by false (kept w)) (kept w) ++ printed ws
 
+-- ---- words between quotes
+
+-- a word as it is written, or between quotes, by its bytes
+pub data Word : Type 0 where
+  Bare : List Letter → Word
+  Quoted : List ℕ → Word
+
+abbrev pub is_quotable : ℕ → Bool
+is_quotable b = not (b == code "\"") && not (b == code "\n") && not (b == code "\\")
+
+-- one of its bytes as it is kept, the first or not, where its blanks stay together or not
+abbrev pub kept_quotable : Bool → Bool → ℕ → List ℕ
+kept_quotable first whole b =
+    if (b == code " ") && whole then codes "\\~" else if (b == code "-") && not first then codes "\\-" else b ∷ []
+
+abbrev pub quoted_in : Bool → List ℕ → List ℕ
+quoted_in whole [] = []
+quoted_in whole (b ∷ bs) = kept_quotable false whole b ++ quoted_in whole bs
+
+abbrev pub kept_quoted : Bool → List ℕ → List ℕ
+kept_quoted whole [] = []
+kept_quoted whole (b ∷ bs) = kept_quotable true whole b ++ quoted_in whole bs
+
+abbrev pub is_written : Word → Bool
+is_written (Bare letters) = is_word letters
+is_written (Quoted bs) = each is_quotable bs && nat_le (length (kept_quoted true bs)) 30
+
+abbrev pub are_written : List Word → Bool
+are_written [] = true
+are_written (w ∷ ws) = is_written w && are_written ws
+
+abbrev pub written_word : Word → List ℕ
+written_word (Bare letters) = written letters
+written_word (Quoted bs) = codes "\"" ++ bs ++ codes "\""
+
+abbrev pub behind_each : List Word → List ℕ
+behind_each [] = []
+behind_each (w ∷ ws) = codes " " ++ written_word w ++ behind_each ws
+
+abbrev pub line_of : List ℕ → List Word → List ℕ
+line_of name words = codes "." ++ name ++ behind_each words ++ codes "\n"
+
+-- what they say, where the blanks of these words between quotes stay together
+abbrev pub printed_as : List Bool → List Word → List ℕ
+printed_as wholes [] = []
+printed_as wholes (Bare letters ∷ ws) = unless_called (called_by false (kept letters)) (kept letters) ++ printed_as wholes ws
+printed_as [] (Quoted bs ∷ ws) = kept_quoted false bs ++ printed_as [] ws
+printed_as (whole ∷ wholes) (Quoted bs ∷ ws) = kept_quoted whole bs ++ printed_as wholes ws
+
 -- ---- lines of a page
 
 -- an empty line, a comment, by its bytes, a text line, by its first byte and the others, or a line of a macro, by its name and
@@ -144,7 +193,7 @@ pub data Line : Type 0 where
   EmptyLine : Line
   CommentLine : List ℕ → Line
   TextLine : ℕ → List ℕ → Line
-  MacroLine : List ℕ → List (List Letter) → Line
+  MacroLine : List ℕ → List Word → Line
 
 abbrev pub heads_some : Option Macro → Bool
 heads_some None = false
@@ -154,7 +203,7 @@ abbrev pub is_line : Line → Bool
 is_line EmptyLine = true
 is_line (CommentLine bs) = each is_text bs && names_no_string bs
 is_line (TextLine b bs) = begins_text b && each is_text bs && names_no_string (b ∷ bs)
-is_line (MacroLine name words) = heads_some (macro_of name) && each is_plain name && are_words words
+is_line (MacroLine name words) = heads_some (macro_of name) && each is_plain name && are_written words
 
 abbrev pub are_lines : List Line → Bool
 are_lines [] = true
@@ -164,19 +213,20 @@ abbrev pub written_line : Line → List ℕ
 written_line EmptyLine = codes "\n"
 written_line (CommentLine bs) = codes ".\\\"" ++ bs ++ codes "\n"
 written_line (TextLine b bs) = b ∷ bs ++ codes "\n"
-written_line (MacroLine name words) = macro_line name words
+written_line (MacroLine name words) = line_of name words
 
 abbrev pub written_lines : List Line → List ℕ
 written_lines [] = []
 written_lines (l ∷ ls) = written_line l ++ written_lines ls
 
--- what they say
-abbrev pub printed_line : Line → List ℕ
-printed_line EmptyLine = []
-printed_line (CommentLine bs) = []
-printed_line (TextLine b bs) = b ∷ bs
-printed_line (MacroLine name words) = printed words
+-- what they say, where the blanks of these words between quotes stay together
+abbrev pub printed_line : List Bool → Line → List ℕ
+printed_line wholes EmptyLine = []
+printed_line wholes (CommentLine bs) = []
+printed_line wholes (TextLine b bs) = b ∷ bs
+printed_line wholes (MacroLine name words) = printed_as wholes words
 
-abbrev pub printed_lines : List Line → List ℕ
-printed_lines [] = []
-printed_lines (l ∷ ls) = printed_line l ++ printed_lines ls
+abbrev pub printed_lines : List (List Bool) → List Line → List ℕ
+printed_lines wholes [] = []
+printed_lines [] (l ∷ ls) = printed_line [] l ++ printed_lines [] ls
+printed_lines (whole ∷ wholes) (l ∷ ls) = printed_line whole l ++ printed_lines wholes ls

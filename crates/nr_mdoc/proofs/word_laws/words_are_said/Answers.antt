@@ -2,6 +2,7 @@ use Rattle.nr_mdoc.proofs.word_laws.words_are_said.Goals as goal
 use Rattle.nr_mdoc.proofs.Closing.{last_is_closed_first}
 use Rattle.nr_mdoc.proofs.LinesSaid.{lines_are_said}
 use Rattle.nr_mdoc.proofs.MacroLines.{words_are_said}
+use Rattle.nr_mdoc.proofs.QuotedLines.{quoted_are_said}
 use Rattle.nr_mdoc.proofs.TextSaid.{text_is_said}
 
 pub returns-clause-text : goal.returns-clause-text
@@ -9,6 +10,9 @@ returns-clause-text c = text_is_said
 
 pub returns-clause-words : goal.returns-clause-words
 returns-clause-words c = words_are_said
+
+pub returns-clause-quoted : goal.returns-clause-quoted
+returns-clause-quoted c = quoted_are_said
 
 pub returns-clause-lines : goal.returns-clause-lines
 returns-clause-lines c = lines_are_said

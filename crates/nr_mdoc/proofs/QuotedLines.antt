@@ -1,0 +1,376 @@
+-- A line of a macro with words between quotes says those of its words that call no macro.
+use Rattle.std.proofs.Common.{◌≡◌, ℕ, ◌+◌, List, [], ◌∷◌, ◌++◌, length, Bool, true, false, not, ◌&&◌, ◌==◌, nat_le, if◌then◌else◌, Option, None, Some, refl, sym, ◌∙◌, ap, subst, append_assoc, append-nil, arith}
+use Rattle.std.specs.Prelude.{codes}
+use Prim.Native.Char.{code}
+use Rattle.nr_mdoc.specs.declared.acts.Act.TheVariants as acts
+use Rattle.nr_mdoc.specs.declared.macros.Macro.{Macro}
+use Rattle.nr_mdoc.specs.declared.page.Page.{Page}
+use Rattle.nr_mdoc.specs.declared.page.Scan.{Scan}
+use Rattle.nr_mdoc.specs.declared.page.Scan.TheVariants as scans
+use Rattle.nr_mdoc.specs.Calls.{callable, called_by, is_enclosure_due, is_none, leaves, seen_with, with_scan}
+use Rattle.nr_mdoc.specs.Keeping.{keep}
+use Rattle.nr_mdoc.specs.LayingOut.{lay_out}
+use Rattle.nr_mdoc.specs.Macros.{macro_of}
+use Rattle.nr_mdoc.specs.Options.{option, reads_for}
+use Rattle.nr_mdoc.specs.Reading.{State, said}
+use Rattle.nr_mdoc.specs.Saying.{parts_of, words_of}
+use Rattle.nr_mdoc.specs.Scanning.{meet, meet_at, meet_whole, meet_whole_at}
+use Rattle.nr_mdoc.specs.Seeing.{Met, met, left}
+use Rattle.nr_mdoc.specs.Taking.{argument, some_taken, taken_word}
+use Rattle.nr_mdoc.specs.WordLaws.{reads_at, QuotedAreSaid}
+use Rattle.nr_mdoc.specs.Words.{closing_mark, ends_long, marked_or, parsed, read_or_called, unmarked}
+use Rattle.nr_mdoc.specs.WrittenLines.{begins_star, each, names_no_string, Letter, is_plain, is_quotable, is_word, kept, kept_quoted, written, heads_words, Word, Bare, Quoted, is_written, are_written, behind_each, line_of, printed_as}
+use Rattle.nr_mdoc.proofs.Escapes.{and_left, and_right, both, line-text}
+use Rattle.nr_mdoc.proofs.Given.{Whole, whole_of, whole_behind, whole_within, plain_reads}
+use Rattle.nr_mdoc.proofs.KeptWords.{read_word}
+use Rattle.nr_mdoc.proofs.After.{after, after-append, next-state, Fresh}
+use Rattle.nr_mdoc.proofs.MacroLines.{blank_taken, over, five, sixteen, thirteen, one_enough, two_enough, regrouped, of_kept, Said, given, given_at, given_leads, reads_name, name_begun, name_more, name_more_state, macro_step, short_name, letters_names, plain_names, control_taken, word_letters, word_short, word_prints}
+use Rattle.nr_mdoc.proofs.MarksHeld.{one_at_most, two_at_most}
+use Rattle.nr_mdoc.proofs.Meeting.{with_page, Leads, then_takes, leads_by}
+use Rattle.nr_mdoc.proofs.Outcomes.{takes_plain, Out}
+use Rattle.nr_mdoc.proofs.QuotedWords.{read_quoted, no_slash}
+use Rattle.nr_mdoc.proofs.Stepping.{At, out_step, leaves_step, marks_step}
+use Rattle.nr_mdoc.proofs.Taken.{taken_out}
+use Rattle.nr_mdoc.proofs.TextSaid.{next-words}
+use Rattle.nr_mdoc.proofs.WholeWords.{given_whole, is_none-nil, some_kept}
+
+-- ---- a word between quotes is given
+
+marked_none : (w : List ℕ) → closing_mark true w ≡ None
+marked_none [] = refl
+marked_none (a ∷ []) = refl
+marked_none (a ∷ b ∷ rest) = refl
+
+callable_none : (o : Option Macro) → callable true o ≡ None
+callable_none None = refl
+callable_none (Some m) = refl
+
+called_none : (w : List ℕ) → called_by true w ≡ None
+called_none w = callable_none (macro_of w)
+
+argument_by : Bool → Page → Met
+argument_by due p =
+    let q = with_scan scans.Between p in
+    if due then leaves p else seen_with (some_taken (taken_word q).page) (taken_word q)
+
+argument_is : (p : Page) → argument true p ≡ argument_by (is_enclosure_due p && true) p
+unfolding argument argument_by
+argument_is p = refl
+
+unmarked_by : Bool → Page → Met
+unmarked_by none p = if not none then met p (left acts.Marks) else argument true p
+
+unmarked_is : (p : Page) → unmarked true p ≡ unmarked_by (is_none p.marks) p
+unfolding unmarked unmarked_by
+unmarked_is p = ap (λ (o : Option Macro). if not (is_none p.marks) then met p (left acts.Marks) else read_or_called o true p) (called_none p.word)
+
+given_met : (head : Macro) (b : ℕ) (s : State) (word marks : List ℕ) → At head s (scans.Given true) word marks → meet b s.page ≡ unmarked_by (is_none s.page.marks) s.page
+unfolding meet meet_whole parsed
+given_met head b s word marks at =
+    let p = s.page in
+    ap (λ (sc : Scan). meet_at sc b p) at.scan_is ∙ ap (λ (sc : Scan). meet_whole_at sc b p) at.scan_is
+    ∙ ap (λ (t : Bool). if t then ends_long p else if reads_for p.call.taker then option p else parsed true p) at.going
+    ∙ ap (λ (t : Bool). if t then option p else parsed true p) (plain_reads p.call.taker at.fits)
+    ∙ ap (λ (o : Option ℕ). marked_or o true p) (marked_none p.word) ∙ unmarked_is p
+
+taken_said : (p : Page) → takes_plain p.call.taker ≡ true → Out (argument_by false p) (with_scan scans.Between p) p.word
+unfolding argument_by
+taken_said p f =
+    let q = with_scan scans.Between p in
+    let o = taken_out q f in
+    record {
+      x = o.x;
+      y = o.y;
+      z = o.z;
+      seen = o.seen;
+      quiet_x = o.quiet_x;
+      quiet_y = o.quiet_y;
+      quiet_z = o.quiet_z;
+      words = o.words;
+      keeps = some_kept q (taken_word q).page o.keeps;
+    }
+
+said_whole : (head : Macro) (b : ℕ) (s : State) (word : List ℕ) → At head s (scans.Given true) word []
+    → meet b s.page ≡ argument_by false s.page → Whole head b s 1 word
+unfolding argument_by
+said_whole head b s word at e =
+    let p = s.page in
+    whole_of head b s 1 1 p.word p.word [] word one_at_most
+    (out_step head b s (argument_by false p) (with_scan scans.Between p) p.word [] e (taken_said p at.fits)
+    at.marks_are at.few at.going at.comment at.line (λ h. refl))
+    (append-nil p.word ∙ at.word_is)
+
+clear_met : (head : Macro) (b : ℕ) (s : State) (word : List ℕ) (t : Bool) → At head s (scans.Given true) word [] → (is_enclosure_due s.page && true) ≡ t
+    → meet b s.page ≡ argument_by t s.page
+unfolding unmarked_by
+clear_met head b s word t at e =
+    let p = s.page in
+    given_met head b s word [] at ∙ ap (λ (xs : List ℕ). unmarked_by (is_none xs) p) at.marks_are ∙ argument_is p
+    ∙ ap (λ (u : Bool). argument_by u p) e
+
+clear_whole : (t : Bool) (head : Macro) (b : ℕ) (s : State) (word : List ℕ) → At head s (scans.Given true) word [] → (is_enclosure_due s.page && true) ≡ t
+    → Whole head b s 2 word
+unfolding argument_by
+clear_whole true head b s word at e =
+    let first = leaves_step head b s (scans.Given true) word [] at (clear_met head b s word true at e) in
+    let t = first.step.next in
+    whole_behind head b s t 1 [] word word first.step.leads
+    (said_whole head b t word first.step.at
+    (clear_met head b t word false first.step.at (ap (λ (u : Bool). u && true) first.no_enclosure)))
+    refl
+clear_whole false head b s word at e =
+    whole_within head b s 1 2 word two_at_most (said_whole head b s word at (clear_met head b s word false at e))
+
+quoted_by : (t : Bool) (head : Macro) (b : ℕ) (s : State) (word marks : List ℕ) → At head s (scans.Given true) word marks → is_none s.page.marks ≡ t
+    → Whole head b s 3 (marks ++ word)
+unfolding unmarked_by
+quoted_by true head b s word marks at none =
+    let no_marks : marks ≡ [] = sym at.marks_are ∙ is_none-nil s.page.marks none in
+    let clear : At head s (scans.Given true) word [] = subst (λ (xs : List ℕ). At head s (scans.Given true) word xs) no_marks at in
+    subst (λ (xs : List ℕ). Whole head b s 3 (xs ++ word)) (sym no_marks)
+    (whole_within head b s 2 3 word (omega arith) (clear_whole (is_enclosure_due s.page && true) head b s word clear refl))
+quoted_by false head b s word marks at none =
+    let first = marks_step head b s (scans.Given true) word marks at
+    (given_met head b s word marks at ∙ ap (λ (t : Bool). unmarked_by t s.page) none) in
+    whole_behind head b s first.next 2 marks word (marks ++ word) first.leads
+    (clear_whole (is_enclosure_due first.next.page && true) head b first.next word first.at refl) refl
+
+quoted_whole : (head : Macro) (b : ℕ) (s : State) (word marks : List ℕ) → At head s (scans.Given true) word marks → Whole head b s 3 (marks ++ word)
+quoted_whole head b s word marks at = quoted_by (is_none s.page.marks) head b s word marks at refl
+
+-- ---- behind its last quote
+
+given_quoted : State → State
+given_quoted s = with_page (with_scan (scans.Given true) s.page) s
+
+quoted_at : (head : Macro) (s : State) (word marks : List ℕ) → At head s scans.Closing word marks → At head (given_quoted s) (scans.Given true) word marks
+unfolding given_quoted
+quoted_at head s word marks at = record {
+  scan_is = refl;
+  word_is = at.word_is;
+  marks_are = at.marks_are;
+  few = at.few;
+  going = at.going;
+  comment = at.comment;
+  line = at.line;
+  fits = at.fits;
+  free = at.free;
+}
+
+closing_met : (head : Macro) (b : ℕ) (s : State) (word marks : List ℕ) → At head s scans.Closing word marks → (b == code "\"") ≡ false
+    → meet b s.page ≡ met (with_scan (scans.Given true) s.page) (left acts.Nothing)
+unfolding meet
+closing_met head b s word marks at e =
+    let p = s.page in
+    ap (λ (sc : Scan). meet_at sc b p) at.scan_is
+    ∙ ap (λ (t : Bool). if t then keep b true (with_scan scans.Quoted p) else met (with_scan (scans.Given true) p) (left acts.Nothing)) e
+
+quoted_leads : (head : Macro) (b : ℕ) (s : State) (word marks : List ℕ) → At head s scans.Closing word marks → (b == code "\"") ≡ false
+    → Leads b s (given_quoted s) 1 []
+unfolding said lay_out given_quoted
+quoted_leads head b s word marks at e =
+    let q = with_scan (scans.Given true) s.page in
+    leads_by b s q q acts.Nothing acts.Nothing acts.Nothing [] (closing_met head b s word marks at e) refl refl
+
+-- ---- what ends a word
+
+-- these bytes of words are said where a blank comes, and where the line ends
+record Behind (head : Macro) (s : State) (all : List ℕ) : Type 0 where
+  blank : Said head s all
+  newline : words_of (parts_of s (codes "\n")) ≡ all
+  fresh : Fresh (after s (codes "\n"))
+
+behind_of : (head : Macro) (s g : State) (all : List ℕ) → Leads (code " ") s g 1 [] → Leads (code "\n") s g 1 []
+    → Whole head (code " ") g 3 all → Whole head (code "\n") g 3 all → heads_words head ≡ true → Behind head s all
+behind_of head s g all blank newline w v h =
+    let t = w.step.next in
+    let u = v.step.next in
+    let e = over head u v.word v.marks v.step.at h in
+    let takes = then_takes (code " ") s g t 1 (w.steps + 1) [] (w.xs ++ []) blank
+    (then_takes (code " ") g t t w.steps 1 w.xs [] w.step.leads (blank_taken head t w.word w.marks w.step.at)) in
+    let ends = then_takes (code "\n") s g e.next 1 (v.steps + e.steps) [] (v.xs ++ v.marks) newline
+    (then_takes (code "\n") g u e.next v.steps e.steps v.xs v.marks v.step.leads e.takes) in
+    record {
+      blank = record {
+        next = t;
+        xs = w.xs;
+        word = w.word;
+        marks = w.marks;
+        said = λ rest.
+            next-words (code " ") rest s t (1 + (w.steps + 1)) ([] ++ (w.xs ++ [])) _ (five w.steps w.few) takes refl
+            ∙ ap (λ (zs : List ℕ). zs ++ words_of (parts_of t rest)) (append-nil w.xs);
+        state = next-state (code " ") [] s t (1 + (w.steps + 1)) ([] ++ (w.xs ++ [])) (five w.steps w.few) takes;
+        at = w.step.at;
+        total = w.total;
+      };
+      newline =
+          next-words (code "\n") [] s e.next (1 + (v.steps + e.steps)) ([] ++ (v.xs ++ v.marks)) [] (sixteen v.steps e.steps v.few e.few) ends refl
+          ∙ append-nil (v.xs ++ v.marks) ∙ v.total;
+      fresh =
+          subst Fresh (sym (next-state (code "\n") [] s e.next (1 + (v.steps + e.steps)) ([] ++ (v.xs ++ v.marks)) (sixteen v.steps e.steps v.few e.few) ends))
+          e.fresh;
+    }
+
+behind_bare : (l : Letter) (ls : List Letter) (head : Macro) (s : State) (marks : List ℕ) → At head s scans.Word (kept (l ∷ ls)) marks → heads_words head ≡ true
+    → is_word (l ∷ ls) ≡ true → Behind head s (marks ++ of_kept (kept (l ∷ ls)))
+unfolding of_kept
+behind_bare l ls head s marks at h f =
+    let word = kept (l ∷ ls) in
+    let inside = given_at head s word marks at in
+    behind_of head s (given s) (marks ++ of_kept word)
+    (given_leads head (code " ") s word marks at refl) (given_leads head (code "\n") s word marks at refl)
+    (given_whole head (code " ") (given s) word marks inside (word_prints l ls f))
+    (given_whole head (code "\n") (given s) word marks inside (word_prints l ls f)) h
+
+behind_quoted : (head : Macro) (s : State) (word marks : List ℕ) → At head s scans.Closing word marks → heads_words head ≡ true → Behind head s (marks ++ word)
+behind_quoted head s word marks at h =
+    let inside = quoted_at head s word marks at in
+    behind_of head s (given_quoted s) (marks ++ word)
+    (quoted_leads head (code " ") s word marks at refl) (quoted_leads head (code "\n") s word marks at refl)
+    (quoted_whole head (code " ") (given_quoted s) word marks inside)
+    (quoted_whole head (code "\n") (given_quoted s) word marks inside) h
+
+-- ---- the words of a line
+
+pub record Line (s : State) (bs all : List ℕ) (ws : List Word) : Type 0 where
+  pub wholes : List Bool
+  pub words : words_of (parts_of s bs) ≡ all ++ printed_as wholes ws
+  pub fresh : Fresh (after s bs)
+
+-- a word is read behind a blank, and the others behind it
+then_word : (head : Macro) (s : State) (all bs us vs : List ℕ) (ws : List Word) (one : Said head s all) (next : State)
+    → ((rest : List ℕ) → words_of (parts_of one.next (bs ++ rest)) ≡ words_of (parts_of next rest))
+    → words_of (parts_of next (behind_each ws ++ codes "\n")) ≡ one.marks ++ us ++ vs
+    → words_of (parts_of s (code " " ∷ ((bs ++ behind_each ws) ++ codes "\n"))) ≡ all ++ (us ++ vs)
+then_word head s all bs us vs ws one next said rest =
+    one.said ((bs ++ behind_each ws) ++ codes "\n")
+    ∙ ap (λ (xs : List ℕ). one.xs ++ words_of (parts_of one.next xs)) (append_assoc bs (behind_each ws) (codes "\n"))
+    ∙ ap (λ (zs : List ℕ). one.xs ++ zs) (said (behind_each ws ++ codes "\n") ∙ rest)
+    ∙ regrouped one.xs one.marks all us vs one.total
+
+then_fresh : (head : Macro) (s : State) (all bs : List ℕ) (ws : List Word) (one : Said head s all) (next : State) → after one.next bs ≡ next
+    → Fresh (after next (behind_each ws ++ codes "\n")) → Fresh (after s (code " " ∷ ((bs ++ behind_each ws) ++ codes "\n")))
+then_fresh head s all bs ws one next state rest =
+    let behind = behind_each ws ++ codes "\n" in
+    subst Fresh
+    (sym (ap (λ (t : State). after t ((bs ++ behind_each ws) ++ codes "\n")) one.state
+    ∙ ap (λ (xs : List ℕ). after one.next xs) (append_assoc bs (behind_each ws) (codes "\n"))
+    ∙ after-append one.next bs behind ∙ ap (λ (t : State). after t behind) state))
+    rest
+
+in_words : (ws : List Word) (head : Macro) (s : State) (all : List ℕ) → Behind head s all → heads_words head ≡ true → are_written ws ≡ true
+    → Line s (behind_each ws ++ codes "\n") all ws
+unfolding of_kept
+in_words [] head s all behind h good = record { wholes = []; words = behind.newline ∙ sym (append-nil all); fresh = behind.fresh }
+in_words (Bare [] ∷ ws) head s all behind h good = absurd (let no : false ≡ true = and_left false (are_written ws) good in cc)
+in_words (Bare (l ∷ ls) ∷ ws) head s all behind h good =
+    let one = behind.blank in
+    let here = and_left (is_word (l ∷ ls)) (are_written ws) good in
+    let r = read_word l ls head one.next one.word one.marks one.at (word_letters l ls here) (word_short l ls here) in
+    let rest = in_words ws head r.next (one.marks ++ of_kept (kept (l ∷ ls))) (behind_bare l ls head r.next one.marks r.at h here) h
+    (and_right (is_word (l ∷ ls)) (are_written ws) good) in
+    record {
+      wholes = rest.wholes;
+      words = then_word head s all (written (l ∷ ls)) (of_kept (kept (l ∷ ls))) (printed_as rest.wholes ws) ws one r.next r.said rest.words;
+      fresh = then_fresh head s all (written (l ∷ ls)) ws one r.next r.state rest.fresh;
+    }
+in_words (Quoted bs ∷ ws) head s all behind h good =
+    let one = behind.blank in
+    let here = and_left (is_written (Quoted bs)) (are_written ws) good in
+    let r = read_quoted bs head one.next one.word one.marks one.at
+    (and_left (each is_quotable bs) (nat_le (length (kept_quoted true bs)) 30) here)
+    (and_right (each is_quotable bs) (nat_le (length (kept_quoted true bs)) 30) here) in
+    let word = kept_quoted r.whole bs in
+    let rest = in_words ws head r.read.next (one.marks ++ word) (behind_quoted head r.read.next word one.marks r.read.at h) h
+    (and_right (is_written (Quoted bs)) (are_written ws) good) in
+    record {
+      wholes = r.whole ∷ rest.wholes;
+      words = then_word head s all (code "\"" ∷ bs ++ codes "\"") word (printed_as rest.wholes ws) ws one r.read.next r.read.said rest.words;
+      fresh = then_fresh head s all (code "\"" ∷ bs ++ codes "\"") ws one r.read.next r.read.state rest.fresh;
+    }
+
+-- ---- the whole line
+
+name_behind : (m : Macro) (name : List ℕ) (s : State) → s.page.marks ≡ [] → macro_of name ≡ Some m → heads_words m ≡ true → Behind m (reads_name name s) []
+name_behind m name s marks f h =
+    let one = macro_step (code " ") m name s marks refl f h in
+    let two = macro_step (code "\n") m name s marks refl f h in
+    let e = over m two.next name [] two.at h in
+    let takes = then_takes (code " ") (reads_name name s) one.next one.next 1 1 [] [] one.leads (blank_taken m one.next name [] one.at) in
+    record {
+      blank = record {
+        next = one.next;
+        xs = [];
+        word = name;
+        marks = [];
+        said = λ rest. next-words (code " ") rest (reads_name name s) one.next (1 + 1) ([] ++ []) _ two_enough takes refl;
+        state = next-state (code " ") [] (reads_name name s) one.next (1 + 1) ([] ++ []) two_enough takes;
+        at = one.at;
+        total = refl;
+      };
+      newline =
+          next-words (code "\n") [] (reads_name name s) e.next (1 + e.steps) ([] ++ []) [] (thirteen e.steps e.few)
+          (then_takes (code "\n") (reads_name name s) two.next e.next 1 e.steps [] [] two.leads e.takes) refl;
+      fresh =
+          subst Fresh
+          (sym (next-state (code "\n") [] (reads_name name s) e.next (1 + e.steps) ([] ++ []) (thirteen e.steps e.few)
+          (then_takes (code "\n") (reads_name name s) two.next e.next 1 e.steps [] [] two.leads e.takes)))
+          e.fresh;
+    }
+
+pub quoted_line : (name : List ℕ) (ws : List Word) (m : Macro) (s : State) → s.page.marks ≡ [] → macro_of name ≡ Some m → heads_words m ≡ true
+    → each is_plain name ≡ true → are_written ws ≡ true → Line (reads_at scans.Start s) (line_of name ws) [] ws
+quoted_line [] ws m s marks f h plain all = absurd (let no : None ≡ Some m = f in cc)
+quoted_line (b ∷ bs) ws m s marks f h plain all =
+    let rest = behind_each ws ++ codes "\n" in
+    let short = short_name (b ∷ bs) m f in
+    let line = in_words ws m (reads_name (b ∷ bs) s) [] (name_behind m (b ∷ bs) s marks f h) h all in
+    record {
+      wholes = line.wholes;
+      words =
+          next-words (code ".") ((b ∷ bs ++ behind_each ws) ++ codes "\n") (reads_at scans.Start s) (reads_at scans.Control s) 1 [] _ one_enough (control_taken s) refl
+          ∙ ap (λ (xs : List ℕ). words_of (parts_of (reads_at scans.Control s) xs)) (append_assoc (b ∷ bs) (behind_each ws) (codes "\n"))
+          ∙ next-words b (bs ++ rest) (reads_at scans.Control s) (reads_name (b ∷ []) s) 1 [] _ one_enough
+          (name_begun b s (and_left (is_plain b) (each is_plain bs) plain)) refl
+          ∙ name_more bs (b ∷ []) s rest (and_right (is_plain b) (each is_plain bs) plain) (omega arith)
+          ∙ line.words;
+      fresh =
+          subst Fresh
+          (sym (next-state (code ".") ((b ∷ bs ++ behind_each ws) ++ codes "\n") (reads_at scans.Start s) (reads_at scans.Control s) 1 [] one_enough (control_taken s)
+          ∙ ap (λ (xs : List ℕ). after (reads_at scans.Control s) xs) (append_assoc (b ∷ bs) (behind_each ws) (codes "\n"))
+          ∙ next-state b (bs ++ rest) (reads_at scans.Control s) (reads_name (b ∷ []) s) 1 [] one_enough
+          (name_begun b s (and_left (is_plain b) (each is_plain bs) plain))
+          ∙ name_more_state bs (b ∷ []) s rest (and_right (is_plain b) (each is_plain bs) plain) (omega arith)))
+          line.fresh;
+    }
+
+-- ---- no string is named in it
+
+quotable_names : (bs rest : List ℕ) → each is_quotable bs ≡ true → names_no_string rest ≡ true → names_no_string (bs ++ rest) ≡ true
+quotable_names [] rest h e = e
+quotable_names (b ∷ bs) rest h e =
+    both (not ((b == code "\\") && begins_star (bs ++ rest))) (names_no_string (bs ++ rest))
+    (ap (λ (t : Bool). not (t && begins_star (bs ++ rest))) (no_slash b (and_left (is_quotable b) (each is_quotable bs) h)))
+    (quotable_names bs rest (and_right (is_quotable b) (each is_quotable bs) h) e)
+
+pub each_names : (ws : List Word) → are_written ws ≡ true → names_no_string (behind_each ws) ≡ true
+each_names [] all = refl
+each_names (Bare [] ∷ ws) all = absurd (let no : false ≡ true = and_left false (are_written ws) all in cc)
+each_names (Bare (l ∷ ls) ∷ ws) all =
+    letters_names (l ∷ ls) (behind_each ws) (word_letters l ls (and_left (is_word (l ∷ ls)) (are_written ws) all))
+    (each_names ws (and_right (is_word (l ∷ ls)) (are_written ws) all))
+each_names (Quoted bs ∷ ws) all =
+    let here = and_left (is_written (Quoted bs)) (are_written ws) all in
+    subst (λ (xs : List ℕ). names_no_string xs ≡ true) (sym (append_assoc bs (codes "\"") (behind_each ws)))
+    (quotable_names bs (code "\"" ∷ behind_each ws) (and_left (each is_quotable bs) (nat_le (length (kept_quoted true bs)) 30) here)
+    (each_names ws (and_right (is_written (Quoted bs)) (are_written ws) all)))
+
+pub quoted_are_said : QuotedAreSaid
+quoted_are_said s m name ws marks f h plain all =
+    let line = quoted_line name ws m s marks f h plain all in (
+      line.wholes,
+      record {
+        text = line-text (code "." ∷ name ++ behind_each ws) (reads_at scans.Start s) refl (plain_names name (behind_each ws) plain (each_names ws all));
+        words = line.words;
+      },
+    )
