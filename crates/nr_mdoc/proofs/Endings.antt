@@ -150,9 +150,18 @@ silent_outer true n p =
 silent_outer false n p =
     record { x = acts.Request requests.IndentEnds; y = acts.Nothing; met_is = refl; no_x = λ q. refl; no_y = λ q. refl; laid_x = refl; laid_y = refl }
 
-silent_end : (m : Macro) (p : Page) → heads_words m ≡ true → Silent (end_of m p) p
+-- what begins a line that says nothing of its words at its end
+abbrev pub ends_quiet : Macro → Bool
+ends_quiet macros.Section = true
+ends_quiet m = heads_words m
+
+pub heads_end : (m : Macro) → heads_words m ≡ true → ends_quiet m ≡ true
+heads_end macros.Section h = never h
+heads_end m h = h
+
+silent_end : (m : Macro) (p : Page) → ends_quiet m ≡ true → Silent (end_of m p) p
 unfolding end_of is_laid is_quiet
-silent_end macros.Section p h = never h
+silent_end macros.Section p h = record { x = acts.Quiet; y = acts.Nothing; met_is = refl; no_x = λ q. refl; no_y = λ q. refl; laid_x = refl; laid_y = refl }
 silent_end macros.System p h = never h
 silent_end macros.List p h = never h
 silent_end macros.Display p h = never h
@@ -203,7 +212,7 @@ over_fresh x y s p i j none =
     let l = three_laid x y (last_act p) (with_scan scans.Start p) i j (last_laid_by (p.lay.tag && (p.place.depth == 0)) p) in
     record { scan_is = ap (λ (r : Page). r.scan) l.1; marks_are = ap (λ (r : Page). r.marks) l.1 ∙ none }
 
-over_ended : (head : Macro) (b : ℕ) (s : State) (word marks : List ℕ) → At head s scans.Ends word marks → heads_words head ≡ true
+over_ended : (head : Macro) (b : ℕ) (s : State) (word marks : List ℕ) → At head s scans.Ends word marks → ends_quiet head ≡ true
     → s.page.marks ≡ [] → meet b s.page ≡ line_ends s.page → Ended b s 1 []
 over_ended head b s word marks at h none e =
     let p = s.page in
@@ -223,7 +232,7 @@ over_ended head b s word marks at h none e =
 
 -- ---- marks
 
-marked_ended : (t : Bool) (head : Macro) (b : ℕ) (s : State) (word marks : List ℕ) → At head s scans.Ends word marks → heads_words head ≡ true
+marked_ended : (t : Bool) (head : Macro) (b : ℕ) (s : State) (word marks : List ℕ) → At head s scans.Ends word marks → ends_quiet head ≡ true
     → is_due s.page ≡ false → is_none s.page.closers ≡ true → is_none s.page.marks ≡ t → Ended b s 2 marks
 unfolding ends_by marks_step
 marked_ended true head b s word marks at h due closers none =
@@ -275,7 +284,7 @@ closed_step head b s n word marks at e due l =
       fewer_then = one_fewer p.closers n l;
     }
 
-closed_ended : (n : ℕ) (t : Bool) (head : Macro) (b : ℕ) (s : State) (word marks : List ℕ) → At head s scans.Ends word marks → heads_words head ≡ true
+closed_ended : (n : ℕ) (t : Bool) (head : Macro) (b : ℕ) (s : State) (word marks : List ℕ) → At head s scans.Ends word marks → ends_quiet head ≡ true
     → is_due s.page ≡ false → length s.page.closers ≤ n → is_none s.page.closers ≡ t → Ended b s (n + 2) marks
 unfolding ends_by
 closed_ended n true head b s word marks at h due l none =
@@ -291,7 +300,7 @@ closed_ended (suc n) false head b s word marks at h due l none =
 
 -- ---- what is due comes first
 
-due_ended : (t : Bool) (head : Macro) (b : ℕ) (s : State) (word marks : List ℕ) → At head s scans.Ends word marks → heads_words head ≡ true
+due_ended : (t : Bool) (head : Macro) (b : ℕ) (s : State) (word marks : List ℕ) → At head s scans.Ends word marks → ends_quiet head ≡ true
     → is_due s.page ≡ t → Ended b s 11 marks
 unfolding ends_by
 due_ended true head b s word marks at h due =
@@ -305,5 +314,5 @@ due_ended false head b s word marks at h due =
     ended_within b s 10 11 marks marks (omega arith) refl
     (closed_ended 8 (is_none s.page.closers) head b s word marks at h due at.few refl)
 
-pub line_ended : (head : Macro) (b : ℕ) (s : State) (word marks : List ℕ) → At head s scans.Ends word marks → heads_words head ≡ true → Ended b s 11 marks
+pub line_ended : (head : Macro) (b : ℕ) (s : State) (word marks : List ℕ) → At head s scans.Ends word marks → ends_quiet head ≡ true → Ended b s 11 marks
 line_ended head b s word marks at h = due_ended (is_due s.page) head b s word marks at h refl

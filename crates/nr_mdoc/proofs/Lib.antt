@@ -4,6 +4,7 @@ mod Closing
 mod Endings
 mod Escapes
 mod Given
+mod HeadingLines
 mod Hearing
 mod KeptWords
 mod LinesSaid

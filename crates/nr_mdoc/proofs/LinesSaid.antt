@@ -1,5 +1,5 @@
 -- Lines that follow one another say what each of them says.
-use Rattle.std.proofs.Common.{◌≡◌, ℕ, Bool, List, [], ◌∷◌, ◌++◌, true, false, not, ◌&&◌, ◌==◌, Option, None, Some, refl, sym, ◌∙◌, ap, subst, append_assoc, append-nil}
+use Rattle.std.proofs.Common.{◌≡◌, ℕ, Bool, nat_le, length, List, [], ◌∷◌, ◌++◌, true, false, not, ◌&&◌, ◌==◌, Option, None, Some, refl, sym, ◌∙◌, ap, subst, append_assoc, append-nil}
 use Rattle.std.specs.Prelude.{codes}
 use Prim.Native.Char.{code}
 use Rattle.nr_mdoc.specs.declared.macros.Macro.{Macro}
@@ -12,9 +12,10 @@ use Rattle.nr_mdoc.specs.Macros.{macro_of}
 use Rattle.nr_mdoc.specs.Reading.{State, fed}
 use Rattle.nr_mdoc.specs.Saying.{parts_of, text_of, words_of}
 use Rattle.nr_mdoc.specs.WordLaws.{reads_at, LinesAreSaid}
-use Rattle.nr_mdoc.specs.WrittenLines.{begins_star, begins_text, each, is_plain, is_text, names_no_string, Word, are_written, behind_each, Line, EmptyLine, CommentLine, TextLine, MacroLine, heads_some, is_line, are_lines, written_line, written_lines, printed_line, printed_lines}
+use Rattle.nr_mdoc.specs.WrittenLines.{begins_star, begins_text, each, is_plain, is_text, names_no_string, Word, are_written, behind_each, Line, EmptyLine, CommentLine, TextLine, HeadingLine, MacroLine, heads_some, is_line, are_lines, written_line, written_lines, printed_line, printed_lines}
 use Rattle.nr_mdoc.proofs.After.{after, after-pending, words-append, Fresh}
 use Rattle.nr_mdoc.proofs.Escapes.{and_left, and_right, both, line-text}
+use Rattle.nr_mdoc.proofs.HeadingLines.{heading_line, heading_names}
 use Rattle.nr_mdoc.proofs.MacroLines.{plain_names}
 use Rattle.nr_mdoc.proofs.OtherLines.{Said, comment_said, empty_said}
 use Rattle.nr_mdoc.proofs.QuotedLines.{each_names, quoted_line}
@@ -49,6 +50,12 @@ line_said (TextLine b bs) s none h =
         fresh = text_fresh b bs s none first rest;
       };
     }
+line_said (HeadingLine b bs ws) s none h =
+    let front = and_left (each is_plain (b ∷ bs) && nat_le (length (b ∷ bs)) 30) (are_written ws) h in
+    let line = heading_line b bs ws s none (and_left (each is_plain (b ∷ bs)) (nat_le (length (b ∷ bs)) 30) front)
+    (and_right (each is_plain (b ∷ bs)) (nat_le (length (b ∷ bs)) 30) front)
+    (and_right (each is_plain (b ∷ bs) && nat_le (length (b ∷ bs)) 30) (are_written ws) h) in
+    record { wholes = line.wholes; said = record { words = line.words; fresh = line.fresh } }
 line_said (MacroLine name ws) s none h =
     let front = and_left (heads_some (macro_of name) && each is_plain name) (are_written ws) h in
     heads_some_said (macro_of name) name ws s none refl (and_left (heads_some (macro_of name)) (each is_plain name) front)
@@ -90,18 +97,25 @@ abbrev body : Line → List ℕ
 body EmptyLine = []
 body (CommentLine bs) = codes ".\\\"" ++ bs
 body (TextLine b bs) = b ∷ bs
+body (HeadingLine b bs ws) = codes ".Sh " ++ (b ∷ bs) ++ behind_each ws
 body (MacroLine name ws) = codes "." ++ name ++ behind_each ws
 
 body_written : (l : Line) → written_line l ≡ body l ++ codes "\n"
 body_written EmptyLine = refl
 body_written (CommentLine bs) = refl
 body_written (TextLine b bs) = refl
+body_written (HeadingLine b bs ws) = refl
 body_written (MacroLine name ws) = refl
 
 body_names : (l : Line) → is_line l ≡ true → names_no_string (body l) ≡ true
 body_names EmptyLine h = refl
 body_names (CommentLine bs) h = and_right (each is_text bs) (names_no_string bs) h
 body_names (TextLine b bs) h = and_right (begins_text b && each is_text bs) (names_no_string (b ∷ bs)) h
+body_names (HeadingLine b bs ws) h =
+    heading_names b bs ws
+    (and_left (each is_plain (b ∷ bs)) (nat_le (length (b ∷ bs)) 30)
+    (and_left (each is_plain (b ∷ bs) && nat_le (length (b ∷ bs)) 30) (are_written ws) h))
+    (and_right (each is_plain (b ∷ bs) && nat_le (length (b ∷ bs)) 30) (are_written ws) h)
 body_names (MacroLine name ws) h =
     plain_names name (behind_each ws)
     (and_right (heads_some (macro_of name)) (each is_plain name)

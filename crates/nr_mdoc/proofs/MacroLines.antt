@@ -23,7 +23,7 @@ use Rattle.nr_mdoc.specs.WordLaws.{reads_at, WordsAreSaid}
 use Rattle.nr_mdoc.specs.WrittenLines.{begins_star, each, names_no_string, Letter, Plain, Escape, are_letters, bytes_of, is_escaped, is_letter, is_plain, written, heads_words, kept, prints_words, none_or, is_word, are_words, behind_blanks, macro_line, unless_called, printed}
 use Rattle.nr_mdoc.proofs.After.{after, next-state}
 use Rattle.nr_mdoc.proofs.Begins.{begins_out}
-use Rattle.nr_mdoc.proofs.Endings.{Ended, line_ended}
+use Rattle.nr_mdoc.proofs.Endings.{ends_quiet, heads_end, Ended, line_ended}
 use Rattle.nr_mdoc.proofs.Escapes.{and_left, and_right, both, is_not, line-text}
 use Rattle.nr_mdoc.proofs.KeptWords.{not_ending, no_escape, not_of, read_word, between_by, between_met}
 use Rattle.nr_mdoc.proofs.Meeting.{with_page, Leads, Takes, then_takes, leads_by, takes_by}
@@ -71,7 +71,7 @@ ends_at head s scan word marks at = record {
 }
 
 -- the line ends between words
-pub over : (head : Macro) (s : State) (word marks : List ℕ) → At head s scans.Between word marks → heads_words head ≡ true → Ended (code "\n") s 12 marks
+pub over : (head : Macro) (s : State) (word marks : List ℕ) → At head s scans.Between word marks → ends_quiet head ≡ true → Ended (code "\n") s 12 marks
 over head s word marks at h =
     let e = line_ended head (code "\n") (at_end s) word marks (ends_at head s scans.Between word marks at) h in
     record {
@@ -165,7 +165,7 @@ newline_said head s word marks at h f =
     let b = code "\n" in
     let w = given_whole head b (given s) word marks (given_at head s word marks at) f in
     let t = w.step.next in
-    let e = over head t w.word w.marks w.step.at h in
+    let e = over head t w.word w.marks w.step.at (heads_end head h) in
     next-words b [] s e.next (1 + (w.steps + e.steps)) ([] ++ (w.xs ++ w.marks)) [] (sixteen w.steps e.steps w.few e.few)
     (then_takes b s (given s) e.next 1 (w.steps + e.steps) [] (w.xs ++ w.marks) (given_leads head b s word marks at refl)
     (then_takes b (given s) t e.next w.steps e.steps w.xs w.marks w.step.leads e.takes)) refl
@@ -278,7 +278,7 @@ name_met b name s = refl
 not_full : (name : List ℕ) → length name < capacity → is_full name ≡ false
 not_full name l = grind (arith, nat_tests)
 
-name_taken : (b : ℕ) (name : List ℕ) (s : State) → is_plain b ≡ true → length name < capacity
+pub name_taken : (b : ℕ) (name : List ℕ) (s : State) → is_plain b ≡ true → length name < capacity
     → Takes b (reads_name name s) (reads_name (name ++ b ∷ []) s) 1 []
 unfolding said lay_out name_by reads_name
 name_taken b name s h l =
@@ -304,7 +304,7 @@ name_more (b ∷ bs) name s rest h l =
     (let longer : length (name ++ b ∷ []) ≡ length name + length (b ∷ []) = length-append name (b ∷ []) in omega arith)
     ∙ ap (λ (xs : List ℕ). words_of (parts_of (reads_name xs s) rest)) (append_assoc name (b ∷ []) bs)
 
-pub name_more_state : (bs name : List ℕ) (s : State) (rest : List ℕ) → each is_plain bs ≡ true → length name + length bs ≤ 32
+pub name_more_state : (bs name : List ℕ) (s : State) (rest : List ℕ) → each is_plain bs ≡ true → length name + length bs ≤ capacity
     → after (reads_name name s) (bs ++ rest) ≡ after (reads_name (name ++ bs) s) rest
 name_more_state [] name s rest h l = ap (λ (xs : List ℕ). after (reads_name xs s) rest) (sym (append-nil name))
 name_more_state (b ∷ bs) name s rest h l =
@@ -317,10 +317,10 @@ name_more_state (b ∷ bs) name s rest h l =
 -- ---- the macro begins the line
 
 -- the page that it begins on
-beginning : Macro → List ℕ → State → Page
+unfoldable pub beginning : Macro → List ℕ → State → Page
 beginning m name s = record s.page { scan = scans.Between; word = name; closers = []; call = call_of m }
 
-macro_met : (b : ℕ) (m : Macro) (name : List ℕ) (s : State) → ends_word b ≡ true → macro_of name ≡ Some m
+pub macro_met : (b : ℕ) (m : Macro) (name : List ℕ) (s : State) → ends_word b ≡ true → macro_of name ≡ Some m
     → meet b (reads_name name s).page ≡ begins m (beginning m name s)
 unfolding name_by reads_name beginning
 macro_met b m name s e f =
@@ -348,7 +348,7 @@ unfolding of_kept
 behind_name [] m name s marks f h all =
     let b = code "\n" in
     let one = macro_step b m name s marks refl f h in
-    let e = over m one.next name [] one.at h in
+    let e = over m one.next name [] one.at (heads_end m h) in
     next-words b [] (reads_name name s) e.next (1 + e.steps) ([] ++ []) [] (thirteen e.steps e.few)
     (then_takes b (reads_name name s) one.next e.next 1 e.steps [] [] one.leads e.takes) refl
 behind_name ([] ∷ ws) m name s marks f h all = absurd (let no : false ≡ true = and_left false (are_words ws) all in cc)

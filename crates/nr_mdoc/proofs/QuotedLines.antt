@@ -20,6 +20,7 @@ use Rattle.nr_mdoc.specs.Taking.{argument, some_taken, taken_word}
 use Rattle.nr_mdoc.specs.WordLaws.{reads_at, QuotedAreSaid}
 use Rattle.nr_mdoc.specs.Words.{closing_mark, ends_long, marked_or, parsed, read_or_called, unmarked}
 use Rattle.nr_mdoc.specs.WrittenLines.{begins_star, each, names_no_string, Letter, is_plain, is_quotable, is_word, kept, kept_quoted, written, heads_words, Word, Bare, Quoted, is_written, are_written, behind_each, line_of, printed_as}
+use Rattle.nr_mdoc.proofs.Endings.{ends_quiet, heads_end}
 use Rattle.nr_mdoc.proofs.Escapes.{and_left, and_right, both, line-text}
 use Rattle.nr_mdoc.proofs.Given.{Whole, whole_of, whole_behind, whole_within, plain_reads}
 use Rattle.nr_mdoc.proofs.KeptWords.{read_word}
@@ -175,13 +176,13 @@ quoted_leads head b s word marks at e =
 -- ---- what ends a word
 
 -- these bytes of words are said where a blank comes, and where the line ends
-record Behind (head : Macro) (s : State) (all : List ℕ) : Type 0 where
+pub record Behind (head : Macro) (s : State) (all : List ℕ) : Type 0 where
   blank : Said head s all
   newline : words_of (parts_of s (codes "\n")) ≡ all
   fresh : Fresh (after s (codes "\n"))
 
-behind_of : (head : Macro) (s g : State) (all : List ℕ) → Leads (code " ") s g 1 [] → Leads (code "\n") s g 1 []
-    → Whole head (code " ") g 3 all → Whole head (code "\n") g 3 all → heads_words head ≡ true → Behind head s all
+pub behind_of : (head : Macro) (s g : State) (all : List ℕ) → Leads (code " ") s g 1 [] → Leads (code "\n") s g 1 []
+    → Whole head (code " ") g 3 all → Whole head (code "\n") g 3 all → ends_quiet head ≡ true → Behind head s all
 behind_of head s g all blank newline w v h =
     let t = w.step.next in
     let u = v.step.next in
@@ -211,7 +212,7 @@ behind_of head s g all blank newline w v h =
           e.fresh;
     }
 
-behind_bare : (l : Letter) (ls : List Letter) (head : Macro) (s : State) (marks : List ℕ) → At head s scans.Word (kept (l ∷ ls)) marks → heads_words head ≡ true
+behind_bare : (l : Letter) (ls : List Letter) (head : Macro) (s : State) (marks : List ℕ) → At head s scans.Word (kept (l ∷ ls)) marks → ends_quiet head ≡ true
     → is_word (l ∷ ls) ≡ true → Behind head s (marks ++ of_kept (kept (l ∷ ls)))
 unfolding of_kept
 behind_bare l ls head s marks at h f =
@@ -222,7 +223,7 @@ behind_bare l ls head s marks at h f =
     (given_whole head (code " ") (given s) word marks inside (word_prints l ls f))
     (given_whole head (code "\n") (given s) word marks inside (word_prints l ls f)) h
 
-behind_quoted : (head : Macro) (s : State) (word marks : List ℕ) → At head s scans.Closing word marks → heads_words head ≡ true → Behind head s (marks ++ word)
+behind_quoted : (head : Macro) (s : State) (word marks : List ℕ) → At head s scans.Closing word marks → ends_quiet head ≡ true → Behind head s (marks ++ word)
 behind_quoted head s word marks at h =
     let inside = quoted_at head s word marks at in
     behind_of head s (given_quoted s) (marks ++ word)
@@ -258,7 +259,7 @@ then_fresh head s all bs ws one next state rest =
     ∙ after-append one.next bs behind ∙ ap (λ (t : State). after t behind) state))
     rest
 
-in_words : (ws : List Word) (head : Macro) (s : State) (all : List ℕ) → Behind head s all → heads_words head ≡ true → are_written ws ≡ true
+pub in_words : (ws : List Word) (head : Macro) (s : State) (all : List ℕ) → Behind head s all → ends_quiet head ≡ true → are_written ws ≡ true
     → Line s (behind_each ws ++ codes "\n") all ws
 unfolding of_kept
 in_words [] head s all behind h good = record { wholes = []; words = behind.newline ∙ sym (append-nil all); fresh = behind.fresh }
@@ -295,7 +296,7 @@ name_behind : (m : Macro) (name : List ℕ) (s : State) → s.page.marks ≡ [] 
 name_behind m name s marks f h =
     let one = macro_step (code " ") m name s marks refl f h in
     let two = macro_step (code "\n") m name s marks refl f h in
-    let e = over m two.next name [] two.at h in
+    let e = over m two.next name [] two.at (heads_end m h) in
     let takes = then_takes (code " ") (reads_name name s) one.next one.next 1 1 [] [] one.leads (blank_taken m one.next name [] one.at) in
     record {
       blank = record {
@@ -324,7 +325,7 @@ quoted_line [] ws m s marks f h plain all = absurd (let no : None ≡ Some m = f
 quoted_line (b ∷ bs) ws m s marks f h plain all =
     let rest = behind_each ws ++ codes "\n" in
     let short = short_name (b ∷ bs) m f in
-    let line = in_words ws m (reads_name (b ∷ bs) s) [] (name_behind m (b ∷ bs) s marks f h) h all in
+    let line = in_words ws m (reads_name (b ∷ bs) s) [] (name_behind m (b ∷ bs) s marks f h) (heads_end m h) all in
     record {
       wholes = line.wholes;
       words =

@@ -1,5 +1,5 @@
 -- What is said of the words of lines and of the enclosures that a line opened, in any state of the page.
-use Rattle.std.specs.Prelude.{◌≡◌, ℕ, ◌+◌, List, [], ◌∷◌, ◌++◌, length, reverse, Bool, true, false, if◌then◌else◌, codes, Some}
+use Rattle.std.specs.Prelude.{◌≡◌, ℕ, ◌+◌, List, [], ◌∷◌, ◌++◌, length, reverse, Bool, nat_le, true, false, if◌then◌else◌, codes, Some}
 use Rattle.nr_mdoc.specs.declared.acts.Act.TheVariants as acts
 use Rattle.nr_mdoc.specs.declared.acts.Text.TheVariants as texts
 use Rattle.nr_mdoc.specs.declared.macros.Macro.{Macro}
@@ -14,7 +14,7 @@ use Rattle.nr_mdoc.specs.Lines.{ends_joined}
 use Rattle.nr_mdoc.specs.Macros.{macro_of}
 use Rattle.nr_mdoc.specs.Reading.{State, behind, fed, heard_in}
 use Rattle.nr_mdoc.specs.Saying.{parts_of, text_of, words_of}
-use Rattle.nr_mdoc.specs.WrittenLines.{each, names_no_string, is_text, begins_text, Letter, is_plain, heads_words, are_words, macro_line, printed, Word, are_written, line_of, printed_as, Line, are_lines, written_lines, printed_lines}
+use Rattle.nr_mdoc.specs.WrittenLines.{each, names_no_string, is_text, begins_text, Letter, is_plain, heads_words, are_words, macro_line, printed, Word, are_written, heading_of, line_of, printed_as, Line, are_lines, written_lines, printed_lines}
 
 -- ---- words
 
@@ -46,6 +46,14 @@ QuotedAreSaid =
     (s : State) (m : Macro) (name : List ℕ) (words : List Word) → s.page.marks ≡ [] →
     macro_of name ≡ Some m → heads_words m ≡ true → each is_plain name ≡ true → are_written words ≡ true →
     (wholes : List Bool) × Says (reads_at scans.Start s) (line_of name words) (printed_as wholes words)
+
+-- and a heading, whose first word calls nothing, and keeps its hyphens
+abbrev pub HeadingsAreSaid : Type 0
+HeadingsAreSaid =
+    (s : State) (b : ℕ) (bs : List ℕ) (words : List Word) → s.page.marks ≡ [] →
+    each is_plain (b ∷ bs) ≡ true → nat_le (length (b ∷ bs)) 30 ≡ true → are_written words ≡ true →
+    (wholes : List Bool) ×
+    Says (reads_at scans.Start s) (heading_of (b ∷ bs) words) ((b ∷ bs) ++ printed_as wholes words)
 
 -- in any state where no marks are held back, lines that follow one another say what each of them says, in order
 abbrev pub LinesAreSaid : Type 0

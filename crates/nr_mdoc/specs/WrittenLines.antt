@@ -178,6 +178,10 @@ behind_each (w ∷ ws) = codes " " ++ written_word w ++ behind_each ws
 abbrev pub line_of : List ℕ → List Word → List ℕ
 line_of name words = codes "." ++ name ++ behind_each words ++ codes "\n"
 
+-- a heading, by its first word and the others
+abbrev pub heading_of : List ℕ → List Word → List ℕ
+heading_of first words = codes ".Sh " ++ first ++ behind_each words ++ codes "\n"
+
 -- what they say, where the blanks of these words between quotes stay together
 abbrev pub printed_as : List Bool → List Word → List ℕ
 printed_as wholes [] = []
@@ -187,12 +191,13 @@ printed_as (whole ∷ wholes) (Quoted bs ∷ ws) = kept_quoted whole bs ++ print
 
 -- ---- lines of a page
 
--- an empty line, a comment, by its bytes, a text line, by its first byte and the others, or a line of a macro, by its name and
--- its words
+-- an empty line, a comment, by its bytes, a text line, by its first byte and the others, a heading, by the first byte of its
+-- first word, the others, and its further words, or a line of a macro, by its name and its words
 pub data Line : Type 0 where
   EmptyLine : Line
   CommentLine : List ℕ → Line
   TextLine : ℕ → List ℕ → Line
+  HeadingLine : ℕ → List ℕ → List Word → Line
   MacroLine : List ℕ → List Word → Line
 
 abbrev pub heads_some : Option Macro → Bool
@@ -203,6 +208,7 @@ abbrev pub is_line : Line → Bool
 is_line EmptyLine = true
 is_line (CommentLine bs) = each is_text bs && names_no_string bs
 is_line (TextLine b bs) = begins_text b && each is_text bs && names_no_string (b ∷ bs)
+is_line (HeadingLine b bs words) = each is_plain (b ∷ bs) && nat_le (length (b ∷ bs)) 30 && are_written words
 is_line (MacroLine name words) = heads_some (macro_of name) && each is_plain name && are_written words
 
 abbrev pub are_lines : List Line → Bool
@@ -213,6 +219,7 @@ abbrev pub written_line : Line → List ℕ
 written_line EmptyLine = codes "\n"
 written_line (CommentLine bs) = codes ".\\\"" ++ bs ++ codes "\n"
 written_line (TextLine b bs) = b ∷ bs ++ codes "\n"
+written_line (HeadingLine b bs words) = heading_of (b ∷ bs) words
 written_line (MacroLine name words) = line_of name words
 
 abbrev pub written_lines : List Line → List ℕ
@@ -224,6 +231,7 @@ abbrev pub printed_line : List Bool → Line → List ℕ
 printed_line wholes EmptyLine = []
 printed_line wholes (CommentLine bs) = []
 printed_line wholes (TextLine b bs) = b ∷ bs
+printed_line wholes (HeadingLine b bs words) = (b ∷ bs) ++ printed_as wholes words
 printed_line wholes (MacroLine name words) = printed_as wholes words
 
 abbrev pub printed_lines : List (List Bool) → List Line → List ℕ

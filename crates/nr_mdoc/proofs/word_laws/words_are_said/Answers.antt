@@ -1,5 +1,6 @@
 use Rattle.nr_mdoc.proofs.word_laws.words_are_said.Goals as goal
 use Rattle.nr_mdoc.proofs.Closing.{last_is_closed_first}
+use Rattle.nr_mdoc.proofs.HeadingLines.{headings_are_said}
 use Rattle.nr_mdoc.proofs.LinesSaid.{lines_are_said}
 use Rattle.nr_mdoc.proofs.MacroLines.{words_are_said}
 use Rattle.nr_mdoc.proofs.QuotedLines.{quoted_are_said}
@@ -13,6 +14,9 @@ returns-clause-words c = words_are_said
 
 pub returns-clause-quoted : goal.returns-clause-quoted
 returns-clause-quoted c = quoted_are_said
+
+pub returns-clause-headings : goal.returns-clause-headings
+returns-clause-headings c = headings_are_said
 
 pub returns-clause-lines : goal.returns-clause-lines
 returns-clause-lines c = lines_are_said
