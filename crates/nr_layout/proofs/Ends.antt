@@ -1,0 +1,100 @@
+-- Where the lines of a table in a box end.
+use Rattle.std.proofs.Common.{◌≡◌, ℕ, ◌-◌, ◌≤◌, Bool, true, false, ◌==◌, ◌&&◌, ◌||◌, not, nat_le, nat_lt, List, [], ◌∷◌, ◌++◌, Option, None, Some, refl, ap, arith, ◌∙◌, if◌then◌else◌}
+use Rattle.std.proofs.lemmas.Bool.Decides.{nat_tests}
+use Prim.Native.Char.{code}
+use Rattle.nr_layout.specs.declared.pen.Pen.{Pen}
+use Rattle.nr_layout.specs.declared.places.Mark.{Mark}
+use Rattle.nr_layout.specs.declared.places.Mark.TheVariants as marks
+use Rattle.nr_layout.specs.declared.places.Place.{Place}
+use Rattle.nr_layout.specs.declared.table.Table.{Table}
+use Rattle.nr_layout.specs.Drawing.{bar, bar_byte, crossing_byte, go, row_cells, rule_cells, rule_end, some_bars, was_covered, was_ruled}
+use Rattle.nr_layout.specs.Ends.{EdgesEndTogether, RowsEndTogether, RulesEndTogether, end_of}
+use Rattle.nr_layout.specs.Frames.{bar_place, right_edge, table_end}
+use Rattle.nr_layout.specs.Held.{column, columns}
+use Rattle.nr_layout.specs.Pens.{Stroke, Start, after_all, bars, dash, dashed_to, first, furthest, on_from, released, steps_from, to}
+use Rattle.nr_layout.specs.Places.{edge, is_same_mark, on, steps_between}
+use Rattle.nr_layout.proofs.Tapes.{after_all-append}
+
+-- ---- the pen goes to a place that is no less far
+
+not_below : (a b : ℕ) → b ≤ a → nat_lt a b ≡ false
+not_below a b h = grind (arith, nat_tests)
+
+known : (at place : Place) → is_same_mark at.mark place.mark ≡ true → steps_between at place ≡ Some (place.cells - at.cells)
+known at place e = ap (λ (b : Bool). if b then Some (place.cells - at.cells) else None) e
+
+further : (at place : Place) → at.cells ≤ place.cells → furthest (Some at) place ≡ Some place
+further at place h = ap (λ (b : Bool). if b then Some at else Some place) (not_below place.cells at.cells h)
+
+to-at : (o : Option ℕ) (n : ℕ) (place : Place) (p : Pen) → o ≡ Some n → (to o place p).at ≡ furthest p.at place
+to-at None n place p e = cc
+to-at (Some m) n place p e = refl
+
+dashed_to-at : (o : Option ℕ) (n : ℕ) (place : Place) (p : Pen) → o ≡ Some n → (dashed_to o place p).at ≡ furthest p.at place
+dashed_to-at None n place p e = cc
+dashed_to-at (Some m) n place p e = refl
+
+go-at : (ruled : Bool) (place : Place) (p : Pen) → (at : Place) → p.at ≡ Some at → is_same_mark at.mark place.mark ≡ true → at.cells ≤ place.cells
+    → (after_all (go ruled place) p).at ≡ Some place
+go-at true place p at e alike within =
+    dashed_to-at (steps_from p.at place) (place.cells - at.cells) place (released p) (ap (λ (a : Option Place). steps_from a place) e ∙ known at place alike)
+    ∙ ap (λ (a : Option Place). furthest a place) e ∙ further at place within
+go-at false place p at e alike within =
+    to-at (steps_from p.at place) (place.cells - at.cells) place p (ap (λ (a : Option Place). steps_from a place) e ∙ known at place alike)
+    ∙ ap (λ (a : Option Place). furthest a place) e ∙ further at place within
+
+bars-at : (b n : ℕ) (p : Pen) (at : Place) → p.at ≡ Some at → (after_all (bars b n) p).at ≡ Some (on n at)
+bars-at b n p at e = ap (λ (a : Option Place). on_from a (Some n)) e
+
+-- ---- the last bars of a line
+
+end_choice : (b le : Bool) (e t x : Place) → le ≡ true → (if b then e else if le then (if b then e else t) else x) ≡ (if b then e else t)
+end_choice true le e t x h = refl
+end_choice false true e t x h = refl
+end_choice false false e t x h = cc
+
+le_itself : (n : ℕ) → nat_le n n ≡ true
+le_itself n = grind (arith, nat_tests)
+
+end-place : (t : Table) → bar_place t (columns t) ≡ table_end t
+end-place t = end_choice (columns t == 0) (nat_le (columns t) (columns t)) edge (on (right_edge t) (column t (columns t - 1)).right) (column t (columns t - 1)).bar (le_itself (columns t))
+
+last-at : (ruled : Bool) (b n : ℕ) (place : Place) (p : Pen) (at : Place) → p.at ≡ Some at → is_same_mark at.mark place.mark ≡ true → at.cells ≤ place.cells
+    → (after_all (go ruled place ++ bars b n) p).at ≡ Some (on n place)
+last-at ruled b n place p at e alike within =
+    ap (λ (q : Pen). q.at) (after_all-append (go ruled place) (bars b n) p)
+    ∙ bars-at b n (after_all (go ruled place) p) place (go-at ruled place p at e alike within)
+
+-- ---- the law
+
+pub rows_end_together : RowsEndTogether
+rows_end_together t r line one w =
+    let was : Bool = was_ruled t r (columns t) in
+    let cells : List Stroke = row_cells (columns t) t r line in
+    let is : bar t r (columns t) was false ≡ go was (table_end t) ++ bars (bar_byte (was || false)) 1 =
+    ap (λ (n : ℕ). if n == 0 then [] else some_bars t (columns t) was false n) one
+    ∙ ap (λ (place : Place). go was place ++ bars (bar_byte (was || false)) 1) (end-place t) in
+    ap (λ (ss : List Stroke). end_of (cells ++ ss)) is
+    ∙ ap (λ (q : Pen). q.at) (after_all-append (Start ∷ cells) (go was (table_end t) ++ bars (bar_byte (was || false)) 1) first)
+    ∙ last-at was (bar_byte (was || false)) 1 (table_end t) (after_all (Start ∷ cells) first) w.place w.ends w.alike w.within
+
+pub rules_end_together : RulesEndTogether
+rules_end_together t above below line one w =
+    let ruled : Bool = not (was_covered t above below (columns t) && nat_lt 0 (columns t)) in
+    let cells : List Stroke = rule_cells (columns t) t above below line in
+    let b : ℕ = crossing_byte (was_covered t above below (columns t)) in
+    let is : rule_end t above below ≡ bars b 1 = ap (λ (n : ℕ). if n == 0 then [] else bars b 1) one in
+    ap (λ (ss : List Stroke). end_of (cells ++ go ruled (table_end t) ++ ss)) is
+    ∙ ap (λ (q : Pen). q.at) (after_all-append (Start ∷ cells ++ go ruled (table_end t)) (bars b 1) first)
+    ∙ bars-at b 1 (after_all (Start ∷ cells ++ go ruled (table_end t)) first) (table_end t)
+    (ap (λ (q : Pen). q.at) (after_all-append (Start ∷ cells) (go ruled (table_end t)) first)
+    ∙ go-at ruled (table_end t) (after_all (Start ∷ cells) first) w.place w.ends w.alike w.within)
+
+edge_alike : (mark : Mark) → mark ≡ marks.Edge → is_same_mark marks.Edge mark ≡ true
+edge_alike mark e = ap (is_same_mark marks.Edge) e
+
+pub edges_end_together : EdgesEndTogether
+edges_end_together t mark within =
+    ap (λ (q : Pen). q.at) (after_all-append (Start ∷ bars (code "+") 1 ++ dash (table_end t)) (bars (code "+") 1) first)
+    ∙ bars-at (code "+") 1 (after_all (Start ∷ bars (code "+") 1 ++ dash (table_end t)) first) (table_end t)
+    (go-at true (table_end t) (after_all (Start ∷ bars (code "+") 1) first) (on 1 edge) refl (edge_alike (table_end t).mark mark) within)

@@ -1,0 +1,118 @@
+-- Strokes that are drawn after others.
+use Rattle.std.proofs.Common.{◌≡◌, ℕ, Bool, true, false, List, [], ◌∷◌, ◌++◌, Option, refl, sym, ap, subst, ◌∙◌, append_assoc, append-nil}
+use Rattle.std.specs.Io.KnownBytes.{Appends}
+use Rattle.std.proofs.KnownBytes.{Appends-nil, Appends-trans, Appends-kept, Keeps-refl, Keeps-trans}
+use Rattle.nr_units.specs.Failures.{SinkFailures, put_counted_if}
+use Rattle.nr_units.specs.Sink.{AppendsFront}
+use Rattle.nr_units.proofs.Fronts.{AppendsFront-append}
+use Rattle.nr_layout.specs.declared.pen.Pen.{Pen}
+use Rattle.nr_layout.specs.Pens.{Stroke, Bytes, after, after_all, bytes, bytes_of}
+use Rattle.nr_layout.specs.Tapes.{Tape, SendsIn, Sends, Draws, failed_since}
+
+nothing_in : (failed : Bool) (h : Option (List ℕ)) (w : List ℕ) → SendsIn failed failed h w h w []
+nothing_in true h w = Keeps-refl h
+nothing_in false h w = ([], Appends-nil h, append-nil w)
+
+none_counted : (f : Bool) (n : SinkFailures) → n ≡ put_counted_if (failed_since f f) n
+none_counted true n = refl
+none_counted false n = refl
+
+-- once the sink failed, it stays so
+counted_then : (f g k : Bool) (h i j : Option (List ℕ)) (v w x xs ys : List ℕ) (l m n : SinkFailures) → SendsIn f g h v i w xs → SendsIn g k i w j x ys
+    → m ≡ put_counted_if (failed_since f g) l → n ≡ put_counted_if (failed_since g k) m → n ≡ put_counted_if (failed_since f k) l
+counted_then true true true h i j v w x xs ys l m n s t p q = q ∙ p
+counted_then true true false h i j v w x xs ys l m n s t p q = absurd t
+counted_then true false k h i j v w x xs ys l m n s t p q = absurd s
+counted_then false true true h i j v w x xs ys l m n s t p q = q ∙ p
+counted_then false true false h i j v w x xs ys l m n s t p q = absurd t
+counted_then false false k h i j v w x xs ys l m n s t p q = q ∙ ap (put_counted_if (failed_since false k)) p
+
+pub sends_nothing : (a : Tape) → Sends a a []
+sends_nothing a = record { failures = none_counted a.failed a.failures; sends = nothing_in a.failed a.held a.pending }
+
+then_in : (f g k : Bool) (h i j : Option (List ℕ)) (v w x xs ys : List ℕ) → SendsIn f g h v i w xs → SendsIn g k i w j x ys → SendsIn f k h v j x (xs ++ ys)
+then_in true true true h i j v w x xs ys p q = Keeps-trans h i j p q
+then_in true true false h i j v w x xs ys p q = absurd q
+then_in true false k h i j v w x xs ys p q = absurd p
+then_in false true true h i j v w x xs ys p q =
+    let e = AppendsFront-append h i (v ++ xs) ys p in
+    subst (λ l. AppendsFront h j l) (append_assoc v xs ys) (e.0, e.1, e.2, Appends-kept h i j e.0 e.3 q)
+then_in false true false h i j v w x xs ys p q = absurd q
+then_in false false true h i j v w x xs ys p q =
+    (p.0 ++ q.0, q.1, sym (append_assoc v xs ys) ∙ ap (λ l. l ++ ys) p.2 ∙ append_assoc p.0 w ys ∙ ap (λ l. p.0 ++ l) q.2 ∙ sym (append_assoc p.0 q.0 q.1), Appends-trans h i j p.0 q.0 p.1 q.3)
+then_in false false false h i j v w x xs ys p q =
+    (p.0 ++ q.0, Appends-trans h i j p.0 q.0 p.1 q.1, sym (append_assoc v xs ys) ∙ ap (λ l. l ++ ys) p.2 ∙ append_assoc p.0 w ys ∙ ap (λ l. p.0 ++ l) q.2 ∙ sym (append_assoc p.0 q.0 x))
+
+pub sends_then : {a b c : Tape} {xs ys : List ℕ} → Sends a b xs → Sends b c ys → Sends a c (xs ++ ys)
+sends_then {a} {b} {c} {xs} {ys} p q = record {
+  failures = counted_then a.failed b.failed c.failed a.held b.held c.held a.pending b.pending c.pending xs ys a.failures b.failures c.failures p.sends q.sends p.failures q.failures;
+  sends = then_in a.failed b.failed c.failed a.held b.held c.held a.pending b.pending c.pending xs ys p.sends q.sends;
+}
+
+-- ---- strokes
+
+pub after_all-append : (ss ts : List Stroke) (p : Pen) → after_all (ss ++ ts) p ≡ after_all ts (after_all ss p)
+after_all-append [] ts p = refl
+after_all-append (s ∷ ss) ts p = after_all-append ss ts (after s p)
+
+pub bytes_of-append : (ss ts : List Stroke) (p : Pen) → bytes_of (ss ++ ts) p ≡ bytes_of ss p ++ bytes_of ts (after_all ss p)
+bytes_of-append [] ts p = refl
+bytes_of-append (s ∷ ss) ts p = ap (λ l. bytes s p ++ l) (bytes_of-append ss ts (after s p)) ∙ sym (append_assoc (bytes s p) (bytes_of ss (after s p)) (bytes_of ts (after_all ss (after s p))))
+
+pub draws_nothing : (a : Tape) → Draws a a []
+draws_nothing a = record { pen = refl; sends = sends_nothing a }
+
+pub draws_then : {a b c : Tape} {ss ts : List Stroke} → Draws a b ss → Draws b c ts → Draws a c (ss ++ ts)
+draws_then {a} {b} {c} {ss} {ts} p q =
+    let ys : Sends b c (bytes_of ts (after_all ss a.pen)) = subst (λ n. Sends b c (bytes_of ts n)) p.pen q.sends in
+    record {
+      pen = q.pen ∙ ap (after_all ts) p.pen ∙ sym (after_all-append ss ts a.pen);
+      sends = subst (Sends a c) (sym (bytes_of-append ss ts a.pen)) (sends_then p.sends ys);
+    }
+
+-- other strokes that come to the same
+pub draws_as : {a b : Tape} {ss : List Stroke} (ts : List Stroke) → Draws a b ss → after_all ts a.pen ≡ after_all ss a.pen → bytes_of ts a.pen ≡ bytes_of ss a.pen → Draws a b ts
+draws_as {a} {b} {ss} ts p same_pen same_bytes = record { pen = p.pen ∙ sym same_pen; sends = subst (Sends a b) (sym same_bytes) p.sends }
+
+pub draws_same : {a b : Tape} {ss ts : List Stroke} → Draws a b ss → ts ≡ ss → Draws a b ts
+draws_same {a} {b} {ss} {ts} p same = subst (Draws a b) (sym same) p
+
+-- the same, and the pen is put elsewhere
+pub draws_to : {a b : Tape} {ss : List Stroke} (n : Pen) (ts : List Stroke) → Draws a b ss → n ≡ after_all ts a.pen → bytes_of ts a.pen ≡ bytes_of ss a.pen → Draws a (record b { pen = n }) ts
+draws_to {a} {b} {ss} n ts p pen_is same_bytes = record {
+  pen = pen_is;
+  sends = record { failures = p.sends.failures; sends = (subst (Sends a b) (sym same_bytes) p.sends).sends };
+}
+
+-- bytes in two parts
+pub draws_both : {a b c : Tape} {xs ys : List ℕ} → Draws a b (Bytes xs ∷ []) → Draws b c (Bytes ys ∷ []) → Draws a c (Bytes (xs ++ ys) ∷ [])
+draws_both {a} {b} {c} {xs} {ys} p q =
+    draws_as (Bytes (xs ++ ys) ∷ []) (draws_then p q) refl (append-nil (xs ++ ys) ∙ sym (ap (λ l. xs ++ l) (append-nil ys)))
+
+pub draws_no_bytes : (a : Tape) → Draws a a (Bytes [] ∷ [])
+draws_no_bytes a = draws_as (Bytes [] ∷ []) (draws_nothing a) refl refl
+
+-- ---- what a call of the sink, or more that waits, comes to
+
+waiting_in : (h : Option (List ℕ)) (w x bs : List ℕ) → x ≡ w ++ bs → SendsIn false false h w h x (bs ++ [])
+waiting_in h w x bs is = ([], Appends-nil h, ap (λ l. w ++ l) (append-nil bs) ∙ sym is)
+
+-- more waits
+pub draws_waiting : (h : Option (List ℕ)) (c : SinkFailures) (w x bs : List ℕ) (n : Pen) → x ≡ w ++ bs
+    → Draws (record { held = h; failures = c; pending = w; failed = false; pen = n }) (record { held = h; failures = c; pending = x; failed = false; pen = n }) (Bytes bs ∷ [])
+draws_waiting h c w x bs n is = record { pen = refl; sends = record { failures = refl; sends = waiting_in h w x bs is } }
+
+-- nothing goes after a fault
+pub draws_failed : (h : Option (List ℕ)) (c : SinkFailures) (w bs : List ℕ) (n : Pen)
+    → Draws (record { held = h; failures = c; pending = w; failed = true; pen = n }) (record { held = h; failures = c; pending = w; failed = true; pen = n }) (Bytes bs ∷ [])
+draws_failed h c w bs n = record { pen = refl; sends = record { failures = refl; sends = Keeps-refl h } }
+
+-- all that waits went
+pub draws_sent : (h i : Option (List ℕ)) (c : SinkFailures) (w bs : List ℕ) (n : Pen) → Appends h i (w ++ bs)
+    → Draws (record { held = h; failures = c; pending = w; failed = false; pen = n }) (record { held = i; failures = c; pending = []; failed = false; pen = n }) (Bytes bs ∷ [])
+draws_sent h i c w bs n goes = record { pen = refl; sends = record { failures = refl; sends = (w ++ bs, goes, ap (λ l. w ++ l) (append-nil bs) ∙ sym (append-nil (w ++ bs))) } }
+
+-- the sink failed
+pub draws_fault : (h i : Option (List ℕ)) (c : SinkFailures) (w x bs : List ℕ) (n : Pen) → AppendsFront h i (w ++ bs)
+    → Draws (record { held = h; failures = c; pending = w; failed = false; pen = n }) (record { held = i; failures = put_counted_if true c; pending = x; failed = true; pen = n }) (Bytes bs ∷ [])
+draws_fault h i c w x bs n goes = record { pen = refl; sends = record { failures = refl; sends = subst (λ l. AppendsFront h i (w ++ l)) (sym (append-nil bs)) goes } }

@@ -1,0 +1,21 @@
+use Rattle.std.proofs.Common.{◌≡◌, ℕ, ◌+◌, ◌-◌, false, ap, arith, sym, ◌∙◌}
+use Rattle.nr_layout.specs.Cells.{columns_over}
+use Rattle.nr_layout.specs.Laid.{known_at}
+use Rattle.nr_layout.specs.Lists.{in_turn}
+use Rattle.nr_layout.proofs.Turns.{one_further}
+use Rattle.nr_layout.proofs.table.Table.hide_columns.Goals as goal
+
+pub loop-number-preserved : goal.loop-number-preserved
+loop-number-preserved c = record {
+  value =
+      c.set_known.ensures.value ∙ ap (known_at false c.loop-number.number) c.loop-number.invariant.value
+      ∙ sym (one_further c.args.cell.first c.loop-number.number (known_at false) c.args.self.now (omega arith));
+  within = omega arith;
+  room = c.set_known.ensures.room ∙ c.loop-number.invariant.room;
+}
+
+pub returns-clause-value : goal.returns-clause-value
+returns-clause-value c =
+    let all : c.loop-number.number - c.args.cell.first ≡ columns_over c.args.cell.first c.args.cell.last = omega arith in
+    c.loop-number.invariant.value
+    ∙ ap (λ (n : ℕ). in_turn n (λ (k : ℕ). known_at false (c.args.cell.first + k)) c.args.self.now) all

@@ -1,0 +1,316 @@
+-- The lines of a table, as strokes of a pen from the left to the right (Lesk, "Format"; tbl(1), "Column classifiers" and "Table data").
+-- In a row stand bars, rules of columns, and fields; in a rule between two rows bars meet it, and fields go on over it from above.
+use Rattle.std.specs.Prelude.{ℕ, zero, suc, ◌-◌, ◌/◌, min, Bool, true, false, ◌==◌, ◌&&◌, ◌||◌, not, nat_lt, List, [], ◌∷◌, ◌++◌, Option, None, Some, codes, decimal, if◌then◌else◌}
+use Prim.Native.Char.{code}
+use Rattle.nr_layout.specs.declared.pen.Begin.{Begin}
+use Rattle.nr_layout.specs.declared.pen.Begin.TheVariants as begins
+use Rattle.nr_layout.specs.declared.places.Place.{Place}
+use Rattle.nr_layout.specs.declared.table.Cell.{Cell}
+use Rattle.nr_layout.specs.declared.table.Column.{Column}
+use Rattle.nr_layout.specs.declared.table.Form.{Form}
+use Rattle.nr_layout.specs.declared.table.Form.TheVariants as forms
+use Rattle.nr_layout.specs.declared.table.Span.{Span}
+use Rattle.nr_layout.specs.declared.table.Table.{Table}
+use Rattle.nr_layout.specs.Extent.{cells_of}
+use Rattle.nr_layout.specs.Frames.{bar_place, bars_of, is_covered, meeting, table_end}
+use Rattle.nr_layout.specs.Held.{cell, column, columns, has_text, is_block, is_rule, is_text, text_of}
+use Rattle.nr_layout.specs.Pens as pens
+use Rattle.nr_layout.specs.Pens.{Stroke, Start, To, Leave, Bytes, Text, Pass}
+use Rattle.nr_layout.specs.Places.{on, place_text, steps_between, sum}
+
+abbrev pub or_nothing : Option ℕ → ℕ
+or_nothing None = 0
+or_nothing (Some n) = n
+
+abbrev pub spans : Cell → Bool
+spans f = nat_lt f.first f.last
+
+-- ---- a number that is aligned with others, and what of it stands before its place
+
+abbrev pub is_given : Option ℕ → Bool
+is_given None = false
+is_given (Some n) = true
+
+abbrev pub is_number : Cell → Bool
+is_number f = (f.key.kind == code "n") && is_text f.field.form && is_given f.field.front
+
+abbrev pub front_span : Cell → Span
+front_span f = record f.field.span { «end» = min (sum f.field.span.start (or_nothing f.field.front)) f.field.span.«end» }
+
+abbrev pub front_cells : Table → Cell → Option ℕ
+front_cells t f = cells_of (text_of t (front_span f))
+
+-- ---- where a field begins in columns of so many cells: at the left, at the right, in the middle; numbers stand below each other
+
+abbrev pub number_in : Option ℕ → ℕ → Column → Option ℕ
+number_in None room c = None
+number_in (Some front) room c = Some (sum ((room - sum c.front c.back) / 2) c.front - front)
+
+abbrev pub number_begin : Table → Cell → ℕ → Option ℕ
+number_begin t f room = if not (is_number f) || spans f then None else number_in (front_cells t f) room (column t f.first)
+
+abbrev pub or_middle : Option ℕ → ℕ → ℕ → ℕ
+or_middle None room width = (room - width) / 2
+or_middle (Some cells) room width = cells
+
+abbrev pub begin_in : Table → Cell → ℕ → Place
+begin_in t f room =
+    let left = (column t f.first).left in
+    let width = or_nothing f.width in
+    if f.key.kind == code "r" then record left { cells = sum left.cells room - width } else
+    if f.key.kind == code "a" then on (if spans f then 1 else (room - (column t f.first).alpha) / 2) left else
+    if (f.key.kind == code "c") || (f.key.kind == code "n") then on (or_middle (number_begin t f room) room width) left else left
+
+-- where its columns show their width, or only the formatter knows
+abbrev pub told_or : Option ℕ → Bool → Table → Cell → Begin
+told_or None plain t f = begins.Told
+told_or (Some room) plain t f = if plain then begins.At (begin_in t f room) else begins.Told
+
+abbrev pub stands_left : Cell → Bool
+stands_left f =
+    (f.key.kind == code "l") || (f.key.kind == code "^") || (f.key.kind == code "_") || (f.key.kind == code "=")
+    || ((f.key.kind == code "n") && not (is_text f.field.form))
+
+abbrev pub is_plain : Cell → Bool
+is_plain f = is_text f.field.form && (f.name == 0)
+
+abbrev pub begin_of : Table → Cell → Begin
+begin_of t f =
+    let c = column t f.first in
+    if stands_left f then begins.At c.left else
+    if (f.key.kind == code "a") && spans f then begins.At (on 1 c.left) else
+    if is_plain f && not (spans f) && c.known then begins.At (begin_in t f c.width) else
+    told_or (steps_between c.left (column t f.last).right) (is_plain f) t f
+
+-- ---- its text, with its font; a string if it is stored
+
+abbrev pub string_text : ℕ → List ℕ
+string_text name = codes "\\*[*t" ++ decimal name ++ codes "]"
+
+abbrev pub unset_text : Table → Cell → List ℕ
+unset_text t f = if f.stored then string_text f.name else text_of t f.field.span
+
+abbrev pub font_text : ℕ → List ℕ
+font_text font = if font == 0 then [] else code "\\" ∷ code "f" ∷ font ∷ []
+
+abbrev pub has_escape : List ℕ → Bool
+has_escape [] = false
+has_escape (b ∷ bs) = (b == code "\\") || has_escape bs
+
+abbrev pub font_back : ℕ → List ℕ → List ℕ
+font_back font text = if font == 0 then [] else font_text (if has_escape text then code "R" else code "P")
+
+abbrev pub field_text : Table → Cell → List ℕ
+field_text t f = font_text f.key.font ++ unset_text t f ++ font_back f.key.font (text_of t f.field.span)
+
+-- ---- places and widths of fields that only the formatter knows, as expressions: `*x` with a number is the width of a block
+
+abbrev pub block_width : ℕ → List ℕ
+block_width name = codes "\\n[*x" ++ decimal name ++ codes "]u"
+
+abbrev pub text_width : Table → Cell → List ℕ
+text_width t f = codes "\\w" ++ 1 ∷ unset_text t f ++ 1 ∷ codes "u"
+
+abbrev pub width_text : Table → Cell → List ℕ
+width_text t f =
+    if is_block f.field.form then block_width f.name else
+    if nat_lt 0 f.name then text_width t f else decimal (or_nothing f.width) ++ codes "n"
+
+abbrev pub told_front : Table → Cell → List ℕ
+told_front t f = codes "\\w" ++ 1 ∷ text_of t (front_span f) ++ 1 ∷ codes "u"
+
+abbrev pub front_in : Option ℕ → Table → Cell → List ℕ
+front_in None t f = told_front t f
+front_in (Some cells) t f = decimal cells ++ codes "n"
+
+abbrev pub front_text : Table → Cell → List ℕ
+front_text t f = front_in (front_cells t f) t f
+
+abbrev pub right_begin : Table → Cell → List ℕ
+right_begin t f = codes "(" ++ place_text (column t f.last).right ++ codes "-" ++ width_text t f ++ codes ")"
+
+-- from where columns end back to where they begin, and half of what that leaves
+abbrev pub room_text : Table → Cell → List ℕ
+room_text t f = codes "(" ++ place_text (column t f.last).right ++ codes "-(" ++ place_text (column t f.first).left
+
+abbrev pub half_text : Table → Cell → List ℕ
+half_text t f = codes "/48u*24u+" ++ place_text (column t f.first).left ++ codes ")"
+
+-- `*a` with a number is the width of a column's fields of a
+abbrev pub alpha_begin : Table → Cell → List ℕ
+alpha_begin t f = room_text t f ++ codes ")-\\n[*a" ++ decimal f.first ++ codes "]u" ++ half_text t f
+
+-- `*p` with a number is the place of a column's numbers
+abbrev pub number_place : Table → Cell → List ℕ
+number_place t f = codes "(\\n[*p" ++ decimal f.first ++ codes "]u-" ++ front_text t f ++ codes ")"
+
+abbrev pub middle_begin : Table → Cell → List ℕ
+middle_begin t f = room_text t f ++ codes ")-" ++ width_text t f ++ half_text t f
+
+abbrev pub begin_text : Table → Cell → List ℕ
+begin_text t f =
+    if f.key.kind == code "r" then right_begin t f else
+    if (f.key.kind == code "a") && not (is_block f.field.form) then alpha_begin t f else
+    if not (spans f) && is_number f then number_place t f else middle_begin t f
+
+-- ---- strokes of a field
+
+abbrev pub told_begin : Table → Cell → List Stroke
+told_begin t f = Leave ∷ Bytes (codes "\\h'|") ∷ Bytes (begin_text t f) ∷ Bytes (codes "'") ∷ []
+
+abbrev pub begin_at : Begin → Table → Cell → List Stroke
+begin_at (begins.At place) t f = To place ∷ []
+begin_at begins.Told t f = told_begin t f
+
+abbrev pub first_byte : List ℕ → ℕ
+first_byte [] = code " "
+first_byte (b ∷ bs) = b
+
+abbrev pub first_of : Table → Cell → ℕ
+first_of t f = if (f.key.font == 0) && not f.stored then first_byte (text_of t f.field.span) else code "\\"
+
+abbrev pub shown_width : Cell → Option ℕ
+shown_width f = if nat_lt 0 f.name then None else f.width
+
+abbrev pub text_strokes : Table → Cell → List Stroke
+text_strokes t f = begin_at (begin_of t f) t f ++ pens.begin (first_of t f) ++ Text (field_text t f) ∷ Pass (shown_width f) ∷ []
+
+abbrev pub field_in : Form → Table → Cell → List Stroke
+field_in forms.Text t f = if has_text f.field then text_strokes t f else []
+field_in forms.Inner t f = To (column t f.first).left ∷ pens.dash (column t f.last).right
+field_in (forms.Repeat b) t f = To (column t f.first).left ∷ pens.fill b (column t f.last).right
+field_in form t f = []
+
+abbrev pub field_strokes : Table → Cell → List Stroke
+field_strokes t f = field_in f.field.form t f
+
+-- a field that goes on over rows below stands on one of their lines
+abbrev pub stands_on : Option ℕ → Cell → Bool
+stands_on None f = false
+stands_on (Some line) f = line == f.line
+
+abbrev pub falling : Table → ℕ → ℕ → Option ℕ → List Stroke
+falling t r c line =
+    let f = cell t r c in
+    if f.falls && (f.first == c) && stands_on line f then field_strokes t f else []
+
+-- ---- a row
+
+-- a rule goes on up to there, or the pen goes
+abbrev pub go : Bool → Place → List Stroke
+go ruled place = if ruled then pens.dash place else To place ∷ []
+
+abbrev pub bar_byte : Bool → ℕ
+bar_byte meets = if meets then code "+" else code "|"
+
+abbrev pub some_bars : Table → ℕ → Bool → Bool → ℕ → List Stroke
+some_bars t c was now n = go was (bar_place t c) ++ pens.bars (bar_byte (was || now)) n
+
+-- bars before a column, after a rule of a field or before one
+abbrev pub bar : Table → ℕ → ℕ → Bool → Bool → List Stroke
+bar t r c was now = if bars_of t r c == 0 then [] else some_bars t c was now (bars_of t r c)
+
+abbrev pub is_ruled : Table → ℕ → ℕ → Bool
+is_ruled t r c = ((cell t r c).top == r) && is_rule (cell t r c).field.form
+
+-- before a column
+abbrev pub was_ruled : Table → ℕ → ℕ → Bool
+was_ruled t r c = nat_lt 0 c && is_ruled t r (c - 1)
+
+-- where no bar stands, and no rule before it, it begins with its column
+abbrev pub rule_begin : Table → ℕ → ℕ → List Stroke
+rule_begin t r c = if not (was_ruled t r c) && (bars_of t r c == 0) then To (column t c).left ∷ [] else []
+
+abbrev pub field_rule : Table → ℕ → ℕ → List Stroke
+field_rule t r c = rule_begin t r c ++ pens.dash (column t (cell t r c).last).right
+
+abbrev pub content : Table → ℕ → ℕ → Option ℕ → List Stroke
+content t r c line =
+    let f = cell t r c in
+    if (f.top == r) && (f.first == c) then
+    (if is_rule f.field.form then field_rule t r c else if f.falls then falling t r c line else field_strokes t f)
+    else falling t r c line
+
+abbrev pub row_cell : Table → ℕ → ℕ → Option ℕ → List Stroke
+row_cell t r c line = bar t r c (was_ruled t r c) (is_ruled t r c) ++ content t r c line
+
+-- of the first columns
+abbrev pub row_cells : ℕ → Table → ℕ → Option ℕ → List Stroke
+row_cells zero t r line = []
+row_cells (suc c) t r line = row_cells c t r line ++ row_cell t r c line
+
+abbrev pub row_strokes : Table → ℕ → Option ℕ → List Stroke
+row_strokes t r line = row_cells (columns t) t r line ++ bar t r (columns t) (was_ruled t r (columns t)) false
+
+-- ---- the bars of a row alone
+
+abbrev pub bars_cell : Table → ℕ → ℕ → Option ℕ → List Stroke
+bars_cell t r c line = bar t r c false false ++ falling t r c line
+
+abbrev pub bars_cells : ℕ → Table → ℕ → Option ℕ → List Stroke
+bars_cells zero t r line = []
+bars_cells (suc c) t r line = bars_cells c t r line ++ bars_cell t r c line
+
+abbrev pub bars_strokes : Table → ℕ → Option ℕ → List Stroke
+bars_strokes t r line = bars_cells (columns t) t r line ++ bar t r (columns t) false false
+
+-- ---- a rule between two rows: + where bars meet it, | where they go on on both sides of it; it has a gap where a field goes on
+
+-- before a column; the edge is as a column over which one goes on
+abbrev pub was_covered : Table → Option ℕ → Option ℕ → ℕ → Bool
+was_covered t above below c = (c == 0) || is_covered t above below (c - 1)
+
+abbrev pub crossing_begin : Table → Option ℕ → Option ℕ → ℕ → List Stroke
+crossing_begin t above below c = if c == 0 then [] else go (not (was_covered t above below c)) (bar_place t c)
+
+abbrev pub crossing_byte : Bool → ℕ
+crossing_byte on_both_sides = if on_both_sides then code "|" else code "+"
+
+abbrev pub goes_through : Table → Option ℕ → Option ℕ → ℕ → Bool
+goes_through t above below c = was_covered t above below c && is_covered t above below c
+
+abbrev pub some_crossing : Table → Option ℕ → Option ℕ → ℕ → ℕ → List Stroke
+some_crossing t above below c n = crossing_begin t above below c ++ pens.bars (crossing_byte (goes_through t above below c)) n
+
+abbrev pub crossing : Table → Option ℕ → Option ℕ → ℕ → List Stroke
+crossing t above below c =
+    if meeting t above below c == 0 then [] else some_crossing t above below c (meeting t above below c)
+
+abbrev pub going_on : Table → Option ℕ → Option ℕ → ℕ → Option ℕ → List Stroke
+going_on t above None c line = []
+going_on t above (Some r) c line = if is_covered t above (Some r) c then falling t r c line else []
+
+abbrev pub rule_cell : Table → Option ℕ → Option ℕ → ℕ → Option ℕ → List Stroke
+rule_cell t above below c line =
+    crossing t above below c ++ going_on t above below c line ++ go (not (is_covered t above below c)) (column t c).right
+
+abbrev pub rule_cells : ℕ → Table → Option ℕ → Option ℕ → Option ℕ → List Stroke
+rule_cells zero t above below line = []
+rule_cells (suc c) t above below line = rule_cells c t above below line ++ rule_cell t above below c line
+
+abbrev pub rule_end : Table → Option ℕ → Option ℕ → List Stroke
+rule_end t above below =
+    if meeting t above below (columns t) == 0 then [] else pens.bars (crossing_byte (was_covered t above below (columns t))) 1
+
+abbrev pub rule_strokes : Table → Option ℕ → Option ℕ → Option ℕ → List Stroke
+rule_strokes t above below line =
+    rule_cells (columns t) t above below line
+    ++ go (not (was_covered t above below (columns t) && nat_lt 0 (columns t))) (table_end t) ++ rule_end t above below
+
+-- the outer rule of a double box meets no bars
+abbrev pub edge_strokes : Table → List Stroke
+edge_strokes t = pens.bars (code "+") 1 ++ pens.dash (table_end t) ++ pens.bars (code "+") 1
+
+-- ---- lines
+
+-- an empty one stands for itself, or doesn't
+abbrev pub whole : List Stroke → Bool → List Stroke
+whole strokes told = Start ∷ strokes ++ pens.end told
+
+-- the bars of a row, on a line of the table and so many further
+abbrev pub bars_on : Table → ℕ → ℕ → ℕ → List Stroke
+bars_on t r line more = whole (bars_strokes t r (Some (sum line more))) false
+
+abbrev pub bars_lines : ℕ → Table → ℕ → ℕ → List Stroke
+bars_lines zero t r line = []
+bars_lines (suc n) t r line = bars_lines n t r line ++ bars_on t r line n

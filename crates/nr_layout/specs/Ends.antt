@@ -1,0 +1,40 @@
+-- Where the lines of a table in a box end (Lesk, "Global options"; tbl(1), "Region options"): rows, rules and the outer rules of a double box
+-- at the same place, behind the bar at the table's end, so they are of one width, that of the table. What stands in their columns must stand
+-- within the table.
+use Rattle.std.specs.Prelude.{◌≡◌, ℕ, ◌≤◌, true, List, ◌∷◌, Option, Some}
+use Rattle.nr_layout.specs.declared.places.Mark.TheVariants as marks
+use Rattle.nr_layout.specs.declared.places.Place.{Place}
+use Rattle.nr_layout.specs.declared.table.Table.{Table}
+use Rattle.nr_layout.specs.Drawing.{edge_strokes, row_cells, row_strokes, rule_cells, rule_strokes}
+use Rattle.nr_layout.specs.Frames.{bars_of, meeting, table_end}
+use Rattle.nr_layout.specs.Held.{columns}
+use Rattle.nr_layout.specs.Pens.{Stroke, Start, after_all, first}
+use Rattle.nr_layout.specs.Places.{is_same_mark, on}
+
+-- where a line stands behind strokes
+abbrev pub end_of : List Stroke → Option Place
+end_of strokes = (after_all (Start ∷ strokes) first).at
+
+-- at a place that is counted from what the table's end is counted from, and is no further
+pub record StandsWithin (t : Table) (strokes : List Stroke) : Type 0 where
+  pub place : Place
+  pub ends : end_of strokes ≡ Some place
+  pub alike : is_same_mark place.mark (table_end t).mark ≡ true
+  pub within : place.cells ≤ (table_end t).cells
+
+-- behind the bar at the table's end
+abbrev pub width_end : Table → Place
+width_end t = on 1 (table_end t)
+
+abbrev pub RowsEndTogether : Type 0
+RowsEndTogether =
+    (t : Table) (r : ℕ) (line : Option ℕ) → bars_of t r (columns t) ≡ 1 → StandsWithin t (row_cells (columns t) t r line)
+    → end_of (row_strokes t r line) ≡ Some (width_end t)
+
+abbrev pub RulesEndTogether : Type 0
+RulesEndTogether =
+    (t : Table) (above below line : Option ℕ) → meeting t above below (columns t) ≡ 1 → StandsWithin t (rule_cells (columns t) t above below line)
+    → end_of (rule_strokes t above below line) ≡ Some (width_end t)
+
+abbrev pub EdgesEndTogether : Type 0
+EdgesEndTogether = (t : Table) → (table_end t).mark ≡ marks.Edge → 1 ≤ (table_end t).cells → end_of (edge_strokes t) ≡ Some (width_end t)

@@ -1,0 +1,125 @@
+-- Columns of x, or the spaces between columns, share what is left of the line (tbl(1), "Column modifiers" and "Region options"): `*S` is how
+-- much that is, `*t` a share of it.
+use Rattle.std.specs.Prelude.{ℕ, zero, suc, ◌-◌, Bool, true, false, ◌==◌, ◌||◌, List, [], ◌∷◌, ◌++◌, None, codes, decimal, if◌then◌else◌}
+use Rattle.nr_layout.specs.declared.table.Table.{Table}
+use Rattle.nr_layout.specs.declared.told.Told.{Told}
+use Rattle.nr_layout.specs.Blocks.{blocks_text, blocks_told}
+use Rattle.nr_layout.specs.Held.{column, columns}
+use Rattle.nr_layout.specs.Registers.{one_more}
+use Rattle.nr_layout.specs.Sequences.{joined, some_below}
+use Rattle.nr_layout.specs.Standing.{places_text}
+use Rattle.nr_layout.specs.Widening.{share_of}
+use Rattle.nr_layout.specs.Writing.{line, parts}
+
+-- ---- columns of x
+
+abbrev pub wide_at : Table → ℕ → Bool
+wide_at t c = (column t c).wide
+
+-- how many of the first ones have it
+abbrev pub wide_count : ℕ → Table → ℕ
+wide_count zero t = 0
+wide_count (suc c) t = one_more (wide_at t c) (wide_count c t)
+
+abbrev pub wide_column : Table → ℕ → List ℕ
+wide_column t c = if wide_at t c then line (codes ".nr *S +(\\n[*w" ∷ decimal c ∷ codes "]u/24)" ∷ []) else []
+
+-- what is left of the line has their widths too
+abbrev pub wide_text : Table → List ℕ
+wide_text t = joined (columns t) (wide_column t)
+
+-- among how many the rest is shared behind the first columns
+abbrev pub one_less : Bool → ℕ → ℕ
+one_less counts n = if counts then n - 1 else n
+
+abbrev pub left_after : ℕ → ℕ → Table → ℕ
+left_after zero wide t = wide
+left_after (suc c) wide t = one_less (wide_at t c) (left_after c wide t)
+
+abbrev pub column_share : ℕ → ℕ → List ℕ
+column_share c left =
+    share_of left ++ parts (codes ".if \\n[*w" ∷ decimal c ∷ codes "]<\\n(*tn .nr *w" ∷ decimal c ∷ [])
+    ++ codes " \\n(*tn\n.nr *S -\\n(*t\n"
+
+abbrev pub column_share_if : Table → ℕ → ℕ → List ℕ
+column_share_if t c left = if wide_at t c then column_share c left else []
+
+abbrev pub column_share_at : ℕ → Table → ℕ → List ℕ
+column_share_at wide t c = column_share_if t c (left_after c wide t)
+
+abbrev pub column_shares : ℕ → Table → List ℕ
+column_shares wide t = joined (columns t) (column_share_at wide t)
+
+abbrev pub columns_shared : Table → List ℕ
+columns_shared t = wide_text t ++ column_shares (wide_count (columns t) t) t
+
+-- ---- the spaces between columns
+
+-- set to nothing
+abbrev pub no_gap : ℕ → List ℕ
+no_gap c = line (codes ".nr *s" ∷ decimal c ∷ codes " 0" ∷ [])
+
+abbrev pub no_gaps : ℕ → List ℕ
+no_gaps gaps = joined gaps no_gap
+
+abbrev pub gap_share : ℕ → ℕ → List ℕ
+gap_share gaps c = share_of (gaps - c) ++ line (codes ".nr *s" ∷ decimal c ∷ codes " +(\\n(*tn)\n.nr *S -\\n(*t" ∷ [])
+
+abbrev pub gap_shares : ℕ → List ℕ
+gap_shares gaps = joined gaps (gap_share gaps)
+
+abbrev pub some_gaps : ℕ → List ℕ
+some_gaps gaps =
+    codes ".ie \\n(*S>0 \\{\\\n" ++ gap_shares gaps ++ codes ".\\}\n.el .if \\n(*S<0 \\{\\\n" ++ no_gaps gaps
+    ++ codes ".\\}\n"
+
+-- a table of one column becomes wider itself
+abbrev pub one_widened : List ℕ
+one_widened = codes ".if \\n(*S>0 .nr *w0 +(\\n(*Sn)\n"
+
+abbrev pub gaps_shared_of : ℕ → List ℕ
+gaps_shared_of gaps = if gaps == 0 then one_widened else some_gaps gaps
+
+abbrev pub gaps_shared : Table → List ℕ
+gaps_shared t = gaps_shared_of (columns t - 1)
+
+-- as the formats say
+abbrev pub gap_set : Table → ℕ → List ℕ
+gap_set t c = line (codes ".nr *s" ∷ decimal c ∷ codes " " ∷ decimal (column t c).gap ∷ codes "n" ∷ [])
+
+abbrev pub gaps_set : Table → List ℕ
+gaps_set t = joined (columns t) (gap_set t)
+
+-- ---- where all stands
+
+abbrev pub has_wide : Table → Bool
+has_wide t = some_below (columns t) (wide_at t)
+
+abbrev pub is_shared : Table → Bool
+is_shared t = t.looks.expand || has_wide t
+
+abbrev pub gaps_set_if : Table → List ℕ
+gaps_set_if t = if t.looks.expand then gaps_set t else []
+
+abbrev pub shares : Table → List ℕ
+shares t = if has_wide t then columns_shared t else gaps_shared t
+
+-- blocks in columns that became wider are set anew
+abbrev pub unsettled : Told → Told
+unsettled told = record told { clean = false; columns = None }
+
+abbrev pub shared_text : Table → Told → List ℕ
+shared_text t told =
+    codes ".nr *S \\n(*L-\\n(*I-\\n(*W/24\n" ++ shares t ++ blocks_text t true (unsettled told) ++ places_text t
+
+abbrev pub shared_text_if : Table → Told → List ℕ
+shared_text_if t told = if is_shared t then shared_text t told else []
+
+abbrev pub told_shared : Table → Told → Told
+told_shared t told = blocks_told t true (unsettled told)
+
+abbrev pub placing_text : Table → Told → List ℕ
+placing_text t told = gaps_set_if t ++ places_text t ++ shared_text_if t told
+
+abbrev pub told_placed : Table → Told → Told
+told_placed t told = if is_shared t then told_shared t told else told

@@ -1,0 +1,228 @@
+-- The lines of a table, from its top to its bottom (Lesk, "Data" and "Global options"; tbl(1), "Region options"): rows in their order, with
+-- the rules among them. A box has a rule above and below, allbox one between rows too, a double box two of each; a rule that stands first or
+-- last in a box is one of its own. A request stands where it is; after a row with bars one of space gives lines of these bars.
+use Rattle.std.specs.Prelude.{ℕ, zero, suc, ◌+◌, ◌-◌, ◌/◌, min, Bool, true, false, ◌&&◌, ◌||◌, not, nat_lt, length, Option, None, Some, if◌then◌else◌}
+use Rattle.nr_layout.specs.declared.steps.Walk.{Walk}
+use Rattle.nr_layout.specs.declared.table.Cell.{Cell}
+use Rattle.nr_layout.specs.declared.table.Field.{Field}
+use Rattle.nr_layout.specs.declared.table.Item.{Item}
+use Rattle.nr_layout.specs.declared.table.Item.TheVariants as items
+use Rattle.nr_layout.specs.declared.table.Row.{Row}
+use Rattle.nr_layout.specs.declared.table.Span.{Span}
+use Rattle.nr_layout.specs.declared.table.Stand.{Stand}
+use Rattle.nr_layout.specs.declared.table.Stand.TheVariants as stands
+use Rattle.nr_layout.specs.declared.table.Step.{Step}
+use Rattle.nr_layout.specs.declared.table.StepKind.{StepKind}
+use Rattle.nr_layout.specs.declared.table.StepKind.TheVariants as steps
+use Rattle.nr_layout.specs.declared.table.Table.{Table}
+use Rattle.nr_layout.specs.Frames.{has_bars}
+use Rattle.nr_layout.specs.Held.{cell_of, field, has_text, is_all, is_block, is_boxed, is_double, item, none_of, row, step, text_of}
+use Rattle.nr_layout.specs.Lists.{added, in_turn, put}
+use Rattle.nr_layout.specs.Places.{sum}
+use Rattle.nr_layout.specs.Requests.{space_of}
+
+-- ---- a walk over what stands below one another: its table, the last row, whether a rule waits for the row below, and the lines so far
+
+pub record Walking : Type 0 where
+  pub table : Table
+  pub walk : Walk
+
+abbrev pub walking : Table → Walk → Walking
+walking t walk = record { table = t; walk = walk }
+
+-- so many lines more
+abbrev pub with_lines : ℕ → Walk → Walk
+with_lines lines w = record w { line = sum w.line lines }
+
+abbrev pub with_rule : Bool → Walk → Walk
+with_rule ruled w = record w { ruled = ruled }
+
+abbrev pub with_row : Option ℕ → Bool → Walk → Walk
+with_row last ruled w = record w { last = last; ruled = ruled }
+
+abbrev pub ruled : Bool → Walking → Walking
+ruled waits w = record w { walk = with_rule waits w.walk }
+
+abbrev pub after_row : ℕ → Bool → Walking → Walking
+after_row r waits w = record w { walk = with_row (Some r) waits w.walk }
+
+abbrev pub step_at : StepKind → ℕ → Step
+step_at kind line = record { kind = kind; line = line }
+
+abbrev pub stepped : StepKind → ℕ → Walking → Walking
+stepped kind lines w = record {
+  table = record w.table { steps = added (step_at kind w.walk.line) w.table.steps };
+  walk = with_lines lines w.walk;
+}
+
+-- a rule that waits goes out above the row below
+abbrev pub released : Option ℕ → Walking → Walking
+released below w = if w.walk.ruled then stepped (steps.Rule w.walk.last below) 1 w else w
+
+-- lines of a row's bars
+abbrev pub barred : ℕ → ℕ → Walking → Walking
+barred r lines w = stepped (steps.Bars r lines) lines (ruled false (released w.walk.last w))
+
+-- after a row with bars a request of space gives lines of these
+abbrev pub row_in : Table → Option ℕ → Option ℕ → Option ℕ
+row_in t (Some lines) (Some r) = if has_bars t r then Some r else None
+row_in t space last = None
+
+abbrev pub row_asked : Table → Option ℕ → Walk → Option ℕ
+row_asked t space walk = row_in t space walk.last
+
+abbrev pub asked : Option ℕ → Option ℕ → Span → Walking → Walking
+asked (Some lines) (Some r) s w = barred r lines w
+asked space row s w = stepped (steps.Request s) 1 w
+
+abbrev pub space_in : Table → Span → Option ℕ
+space_in t s = space_of (text_of t s)
+
+abbrev pub walked_request : Span → Walking → Walking
+walked_request s w = asked (space_in w.table s) (row_asked w.table (space_in w.table s) w.walk) s w
+
+-- ---- a row
+
+-- fields stand in no column
+abbrev pub prints : Field → Bool
+prints f = has_text f || is_block f.form
+
+abbrev pub some_print : ℕ → Table → ℕ → Bool
+some_print zero t n = false
+some_print (suc k) t n = prints (field t n) || some_print k t (n + 1)
+
+abbrev pub has_beyond : Table → Row → Bool
+has_beyond t r = some_print (r.«end» - r.beyond) t r.beyond
+
+abbrev pub row_on_step : ℕ → Row → Table → Table
+row_on_step n r t = record t { rows = put n (record r { step = length t.steps.items }) t.rows }
+
+abbrev pub on_step : ℕ → Row → Walking → Walking
+on_step n r w = record w { table = row_on_step n r w.table }
+
+abbrev pub row_stepped : ℕ → Walking → Walking
+row_stepped n w = after_row n (is_all w.table.looks.frame) (stepped (steps.Row n) 1 w)
+
+abbrev pub beyond_stepped : ℕ → Row → Walking → Walking
+beyond_stepped n r w = if has_beyond w.table r then stepped (steps.Beyond n) 1 w else w
+
+-- a row that takes room, below a rule if one waits
+abbrev pub walked_own_row : ℕ → Row → Walking → Walking
+walked_own_row n r w =
+    beyond_stepped n r (row_stepped n (on_step n r (released (Some n) (stepped (steps.Before n w.walk.ruled) 0 w))))
+
+abbrev pub walked_row_in : Row → ℕ → Walking → Walking
+walked_row_in r n w = if r.own then walked_own_row n r w else stepped (steps.Before n false) 0 w
+
+abbrev pub walked_row : ℕ → Walking → Walking
+walked_row n w = walked_row_in (row w.table n) n w
+
+-- ---- an item
+
+abbrev pub walked_rule : Walking → Walking
+walked_rule w = ruled true (released w.walk.last w)
+
+abbrev pub walked_item : Item → Walking → Walking
+walked_item items.Rule w = walked_rule w
+walked_item (items.Request s) w = walked_request s w
+walked_item (items.Row n) w = walked_row n w
+
+abbrev pub walked_at : ℕ → Walking → Walking
+walked_at n w = walked_item (item w.table n) w
+
+abbrev pub walked_items : Walking → Walking
+walked_items w = in_turn (length w.table.items.items) walked_at w
+
+-- ---- what stands above the first item and below the last
+
+-- a table of which a part went out goes on
+abbrev pub first_walk : Table → Walk
+first_walk t = record { last = None; ruled = if t.begun then is_all t.looks.frame else is_boxed t; line = 0 }
+
+abbrev pub walking_on : Table → Walking
+walking_on t = walking t (first_walk t)
+
+abbrev pub walk_begun : Table → Walking
+walk_begun t = if is_double t.looks.frame && not t.begun then stepped steps.Edge 1 (walking_on t) else walking_on t
+
+abbrev pub is_rule_item : Item → Bool
+is_rule_item items.Rule = true
+is_rule_item i = false
+
+abbrev pub ends_with_rule : Table → Bool
+ends_with_rule t = nat_lt 0 (length t.items.items) && is_rule_item (item t (length t.items.items - 1))
+
+abbrev pub closed_rule : Bool → Walking → Walking
+closed_rule ends w = if ends_with_rule w.table && (is_boxed w.table || not ends) then released w.walk.last w else w
+
+abbrev pub closed_box : Bool → Walking → Walking
+closed_box ends w = if ends && (w.walk.ruled || is_boxed w.table) then stepped (steps.Rule w.walk.last None) 1 w else w
+
+abbrev pub closed_double : Bool → Walking → Walking
+closed_double ends w = if ends && is_double w.table.looks.frame then stepped steps.Edge 1 w else w
+
+abbrev pub walk_ended : Bool → Walking → Walking
+walk_ended ends w = closed_double ends (closed_box ends (closed_rule ends w))
+
+-- ---- a table, or a part of one that ends with the table or doesn't
+
+abbrev pub without_steps : Table → Table
+without_steps t = record t { steps = none_of t.steps }
+
+abbrev pub walked : Bool → Table → Walking
+walked ends t = walk_ended ends (walked_items (walk_begun (without_steps t)))
+
+abbrev pub steps_taken : Bool → Table → Table
+steps_taken ends t = (walked ends t).table
+
+-- how many lines they are
+abbrev pub lines_taken : Bool → Table → ℕ
+lines_taken ends t = (walked ends t).walk.line
+
+-- ---- fields that go on over rows below stand at the top of these, in their middle or at their bottom
+
+abbrev pub row_line : Table → ℕ → ℕ
+row_line t r = (step t (row t r).step).line
+
+-- the last line of a step up to another, if it has one on which a field may stand
+abbrev pub standing_on : StepKind → ℕ → ℕ → Option ℕ
+standing_on steps.Edge line wanted = Some line
+standing_on (steps.Rule above below) line wanted = Some line
+standing_on (steps.Row r) line wanted = Some line
+standing_on (steps.Bars r lines) line wanted = Some (min (sum line (lines - 1)) wanted)
+standing_on kind line wanted = None
+
+abbrev pub standing_line : Step → ℕ → Option ℕ
+standing_line s wanted = standing_on s.kind s.line wanted
+
+abbrev pub or_line : Option ℕ → ℕ → ℕ
+or_line None line = line
+or_line (Some found) line = found
+
+-- of the next steps, while they begin no further
+abbrev pub line_among : ℕ → Table → ℕ → ℕ → ℕ → ℕ
+line_among zero t n wanted line = line
+line_among (suc k) t n wanted line =
+    if nat_lt wanted (step t n).line then line else line_among k t (n + 1) wanted (or_line (standing_line (step t n) wanted) line)
+
+abbrev pub line_up_to : Table → ℕ → ℕ → ℕ
+line_up_to t r wanted = line_among (length t.steps.items - (row t r).step) t (row t r).step wanted (row_line t r)
+
+abbrev pub line_wanted : Stand → ℕ → ℕ → ℕ
+line_wanted stands.Top top bottom = top
+line_wanted stands.Middle top bottom = sum top ((bottom - top) / 2)
+line_wanted stands.Low top bottom = bottom
+
+abbrev pub line_of : Table → Cell → ℕ
+line_of t f = line_up_to t f.top (line_wanted f.key.stand (row_line t f.top) (row_line t f.bottom))
+
+abbrev pub on_line : ℕ → Cell → Cell
+on_line line f = record f { line = line }
+
+abbrev pub settled_line : ℕ → Table → Table
+settled_line n t =
+    let f = cell_of t n in
+    if f.falls then record t { cells = put n (on_line (line_of t f) f) t.cells } else t
+
+abbrev pub lines_settled : Table → Table
+lines_settled t = in_turn (length t.cells.items) settled_line t

@@ -1,0 +1,341 @@
+//! Lines of a table are drawn: bars, fields, and rules in their place.
+ghost use Rattle.std.specs.Prelude.{◌≡◌, ◌==◌, ◌&&◌, ◌||◌};
+ghost use Rattle.nr_layout.specs.Contents as contents;
+ghost use Rattle.nr_layout.specs.Drawing as specs;
+ghost use Rattle.nr_layout.specs.Held as held;
+ghost use Rattle.nr_layout.specs.declared.table.Form.TheVariants as forms;
+ghost use Rattle.nr_layout.specs.Tapes.{Draws};
+
+use super::places::Place;
+use super::table::{Cell, Form, Table};
+use super::writing::Out;
+use nr_units::sink::Sink;
+
+/// It goes on at a place, by a rule or not.
+pub(crate) fn go<W: Sink>(ruled: bool, place: Place, out: &mut Out<'_, W>)
+    ensures { Draws out.old out.new (specs.go ruled place) }
+{
+    if ruled {
+        return out.dash(place);
+    }
+    out.to(place);
+}
+
+/// The byte of bars: a rule meets them at the left or at the right, or none does.
+fn bar_byte(was: bool, now: bool) -> u8
+    ensures { result ≡ specs.bar_byte (was || now) }
+{
+    if was || now { b'+' } else { b'|' }
+}
+
+/// Whether a field that goes on over rows below stands on a line.
+fn stands_on(line: Option<usize>, cell: Cell) -> bool
+    ensures { result ≡ specs.stands_on line cell }
+{
+    match line {
+        Some(line) => line == cell.line,
+        None => false,
+    }
+}
+
+impl Cell {
+    /// Whether it begins in a column of a row.
+    fn begins(self, row: usize, column: usize) -> bool
+        ensures { result ≡ ((self.top == row) && (self.first == column)) }
+    {
+        self.top == row && self.first == column
+    }
+
+    /// Whether it is a rule through its columns.
+    fn is_ruled(self) -> bool
+        ensures { result ≡ held.is_rule self.field.form }
+    {
+        matches!(self.field.form, Form::Rule)
+    }
+}
+
+impl Table {
+    /// A byte that is repeated over the columns of a field.
+    fn draw_repeat<W: Sink>(&self, byte: u8, cell: Cell, out: &mut Out<'_, W>)
+        ensures { Draws out.old out.new (specs.field_in (forms.Repeat byte) self.now cell) }
+    {
+        out.to(self.column(cell.first).left);
+        out.fill(byte, self.column(cell.last).right);
+    }
+
+    /// A rule as wide as what stands in the columns of a field.
+    fn draw_inner<W: Sink>(&self, cell: Cell, out: &mut Out<'_, W>)
+        ensures { Draws out.old out.new (specs.field_in forms.Inner self.now cell) }
+    {
+        out.to(self.column(cell.first).left);
+        out.dash(self.column(cell.last).right);
+    }
+
+    /// A field.
+    #[tactic(auto, using(crate::proofs::Tapes::draws_nothing))]
+    pub(crate) fn draw_field<W: Sink>(&self, cell: Cell, out: &mut Out<'_, W>)
+        ensures { Draws out.old out.new (specs.field_strokes self.now cell) }
+    {
+        match cell.field.form {
+            Form::Inner => self.draw_inner(cell, out),
+            Form::Repeat(byte) => self.draw_repeat(byte, cell, out),
+            Form::Text => {
+                if cell.field.has_text() {
+                    self.draw_text(cell, out);
+                }
+            }
+            _ => {}
+        }
+    }
+
+    /// A field that goes on over rows below, if it stands on this line.
+    #[tactic(auto, using(crate::proofs::Tapes::draws_nothing))]
+    pub(crate) fn draw_falling<W: Sink>(
+        &self,
+        row: usize,
+        column: usize,
+        line: Option<usize>,
+        out: &mut Out<'_, W>,
+    )
+        ensures { Draws out.old out.new (specs.falling self.now row column line) }
+    {
+        let cell = self.cell(row, column);
+        if cell.falls && cell.first == column && stands_on(line, cell) {
+            self.draw_field(cell, out);
+        }
+    }
+
+    /// The bars before a column, after a rule of a field or before one.
+    #[tactic(auto, using(crate::proofs::Tapes::draws_nothing))]
+    fn draw_bar<W: Sink>(
+        &self,
+        row: usize,
+        column: usize,
+        was: bool,
+        now: bool,
+        out: &mut Out<'_, W>,
+    )
+        ensures { Draws out.old out.new (specs.bar self.now row column was now) }
+    {
+        let bars = self.bars_of(row, column);
+        if bars == 0 {
+            return;
+        }
+        self.draw_some_bars(column, was, now, bars, out);
+    }
+
+    /// So many bars before a column.
+    fn draw_some_bars<W: Sink>(
+        &self,
+        column: usize,
+        was: bool,
+        now: bool,
+        bars: usize,
+        out: &mut Out<'_, W>,
+    )
+        ensures { Draws out.old out.new (specs.some_bars self.now column was now bars) }
+    {
+        go(was, self.bar_place(column), out);
+        out.bars(bar_byte(was, now), bars);
+    }
+
+    /// Whether a field of a row is a rule in a column.
+    fn is_ruled(&self, row: usize, column: usize) -> bool
+        ensures { result ≡ specs.is_ruled self.now row column }
+    {
+        let cell = self.cell(row, column);
+        cell.top == row && matches!(cell.field.form, Form::Rule)
+    }
+
+    /// Whether one is before a column.
+    fn was_ruled(&self, row: usize, column: usize) -> bool
+        ensures { result ≡ specs.was_ruled self.now row column }
+    {
+        0 < column && self.is_ruled(row, column - 1)
+    }
+
+    /// Where no bar stands, and no rule before it, a rule begins with its column.
+    #[tactic(auto, using(crate::proofs::Tapes::draws_nothing))]
+    fn begin_rule<W: Sink>(&self, row: usize, column: usize, out: &mut Out<'_, W>)
+        ensures { Draws out.old out.new (specs.rule_begin self.now row column) }
+    {
+        if !self.was_ruled(row, column) && self.bars_of(row, column) == 0 {
+            out.to(self.column(column).left);
+        }
+    }
+
+    /// A rule through the columns of a field.
+    fn draw_field_rule<W: Sink>(&self, row: usize, column: usize, out: &mut Out<'_, W>)
+        ensures { Draws out.old out.new (specs.field_rule self.now row column) }
+    {
+        self.begin_rule(row, column, out);
+        let cell = self.cell(row, column);
+        out.dash(self.column(cell.last).right);
+    }
+
+    /// What stands in a column in which its field begins.
+    fn draw_own<W: Sink>(
+        &self,
+        row: usize,
+        column: usize,
+        cell: Cell,
+        line: Option<usize>,
+        out: &mut Out<'_, W>,
+    )
+        ensures { Draws out.old out.new (contents.own self.now row column line cell) }
+    {
+        if cell.is_ruled() {
+            return self.draw_field_rule(row, column, out);
+        }
+        if cell.falls {
+            return self.draw_falling(row, column, line, out);
+        }
+        self.draw_field(cell, out);
+    }
+
+    /// What stands in a column of a row.
+    fn draw_content<W: Sink>(
+        &self,
+        row: usize,
+        column: usize,
+        line: Option<usize>,
+        out: &mut Out<'_, W>,
+    )
+        ensures { Draws out.old out.new (specs.content self.now row column line) }
+    {
+        let cell = self.cell(row, column);
+        if !cell.begins(row, column) {
+            return self.draw_falling(row, column, line, out);
+        }
+        self.draw_own(row, column, cell, line, out);
+    }
+
+    /// A column of a row, with the bars before it.
+    fn draw_cell<W: Sink>(
+        &self,
+        row: usize,
+        column: usize,
+        line: Option<usize>,
+        out: &mut Out<'_, W>,
+    )
+        ensures { Draws out.old out.new (specs.row_cell self.now row column line) }
+    {
+        let was = self.was_ruled(row, column);
+        let now = self.is_ruled(row, column);
+        self.draw_bar(row, column, was, now, out);
+        self.draw_content(row, column, line, out);
+    }
+
+    /// The columns of a row.
+    fn draw_cells<W: Sink>(&self, row: usize, line: Option<usize>, out: &mut Out<'_, W>)
+        ensures { Draws out.old out.new (specs.row_cells (held.columns self.now) self.now row line) }
+    {
+        for column in 0..self.columns.len() {
+            self.draw_cell(row, column, line, out);
+        }
+    }
+
+    /// A row: bars, rules of fields, fields.
+    pub(crate) fn draw_row<W: Sink>(&self, row: usize, line: Option<usize>, out: &mut Out<'_, W>)
+        ensures { Draws out.old out.new (specs.row_strokes self.now row line) }
+    {
+        self.draw_cells(row, line, out);
+        let columns = self.columns.len();
+        self.draw_bar(row, columns, self.was_ruled(row, columns), false, out);
+    }
+
+    /// A column of the bars of a row alone.
+    fn draw_bars_cell<W: Sink>(
+        &self,
+        row: usize,
+        column: usize,
+        line: Option<usize>,
+        out: &mut Out<'_, W>,
+    )
+        ensures { Draws out.old out.new (specs.bars_cell self.now row column line) }
+    {
+        self.draw_bar(row, column, false, false, out);
+        self.draw_falling(row, column, line, out);
+    }
+
+    /// The columns of these.
+    fn draw_bars_cells<W: Sink>(&self, row: usize, line: Option<usize>, out: &mut Out<'_, W>)
+        ensures { Draws out.old out.new (specs.bars_cells (held.columns self.now) self.now row line) }
+    {
+        for column in 0..self.columns.len() {
+            self.draw_bars_cell(row, column, line, out);
+        }
+    }
+
+    /// The bars of a row alone.
+    pub(crate) fn draw_bars<W: Sink>(&self, row: usize, line: Option<usize>, out: &mut Out<'_, W>)
+        ensures { Draws out.old out.new (specs.bars_strokes self.now row line) }
+    {
+        self.draw_bars_cells(row, line, out);
+        self.draw_bar(row, self.columns.len(), false, false, out);
+    }
+
+    /// The line of a row; an empty one stands for itself, or doesn't.
+    pub(crate) fn put_row_line<W: Sink>(
+        &self,
+        row: usize,
+        line: Option<usize>,
+        told: bool,
+        out: &mut Out<'_, W>,
+    )
+        ensures { Draws out.old out.new (specs.whole (specs.row_strokes self.now row line) told) }
+    {
+        out.start();
+        self.draw_row(row, line, out);
+        out.end(told);
+    }
+
+    /// A line of a row's bars.
+    pub(crate) fn put_bars_line<W: Sink>(
+        &self,
+        row: usize,
+        line: Option<usize>,
+        told: bool,
+        out: &mut Out<'_, W>,
+    )
+        ensures { Draws out.old out.new (specs.whole (specs.bars_strokes self.now row line) told) }
+    {
+        out.start();
+        self.draw_bars(row, line, out);
+        out.end(told);
+    }
+
+    /// The line of a rule between two rows.
+    pub(crate) fn put_rule_line<W: Sink>(
+        &self,
+        above: Option<usize>,
+        below: Option<usize>,
+        line: Option<usize>,
+        told: bool,
+        out: &mut Out<'_, W>,
+    )
+        ensures { Draws out.old out.new (specs.whole (specs.rule_strokes self.now above below line) told) }
+    {
+        out.start();
+        self.draw_rule(above, below, line, out);
+        out.end(told);
+    }
+
+    /// The line of the outer rule of a double box.
+    pub(crate) fn put_edge_line<W: Sink>(&self, told: bool, out: &mut Out<'_, W>)
+        ensures { Draws out.old out.new (specs.whole (specs.edge_strokes self.now) told) }
+    {
+        out.start();
+        self.draw_edge(out);
+        out.end(told);
+    }
+
+    /// The line of a field alone.
+    pub(crate) fn put_field_line<W: Sink>(&self, cell: Cell, told: bool, out: &mut Out<'_, W>)
+        ensures { Draws out.old out.new (specs.whole (specs.field_strokes self.now cell) told) }
+    {
+        out.start();
+        self.draw_field(cell, out);
+        out.end(told);
+    }
+}

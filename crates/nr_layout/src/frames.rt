@@ -1,0 +1,297 @@
+//! Bars, rules and frames: what meets where.
+
+ghost use Rattle.std.specs.Prelude.{◌≡◌};
+ghost use Rattle.nr_layout.specs.Frames as specs;
+ghost use Rattle.nr_layout.specs.Held as held;
+ghost use Rattle.nr_layout.specs.Laid as laid;
+
+use super::lists::set_item;
+use super::places::{Mark, Place};
+use super::table::{Cell, Column, Form, Table};
+
+impl Column {
+    /// Where a column ends that begins at a place.
+    fn right_from(self, number: usize, left: Place) -> Place
+        ensures { result ≡ laid.right_of number self left }
+    {
+        if self.known {
+            left.on(self.width)
+        } else {
+            Place::after(Mark::End(number))
+        }
+    }
+
+    /// Where the bars stand after it.
+    fn bar_after(self, told: bool, number: usize, right: Place) -> Place
+        ensures { result ≡ laid.bar_of told number self right }
+    {
+        if told {
+            Place::after(Mark::Bar(number.saturating_add(1)))
+        } else {
+            right.on(self.gap / 2)
+        }
+    }
+
+    /// Where the next one begins.
+    fn next_after(self, told: bool, number: usize, right: Place) -> Place
+        ensures { result ≡ laid.next_of told number self right }
+    {
+        if told {
+            Place::after(Mark::Begin(number.saturating_add(1)))
+        } else {
+            right.on(self.gap)
+        }
+    }
+}
+
+impl Table {
+    /// Whether a column of a row goes on from the left.
+    fn is_inside(&self, row: usize, column: usize) -> bool
+        ensures { result ≡ specs.is_inside self.now row column }
+    {
+        let line = self.line(self.row(row).line);
+        let left = column.saturating_sub(1);
+        self.key(line, column).kind == b's'
+            || self.cell_number(row, column) == self.cell_number(row, left)
+    }
+
+    /// The bars that a frame puts before a column, or after the last one.
+    fn framing_bars(&self, inside: bool) -> usize
+        ensures { result ≡ specs.framing self.now inside }
+    {
+        let framed = if inside {
+            self.is_all_boxed()
+        } else {
+            self.is_boxed()
+        };
+        if framed { 1 } else { 0 }
+    }
+
+    /// How many bars stand before a column of this row, or after the last one.
+    pub(crate) fn bars_of(&self, row: usize, column: usize) -> usize
+        ensures { result ≡ specs.bars_of self.now row column }
+    {
+        let between = 0 < column && column < self.columns.len();
+        if between && self.is_inside(row, column) {
+            return 0;
+        }
+        let bars = self.bars_in(self.line(self.row(row).line), column);
+        if bars > 0 {
+            return bars;
+        }
+        self.framing_bars(between)
+    }
+
+    /// How many bars stand before a column of a row, if there is one, or after the last one.
+    pub(crate) fn bars_at(&self, row: Option<usize>, column: usize) -> usize
+        ensures { result ≡ specs.bars_at self.now row column }
+    {
+        match row {
+            Some(row) => self.bars_of(row, column),
+            None => 0,
+        }
+    }
+
+    /// Whether a row has bars.
+    #[tactic(auto, using(crate::proofs::Nexts::bars_next))]
+    pub(crate) fn has_bars(&self, row: usize) -> bool
+        ensures { result ≡ specs.has_bars self.now row }
+    {
+        for column in 0..self.columns.len().saturating_add(1) {
+            if self.bars_at(Some(row), column) > 0 {
+                return true;
+            }
+        }
+        false
+    }
+
+    /// Whether a field from above goes on over a column between two rows.
+    pub(crate) fn is_covered(
+        &self,
+        above: Option<usize>,
+        below: Option<usize>,
+        column: usize,
+    ) -> bool
+        ensures { result ≡ specs.is_covered self.now above below column }
+    {
+        let Some(above) = above else {
+            return false;
+        };
+        let Some(below) = below else {
+            return false;
+        };
+        above != below && self.cell(below, column).top < below
+    }
+
+    /// The most bars that a line of formats has before a column, or after the last one.
+    fn most_bars(&self, column: usize) -> usize
+        ensures { result ≡ specs.most_bars self.now column }
+    {
+        let mut bars = 0;
+        for line in 0..self.lines.len() {
+            bars = self.bars_in(self.line(line), column).max(bars);
+        }
+        bars
+    }
+
+    /// What stands at the left edge.
+    pub(crate) fn left_edge(&self) -> usize
+        ensures { result ≡ specs.left_edge self.now }
+    {
+        self.most_bars(0).max(self.framing_bars(false))
+    }
+
+    /// What stands at the right edge.
+    pub(crate) fn right_edge(&self) -> usize
+        ensures { result ≡ specs.right_edge self.now }
+    {
+        let bars = self.most_bars(self.columns.len());
+        bars.max(self.framing_bars(false)).min(1)
+    }
+
+    /// Whether only the formatter knows how wide the columns of a cell are.
+    fn hides(&self, cell: Cell) -> bool
+        ensures { result ≡ laid.hides cell }
+    {
+        let block = matches!(cell.field.form, Form::Block);
+        (cell.spans() && cell.measures()) || block || cell.name > 0
+    }
+
+    /// Whether the formats say enough of a column for its width to be known before the table is printed.
+    fn is_said(&self, column: Column) -> bool
+        ensures { result ≡ laid.is_said self.now column }
+    {
+        let alone = self.looks.expand && self.columns.len() == 1;
+        !alone && !column.wide && !column.equal && column.least_cells.is_some()
+    }
+
+    /// A column is known, or it isn't.
+    fn set_known(&mut self, number: usize, known: bool)
+        ensures value { self.new ≡ laid.known_at known number self.old }
+        ensures room { held.emptied self.new ≡ held.emptied self.old }
+    {
+        let column = self.column(number);
+        set_item(&mut self.columns, number, Column { known, ..column });
+    }
+
+    /// A column is known if the formats say enough of it.
+    fn know_column(&mut self, number: usize)
+        ensures value { self.new ≡ laid.known_column number self.old }
+        ensures room { held.emptied self.new ≡ held.emptied self.old }
+    {
+        let known = self.is_said(self.column(number));
+        self.set_known(number, known);
+    }
+
+    /// The columns of a cell aren't known.
+    #[tactic(auto, using(crate::proofs::Turns::one_further))]
+    fn hide_columns(&mut self, cell: Cell)
+        ensures value { self.new ≡ laid.hidden cell self.old }
+        ensures room { held.emptied self.new ≡ held.emptied self.old }
+    {
+        for number in cell.first..cell.last.saturating_add(1) {
+            self.set_known(number, false);
+        }
+    }
+
+    /// The columns of a cell aren't known if it hides them.
+    fn hide_cell(&mut self, number: usize)
+        ensures value { self.new ≡ laid.hidden_cell number self.old }
+        ensures room { held.emptied self.new ≡ held.emptied self.old }
+    {
+        let cell = self.cell_of(number);
+        if self.hides(cell) {
+            self.hide_columns(cell);
+        }
+    }
+
+    /// Of which columns the formats say enough.
+    #[tactic(auto, using(crate::proofs::Turns::one_more))]
+    fn know_said(&mut self)
+        ensures value { self.new ≡ laid.said_columns self.old }
+        ensures room { held.emptied self.new ≡ held.emptied self.old }
+    {
+        for number in 0..self.columns.len() {
+            self.know_column(number);
+        }
+    }
+
+    /// Which columns are known before the table is printed.
+    #[tactic(auto, using(crate::proofs::Turns::one_more))]
+    pub(crate) fn know_columns(&mut self)
+        ensures value { self.new ≡ laid.known_columns self.old }
+        ensures room { held.emptied self.new ≡ held.emptied self.old }
+    {
+        self.know_said();
+        for number in 0..self.cells.len() {
+            self.hide_cell(number);
+        }
+    }
+
+    /// All columns are known.
+    #[tactic(auto, using(crate::proofs::Turns::one_more))]
+    pub(crate) fn know_all(&mut self)
+        ensures value { self.new ≡ laid.known_all self.old }
+        ensures room { held.emptied self.new ≡ held.emptied self.old }
+    {
+        for number in 0..self.columns.len() {
+            self.set_known(number, true);
+        }
+    }
+
+    /// A column begins at a place; tells where the next one does.
+    fn lay_column(&mut self, number: usize, left: Place) -> Place
+        ensures value { self.new ≡ (laid.laid_column number (laid.laying self.old left)).table }
+        ensures next { result ≡ (laid.laid_column number (laid.laying self.old left)).place }
+        ensures room { held.emptied self.new ≡ held.emptied self.old }
+    {
+        let column = self.column(number);
+        let told = self.looks.expand;
+        let right = column.right_from(number, left);
+        let bar = column.bar_after(told, number, right);
+        let placed = Column {
+            left,
+            right,
+            bar,
+            ..column
+        };
+        set_item(&mut self.columns, number, placed);
+        column.next_after(told, number, right)
+    }
+
+    /// The places of columns.
+    #[tactic(auto, using(crate::proofs::Turns::one_more))]
+    pub(crate) fn lay_out(&mut self)
+        ensures value { self.new ≡ laid.laid_out self.old }
+        ensures room { held.emptied self.new ≡ held.emptied self.old }
+    {
+        let mut place = Place::edge().on(self.left_edge());
+        for number in 0..self.columns.len() {
+            place = self.lay_column(number, place);
+        }
+    }
+
+    /// Where the table ends.
+    pub(crate) fn end(&self) -> Place
+        ensures { result ≡ specs.table_end self.now }
+    {
+        let columns = self.columns.len();
+        if columns == 0 {
+            return Place::edge();
+        }
+        self.column(columns - 1).right.on(self.right_edge())
+    }
+
+    /// Where bars before a column stand, or after the last one.
+    pub(crate) fn bar_place(&self, column: usize) -> Place
+        ensures { result ≡ specs.bar_place self.now column }
+    {
+        if column == 0 {
+            Place::edge()
+        } else if column >= self.columns.len() {
+            self.end()
+        } else {
+            self.column(column - 1).bar
+        }
+    }
+}

@@ -1,0 +1,43 @@
+//! Laws of the lines of a table, each the contract of a function that does nothing: they speak of the definitions alone.
+ghost use Rattle.nr_layout.specs.Ends.{EdgesEndTogether, RowsEndTogether, RulesEndTogether};
+ghost use Rattle.nr_layout.specs.Fitting.{EqualColumns, FieldsFit, LeastFits, SpansFit};
+ghost use Rattle.nr_layout.specs.Ordering.{RowsGoOut};
+ghost use Rattle.nr_layout.specs.Texts.{BarsHaveTheirTexts, EdgesHaveNone, RowsHaveTheirTexts, RulesHaveTheirTexts, TextsGoOut};
+
+/// With a line go out the texts of the fields that stand on it, each once, in the order of columns, and no others: with a row
+/// those that begin in it, and of those that go on over rows below the ones that stand here; with a rule and with bars alone
+/// only such. They stand in its bytes one after the other.
+pub fn each_text_once()
+    ensures rows { RowsHaveTheirTexts }
+    ensures bars { BarsHaveTheirTexts }
+    ensures rules { RulesHaveTheirTexts }
+    ensures edges { EdgesHaveNone }
+    ensures bytes { TextsGoOut }
+{}
+
+/// In a box whose lines have one bar at the table's end, rows, rules and outer rules end at the same place, behind that bar,
+/// where what stands in their columns stands within the table: they are of one width, that of the table.
+pub fn lines_end_together()
+    ensures rows { RowsEndTogether }
+    ensures rules { RulesEndTogether }
+    ensures edges { EdgesEndTogether }
+{}
+
+/// A field fits in its columns, where its width shows: once all are measured, a column is no narrower than a field that stands in it
+/// alone, and several together, with the spaces between them, no narrower than one that stands in these.
+pub fn fields_fit_columns()
+    ensures one { FieldsFit }
+    ensures several { SpansFit }
+{}
+
+/// Columns keep to their formats: once all are measured, each has one cell at least and is as wide as `w` says, where that shows, and
+/// those of `e` are of one width.
+pub fn columns_keep_formats()
+    ensures least { LeastFits }
+    ensures equal { EqualColumns }
+{}
+
+/// Among the lines of a table stands each row that takes room, once and in its order, and no other row; so it is in a part of one, too.
+pub fn rows_go_out_once()
+    ensures { RowsGoOut }
+{}

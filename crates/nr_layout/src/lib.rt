@@ -1,0 +1,41 @@
+//! Tables as they are held, measured and laid out.
+//!
+//! It stands on nr_units and nr_rooms. To read: `lists`, `places`, `table`, `held`, `formats`, `rows`; `extent`, `cells`,
+//! `counted`, `columns`, `frames`; `requests`, `steps`; `pen`, `writing`, `fields`, `drawing`, `ruling`, `lines`; `told`,
+//! `names`, `registers`, `widening`, `standing`, `blocks`, `sharing`, `heights`, `kept`, `beside`, `measured`; `laws`.
+#![tactic(auto)]
+
+mod beside;
+mod blocks;
+mod cells;
+mod columns;
+mod counted;
+mod drawing;
+mod extent;
+mod fields;
+mod formats;
+mod frames;
+mod heights;
+mod held;
+mod kept;
+pub mod laws;
+mod lines;
+mod lists;
+mod measured;
+mod names;
+mod pen;
+mod places;
+mod registers;
+mod requests;
+mod rows;
+mod ruling;
+mod sharing;
+mod standing;
+mod steps;
+mod table;
+mod told;
+mod widening;
+mod writing;
+
+pub use table::{Form, Frame, Looks, Stand, Table};
+pub use writing::Out;

@@ -1,0 +1,405 @@
+//! The lines of a table, in their order: rows, rules and requests, with the rules that boxes have.
+
+ghost use Rattle.std.specs.Prelude.{◌≡◌};
+ghost use Rattle.nr_layout.specs.Held as held;
+ghost use Rattle.nr_layout.specs.Steps as specs;
+
+use super::lists::{add_item, set_item};
+use super::requests::space_of;
+use super::table::{Cell, Form, Item, Row, Span, Stand, Step, StepKind, Table};
+
+/// What a walk over the items of a table has met.
+#[derive(Clone, Copy)]
+struct Walk {
+    /// The last row.
+    last: Option<usize>,
+    /// A rule waits for the row below.
+    ruled: bool,
+    /// The lines so far.
+    line: usize,
+}
+
+impl Walk {
+    /// A rule waits, or none.
+    fn with_rule(self, ruled: bool) -> Walk
+        ensures { result ≡ specs.with_rule ruled self }
+    {
+        Walk { ruled, ..self }
+    }
+
+    /// So many lines more.
+    fn with_lines(self, lines: usize) -> Walk
+        ensures { result ≡ specs.with_lines lines self }
+    {
+        Walk {
+            line: self.line.saturating_add(lines),
+            ..self
+        }
+    }
+}
+
+impl Table {
+    /// A step that takes so many lines.
+    fn add_step(&mut self, kind: StepKind, lines: usize, walk: Walk) -> Walk
+        ensures value { self.new ≡ (specs.stepped kind lines (specs.walking self.old walk)).table }
+        ensures walk { result ≡ (specs.stepped kind lines (specs.walking self.old walk)).walk }
+        ensures room { held.emptied self.new ≡ held.emptied self.old }
+    {
+        let line = walk.line;
+        add_item(&mut self.steps, Step { kind, line });
+        walk.with_lines(lines)
+    }
+
+    /// A rule below the last row, if one waits.
+    fn release_rule(&mut self, below: Option<usize>, walk: Walk) -> Walk
+        ensures value { self.new ≡ (specs.released below (specs.walking self.old walk)).table }
+        ensures walk { result ≡ (specs.released below (specs.walking self.old walk)).walk }
+        ensures room { held.emptied self.new ≡ held.emptied self.old }
+    {
+        if !walk.ruled {
+            return walk;
+        }
+        self.add_step(StepKind::Rule(walk.last, below), 1, walk)
+    }
+
+    /// Lines of a row's bars.
+    fn add_bars(&mut self, row: usize, lines: usize, walk: Walk) -> Walk
+        ensures value { self.new ≡ (specs.barred row lines (specs.walking self.old walk)).table }
+        ensures walk { result ≡ (specs.barred row lines (specs.walking self.old walk)).walk }
+        ensures room { held.emptied self.new ≡ held.emptied self.old }
+    {
+        let walk = self.release_rule(walk.last, walk);
+        self.add_step(StepKind::Bars(row, lines), lines, walk.with_rule(false))
+    }
+
+    /// The row whose bars a request gives that asks for space or not.
+    fn row_asked(&self, space: Option<usize>, walk: Walk) -> Option<usize>
+        ensures { result ≡ specs.row_asked self.now space walk }
+    {
+        match (space, walk.last) {
+            (Some(_), Some(row)) if self.has_bars(row) => Some(row),
+            _ => None,
+        }
+    }
+
+    /// A request. One of space gives lines of bars after a row that has them.
+    fn walk_request(&mut self, span: Span, walk: Walk) -> Walk
+        ensures value { self.new ≡ (specs.walked_request span (specs.walking self.old walk)).table }
+        ensures walk { result ≡ (specs.walked_request span (specs.walking self.old walk)).walk }
+        ensures room { held.emptied self.new ≡ held.emptied self.old }
+    {
+        let space = space_of(self.bytes(span));
+        match (space, self.row_asked(space, walk)) {
+            (Some(lines), Some(row)) => self.add_bars(row, lines, walk),
+            _ => self.add_step(StepKind::Request(span), 1, walk),
+        }
+    }
+
+    /// Whether fields of a row stand in no column.
+    #[tactic(auto, using(crate::proofs::Nexts::prints_next))]
+    fn has_beyond(&self, row: Row) -> bool
+        ensures { result ≡ specs.has_beyond self.now row }
+    {
+        for number in row.beyond..row.end {
+            let field = self.field(number);
+            if field.has_text() || matches!(field.form, Form::Block) {
+                return true;
+            }
+        }
+        false
+    }
+
+    /// A row's step is the next one.
+    fn set_step(&mut self, number: usize, row: Row)
+        ensures value { self.new ≡ specs.row_on_step number row self.old }
+        ensures room { held.emptied self.new ≡ held.emptied self.old }
+    {
+        let step = self.steps.len();
+        set_item(&mut self.rows, number, Row { step, ..row });
+    }
+
+    /// The line of a row.
+    fn add_row(&mut self, number: usize, walk: Walk) -> Walk
+        ensures value { self.new ≡ (specs.row_stepped number (specs.walking self.old walk)).table }
+        ensures walk { result ≡ (specs.row_stepped number (specs.walking self.old walk)).walk }
+        ensures room { held.emptied self.new ≡ held.emptied self.old }
+    {
+        let walk = self.add_step(StepKind::Row(number), 1, walk);
+        Walk {
+            ruled: self.is_all_boxed(),
+            last: Some(number),
+            ..walk
+        }
+    }
+
+    /// The fields of a row that stand in no column, if there are any.
+    fn add_beyond(&mut self, number: usize, row: Row, walk: Walk) -> Walk
+        ensures value { self.new ≡ (specs.beyond_stepped number row (specs.walking self.old walk)).table }
+        ensures walk { result ≡ (specs.beyond_stepped number row (specs.walking self.old walk)).walk }
+        ensures room { held.emptied self.new ≡ held.emptied self.old }
+    {
+        if !self.has_beyond(row) {
+            return walk;
+        }
+        self.add_step(StepKind::Beyond(number), 1, walk)
+    }
+
+    /// A row that takes room.
+    fn walk_own_row(&mut self, number: usize, row: Row, walk: Walk) -> Walk
+        ensures value { self.new ≡ (specs.walked_own_row number row (specs.walking self.old walk)).table }
+        ensures walk { result ≡ (specs.walked_own_row number row (specs.walking self.old walk)).walk }
+        ensures room { held.emptied self.new ≡ held.emptied self.old }
+    {
+        let walk = self.add_step(StepKind::Before(number, walk.ruled), 0, walk);
+        let walk = self.release_rule(Some(number), walk);
+        self.set_step(number, row);
+        let walk = self.add_row(number, walk);
+        self.add_beyond(number, row, walk)
+    }
+
+    /// A row.
+    fn walk_row(&mut self, number: usize, walk: Walk) -> Walk
+        ensures value { self.new ≡ (specs.walked_row number (specs.walking self.old walk)).table }
+        ensures walk { result ≡ (specs.walked_row number (specs.walking self.old walk)).walk }
+        ensures room { held.emptied self.new ≡ held.emptied self.old }
+    {
+        let row = self.row(number);
+        if row.own {
+            return self.walk_own_row(number, row, walk);
+        }
+        self.add_step(StepKind::Before(number, false), 0, walk)
+    }
+
+    /// A rule waits.
+    fn walk_rule(&mut self, walk: Walk) -> Walk
+        ensures value { self.new ≡ (specs.walked_rule (specs.walking self.old walk)).table }
+        ensures walk { result ≡ (specs.walked_rule (specs.walking self.old walk)).walk }
+        ensures room { held.emptied self.new ≡ held.emptied self.old }
+    {
+        self.release_rule(walk.last, walk).with_rule(true)
+    }
+
+    /// An item.
+    fn walk_item(&mut self, item: Item, walk: Walk) -> Walk
+        ensures value { self.new ≡ (specs.walked_item item (specs.walking self.old walk)).table }
+        ensures walk { result ≡ (specs.walked_item item (specs.walking self.old walk)).walk }
+        ensures room { held.emptied self.new ≡ held.emptied self.old }
+    {
+        match item {
+            Item::Rule => self.walk_rule(walk),
+            Item::Request(span) => self.walk_request(span, walk),
+            Item::Row(number) => self.walk_row(number, walk),
+        }
+    }
+
+    /// What is known before the first item.
+    fn first_walk(&self) -> Walk
+        ensures { result ≡ specs.first_walk self.now }
+    {
+        let ruled = if self.begun {
+            self.is_all_boxed()
+        } else {
+            self.is_boxed()
+        };
+        Walk {
+            last: None,
+            ruled,
+            line: 0,
+        }
+    }
+
+    /// What stands above the first item.
+    fn walk_begin(&mut self) -> Walk
+        ensures value { self.new ≡ (specs.walk_begun self.old).table }
+        ensures walk { result ≡ (specs.walk_begun self.old).walk }
+        ensures room { held.emptied self.new ≡ held.emptied self.old }
+    {
+        let walk = self.first_walk();
+        if self.is_double() && !self.begun {
+            return self.add_step(StepKind::Edge, 1, walk);
+        }
+        walk
+    }
+
+    /// Whether the last item is a rule.
+    fn ends_with_rule(&self) -> bool
+        ensures { result ≡ specs.ends_with_rule self.now }
+    {
+        let items = self.items.len();
+        items > 0 && matches!(self.item(items - 1), Item::Rule)
+    }
+
+    /// The last item's rule goes out in a box, or where the table goes on.
+    fn close_rule(&mut self, ends: bool, walk: Walk) -> Walk
+        ensures value { self.new ≡ (specs.closed_rule ends (specs.walking self.old walk)).table }
+        ensures walk { result ≡ (specs.closed_rule ends (specs.walking self.old walk)).walk }
+        ensures room { held.emptied self.new ≡ held.emptied self.old }
+    {
+        if self.ends_with_rule() && (self.is_boxed() || !ends) {
+            return self.release_rule(walk.last, walk);
+        }
+        walk
+    }
+
+    /// The rule below a table.
+    fn close_box(&mut self, ends: bool, walk: Walk) -> Walk
+        ensures value { self.new ≡ (specs.closed_box ends (specs.walking self.old walk)).table }
+        ensures walk { result ≡ (specs.closed_box ends (specs.walking self.old walk)).walk }
+        ensures room { held.emptied self.new ≡ held.emptied self.old }
+    {
+        if ends && (walk.ruled || self.is_boxed()) {
+            return self.add_step(StepKind::Rule(walk.last, None), 1, walk);
+        }
+        walk
+    }
+
+    /// The outer rule below a double box.
+    fn close_double(&mut self, ends: bool, walk: Walk) -> Walk
+        ensures value { self.new ≡ (specs.closed_double ends (specs.walking self.old walk)).table }
+        ensures walk { result ≡ (specs.closed_double ends (specs.walking self.old walk)).walk }
+        ensures room { held.emptied self.new ≡ held.emptied self.old }
+    {
+        if ends && self.is_double() {
+            return self.add_step(StepKind::Edge, 1, walk);
+        }
+        walk
+    }
+
+    /// What stands below the last item.
+    fn walk_end(&mut self, ends: bool, walk: Walk) -> Walk
+        ensures value { self.new ≡ (specs.walk_ended ends (specs.walking self.old walk)).table }
+        ensures walk { result ≡ (specs.walk_ended ends (specs.walking self.old walk)).walk }
+        ensures room { held.emptied self.new ≡ held.emptied self.old }
+    {
+        let walk = self.close_rule(ends, walk);
+        let walk = self.close_box(ends, walk);
+        self.close_double(ends, walk)
+    }
+
+    /// The items.
+    #[tactic(auto, using(crate::proofs::Turns::one_more))]
+    fn walk_items(&mut self, walk: Walk) -> Walk
+        ensures value { self.new ≡ (specs.walked_items (specs.walking self.old walk)).table }
+        ensures walk { result ≡ (specs.walked_items (specs.walking self.old walk)).walk }
+        ensures room { held.emptied self.new ≡ held.emptied self.old }
+    {
+        let mut walk = walk;
+        for number in 0..self.items.len() {
+            walk = self.walk_item(self.item(number), walk);
+        }
+        walk
+    }
+
+    /// No lines are known.
+    fn forget_steps(&mut self)
+        ensures value { self.new ≡ specs.without_steps self.old }
+        ensures room { held.emptied self.new ≡ held.emptied self.old }
+    {
+        self.steps.clear();
+    }
+
+    /// The lines of a table, or of a part of one, that ends here or not; tells how many they are.
+    pub(crate) fn take_steps(&mut self, ends: bool) -> usize
+        ensures value { self.new ≡ specs.steps_taken ends self.old }
+        ensures lines { result ≡ specs.lines_taken ends self.old }
+        ensures room { held.emptied self.new ≡ held.emptied self.old }
+    {
+        self.forget_steps();
+        let walk = self.walk_begin();
+        let walk = self.walk_items(walk);
+        self.walk_end(ends, walk).line
+    }
+
+    /// The line of a row's step.
+    pub(crate) fn row_line(&self, row: usize) -> usize
+        ensures { result ≡ specs.row_line self.now row }
+    {
+        self.step(self.row(row).step).line
+    }
+
+    /// The last line of a step up to another, if it has one on which a field may stand.
+    fn standing_line(&self, step: Step, wanted: usize) -> Option<usize>
+        ensures { result ≡ specs.standing_line step wanted }
+    {
+        match step.kind {
+            StepKind::Edge | StepKind::Rule(_, _) | StepKind::Row(_) => Some(step.line),
+            StepKind::Bars(_, lines) => {
+                Some(
+                    step.line
+                        .saturating_add(lines.saturating_sub(1))
+                        .min(wanted),
+                )
+            }
+            _ => None,
+        }
+    }
+
+    /// A line that was found, or another.
+    fn or_line(&self, found: Option<usize>, line: usize) -> usize
+        ensures { result ≡ specs.or_line found line }
+    {
+        match found {
+            Some(found) => found,
+            None => line,
+        }
+    }
+
+    /// The last line up to another on which a field may stand, from a row on.
+    #[tactic(auto, using(crate::proofs::Nexts::line_next))]
+    fn line_up_to(&self, row: usize, wanted: usize) -> usize
+        ensures { result ≡ specs.line_up_to self.now row wanted }
+    {
+        let mut line = self.row_line(row);
+        for number in self.row(row).step..self.steps.len() {
+            let step = self.step(number);
+            if step.line > wanted {
+                return line;
+            }
+            line = self.or_line(self.standing_line(step, wanted), line);
+        }
+        line
+    }
+
+    /// The line on which a field is to stand that goes on over rows below.
+    fn line_wanted(&self, stand: Stand, top: usize, bottom: usize) -> usize
+        ensures { result ≡ specs.line_wanted stand top bottom }
+    {
+        match stand {
+            Stand::Top => top,
+            Stand::Middle => top.saturating_add(bottom.saturating_sub(top) / 2),
+            Stand::Low => bottom,
+        }
+    }
+
+    /// The line on which a field stands that goes on over rows below.
+    fn line_of(&self, cell: Cell) -> usize
+        ensures { result ≡ specs.line_of self.now cell }
+    {
+        let top = self.row_line(cell.top);
+        let bottom = self.row_line(cell.bottom);
+        self.line_up_to(cell.top, self.line_wanted(cell.key.stand, top, bottom))
+    }
+
+    /// A field that goes on over rows below stands on a line of these.
+    fn settle_line(&mut self, number: usize)
+        ensures value { self.new ≡ specs.settled_line number self.old }
+        ensures room { held.emptied self.new ≡ held.emptied self.old }
+    {
+        let cell = self.cell_of(number);
+        if cell.falls {
+            let line = self.line_of(cell);
+            set_item(&mut self.cells, number, Cell { line, ..cell });
+        }
+    }
+
+    /// Fields that go on over rows below stand on a line of these.
+    #[tactic(auto, using(crate::proofs::Turns::one_more))]
+    pub(crate) fn settle_lines(&mut self)
+        ensures value { self.new ≡ specs.lines_settled self.old }
+        ensures room { held.emptied self.new ≡ held.emptied self.old }
+    {
+        for number in 0..self.cells.len() {
+            self.settle_line(number);
+        }
+    }
+}
