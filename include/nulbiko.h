@@ -16,7 +16,7 @@
  * Memory. A call takes what its limits say and room for the output, and gives all of it back. It writes no file,
  * reads none, and prints nothing.
  *
- * Time. Every call ends. `moves` is how many moves or steps it made. nulbiko_format makes at most
+ * Time. Every call ends. `moves` is how many moves or steps it made; nulbiko_tbl counts none. nulbiko_format makes at most
  * 256 * (expansions + 1) * (stored + cells + depth + 4) for each byte of the text, and as many more: that is finite,
  * and far above what a service waits for, so it has a bound of its own, as a process that it can end.
  */
@@ -95,7 +95,7 @@ struct nulbiko_report {
     size_t written; /* Bytes at the front of the output. */
     uint64_t at;    /* The place in the text of what `limit` tells: of nulbiko_format how many bytes had been
                      * taken, of nulbiko_tbl the line, counted from 1. */
-    uint64_t moves; /* Moves or steps that were made, at most 2^64 - 1. */
+    uint64_t moves; /* Moves or steps that were made, at most 2^64 - 1; of nulbiko_tbl 0. */
     uint32_t limit; /* Of nulbiko_format: which limit. Of nulbiko_tbl: what was wrong first. Else 0. */
     uint64_t dropped; /* Of nulbiko_utf8: bytes that are no character, which became nothing. Else 0. */
 };

@@ -2,8 +2,7 @@
 
 use super::formatted;
 use nr_engine::{Buffered, Desk, Outcome};
-use nr_rooms::FixedVec;
-use nr_tbl::{Complaint, Report, convert, pending_size};
+use nr_tables::{Complaint, Report, Rooms, convert};
 use nr_units::fakes::{Script, Slate};
 use nr_units::slice_vec::SliceVec;
 use std::alloc::{AllocError, Global};
@@ -40,7 +39,7 @@ impl Turner {
 }
 
 /// Whether a row gives its pages and ends so, read in large pieces and byte by byte: its line is a name, the
-/// limits that it sets, and after a colon how it ends. Prints its name and how it ends where it does not.
+/// limits that it sets, and behind a colon how it ends. Prints its name and how it ends where it does not.
 pub(crate) fn passes<R: Files + AllocGlobal + Print>(
     rt: &R,
     desk: &mut Desk,
@@ -105,20 +104,15 @@ fn gives<R: Files + AllocGlobal + Print>(
     }
     let pages = fs::read(rt, format!(in rt.alloc(); "{name}.out")?)?;
     let file = fs::open(rt, format!(in rt.alloc(); "{name}.roff")?)?;
-    let mut formats = vec![in rt.alloc(); 0u8; limits.formats]?;
-    let mut row = vec![in rt.alloc(); 0u8; limits.row]?;
-    let mut pending = FixedVec::new(rt.alloc(), pending_size(limits.formats, limits.row))?;
+    let mut rooms = Rooms::new(rt.alloc(), limits.formats, limits.row, limits.line)?;
     let mut printed = vec![in rt.alloc(); 0u8; pages.len()]?;
-    let mut turned = Slate::over(&mut turner.turned);
+    let turned = Slate::over(&mut turner.turned);
     let mut complaints = SliceVec::over(&mut turner.complaints);
-    let report = convert(
+    let (report, turned) = convert(
         &mut Buffered::over(file, buffer),
-        &mut turned,
-        &mut formats,
-        &mut row,
-        limits.line,
+        turned,
+        &mut rooms,
         &mut complaints,
-        &mut pending,
     );
     let mut output = Slate::over(&mut printed);
     let outcome = formatted(desk, &mut Script::new(turned.bytes()), &mut output);
@@ -137,7 +131,7 @@ fn end_of(
     complaints: &[Complaint],
     outcome: Outcome,
 ) -> anyhow::Result<String> {
-    if report.missed || report.outcome != nr_tbl::Outcome::Done || outcome != Outcome::Done {
+    if report.missed || report.outcome != nr_tables::Outcome::Done || outcome != Outcome::Done {
         return Ok(format!(in alloc; "{report:?}, {outcome:?}")?);
     }
     let mut ended = String::new(alloc);

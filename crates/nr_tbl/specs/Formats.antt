@@ -1,5 +1,6 @@
 -- The formats of a table (Tbl, "Format"; tbl(1), "Column descriptors"): lines of columns, each with what modifies it.
-use Rattle.std.specs.Prelude.{ℕ, List, [], ◌∷◌, ◌++◌, codes, Bool, true, false, ◌==◌, ◌&&◌, ◌||◌, nat_le, nat_lt, if◌then◌else◌, Option, None, Some}
+use Rattle.std.specs.Prelude.{ℕ, Bool, true, false, ◌==◌, ◌&&◌, ◌||◌, nat_le, nat_lt, if◌then◌else◌, Option, None, Some}
+use Prim.Native.Char.{code}
 use Rattle.nr_tbl.specs.declared.formats.Formats.{Formats}
 use Rattle.nr_tbl.specs.declared.formats.Part.{Part}
 use Rattle.nr_tbl.specs.declared.formats.Part.TheVariants as parts
@@ -10,27 +11,6 @@ use Rattle.nr_tbl.specs.Numbers.{is_digit, one_more}
 use Rattle.nr_tbl.specs.Options.{small}
 
 -- ---- what is called
-
-abbrev pub bars_digit : ℕ → ℕ
-bars_digit n = if n == 0 then 48 else if n == 1 then 49 else 50
-
-abbrev pub call_bytes : Call → List ℕ
-call_bytes Nothing = []
-call_bytes (Cell kind bars) = codes ".*cell " ++ kind ∷ 32 ∷ bars_digit bars ∷ 10 ∷ []
-call_bytes (Bars bars) = codes ".*bars " ++ bars_digit bars ∷ 10 ∷ []
-call_bytes (Font letter) = codes ".*font " ++ letter ∷ 10 ∷ []
-call_bytes Width = codes ".*width "
-call_bytes (Gap digit) = codes ".*gap " ++ digit ∷ []
-call_bytes (Byte b) = b ∷ []
-call_bytes Equal = codes ".*equal\n"
-call_bytes Wide = codes ".*wide\n"
-call_bytes Zero = codes ".*zero\n"
-call_bytes Top = codes ".*top\n"
-call_bytes Low = codes ".*low\n"
-
--- a call ends, a line begins, and this is called
-abbrev pub called_bytes : Called → List ℕ
-called_bytes c = (if c.ends then 10 ∷ [] else []) ++ (if c.begins then codes ".*line\n" else []) ++ call_bytes c.call
 
 abbrev pub only : Call → Called
 only call = record { ends = false; begins = false; call = call }
@@ -61,8 +41,8 @@ first_formats columns lines numeric = record {
 -- the key letter of a column: - is _
 abbrev pub kind_of : ℕ → Option ℕ
 kind_of b =
-    if (b == 108) || (b == 114) || (b == 99) || (b == 110) || (b == 97) || (b == 115) || (b == 94) || (b == 95) || (b == 61) then Some b else
-    if b == 45 then Some 95 else None
+    if (b == code "l") || (b == code "r") || (b == code "c") || (b == code "n") || (b == code "a") || (b == code "s") || (b == code "^") || (b == code "_") || (b == code "=") then Some b else
+    if b == code "-" then Some (code "_") else None
 
 -- a line begins
 abbrev pub line_begun : Formats → Formats
@@ -70,7 +50,7 @@ line_begun f = record f { cells = 0; many = f.many || nat_le 256 f.lines; lines 
 
 -- nothing stands before the next column, or above it, that could go on over it
 abbrev pub is_bad : ℕ → Formats → Bool
-is_bad kind f = if kind == 115 then f.cells == 0 else if kind == 94 then f.lines == 1 else false
+is_bad kind f = if kind == code "s" then f.cells == 0 else if kind == code "^" then f.lines == 1 else false
 
 -- one column more, of at most 64
 abbrev pub with_cell : ℕ → Formats → Formats
@@ -80,7 +60,7 @@ with_cell kind f =
       many = f.many || nat_le 64 f.cells;
       cells = cells;
       columns = if nat_lt f.columns cells then cells else f.columns;
-      numeric = f.numeric || (kind == 110);
+      numeric = f.numeric || (kind == code "n");
       begun = true;
       bars = 0;
     }
@@ -90,7 +70,7 @@ cell_added kind begins f = told (with_cell kind f) (record { ends = false; begin
 
 -- one of l where it can't be of its kind
 abbrev pub kind_added : ℕ → Bool → Formats → Told
-kind_added kind begins f = if is_bad kind f then cell_added 108 begins (record f { bad = true }) else cell_added kind begins f
+kind_added kind begins f = if is_bad kind f then cell_added (code "l") begins (record f { bad = true }) else cell_added kind begins f
 
 abbrev pub cell : ℕ → Formats → Told
 cell kind f = if f.begun then kind_added kind false f else kind_added kind true (line_begun f)
@@ -112,17 +92,17 @@ going_on part call f = told (record f { part = part }) (only call)
 -- b i e x z t d, u without effect, f w p v m, and a number for the space after it
 abbrev pub modifier : ℕ → Formats → Told
 modifier b f =
-    if b == 98 then told f (only (Font 66)) else
-    if b == 105 then told f (only (Font 73)) else
-    if b == 101 then told f (only Equal) else
-    if b == 120 then told f (only Wide) else
-    if b == 122 then told f (only Zero) else
-    if b == 116 then told f (only Top) else
-    if b == 100 then told f (only Low) else
-    if b == 117 then told f (only Nothing) else
-    if b == 102 then going_on parts.Font Nothing f else
-    if b == 119 then going_on parts.Width Width f else
-    if (b == 112) || (b == 118) || (b == 109) then going_on parts.Size Nothing f else
+    if b == code "b" then told f (only (Font (code "B"))) else
+    if b == code "i" then told f (only (Font (code "I"))) else
+    if b == code "e" then told f (only Equal) else
+    if b == code "x" then told f (only Wide) else
+    if b == code "z" then told f (only Zero) else
+    if b == code "t" then told f (only Top) else
+    if b == code "d" then told f (only Low) else
+    if b == code "u" then told f (only Nothing) else
+    if b == code "f" then going_on parts.Font Nothing f else
+    if b == code "w" then going_on parts.Width Width f else
+    if (b == code "p") || (b == code "v") || (b == code "m") then going_on parts.Size Nothing f else
     if is_digit b then going_on parts.Digits (Gap b) f else bad_byte f
 
 abbrev pub column : ℕ → Option ℕ → Formats → Told
@@ -131,9 +111,9 @@ column b None f = if f.begun then modifier b f else bad_byte f
 
 abbrev pub small_key : ℕ → Formats → Told
 small_key b f =
-    if (b == 10) || (b == 44) then line_ends f else
-    if (b == 32) || (b == 9) || (b == 46) then told f (only Nothing) else
-    if b == 124 then bar f else column b (kind_of b) f
+    if (b == code "\n") || (b == code ",") then line_ends f else
+    if (b == code " ") || (b == code "\t") || (b == code ".") then told f (only Nothing) else
+    if b == code "|" then bar f else column b (kind_of b) f
 
 -- a byte where a column may come, in either case of letters
 abbrev pub key : ℕ → Formats → Told
@@ -153,41 +133,41 @@ cut_short ends b f = ended ends b (record f { bad = true })
 
 -- by the last letter of its name
 abbrev pub font_of : ℕ → ℕ
-font_of b = if (b == 66) || (b == 51) then 66 else if (b == 73) || (b == 50) then 73 else 82
+font_of b = if (b == code "B") || (b == code "3") then code "B" else if (b == code "I") || (b == code "2") then code "I" else code "R"
 
 abbrev pub font : ℕ → Formats → Told
 font b f = going_on parts.Keys (Font (font_of b)) f
 
 abbrev pub in_font : ℕ → Formats → Told
 in_font b f =
-    if b == 40 then going_on (parts.FontName 82) Nothing f else
-    if (b == 32) || (b == 9) then told f (only Nothing) else
-    if b == 10 then cut_short false b f else going_on parts.FontMore (Font (font_of b)) f
+    if b == code "(" then going_on (parts.FontName (code "R")) Nothing f else
+    if (b == code " ") || (b == code "\t") then told f (only Nothing) else
+    if b == code "\n" then cut_short false b f else going_on parts.FontMore (Font (font_of b)) f
 
 -- a capital letter or a digit
 abbrev pub is_name_byte : ℕ → Bool
-is_name_byte b = (nat_le 65 b && nat_le b 90) || is_digit b
+is_name_byte b = (nat_le (code "A") b && nat_le b (code "Z")) || is_digit b
 
 abbrev pub in_font_more : ℕ → Formats → Told
 in_font_more b f = if is_name_byte b then font b f else ended false b f
 
 abbrev pub in_font_name : ℕ → ℕ → Formats → Told
 in_font_name last b f =
-    if b == 41 then font last f else
-    if b == 10 then cut_short false b f else going_on (parts.FontName b) Nothing f
+    if b == code ")" then font last f else
+    if b == code "\n" then cut_short false b f else going_on (parts.FontName b) Nothing f
 
 -- ---- numbers
 
 abbrev pub in_width : ℕ → Formats → Told
 in_width b f =
-    if b == 40 then going_on parts.WidthIn Nothing f else
+    if b == code "(" then going_on parts.WidthIn Nothing f else
     if is_digit b then going_on parts.Digits (Byte b) f else
-    if (b == 32) || (b == 9) then told f (only Nothing) else ended true b f
+    if (b == code " ") || (b == code "\t") then told f (only Nothing) else ended true b f
 
 abbrev pub in_width_in : ℕ → Formats → Told
 in_width_in b f =
-    if b == 41 then going_on parts.Keys (Byte 10) f else
-    if b == 10 then cut_short true b f else told f (only (Byte b))
+    if b == code ")" then going_on parts.Keys (Byte (code "\n")) f else
+    if b == code "\n" then cut_short true b f else told f (only (Byte b))
 
 abbrev pub in_digits : ℕ → Formats → Told
 in_digits b f = if is_digit b then told f (only (Byte b)) else ended true b f
@@ -195,16 +175,16 @@ in_digits b f = if is_digit b then told f (only (Byte b)) else ended true b f
 -- type sizes and the like have no effect
 abbrev pub in_size : ℕ → Formats → Told
 in_size b f =
-    if b == 40 then going_on parts.SizeIn Nothing f else
-    if (b == 43) || (b == 45) || is_digit b then going_on parts.SizeDigits Nothing f else ended false b f
+    if b == code "(" then going_on parts.SizeIn Nothing f else
+    if (b == code "+") || (b == code "-") || is_digit b then going_on parts.SizeDigits Nothing f else ended false b f
 
 abbrev pub in_size_digits : ℕ → Formats → Told
 in_size_digits b f = if is_digit b then told f (only Nothing) else ended false b f
 
 abbrev pub in_size_in : ℕ → Formats → Told
 in_size_in b f =
-    if b == 41 then going_on parts.Keys Nothing f else
-    if b == 10 then cut_short false b f else told f (only Nothing)
+    if b == code ")" then going_on parts.Keys Nothing f else
+    if b == code "\n" then cut_short false b f else told f (only Nothing)
 
 -- ---- a byte, by the part that is half read
 
@@ -222,16 +202,3 @@ read_in parts.SizeIn b f = in_size_in b f
 
 abbrev pub read : ℕ → Formats → Told
 read b f = read_in f.part b f
-
--- ---- all bytes: what was read, and what goes out
-
-pub record Said : Type 0 where
-  pub formats : Formats
-  pub bytes : List ℕ
-
-abbrev pub all_read : List ℕ → Formats → Said
-all_read [] f = record { formats = f; bytes = [] }
-all_read (b ∷ bs) f =
-    let t = read b f in
-    let more = all_read bs t.formats in
-    record { formats = more.formats; bytes = called_bytes t.called ++ more.bytes }

@@ -1,6 +1,7 @@
 -- What a table surely takes of the line, in cells: the printing bytes of the fields of a row, or the widths that its formats say,
 -- and the spaces between them.
 use Rattle.std.specs.Prelude.{ℕ, ◌+◌, ◌-◌, List, [], ◌∷◌, Bool, false, ◌==◌, ◌&&◌, ◌||◌, nat_le, nat_lt, if◌then◌else◌}
+use Prim.Native.Char.{code}
 use Rattle.nr_tbl.specs.declared.measure.Place.{Place}
 use Rattle.nr_tbl.specs.declared.measure.Place.TheVariants.{Text, Escape, Font, First, Second, Unsure}
 use Rattle.nr_tbl.specs.declared.measure.Cells.{Cells}
@@ -22,24 +23,24 @@ at place c = record c { place = place }
 
 -- blanks are among them
 abbrev pub is_printing : ℕ → Bool
-is_printing b = nat_le 32 b && nat_le b 126
+is_printing b = nat_le (code " ") b && nat_le b (code "~")
 
 -- after a backslash a sign, or nothing: - ' ` . e 0 | ^ & % and a blank
 abbrev pub is_sign : ℕ → Bool
 is_sign b =
-    (b == 45) || (b == 39) || (b == 96) || (b == 46) || (b == 101) || (b == 48) || (b == 124) || (b == 94) || (b == 38) || (b == 37) || (b == 32)
+    (b == code "-") || (b == code "'") || (b == code "`") || (b == code ".") || (b == code "e") || (b == code "0") || (b == code "|") || (b == code "^") || (b == code "&") || (b == code "%") || (b == code " ")
 
 -- fonts and characters by name; of a field with another escape nothing is sure
 abbrev pub escaped : ℕ → Place
-escaped b = if b == 102 then Font else if b == 40 then First else if is_sign b then Text else Unsure
+escaped b = if b == code "f" then Font else if b == code "(" then First else if is_sign b then Text else Unsure
 
 abbrev pub font : ℕ → Place
-font b = if b == 40 then First else if b == 91 then Unsure else Text
+font b = if b == code "(" then First else if b == code "[" then Unsure else Text
 
 -- a byte counts outside of escapes
 abbrev pub counted : ℕ → Cells → Cells
 counted b c =
-    if b == 92 then at Escape c else
+    if b == code "\\" then at Escape c else
     if is_printing b then record { place = Text; count = c.count + 1 } else at Unsure c
 
 abbrev pub cells_in : Place → ℕ → Cells → Cells

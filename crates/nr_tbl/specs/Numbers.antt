@@ -1,9 +1,10 @@
 -- Where a number is aligned (tbl(1), "n"): at its first \&, else at its last point before a digit, else after its last digit.
 use Rattle.std.specs.Prelude.{ℕ, ◌+◌, ◌-◌, Bool, ◌==◌, ◌&&◌, nat_le, nat_lt, if◌then◌else◌, Option, None, Some}
+use Prim.Native.Char.{code}
 use Rattle.nr_tbl.specs.declared.numbers.Marks.{Marks}
 
 abbrev pub is_digit : ℕ → Bool
-is_digit b = nat_le 48 b && nat_le b 57
+is_digit b = nat_le (code "0") b && nat_le b (code "9")
 
 abbrev pub first_marks : Marks
 first_marks = record { mark = None; point = None; digit = None; last = 0; solid = 0 }
@@ -24,11 +25,11 @@ mark_with (Some first) is place = Some first
 -- with one byte more, which stands at this place
 abbrev pub marks_with : ℕ → ℕ → ℕ → Marks → Marks
 marks_with b place point m = record {
-  mark = mark_with m.mark ((m.last == 92) && (b == 38)) place;
+  mark = mark_with m.mark ((m.last == code "\\") && (b == code "&")) place;
   point = if is_digit b && (m.last == point) then before place else m.point;
   digit = if is_digit b then Some (place + 1) else m.digit;
   last = b;
-  solid = if b == 32 then m.solid else place + 1;
+  solid = if b == code " " then m.solid else place + 1;
 }
 
 abbrev pub else_at : Option ℕ → Option ℕ → Option ℕ

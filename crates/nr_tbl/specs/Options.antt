@@ -1,6 +1,7 @@
 -- The options of a table (Tbl, "Options"; tbl(1), "Region options"): words, some with an argument, up to the semicolon.
 use Rattle.std.specs.Prelude.{ℕ, ◌+◌, List, [], ◌∷◌, ◌++◌, length, codes, Bool, true, false, ◌==◌, ◌&&◌, ◌||◌, nat_eq, nat_le, if◌then◌else◌, Option, None, Some}
 use Rattle.std.specs.Cmp.Lexicographic.{pointwise}
+use Prim.Native.Char.{code}
 use Rattle.nr_units.specs.Name.{is_full}
 use Rattle.nr_tbl.specs.declared.options.Options.{Options}
 use Rattle.nr_tbl.specs.declared.options.OptionsRead.{OptionsRead}
@@ -12,10 +13,10 @@ abbrev pub is_word : List ℕ → List ℕ → Bool
 is_word word text = pointwise nat_eq word text
 
 abbrev pub small : ℕ → ℕ
-small b = if nat_le 65 b && nat_le b 90 then b + 32 else b
+small b = if nat_le (code "A") b && nat_le b (code "Z") then b + 32 else b
 
 abbrev pub is_letter : ℕ → Bool
-is_letter b = (nat_le 65 b && nat_le b 90) || (nat_le 97 b && nat_le b 122)
+is_letter b = (nat_le (code "A") b && nat_le b (code "Z")) || (nat_le (code "a") b && nat_le b (code "z"))
 
 -- without effect here
 abbrev pub is_passed : List ℕ → Bool
@@ -40,7 +41,7 @@ choice_of word =
 
 -- fields are separated by tabs, and the fraction of a number stands after a point
 abbrev pub no_options : Options
-no_options = record { center = false; expand = false; frame = Open; tab = 9; point = 46; nospaces = false; nokeep = false; unknown = false }
+no_options = record { center = false; expand = false; frame = Open; tab = code "\t"; point = code "."; nospaces = false; nokeep = false; unknown = false }
 
 abbrev pub unknown : Options → Options
 unknown o = record o { unknown = true }
@@ -84,15 +85,15 @@ first_of None b = Some b
 first_of (Some a) b = Some a
 
 abbrev pub in_argument : ℕ → OptionsRead → OptionsRead
-in_argument b r = if b == 41 then word_ended r else record r { argument = first_of r.argument b }
+in_argument b r = if b == code ")" then word_ended r else record r { argument = first_of r.argument b }
 
 -- with one byte more
 abbrev pub options_read : ℕ → OptionsRead → OptionsRead
 options_read b r =
     if r.inside then in_argument b r else
     if is_letter b then letter b r else
-    if b == 40 then record r { inside = true } else
-    if (b == 32) || (b == 9) then record r { spaced = true } else word_ended r
+    if b == code "(" then record r { inside = true } else
+    if (b == code " ") || (b == code "\t") then record r { spaced = true } else word_ended r
 
 -- with many
 abbrev pub all_options : List ℕ → OptionsRead → OptionsRead

@@ -1,50 +1,45 @@
--- Lines outside of tables: they pass as they are, up to one that begins with `.TS`.
-use Rattle.std.specs.Prelude.{ℕ, Bool, true, false, ◌==◌, ◌&&◌, if◌then◌else◌, Option, None, Some}
-use Rattle.nr_tbl.specs.declared.half.Half.{Half}
-use Rattle.nr_tbl.specs.declared.half.Mode.TheVariants as modes
-use Rattle.nr_tbl.specs.declared.half.Act.{Act}
-use Rattle.nr_tbl.specs.declared.half.Act.TheVariants.{Say}
-use Rattle.nr_tbl.specs.declared.held.Held.{Held}
-use Rattle.nr_tbl.specs.declared.held.Held.TheVariants as helds
-use Rattle.nr_tbl.specs.declared.said.Said.TheVariants as says
-use Rattle.nr_tbl.specs.declared.field.Shape.TheVariants.{Empty}
-use Rattle.nr_tbl.specs.Numbers.{first_marks}
-use Rattle.nr_tbl.specs.Options.{no_options}
-use Rattle.nr_tbl.specs.Formats.{first_formats}
-use Rattle.nr_tbl.specs.Measure.{begun, with_row}
-use Rattle.nr_tbl.specs.Held.{ends_name, held_with}
-use Rattle.nr_tbl.specs.Half.{Met, taking, leaving}
+-- Lines that pass: those outside of tables, and those of a table that isn't set.
+use Rattle.std.specs.Prelude.{ℕ, ◌+◌, [], ◌∷◌, Bool, true, false, ◌==◌, if◌then◌else◌}
+use Prim.Native.Char.{code}
+use Rattle.nr_tbl.specs.declared.command.Start.{Start}
+use Rattle.nr_tbl.specs.declared.command.Start.TheVariants.{Nothing}
+use Rattle.nr_tbl.specs.declared.complaint.Kind.{Kind}
+use Rattle.nr_tbl.specs.declared.state.Mode.TheVariants as modes
+use Rattle.nr_tbl.specs.declared.telling.Tell.TheVariants as tells
+use Rattle.nr_tbl.specs.Commands.{start_with, start_of, begins_command}
+use Rattle.nr_tbl.specs.States.{table_begun}
+use Rattle.nr_tbl.specs.Telling.{piece, each}
+use Rattle.nr_tbl.specs.Pages.{Page, Effect, effect, with_state, at_mode, line_counted, forgotten, rest_of, line_of, wrong}
 
-abbrev pub is_begin : Held → Bool
-is_begin helds.Begin = true
-is_begin held = false
+-- ---- lines outside of tables
 
--- it was no command, or the one that begins a table
-abbrev pub released : Held → ℕ → Half → Met
-released held b h =
-    if is_begin held && ends_name b then leaving modes.Title (Say (says.Held held)) h else leaving modes.Passing (Say (says.Held held)) h
+-- one ends that is `.TS`, or another
+abbrev pub line_passed : Bool → Page → Effect
+line_passed true p = effect (forgotten (with_state (table_begun (line_counted p.state)) p)) (piece tells.Table [] ∷ [])
+line_passed false p = effect (with_state (record p.state { line = p.state.line + 1; mode = modes.Passing Nothing }) p) []
 
-abbrev pub start_with : Option Held → Held → ℕ → Half → Met
-start_with (Some more) held b h = taking (modes.Start more) (Say says.Nothing) h
-start_with None held b h = released held b h
+-- a byte of one that begins so
+abbrev pub passed : ℕ → Start → Page → Effect
+passed b start p =
+    if b == code "\n"
+    then (let e = line_passed (begins_command start) p in effect e.page (piece tells.Pass (b ∷ []) ∷ e.pieces))
+    else effect (at_mode (modes.Passing (start_with (code "S") b start)) p) (piece tells.Pass (b ∷ []) ∷ [])
 
-abbrev pub at_start : Held → ℕ → Half → Met
-at_start held b h = start_with (held_with held b) held b h
+-- ---- lines of a table that isn't set
 
-abbrev pub in_passing : ℕ → Half → Met
-in_passing b h = taking (if b == 10 then modes.Start helds.Nothing else modes.Passing) (Say (says.Byte b)) h
+abbrev pub plain_line_passed : Bool → Page → Effect
+plain_line_passed true p =
+    effect (with_state (record p.state { line = p.state.line + 1; mode = modes.Passing Nothing }) p) (piece tells.PlainEnd [] ∷ [])
+plain_line_passed false p = effect (with_state (record p.state { line = p.state.line + 1; mode = modes.Plain Nothing }) p) []
 
--- no field of a row was read
-abbrev pub row_begun : Half → Half
-row_begun h = record h { fields = 0; shape = Empty; marks = first_marks; measure = with_row h.measure }
+abbrev pub plain_passed : ℕ → Start → Page → Effect
+plain_passed b start p =
+    if b == code "\n"
+    then (let e = plain_line_passed (begins_command start) p in effect e.page (piece tells.Pass (b ∷ []) ∷ e.pieces))
+    else effect (at_mode (modes.Plain (start_with (code "E") b start)) p) (piece tells.Pass (b ∷ []) ∷ [])
 
--- a line of formats begins, or that of the options
-abbrev pub formats_begun : Bool → Act → Half → Met
-formats_begun first act h = taking (modes.FormatStart helds.Nothing) act (record h { first = first; dotted = false; opened = false })
-
--- a table begins after the line
-abbrev pub in_title : ℕ → Half → Met
-in_title b h =
-    if b == 10
-    then formats_begun true (Say (says.Begin h.known)) (row_begun (record h { known = true; options = no_options; formats = first_formats 0 0 false; measure = begun h.measure.line }))
-    else taking modes.Title (Say (says.Byte b)) h
+-- the table isn't set further: what is kept of it stands as it is, from here on
+abbrev pub given_up : Kind → Page → Effect
+given_up kind p =
+    effect (forgotten (at_mode (modes.Plain (start_of (code "E") (line_of p))) p))
+    (wrong kind p.state ∷ piece tells.Plain [] ∷ each tells.Pass (rest_of p))

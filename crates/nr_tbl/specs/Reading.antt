@@ -1,279 +1,110 @@
--- A page is read byte by byte.
-use Rattle.std.specs.Prelude.{◌≡◌, ℕ, zero, suc, ◌+◌, ◌-◌, ◌*◌, ◌<◌, List, [], ◌∷◌, ◌++◌, length, take, drop, Bool, true, false, not, ◌==◌, ◌&&◌, nat_lt, if◌then◌else◌, Option, None, Some}
-use Rattle.nr_units.specs.Items.{Items}
-use Rattle.nr_tbl.specs.declared.complaint.Kind.{Kind}
-use Rattle.nr_tbl.specs.declared.complaint.Complaint.{Complaint}
-use Rattle.nr_tbl.specs.declared.complaint.Place.{Place}
-use Rattle.nr_tbl.specs.declared.half.Half.{Half}
-use Rattle.nr_tbl.specs.declared.half.Act.{Act}
-use Rattle.nr_tbl.specs.declared.half.Act.TheVariants as acts
-use Rattle.nr_tbl.specs.declared.half.Full.{Full}
-use Rattle.nr_tbl.specs.declared.half.Mode.{Mode}
-use Rattle.nr_tbl.specs.declared.half.Mode.TheVariants as modes
-use Rattle.nr_tbl.specs.declared.half.Coming.{Coming}
-use Rattle.nr_tbl.specs.declared.half.Coming.TheVariants.{Byte, End}
-use Rattle.nr_tbl.specs.declared.said.Said.{Said}
-use Rattle.nr_tbl.specs.declared.said.Said.TheVariants as says
-pub use Rattle.nr_tbl.specs.Options.{options_of}
-pub use Rattle.nr_tbl.specs.Formats.{all_read}
-pub use Rattle.nr_tbl.specs.Saying.{doubled, text_bytes, front_bytes}
-use Rattle.nr_tbl.specs.Saying.{bytes_of}
-use Rattle.nr_tbl.specs.Formats.{read as format_read, called_bytes}
-use Rattle.nr_tbl.specs.Field.{shape_with}
-use Rattle.nr_tbl.specs.Numbers.{marks_with}
-use Rattle.nr_tbl.specs.Half.{first_half, too_wide}
-use Rattle.nr_tbl.specs.declared.widths.Widths.{Widths}
-use Rattle.nr_tbl.specs.Measure.{cells_of, overruns, taken, with_formats as measured_formats}
-use Rattle.nr_tbl.specs.Widths.{widths_of}
-use Rattle.nr_tbl.specs.Head.{with_options, with_formats}
-use Rattle.nr_tbl.specs.Meeting.{meet}
-use Rattle.nr_tbl.specs.Lines.{first_place, next_place, place_after, taken_to}
+-- A page is read: lines outside of tables pass byte by byte, those of a table are kept up to their end, and then read as a whole.
+use Rattle.std.specs.Prelude.{ℕ, ◌≡◌, ◌<◌, ◌≤◌, take, ◌+◌, List, [], ◌∷◌, ◌++◌, length, Bool, true, false, ◌==◌, if◌then◌else◌, nat_lt}
+use Prim.Native.Char.{code}
+use Rattle.nr_tbl.specs.declared.complaint.Kind.TheVariants.{FormatsLimit}
+use Rattle.nr_tbl.specs.declared.reader.Limits.{Limits}
+use Rattle.nr_tbl.specs.declared.state.Mode.{Mode}
+use Rattle.nr_tbl.specs.declared.state.Mode.TheVariants as modes
+use Rattle.nr_tbl.specs.declared.telling.Tell.TheVariants as tells
+use Rattle.nr_tbl.specs.BlockLines.{block_line, block_overflown}
+use Rattle.nr_tbl.specs.Commands.{is_command}
+use Rattle.nr_tbl.specs.HeadLines.{head_line}
+use Rattle.nr_tbl.specs.Outside.{passed, plain_passed, given_up}
+use Rattle.nr_tbl.specs.Pages.{Page, Effect, effect, and_then, with_state, at_mode, line_counted}
+use Rattle.nr_tbl.specs.RowLines.{line_between, row_line, row_overflown, long_end}
+use Rattle.nr_tbl.specs.declared.command.Start.TheVariants.{Nothing}
+use Rattle.nr_tbl.specs.declared.passing.Lines.{Lines}
+use Rattle.nr_tbl.specs.Telling.{Piece, Tells, piece, each}
 
--- what is half read of a page, what is kept of options and formats, and what of a row, in which a field begins at this place
-pub record Page : Type 0 where
-  pub half : Half
-  pub formats : Items ℕ
-  pub row : Items ℕ
-  pub from : ℕ
+-- how many bytes are kept at most
+abbrev pub limit_in : Mode → Limits → ℕ
+limit_in modes.Head limits = limits.formats
+limit_in mode limits = limits.row
 
--- a page begins; so many bytes of each are kept at most, and the line has so many cells
-abbrev pub first_page : ℕ → ℕ → ℕ → Page
-first_page formats row line = record { half = first_half line; formats = record { items = []; room = formats }; row = record { items = []; room = row }; from = 0 }
+abbrev pub limit_of : Page → ℕ
+limit_of p = limit_in p.state.mode p.limits
 
--- what goes out at most at once
-abbrev pub most : Page → ℕ
-most p = 4 * p.row.room + 32 * p.formats.room + 16384
+-- a line that is kept ends, by where it stands
+abbrev pub line_ended_in : Mode → Page → Effect
+line_ended_in modes.Head p = head_line p
+line_ended_in modes.Rows p = line_between p
+line_ended_in modes.Row p = row_line p
+line_ended_in modes.Block p = block_line p
+line_ended_in mode p = effect p []
 
--- what is half read after an act, and what goes out
-pub record Effect : Type 0 where
-  pub page : Page
-  pub bytes : List ℕ
+abbrev pub line_ended : Page → Effect
+line_ended p = and_then (line_ended_in p.state.mode p) (λ q. effect (with_state (line_counted q.state) q) [])
 
-abbrev pub effect : Page → List ℕ → Effect
-effect p bytes = record { page = p; bytes = bytes }
+-- these bytes are kept too
+abbrev pub with_kept : List ℕ → Page → Page
+with_kept bytes p = record p { kept = p.kept ++ bytes }
 
--- What is half read then, what goes out, and in how many steps: in each what comes meets what is half read.
-pub record Told : Type 0 where
-  pub page : Page
-  pub bytes : List ℕ
-  pub steps : ℕ
+-- more bytes came than may be kept
+abbrev pub overflown_in : Mode → Page → Effect
+overflown_in modes.Head p = given_up FormatsLimit p
+overflown_in modes.Rows p = if is_command (code "E") p.kept then long_end p else row_overflown p
+overflown_in modes.Block p = block_overflown p
+overflown_in mode p = row_overflown p
 
-abbrev pub told : Page → List ℕ → ℕ → Told
-told p bytes steps = record { page = p; bytes = bytes; steps = steps }
+abbrev pub overflown : Page → Effect
+overflown p = overflown_in p.state.mode p
 
--- these bytes, in so many steps, and then what comes
-abbrev pub behind : List ℕ → ℕ → Told → Told
-behind bytes steps t = record { page = t.page; bytes = bytes ++ t.bytes; steps = steps + t.steps }
+-- a byte of a line that is kept
+abbrev pub kept_more : Page → Effect
+kept_more p = if nat_lt (limit_of p) (length p.kept) then overflown p else effect p []
 
--- first the one, then the other
-abbrev pub then_told : Told → (Page → Told) → Told
-then_told t next = behind t.bytes t.steps (next t.page)
+abbrev pub kept : ℕ → Page → Effect
+kept b p = if b == code "\n" then line_ended p else kept_more (with_kept (b ∷ []) p)
 
--- ---- what is kept
+-- a byte of a line in a text block, of which a part was told
+abbrev pub block_goes_on : ℕ → Page → Effect
+block_goes_on b p =
+    effect (if b == code "\n" then with_state (record p.state { line = p.state.line + 1; mode = modes.Block }) p else p)
+    (piece tells.BlockText (b ∷ []) ∷ [])
 
-abbrev pub holding : List ℕ → Items ℕ → Items ℕ
-holding items kept = record { items = items; room = kept.room }
+-- a byte, by where it stands
+abbrev pub read_in : Mode → ℕ → Page → Effect
+read_in (modes.Passing start) b p = passed b start p
+read_in (modes.Plain start) b p = plain_passed b start p
+read_in modes.BlockLine b p = block_goes_on b p
+read_in mode b p = kept b p
 
-abbrev pub with_formats_kept : List ℕ → Page → Page
-with_formats_kept items p = record p { formats = holding items p.formats }
-
-abbrev pub with_row : List ℕ → Page → Page
-with_row items p = record p { row = holding items p.row }
-
--- what is kept of the field
-abbrev pub field_of : Page → List ℕ
-field_of p = drop p.from p.row.items
-
--- it has ended
-abbrev pub field_ended : Page → Page
-field_ended p = record p { from = length p.row.items }
-
--- nothing is kept of a row
-abbrev pub row_forgotten : Page → Page
-row_forgotten p = record p { row = holding [] p.row; from = 0 }
-
-abbrev pub with_half : Half → Page → Page
-with_half h p = record p { half = h }
-
--- there is room for no byte more
-abbrev pub is_full : Items ℕ → Bool
-is_full kept = length kept.items == kept.room
-
-abbrev pub full : Page → Full
-full p = record { formats = is_full p.formats; row = is_full p.row }
-
-abbrev pub format_kept : ℕ → Page → Page
-format_kept b p = if is_full p.formats then p else with_formats_kept (p.formats.items ++ b ∷ []) p
-
--- with its form and its places
-abbrev pub field_half : ℕ → Page → Half
-field_half b p = record p.half {
-  marks = marks_with b (length p.row.items - p.from) p.half.options.point p.half.marks;
-  shape = shape_with p.half.shape b;
-}
-
-abbrev pub field_kept : ℕ → Page → Page
-field_kept b p = if is_full p.row then p else with_half (field_half b p) (with_row (p.row.items ++ b ∷ []) p)
-
--- ---- what is done
-
--- what was kept is options
-abbrev pub options_told : Page → Effect
-options_told p =
-    let o = options_of p.formats.items in
-    effect (with_formats_kept [] (with_half (with_options o p.half) p)) (bytes_of (says.Options o))
-
--- what they say of widths
-abbrev pub formats_measured : Widths → Half → Half
-formats_measured w h = record h { measure = measured_formats h.options.expand w h.measure }
-
--- what was kept is formats, up to a newline after it
-abbrev pub formats_told : Page → Effect
-formats_told p =
-    let s = all_read p.formats.items p.half.formats in
-    let t = format_read 10 s.formats in
-    let w = widths_of p.formats.items p.half.formats in
-    effect (with_half (with_formats t.formats w.last (formats_measured w p.half)) p) (s.bytes ++ called_bytes t.called)
-
--- what was kept goes out as it stands
-abbrev pub given_up : Page → Effect
-given_up p = effect (with_formats_kept [] p) (bytes_of says.GiveUp ++ p.formats.items)
-
-abbrev pub row_given_up : Said → Page → Effect
-row_given_up said p = effect (row_forgotten p) (bytes_of says.GiveUpRow ++ field_of p ++ bytes_of said)
-
--- the first bytes of a text
-abbrev pub front_of : List ℕ → Option ℕ → List ℕ
-front_of text None = text
-front_of text (Some n) = take n text
-
--- a field: its text, and what stands before the place where it is aligned
-abbrev pub front_said : List ℕ → Option ℕ → List ℕ
-front_said text None = []
-front_said text (Some n) = front_bytes (take n text)
-
-abbrev pub field_bytes : List ℕ → Option ℕ → List ℕ
-field_bytes text front = text_bytes text ++ front_said text front
-
--- a field of so many cells passes the end of the line, or is taken
-abbrev pub cells_taken : ℕ → Half → Half
-cells_taken cells h =
-    if overruns h.measure.sure cells h.measure.left then too_wide h else record h { measure = taken h.measure.sure cells h.measure }
-
--- one beyond the columns stands below its row
-abbrev pub field_taken : ℕ → Half → Half
-field_taken cells h = if nat_lt h.formats.columns h.fields then h else cells_taken cells h
-
-abbrev pub field_told : Option ℕ → Option ℕ → Page → Effect
-field_told front solid p =
-    let text = front_of (field_of p) solid in
-    effect (with_half (field_taken (cells_of text) p.half) (field_ended p)) (field_bytes text front)
-
-abbrev pub field_replaced : Said → Page → Effect
-field_replaced said p = effect (field_ended p) (bytes_of said)
-
-abbrev pub row_ended : Said → Page → Effect
-row_ended said p = effect (row_forgotten p) (bytes_of said)
-
-abbrev pub acted : Act → Page → Effect
-acted (acts.Say said) p = effect p (bytes_of said)
-acted (acts.KeepFormat b) p = effect (format_kept b p) []
-acted acts.ReadOptions p = options_told p
-acted acts.ReadFormats p = formats_told p
-acted acts.Forget p = effect (with_formats_kept [] p) []
-acted acts.GiveUp p = given_up p
-acted (acts.KeepField b) p = effect (field_kept b p) []
-acted (acts.Field front solid) p = field_told front solid p
-acted (acts.Replace said) p = field_replaced said p
-acted (acts.EndRow said) p = row_ended said p
-acted (acts.GiveUpRow said) p = row_given_up said p
-
--- ---- what comes is met again until it is taken
-
-abbrev pub heard_in : ℕ → Coming → Page → Told
-heard_in zero coming p = told p [] 0
-heard_in (suc n) coming p =
-    let m = meet coming (full p) p.half in
-    let d = acted m.act (with_half m.half p) in
-    behind d.bytes 1 (if m.takes then told d.page [] 0 else heard_in n coming d.page)
-
--- ten times are enough
-unfoldable pub heard : Coming → Page → Told
-heard coming p = heard_in 10 coming p
-
-abbrev pub unblamed : Page → Page
-unblamed p = record p { half = record p.half { complaint = None } }
-
--- a byte comes, or the end
-abbrev pub read : ℕ → Page → Told
-read b p = heard (Byte b) (unblamed p)
-
-abbrev pub finished : Page → Told
-finished p = heard End (unblamed p)
+abbrev pub read : ℕ → Page → Effect
+read b p = read_in p.state.mode b p
 
 -- many bytes
-abbrev pub fed : Page → List ℕ → Told
-fed p [] = told p [] 0
-fed p (b ∷ bs) = then_told (read b p) (λ q. fed q bs)
+abbrev pub fed : List ℕ → Page → Effect
+fed [] p = effect p []
+fed (b ∷ bs) p = and_then (read b p) (fed bs)
 
--- ---- what is wrong
+-- ---- many bytes at once
 
--- what was found wrong on this line
-abbrev pub found : Option Kind → ℕ → List Complaint
-found None line = []
-found (Some kind) line = record { kind = kind; line = line } ∷ []
+abbrev pub Fits : Page → Type 0
+Fits p = length p.kept ≤ limit_of p
 
--- of bytes after this place: of two things that are wrong at a byte the first is told
-abbrev pub complaints_from : Place → Page → List ℕ → List Complaint
-complaints_from place p [] = []
-complaints_from place p (b ∷ bs) =
-    found (read b p).page.half.complaint (next_place b place).line ++ complaints_from (next_place b place) (read b p).page bs
+-- lines are kept
+abbrev pub is_kept : Mode → Bool
+is_kept (modes.Passing start) = false
+is_kept (modes.Plain start) = false
+is_kept modes.BlockLine = false
+is_kept mode = true
 
--- ---- bytes that pass
+-- so many of these bytes were taken, one of them at least, and read as if one by one
+pub record Took {A S : Type 0} (shows : A → S → Type 0) (hears : Piece → S → S) (bytes : List ℕ) (p q : Page) (old new : A) (n : ℕ) : Type 0 where
+  pub some : 0 < n
+  pub within : n ≤ length bytes
+  pub page : q ≡ (fed (take n bytes) p).page
+  pub told : Tells shows hears (fed (take n bytes) p).pieces old new
+  pub fits : Fits q
+  pub lines : q.state.line ≤ p.state.line + n
 
-abbrev pub is_passing : Mode → Bool
-is_passing modes.Passing = true
-is_passing mode = false
+-- ---- whole lines
 
--- nothing was found wrong
-abbrev pub is_well : Option Kind → Bool
-is_well None = true
-is_well (Some kind) = false
+-- the page behind so many lines that passed
+abbrev pub lines_on : ℕ → Page → Page
+lines_on n p = with_state (record p.state { line = p.state.line + n; mode = modes.Passing Nothing }) p
 
--- bytes go out as they are and change nothing, up to a newline
-abbrev pub passes : Page → Bool
-passes p = is_passing p.half.mode && is_well p.half.complaint
-
--- a byte that ends no line
-abbrev pub is_plain_byte : ℕ → Bool
-is_plain_byte b = not (b == 10)
-
--- the first n of these go out as they are and change nothing, each in one step; nothing is wrong with them, and none ends a line
-pub record IsPlainFront (n : ℕ) (bytes : List ℕ) (p : Page) : Type 0 where
-  pub told_so : fed p (take n bytes) ≡ told p (take n bytes) n
-  pub well : (place : Place) → complaints_from place p (take n bytes) ≡ []
-  pub in_line : 0 < n → (place : Place) → place_after place (take n bytes) ≡ taken_to false place
-
--- ---- the definition: what comes of all bytes of an input, where so many bytes of formats and of a row are kept and the line has
--- so many cells
-
-abbrev pub tables_set : ℕ → ℕ → ℕ → List ℕ → List ℕ
-tables_set formats row line input =
-    let t = fed (first_page formats row line) input in
-    t.bytes ++ (finished t.page).bytes
-
--- in how many steps that comes
-abbrev pub steps_of : ℕ → ℕ → ℕ → List ℕ → ℕ
-steps_of formats row line input =
-    let t = fed (first_page formats row line) input in
-    t.steps + (finished t.page).steps
-
--- what is wrong with it, in the order of the input: of bytes, before the end
-abbrev pub complaints_before_end : ℕ → ℕ → ℕ → List ℕ → List Complaint
-complaints_before_end formats row line input = complaints_from first_place (first_page formats row line) input
-
--- and with the end, at which the line of the last byte is told
-abbrev pub complaints_of : ℕ → ℕ → ℕ → List ℕ → List Complaint
-complaints_of formats row line input =
-    complaints_before_end formats row line input
-    ++ found (finished (fed (first_page formats row line) input).page).page.half.complaint (place_after first_place input).line
+-- these lines pass
+abbrev pub AreFree : Lines → List ℕ → Type 0
+AreFree lines bytes =
+    (p : Page) → fed (take lines.len bytes) (at_mode (modes.Passing Nothing) p) ≡ effect (lines_on lines.count p) (each tells.Pass (take lines.len bytes))

@@ -1,5 +1,6 @@
 -- What formats say of the width of a table (tbl(1), "Column modifiers").
 use Rattle.std.specs.Prelude.{ℕ, ◌+◌, ◌-◌, ◌*◌, min, List, [], ◌∷◌, ◌++◌, Bool, true, false, ◌==◌, ◌||◌, nat_lt, if◌then◌else◌}
+use Prim.Native.Char.{code}
 use Rattle.nr_tbl.specs.declared.formats.Formats.{Formats}
 use Rattle.nr_tbl.specs.declared.formats.Call.{Call}
 use Rattle.nr_tbl.specs.declared.formats.Call.TheVariants as calls
@@ -15,12 +16,12 @@ use Rattle.nr_tbl.specs.Numbers.{is_digit}
 
 -- up to seven digits
 abbrev pub digits_with : ℕ → ℕ → Number
-digits_with b n = if nat_lt n 1000000 then Digits (10 * n + (b - 48)) else Unsure
+digits_with b n = if nat_lt n 1000000 then Digits (10 * n + (b - code "0")) else Unsure
 
 -- a plain number, or one in n
 abbrev pub number_with : ℕ → Number → Number
 number_with b Nothing = Nothing
-number_with b (Digits n) = if is_digit b then digits_with b n else if b == 110 then Ens n else Unsure
+number_with b (Digits n) = if is_digit b then digits_with b n else if b == code "n" then Ens n else Unsure
 number_with b (Ens n) = Unsure
 number_with b Unsure = Unsure
 
@@ -60,11 +61,11 @@ abbrev pub width_begun : Widths → Widths
 width_begun w = record w { number = Digits 0; line = record w.line { given = true } }
 
 abbrev pub byte_called : ℕ → Widths → Widths
-byte_called b w = if b == 10 then ended w else record w { number = number_with b w.number }
+byte_called b w = if b == code "\n" then ended w else record w { number = number_with b w.number }
 
 -- s ^ _ =: such a column may have less room than its field's text, or none
 abbrev pub is_hiding : ℕ → Bool
-is_hiding kind = (kind == 115) || (kind == 94) || (kind == 95) || (kind == 61)
+is_hiding kind = (kind == code "s") || (kind == code "^") || (kind == code "_") || (kind == code "=")
 
 -- a column begins, the first of its line or another
 abbrev pub column_begun : Bool → Widths → Widths
@@ -102,4 +103,4 @@ all_widths (b ∷ bs) f w = let t = read b f in all_widths bs t.formats (widths_
 
 -- with a newline after them
 abbrev pub widths_of : List ℕ → Formats → Widths
-widths_of text f = all_widths (text ++ 10 ∷ []) f first_widths
+widths_of text f = all_widths (text ++ code "\n" ∷ []) f first_widths

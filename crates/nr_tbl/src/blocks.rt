@@ -1,67 +1,112 @@
 //! Text blocks.
-ghost use Rattle.std.specs.Prelude.{◌≡◌};
-ghost use Rattle.nr_tbl.specs.Half.{met};
-ghost use Rattle.nr_tbl.specs.Blocks as specs;
+ghost use Rattle.std.specs.Prelude.{◌≡◌, ◌≤◌, length};
+ghost use Rattle.nr_tbl.specs.BlockLines as specs;
+ghost use Rattle.nr_tbl.specs.Telling.{Tells};
 
+use super::command::is_command;
 use super::complaint::Kind;
-use super::half::{Act, Half, Mode, Seen};
-use super::held::{Held, ends_name};
-use super::said::Said;
+use super::field::without_blanks_before;
+use super::reader::{Reader, behind};
+use super::state::Mode;
+use super::telling::{Setter, Tell};
 
-impl Half {
-    /// A block has no end: the table goes on so.
-    pub(crate) fn closes_block(&mut self, held: Held) -> Seen
-        ensures { met self.new result ≡ specs.closing_block held self.old }
-    {
-        self.complains(Kind::OpenBlock);
-        self.row_begins();
-        self.leaves(Mode::RowStart(held), Act::EndRow(Said::CloseBlock))
-    }
+/// Whether a line ends a text block.
+fn ends_block(line: &[u8]) -> bool
+    ensures { result ≡ specs.ends_block line.now }
+{
+    line.len() > 1 && line[0] == b'T' && line[1] == b'}'
+}
 
-    /// A byte at the beginning of a line that may be the last of the block, or of the table.
-    pub(crate) fn at_block_start(&mut self, held: Held, byte: u8) -> Seen
-        ensures { met self.new result ≡ specs.at_block_start held byte self.old }
-    {
-        if let Some(held) = held.with(byte) {
-            return self.takes(Mode::BlockStart(held), Act::Say(Said::Nothing));
-        }
-        match held {
-            Held::Nothing if byte == b'T' => self.takes(
-                Mode::BlockStart(Held::T),
-                Act::Say(Said::Nothing),
-            ),
-            Held::T if byte == b'}' => self.takes(Mode::BlockEnd, Act::Say(Said::BlockEnd)),
-            Held::End if ends_name(byte) => self.closes_block(held),
-            _ => self.leaves(Mode::BlockLine, Act::Say(Said::Held(held))),
-        }
-    }
+/// Where the row goes on behind `T}`: behind the blanks there.
+fn rest_at(line: &[u8]) -> usize
+    ensures value { result ≡ specs.rest_at line.now }
+    ensures within { result ≤ length line.now }
+{
+    line.len() - without_blanks_before(behind(line, 2)).len()
+}
 
-    /// A byte in a line.
-    pub(crate) fn in_block_line(&mut self, byte: u8) -> Seen
-        ensures { met self.new result ≡ specs.in_block_line byte self.old }
+impl Reader {
+    /// A line in a text block ends.
+    pub(crate) fn block_line<S: Setter>(&mut self, setter: &mut S)
+        ensures page { self.new ≡ (specs.block_line self.old).page }
+        ensures told { Tells S.shows S.hears (specs.block_line self.old).pieces setter.old setter.new }
     {
-        let mode = if byte == b'\n' {
-            Mode::BlockStart(Held::Nothing)
+        if ends_block(self.kept.as_slice()) {
+            self.block_ends(setter);
+        } else if is_command(self.kept.as_slice(), b'E') {
+            self.closes_block(setter);
+            self.table_ends(setter);
         } else {
-            Mode::BlockLine
-        };
-        self.takes(mode, Act::Say(Said::Double(byte)))
+            self.tells_block_line(setter);
+        }
     }
 
-    /// A byte after `T}`.
-    pub(crate) fn in_block_end(&mut self, byte: u8) -> Seen
-        ensures { met self.new result ≡ specs.in_block_end byte self.old }
+    /// A line of a text block is told.
+    fn tells_block_line<S: Setter>(&mut self, setter: &mut S)
+        ensures page { self.new ≡ (specs.block_said self.old).page }
+        ensures told { Tells S.shows S.hears (specs.block_said self.old).pieces setter.old setter.new }
     {
-        if byte == b' ' {
-            return self.takes(Mode::BlockEnd, Act::Say(Said::Nothing));
+        setter.tell(Tell::BlockText, self.kept.as_slice());
+        setter.tell(Tell::BlockText, b"\n");
+        self.forgets();
+    }
+
+    /// A text block has ended: what stands behind `T}` belongs to the row.
+    fn leaves_block<S: Setter>(&mut self, setter: &mut S) -> bool
+        ensures page { self.new ≡ (specs.block_left self.old).page }
+        ensures told { Tells S.shows S.hears (specs.block_left self.old).pieces setter.old setter.new }
+        ensures more { result ≡ specs.goes_on self.old }
+    {
+        setter.tell(Tell::BlockEnd, b"");
+        self.state.counts_field();
+        let rest = rest_at(self.kept.as_slice());
+        if rest >= self.kept.len() {
+            return false;
         }
-        self.counts_field();
-        if byte == b'\n' {
-            return self.leaves(Mode::RowEnd, Act::Say(Said::Nothing));
+        let separated = self.kept.get(rest) == self.state.options.tab;
+        self.from = if separated { rest + 1 } else { rest };
+        self.start = self.from;
+        self.state.mode = Mode::Row;
+        true
+    }
+
+    /// A line that begins with `T}` ends.
+    fn block_ends<S: Setter>(&mut self, setter: &mut S)
+        ensures page { self.new ≡ (specs.block_ended self.old).page }
+        ensures told { Tells S.shows S.hears (specs.block_ended self.old).pieces setter.old setter.new }
+    {
+        if self.leaves_block(setter) {
+            self.row_line(setter);
+        } else {
+            self.row_ends(setter);
         }
-        if byte == self.options.tab {
-            return self.takes(Mode::Field, Act::Say(Said::Nothing));
+    }
+
+    /// A text block has no end: it ends with its row.
+    pub(crate) fn closes_block<S: Setter>(&mut self, setter: &mut S)
+        ensures page { self.new ≡ (specs.block_closed self.old).page }
+        ensures told { Tells S.shows S.hears (specs.block_closed self.old).pieces setter.old setter.new }
+    {
+        self.state.complains(Kind::OpenBlock, setter);
+        setter.tell(Tell::BlockEnd, b"");
+        setter.tell(Tell::Row, b"");
+    }
+
+    /// A line in a text block is longer than what is kept.
+    pub(crate) fn block_overflows<S: Setter>(&mut self, setter: &mut S)
+        ensures page { self.new ≡ (specs.block_overflown self.old).page }
+        ensures told { Tells S.shows S.hears (specs.block_overflown self.old).pieces setter.old setter.new }
+    {
+        if ends_block(self.kept.as_slice()) {
+            self.leaves_block(setter);
+            self.row_overflows(setter);
+        } else if is_command(self.kept.as_slice(), b'E') {
+            self.closes_block(setter);
+            self.long_end(setter);
+        } else {
+            setter.tell(Tell::BlockText, self.kept.as_slice());
+            self.state.mode = Mode::BlockLine;
+            self.forgets();
         }
-        self.leaves(Mode::Field, Act::Say(Said::Nothing))
     }
 }

@@ -1,6 +1,4 @@
 //! What is wrong with a table.
-ghost use Rattle.std.specs.Prelude.{◌≡◌, ◌+◌, ◌^◌, ◌<◌, ◌≤◌};
-ghost use Rattle.nr_tbl.specs.Lines as specs;
 
 /// What is wrong.
 #[derive(Clone, Copy, Debug, PartialEq, Eq)]
@@ -19,7 +17,7 @@ pub enum Kind {
     OpenTable,
     /// More than 64 columns or 256 format lines: the table goes out as plain lines.
     TooManyColumns,
-    /// More bytes of formats than are kept: the table goes out as plain lines.
+    /// More bytes of options and formats than are kept: the table goes out as plain lines.
     FormatsLimit,
     /// More bytes of a row than are kept: the rest of the table goes out as plain lines.
     RowLimit,
@@ -42,35 +40,4 @@ impl Complaint {
         kind: Kind::OpenTable,
         line: 0,
     };
-}
-
-/// The line of the byte that came last, and whether that byte ended it.
-#[derive(Clone, Copy)]
-pub(crate) struct Place {
-    /// The line, counted from 1.
-    pub line: u64,
-    /// It has ended.
-    pub ended: bool,
-}
-
-impl Place {
-    /// No byte came.
-    pub(crate) fn first() -> Place
-        ensures { result ≡ specs.first_place }
-    {
-        Place {
-            line: 1,
-            ended: false,
-        }
-    }
-
-    /// Bytes of one line came, of which the last ends it or doesn't.
-    pub(crate) fn taken_to(self, ended: bool) -> Place
-        requires { self.line + 1 < 2 ^ 64 }
-        ensures value { result ≡ specs.taken_to ended self }
-        ensures few { result.line ≤ self.line + 1 }
-    {
-        let line = if self.ended { self.line + 1 } else { self.line };
-        Place { line, ended }
-    }
 }

@@ -4,7 +4,6 @@ ghost use Rattle.nr_tbl.specs.Formats as specs;
 
 use super::numbers::one_more;
 use super::options::small;
-use nr_rooms::FixedVec;
 
 /// The greatest number of columns.
 const COLUMNS: usize = 64;
@@ -62,7 +61,7 @@ pub(crate) struct Formats {
 
 /// A call of a macro, or a part of one.
 #[derive(Clone, Copy)]
-pub(crate) enum Call {
+pub enum Call {
     /// None.
     Nothing,
     /// A column, with the bars before it.
@@ -91,75 +90,13 @@ pub(crate) enum Call {
 
 /// What a byte calls: what was called has ended, a line begins, and this.
 #[derive(Clone, Copy)]
-pub(crate) struct Called {
+pub struct Called {
     /// A call ends.
     pub ends: bool,
     /// A line begins.
     pub begins: bool,
     /// What is called.
     pub call: Call,
-}
-
-/// The digit of 0, 1, or 2 and more bars.
-fn bars_digit(bars: usize) -> u8
-    ensures { result ≡ specs.bars_digit bars }
-{
-    match bars {
-        0 => b'0',
-        1 => b'1',
-        _ => b'2',
-    }
-}
-
-/// Puts a call after what goes out: at most 16 bytes.
-fn put_call(call: Call, out: &mut FixedVec<u8>)
-    requires { length out.old.items + 16 ≤ out.old.room }
-    ensures items { out.new.items ≡ out.old.items ++ specs.call_bytes call }
-    ensures few { length out.new.items ≤ length out.old.items + 16 }
-    ensures room { out.new.room ≡ out.old.room }
-{
-    match call {
-        Call::Nothing => {}
-        Call::Cell(kind, bars) => {
-            out.extend(b".*cell ");
-            out.extend(&[kind, b' ', bars_digit(bars), b'\n']);
-        }
-        Call::Bars(bars) => {
-            out.extend(b".*bars ");
-            out.extend(&[bars_digit(bars), b'\n']);
-        }
-        Call::Font(letter) => {
-            out.extend(b".*font ");
-            out.extend(&[letter, b'\n']);
-        }
-        Call::Width => out.extend(b".*width "),
-        Call::Gap(digit) => {
-            out.extend(b".*gap ");
-            out.push(digit);
-        }
-        Call::Byte(byte) => out.push(byte),
-        Call::Equal => out.extend(b".*equal\n"),
-        Call::Wide => out.extend(b".*wide\n"),
-        Call::Zero => out.extend(b".*zero\n"),
-        Call::Top => out.extend(b".*top\n"),
-        Call::Low => out.extend(b".*low\n"),
-    }
-}
-
-/// Puts what a byte calls after what goes out: at most 32 bytes.
-pub(crate) fn put_called(called: Called, out: &mut FixedVec<u8>)
-    requires { length out.old.items + 32 ≤ out.old.room }
-    ensures items { out.new.items ≡ out.old.items ++ specs.called_bytes called }
-    ensures few { length out.new.items ≤ length out.old.items + 32 }
-    ensures room { out.new.room ≡ out.old.room }
-{
-    if called.ends {
-        out.push(b'\n');
-    }
-    if called.begins {
-        out.extend(b".*line\n");
-    }
-    put_call(called.call, out);
 }
 
 /// The font that a name's last letter stands for.

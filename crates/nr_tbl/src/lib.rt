@@ -1,32 +1,34 @@
-//! tbl: tables become requests of the language of the formatter.
+//! tbl: the tables of a page are read, and what they say is told to who sets them.
 //!
-//! It stands on nr_units and nr_rooms. To read: `complaint`, `held`, `field`, `numbers`; `options`, `formats`, `widths`, `measure`;
-//! `macros`, `drawing`, `said`; `half`, `outside`, `head`, `rows`, `blocks`, `plain`, `meeting`; `reader`, `running`;
+//! It stands on nr_units and nr_rooms. To read: `complaint`, `command`, `passing`; `options`, `formats`, `widths`,
+//! `numbers`, `measure`, `field`; `telling`, `state`, `reader`, `head`, `rows`, `blocks`, `ending`; `running`;
 //! `untouched`.
 #![tactic(auto)]
 
 mod blocks;
+mod command;
 mod complaint;
-mod drawing;
+mod ending;
 mod field;
 mod formats;
-mod half;
 mod head;
-mod held;
-mod macros;
 mod measure;
-mod meeting;
 mod numbers;
 mod options;
-mod outside;
-mod plain;
+mod passing;
 mod reader;
 mod rows;
 mod running;
-mod said;
+mod state;
+mod telling;
 mod untouched;
 mod widths;
 
 pub use complaint::{Complaint, Kind};
-pub use running::{Outcome, Report, convert, pending_size};
+pub use field::Mark;
+pub use formats::{Call, Called};
+pub use options::{Frame, Options};
+pub use reader::{Limits, Reader};
+pub use running::{Outcome, read_page};
+pub use telling::{Setter, Tell};
 pub use untouched::passes_unchanged;

@@ -6,7 +6,7 @@ use nr_units::Name;
 
 /// The frame of a table.
 #[derive(Clone, Copy)]
-pub(crate) enum Frame {
+pub enum Frame {
     /// None.
     Open,
     /// A box around it.
@@ -19,7 +19,7 @@ pub(crate) enum Frame {
 
 /// What the options say.
 #[derive(Clone, Copy)]
-pub(crate) struct Options {
+pub struct Options {
     /// The table stands in the middle of the line.
     pub center: bool,
     /// It is as wide as the line.
@@ -261,4 +261,15 @@ impl OptionsRead {
         }
         read
     }
+}
+
+/// The options of a text.
+pub(crate) fn options_of(text: &[u8]) -> Options
+    ensures { result ≡ specs.options_of text.now }
+{
+    let mut read = OptionsRead::new();
+    for byte in text {
+        read = read.with(*byte);
+    }
+    read.ended().options
 }

@@ -1,430 +1,405 @@
-//! A page is read byte by byte, and what it says goes out.
-ghost use Rattle.std.specs.Prelude.{◌≡◌, ◌+◌, ◌*◌, ◌<◌, ◌≤◌, ◌++◌, [], length};
-ghost use Rattle.nr_tbl.specs.Reading as specs;
+//! A page is read: lines that pass at once, and those of a table line by line.
+ghost use Rattle.std.specs.Prelude.{◌≡◌, ◌+◌, ◌^◌, ◌<◌, ◌≤◌, min, length, take, drop, true, IfOk};
+ghost use Rattle.nr_tbl.specs.Commands.{begins_command, is_free};
+ghost use Rattle.nr_tbl.specs.Pages.{forgotten, with_state, rest_of, line_of};
+ghost use Rattle.nr_tbl.specs.States.{first_state};
+ghost use Rattle.nr_tbl.specs.Telling.{Tells};
+ghost use Rattle.nr_tbl.specs.Reading as reading;
+ghost use Rattle.nr_tbl.specs.RowLines as rows;
+ghost use Rattle.nr_tbl.specs.Outside as specs;
+ghost use Rattle.nr_tbl.specs.declared.state.Mode.TheVariants.{Passing, Plain, BlockLine};
+ghost use Rattle.nr_tbl.specs.declared.command.Start.TheVariants.{Nothing};
 
+use super::command::{Start, is_command, start_of};
 use super::complaint::Kind;
-use super::formats::{Formats, put_called};
-use super::half::{Act, Coming, Full, Half, Mode};
-use super::measure::cells_of;
-use super::options::{Options, OptionsRead};
-use super::said::{Said, put_call, put_double, say};
-use super::widths::widths_of;
+use super::passing::{Lines, free_lines, line_len};
+use super::state::{Mode, State};
+use super::telling::{Setter, Tell};
 use nr_rooms::FixedVec;
-use nr_units::slice_vec::SliceVec;
+use std::alloc::{AllocError, Global};
 use std::marker::Model;
 
-/// What is half read of a page, with what is kept of a table: its options and formats, and the fields of a row, as they
-/// stand.
-#[derive(Drop)]
-pub(crate) struct Reader<'a> {
-    half: Half,
-    formats: SliceVec<'a, u8>,
-    row: SliceVec<'a, u8>,
-    /// The place in it where the field begins.
-    from: usize,
+/// How many bytes are kept at most.
+#[derive(Clone, Copy)]
+pub struct Limits {
+    /// Of the options and formats of a table.
+    pub formats: usize,
+    /// Of a line of a row, with those that go on from it.
+    pub row: usize,
 }
 
-impl<'a> Model for Reader<'a> {
-    ghost use Rattle.nr_tbl.specs.Reading.{Page};
+/// What is known of a page, with what is kept of its lines.
+#[derive(Drop)]
+pub struct Reader {
+    pub(crate) state: State,
+    pub(crate) limits: Limits,
+    /// The options and formats so far; or the line so far, with those that it goes on from.
+    pub(crate) kept: FixedVec<u8>,
+    /// Where the formats begin in it, or the field.
+    pub(crate) from: usize,
+    /// Where the line begins in it.
+    pub(crate) start: usize,
+}
+
+impl Model for Reader {
+    ghost use Rattle.std.specs.Prelude.{◌<◌};
+    ghost use Rattle.nr_tbl.specs.Pages.{Page};
 
     ghost Value = { Page };
 
-    ghost view = { λ r. record { half = r.half; formats = r.formats; row = r.row; from = r.from } };
+    ghost view = { λ r. record { state = r.state; limits = r.limits; kept = r.kept.items; from = r.from; start = r.start } };
+
+    ghost invariant = { λ r. (r.limits.formats < r.kept.room) × (r.limits.row < r.kept.room) };
 }
 
-/// How often what comes is met at most.
-const MEETINGS: u8 = 10;
-
-/// The options of a text.
-fn options_of(text: &[u8]) -> Options
-    ensures { result ≡ specs.options_of text.now }
-{
-    let mut read = OptionsRead::new();
-    for byte in text {
-        read = read.with(*byte);
-    }
-    read.ended().options
-}
-
-/// Puts what formats call after what goes out, and gives what was read of them.
-fn read_formats(first: Formats, text: &[u8], out: &mut FixedVec<u8>) -> Formats
-    requires { length out.old.items + 32 * length text.now ≤ out.old.room }
-    ensures formats { result ≡ (specs.all_read text.now first).formats }
-    ensures items { out.new.items ≡ out.old.items ++ (specs.all_read text.now first).bytes }
-    ensures few { length out.new.items ≤ length out.old.items + 32 * length text.now }
-    ensures room { out.new.room ≡ out.old.room }
-{
-    let mut formats = first;
-    for byte in text {
-        let called = formats.read(*byte);
-        put_called(called, out);
-    }
-    formats
-}
-
-/// Puts a text with its backslashes twice.
-fn put_doubled(text: &[u8], out: &mut FixedVec<u8>)
-    requires { length out.old.items + 2 * length text.now ≤ out.old.room }
-    ensures items { out.new.items ≡ out.old.items ++ specs.doubled text.now }
-    ensures few { length out.new.items ≤ length out.old.items + 2 * length text.now }
-    ensures room { out.new.room ≡ out.old.room }
-{
-    for byte in text {
-        put_double(*byte, out);
-    }
-}
-
-/// Puts the text of a field.
-fn put_text(text: &[u8], out: &mut FixedVec<u8>)
-    requires { length out.old.items + 32 + 2 * length text.now ≤ out.old.room }
-    ensures items { out.new.items ≡ out.old.items ++ specs.text_bytes text.now }
-    ensures few { length out.new.items ≤ length out.old.items + 32 + 2 * length text.now }
-    ensures room { out.new.room ≡ out.old.room }
-{
-    out.extend(b".ds *t\\n(*r,\\n+(*f \"");
-    put_doubled(text, out);
-    out.push(b'\n');
-}
-
-/// Puts what stands before the place where a field is aligned, after a 0.
-fn put_front(text: &[u8], out: &mut FixedVec<u8>)
-    requires { length out.old.items + 32 + 2 * length text.now ≤ out.old.room }
-    ensures items { out.new.items ≡ out.old.items ++ specs.front_bytes text.now }
-    ensures few { length out.new.items ≤ length out.old.items + 32 + 2 * length text.now }
-    ensures room { out.new.room ≡ out.old.room }
-{
-    out.extend(b".ds *u\\n(*r,\\n(*f \"0");
-    put_doubled(text, out);
-    out.push(b'\n');
-}
-
-/// The first bytes of a text, of so many at most.
-fn front_of(text: &[u8], len: Option<usize>) -> &[u8]
-    ensures value { result.now ≡ specs.front_of text.now len }
-    ensures few { length result.now ≤ length text.now }
-{
-    match len {
-        Some(len) if len < text.len() => &text[..len],
-        _ => text,
-    }
-}
-
-/// Puts a field: its text, and where numbers are aligned what stands before that place.
-fn put_field(text: &[u8], front: Option<usize>, out: &mut FixedVec<u8>)
-    requires { length out.old.items + 64 + 4 * length text.now ≤ out.old.room }
-    ensures items { out.new.items ≡ out.old.items ++ specs.field_bytes text.now front }
-    ensures few { length out.new.items ≤ length out.old.items + 64 + 4 * length text.now }
-    ensures room { out.new.room ≡ out.old.room }
-{
-    put_text(text, out);
-    match front {
-        Some(place) => put_front(front_of(text, Some(place)), out),
-        None => {}
-    }
-}
-
-impl Half {
-    /// A field of so many cells passes the end of the line, or is taken. One beyond the columns stands below its row.
-    fn takes_field(&mut self, cells: usize)
-        ensures { self.new ≡ specs.field_taken cells self.old }
+impl Reader {
+    /// Takes the memory for what is kept, where the line has so many cells.
+    pub fn new(alloc: Global, limits: Limits, cells: usize) -> Result<Reader, AllocError>
+        ensures formats { IfOk result (λ made. made.limits.formats ≡ min limits.formats 18446744073709551614) }
+        ensures row { IfOk result (λ made. made.limits.row ≡ min limits.row 18446744073709551614) }
+        ensures line { IfOk result (λ made. made.state.measure.line ≡ cells) }
     {
-        if self.fields > self.formats.columns {
-            return;
-        }
-        if self.measure.overruns(cells) {
-            self.tells_width();
-        } else {
-            self.measure = self.measure.taken(cells);
-        }
-    }
-}
-
-impl<'a> Reader<'a> {
-    /// A page begins, and the line has so many cells.
-    pub(crate) fn over(formats: &'a mut [u8], row: &'a mut [u8], line: usize) -> Reader<'a>
-        ensures { result ≡ specs.first_page (length formats.entry.now) (length row.entry.now) line }
-    {
-        Reader {
-            half: Half::new(line),
-            formats: SliceVec::over(formats),
-            row: SliceVec::over(row),
+        let room = limits.formats.max(limits.row).saturating_add(1);
+        let kept = FixedVec::new(alloc, room)?;
+        Ok(Reader {
+            state: State::new(cells),
+            limits: Limits {
+                formats: limits.formats.min(room - 1),
+                row: limits.row.min(room - 1),
+            },
+            kept,
             from: 0,
-        }
+            start: 0,
+        })
     }
 
-    /// A byte of options or formats is kept, if there is room.
-    fn keep_format(&mut self, byte: u8)
-        ensures { self.new ≡ specs.format_kept byte self.old }
+    /// A page begins.
+    pub(crate) fn begins(&mut self)
+        ensures { self.new ≡ forgotten (with_state (first_state self.old.state.measure.line) self.old) }
     {
-        if !self.formats.is_full() {
-            self.formats.push(byte);
-        }
+        self.state = State::new(self.state.measure.line);
+        self.forgets();
     }
 
-    /// A byte of a field is kept, if there is room.
-    fn keep_field(&mut self, byte: u8)
-        ensures { self.new ≡ specs.field_kept byte self.old }
+    /// What is kept from where the formats begin, or the field.
+    pub(crate) fn rest(&self) -> &[u8]
+        ensures { result.now ≡ rest_of self.now }
     {
-        let len = self.row.len();
-        if len >= self.row.room() {
-            return;
-        }
-        let place = len.saturating_sub(self.from);
-        let point = self.half.options.point;
-        self.half.marks = self.half.marks.with(byte, place, point);
-        self.half.shape = self.half.shape.with(byte);
-        self.row.push(byte);
+        behind(self.kept.as_slice(), self.from)
     }
 
-    /// What was kept is read as options.
-    fn read_options(&mut self, out: &mut FixedVec<u8>)
-        requires { length out.old.items + specs.most self.old ≤ out.old.room }
-        ensures page { self.new ≡ (specs.options_told self.old).page }
-        ensures items { out.new.items ≡ out.old.items ++ (specs.options_told self.old).bytes }
-        ensures few { length out.new.items ≤ length out.old.items + specs.most self.old }
-        ensures room { out.new.room ≡ out.old.room }
+    /// What is kept of the line.
+    pub(crate) fn line(&self) -> &[u8]
+        ensures { result.now ≡ line_of self.now }
     {
-        let options = options_of(self.formats.as_slice());
-        self.half.with_options(options);
-        self.formats.clear();
-        say(Said::Options(options), out);
+        behind(self.kept.as_slice(), self.start)
     }
 
-    /// What was kept is read as formats, up to a newline after it.
-    fn read_formats(&mut self, out: &mut FixedVec<u8>)
-        requires { length out.old.items + specs.most self.old ≤ out.old.room }
-        ensures page { self.new ≡ (specs.formats_told self.old).page }
-        ensures items { out.new.items ≡ out.old.items ++ (specs.formats_told self.old).bytes }
-        ensures few { length out.new.items ≤ length out.old.items + specs.most self.old }
-        ensures room { out.new.room ≡ out.old.room }
+    /// Nothing is kept.
+    pub(crate) fn forgets(&mut self)
+        ensures { self.new ≡ forgotten self.old }
     {
-        let widths = widths_of(self.half.formats, self.formats.as_slice());
-        let expand = self.half.options.expand;
-        self.half.measure = self.half.measure.with_formats(expand, widths);
-        let mut formats = read_formats(self.half.formats, self.formats.as_slice(), out);
-        let called = formats.read(b'\n');
-        put_called(called, out);
-        self.half.with_formats(formats, widths.last);
-    }
-
-    /// What was kept of options and formats goes out as it stands.
-    fn give_up(&mut self, out: &mut FixedVec<u8>)
-        requires { length out.old.items + specs.most self.old ≤ out.old.room }
-        ensures page { self.new ≡ (specs.given_up self.old).page }
-        ensures items { out.new.items ≡ out.old.items ++ (specs.given_up self.old).bytes }
-        ensures few { length out.new.items ≤ length out.old.items + specs.most self.old }
-        ensures room { out.new.room ≡ out.old.room }
-    {
-        say(Said::GiveUp, out);
-        out.extend(self.formats.as_slice());
-        self.formats.clear();
-    }
-
-    /// What is kept of the field.
-    fn field(&self) -> &[u8]
-        ensures value { result.now ≡ specs.field_of self.now }
-        ensures few { length result.now ≤ self.now.row.room }
-    {
-        let kept = self.row.as_slice();
-        if self.from < kept.len() {
-            &kept[self.from..]
-        } else {
-            b""
-        }
-    }
-
-    /// Nothing is kept of a row.
-    fn forget_row(&mut self)
-        ensures { self.new ≡ specs.row_forgotten self.old }
-    {
-        self.row.clear();
+        self.kept.clear();
         self.from = 0;
+        self.start = 0;
     }
 
-    /// What was kept of a field goes out as it stands, and this.
-    fn give_up_row(&mut self, said: Said, out: &mut FixedVec<u8>)
-        requires { length out.old.items + specs.most self.old ≤ out.old.room }
-        ensures page { self.new ≡ (specs.row_given_up said self.old).page }
-        ensures items { out.new.items ≡ out.old.items ++ (specs.row_given_up said self.old).bytes }
-        ensures few { length out.new.items ≤ length out.old.items + specs.most self.old }
-        ensures room { out.new.room ≡ out.old.room }
+    /// How much may be kept.
+    fn limit(&self) -> usize
+        ensures { result ≡ reading.limit_of self.now }
     {
-        put_call(Said::GiveUpRow, out);
-        out.extend(self.field());
-        say(said, out);
-        self.forget_row();
-    }
-
-    /// The row ends, and this goes out.
-    fn end_row(&mut self, said: Said, out: &mut FixedVec<u8>)
-        requires { length out.old.items + specs.most self.old ≤ out.old.room }
-        ensures page { self.new ≡ (specs.row_ended said self.old).page }
-        ensures items { out.new.items ≡ out.old.items ++ (specs.row_ended said self.old).bytes }
-        ensures few { length out.new.items ≤ length out.old.items + specs.most self.old }
-        ensures room { out.new.room ≡ out.old.room }
-    {
-        say(said, out);
-        self.forget_row();
-    }
-
-    /// The field goes out as text.
-    fn say_field(&mut self, front: Option<usize>, solid: Option<usize>, out: &mut FixedVec<u8>)
-        requires { length out.old.items + specs.most self.old ≤ out.old.room }
-        ensures page { self.new ≡ (specs.field_told front solid self.old).page }
-        ensures items { out.new.items ≡ out.old.items ++ (specs.field_told front solid self.old).bytes }
-        ensures few { length out.new.items ≤ length out.old.items + specs.most self.old }
-        ensures room { out.new.room ≡ out.old.room }
-    {
-        let text = front_of(self.field(), solid);
-        put_field(text, front, out);
-        let cells = cells_of(text);
-        self.half.takes_field(cells);
-        self.from = self.row.len();
-    }
-
-    /// This goes out in place of the field.
-    fn replace_field(&mut self, said: Said, out: &mut FixedVec<u8>)
-        requires { length out.old.items + specs.most self.old ≤ out.old.room }
-        ensures page { self.new ≡ (specs.field_replaced said self.old).page }
-        ensures items { out.new.items ≡ out.old.items ++ (specs.field_replaced said self.old).bytes }
-        ensures few { length out.new.items ≤ length out.old.items + specs.most self.old }
-        ensures room { out.new.room ≡ out.old.room }
-    {
-        say(said, out);
-        self.from = self.row.len();
-    }
-
-    /// What is done.
-    fn act(&mut self, act: Act, out: &mut FixedVec<u8>)
-        requires { length out.old.items + specs.most self.old ≤ out.old.room }
-        ensures page { self.new ≡ (specs.acted act self.old).page }
-        ensures items { out.new.items ≡ out.old.items ++ (specs.acted act self.old).bytes }
-        ensures few { length out.new.items ≤ length out.old.items + specs.most self.old }
-        ensures room { out.new.room ≡ out.old.room }
-    {
-        match act {
-            Act::Say(said) => say(said, out),
-            Act::KeepFormat(byte) => self.keep_format(byte),
-            Act::ReadOptions => self.read_options(out),
-            Act::ReadFormats => self.read_formats(out),
-            Act::Forget => self.formats.clear(),
-            Act::GiveUp => self.give_up(out),
-            Act::KeepField(byte) => self.keep_field(byte),
-            Act::Field(front, solid) => self.say_field(front, solid, out),
-            Act::Replace(said) => self.replace_field(said, out),
-            Act::EndRow(said) => self.end_row(said, out),
-            Act::GiveUpRow(said) => self.give_up_row(said, out),
+        match self.state.mode {
+            Mode::Head => self.limits.formats,
+            _ => self.limits.row,
         }
     }
 
-    /// Whether there is room for no byte more.
-    fn full(&self) -> Full
-        ensures { result ≡ specs.full self.now }
+    /// Bytes of lines outside of tables. Tells how many were taken, as all below do.
+    fn passes<S: Setter>(&mut self, start: Start, bytes: &[u8], setter: &mut S) -> usize
+        requires some { 0 < length bytes.now }
+        requires lines { self.old.state.line + length bytes.now < 2 ^ 64 }
+        requires mode { self.old.state.mode ≡ Passing start }
+        requires fits { reading.Fits self.old }
+        ensures { reading.Took S.shows S.hears bytes.now self.old self.new setter.old setter.new result }
     {
-        Full {
-            formats: self.formats.is_full(),
-            row: self.row.is_full(),
-        }
-    }
-
-    /// What comes is met so many times at most. Tells how many steps that took, as all below do.
-    fn hear_in(&mut self, coming: Coming, most: u8, out: &mut FixedVec<u8>) -> u64
-        requires { length out.old.items + most * specs.most self.old ≤ out.old.room }
-        ensures page { self.new ≡ (specs.heard_in most coming self.old).page }
-        ensures items { out.new.items ≡ out.old.items ++ (specs.heard_in most coming self.old).bytes }
-        ensures steps { result ≡ (specs.heard_in most coming self.old).steps }
-        ensures few { length out.new.items ≤ length out.old.items + most * specs.most self.old }
-        ensures quick { result ≤ most }
-        ensures room { out.new.room ≡ out.old.room }
-    {
-        if most == 0 {
-            return 0;
-        }
-        let full = self.full();
-        let seen = self.half.meet(coming, full);
-        self.act(seen.act, out);
-        if seen.takes {
-            return 1;
-        }
-        1 + self.hear_in(coming, most - 1, out)
-    }
-
-    /// What comes is met until it is taken.
-    #[tactic(auto, unfolding(crate::specs::Reading::heard))]
-    fn hear(&mut self, coming: Coming, out: &mut FixedVec<u8>) -> u64
-        requires { length out.old.items + 10 * specs.most self.old ≤ out.old.room }
-        ensures page { self.new ≡ (specs.heard coming self.old).page }
-        ensures items { out.new.items ≡ out.old.items ++ (specs.heard coming self.old).bytes }
-        ensures steps { result ≡ (specs.heard coming self.old).steps }
-        ensures few { length out.new.items ≤ length out.old.items + 10 * specs.most self.old }
-        ensures quick { result ≤ 10 }
-        ensures room { out.new.room ≡ out.old.room }
-    {
-        self.hear_in(coming, MEETINGS, out)
-    }
-
-    /// A byte comes.
-    pub(crate) fn read(&mut self, byte: u8, out: &mut FixedVec<u8>) -> u64
-        requires { length out.old.items + 10 * specs.most self.old ≤ out.old.room }
-        ensures page { self.new ≡ (specs.read byte self.old).page }
-        ensures items { out.new.items ≡ out.old.items ++ (specs.read byte self.old).bytes }
-        ensures steps { result ≡ (specs.read byte self.old).steps }
-        ensures few { length out.new.items ≤ length out.old.items + 10 * specs.most self.old }
-        ensures quick { result ≤ 10 }
-        ensures room { out.new.room ≡ out.old.room }
-    {
-        self.half.complaint = None;
-        self.hear(Coming::Byte(byte), out)
-    }
-
-    /// The end comes.
-    pub(crate) fn finish(&mut self, out: &mut FixedVec<u8>) -> u64
-        requires { length out.old.items + 10 * specs.most self.old ≤ out.old.room }
-        ensures page { self.new ≡ (specs.finished self.old).page }
-        ensures items { out.new.items ≡ out.old.items ++ (specs.finished self.old).bytes }
-        ensures steps { result ≡ (specs.finished self.old).steps }
-        ensures few { length out.new.items ≤ length out.old.items + 10 * specs.most self.old }
-        ensures quick { result ≤ 10 }
-        ensures room { out.new.room ≡ out.old.room }
-    {
-        self.half.complaint = None;
-        self.hear(Coming::End, out)
-    }
-
-    /// What was found wrong at what came last.
-    pub(crate) fn complaint(&self) -> Option<Kind>
-        ensures { result ≡ self.now.half.complaint }
-    {
-        self.half.complaint
-    }
-
-    /// Whether bytes pass up to a newline.
-    fn passes(&self) -> bool
-        ensures { result ≡ specs.passes self.now }
-    {
-        matches!(self.half.mode, Mode::Passing) && self.half.complaint.is_none()
-    }
-
-    /// How many of these bytes come first that go out as they are and change nothing, each in one step.
-    pub(crate) fn plain_front(&self, bytes: &[u8]) -> usize
-        ensures within { result ≤ length bytes.now }
-        ensures plain { specs.IsPlainFront result bytes.now self.now }
-    {
-        if !self.passes() {
-            return 0;
-        }
-        for (i, byte) in bytes.iter().enumerate() {
-            if !is_plain_byte(*byte) {
-                return i;
+        if matches!(start, Start::Nothing) {
+            let lines = free_lines(bytes);
+            if lines.len > 0 {
+                return self.passes_lines(lines, bytes, setter);
             }
         }
-        bytes.len()
+        if start.is_free(bytes) {
+            return self.passes_line(start, bytes, setter);
+        }
+        self.passes_byte(start, bytes[0], setter);
+        1
+    }
+
+    /// A byte of a line outside of tables.
+    fn passes_byte<S: Setter>(&mut self, start: Start, byte: u8, setter: &mut S)
+        requires { self.old.state.line + 1 < 2 ^ 64 }
+        ensures page { self.new ≡ (specs.passed byte start self.old).page }
+        ensures told { Tells S.shows S.hears (specs.passed byte start self.old).pieces setter.old setter.new }
+    {
+        setter.tell(Tell::Pass, &[byte]);
+        if byte == b'\n' {
+            return self.passed_line(start, setter);
+        }
+        self.state.mode = Mode::Passing(start.with(byte, b'S'));
+    }
+
+    /// Whole lines that are no commands.
+    fn passes_lines<S: Setter>(&mut self, lines: Lines, bytes: &[u8], setter: &mut S) -> usize
+        requires some { 0 < lines.len }
+        requires within { lines.len ≤ length bytes.now }
+        requires few { lines.count ≤ lines.len }
+        requires free { reading.AreFree lines bytes.now }
+        requires lines { self.old.state.line + length bytes.now < 2 ^ 64 }
+        requires mode { self.old.state.mode ≡ Passing Nothing }
+        requires fits { reading.Fits self.old }
+        ensures { reading.Took S.shows S.hears bytes.now self.old self.new setter.old setter.new result }
+    {
+        setter.tell(Tell::Pass, &bytes[..lines.len]);
+        self.state.line += lines.count as u64;
+        self.state.mode = Mode::Passing(Start::Nothing);
+        lines.len
+    }
+
+    /// The rest of a line that is no command, as far as it came; a newline alone ends it.
+    fn passes_line<S: Setter>(&mut self, start: Start, bytes: &[u8], setter: &mut S) -> usize
+        requires some { 0 < length bytes.now }
+        requires lines { self.old.state.line + length bytes.now < 2 ^ 64 }
+        requires mode { self.old.state.mode ≡ Passing start }
+        requires free { is_free start bytes.now ≡ true }
+        requires fits { reading.Fits self.old }
+        ensures { reading.Took S.shows S.hears bytes.now self.old self.new setter.old setter.new result }
+    {
+        let len = line_len(bytes);
+        if len == bytes.len() {
+            setter.tell(Tell::Pass, bytes);
+            self.state.mode = Mode::Passing(Start::Other);
+            return len;
+        }
+        setter.tell(Tell::Pass, &bytes[..len + 1]);
+        self.state.line += 1;
+        self.state.mode = Mode::Passing(Start::Nothing);
+        len + 1
+    }
+
+    /// A line that passed ends, and began so.
+    fn passed_line<S: Setter>(&mut self, start: Start, setter: &mut S)
+        requires { self.old.state.line + 1 < 2 ^ 64 }
+        ensures page { self.new ≡ (specs.line_passed (begins_command start) self.old).page }
+        ensures told { Tells S.shows S.hears (specs.line_passed (begins_command start) self.old).pieces setter.old setter.new }
+    {
+        self.state.line += 1;
+        self.state.mode = Mode::Passing(Start::Nothing);
+        if start.is_command() {
+            self.state.begins_table();
+            self.forgets();
+            setter.tell(Tell::Table, b"");
+        }
+    }
+
+    /// Bytes of lines of a table that isn't set.
+    fn passes_plain<S: Setter>(&mut self, start: Start, bytes: &[u8], setter: &mut S) -> usize
+        requires some { 0 < length bytes.now }
+        requires lines { self.old.state.line + length bytes.now < 2 ^ 64 }
+        requires mode { self.old.state.mode ≡ Plain start }
+        requires fits { reading.Fits self.old }
+        ensures { reading.Took S.shows S.hears bytes.now self.old self.new setter.old setter.new result }
+    {
+        self.passes_plain_byte(start, bytes[0], setter);
+        1
+    }
+
+    /// A byte of a line of a table that isn't set.
+    fn passes_plain_byte<S: Setter>(&mut self, start: Start, byte: u8, setter: &mut S)
+        requires { self.old.state.line + 1 < 2 ^ 64 }
+        ensures page { self.new ≡ (specs.plain_passed byte start self.old).page }
+        ensures told { Tells S.shows S.hears (specs.plain_passed byte start self.old).pieces setter.old setter.new }
+    {
+        setter.tell(Tell::Pass, &[byte]);
+        if byte == b'\n' {
+            return self.passed_plain_line(start, setter);
+        }
+        self.state.mode = Mode::Plain(start.with(byte, b'E'));
+    }
+
+    /// Such a line ends, and began so.
+    fn passed_plain_line<S: Setter>(&mut self, start: Start, setter: &mut S)
+        requires { self.old.state.line + 1 < 2 ^ 64 }
+        ensures page { self.new ≡ (specs.plain_line_passed (begins_command start) self.old).page }
+        ensures told { Tells S.shows S.hears (specs.plain_line_passed (begins_command start) self.old).pieces setter.old setter.new }
+    {
+        self.state.line += 1;
+        self.state.mode = Mode::Plain(Start::Nothing);
+        if start.is_command() {
+            self.state.mode = Mode::Passing(Start::Nothing);
+            setter.tell(Tell::PlainEnd, b"");
+        }
+    }
+
+    /// Bytes of a line in a text block of which a part was told.
+    fn takes_block<S: Setter>(&mut self, bytes: &[u8], setter: &mut S) -> usize
+        requires some { 0 < length bytes.now }
+        requires lines { self.old.state.line + length bytes.now < 2 ^ 64 }
+        requires mode { self.old.state.mode ≡ BlockLine }
+        requires fits { reading.Fits self.old }
+        ensures { reading.Took S.shows S.hears bytes.now self.old self.new setter.old setter.new result }
+    {
+        let len = line_len(bytes);
+        if len > 0 {
+            setter.tell(Tell::BlockText, &bytes[..len]);
+            return len;
+        }
+        setter.tell(Tell::BlockText, b"\n");
+        self.state.line += 1;
+        self.state.mode = Mode::Block;
+        1
+    }
+
+    /// Bytes of a line that is kept.
+    fn keeps<S: Setter>(&mut self, bytes: &[u8], setter: &mut S) -> usize
+        requires some { 0 < length bytes.now }
+        requires lines { self.old.state.line + length bytes.now < 2 ^ 64 }
+        requires kept { reading.is_kept self.old.state.mode ≡ true }
+        requires fits { reading.Fits self.old }
+        ensures { reading.Took S.shows S.hears bytes.now self.old self.new setter.old setter.new result }
+    {
+        let len = line_len(bytes);
+        if len == 0 {
+            self.kept_line_ends(setter);
+            return 1;
+        }
+        let count = self.keeps_front(&bytes[..len]);
+        self.kept_more(setter);
+        count
+    }
+
+    /// Bytes that come are kept, one more than may be at most: tells how many.
+    fn keeps_front(&mut self, bytes: &[u8]) -> usize
+        requires some { 0 < length bytes.now }
+        requires fits { reading.Fits self.old }
+        ensures some { 0 < result }
+        ensures within { result ≤ length bytes.now }
+        ensures few { length self.old.kept + result ≤ reading.limit_of self.old + 1 }
+        ensures page { self.new ≡ reading.with_kept (take result bytes.now) self.old }
+    {
+        let free = (self.limit() - self.kept.len()).saturating_add(1);
+        let count = bytes.len().min(free);
+        self.kept.extend(&bytes[..count]);
+        count
+    }
+
+    /// A line that was kept ends, and another begins.
+    fn kept_line_ends<S: Setter>(&mut self, setter: &mut S)
+        requires lines { self.old.state.line + 1 < 2 ^ 64 }
+        requires kept { reading.is_kept self.old.state.mode ≡ true }
+        requires fits { reading.Fits self.old }
+        ensures page { self.new ≡ (reading.line_ended self.old).page }
+        ensures told { Tells S.shows S.hears (reading.line_ended self.old).pieces setter.old setter.new }
+    {
+        self.line_ends(setter);
+        self.state.line += 1;
+    }
+
+    /// More of a line is kept than there was, or more than may be.
+    fn kept_more<S: Setter>(&mut self, setter: &mut S)
+        ensures page { self.new ≡ (reading.kept_more self.old).page }
+        ensures told { Tells S.shows S.hears (reading.kept_more self.old).pieces setter.old setter.new }
+    {
+        if self.kept.len() > self.limit() {
+            self.overflows(setter);
+        }
+    }
+
+    /// A line that was kept ends.
+    fn line_ends<S: Setter>(&mut self, setter: &mut S)
+        ensures page { self.new ≡ (reading.line_ended_in self.old.state.mode self.old).page }
+        ensures told { Tells S.shows S.hears (reading.line_ended_in self.old.state.mode self.old).pieces setter.old setter.new }
+    {
+        match self.state.mode {
+            Mode::Head => self.head_line(setter),
+            Mode::Rows => self.line_between(setter),
+            Mode::Row => self.row_line(setter),
+            Mode::Block => self.block_line(setter),
+            _ => {}
+        }
+    }
+
+    /// More bytes come than may be kept.
+    fn overflows<S: Setter>(&mut self, setter: &mut S)
+        ensures page { self.new ≡ (reading.overflown self.old).page }
+        ensures told { Tells S.shows S.hears (reading.overflown self.old).pieces setter.old setter.new }
+    {
+        match self.state.mode {
+            Mode::Head => self.head_overflows(setter),
+            Mode::Rows if is_command(self.kept.as_slice(), b'E') => self.long_end(setter),
+            Mode::Block => self.block_overflows(setter),
+            _ => self.row_overflows(setter),
+        }
+    }
+
+    /// The line of `.TE`, so far: the rest of it passes.
+    pub(crate) fn long_end<S: Setter>(&mut self, setter: &mut S)
+        ensures page { self.new ≡ (rows.long_end self.old).page }
+        ensures told { Tells S.shows S.hears (rows.long_end self.old).pieces setter.old setter.new }
+    {
+        setter.tell(Tell::TableEnd, b"");
+        setter.tell(Tell::Pass, self.kept.as_slice());
+        self.state.mode = Mode::Passing(Start::Other);
+        self.forgets();
+    }
+
+    /// The line of `.TE`.
+    pub(crate) fn table_ends<S: Setter>(&mut self, setter: &mut S)
+        ensures page { self.new ≡ (rows.table_ended self.old).page }
+        ensures told { Tells S.shows S.hears (rows.table_ended self.old).pieces setter.old setter.new }
+    {
+        setter.tell(Tell::TableEnd, b"");
+        setter.tell(Tell::Pass, self.kept.as_slice());
+        setter.tell(Tell::Pass, b"\n");
+        self.state.mode = Mode::Passing(Start::Nothing);
+        self.forgets();
+    }
+
+    /// The table isn't set further: what is kept of it stands as it is, from here on.
+    pub(crate) fn gives_up<S: Setter>(&mut self, kind: Kind, setter: &mut S)
+        ensures page { self.new ≡ (specs.given_up kind self.old).page }
+        ensures told { Tells S.shows S.hears (specs.given_up kind self.old).pieces setter.old setter.new }
+    {
+        self.state.complains(kind, setter);
+        setter.tell(Tell::Plain, b"");
+        setter.tell(Tell::Pass, self.rest());
+        let start = start_of(self.line(), b'E');
+        self.state.mode = Mode::Plain(start);
+        self.forgets();
+    }
+
+    /// Bytes come, of which there is one at least: so many are taken.
+    pub(crate) fn read<S: Setter>(&mut self, bytes: &[u8], setter: &mut S) -> usize
+        requires some { 0 < length bytes.now }
+        requires lines { self.old.state.line + length bytes.now < 2 ^ 64 }
+        requires fits { reading.Fits self.old }
+        ensures { reading.Took S.shows S.hears bytes.now self.old self.new setter.old setter.new result }
+    {
+        match self.state.mode {
+            Mode::Passing(start) => self.passes(start, bytes, setter),
+            Mode::Plain(start) => self.passes_plain(start, bytes, setter),
+            Mode::BlockLine => self.takes_block(bytes, setter),
+            _ => self.keeps(bytes, setter),
+        }
     }
 }
 
-/// A byte that ends no line.
-fn is_plain_byte(byte: u8) -> bool
-    ensures { result ≡ specs.is_plain_byte byte }
+/// What stands behind so many bytes.
+pub(crate) fn behind(bytes: &[u8], from: usize) -> &[u8]
+    ensures { result.now ≡ drop from bytes.now }
 {
-    byte != b'\n'
+    if from < bytes.len() {
+        &bytes[from..]
+    } else {
+        b""
+    }
 }

@@ -1,237 +1,331 @@
-//! Rows and their fields.
-ghost use Rattle.std.specs.Prelude.{◌≡◌};
-ghost use Rattle.nr_tbl.specs.Half.{met};
-ghost use Rattle.nr_tbl.specs.Rows as specs;
+//! Rows and their fields, and what stands between rows.
+ghost use Rattle.std.specs.Prelude.{◌≡◌, ◌+◌, ◌<◌, [], ◌∷◌, ◌++◌, length, take, drop, false, IfSome, ◌≤◌};
+ghost use Rattle.nr_tbl.specs.Fields as specs;
+ghost use Rattle.nr_tbl.specs.Pages.{line_of, wrong};
+ghost use Rattle.nr_tbl.specs.RowLines as lines;
+ghost use Rattle.nr_tbl.specs.Telling.{Tells};
 
+use super::command::{Start, is_command};
 use super::complaint::Kind;
-use super::field::Shape;
-use super::formats::Formats;
-use super::half::{Act, Half, Mode, Seen};
-use super::held::{Held, ends_name};
-use super::numbers::{Marks, is_digit, one_more};
-use super::said::{Mark, Said};
+use super::field::{Mark, Shape, marks_of, shape_of, without_blanks_before};
+use super::measure::cells_of;
+use super::numbers::is_digit;
+use super::reader::{Reader, behind};
+use super::state::{Mode, State};
+use super::telling::{Setter, Tell};
+use nr_rooms::FixedVec;
 
-/// One more than the greatest number of columns.
-const MOST_FIELDS: usize = 65;
+/// Whether a line between rows is a request.
+fn is_request(line: &[u8]) -> bool
+    ensures { result ≡ specs.is_request line.now }
+{
+    line.len() > 0 && line[0] == b'.' && (line.len() == 1 || !is_digit(line[1]))
+}
 
-impl Half {
-    /// There is no room for a byte of the row. This was half read before it.
-    fn gives_up_row(&mut self, said: Said) -> Seen
-        ensures { met self.new result ≡ specs.giving_up_row said self.old }
-    {
-        self.complains(Kind::RowLimit);
-        self.leaves(Mode::PlainLine, Act::GiveUpRow(said))
-    }
-
-    /// A point that a row begins with.
-    fn points(&mut self, full: bool) -> Seen
-        ensures { met self.new result ≡ specs.pointed full self.old }
-    {
-        if full {
-            return self.gives_up_row(Said::Held(Held::Dot));
-        }
-        self.leaves(Mode::Field, Act::KeepField(b'.'))
-    }
-
-    /// A byte at the beginning of a line.
-    pub(crate) fn at_row_start(&mut self, held: Held, byte: u8, full: bool) -> Seen
-        ensures { met self.new result ≡ specs.at_row_start held byte full self.old }
-    {
-        if let Some(held) = held.with(byte) {
-            return self.takes(Mode::RowStart(held), Act::Say(Said::Nothing));
-        }
-        match held {
-            Held::Nothing => self.leaves(Mode::Field, Act::Say(Said::Nothing)),
-            Held::Dot if is_digit(byte) => self.points(full),
-            Held::End if ends_name(byte) => self.leaves(Mode::Passing, Act::Say(Said::End)),
-            Held::More if ends_name(byte) => self.leaves(Mode::Command, Act::Say(Said::More)),
-            _ => self.leaves(Mode::Request, Act::Say(Said::Request(held))),
+/// Where the first of these bytes stands.
+fn place_of(byte: u8, text: &[u8]) -> Option<usize>
+    ensures value { result ≡ specs.place_of byte text.now }
+    ensures within { IfSome result (λ place. place < length text.now) }
+{
+    for (at, other) in text.iter().enumerate() {
+        if *other == byte {
+            return Some(at);
         }
     }
+    None
+}
 
-    /// A byte of a request between rows.
-    pub(crate) fn in_request(&mut self, byte: u8) -> Seen
-        ensures { met self.new result ≡ specs.in_request byte self.old }
-    {
-        if byte == b'\n' {
-            return self.takes(Mode::RowStart(Held::Nothing), Act::Say(Said::RequestEnd));
-        }
-        self.takes(Mode::Request, Act::Say(Said::Double(byte)))
+/// What becomes of a byte of which the one before may be the first of two backslashes.
+fn second_of(alone: bool, byte: u8) -> u8
+    ensures { result ≡ specs.second_of alone byte }
+{
+    if alone && byte == b'\\' { b'e' } else { byte }
+}
+
+/// Whether a byte is a backslash that may be the first of two.
+fn is_alone(alone: bool, byte: u8) -> bool
+    ensures { result ≡ specs.is_alone alone byte }
+{
+    byte == b'\\' && !alone
+}
+
+/// Two backslashes become `\\e`, which stays itself where it is read twice. Tells whether the last one stands alone.
+fn pair_backslashes(kept: &mut FixedVec<u8>, start: usize) -> bool
+    ensures items { kept.new.items ≡ take start kept.old.items ++ specs.paired false (drop start kept.old.items) }
+    ensures alone { result ≡ specs.open_behind false (drop start kept.old.items) }
+    ensures room { kept.new.room ≡ kept.old.room }
+{
+    let mut alone = false;
+    for at in start..kept.len() {
+        let byte = kept.get(at);
+        kept.set(at, second_of(alone, byte));
+        alone = is_alone(alone, byte);
     }
+    alone
+}
 
-    /// A byte after `.T&`: formats begin with the next line.
-    pub(crate) fn in_command(&mut self, byte: u8) -> Seen
-        ensures { met self.new result ≡ specs.in_command byte self.old }
-    {
-        if byte != b'\n' {
-            return self.takes(Mode::Command, Act::Say(Said::Nothing));
-        }
-        self.formats = Formats::new(
-            self.formats.columns,
-            self.formats.lines,
-            self.formats.numeric,
-        );
-        self.formats_begin(false, Act::Say(Said::Nothing))
-    }
+/// Whether what stands behind the last column is a comment.
+fn is_comment(text: &[u8]) -> bool
+    ensures { result ≡ specs.is_comment text.now }
+{
+    text.len() > 1 && text[0] == b'\\' && text[1] == b'"'
+}
 
-    /// Whether the field is one more than there are columns.
-    fn is_beyond(&self) -> bool
-        ensures { result ≡ specs.is_beyond self.now }
+impl State {
+    /// A field as it counts: without the blanks before it, where that was said.
+    fn trimmed<'t>(&self, text: &'t [u8]) -> &'t [u8]
+        ensures value { result.now ≡ lines.trimmed self.now text.now }
+        ensures few { length result.now ≤ length text.now }
     {
-        self.fields >= self.formats.columns
-    }
-
-    /// A field beyond the columns begins.
-    fn tells_beyond(&mut self)
-        ensures { self.new ≡ specs.beyond_told self.old }
-    {
-        if self.is_beyond() && self.shape.is_empty() {
-            self.complains(Kind::TooManyFields);
+        if self.options.nospaces {
+            without_blanks_before(text)
+        } else {
+            text
         }
     }
 
-    /// A byte of a field is kept.
-    fn keeps(&mut self, byte: u8, full: bool) -> Seen
-        ensures { met self.new result ≡ specs.keeping byte full self.old }
+    /// A field without the blanks behind it, where that was said.
+    fn solid<'t>(&self, text: &'t [u8]) -> &'t [u8]
+        ensures { result.now ≡ lines.solid self.now text.now }
     {
-        if self.options.nospaces && self.shape.is_empty() && byte == b' ' {
-            return self.takes(Mode::Field, Act::Say(Said::Nothing));
+        if self.options.nospaces {
+            &text[..marks_of(text, self.options.point).solid]
+        } else {
+            text
         }
-        if full {
-            return self.gives_up_row(Said::Nothing);
-        }
-        self.tells_beyond();
-        self.takes(Mode::Field, Act::KeepField(byte))
     }
 
-    /// One field more has ended.
-    pub(crate) fn counts_field(&mut self)
-        ensures { self.new ≡ specs.counted self.old }
+    /// How many bytes of a field stand before the place where it is aligned, if a column has numbers.
+    fn front(&self, text: &[u8]) -> Option<usize>
+        ensures { result ≡ lines.front_of self.now text.now }
     {
-        self.fields = one_more(self.fields, MOST_FIELDS);
-        self.shape = Shape::Empty;
-        self.marks = Marks::new();
-    }
-
-    /// A field goes out as text.
-    fn text_act(&self) -> Act
-        ensures { result ≡ specs.text_act self.now }
-    {
-        let front = if self.formats.numeric {
-            self.marks.front()
+        if self.formats.numeric {
+            marks_of(text, self.options.point).front()
         } else {
             None
-        };
-        let solid = if self.options.nospaces {
-            Some(self.marks.solid)
-        } else {
-            None
-        };
-        Act::Field(front, solid)
-    }
-
-    /// What is done for a field: one beyond the columns is text, and nothing where it is empty.
-    fn field_act(&self) -> Act
-        ensures { result ≡ specs.field_act self.now }
-    {
-        match self.shape {
-            Shape::Empty if self.is_beyond() => Act::Replace(Said::Nothing),
-            Shape::Empty => Act::Replace(Said::Skip),
-            _ if self.is_beyond() => self.text_act(),
-            Shape::Rule => Act::Replace(Said::Mark(Mark::Rule)),
-            Shape::Inner => Act::Replace(Said::Mark(Mark::Inner)),
-            Shape::Above => Act::Replace(Said::Mark(Mark::Above)),
-            Shape::Repeat(byte) => Act::Replace(Said::Repeat(byte)),
-            Shape::T | Shape::Block | Shape::Backslash | Shape::R | Shape::Text => self.text_act(),
         }
     }
 
-    /// A tab after a field.
-    fn ends_field(&mut self) -> Seen
-        ensures { met self.new result ≡ specs.ending_field self.old }
+    /// A field of text is told.
+    fn tell_text<S: Setter>(&mut self, text: &[u8], setter: &mut S)
+        ensures state { self.new ≡ (lines.text_said self.old text.now).state }
+        ensures told { Tells S.shows S.hears (lines.text_said self.old text.now).pieces setter.old setter.new }
     {
-        let act = self.field_act();
+        let solid = self.solid(text);
+        setter.tell(Tell::Field(self.front(text)), solid);
+        if !self.is_beyond() && self.passes_line(cells_of(solid)) {
+            self.complains(Kind::TooWide, setter);
+        }
+    }
+
+    /// A field of this shape is told.
+    fn tell_shape<S: Setter>(&mut self, shape: Shape, text: &[u8], setter: &mut S)
+        ensures state { self.new ≡ (lines.shape_said shape self.old text.now).state }
+        ensures told { Tells S.shows S.hears (lines.shape_said shape self.old text.now).pieces setter.old setter.new }
+    {
+        match shape {
+            Shape::Empty => setter.tell(Tell::Mark(Mark::Nothing), b""),
+            Shape::Mark(mark) => setter.tell(Tell::Mark(mark), b""),
+            Shape::Block | Shape::Text => self.tell_text(text, setter),
+        }
+    }
+
+    /// A field in a column is told.
+    fn tell_field<S: Setter>(&mut self, text: &[u8], setter: &mut S)
+        ensures state { self.new ≡ (lines.field_said self.old text.now).state }
+        ensures told { Tells S.shows S.hears (lines.field_said self.old text.now).pieces setter.old setter.new }
+    {
+        let text = self.trimmed(text);
+        self.tell_shape(shape_of(text), text, setter);
         self.counts_field();
-        self.takes(Mode::Field, act)
     }
 
-    /// A newline after a field: a rule alone is one across the table, and `T{` begins a block.
-    fn ends_line(&mut self) -> Seen
-        ensures { met self.new result ≡ specs.ending_line self.old }
+    /// The last field of a row is told; one beyond the columns is text, or nothing.
+    pub(crate) fn tell_last<S: Setter>(&mut self, text: &[u8], setter: &mut S)
+        ensures state { self.new ≡ (lines.last_said self.old text.now).state }
+        ensures told { Tells S.shows S.hears (lines.last_said self.old text.now).pieces setter.old setter.new }
     {
-        match self.shape {
-            Shape::Rule if self.fields == 0 => {
-                self.row_begins();
-                self.takes(Mode::RowStart(Held::Nothing), Act::EndRow(Said::Rule))
+        if !self.is_beyond() {
+            self.tell_field(text, setter);
+            return;
+        }
+        let text = self.trimmed(text);
+        if text.is_empty() || is_comment(text) {
+            return;
+        }
+        self.complains(Kind::TooManyFields, setter);
+        self.tell_text(text, setter);
+    }
+}
+
+impl Reader {
+    /// A line between rows ends.
+    pub(crate) fn line_between<S: Setter>(&mut self, setter: &mut S)
+        ensures page { self.new ≡ (lines.line_between self.old).page }
+        ensures told { Tells S.shows S.hears (lines.line_between self.old).pieces setter.old setter.new }
+    {
+        if is_command(self.kept.as_slice(), b'E') {
+            self.table_ends(setter);
+        } else if is_command(self.kept.as_slice(), b'&') {
+            self.state.begins_formats();
+            self.forgets();
+            setter.tell(Tell::Formats, b"");
+        } else if is_request(self.kept.as_slice()) {
+            setter.tell(Tell::Request, self.kept.as_slice());
+            self.forgets();
+        } else {
+            self.row_line(setter);
+        }
+    }
+
+    /// The fields of a line that something ends that separates them.
+    fn tell_ended<S: Setter>(&mut self, setter: &mut S)
+        ensures page { self.new ≡ (lines.all_ended self.old).page }
+        ensures told { Tells S.shows S.hears (lines.all_ended self.old).pieces setter.old setter.new }
+    {
+        for _ in self.state.fields..self.state.formats.columns {
+            match place_of(self.state.options.tab, self.line()) {
+                Some(len) => self.tell_ended_at(len, setter),
+                None => return,
             }
-            Shape::Block => self.takes(Mode::BlockStart(Held::Nothing), Act::Replace(Said::Block)),
-            _ => {
-                let act = self.field_act();
-                self.counts_field();
-                self.leaves(Mode::RowEnd, act)
+        }
+    }
+
+    /// The field is told that ends so far behind the beginning of the line.
+    fn tell_ended_at<S: Setter>(&mut self, len: usize, setter: &mut S)
+        requires { self.old.start + len < length self.old.kept }
+        ensures page { self.new ≡ lines.behind_field len self.old }
+        ensures told { Tells S.shows S.hears (lines.next_said len self.old).pieces setter.old setter.new }
+    {
+        let kept = self.kept.as_slice();
+        let end = self.start + len;
+        let text = behind(&kept[..end], self.from);
+        self.state.tell_field(text, setter);
+        self.from = end + 1;
+        self.start = end + 1;
+    }
+
+    /// Whether a comment stands behind the last column.
+    fn comments(&self) -> bool
+        ensures { result ≡ lines.comments self.now }
+    {
+        self.state.is_beyond() && is_comment(self.state.trimmed(self.rest()))
+    }
+
+    /// Two backslashes of the line become `\\e`. Tells whether the last one stands alone.
+    fn pairs_backslashes(&mut self) -> bool
+        ensures page { self.new ≡ lines.with_pairs self.old }
+        ensures alone { result ≡ specs.open_behind false (line_of self.old) }
+    {
+        pair_backslashes(&mut self.kept, self.start)
+    }
+
+    /// A line of a row ends.
+    pub(crate) fn row_line<S: Setter>(&mut self, setter: &mut S)
+        ensures page { self.new ≡ (lines.row_line self.old).page }
+        ensures told { Tells S.shows S.hears (lines.row_line self.old).pieces setter.old setter.new }
+    {
+        let alone = self.pairs_backslashes();
+        self.tell_ended(setter);
+        self.goes_on(alone, setter);
+    }
+
+    /// The row goes on in the next line, if the last backslash of this one stands alone, or ends.
+    fn goes_on<S: Setter>(&mut self, alone: bool, setter: &mut S)
+        ensures page { self.new ≡ (lines.line_continued alone self.old).page }
+        ensures told { Tells S.shows S.hears (lines.line_continued alone self.old).pieces setter.old setter.new }
+    {
+        if !alone || self.comments() {
+            self.tell_rest(setter);
+            return;
+        }
+        let len = self.kept.len();
+        self.kept.truncate(len.saturating_sub(1));
+        self.start = self.kept.len();
+        self.state.mode = Mode::Row;
+    }
+
+    /// What stands behind the last field that was told: a rule, a text block that begins, or a field, and the row ends.
+    fn tell_rest<S: Setter>(&mut self, setter: &mut S)
+        ensures page { self.new ≡ (lines.rest_told self.old).page }
+        ensures told { Tells S.shows S.hears (lines.rest_told self.old).pieces setter.old setter.new }
+    {
+        match shape_of(self.state.trimmed(self.rest())) {
+            Shape::Block => {
+                setter.tell(Tell::Block, b"");
+                self.state.mode = Mode::Block;
+                self.forgets();
             }
+            Shape::Mark(Mark::Rule) if self.state.fields == 0 => {
+                setter.tell(Tell::Rule, b"");
+                self.begins_row();
+            }
+            _ => self.last_field_ends(setter),
         }
     }
 
-    /// A byte of a field, in no escape. After the last column a tab is text.
-    pub(crate) fn in_field(&mut self, byte: u8, full: bool) -> Seen
-        ensures { met self.new result ≡ specs.in_field byte full self.old }
+    /// The last field of a row is told.
+    pub(crate) fn tell_last_field<S: Setter>(&mut self, setter: &mut S)
+        ensures page { self.new ≡ (lines.last_field self.old).page }
+        ensures told { Tells S.shows S.hears (lines.last_field self.old).pieces setter.old setter.new }
     {
-        if byte == b'\n' {
-            return self.ends_line();
-        }
-        if byte == self.options.tab && !self.is_beyond() {
-            return self.ends_field();
-        }
-        if byte == b'\\' {
-            return self.takes(Mode::Escaped, Act::Say(Said::Nothing));
-        }
-        self.keeps(byte, full)
+        let text = behind(self.kept.as_slice(), self.from);
+        self.state.tell_last(text, setter);
     }
 
-    /// A byte in a comment after the last column: the row ends with its line.
-    pub(crate) fn in_comment(&mut self, byte: u8) -> Seen
-        ensures { met self.new result ≡ specs.in_comment byte self.old }
+    /// The last field of a row is told, and the row ends.
+    fn last_field_ends<S: Setter>(&mut self, setter: &mut S)
+        ensures page { self.new ≡ (lines.last_ended self.old).page }
+        ensures told { Tells S.shows S.hears (lines.last_ended self.old).pieces setter.old setter.new }
     {
-        if byte == b'\n' {
-            return self.leaves(Mode::RowEnd, Act::Say(Said::Nothing));
-        }
-        self.takes(Mode::Comment, Act::Say(Said::Nothing))
+        self.tell_last_field(setter);
+        self.row_ends(setter);
     }
 
-    /// A byte after a backslash, which is kept first: a newline there vanishes with it, and a quote makes a
-    /// comment of a field beyond the columns.
-    pub(crate) fn in_escaped(&mut self, byte: u8, full: bool) -> Seen
-        ensures { met self.new result ≡ specs.in_escaped byte full self.old }
+    /// The next line begins a row.
+    pub(crate) fn begins_row(&mut self)
+        ensures { self.new ≡ lines.rows_begun self.old }
     {
-        if byte == b'\n' {
-            return self.takes(Mode::Field, Act::Say(Said::Nothing));
-        }
-        if byte == b'"' && self.is_beyond() && self.shape.is_empty() {
-            return self.takes(Mode::Comment, Act::Say(Said::Nothing));
-        }
-        if full {
-            return self.gives_up_row(Said::Byte(b'\\'));
-        }
-        self.tells_beyond();
-        self.leaves(Mode::Literal, Act::KeepField(b'\\'))
+        self.state.begins_row();
+        self.forgets();
     }
 
-    /// A byte after a backslash that is kept. Two are kept as `\\e`, which stays itself where it is read twice.
-    pub(crate) fn in_literal(&mut self, byte: u8, full: bool) -> Seen
-        ensures { met self.new result ≡ specs.in_literal byte full self.old }
+    /// A row ends.
+    pub(crate) fn row_ends<S: Setter>(&mut self, setter: &mut S)
+        ensures page { self.new ≡ (lines.row_ended self.old).page }
+        ensures told { Tells S.shows S.hears (lines.row_ended self.old).pieces setter.old setter.new }
     {
-        if byte == b'\\' {
-            return self.keeps(b'e', full);
-        }
-        self.in_field(byte, full)
+        setter.tell(Tell::Row, b"");
+        self.begins_row();
     }
 
-    /// The newline after a row.
-    pub(crate) fn in_row_end(&mut self) -> Seen
-        ensures { met self.new result ≡ specs.in_row_end self.old }
+    /// Something is wrong on this line.
+    fn complains<S: Setter>(&self, kind: Kind, setter: &mut S)
+        ensures { Tells S.shows S.hears (wrong kind self.now.state ∷ []) setter.old setter.new }
     {
-        self.row_begins();
-        self.takes(Mode::RowStart(Held::Nothing), Act::EndRow(Said::Row))
+        self.state.complains(kind, setter);
+    }
+
+    /// What was told of a row is one.
+    fn row_is_cut<S: Setter>(&self, setter: &mut S)
+        ensures { Tells S.shows S.hears (lines.row_so_far self.now.state) setter.old setter.new }
+    {
+        if self.state.fields > 0 {
+            setter.tell(Tell::Row, b"");
+        }
+    }
+
+    /// There is no room for more of a row: what was told of it is one, and the rest stands as it is.
+    pub(crate) fn row_overflows<S: Setter>(&mut self, setter: &mut S)
+        ensures page { self.new ≡ (lines.row_overflown self.old).page }
+        ensures told { Tells S.shows S.hears (lines.row_overflown self.old).pieces setter.old setter.new }
+    {
+        self.row_is_cut(setter);
+        self.complains(Kind::RowLimit, setter);
+        setter.tell(Tell::Plain, b"");
+        setter.tell(Tell::Pass, b"\\&");
+        setter.tell(Tell::Pass, self.rest());
+        self.state.mode = Mode::Plain(Start::Other);
+        self.forgets();
     }
 }

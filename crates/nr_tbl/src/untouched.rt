@@ -1,28 +1,29 @@
 //! Text that goes out as it is.
-ghost use Rattle.std.specs.Prelude.{◌≡◌, ℕ, ◌+◌, ◌*◌, ◌≤◌, [], length, IsTrue};
-ghost use Rattle.nr_tbl.specs.Reading.{tables_set, steps_of, complaints_of};
+ghost use Rattle.std.specs.Prelude.{◌≡◌, ℕ, IsTrue};
+ghost use Rattle.nr_tbl.specs.Ending.{page_said};
+ghost use Rattle.nr_tbl.specs.Telling.{each};
 ghost use Rattle.nr_tbl.specs.Untouched.{begins_table, is_untouched};
+ghost use Rattle.nr_tbl.specs.declared.reader.Limits.{Limits as LimitsValue};
+ghost use Rattle.nr_tbl.specs.declared.telling.Tell.TheVariants.{Pass};
 
-use super::held::ends_name;
+use super::command::ends_name;
 
-/// Whether a table begins with these bytes.
+/// Whether the first line of these bytes begins a table.
 fn begins_table(bytes: &[u8]) -> bool
     ensures { result ≡ begins_table bytes.now }
 {
-    bytes.len() > 3
+    bytes.len() > 2
         && bytes[0] == b'.'
         && bytes[1] == b'T'
         && bytes[2] == b'S'
-        && ends_name(bytes[3])
+        && (bytes.len() == 3 || bytes[3] == b'\n' || ends_name(bytes[3]))
 }
 
-/// Whether no line of a text begins a table, with `.TS` and a byte that ends a name. Such a text is what `convert`
-/// makes of it, in two steps for each byte at most and one for the end, with nothing to complain of.
+/// Whether no line of a text begins a table, with `.TS` and its end or a byte that ends a name. Of such a text nothing is
+/// said but that it passes, byte for byte.
 pub fn passes_unchanged(text: &[u8]) -> bool
     ensures value { result ≡ is_untouched text.now }
-    ensures law { IsTrue result → (formats row line : ℕ) → tables_set formats row line text.now ≡ text.now }
-    ensures quick { IsTrue result → (formats row line : ℕ) → steps_of formats row line text.now ≤ 2 * length text.now + 1 }
-    ensures well { IsTrue result → (formats row line : ℕ) → complaints_of formats row line text.now ≡ [] }
+    ensures law { IsTrue result → (limits : LimitsValue) (cells : ℕ) → page_said limits cells text.now ≡ each Pass text.now }
 {
     let mut starts = true;
     for i in 0..text.len() {

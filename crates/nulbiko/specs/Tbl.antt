@@ -2,7 +2,8 @@
 use Rattle.std.specs.Prelude.{◌≡◌, ℕ, List, [], ◌∷◌, length, Bool, false, Option, Some}
 use Rattle.nr_units.specs.Items.{Items}
 use Rattle.nr_units.specs.Source.{Supply}
-use Rattle.nr_tbl.specs.Running.{Ran, account, is_read_fault}
+use Rattle.nr_tables.specs.Running.{Ran, is_read_fault}
+use Rattle.nr_tbl.specs.declared.reader.Limits.{Limits}
 use Rattle.nr_tbl.specs.declared.complaint.Complaint.{Complaint}
 use Rattle.nr_tbl.specs.declared.complaint.Kind.{Kind}
 use Rattle.nr_tbl.specs.declared.complaint.Kind.TheVariants as kinds
@@ -41,6 +42,10 @@ abbrev pub first_line : List Complaint → ℕ
 first_line [] = 0
 first_line (c ∷ cs) = c.line
 
+-- how much of a table is held, and of a line of a row
+abbrev pub limits : Limits
+limits = record { formats = 262144; row = 16384 }
+
 -- The tables of the text were set for a line of so many cells, what came out was handed over, and what was wrong first is told.
 pub record SetsTables (line : ℕ) (text output : List ℕ) (report : Report) (code : ℕ) : Type 0 where
   pub outcome : Outcome
@@ -48,10 +53,11 @@ pub record SetsTables (line : ℕ) (text output : List ℕ) (report : Report) (c
   pub bytes : List ℕ
   pub kept : Items Complaint
   pub missed : Bool
-  pub ran : Ran 8192 16384 line (Some (whole_text text)) left (Some []) (Some bytes) (account report.moves kept missed) outcome
+  pub ran : Ran limits line (Some (whole_text text)) left (Some []) (Some bytes) kept missed outcome
   pub room : kept.room ≡ 1
   pub handed : IsHanded bytes output report.written
   pub code_is : code ≡ code_within (code_of outcome) (length bytes) (length output)
+  pub no_moves : report.moves ≡ 0
   pub wrong : report.limit ≡ first_kind kept.items
   pub place : report.at ≡ first_line kept.items
   pub none_dropped : report.dropped ≡ 0

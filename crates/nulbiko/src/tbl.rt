@@ -6,15 +6,14 @@ ghost use Rattle.nulbiko.specs.Tbl.{SetsTables, code_of, first_kind, first_line,
 use super::pages::{Pages, hand_over};
 use super::text::Text;
 use super::told::{DONE, FULL, OUT_OF_MEMORY, Report, TOO_LONG, UNREADABLE, code_within};
-use nr_rooms::FixedVec;
-use nr_tbl::{Complaint, Kind, Outcome, convert, pending_size};
+use nr_tables::{Complaint, Kind, Outcome, Rooms, convert};
 use nr_units::slice_vec::SliceVec;
 use std::alloc::{AllocError, Global};
 
-/// The most bytes of a table's options and formats.
-const FORMATS: usize = 8192;
+/// The most bytes of a table that are held.
+const TABLE: usize = 262_144;
 
-/// The most bytes of the fields of a row.
+/// The most bytes of a line of a row.
 const ROW: usize = 16_384;
 
 /// The number that tells an outcome.
@@ -72,29 +71,19 @@ fn set_tables(
     ensures not_memory { IfOk result (λ code. code ≢ 5) }
     ensures untouched { OnErr result ((output.new ≡ output.old) × (told.new ≡ told.old)) }
 {
-    let mut formats = vec![in alloc; 0u8; FORMATS]?;
-    let mut row = vec![in alloc; 0u8; ROW]?;
-    let mut pending = FixedVec::new(alloc, pending_size(FORMATS, ROW))?;
-    let mut pages = Pages::new(alloc, output.len())?;
+    let mut rooms = Rooms::new(alloc, TABLE, ROW, line)?;
+    let pages = Pages::new(alloc, output.len())?;
     let mut text = Text::over(input);
     let mut slots = [Complaint::NONE];
     let mut complaints = SliceVec::over(&mut slots);
-    let report = convert(
-        &mut text,
-        &mut pages,
-        &mut formats,
-        &mut row,
-        line,
-        &mut complaints,
-        &mut pending,
-    );
+    let (report, pages) = convert(&mut text, pages, &mut rooms, &mut complaints);
     let (limit, at) = first_wrong(complaints.as_slice());
     let bytes = pages.as_slice();
     let written = hand_over(bytes, output);
     *told = Report {
         written,
         at,
-        moves: report.steps,
+        moves: 0,
         limit,
         dropped: 0,
     };

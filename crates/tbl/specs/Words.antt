@@ -66,7 +66,7 @@ with_setting setting job = with_number setting.which setting.limit job
 
 -- the job where no option sets anything, and the first file stands at this place
 abbrev pub usual_job : ℕ → Job
-usual_job files = record { formats = 8192; row = 16384; line = 65; files = files }
+usual_job files = record { formats = 262144; row = 16384; line = 65; files = files }
 
 -- what is asked for where these are set one after the other
 abbrev pub asked_by : List Setting → ℕ → Job

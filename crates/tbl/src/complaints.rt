@@ -1,7 +1,7 @@
 // The lines that tell what is wrong with tables.
 
 use itoa::Buffer;
-use nr_tbl::{Complaint, Kind, Report};
+use nr_tables::{Complaint, Kind, Report};
 use nr_units::sink::Sink;
 use nr_units::source::Fault;
 

@@ -1,7 +1,7 @@
 // The lines that tell how the program ended, and its status.
 use super::words::Wrong;
 use itoa::Buffer;
-use nr_tbl::Outcome;
+use nr_tables::Outcome;
 use nr_units::sink::Sink;
 use nr_units::source::Fault;
 

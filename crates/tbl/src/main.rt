@@ -1,6 +1,6 @@
 //! The program tbl: it turns the tables of a page into the language of nroff, to standard output.
 //!
-//! It stands on nr_tbl, nr_units, nr_rooms and nr_command_line. To read: `words`, `complaints`, `endings`, `rooms`, `program`.
+//! It stands on nr_tables, nr_units and nr_command_line. To read: `words`, `complaints`, `endings`, `rooms`, `program`.
 #![tactic(auto)]
 
 mod complaints;

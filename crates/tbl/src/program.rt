@@ -5,7 +5,7 @@ use super::endings::{Ending, tell};
 use super::rooms::Rooms;
 use super::words::read_words;
 use nr_command_line::{SystemWords, words_of};
-use nr_tbl::{Complaint, Outcome};
+use nr_tables::{Complaint, Outcome};
 use nr_units::over_std::ToWriter;
 use nr_units::sink::Sink;
 use nr_units::slice_vec::SliceVec;

@@ -11,7 +11,7 @@ const MOST: u64 = 1_048_576;
 const LEAST_ROW: u64 = 64;
 
 /// The limits where no word sets them.
-const USUAL_FORMATS: usize = 8192;
+const USUAL_FORMATS: usize = 262_144;
 
 const USUAL_ROW: usize = 16_384;
 

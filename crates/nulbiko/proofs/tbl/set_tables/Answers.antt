@@ -4,17 +4,18 @@ use Rattle.nulbiko.proofs.tbl.set_tables.Goals as goal
 
 pub returns-clause-set : goal.returns-clause-set
 returns-clause-set c = record {
-  outcome = c.convert-report.result.outcome;
+  outcome = c.convert-pages.result.0.outcome;
   left = _;
   bytes = c.as_slice-bytes.result.now;
   kept = _;
-  missed = c.convert-report.result.missed;
-  ran = carried _ _ _ _ _ _ _ _ _ _ _ _ _ _ c.convert-report.ensures.ran (search rules) (search rules) c.over-text.ensures.supply c.in_ok-pages.ensures.held c.as_slice-bytes.ensures;
+  missed = c.convert-pages.result.0.missed;
+  ran = carried _ _ _ _ _ _ _ _ _ _ _ _ _ _ c.convert-pages.ensures.ran (search rules) (search rules) c.over-text.ensures.supply c.in_ok-pages.ensures.held c.as_slice-bytes.ensures;
   room = search rules;
   handed = search rules;
   code_is = search rules;
+  no_moves = search rules;
   wrong = search rules;
   place = search rules;
   none_dropped = search rules;
-  readable = unread _ c.convert-report.ensures.read_faults;
+  readable = unread _ c.convert-pages.ensures.read_faults;
 }

@@ -1,0 +1,208 @@
+-- What a page says was set, and its end: what went out.
+use Rattle.std.proofs.Common.{◌≡◌, ℕ, zero, suc, take, nat_lt, Bool, true, false, List, [], ◌∷◌, ◌++◌, Option, refl, sym, ap, subst, ◌∙◌, append-nil, arith, ◌⊎◌, inl, inr}
+use Rattle.std.specs.Borrow.{MutBor}
+use Rattle.std.specs.Io.KnownBytes.{Appends}
+use Rattle.std.proofs.lemmas.Bool.Decides.{nat_tests}
+use Rattle.nr_units.specs.Failures.{SinkFailures, put_counted_if}
+use Rattle.nr_units.specs.Items.{Items}
+use Rattle.nr_units.specs.Sink.{AppendsFront}
+use Rattle.nr_units.specs.Source.{Supply}
+use Rattle.nr_tbl.specs.declared.complaint.Complaint.{Complaint}
+use Rattle.nr_tbl.specs.declared.reader.Limits.{Limits}
+use Rattle.nr_tbl.specs.declared.running.Outcome.{Outcome}
+use Rattle.nr_tbl.specs.declared.running.Outcome.TheVariants.{Done, ReadFault, TooLong, WriteFault}
+use Rattle.nr_tbl.specs.Ending.{page_said}
+use Rattle.nr_tbl.specs.Running as reading
+use Rattle.nr_tbl.specs.Telling.{Piece, Tells}
+use Rattle.nr_layout.specs.declared.table.Table.{Table}
+use Rattle.nr_layout.specs.Held.{emptied}
+use Rattle.nr_layout.specs.Pens.{Bytes}
+use Rattle.nr_layout.specs.Tapes.{Tape, Sends, SendsIn, Draws, failed_since}
+use Rattle.nr_layout.proofs.Tapes.{draws_nothing, sends_then}
+use Rattle.nr_tables.specs.Running.{Puts, PutsFront, IsBroken, Ran, said_so_far}
+use Rattle.nr_tables.specs.Setting.{EndsAs, IsSame, Shown, Shows, first_tape, hears, page_table, set_bytes, strokes}
+use Rattle.nr_tables.proofs.Setting.{heard-said}
+
+went_out : (f : Bool) (h now : Option (List ℕ)) (left out : List ℕ) → SendsIn false f h [] now left out → f ≡ false → left ≡ [] → Appends h now out
+went_out true h now left out sends live empty = absurd (let no : true ≡ false = live in cc)
+went_out false h now left out sends live empty =
+    subst (Appends h now) (sym (sends.2 ∙ ap (λ l. sends.0 ++ l) empty ∙ append-nil sends.0)) sends.1
+
+front_out : (f : Bool) (h now : Option (List ℕ)) (left out : List ℕ) → SendsIn false f h [] now left out → AppendsFront h now out
+front_out true h now left out sends = sends
+front_out false h now left out sends = (sends.0, left, sends.2, sends.1)
+
+-- who has heard this since
+abbrev pub said_to : List Piece → Shown → Shown
+said_to ps s = record s { said = ps }
+
+-- who had heard nothing, and had a table that holds nothing
+pub record Starts {A : Type 0} (shows : A → Shown → Type 0) (old : A) (l : Limits) (s : Shown) : Type 0 where
+  pub shows_it : shows old (said_to [] s)
+  pub table : s.table ≡ page_table l
+
+-- what one shows in the end who has heard this
+shown : {A : Type 0} (shows : A → Shown → Type 0) (old new : A) (l : Limits) (ps : List Piece) (s : Shown) (a : Tape) (table : MutBor Table) (kept : MutBor (Items Complaint)) (missed : Bool)
+    → Starts shows old l s
+    → ((s : Shown) → shows new s → Shows a table kept missed s)
+    → Tells shows hears ps old new
+    → Shows a table kept missed (said_to ps s)
+shown shows old new l ps s a table kept missed start is told =
+    is _ (subst (shows new) (heard-said ps (said_to [] s)) (told (said_to [] s) start.shows_it))
+
+-- what was drawn, and what waited and went then
+sent : (l : Limits) (ps : List Piece) (s : Shown) (a b : Tape) (table : MutBor Table) (kept : MutBor (Items Complaint)) (missed : Bool)
+    → s.table ≡ page_table l → Shows a table kept missed (said_to ps s) → Draws a b (Bytes [] ∷ []) → Sends (first_tape s.held s.failures) b (set_bytes l ps)
+sent l ps s a b table kept missed at shows flushed =
+    let drawn : Draws (first_tape s.held s.failures) a (strokes ps (page_table l)) = subst (λ (t : Table). Draws (first_tape s.held s.failures) a (strokes ps t)) at shows.draws in
+    subst (Sends (first_tape s.held s.failures) b) (append-nil (set_bytes l ps)) (sends_then drawn.sends flushed.sends)
+
+-- a run, and its end
+module _ {A : Type 0} (shows : A → Shown → Type 0) (old new : A) (l : Limits) (cells : ℕ) (first last : Option Supply)
+    (s : Shown) (a b : Tape) (table : MutBor Table) (kept : MutBor (Items Complaint)) (missed : Bool)
+    (start : Starts shows old l s)
+    (is : (s : Shown) → shows new s → Shows a table kept missed s)
+    (flushed : Draws a b (Bytes [] ∷ [])) where
+  whole : (ps : List Piece) → Tells shows hears ps old new → b.failed ≡ false → b.pending ≡ [] → Puts (set_bytes l ps) ps s.held b.held kept.now missed
+  whole ps told live empty =
+      let h = shown shows old new l ps s a table kept missed start is told in
+      record { went_out = went_out b.failed s.held b.held b.pending (set_bytes l ps) (sent l ps s a b table kept missed start.table h flushed).sends live empty; keeps = h.keeps }
+
+  part : (ps : List Piece) → Tells shows hears ps old new → PutsFront (set_bytes l ps) ps s.held b.held kept.now missed
+  part ps told =
+      let h = shown shows old new l ps s a table kept missed start is told in
+      record { went_out = front_out b.failed s.held b.held b.pending (set_bytes l ps) (sent l ps s a b table kept missed start.table h flushed).sends; keeps = h.keeps }
+
+  parts : {ps qs : List Piece} → Tells shows hears ps old new ⊎ Tells shows hears qs old new
+      → PutsFront (set_bytes l ps) ps s.held b.held kept.now missed ⊎ PutsFront (set_bytes l qs) qs s.held b.held kept.now missed
+  parts (inl told) = inl (part _ told)
+  parts (inr told) = inr (part _ told)
+
+  ran-whole : (o : Outcome) → reading.Ran shows hears l cells first last old new o → b.failed ≡ false → b.pending ≡ [] → Ran l cells first last s.held b.held kept.now missed o
+  ran-whole Done r live empty = record { bytes = r.bytes; came = r.came; ends = r.ends; puts = whole _ r.told live empty }
+  ran-whole (ReadFault at) r live empty = record { bytes = r.bytes; came = r.came; count = r.count; puts = whole _ r.told live empty }
+  ran-whole TooLong r live empty = record { bytes = r.bytes; came = r.came; count = r.count; puts = whole _ r.told live empty }
+  ran-whole WriteFault r live empty = record { bytes = r.bytes; came = r.came; puts = parts r.told }
+
+  broken : (o : Outcome) → reading.Ran shows hears l cells first last old new o → IsBroken l cells first last s.held b.held kept.now missed
+  broken Done r = record { bytes = r.bytes; came = r.came; puts = inr (part _ r.told) }
+  broken (ReadFault at) r = record { bytes = r.bytes; came = r.came; puts = inl (part _ r.told) }
+  broken TooLong r = record { bytes = r.bytes; came = r.came; puts = inl (part _ r.told) }
+  broken WriteFault r = record { bytes = r.bytes; came = r.came; puts = parts r.told }
+
+  ran-ends : (wanted o : Outcome) → reading.Ran shows hears l cells first last old new wanted → EndsAs wanted o b → Ran l cells first last s.held b.held kept.now missed o
+  ran-ends wanted o r (inl (same, live, empty)) =
+      subst (λ x. Ran l cells first last s.held b.held kept.now missed x) (sym same) (ran-whole wanted r live empty)
+  ran-ends wanted o r (inr (same, fails)) =
+      subst (λ x. Ran l cells first last s.held b.held kept.now missed x) (sym same) (broken wanted r)
+
+  -- what was lent stays what it is
+  heard-it : (ps : List Piece) → Tells shows hears ps old new → (all : List Piece) × Shows a table kept missed (said_to all s)
+  heard-it ps told = (ps, shown shows old new l ps s a table kept missed start is told)
+
+  heard-some : (ps qs : List Piece) → Tells shows hears ps old new ⊎ Tells shows hears qs old new → (all : List Piece) × Shows a table kept missed (said_to all s)
+  heard-some ps qs (inl told) = heard-it ps told
+  heard-some ps qs (inr told) = heard-it qs told
+
+  heard-all : (o : Outcome) → reading.Ran shows hears l cells first last old new o → (all : List Piece) × Shows a table kept missed (said_to all s)
+  heard-all Done r = heard-it (page_said l cells r.bytes) r.told
+  heard-all (ReadFault at) r = heard-it (said_so_far l cells r.bytes) r.told
+  heard-all TooLong r = heard-it (said_so_far l cells r.bytes) r.told
+  heard-all WriteFault r = heard-some (said_so_far l cells r.bytes) (page_said l cells r.bytes) r.told
+
+-- a write fault is told where the output failed
+live_before : (f g : Bool) (h i : Option (List ℕ)) (v w xs : List ℕ) → SendsIn f g h v i w xs → g ≡ false → f ≡ false
+live_before false g h i v w xs sends live = refl
+live_before true true h i v w xs sends live = live
+live_before true false h i v w xs sends live = absurd sends
+
+faults-told : (wanted o : Outcome) (a b : Tape) → Draws a b (Bytes [] ∷ []) → a.failed ≡ reading.is_write_fault wanted → EndsAs wanted o b
+    → b.failed ≡ reading.is_write_fault o
+faults-told wanted o a b flushed is (inl (same, live, empty)) =
+    live ∙ sym (live_before a.failed b.failed a.held b.held a.pending b.pending _ flushed.sends.sends live) ∙ is ∙ ap reading.is_write_fault (sym same)
+faults-told wanted o a b flushed is (inr (same, fails)) = fails ∙ ap reading.is_write_fault (sym same)
+
+faults-counted : (b : Bool) (c d : SinkFailures) (f : Bool) → d ≡ put_counted_if (failed_since false f) c → f ≡ b → d ≡ put_counted_if b c
+faults-counted b c d true counted is = counted ∙ ap (λ (x : Bool). put_counted_if x c) is
+faults-counted b c d false counted is = counted ∙ ap (λ (x : Bool). put_counted_if x c) is
+
+-- a read fault is told as it was found, but where the output failed in the end
+pub reads-end : (wanted o : Outcome) (before after : ℕ) (t : Tape) → reading.TellsReads wanted before after → EndsAs wanted o t → reading.TellsReads o before after
+reads-end wanted o before after t tells (inl (same, live, empty)) = subst (λ x. reading.TellsReads x before after) (sym same) tells
+reads-end Done o before after t tells (inr (same, fails)) = subst (λ x. reading.TellsReads x before after) (sym same) (inl tells)
+reads-end (ReadFault at) o before after t tells (inr (same, fails)) = subst (λ x. reading.TellsReads x before after) (sym same) (inr tells)
+reads-end TooLong o before after t tells (inr (same, fails)) = subst (λ x. reading.TellsReads x before after) (sym same) (inl tells)
+reads-end WriteFault o before after t tells (inr (same, fails)) = subst (λ x. reading.TellsReads x before after) (sym same) tells
+
+-- what a run comes to, and what stays of what was lent
+pub record RunsTo (l : Limits) (cells : ℕ) (first last : Option Supply) (s : Shown) (b : Tape) (table : MutBor Table) (kept : MutBor (Items Complaint)) (missed : Bool) (o : Outcome) : Type 0 where
+  pub ran : Ran l cells first last s.held b.held kept.now missed o
+  pub failures : b.failures ≡ put_counted_if (reading.is_write_fault o) s.failures
+  pub table_same : table.ghost_name ≡ s.table_name
+  pub table_room : emptied table.now ≡ emptied s.table
+  pub same : kept.ghost_name ≡ s.name
+  pub room : kept.now.room ≡ s.room
+
+pub runs_to : {A : Type 0} (shows : A → Shown → Type 0) (old new : A) (l : Limits) (cells : ℕ) (first last : Option Supply)
+    (s : Shown) (a b : Tape) (table table' : MutBor Table) (kept kept' : MutBor (Items Complaint)) (missed missed' : Bool) (wanted o : Outcome)
+    → Starts shows old l s
+    → ((s : Shown) → shows new s → Shows a table kept missed s)
+    → Draws a b (Bytes [] ∷ []) → table' ≡ table → IsSame kept missed kept' missed'
+    → reading.Ran shows hears l cells first last old new wanted → a.failed ≡ reading.is_write_fault wanted → EndsAs wanted o b
+    → RunsTo l cells first last s b table' kept' missed' o
+runs_to shows old new l cells first last s a b table table' kept kept' missed missed' wanted o start is flushed here same ran failed ends =
+    let h = (heard-all shows old new l cells first last s a b table kept missed start is flushed wanted ran).1 in
+    let all : RunsTo l cells first last s b table kept missed o = record {
+      failures = faults-counted (reading.is_write_fault o) s.failures b.failures b.failed
+          (sends_then h.draws.sends flushed.sends).failures (faults-told wanted o a b flushed failed ends);
+      ran = ran-ends shows old new l cells first last s a b table kept missed start is flushed wanted o ran ends;
+      table_same = h.table_same;
+      table_room = h.table_room;
+      same = h.same;
+      room = h.room;
+    } in
+    subst (λ t. RunsTo l cells first last s b t kept' missed' o) (sym here)
+    (subst (λ m. RunsTo l cells first last s b table kept' m o) (sym same.1)
+    (subst (λ k. RunsTo l cells first last s b table k missed o) (sym same.0) all))
+
+take_none : (n : ℕ) (xs : List Complaint) → xs ≡ [] → take n xs ≡ []
+take_none zero [] is = refl
+take_none (suc n) [] is = refl
+take_none n (x ∷ xs) is = cc
+
+none_more : (n : ℕ) → nat_lt n 0 ≡ false
+none_more n = grind (arith, nat_tests)
+
+-- one who has heard nothing
+abbrev pub lent : Tape → MutBor Table → MutBor (Items Complaint) → Shown
+lent out table kept = record {
+  held = out.held;
+  failures = out.failures;
+  table = table.now;
+  said = [];
+  table_name = table.ghost_name;
+  name = kept.ghost_name;
+  room = kept.now.room;
+}
+
+pub begins : (out : Tape) (table : MutBor Table) (kept : MutBor (Items Complaint)) (missed : Bool)
+    → out ≡ first_tape out.held out.failures → kept.now.items ≡ [] → missed ≡ false → Shows out table kept missed (lent out table kept)
+begins out table kept missed same empty none = record {
+  draws = subst (λ t. Draws (first_tape out.held out.failures) t []) (sym same) (draws_nothing (first_tape out.held out.failures));
+  table_same = refl;
+  table_now = refl;
+  table_room = refl;
+  same = refl;
+  room = refl;
+  keeps = record { first = empty ∙ sym (take_none kept.now.room [] refl); others = none ∙ sym (none_more kept.now.room) };
+}
+
+-- of the same
+pub carried : (l l' : Limits) (cells cells' : ℕ) (first last : Option Supply) (old old' new new' : Option (List ℕ)) (kept kept' : Items Complaint) (missed : Bool) (o : Outcome)
+    → Ran l cells first last old new kept missed o → l ≡ l' → cells ≡ cells' → old ≡ old' → new ≡ new' → kept ≡ kept' → Ran l' cells' first last old' new' kept' missed o
+carried l l' cells cells' first last old old' new new' kept kept' missed o ran limits line before after told =
+    subst (λ k. Ran l' cells' first last old' new' k missed o) told
+    (subst (λ z. Ran l' cells' first last old' z kept missed o) after
+    (subst (λ y. Ran l' cells' first last y new kept missed o) before
+    (subst (λ c. Ran l' c first last old new kept missed o) line
+    (subst (λ m. Ran m cells first last old new kept missed o) limits ran))))

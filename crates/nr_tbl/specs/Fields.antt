@@ -1,0 +1,78 @@
+-- Fields (Tbl, "Data"; tbl(1), "Table data"): rules, blocks, what goes on from above, what is repeated, text.
+use Rattle.std.specs.Prelude.{ℕ, ◌+◌, List, [], ◌∷◌, Bool, false, ◌==◌, ◌&&◌, ◌||◌, not, if◌then◌else◌, Option, None, Some}
+use Prim.Native.Char.{code}
+use Rattle.nr_tbl.specs.declared.field.Mark.TheVariants as marks
+use Rattle.nr_tbl.specs.declared.field.Shape.{Shape}
+use Rattle.nr_tbl.specs.declared.field.Shape.TheVariants.{Empty, Mark, Block, Text}
+use Rattle.nr_tbl.specs.declared.numbers.Marks.{Marks}
+use Rattle.nr_tbl.specs.Numbers.{is_digit, first_marks, marks_with}
+
+abbrev pub is_rule : ℕ → Bool
+is_rule b = (b == code "_") || (b == code "=")
+
+-- `\_` and `\=`, `\^`, `T{`
+abbrev pub shape_of_two : ℕ → ℕ → Shape
+shape_of_two a b =
+    if (a == code "\\") && is_rule b then Mark marks.Inner else
+    if (a == code "\\") && (b == code "^") then Mark marks.Above else
+    if (a == code "T") && (b == code "{") then Block else Text
+
+-- what a field is
+abbrev pub shape_of : List ℕ → Shape
+shape_of [] = Empty
+shape_of (a ∷ []) = if is_rule a then Mark marks.Rule else Text
+shape_of (a ∷ b ∷ []) = shape_of_two a b
+shape_of (a ∷ b ∷ c ∷ []) = if (a == code "\\") && (b == code "R") then Mark (marks.Repeat c) else Text
+shape_of (a ∷ b ∷ c ∷ d ∷ rest) = Text
+
+abbrev pub without_blanks_before : List ℕ → List ℕ
+without_blanks_before [] = []
+without_blanks_before (b ∷ bs) = if b == code " " then without_blanks_before bs else b ∷ bs
+
+-- a comment, where it stands behind the last column
+abbrev pub is_comment : List ℕ → Bool
+is_comment [] = false
+is_comment (a ∷ []) = false
+is_comment (a ∷ b ∷ rest) = (a == code "\\") && (b == code "\"")
+
+-- ---- where a number is aligned
+
+abbrev pub marks_behind : ℕ → ℕ → List ℕ → Marks → Marks
+marks_behind point place [] m = m
+marks_behind point place (b ∷ bs) m = marks_behind point (place + 1) bs (marks_with b place point m)
+
+abbrev pub marks_of : ℕ → List ℕ → Marks
+marks_of point text = marks_behind point 0 text first_marks
+
+-- ---- lines
+
+-- a line between rows that is a request: it begins with a point and no digit
+abbrev pub is_request : List ℕ → Bool
+is_request [] = false
+is_request (a ∷ []) = a == code "."
+is_request (a ∷ b ∷ rest) = (a == code ".") && not (is_digit b)
+
+-- where the first of these bytes stands
+abbrev pub behind : Option ℕ → Option ℕ
+behind None = None
+behind (Some n) = Some (1 + n)
+
+abbrev pub place_of : ℕ → List ℕ → Option ℕ
+place_of byte [] = None
+place_of byte (b ∷ bs) = if b == byte then Some 0 else behind (place_of byte bs)
+
+-- of two backslashes the second becomes `e`; one that stands alone may be the first of two
+abbrev pub second_of : Bool → ℕ → ℕ
+second_of alone b = if alone && (b == code "\\") then code "e" else b
+
+abbrev pub is_alone : Bool → ℕ → Bool
+is_alone alone b = (b == code "\\") && not alone
+
+abbrev pub paired : Bool → List ℕ → List ℕ
+paired alone [] = []
+paired alone (b ∷ bs) = second_of alone b ∷ paired (is_alone alone b) bs
+
+-- whether the last one stands alone
+abbrev pub open_behind : Bool → List ℕ → Bool
+open_behind alone [] = alone
+open_behind alone (b ∷ bs) = open_behind (is_alone alone b) bs
