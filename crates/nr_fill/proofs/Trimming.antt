@@ -8,7 +8,8 @@ use Rattle.std.proofs.lemmas.List.Folds.{prefix_len-append}
 use Rattle.std.proofs.lemmas.List.Sums.{suffix_len-le-length, suffix_len-take_no, suffix_len_is, prefix_len_stops}
 use Rattle.nr_units.specs.Cell.{blank, is_blank, trimmed}
 use Rattle.nr_units.specs.declared.cell.Cell.{Cell}
-use Rattle.nr_fill.specs.CellRow.{Row, row_of, counted, written_behind}
+use Rattle.nr_fill.specs.CellRow.{Row, row_of}
+use Rattle.nr_fill.specs.Extents.{counted, written_behind}
 
 -- how many cells there are up to the last that is no blank
 abbrev pub written : List Cell → ℕ

@@ -1,9 +1,10 @@
 -- A row of cells in a slice that may be too short for it.
-use Rattle.std.specs.Prelude.{◌≡◌, ℕ, ◌+◌, ◌-◌, ◌^◌, ◌==◌, min, if◌then◌else◌, List, [], ◌++◌, length, take, refl}
+use Rattle.std.specs.Prelude.{◌≡◌, ℕ, List, [], ◌++◌, length, take, refl}
 use Rattle.std.proofs.Common.{sym, ◌∙◌, append_assoc, subst}
 use Rattle.std.proofs.lemmas.List.{append-nil}
 use Rattle.nr_units.specs.Cell.{trimmed}
 use Rattle.nr_units.specs.declared.cell.Cell.{Cell}
+use Rattle.nr_fill.specs.Extents.{counted}
 
 -- what is kept of a row
 pub record Row : Type 0 where
@@ -14,10 +15,6 @@ pub record Row : Type 0 where
   -- how many there are up to the last that is no blank
   pub written : ℕ
   pub room : ℕ
-
--- a count as far as it is kept
-abbrev pub counted : ℕ → ℕ
-counted n = min n (2 ^ 64 - 1)
 
 -- what is kept of these cells
 abbrev pub row_of : ℕ → List Cell → Row
@@ -39,7 +36,3 @@ AddsToRow-nothing row = (refl, λ cells is. subst (λ (zs : List Cell). IsRow zs
 pub AddsToRow-both : (a b c : Row) (xs ys : List Cell) → AddsToRow a xs b → AddsToRow b ys c → AddsToRow a (xs ++ ys) c
 AddsToRow-both a b c xs ys first second =
     (second.0 ∙ first.0, λ cells is. subst (λ (zs : List Cell). IsRow zs c) (append_assoc cells xs ys) (second.1 (cells ++ xs) (first.1 cells is)))
-
--- how many there are up to the last that is no blank, where `more` of those that were added after `count` are
-abbrev pub written_behind : ℕ → ℕ → ℕ → ℕ
-written_behind written count more = if more == 0 then written else counted (count + more)

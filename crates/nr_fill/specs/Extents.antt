@@ -1,10 +1,17 @@
 -- How far cells reach: how many there are, and how many up to the last that is no blank.
-use Rattle.std.specs.Prelude.{◌≡◌, ℕ, List, [], ◌++◌, length}
+use Rattle.std.specs.Prelude.{◌≡◌, ℕ, ◌+◌, ◌-◌, ◌^◌, ◌==◌, min, if◌then◌else◌, List, [], ◌++◌, length}
 use Rattle.std.proofs.Common.{sym, append_assoc, subst}
 use Rattle.std.proofs.lemmas.List.{append-nil}
 use Rattle.nr_units.specs.Cell.{trimmed}
 use Rattle.nr_units.specs.declared.cell.Cell.{Cell}
-use Rattle.nr_fill.specs.CellRow.{counted}
+
+-- a count as far as it is kept
+abbrev pub counted : ℕ → ℕ
+counted n = min n (2 ^ 64 - 1)
+
+-- how many there are up to the last that is no blank, where `more` of those that were added after `count` are
+abbrev pub written_behind : ℕ → ℕ → ℕ → ℕ
+written_behind written count more = if more == 0 then written else counted (count + more)
 
 -- there are so many cells, and so many up to the last that is no blank
 abbrev pub IsExtent : List Cell → ℕ → ℕ → Type 0

@@ -1,9 +1,9 @@
 //! How far cells reach.
-ghost use Rattle.std.specs.Prelude.{◌≡◌, length, replicate};
-ghost use Rattle.nr_units.specs.Cell.{blank};
-ghost use Rattle.nr_fill.specs.Extents.{AddsToExtent, IsExtent};
+ghost use Rattle.std.specs.Prelude.{◌≡◌, ◌-◌, ◌≤◌, length, replicate};
+ghost use Rattle.std.specs.List.{suffix_len};
+ghost use Rattle.nr_units.specs.Cell.{blank, is_blank};
+ghost use Rattle.nr_fill.specs.Extents.{AddsToExtent, IsExtent, written_behind};
 
-use crate::out::{written_behind, written_len};
 use nr_units::cell::Cell;
 
 /// How many cells there are, and how many up to the last that is no blank.
@@ -55,4 +55,30 @@ impl Extent {
             written: self.written,
         }
     }
+}
+
+/// How many cells there are up to the last that is no blank, where `more` of those that were added are, after
+/// `count` cells of which `written` are.
+#[inline]
+pub(crate) fn written_behind(written: usize, count: usize, more: usize) -> usize
+    ensures { result ≡ written_behind written count more }
+{
+    if more == 0 {
+        written
+    } else {
+        count.saturating_add(more)
+    }
+}
+
+/// How many cells stand up to the last that is no blank.
+#[inline]
+pub(crate) fn written_len(cells: &[Cell]) -> usize
+    ensures value { result ≡ length cells.now - suffix_len is_blank cells.now }
+    ensures within { result ≤ length cells.now }
+{
+    let mut len = cells.len();
+    while len > 0 && cells[len - 1].byte == b' ' {
+        len -= 1;
+    }
+    len
 }

@@ -1,17 +1,16 @@
 //! The row that a line is set in.
-ghost use Rattle.std.specs.Prelude.{◌≡◌, ◌+◌, ◌-◌, ◌<◌, ◌≤◌, ◌^◌, ◌↔◌, List, [], length, MatchOption, None, IfSome, IsSome, IfOk};
-ghost use Rattle.std.specs.List.{suffix_len};
-ghost use Rattle.nr_units.specs.Cell.{is_blank, trimmed};
+ghost use Rattle.std.specs.Prelude.{◌≡◌, ◌+◌, ◌<◌, ◌≤◌, ◌^◌, ◌↔◌, List, [], length, MatchOption, None, IfSome, IsSome, IfOk};
+ghost use Rattle.nr_units.specs.Cell.{trimmed};
 ghost use Rattle.nr_units.specs.declared.cell.Cell.{Cell as CellValue};
 ghost use Rattle.nr_fill.specs.Extents.{IsExtent};
 ghost use Rattle.nr_fill.specs.Piece.{is_nil};
-ghost use Rattle.nr_fill.specs.CellRow.{AddsToRow, AddsToRow-both, AddsToRow-nothing, IsRow, row_of, written_behind};
+ghost use Rattle.nr_fill.specs.CellRow.{AddsToRow, AddsToRow-both, AddsToRow-nothing, IsRow, row_of};
 ghost use Rattle.nr_fill.specs.Slots.{cells_in_slots, pieces_of};
 ghost use Rattle.nr_fill.specs.Spreading.{cells_in_line};
 
 use crate::cell_row::lay_line;
 use crate::cells::CellSink;
-use crate::measured::Extent;
+use crate::measured::{Extent, written_behind, written_len};
 use crate::piece::PieceSlot;
 use crate::setting::Extra;
 use nr_rooms::FixedVec;
@@ -160,30 +159,4 @@ impl CellSink for Out {
     ghost adds_nothing = { AddsToRow-nothing };
 
     ghost adds_both = { AddsToRow-both };
-}
-
-/// How many cells there are up to the last that is no blank, where `more` of those that were added are, after
-/// `count` cells of which `written` are.
-#[inline]
-pub(crate) fn written_behind(written: usize, count: usize, more: usize) -> usize
-    ensures { result ≡ written_behind written count more }
-{
-    if more == 0 {
-        written
-    } else {
-        count.saturating_add(more)
-    }
-}
-
-/// How many cells stand up to the last that is no blank.
-#[inline]
-pub(crate) fn written_len(cells: &[Cell]) -> usize
-    ensures value { result ≡ length cells.now - suffix_len is_blank cells.now }
-    ensures within { result ≤ length cells.now }
-{
-    let mut len = cells.len();
-    while len > 0 && cells[len - 1].byte == b' ' {
-        len -= 1;
-    }
-    len
 }

@@ -1,5 +1,5 @@
 use Rattle.std.proofs.Common.{ap, ◌∙◌}
-use Rattle.nr_fill.specs.CellRow.{written_behind}
+use Rattle.nr_fill.specs.Extents.{written_behind}
 use Rattle.nr_fill.proofs.Trimming.{extent_extended}
 use Rattle.nr_fill.proofs.measured.Extent.with_cells.Goals as goal
 

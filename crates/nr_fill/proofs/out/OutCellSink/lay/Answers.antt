@@ -1,8 +1,8 @@
 use Rattle.std.proofs.Common.{◌≡◌, ◌+◌, ◌-◌, ◌≤◌, ◌++◌, length, take, drop, ap, sym, ◌∙◌, subst, refl, arith}
 use Rattle.std.proofs.Math.Seq.{drop-append_seam}
 use Rattle.std.proofs.lemmas.List.{take_rest}
-use Rattle.nr_fill.specs.Extents.{IsExtent}
-use Rattle.nr_fill.specs.CellRow.{Row, row_of, written_behind}
+use Rattle.nr_fill.specs.Extents.{IsExtent, written_behind}
+use Rattle.nr_fill.specs.CellRow.{Row, row_of}
 use Rattle.nr_fill.specs.Slots.{pieces_of}
 use Rattle.nr_fill.specs.Spreading.{cells_in_line}
 use Rattle.nr_fill.proofs.Trimming.{row_laid, row_whole, same_row}
